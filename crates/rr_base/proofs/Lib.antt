@@ -1,0 +1,4 @@
+pub mod Rising
+pub mod ChoiceLemmas
+pub mod PlaceLemmas
+pub mod Checked

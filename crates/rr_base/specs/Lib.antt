@@ -1,0 +1,4 @@
+pub mod Schema
+pub mod Fault
+pub mod Check
+pub mod Choice

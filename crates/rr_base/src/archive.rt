@@ -1,0 +1,16 @@
+//! One round-robin archive of a schema.
+
+/// One archive, as an `RRA` of rrdcreate: how many steps one of its rows has, how many rows it
+/// keeps, and its xff `num / den`, the greatest fraction of a row's steps that may be unknown
+/// while the row is known.
+#[derive(Clone, Copy, Debug, PartialEq, Eq)]
+pub struct ArchiveSpec {
+    /// Steps of the schema in one row.
+    pub steps: u32,
+    /// Rows that are kept.
+    pub rows: u32,
+    /// The numerator of xff.
+    pub num: u32,
+    /// The denominator of xff.
+    pub den: u32,
+}
