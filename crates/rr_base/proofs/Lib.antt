@@ -2,3 +2,5 @@ pub mod Rising
 pub mod ChoiceLemmas
 pub mod PlaceLemmas
 pub mod Checked
+pub mod CutLemmas
+pub mod IntegerLemmas

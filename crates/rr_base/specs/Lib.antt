@@ -2,3 +2,4 @@ pub mod Schema
 pub mod Fault
 pub mod Check
 pub mod Choice
+pub mod Text

@@ -18,6 +18,7 @@ mod origin;
 mod schema;
 #[cfg(test)]
 mod tests;
+pub mod text;
 
 pub use archive::ArchiveSpec;
 pub use consolidation::ConsolidationFunction;

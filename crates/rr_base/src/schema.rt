@@ -3,7 +3,7 @@
 ghost use Rattle.std.specs.Prelude.{◌≡◌, ◌<◌, ◌≤◌, ◌*◌, pos, length, unsigned_abs, unwrap_or, IfOk, IfErr, OnOk};
 ghost use Rattle.std.specs.Int.{int_div_euclid, int_rem_euclid};
 ghost use Rattle.std.specs.Result.{result_err};
-ghost use Rattle.rr_base.specs.Schema.{IsLayout, archive_at, span, slot_of, place_of, is_known_enough, last_within, choice};
+ghost use Rattle.rr_base.specs.Schema.{IsLayout, IsSingle, archive_at, span, slot_of, place_of, is_known_enough, last_within, choice};
 ghost use Rattle.rr_base.specs.Check.{archive_fault, archives_fault, schema_fault};
 ghost use Rattle.rr_base.specs.Choice.{IsChoice};
 
@@ -125,6 +125,7 @@ impl Schema {
         ensures refused { IfErr result (λ fault.
             fault ≡ unwrap_or (schema_fault step archives.now) SchemaFault.Memory) }
         ensures within { IfOk result IsLayout }
+        ensures single { IfOk result IsSingle }
     {
         check(step, archives)?;
         let archives = Vec::from_slice(alloc, archives)?;
