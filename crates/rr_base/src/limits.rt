@@ -31,10 +31,10 @@ pub const MAX_LINE: usize = 65_536;
 pub const MAX_KEY_TEXT: usize = 1_024;
 
 /// The most rows of one fetch.
-pub const MAX_FETCH_ROWS: i64 = 100_000;
+pub const MAX_FETCH_ROWS: u32 = 100_000;
 
 /// The last second, either side of the Unix epoch, that a fetch may name: the first one past every time of a sample.
-pub const MAX_SECOND: i64 = 9_223_372_037;
+pub const MAX_SECOND: u64 = 9_223_372_037;
 
 /// The nanoseconds of a second.
 pub const NANOSECONDS: i64 = 1_000_000_000;

@@ -1,0 +1,9 @@
+pub mod Booleans
+pub mod Members
+pub mod Greater
+pub mod Lookups
+pub mod Horizons
+pub mod Joining
+pub mod Keys
+pub mod Distinct
+pub mod Inserting

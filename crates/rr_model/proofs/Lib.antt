@@ -1,0 +1,11 @@
+pub mod Orders
+pub mod Horizon
+pub mod Knowing
+pub mod OneMore
+pub mod RowMarks
+pub mod RowTotals
+pub mod SingleSteps
+pub mod Writes
+pub mod WholeCells
+pub mod Deliveries
+pub mod Fetches
