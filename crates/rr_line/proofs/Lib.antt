@@ -1,0 +1,5 @@
+pub mod StepLemmas
+pub mod FieldLemmas
+pub mod PointLemmas
+pub mod ReadingLemmas
+pub mod LineFeedLemmas
