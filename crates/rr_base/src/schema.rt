@@ -6,6 +6,7 @@ ghost use Rattle.std.specs.Result.{result_err};
 ghost use Rattle.rr_base.specs.Schema.{IsLayout, IsSingle, archive_at, span, slot_of, place_of, is_known_enough, last_within, choice};
 ghost use Rattle.rr_base.specs.Check.{archive_fault, archives_fault, schema_fault};
 ghost use Rattle.rr_base.specs.Choice.{IsChoice};
+ghost use Rattle.rr_base.specs.declared.limits.TheConstants.{MAX_STEPS};
 
 use crate::archive::ArchiveSpec;
 use crate::fault::SchemaFault;
@@ -146,8 +147,8 @@ impl Schema {
         self.archives.as_slice()
     }
 
-    /// The archive with a number.
-    fn archive(&self, number: u8) -> ArchiveSpec
+    /// The archive with a number, from 0.
+    pub fn archive(&self, number: u8) -> ArchiveSpec
         requires { number < length self.now.archives }
         ensures value { result ≡ archive_at self.now number }
         ensures some { 0 < result.steps }
@@ -160,6 +161,7 @@ impl Schema {
         requires { archive < length self.now.archives }
         ensures value { result ≡ span self.now archive }
         ensures some { 0 < result }
+        ensures few { result ≤ MAX_STEP * MAX_STEPS }
     {
         self.step * self.archive(archive).steps
     }

@@ -1,0 +1,17 @@
+pub mod SplitLemmas
+pub mod CommandLemmas
+pub mod SeriesLemmas
+pub mod TallyLemmas
+pub mod RequestLemmas
+pub mod CsvLemmas
+pub mod AnswerLemmas
+pub mod KeepLemmas
+pub mod FetchLemmas
+pub mod WritingLemmas
+pub mod AlikeLemmas
+pub mod CheckLemmas
+pub mod NewNodeLemmas
+pub mod FoundLemmas
+pub mod AnsweredLemmas
+pub mod WrittenLemmas
+pub mod OneLineLemmas
