@@ -1,0 +1,11 @@
+pub mod Special
+pub mod Walk
+pub mod UnitLemmas
+pub mod EscapeLemmas
+pub mod NameLemmas
+pub mod TagLemmas
+pub mod TailLemmas
+pub mod KeyTextLemmas
+pub mod OrderLemmas
+pub mod MakingLemmas
+pub mod LawLemmas

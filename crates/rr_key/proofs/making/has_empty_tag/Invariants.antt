@@ -1,0 +1,8 @@
+use Rattle.std.proofs.Common.{◌≡◌, drop}
+use Rattle.rr_key.specs.Making.{any_tag, tags_of}
+use Rattle.rr_key.specs.Name.{is_empty}
+use Rattle.rr_key.proofs.making.has_empty_tag.Given as goal
+
+abbrev pub invariant-loop-tag : goal.invariant-loop-tag
+invariant-loop-tag l =
+    any_tag is_empty (tags_of (drop l.tag-index l.tags)) ≡ any_tag is_empty (tags_of l.tags)

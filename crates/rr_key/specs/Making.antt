@@ -1,0 +1,56 @@
+-- The key that names make, and why they make none.
+use Rattle.std.specs.Prelude.{◌≡◌, ℕ, Bool, ◌||◌, false, nat_lt, List, [], ◌∷◌, length, map, Option, None, Some, ◌⊎◌, if◌then◌else◌}
+use Rattle.std.specs.Borrow.{Bor}
+use Rattle.std.specs.FinMap.{from_entries}
+use Rattle.std.specs.List.{list_any}
+use Rattle.std.specs.Ordering.{is_eq}
+use Rattle.rr_base.specs.declared.limits.TheConstants.{MAX_KEY_TEXT}
+use Rattle.rr_key.specs.declared.fault.KeyFault.{KeyFault}
+use Rattle.rr_key.specs.declared.fault.KeyFault.TheVariants.{EmptyName, BadName, DuplicateTag, TooManyTags, KeyTooLong, Memory}
+use Rattle.rr_key.specs.declared.limits.TheConstants.{MAX_TAGS}
+use Rattle.rr_key.specs.Name.{is_empty, is_bad}
+use Rattle.rr_key.specs.Series.{Series, bytes_cmp, key_text}
+
+-- the names of a series as they are handed in: the tags in any order
+pub record Names : Type 0 where
+  pub measurement : List ℕ
+  pub tags : List (List ℕ × List ℕ)
+  pub field : List ℕ
+
+-- tags that are slices, by their bytes
+abbrev pub tags_of : List (Bor (List ℕ) × Bor (List ℕ)) → List (List ℕ × List ℕ)
+tags_of tags = map (λ tag. (tag.0.now, tag.1.now)) tags
+
+-- names that are slices, by their bytes
+abbrev pub names_of : List ℕ → List (Bor (List ℕ) × Bor (List ℕ)) → List ℕ → Names
+names_of measurement tags field = record { measurement = measurement; tags = tags_of tags; field = field }
+
+-- the series that they name
+abbrev pub series_of : Names → Series
+series_of names = record { measurement = names.measurement; tags = from_entries names.tags; field = names.field }
+
+-- whether a name of the tags passes a test
+abbrev pub any_tag : (List ℕ → Bool) → List (List ℕ × List ℕ) → Bool
+any_tag test tags = list_any (λ tag. test tag.0 || test tag.1) tags
+
+-- whether one of the names does
+abbrev pub any_name : (List ℕ → Bool) → Names → Bool
+any_name test names = test names.measurement || any_tag test names.tags || test names.field
+
+-- whether a key stands twice
+abbrev pub has_repeat : List (List ℕ × List ℕ) → Bool
+has_repeat [] = false
+has_repeat (tag ∷ tags) = list_any (λ other. is_eq (bytes_cmp tag.0 other.0)) tags || has_repeat tags
+
+-- the first fault of the names, if they have one
+abbrev pub making_fault : Names → Option KeyFault
+making_fault names =
+    if any_name is_empty names then Some EmptyName
+    else (if any_name is_bad names then Some BadName
+    else (if has_repeat names.tags then Some DuplicateTag
+    else (if nat_lt MAX_TAGS (length names.tags) then Some TooManyTags
+    else (if nat_lt MAX_KEY_TEXT (length (key_text (series_of names))) then Some KeyTooLong else None))))
+
+-- a fault is the one that is due, unless memory ran out
+abbrev pub IsDue : Option KeyFault → KeyFault → Type 0
+IsDue due fault = (fault ≡ Memory) ⊎ (due ≡ Some fault)

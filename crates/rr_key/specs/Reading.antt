@@ -1,0 +1,54 @@
+-- A key text from left to right.
+use Rattle.std.specs.Prelude.{◌≡◌, ℕ, ◌+◌, ◌≤◌, Bool, true, ◌&&◌, ◌==◌, List, [], ◌∷◌, length, take, drop, IsTrue, Option, None, Some, option_and_then, if◌then◌else◌}
+use Rattle.std.specs.List.{list_all}
+use Rattle.std.specs.Ordering.{is_lt}
+use Rattle.rr_key.specs.declared.class.Class.{Class}
+use Rattle.rr_key.specs.declared.class.Class.TheVariants.{Other}
+use Rattle.rr_key.specs.declared.delimiter.TheConstants.{SPACE, EQUALS}
+use Rattle.rr_key.specs.declared.limits.TheConstants.{MAX_TAGS}
+use Rattle.rr_key.specs.Name.{is_name}
+use Rattle.rr_key.specs.Series.{bytes_cmp, is_tag, tail_text}
+use Rattle.rr_key.specs.Unit.{escape, name_len}
+
+-- the written name at the front and the bytes after it, unless it is none of a key
+abbrev pub name_at : Class → List ℕ → Option (List ℕ × List ℕ)
+name_at class text =
+    let len = name_len class text in
+    if is_name (take len text) then Some (take len text, drop len text) else None
+
+-- the next step of a reading, if this one found something
+infixl 10 ◌>>=◌
+abbrev pub ◌>>=◌ : {A B : Type 0} → Option A → (A → Option B) → Option B
+o >>= next = option_and_then next o
+
+-- what follows a byte at the front
+abbrev pub strip : ℕ → List ℕ → Option (List ℕ)
+strip byte [] = None
+strip byte (first ∷ rest) = if first == byte then Some rest else None
+
+-- the written key of the tag at the front, and the bytes after the tag
+abbrev pub tag_at : List ℕ → Option (List ℕ × List ℕ)
+tag_at text = do
+  key ← name_at Other text
+  value ← strip EQUALS key.1
+  end ← name_at Other value
+  Some (key.0, end.1)
+
+-- whether the keys rise, the first of them above another key
+abbrev pub rises : List ℕ → List (List ℕ × List ℕ) → Bool
+rises before [] = true
+rises before (tag ∷ tags) = is_lt (bytes_cmp before tag.0) && rises tag.0 tags
+
+-- the bytes behind a tag, or behind the measurement: further tags with rising keys, a space and the field
+pub record IsTail (before : List ℕ) (count : ℕ) (text : List ℕ) : Type 0 where
+  pub tags : List (List ℕ × List ℕ)
+  pub field : List ℕ
+  pub rising : IsTrue (rises before tags)
+  pub named : IsTrue (list_all is_tag tags)
+  pub last : IsTrue (is_name field)
+  pub few : count + length tags ≤ MAX_TAGS
+  pub is : text ≡ tail_text tags field
+
+-- a space and the field
+abbrev pub IsLast : List ℕ → Type 0
+IsLast text = (field : List ℕ) × IsTrue (is_name field) × (text ≡ SPACE ∷ escape Other field)

@@ -1,0 +1,57 @@
+-- Series, and the texts of their keys.
+use Rattle.std.specs.Prelude.{◌≡◌, ℕ, ◌≤◌, Bool, ◌&&◌, List, ◌∷◌, ◌++◌, length, IsTrue}
+use Rattle.std.specs.FinMap.{FinMap, entries}
+use Rattle.std.specs.List.{flat_map, list_all}
+use Rattle.std.specs.Ordering.{nat_cmp}
+use Rattle.std.specs.Cmp.Lexicographic.{slice_cmp}
+use Rattle.std.specs.declared.cmp.Ordering.{Ordering}
+use Rattle.rr_base.specs.declared.limits.TheConstants.{MAX_KEY_TEXT}
+use Rattle.rr_key.specs.declared.class.Class.TheVariants.{Measurement, Other}
+use Rattle.rr_key.specs.declared.delimiter.TheConstants.{COMMA, SPACE, EQUALS}
+use Rattle.rr_key.specs.declared.limits.TheConstants.{MAX_TAGS}
+use Rattle.rr_key.specs.Name.{is_name}
+use Rattle.rr_key.specs.Unit.{escape}
+
+-- keys are ordered by their bytes
+abbrev pub bytes_cmp : List ℕ → List ℕ → Ordering
+bytes_cmp = slice_cmp nat_cmp
+
+-- tags are a map from keys to values, both unescaped
+abbrev pub Tags : Type 0
+Tags = FinMap bytes_cmp (List ℕ)
+
+-- a series is named by a measurement, tags and a field
+pub record Series : Type 0 where
+  pub measurement : List ℕ
+  pub tags : Tags
+  pub field : List ℕ
+
+-- a tag is written behind a comma, its key and its value around an equals
+abbrev pub tag_text : List ℕ × List ℕ → List ℕ
+tag_text tag = COMMA ∷ (escape Other tag.0 ++ EQUALS ∷ escape Other tag.1)
+
+-- behind the measurement: the tags, a space and the field
+abbrev pub tail_text : List (List ℕ × List ℕ) → List ℕ → List ℕ
+tail_text tags field = flat_map tag_text tags ++ SPACE ∷ escape Other field
+
+-- the key text: the tags stand in the order of their keys
+abbrev pub key_text : Series → List ℕ
+key_text series = escape Measurement series.measurement ++ tail_text (entries series.tags) series.field
+
+-- a tag whose key and value are names
+abbrev pub is_tag : List ℕ × List ℕ → Bool
+is_tag tag = is_name tag.0 && is_name tag.1
+
+-- a series that has a key: of names, with few tags and a short text
+pub record IsSeries (series : Series) : Type 0 where
+  pub measurement : IsTrue (is_name series.measurement)
+  pub tags : IsTrue (list_all is_tag (entries series.tags))
+  pub field : IsTrue (is_name series.field)
+  pub few : length (entries series.tags) ≤ MAX_TAGS
+  pub short : length (key_text series) ≤ MAX_KEY_TEXT
+
+-- the text of some series
+pub record IsKeyText (text : List ℕ) : Type 0 where
+  pub series : Series
+  pub named : IsSeries series
+  pub whole : text ≡ key_text series

@@ -1,0 +1,144 @@
+//! A series key, ordered by the bytes of its text.
+
+ghost use Rattle.std.specs.Prelude.{◌≡◌, ◌==◌, ◌↔◌, ◌⊎◌, Err, None, Some, IfOk, IfErr, OnOk};
+ghost use Rattle.std.proofs.Common.{rules};
+ghost use Rattle.std.specs.Cmp.{partial_order_from_own_ties};
+ghost use Rattle.std.specs.Cmp.Rules.{comparing};
+ghost use Rattle.std.specs.Cmp.Lexicographic.{slice_cmp, pointwise};
+ghost use Rattle.std.specs.Ordering.{nat_cmp, as_partial_cmp};
+
+use crate::fault::KeyFault;
+use crate::making::make_text;
+use crate::reading::is_key_text;
+use std::alloc::{AllocError, Global};
+use std::cmp::Ordering;
+use std::marker::Model;
+use std::sync::ArcSlice;
+
+/// The key of a series: its text, which is spelled in one way.
+///
+/// Keys are equal where their texts are, and are ordered by the bytes of their texts; either takes
+/// one pass over the bytes. The text is held by reference and shared by the copies of a key, which
+/// may be in several threads.
+#[derive(Debug, Drop)]
+pub struct SeriesKey {
+    text: ArcSlice<u8>,
+}
+
+impl Model for SeriesKey {
+    ghost use Rattle.std.specs.Prelude.{List, ℕ};
+    ghost use Rattle.std.specs.Arc.{arc_slice_items};
+    ghost use Rattle.rr_key.specs.Series.{IsKeyText};
+
+    ghost Value = { List ℕ };
+
+    ghost view = { λ k. arc_slice_items k.text };
+
+    ghost invariant = { λ k. IsKeyText (arc_slice_items k.text) };
+}
+
+impl PartialEq for SeriesKey {
+    ghost eq = { pointwise ◌==◌ };
+
+    ghost laws = { Prim.search (comparing, rules) };
+
+    fn eq(&self, other: &SeriesKey) -> bool {
+        self.text() == other.text()
+    }
+}
+
+impl Eq for SeriesKey {
+    ghost laws = { Prim.search (comparing, rules) };
+}
+
+impl Ord for SeriesKey {
+    ghost cmp = { slice_cmp nat_cmp };
+
+    ghost total = { Prim.search (comparing, rules) };
+
+    ghost matches_partial_cmp = { Prim.search (comparing, rules) };
+
+    ghost matches_eq = { Prim.search (comparing, rules) };
+
+    fn cmp(&self, other: &SeriesKey) -> Ordering {
+        self.text().cmp(other.text())
+    }
+}
+
+impl PartialOrd for SeriesKey {
+    ghost partial_cmp = { as_partial_cmp (slice_cmp nat_cmp) };
+
+    ghost laws = { partial_order_from_own_ties (Prim.search (comparing, rules)) (Prim.search (comparing, rules)) };
+
+    fn partial_cmp(&self, other: &SeriesKey) -> Option<Ordering> {
+        Some(self.cmp(other))
+    }
+}
+
+impl SeriesKey {
+    ghost use Rattle.rr_key.specs.Series.{IsKeyText, key_text};
+    ghost use Rattle.rr_key.specs.Making.{names_of, series_of, making_fault, IsDue};
+
+    /// The key of a measurement, tags in any order and a field, all of them unescaped.
+    ///
+    /// Refusals, in this order: `EmptyName`; `BadName`, a name with a line feed or that ends in a
+    /// backslash; `DuplicateTag`; `TooManyTags`, more than [`MAX_TAGS`](crate::MAX_TAGS);
+    /// `KeyTooLong`, a text of more than [`MAX_KEY_TEXT`](rr_base::limits::MAX_KEY_TEXT) bytes.
+    /// `Memory` may stand in place of the last three. The cost is that of sorting the tags and
+    /// writing the text.
+    pub fn new(
+        alloc: Global,
+        measurement: &[u8],
+        tags: &[(&[u8], &[u8])],
+        field: &[u8],
+    ) -> Result<SeriesKey, KeyFault>
+        ensures made { IfOk result (λ key.
+            key ≡ key_text (series_of (names_of measurement.now tags.now field.now))) }
+        ensures accepted { OnOk result (making_fault (names_of measurement.now tags.now field.now) ≡ None) }
+        ensures refused { IfErr result (IsDue (making_fault (names_of measurement.now tags.now field.now))) }
+        ensures empty { (result ≡ Err KeyFault.EmptyName)
+            ↔ (making_fault (names_of measurement.now tags.now field.now) ≡ Some KeyFault.EmptyName) }
+        ensures bad { (result ≡ Err KeyFault.BadName)
+            ↔ (making_fault (names_of measurement.now tags.now field.now) ≡ Some KeyFault.BadName) }
+        ensures grammar { IfOk result IsKeyText }
+    {
+        let text = make_text(alloc, measurement, tags, field)?;
+        let text = ArcSlice::from_slice(alloc, &text)?;
+        Ok(SeriesKey { text })
+    }
+
+    /// The key whose text the bytes are. Bytes that are no key text are refused as `BadKey`, before
+    /// any memory is taken.
+    ///
+    /// The cost is one pass over the bytes and a copy of them.
+    pub fn parse_text(alloc: Global, bytes: &[u8]) -> Result<SeriesKey, KeyFault>
+        ensures found { IfOk result (λ key. key ≡ bytes.now) }
+        ensures grammar { OnOk result (IsKeyText bytes.now) }
+        ensures refused { (result ≡ Err KeyFault.BadKey) ↔ (¬ IsKeyText bytes.now) }
+        ensures faults { IfErr result (λ fault. (fault ≡ KeyFault.BadKey) ⊎ (fault ≡ KeyFault.Memory)) }
+    {
+        if !is_key_text(bytes) {
+            return Err(KeyFault::BadKey);
+        }
+        let text = ArcSlice::from_slice(alloc, bytes)?;
+        Ok(SeriesKey { text })
+    }
+
+    /// The key text.
+    pub fn text(&self) -> &[u8]
+        ensures value { result.now ≡ self.now }
+        ensures grammar { IsKeyText result.now }
+    {
+        self.text.as_slice()
+    }
+
+    /// A further owner of the same text, which fails only where the owners can no longer be counted.
+    ///
+    /// The cost is that of counting one owner more: no byte is copied, and no memory is taken.
+    pub fn copy(&self) -> Result<SeriesKey, AllocError>
+        ensures { IfOk result (λ key. key ≡ self.now) }
+    {
+        let text = self.text.clone()?;
+        Ok(SeriesKey { text })
+    }
+}

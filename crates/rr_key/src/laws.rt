@@ -1,0 +1,35 @@
+//! What holds of the definitions themselves: functions without a body, whose contracts say it.
+
+ghost use Rattle.std.specs.Prelude.{◌≡◌, ℕ, List, ◌++◌, length, take, None, false};
+ghost use Rattle.std.specs.List.Sorted.{IsPermutation};
+ghost use Rattle.rr_key.specs.Making.{Names, series_of, has_repeat, making_fault};
+ghost use Rattle.rr_key.specs.Name.{MayFollow};
+ghost use Rattle.rr_key.specs.Series.{Series, IsSeries, key_text};
+ghost use Rattle.rr_key.specs.Unit.{escape, unescape, name_len};
+
+use crate::class::Class;
+
+/// A name and the units that write it: the name is read back, its units end where it ends, and the
+/// units at the front of any text are those that write what they are read as.
+pub fn a_name_is_written_in_one_way(class: Class)
+    ensures back { (name : List ℕ) → unescape class (escape class name) ≡ name }
+    ensures ends { (name rest : List ℕ) → MayFollow class name rest
+        → name_len class (escape class name ++ rest) ≡ length (escape class name) }
+    ensures units { (text : List ℕ)
+        → escape class (unescape class (take (name_len class text) text)) ≡ take (name_len class text) text }
+{}
+
+/// Names without a fault make a series that has a key, whatever the order of their tags.
+pub fn tags_stand_in_any_order()
+    ensures made { (names : Names) → making_fault names ≡ None → IsSeries (series_of names) }
+    ensures moved { (measurement field : List ℕ) (tags others : List (List ℕ × List ℕ))
+        → IsPermutation tags others → has_repeat tags ≡ false
+        → series_of (record { measurement = measurement; tags = tags; field = field })
+        ≡ series_of (record { measurement = measurement; tags = others; field = field }) }
+{}
+
+/// A text is the key text of one series at most: key and text determine each other.
+pub fn a_key_text_is_of_one_series()
+    ensures { (series other : Series) → IsSeries series → IsSeries other
+        → key_text series ≡ key_text other → series ≡ other }
+{}
