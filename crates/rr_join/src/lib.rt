@@ -4,10 +4,12 @@
 //! The definitions stand in `specs/Maps.antt`. For names and values that tie only where they are
 //! equal, and any horizon, the join is commutative and associative, what it gives is trimmed, and
 //! the join of a map with itself only trims it (`laws`). [`join_max`] keeps the greater of two
-//! values.
+//! values, and [`Join`] is what a type promises whose values are joined.
 #![tactic(auto)]
 
+mod join;
 pub mod laws;
 mod max;
 
+pub use join::Join;
 pub use max::join_max;

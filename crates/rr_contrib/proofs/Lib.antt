@@ -1,0 +1,4 @@
+pub mod Orders
+pub mod Masks
+pub mod Summing
+pub mod Keeping

@@ -1,0 +1,4 @@
+pub mod Contributions
+pub mod ContributionOrder
+pub mod Samples
+pub mod Validity
