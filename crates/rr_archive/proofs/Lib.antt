@@ -1,0 +1,9 @@
+pub mod PlaceOrder
+pub mod Horizon
+pub mod RowLemmas
+pub mod HeldLemmas
+pub mod FewCells
+pub mod Counting
+pub mod Listing
+pub mod Copying
+pub mod Behind

@@ -1,0 +1,10 @@
+use Rattle.std.proofs.Common.{rules, ◌≡◌, [], ap, ◌∙◌}
+use Rattle.rr_archive.specs.Held.{cells_in}
+use Rattle.rr_archive.proofs.Counting.{cells_in-none, held_none}
+use Rattle.rr_archive.proofs.plain.PlainArchiveArchive.new.Goals as goal
+
+pub invariant_of-result : goal.invariant_of-result
+invariant_of-result c = let none : c.new.result.entries ≡ [] = search rules in record { held = held_none c.new.result.entries none }
+
+pub returns-clause-empty : goal.returns-clause-empty
+returns-clause-empty c = let none : c.new.result.entries ≡ [] = search rules in ap cells_in none ∙ cells_in-none

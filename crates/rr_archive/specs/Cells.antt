@@ -1,0 +1,63 @@
+-- The cells of one archive of one key: a finite map from places to contributions.
+use Rattle.std.specs.Prelude.{◌≡◌, ℕ, ℤ, List, map, Option}
+use Rattle.std.specs.List.{filter, find}
+use Rattle.std.specs.Ordering.{int_eq, is_lt}
+use Rattle.std.specs.FinMap.{FinMap, empty, get, insert, entries}
+use Rattle.rr_join.specs.Maps.{trimmed, merged, joined}
+use Rattle.rr_contrib.specs.declared.contribution.Contribution.{Contribution}
+use Rattle.rr_contrib.specs.Contributions.{contribution_cmp, SlotSample, added}
+use Rattle.rr_archive.specs.declared.entry.Entry.{Entry}
+use Rattle.rr_archive.specs.Places.{Place, place_cmp, is_live_at}
+
+abbrev pub Rows : Type 0
+Rows = FinMap place_cmp Contribution
+
+-- ---- without a horizon
+
+-- with a sample more at a place
+abbrev pub with_put : Rows → Place → SlotSample → Rows
+with_put m p x = insert m p (added (get m p) x)
+
+-- at each place of either map the greater contribution
+abbrev pub merge_rows : Rows → Rows → Rows
+merge_rows m n = merged contribution_cmp m n
+
+-- with a cell merged in
+abbrev pub with_cell : Rows → Place → Contribution → Rows
+with_cell m p c = merge_rows m (insert empty p c)
+
+-- ---- of an archive of so many rows
+
+-- no cell is past the horizon
+abbrev pub IsTrimmed : ℕ → Rows → Type 0
+IsTrimmed rows m = trimmed (is_live_at rows) m ≡ m
+
+-- with a sample more at a place, and then the live cells
+abbrev pub put_row : ℕ → Rows → Place → SlotSample → Rows
+put_row rows m p x = trimmed (is_live_at rows) (with_put m p x)
+
+-- the two merged, and then the live cells
+abbrev pub join_rows : ℕ → Rows → Rows → Rows
+join_rows rows m n = joined contribution_cmp (is_live_at rows) m n
+
+-- with a cell joined in
+abbrev pub join_cell : ℕ → Rows → Place → Contribution → Rows
+join_cell rows m p c = join_rows rows m (insert empty p c)
+
+-- ---- read
+
+-- what stands at a place, as the entry of a row
+abbrev pub entry_of : Place × Contribution → Entry
+entry_of e = record { origin = e.0.origin; contribution = e.1 }
+
+-- the entries of a slot, ascending by origin
+unfoldable pub row_of : Rows → ℤ → List Entry
+row_of m slot = map entry_of (filter (λ e. int_eq e.0.slot slot) (entries m))
+
+-- a cell, as its slot and its entry
+abbrev pub cell_of : Place × Contribution → ℤ × Entry
+cell_of e = (e.0.slot, entry_of e)
+
+-- the first cell behind a place, if there is one
+abbrev pub next_cell : Rows → Place → Option (Place × Contribution)
+next_cell m p = find (λ e. is_lt (place_cmp p e.0)) (entries m)

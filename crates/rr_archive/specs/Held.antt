@@ -1,0 +1,59 @@
+-- What an ordered map from slots to rows holds; a row without entries counts for nothing.
+use Rattle.std.specs.Prelude.{◌≡◌, ℕ, ℤ, ◌^◌, nat_lt, nat_le, unsigned_abs, Bool, true, false, ◌&&◌, List, [], ◌∷◌, ◌++◌, map, Option, Some, None, unwrap_or, vec_len, vec_capacity}
+use Rattle.std.specs.Global.{Vec}
+use Rattle.std.specs.List.{list_all}
+use Rattle.std.specs.List.Sorted.{IsStrictlySortedBy}
+use Rattle.std.specs.Map.{lookup, keys_of}
+use Rattle.std.specs.BTreeMap.{is_at}
+use Rattle.std.specs.Option.{option_map, option_and_then}
+use Rattle.std.specs.Ordering.{int_cmp}
+use Rattle.std.specs.FinMap.{keys, len}
+use Rattle.rr_base.specs.declared.limits.TheConstants.{MAX_SECOND}
+use Rattle.rr_join.specs.Maps.{map_of}
+use Rattle.rr_contrib.specs.declared.contribution.Contribution.{Contribution}
+use Rattle.rr_archive.specs.declared.entry.Entry.{Entry}
+use Rattle.rr_archive.specs.Places.{Place, place_at, newest_of}
+use Rattle.rr_archive.specs.Cells.{Rows}
+use Rattle.rr_archive.specs.Row.{entry_at, ascends}
+
+-- the row of a slot, if there is one
+abbrev pub row_in : List (ℤ × Vec Entry) → ℤ → Option (Vec Entry)
+row_in rows slot = lookup (is_at (int_cmp slot)) rows
+
+-- the contribution at a place, if there is one
+abbrev pub cell_in : List (ℤ × Vec Entry) → Place → Option Contribution
+cell_in rows p = option_and_then (λ row. entry_at row.items p.origin) (row_in rows p.slot)
+
+-- the places of the entries
+abbrev pub places_in : List (ℤ × Vec Entry) → List Place
+places_in [] = []
+places_in (r ∷ rs) = map (λ e. place_at r.0 e.origin) r.1.items ++ places_in rs
+
+-- the cells that the rows hold
+unfoldable pub cells_in : List (ℤ × Vec Entry) → Rows
+cells_in rows = map_of (places_in rows) (cell_in rows)
+
+-- whether the row of the place can take an entry more without memory
+abbrev pub has_room_in : List (ℤ × Vec Entry) → Place → Bool
+has_room_in rows p = unwrap_or (option_map (λ row. nat_lt (vec_len row) (vec_capacity row)) (row_in rows p.slot)) false
+
+-- whether the entries of a row, if there is one, ascend by origin
+abbrev pub row_ascends : Option (Vec Entry) → Bool
+row_ascends None = true
+row_ascends (Some row) = ascends row.items
+
+-- the entries of each row ascend by origin
+abbrev pub RowsAscend : List (ℤ × Vec Entry) → Type 0
+RowsAscend rows = (slot : ℤ) → row_ascends (row_in rows slot) ≡ true
+
+-- whether a cell can stand at a place
+abbrev pub is_placed : Place → Bool
+is_placed p = nat_le (unsigned_abs p.slot) MAX_SECOND && nat_lt p.origin (2 ^ 16)
+
+-- how many cells the rows hold, the newest slot of a cell, and what each cell and row keeps to
+pub record IsHeld (count : ℕ) (newest : Option ℤ) (rows : List (ℤ × Vec Entry)) : Type 0 where
+  pub counted : count ≡ len (cells_in rows)
+  pub latest : newest ≡ newest_of (keys (cells_in rows))
+  pub placed : list_all is_placed (keys (cells_in rows)) ≡ true
+  pub ascend : RowsAscend rows
+  pub ordered : IsStrictlySortedBy int_cmp (keys_of rows)

@@ -1,0 +1,109 @@
+//! What an archive of one series does.
+ghost use Rattle.std.specs.Prelude.{◌≡◌, ℕ, Bool, ◌<◌, ◌≤◌, IsTrue, IsOk, OnOk, OnErr, IfOk, IfSome, slice_get};
+ghost use Rattle.std.specs.Option.{option_map};
+ghost use Rattle.std.specs.FinMap as fin;
+ghost use Rattle.rr_contrib.specs.Contributions.{slot_sample};
+ghost use Rattle.rr_contrib.specs.Validity.{CanAdd};
+ghost use Rattle.rr_archive.specs.Places.{Place, place_at, newest_of, IsSlot};
+ghost use Rattle.rr_archive.specs.Cells.{Rows, with_put, with_cell, row_of, cell_of, next_cell};
+
+use crate::entry::Entry;
+use rr_base::Origin;
+use rr_base::limits::{MAX_NUMBER, MAX_ROWS, MAX_STEPS};
+use rr_contrib::Contribution;
+use std::alloc::{AllocError, Global};
+
+/// The cells of one archive of one series, each the contribution of an origin to a slot.
+///
+/// Slots are from -9,223,372,037 to 9,223,372,037. Only `ready`, `put`, `join_cell` and `copy` take
+/// memory.
+pub trait Archive: Drop {
+    ghost cells: { Self → Rows };
+
+    ghost row_limit: { Self → ℕ };
+
+    ghost has_room: { Self → Place → Bool };
+
+    /// An archive of so many rows, from 1 to 100,000, that holds no cell.
+    fn new(alloc: Global, rows: u32) -> Self
+        requires some_row { 1 ≤ rows }
+        requires few_rows { rows ≤ MAX_ROWS }
+        ensures empty { cells result ≡ fin.empty }
+        ensures limit { row_limit result ≡ rows };
+
+    /// Makes room for a cell, so that the next `put` or `join_cell` at this slot and origin can't
+    /// fail. It changes no cell.
+    fn ready(&mut self, slot: i64, origin: Origin) -> Result<(), AllocError>
+        requires { IsSlot slot }
+        ensures cells { cells self.new ≡ cells self.old }
+        ensures limit { row_limit self.new ≡ row_limit self.old }
+        ensures room { OnOk result (IsTrue (has_room self.new (place_at slot origin))) };
+
+    /// Puts a sample of an origin into a slot. Its number, place, time and value are those of
+    /// `Contribution::first`, or where the cell is there, of `Contribution::add`.
+    ///
+    /// After an error nothing has changed. The cost is logarithmic in the rows and linear in the
+    /// entries of the row.
+    fn put(
+        &mut self,
+        slot: i64,
+        origin: Origin,
+        number: u64,
+        place: u32,
+        time: i64,
+        value: i64,
+    ) -> Result<(), AllocError>
+        requires slot { IsSlot slot }
+        requires some_number { 1 ≤ number }
+        requires known_number { number ≤ MAX_NUMBER }
+        requires place { place < MAX_STEPS }
+        requires newer { IfSome (fin.get (cells self.old) (place_at slot origin)) (CanAdd number) }
+        ensures ok { OnOk result (cells self.new
+            ≡ with_put (cells self.old) (place_at slot origin) (slot_sample number place time value)) }
+        ensures err { OnErr result (cells self.new ≡ cells self.old) }
+        ensures limit { row_limit self.new ≡ row_limit self.old }
+        ensures room { IsTrue (has_room self.old (place_at slot origin)) → IsOk result };
+
+    /// Joins a cell from elsewhere: the greater of the two contributions stays.
+    ///
+    /// After an error nothing has changed. The cost is that of `put`.
+    fn join_cell(
+        &mut self,
+        slot: i64,
+        origin: Origin,
+        contribution: &Contribution,
+    ) -> Result<(), AllocError>
+        requires { IsSlot slot }
+        ensures ok { OnOk result (cells self.new
+            ≡ with_cell (cells self.old) (place_at slot origin) contribution.now) }
+        ensures err { OnErr result (cells self.new ≡ cells self.old) }
+        ensures limit { row_limit self.new ≡ row_limit self.old }
+        ensures room { IsTrue (has_room self.old (place_at slot origin)) → IsOk result };
+
+    /// The greatest slot of a cell, if there is a cell.
+    fn newest(&self) -> Option<i64>
+        ensures { result ≡ newest_of (fin.keys (cells self.now)) };
+
+    /// The entries of a slot, ascending by origin. The cost is logarithmic in the rows.
+    fn row(&self, slot: i64) -> &[Entry]
+        ensures { result.now ≡ row_of (cells self.now) slot };
+
+    /// How many cells there are.
+    fn cell_count(&self) -> usize
+        ensures { result ≡ fin.len (cells self.now) };
+
+    /// The slot and the entry of a cell by its number, from 0, in order of slot and origin. The cost
+    /// is linear in the rows before it, so a walk over many cells goes on by `next_cell`.
+    fn cell_at(&self, i: usize) -> Option<(i64, Entry)>
+        ensures { result ≡ option_map cell_of (slice_get (fin.entries (cells self.now)) i) };
+
+    /// The first cell behind a slot and an origin, in order. The cost is logarithmic in the rows,
+    /// and linear in the entries of the row that it is found in.
+    fn next_cell(&self, slot: i64, origin: Origin) -> Option<(i64, Entry)>
+        ensures { result ≡ option_map cell_of (next_cell (cells self.now) (place_at slot origin)) };
+
+    /// An archive with the same cells. The cost is linear in the cells.
+    fn copy(&self, alloc: Global) -> Result<Self, AllocError>
+        ensures cells { IfOk result (λ a. cells a ≡ cells self.now) }
+        ensures limit { IfOk result (λ a. row_limit a ≡ row_limit self.now) };
+}

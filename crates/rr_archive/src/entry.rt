@@ -1,0 +1,13 @@
+//! One entry of a row.
+
+use rr_base::Origin;
+use rr_contrib::Contribution;
+
+/// What one origin contributes to a row.
+#[derive(Clone, Copy, Debug, PartialEq, Eq)]
+pub struct Entry {
+    /// Whose samples these are.
+    pub origin: Origin,
+    /// What they come to.
+    pub contribution: Contribution,
+}

@@ -1,0 +1,18 @@
+//! The laws of the cells of one archive, with no work to do: each function has an empty body.
+ghost use Rattle.rr_archive.specs.Laws.{MergeIsCommutative, MergeIsAssociative, MergeIsIdempotent, JoinIsCommutative, JoinIsAssociative, JoinIsIdempotent, JoinIsTrimmed};
+
+/// To keep at each place the greater contribution of two maps: in any order, in any grouping, and
+/// any number of times.
+pub fn merge_keeps_the_greater()
+    ensures commutative { MergeIsCommutative }
+    ensures associative { MergeIsAssociative }
+    ensures idempotent { MergeIsIdempotent }
+{}
+
+/// The same of merging and then keeping the live rows, of maps that hold no other rows.
+pub fn join_keeps_the_live()
+    ensures commutative { JoinIsCommutative }
+    ensures associative { JoinIsAssociative }
+    ensures idempotent { JoinIsIdempotent }
+    ensures trimmed { JoinIsTrimmed }
+{}

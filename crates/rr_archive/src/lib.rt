@@ -1,0 +1,20 @@
+//! One archive of one series: what each origin contributes to each of its slots.
+//!
+//! An [`Archive`] is seen as a finite map from places, each a slot and an origin, to contributions,
+//! in order (`specs/Cells.antt`). A sample is put at its place, and a cell from elsewhere is joined:
+//! of two contributions at one place the greater stays. Merged name by name, maps are the same
+//! in any order, in any grouping and any number of times (`laws`).
+#![tactic(auto)]
+
+mod archive;
+mod entry;
+pub mod laws;
+mod plain;
+mod row;
+mod slots;
+#[cfg(test)]
+mod tests;
+
+pub use archive::Archive;
+pub use entry::Entry;
+pub use plain::PlainArchive;

@@ -1,0 +1,185 @@
+//! An archive as an ordered map from slots to rows.
+ghost use Rattle.std.specs.Prelude.{◌≡◌, ◌<◌, ◌≤◌, IsTrue, IsOk, OnOk, OnErr, Some, IfSome};
+ghost use Rattle.std.proofs.Props.{props};
+ghost use Rattle.std.specs.Ordering.{int_cmp};
+ghost use Rattle.std.specs.FinMap as fin;
+ghost use Rattle.rr_join.specs.Maps.{greater};
+ghost use Rattle.rr_contrib.specs.Contributions.{slot_sample, added, contribution_cmp};
+ghost use Rattle.rr_contrib.specs.Validity.{CanAdd};
+ghost use Rattle.rr_archive.specs.Places.{place_at, IsSlot};
+ghost use Rattle.rr_archive.specs.Held.{IsHeld, cells_in, has_room_in};
+
+use crate::archive::Archive;
+use crate::entry::Entry;
+use crate::slots::{Slots, cell_behind, cell_in, copy_slots, make_room, nth_cell, set_cell};
+use rr_base::Origin;
+use rr_base::limits::{MAX_NUMBER, MAX_STEPS};
+use rr_contrib::Contribution;
+use rr_join::Join;
+use std::alloc::{AllocError, Global};
+use std::collections::BTreeMap;
+
+/// The cells of one archive of one series, as an ordered map from slots to rows of entries.
+#[derive(Drop)]
+pub struct PlainArchive {
+    alloc: Global,
+    rows: u32,
+    count: usize,
+    newest: Option<i64>,
+    slots: Slots,
+    ghost held: { IsHeld count newest slots.entries } by { Prim.hlevel props },
+}
+
+/// The later of the newest slot so far, if there is one, and a slot.
+fn later(newest: Option<i64>, slot: i64) -> i64
+    ensures { Some result ≡ greater int_cmp newest (Some slot) }
+{
+    match newest {
+        Some(newest) => newest.max(slot),
+        None => slot,
+    }
+}
+
+/// What a cell contributes with a sample more.
+fn with_sample(
+    known: Option<Contribution>,
+    number: u64,
+    place: u32,
+    time: i64,
+    value: i64,
+) -> Contribution
+    requires some_number { 1 ≤ number }
+    requires known_number { number ≤ MAX_NUMBER }
+    requires place { place < MAX_STEPS }
+    requires newer { IfSome known (CanAdd number) }
+    ensures { result ≡ added known (slot_sample number place time value) }
+{
+    match known {
+        Some(mut contribution) => {
+            contribution.add(number, place, time, value);
+            contribution
+        }
+        None => Contribution::first(number, place, time, value),
+    }
+}
+
+/// What a cell contributes with a contribution joined in.
+fn with_joined(known: Option<Contribution>, other: Contribution) -> Contribution
+    ensures { Some result ≡ greater contribution_cmp known (Some other) }
+{
+    match known {
+        Some(mut contribution) => {
+            contribution.join(&other);
+            contribution
+        }
+        None => other,
+    }
+}
+
+impl PlainArchive {
+    /// Sets what stands at a slot and an origin.
+    fn set(
+        &mut self,
+        slot: i64,
+        origin: Origin,
+        contribution: Contribution,
+    ) -> Result<(), AllocError>
+        requires { IsSlot slot }
+        ensures ok { OnOk result (cells_in self.new.slots.entries
+            ≡ fin.insert (cells_in self.old.slots.entries) (place_at slot origin) contribution) }
+        ensures err { OnErr result (cells_in self.new.slots.entries ≡ cells_in self.old.slots.entries) }
+        ensures limit { self.new.rows ≡ self.old.rows }
+        ensures room { IsTrue (has_room_in self.old.slots.entries (place_at slot origin)) → IsOk result }
+    {
+        // An origin is one of so many, and so the cells can be counted.
+        let _number = origin.get();
+        let is_new = cell_in(&self.slots, slot, origin).is_none();
+        let entry = Entry {
+            origin,
+            contribution,
+        };
+        set_cell(&mut self.slots, self.alloc, slot, entry)?;
+        self.count += usize::from(is_new);
+        self.newest = Some(later(self.newest, slot));
+        Ok(())
+    }
+}
+
+impl Archive for PlainArchive {
+    ghost cells = { λ a. cells_in a.slots.entries };
+
+    ghost row_limit = { λ a. a.rows };
+
+    ghost has_room = { λ a p. has_room_in a.slots.entries p };
+
+    fn new(alloc: Global, rows: u32) -> PlainArchive {
+        PlainArchive {
+            alloc,
+            rows,
+            count: 0,
+            newest: None,
+            slots: BTreeMap::new(alloc),
+        }
+    }
+
+    fn ready(&mut self, slot: i64, _origin: Origin) -> Result<(), AllocError> {
+        make_room(&mut self.slots, self.alloc, slot)
+    }
+
+    fn put(
+        &mut self,
+        slot: i64,
+        origin: Origin,
+        number: u64,
+        place: u32,
+        time: i64,
+        value: i64,
+    ) -> Result<(), AllocError> {
+        let known = cell_in(&self.slots, slot, origin);
+        let contribution = with_sample(known, number, place, time, value);
+        self.set(slot, origin, contribution)
+    }
+
+    fn join_cell(
+        &mut self,
+        slot: i64,
+        origin: Origin,
+        contribution: &Contribution,
+    ) -> Result<(), AllocError> {
+        let known = cell_in(&self.slots, slot, origin);
+        self.set(slot, origin, with_joined(known, *contribution))
+    }
+
+    fn newest(&self) -> Option<i64> {
+        self.newest
+    }
+
+    fn row(&self, slot: i64) -> &[Entry] {
+        match self.slots.get(&slot) {
+            Some(row) => row.as_slice(),
+            None => &[],
+        }
+    }
+
+    fn cell_count(&self) -> usize {
+        self.count
+    }
+
+    fn cell_at(&self, i: usize) -> Option<(i64, Entry)> {
+        nth_cell(&self.slots, i)
+    }
+
+    fn next_cell(&self, slot: i64, origin: Origin) -> Option<(i64, Entry)> {
+        cell_behind(&self.slots, slot, origin)
+    }
+
+    fn copy(&self, alloc: Global) -> Result<PlainArchive, AllocError> {
+        Ok(PlainArchive {
+            alloc,
+            rows: self.rows,
+            count: self.count,
+            newest: self.newest,
+            slots: copy_slots(&self.slots, alloc)?,
+        })
+    }
+}

@@ -1,0 +1,56 @@
+//! The entries of one row, ascending by origin.
+ghost use Rattle.std.specs.Prelude.{◌≡◌, ◌<◌, vec_len, vec_capacity, IsTrue, IsOk, OnOk, OnErr};
+ghost use Rattle.std.specs.List.{find, position_from};
+ghost use Rattle.rr_archive.specs.Row.{entry_at, with_entry, is_from, is_behind, ascends};
+
+use crate::entry::Entry;
+use rr_base::Origin;
+use rr_contrib::Contribution;
+use std::alloc::AllocError;
+
+/// The number of the first entry whose origin is not below this one, if there is one.
+fn first_from(row: &[Entry], origin: Origin) -> Option<usize>
+    ensures { result ≡ position_from (is_from origin) 0 row.now }
+{
+    row.iter().position(|entry| origin <= entry.origin)
+}
+
+/// The contribution of an origin, if it has one.
+pub(crate) fn entry_at(row: &[Entry], origin: Origin) -> Option<Contribution>
+    ensures { result ≡ entry_at row.now origin }
+{
+    row.iter()
+        .find(|entry| entry.origin == origin)
+        .map(|entry| entry.contribution)
+}
+
+fn is_behind(entry: &Entry, is_later: bool, origin: Origin) -> bool
+    ensures { result ≡ is_behind is_later origin entry.now }
+{
+    is_later || origin < entry.origin
+}
+
+/// The first entry of a later slot than an origin's, or the first behind it in its own.
+pub(crate) fn first_behind(row: &[Entry], is_later: bool, origin: Origin) -> Option<Entry>
+    ensures { result ≡ find (is_behind is_later origin) row.now }
+{
+    row.iter()
+        .find(|entry| is_behind(entry, is_later, origin))
+        .copied()
+}
+
+/// Sets the entry of an origin.
+pub(crate) fn set_entry(row: &mut Vec<Entry>, entry: Entry) -> Result<(), AllocError>
+    ensures ok { OnOk result (row.new.items ≡ with_entry row.old.items entry) }
+    ensures err { OnErr result (row.new.items ≡ row.old.items) }
+    ensures ascend { IsTrue (ascends row.old.items) → IsTrue (ascends row.new.items) }
+    ensures room { vec_len row.old < vec_capacity row.old → IsOk result }
+{
+    let at = first_from(row, entry.origin).unwrap_or(row.len());
+    if at < row.len() && row[at].origin == entry.origin {
+        row[at] = entry;
+        return Ok(());
+    }
+    row.insert(at, entry)?;
+    Ok(())
+}

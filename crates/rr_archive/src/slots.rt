@@ -1,0 +1,117 @@
+//! Rows by their slots.
+ghost use Rattle.std.specs.Prelude.{◌≡◌, ℕ, IsTrue, IsOk, OnOk, OnErr, IfOk, slice_get};
+ghost use Rattle.std.specs.Option.{option_map};
+ghost use Rattle.std.specs.Ordering.{int_cmp};
+ghost use Rattle.std.specs.BTreeMap.{IsOrdered};
+ghost use Rattle.std.specs.FinMap as fin;
+ghost use Rattle.rr_archive.specs.Places.{place_at};
+ghost use Rattle.rr_archive.specs.Cells.{cell_of, next_cell};
+ghost use Rattle.rr_archive.specs.Held.{cells_in, has_room_in, RowsAscend};
+
+use crate::entry::Entry;
+use crate::row::{entry_at, first_behind, set_entry};
+use rr_base::Origin;
+use rr_contrib::Contribution;
+use std::alloc::{AllocError, Global};
+use std::collections::BTreeMap;
+
+/// The rows of an archive by their slots, each ascending by origin.
+pub(crate) type Slots = BTreeMap<i64, Vec<Entry>>;
+
+/// What stands at a slot and an origin, if anything does.
+pub(crate) fn cell_in(slots: &Slots, slot: i64, origin: Origin) -> Option<Contribution>
+    ensures { result ≡ fin.get (cells_in slots.now.entries) (place_at slot origin) }
+{
+    match slots.get(&slot) {
+        Some(row) => entry_at(row, origin),
+        None => None,
+    }
+}
+
+/// Sets what stands at a slot and an origin.
+pub(crate) fn set_cell(
+    slots: &mut Slots,
+    alloc: Global,
+    slot: i64,
+    entry: Entry,
+) -> Result<(), AllocError>
+    ensures ok { OnOk result (cells_in slots.new.entries
+        ≡ fin.insert (cells_in slots.old.entries) (place_at slot entry.origin) entry.contribution) }
+    ensures err { OnErr result (cells_in slots.new.entries ≡ cells_in slots.old.entries) }
+    ensures ascend { RowsAscend slots.old.entries → RowsAscend slots.new.entries }
+    ensures ordered { IsOrdered int_cmp slots.new }
+    ensures room { IsTrue (has_room_in slots.old.entries (place_at slot entry.origin)) → IsOk result }
+{
+    match slots.get_mut(&slot) {
+        Some(row) => set_entry(row, entry),
+        None => {
+            let mut row = Vec::new(alloc);
+            row.push(entry)?;
+            slots.insert(slot, row)?;
+            Ok(())
+        }
+    }
+}
+
+/// Makes room for one entry more in the row of a slot.
+pub(crate) fn make_room(slots: &mut Slots, alloc: Global, slot: i64) -> Result<(), AllocError>
+    ensures cells { cells_in slots.new.entries ≡ cells_in slots.old.entries }
+    ensures ascend { RowsAscend slots.old.entries → RowsAscend slots.new.entries }
+    ensures ordered { IsOrdered int_cmp slots.new }
+    ensures room { (origin : ℕ) → OnOk result (IsTrue (has_room_in slots.new.entries (place_at slot origin))) }
+{
+    match slots.get_mut(&slot) {
+        Some(row) => row.reserve(1),
+        None => {
+            let mut row = Vec::new(alloc);
+            row.reserve(1)?;
+            slots.insert(slot, row)?;
+            Ok(())
+        }
+    }
+}
+
+/// The slot and the entry of a cell by its number, from 0, in order.
+pub(crate) fn nth_cell(slots: &Slots, i: usize) -> Option<(i64, Entry)>
+    requires ascend { RowsAscend slots.now.entries }
+    requires ordered { IsOrdered int_cmp slots.now }
+    ensures { result ≡ option_map cell_of (slice_get (fin.entries (cells_in slots.now.entries)) i) }
+{
+    let mut left = i;
+    for (slot, row) in slots {
+        if left < row.len() {
+            return Some((*slot, row[left]));
+        }
+        left -= row.len();
+    }
+    None
+}
+
+/// The first cell behind a slot and an origin, in order.
+pub(crate) fn cell_behind(slots: &Slots, slot: i64, origin: Origin) -> Option<(i64, Entry)>
+    requires ascend { RowsAscend slots.now.entries }
+    requires ordered { IsOrdered int_cmp slots.now }
+    ensures { result ≡ option_map cell_of (next_cell (cells_in slots.now.entries) (place_at slot origin)) }
+{
+    for (at, row) in slots.range(slot..) {
+        if let Some(entry) = first_behind(row, slot < *at, origin) {
+            return Some((*at, entry));
+        }
+    }
+    None
+}
+
+/// The same rows.
+pub(crate) fn copy_slots(slots: &Slots, alloc: Global) -> Result<Slots, AllocError>
+    requires ascend { RowsAscend slots.now.entries }
+    requires ordered { IsOrdered int_cmp slots.now }
+    ensures cells { IfOk result (λ new. cells_in new.entries ≡ cells_in slots.now.entries) }
+    ensures ascend { IfOk result (λ new. RowsAscend new.entries) }
+    ensures ordered { IfOk result (IsOrdered int_cmp) }
+{
+    let mut new = BTreeMap::new(alloc);
+    for (slot, row) in slots {
+        new.insert(*slot, Vec::from_slice(alloc, row)?)?;
+    }
+    Ok(new)
+}
