@@ -1,6 +1,8 @@
 use crate::Contribution;
-use rr_base::{ArchiveSpec, Schema};
+use rr_base::{ArchiveSpec, Schema, SchemaFault};
 use rr_join::Join;
+use std::alloc::Global;
+use std::process::Abort;
 use std::test::Fail;
 
 #[test]
@@ -72,67 +74,75 @@ fn the_greater_is_joined(rt: HostRuntime) -> Result<(), Fail> {
     Ok(())
 }
 
-#[test]
-fn each_condition_is_looked_at(rt: HostRuntime) -> Result<(), Fail> {
+/// -3 and -4, a nanosecond apart.
+fn two_samples() -> Contribution {
+    let mut both = Contribution::first(1, 0, 0, -3);
+    both.add(2, 0, 1, -4);
+    both
+}
+
+/// Asserts that none of these is valid in slot 0 of one row a minute.
+fn assert_invalid(rt: &impl Abort, schema: &Schema, broken: &[(Contribution, &str)]) {
+    assert!(rt; schema.archives().len() == 1);
+    for (broken, what) in broken {
+        assert_eq!(rt; broken.is_valid(schema, 0, 0), false, "{what}");
+    }
+}
+
+/// One row a minute.
+fn minutes(alloc: Global) -> Result<Schema, SchemaFault> {
     let row = ArchiveSpec {
         steps: 1,
         rows: 3,
         num: 0,
         den: 1,
     };
-    let schema = Schema::new(rt.alloc(), 60, [row].as_slice())?;
-    let mut both = Contribution::first(1, 0, 0, -3);
-    both.add(2, 0, 1, -4);
+    Schema::new(alloc, 60, [row].as_slice())
+}
+
+#[test]
+fn counts_and_values_are_bounded(rt: HostRuntime) -> Result<(), Fail> {
+    let schema = minutes(rt.alloc())?;
+    let mut none = two_samples();
+    none.count = 0;
+    none.sum = 0;
+    let mut late = two_samples();
+    late.version = 1_099_511_627_777;
+    let mut low = two_samples();
+    low.last_value = -5;
+    let mut high = two_samples();
+    high.last_value = -2;
+    let both = two_samples();
+    let broken = [
+        (none, "no count"),
+        (Contribution { version: 1, ..both }, "count above version"),
+        (late, "version above 2^40"),
+        (low, "last value below min"),
+        (high, "last value above max"),
+        (Contribution { sum: -9, ..both }, "sum below count * min"),
+        (Contribution { sum: -5, ..both }, "sum above count * max"),
+    ];
+    assert_invalid(&rt, &schema, broken.as_slice());
+    Ok(())
+}
+
+#[test]
+fn times_and_places_are_of_the_slot(rt: HostRuntime) -> Result<(), Fail> {
+    let schema = minutes(rt.alloc())?;
+    let both = two_samples();
     assert!(rt; schema.archives().len() == 1);
     assert_eq!(rt; both.is_valid(&schema, 0, 0), true);
     assert_eq!(rt; both.is_valid(&schema, 0, 1), false, "another slot");
-    for (broken, what) in [
-        (
-            Contribution {
-                count: 0,
-                sum: 0,
-                ..both
-            },
-            "no count",
-        ),
-        (Contribution { version: 1, ..both }, "count above version"),
-        (
-            Contribution {
-                version: 1_099_511_627_777,
-                ..both
-            },
-            "version above 2^40",
-        ),
-        (
-            Contribution {
-                last_value: -5,
-                ..both
-            },
-            "last value below min",
-        ),
-        (
-            Contribution {
-                last_value: -2,
-                ..both
-            },
-            "last value above max",
-        ),
-        (Contribution { sum: -9, ..both }, "sum below count * min"),
-        (Contribution { sum: -5, ..both }, "sum above count * max"),
-        (
-            Contribution {
-                last_time: -1,
-                ..both
-            },
-            "last time before the slot",
-        ),
+    let mut early = both;
+    early.last_time = -1;
+    let broken = [
+        (early, "last time before the slot"),
         (Contribution { mask: 3, ..both }, "a place past the steps"),
         (
             Contribution { mask: 0, ..both },
             "the last time's place missing",
         ),
-    ] {
-        assert_eq!(rt; broken.is_valid(&schema, 0, 0), false, "{what}");
-    }
+    ];
+    assert_invalid(&rt, &schema, broken.as_slice());
     Ok(())
 }
