@@ -62,7 +62,7 @@ pub fn integer(text: &[u8]) -> Option<i64>
 }
 
 /// The text without a leading minus.
-fn unsigned(text: &[u8]) -> &[u8]
+pub fn unsigned(text: &[u8]) -> &[u8]
     ensures { result.now ≡ unsigned text.now }
 {
     match text {

@@ -15,3 +15,4 @@ pub mod FoundLemmas
 pub mod AnsweredLemmas
 pub mod WrittenLemmas
 pub mod OneLineLemmas
+pub mod StopLemmas

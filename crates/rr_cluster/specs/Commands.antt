@@ -66,15 +66,15 @@ line_of (Ok view) = Ok view
 line_of (Err fault) = Err (Line fault)
 
 -- the sample of a field: of the number after this one
-abbrev pub sample_of : ℕ → ℕ → ℤ → List ℕ → List ℕ × ℤ → Sample
-sample_of origin number time measurement field =
-    record { time = time; origin = origin; number = number + 1; key = key_text measurement field.0; value = field.1 }
+abbrev pub sample_of : ℕ → ℕ → ℤ → PointView → List ℕ × ℤ → Sample
+sample_of origin number time p field =
+    record { time = time; origin = origin; number = number + 1; key = key_text p field.0; value = field.1 }
 
 -- the samples of a point's fields: in their order, under the numbers after this one
-abbrev pub samples_of : ℕ → ℕ → ℤ → List ℕ → List (List ℕ × ℤ) → List Sample
-samples_of origin number time measurement [] = []
-samples_of origin number time measurement (field ∷ fields) =
-    sample_of origin number time measurement field ∷ samples_of origin (number + 1) time measurement fields
+abbrev pub samples_of : ℕ → ℕ → ℤ → PointView → List (List ℕ × ℤ) → List Sample
+samples_of origin number time p [] = []
+samples_of origin number time p (field ∷ fields) =
+    sample_of origin number time p field ∷ samples_of origin (number + 1) time p fields
 
 -- a node that wrote one more sample, and so knows its marks
 abbrev pub with_written : Layout → Node → Sample → Node
@@ -92,7 +92,7 @@ with_samples w (x ∷ xs) = with_samples (with_sample w x) xs
 
 -- the samples of a point at a node; one without a time is of time 0
 abbrev pub samples_at : Node → PointView → List Sample
-samples_at n p = samples_of n.origin n.written (unwrap_or p.time (pos 0)) p.measurement p.fields
+samples_at n p = samples_of n.origin n.written (unwrap_or p.time (pos 0)) p p.fields
 
 -- the samples that a node writes of a point
 abbrev pub samples_of_point : Node → PointView → Result (List Sample) CommandFault

@@ -7,10 +7,10 @@ use Rattle.rr_base.specs.declared.limits.TheConstants.{MAX_FETCH_ROWS, MAX_SECON
 use Rattle.rr_base.specs.Schema.{Layout, span, choice}
 use Rattle.rr_model.specs.FetchText as text
 use Rattle.rr_cluster.specs.declared.fault.CommandFault.{CommandFault}
-use Rattle.rr_cluster.specs.declared.fault.CommandFault.TheVariants.{BadNumber, BadCf, BadKey, EmptyRange, TooManyRows}
+use Rattle.rr_cluster.specs.declared.fault.CommandFault.TheVariants.{BadNumber, BadCf, EmptyRange, TooManyRows}
 use Rattle.rr_cluster.specs.declared.request.Request.{Request}
 use Rattle.rr_cluster.specs.Checks.{◌>>=◌, checked}
-use Rattle.rr_cluster.specs.Words.{is_key, function_of, resolution_of, second_of}
+use Rattle.rr_cluster.specs.Words.{key_of, function_of, resolution_of, second_of}
 
 -- the rows of an archive from the slot of start, up to the last one that begins before end
 abbrev pub rows_between : Layout → List ℕ → ConsolidationFunction → ℕ → ℤ → ℤ → text.Request
@@ -30,13 +30,13 @@ requested s function resolution start end key = do
   seconds ← ok_or (resolution_of resolution) BadNumber
   from ← ok_or (second_of start) BadNumber
   to ← ok_or (second_of end) BadNumber
-  spelled ← checked (is_key key) BadKey
+  series ← key_of key
   some ← checked (int_lt from to) EmptyRange
-  few_rows (rows_between s key consolidation (choice s seconds) from to)
+  few_rows (rows_between s series consolidation (choice s seconds) from to)
 
--- a request without where its key lies in memory; it is for the average
+-- a request as it is held; it is for the average
 abbrev pub average_request : Request → text.Request
-average_request q = record { key = q.key.now; function = Average; archive = q.archive; first = q.first; rows = q.rows }
+average_request q = record { key = q.key; function = Average; archive = q.archive; first = q.first; rows = q.rows }
 
 -- the same, if it is not refused
 abbrev pub request_view : Result Request CommandFault → Result text.Request CommandFault

@@ -2,10 +2,12 @@
 use Rattle.std.specs.Prelude.{◌≡◌, Result, Ok, Err}
 use Rattle.rr_base.specs.declared.fault.SchemaFault.{SchemaFault}
 use Rattle.rr_base.specs.declared.fault.SchemaFault.TheVariants as schema
+use Rattle.rr_key.specs.declared.fault.KeyFault.{KeyFault}
+use Rattle.rr_key.specs.declared.fault.KeyFault.TheVariants as key
 use Rattle.rr_line.specs.declared.fault.LineFault.{LineFault}
 use Rattle.rr_line.specs.declared.fault.LineFault.TheVariants as line
 use Rattle.rr_cluster.specs.declared.fault.CommandFault.{CommandFault}
-use Rattle.rr_cluster.specs.declared.fault.CommandFault.TheVariants.{Schema, Line}
+use Rattle.rr_cluster.specs.declared.fault.CommandFault.TheVariants.{BadKey, Schema, Line}
 use Rattle.rr_cluster.specs.declared.stop.Stop.{Stop}
 use Rattle.rr_cluster.specs.declared.stop.Stop.TheVariants.{Refused, Memory}
 
@@ -17,6 +19,10 @@ IsStopOfSchema fault stop = stop ≡ Refused (Schema fault)
 abbrev pub IsStopOfLine : LineFault → Stop → Type 0
 IsStopOfLine line.Memory stop = stop ≡ Memory
 IsStopOfLine fault stop = stop ≡ Refused (Line fault)
+
+abbrev pub IsStopOfKey : KeyFault → Stop → Type 0
+IsStopOfKey key.Memory stop = stop ≡ Memory
+IsStopOfKey fault stop = stop ≡ Refused BadKey
 
 -- an answer, seen by view, is the model's, and so is a refusal; memory may run out
 abbrev pub Follows : {A B : Type 0} → (A → B) → Result A Stop → Result B CommandFault → Type 0

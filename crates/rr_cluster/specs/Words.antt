@@ -7,12 +7,11 @@ use Rattle.rr_base.specs.Text.{cut_at, is_digits, integer_at}
 use Rattle.rr_base.specs.declared.archive.ArchiveSpec.{ArchiveSpec}
 use Rattle.rr_base.specs.declared.consolidation.ConsolidationFunction.{ConsolidationFunction}
 use Rattle.rr_base.specs.declared.consolidation.ConsolidationFunction.TheVariants.{Average}
-use Rattle.rr_base.specs.declared.limits.TheConstants.{MAX_SECOND, MAX_KEY_TEXT}
+use Rattle.rr_base.specs.declared.limits.TheConstants.{MAX_SECOND}
 use Rattle.rr_base.specs.declared.fault.OriginFault.TheVariants.{BadOrigin}
-use Rattle.rr_line.specs.Name.{is_name as is_point_name}
-use Rattle.rr_cluster.specs.declared.event.TheConstants.{SPACE}
+use Rattle.rr_key.specs.Reading.{is_key_text}
 use Rattle.rr_cluster.specs.declared.fault.CommandFault.{CommandFault}
-use Rattle.rr_cluster.specs.declared.fault.CommandFault.TheVariants.{BadNumber, Origin}
+use Rattle.rr_cluster.specs.declared.fault.CommandFault.TheVariants.{BadNumber, BadKey, Origin}
 use Rattle.rr_cluster.specs.declared.words.TheConstants.{MAX_NAME, MAX_U32}
 
 -- what follows a step that may give nothing
@@ -76,11 +75,6 @@ second_of word = do
   second ← integer_at word
   if nat_le (unsigned_abs second) MAX_SECOND then Some second else None
 
--- the two names of a series key
-abbrev pub is_key_of : Option (List ℕ × List ℕ) → Bool
-is_key_of None = false
-is_key_of (Some (measurement, field)) = is_point_name measurement && is_point_name field
-
--- a series key; today a measurement's name, a space and a field's
-abbrev pub is_key : List ℕ → Bool
-is_key text = is_key_of (cut_at SPACE text) && nat_le (length text) MAX_KEY_TEXT
+-- a series key, by its text
+abbrev pub key_of : List ℕ → Result (List ℕ) CommandFault
+key_of text = if is_key_text text then Ok text else Err BadKey

@@ -104,7 +104,7 @@ pub(crate) fn answer_text(
     alloc: Global,
     schema: &Schema,
     series: Option<&Series>,
-    request: &Request<'_>,
+    request: &Request,
 ) -> Result<Vec<u8>, AllocError>
     requires { IsFetchable schema.now request.now }
     ensures { IfOk result (λ text. text.items
@@ -117,7 +117,7 @@ pub(crate) fn answer_text(
         let slot = slot_of(request.first, row);
         let start = start_of(slot, span);
         let value = value_at(series, kept, slot);
-        write_row(&mut writer, request.key, start, value)?;
+        write_row(&mut writer, request.key.text(), start, value)?;
     }
     match writer.into_inner() {
         Ok(text) => Ok(text),

@@ -117,8 +117,8 @@ impl Cluster {
         let Some(node) = self.nodes.get(&name) else {
             return Err(Stop::Refused(CommandFault::NoNode));
         };
-        let request = request_of(schema, function, resolution, start, end, key)?;
-        let series = node.series.get(&Name::new(self.alloc, request.key)?);
+        let request = request_of(self.alloc, schema, function, resolution, start, end, key)?;
+        let series = node.series.get(&request.key);
         Ok(answer_text(self.alloc, schema, series, &request)?)
     }
 }

@@ -3,11 +3,11 @@
 ghost use Rattle.std.specs.Prelude.{◌≡◌, ◌-◌, ◌<◌, ◌^◌, nat_le, OnOk};
 ghost use Rattle.rr_cluster.specs.Tallies.{IsCounted};
 
-use crate::name::Name;
 use crate::series::Series;
 use crate::tallies::add_sample;
 use rr_base::Origin;
 use rr_base::limits::MAX_NUMBER;
+use rr_key::SeriesKey;
 use std::alloc::{AllocError, Global};
 use std::collections::BTreeMap;
 
@@ -18,7 +18,7 @@ pub(crate) struct Node {
     /// How many samples it wrote.
     pub(crate) written: u64,
     /// Their sums, by the key texts of the series.
-    pub(crate) series: BTreeMap<Name, Series>,
+    pub(crate) series: BTreeMap<SeriesKey, Series>,
     ghost counted: { IsCounted series written },
 }
 
@@ -47,7 +47,7 @@ impl Node {
     pub(crate) fn put(
         &mut self,
         alloc: Global,
-        key: Name,
+        key: SeriesKey,
         slot: i64,
         value: i64,
     ) -> Result<(), AllocError>

@@ -3,17 +3,21 @@
 ghost use Rattle.std.specs.Prelude.{◌≡◌, ◌<◌, ◌≤◌, pos, neg_ℤ, ◌-ℤ◌, unsigned_abs, length, IfOk};
 ghost use Rattle.std.specs.Int.{int_div_euclid};
 ghost use Rattle.rr_base.specs.declared.consolidation.ConsolidationFunction.TheVariants.{Average};
-ghost use Rattle.rr_cluster.specs.Request.{few_rows, requested, request_view, rows_between, IsFetchable};
+ghost use Rattle.rr_cluster.specs.Request.{few_rows, requested, average_request, request_view, rows_between, IsFetchable};
+ghost use Rattle.rr_cluster.specs.Stop.{Follows};
 
 use crate::fault::CommandFault;
-use crate::words::{function_of, is_key, resolution_of, second_of};
+use crate::stop::Stop;
+use crate::words::{function_of, key_of, resolution_of, second_of};
 use rr_base::Schema;
 use rr_base::limits::{MAX_FETCH_ROWS, MAX_SECOND};
+use rr_key::SeriesKey;
+use std::alloc::Global;
 
 /// So many rows of an archive of a series, from a first slot on.
-#[derive(Clone, Copy, Debug)]
-pub(crate) struct Request<'a> {
-    pub(crate) key: &'a [u8],
+#[derive(Debug, Drop)]
+pub(crate) struct Request {
+    pub(crate) key: SeriesKey,
     pub(crate) archive: u8,
     pub(crate) first: i64,
     pub(crate) rows: u32,
@@ -49,17 +53,17 @@ fn rows_between(first: i64, last: i64) -> u64
 }
 
 /// The rows from the slot of the start, up to the last one that begins before the end.
-fn rows_of<'a>(
+fn rows_of(
     schema: &Schema,
-    key: &'a [u8],
+    key: SeriesKey,
     archive: u8,
     start: i64,
     end: i64,
-) -> Result<Request<'a>, CommandFault>
+) -> Result<Request, CommandFault>
     requires is_there { archive < length schema.now.archives }
     requires start_near { unsigned_abs start ≤ MAX_SECOND }
     requires end_near { unsigned_abs end ≤ MAX_SECOND }
-    ensures value { request_view result ≡ few_rows (rows_between schema.now key.now Average archive start end) }
+    ensures value { request_view result ≡ few_rows (rows_between schema.now key Average archive start end) }
     ensures near { IfOk result (IsFetchable schema.now) }
 {
     let span = schema.span(archive);
@@ -80,30 +84,30 @@ fn rows_of<'a>(
 /// The request of the words of a `fetch`. Refusals, in this order: `BadCf`, `BadNumber` for each
 /// of the three numbers, `BadKey`, `EmptyRange`, `TooManyRows`.
 #[tactic(auto, unfolding(crate::specs::Request::requested))]
-pub(crate) fn request_of<'a>(
+pub(crate) fn request_of(
+    alloc: Global,
     schema: &Schema,
     function: &[u8],
     resolution: &[u8],
     start: &[u8],
     end: &[u8],
-    key: &'a [u8],
-) -> Result<Request<'a>, CommandFault>
-    ensures value { request_view result ≡ requested schema.now function.now resolution.now start.now end.now key.now }
+    key: &[u8],
+) -> Result<Request, Stop>
+    ensures value { Follows average_request result (requested schema.now function.now resolution.now start.now end.now key.now) }
     ensures near { IfOk result (IsFetchable schema.now) }
 {
     let _average = function_of(function).ok_or(CommandFault::BadCf)?;
     let resolution = resolution_of(resolution).ok_or(CommandFault::BadNumber)?;
     let Some(start) = second_of(start) else {
-        return Err(CommandFault::BadNumber);
+        return Err(Stop::Refused(CommandFault::BadNumber));
     };
     let Some(end) = second_of(end) else {
-        return Err(CommandFault::BadNumber);
+        return Err(Stop::Refused(CommandFault::BadNumber));
     };
-    if !is_key(key) {
-        return Err(CommandFault::BadKey);
-    }
+    let key = key_of(alloc, key)?;
     if start >= end {
-        return Err(CommandFault::EmptyRange);
+        return Err(Stop::Refused(CommandFault::EmptyRange));
     }
-    rows_of(schema, key, schema.choose(resolution), start, end)
+    let request = rows_of(schema, key, schema.choose(resolution), start, end)?;
+    Ok(request)
 }

@@ -2,6 +2,7 @@
 
 use crate::fault::CommandFault;
 use rr_base::SchemaFault;
+use rr_key::KeyFault;
 use rr_line::LineFault;
 use std::alloc::{AllocError, AllocFailed};
 
@@ -54,6 +55,19 @@ impl From<SchemaFault> for Stop {
         match fault {
             SchemaFault::Memory => Stop::Memory,
             fault => Stop::Refused(CommandFault::Schema(fault)),
+        }
+    }
+}
+
+impl From<KeyFault> for Stop {
+    ghost use Rattle.rr_cluster.specs.Stop.{IsStopOfKey};
+
+    ghost from_gives = { IsStopOfKey };
+
+    fn from(fault: KeyFault) -> Stop {
+        match fault {
+            KeyFault::Memory => Stop::Memory,
+            _ => Stop::Refused(CommandFault::BadKey),
         }
     }
 }

@@ -3,16 +3,16 @@
 ghost use Rattle.std.specs.Prelude.{◌<◌, ◌^◌, OnOk, OnErr};
 ghost use Rattle.rr_cluster.specs.Tallies.{tally_at, AddsToSeries, SameTallies};
 
-use crate::name::Name;
 use crate::series::Series;
+use rr_key::SeriesKey;
 use std::alloc::{AllocError, Global};
 use std::collections::BTreeMap;
 
 /// Adds a sample to its series.
 pub(crate) fn add_sample(
     alloc: Global,
-    all: &mut BTreeMap<Name, Series>,
-    key: Name,
+    all: &mut BTreeMap<SeriesKey, Series>,
+    key: SeriesKey,
     slot: i64,
     value: i64,
 ) -> Result<(), AllocError>

@@ -153,13 +153,57 @@ fn commands_are_checked_in_order(rt: HostRuntime) -> Result<(), Fail> {
     let text = run(
         rt.alloc(),
         b"node a 1\nschema 60 1:3:0/1\nnode a 1\nnode b 1\nnode a 2\nwrite x m v=1i\nfrob\nschema 60 1:3:0/1\n\
-          # note\n\nnode B 2\nnode b x\nnode b 0\nnode b 65536\nnode b 2 \nwrite a m v=1\nwrite a \nschema 60",
+          # note\n\nnode B 2\nnode b x\nnode b 0\nnode b 65536\nnode b 2 \nwrite a m v=1\nwrite a \nwrite a m,a=1,a=2 v=1i\nschema 60",
     )?;
     let wanted =
         "line 1: NoSchema\nline 4: OriginUsed\nline 5: NameUsed\nline 6: NoNode\nline 7: BadCommand\n\
           line 8: SchemaSet\nline 11: BadName\nline 12: BadNumber\nline 13: BadOrigin\nline 14: BadOrigin\n\
-          line 15: BadCommand\nline 16: BadField\nline 17: BadField\nline 18: SchemaSet\n";
+          line 15: BadCommand\nline 16: FloatField\nline 18: DuplicateTag\nline 19: SchemaSet\n";
     assert_eq!(rt; text.as_slice(), wanted.as_bytes());
+    Ok(())
+}
+
+#[test]
+fn tags_of_any_order_are_one_series(rt: HostRuntime) -> Result<(), Fail> {
+    let lines = [
+        "node a 1",
+        "write a m,b=2,a=1 v=1i 0",
+        "write a m,a=1,b=2 v=3i 0",
+        "fetch a AVERAGE 60 0 60 m,a=1,b=2 v",
+        "fetch a AVERAGE 60 0 60 m,b=2,a=1 v",
+        "write a m,a=1,a=2 v=1i",
+    ];
+    let output = [
+        "\"m,a=1,b=2 v\",0,2",
+        "line 6: BadKey",
+        "line 7: DuplicateTag",
+    ];
+    prints(&rt, rt.alloc(), lines.as_slice(), output.as_slice())?;
+    Ok(())
+}
+
+#[test]
+fn lines_are_read_whole(rt: HostRuntime) -> Result<(), Fail> {
+    let lines = [
+        "node a 1",
+        "write a   w,host=a  in=3i,out=-4i  9 ",
+        "write a # note",
+        "write a ",
+        "write a a\\ b v=7i 60000000000",
+        "fetch a AVERAGE 60 0 60 w,host=a in",
+        "fetch a AVERAGE 60 0 60 w,host=a out",
+        "fetch a AVERAGE 60 60 120 a\\ b v",
+        "write a m v=1i,w=2i,v=3i 0",
+        "fetch a AVERAGE 60 0 60 m w",
+    ];
+    let output = [
+        "\"w,host=a in\",0,3",
+        "\"w,host=a out\",0,-4",
+        "a\\ b v,60,7",
+        "line 10: DuplicateField",
+        "m w,0,U",
+    ];
+    prints(&rt, rt.alloc(), lines.as_slice(), output.as_slice())?;
     Ok(())
 }
 

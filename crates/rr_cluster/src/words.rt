@@ -2,13 +2,16 @@
 
 ghost use Rattle.std.specs.Prelude.{◌≡◌, ◌&&◌, ◌≤◌, nat_le, unsigned_abs, length, IfSome};
 ghost use Rattle.std.specs.List.{list_all};
-ghost use Rattle.rr_cluster.specs.Words.{archive_of, function_of, is_key, is_name, is_name_byte, number_to, origin_of, resolution_of, second_of};
+ghost use Rattle.rr_cluster.specs.Stop.{Follows};
+ghost use Rattle.rr_cluster.specs.Words.{archive_of, function_of, key_of, is_name, is_name_byte, number_to, origin_of, resolution_of, second_of};
 
-use crate::event::SPACE;
 use crate::fault::CommandFault;
-use rr_base::limits::{MAX_KEY_TEXT, MAX_SECOND};
+use crate::stop::Stop;
+use rr_base::limits::MAX_SECOND;
 use rr_base::text::{cut, integer, is_digits, number};
 use rr_base::{ArchiveSpec, ConsolidationFunction, Origin, OriginFault};
+use rr_key::SeriesKey;
+use std::alloc::Global;
 
 /// The most bytes of a name.
 pub(crate) const MAX_NAME: usize = 16;
@@ -118,14 +121,10 @@ pub(crate) fn second_of(word: &[u8]) -> Option<i64>
     }
 }
 
-/// Whether a text is a series key: today a measurement's name, a space and a field's.
-pub(crate) fn is_key(text: &[u8]) -> bool
-    ensures { result ≡ is_key text.now }
+/// A series key, by its text: `BadKey` unless it is one.
+pub(crate) fn key_of(alloc: Global, text: &[u8]) -> Result<SeriesKey, Stop>
+    ensures { Follows (λ key. key) result (key_of text.now) }
 {
-    match cut(SPACE, text) {
-        Some((measurement, field)) => {
-            rr_line::is_name(measurement) && rr_line::is_name(field) && text.len() <= MAX_KEY_TEXT
-        }
-        None => false,
-    }
+    let key = SeriesKey::parse_text(alloc, text)?;
+    Ok(key)
 }

@@ -8,4 +8,5 @@ pub mod TailLemmas
 pub mod KeyTextLemmas
 pub mod OrderLemmas
 pub mod MakingLemmas
+pub mod ToldLemmas
 pub mod LawLemmas

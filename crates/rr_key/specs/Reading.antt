@@ -1,14 +1,15 @@
 -- A key text from left to right.
-use Rattle.std.specs.Prelude.{◌≡◌, ℕ, ◌+◌, ◌≤◌, Bool, true, ◌&&◌, ◌==◌, List, [], ◌∷◌, length, take, drop, IsTrue, Option, None, Some, option_and_then, if◌then◌else◌}
+use Rattle.std.specs.Prelude.{◌≡◌, ℕ, zero, suc, ◌+◌, ◌≤◌, nat_le, Bool, true, false, ◌&&◌, ◌==◌, List, [], ◌∷◌, length, take, drop, IsTrue, Option, None, Some, option_and_then, if◌then◌else◌}
 use Rattle.std.specs.List.{list_all}
 use Rattle.std.specs.Ordering.{is_lt}
+use Rattle.rr_base.specs.declared.limits.TheConstants.{MAX_KEY_TEXT}
 use Rattle.rr_key.specs.declared.class.Class.{Class}
-use Rattle.rr_key.specs.declared.class.Class.TheVariants.{Other}
-use Rattle.rr_key.specs.declared.delimiter.TheConstants.{SPACE, EQUALS}
+use Rattle.rr_key.specs.declared.class.Class.TheVariants.{Measurement, Other}
+use Rattle.rr_key.specs.declared.delimiter.TheConstants.{COMMA, SPACE, EQUALS}
 use Rattle.rr_key.specs.declared.limits.TheConstants.{MAX_TAGS}
 use Rattle.rr_key.specs.Name.{is_name}
 use Rattle.rr_key.specs.Series.{bytes_cmp, is_tag, tail_text}
-use Rattle.rr_key.specs.Unit.{escape, name_len}
+use Rattle.rr_key.specs.Unit.{escape, unescape, name_len}
 
 -- the written name at the front and the bytes after it, unless it is none of a key
 abbrev pub name_at : Class → List ℕ → Option (List ℕ × List ℕ)
@@ -52,3 +53,29 @@ pub record IsTail (before : List ℕ) (count : ℕ) (text : List ℕ) : Type 0 w
 -- a space and the field
 abbrev pub IsLast : List ℕ → Type 0
 IsLast text = (field : List ℕ) × IsTrue (is_name field) × (text ≡ SPACE ∷ escape Other field)
+
+-- whether what may be there passes a test
+abbrev pub is_some_and : {A : Type 0} → Option A → (A → Bool) → Bool
+is_some_and None test = false
+is_some_and (Some x) test = test x
+
+-- whether a space, the field and nothing more stand there
+abbrev pub is_last : List ℕ → Bool
+is_last text = is_some_and (strip SPACE text) (λ field. is_some_and (name_at Other field) (λ name. length name.1 == 0))
+
+-- a last part, or one more where a comma stands
+abbrev pub if_comma : Option (List ℕ) → Bool → (List ℕ → Bool) → Bool
+if_comma None last more = last
+if_comma (Some tag) last more = more tag
+
+-- whether a tail stands behind a key, with room for so many tags
+abbrev pub is_tail : ℕ → List ℕ → List ℕ → Bool
+is_tail zero before text = if_comma (strip COMMA text) (is_last text) (λ tag. false)
+is_tail (suc room) before text = if_comma (strip COMMA text) (is_last text) (λ tag.
+    is_some_and (tag_at tag) (λ key.
+    is_lt (bytes_cmp before (unescape Other key.0)) && is_tail room (unescape Other key.0) key.1))
+
+-- whether a text is a key text
+unfoldable pub is_key_text : List ℕ → Bool
+is_key_text text =
+    nat_le (length text) MAX_KEY_TEXT && is_some_and (name_at Measurement text) (λ name. is_tail MAX_TAGS [] name.1)

@@ -1,10 +1,11 @@
 //! What holds of the definitions themselves: functions without a body, whose contracts say it.
 
-ghost use Rattle.std.specs.Prelude.{◌≡◌, ℕ, List, ◌++◌, length, take, None, false};
+ghost use Rattle.std.specs.Prelude.{◌≡◌, ◌↔◌, ℕ, List, ◌++◌, length, take, None, true, false};
 ghost use Rattle.std.specs.List.Sorted.{IsPermutation};
 ghost use Rattle.rr_key.specs.Making.{Names, series_of, has_repeat, making_fault};
 ghost use Rattle.rr_key.specs.Name.{MayFollow};
-ghost use Rattle.rr_key.specs.Series.{Series, IsSeries, key_text};
+ghost use Rattle.rr_key.specs.Reading.{is_key_text};
+ghost use Rattle.rr_key.specs.Series.{Series, IsSeries, IsKeyText, key_text};
 ghost use Rattle.rr_key.specs.Unit.{escape, unescape, name_len};
 
 use crate::class::Class;
@@ -26,6 +27,11 @@ pub fn tags_stand_in_any_order()
         → IsPermutation tags others → has_repeat tags ≡ false
         → series_of (record { measurement = measurement; tags = tags; field = field })
         ≡ series_of (record { measurement = measurement; tags = others; field = field }) }
+{}
+
+/// Whether a text is a key text can be told.
+pub fn a_key_text_can_be_told()
+    ensures { (text : List ℕ) → (is_key_text text ≡ true) ↔ IsKeyText text }
 {}
 
 /// A text is the key text of one series at most: key and text determine each other.

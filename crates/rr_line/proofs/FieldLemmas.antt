@@ -1,127 +1,131 @@
--- Integers and fields: what is read is of the grammar, and what is of the grammar is read.
-use Rattle.std.proofs.Common.{◌≡◌, ℕ, Bool, true, false, not, ◌&&◌, ◌||◌, eqb, cond, List, [], ◌∷◌, ◌++◌, length, Some, Result, Ok, Err, ℤ, refl, sym, ap, subst, ◌∙◌, inl, inr}
-use Rattle.std.proofs.lemmas.Bool.{and_parts, and_from, or_parts, or_left, or_right, not-false, not_from_false, ne_eqb, cases_Bool, eqb-true}
-use Rattle.std.proofs.lemmas.List.{nil_from_length}
-use Rattle.std.proofs.lemmas.List.Folds.{list_all-append}
-use Rattle.std.specs.List.{list_all}
-use Rattle.std.specs.Char.{is_ascii_digit}
-use Rattle.std.specs.Int.{w64}
-use Rattle.std.specs.Prelude.{FitsSigned, ok_or}
-use Rattle.std.specs.Str.Parse.{signed_digits_value}
-use Rattle.rr_base.proofs.CutLemmas.{parts_of_cut, cut_at-join}
-use Rattle.rr_base.proofs.IntegerLemmas.{digits_parts, fits_from_test, test_from_fits}
-use Rattle.rr_base.specs.Text.{cut_at, is_digits, unsigned, fits_i64, integer_at}
-use Rattle.rr_line.specs.declared.delimiter.TheConstants.{SPACE, EQUALS, INTEGER_MARK}
+-- Fields, found by the reading and of the grammar.
+use Rattle.std.proofs.Common.{◌≡◌, ℕ, zero, suc, ◌+◌, ◌<◌, ◌≤◌, ℤ, Bool, true, false, List, [], ◌∷◌, ◌++◌, length, take, drop, length-append, Option, Some, None, Result, Ok, Err, refl, sym, ap, subst, ◌∙◌, inl, inr, arith}
+use Rattle.std.specs.Prelude.{ok_or, ◌⊎◌}
+use Rattle.std.proofs.lemmas.Bool.{false≢true}
+use Rattle.std.proofs.lemmas.List.{append-nil, append_assoc, take-append-drop, length-take-le}
+use Rattle.std.proofs.lemmas.List.Sums.{prefix_len-le-length}
+use Rattle.rr_key.specs.declared.class.Class.TheVariants.{Other}
+use Rattle.rr_key.specs.Reading.{strip}
+use Rattle.rr_line.specs.declared.delimiter.TheConstants.{EQUALS, COMMA, QUOTE}
 use Rattle.rr_line.specs.declared.fault.LineFault.{LineFault}
-use Rattle.rr_line.specs.declared.fault.LineFault.TheVariants.{BadField}
-use Rattle.rr_line.specs.Grammar.{IsField}
-use Rattle.rr_line.specs.Name.{is_name, is_name_byte}
-use Rattle.rr_line.specs.Number.{IsInteger}
-use Rattle.rr_line.specs.Reading.{◌>>=◌, field_at}
-use Rattle.rr_line.proofs.StepLemmas.{bind_ok, ok_or_ok, guard_ok, if_some, ok_is}
+use Rattle.rr_line.specs.declared.fault.LineFault.TheVariants.{MissingFieldKey, MissingFieldValue, TooManyFields, DuplicateField}
+use Rattle.rr_line.specs.declared.limits.TheConstants.{MAX_FIELDS}
+use Rattle.rr_line.specs.Field.{Field, IsField, MayStandBehind, LeadTo, AreFields, FieldFault, no_key, no_value, bad_value, too_many, repeated}
+use Rattle.rr_line.specs.Part.{begins, IsName, HasNoName, cut_behind}
+use Rattle.rr_line.specs.Reading.{◌>>=◌, unless, name_at, value_at, field_at, fields_at, after_comma}
+use Rattle.rr_line.specs.Tag.{has_key}
+use Rattle.rr_line.specs.Value.{IsBare, IsValue, ValueFault, quoted, unquoted, value_of, value_len, quoted_fault}
+use Rattle.rr_line.proofs.AgreeLemmas.{Agrees, Agrees-as, Agrees-bind, Agrees-unless, Agrees-ok, Agrees-ok_or, Agrees-err, Agrees-self, just_read}
+use Rattle.rr_line.proofs.PartLemmas.{name_agrees, first_is, cut_is, strip_some, strip_there, strip_none, strip_lacks, begins_there}
+use Rattle.rr_line.proofs.TagLemmas.{comma_is, no_comma}
 
--- each byte that passes the one test passes the other
-list_all-weaker : (p q : ℕ → Bool) → ((byte : ℕ) → p byte ≡ true → q byte ≡ true) → (text : List ℕ) → list_all p text ≡ true → list_all q text ≡ true
-list_all-weaker p q weaker [] h = refl
-list_all-weaker p q weaker (byte ∷ text) h =
-    let both = and_parts (p byte) (list_all p text) h in
-    and_from _ _ (weaker byte both.0) (list_all-weaker p q weaker text both.1)
+value_len_within : (text : List ℕ) → value_len text ≤ length text
+value_len_within text = prefix_len-le-length _ text
 
--- what is read as an integer is one, and each integer is read
-pub integer_found : (text : List ℕ) (number : ℤ) → integer_at text ≡ Some number → IsInteger text number
-integer_found text number e =
-    let read = if_some (is_digits (unsigned text) && fits_i64 (signed_digits_value 10 text)) (signed_digits_value 10 text) number e in
-    let tests = and_parts (is_digits (unsigned text)) (fits_i64 (signed_digits_value 10 text)) read.0 in
+-- the value that is cut off, where it is not quoted
+bare_cut : (text : List ℕ) → begins QUOTE text ≡ false → IsBare text (take (value_len text) text) (drop (value_len text) text)
+bare_cut text bare = record {
+  bare = bare;
+  len = sym (length-take-le (value_len text) text (value_len_within text));
+  whole = sym (take-append-drop (value_len text) text);
+}
+
+-- what stands behind a value
+abbrev Behind : List ℕ → ℤ → ℤ × List ℕ → Type 0
+Behind text number value = (number, drop (value_len text) text) ≡ value
+
+value_to : (text : List ℕ) (value : ℤ × List ℕ) → (begins QUOTE text ≡ false) × ((number : ℤ) × (value_of (take (value_len text) text) ≡ Ok number) × Behind text number value) → IsValue text value.0 value.1
+value_to text value (bare, (number, is, at)) =
+    let parts = first_is (number, drop (value_len text) text) value at in
+    (take (value_len text) text, subst (λ (rest : List ℕ). IsBare text (take (value_len text) text) rest) parts.1 (bare_cut text bare), subst (λ (n : ℤ). value_of (take (value_len text) text) ≡ Ok n) parts.0 is)
+
+-- a value that is not quoted is the one that is cut off
+bare_is : (text value rest : List ℕ) → IsBare text value rest → cut_behind (value_len text) text ≡ (value, rest)
+bare_is text value rest h = cut_is (value_len text) text value rest h.len h.whole
+
+value_from : (text : List ℕ) (value : ℤ × List ℕ) → IsValue text value.0 value.1 → (begins QUOTE text ≡ false) × ((number : ℤ) × (value_of (take (value_len text) text) ≡ Ok number) × Behind text number value)
+value_from text (number, rest) (front, is_bare, is) =
+    let cut = first_is (cut_behind (value_len text) text) (front, rest) (bare_is text front rest is_bare) in
+    (is_bare.bare, (number, ap value_of cut.0 ∙ is, ap (λ (r : List ℕ). (the_number number, r)) cut.1))
+  where
+    the_number : ℤ → ℤ
+    the_number n = n
+
+bad_value_to : (text : List ℕ) (fault : LineFault) → ((begins QUOTE text ≡ true) × (fault ≡ quoted_fault text)) ⊎ ((begins QUOTE text ≡ false) × ((value_of (take (value_len text) text) ≡ Err fault) ⊎ ((number : ℤ) × (value_of (take (value_len text) text) ≡ Ok number) × ⊥))) → ValueFault text fault
+bad_value_to text fault (inl h) = quoted h.0 h.1
+bad_value_to text fault (inr (bare, inl is)) = unquoted (take (value_len text) text) (drop (value_len text) text) (bare_cut text bare) is
+bad_value_to text fault (inr (bare, inr never)) = absurd never.2
+
+bad_value_from : (text : List ℕ) (fault : LineFault) → ValueFault text fault → ((begins QUOTE text ≡ true) × (fault ≡ quoted_fault text)) ⊎ ((begins QUOTE text ≡ false) × ((value_of (take (value_len text) text) ≡ Err fault) ⊎ ((number : ℤ) × (value_of (take (value_len text) text) ≡ Ok number) × ⊥)))
+bad_value_from text fault (quoted begins is) = inl (begins, is)
+bad_value_from text fault (unquoted value rest is_bare is) =
+    let cut = first_is (cut_behind (value_len text) text) (value, rest) (bare_is text value rest is_bare) in
+    inr (is_bare.bare, inl (ap value_of cut.0 ∙ is))
+
+pub value_agrees : (text : List ℕ) → Agrees (value_at text) (λ value. IsValue text value.0 value.1) (ValueFault text)
+value_agrees text =
+    let read = value_of (take (value_len text) text) in
+    let then : ℤ → Result (ℤ × List ℕ) LineFault = λ number. Ok (number, drop (value_len text) text) in
+    Agrees-as (value_at text) _ _ _ _ (value_to text) (value_from text) (bad_value_to text) (bad_value_from text)
+    (Agrees-unless (quoted_fault text) (begins QUOTE text) (read >>= then) _ _ (λ bare.
+    Agrees-bind read then (λ number. read ≡ Ok number) (λ fault. read ≡ Err fault) (Behind text) (λ number fault. ⊥) (Agrees-self read) (λ number is. Agrees-ok (number, drop (value_len text) text))))
+
+-- why there is no field: the first faults
+abbrev pub NoField : List ℕ → LineFault → Type 0
+NoField text fault =
+    (HasNoName Other text × (fault ≡ MissingFieldKey))
+    ⊎ ((key : List ℕ × List ℕ) × IsName Other text key.0 key.1
+    × (((begins EQUALS key.1 ≡ false) × (fault ≡ MissingFieldValue)) ⊎ ((value_text : List ℕ) × (key.1 ≡ EQUALS ∷ value_text) × ValueFault value_text fault)))
+
+abbrev with_value : List ℕ → List ℕ → Result (Field × List ℕ) LineFault
+with_value key value_text = value_at value_text >>= λ value. Ok ((key, value.0), value.1)
+
+abbrev equals_step : List ℕ × List ℕ → Result (Field × List ℕ) LineFault
+equals_step key = ok_or (strip EQUALS key.1) MissingFieldValue >>= with_value key.0
+
+abbrev HasValue : List ℕ × List ℕ → Field × List ℕ → Type 0
+HasValue key field = (value_text : List ℕ) × (strip EQUALS key.1 ≡ Some value_text) × ((value : ℤ × List ℕ) × IsValue value_text value.0 value.1 × (((key.0, value.0), value.1) ≡ field))
+
+abbrev LacksValue : List ℕ × List ℕ → LineFault → Type 0
+LacksValue key fault = ((strip EQUALS key.1 ≡ None) × (fault ≡ MissingFieldValue))
+    ⊎ ((value_text : List ℕ) × (strip EQUALS key.1 ≡ Some value_text) × (ValueFault value_text fault ⊎ ((value : ℤ × List ℕ) × IsValue value_text value.0 value.1 × ⊥)))
+
+with_value_agrees : (key value_text : List ℕ) → Agrees (with_value key value_text)
+    (λ field. (value : ℤ × List ℕ) × IsValue value_text value.0 value.1 × (((key, value.0), value.1) ≡ field))
+    (λ fault. ValueFault value_text fault ⊎ ((value : ℤ × List ℕ) × IsValue value_text value.0 value.1 × ⊥))
+with_value_agrees key value_text =
+    Agrees-bind (value_at value_text) (λ value. Ok ((key, value.0), value.1)) _ _ (λ value field. ((key, value.0), value.1) ≡ field) (λ value fault. ⊥) (value_agrees value_text) (λ value is. Agrees-ok ((key, value.0), value.1))
+
+equals_agrees : (key : List ℕ × List ℕ) → Agrees (equals_step key) (HasValue key) (LacksValue key)
+equals_agrees key =
+    Agrees-bind (ok_or (strip EQUALS key.1) MissingFieldValue) (with_value key.0) _ _ _ _ (Agrees-ok_or (strip EQUALS key.1) MissingFieldValue) (λ value_text is. with_value_agrees key.0 value_text)
+
+field_to : (text : List ℕ) (field : Field × List ℕ) → (key : List ℕ × List ℕ) × IsName Other text key.0 key.1 × HasValue key field → IsField text field.0 field.1
+field_to text field ((key, after), name, (value_text, there, (value, is_value, is))) =
+    let parts = first_is ((key, value.0), value.1) field is in
+    let names = first_is (key, value.0) field.0 parts.0 in
     record {
-      digits = tests.0;
-      value = sym read.1;
-      fits = subst (λ (z : ℤ). FitsSigned w64 z) read.1 (fits_from_test (signed_digits_value 10 text) tests.1);
+      value_text = value_text;
+      key = subst (λ (k : List ℕ). IsName Other text k (EQUALS ∷ value_text)) names.0 (subst (λ (rest : List ℕ). IsName Other text key rest) (strip_some EQUALS after value_text there) name);
+      value = subst (λ (n : ℤ). IsValue value_text n field.1) names.1 (subst (λ (rest : List ℕ). IsValue value_text value.0 rest) parts.1 is_value);
     }
 
-pub integer_again : (text : List ℕ) (number : ℤ) → IsInteger text number → integer_at text ≡ Some number
-integer_again text number h =
-    let fits : fits_i64 (signed_digits_value 10 text) ≡ true = test_from_fits _ (subst (λ (z : ℤ). FitsSigned w64 z) h.value h.fits) in
-    rw (h.digits, fits, h.value) refl
+field_from : (text : List ℕ) (field : Field × List ℕ) → IsField text field.0 field.1 → (key : List ℕ × List ℕ) × IsName Other text key.0 key.1 × HasValue key field
+field_from text (field, rest) h = ((field.0, EQUALS ∷ h.value_text), h.key, (h.value_text, strip_there EQUALS h.value_text, ((field.1, rest), h.value, refl)))
 
--- a digit or a minus, which is byte 45
-is_integer_byte : ℕ → Bool
-is_integer_byte byte = is_ascii_digit byte || eqb byte 45
+no_field_to : (text : List ℕ) (fault : LineFault) → (HasNoName Other text × (fault ≡ MissingFieldKey)) ⊎ ((key : List ℕ × List ℕ) × IsName Other text key.0 key.1 × LacksValue key fault) → NoField text fault
+no_field_to text fault (inl none) = inl none
+no_field_to text fault (inr (key, name, inl lacks)) = inr (key, name, inl (strip_none EQUALS key.1 lacks.0, lacks.1))
+no_field_to text fault (inr (key, name, inr (value_text, there, inl bad))) = inr (key, name, inr (value_text, strip_some EQUALS key.1 value_text there, bad))
+no_field_to text fault (inr (key, name, inr (value_text, there, inr never))) = absurd never.2
 
-no_mark : is_integer_byte INTEGER_MARK ≡ false
-unfolding is_integer_byte
-no_mark = refl
+no_field_from : (text : List ℕ) (fault : LineFault) → NoField text fault → (HasNoName Other text × (fault ≡ MissingFieldKey)) ⊎ ((key : List ℕ × List ℕ) × IsName Other text key.0 key.1 × LacksValue key fault)
+no_field_from text fault (inl none) = inl none
+no_field_from text fault (inr (key, name, inl lacks)) = inr (key, name, inl (strip_lacks EQUALS key.1 lacks.0, lacks.1))
+no_field_from text fault (inr (key, name, inr (value_text, whole, bad))) = inr (key, name, inr (value_text, ap (strip EQUALS) whole ∙ strip_there EQUALS value_text, inl bad))
 
-integer_bytes_of_digits : (digits : List ℕ) → is_digits digits ≡ true → list_all is_integer_byte digits ≡ true
-unfolding is_integer_byte
-integer_bytes_of_digits digits h = list_all-weaker is_ascii_digit is_integer_byte (λ byte d. or_left _ _ d) digits ((digits_parts digits h).1)
-
-integer_bytes : (text : List ℕ) → is_digits (unsigned text) ≡ true → list_all is_integer_byte text ≡ true
-unfolding is_integer_byte
-integer_bytes [] h = refl
-integer_bytes (byte ∷ text) h =
-    elim (cases_Bool (eqb byte 45)) [
-      | inl minus ↦ and_from _ _ (or_right (is_ascii_digit byte) _ minus) (integer_bytes_of_digits text (rw minus at h))
-      | inr other ↦ integer_bytes_of_digits (byte ∷ text) (rw other at h)
-    ]
-
--- each byte of a name is one of a name
-pub name_bytes : (text : List ℕ) → is_name text ≡ true → list_all is_name_byte text ≡ true
-name_bytes text h = (and_parts (not (eqb (length text) 0)) (list_all is_name_byte text) h).1
-
--- a text of two parts, by what the second one is
-pub with_rest : (text front rest is : List ℕ) (delimiter : ℕ) → text ≡ front ++ delimiter ∷ rest → rest ≡ is → text ≡ front ++ delimiter ∷ is
-with_rest text front rest is delimiter whole e = whole ∙ ap (λ (rest : List ℕ). front ++ delimiter ∷ rest) e
-
--- what is read as a field is one, and each field is read
-pub field_found : (text : List ℕ) (field : List ℕ × ℤ) → field_at text ≡ Ok field → IsField text field
+pub field_agrees : (text : List ℕ) → Agrees (field_at text) (λ field. IsField text field.0 field.1) (NoField text)
 unfolding field_at
-field_found text field e =
-    let refused : List ℕ × List ℕ → List ℕ × List ℕ → Bool = λ key digits. not (is_name key.0) || not (eqb (length digits.1) 0) in
-    let value_at : List ℕ × List ℕ → List ℕ × List ℕ → Result (List ℕ × ℤ) LineFault = λ key digits. ok_or (integer_at digits.0) BadField >>= λ value. Ok (key.0, value) in
-    let key = bind_ok (ok_or (cut_at EQUALS text) BadField) (λ key. ok_or (cut_at INTEGER_MARK key.1) BadField >>= λ digits. cond (refused key digits) (Err BadField) (value_at key digits)) field e in
-    let digits = bind_ok (ok_or (cut_at INTEGER_MARK key.0.1) BadField) (λ digits. cond (refused key.0 digits) (Err BadField) (value_at key.0 digits)) field key.2 in
-    let tests = guard_ok (refused key.0 digits.0) BadField (value_at key.0 digits.0) field digits.2 in
-    let value = bind_ok (ok_or (integer_at digits.0.0) BadField) (λ value. Ok (key.0.0, value)) field tests.1 in
-    let test = or_parts (not (is_name key.0.0)) (not (eqb (length digits.0.1) 0)) tests.0 in
-    let rest : digits.0.1 ≡ [] = nil_from_length digits.0.1 (eqb-true (length digits.0.1) 0 (not-false (eqb (length digits.0.1) 0) test.1)) in
-    let first = parts_of_cut EQUALS text key.0.0 key.0.1 (ok_or_ok (cut_at EQUALS text) BadField key.0 key.1) in
-    let second = parts_of_cut INTEGER_MARK key.0.1 digits.0.0 digits.0.1 (ok_or_ok (cut_at INTEGER_MARK key.0.1) BadField digits.0 digits.1) in
-    let value_is = with_rest key.0.1 digits.0.0 digits.0.1 [] INTEGER_MARK second rest in
-    let whole = with_rest text key.0.0 key.0.1 (digits.0.0 ++ INTEGER_MARK ∷ []) EQUALS first value_is in
-    subst (λ (field : List ℕ × ℤ). IsField text field) {x = (key.0.0, value.0)} (ok_is (key.0.0, value.0) field value.2) (record {
-      key = not-false (is_name key.0.0) test.0;
-      value = (digits.0.0, integer_found digits.0.0 value.0 (ok_or_ok (integer_at digits.0.0) BadField value.0 value.1), whole);
-    })
-
-pub field_again : (text : List ℕ) (field : List ℕ × ℤ) → IsField text field → field_at text ≡ Ok field
-unfolding field_at
-field_again text field h =
-    let digits = h.value.0 in
-    let key = cut_at-join is_name_byte EQUALS refl field.0 (digits ++ INTEGER_MARK ∷ []) (name_bytes field.0 h.key) in
-    let value = cut_at-join is_integer_byte INTEGER_MARK no_mark digits [] (integer_bytes digits h.value.1.digits) in
-    ap field_at h.value.2 ∙ rw (key, value, h.key, integer_again digits field.1 h.value.1) refl
-
--- a byte that isn't a space
-pub is_field_byte : ℕ → Bool
-is_field_byte byte = not (eqb byte SPACE)
-
-pub no_space : is_field_byte SPACE ≡ false
-unfolding is_field_byte
-no_space = refl
-
-name_byte_no_space : (byte : ℕ) → is_name_byte byte ≡ true → is_field_byte byte ≡ true
-unfolding is_field_byte
-name_byte_no_space byte h = not_from_false _ (ne_eqb byte SPACE (λ e. absurd (let space = subst (λ (b : ℕ). is_name_byte b ≡ true) e h in cc)))
-
-integer_byte_no_space : (byte : ℕ) → is_integer_byte byte ≡ true → is_field_byte byte ≡ true
-unfolding is_field_byte is_integer_byte
-integer_byte_no_space byte h = not_from_false _ (ne_eqb byte SPACE (λ e. absurd (let space = subst (λ (b : ℕ). is_integer_byte b ≡ true) e h in cc)))
-
--- there is no space in a field
-pub field_bytes : (text : List ℕ) (field : List ℕ × ℤ) → IsField text field → list_all is_field_byte text ≡ true
-unfolding is_field_byte
-field_bytes text field h =
-    let digits = h.value.0 in
-    let key : list_all is_field_byte field.0 ≡ true = list_all-weaker is_name_byte is_field_byte name_byte_no_space field.0 (name_bytes field.0 h.key) in
-    let value : list_all is_field_byte digits ≡ true = list_all-weaker is_integer_byte is_field_byte integer_byte_no_space digits (integer_bytes digits h.value.1.digits) in
-    ap (list_all is_field_byte) h.value.2 ∙ rw (list_all-append is_field_byte field.0 (EQUALS ∷ (digits ++ INTEGER_MARK ∷ [])), key, list_all-append is_field_byte digits (INTEGER_MARK ∷ []), value) refl
+field_agrees text =
+    Agrees-as (field_at text) _ _ _ _ (field_to text) (field_from text) (no_field_to text) (no_field_from text)
+    (Agrees-bind (name_at Other MissingFieldKey text) equals_step _ _ HasValue LacksValue (name_agrees Other MissingFieldKey text) (λ key is. equals_agrees key))

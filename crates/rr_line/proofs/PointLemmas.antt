@@ -1,96 +1,286 @@
--- Points: what is read is of the grammar, and what is of the grammar is read.
-use Rattle.std.proofs.Common.{◌≡◌, ℕ, Bool, false, not, ◌||◌, ltb, cond, List, [], ◌∷◌, ◌++◌, length, Option, Some, None, Ok, Err, ℤ, refl, sym, ap, subst, ◌∙◌}
-use Rattle.std.proofs.lemmas.Bool.{or_parts, not-false, ltb-false, le-ltb}
-use Rattle.std.proofs.lemmas.List.{append-nil}
-use Rattle.std.specs.Prelude.{ok_or}
-use Rattle.rr_base.specs.declared.limits.TheConstants.{MAX_KEY_TEXT}
-use Rattle.rr_base.specs.Text.{cut_at}
-use Rattle.rr_base.proofs.CutLemmas.{parts_of_cut, cut_at-join, cut_at-none}
-use Rattle.rr_line.specs.declared.delimiter.TheConstants.{SPACE}
-use Rattle.rr_line.specs.declared.fault.LineFault.TheVariants.{BadField}
+-- Lines, read and of the grammar.
+use Rattle.std.proofs.Common.{◌≡◌, ◌≢◌, ℕ, ◌<◌, Bool, true, false, eqb, cond, List, [], ◌∷◌, ◌++◌, length, Option, Some, None, Result, Ok, Err, ℤ, refl, sym, ap, subst, ◌∙◌, inl, inr, arith}
+use Rattle.std.specs.Prelude.{◌⊎◌}
+use Rattle.std.proofs.lemmas.Bool.{cases_Bool, false≢true}
+use Rattle.std.proofs.Math.Dec.{eqb-suc-zero}
+use Rattle.rr_key.specs.declared.class.Class.TheVariants.{Measurement}
+use Rattle.rr_key.specs.declared.limits.TheConstants.{MAX_TAGS}
+use Rattle.rr_line.specs.declared.delimiter.TheConstants.{COMMA}
+use Rattle.rr_line.specs.declared.fault.LineFault.{LineFault}
+use Rattle.rr_line.specs.declared.fault.LineFault.TheVariants.{NoMeasurement, NoFields, KeyTooLong}
+use Rattle.rr_line.specs.declared.limits.TheConstants.{MAX_FIELDS}
 use Rattle.rr_line.specs.declared.precision.Precision.{Precision}
-use Rattle.rr_line.specs.declared.precision.Precision.TheVariants.{Ns}
-use Rattle.rr_line.specs.Grammar.{IsField, IsTime, IsEnding, IsPointOf}
-use Rattle.rr_line.specs.Key.{key_text}
-use Rattle.rr_line.specs.Line.{PointView}
-use Rattle.rr_line.specs.Name.{is_name, is_name_byte}
-use Rattle.rr_line.specs.Reading.{◌>>=◌, field_at, time_at, ending_at, field_and_time_at, point_at}
-use Rattle.rr_line.proofs.FieldLemmas.{integer_found, integer_again, field_found, field_again, field_bytes, is_field_byte, no_space, name_bytes, with_rest}
-use Rattle.rr_line.proofs.StepLemmas.{bind_ok, ok_or_ok, guard_ok, ok_is}
+use Rattle.rr_line.specs.Field.{Field, AreFields}
+use Rattle.rr_line.specs.Grammar.{is_nothing, LeadsToTags, LeadsToFields, HasParts, TextFault, no_measurement, at_tag, no_fields, at_field, at_time, long_key}
+use Rattle.rr_line.specs.Key.{has_long_key}
+use Rattle.rr_line.specs.Line.{PointView, LineView, nothing, point}
+use Rattle.rr_line.specs.Part.{begins, skip_spaces, IsName, HasNoName}
+use Rattle.rr_line.specs.Reading.{◌>>=◌, unless, name_at, tags_at, all_tags_at, fields_text_of, fields_at, all_fields_at, ending_at, unless_long, point_at, text_at}
+use Rattle.rr_line.specs.Tag.{Tag, AreTags}
+use Rattle.rr_line.specs.Time.{IsEnding, EndingFault}
+use Rattle.rr_line.proofs.AgreeLemmas.{Agrees, Agrees-as, Agrees-bind, Agrees-unless, Agrees-ok, just_read}
+use Rattle.rr_line.proofs.FieldsLemmas.{HasFields, HasBadField, fields_agree}
+use Rattle.rr_line.proofs.PartLemmas.{name_agrees}
+use Rattle.rr_line.proofs.TagLemmas.{HasTags, HasBadTag, tags_agree}
+use Rattle.rr_line.proofs.TimeLemmas.{ending_agrees, none_left, some_left}
 
-time_found : (precision : Precision) (text : List ℕ) (time : ℤ) → time_at precision text ≡ Ok time → IsTime precision text time
-time_found Ns text time e = integer_found text time (ok_or_ok _ _ _ e)
+-- the point of these parts
+abbrev point_of : List ℕ → List Tag → List Field → Option ℤ → PointView
+point_of measurement tags fields time = record { measurement = measurement; tags = tags; fields = fields; time = time }
 
-time_again : (precision : Precision) (text : List ℕ) (time : ℤ) → IsTime precision text time → time_at precision text ≡ Ok time
-time_again Ns text time h = rw (integer_again text time h) refl
+-- the steps of a point, the last one first, with what holds of their answers and faults
+abbrev IsShort : PointView → PointView → Type 0
+IsShort p q = (has_long_key p ≡ false) × (p ≡ q)
 
--- a field and what ends the line behind it
-pub record IsRest (precision : Precision) (text : List ℕ) (rest : (List ℕ × ℤ) × Option ℤ) : Type 0 where
-  pub parts : (field ending : List ℕ) × IsField field rest.0 × IsEnding precision ending rest.1 × (text ≡ field ++ ending)
+abbrev IsLong : PointView → LineFault → Type 0
+IsLong p fault = ((has_long_key p ≡ true) × (fault ≡ KeyTooLong)) ⊎ ((has_long_key p ≡ false) × ⊥)
 
-rest_found_of : (precision : Precision) (text : List ℕ) (cut : Option (List ℕ × List ℕ)) (rest : (List ℕ × ℤ) × Option ℤ) → cut_at SPACE text ≡ cut → ending_at precision text cut ≡ Ok rest → IsRest precision text rest
-rest_found_of precision text None rest is e =
-    let field = bind_ok (field_at text) (λ field. Ok (field, None)) rest e in
-    subst (λ (rest : (List ℕ × ℤ) × Option ℤ). IsRest precision text rest) {x = (field.0, None)} (ok_is (field.0, None) rest field.2) (record {
-      parts = (text, [], field_found text field.0 field.1, refl, sym (append-nil text));
-    })
-rest_found_of precision text (Some (before, after)) rest is e =
-    let field = bind_ok (field_at before) (λ field. time_at precision after >>= λ time. Ok (field, Some time)) rest e in
-    let time = bind_ok (time_at precision after) (λ time. Ok (field.0, Some time)) rest field.2 in
-    subst (λ (rest : (List ℕ × ℤ) × Option ℤ). IsRest precision text rest) {x = (field.0, Some time.0)} (ok_is (field.0, Some time.0) rest time.2) (record {
-      parts = (before, SPACE ∷ after, field_found before field.0 field.1, (after, time_found precision after time.0 time.1, refl), parts_of_cut SPACE text before after is);
-    })
+short_agrees : (p : PointView) → Agrees (unless_long p) (IsShort p) (IsLong p)
+short_agrees p = Agrees-unless KeyTooLong (has_long_key p) (Ok p) (λ q. p ≡ q) (λ fault. ⊥) (λ short. Agrees-ok p)
 
-rest_found : (precision : Precision) (text : List ℕ) (rest : (List ℕ × ℤ) × Option ℤ) → field_and_time_at precision text ≡ Ok rest → IsRest precision text rest
-unfolding field_and_time_at
-rest_found precision text rest e = rest_found_of precision text (cut_at SPACE text) rest refl e
+abbrev time_step : Precision → List ℕ → List Tag → List Field × List ℕ → Result PointView LineFault
+time_step precision measurement tags fields =
+    ending_at precision (skip_spaces fields.1) >>= λ time. unless_long (point_of measurement tags fields.0 time)
 
-rest_again : (precision : Precision) (text ending : List ℕ) (field : List ℕ × ℤ) (time : Option ℤ) → IsField text field → IsEnding precision ending time → field_and_time_at precision (text ++ ending) ≡ Ok (field, time)
-unfolding field_and_time_at
-rest_again precision text ending field None is ends =
-    let whole : text ++ ending ≡ text = ap (λ (s : List ℕ). text ++ s) ends ∙ append-nil text in
-    ap (field_and_time_at precision) whole ∙ rw (cut_at-none is_field_byte SPACE no_space text (field_bytes text field is), field_again text field is) refl
-rest_again precision text ending field (Some time) is ends =
-    ap (λ (s : List ℕ). field_and_time_at precision (text ++ s)) ends.2 ∙ rw (cut_at-join is_field_byte SPACE no_space text ends.0 (field_bytes text field is), field_again text field is, time_again precision ends.0 time ends.1) refl
+abbrev EndsWell : Precision → List ℕ → List Tag → List Field × List ℕ → PointView → Type 0
+EndsWell precision measurement tags fields p =
+    (time : Option ℤ) × IsEnding precision fields.1 time × IsShort (point_of measurement tags fields.0 time) p
 
--- the point that a measurement, a field and a time make
-point_of : List ℕ → (List ℕ × ℤ) × Option ℤ → PointView
-point_of measurement rest = record { measurement = measurement; tags = []; fields = rest.0 ∷ []; time = rest.1 }
+abbrev EndsBadly : Precision → List ℕ → List Tag → List Field × List ℕ → LineFault → Type 0
+EndsBadly precision measurement tags fields fault =
+    EndingFault precision fields.1 fault ⊎ ((time : Option ℤ) × IsEnding precision fields.1 time × IsLong (point_of measurement tags fields.0 time) fault)
 
--- what is read as a point is one, and each point is read
-pub point_found : (precision : Precision) (line : List ℕ) (p : PointView) → point_at precision line ≡ Ok p → IsPointOf precision line p
-unfolding point_at point_of
-point_found precision line p e =
-    let refused : List ℕ × List ℕ → (List ℕ × ℤ) × Option ℤ → Bool = λ measurement rest. not (is_name measurement.0) || ltb MAX_KEY_TEXT (length (key_text measurement.0 (rest.0).0)) in
-    let measurement = bind_ok (ok_or (cut_at SPACE line) BadField) (λ measurement. field_and_time_at precision measurement.1 >>= λ rest. cond (refused measurement rest) (Err BadField) (Ok (point_of measurement.0 rest))) p e in
-    let rest = bind_ok (field_and_time_at precision measurement.0.1) (λ rest. cond (refused measurement.0 rest) (Err BadField) (Ok (point_of measurement.0.0 rest))) p measurement.2 in
-    let tests = guard_ok (refused measurement.0 rest.0) BadField (Ok (point_of measurement.0.0 rest.0)) p rest.2 in
-    let test = or_parts (not (is_name measurement.0.0)) (ltb MAX_KEY_TEXT (length (key_text measurement.0.0 (rest.0.0).0))) tests.0 in
-    let parts = (rest_found precision measurement.0.1 rest.0 rest.1).parts in
-    let first = parts_of_cut SPACE line measurement.0.0 measurement.0.1 (ok_or_ok (cut_at SPACE line) BadField measurement.0 measurement.1) in
-    subst (λ (p : PointView). IsPointOf precision line p) {x = point_of measurement.0.0 rest.0} (ok_is (point_of measurement.0.0 rest.0) p tests.1) (record {
-      name = not-false (is_name measurement.0.0) test.0;
-      written = (parts.0, parts.1, parts.2, parts.3, with_rest line measurement.0.0 measurement.0.1 (parts.0 ++ parts.1) SPACE first parts.4);
-      untagged = refl;
-      short = (ltb-false MAX_KEY_TEXT (length (key_text measurement.0.0 (rest.0.0).0)) test.1, tt);
-    })
+time_agrees : (precision : Precision) (measurement : List ℕ) (tags : List Tag) (fields : List Field × List ℕ) → Agrees (time_step precision measurement tags fields) (EndsWell precision measurement tags fields) (EndsBadly precision measurement tags fields)
+time_agrees precision measurement tags fields =
+    Agrees-bind (ending_at precision (skip_spaces fields.1)) (λ time. unless_long (point_of measurement tags fields.0 time)) _ _ _ _ (ending_agrees precision fields.1) (λ time is. short_agrees (point_of measurement tags fields.0 time))
 
-one_again : (precision : Precision) (line measurement : List ℕ) (field : List ℕ × ℤ) (time : Option ℤ) → IsPointOf precision line (point_of measurement (field, time)) → point_at precision line ≡ Ok (point_of measurement (field, time))
-unfolding point_at point_of
-one_again precision line measurement field time h =
-    let w = h.written in
-    let cut = cut_at-join is_name_byte SPACE refl measurement (w.0 ++ w.1) (name_bytes measurement h.name) in
-    let rest = rest_again precision w.0 w.1 field time w.2 w.3 in
-    let short : ltb MAX_KEY_TEXT (length (key_text measurement field.0)) ≡ false = le-ltb _ _ h.short.0 in
-    ap (point_at precision) w.4 ∙ rw (cut, rest, h.name, short) refl
+abbrev fields_step : Precision → List ℕ → List Tag → List ℕ → Result PointView LineFault
+fields_step precision measurement tags text = all_fields_at text >>= time_step precision measurement tags
 
--- the fields and tags of a point of the grammar are one and none
-again_of : (precision : Precision) (line measurement : List ℕ) (tags : List (List ℕ × List ℕ)) (fields : List (List ℕ × ℤ)) (time : Option ℤ) → IsPointOf precision line (record { measurement = measurement; tags = tags; fields = fields; time = time }) → point_at precision line ≡ Ok (record { measurement = measurement; tags = tags; fields = fields; time = time })
-unfolding point_of
-again_of precision line measurement [] [] time h = absurd h.written.2
-again_of precision line measurement [] (field ∷ []) time h = one_again precision line measurement field time h
-again_of precision line measurement [] (_ ∷ _ ∷ _) time h = absurd h.written.2
-again_of precision line measurement (_ ∷ _) fields time h = absurd (let tagged = h.untagged in cc)
+abbrev FieldsThen : Precision → List ℕ → List Tag → List ℕ → PointView → Type 0
+FieldsThen precision measurement tags text p =
+    (fields : List Field × List ℕ) × HasFields [] text fields × EndsWell precision measurement tags fields p
 
-pub point_again : (precision : Precision) (line : List ℕ) (p : PointView) → IsPointOf precision line p → point_at precision line ≡ Ok p
-point_again precision line p h = again_of precision line p.measurement p.tags p.fields p.time h
+abbrev FieldsOr : Precision → List ℕ → List Tag → List ℕ → LineFault → Type 0
+FieldsOr precision measurement tags text fault =
+    HasBadField [] text fault ⊎ ((fields : List Field × List ℕ) × HasFields [] text fields × EndsBadly precision measurement tags fields fault)
+
+fields_step_agrees : (precision : Precision) (measurement : List ℕ) (tags : List Tag) (text : List ℕ) → Agrees (fields_step precision measurement tags text) (FieldsThen precision measurement tags text) (FieldsOr precision measurement tags text)
+unfolding all_fields_at
+fields_step_agrees precision measurement tags text =
+    Agrees-bind (all_fields_at text) (time_step precision measurement tags) _ _ _ _ (fields_agree MAX_FIELDS [] text refl) (λ fields is. time_agrees precision measurement tags fields)
+
+abbrev IsGap : List ℕ → List ℕ → Type 0
+IsGap gap text = (eqb (length (skip_spaces gap)) 0 ≡ false) × (skip_spaces gap ≡ text)
+
+abbrev IsEnd : List ℕ → LineFault → Type 0
+IsEnd gap fault = ((eqb (length (skip_spaces gap)) 0 ≡ true) × (fault ≡ NoFields)) ⊎ ((eqb (length (skip_spaces gap)) 0 ≡ false) × ⊥)
+
+abbrev gap_step : Precision → List ℕ → List Tag × List ℕ → Result PointView LineFault
+gap_step precision measurement tags = fields_text_of tags.1 >>= fields_step precision measurement tags.0
+
+abbrev GapThen : Precision → List ℕ → List Tag × List ℕ → PointView → Type 0
+GapThen precision measurement tags p = (text : List ℕ) × IsGap tags.1 text × FieldsThen precision measurement tags.0 text p
+
+abbrev GapOr : Precision → List ℕ → List Tag × List ℕ → LineFault → Type 0
+GapOr precision measurement tags fault = IsEnd tags.1 fault ⊎ ((text : List ℕ) × IsGap tags.1 text × FieldsOr precision measurement tags.0 text fault)
+
+gap_agrees : (precision : Precision) (measurement : List ℕ) (tags : List Tag × List ℕ) → Agrees (gap_step precision measurement tags) (GapThen precision measurement tags) (GapOr precision measurement tags)
+gap_agrees precision measurement tags =
+    Agrees-bind (fields_text_of tags.1) (fields_step precision measurement tags.0) (IsGap tags.1) (IsEnd tags.1) _ _
+    (Agrees-unless NoFields (eqb (length (skip_spaces tags.1)) 0) (Ok (skip_spaces tags.1)) (λ text. skip_spaces tags.1 ≡ text) (λ fault. ⊥) (λ some. Agrees-ok (skip_spaces tags.1)))
+    (λ text is. fields_step_agrees precision measurement tags.0 text)
+
+abbrev tags_step : Precision → List ℕ × List ℕ → Result PointView LineFault
+tags_step precision measurement = all_tags_at measurement.1 >>= gap_step precision measurement.0
+
+abbrev TagsThen : Precision → List ℕ × List ℕ → PointView → Type 0
+TagsThen precision measurement p = (tags : List Tag × List ℕ) × HasTags [] measurement.1 tags × GapThen precision measurement.0 tags p
+
+abbrev TagsOr : Precision → List ℕ × List ℕ → LineFault → Type 0
+TagsOr precision measurement fault = HasBadTag [] measurement.1 fault ⊎ ((tags : List Tag × List ℕ) × HasTags [] measurement.1 tags × GapOr precision measurement.0 tags fault)
+
+tags_step_agrees : (precision : Precision) (measurement : List ℕ × List ℕ) → Agrees (tags_step precision measurement) (TagsThen precision measurement) (TagsOr precision measurement)
+unfolding all_tags_at
+tags_step_agrees precision measurement =
+    Agrees-bind (all_tags_at measurement.1) (gap_step precision measurement.0) _ _ _ _ (tags_agree MAX_TAGS [] measurement.1 refl) (λ tags is. gap_agrees precision measurement.0 tags)
+
+abbrev Steps : Precision → List ℕ → PointView → Type 0
+Steps precision text p = (measurement : List ℕ × List ℕ) × IsName Measurement text measurement.0 measurement.1 × TagsThen precision measurement p
+
+abbrev Stops : Precision → List ℕ → LineFault → Type 0
+Stops precision text fault =
+    (HasNoName Measurement text × (fault ≡ NoMeasurement))
+    ⊎ ((measurement : List ℕ × List ℕ) × IsName Measurement text measurement.0 measurement.1 × TagsOr precision measurement fault)
+
+steps_agree : (precision : Precision) (text : List ℕ) → Agrees (point_at precision text) (Steps precision text) (Stops precision text)
+unfolding point_at
+steps_agree precision text =
+    Agrees-bind (name_at Measurement NoMeasurement text) (tags_step precision) _ _ _ _ (name_agrees Measurement NoMeasurement text) (λ measurement is. tags_step_agrees precision measurement)
+
+-- the parts that the steps find are those of the grammar
+pub leads_to_tags : (text : List ℕ) → is_nothing text ≡ false → (measurement : List ℕ × List ℕ) → IsName Measurement text measurement.0 measurement.1 → (tags : List Tag × List ℕ) → HasTags [] measurement.1 tags → LeadsToTags text measurement.0 tags.0 tags.1
+leads_to_tags text said measurement name tags (more, are, ended, all) =
+    record { said = said; tags_text = measurement.1; name = name; are_tags = subst (λ (ts : List Tag). AreTags [] measurement.1 ts tags.1) (sym all) are }
+
+pub leads_to_fields : (text : List ℕ) → is_nothing text ≡ false → (measurement : List ℕ × List ℕ) → IsName Measurement text measurement.0 measurement.1 → (tags : List Tag × List ℕ) → HasTags [] measurement.1 tags → (fields_text : List ℕ) → IsGap tags.1 fields_text → LeadsToFields text measurement.0 tags.0 fields_text
+leads_to_fields text said measurement name tags has fields_text gap = record {
+  gap = tags.1;
+  front = leads_to_tags text said measurement name tags has;
+  ended = has.2;
+  skipped = gap.1;
+  some = subst (λ (t : List ℕ). 0 < length t) gap.1 (some_left (skip_spaces tags.1) gap.0);
+}
+
+pub are_fields : (text : List ℕ) (fields : List Field × List ℕ) → HasFields [] text fields → AreFields text fields.0 fields.1
+are_fields text fields (front, last, last_text, leading, ends, new, ended, all) =
+    record { front = front; last = last; last_text = last_text; leading = leading; ends = ends; new = new; ended = ended; all = all }
+
+fields_are : (text : List ℕ) (fields : List Field) (rest : List ℕ) → AreFields text fields rest → HasFields [] text (fields, rest)
+fields_are text fields rest h = (h.front, h.last, h.last_text, h.leading, h.ends, h.new, h.ended, h.all)
+
+has_parts : (precision : Precision) (text : List ℕ) → is_nothing text ≡ false → (measurement : List ℕ × List ℕ) → IsName Measurement text measurement.0 measurement.1 → (tags : List Tag × List ℕ) → HasTags [] measurement.1 tags → (fields_text : List ℕ) → IsGap tags.1 fields_text → (fields : List Field × List ℕ) → HasFields [] fields_text fields → (time : Option ℤ) → IsEnding precision fields.1 time → HasParts precision text (point_of measurement.0 tags.0 fields.0 time)
+has_parts precision text said measurement name tags has fields_text gap fields has_fields time is_ending = record {
+  fields_text = fields_text;
+  ending = fields.1;
+  front = leads_to_fields text said measurement name tags has fields_text gap;
+  are_fields = are_fields fields_text fields has_fields;
+  is_ending = is_ending;
+}
+
+-- a point that is read, and one of the grammar
+abbrev pub IsTextPoint : Precision → List ℕ → PointView → Type 0
+IsTextPoint precision text p = HasParts precision text p × (has_long_key p ≡ false)
+
+point_to : (precision : Precision) (text : List ℕ) → is_nothing text ≡ false → (p : PointView) → Steps precision text p → IsTextPoint precision text p
+point_to precision text said p (measurement, name, (tags, has, (fields_text, gap, (fields, has_fields, (time, is_ending, (short, is)))))) =
+    subst (IsTextPoint precision text) is (has_parts precision text said measurement name tags has fields_text gap fields has_fields time is_ending, short)
+
+tags_are : (text measurement : List ℕ) (tags : List Tag) (rest : List ℕ) → (h : LeadsToTags text measurement tags rest) → begins COMMA rest ≡ false → HasTags [] h.tags_text (tags, rest)
+tags_are text measurement tags rest h ended = (tags, h.are_tags, ended, refl)
+
+gap_is : (gap fields_text : List ℕ) → skip_spaces gap ≡ fields_text → 0 < length fields_text → IsGap gap fields_text
+gap_is gap fields_text skipped some = (ap (λ (t : List ℕ). eqb (length t) 0) skipped ∙ not_empty fields_text some, skipped)
+  where
+    not_empty : (text : List ℕ) → 0 < length text → eqb (length text) 0 ≡ false
+    not_empty [] lt = absurd (omega arith)
+    not_empty (byte ∷ text) lt = eqb-suc-zero (length text)
+
+point_from : (precision : Precision) (text : List ℕ) (p : PointView) → IsTextPoint precision text p → Steps precision text p
+point_from precision text p (h, short) =
+    let front = h.front.front in (
+      (p.measurement, front.tags_text),
+      front.name,
+      (
+        (p.tags, h.front.gap),
+        tags_are text p.measurement p.tags h.front.gap front h.front.ended,
+        (
+          h.fields_text,
+          gap_is h.front.gap h.fields_text h.front.skipped h.front.some,
+          (
+            (p.fields, h.ending),
+            fields_are h.fields_text p.fields h.ending h.are_fields,
+            (p.time, h.is_ending, (short, refl)),
+          ),
+        ),
+      ),
+    )
+
+-- a fault that is read, and one of the grammar
+fault_to : (precision : Precision) (text : List ℕ) → is_nothing text ≡ false → (fault : LineFault) → Stops precision text fault → TextFault precision text fault
+fault_to precision text said fault (inl h) = no_measurement said h.0 h.1
+fault_to precision text said fault (inr (measurement, name, inl (tags, tag_text, are, bad))) =
+    at_tag measurement.0 tags tag_text (record { said = said; tags_text = measurement.1; name = name; are_tags = are }) bad
+fault_to precision text said fault (inr (measurement, name, inr (tags, has, inl (inl h)))) =
+    no_fields measurement.0 tags.0 tags.1 (leads_to_tags text said measurement name tags has) has.2 (none_left (skip_spaces tags.1) h.0) h.1
+fault_to precision text said fault (inr (measurement, name, inr (tags, has, inl (inr h)))) = absurd h.1
+fault_to precision text said fault (inr (measurement, name, inr (tags, has, inr (fields_text, gap, inl (fields, field_text, leading, bad))))) =
+    at_field measurement.0 tags.0 fields_text fields field_text (leads_to_fields text said measurement name tags has fields_text gap) leading bad
+fault_to precision text said fault (inr (measurement, name, inr (tags, has, inr (fields_text, gap, inr (fields, has_fields, inl bad))))) =
+    at_time measurement.0 tags.0 fields_text fields.0 fields.1 (leads_to_fields text said measurement name tags has fields_text gap) (are_fields fields_text fields has_fields) bad
+fault_to precision text said fault (inr (measurement, name, inr (tags, has, inr (fields_text, gap, inr (fields, has_fields, inr (time, is_ending, inl h)))))) =
+    long_key (point_of measurement.0 tags.0 fields.0 time) (has_parts precision text said measurement name tags has fields_text gap fields has_fields time is_ending) h.0 h.1
+fault_to precision text said fault (inr (measurement, name, inr (tags, has, inr (fields_text, gap, inr (fields, has_fields, inr (time, is_ending, inr h)))))) = absurd h.1
+
+fault_from : (precision : Precision) (text : List ℕ) (fault : LineFault) → TextFault precision text fault → Stops precision text fault
+fault_from precision text fault (no_measurement said none is) = inl (none, is)
+fault_from precision text fault (at_tag measurement tags tag_text front bad) = inr ((measurement, front.tags_text), front.name, inl (tags, tag_text, front.are_tags, bad))
+fault_from precision text fault (no_fields measurement tags gap front ended left is) =
+    inr ((measurement, front.tags_text), front.name, inr ((tags, gap), tags_are text measurement tags gap front ended, inl (inl (ap (λ (t : List ℕ). eqb (length t) 0) left, is))))
+fault_from precision text fault (at_field measurement tags fields_text fields field_text h leading bad) =
+    inr (
+      (measurement, h.front.tags_text),
+      h.front.name,
+      inr (
+        (tags, h.gap),
+        tags_are text measurement tags h.gap h.front h.ended,
+        inr (fields_text, gap_is h.gap fields_text h.skipped h.some, inl (fields, field_text, leading, bad)),
+      ),
+    )
+fault_from precision text fault (at_time measurement tags fields_text fields ending h are bad) =
+    inr (
+      (measurement, h.front.tags_text),
+      h.front.name,
+      inr (
+        (tags, h.gap),
+        tags_are text measurement tags h.gap h.front h.ended,
+        inr (fields_text, gap_is h.gap fields_text h.skipped h.some, inr ((fields, ending), fields_are fields_text fields ending are, inl bad)),
+      ),
+    )
+fault_from precision text fault (long_key p h long is) =
+    inr (
+      (p.measurement, h.front.front.tags_text),
+      h.front.front.name,
+      inr (
+        (p.tags, h.front.gap),
+        tags_are text p.measurement p.tags h.front.gap h.front.front h.front.ended,
+        inr (
+          h.fields_text,
+          gap_is h.front.gap h.fields_text h.front.skipped h.front.some,
+          inr ((p.fields, h.ending), fields_are h.fields_text p.fields h.ending h.are_fields, inr (p.time, h.is_ending, inl (long, is))),
+        ),
+      ),
+    )
+
+-- what a text says
+abbrev pub IsTextOf : Precision → List ℕ → LineView → Type 0
+IsTextOf precision text nothing = is_nothing text ≡ true
+IsTextOf precision text (point p) = IsTextPoint precision text p
+
+said_by_parts : (precision : Precision) (text : List ℕ) (p : PointView) → HasParts precision text p → is_nothing text ≡ false
+said_by_parts precision text p h = h.front.front.said
+
+said_by_fault : (precision : Precision) (text : List ℕ) (fault : LineFault) → TextFault precision text fault → is_nothing text ≡ false
+said_by_fault precision text fault (no_measurement said none is) = said
+said_by_fault precision text fault (at_tag measurement tags tag_text front bad) = front.said
+said_by_fault precision text fault (no_fields measurement tags gap front ended left is) = front.said
+said_by_fault precision text fault (at_field measurement tags fields_text fields field_text h leading bad) = h.front.said
+said_by_fault precision text fault (at_time measurement tags fields_text fields ending h are bad) = h.front.said
+said_by_fault precision text fault (long_key p h long is) = h.front.front.said
+
+nothing_agrees : (precision : Precision) (text : List ℕ) → is_nothing text ≡ true → Agrees {A = LineView} (Ok nothing) (IsTextOf precision text) (TextFault precision text)
+nothing_agrees precision text e = record { holds = e; good = only; bad = λ fault h. absurd (false≢true (sym (said_by_fault precision text fault h) ∙ e)) }
+  where
+    only : (said : LineView) → IsTextOf precision text said → just_read nothing ≡ Ok said
+    only nothing h = refl
+    only (point p) h = absurd (false≢true (sym (said_by_parts precision text p h.0) ∙ e))
+
+point_of_text : (precision : Precision) (text : List ℕ) → is_nothing text ≡ false → (said : LineView) → (p : PointView) × Steps precision text p × (point p ≡ said) → IsTextOf precision text said
+point_of_text precision text said view (p, steps, is) = subst (IsTextOf precision text) is (point_to precision text said p steps)
+
+text_point : (precision : Precision) (text : List ℕ) → is_nothing text ≡ false → (said : LineView) → IsTextOf precision text said → (p : PointView) × Steps precision text p × (point p ≡ said)
+text_point precision text said nothing h = absurd (false≢true (sym said ∙ h))
+text_point precision text said (point p) h = (p, point_from precision text p h, refl)
+
+stops_of : (precision : Precision) (text : List ℕ) → is_nothing text ≡ false → (fault : LineFault) → Stops precision text fault ⊎ ((p : PointView) × Steps precision text p × ⊥) → TextFault precision text fault
+stops_of precision text said fault (inl h) = fault_to precision text said fault h
+stops_of precision text said fault (inr h) = absurd h.2
+
+pub text_agrees : (precision : Precision) (text : List ℕ) → Agrees (text_at precision text) (IsTextOf precision text) (TextFault precision text)
+text_agrees precision text =
+    elim (cases_Bool (is_nothing text)) [
+      | inl none ↦ rw none (nothing_agrees precision text none)
+      | inr said ↦ rw said (
+          Agrees-as (point_at precision text >>= λ p. Ok (point p)) _ _ _ _ (point_of_text precision text said) (text_point precision text said) (stops_of precision text said) (λ fault h. inl (fault_from precision text fault h))
+          (Agrees-bind (point_at precision text) (λ p. Ok (point p)) (Steps precision text) (Stops precision text) (λ p view. point p ≡ view) (λ p fault. ⊥) (steps_agree precision text) (λ p is. Agrees-ok (point p))))
+    ]

@@ -1,45 +1,71 @@
--- The grammar, as a relation between the bytes of a line and what it says.
-use Rattle.std.specs.Prelude.{◌≡◌, ℕ, ◌≤◌, ℤ, List, [], ◌∷◌, ◌++◌, length, Option, None, Some, IsTrue}
-use Rattle.std.specs.List.{AllByRecursion}
-use Rattle.rr_base.specs.declared.limits.TheConstants.{MAX_KEY_TEXT}
-use Rattle.rr_line.specs.declared.delimiter.TheConstants.{SPACE, EQUALS, INTEGER_MARK}
+-- The grammar, as a relation between the bytes of a line and what it says, or why it is refused.
+--
+-- line = spaces measurement { "," tag } spaces field { "," field } spaces [ time spaces ] [ CR ]
+use Rattle.std.specs.Prelude.{◌≡◌, ℕ, ◌<◌, Bool, true, false, ◌==◌, List, [], ◌∷◌, ◌++◌, length, Result, Ok, Err}
+use Rattle.rr_key.specs.declared.class.Class.TheVariants.{Measurement}
+use Rattle.rr_line.specs.declared.delimiter.TheConstants.{COMMA, HASH}
+use Rattle.rr_line.specs.declared.fault.LineFault.{LineFault}
+use Rattle.rr_line.specs.declared.fault.LineFault.TheVariants.{NoMeasurement, NoFields, KeyTooLong}
 use Rattle.rr_line.specs.declared.precision.Precision.{Precision}
-use Rattle.rr_line.specs.declared.precision.Precision.TheVariants.{Ns}
+use Rattle.rr_line.specs.Field.{Field, LeadTo, AreFields, FieldFault}
+use Rattle.rr_line.specs.Key.{has_long_key}
 use Rattle.rr_line.specs.Line.{PointView, LineView, nothing, point}
-use Rattle.rr_line.specs.Name.{is_name}
-use Rattle.rr_line.specs.Number.{IsInteger}
-use Rattle.rr_line.specs.Key.{key_text}
+use Rattle.rr_line.specs.Part.{begins, skip_spaces, content, IsName, HasNoName}
+use Rattle.rr_line.specs.Tag.{Tag, AreTags, TagFault}
+use Rattle.rr_line.specs.Time.{IsEnding, EndingFault}
 
--- field = name "=" integer "i"
-pub record IsField (text : List ℕ) (field : List ℕ × ℤ) : Type 0 where
-  pub key : IsTrue (is_name field.0)
-  pub value : (digits : List ℕ) × IsInteger digits field.1
-      × (text ≡ field.0 ++ EQUALS ∷ (digits ++ INTEGER_MARK ∷ []))
+-- nothing is left of a line, or a comment
+abbrev pub is_nothing : List ℕ → Bool
+is_nothing [] = true
+is_nothing (byte ∷ rest) = byte == HASH
 
--- fields = field
-abbrev pub AreFields : List ℕ → List (List ℕ × ℤ) → Type 0
-AreFields text [] = ⊥
-AreFields text (field ∷ []) = IsField text field
-AreFields text (_ ∷ _ ∷ _) = ⊥
+-- text = measurement { "," tag } rest
+pub record LeadsToTags (text measurement : List ℕ) (tags : List Tag) (rest : List ℕ) : Type 0 where
+  pub said : is_nothing text ≡ false
+  pub tags_text : List ℕ
+  pub name : IsName Measurement text measurement tags_text
+  pub are_tags : AreTags [] tags_text tags rest
 
--- time = integer, in the unit of the precision
-abbrev pub IsTime : Precision → List ℕ → ℤ → Type 0
-IsTime Ns text time = IsInteger text time
+-- text = measurement { "," tag } spaces fields_text
+pub record LeadsToFields (text measurement : List ℕ) (tags : List Tag) (fields_text : List ℕ) : Type 0 where
+  pub gap : List ℕ
+  pub front : LeadsToTags text measurement tags gap
+  pub ended : begins COMMA gap ≡ false
+  pub skipped : skip_spaces gap ≡ fields_text
+  pub some : 0 < length fields_text
 
--- ending = [ " " time ]
-abbrev pub IsEnding : Precision → List ℕ → Option ℤ → Type 0
-IsEnding precision text None = text ≡ []
-IsEnding precision text (Some time) = (digits : List ℕ) × IsTime precision digits time × (text ≡ SPACE ∷ digits)
+-- text = measurement { "," tag } spaces field { "," field } ending
+pub record HasParts (precision : Precision) (text : List ℕ) (p : PointView) : Type 0 where
+  pub fields_text : List ℕ
+  pub ending : List ℕ
+  pub front : LeadsToFields text p.measurement p.tags fields_text
+  pub are_fields : AreFields fields_text p.fields ending
+  pub is_ending : IsEnding precision ending p.time
 
--- line = name " " fields ending, of no tags and no long key text
+-- a line says a point
 pub record IsPointOf (precision : Precision) (line : List ℕ) (p : PointView) : Type 0 where
-  pub name : IsTrue (is_name p.measurement)
-  pub written : (fields ending : List ℕ) × AreFields fields p.fields × IsEnding precision ending p.time
-      × (line ≡ p.measurement ++ SPACE ∷ (fields ++ ending))
-  pub untagged : p.tags ≡ []
-  pub short : AllByRecursion (λ field. length (key_text p.measurement field.0) ≤ MAX_KEY_TEXT) p.fields
+  pub parts : HasParts precision (content line) p
+  pub short : has_long_key p ≡ false
 
--- a line says a point; it can't say nothing yet
-abbrev pub IsLineOf : Precision → List ℕ → LineView → Type 0
-IsLineOf precision line nothing = ⊥
-IsLineOf precision line (point p) = IsPointOf precision line p
+-- a line says nothing
+abbrev pub IsNothing : List ℕ → Type 0
+IsNothing line = is_nothing (content line) ≡ true
+
+-- why a text is refused: good parts are followed by one that is not
+pub data TextFault (precision : Precision) (text : List ℕ) (fault : LineFault) : Type 0 where
+  no_measurement : is_nothing text ≡ false → HasNoName Measurement text → fault ≡ NoMeasurement → TextFault precision text fault
+  at_tag : (measurement : List ℕ) (tags : List Tag) (tag_text : List ℕ) → LeadsToTags text measurement tags (COMMA ∷ tag_text) → TagFault tags tag_text fault → TextFault precision text fault
+  no_fields : (measurement : List ℕ) (tags : List Tag) (gap : List ℕ) → LeadsToTags text measurement tags gap → begins COMMA gap ≡ false → skip_spaces gap ≡ [] → fault ≡ NoFields → TextFault precision text fault
+  at_field : (measurement : List ℕ) (tags : List Tag) (fields_text : List ℕ) (fields : List Field) (field_text : List ℕ) → LeadsToFields text measurement tags fields_text → LeadTo [] fields_text fields field_text → FieldFault fields field_text fault → TextFault precision text fault
+  at_time : (measurement : List ℕ) (tags : List Tag) (fields_text : List ℕ) (fields : List Field) (ending : List ℕ) → LeadsToFields text measurement tags fields_text → AreFields fields_text fields ending → EndingFault precision ending fault → TextFault precision text fault
+  long_key : (p : PointView) → HasParts precision text p → has_long_key p ≡ true → fault ≡ KeyTooLong → TextFault precision text fault
+
+-- a line has a fault
+abbrev pub HasFault : Precision → List ℕ → LineFault → Type 0
+HasFault precision line fault = TextFault precision (content line) fault
+
+-- what a line says, or its fault: one of the three cases
+abbrev pub IsLineOf : Precision → List ℕ → Result LineView LineFault → Type 0
+IsLineOf precision line (Ok nothing) = IsNothing line
+IsLineOf precision line (Ok (point p)) = IsPointOf precision line p
+IsLineOf precision line (Err fault) = HasFault precision line fault

@@ -1,8 +1,12 @@
 pub mod Line
-pub mod Name
-pub mod Number
+pub mod Part
+pub mod Tag
+pub mod Value
+pub mod Field
+pub mod Time
 pub mod Key
 pub mod Grammar
 pub mod Reading
+pub mod Gathering
 pub mod Fault
 pub mod Answer

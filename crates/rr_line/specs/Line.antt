@@ -1,6 +1,8 @@
 -- What a line says, without where its parts lie in memory.
 use Rattle.std.specs.Prelude.{ℕ, ℤ, ◌==◌, List, map, Option, IsFalse}
+use Rattle.std.specs.Borrow.{Bor}
 use Rattle.std.specs.List.{list_any}
+use Rattle.rr_key.specs.Making.{tags_of}
 use Rattle.rr_line.specs.declared.delimiter.TheConstants.{LINE_FEED}
 use Rattle.rr_line.specs.declared.line.Line.{Line}
 use Rattle.rr_line.specs.declared.line.Line.TheVariants as line
@@ -18,12 +20,16 @@ pub data LineView : Type 0 where
   nothing : LineView
   point : PointView → LineView
 
+-- fields whose keys are slices, by their bytes
+abbrev pub fields_view : List (Bor (List ℕ) × ℤ) → List (List ℕ × ℤ)
+fields_view fields = map (λ field. (field.0.now, field.1)) fields
+
 -- the names of a point are the bytes of their slices
 abbrev pub point_view : Point → PointView
 point_view p = record {
   measurement = p.measurement.now;
-  tags = map (λ tag. (tag.0.now, tag.1.now)) p.tags.items;
-  fields = map (λ field. (field.0.now, field.1)) p.fields.items;
+  tags = tags_of p.tags.items;
+  fields = fields_view p.fields.items;
   time = p.time;
 }
 

@@ -1,15 +1,24 @@
--- The reading, as a function of the bytes of a line.
-use Rattle.std.specs.Prelude.{ℕ, ℤ, ◌||◌, not, ◌==◌, nat_lt, List, [], ◌∷◌, length, Option, None, Some, Result, Ok, Err, ok_or, if◌then◌else◌}
-use Rattle.rr_base.specs.declared.limits.TheConstants.{MAX_KEY_TEXT}
-use Rattle.rr_base.specs.Text.{cut_at, integer_at}
-use Rattle.rr_line.specs.declared.delimiter.TheConstants.{SPACE, EQUALS, INTEGER_MARK}
+-- The reading, as a function of the bytes of a line: part by part, up to the first fault.
+use Rattle.std.specs.Prelude.{ℕ, zero, suc, ℤ, Bool, ◌&&◌, ◌||◌, not, ◌==◌, List, [], ◌∷◌, ◌++◌, length, take, drop, Option, None, Some, Result, Ok, Err, ok_or, if◌then◌else◌}
+use Rattle.rr_base.specs.Text.{is_digits, unsigned, fits_i64}
+use Rattle.rr_key.specs.declared.class.Class.{Class}
+use Rattle.rr_key.specs.declared.class.Class.TheVariants.{Measurement, Other}
+use Rattle.rr_key.specs.declared.limits.TheConstants.{MAX_TAGS}
+use Rattle.rr_key.specs.Reading.{strip}
+use Rattle.rr_key.specs.Unit.{name_len}
+use Rattle.rr_line.specs.declared.delimiter.TheConstants.{COMMA, EQUALS, QUOTE}
 use Rattle.rr_line.specs.declared.fault.LineFault.{LineFault}
-use Rattle.rr_line.specs.declared.fault.LineFault.TheVariants.{BadField}
+use Rattle.rr_line.specs.declared.fault.LineFault.TheVariants.{NoMeasurement, MissingTagKey, MissingTagValue, TooManyTags, DuplicateTag, NoFields, MissingFieldKey, MissingFieldValue, TooManyFields, DuplicateField, BadTime, TimeRange, KeyTooLong}
+use Rattle.rr_line.specs.declared.limits.TheConstants.{MAX_FIELDS}
 use Rattle.rr_line.specs.declared.precision.Precision.{Precision}
-use Rattle.rr_line.specs.declared.precision.Precision.TheVariants.{Ns}
-use Rattle.rr_line.specs.Line.{PointView, LineView, point}
-use Rattle.rr_line.specs.Name.{is_name}
-use Rattle.rr_line.specs.Key.{key_text}
+use Rattle.rr_line.specs.Field.{Field}
+use Rattle.rr_line.specs.Grammar.{is_nothing}
+use Rattle.rr_line.specs.Key.{has_long_key}
+use Rattle.rr_line.specs.Line.{PointView, LineView, nothing, point}
+use Rattle.rr_line.specs.Part.{begins, skip_spaces, content, cut_behind}
+use Rattle.rr_line.specs.Tag.{Tag, has_key}
+use Rattle.rr_line.specs.Time.{word_len, nanoseconds}
+use Rattle.rr_line.specs.Value.{value_of, value_len, quoted_fault}
 
 -- the next step of a reading, unless this one found a fault
 infixl 10 ◌>>=◌
@@ -17,47 +26,104 @@ abbrev pub ◌>>=◌ : {A B : Type 0} → Result A LineFault → (A → Result B
 (Ok x) >>= next = next x
 (Err fault) >>= next = Err fault
 
--- a field: its key and its value
-unfoldable pub field_at : List ℕ → Result (List ℕ × ℤ) LineFault
+-- a step, unless a test refuses it
+abbrev pub unless : {A : Type 0} → LineFault → Bool → Result A LineFault → Result A LineFault
+unless fault refused step = if refused then Err fault else step
+
+-- the name at the front, and what follows it
+abbrev pub name_at : Class → LineFault → List ℕ → Result (List ℕ × List ℕ) LineFault
+name_at class missing text =
+    unless missing (name_len class text == 0) (Ok (cut_behind (name_len class text) text))
+
+-- a tag, and what follows it
+unfoldable pub tag_at : List ℕ → Result (Tag × List ℕ) LineFault
+tag_at text = do
+  key ← name_at Other MissingTagKey text
+  value_text ← ok_or (strip EQUALS key.1) MissingTagValue
+  value ← name_at Other MissingTagValue value_text
+  unless MissingTagValue (begins EQUALS value.1) (Ok ((key.0, value.0), value.1))
+
+-- what a tag is followed by, where a comma stands next
+abbrev pub after_comma : {A : Type 0} → Option (List ℕ) → A → (List ℕ → A) → A
+after_comma None last more = last
+after_comma (Some text) last more = more text
+
+-- the tags behind these, of which there may be so many more, and what follows them
+abbrev pub tags_at : ℕ → List Tag → List ℕ → Result (List Tag × List ℕ) LineFault
+tags_at zero before text = after_comma (strip COMMA text) (Ok (before, text)) (λ tag_text.
+    tag_at tag_text >>= λ tag. Err TooManyTags)
+tags_at (suc room) before text = after_comma (strip COMMA text) (Ok (before, text)) (λ tag_text.
+    tag_at tag_text >>= λ tag.
+    unless DuplicateTag (has_key before tag.0.0) (tags_at room (before ++ tag.0 ∷ []) tag.1))
+
+-- the tags behind a measurement, and what follows them
+unfoldable pub all_tags_at : List ℕ → Result (List Tag × List ℕ) LineFault
+all_tags_at text = tags_at MAX_TAGS [] text
+
+-- what stands behind the gap before the fields
+abbrev pub fields_text_of : List ℕ → Result (List ℕ) LineFault
+fields_text_of gap = unless NoFields (length (skip_spaces gap) == 0) (Ok (skip_spaces gap))
+
+-- a value, and what follows it
+abbrev pub value_at : List ℕ → Result (ℤ × List ℕ) LineFault
+value_at text = unless (quoted_fault text) (begins QUOTE text) (
+    value_of (take (value_len text) text) >>= λ number. Ok (number, drop (value_len text) text))
+
+-- a field, and what follows it
+unfoldable pub field_at : List ℕ → Result (Field × List ℕ) LineFault
 field_at text = do
-  key ← ok_or (cut_at EQUALS text) BadField
-  digits ← ok_or (cut_at INTEGER_MARK key.1) BadField
-  if not (is_name key.0) || not (length digits.1 == 0) then Err BadField else (do
-    value ← ok_or (integer_at digits.0) BadField
-    Ok (key.0, value))
+  key ← name_at Other MissingFieldKey text
+  value_text ← ok_or (strip EQUALS key.1) MissingFieldValue
+  value ← value_at value_text
+  Ok ((key.0, value.0), value.1)
 
--- a time, in nanoseconds
+-- the fields behind these, of which there may be so many more, and what follows them
+abbrev pub fields_at : ℕ → List Field → List ℕ → Result (List Field × List ℕ) LineFault
+fields_at zero before text = field_at text >>= λ field. Err TooManyFields
+fields_at (suc room) before text =
+    field_at text >>= λ field.
+    unless DuplicateField (has_key before field.0.0) (
+    after_comma (strip COMMA field.1) (Ok (before ++ field.0 ∷ [], field.1)) (λ next.
+    fields_at room (before ++ field.0 ∷ []) next))
+
+-- the fields of a line, and what follows them
+unfoldable pub all_fields_at : List ℕ → Result (List Field × List ℕ) LineFault
+all_fields_at text = fields_at MAX_FIELDS [] text
+
+-- a time in nanoseconds
 abbrev pub time_at : Precision → List ℕ → Result ℤ LineFault
-time_at Ns text = ok_or (integer_at text) BadField
+time_at precision word = unless TimeRange (not (fits_i64 (nanoseconds precision word))) (Ok (nanoseconds precision word))
 
--- a field alone, or a field and the time after it
-abbrev pub ending_at : Precision → List ℕ → Option (List ℕ × List ℕ) → Result ((List ℕ × ℤ) × Option ℤ) LineFault
-ending_at precision text None = do
-  field ← field_at text
-  Ok (field, None)
-ending_at precision text (Some (before, after)) = do
-  field ← field_at before
-  time ← time_at precision after
-  Ok (field, Some time)
+-- the time of a word, with nothing but spaces after it
+abbrev pub word_time : Precision → List ℕ → List ℕ → Result ℤ LineFault
+word_time precision word rest =
+    unless BadTime (not (is_digits (unsigned word)) || not (length (skip_spaces rest) == 0)) (time_at precision word)
 
--- the field and, if a space follows it, the time
-unfoldable pub field_and_time_at : Precision → List ℕ → Result ((List ℕ × ℤ) × Option ℤ) LineFault
-field_and_time_at precision text = ending_at precision text (cut_at SPACE text)
+-- the time of an ending without the spaces at its front, if it has one
+abbrev pub ending_at : Precision → List ℕ → Result (Option ℤ) LineFault
+ending_at precision text =
+    if length text == 0 then Ok None
+    else (word_time precision (take (word_len text) text) (drop (word_len text) text) >>= λ time. Ok (Some time))
 
--- the point of a line: the measurement, and what follows it
+-- a point, unless a key of it is too long
+abbrev pub unless_long : PointView → Result PointView LineFault
+unless_long p = unless KeyTooLong (has_long_key p) (Ok p)
+
+-- the point of a text that says something
 unfoldable pub point_at : Precision → List ℕ → Result PointView LineFault
-point_at precision line = do
-  measurement ← ok_or (cut_at SPACE line) BadField
-  rest ← field_and_time_at precision measurement.1
-  if not (is_name measurement.0) || nat_lt MAX_KEY_TEXT (length (key_text measurement.0 (rest.0).0)) then Err BadField else Ok (record {
-    measurement = measurement.0;
-    tags = [];
-    fields = rest.0 ∷ [];
-    time = rest.1;
-  })
+point_at precision text = do
+  measurement ← name_at Measurement NoMeasurement text
+  tags ← all_tags_at measurement.1
+  fields_text ← fields_text_of tags.1
+  fields ← all_fields_at fields_text
+  time ← ending_at precision (skip_spaces fields.1)
+  unless_long (record { measurement = measurement.0; tags = tags.0; fields = fields.0; time = time })
+
+-- what a text says
+abbrev pub text_at : Precision → List ℕ → Result LineView LineFault
+text_at precision text =
+    if is_nothing text then Ok nothing else (point_at precision text >>= λ p. Ok (point p))
 
 -- what a line says
 abbrev pub reading : Precision → List ℕ → Result LineView LineFault
-reading precision line = do
-  p ← point_at precision line
-  Ok (point p)
+reading precision line = text_at precision (content line)

@@ -1,23 +1,34 @@
 //! What holds of the definitions themselves: functions without a body, whose contracts say it.
 
-ghost use Rattle.std.specs.Prelude.{◌≡◌, ◌≢◌, ◌↔◌, ℕ, List, Ok, Err};
+ghost use Rattle.std.specs.Prelude.{◌≡◌, ◌≢◌, ◌↔◌, ℕ, List, Result, Err};
+ghost use Rattle.rr_line.specs.declared.fault.LineFault.{LineFault};
+ghost use Rattle.rr_line.specs.declared.fault.LineFault.TheVariants.{Memory};
 ghost use Rattle.rr_line.specs.declared.precision.Precision.{Precision};
-ghost use Rattle.rr_line.specs.declared.fault.LineFault.TheVariants.{BadField, Memory};
-ghost use Rattle.rr_line.specs.Line.{PointView, nothing, point};
+ghost use Rattle.rr_line.specs.Grammar.{IsLineOf, HasFault};
+ghost use Rattle.rr_line.specs.Key.{HasKeys};
+ghost use Rattle.rr_line.specs.Line.{LineView, PointView, HasNoLineFeed, point};
 ghost use Rattle.rr_line.specs.Grammar.{IsPointOf};
 ghost use Rattle.rr_line.specs.Reading.{reading};
 
-/// The reading and the grammar are one: a line is read as the point that the grammar has for it,
-/// and refused where the grammar has none.
-pub fn reading_is_the_grammar()
-    ensures points { (precision : Precision) (line : List ℕ) (p : PointView)
-        → (reading precision line ≡ Ok (point p)) ↔ IsPointOf precision line p }
-    ensures refusals { (precision : Precision) (line : List ℕ)
-        → (reading precision line ≡ Err BadField) ↔ ((p : PointView) → ¬ IsPointOf precision line p) }
+/// Of each line the grammar has exactly one of three: it says nothing, it says one point, or it
+/// has one fault, which is not want of memory.
+pub fn a_line_is_one_of_three()
+    ensures one { (precision : Precision) (line : List ℕ)
+        → (said : Result LineView LineFault) × IsLineOf precision line said
+        × ((other : Result LineView LineFault) → IsLineOf precision line other → other ≡ said) }
+    ensures takes_no_memory { (precision : Precision) (line : List ℕ) (fault : LineFault)
+        → HasFault precision line fault → fault ≢ Memory }
+{}
 
-    // There is no third answer.
-    ensures never_nothing { (precision : Precision) (line : List ℕ)
-        → reading precision line ≢ Ok nothing }
-    ensures takes_no_memory { (precision : Precision) (line : List ℕ)
-        → reading precision line ≢ Err Memory }
+/// The reading and the grammar are one.
+pub fn reading_is_the_grammar()
+    ensures { (precision : Precision) (line : List ℕ) (said : Result LineView LineFault)
+        → (reading precision line ≡ said) ↔ IsLineOf precision line said }
+{}
+
+/// Each field of a point has a key: its names are names of a key, its tags differ and are few, and
+/// its text is short.
+pub fn a_field_of_a_point_has_a_key()
+    ensures { (precision : Precision) (line : List ℕ) (p : PointView)
+        → HasNoLineFeed line → IsPointOf precision line p → HasKeys p }
 {}

@@ -1,39 +1,53 @@
 //! Lines of samples, as the line protocol of InfluxDB writes them, read into points.
 //!
 //! [`parse_line`] takes one line, without the line feed that ended it, and the [`Precision`] of
-//! its time. It cuts the line at its delimiters, reads the names and the numbers between them, and
-//! answers a [`Line`]: a [`Point`] whose names are slices of the line. A line that is not of the
-//! grammar is refused with a [`LineFault`].
-//!
-//! The grammar of today is a part of the protocol's: a measurement, a space, one field with an
-//! integer value and, after one more space, a time.
+//! its time. It reads the line part by part, from left to right, and answers a [`Line`]: nothing,
+//! or a [`Point`] whose names are slices of the line. A line that is not of the grammar is refused
+//! with the first [`LineFault`] that it has. [`Point::series_key`] makes the key of a field's
+//! series.
 //!
 //! ```text
-//! line    = name " " field [ " " time ]
-//! field   = name "=" integer "i"
-//! time    = integer
-//! name    = one or more ASCII letters, digits and "_"
-//! integer = [ "-" ] one or more digits, of a number in i64
+//! line  = [ spaces ] measurement { "," tag } spaces field { "," field } [ spaces time ] [ spaces ] [ CR ]
+//! tag   = key "=" value
+//! field = key "=" [ "-" ] digits "i"
+//! time  = [ "-" ] digits
 //! ```
 //!
-//! The key text of a point, its measurement, a space and its field's key, has at most
-//! [`MAX_KEY_TEXT`](rr_base::limits::MAX_KEY_TEXT) bytes. In `specs/` the grammar is a relation
-//! between a line's bytes and a point, and the reading a function of these bytes; [`laws`] says
-//! that the two are one.
+//! A measurement is a name of the class [`Measurement`](rr_key::Class::Measurement), and ends
+//! before a comma or a space; keys and the values of tags are names of the class
+//! [`Other`](rr_key::Class::Other), and end before an equals too. A backslash before such a byte
+//! takes it into the name; any other backslash is a byte of the name. The one separating byte is
+//! the space: a tab is a byte of a name. A line that is empty, or begins with `#`, says nothing.
+//!
+//! A line has at most [`MAX_TAGS`](rr_key::MAX_TAGS) tags and [`MAX_FIELDS`] fields, each with a
+//! key of its own, and the key text of each field has at most
+//! [`MAX_KEY_TEXT`](rr_base::limits::MAX_KEY_TEXT) bytes. The rules are those of the "InfluxDB
+//! line protocol reference" where it has them; fields of other kinds are told apart and refused.
+//!
+//! In `specs/` the grammar is a relation between a line's bytes and what they say, or why they are
+//! refused: good parts, and what follows them. The reading is a function of these bytes. [`laws`]
+//! says that the two are one, and that each line has exactly one answer.
 #![tactic(auto)]
 
 mod delimiter;
 mod fault;
+mod fields;
+mod key;
 pub mod laws;
+mod limits;
 mod line;
-mod name;
 mod parse;
+mod part;
 mod precision;
+mod repeat;
+mod tags;
+mod time;
+mod value;
 
 pub use delimiter::LINE_FEED;
 pub use fault::LineFault;
+pub use limits::MAX_FIELDS;
 pub use line::{Line, Point};
-pub use name::is_name;
 pub use parse::parse_line;
 pub use precision::Precision;
 

@@ -3,21 +3,22 @@
 /// What a line says.
 #[derive(Debug, Drop)]
 pub enum Line<'a> {
-    /// An empty line or a comment. The grammar of today has neither, so `parse_line` never answers
-    /// this.
+    /// Nothing: the line is empty, of spaces alone, or a comment.
     Nothing,
     /// The samples of one moment.
     Point(Point<'a>),
 }
 
-/// The samples of one moment. The names are slices of the line, as it writes them.
+/// The samples of one moment. The names are slices of the line, as it writes them: a backslash
+/// stands before each special byte of a name (see [`rr_key::unescape`]).
 #[derive(Debug, Drop)]
 pub struct Point<'a> {
-    /// What was measured.
+    /// What was measured, a name of the class [`Measurement`](rr_key::Class::Measurement).
     pub measurement: &'a [u8],
-    /// The keys and values that tell series of one measurement apart; none in the grammar of today.
+    /// The keys and values that tell series of one measurement apart, in the line's order. Their
+    /// names, and those of fields, are of the class [`Other`](rr_key::Class::Other).
     pub tags: Vec<(&'a [u8], &'a [u8])>,
-    /// What was sampled, with its key; one in the grammar of today.
+    /// What was sampled, each with its key, in the line's order.
     pub fields: Vec<(&'a [u8], i64)>,
     /// Nanoseconds since the Unix epoch, if the line says when.
     pub time: Option<i64>,

@@ -1,28 +1,34 @@
 //! A line, read from left to right.
 
-ghost use Rattle.std.specs.Prelude.{◌≡◌, IfOk, Ok};
-ghost use Rattle.rr_line.specs.Line.{PointView, point_view, point, line_view, HasNoLineFeed};
-ghost use Rattle.rr_line.specs.Grammar.{IsPointOf, IsLineOf};
-ghost use Rattle.rr_line.specs.Reading.{field_at, time_at, field_and_time_at, point_at, reading};
-ghost use Rattle.rr_line.specs.Answer.{Gives, GivesUnlessMemory};
+ghost use Rattle.std.specs.Prelude.{◌≡◌, ◌+◌, false, length, nat_lt, Result, IfOk, Ok};
+ghost use Rattle.std.specs.List.{list_any};
+ghost use Rattle.rr_base.specs.declared.limits.TheConstants.{MAX_KEY_TEXT};
+ghost use Rattle.rr_line.specs.Answer.{Gives, GivesUnlessMemory, AnswersUnlessMemory};
+ghost use Rattle.rr_line.specs.Grammar.{is_nothing, IsLineOf};
+ghost use Rattle.rr_line.specs.Key.{LineHasKeys};
+ghost use Rattle.rr_line.specs.Line.{LineView, point_view, line_view, fields_view, HasNoLineFeed};
+ghost use Rattle.rr_line.specs.Reading.{fields_text_of, point_at, reading};
 
-use crate::delimiter::{EQUALS, INTEGER_MARK, SPACE};
+use crate::delimiter::HASH;
 use crate::fault::LineFault;
+use crate::fields::read_fields;
 use crate::line::{Line, Point};
-use crate::name::is_name;
+use crate::part::{content, read_name, skip_spaces};
 use crate::precision::Precision;
+use crate::tags::read_tags;
+use crate::time::read_ending;
 use rr_base::limits::MAX_KEY_TEXT;
-use rr_base::text::{cut, integer};
+use rr_key::Class;
 use std::alloc::Global;
 
 /// Reads one line, without the line feed that ended it.
 ///
 /// The line's time is in the unit of `precision`, the point's in nanoseconds. The rules are those
-/// of the "InfluxDB line protocol reference", of which the crate's page shows the part that is
-/// read today. Every other line is refused as [`LineFault::BadField`], an empty one and a comment
-/// too, so [`Line::Nothing`] is not answered yet.
+/// of the "InfluxDB line protocol reference" and of the crate's page; of the faults of a line, the
+/// first one as it is read is answered. `Memory` is answered where memory runs out, and there alone.
 ///
-/// The cost is that of a few passes over the line; the point takes memory for one field.
+/// The cost is that of a few passes over the line, and of sorting the keys of its tags and fields
+/// where these are many and do not rise. Memory is taken for the lists of tags and fields alone.
 pub fn parse_line<'a>(
     alloc: Global,
     line: &'a [u8],
@@ -34,78 +40,79 @@ pub fn parse_line<'a>(
     ensures read { GivesUnlessMemory line_view result (reading precision line.now) }
 
     // What is answered is of the grammar, and what is of the grammar is answered.
-    ensures found { IfOk result (λ said. IsLineOf precision line.now (line_view said)) }
-    ensures only { (p : PointView) → IsPointOf precision line.now p
-        → GivesUnlessMemory line_view result (Ok (point p)) }
-    ensures refused { result ≡ Err LineFault.BadField → (p : PointView) → ¬ IsPointOf precision line.now p }
+    ensures found { AnswersUnlessMemory line_view result (IsLineOf precision line.now) }
+    ensures only { (said : Result LineView LineFault) → IsLineOf precision line.now said
+        → GivesUnlessMemory line_view result said }
+
+    // Each field of a point has a key.
+    ensures keyed { IfOk result (λ said. LineHasKeys (line_view said)) }
 {
-    let point = read_point(alloc, line, precision)?;
+    let text = content(line);
+    if is_nothing(text) {
+        return Ok(Line::Nothing);
+    }
+    let point = read_point(alloc, text, precision)?;
     Ok(Line::Point(point))
 }
 
-/// Reads the measurement and what follows it.
+/// Whether nothing is left, or a comment.
+fn is_nothing(text: &[u8]) -> bool
+    ensures { result ≡ is_nothing text.now }
+{
+    match text {
+        [] => true,
+        [first, ..] => *first == HASH,
+    }
+}
+
+/// Reads a point from the measurement on.
 #[tactic(auto, unfolding(crate::specs::Reading::point_at))]
 fn read_point<'a>(
     alloc: Global,
-    line: &'a [u8],
+    text: &'a [u8],
     precision: Precision,
 ) -> Result<Point<'a>, LineFault>
-    ensures { GivesUnlessMemory point_view result (point_at precision line.now) }
+    requires one_line { HasNoLineFeed text.now }
+    requires said { is_nothing text.now ≡ false }
+    ensures { GivesUnlessMemory point_view result (point_at precision text.now) }
 {
-    let (measurement, rest) = cut(SPACE, line).ok_or(LineFault::BadField)?;
-    let ((key, value), time) = read_field_and_time(rest, precision)?;
-
-    // In the key text a space stands between the two.
-    if !is_name(measurement) || measurement.len() + 1 + key.len() > MAX_KEY_TEXT {
-        return Err(LineFault::BadField);
+    let (measurement, rest) = read_name(Class::Measurement, LineFault::NoMeasurement, text)?;
+    let (tags, gap) = read_tags(alloc, rest)?;
+    let front = &text[..text.len() - gap.len()];
+    let fields_text = skip_gap(gap)?;
+    let (fields, ending) = read_fields(alloc, fields_text)?;
+    let time = read_ending(precision, ending)?;
+    if has_long_key(front, &fields) {
+        return Err(LineFault::KeyTooLong);
     }
-    let mut fields = Vec::new(alloc);
-    fields.push((key, value))?;
     Ok(Point {
         measurement,
-        tags: Vec::new(alloc),
+        tags,
         fields,
         time,
     })
 }
 
-/// Reads the field and, if a space follows it, the time.
-#[tactic(auto, unfolding(crate::specs::Reading::field_and_time_at))]
-fn read_field_and_time(
-    text: &[u8],
-    precision: Precision,
-) -> Result<((&[u8], i64), Option<i64>), LineFault>
-    ensures { Gives (λ x. ((x.0.0.now, x.0.1), x.1)) result (field_and_time_at precision text.now) }
+/// What stands behind the spaces before the fields.
+fn skip_gap(gap: &[u8]) -> Result<&[u8], LineFault>
+    ensures { Gives (λ text. text.now) result (fields_text_of gap.now) }
 {
-    match cut(SPACE, text) {
-        None => Ok((read_field(text)?, None)),
-        Some((field, time)) => {
-            let field = read_field(field)?;
-            let time = read_time(time, precision)?;
-            Ok((field, Some(time)))
+    let text = skip_spaces(gap);
+    if text.is_empty() {
+        return Err(LineFault::NoFields);
+    }
+    Ok(text)
+}
+
+/// Whether a key text is too long: in it a space stands between what the line has before the
+/// fields and the field's key.
+fn has_long_key(front: &[u8], fields: &[(&[u8], i64)]) -> bool
+    ensures { result ≡ list_any (λ field. nat_lt MAX_KEY_TEXT (length front.now + 1 + length field.0)) (fields_view fields.now) }
+{
+    for field in fields {
+        if front.len() + 1 + field.0.len() > MAX_KEY_TEXT {
+            return true;
         }
     }
-}
-
-/// Reads a field: its key and its value.
-#[tactic(auto, unfolding(crate::specs::Reading::field_at))]
-fn read_field(text: &[u8]) -> Result<(&[u8], i64), LineFault>
-    ensures { Gives (λ field. (field.0.now, field.1)) result (field_at text.now) }
-{
-    let (key, value) = cut(EQUALS, text).ok_or(LineFault::BadField)?;
-    let (digits, rest) = cut(INTEGER_MARK, value).ok_or(LineFault::BadField)?;
-    if !is_name(key) || !rest.is_empty() {
-        return Err(LineFault::BadField);
-    }
-    let value = integer(digits).ok_or(LineFault::BadField)?;
-    Ok((key, value))
-}
-
-/// Reads a time, in nanoseconds.
-fn read_time(text: &[u8], precision: Precision) -> Result<i64, LineFault>
-    ensures { result ≡ time_at precision text.now }
-{
-    match precision {
-        Precision::Ns => integer(text).ok_or(LineFault::BadField),
-    }
+    false
 }

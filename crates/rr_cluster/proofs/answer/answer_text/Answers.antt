@@ -25,5 +25,5 @@ loop-row-preserved c =
     let start : c.start_of-start.result ≡ (q.first +ℤ pos row) *ℤ pos (span s q.archive) = search rules in
     let value : c.value_at-value.result ≡ value_of (q.first +ℤ pos row) = search rules in
     let back = to_z-of_z {w = w64} {z = c.start_of-start.result} (search rules) in
-    let written = rw back at (c.in_ok-write_row.ensures (answer_text s value_of (record q { rows = row })) c.loop-row.invariant) in
+    let written = rw (c.text.ensures.value, back) at (c.in_ok-write_row.ensures (answer_text s value_of (record q { rows = row })) c.loop-row.invariant) in
     rw (answer_more s value_of q row, ← start, ← value) written

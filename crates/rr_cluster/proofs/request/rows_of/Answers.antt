@@ -14,7 +14,7 @@ returns-then-rows-from-clause-value c =
     let last : c.slot_after-last.result ≡ neg_ℤ (int_div_euclid (neg_ℤ c.args.end) (pos (span s c.args.archive))) = search rules in
     let rows : c.rows_between-rows.result ≡ unsigned_abs (c.slot_after-last.result -ℤ c.first_slot-first.result) = search rules in
     let over : MAX_FETCH_ROWS < c.rows_between-rows.result = search rules in
-    many s c.args.key.now c.args.archive c.args.start c.args.end c.first_slot-first.result c.slot_after-last.result c.rows_between-rows.result first last rows over
+    many s c.args.key c.args.archive c.args.start c.args.end c.first_slot-first.result c.slot_after-last.result c.rows_between-rows.result first last rows over
 
 pub returns-clause-value : goal.returns-clause-value
 returns-clause-value c =
@@ -24,4 +24,4 @@ returns-clause-value c =
     let rows : c.rows_between-rows.result ≡ unsigned_abs (c.slot_after-last.result -ℤ c.first_slot-first.result) = search rules in
     let within : c.rows_between-rows.result ≤ MAX_FETCH_ROWS = search rules in
     let back = to_z-of_z {w = w64} {z = c.first_slot-first.result} (search rules) in
-    rw back (few s c.args.key.now c.args.archive c.args.start c.args.end c.first_slot-first.result c.slot_after-last.result c.rows_between-rows.result first last rows within)
+    rw back (few s c.args.key c.args.archive c.args.start c.args.end c.first_slot-first.result c.slot_after-last.result c.rows_between-rows.result first last rows within)

@@ -1,26 +1,39 @@
--- The point that is read is the grammar's, and a fault says that there is none.
-use Rattle.std.proofs.Common.{◌≡◌}
+-- The answer is that of the grammar.
+use Rattle.std.proofs.Common.{sym, subst, ◌∙◌, inl, inr, Ok, Err}
 use Rattle.std.proofs.lemmas.Result.{err_from_is_err_and}
-use Rattle.rr_line.specs.declared.fault.LineFault.TheVariants.{BadField}
-use Rattle.rr_line.specs.Line.{point_view}
-use Rattle.rr_line.proofs.PointLemmas.{point_found, point_again}
-use Rattle.rr_line.proofs.ReadingLemmas.{fault_is_memory, refused_is_unread}
+use Rattle.rr_line.specs.Grammar.{IsLineOf}
+use Rattle.rr_line.specs.Line.{point, point_view}
+use Rattle.rr_line.proofs.LineLemmas.{line_found, line_only, point_said, point_refused, none_in_content, keys_of_point}
 use Rattle.rr_line.proofs.parse.parse_line.Goals as goal
 
-pub returns-clause-found : goal.returns-clause-found
-returns-clause-found c = point_found c.args.precision c.args.line.now (point_view c.in_ok-point.point) c.in_ok-point.ensures
+pub read_point-requires-clause-one_line : goal.read_point-requires-clause-one_line
+read_point-requires-clause-one_line c = none_in_content c.args.line.now c.content-text.result.now c.requires c.content-text.ensures
 
-pub returns-clause-only : goal.returns-clause-only
-returns-clause-only c = λ p h. let again = point_again c.args.precision c.args.line.now p h in cc c.in_ok-point.ensures
+pub returns-in_err-point-clause-found : goal.returns-in_err-point-clause-found
+returns-in_err-point-clause-found c =
+    let given = err_from_is_err_and c.from_residual.result c.from_residual.ensures.1 in
+    rw (given.1, given.2) (elim c.in_err-point.ensures [
+      | inl memory ↦ inl memory
+      | inr refused ↦ inr (subst (IsLineOf c.args.precision c.args.line.now) (point_refused c.args.precision c.args.line.now c.content-text.result.now c.in_err-point.field-0.0 c.content-text.ensures c.if-is_nothing.ensures refused) (line_found c.args.precision c.args.line.now))
+    ])
 
 pub returns-in_err-point-clause-only : goal.returns-in_err-point-clause-only
 returns-in_err-point-clause-only c =
     let given = err_from_is_err_and c.from_residual.result c.from_residual.ensures.1 in
-    λ p h. rw (given.1, given.2) (fault_is_memory _ _ p c.in_err-point.ensures (point_again c.args.precision c.args.line.now p h))
+    λ said h. rw (given.1, given.2) (elim c.in_err-point.ensures [
+      | inl memory ↦ inl memory
+      | inr refused ↦ inr (sym (line_only c.args.precision c.args.line.now said h) ∙ point_refused c.args.precision c.args.line.now c.content-text.result.now c.in_err-point.field-0.0 c.content-text.ensures c.if-is_nothing.ensures refused)
+    ])
 
-pub returns-in_err-point-clause-refused : goal.returns-in_err-point-clause-refused
-returns-in_err-point-clause-refused c =
-    let given = err_from_is_err_and c.from_residual.result c.from_residual.ensures.1 in
-    λ e p h.
-    let is : c.in_err-point.field-0.0 ≡ BadField = cc in
-    refused_is_unread _ _ p is c.in_err-point.ensures (point_again c.args.precision c.args.line.now p h)
+pub returns-clause-found : goal.returns-clause-found
+returns-clause-found c =
+    subst (IsLineOf c.args.precision c.args.line.now) (point_said c.args.precision c.args.line.now c.content-text.result.now (point_view c.in_ok-point.point) c.content-text.ensures c.if-is_nothing.ensures c.in_ok-point.ensures) (line_found c.args.precision c.args.line.now)
+
+pub returns-clause-only : goal.returns-clause-only
+returns-clause-only c =
+    λ said h. sym (line_only c.args.precision c.args.line.now said h) ∙ point_said c.args.precision c.args.line.now c.content-text.result.now (point_view c.in_ok-point.point) c.content-text.ensures c.if-is_nothing.ensures c.in_ok-point.ensures
+
+pub returns-clause-keyed : goal.returns-clause-keyed
+returns-clause-keyed c =
+    keys_of_point c.args.precision c.args.line.now (point_view c.in_ok-point.point) c.requires
+    (subst (IsLineOf c.args.precision c.args.line.now) (point_said c.args.precision c.args.line.now c.content-text.result.now (point_view c.in_ok-point.point) c.content-text.ensures c.if-is_nothing.ensures c.in_ok-point.ensures) (line_found c.args.precision c.args.line.now))

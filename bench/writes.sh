@@ -1,0 +1,13 @@
+#!/bin/sh
+# Times a script of whole lines, each of three fields, through the built program: bench/writes.sh [LINES]
+set -eu
+top=$(cd "$(dirname "$0")/.." && pwd)
+lines=${1:-300000}
+script=$(mktemp)
+trap 'rm -f "$script"' EXIT
+"$top/bench/meter_lines.py" --script "$lines" > "$script"
+"$top/rr" < /dev/null
+before=$(date +%s%N)
+"$top/rr" < "$script" > /dev/null
+after=$(date +%s%N)
+echo "$lines lines in $(( (after - before) / 1000000 )) ms: $(( lines * 1000000000 / (after - before) )) lines a second"

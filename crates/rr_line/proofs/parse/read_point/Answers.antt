@@ -1,0 +1,39 @@
+-- The steps are those of the reading, and the length of a key text is that of its parts in the line.
+use Rattle.std.proofs.Common.{◌≡◌, ℕ, ℤ, ◌-◌, ◌≤◌, List, length, take, ltb, true, false, sym, ap, ◌∙◌, inr, arith}
+use Rattle.std.proofs.lemmas.List.{length-take-le}
+use Rattle.rr_key.specs.Making.{tags_of}
+use Rattle.rr_line.specs.Field.{Field}
+use Rattle.rr_line.specs.Key.{has_long_key}
+use Rattle.rr_line.specs.Line.{fields_view}
+use Rattle.rr_line.specs.Tag.{Tag}
+use Rattle.rr_line.proofs.FrontLemmas.{gap_within, long_of_steps}
+use Rattle.rr_line.proofs.ReadPointLemmas.{HeldField, point_of, point_too_long, point_is_read, tests_of}
+use Rattle.rr_line.proofs.parse.read_point.Goals as goal
+
+pub slice_bounds-front-count : goal.slice_bounds-front-count
+slice_bounds-front-count c =
+    gap_within c.args.text.now (c.in_ok-measurement.measurement.now, c.in_ok-measurement.rest.now) (tags_of c.in_ok-tags.tags.items, c.in_ok-tags.gap.now) c.requires.said c.in_ok-measurement.ensures c.in_ok-tags.ensures
+
+pub returns-then-has_long_key : goal.returns-then-has_long_key
+returns-then-has_long_key c =
+    let measurement : List ℕ × List ℕ = (c.in_ok-measurement.measurement.now, c.in_ok-measurement.rest.now) in
+    let tags : List Tag × List ℕ = (tags_of c.in_ok-tags.tags.items, c.in_ok-tags.gap.now) in
+    let fields : List Field × List ℕ = (fields_view c.in_ok-fields.fields.items, c.in_ok-fields.ending.now) in
+    let text = c.args.text.now in
+    let len : length (take (length text - length tags.1) text) ≡ length text - length tags.1 = length-take-le (length text - length tags.1) text (omega arith) in
+    let long : has_long_key (point_of measurement.0 tags.0 fields.0 c.in_ok-time.time) ≡ true =
+    long_of_steps text measurement tags c.in_ok-fields_text.fields_text.now fields c.in_ok-time.time (length (take (length text - length tags.1) text)) c.requires.one_line c.requires.said c.in_ok-measurement.ensures c.in_ok-tags.ensures c.in_ok-fields_text.ensures c.in_ok-fields.ensures len
+    ∙ ap (tests_of (length (take (length text - length tags.1) text))) (sym c.deref.ensures.value) ∙ sym c.if-has_long_key.ensures in
+    inr (point_too_long c.args.precision text measurement tags c.in_ok-fields_text.fields_text.now fields c.in_ok-time.time c.in_ok-measurement.ensures c.in_ok-tags.ensures c.in_ok-fields_text.ensures c.in_ok-fields.ensures (sym c.in_ok-time.ensures) long)
+
+pub returns : goal.returns
+returns c =
+    let measurement : List ℕ × List ℕ = (c.in_ok-measurement.measurement.now, c.in_ok-measurement.rest.now) in
+    let tags : List Tag × List ℕ = (tags_of c.in_ok-tags.tags.items, c.in_ok-tags.gap.now) in
+    let fields : List Field × List ℕ = (fields_view c.in_ok-fields.fields.items, c.in_ok-fields.ending.now) in
+    let text = c.args.text.now in
+    let len : length (take (length text - length tags.1) text) ≡ length text - length tags.1 = length-take-le (length text - length tags.1) text (omega arith) in
+    let short : has_long_key (point_of measurement.0 tags.0 fields.0 c.in_ok-time.time) ≡ false =
+    long_of_steps text measurement tags c.in_ok-fields_text.fields_text.now fields c.in_ok-time.time (length (take (length text - length tags.1) text)) c.requires.one_line c.requires.said c.in_ok-measurement.ensures c.in_ok-tags.ensures c.in_ok-fields_text.ensures c.in_ok-fields.ensures len
+    ∙ ap (tests_of (length (take (length text - length tags.1) text))) (sym c.deref.ensures.value) ∙ sym c.if-has_long_key.ensures in
+    point_is_read c.args.precision text measurement tags c.in_ok-fields_text.fields_text.now fields c.in_ok-time.time c.in_ok-measurement.ensures c.in_ok-tags.ensures c.in_ok-fields_text.ensures c.in_ok-fields.ensures (sym c.in_ok-time.ensures) short

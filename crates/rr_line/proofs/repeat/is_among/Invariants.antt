@@ -1,0 +1,7 @@
+use Rattle.std.proofs.Common.{◌≡◌, map, drop}
+use Rattle.rr_line.specs.Tag.{is_among}
+use Rattle.rr_line.proofs.repeat.is_among.Given as goal
+
+abbrev pub invariant-loop-entry : goal.invariant-loop-entry
+invariant-loop-entry g l =
+    is_among l.key (map (λ entry. entry.0.now) (drop l.entry-index l.entries)) ≡ is_among l.key (map (λ entry. entry.0.now) l.entries)

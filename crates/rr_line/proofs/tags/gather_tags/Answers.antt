@@ -1,0 +1,29 @@
+-- What is gathered in the loop is what the definition gathers.
+use Rattle.std.proofs.Common.{◌≡◌, ◌∙◌, sym, length, rules}
+use Rattle.rr_key.specs.declared.limits.TheConstants.{MAX_TAGS}
+use Rattle.rr_line.proofs.GatheredLemmas.{tags_begin, tags_stop, tags_full, tags_go_on, tags_end, fewer_left}
+use Rattle.rr_line.proofs.tags.gather_tags.Goals as goal
+
+pub loop-text-init : goal.loop-text-init
+loop-text-init c = tags_begin c.new-tags.result.items c.args.text.now c.new-tags.ensures.items
+
+pub returns-in-Err : goal.returns-in-Err
+returns-in-Err c = tags_stop c.loop-text.tags.items c.loop-text.left.now c.args.text.now c.in-Some.text.now c.in-Err.fault c.loop-text.invariant (sym c.in-Some.ensures) c.in-Err.ensures
+
+pub returns-then-len-eq-MAX_TAGS : goal.returns-then-len-eq-MAX_TAGS
+returns-then-len-eq-MAX_TAGS c =
+    let full : length c.loop-text.tags.items ≡ MAX_TAGS = search rules in
+    tags_full c.loop-text.tags.items c.loop-text.left.now c.args.text.now c.in-Some.text.now ((c.in-Ok.read.0.0.now, c.in-Ok.read.0.1.now), c.in-Ok.read.1.now) c.loop-text.invariant (sym c.in-Some.ensures) c.in-Ok.ensures full
+
+pub loop-text-smaller : goal.loop-text-smaller
+loop-text-smaller c =
+    let room : length c.loop-text.tags.items ≡ MAX_TAGS → ⊥ = λ e. c.if-len-eq-MAX_TAGS.false (c.len.ensures ∙ search rules) in
+    fewer_left MAX_TAGS c.loop-text.tags.items c.push.new.self.items c.in-Ok.read.0 c.loop-text.invariant.0 c.loop-text.invariant.1 room c.in_ok-push.ensures.items
+
+pub loop-text-preserved : goal.loop-text-preserved
+loop-text-preserved c =
+    let room : length c.loop-text.tags.items ≡ MAX_TAGS → ⊥ = λ e. c.if-len-eq-MAX_TAGS.false (c.len.ensures ∙ search rules) in
+    tags_go_on c.loop-text.tags.items c.push.new.self.items c.loop-text.left.now c.args.text.now c.in-Some.text.now c.in-Ok.read.0 c.in-Ok.read.1.now c.loop-text.invariant (sym c.in-Some.ensures) c.in-Ok.ensures room c.in_ok-push.ensures.items
+
+pub returns : goal.returns
+returns c = tags_end c.loop-text.tags.items c.loop-text.left.now c.args.text.now c.loop-text.invariant (sym c.in_default.ensures)

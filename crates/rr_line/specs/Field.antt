@@ -1,0 +1,51 @@
+-- Fields: a comma stands between two.
+use Rattle.std.specs.Prelude.{◌≡◌, ℕ, ◌<◌, ℤ, true, false, List, [], ◌∷◌, ◌++◌, length}
+use Rattle.rr_key.specs.declared.class.Class.TheVariants.{Other}
+use Rattle.rr_line.specs.declared.delimiter.TheConstants.{COMMA, EQUALS}
+use Rattle.rr_line.specs.declared.fault.LineFault.{LineFault}
+use Rattle.rr_line.specs.declared.fault.LineFault.TheVariants.{MissingFieldKey, MissingFieldValue, TooManyFields, DuplicateField}
+use Rattle.rr_line.specs.declared.limits.TheConstants.{MAX_FIELDS}
+use Rattle.rr_line.specs.Part.{begins, IsName, HasNoName}
+use Rattle.rr_line.specs.Tag.{has_key}
+use Rattle.rr_line.specs.Value.{IsValue, ValueFault}
+
+-- a key, as it is written, and a value
+abbrev pub Field : Type 0
+Field = List ℕ × ℤ
+
+-- text = key "=" value rest
+pub record IsField (text : List ℕ) (field : Field) (rest : List ℕ) : Type 0 where
+  pub value_text : List ℕ
+  pub key : IsName Other text field.0 (EQUALS ∷ value_text)
+  pub value : IsValue value_text field.1 rest
+
+-- fields may stand before this one
+pub record MayStandBehind (before : List Field) (field : Field) : Type 0 where
+  pub few : length before < MAX_FIELDS
+  pub other : has_key before field.0 ≡ false
+
+-- text = { field "," } rest, behind the fields before
+abbrev pub LeadTo : List Field → List ℕ → List Field → List ℕ → Type 0
+LeadTo before text [] rest = text ≡ rest
+LeadTo before text (field ∷ fields) rest =
+    (next : List ℕ) × IsField text field (COMMA ∷ next) × MayStandBehind before field
+    × LeadTo (before ++ field ∷ []) next fields rest
+
+-- text = { field "," } field rest, and the rest begins with no comma
+pub record AreFields (text : List ℕ) (fields : List Field) (rest : List ℕ) : Type 0 where
+  pub front : List Field
+  pub last : Field
+  pub last_text : List ℕ
+  pub leading : LeadTo [] text front last_text
+  pub ends : IsField last_text last rest
+  pub new : MayStandBehind front last
+  pub ended : begins COMMA rest ≡ false
+  pub all : fields ≡ front ++ last ∷ []
+
+-- why no field is read behind the fields before
+pub data FieldFault (before : List Field) (text : List ℕ) (fault : LineFault) : Type 0 where
+  no_key : HasNoName Other text → fault ≡ MissingFieldKey → FieldFault before text fault
+  no_value : (key rest : List ℕ) → IsName Other text key rest → begins EQUALS rest ≡ false → fault ≡ MissingFieldValue → FieldFault before text fault
+  bad_value : (key value_text : List ℕ) → IsName Other text key (EQUALS ∷ value_text) → ValueFault value_text fault → FieldFault before text fault
+  too_many : (field : Field) (rest : List ℕ) → IsField text field rest → length before ≡ MAX_FIELDS → fault ≡ TooManyFields → FieldFault before text fault
+  repeated : (field : Field) (rest : List ℕ) → IsField text field rest → length before < MAX_FIELDS → has_key before field.0 ≡ true → fault ≡ DuplicateField → FieldFault before text fault

@@ -1,0 +1,58 @@
+-- What is gathered of a line before repeated keys are looked for, once for all of them: in a list that has a repeated
+-- key, that is the first fault.
+use Rattle.std.specs.Prelude.{ℕ, zero, suc, Bool, false, ◌||◌, List, [], ◌∷◌, ◌++◌, Option, None, Some, Result, Ok, Err}
+use Rattle.std.specs.Map.{keys_of}
+use Rattle.rr_key.specs.declared.limits.TheConstants.{MAX_TAGS}
+use Rattle.rr_key.specs.Reading.{strip}
+use Rattle.rr_line.specs.declared.delimiter.TheConstants.{COMMA}
+use Rattle.rr_line.specs.declared.fault.LineFault.{LineFault}
+use Rattle.rr_line.specs.declared.fault.LineFault.TheVariants.{TooManyTags, TooManyFields}
+use Rattle.rr_line.specs.declared.limits.TheConstants.{MAX_FIELDS}
+use Rattle.rr_line.specs.Field.{Field}
+use Rattle.rr_line.specs.Reading.{◌>>=◌, unless, after_comma, tag_at, field_at}
+use Rattle.rr_line.specs.Tag.{Tag, is_among}
+
+-- whether a name stands twice
+abbrev pub repeats : List (List ℕ) → Bool
+repeats [] = false
+repeats (name ∷ names) = is_among name names || repeats names
+
+-- whether a key stands twice among entries
+abbrev pub has_repeat : {V : Type 0} → List (List ℕ × V) → Bool
+has_repeat entries = repeats (keys_of entries)
+
+-- what is gathered, and what follows it or why nothing is
+abbrev pub Gathered : Type 0 → Type 0
+Gathered A = List A × Result (List ℕ) LineFault
+
+-- one part more, unless it is refused
+abbrev pub gather : {A : Type 0} → List A → Result (A × List ℕ) LineFault → (A → List ℕ → Gathered A) → Gathered A
+gather before (Ok (part, rest)) more = more part rest
+gather before (Err fault) more = (before, Err fault)
+
+-- the tags behind these, of which there may be so many more
+abbrev pub gathered_tags : ℕ → List Tag → List ℕ → Gathered Tag
+gathered_tags zero before text = after_comma (strip COMMA text) (before, Ok text) (λ tag_text.
+    gather before (tag_at tag_text) (λ tag rest. (before, Err TooManyTags)))
+gathered_tags (suc room) before text = after_comma (strip COMMA text) (before, Ok text) (λ tag_text.
+    gather before (tag_at tag_text) (λ tag rest. gathered_tags room (before ++ tag ∷ []) rest))
+
+-- the fields behind these, of which there may be so many more
+abbrev pub gathered_fields : ℕ → List Field → List ℕ → Gathered Field
+gathered_fields zero before text = gather before (field_at text) (λ field rest. (before, Err TooManyFields))
+gathered_fields (suc room) before text = gather before (field_at text) (λ field rest.
+    after_comma (strip COMMA rest) (before ++ field ∷ [], Ok rest) (λ next.
+    gathered_fields room (before ++ field ∷ []) next))
+
+-- the tags behind a measurement, as far as they are good
+unfoldable pub all_gathered_tags : List ℕ → Gathered Tag
+all_gathered_tags text = gathered_tags MAX_TAGS [] text
+
+-- the fields of a line, as far as they are good
+unfoldable pub all_gathered_fields : List ℕ → Gathered Field
+all_gathered_fields text = gathered_fields MAX_FIELDS [] text
+
+-- what was gathered and what follows it, unless a key stands twice
+abbrev pub without_repeat : {V : Type 0} → LineFault → Gathered (List ℕ × V) → Result (List (List ℕ × V) × List ℕ) LineFault
+without_repeat fault gathered =
+    unless fault (has_repeat gathered.0) (gathered.1 >>= λ rest. Ok (gathered.0, rest))

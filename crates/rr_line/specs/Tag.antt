@@ -1,0 +1,56 @@
+-- Tags: a comma stands before each.
+use Rattle.std.specs.Prelude.{◌≡◌, ℕ, ◌<◌, Bool, true, false, List, [], ◌∷◌, ◌++◌, length}
+use Rattle.std.specs.List.{list_any}
+use Rattle.std.specs.Map.{keys_of}
+use Rattle.std.specs.Ordering.{is_eq}
+use Rattle.rr_key.specs.declared.class.Class.TheVariants.{Other}
+use Rattle.rr_key.specs.declared.limits.TheConstants.{MAX_TAGS}
+use Rattle.rr_key.specs.Series.{bytes_cmp}
+use Rattle.rr_line.specs.declared.delimiter.TheConstants.{COMMA, EQUALS}
+use Rattle.rr_line.specs.declared.fault.LineFault.{LineFault}
+use Rattle.rr_line.specs.declared.fault.LineFault.TheVariants.{MissingTagKey, MissingTagValue, TooManyTags, DuplicateTag}
+use Rattle.rr_line.specs.Part.{begins, IsName, HasNoName}
+
+-- a key and a value, as they are written
+abbrev pub Tag : Type 0
+Tag = List ℕ × List ℕ
+
+-- text = key "=" value rest, and the rest begins with no "="
+pub record IsTag (text : List ℕ) (tag : Tag) (rest : List ℕ) : Type 0 where
+  pub value_text : List ℕ
+  pub key : IsName Other text tag.0 (EQUALS ∷ value_text)
+  pub value : IsName Other value_text tag.1 rest
+  pub ended : begins EQUALS rest ≡ false
+
+-- whether a name stands among others; a name is written in one way
+abbrev pub is_among : List ℕ → List (List ℕ) → Bool
+is_among name names = list_any (λ other. is_eq (bytes_cmp other name)) names
+
+-- whether a key stands among entries
+abbrev pub has_key : {V : Type 0} → List (List ℕ × V) → List ℕ → Bool
+has_key entries key = is_among key (keys_of entries)
+
+-- tags may stand before this one
+pub record MayStandBehind (before : List Tag) (tag : Tag) : Type 0 where
+  pub few : length before < MAX_TAGS
+  pub other : has_key before tag.0 ≡ false
+
+-- text = { "," tag } rest, behind the tags before
+abbrev pub AreTags : List Tag → List ℕ → List Tag → List ℕ → Type 0
+AreTags before text [] rest = text ≡ rest
+AreTags before text (tag ∷ tags) rest =
+    (tag_text next : List ℕ) × (text ≡ COMMA ∷ tag_text) × IsTag tag_text tag next × MayStandBehind before tag
+    × AreTags (before ++ tag ∷ []) next tags rest
+
+-- a key stands at the front, and no value behind it
+pub data HasNoTagValue (text : List ℕ) : Type 0 where
+  without_equals : (key rest : List ℕ) → IsName Other text key rest → begins EQUALS rest ≡ false → HasNoTagValue text
+  without_name : (key value_text : List ℕ) → IsName Other text key (EQUALS ∷ value_text) → HasNoName Other value_text → HasNoTagValue text
+  before_equals : (key value_text value rest : List ℕ) → IsName Other text key (EQUALS ∷ value_text) → IsName Other value_text value rest → begins EQUALS rest ≡ true → HasNoTagValue text
+
+-- why no tag is read behind a comma and the tags before
+pub data TagFault (before : List Tag) (text : List ℕ) (fault : LineFault) : Type 0 where
+  no_key : HasNoName Other text → fault ≡ MissingTagKey → TagFault before text fault
+  no_value : HasNoTagValue text → fault ≡ MissingTagValue → TagFault before text fault
+  too_many : (tag : Tag) (rest : List ℕ) → IsTag text tag rest → length before ≡ MAX_TAGS → fault ≡ TooManyTags → TagFault before text fault
+  repeated : (tag : Tag) (rest : List ℕ) → IsTag text tag rest → length before < MAX_TAGS → has_key before tag.0 ≡ true → fault ≡ DuplicateTag → TagFault before text fault

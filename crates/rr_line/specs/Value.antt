@@ -1,0 +1,114 @@
+-- Values of fields.
+use Rattle.std.specs.Prelude.{◌≡◌, ℕ, ℤ, Bool, true, false, ◌&&◌, ◌||◌, ◌==◌, List, [], ◌∷◌, ◌++◌, length, take, drop, codes, Option, None, Some, option_and_then, Result, Ok, Err, ok_or, nat_eq, if◌then◌else◌}
+use Rattle.std.specs.List.{list_any, position_or_len}
+use Rattle.std.specs.Cmp.Lexicographic.{pointwise}
+use Rattle.memchr.specs.Find.{is_byte2}
+use Rattle.rr_base.specs.Text.{cut_at, is_digits, unsigned, integer_at}
+use Rattle.rr_line.specs.declared.delimiter.TheConstants.{COMMA, SPACE, QUOTE, BACKSLASH, INTEGER_MARK, UNSIGNED_MARK, POINT, EXPONENT_MARK, GREAT_EXPONENT_MARK, PLUS, MINUS}
+use Rattle.rr_line.specs.declared.fault.LineFault.{LineFault}
+use Rattle.rr_line.specs.declared.fault.LineFault.TheVariants.{MissingFieldValue, BooleanField, IntegerRange, UnsignedField, FloatField, TextField, BadField}
+use Rattle.rr_line.specs.Part.{begins, before_last}
+
+-- true or false
+abbrev pub booleans : List (List ℕ)
+booleans =
+    codes "t" ∷ codes "T" ∷ codes "true" ∷ codes "True" ∷ codes "TRUE"
+    ∷ codes "f" ∷ codes "F" ∷ codes "false" ∷ codes "False" ∷ codes "FALSE" ∷ []
+
+abbrev pub is_boolean : List ℕ → Bool
+is_boolean text = list_any (λ word. pointwise nat_eq text word) booleans
+
+-- what holds of a text that is there
+abbrev pub has : (List ℕ → Bool) → Option (List ℕ) → Bool
+has test None = false
+has test (Some text) = test text
+
+-- an optional "-", digits, "i"
+abbrev pub is_integer : List ℕ → Bool
+is_integer text = has (λ digits. is_digits (unsigned digits)) (before_last INTEGER_MARK text)
+
+-- digits, "u"
+abbrev pub is_unsigned : List ℕ → Bool
+is_unsigned text = has is_digits (before_last UNSIGNED_MARK text)
+
+-- a text without the point that it may have
+abbrev pub joined : List ℕ → Option (List ℕ × List ℕ) → List ℕ
+joined text None = text
+joined text (Some (whole, part)) = whole ++ part
+
+-- digits, or digits "." digits where one side may be empty but not both
+abbrev pub is_mantissa : List ℕ → Bool
+is_mantissa text = is_digits (joined text (cut_at POINT text))
+
+-- a text without the sign that it may have
+abbrev pub without_sign : List ℕ → List ℕ
+without_sign [] = []
+without_sign (byte ∷ text) = if byte == PLUS || byte == MINUS then text else byte ∷ text
+
+-- nothing, or "e" or "E", an optional sign, digits
+abbrev pub is_exponent : List ℕ → Bool
+is_exponent [] = true
+is_exponent (mark ∷ text) = is_digits (without_sign text)
+
+-- how many bytes stand before the first "e" or "E", or how many there are
+abbrev pub mantissa_len : List ℕ → ℕ
+mantissa_len text = position_or_len (is_byte2 EXPONENT_MARK GREAT_EXPONENT_MARK) text
+
+-- an optional "-", a mantissa and an exponent
+abbrev pub is_float : List ℕ → Bool
+is_float text =
+    is_mantissa (unsigned (take (mantissa_len text) text)) && is_exponent (drop (mantissa_len text) text)
+
+-- why a value that is no integer is refused
+abbrev pub kind_fault : List ℕ → LineFault
+kind_fault text =
+    if length text == 0 then MissingFieldValue
+    else (if is_boolean text then BooleanField
+    else (if is_unsigned text then UnsignedField
+    else (if is_float text then FloatField else BadField)))
+
+-- a value that is not quoted
+abbrev pub value_of : List ℕ → Result ℤ LineFault
+value_of text =
+    if is_integer text then ok_or (option_and_then integer_at (before_last INTEGER_MARK text)) IntegerRange
+    else Err (kind_fault text)
+
+-- how many bytes stand before the first comma or space, or how many there are
+abbrev pub value_len : List ℕ → ℕ
+value_len text = position_or_len (is_byte2 COMMA SPACE) text
+
+-- what follows a byte of a text and the byte that it takes: a backslash takes a quote or a backslash
+abbrev pub behind_unit : ℕ → List ℕ → List ℕ
+behind_unit first [] = []
+behind_unit first (next ∷ rest) = if first == BACKSLASH && is_byte2 QUOTE BACKSLASH next then rest else next ∷ rest
+
+-- what follows the quote that ends a text; a backslash before a quote or a backslash takes both
+abbrev pub after_quote : List ℕ → Option (List ℕ)
+after_quote [] = None
+after_quote (byte ∷ []) = if byte == QUOTE then Some [] else None
+after_quote (byte ∷ next ∷ rest) =
+    if byte == BACKSLASH && is_byte2 QUOTE BACKSLASH next then after_quote rest
+    else (if byte == QUOTE then Some (next ∷ rest) else after_quote (next ∷ rest))
+
+-- a text value goes up to a quote that a comma, a space or the end follows
+abbrev pub is_text : List ℕ → Bool
+is_text text = has (λ rest. value_len rest == 0) (after_quote (drop 1 text))
+
+-- why a value that begins with a quote is refused
+abbrev pub quoted_fault : List ℕ → LineFault
+quoted_fault text = if is_text text then TextField else BadField
+
+-- text = value rest; the value is not quoted, and ends before a comma, a space or the end
+pub record IsBare (text value rest : List ℕ) : Type 0 where
+  pub bare : begins QUOTE text ≡ false
+  pub len : value_len text ≡ length value
+  pub whole : text ≡ value ++ rest
+
+-- text = value rest, where the value is an integer
+abbrev pub IsValue : List ℕ → ℤ → List ℕ → Type 0
+IsValue text number rest = (value : List ℕ) × IsBare text value rest × (value_of value ≡ Ok number)
+
+-- why the value is refused
+pub data ValueFault (text : List ℕ) (fault : LineFault) : Type 0 where
+  quoted : begins QUOTE text ≡ true → fault ≡ quoted_fault text → ValueFault text fault
+  unquoted : (value rest : List ℕ) → IsBare text value rest → value_of value ≡ Err fault → ValueFault text fault

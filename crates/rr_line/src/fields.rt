@@ -1,0 +1,67 @@
+//! The fields of a line.
+
+ghost use Rattle.std.specs.Prelude.{◌≡◌, IfOk};
+ghost use Rattle.rr_line.specs.Answer.{Gives, GivesUnlessMemory, rest_view};
+ghost use Rattle.rr_line.specs.Gathering.{all_gathered_fields};
+ghost use Rattle.rr_line.specs.Line.{fields_view};
+ghost use Rattle.rr_line.specs.Reading.{field_at, all_fields_at};
+
+use crate::delimiter::{COMMA, EQUALS};
+use crate::fault::LineFault;
+use crate::limits::MAX_FIELDS;
+use crate::part::{read_name, strip};
+use crate::repeat::has_repeat;
+use crate::value::read_value;
+use rr_key::Class;
+use std::alloc::{AllocError, Global};
+
+/// The fields at the front, and what follows them.
+pub(crate) fn read_fields<'a>(
+    alloc: Global,
+    text: &'a [u8],
+) -> Result<(Vec<(&'a [u8], i64)>, &'a [u8]), LineFault>
+    ensures { GivesUnlessMemory (λ fields. (fields_view fields.0.items, fields.1.now)) result (all_fields_at text.now) }
+{
+    let (fields, rest) = gather_fields(alloc, text)?;
+    if has_repeat(&fields) {
+        return Err(LineFault::DuplicateField);
+    }
+    let rest = rest?;
+    Ok((fields, rest))
+}
+
+/// The fields at the front, up to the first that is refused, and what follows them or why it is.
+fn gather_fields<'a>(
+    alloc: Global,
+    text: &'a [u8],
+) -> Result<(Vec<(&'a [u8], i64)>, Result<&'a [u8], LineFault>), AllocError>
+    ensures { IfOk result (λ fields. (fields_view fields.0.items, rest_view fields.1) ≡ all_gathered_fields text.now) }
+{
+    let mut fields = Vec::new(alloc);
+    let mut left = text;
+    loop {
+        let (field, rest) = match read_field(left) {
+            Ok(read) => read,
+            Err(fault) => return Ok((fields, Err(fault))),
+        };
+        if fields.len() == MAX_FIELDS {
+            return Ok((fields, Err(LineFault::TooManyFields)));
+        }
+        fields.push(field)?;
+        match strip(COMMA, rest) {
+            Some(next) => left = next,
+            None => return Ok((fields, Ok(rest))),
+        }
+    }
+}
+
+/// A field, and what follows it.
+#[tactic(auto, unfolding(crate::specs::Reading::field_at))]
+fn read_field(text: &[u8]) -> Result<((&[u8], i64), &[u8]), LineFault>
+    ensures { Gives (λ field. ((field.0.0.now, field.0.1), field.1.now)) result (field_at text.now) }
+{
+    let (key, rest) = read_name(Class::Other, LineFault::MissingFieldKey, text)?;
+    let value = strip(EQUALS, rest).ok_or(LineFault::MissingFieldValue)?;
+    let (value, rest) = read_value(value)?;
+    Ok(((key, value), rest))
+}

@@ -1,0 +1,62 @@
+//! The series of a point's fields.
+
+ghost use Rattle.std.specs.Prelude.{◌≡◌, None, IfOk, map};
+ghost use Rattle.rr_key.specs.declared.class.Class.TheVariants.{Other};
+ghost use Rattle.rr_key.specs.Making.{making_fault, tags_of};
+ghost use Rattle.rr_key.specs.Unit.{unescape};
+ghost use Rattle.rr_line.specs.Key.{names_of, key_text, tags_unescaped, tag_names};
+ghost use Rattle.rr_line.specs.Line.{point_view};
+
+use crate::line::Point;
+use rr_key::{Class, SeriesKey, unescape};
+use std::alloc::{AllocError, Global};
+
+impl<'a> Point<'a> {
+    /// The key of the series of one of the point's fields: its names, unescaped, as
+    /// [`SeriesKey::new`] writes them.
+    ///
+    /// The cost is that of one pass over the names and of sorting the tags; each name is copied.
+    pub fn series_key(&self, alloc: Global, field: &[u8]) -> Result<SeriesKey, AllocError>
+        requires { making_fault (names_of (point_view self.now) field.now) ≡ None }
+        ensures { IfOk result (λ key. key ≡ key_text (point_view self.now) field.now) }
+    {
+        let measurement = unescape(alloc, Class::Measurement, self.measurement)?;
+        let tags = unescape_tags(alloc, &self.tags)?;
+        let field = unescape(alloc, Class::Other, field)?;
+        let slices = slices_of(alloc, &tags)?;
+        match SeriesKey::new(alloc, &measurement, &slices, &field) {
+            Ok(key) => Ok(key),
+            Err(_) => Err(AllocError),
+        }
+    }
+}
+
+/// The names of tags, unescaped.
+fn unescape_tags(
+    alloc: Global,
+    tags: &[(&[u8], &[u8])],
+) -> Result<Vec<(Vec<u8>, Vec<u8>)>, AllocError>
+    ensures { IfOk result (λ names. tag_names names.items ≡ tags_unescaped (tags_of tags.now)) }
+{
+    let mut names = Vec::new(alloc);
+    for tag in tags {
+        let key = unescape(alloc, Class::Other, tag.0)?;
+        let value = unescape(alloc, Class::Other, tag.1)?;
+        names.push((key, value))?;
+    }
+    Ok(names)
+}
+
+/// Names as slices.
+fn slices_of<'a>(
+    alloc: Global,
+    names: &'a [(Vec<u8>, Vec<u8>)],
+) -> Result<Vec<(&'a [u8], &'a [u8])>, AllocError>
+    ensures { IfOk result (λ slices. tags_of slices.items ≡ tag_names names.now) }
+{
+    let mut slices = Vec::new(alloc);
+    for name in names {
+        slices.push((name.0.as_slice(), name.1.as_slice()))?;
+    }
+    Ok(slices)
+}

@@ -1,0 +1,73 @@
+//! The parts of a line: what stands at the front of a text, and what follows it.
+
+ghost use Rattle.std.specs.Prelude.{◌≡◌, ◌≤◌, length, option_map};
+ghost use Rattle.rr_key.specs.Reading.{strip};
+ghost use Rattle.rr_line.specs.Answer.{Gives};
+ghost use Rattle.rr_line.specs.Part.{begins, skip_spaces, before_last, content};
+ghost use Rattle.rr_line.specs.Reading.{name_at};
+
+use crate::delimiter::{RETURN, SPACE};
+use crate::fault::LineFault;
+use rr_key::{Class, name_len};
+
+/// What follows a byte at the front.
+pub(crate) fn strip(byte: u8, text: &[u8]) -> Option<&[u8]>
+    ensures { option_map (λ rest. rest.now) result ≡ strip byte text.now }
+{
+    match text {
+        [first, rest @ ..] if *first == byte => Some(rest),
+        _ => None,
+    }
+}
+
+/// Whether a byte stands at the front.
+pub(crate) fn begins(byte: u8, text: &[u8]) -> bool
+    ensures { result ≡ begins byte text.now }
+{
+    matches!(text, [first, ..] if *first == byte)
+}
+
+/// The text behind the spaces at its front.
+pub(crate) fn skip_spaces(text: &[u8]) -> &[u8]
+    ensures { result.now ≡ skip_spaces text.now }
+{
+    let mut left = text;
+    while let [SPACE, rest @ ..] = left {
+        left = rest;
+    }
+    left
+}
+
+/// The text before a byte that ends it.
+pub(crate) fn before_last(byte: u8, text: &[u8]) -> Option<&[u8]>
+    ensures { option_map (λ front. front.now) result ≡ before_last byte text.now }
+{
+    match text {
+        [front @ .., last] => { if *last == byte { Some(front) } else { None } }
+        [] => None,
+    }
+}
+
+/// A line without the carriage return at its end and the spaces at its front.
+pub(crate) fn content(line: &[u8]) -> &[u8]
+    ensures { result.now ≡ content line.now }
+{
+    match before_last(RETURN, line) {
+        Some(front) => skip_spaces(front),
+        None => skip_spaces(line),
+    }
+}
+
+/// The name at the front, and what follows it; where there is none, the line is refused.
+pub(crate) fn read_name(
+    class: Class,
+    missing: LineFault,
+    text: &[u8],
+) -> Result<(&[u8], &[u8]), LineFault>
+    ensures { Gives (λ name. (name.0.now, name.1.now)) result (name_at class missing text.now) }
+{
+    match name_len(class, text) {
+        0 => Err(missing),
+        len => Ok(text.split_at(len)),
+    }
+}

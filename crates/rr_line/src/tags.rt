@@ -1,0 +1,66 @@
+//! The tags of a line.
+
+ghost use Rattle.std.specs.Prelude.{◌≡◌, IfOk};
+ghost use Rattle.rr_key.specs.Making.{tags_of};
+ghost use Rattle.rr_line.specs.Answer.{Gives, GivesUnlessMemory, rest_view};
+ghost use Rattle.rr_line.specs.Gathering.{all_gathered_tags};
+ghost use Rattle.rr_line.specs.Reading.{tag_at, all_tags_at};
+
+use crate::delimiter::{COMMA, EQUALS};
+use crate::fault::LineFault;
+use crate::part::{begins, read_name, strip};
+use crate::repeat::has_repeat;
+use rr_key::{Class, MAX_TAGS};
+use std::alloc::{AllocError, Global};
+
+/// The tags behind a measurement, and what follows them.
+pub(crate) fn read_tags<'a>(
+    alloc: Global,
+    text: &'a [u8],
+) -> Result<(Vec<(&'a [u8], &'a [u8])>, &'a [u8]), LineFault>
+    ensures { GivesUnlessMemory (λ tags. (tags_of tags.0.items, tags.1.now)) result (all_tags_at text.now) }
+{
+    let (tags, rest) = gather_tags(alloc, text)?;
+    if has_repeat(&tags) {
+        return Err(LineFault::DuplicateTag);
+    }
+    let rest = rest?;
+    Ok((tags, rest))
+}
+
+/// The tags at the front, up to the first that is refused, and what follows them or why it is.
+fn gather_tags<'a>(
+    alloc: Global,
+    text: &'a [u8],
+) -> Result<(Vec<(&'a [u8], &'a [u8])>, Result<&'a [u8], LineFault>), AllocError>
+    ensures { IfOk result (λ tags. (tags_of tags.0.items, rest_view tags.1) ≡ all_gathered_tags text.now) }
+{
+    let mut tags = Vec::new(alloc);
+    let mut left = text;
+    while let Some(text) = strip(COMMA, left) {
+        let (tag, rest) = match read_tag(text) {
+            Ok(read) => read,
+            Err(fault) => return Ok((tags, Err(fault))),
+        };
+        if tags.len() == MAX_TAGS {
+            return Ok((tags, Err(LineFault::TooManyTags)));
+        }
+        tags.push(tag)?;
+        left = rest;
+    }
+    Ok((tags, Ok(left)))
+}
+
+/// A tag behind its comma, and what follows it.
+#[tactic(auto, unfolding(crate::specs::Reading::tag_at))]
+fn read_tag(text: &[u8]) -> Result<((&[u8], &[u8]), &[u8]), LineFault>
+    ensures { Gives (λ tag. ((tag.0.0.now, tag.0.1.now), tag.1.now)) result (tag_at text.now) }
+{
+    let (key, rest) = read_name(Class::Other, LineFault::MissingTagKey, text)?;
+    let value = strip(EQUALS, rest).ok_or(LineFault::MissingTagValue)?;
+    let (value, rest) = read_name(Class::Other, LineFault::MissingTagValue, value)?;
+    if begins(EQUALS, rest) {
+        return Err(LineFault::MissingTagValue);
+    }
+    Ok(((key, value), rest))
+}

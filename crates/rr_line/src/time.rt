@@ -1,0 +1,58 @@
+//! The time of a line, and its end.
+
+ghost use Rattle.std.specs.Prelude.{◌≡◌, ◌≤◌, length, true, ok_or};
+ghost use Rattle.rr_base.specs.Text.{is_digits};
+ghost use Rattle.rr_base.specs.Text as text;
+ghost use Rattle.rr_line.specs.Part.{skip_spaces};
+ghost use Rattle.rr_line.specs.Reading.{time_at, word_time, ending_at};
+ghost use Rattle.rr_line.specs.Time.{word_len};
+
+use crate::delimiter::SPACE;
+use crate::fault::LineFault;
+use crate::part::skip_spaces;
+use crate::precision::Precision;
+use memchr::memchr;
+use rr_base::text::{integer, is_digits, unsigned};
+
+/// The time behind the fields, in nanoseconds, if there is one.
+pub(crate) fn read_ending(precision: Precision, ending: &[u8]) -> Result<Option<i64>, LineFault>
+    ensures { result ≡ ending_at precision (skip_spaces ending.now) }
+{
+    let text = skip_spaces(ending);
+    if text.is_empty() {
+        return Ok(None);
+    }
+    let (word, rest) = text.split_at(word_len(text));
+    let time = read_time(precision, word, rest)?;
+    Ok(Some(time))
+}
+
+/// How many bytes stand before the first space, or how many there are.
+fn word_len(text: &[u8]) -> usize
+    ensures value { result ≡ word_len text.now }
+    ensures within { result ≤ length text.now }
+{
+    match memchr(SPACE, text) {
+        Some(at) => at,
+        None => text.len(),
+    }
+}
+
+/// The time of a word that nothing but spaces follows.
+fn read_time(precision: Precision, word: &[u8], rest: &[u8]) -> Result<i64, LineFault>
+    ensures { result ≡ word_time precision word.now rest.now }
+{
+    if !is_digits(unsigned(word)) || !skip_spaces(rest).is_empty() {
+        return Err(LineFault::BadTime);
+    }
+    nanoseconds(precision, word).ok_or(LineFault::TimeRange)
+}
+
+/// The nanoseconds that an integer writes, if they are in `i64`.
+fn nanoseconds(precision: Precision, word: &[u8]) -> Option<i64>
+    requires { is_digits (text.unsigned word.now) ≡ true }
+    ensures { ok_or result LineFault.TimeRange ≡ time_at precision word.now }
+{
+    let number = integer(word)?;
+    number.checked_mul(precision.nanoseconds())
+}
