@@ -14,4 +14,5 @@ pub mod KeyLemmas
 pub mod FrontLemmas
 pub mod ReadPointLemmas
 pub mod LineLemmas
+pub mod SortedLemmas
 pub mod LineFeedLemmas

@@ -1,9 +1,11 @@
 -- What is gathered of a line before repeated keys are looked for, once for all of them: in a list that has a repeated
 -- key, that is the first fault.
-use Rattle.std.specs.Prelude.{ℕ, zero, suc, Bool, false, ◌||◌, List, [], ◌∷◌, ◌++◌, Option, None, Some, Result, Ok, Err}
+use Rattle.std.specs.Prelude.{ℕ, zero, suc, Bool, true, false, ◌&&◌, ◌||◌, List, [], ◌∷◌, ◌++◌, Option, None, Some, Result, Ok, Err}
 use Rattle.std.specs.Map.{keys_of}
+use Rattle.std.specs.Ordering.{is_lt}
 use Rattle.rr_key.specs.declared.limits.TheConstants.{MAX_TAGS}
 use Rattle.rr_key.specs.Reading.{strip}
+use Rattle.rr_key.specs.Series.{bytes_cmp}
 use Rattle.rr_line.specs.declared.delimiter.TheConstants.{COMMA}
 use Rattle.rr_line.specs.declared.fault.LineFault.{LineFault}
 use Rattle.rr_line.specs.declared.fault.LineFault.TheVariants.{TooManyTags, TooManyFields}
@@ -16,6 +18,16 @@ use Rattle.rr_line.specs.Tag.{Tag, is_among}
 abbrev pub repeats : List (List ℕ) → Bool
 repeats [] = false
 repeats (name ∷ names) = is_among name names || repeats names
+
+-- whether a name is below the first of others, if there is one
+abbrev pub is_below : List ℕ → List (List ℕ) → Bool
+is_below name [] = true
+is_below name (next ∷ others) = is_lt (bytes_cmp name next)
+
+-- whether each name is above the one before it
+abbrev pub rise : List (List ℕ) → Bool
+rise [] = true
+rise (name ∷ names) = is_below name names && rise names
 
 -- whether a key stands twice among entries
 abbrev pub has_repeat : {V : Type 0} → List (List ℕ × V) → Bool

@@ -1,6 +1,7 @@
 //! The fields of a line.
 
-ghost use Rattle.std.specs.Prelude.{◌≡◌, IfOk};
+ghost use Rattle.std.specs.Prelude.{◌≡◌, ◌≤◌, length, IfOk};
+ghost use Rattle.rr_line.specs.declared.limits.TheConstants.{MAX_FIELDS};
 ghost use Rattle.rr_line.specs.Answer.{Gives, GivesUnlessMemory, rest_view};
 ghost use Rattle.rr_line.specs.Gathering.{all_gathered_fields};
 ghost use Rattle.rr_line.specs.Line.{fields_view};
@@ -35,7 +36,8 @@ fn gather_fields<'a>(
     alloc: Global,
     text: &'a [u8],
 ) -> Result<(Vec<(&'a [u8], i64)>, Result<&'a [u8], LineFault>), AllocError>
-    ensures { IfOk result (λ fields. (fields_view fields.0.items, rest_view fields.1) ≡ all_gathered_fields text.now) }
+    ensures gathered { IfOk result (λ fields. (fields_view fields.0.items, rest_view fields.1) ≡ all_gathered_fields text.now) }
+    ensures few { IfOk result (λ fields. length fields.0.items ≤ MAX_FIELDS) }
 {
     let mut fields = Vec::new(alloc);
     let mut left = text;

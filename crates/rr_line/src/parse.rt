@@ -27,8 +27,9 @@ use std::alloc::Global;
 /// of the "InfluxDB line protocol reference" and of the crate's page; of the faults of a line, the
 /// first one as it is read is answered. `Memory` is answered where memory runs out, and there alone.
 ///
-/// The cost is that of a few passes over the line, and of sorting the keys of its tags and fields
-/// where these are many and do not rise. Memory is taken for the lists of tags and fields alone.
+/// The cost is that of a few passes over the line, and of comparing the keys of its tags, and those
+/// of its fields, pair by pair; where there are more than 16 they are sorted. Memory is taken for
+/// the lists of tags and fields alone.
 pub fn parse_line<'a>(
     alloc: Global,
     line: &'a [u8],

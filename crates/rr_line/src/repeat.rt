@@ -1,11 +1,29 @@
 //! Keys that stand twice.
 
-ghost use Rattle.std.specs.Prelude.{◌≡◌, ◌≤◌, map, length};
-ghost use Rattle.rr_line.specs.Gathering.{repeats};
+ghost use Rattle.std.specs.Prelude.{◌≡◌, ◌≤◌, not, map, length};
+ghost use Rattle.rr_line.specs.declared.limits.TheConstants.{MAX_FIELDS};
+ghost use Rattle.rr_line.specs.Gathering.{is_below, repeats, rise};
 ghost use Rattle.rr_line.specs.Tag.{is_among};
+
+use crate::limits::MAX_FIELDS;
+
+/// The most keys that are compared pair by pair. More of them are sorted.
+const FEW: usize = 16;
 
 /// Whether a key stands twice among entries.
 pub(crate) fn has_repeat<T>(entries: &[(&[u8], T)]) -> bool
+    requires { length entries.now ≤ MAX_FIELDS }
+    ensures { result ≡ repeats (map (λ entry. entry.0.now) entries.now) }
+{
+    if entries.len() <= FEW {
+        has_repeat_among_few(entries)
+    } else {
+        has_repeat_among_many(entries)
+    }
+}
+
+/// The same, pair by pair.
+fn has_repeat_among_few<T>(entries: &[(&[u8], T)]) -> bool
     ensures { result ≡ repeats (map (λ entry. entry.0.now) entries.now) }
 {
     let mut left = entries;
@@ -16,6 +34,52 @@ pub(crate) fn has_repeat<T>(entries: &[(&[u8], T)]) -> bool
         left = others;
     }
     false
+}
+
+/// The same, by the keys in order.
+fn has_repeat_among_many<T>(entries: &[(&[u8], T)]) -> bool
+    requires { length entries.now ≤ MAX_FIELDS }
+    ensures { result ≡ repeats (map (λ entry. entry.0.now) entries.now) }
+{
+    let mut keys: [&[u8]; MAX_FIELDS] = [b""; MAX_FIELDS];
+    let mut count = 0;
+    for entry in entries {
+        keys[count] = entry.0;
+        count += 1;
+    }
+    has_repeat_once_sorted(&mut keys[..count])
+}
+
+/// Whether a key stands twice among keys, which are sorted.
+fn has_repeat_once_sorted(keys: &mut [&[u8]]) -> bool
+    ensures { result ≡ repeats (map (λ key. key.now) keys.old) }
+{
+    keys.sort_unstable();
+    !rise(keys)
+}
+
+/// Whether each key is above the one before it.
+fn rise(keys: &[&[u8]]) -> bool
+    ensures { result ≡ rise (map (λ key. key.now) keys.now) }
+{
+    let mut left = keys;
+    while let [first, others @ ..] = left {
+        if !is_below(first, others) {
+            return false;
+        }
+        left = others;
+    }
+    true
+}
+
+/// Whether a key is below the first of others, if there is one.
+fn is_below(key: &[u8], others: &[&[u8]]) -> bool
+    ensures { result ≡ is_below key.now (map (λ other. other.now) others.now) }
+{
+    match others {
+        [next, ..] => key.cmp(next).is_lt(),
+        [] => true,
+    }
 }
 
 /// Whether a key stands among entries.

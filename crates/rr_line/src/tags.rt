@@ -1,7 +1,8 @@
 //! The tags of a line.
 
-ghost use Rattle.std.specs.Prelude.{◌≡◌, IfOk};
+ghost use Rattle.std.specs.Prelude.{◌≡◌, ◌≤◌, length, IfOk};
 ghost use Rattle.rr_key.specs.Making.{tags_of};
+ghost use Rattle.rr_key.specs.declared.limits.TheConstants.{MAX_TAGS};
 ghost use Rattle.rr_line.specs.Answer.{Gives, GivesUnlessMemory, rest_view};
 ghost use Rattle.rr_line.specs.Gathering.{all_gathered_tags};
 ghost use Rattle.rr_line.specs.Reading.{tag_at, all_tags_at};
@@ -33,7 +34,8 @@ fn gather_tags<'a>(
     alloc: Global,
     text: &'a [u8],
 ) -> Result<(Vec<(&'a [u8], &'a [u8])>, Result<&'a [u8], LineFault>), AllocError>
-    ensures { IfOk result (λ tags. (tags_of tags.0.items, rest_view tags.1) ≡ all_gathered_tags text.now) }
+    ensures gathered { IfOk result (λ tags. (tags_of tags.0.items, rest_view tags.1) ≡ all_gathered_tags text.now) }
+    ensures few { IfOk result (λ tags. length tags.0.items ≤ MAX_TAGS) }
 {
     let mut tags = Vec::new(alloc);
     let mut left = text;

@@ -7,11 +7,11 @@ use Rattle.rr_line.proofs.fields.gather_fields.Goals as goal
 pub loop-read-init : goal.loop-read-init
 loop-read-init c = fields_begin c.new-fields.result.items c.args.text.now c.new-fields.ensures.items
 
-pub returns-in-Err : goal.returns-in-Err
-returns-in-Err c = fields_stop c.loop-read.fields.items c.loop-read.left.now c.args.text.now c.in-Err.fault c.loop-read.invariant c.in-Err.ensures
+pub returns-in-Err-clause-gathered : goal.returns-in-Err-clause-gathered
+returns-in-Err-clause-gathered c = fields_stop c.loop-read.fields.items c.loop-read.left.now c.args.text.now c.in-Err.fault c.loop-read.invariant c.in-Err.ensures
 
-pub returns-then-len-eq-MAX_FIELDS : goal.returns-then-len-eq-MAX_FIELDS
-returns-then-len-eq-MAX_FIELDS c =
+pub returns-then-len-eq-MAX_FIELDS-clause-gathered : goal.returns-then-len-eq-MAX_FIELDS-clause-gathered
+returns-then-len-eq-MAX_FIELDS-clause-gathered c =
     let full : length c.loop-read.fields.items ≡ MAX_FIELDS = search rules in
     fields_full c.loop-read.fields.items c.loop-read.left.now c.args.text.now ((c.in-Ok.read.0.0.now, c.in-Ok.read.0.1), c.in-Ok.read.1.now) c.loop-read.invariant c.in-Ok.ensures full
 
@@ -25,7 +25,7 @@ loop-read-preserved c =
     let room : length c.loop-read.fields.items ≡ MAX_FIELDS → ⊥ = λ e. c.if-len-eq-MAX_FIELDS.false (c.len.ensures ∙ search rules) in
     fields_go_on c.loop-read.fields.items c.push.new.self.items c.loop-read.left.now c.args.text.now c.in-Ok.read.0 c.in-Ok.read.1.now c.in-Some.next.now c.loop-read.invariant c.in-Ok.ensures room c.in_ok-push.ensures.items (sym c.in-Some.ensures)
 
-pub returns-in-None : goal.returns-in-None
-returns-in-None c =
+pub returns-in-None-clause-gathered : goal.returns-in-None-clause-gathered
+returns-in-None-clause-gathered c =
     let room : length c.loop-read.fields.items ≡ MAX_FIELDS → ⊥ = λ e. c.if-len-eq-MAX_FIELDS.false (c.len.ensures ∙ search rules) in
     fields_end c.loop-read.fields.items c.push.new.self.items c.loop-read.left.now c.args.text.now c.in-Ok.read.0 c.in-Ok.read.1.now c.loop-read.invariant c.in-Ok.ensures room c.in_ok-push.ensures.items (sym c.in-None.ensures)

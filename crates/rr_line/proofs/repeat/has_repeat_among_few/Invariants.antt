@@ -1,6 +1,6 @@
 use Rattle.std.proofs.Common.{◌≡◌, map, length}
 use Rattle.rr_line.specs.Gathering.{repeats}
-use Rattle.rr_line.proofs.repeat.has_repeat.Given as goal
+use Rattle.rr_line.proofs.repeat.has_repeat_among_few.Given as goal
 
 abbrev pub invariant-loop-left : goal.invariant-loop-left
 invariant-loop-left g l = repeats (map (λ entry. entry.0.now) l.left) ≡ repeats (map (λ entry. entry.0.now) l.entries)
