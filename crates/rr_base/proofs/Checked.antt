@@ -1,10 +1,10 @@
 -- A schema without a fault is within the limits.
-use Rattle.std.proofs.Common.{◌≡◌, ℕ, zero, suc, ◌<◌, ◌≤◌, Bool, true, false, ◌||◌, cond, eqb, leb, List, [], ◌∷◌, length, get_or, Option, Some, None, refl, arith, add-one}
+use Rattle.std.proofs.Common.{◌≡◌, ℕ, zero, suc, ◌<◌, ◌≤◌, Bool, true, false, ◌||◌, cond, eqb, leb, List, [], ◌∷◌, length, Option, Some, None, refl, arith, add-one}
 use Rattle.std.specs.List.{All}
 use Rattle.std.proofs.lemmas.Bool.{eqb-false, leb-false}
 use Rattle.rr_base.specs.declared.archive.ArchiveSpec.{ArchiveSpec}
 use Rattle.rr_base.specs.declared.fault.SchemaFault.{SchemaFault}
-use Rattle.rr_base.specs.Schema.{IsArchive, IsLayout, IsSingle}
+use Rattle.rr_base.specs.Schema.{IsArchive, IsLayout}
 use Rattle.rr_base.specs.Check.{archive_fault, archives_fault, schema_fault, first_fault}
 use Rattle.rr_base.proofs.Rising.{Rise}
 
@@ -92,31 +92,4 @@ checked_layout step archives h =
       few_archives = omega arith;
       each = rest.1;
       rising = rest.2;
-    }
-
-one_step : (before : ℕ) (a : ArchiveSpec) → archive_fault before a ≡ None → a.steps ≡ 1
-one_step before a h =
-    let steps = none_found _ _ _ h in
-    let few = in_limit a.steps _ steps.0 in
-    omega (arith, few.0, few.1)
-
-first_step : (archives : List ArchiveSpec) → 1 ≤ length archives → archives_fault 0 archives ≡ None → (get_or archives 0 (record { steps = 1; rows = 1; num = 0; den = 1 })).steps ≡ 1
-first_step [] some h = refl
-first_step (a ∷ others) some h = one_step 0 a ((none_first _ _ h).0)
-
-passes : (step : ℕ) (archives : List ArchiveSpec) → schema_fault step archives ≡ None → (eqb (length archives) 0 ≡ false) × (leb 2 (length archives) ≡ false) × (archives_fault 0 archives ≡ None)
-passes step archives h =
-    let in_day = none_found _ _ _ h in
-    let some = none_found _ _ _ in_day.1 in
-    let few = none_found _ _ _ some.1 in
-    (some.0, few.0, few.1)
-
-pub checked_single : (step : ℕ) (archives : List ArchiveSpec) → schema_fault step archives ≡ None → IsSingle (record { step = step; archives = archives })
-checked_single step archives h =
-    let parts = passes step archives h in
-    let some = eqb-false (length archives) 0 parts.0 in
-    let few = leb-false 2 (length archives) parts.1 in
-    record {
-      archives = omega arith;
-      steps = first_step archives (omega arith) parts.2;
     }

@@ -4,3 +4,5 @@ pub mod PlaceLemmas
 pub mod Checked
 pub mod CutLemmas
 pub mod IntegerLemmas
+pub mod StreamLemmas
+pub mod DocumentLemmas

@@ -9,6 +9,9 @@ abbrev pub origin_fault_name : OriginFault → List ℕ
 origin_fault_name origin.BadOrigin = codes "BadOrigin"
 
 abbrev pub schema_fault_name : SchemaFault → List ℕ
+schema_fault_name schema.BadToml = codes "BadToml"
+schema_fault_name schema.MissingField = codes "MissingField"
+schema_fault_name schema.WrongKind = codes "WrongKind"
 schema_fault_name schema.BadStep = codes "BadStep"
 schema_fault_name schema.NoArchive = codes "NoArchive"
 schema_fault_name schema.TooManyArchives = codes "TooManyArchives"

@@ -3,3 +3,6 @@ pub mod Fault
 pub mod Check
 pub mod Choice
 pub mod Text
+pub mod Counted
+pub mod Stream
+pub mod Document

@@ -1,5 +1,5 @@
 -- The schema of a store: its archives, and where a time falls in them.
-use Rattle.std.specs.Prelude.{◌≡◌, ℕ, ℤ, pos, ◌+◌, ◌-◌, ◌*◌, ◌*ℤ◌, ◌-ℤ◌, ◌<◌, ◌≤◌, nat_le, Bool, List, [], ◌∷◌, length, map, All, slice_index_or, unsigned_abs, if◌then◌else◌}
+use Rattle.std.specs.Prelude.{ℕ, ℤ, pos, ◌+◌, ◌-◌, ◌*◌, ◌*ℤ◌, ◌-ℤ◌, ◌<◌, ◌≤◌, nat_le, Bool, List, [], ◌∷◌, length, map, All, slice_index_or, unsigned_abs, if◌then◌else◌}
 use Rattle.std.specs.Int.{int_div_euclid}
 use Rattle.std.specs.List.Sorted.{IsStrictlyIncreasing}
 use Rattle.rr_base.specs.declared.archive.ArchiveSpec.{ArchiveSpec}
@@ -31,11 +31,6 @@ pub record IsLayout (s : Layout) : Type 0 where
 -- the archive with a number, from 0; past the last, one of one step and one row
 abbrev pub archive_at : Layout → ℕ → ArchiveSpec
 archive_at s i = slice_index_or s.archives i (record { steps = 1; rows = 1; num = 0; den = 1 })
-
--- one archive, of one step a row: all that is taken today
-pub record IsSingle (s : Layout) : Type 0 where
-  pub archives : length s.archives ≡ 1
-  pub steps : (archive_at s 0).steps ≡ 1
 
 -- the seconds of one row
 abbrev pub span : Layout → ℕ → ℕ

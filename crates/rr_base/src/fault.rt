@@ -29,6 +29,15 @@ impl OriginFault {
 /// Why a schema is refused.
 #[derive(Clone, Copy, Debug, PartialEq, Eq, Error)]
 pub enum SchemaFault {
+    /// The text is no UTF-8, or no TOML.
+    #[error("BadToml")]
+    BadToml,
+    /// A key is not there.
+    #[error("MissingField")]
+    MissingField,
+    /// The value of a key is of another kind.
+    #[error("WrongKind")]
+    WrongKind,
     /// The step is 0 or above a day.
     #[error("BadStep")]
     BadStep,
@@ -63,6 +72,9 @@ impl SchemaFault {
         ensures { result.now ≡ schema_fault_name self.now }
     {
         match self {
+            SchemaFault::BadToml => "BadToml",
+            SchemaFault::MissingField => "MissingField",
+            SchemaFault::WrongKind => "WrongKind",
             SchemaFault::BadStep => "BadStep",
             SchemaFault::NoArchive => "NoArchive",
             SchemaFault::TooManyArchives => "TooManyArchives",

@@ -3,17 +3,15 @@
 ghost use Rattle.std.specs.Prelude.{◌≡◌, ◌<◌, ◌≤◌, ◌*◌, pos, length, unsigned_abs, unwrap_or, IfOk, IfErr, OnOk};
 ghost use Rattle.std.specs.Int.{int_div_euclid, int_rem_euclid};
 ghost use Rattle.std.specs.Result.{result_err};
-ghost use Rattle.rr_base.specs.Schema.{IsLayout, IsSingle, archive_at, span, slot_of, place_of, is_known_enough, last_within, choice};
+ghost use Rattle.rr_base.specs.Schema.{IsLayout, archive_at, span, slot_of, place_of, is_known_enough, last_within, choice};
 ghost use Rattle.rr_base.specs.Check.{archive_fault, archives_fault, schema_fault};
 ghost use Rattle.rr_base.specs.Choice.{IsChoice};
 ghost use Rattle.rr_base.specs.declared.limits.TheConstants.{MAX_STEPS};
 
 use crate::archive::ArchiveSpec;
 use crate::fault::SchemaFault;
-use crate::limits::{
-    ACCEPTED_ARCHIVES, ACCEPTED_STEPS, MAX_ARCHIVES, MAX_ROWS, MAX_STEP, MAX_XFF_DEN, NANOSECONDS,
-};
-use std::alloc::Global;
+use crate::limits::{MAX_ARCHIVES, MAX_ROWS, MAX_STEP, MAX_STEPS, MAX_XFF_DEN, NANOSECONDS};
+use std::alloc::{AllocError, Global};
 use std::marker::Model;
 
 /// A step, and the archives from the finest on, within the limits of the store.
@@ -37,7 +35,7 @@ impl Model for Schema {
 fn check_archive(before: u32, archive: &ArchiveSpec) -> Result<(), SchemaFault>
     ensures { result_err result ≡ archive_fault before archive.now }
 {
-    if archive.steps == 0 || archive.steps > ACCEPTED_STEPS {
+    if archive.steps == 0 || archive.steps > MAX_STEPS {
         return Err(SchemaFault::BadSteps);
     }
     if archive.rows == 0 || archive.rows > MAX_ROWS {
@@ -72,7 +70,7 @@ fn check(step: u32, archives: &[ArchiveSpec]) -> Result<(), SchemaFault>
     if archives.is_empty() {
         return Err(SchemaFault::NoArchive);
     }
-    if archives.len() > ACCEPTED_ARCHIVES {
+    if archives.len() > MAX_ARCHIVES {
         return Err(SchemaFault::TooManyArchives);
     }
     check_archives(archives)
@@ -118,15 +116,14 @@ impl Schema {
     /// The schema of a step in seconds and these archives.
     ///
     /// Refusals, in this order: `BadStep`, `NoArchive`, `TooManyArchives`, then for each archive
-    /// `BadSteps`, `BadRows`, `BadXff`, `StepsNotRising`; `Memory` last. Today a schema has one
-    /// archive, of one step a row. The cost is linear in the archives.
+    /// `BadSteps`, `BadRows`, `BadXff`, `StepsNotRising`; `Memory` last. The cost is linear in the
+    /// archives.
     pub fn new(alloc: Global, step: u32, archives: &[ArchiveSpec]) -> Result<Schema, SchemaFault>
         ensures made { IfOk result (λ s. s ≡ record { step = step; archives = archives.now }) }
         ensures accepted { OnOk result (schema_fault step archives.now ≡ None) }
         ensures refused { IfErr result (λ fault.
             fault ≡ unwrap_or (schema_fault step archives.now) SchemaFault.Memory) }
         ensures within { IfOk result IsLayout }
-        ensures single { IfOk result IsSingle }
     {
         check(step, archives)?;
         let archives = Vec::from_slice(alloc, archives)?;
@@ -145,6 +142,18 @@ impl Schema {
         ensures { result.now ≡ self.now.archives }
     {
         self.archives.as_slice()
+    }
+
+    /// The same schema. The cost is linear in the archives.
+    pub fn copy(&self, alloc: Global) -> Result<Schema, AllocError>
+        ensures same { IfOk result (λ s. s ≡ self.now) }
+        ensures within { IfOk result IsLayout }
+    {
+        let archives = Vec::from_slice(alloc, &self.archives)?;
+        Ok(Schema {
+            step: self.step,
+            archives,
+        })
     }
 
     /// The archive with a number, from 0.
@@ -179,6 +188,7 @@ impl Schema {
         requires { archive < length self.now.archives }
         ensures place { result ≡ place_of self.now archive time }
         ensures within { result < (archive_at self.now archive).steps }
+        ensures few { result < MAX_STEPS }
     {
         left_over(time, self.step, self.archive(archive).steps)
     }

@@ -1,6 +1,6 @@
 -- What a fault below is here: want of memory, or a refusal.
-use Rattle.std.proofs.Common.{◌≡◌, ◌≢◌, ℕ, Bool, true, false, List, Result, Ok, Err, refl, sym, ◌∙◌, inl, inr}
-use Rattle.std.specs.Prelude.{◌⊎◌, ◌↔◌}
+use Rattle.std.proofs.Common.{◌≡◌, ◌≢◌, ℕ, true, false, List, Ok, Err, refl, inl, inr}
+use Rattle.std.specs.Prelude.{◌⊎◌}
 use Rattle.std.proofs.lemmas.Bool.{cases_Bool}
 use Rattle.rr_key.specs.declared.fault.KeyFault.{KeyFault}
 use Rattle.rr_key.specs.declared.fault.KeyFault.TheVariants as key
@@ -12,7 +12,6 @@ use Rattle.rr_line.specs.declared.fault.LineFault.TheVariants as line
 use Rattle.rr_line.specs.declared.precision.Precision.TheVariants.{Ns}
 use Rattle.rr_line.specs.Reading.{reading}
 use Rattle.rr_base.specs.Schema.{Layout}
-use Rattle.rr_cluster.specs.declared.fault.CommandFault.{CommandFault}
 use Rattle.rr_cluster.specs.declared.fault.CommandFault.TheVariants.{BadKey, Line}
 use Rattle.rr_cluster.specs.declared.node.Node.{Node}
 use Rattle.rr_cluster.specs.declared.stop.Stop.{Stop}

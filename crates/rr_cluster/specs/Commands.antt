@@ -5,7 +5,7 @@ use Rattle.std.specs.FinMap.{empty, get, insert, contains_key}
 use Rattle.rr_base.specs.declared.fault.SchemaFault.{SchemaFault}
 use Rattle.rr_base.specs.declared.limits.TheConstants.{MAX_NUMBER}
 use Rattle.rr_base.specs.Schema.{Layout}
-use Rattle.rr_base.specs.Check.{schema_fault}
+use Rattle.rr_base.specs.Check.{first_fault, schema_fault}
 use Rattle.rr_line.specs.declared.precision.Precision.TheVariants.{Ns}
 use Rattle.rr_line.specs.declared.fault.LineFault.{LineFault}
 use Rattle.rr_line.specs.Line.{LineView, PointView, nothing, point}
@@ -18,6 +18,7 @@ use Rattle.rr_model.specs.FetchText.{fetch_text}
 use Rattle.rr_cluster.specs.declared.fault.CommandFault.{CommandFault}
 use Rattle.rr_cluster.specs.declared.fault.CommandFault.TheVariants.{NoSchema, SchemaSet, BadName, NameUsed, NoNode, BadNumber, OriginUsed, NumbersSpent, Schema, Line}
 use Rattle.rr_cluster.specs.Checks.{◌>>=◌, checked}
+use Rattle.rr_cluster.specs.Plain.{not_kept}
 use Rattle.rr_cluster.specs.Request.{requested}
 use Rattle.rr_cluster.specs.Script.{Command, schema, node, write, fetch}
 use Rattle.rr_cluster.specs.State.{Node, State}
@@ -38,7 +39,7 @@ unfoldable pub layout_of : List ℕ → List (List ℕ) → Result Layout Comman
 layout_of step archives = do
   seconds ← ok_or (number_to MAX_U32 step) BadNumber
   specs ← ok_or (archives_of archives) BadNumber
-  unless_faulty (schema_fault seconds specs) (record { step = seconds; archives = specs })
+  unless_faulty (first_fault (not_kept seconds specs) (schema_fault seconds specs)) (record { step = seconds; archives = specs })
 
 -- schema STEP S:R:N/D ...
 unfoldable pub after_schema : State → List ℕ → List (List ℕ) → Result State CommandFault

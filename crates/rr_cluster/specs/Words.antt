@@ -1,5 +1,5 @@
 -- What the words of a command stand for.
-use Rattle.std.specs.Prelude.{ℕ, ℤ, Bool, false, ◌&&◌, ◌||◌, not, ◌==◌, nat_le, nat_lt, List, [], ◌∷◌, length, codes, Option, None, Some, Result, Ok, Err, nat_eq, if◌then◌else◌, unsigned_abs}
+use Rattle.std.specs.Prelude.{ℕ, ℤ, Bool, ◌&&◌, ◌||◌, not, ◌==◌, nat_le, nat_lt, List, [], ◌∷◌, length, codes, Option, None, Some, Result, Ok, Err, nat_eq, if◌then◌else◌, unsigned_abs}
 use Rattle.std.specs.List.{list_all}
 use Rattle.std.specs.Cmp.Lexicographic.{pointwise}
 use Rattle.std.specs.Str.Parse.{digits_value}

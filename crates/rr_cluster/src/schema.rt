@@ -2,8 +2,9 @@
 
 ghost use Rattle.std.specs.Prelude.{◌≡◌, ◌<◌, [], ◌∷◌, IfOk, IfSome, MatchOption};
 ghost use Rattle.std.specs.Option.{option_map};
+ghost use Rattle.std.specs.Result.{result_err};
 ghost use Rattle.rr_cluster.specs.Commands.{layout_of};
-ghost use Rattle.rr_cluster.specs.Plain.{IsPlain};
+ghost use Rattle.rr_cluster.specs.Plain.{IsPlain, has_long_row, not_kept};
 ghost use Rattle.rr_cluster.specs.Script.{archive_words, bytes_left};
 ghost use Rattle.rr_cluster.specs.Stop.{Follows};
 ghost use Rattle.rr_cluster.specs.Words.{archives_of};
@@ -13,8 +14,15 @@ use crate::fault::CommandFault;
 use crate::script::first_word;
 use crate::stop::Stop;
 use crate::words::{archive_of, number_u32};
-use rr_base::{ArchiveSpec, Schema};
+use rr_base::limits::MAX_STEP;
+use rr_base::{ArchiveSpec, Schema, SchemaFault};
 use std::alloc::{AllocError, Global};
+
+/// The most archives that a node of a script keeps today.
+const KEPT_ARCHIVES: usize = 1;
+
+/// The most steps of a row that a node of a script keeps today.
+const KEPT_STEPS: u32 = 1;
 
 /// The first of the words that are left, if there is one, and the others.
 fn next_word(words: Option<&[u8]>) -> Option<(&[u8], Option<&[u8]>)>
@@ -45,6 +53,29 @@ fn archives_of(alloc: Global, words: Option<&[u8]>) -> Result<Option<Vec<Archive
     Ok(Some(archives))
 }
 
+fn has_long_row(archives: &[ArchiveSpec]) -> bool
+    ensures { result ≡ has_long_row archives.now }
+{
+    archives.iter().any(|archive| archive.steps > KEPT_STEPS)
+}
+
+/// Refuses more archives, or more steps a row, than a node of a script keeps today. The fault of a
+/// step comes before that, and is left to `Schema::new`.
+fn check_kept(step: u32, archives: &[ArchiveSpec]) -> Result<(), SchemaFault>
+    ensures { result_err result ≡ not_kept step archives.now }
+{
+    if step == 0 || step > MAX_STEP {
+        return Ok(());
+    }
+    if archives.len() > KEPT_ARCHIVES {
+        return Err(SchemaFault::TooManyArchives);
+    }
+    if has_long_row(archives) {
+        return Err(SchemaFault::BadSteps);
+    }
+    Ok(())
+}
+
 /// The schema of the words `STEP S:R:N/D ..`.
 #[tactic(auto, unfolding(crate::specs::Commands::layout_of))]
 pub(crate) fn schema_of(alloc: Global, step: &[u8], archives: Option<&[u8]>) -> Result<Schema, Stop>
@@ -53,5 +84,6 @@ pub(crate) fn schema_of(alloc: Global, step: &[u8], archives: Option<&[u8]>) -> 
 {
     let step = number_u32(step).ok_or(CommandFault::BadNumber)?;
     let archives = archives_of(alloc, archives)?.ok_or(CommandFault::BadNumber)?;
+    check_kept(step, archives.as_slice())?;
     Ok(Schema::new(alloc, step, archives.as_slice())?)
 }

@@ -217,6 +217,8 @@ fn schemas_are_refused_by_name(rt: HostRuntime) -> Result<(), Fail> {
         ("schema 60 1:0:0/1", "BadRows"),
         ("schema 60 1:3:1/1", "BadXff"),
         ("schema 60 1:3:0/1 5:3:0/1", "TooManyArchives"),
+        ("schema 0 1:3:0/1 5:3:0/1", "BadStep"),
+        ("schema 60 2:0:0/1", "BadSteps"),
         ("schema 0 x", "BadNumber"),
         ("schema 60 1:3:0/1 ", "BadNumber"),
         ("schema 4294967296 1:3:0/1", "BadNumber"),

@@ -1,7 +1,7 @@
 use Rattle.std.proofs.Common.{◌≡◌, None, rules}
 use Rattle.rr_base.specs.Schema.{IsLayout}
 use Rattle.rr_base.specs.Check.{schema_fault}
-use Rattle.rr_base.proofs.Checked.{checked_layout, checked_single}
+use Rattle.rr_base.proofs.Checked.{checked_layout}
 use Rattle.rr_base.proofs.schema.Schema.new.Goals as goal
 
 is_layout : (c : goal.In_ok-archives) → IsLayout (record { step = c.args.step; archives = c.in_ok-archives.archives.items })
@@ -15,9 +15,3 @@ invariant_of-result c = is_layout c
 
 pub returns-clause-within : goal.returns-clause-within
 returns-clause-within c = is_layout c
-
-pub returns-clause-single : goal.returns-clause-single
-returns-clause-single c =
-    let checked : schema_fault c.args.step c.args.archives.now ≡ None = search rules in
-    let same : c.in_ok-archives.archives.items ≡ c.args.archives.now = search rules in
-    rw same (checked_single c.args.step c.args.archives.now checked)
