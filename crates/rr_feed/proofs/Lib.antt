@@ -1,0 +1,5 @@
+pub mod SearchLemmas
+pub mod PieceLemmas
+pub mod HandLemmas
+pub mod FedLemmas
+pub mod ToldLemmas

@@ -1,0 +1,6 @@
+pub mod Fault
+pub mod Items
+pub mod Feed
+pub mod Next
+pub mod Laws
+pub mod Told
