@@ -5,24 +5,28 @@ use Rattle.std.specs.Global.{Vec}
 use Rattle.std.specs.List.{list_all}
 use Rattle.std.specs.List.Sorted.{IsStrictlySortedBy}
 use Rattle.std.specs.Map.{keys_of}
-use Rattle.std.specs.FinMap.{empty, get, insert, keys, len, len-insert, get-insert, get-empty, len-empty, len-entries, entries, same_map, contains_key, contains_key-keys}
+use Rattle.std.specs.FinMap.{empty, get, insert, keys, len, len-insert, get-insert, get-empty, len-empty, len-entries, entries, same_map, contains_key, contains_key-keys, retain_keys}
 use Rattle.std.proofs.lemmas.Bool.{and_from}
 use Rattle.std.proofs.lemmas.Bool.Decides.{nat_tests}
 use Rattle.std.proofs.lemmas.Int.{ints}
 use Rattle.rr_base.specs.declared.limits.TheConstants.{MAX_SECOND}
-use Rattle.rr_join.specs.Maps.{greater, map_of}
+use Rattle.rr_join.specs.Maps as Maps
+use Rattle.rr_join.specs.Maps.{greater, map_of, trimmed}
 use Rattle.rr_join.proofs.Lookups.{is_in-keys, get-merged}
 use Rattle.rr_join.proofs.Greater.{greater-None}
 use Rattle.rr_join.proofs.Members.{same_from_tie}
 use Rattle.rr_contrib.specs.declared.contribution.Contribution.{Contribution}
 use Rattle.rr_contrib.specs.Contributions.{contribution_cmp}
-use Rattle.std.specs.Ordering.{eq_by_cmp}
+use Rattle.std.specs.Ordering.{eq_by_cmp, ord_max}
 use Rattle.rr_archive.specs.declared.entry.Entry.{Entry}
-use Rattle.rr_archive.specs.Places.{Place, place_at, place_cmp, newest_of, IsSlot}
-use Rattle.rr_archive.specs.Cells.{Rows, with_cell}
+use Rattle.rr_archive.specs.Places.{Place, place_at, place_cmp, newest_of, is_above, is_live_at, IsSlot}
+use Rattle.rr_archive.specs.Cells.{Rows, with_cell, join_cell, IsTrimmed}
 use Rattle.rr_archive.specs.Held.{cells_in, is_placed, IsHeld, RowsAscend}
 use Rattle.rr_archive.proofs.PlaceOrder.{place_cmp_total, place_cmp-IsAntisymmetric}
+use Rattle.rr_join.proofs.Joining.{trimmed-trimmed}
+use Rattle.rr_archive.proofs.Horizon.{live_at_horizon}
 use Rattle.rr_archive.proofs.FewCells.{newest-insert, placed-insert}
+use Rattle.rr_archive.proofs.Trimming.{trimmed_by_slots, trimmed_none, all_other-trimmed, newest-trimmed, trimmed_dead}
 
 pub placed_from : (slot : ℤ) (origin : ℕ) → IsSlot slot → origin < 2 ^ 16 → is_placed (place_at slot origin) ≡ true
 placed_from slot origin is fits = and_from (leb (unsigned_abs slot) MAX_SECOND) _ (in_slots slot is) (lt_test origin fits)
@@ -38,7 +42,7 @@ placed_from slot origin is fits = and_from (leb (unsigned_abs slot) MAX_SECOND) 
     in_slots (negsuc n) is = le_test (suc n) MAX_SECOND (let low = is.0 in omega (arith, ints))
 
 -- one cell more, where none stood
-len_with : (m : Rows) (p : Place) (c : Contribution) → len m + cond (is_none (get m p)) 1 0 ≡ len (insert m p c)
+pub len_with : (m : Rows) (p : Place) (c : Contribution) → len m + cond (is_none (get m p)) 1 0 ≡ len (insert m p c)
 len_with m p c =
     elim (get m p) as (λ o. get m p ≡ o → len m + cond (is_none o) 1 0 ≡ cond (is_some o) (len m) (len m + 1)) [
       | None ↦ λ _. refl
@@ -50,18 +54,41 @@ len_with m p c =
     is_some-get : (n : Rows) (q : Place) → contains_key n q ≡ is_some (get n q)
     is_some-get n q = contains_key-keys n q ∙ is_in-keys place_cmp_total place_cmp-IsAntisymmetric n q
 
-pub held_with : (count more : ℕ) (newest : Option ℤ) (latest : ℤ) (old new : List (ℤ × Vec Entry)) (p : Place) (c : Contribution) → IsHeld count newest old → RowsAscend new → IsStrictlySortedBy int_cmp (keys_of new) → is_placed p ≡ true → cells_in new ≡ insert (cells_in old) p c → more ≡ cond (is_none (get (cells_in old) p)) 1 0 → Some latest ≡ greater int_cmp newest (Some p.slot) → IsHeld (count + more) (Some latest) new
-held_with count more newest latest old new p c h ascend ordered placed is one later = record {
-  counted = (λ i. h.counted i + one i) ∙ len_with (cells_in old) p c ∙ ap len (sym is);
-  latest = later ∙ ap (λ g. greater int_cmp g (Some p.slot)) h.latest ∙ sym (newest-insert (cells_in old) p c) ∙ ap (λ m. newest_of (keys m)) (sym is);
-  placed = ap (λ m. list_all is_placed (keys m)) is ∙ placed-insert (cells_in old) p c placed h.placed;
-  ascend = ascend;
-  ordered = ordered;
-}
+latest_is : (limit count : ℕ) (newest : Option ℤ) (latest : ℤ) (old : List (ℤ × Vec Entry)) (p : Place) (c : Contribution) → IsHeld limit count newest old → Some latest ≡ greater int_cmp newest (Some p.slot) → Some latest ≡ newest_of (keys (insert (cells_in old) p c))
+latest_is limit count newest latest old p c h later = later ∙ ap (λ g. greater int_cmp g (Some p.slot)) h.latest ∙ sym (newest-insert (cells_in old) p c)
+
+-- they hold the live cells of those that were there and the one that was set
+pub cells_kept : (limit count : ℕ) (newest : Option ℤ) (latest : ℤ) (old set new : List (ℤ × Vec Entry)) (p : Place) (c : Contribution) → IsHeld limit count newest old → cells_in set ≡ insert (cells_in old) p c → cells_in new ≡ retain_keys (cells_in set) (λ q. is_above limit (Some latest) q.slot) → Some latest ≡ greater int_cmp newest (Some p.slot) → cells_in new ≡ trimmed (is_live_at limit) (insert (cells_in old) p c)
+cells_kept limit count newest latest old set new p c h is kept later =
+    kept ∙ ap (λ (m : Rows). retain_keys m (λ q. is_above limit (Some latest) q.slot)) is
+    ∙ sym (trimmed_by_slots limit (insert (cells_in old) p c) (Some latest) (sym (latest_is limit count newest latest old p c h later)))
+
+-- the rows that are left, once a cell is set and the dead rows have left
+pub held_kept : (limit count left : ℕ) (newest : Option ℤ) (latest : ℤ) (old set new : List (ℤ × Vec Entry)) (p : Place) (c : Contribution) → IsHeld limit count newest old → RowsAscend new → IsStrictlySortedBy int_cmp (keys_of new) → is_placed p ≡ true → cells_in set ≡ insert (cells_in old) p c → cells_in new ≡ retain_keys (cells_in set) (λ q. is_above limit (Some latest) q.slot) → left ≡ len (cells_in new) → Some latest ≡ greater int_cmp newest (Some p.slot) → IsHeld limit left (Some latest) new
+held_kept limit count left newest latest old set new p c h ascend ordered placed is kept counted later =
+    let cells = cells_kept limit count newest latest old set new p c h is kept later in
+    let more : Rows = insert (cells_in old) p c in
+    let top = latest_is limit count newest latest old p c h later in
+    let same = newest-trimmed limit more h.some ∙ sym top in
+    record {
+      some = h.some;
+      counted = counted;
+      latest = sym (ap (λ m. newest_of (keys m)) cells ∙ same);
+      live = subst (IsTrimmed limit) (sym cells) (trimmed-trimmed place_cmp_total place_cmp-IsAntisymmetric (live_at_horizon limit h.some) more);
+      placed = ap (λ m. list_all is_placed (keys m)) cells ∙ all_other-trimmed limit more is_placed (placed-insert (cells_in old) p c placed h.placed);
+      ascend = ascend;
+      ordered = ordered;
+    }
+
+-- a cell past the horizon leaves no trace
+pub set_dead : (limit count : ℕ) (newest : Option ℤ) (rows : List (ℤ × Vec Entry)) (p : Place) (c : Contribution) → IsHeld limit count newest rows → is_above limit newest p.slot ≡ false → cells_in rows ≡ trimmed (is_live_at limit) (insert (cells_in rows) p c)
+set_dead limit count newest rows p c h dead = sym (trimmed_dead limit (cells_in rows) p c h.live (ap (λ o. is_above limit o p.slot) (sym h.latest) ∙ dead))
 
 -- the same cells in other rows
-pub held_same : (count : ℕ) (newest : Option ℤ) (old new : List (ℤ × Vec Entry)) → IsHeld count newest old → RowsAscend new → IsStrictlySortedBy int_cmp (keys_of new) → cells_in new ≡ cells_in old → IsHeld count newest new
-held_same count newest old new h ascend ordered is = record {
+pub held_same : (limit count : ℕ) (newest : Option ℤ) (old new : List (ℤ × Vec Entry)) → IsHeld limit count newest old → RowsAscend new → IsStrictlySortedBy int_cmp (keys_of new) → cells_in new ≡ cells_in old → IsHeld limit count newest new
+held_same limit count newest old new h ascend ordered is = record {
+  some = h.some;
+  live = subst (IsTrimmed limit) (sym is) h.live;
   counted = h.counted ∙ ap len (sym is);
   latest = h.latest ∙ ap (λ m. newest_of (keys m)) (sym is);
   placed = ap (λ m. list_all is_placed (keys m)) is ∙ h.placed;
@@ -84,9 +111,11 @@ keys-empty = ap (map (λ e. e.0)) (nothing_from_length (entries nothing) (sym (l
     nothing_from_length [] e = refl
     nothing_from_length (x ∷ es) e = absurd (omega arith)
 
-pub held_none : (rows : List (ℤ × Vec Entry)) → rows ≡ [] → IsHeld 0 None rows
+pub held_none : (limit : ℕ) (rows : List (ℤ × Vec Entry)) → 1 ≤ limit → rows ≡ [] → IsHeld limit 0 None rows
 unfolding IsStrictlySortedBy
-held_none rows e = subst (IsHeld 0 None) (sym e) (record {
+held_none limit rows some e = subst (IsHeld limit 0 None) (sym e) (record {
+  some = some;
+  live = subst (IsTrimmed limit) (sym cells_in-none) (trimmed_none limit);
   counted = sym (len-empty place_cmp Contribution) ∙ ap len (sym cells_in-none);
   latest = ap newest_of (sym keys-empty) ∙ ap (λ m. newest_of (keys m)) (sym cells_in-none);
   placed = ap (λ m. list_all is_placed (keys m)) cells_in-none ∙ ap (list_all is_placed) keys-empty;
@@ -106,3 +135,22 @@ with_cell-is m p c joined is = same_map place_cmp_total place_cmp-IsAntisymmetri
     ∙ ap (λ o. greater contribution_cmp (get m q) (cond (eq_by_cmp place_cmp q p) (Some c) o)) (sym (get-empty place_cmp q))
     ∙ ap (greater contribution_cmp (get m q)) (sym (get-insert place_cmp_total empty p c q))
     ∙ sym (get-merged place_cmp_total place_cmp-IsAntisymmetric contribution_cmp m (insert empty p c) q))
+
+-- and then the live ones
+pub join_cell-is : (limit : ℕ) (m : Rows) (p : Place) (c joined : Contribution) → Some joined ≡ greater contribution_cmp (get m p) (Some c) → trimmed (is_live_at limit) (insert m p joined) ≡ join_cell limit m p c
+unfolding Maps.joined
+join_cell-is limit m p c joined is = ap (trimmed (is_live_at limit)) (with_cell-is m p c joined is)
+
+-- which leaves no trace either, past the horizon
+pub join_dead : (limit count : ℕ) (newest : Option ℤ) (rows : List (ℤ × Vec Entry)) (p : Place) (c : Contribution) → IsHeld limit count newest rows → is_above limit newest p.slot ≡ false → cells_in rows ≡ join_cell limit (cells_in rows) p c
+join_dead limit count newest rows p c h dead =
+    set_dead limit count newest rows p (joined_with (get (cells_in rows) p)) h dead
+    ∙ join_cell-is limit (cells_in rows) p c (joined_with (get (cells_in rows) p)) (joined_is (get (cells_in rows) p))
+  where
+    joined_with : Option Contribution → Contribution
+    joined_with None = c
+    joined_with (Some a) = ord_max contribution_cmp a c
+
+    joined_is : (o : Option Contribution) → Some (joined_with o) ≡ greater contribution_cmp o (Some c)
+    joined_is None = refl
+    joined_is (Some a) = refl

@@ -3,7 +3,11 @@ pub mod Horizon
 pub mod RowLemmas
 pub mod HeldLemmas
 pub mod FewCells
+pub mod Trimming
+pub mod FewLive
+pub mod Putting
 pub mod Counting
 pub mod Listing
+pub mod Leaving
 pub mod Copying
 pub mod Behind

@@ -195,16 +195,20 @@ pub row_of-cells_in : (rows : List (ℤ × Vec Entry)) (slot : ℤ) → Listed r
 unfolding row_of
 row_of-cells_in rows slot l = ap (λ es. map entry_of (filter (at_slot slot) es)) (entries-cells_in rows l) ∙ listed rows slot l
 
+-- of rows that ascend, those after the first do
+pub rest_ascends : (r : ℤ × Vec Entry) (rs : List (ℤ × Vec Entry)) → AllByRecursion (λ s. int_cmp r.0 s ≡ Less) (keys_of rs) → RowsAscend (r ∷ rs) → RowsAscend rs
+rest_ascends r rs later ascend = λ slot. elim (is_eq (int_cmp slot r.0)) as (λ b. is_eq (int_cmp slot r.0) ≡ b → row_ascends (cond b (Some r.1) (row_in rs slot)) ≡ true → row_ascends (row_in rs slot) ≡ true) [
+  | true ↦ λ t _. ap row_ascends (none_later r.0 slot rs (sym (same_slot slot r.0 t)) later)
+  | false ↦ λ t h. h
+] refl (ascend slot)
+
 pub listed_from : (rows : List (ℤ × Vec Entry)) → IsStrictlySortedBy int_cmp (keys_of rows) → RowsAscend rows → Listed rows
 unfolding IsStrictlySortedBy
 listed_from [] sorted ascend = none
 listed_from (r ∷ rs) sorted ascend =
     more sorted.0
     (ap (λ b. row_ascends (cond b (Some r.1) (row_in rs r.0))) (sym (tie_itself int_cmp_total int_cmp-IsAntisymmetric r.0)) ∙ ascend r.0)
-    (listed_from rs sorted.1 (λ slot. elim (is_eq (int_cmp slot r.0)) as (λ b. is_eq (int_cmp slot r.0) ≡ b → row_ascends (cond b (Some r.1) (row_in rs slot)) ≡ true → row_ascends (row_in rs slot) ≡ true) [
-      | true ↦ λ t _. ap row_ascends (none_later r.0 slot rs (sym (same_slot slot r.0 t)) sorted.0)
-      | false ↦ λ t h. h
-    ] refl (ascend slot)))
+    (listed_from rs sorted.1 (rest_ascends r rs sorted.0 ascend))
 
 -- ---- the cell with a number
 

@@ -1,5 +1,5 @@
 -- What an ordered map from slots to rows holds; a row without entries counts for nothing.
-use Rattle.std.specs.Prelude.{◌≡◌, ℕ, ℤ, ◌^◌, nat_lt, nat_le, unsigned_abs, Bool, true, false, ◌&&◌, List, [], ◌∷◌, ◌++◌, map, Option, Some, None, unwrap_or, vec_len, vec_capacity}
+use Rattle.std.specs.Prelude.{◌≡◌, ℕ, ℤ, ◌^◌, nat_lt, nat_le, ◌≤◌, unsigned_abs, Bool, true, false, not, ◌&&◌, ◌||◌, List, [], ◌∷◌, ◌++◌, map, length, Option, Some, None, unwrap_or, vec_len, vec_capacity}
 use Rattle.std.specs.Global.{Vec}
 use Rattle.std.specs.List.{list_all}
 use Rattle.std.specs.List.Sorted.{IsStrictlySortedBy}
@@ -12,8 +12,8 @@ use Rattle.rr_base.specs.declared.limits.TheConstants.{MAX_SECOND}
 use Rattle.rr_join.specs.Maps.{map_of}
 use Rattle.rr_contrib.specs.declared.contribution.Contribution.{Contribution}
 use Rattle.rr_archive.specs.declared.entry.Entry.{Entry}
-use Rattle.rr_archive.specs.Places.{Place, place_at, newest_of}
-use Rattle.rr_archive.specs.Cells.{Rows}
+use Rattle.rr_archive.specs.Places.{Place, place_at, newest_of, is_above}
+use Rattle.rr_archive.specs.Cells.{Rows, IsTrimmed}
 use Rattle.rr_archive.specs.Row.{entry_at, ascends}
 
 -- the row of a slot, if there is one
@@ -50,10 +50,27 @@ RowsAscend rows = (slot : ℤ) → row_ascends (row_in rows slot) ≡ true
 abbrev pub is_placed : Place → Bool
 is_placed p = nat_le (unsigned_abs p.slot) MAX_SECOND && nat_lt p.origin (2 ^ 16)
 
--- how many cells the rows hold, the newest slot of a cell, and what each cell and row keeps to
-pub record IsHeld (count : ℕ) (newest : Option ℤ) (rows : List (ℤ × Vec Entry)) : Type 0 where
+-- whether a put or a join at a place takes no memory: the place is past the horizon, or its row has room
+abbrev pub is_ready_in : ℕ → Option ℤ → List (ℤ × Vec Entry) → Place → Bool
+is_ready_in limit newest rows p = not (is_above limit newest p.slot) || has_room_in rows p
+
+-- whether the first row is past the horizon of so many rows up to a newest slot
+abbrev pub starts_dead : ℕ → ℤ → List (ℤ × Vec Entry) → Bool
+starts_dead limit newest [] = false
+starts_dead limit newest (r ∷ rs) = not (is_above limit (Some newest) r.0)
+
+-- how many entries the first row has
+abbrev pub first_len : List (ℤ × Vec Entry) → ℕ
+first_len [] = 0
+first_len (r ∷ rs) = length r.1.items
+
+-- of an archive of so many rows: how many cells they hold, the newest slot of a cell, and what each cell
+-- and row keeps to
+pub record IsHeld (limit count : ℕ) (newest : Option ℤ) (rows : List (ℤ × Vec Entry)) : Type 0 where
+  pub some : 1 ≤ limit
   pub counted : count ≡ len (cells_in rows)
   pub latest : newest ≡ newest_of (keys (cells_in rows))
+  pub live : IsTrimmed limit (cells_in rows)
   pub placed : list_all is_placed (keys (cells_in rows)) ≡ true
   pub ascend : RowsAscend rows
   pub ordered : IsStrictlySortedBy int_cmp (keys_of rows)

@@ -1,5 +1,7 @@
 -- The laws of merging and joining the cells of one archive.
-use Rattle.std.specs.Prelude.{◌≡◌, ℕ, ◌<◌}
+use Rattle.std.specs.Prelude.{◌≡◌, ℕ, ◌<◌, ◌≤◌, ◌*◌, IsTrue}
+use Rattle.std.specs.FinMap.{contains_key, len}
+use Rattle.rr_archive.specs.Places.{Place}
 use Rattle.rr_archive.specs.Cells.{Rows, merge_rows, join_rows, IsTrimmed}
 
 abbrev pub MergeIsCommutative : Type 0
@@ -23,3 +25,7 @@ JoinIsIdempotent = (rows : ℕ) (m : Rows) → 0 < rows → IsTrimmed rows m →
 -- what the join gives is trimmed
 abbrev pub JoinIsTrimmed : Type 0
 JoinIsTrimmed = (rows : ℕ) (m n : Rows) → 0 < rows → IsTrimmed rows (join_rows rows m n)
+
+-- live cells of so many origins are at most so many as the rows times the origins
+abbrev pub CellsAreFew : Type 0
+CellsAreFew = (rows origins : ℕ) (m : Rows) → IsTrimmed rows m → ((p : Place) → IsTrue (contains_key m p) → (1 ≤ p.origin) × (p.origin ≤ origins)) → len m ≤ rows * origins

@@ -1,11 +1,11 @@
 //! What an archive of one series does.
-ghost use Rattle.std.specs.Prelude.{◌≡◌, ℕ, Bool, ◌<◌, ◌≤◌, IsTrue, IsOk, OnOk, OnErr, IfOk, IfSome, slice_get};
+ghost use Rattle.std.specs.Prelude.{◌≡◌, ℕ, Bool, ◌<◌, ◌≤◌, IsTrue, IsFalse, IsOk, OnOk, OnErr, IfOk, IfSome, slice_get};
 ghost use Rattle.std.specs.Option.{option_map};
 ghost use Rattle.std.specs.FinMap as fin;
 ghost use Rattle.rr_contrib.specs.Contributions.{slot_sample};
 ghost use Rattle.rr_contrib.specs.Validity.{CanAdd};
-ghost use Rattle.rr_archive.specs.Places.{Place, place_at, newest_of, IsSlot};
-ghost use Rattle.rr_archive.specs.Cells.{Rows, with_put, with_cell, row_of, cell_of, next_cell};
+ghost use Rattle.rr_archive.specs.Places.{Place, place_at, newest_of, is_live_at, IsSlot};
+ghost use Rattle.rr_archive.specs.Cells.{Rows, IsTrimmed, put_row, join_cell, row_of, cell_of, next_cell};
 
 use crate::entry::Entry;
 use rr_base::Origin;
@@ -15,16 +15,22 @@ use std::alloc::{AllocError, Global};
 
 /// The cells of one archive of one series, each the contribution of an origin to a slot.
 ///
-/// Slots are from -9,223,372,037 to 9,223,372,037. Only `ready`, `put`, `join_cell` and `copy` take
+/// An archive of so many rows keeps the cells whose slots are live: above the newest slot less the
+/// rows. A cell of any other slot is past the horizon and leaves no trace. Slots are from -9,223,372,037 to 9,223,372,037. Only `ready`, `put`, `join_cell` and `copy` take
 /// memory.
 pub trait Archive: Drop {
     ghost cells: { Self → Rows };
 
     ghost row_limit: { Self → ℕ };
 
-    ghost has_room: { Self → Place → Bool };
+    ghost is_ready: { Self → Place → Bool };
 
-    /// An archive of so many rows, from 1 to 100,000, that holds no cell.
+    /// No cell is past the horizon.
+    ghost is_trimmed: { (a : Self) → IsTrimmed (row_limit a) (cells a) };
+
+    ghost has_rows: { (a : Self) → 1 ≤ row_limit a };
+
+    /// An archive of so many rows, from 1 to 100,000, that holds no cell. It takes no memory yet.
     fn new(alloc: Global, rows: u32) -> Self
         requires some_row { 1 ≤ rows }
         requires few_rows { rows ≤ MAX_ROWS }
@@ -32,18 +38,19 @@ pub trait Archive: Drop {
         ensures limit { row_limit result ≡ rows };
 
     /// Makes room for a cell, so that the next `put` or `join_cell` at this slot and origin can't
-    /// fail. It changes no cell.
+    /// fail. It changes no cell. Past the horizon no room is needed, and none is made.
     fn ready(&mut self, slot: i64, origin: Origin) -> Result<(), AllocError>
         requires { IsSlot slot }
         ensures cells { cells self.new ≡ cells self.old }
         ensures limit { row_limit self.new ≡ row_limit self.old }
-        ensures room { OnOk result (IsTrue (has_room self.new (place_at slot origin))) };
+        ensures room { OnOk result (IsTrue (is_ready self.new (place_at slot origin))) };
 
     /// Puts a sample of an origin into a slot. Its number, place, time and value are those of
     /// `Contribution::first`, or where the cell is there, of `Contribution::add`.
     ///
-    /// After an error nothing has changed. The cost is logarithmic in the rows and linear in the
-    /// entries of the row.
+    /// Rows that are then past the horizon are let go; a sample that is past it itself changes
+    /// nothing. After an error nothing has changed. The cost is logarithmic in the rows and linear
+    /// in the entries of the row, and that of the rows that go.
     fn put(
         &mut self,
         slot: i64,
@@ -59,14 +66,17 @@ pub trait Archive: Drop {
         requires place { place < MAX_STEPS }
         requires newer { IfSome (fin.get (cells self.old) (place_at slot origin)) (CanAdd number) }
         ensures ok { OnOk result (cells self.new
-            ≡ with_put (cells self.old) (place_at slot origin) (slot_sample number place time value)) }
+            ≡ put_row (row_limit self.old) (cells self.old) (place_at slot origin) (slot_sample number place time value)) }
+        ensures dead { IsFalse (is_live_at (row_limit self.old) (fin.keys (cells self.old)) (place_at slot origin))
+            → cells self.new ≡ cells self.old }
         ensures err { OnErr result (cells self.new ≡ cells self.old) }
         ensures limit { row_limit self.new ≡ row_limit self.old }
-        ensures room { IsTrue (has_room self.old (place_at slot origin)) → IsOk result };
+        ensures room { IsTrue (is_ready self.old (place_at slot origin)) → IsOk result };
 
     /// Joins a cell from elsewhere: the greater of the two contributions stays.
     ///
-    /// After an error nothing has changed. The cost is that of `put`.
+    /// Rows that are then past the horizon are let go, and a cell that is past it itself changes
+    /// nothing, as in `put`. After an error nothing has changed. The cost is that of `put`.
     fn join_cell(
         &mut self,
         slot: i64,
@@ -75,10 +85,12 @@ pub trait Archive: Drop {
     ) -> Result<(), AllocError>
         requires { IsSlot slot }
         ensures ok { OnOk result (cells self.new
-            ≡ with_cell (cells self.old) (place_at slot origin) contribution.now) }
+            ≡ join_cell (row_limit self.old) (cells self.old) (place_at slot origin) contribution.now) }
+        ensures dead { IsFalse (is_live_at (row_limit self.old) (fin.keys (cells self.old)) (place_at slot origin))
+            → cells self.new ≡ cells self.old }
         ensures err { OnErr result (cells self.new ≡ cells self.old) }
         ensures limit { row_limit self.new ≡ row_limit self.old }
-        ensures room { IsTrue (has_room self.old (place_at slot origin)) → IsOk result };
+        ensures room { IsTrue (is_ready self.old (place_at slot origin)) → IsOk result };
 
     /// The greatest slot of a cell, if there is a cell.
     fn newest(&self) -> Option<i64>

@@ -1,5 +1,5 @@
 //! The laws of the cells of one archive, with no work to do: each function has an empty body.
-ghost use Rattle.rr_archive.specs.Laws.{MergeIsCommutative, MergeIsAssociative, MergeIsIdempotent, JoinIsCommutative, JoinIsAssociative, JoinIsIdempotent, JoinIsTrimmed};
+ghost use Rattle.rr_archive.specs.Laws.{MergeIsCommutative, MergeIsAssociative, MergeIsIdempotent, JoinIsCommutative, JoinIsAssociative, JoinIsIdempotent, JoinIsTrimmed, CellsAreFew};
 
 /// To keep at each place the greater contribution of two maps: in any order, in any grouping, and
 /// any number of times.
@@ -15,4 +15,10 @@ pub fn join_keeps_the_live()
     ensures associative { JoinIsAssociative }
     ensures idempotent { JoinIsIdempotent }
     ensures trimmed { JoinIsTrimmed }
+{}
+
+/// However many samples were put and cells joined, an archive has at most so many cells as its rows
+/// times the origins.
+pub fn live_cells_are_few()
+    ensures { CellsAreFew }
 {}

@@ -3,14 +3,16 @@ ghost use Rattle.std.specs.Prelude.{◌≡◌, ◌<◌, ◌≤◌, IsTrue, IsOk,
 ghost use Rattle.std.proofs.Props.{props};
 ghost use Rattle.std.specs.Ordering.{int_cmp};
 ghost use Rattle.std.specs.FinMap as fin;
-ghost use Rattle.rr_join.specs.Maps.{greater};
+ghost use Rattle.rr_join.specs.Maps.{greater, trimmed};
 ghost use Rattle.rr_contrib.specs.Contributions.{slot_sample, added, contribution_cmp};
 ghost use Rattle.rr_contrib.specs.Validity.{CanAdd};
-ghost use Rattle.rr_archive.specs.Places.{place_at, IsSlot};
-ghost use Rattle.rr_archive.specs.Held.{IsHeld, cells_in, has_room_in};
+ghost use Rattle.rr_archive.specs.Places.{place_at, IsSlot, is_above, is_live_at};
+ghost use Rattle.rr_archive.specs.Codes.{coded_rows};
+ghost use Rattle.rr_archive.specs.Held.{IsHeld, cells_in, has_room_in, is_ready_in};
 
 use crate::archive::Archive;
 use crate::entry::Entry;
+use crate::leaving_rows::{drop_dead, is_above};
 use crate::slots::{Slots, cell_behind, cell_in, copy_slots, make_room, nth_cell, set_cell};
 use rr_base::Origin;
 use rr_base::limits::{MAX_NUMBER, MAX_STEPS};
@@ -27,7 +29,7 @@ pub struct PlainArchive {
     count: usize,
     newest: Option<i64>,
     slots: Slots,
-    ghost held: { IsHeld count newest slots.entries } by { Prim.hlevel props },
+    ghost held: { IsHeld rows count newest slots.entries } by { Prim.hlevel (props, coded_rows) },
 }
 
 /// The later of the newest slot so far, if there is one, and a slot.
@@ -77,7 +79,18 @@ fn with_joined(known: Option<Contribution>, other: Contribution) -> Contribution
 }
 
 impl PlainArchive {
-    /// Sets what stands at a slot and an origin.
+    /// Whether a slot is not past the horizon.
+    fn is_live(&self, slot: i64) -> bool
+        ensures { result ≡ is_above self.now.rows self.now.newest slot }
+    {
+        match self.newest {
+            Some(newest) => is_above(self.rows, newest, slot),
+            None => true,
+        }
+    }
+
+    /// Sets what stands at a slot and an origin, and lets go of the rows that are then past the
+    /// horizon.
     fn set(
         &mut self,
         slot: i64,
@@ -86,7 +99,7 @@ impl PlainArchive {
     ) -> Result<(), AllocError>
         requires { IsSlot slot }
         ensures ok { OnOk result (cells_in self.new.slots.entries
-            ≡ fin.insert (cells_in self.old.slots.entries) (place_at slot origin) contribution) }
+            ≡ trimmed (is_live_at self.old.rows) (fin.insert (cells_in self.old.slots.entries) (place_at slot origin) contribution)) }
         ensures err { OnErr result (cells_in self.new.slots.entries ≡ cells_in self.old.slots.entries) }
         ensures limit { self.new.rows ≡ self.old.rows }
         ensures room { IsTrue (has_room_in self.old.slots.entries (place_at slot origin)) → IsOk result }
@@ -99,8 +112,10 @@ impl PlainArchive {
             contribution,
         };
         set_cell(&mut self.slots, self.alloc, slot, entry)?;
-        self.count += usize::from(is_new);
-        self.newest = Some(later(self.newest, slot));
+        let cells = self.count + usize::from(is_new);
+        let newest = later(self.newest, slot);
+        self.count = drop_dead(&mut self.slots, cells, self.rows, newest);
+        self.newest = Some(newest);
         Ok(())
     }
 }
@@ -110,7 +125,11 @@ impl Archive for PlainArchive {
 
     ghost row_limit = { λ a. a.rows };
 
-    ghost has_room = { λ a p. has_room_in a.slots.entries p };
+    ghost is_ready = { λ a p. is_ready_in a.rows a.newest a.slots.entries p };
+
+    ghost is_trimmed = { λ a. a.held.live };
+
+    ghost has_rows = { λ a. a.held.some };
 
     fn new(alloc: Global, rows: u32) -> PlainArchive {
         PlainArchive {
@@ -123,6 +142,9 @@ impl Archive for PlainArchive {
     }
 
     fn ready(&mut self, slot: i64, _origin: Origin) -> Result<(), AllocError> {
+        if !self.is_live(slot) {
+            return Ok(());
+        }
         make_room(&mut self.slots, self.alloc, slot)
     }
 
@@ -135,6 +157,9 @@ impl Archive for PlainArchive {
         time: i64,
         value: i64,
     ) -> Result<(), AllocError> {
+        if !self.is_live(slot) {
+            return Ok(());
+        }
         let known = cell_in(&self.slots, slot, origin);
         let contribution = with_sample(known, number, place, time, value);
         self.set(slot, origin, contribution)
@@ -146,6 +171,9 @@ impl Archive for PlainArchive {
         origin: Origin,
         contribution: &Contribution,
     ) -> Result<(), AllocError> {
+        if !self.is_live(slot) {
+            return Ok(());
+        }
         let known = cell_in(&self.slots, slot, origin);
         self.set(slot, origin, with_joined(known, *contribution))
     }

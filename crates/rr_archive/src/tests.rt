@@ -113,3 +113,76 @@ fn copies_stand_alone(rt: HostRuntime) -> Result<(), Fail> {
     assert_eq!(rt; (other.newest(), archive.newest()), (Some(1), Some(0)));
     Ok(())
 }
+
+/// An archive of three rows with samples put into slots 5, 2 and 3, in this order.
+fn late_samples<A: Archive>(alloc: Global, origin: Origin) -> Result<A, Fail> {
+    let mut archive = A::new(alloc, 3);
+    archive.put(5, origin, 1, 0, 50, 7)?;
+    archive.ready(2, origin)?;
+    archive.put(2, origin, 2, 0, 20, 8)?;
+    archive.put(3, origin, 3, 0, 30, 9)?;
+    Ok(archive)
+}
+
+#[test]
+fn samples_past_the_horizon_leave_no_trace(rt: HostRuntime) -> Result<(), Fail> {
+    let archive: PlainArchive = late_samples(rt.alloc(), Origin::new(1)?)?;
+    assert_eq!(rt; archive.newest(), Some(5));
+    assert_eq!(rt; archive.cell_count(), 2);
+    assert_eq!(rt; archive.row(2).len(), 0, "newest minus rows is dead");
+    let late = archive.row(3);
+    assert_eq!(rt; late.len(), 1);
+    assert_eq!(rt; late[0].contribution, Contribution::first(3, 0, 30, 9));
+    let newest = archive.row(5);
+    assert_eq!(rt; newest.len(), 1);
+    assert_eq!(rt; newest[0].contribution, Contribution::first(1, 0, 50, 7));
+    Ok(())
+}
+
+#[test]
+fn rows_leave_as_the_newest_moves_on(rt: HostRuntime) -> Result<(), Fail> {
+    let origin = Origin::new(1)?;
+    let mut archive: PlainArchive = Archive::new(rt.alloc(), 3);
+    let cell = Contribution::first(1, 0, 0, 1);
+    for slot in [0, 2, 1, -1] {
+        archive.join_cell(slot, origin, &cell)?;
+    }
+    assert_eq!(rt; archive.cell_count(), 3);
+    assert_eq!(rt; archive.newest(), Some(2));
+    // A row with no cell doesn't count, and a cell of a dead row doesn't move the horizon.
+    archive.ready(100, origin)?;
+    archive.join_cell(-9_223_372_037, origin, &cell)?;
+    assert_eq!(rt; archive.cell_count(), 3);
+    archive.join_cell(3, origin, &cell)?;
+    assert_eq!(rt; (archive.cell_count(), archive.newest()), (3, Some(3)));
+    assert_eq!(rt; archive.cell_at(0).map(|cell| cell.0), Some(1));
+    archive.join_cell(9_223_372_037, origin, &cell)?;
+    assert_eq!(rt;
+        (archive.cell_count(), archive.newest()),
+        (1, Some(9_223_372_037))
+    );
+    assert_eq!(rt;
+        archive.next_cell(3, origin).map(|cell| cell.0),
+        Some(9_223_372_037)
+    );
+    Ok(())
+}
+
+#[test]
+fn a_million_rows_pass_through_ten(rt: HostRuntime) -> Result<(), Fail> {
+    let origin = Origin::new(1)?;
+    let mut archive: PlainArchive = Archive::new(rt.alloc(), 10);
+    for number in 0..1_000_000u32 {
+        let slot = i64::from(number);
+        archive.join_cell(slot, origin, &Contribution::first(1, 0, 0, slot))?;
+    }
+    assert_eq!(rt; archive.cell_count(), 10);
+    for (i, slot) in [(0, 999_990), (1, 999_991), (9, 999_999)] {
+        let cell = archive
+            .cell_at(i)
+            .map(|cell| (cell.0, cell.1.contribution.last_value));
+        assert_eq!(rt; cell, Some((slot, slot)), "at {i}");
+    }
+    assert_eq!(rt; archive.cell_at(10).is_none(), true);
+    Ok(())
+}

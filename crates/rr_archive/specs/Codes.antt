@@ -1,0 +1,21 @@
+-- Codes of places and of what an archive holds, which show that these are sets.
+use Rattle.std.specs.Prelude.{ℕ, ℤ, refl}
+use Rattle.std.specs.FinMap as fin
+use Rattle.std.specs.Coded.{Coded, code_by, coded×, coded_ℕ, coded_ℤ}
+use Rattle.rr_contrib.specs.declared.contribution.Contribution.{Contribution}
+use Rattle.rr_archive.specs.Places.{Place, place_at}
+use Rattle.rr_archive.specs.Cells.{Rows}
+
+abbrev pub coded_place : Coded Place
+coded_place = code_by (ℤ × ℕ) (coded× coded_ℤ coded_ℕ) (λ p. (p.slot, p.origin)) (λ p. place_at p.0 p.1) (λ _. refl)
+
+abbrev pub coded_contribution : Coded Contribution
+coded_contribution =
+    code_by (ℕ × (ℕ × (ℤ × (ℤ × (ℤ × (ℤ × (ℤ × ℕ)))))))
+    (coded× coded_ℕ (coded× coded_ℕ (coded× coded_ℤ (coded× coded_ℤ (coded× coded_ℤ (coded× coded_ℤ (coded× coded_ℤ coded_ℕ)))))))
+    (λ c. (c.version, (c.count, (c.sum, (c.min, (c.max, (c.last_time, (c.last_value, c.mask))))))))
+    (λ p. record { version = p.0; count = p.1.0; sum = p.1.1.0; min = p.1.1.1.0; max = p.1.1.1.1.0; last_time = p.1.1.1.1.1.0; last_value = p.1.1.1.1.1.1.0; mask = p.1.1.1.1.1.1.1 })
+    (λ _. refl)
+
+abbrev pub coded_rows : Coded Rows
+coded_rows = fin.code coded_place coded_contribution
