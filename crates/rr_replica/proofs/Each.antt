@@ -1,0 +1,223 @@
+-- Archives that are changed one after the other.
+use Rattle.std.proofs.Common.{◌≡◌, ◌≢◌, ℕ, zero, suc, ◌+◌, ◌<◌, ◌≤◌, Bool, ℤ, pos, negsuc, ◌*◌, ◌/◌, ◌^◌, true, List, [], ◌∷◌, ◌++◌, take, map, length, set, slice_get, refl, sym, ap, ◌∙◌, subst, arith, Option, Some, None, ⊎_elim, true≢false, is_some, unwrap_or, get_or}
+use Rattle.std.specs.Prelude.{FitsSigned, IfSome, OnOk, Result, Ok, Err}
+use Rattle.std.specs.Int.{w64, int_div_euclid}
+use Rattle.std.specs.Option.{option_map}
+use Rattle.std.specs.FinMap.{get}
+use Rattle.std.proofs.Math.Nat.{div-lt_iff_lt-mul}
+use Rattle.std.proofs.lemmas.Bool.Decides.{eqb_tells}
+use Rattle.std.proofs.lemmas.Option.{slice_get_within, get_or_from_slice_get}
+use Rattle.std.proofs.lemmas.Int.{ints}
+use Rattle.rr_base.specs.declared.archive.ArchiveSpec.{ArchiveSpec}
+use Rattle.rr_base.specs.Schema.{Layout, IsLayout, archive_at, slot_of, span}
+use Rattle.rr_contrib.specs.Validity.{CanAdd}
+use Rattle.rr_archive.specs.Places.{Place, IsSlot}
+use Rattle.rr_archive.specs.Cells.{Rows, put_row}
+use Rattle.rr_model.proofs.Horizon.{archive_is}
+use Rattle.rr_replica.specs.declared.sample.Written.{Written}
+use Rattle.rr_replica.specs.Archives.{place_for, sample_for, Each, AreSized, CanTake, AreSame, HavePut}
+
+pub on_ok_from : {T E P : Type 0} (r : Result T E) → P → OnOk r P
+on_ok_from (Ok x) h = h
+on_ok_from (Err e) h = tt
+
+-- ---- lists
+
+pub slice_get-set_same : {X : Type 0} (xs : List X) (i : ℕ) (v : X) → i < length xs → slice_get (set xs i v) i ≡ Some v
+slice_get-set_same [] i v h = absurd (omega arith)
+slice_get-set_same (x ∷ xs) zero v h = refl
+slice_get-set_same (x ∷ xs) (suc i) v h = slice_get-set_same xs i v (omega arith)
+
+pub slice_get-set_other : {X : Type 0} (xs : List X) (i j : ℕ) (v : X) → j ≢ i → slice_get (set xs i v) j ≡ slice_get xs j
+slice_get-set_other [] i j v h = refl
+slice_get-set_other (x ∷ xs) zero zero v h = absurd (h refl)
+slice_get-set_other (x ∷ xs) zero (suc j) v h = refl
+slice_get-set_other (x ∷ xs) (suc i) zero v h = refl
+slice_get-set_other (x ∷ xs) (suc i) (suc j) v h = slice_get-set_other xs i j v (λ e. h (ap suc e))
+
+pub length-set : {X : Type 0} (xs : List X) (i : ℕ) (v : X) → length (set xs i v) ≡ length xs
+length-set [] i v = refl
+length-set (x ∷ xs) zero v = refl
+length-set (x ∷ xs) (suc i) v = ap suc (length-set xs i v)
+
+pub map-set_same : {X Y : Type 0} (f : X → Y) (xs : List X) (i : ℕ) (a v : X) → slice_get xs i ≡ Some a → f v ≡ f a → map f (set xs i v) ≡ map f xs
+map-set_same f [] i a v at same = refl
+map-set_same f (x ∷ xs) zero a v at same = ap (λ y. y ∷ map f xs) (same ∙ sym (ap (λ o. f (unwrap_or o x)) at))
+map-set_same f (x ∷ xs) (suc i) a v at same = ap (λ ys. f x ∷ ys) (map-set_same f xs i a v at same)
+
+pub slice_get-map : {X Y : Type 0} (f : X → Y) (xs : List X) (i : ℕ) → slice_get (map f xs) i ≡ option_map f (slice_get xs i)
+slice_get-map f [] i = refl
+slice_get-map f (x ∷ xs) zero = refl
+slice_get-map f (x ∷ xs) (suc i) = slice_get-map f xs i
+
+pub length-map : {X Y : Type 0} (f : X → Y) (xs : List X) → length (map f xs) ≡ length xs
+length-map f [] = refl
+length-map f (x ∷ xs) = ap suc (length-map f xs)
+
+-- ---- what an archive of the layout keeps
+
+module _ {X : Type 0} (limit : X → ℕ) (s : Layout) (archives : List X) (sized : AreSized limit s archives) where
+  pub sized_many : length archives ≡ length s.archives
+  sized_many = sym (length-map limit archives) ∙ ap length sized ∙ length-map (λ (a : ArchiveSpec). a.rows) s.archives
+
+  pub sized_at : (i : ℕ) (a : X) → slice_get archives i ≡ Some a → limit a ≡ (archive_at s i).rows
+  sized_at i a at =
+      let past : ArchiveSpec = record { steps = 1; rows = 1; num = 0; den = 1 } in
+      let seen : Some (limit a) ≡ option_map (λ (b : ArchiveSpec). b.rows) (slice_get s.archives i) = sym (ap (option_map limit) at) ∙ sym (slice_get-map limit archives i) ∙ ap (λ l. slice_get l i) sized ∙ slice_get-map (λ (b : ArchiveSpec). b.rows) s.archives i in
+      read (slice_get s.archives i) past seen (λ b e. get_or_from_slice_get s.archives i b past e)
+    where
+      read : (o : Option ArchiveSpec) (past : ArchiveSpec) → Some (limit a) ≡ option_map (λ (b : ArchiveSpec). b.rows) o → ((b : ArchiveSpec) → o ≡ Some b → get_or s.archives i past ≡ b) → limit a ≡ (get_or s.archives i past).rows
+      read None past e f = absurd (true≢false (ap is_some e))
+      read (Some b) past e f = ap (λ o. unwrap_or o 0) e ∙ sym (ap (λ (c : ArchiveSpec). c.rows) (f b refl))
+
+-- ---- the slots of times
+
+below_second : (t n : ℕ) → 1 ≤ n → t < 2 ^ 63 → t / (n * 1_000_000_000) < 9_223_372_037
+below_second t n some fits = (div-lt_iff_lt-mul {k = n * 1_000_000_000} (omega arith)).1 (omega arith)
+
+slot_bound : (time : ℤ) (n : ℕ) → 1 ≤ n → FitsSigned w64 time → IsSlot (int_div_euclid time (pos (n * 1_000_000_000)))
+slot_bound (pos t) n some fits = let h = below_second t n some (omega (arith, ints)) in (omega (arith, ints), omega (arith, ints))
+slot_bound (negsuc t) n some fits = let h = below_second t n some (omega (arith, ints)) in (omega (arith, ints), omega (arith, ints))
+
+pub slot_is : (s : Layout) → IsLayout s → (i : ℕ) (time : ℤ) → FitsSigned w64 time → IsSlot (slot_of s i time)
+slot_is s is i time fits = slot_bound time (span s i) (some_span s.step (archive_at s i).steps is.some_step (archive_is s is i).some_step) fits
+  where
+    some_span : (m n : ℕ) → 1 ≤ m → 1 ≤ n → 1 ≤ m * n
+    some_span (suc m) (suc n) a b = omega arith
+    some_span zero n a b = absurd (omega arith)
+    some_span (suc m) zero a b = absurd (omega arith)
+
+-- ---- room is made
+
+pub record AreReadied {X : Type 0} (cells : X → Rows) (limit : X → ℕ) (is_ready : X → Place → Bool) (s : Layout) (x : Written) (i : ℕ) (old new : List X) : Type 0 where
+  pub same : AreSame cells old new
+  pub sized : AreSized limit s new
+  pub ready : (j : ℕ) (b : X) → j < i → slice_get new j ≡ Some b → is_ready b (place_for s x j) ≡ true
+
+module _ {X : Type 0} (cells : X → Rows) (limit : X → ℕ) (is_ready : X → Place → Bool) (s : Layout) (x : Written) where
+  Some_inj : (a b : X) → Some a ≡ Some b → a ≡ b
+  Some_inj a b e = ap (λ o. unwrap_or o a) e
+
+  pub readied_none : (old : List X) → AreSized limit s old → AreReadied cells limit is_ready s x 0 old old
+  readied_none old sized = record {
+    same = record { many = refl; each = λ j a b at here. ap cells (Some_inj b a (sym here ∙ at)) };
+    sized = sized;
+    ready = λ j b h. absurd (omega arith);
+  }
+
+  pub same_more : (i : ℕ) (old new : List X) (a b : X) → AreSame cells old new → slice_get new i ≡ Some a → cells b ≡ cells a → AreSame cells old (set new i b)
+  same_more i old new a b same at is = record {
+    many = length-set new i b ∙ same.many;
+    each = λ j c d was here. ⊎_elim
+        (λ h.
+        let d_is : d ≡ b = Some_inj d b (sym here ∙ ap (slice_get (set new i b)) h.1 ∙ slice_get-set_same new i b (slice_get_within new i a at)) in
+        ap cells d_is ∙ is ∙ same.each j c a was (ap (slice_get new) h.1 ∙ at))
+        (λ h. same.each j c d was (sym (slice_get-set_other new i j b h.1) ∙ here))
+        (eqb_tells j i);
+  }
+
+  pub readied_more : (i : ℕ) (old new : List X) (a b : X) → AreReadied cells limit is_ready s x i old new → slice_get new i ≡ Some a → cells b ≡ cells a → limit b ≡ limit a → is_ready b (place_for s x i) ≡ true → AreReadied cells limit is_ready s x (i + 1) old (set new i b)
+  readied_more i old new a b r at is size ready = record {
+    same = same_more i old new a b r.same at is;
+    sized = map-set_same limit new i a b at size ∙ r.sized;
+    ready = λ j d below here. ⊎_elim
+        (λ h. subst (λ k. is_ready d (place_for s x k) ≡ true) (sym h.1) (subst (λ e. is_ready e (place_for s x i) ≡ true) (sym (Some_inj d b (sym here ∙ ap (slice_get (set new i b)) h.1 ∙ slice_get-set_same new i b (slice_get_within new i a at)))) ready))
+        (λ h. r.ready j d (below_it j i below h.1) (sym (slice_get-set_other new i j b h.1) ∙ here))
+        (eqb_tells j i);
+  }
+    where
+      below_it : (j i : ℕ) → j < i + 1 → j ≢ i → j < i
+      below_it j i h apart = ⊎_elim (λ e. absurd (apart e.1)) (λ e. omega arith) (eqb_tells j i)
+
+-- ---- samples are put
+
+pub record ArePut {X : Type 0} (cells : X → Rows) (limit : X → ℕ) (s : Layout) (x : Written) (i : ℕ) (old new : List X) : Type 0 where
+  pub many : length new ≡ length old
+  pub sized : AreSized limit s new
+  pub put : (j : ℕ) (a b : X) → j < i → slice_get old j ≡ Some a → slice_get new j ≡ Some b → cells b ≡ put_row (archive_at s j).rows (cells a) (place_for s x j) (sample_for s x j)
+  pub rest : (j : ℕ) → i ≤ j → slice_get new j ≡ slice_get old j
+
+module _ {X : Type 0} (cells : X → Rows) (limit : X → ℕ) (s : Layout) (x : Written) where
+  pub put_none : (old : List X) → AreSized limit s old → ArePut cells limit s x 0 old old
+  put_none old sized = record {
+    many = refl;
+    sized = sized;
+    put = λ j a b h. absurd (omega arith);
+    rest = λ j h. refl;
+  }
+
+  pub put_more : (i : ℕ) (old new : List X) (a b : X) → ArePut cells limit s x i old new → slice_get new i ≡ Some a → cells b ≡ put_row (limit a) (cells a) (place_for s x i) (sample_for s x i) → limit b ≡ limit a → ArePut cells limit s x (i + 1) old (set new i b)
+  put_more i old new a b r at is size = record {
+    many = length-set new i b ∙ r.many;
+    sized = map-set_same limit new i a b at size ∙ r.sized;
+    put = λ j c d below was here. ⊎_elim
+        (λ h.
+        let d_is : d ≡ b = ap (λ o. unwrap_or o d) (sym here ∙ ap (slice_get (set new i b)) h.1 ∙ slice_get-set_same new i b (slice_get_within new i a at)) in
+        let c_is : a ≡ c = ap (λ o. unwrap_or o a) (sym at ∙ r.rest i (omega arith) ∙ ap (slice_get old) (sym h.1) ∙ was) in
+        ap cells d_is ∙ is ∙ (λ k. put_row (sized_at limit s new r.sized i a at k) (cells (c_is k)) (place_for s x i) (sample_for s x i))
+        ∙ ap (λ k. put_row (archive_at s k).rows (cells c) (place_for s x k) (sample_for s x k)) (sym h.1))
+        (λ h. r.put j c d (below_it j i below h.1) was (sym (slice_get-set_other new i j b h.1) ∙ here))
+        (eqb_tells j i);
+    rest = λ j above. slice_get-set_other new i j b (λ e. absurd (omega arith)) ∙ r.rest j (omega arith);
+  }
+    where
+      below_it : (j i : ℕ) → j < i + 1 → j ≢ i → j < i
+      below_it j i h apart = ⊎_elim (λ e. absurd (apart e.1)) (λ e. omega arith) (eqb_tells j i)
+
+  pub put_all : (i : ℕ) (old new : List X) → ArePut cells limit s x i old new → length new ≤ i → HavePut cells s x old new
+  put_all i old new r past = record {
+    many = r.many;
+    each = λ j a b was here. r.put j a b (let within = slice_get_within new j b here in omega arith) was here;
+  }
+
+  -- a sample put into archives with the same cells
+  pub put_after_same : (old mid new : List X) → AreSame cells old mid → HavePut cells s x mid new → HavePut cells s x old new
+  put_after_same old mid new same h = record {
+    many = h.many ∙ same.many;
+    each = λ j a b was here. through j a b was here (slice_get mid j) refl;
+  }
+    where
+      through : (j : ℕ) (a b : X) → slice_get old j ≡ Some a → slice_get new j ≡ Some b → (o : Option X) → slice_get mid j ≡ o → cells b ≡ put_row (archive_at s j).rows (cells a) (place_for s x j) (sample_for s x j)
+      through j a b was here None e = absurd (let within = slice_get_within old j a was in let past = past_end mid j e in let many = same.many in omega arith)
+        where
+          past_end : (xs : List X) (j : ℕ) → slice_get xs j ≡ None → length xs ≤ j
+          past_end [] j e = omega arith
+          past_end (y ∷ ys) zero e = absurd (some_none e)
+            where
+              some_none : {y : X} → ◌≡◌ {A = Option X} (Some y) None → ⊥
+              some_none e = true≢false (ap is_some e)
+          past_end (y ∷ ys) (suc j) e = let h = past_end ys j e in omega arith
+      through j a b was here (Some m) e = h.each j m b e here ∙ ap (λ r. put_row (archive_at s j).rows r (place_for s x j) (sample_for s x j)) (same.each j a m was e)
+
+  pub can_take_same : (old mid : List X) → AreSame cells old mid → CanTake cells s x old → CanTake cells s x mid
+  can_take_same old mid same can = λ j b here. through j b here (slice_get old j) refl
+    where
+      through : (j : ℕ) (b : X) → slice_get mid j ≡ Some b → (o : Option X) → slice_get old j ≡ o → IfSome (get (cells b) (place_for s x j)) (CanAdd x.number)
+      through j b here None e = absurd (let within = slice_get_within mid j b here in let past = past_end old j e in let many = same.many in omega arith)
+        where
+          past_end : (xs : List X) (j : ℕ) → slice_get xs j ≡ None → length xs ≤ j
+          past_end [] j e = omega arith
+          past_end (y ∷ ys) zero e = absurd (true≢false (ap is_some e))
+          past_end (y ∷ ys) (suc j) e = let h = past_end ys j e in omega arith
+      through j b here (Some a) e = subst (λ r. IfSome (get r (place_for s x j)) (CanAdd x.number)) (sym (same.each j a b e here)) (can j a e)
+
+-- ---- archives that are made
+
+-- what each of a list passes, one more passes
+pub each_more : {X : Type 0} (P : X → Type 0) (xs : List X) (x : X) → Each (λ _ a. P a) xs → P x → Each (λ _ a. P a) (xs ++ x ∷ [])
+each_more P [] x all h zero a e = subst P (ap (λ o. unwrap_or o a) e) h
+each_more P [] x all h (suc i) a e = absurd (true≢false (sym (ap is_some e)))
+each_more P (y ∷ ys) x all h zero a e = all zero a e
+each_more P (y ∷ ys) x all h (suc i) a e = each_more P ys x (λ j b f. all (suc j) b f) h i a e
+
+pub map_more : {X Y : Type 0} (f : X → Y) (xs : List X) (x : X) → map f (xs ++ x ∷ []) ≡ map f xs ++ f x ∷ []
+map_more f [] x = refl
+map_more f (y ∷ ys) x = ap (λ l. f y ∷ l) (map_more f ys x)
+
+pub take_more : {X Y : Type 0} (f : X → Y) (xs : List X) (i : ℕ) (d : X) → i < length xs → map f (take (i + 1) xs) ≡ map f (take i xs) ++ f (get_or xs i d) ∷ []
+take_more f [] i d h = absurd (omega arith)
+take_more f (x ∷ xs) zero d h = refl
+take_more f (x ∷ xs) (suc i) d h = ap (λ n. map f (take n (x ∷ xs))) (suc_more i) ∙ ap (λ l. f x ∷ l) (take_more f xs i d (omega arith))
+  where
+    suc_more : (i : ℕ) → suc i + 1 ≡ suc (i + 1)
+    suc_more i = omega arith

@@ -1,0 +1,40 @@
+-- Fields put one after the other.
+use Rattle.std.proofs.Common.{◌≡◌, ℕ, zero, suc, ◌<◌, ℤ, true, false, Result, Ok, Err, List, [], ◌∷◌, ◌++◌, length, map, take, get_or, refl, ap, arith}
+use Rattle.std.specs.Prelude.{OnOk, OnErr}
+use Rattle.std.specs.Result.{is_err}
+use Rattle.std.specs.List.{AllByRecursion}
+use Rattle.rr_line.specs.Key.{key_text}
+use Rattle.rr_line.specs.Line.{PointView}
+use Rattle.rr_replica.specs.Holding.{Holding, with_put}
+use Rattle.rr_replica.specs.Writing.{with_fields}
+
+-- one field more is one put more
+pub with_fields-more : (h : Holding) (p : PointView) (time : ℤ) (fields : List (List ℕ × ℤ)) (field : List ℕ × ℤ) → with_fields h p time (fields ++ field ∷ []) ≡ with_put (with_fields h p time fields) (key_text p field.0) time field.1
+with_fields-more h p time [] field = refl
+with_fields-more h p time (other ∷ fields) field = with_fields-more (with_put h (key_text p other.0) time other.1) p time fields field
+
+-- what holds of each field of a point holds of the one at a place
+pub field_at : {A B : Type 0} (P : B → Type 0) (view : A → B) (xs : List A) (i : ℕ) (d : A) → AllByRecursion P (map view xs) → i < length xs → P (view (get_or xs i d))
+field_at P view [] i d all lt = absurd (omega arith)
+field_at P view (x ∷ xs) zero d all lt = all.0
+field_at P view (x ∷ xs) (suc i) d all lt = field_at P view xs i d all.1 (omega arith)
+
+-- a view of fields has as many
+pub view_len : {A B : Type 0} (view : A → B) (xs : List A) → length (map view xs) ≡ length xs
+view_len view [] = refl
+view_len view (x ∷ xs) = ap suc (view_len view xs)
+
+-- the first of the fields, seen, are the first that are seen
+pub take-view : {A B : Type 0} (view : A → B) (i : ℕ) (xs : List A) → map view (take i xs) ≡ take i (map view xs)
+take-view view zero xs = refl
+take-view view (suc i) [] = refl
+take-view view (suc i) (x ∷ xs) = ap (λ l. view x ∷ l) (take-view view i xs)
+
+-- what holds where a call failed, and where it did not
+pub failed : {A E : Type 0} {P : Type 0} (r : Result A E) → OnErr r P → true ≡ is_err r → P
+failed (Ok x) h e = absurd cc
+failed (Err fault) h e = h
+
+pub passed : {A E : Type 0} {P : Type 0} (r : Result A E) → OnOk r P → false ≡ is_err r → P
+passed (Ok x) h e = h
+passed (Err fault) h e = absurd cc

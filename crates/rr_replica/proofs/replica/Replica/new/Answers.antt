@@ -1,0 +1,16 @@
+use Rattle.std.proofs.Common.{rules, ◌≡◌, []}
+use Rattle.rr_base.specs.Schema.{IsLayout}
+use Rattle.rr_replica.proofs.Keeping.{kept_none, cells_none}
+use Rattle.rr_replica.proofs.replica.Replica.new.Goals as goal
+
+pub invariant_of-result : goal.invariant_of-result
+invariant_of-result g c =
+    let none : c.new.result.entries ≡ [] = search rules in
+    let within : IsLayout c.in_ok-copy.field-0 = search rules in
+    kept_none g.A.Archive.cells g.A.Archive.row_limit c.in_ok-copy.field-0 c.args.origin c.new.result.entries within none
+
+pub returns : goal.returns
+returns g c =
+    let none : c.new.result.entries ≡ [] = search rules in
+    let same : c.in_ok-copy.field-0 ≡ c.args.schema.now = search rules in
+    λ i. record { schema = same i; origin = c.args.origin; next = 1; cells = cells_none g.A.Archive.cells c.new.result.entries none i }

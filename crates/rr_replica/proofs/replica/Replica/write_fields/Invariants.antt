@@ -1,0 +1,12 @@
+use Rattle.std.proofs.Common.{◌≡◌, ◌+◌, map, take}
+use Rattle.rr_line.specs.Line.{point_view}
+use Rattle.rr_replica.specs.Writing.{with_fields}
+use Rattle.rr_replica.proofs.replica.Replica.write_fields.Given as goal
+
+-- the fields so far are put
+abbrev pub invariant-loop-field : goal.invariant-loop-field
+invariant-loop-field g l = record {
+  counted : l.put ≡ l.field-index;
+  numbered : l.self.next ≡ l.initial.self.next + l.field-index;
+  put : l.self ≡ with_fields l.initial.self (point_view l.point) l.time (map (λ field. (field.0.now, field.1)) (take l.field-index l.field-items));
+}

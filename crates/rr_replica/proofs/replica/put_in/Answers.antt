@@ -1,0 +1,82 @@
+use Rattle.std.proofs.Common.{rules, ◌≡◌, ℕ, List, cond, Some, None, sym}
+use Rattle.std.specs.BTreeMap.{is_at}
+use Rattle.std.proofs.lemmas.Result.{on_ok_weaker, on_err_weaker}
+use Rattle.rr_replica.specs.Series.{bytes_cmp}
+use Rattle.rr_replica.specs.Kept.{archives_of}
+use Rattle.rr_replica.proofs.Each.{sized_many}
+use Rattle.rr_replica.proofs.Keeping.{before_found, before_fresh, can_take, cells_with, kept_with, cells_without, kept_without}
+use Rattle.rr_replica.proofs.replica.put_in.Goals as goal
+
+pub put_into-requires-clause-newer : goal.put_into-requires-clause-newer
+put_into-requires-clause-newer g c =
+    let found : Some c.in-Some.archives.now ≡ archives_of c.args.series.now.entries c.args.key.now = c.in-Some.ensures.value in
+    let before = before_found g.A.Archive.cells g.A.Archive.row_limit c.args.schema.now c.args.key.now c.args.sample.now c.args.series.now.entries c.requires.kept c.requires.known c.in-Some.archives.now found in
+    can_take g.A.Archive.cells g.A.Archive.row_limit c.args.schema.now c.args.key.now c.args.sample.now c.args.series.now.entries c.requires.kept c.requires.known c.in-Some.archives.now.items before
+
+pub put_into-requires-in-None-clause-newer : goal.put_into-requires-in-None-clause-newer
+put_into-requires-in-None-clause-newer g c =
+    let none : None ≡ archives_of c.args.series.now.entries c.args.key.now = c.in-None.ensures.value in
+    let before = before_fresh g.A.Archive.cells g.A.Archive.row_limit c.args.schema.now c.args.key.now c.args.sample.now c.args.series.now.entries c.requires.kept c.requires.known c.in_ok-archives-in-None.archives.items none c.in_ok-archives-in-None.ensures.empty in
+    can_take g.A.Archive.cells g.A.Archive.row_limit c.args.schema.now c.args.key.now c.args.sample.now c.args.series.now.entries c.requires.kept c.requires.known c.in_ok-archives-in-None.archives.items before
+
+pub returns-in-Some-clause-put : goal.returns-in-Some-clause-put
+returns-in-Some-clause-put g c =
+    let found : Some c.in-Some.archives.now ≡ archives_of c.args.series.now.entries c.args.key.now = c.in-Some.ensures.value in
+    let before = before_found g.A.Archive.cells g.A.Archive.row_limit c.args.schema.now c.args.key.now c.args.sample.now c.args.series.now.entries c.requires.kept c.requires.known c.in-Some.archives.now found in
+    let new = (c.get_mut.follows.lender c.put_into.new.archives).entries in
+    let holds = c.get_mut.follows.holds c.put_into.new.archives in
+    let updates = holds.3 (search rules) in
+    let many = sized_many g.A.Archive.row_limit c.args.schema.now c.in-Some.archives.now.items (c.requires.kept.sized c.args.key.now c.in-Some.archives.now (sym found)) in
+    on_ok_weaker c.put_into.result (cells_with g.A.Archive.cells g.A.Archive.row_limit c.args.schema.now c.args.key.now c.args.sample.now c.args.series.now.entries c.requires.kept c.requires.known new c.put_into.new.archives updates.0 holds.4 c.in-Some.archives.now.items before c.put_into.ensures.sized many) c.put_into.ensures.put
+
+pub returns-in-Some-clause-ok : goal.returns-in-Some-clause-ok
+returns-in-Some-clause-ok g c =
+    let found : Some c.in-Some.archives.now ≡ archives_of c.args.series.now.entries c.args.key.now = c.in-Some.ensures.value in
+    let before = before_found g.A.Archive.cells g.A.Archive.row_limit c.args.schema.now c.args.key.now c.args.sample.now c.args.series.now.entries c.requires.kept c.requires.known c.in-Some.archives.now found in
+    let new = (c.get_mut.follows.lender c.put_into.new.archives).entries in
+    let holds = c.get_mut.follows.holds c.put_into.new.archives in
+    let updates = holds.3 (search rules) in
+    let many = sized_many g.A.Archive.row_limit c.args.schema.now c.in-Some.archives.now.items (c.requires.kept.sized c.args.key.now c.in-Some.archives.now (sym found)) in
+    on_ok_weaker c.put_into.result (kept_with g.A.Archive.cells g.A.Archive.row_limit c.args.schema.now c.args.key.now c.args.sample.now c.args.series.now.entries c.requires.kept c.requires.known new c.put_into.new.archives updates.0 holds.4 c.in-Some.archives.now.items before c.put_into.ensures.sized many) c.put_into.ensures.put
+
+pub returns-in-Some-clause-err : goal.returns-in-Some-clause-err
+returns-in-Some-clause-err g c =
+    let found : Some c.in-Some.archives.now ≡ archives_of c.args.series.now.entries c.args.key.now = c.in-Some.ensures.value in
+    let before = before_found g.A.Archive.cells g.A.Archive.row_limit c.args.schema.now c.args.key.now c.args.sample.now c.args.series.now.entries c.requires.kept c.requires.known c.in-Some.archives.now found in
+    let new = (c.get_mut.follows.lender c.put_into.new.archives).entries in
+    let holds = c.get_mut.follows.holds c.put_into.new.archives in
+    let updates = holds.3 (search rules) in
+    let many = sized_many g.A.Archive.row_limit c.args.schema.now c.in-Some.archives.now.items (c.requires.kept.sized c.args.key.now c.in-Some.archives.now (sym found)) in
+    on_err_weaker c.put_into.result (cells_without g.A.Archive.cells g.A.Archive.row_limit c.args.schema.now c.args.key.now c.args.sample.now c.args.series.now.entries c.requires.kept c.requires.known new c.put_into.new.archives updates.0 holds.4 c.in-Some.archives.now.items before c.put_into.ensures.sized) c.put_into.ensures.same
+
+pub returns-in-Some-clause-kept : goal.returns-in-Some-clause-kept
+returns-in-Some-clause-kept g c =
+    let found : Some c.in-Some.archives.now ≡ archives_of c.args.series.now.entries c.args.key.now = c.in-Some.ensures.value in
+    let before = before_found g.A.Archive.cells g.A.Archive.row_limit c.args.schema.now c.args.key.now c.args.sample.now c.args.series.now.entries c.requires.kept c.requires.known c.in-Some.archives.now found in
+    let new = (c.get_mut.follows.lender c.put_into.new.archives).entries in
+    let holds = c.get_mut.follows.holds c.put_into.new.archives in
+    let updates = holds.3 (search rules) in
+    let many = sized_many g.A.Archive.row_limit c.args.schema.now c.in-Some.archives.now.items (c.requires.kept.sized c.args.key.now c.in-Some.archives.now (sym found)) in
+    on_err_weaker c.put_into.result (kept_without g.A.Archive.cells g.A.Archive.row_limit c.args.schema.now c.args.key.now c.args.sample.now c.args.series.now.entries c.requires.kept c.requires.known new c.put_into.new.archives updates.0 holds.4 c.in-Some.archives.now.items before c.put_into.ensures.sized) c.put_into.ensures.same
+
+pub returns-in_ok-insert-in-None-clause-put : goal.returns-in_ok-insert-in-None-clause-put
+returns-in_ok-insert-in-None-clause-put g c =
+    let none : None ≡ archives_of c.args.series.now.entries c.args.key.now = c.in-None.ensures.value in
+    let before = before_fresh g.A.Archive.cells g.A.Archive.row_limit c.args.schema.now c.args.key.now c.args.sample.now c.args.series.now.entries c.requires.kept c.requires.known c.in_ok-archives-in-None.archives.items none c.in_ok-archives-in-None.ensures.empty in
+    let same : c.get_mut.follows.lender-at-none ≡ c.args.series.now = c.get_mut.follows.holds-at-none in
+    let key : c.in_ok-copy-in-None.field-0 ≡ c.args.key.now = search rules in
+    let updates = rw (same, key) at c.in_ok-insert-in-None.ensures.updates in
+    let sets : (q : List ℕ) → archives_of c.insert.new.self.entries q ≡ cond (is_at (bytes_cmp c.args.key.now) q) (Some c.put_into-in-None.new.archives) (archives_of c.args.series.now.entries q) = updates.0 in
+    let many = sized_many g.A.Archive.row_limit c.args.schema.now c.in_ok-archives-in-None.archives.items c.in_ok-archives-in-None.ensures.sized in
+    cells_with g.A.Archive.cells g.A.Archive.row_limit c.args.schema.now c.args.key.now c.args.sample.now c.args.series.now.entries c.requires.kept c.requires.known c.insert.new.self.entries c.put_into-in-None.new.archives sets c.insert.ensures.ordered c.in_ok-archives-in-None.archives.items before c.put_into-in-None.ensures.sized many c.in_ok-put_into-in-None.ensures.put
+
+pub returns-in_ok-insert-in-None-clause-ok : goal.returns-in_ok-insert-in-None-clause-ok
+returns-in_ok-insert-in-None-clause-ok g c =
+    let none : None ≡ archives_of c.args.series.now.entries c.args.key.now = c.in-None.ensures.value in
+    let before = before_fresh g.A.Archive.cells g.A.Archive.row_limit c.args.schema.now c.args.key.now c.args.sample.now c.args.series.now.entries c.requires.kept c.requires.known c.in_ok-archives-in-None.archives.items none c.in_ok-archives-in-None.ensures.empty in
+    let same : c.get_mut.follows.lender-at-none ≡ c.args.series.now = c.get_mut.follows.holds-at-none in
+    let key : c.in_ok-copy-in-None.field-0 ≡ c.args.key.now = search rules in
+    let updates = rw (same, key) at c.in_ok-insert-in-None.ensures.updates in
+    let sets : (q : List ℕ) → archives_of c.insert.new.self.entries q ≡ cond (is_at (bytes_cmp c.args.key.now) q) (Some c.put_into-in-None.new.archives) (archives_of c.args.series.now.entries q) = updates.0 in
+    let many = sized_many g.A.Archive.row_limit c.args.schema.now c.in_ok-archives-in-None.archives.items c.in_ok-archives-in-None.ensures.sized in
+    kept_with g.A.Archive.cells g.A.Archive.row_limit c.args.schema.now c.args.key.now c.args.sample.now c.args.series.now.entries c.requires.kept c.requires.known c.insert.new.self.entries c.put_into-in-None.new.archives sets c.insert.ensures.ordered c.in_ok-archives-in-None.archives.items before c.put_into-in-None.ensures.sized many c.in_ok-put_into-in-None.ensures.put

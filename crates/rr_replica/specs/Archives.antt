@@ -1,0 +1,44 @@
+-- The archives of one key, each seen as a map by a function, and what a sample makes of each.
+use Rattle.std.specs.Prelude.{◌≡◌, ℕ, List, map, length, Some, slice_get}
+use Rattle.std.specs.FinMap.{get}
+use Rattle.rr_base.specs.Schema.{Layout, archive_at, slot_of, place_of}
+use Rattle.rr_contrib.specs.Contributions.{SlotSample, slot_sample}
+use Rattle.rr_contrib.specs.Validity.{CanAdd}
+use Rattle.std.specs.Prelude.{IfSome}
+use Rattle.rr_archive.specs.Places.{Place, place_at}
+use Rattle.rr_archive.specs.Cells.{Rows, put_row}
+use Rattle.rr_replica.specs.declared.sample.Written.{Written}
+
+-- where the sample falls in an archive
+abbrev pub place_for : Layout → Written → ℕ → Place
+place_for s x archive = place_at (slot_of s archive x.time) x.origin
+
+-- the sample, as the slot of an archive sees it
+abbrev pub sample_for : Layout → Written → ℕ → SlotSample
+sample_for s x archive = slot_sample x.number (place_of s archive x.time) x.time x.value
+
+module _ {X : Type 0} where
+  -- both lists have an archive with this number, and the two are so related
+  abbrev pub EachPair : (ℕ → X → X → Type 0) → List X → List X → Type 0
+  EachPair R old new = (i : ℕ) (a b : X) → slice_get old i ≡ Some a → slice_get new i ≡ Some b → R i a b
+
+  abbrev pub Each : (ℕ → X → Type 0) → List X → Type 0
+  Each P archives = (i : ℕ) (a : X) → slice_get archives i ≡ Some a → P i a
+
+  -- each archive keeps the rows that the layout says
+  abbrev pub AreSized : (X → ℕ) → Layout → List X → Type 0
+  AreSized limit s archives = map limit archives ≡ map (λ a. a.rows) s.archives
+
+  -- a sample of this number can be added to the cell where it falls
+  abbrev pub CanTake : (X → Rows) → Layout → Written → List X → Type 0
+  CanTake cells s x archives = Each (λ i a. IfSome (get (cells a) (place_for s x i)) (CanAdd x.number)) archives
+
+  -- as many archives, with the same cells
+  pub record AreSame (cells : X → Rows) (old new : List X) : Type 0 where
+    pub many : length new ≡ length old
+    pub each : EachPair (λ i a b. cells b ≡ cells a) old new
+
+  -- as many archives, each with the sample put
+  pub record HavePut (cells : X → Rows) (s : Layout) (x : Written) (old new : List X) : Type 0 where
+    pub many : length new ≡ length old
+    pub each : EachPair (λ i a b. cells b ≡ put_row (archive_at s i).rows (cells a) (place_for s x i) (sample_for s x i)) old new

@@ -1,0 +1,45 @@
+-- What a replica holds.
+use Rattle.std.specs.Prelude.{ℕ, ℤ, ◌+◌, List, refl}
+use Rattle.std.specs.FinMap as fin
+use Rattle.std.specs.Coded.{Coded, code_by, coded×, coded_ℕ, coded_ℤ, coded_list}
+use Rattle.rr_base.specs.declared.archive.ArchiveSpec.{ArchiveSpec}
+use Rattle.rr_base.specs.Schema.{Layout}
+use Rattle.rr_archive.specs.Codes.{coded_contribution}
+use Rattle.rr_model.specs.CellNames.{CellName}
+use Rattle.rr_model.specs.Samples.{Sample}
+use Rattle.rr_replica.specs.Cells.{Cells}
+use Rattle.rr_replica.specs.Puts.{put_sample}
+
+-- a schema, an origin, the number that its next sample takes, and cells
+pub record Holding : Type 0 where
+  pub schema : Layout
+  pub origin : ℕ
+  pub next : ℕ
+  pub cells : Cells
+
+-- the sample that a replica writes next
+abbrev pub next_sample : Holding → List ℕ → ℤ → ℤ → Sample
+next_sample h key time value = record { time = time; origin = h.origin; number = h.next; key = key; value = value }
+
+-- with this sample put
+abbrev pub with_put : Holding → List ℕ → ℤ → ℤ → Holding
+with_put h key time value = record {
+  schema = h.schema;
+  origin = h.origin;
+  next = h.next + 1;
+  cells = put_sample h.schema h.cells (next_sample h key time value);
+}
+
+-- ---- codes, which show that holdings are a set
+
+abbrev pub coded_spec : Coded ArchiveSpec
+coded_spec = code_by (ℕ × (ℕ × (ℕ × ℕ))) (coded× coded_ℕ (coded× coded_ℕ (coded× coded_ℕ coded_ℕ))) (λ a. (a.steps, (a.rows, (a.num, a.den)))) (λ p. record { steps = p.0; rows = p.1.0; num = p.1.1.0; den = p.1.1.1 }) (λ _. refl)
+
+abbrev pub coded_layout : Coded Layout
+coded_layout = code_by (ℕ × List ArchiveSpec) (coded× coded_ℕ (coded_list coded_spec)) (λ s. (s.step, s.archives)) (λ p. record { step = p.0; archives = p.1 }) (λ _. refl)
+
+abbrev pub coded_name : Coded CellName
+coded_name = code_by (List ℕ × (ℕ × (ℤ × ℕ))) (coded× (coded_list coded_ℕ) (coded× coded_ℕ (coded× coded_ℤ coded_ℕ))) (λ n. (n.key, (n.archive, (n.slot, n.origin)))) (λ p. record { key = p.0; archive = p.1.0; slot = p.1.1.0; origin = p.1.1.1 }) (λ _. refl)
+
+abbrev pub coded_holding : Coded Holding
+coded_holding = code_by (Layout × (ℕ × (ℕ × Cells))) (coded× coded_layout (coded× coded_ℕ (coded× coded_ℕ (fin.code coded_name coded_contribution)))) (λ h. (h.schema, (h.origin, (h.next, h.cells)))) (λ p. record { schema = p.0; origin = p.1.0; next = p.1.1.0; cells = p.1.1.1 }) (λ _. refl)

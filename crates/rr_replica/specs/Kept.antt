@@ -1,0 +1,51 @@
+-- What a replica keeps to.
+use Rattle.std.specs.Prelude.{◌≡◌, ℕ, ◌+◌, ◌<◌, ◌≤◌, List, map, Option, Some}
+use Rattle.std.specs.Global.{Vec}
+use Rattle.std.specs.List.Sorted.{IsStrictlySortedBy}
+use Rattle.std.specs.Map.{lookup, keys_of}
+use Rattle.std.specs.BTreeMap.{is_at}
+use Rattle.std.specs.FinMap.{get}
+use Rattle.rr_base.specs.declared.limits.TheConstants.{MAX_NUMBER}
+use Rattle.rr_base.specs.Schema.{Layout, IsLayout}
+use Rattle.rr_contrib.specs.declared.contribution.Contribution.{Contribution}
+use Rattle.rr_contrib.specs.Validity.{IsValid}
+use Rattle.rr_archive.specs.Cells.{Rows}
+use Rattle.rr_model.specs.CellNames.{CellName}
+use Rattle.rr_model.specs.Samples.{Sample}
+use Rattle.rr_replica.specs.declared.sample.Written.{Written}
+use Rattle.rr_replica.specs.Cells.{IsTrimmed}
+use Rattle.rr_replica.specs.Holding.{Holding}
+use Rattle.rr_replica.specs.Series.{Series, bytes_cmp, cells_of}
+use Rattle.rr_replica.specs.Archives.{AreSized}
+
+-- a next number is left or was the last, no cell is past the horizon, each contribution is valid in its cell,
+-- and those of the replica's own origin are of earlier numbers
+pub record IsHolding (h : Holding) : Type 0 where
+  pub layout : IsLayout h.schema
+  pub some : 1 ≤ h.next
+  pub few : h.next ≤ MAX_NUMBER + 1
+  pub live : IsTrimmed h.schema h.cells
+  pub valid : (n : CellName) (c : Contribution) → get h.cells n ≡ Some c → IsValid h.schema n.archive n.slot c
+  pub own : (n : CellName) (c : Contribution) → get h.cells n ≡ Some c → n.origin ≡ h.origin → c.version < h.next
+
+-- what is written, as a sample of a key
+abbrev pub sample_of : List ℕ → Written → Sample
+sample_of key x = record { time = x.time; origin = x.origin; number = x.number; key = key; value = x.value }
+
+module _ {X : Type 0} where
+  -- the archives of each key, each seen as a map
+  abbrev pub shown : (X → Rows) → List (List ℕ × Vec X) → Series
+  shown cells entries = map (λ e. (e.0, map cells e.1.items)) entries
+
+  -- the archives of a key, if it has any
+  abbrev pub archives_of : List (List ℕ × Vec X) → List ℕ → Option (Vec X)
+  archives_of entries key = lookup (is_at (bytes_cmp key)) entries
+
+  abbrev pub holding : (X → Rows) → Layout → ℕ → ℕ → List (List ℕ × Vec X) → Holding
+  holding cells schema origin next entries = record { schema = schema; origin = origin; next = next; cells = cells_of (shown cells entries) }
+
+  -- each key has an archive for each of the schema's, of its rows
+  pub record IsKept (cells : X → Rows) (limit : X → ℕ) (schema : Layout) (origin next : ℕ) (entries : List (List ℕ × Vec X)) : Type 0 where
+    pub holds : IsHolding (holding cells schema origin next entries)
+    pub sized : (key : List ℕ) (archives : Vec X) → archives_of entries key ≡ Some archives → AreSized limit schema archives.items
+    pub ordered : IsStrictlySortedBy bytes_cmp (keys_of entries)

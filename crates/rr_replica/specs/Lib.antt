@@ -1,0 +1,13 @@
+pub mod Cells
+pub mod Puts
+pub mod Holding
+pub mod Series
+pub mod Archives
+pub mod Kept
+pub mod Listing
+pub mod Joins
+pub mod State
+pub mod Versions
+pub mod Laws
+pub mod Writing
+pub mod Fault

@@ -1,0 +1,42 @@
+-- The cells of series, each a key and the maps of its archives.
+use Rattle.std.specs.Prelude.{ℕ, ◌+◌, ◌==◌, cond, List, [], ◌∷◌, ◌++◌, map, unwrap_or}
+use Rattle.std.specs.Ordering.{nat_cmp}
+use Rattle.std.specs.Cmp.Lexicographic.{slice_cmp}
+use Rattle.std.specs.declared.cmp.Ordering.{Ordering}
+use Rattle.std.specs.Map.{lookup}
+use Rattle.std.specs.BTreeMap.{is_at}
+use Rattle.std.specs.FinMap.{empty, entries, from_entries}
+use Rattle.rr_contrib.specs.declared.contribution.Contribution.{Contribution}
+use Rattle.rr_archive.specs.Cells.{Rows}
+use Rattle.rr_model.specs.CellNames.{CellName}
+use Rattle.rr_replica.specs.Cells.{Cells, name_at}
+
+-- keys are ordered by the bytes of their texts
+abbrev pub bytes_cmp : List ℕ → List ℕ → Ordering
+bytes_cmp = slice_cmp nat_cmp
+
+abbrev pub Series : Type 0
+Series = List (List ℕ × List Rows)
+
+-- the cells of a key's archives, from this number on
+abbrev pub cells_from : List ℕ → ℕ → List Rows → List (CellName × Contribution)
+cells_from key archive [] = []
+cells_from key archive (r ∷ rs) = map (λ e. (name_at key archive e.0, e.1)) (entries r) ++ cells_from key (archive + 1) rs
+
+-- the cells of all series, in order
+abbrev pub all_cells : Series → List (CellName × Contribution)
+all_cells [] = []
+all_cells (e ∷ es) = cells_from e.0 0 e.1 ++ all_cells es
+
+-- as a map
+unfoldable pub cells_of : Series → Cells
+cells_of series = from_entries (all_cells series)
+
+-- the archive with a number, the first having this one; past the last nothing
+abbrev pub rows_from : ℕ → List Rows → ℕ → Rows
+rows_from first [] archive = empty
+rows_from first (r ∷ rs) archive = cond (archive == first) r (rows_from (first + 1) rs archive)
+
+-- the archive of a key with a number
+abbrev pub rows_in : Series → List ℕ → ℕ → Rows
+rows_in series key archive = rows_from 0 (unwrap_or (lookup (is_at (bytes_cmp key)) series) []) archive

@@ -1,0 +1,42 @@
+-- What a point makes of a replica.
+use Rattle.std.specs.Prelude.{◌≡◌, ℕ, ◌+◌, ◌-◌, ℤ, pos, ◌+ℤ◌, Bool, false, int_lt, nat_lt, List, [], ◌∷◌, take, Option, None, Some}
+use Rattle.rr_base.specs.declared.limits.TheConstants.{MAX_NUMBER}
+use Rattle.rr_line.specs.declared.precision.Precision.{Precision}
+use Rattle.rr_line.specs.Grammar.{IsPointOf}
+use Rattle.rr_line.specs.Key.{key_text}
+use Rattle.rr_line.specs.Line.{PointView, HasNoLineFeed}
+use Rattle.rr_replica.specs.declared.fault.WriteFault.{WriteFault}
+use Rattle.rr_replica.specs.declared.fault.WriteFault.TheVariants as why
+use Rattle.rr_replica.specs.Holding.{Holding, with_put}
+
+-- a point that some line says
+pub record IsOfALine (p : PointView) : Type 0 where
+  pub precision : Precision
+  pub line : List ℕ
+  pub whole : HasNoLineFeed line
+  pub says : IsPointOf precision line p
+
+-- with a sample of each of these fields put, in order
+abbrev pub with_fields : Holding → PointView → ℤ → List (List ℕ × ℤ) → Holding
+with_fields h p time [] = h
+with_fields h p time (field ∷ fields) = with_fields (with_put h (key_text p field.0) time field.1) p time fields
+
+-- whether a point's own time is later than the clock's by more than the lead
+abbrev pub is_ahead : Option ℤ → ℤ → Option ℕ → Bool
+is_ahead None now lead = false
+is_ahead (Some time) now None = false
+is_ahead (Some time) now (Some lead) = int_lt (now +ℤ pos lead) time
+
+-- whether fewer numbers are left than these
+abbrev pub lacks_numbers : Holding → ℕ → Bool
+lacks_numbers h count = nat_lt (MAX_NUMBER + 1 - h.next) count
+
+-- what a refused write leaves: the same, or, where memory ran out, the first fields put
+abbrev pub IsAfterRefusal : Holding → Holding → PointView → ℤ → WriteFault → Type 0
+IsAfterRefusal old new p time why.AheadOfClock = new ≡ old
+IsAfterRefusal old new p time why.NumbersSpent = new ≡ old
+IsAfterRefusal old new p time (why.Memory put) = new ≡ with_fields old p time (take put p.fields)
+
+-- memory ran out behind the first fields
+abbrev pub IsMemoryAfter : Holding → Holding → PointView → ℤ → WriteFault → Type 0
+IsMemoryAfter old new p time fault = (put : ℕ) × (fault ≡ why.Memory put) × (new ≡ with_fields old p time (take put p.fields))

@@ -1,0 +1,96 @@
+//! The archives of one key.
+ghost use Rattle.std.specs.Prelude.{◌≡◌, ◌<◌, ◌≤◌, length, IsTrue, IsOk, OnOk, OnErr, IfOk};
+ghost use Rattle.std.specs.FinMap as fin;
+ghost use Rattle.rr_base.specs.Schema.{IsLayout};
+ghost use Rattle.rr_replica.specs.Archives.{place_for, Each, AreSized, CanTake, AreSame, HavePut};
+
+use crate::sample::Written;
+use rr_archive::Archive;
+use rr_base::Schema;
+use rr_base::limits::MAX_NUMBER;
+use std::alloc::{AllocError, Global};
+
+/// An archive that holds no cell, for each of a schema's.
+pub(crate) fn empty_archives<A: Archive>(
+    alloc: Global,
+    schema: &Schema,
+) -> Result<Vec<A>, AllocError>
+    requires { IsLayout schema.now }
+    ensures sized { IfOk result (λ archives. AreSized A.row_limit schema.now archives.items) }
+    ensures empty { IfOk result (λ archives. Each (λ i a. A.cells a ≡ fin.empty) archives.items) }
+{
+    let mut archives = Vec::new(alloc);
+    for archive in schema.archives() {
+        archives.push(A::new(alloc, archive.rows))?;
+    }
+    Ok(archives)
+}
+
+/// Makes room for a sample in each archive, and changes no cell.
+fn make_ready<A: Archive>(
+    archives: &mut Vec<A>,
+    schema: &Schema,
+    sample: &Written,
+) -> Result<(), AllocError>
+    requires layout { IsLayout schema.now }
+    requires sized { AreSized A.row_limit schema.now archives.old.items }
+    ensures same { AreSame A.cells archives.old.items archives.new.items }
+    ensures sized { AreSized A.row_limit schema.now archives.new.items }
+    ensures ready { OnOk result (Each (λ i a. IsTrue (A.is_ready a (place_for schema.now sample.now i))) archives.new.items) }
+{
+    for i in 0..archives.len() {
+        let slot = schema.slot(i as u8, sample.time);
+        archives[i].ready(slot, sample.origin)?;
+    }
+    Ok(())
+}
+
+/// Puts a sample into each archive, which has room for it.
+fn put_ready<A: Archive>(
+    archives: &mut Vec<A>,
+    schema: &Schema,
+    sample: &Written,
+) -> Result<(), AllocError>
+    requires layout { IsLayout schema.now }
+    requires sized { AreSized A.row_limit schema.now archives.old.items }
+    requires some_number { 1 ≤ sample.now.number }
+    requires known_number { sample.now.number ≤ MAX_NUMBER }
+    requires newer { CanTake A.cells schema.now sample.now archives.old.items }
+    requires ready { Each (λ i a. IsTrue (A.is_ready a (place_for schema.now sample.now i))) archives.old.items }
+    ensures ok { IsOk result }
+    ensures put { HavePut A.cells schema.now sample.now archives.old.items archives.new.items }
+    ensures sized { AreSized A.row_limit schema.now archives.new.items }
+{
+    for i in 0..archives.len() {
+        let slot = schema.slot(i as u8, sample.time);
+        let place = schema.place(i as u8, sample.time);
+        archives[i].put(
+            slot,
+            sample.origin,
+            sample.number,
+            place,
+            sample.time,
+            sample.value,
+        )?;
+    }
+    Ok(())
+}
+
+/// Puts a sample into each archive, or into none.
+pub(crate) fn put_into<A: Archive>(
+    archives: &mut Vec<A>,
+    schema: &Schema,
+    sample: &Written,
+) -> Result<(), AllocError>
+    requires layout { IsLayout schema.now }
+    requires sized { AreSized A.row_limit schema.now archives.old.items }
+    requires some_number { 1 ≤ sample.now.number }
+    requires known_number { sample.now.number ≤ MAX_NUMBER }
+    requires newer { CanTake A.cells schema.now sample.now archives.old.items }
+    ensures put { OnOk result (HavePut A.cells schema.now sample.now archives.old.items archives.new.items) }
+    ensures same { OnErr result (AreSame A.cells archives.old.items archives.new.items) }
+    ensures sized { AreSized A.row_limit schema.now archives.new.items }
+{
+    make_ready(archives, schema, sample)?;
+    put_ready(archives, schema, sample)
+}

@@ -1,0 +1,20 @@
+//! Cells by their names.
+
+use rr_base::Origin;
+use rr_contrib::Contribution;
+use rr_key::SeriesKey;
+
+/// A cell: what an origin contributes to a slot of an archive of a key, which is lent.
+#[derive(Clone, Copy)]
+pub struct CellRef<'a> {
+    /// The key of the series.
+    pub key: &'a SeriesKey,
+    /// Which of the schema's archives, from 0.
+    pub archive: u8,
+    /// Which slot.
+    pub slot: i64,
+    /// Whose samples these are.
+    pub origin: Origin,
+    /// What they come to.
+    pub contribution: Contribution,
+}

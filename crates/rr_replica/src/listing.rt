@@ -1,0 +1,95 @@
+//! The cells of archives, in order.
+ghost use Rattle.std.specs.Prelude.{◌≡◌, ◌+◌, ◌≤◌, length, map, Some, IfOk, IfErr, slice_get};
+ghost use Rattle.rr_archive.specs.Places.{place_at};
+ghost use Rattle.rr_replica.specs.Cells.{name_at};
+ghost use Rattle.rr_replica.specs.Series.{bytes_cmp, cells_from, cells_of};
+ghost use Rattle.rr_replica.specs.Kept.{shown};
+ghost use Rattle.std.specs.List.{AllByRecursion};
+ghost use Rattle.std.specs.List.Sorted.{IsStrictlySortedBy};
+ghost use Rattle.std.specs.Map.{keys_of};
+ghost use Rattle.std.specs.Option.{option_map};
+ghost use Rattle.std.specs.FinMap as fin;
+ghost use Rattle.rr_replica.specs.Listing.{seen_cell, count_of, at_most_usize};
+
+use crate::cell::CellRef;
+use rr_archive::{Archive, Entry};
+use rr_base::limits::MAX_ARCHIVES;
+use rr_key::SeriesKey;
+use std::collections::BTreeMap;
+
+/// How many cells archives hold, added to others; the greatest value of the type, where it can't hold
+/// that many.
+pub(crate) fn count_in<A: Archive>(archives: &[A], others: usize) -> usize
+    ensures { result ≡ at_most_usize (others + count_of (map A.cells archives.now)) }
+{
+    let mut count = others;
+    for archive in archives {
+        count = count.saturating_add(archive.cell_count());
+    }
+    count
+}
+
+/// A cell of an archive, with its key.
+fn named(key: &SeriesKey, archive: u8, cell: (i64, Entry)) -> CellRef<'_>
+    ensures { seen_cell result ≡ (name_at key.now archive (place_at cell.0 cell.1.origin), cell.1.contribution) }
+{
+    CellRef {
+        key,
+        archive,
+        slot: cell.0,
+        origin: cell.1.origin,
+        contribution: cell.1.contribution,
+    }
+}
+
+/// The cell with a number among those of a key's archives, or else what is left of the number behind
+/// them.
+pub(crate) fn nth_in<'a, A: Archive>(
+    key: &'a SeriesKey,
+    archives: &[A],
+    number: usize,
+) -> Result<CellRef<'a>, usize>
+    requires { length archives.now ≤ MAX_ARCHIVES }
+    ensures found { IfOk result (λ c. slice_get (cells_from key.now 0 (map A.cells archives.now)) number ≡ Some (seen_cell c)) }
+    ensures past { IfErr result (λ left. number ≡ count_of (map A.cells archives.now) + left) }
+{
+    let mut left = number;
+    for i in 0..archives.len() {
+        match archives[i].cell_at(left) {
+            Some(cell) => return Ok(named(key, i as u8, cell)),
+            None => left -= archives[i].cell_count(),
+        }
+    }
+    Err(left)
+}
+
+/// How many cells all series hold, as `count_in` counts.
+pub(crate) fn count_cells<A: Archive>(series: &BTreeMap<SeriesKey, Vec<A>>) -> usize
+    requires { IsStrictlySortedBy bytes_cmp (keys_of series.now.entries) }
+    ensures { result ≡ at_most_usize (fin.len (cells_of (shown A.cells series.now.entries))) }
+{
+    let mut count = 0;
+    for (_, archives) in series {
+        count = count_in(archives, count);
+    }
+    count
+}
+
+/// The cell with a number among those of all series.
+pub(crate) fn nth_cell<A: Archive>(
+    series: &BTreeMap<SeriesKey, Vec<A>>,
+    number: usize,
+) -> Option<CellRef<'_>>
+    requires ordered { IsStrictlySortedBy bytes_cmp (keys_of series.now.entries) }
+    requires few { AllByRecursion (λ e. length e.1.items ≤ MAX_ARCHIVES) series.now.entries }
+    ensures { option_map seen_cell result ≡ slice_get (fin.entries (cells_of (shown A.cells series.now.entries))) number }
+{
+    let mut left = number;
+    for (key, archives) in series {
+        match nth_in(key, archives, left) {
+            Ok(cell) => return Some(cell),
+            Err(rest) => left = rest,
+        }
+    }
+    None
+}

@@ -1,0 +1,273 @@
+//! A replica of the store.
+ghost use Rattle.std.specs.Prelude.{◌≡◌, ◌<◌, ◌≤◌, ◌+◌, ◌↔◌, length, None, Err, IfOk, IfErr, OnOk, OnErr, IsTrue, IsFalse, slice_get, unwrap_or};
+ghost use Rattle.std.specs.Option.{option_map};
+ghost use Rattle.std.specs.FinMap as fin;
+ghost use Rattle.rr_base.specs.Schema.{IsLayout};
+ghost use Rattle.rr_key.specs.Making.{making_fault};
+ghost use Rattle.rr_line.specs.declared.limits.TheConstants.{MAX_FIELDS};
+ghost use Rattle.rr_line.specs.Key.{HasKeys, names_of, key_text};
+ghost use Rattle.rr_line.specs.Line.{point_view};
+ghost use Rattle.rr_replica.specs.Writing.{is_ahead};
+ghost use Rattle.rr_replica.specs.Cells.{row_at};
+ghost use Rattle.rr_replica.specs.Puts.{put_sample};
+ghost use Rattle.rr_replica.specs.Holding.{Holding, with_put};
+ghost use Rattle.rr_replica.specs.Series.{cells_of};
+ghost use Rattle.rr_replica.specs.Listing.{seen_cell, at_most_usize};
+ghost use Rattle.rr_replica.specs.Kept.{shown, sample_of, IsKept};
+
+use crate::archives::{empty_archives, put_into};
+use crate::cell::CellRef;
+use crate::fault::{PutFault, WriteFault};
+use crate::listing::{count_cells, nth_cell};
+use crate::sample::Written;
+use rr_archive::{Archive, Entry};
+use rr_base::limits::MAX_NUMBER;
+use rr_base::{Origin, Schema};
+use rr_key::SeriesKey;
+use rr_line::Point;
+use std::alloc::{AllocError, Global};
+use std::collections::BTreeMap;
+use std::marker::Model;
+
+/// All series of one host, seen as one map of cells: what each origin contributes to each slot of
+/// each archive of each key.
+///
+/// It writes samples under its origin, each with the next number. Its cells are live and valid at
+/// all times, and their number is bounded by the keys, rows and origins, whatever was written.
+#[derive(Drop)]
+pub struct Replica<A: Archive> {
+    alloc: Global,
+    schema: Schema,
+    origin: Origin,
+    next: u64,
+    series: BTreeMap<SeriesKey, Vec<A>>,
+}
+
+impl<A: Archive> Model for Replica<A> {
+    ghost use Rattle.rr_replica.specs.Holding.{Holding, coded_holding};
+    ghost use Rattle.rr_replica.specs.Kept.{holding, IsKept};
+
+    ghost Value = { Holding };
+
+    ghost coded = { coded_holding };
+
+    ghost view = { λ r. holding A.cells r.schema r.origin r.next r.series.entries };
+
+    ghost invariant = { λ r. IsKept A.cells A.row_limit r.schema r.origin r.next r.series.entries };
+}
+
+/// Puts a sample of a key into each of its archives, or into none.
+fn put_in<A: Archive>(
+    series: &mut BTreeMap<SeriesKey, Vec<A>>,
+    alloc: Global,
+    schema: &Schema,
+    key: &SeriesKey,
+    sample: &Written,
+) -> Result<(), AllocError>
+    requires kept { IsKept A.cells A.row_limit schema.now sample.now.origin sample.now.number series.old.entries }
+    requires known { sample.now.number ≤ MAX_NUMBER }
+    ensures put { OnOk result (cells_of (shown A.cells series.new.entries)
+        ≡ put_sample schema.now (cells_of (shown A.cells series.old.entries)) (sample_of key.now sample.now)) }
+    ensures ok { OnOk result (IsKept A.cells A.row_limit schema.now sample.now.origin (sample.now.number + 1) series.new.entries) }
+    ensures err { OnErr result (cells_of (shown A.cells series.new.entries) ≡ cells_of (shown A.cells series.old.entries)) }
+    ensures kept { OnErr result (IsKept A.cells A.row_limit schema.now sample.now.origin sample.now.number series.new.entries) }
+{
+    match series.get_mut(key) {
+        Some(archives) => put_into(archives, schema, sample),
+        None => {
+            let mut archives = empty_archives(alloc, schema)?;
+            put_into(&mut archives, schema, sample)?;
+            series.insert(key.copy()?, archives)?;
+            Ok(())
+        }
+    }
+}
+
+impl<A: Archive> Replica<A> {
+    /// A replica that holds no cell, and whose first sample has number 1.
+    pub fn new(alloc: Global, schema: &Schema, origin: Origin) -> Result<Replica<A>, AllocError>
+        ensures { IfOk result (λ r. r ≡ record { schema = schema.now; origin = origin; next = 1; cells = fin.empty }) }
+    {
+        Ok(Replica {
+            alloc,
+            schema: schema.copy(alloc)?,
+            origin,
+            next: 1,
+            series: BTreeMap::new(alloc),
+        })
+    }
+
+    /// The schema of all series.
+    pub fn schema(&self) -> &Schema
+        ensures { result.now ≡ self.now.schema }
+    {
+        &self.schema
+    }
+
+    /// The origin under which samples are written here.
+    pub fn origin(&self) -> Origin
+        ensures { result ≡ self.now.origin }
+    {
+        self.origin
+    }
+
+    /// The number that the next sample gets, past 2^40 if none is left.
+    pub fn next_number(&self) -> u64
+        ensures { result ≡ self.now.next }
+    {
+        self.next
+    }
+
+    /// Puts a sample of a key under the next number, which is the answer. The time is in nanoseconds
+    /// since the Unix epoch.
+    ///
+    /// In each archive where its slot is past the horizon the sample leaves no trace; it has its
+    /// number all the same. Refused as `NumbersSpent` where the next number is past 2^40. After a
+    /// refusal, `Memory` included, nothing has changed: room is made in all archives before a cell
+    /// changes.
+    ///
+    /// The cost is one look-up of the key and, in each archive, one of the slot and the entries of a
+    /// row, however many series there are.
+    pub fn put(&mut self, key: &SeriesKey, time: i64, value: i64) -> Result<u64, PutFault>
+        ensures number { IfOk result (λ number. number ≡ self.old.next) }
+        ensures put { OnOk result (self.new ≡ with_put self.old key.now time value) }
+        ensures unchanged { OnErr result (self.new ≡ self.old) }
+        ensures spent { (result ≡ Err PutFault.NumbersSpent) ↔ (MAX_NUMBER < self.old.next) }
+    {
+        if self.next > MAX_NUMBER {
+            return Err(PutFault::NumbersSpent);
+        }
+        let sample = Written {
+            origin: self.origin,
+            number: self.next,
+            time,
+            value,
+        };
+        put_in(&mut self.series, self.alloc, &self.schema, key, &sample)?;
+        let number = self.next;
+        self.next += 1;
+        Ok(number)
+    }
+
+    /// The entries of a slot of an archive of a key, ascending by origin. There are none past the
+    /// schema's last archive. The cost is one look-up of the key and one of the slot.
+    pub fn row(&self, key: &SeriesKey, archive: u8, slot: i64) -> &[Entry]
+        ensures { result.now ≡ row_at self.now.cells key.now archive slot }
+    {
+        match self.series.get(key) {
+            Some(archives) => match archives.get(archive as usize) {
+                Some(archive) => archive.row(slot),
+                None => &[],
+            },
+            None => &[],
+        }
+    }
+
+    /// How many cells there are; the greatest value of the type, where it can't hold that many. The
+    /// cost is linear in the series.
+    pub fn cell_count(&self) -> usize
+        ensures { result ≡ at_most_usize (fin.len self.now.cells) }
+    {
+        count_cells(&self.series)
+    }
+
+    /// The cell with a number, from 0, in order of key, archive, slot and origin. The cost is linear
+    /// in the series before it and in the rows of its archive.
+    pub fn cell_at(&self, i: usize) -> Option<CellRef<'_>>
+        ensures { option_map seen_cell result ≡ slice_get (fin.entries self.now.cells) i }
+    {
+        nth_cell(&self.series, i)
+    }
+}
+
+impl<A: Archive> Replica<A> {
+    ghost use Rattle.rr_replica.specs.Writing.{IsOfALine, IsAfterRefusal, IsMemoryAfter, with_fields, is_ahead, lacks_numbers};
+
+    /// Puts a sample of each field of a point, in the line's order, under as many numbers, and
+    /// answers how many. A point without a time takes `now`. Times are in nanoseconds since the Unix
+    /// epoch, the lead too.
+    ///
+    /// Refused as `AheadOfClock` where the point's own time is greater than `now + lead`, and as
+    /// `NumbersSpent` where fewer numbers are left than the point has fields; nothing has then
+    /// changed. Where memory runs out, the first so many fields that `Memory` names are put. The
+    /// cost is that of making the keys and of the puts.
+    pub fn write(
+        &mut self,
+        point: &Point<'_>,
+        now: i64,
+        lead: Option<u64>,
+    ) -> Result<u32, WriteFault>
+        requires { IsOfALine (point_view point.now) }
+        ensures count { IfOk result (λ count. count ≡ length point.now.fields.items) }
+        ensures put { OnOk result (self.new
+            ≡ with_fields self.old (point_view point.now) (unwrap_or point.now.time now) (point_view point.now).fields) }
+        ensures ahead { (result ≡ Err WriteFault.AheadOfClock) ↔ IsTrue (is_ahead point.now.time now lead) }
+        ensures spent { (result ≡ Err WriteFault.NumbersSpent)
+            ↔ (IsFalse (is_ahead point.now.time now lead) × IsTrue (lacks_numbers self.old (length point.now.fields.items))) }
+        ensures refused { IfErr result (IsAfterRefusal self.old self.new (point_view point.now) (unwrap_or point.now.time now)) }
+    {
+        if is_ahead(point.time, now, lead) {
+            return Err(WriteFault::AheadOfClock);
+        }
+        if self.lacks_numbers(point.fields.len()) {
+            return Err(WriteFault::NumbersSpent);
+        }
+        self.write_fields(point, point.time.unwrap_or(now))
+    }
+
+    /// Whether fewer numbers are left than these.
+    fn lacks_numbers(&self, count: usize) -> bool
+        ensures { result ≡ lacks_numbers self.now count }
+    {
+        MAX_NUMBER + 1 - self.next < count as u64
+    }
+
+    /// Puts a sample of each field of a point.
+    fn write_fields(&mut self, point: &Point<'_>, time: i64) -> Result<u32, WriteFault>
+        requires keyed { HasKeys (point_view point.now) }
+        requires few { length point.now.fields.items ≤ MAX_FIELDS }
+        requires left { IsFalse (lacks_numbers self.old (length point.now.fields.items)) }
+        ensures count { IfOk result (λ count. count ≡ length point.now.fields.items) }
+        ensures put { OnOk result (self.new ≡ with_fields self.old (point_view point.now) time (point_view point.now).fields) }
+        ensures stopped { IfErr result (IsMemoryAfter self.old self.new (point_view point.now) time) }
+    {
+        let mut put = 0;
+        for field in &point.fields {
+            if self.write_field(point, time, field).is_err() {
+                return Err(WriteFault::Memory { put });
+            }
+            put += 1;
+        }
+        Ok(put)
+    }
+
+    /// Puts the sample of a field of a point.
+    fn write_field(
+        &mut self,
+        point: &Point<'_>,
+        time: i64,
+        field: &(&[u8], i64),
+    ) -> Result<(), AllocError>
+        requires keyed { making_fault (names_of (point_view point.now) field.now.0.now) ≡ None }
+        requires left { self.old.next ≤ MAX_NUMBER }
+        ensures put { OnOk result (self.new ≡ with_put self.old (key_text (point_view point.now) field.now.0.now) time field.now.1) }
+        ensures unchanged { OnErr result (self.new ≡ self.old) }
+    {
+        let (name, value) = *field;
+        let key = point.series_key(self.alloc, name)?;
+        match self.put(&key, time, value) {
+            Ok(_) => Ok(()),
+            Err(_) => Err(AllocError),
+        }
+    }
+}
+
+/// Whether a point's own time is later than the clock's by more than the lead.
+fn is_ahead(time: Option<i64>, now: i64, lead: Option<u64>) -> bool
+    ensures { result ≡ is_ahead time now lead }
+{
+    match (time, lead) {
+        (Some(time), Some(lead)) => i128::from(now) + i128::from(lead) < i128::from(time),
+        _ => false,
+    }
+}

@@ -1,0 +1,12 @@
+//! A sample, as the archives of its key take it.
+
+use rr_base::Origin;
+
+/// What an origin writes under a number: a value at a time, in nanoseconds since the Unix epoch.
+#[derive(Clone, Copy)]
+pub(crate) struct Written {
+    pub(crate) origin: Origin,
+    pub(crate) number: u64,
+    pub(crate) time: i64,
+    pub(crate) value: i64,
+}
