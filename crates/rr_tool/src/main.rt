@@ -7,9 +7,12 @@
 #![tactic(auto)]
 
 mod fault;
+mod laws;
+mod order;
 mod script;
 #[cfg(test)]
 mod tests;
+mod words;
 
 use fault::ToolFault;
 use script::obey_script;
