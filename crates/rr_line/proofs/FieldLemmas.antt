@@ -1,23 +1,19 @@
 -- Fields, found by the reading and of the grammar.
-use Rattle.std.proofs.Common.{◌≡◌, ℕ, zero, suc, ◌+◌, ◌<◌, ◌≤◌, ℤ, Bool, true, false, List, [], ◌∷◌, ◌++◌, length, take, drop, length-append, Option, Some, None, Result, Ok, Err, refl, sym, ap, subst, ◌∙◌, inl, inr, arith}
+use Rattle.std.proofs.Common.{◌≡◌, ℕ, ◌≤◌, ℤ, true, false, List, ◌∷◌, length, take, drop, Some, None, Result, Ok, Err, refl, sym, ap, subst, ◌∙◌, inl, inr}
 use Rattle.std.specs.Prelude.{ok_or, ◌⊎◌}
-use Rattle.std.proofs.lemmas.Bool.{false≢true}
-use Rattle.std.proofs.lemmas.List.{append-nil, append_assoc, take-append-drop, length-take-le}
+use Rattle.std.proofs.lemmas.List.{take-append-drop, length-take-le}
 use Rattle.std.proofs.lemmas.List.Sums.{prefix_len-le-length}
 use Rattle.rr_key.specs.declared.class.Class.TheVariants.{Other}
 use Rattle.rr_key.specs.Reading.{strip}
-use Rattle.rr_line.specs.declared.delimiter.TheConstants.{EQUALS, COMMA, QUOTE}
+use Rattle.rr_line.specs.declared.delimiter.TheConstants.{EQUALS, QUOTE}
 use Rattle.rr_line.specs.declared.fault.LineFault.{LineFault}
-use Rattle.rr_line.specs.declared.fault.LineFault.TheVariants.{MissingFieldKey, MissingFieldValue, TooManyFields, DuplicateField}
-use Rattle.rr_line.specs.declared.limits.TheConstants.{MAX_FIELDS}
-use Rattle.rr_line.specs.Field.{Field, IsField, MayStandBehind, LeadTo, AreFields, FieldFault, no_key, no_value, bad_value, too_many, repeated}
+use Rattle.rr_line.specs.declared.fault.LineFault.TheVariants.{MissingFieldKey, MissingFieldValue}
+use Rattle.rr_line.specs.Field.{Field, IsField}
 use Rattle.rr_line.specs.Part.{begins, IsName, HasNoName, cut_behind}
-use Rattle.rr_line.specs.Reading.{◌>>=◌, unless, name_at, value_at, field_at, fields_at, after_comma}
-use Rattle.rr_line.specs.Tag.{has_key}
+use Rattle.rr_line.specs.Reading.{◌>>=◌, name_at, value_at, field_at}
 use Rattle.rr_line.specs.Value.{IsBare, IsValue, ValueFault, quoted, unquoted, value_of, value_len, quoted_fault}
-use Rattle.rr_line.proofs.AgreeLemmas.{Agrees, Agrees-as, Agrees-bind, Agrees-unless, Agrees-ok, Agrees-ok_or, Agrees-err, Agrees-self, just_read}
-use Rattle.rr_line.proofs.PartLemmas.{name_agrees, first_is, cut_is, strip_some, strip_there, strip_none, strip_lacks, begins_there}
-use Rattle.rr_line.proofs.TagLemmas.{comma_is, no_comma}
+use Rattle.rr_line.proofs.AgreeLemmas.{Agrees, Agrees-as, Agrees-bind, Agrees-unless, Agrees-ok, Agrees-ok_or, Agrees-self}
+use Rattle.rr_line.proofs.PartLemmas.{name_agrees, first_is, cut_is, strip_some, strip_there, strip_none, strip_lacks}
 
 value_len_within : (text : List ℕ) → value_len text ≤ length text
 value_len_within text = prefix_len-le-length _ text

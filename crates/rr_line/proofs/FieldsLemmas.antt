@@ -1,5 +1,5 @@
 -- Several fields, found by the reading and of the grammar.
-use Rattle.std.proofs.Common.{◌≡◌, ℕ, zero, suc, ◌+◌, ◌<◌, Bool, true, false, List, [], ◌∷◌, ◌++◌, length, length-append, Option, Some, None, Result, Ok, Err, refl, sym, ap, subst, ◌∙◌, inl, inr, arith}
+use Rattle.std.proofs.Common.{◌≡◌, ℕ, zero, suc, ◌+◌, ◌<◌, true, false, List, [], ◌∷◌, ◌++◌, length, length-append, Option, Some, None, Result, Ok, Err, refl, sym, ap, subst, ◌∙◌, inl, inr, arith}
 use Rattle.std.specs.Prelude.{◌⊎◌}
 use Rattle.std.proofs.lemmas.List.{append-nil, append_assoc}
 use Rattle.rr_key.specs.declared.class.Class.TheVariants.{Other}
@@ -8,13 +8,13 @@ use Rattle.rr_line.specs.declared.delimiter.TheConstants.{EQUALS, COMMA}
 use Rattle.rr_line.specs.declared.fault.LineFault.{LineFault}
 use Rattle.rr_line.specs.declared.fault.LineFault.TheVariants.{TooManyFields, DuplicateField}
 use Rattle.rr_line.specs.declared.limits.TheConstants.{MAX_FIELDS}
-use Rattle.rr_line.specs.Field.{Field, IsField, MayStandBehind, LeadTo, AreFields, FieldFault, no_key, no_value, bad_value, too_many, repeated}
+use Rattle.rr_line.specs.Field.{Field, IsField, MayStandBehind, LeadTo, FieldFault, no_key, no_value, bad_value, too_many, repeated}
 use Rattle.rr_line.specs.Part.{begins, IsName}
 use Rattle.rr_line.specs.Reading.{◌>>=◌, unless, field_at, fields_at, after_comma}
 use Rattle.rr_line.specs.Tag.{has_key}
-use Rattle.rr_line.proofs.AgreeLemmas.{Agrees, Agrees-as, Agrees-bind, Agrees-unless, Agrees-ok, Agrees-err, just_read}
+use Rattle.rr_line.proofs.AgreeLemmas.{Agrees, Agrees-as, Agrees-bind, Agrees-unless, Agrees-err, just_read}
 use Rattle.rr_line.proofs.FieldLemmas.{NoField, field_agrees}
-use Rattle.rr_line.proofs.PartLemmas.{first_is, strip_some, strip_there, strip_none, strip_lacks, begins_there}
+use Rattle.rr_line.proofs.PartLemmas.{first_is, strip_some, strip_none}
 use Rattle.rr_line.proofs.TagLemmas.{comma_is, no_comma}
 
 -- the fields that are read behind others, and what follows them

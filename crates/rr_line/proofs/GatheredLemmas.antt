@@ -1,6 +1,6 @@
 -- What a loop has gathered, and what it still will.
-use Rattle.std.proofs.Common.{◌≡◌, ℕ, zero, suc, ◌+◌, ◌-◌, ◌<◌, Bool, true, false, ℤ, List, [], ◌∷◌, ◌++◌, length, map, length-append, Option, Some, None, Result, Ok, Err, refl, sym, ap, subst, ◌∙◌, arith}
-use Rattle.std.proofs.lemmas.List.{map-append, length-map}
+use Rattle.std.proofs.Common.{◌≡◌, ℕ, zero, suc, ◌+◌, ◌-◌, ◌<◌, true, false, ℤ, List, [], ◌∷◌, ◌++◌, length, map, length-append, Some, None, Result, Ok, Err, refl, sym, ap, ◌∙◌, arith}
+use Rattle.std.proofs.lemmas.List.{map-append}
 use Rattle.std.specs.Borrow.{Bor}
 use Rattle.std.specs.Map.{keys_of}
 use Rattle.rr_key.specs.declared.limits.TheConstants.{MAX_TAGS}
@@ -12,7 +12,7 @@ use Rattle.rr_line.specs.declared.fault.LineFault.TheVariants.{TooManyTags, Dupl
 use Rattle.rr_line.specs.declared.limits.TheConstants.{MAX_FIELDS}
 use Rattle.rr_line.specs.Field.{Field}
 use Rattle.rr_line.specs.Answer.{rest_view}
-use Rattle.rr_line.specs.Gathering.{Gathered, repeats, without_repeat, gathered_tags, gathered_fields, all_gathered_tags, all_gathered_fields}
+use Rattle.rr_line.specs.Gathering.{repeats, without_repeat, gathered_tags, gathered_fields, all_gathered_tags, all_gathered_fields}
 use Rattle.rr_line.specs.Line.{fields_view}
 use Rattle.rr_line.specs.Reading.{◌>>=◌, unless, tag_at, all_tags_at, field_at, all_fields_at}
 use Rattle.rr_line.specs.Tag.{Tag}

@@ -1,6 +1,6 @@
 -- The names of a point make keys, and how long these are.
-use Rattle.std.proofs.Common.{◌≡◌, ℕ, zero, suc, ◌+◌, ◌<◌, ◌≤◌, ℤ, Bool, true, false, not, cond, eqb, ltb, ◌||◌, List, [], ◌∷◌, ◌++◌, length, length-append, map, Option, Some, None, Result, Ok, Err, refl, sym, ap, ap₂, subst, ◌∙◌, inl, inr, arith}
-use Rattle.std.proofs.lemmas.Bool.{cases_Bool, or_parts, and_parts, not-false, not-true, false≢true, le-ltb}
+use Rattle.std.proofs.Common.{◌≡◌, ℕ, suc, ◌+◌, ◌<◌, ◌≤◌, Bool, true, false, not, eqb, ltb, ◌||◌, List, [], ◌∷◌, ◌++◌, length, length-append, map, None, refl, sym, ap, ap₂, subst, ◌∙◌, inl, inr, arith}
+use Rattle.std.proofs.lemmas.Bool.{cases_Bool, or_parts, and_parts, not-true, false≢true, le-ltb}
 use Rattle.std.proofs.lemmas.Cmp.{nat_list_cmp_total, eq_by_cmp_equiv}
 use Rattle.std.proofs.lemmas.List.{append-nil, append_assoc}
 use Rattle.std.specs.FinMap.{entries, from_entries}
@@ -20,12 +20,12 @@ use Rattle.rr_key.proofs.OrderLemmas.{same_key}
 use Rattle.rr_line.specs.declared.delimiter.TheConstants.{EQUALS, COMMA, SPACE}
 use Rattle.rr_line.specs.declared.precision.Precision.{Precision}
 use Rattle.rr_line.specs.Field.{Field, IsField, LeadTo, AreFields}
-use Rattle.rr_line.specs.Gathering.{repeats, has_repeat}
+use Rattle.rr_line.specs.Gathering.{has_repeat}
 use Rattle.rr_line.specs.Grammar.{LeadsToTags, LeadsToFields, HasParts}
 use Rattle.rr_line.specs.Key.{names_of, key_text, has_long_key, HasKeys}
 use Rattle.rr_line.specs.Line.{PointView, HasNoLineFeed}
-use Rattle.rr_line.specs.Part.{IsName, skip_spaces}
-use Rattle.rr_line.specs.Tag.{Tag, IsTag, MayStandBehind, AreTags, is_among}
+use Rattle.rr_line.specs.Part.{skip_spaces}
+use Rattle.rr_line.specs.Tag.{Tag, IsTag, AreTags, is_among}
 use Rattle.rr_line.proofs.NameLemmas.{IsGood, name_is_good, none_in_parts}
 use Rattle.rr_line.proofs.RepeatLemmas.{has_repeat_none}
 use Rattle.rr_line.proofs.SizeLemmas.{size, size-entries}

@@ -1,12 +1,12 @@
 -- The names of a line: how they are written, and what they may be.
-use Rattle.std.proofs.Common.{◌≡◌, ℕ, zero, suc, ◌+◌, ◌<◌, Bool, true, false, not, eqb, ◌&&◌, ◌||◌, List, [], ◌∷◌, ◌++◌, length, take, refl, sym, ap, subst, ◌∙◌, inl, inr, arith}
-use Rattle.std.proofs.lemmas.Bool.{cases_Bool, or_parts, not-false, not_from_false, ne_eqb}
+use Rattle.std.proofs.Common.{◌≡◌, ℕ, ◌<◌, true, false, eqb, ◌&&◌, List, [], ◌∷◌, ◌++◌, length, take, refl, sym, ap, subst, ◌∙◌, inl, inr, arith}
+use Rattle.std.proofs.lemmas.Bool.{cases_Bool, or_parts}
 use Rattle.std.proofs.lemmas.List.Folds.{list_any-append}
 use Rattle.std.proofs.Math.Seq.{take-append_seam}
 use Rattle.std.specs.List.{list_any}
 use Rattle.rr_key.specs.declared.class.Class.{Class}
 use Rattle.rr_key.specs.Class.{is_special}
-use Rattle.rr_key.specs.Name.{is_empty, is_bad, is_name, ends_in_backslash}
+use Rattle.rr_key.specs.Name.{is_name, ends_in_backslash}
 use Rattle.rr_key.specs.Unit.{escape, unescape, name_len}
 use Rattle.rr_key.proofs.EscapeLemmas.{escape-unescape, both_true}
 use Rattle.rr_key.proofs.NameLemmas.{is_name-escape}

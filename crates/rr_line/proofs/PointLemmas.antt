@@ -1,5 +1,5 @@
 -- Lines, read and of the grammar.
-use Rattle.std.proofs.Common.{◌≡◌, ◌≢◌, ℕ, ◌<◌, Bool, true, false, eqb, cond, List, [], ◌∷◌, ◌++◌, length, Option, Some, None, Result, Ok, Err, ℤ, refl, sym, ap, subst, ◌∙◌, inl, inr, arith}
+use Rattle.std.proofs.Common.{◌≡◌, ℕ, ◌<◌, true, false, eqb, List, [], ◌∷◌, length, Option, Result, Ok, ℤ, refl, sym, ap, subst, ◌∙◌, inl, inr, arith}
 use Rattle.std.specs.Prelude.{◌⊎◌}
 use Rattle.std.proofs.lemmas.Bool.{cases_Bool, false≢true}
 use Rattle.std.proofs.Math.Dec.{eqb-suc-zero}
@@ -15,7 +15,7 @@ use Rattle.rr_line.specs.Grammar.{is_nothing, LeadsToTags, LeadsToFields, HasPar
 use Rattle.rr_line.specs.Key.{has_long_key}
 use Rattle.rr_line.specs.Line.{PointView, LineView, nothing, point}
 use Rattle.rr_line.specs.Part.{begins, skip_spaces, IsName, HasNoName}
-use Rattle.rr_line.specs.Reading.{◌>>=◌, unless, name_at, tags_at, all_tags_at, fields_text_of, fields_at, all_fields_at, ending_at, unless_long, point_at, text_at}
+use Rattle.rr_line.specs.Reading.{◌>>=◌, name_at, all_tags_at, fields_text_of, all_fields_at, ending_at, unless_long, point_at, text_at}
 use Rattle.rr_line.specs.Tag.{Tag, AreTags}
 use Rattle.rr_line.specs.Time.{IsEnding, EndingFault}
 use Rattle.rr_line.proofs.AgreeLemmas.{Agrees, Agrees-as, Agrees-bind, Agrees-unless, Agrees-ok, just_read}

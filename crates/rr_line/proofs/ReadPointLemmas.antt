@@ -1,5 +1,5 @@
 -- A point is read as its steps say, but for keys that are too long.
-use Rattle.std.proofs.Common.{◌≡◌, ℕ, ◌+◌, Bool, true, false, ltb, List, [], ◌∷◌, length, Option, Some, None, Result, Ok, Err, ℤ, refl, ◌∙◌}
+use Rattle.std.proofs.Common.{◌≡◌, ℕ, ◌+◌, Bool, true, false, ltb, List, length, Option, Ok, Err, ℤ, refl, ◌∙◌}
 use Rattle.std.specs.Borrow.{Bor}
 use Rattle.std.specs.List.{list_any}
 use Rattle.rr_base.specs.declared.limits.TheConstants.{MAX_KEY_TEXT}

@@ -1,5 +1,5 @@
 -- Tags, found by the reading and of the grammar.
-use Rattle.std.proofs.Common.{◌≡◌, ℕ, zero, suc, ◌+◌, ◌<◌, Bool, true, false, List, [], ◌∷◌, ◌++◌, length, drop, length-append, Option, Some, None, Result, Ok, Err, refl, sym, ap, subst, ◌∙◌, inl, inr, arith}
+use Rattle.std.proofs.Common.{◌≡◌, ℕ, zero, suc, ◌+◌, ◌<◌, true, false, List, [], ◌∷◌, ◌++◌, length, drop, length-append, Option, Some, None, Result, Ok, Err, refl, sym, ap, subst, ◌∙◌, inl, inr, arith}
 use Rattle.std.proofs.lemmas.Bool.{false≢true}
 use Rattle.std.proofs.lemmas.List.{append-nil, append_assoc}
 use Rattle.std.specs.Prelude.{ok_or, ◌⊎◌}
@@ -11,7 +11,7 @@ use Rattle.rr_line.specs.declared.fault.LineFault.{LineFault}
 use Rattle.rr_line.specs.declared.fault.LineFault.TheVariants.{MissingTagKey, MissingTagValue, TooManyTags, DuplicateTag}
 use Rattle.rr_line.specs.Part.{begins, IsName, HasNoName}
 use Rattle.rr_line.specs.Reading.{◌>>=◌, unless, name_at, tag_at, tags_at, after_comma}
-use Rattle.rr_line.specs.Tag.{Tag, IsTag, HasNoTagValue, without_equals, without_name, before_equals, has_key, MayStandBehind, AreTags, TagFault, no_key, no_value, too_many, repeated}
+use Rattle.rr_line.specs.Tag.{Tag, IsTag, HasNoTagValue, without_equals, without_name, before_equals, has_key, AreTags, TagFault, no_key, no_value, too_many, repeated}
 use Rattle.rr_line.proofs.AgreeLemmas.{Agrees, Agrees-as, Agrees-bind, Agrees-unless, Agrees-ok, Agrees-ok_or, Agrees-err, just_read}
 use Rattle.rr_line.proofs.PartLemmas.{name_agrees, first_is, strip_some, strip_there, strip_none, strip_lacks, begins_there}
 

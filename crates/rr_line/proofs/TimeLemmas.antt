@@ -1,7 +1,7 @@
 -- The ending of a line, found by the reading and of the grammar.
-use Rattle.std.proofs.Common.{◌≡◌, ℕ, zero, suc, ◌+◌, ◌<◌, ◌≤◌, ℤ, Bool, true, false, not, ◌||◌, eqb, cond, List, [], ◌∷◌, ◌++◌, length, take, drop, Option, Some, None, Result, Ok, Err, refl, sym, ap, subst, ◌∙◌, inl, inr, arith}
+use Rattle.std.proofs.Common.{◌≡◌, ℕ, ◌<◌, ◌≤◌, ℤ, Bool, true, false, not, ◌||◌, eqb, List, [], ◌∷◌, length, take, drop, Option, Some, None, Ok, Err, refl, sym, ap, subst, ◌∙◌, inl, inr, arith}
 use Rattle.std.specs.Prelude.{◌⊎◌}
-use Rattle.std.proofs.lemmas.Bool.{cases_Bool, eqb-true, eqb-false, false≢true, or_parts, not-false, not-true}
+use Rattle.std.proofs.lemmas.Bool.{cases_Bool, eqb-true, eqb-false, or_parts, not-false, not-true}
 use Rattle.std.proofs.Math.Dec.{eqb-suc-zero}
 use Rattle.std.proofs.lemmas.List.{take-append-drop, length-take-le, nil_from_length}
 use Rattle.std.proofs.lemmas.List.Sums.{prefix_len-le-length}
@@ -11,8 +11,8 @@ use Rattle.rr_line.specs.declared.fault.LineFault.{LineFault}
 use Rattle.rr_line.specs.declared.fault.LineFault.TheVariants.{BadTime, TimeRange}
 use Rattle.rr_line.specs.declared.precision.Precision.{Precision}
 use Rattle.rr_line.specs.Part.{skip_spaces, cut_behind}
-use Rattle.rr_line.specs.Reading.{◌>>=◌, unless, time_at, word_time, ending_at}
-use Rattle.rr_line.specs.Time.{nanoseconds, word_len, IsWord, IsTimeText, IsEnding, EndingFault, bad_time, out_of_range}
+use Rattle.rr_line.specs.Reading.{◌>>=◌, time_at, word_time, ending_at}
+use Rattle.rr_line.specs.Time.{nanoseconds, word_len, IsWord, IsEnding, EndingFault, bad_time, out_of_range}
 use Rattle.rr_line.proofs.AgreeLemmas.{Agrees, Agrees-as, Agrees-bind, Agrees-unless, Agrees-ok, just_read}
 use Rattle.rr_line.proofs.PartLemmas.{first_is, cut_is}
 

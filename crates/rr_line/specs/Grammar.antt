@@ -1,7 +1,7 @@
 -- The grammar, as a relation between the bytes of a line and what it says, or why it is refused.
 --
 -- line = spaces measurement { "," tag } spaces field { "," field } spaces [ time spaces ] [ CR ]
-use Rattle.std.specs.Prelude.{◌≡◌, ℕ, ◌<◌, Bool, true, false, ◌==◌, List, [], ◌∷◌, ◌++◌, length, Result, Ok, Err}
+use Rattle.std.specs.Prelude.{◌≡◌, ℕ, ◌<◌, Bool, true, false, ◌==◌, List, [], ◌∷◌, length, Result, Ok, Err}
 use Rattle.rr_key.specs.declared.class.Class.TheVariants.{Measurement}
 use Rattle.rr_line.specs.declared.delimiter.TheConstants.{COMMA, HASH}
 use Rattle.rr_line.specs.declared.fault.LineFault.{LineFault}

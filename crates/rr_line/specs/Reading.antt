@@ -1,5 +1,5 @@
 -- The reading, as a function of the bytes of a line: part by part, up to the first fault.
-use Rattle.std.specs.Prelude.{ℕ, zero, suc, ℤ, Bool, ◌&&◌, ◌||◌, not, ◌==◌, List, [], ◌∷◌, ◌++◌, length, take, drop, Option, None, Some, Result, Ok, Err, ok_or, if◌then◌else◌}
+use Rattle.std.specs.Prelude.{ℕ, zero, suc, ℤ, Bool, ◌||◌, not, ◌==◌, List, [], ◌∷◌, ◌++◌, length, take, drop, Option, None, Some, Result, Ok, Err, ok_or, if◌then◌else◌}
 use Rattle.rr_base.specs.Text.{is_digits, unsigned, fits_i64}
 use Rattle.rr_key.specs.declared.class.Class.{Class}
 use Rattle.rr_key.specs.declared.class.Class.TheVariants.{Measurement, Other}

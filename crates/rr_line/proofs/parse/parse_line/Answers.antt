@@ -1,8 +1,8 @@
 -- The answer is that of the grammar.
-use Rattle.std.proofs.Common.{sym, subst, ◌∙◌, inl, inr, Ok, Err}
+use Rattle.std.proofs.Common.{sym, subst, ◌∙◌, inl, inr}
 use Rattle.std.proofs.lemmas.Result.{err_from_is_err_and}
 use Rattle.rr_line.specs.Grammar.{IsLineOf}
-use Rattle.rr_line.specs.Line.{point, point_view}
+use Rattle.rr_line.specs.Line.{point_view}
 use Rattle.rr_line.proofs.LineLemmas.{line_found, line_only, point_said, point_refused, none_in_content, keys_of_point}
 use Rattle.rr_line.proofs.parse.parse_line.Goals as goal
 

@@ -1,5 +1,5 @@
 -- The steps are those of the reading, and the length of a key text is that of its parts in the line.
-use Rattle.std.proofs.Common.{◌≡◌, ℕ, ℤ, ◌-◌, ◌≤◌, List, length, take, ltb, true, false, sym, ap, ◌∙◌, inr, arith}
+use Rattle.std.proofs.Common.{◌≡◌, ℕ, ◌-◌, List, length, take, true, false, sym, ap, ◌∙◌, inr, arith}
 use Rattle.std.proofs.lemmas.List.{length-take-le}
 use Rattle.rr_key.specs.Making.{tags_of}
 use Rattle.rr_line.specs.Field.{Field}
@@ -7,7 +7,7 @@ use Rattle.rr_line.specs.Key.{has_long_key}
 use Rattle.rr_line.specs.Line.{fields_view}
 use Rattle.rr_line.specs.Tag.{Tag}
 use Rattle.rr_line.proofs.FrontLemmas.{gap_within, long_of_steps}
-use Rattle.rr_line.proofs.ReadPointLemmas.{HeldField, point_of, point_too_long, point_is_read, tests_of}
+use Rattle.rr_line.proofs.ReadPointLemmas.{point_of, point_too_long, point_is_read, tests_of}
 use Rattle.rr_line.proofs.parse.read_point.Goals as goal
 
 pub slice_bounds-front-count : goal.slice_bounds-front-count

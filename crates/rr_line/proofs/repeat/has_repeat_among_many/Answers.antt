@@ -1,5 +1,5 @@
 -- Each entry's key is stored behind those before it.
-use Rattle.std.proofs.Common.{◌∙◌, ap, arith}
+use Rattle.std.proofs.Common.{◌∙◌, arith}
 use Rattle.std.proofs.lemmas.List.{length-set}
 use Rattle.rr_line.proofs.SortedLemmas.{one_key_more}
 use Rattle.rr_line.proofs.repeat.has_repeat_among_many.Goals as goal
