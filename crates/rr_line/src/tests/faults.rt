@@ -74,7 +74,7 @@ fn names_faults_of_fields(rt: HostRuntime) {
 }
 
 #[test]
-fn tells_kinds_of_values(rt: HostRuntime) {
+fn tells_booleans_and_integers(rt: HostRuntime) {
     let alloc = rt.alloc();
     let booleans = [
         b"m v=t".as_slice(),
@@ -104,6 +104,11 @@ fn tells_kinds_of_values(rt: HostRuntime) {
         &[b"m v=1u".as_slice(), b"m v=007u"],
         LineFault::UnsignedField,
     );
+}
+
+#[test]
+fn tells_floats_and_texts(rt: HostRuntime) {
+    let alloc = rt.alloc();
     let floats = [
         b"m v=1".as_slice(),
         b"m v=-1.5",

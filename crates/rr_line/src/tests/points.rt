@@ -18,6 +18,12 @@ fn reads_points(rt: HostRuntime) -> Result<(), Fail> {
     assert_reads(&rt, alloc, b"  m  v=1i   5  \r", b"m v", 1, Some(5))?;
     assert_reads(&rt, alloc, b"m v=-0i -60", b"m v", 0, Some(-60))?;
     assert_reads(&rt, alloc, b"m v=007i 007", b"m v", 7, Some(7))?;
+    Ok(())
+}
+
+#[test]
+fn reads_values_at_both_ends(rt: HostRuntime) -> Result<(), Fail> {
+    let alloc = rt.alloc();
     assert_reads(
         &rt,
         alloc,
@@ -34,6 +40,12 @@ fn reads_points(rt: HostRuntime) -> Result<(), Fail> {
         i64::MIN,
         None,
     )?;
+    Ok(())
+}
+
+#[test]
+fn reads_names(rt: HostRuntime) -> Result<(), Fail> {
+    let alloc = rt.alloc();
     assert_reads(&rt, alloc, b"a\\ b\\\\,c v=1i", b"a\\ b\\\\,c v", 1, None)?;
     assert_reads(&rt, alloc, b"m\tn v=1i", b"m\tn v", 1, None)?;
     assert_reads(&rt, alloc, b"a=b v=1i", b"a=b v", 1, None)?;
@@ -90,6 +102,13 @@ fn reads_examples_of_the_reference(rt: HostRuntime) -> Result<(), Fail> {
         -12_485_903,
         None,
     )?;
+    assert_nothing(&rt, alloc, b"# This is a comment");
+    Ok(())
+}
+
+#[test]
+fn refuses_examples_of_the_reference(rt: HostRuntime) {
+    let alloc = rt.alloc();
     let texts = [
         b"myMeasurement,tag1=value1,tag2=value2 fieldKey=\"fieldValue\" 1556813561098000000".as_slice(),
         b"myMeasurement fieldKey=\"\\\"string\\\" within a string\"",
@@ -112,6 +131,4 @@ fn reads_examples_of_the_reference(rt: HostRuntime) -> Result<(), Fail> {
         [b"myMeasurement fieldKey=12485903u".as_slice()].as_slice(),
         LineFault::UnsignedField,
     );
-    assert_nothing(&rt, alloc, b"# This is a comment");
-    Ok(())
 }

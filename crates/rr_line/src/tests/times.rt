@@ -16,7 +16,7 @@ fn assert_time(
 }
 
 #[test]
-fn multiplies_times(rt: HostRuntime) -> Result<(), Fail> {
+fn multiplies_seconds_and_milliseconds(rt: HostRuntime) -> Result<(), Fail> {
     let alloc = rt.alloc();
     assert_time(
         &rt,
@@ -46,6 +46,12 @@ fn multiplies_times(rt: HostRuntime) -> Result<(), Fail> {
         Precision::Ms,
         LineFault::TimeRange,
     );
+    Ok(())
+}
+
+#[test]
+fn multiplies_microseconds(rt: HostRuntime) -> Result<(), Fail> {
+    let alloc = rt.alloc();
     assert_time(
         &rt,
         alloc,
