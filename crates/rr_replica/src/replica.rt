@@ -13,7 +13,7 @@ ghost use Rattle.rr_replica.specs.Puts.{put_sample};
 ghost use Rattle.rr_replica.specs.Holding.{Holding, with_put};
 ghost use Rattle.rr_replica.specs.Series.{cells_of};
 ghost use Rattle.rr_replica.specs.Listing.{seen_cell, at_most_usize};
-ghost use Rattle.rr_replica.specs.Kept.{shown, sample_of, IsKept};
+ghost use Rattle.rr_replica.specs.Kept.{shown, sample_of, IsHolding, IsKept};
 
 use crate::archives::{empty_archives, put_into};
 use crate::cell::CellRef;
@@ -97,9 +97,11 @@ impl<A: Archive> Replica<A> {
         })
     }
 
-    /// The schema of all series.
+    /// The schema of all series. A caller learns here too what a replica keeps to: its cells are live
+    /// and valid under this schema, and those of its own origin are of numbers before the next.
     pub fn schema(&self) -> &Schema
-        ensures { result.now ≡ self.now.schema }
+        ensures value { result.now ≡ self.now.schema }
+        ensures holds { IsHolding self.now }
     {
         &self.schema
     }
