@@ -1,46 +1,58 @@
 -- What a fetch at a node of the cluster is answered.
-use Rattle.std.proofs.Common.{◌≡◌, ℕ, List, Some, Result, Ok, Err, sym, ap, ◌∙◌}
+use Rattle.std.proofs.Common.{◌≡◌, ℕ, List, Some, Result, Ok, Err, refl, sym, ap, subst, ◌∙◌}
 use Rattle.std.specs.BTreeMap.{get}
-use Rattle.rr_base.specs.Schema.{Layout, archive_at}
-use Rattle.rr_base.specs.declared.consolidation.ConsolidationFunction.TheVariants.{Average}
-use Rattle.rr_model.specs.FetchText.{Request, answer_text, fetch_text}
+use Rattle.std.specs.FinMap as map
+use Rattle.rr_archive.specs.declared.archive.Archive.{Ghosts}
+use Rattle.rr_base.specs.Schema.{Layout, IsLayout}
+use Rattle.rr_model.specs.FetchText.{Request, fetch_text}
+use Rattle.rr_replica.specs.Holding.{Holding}
+use Rattle.rr_fetch.specs.Answers.{cells_text}
+use Rattle.rr_fetch.specs.Requests as fetch
+use Rattle.rr_fetch.specs.Requests.{requested}
+use Rattle.rr_fetch.specs.declared.fault.RequestFault.{RequestFault}
+use Rattle.rr_fetch.specs.declared.fault.RequestFault.TheVariants as why
 use Rattle.rr_cluster.specs.declared.fault.CommandFault.{CommandFault}
-use Rattle.rr_cluster.specs.declared.node.Node.{Node}
 use Rattle.rr_cluster.specs.declared.cluster.Cluster.{Cluster}
-use Rattle.rr_cluster.specs.Answer.{value_in}
-use Rattle.rr_cluster.specs.Checks.{◌>>=◌}
-use Rattle.rr_cluster.specs.Commands.{answer_to}
-use Rattle.rr_cluster.specs.Meaning.{Means}
-use Rattle.rr_cluster.specs.Plain.{IsPlain}
-use Rattle.rr_cluster.specs.Request.{requested}
-use Rattle.rr_cluster.specs.State.{State, name_cmp}
-use Rattle.rr_cluster.specs.Stop.{Follows}
 use Rattle.rr_cluster.specs.declared.stop.Stop.{Stop}
-use Rattle.rr_cluster.specs.declared.stop.Stop.TheVariants.{Refused, Memory}
+use Rattle.rr_cluster.specs.Checks.{◌>>=◌}
+use Rattle.rr_cluster.specs.Commands.{answer_to, request_of}
+use Rattle.rr_cluster.specs.Meaning.{Keeps, Means}
+use Rattle.rr_cluster.specs.State.{Node, State, name_cmp}
+use Rattle.rr_cluster.specs.Stop.{Follows, IsStopOfFetch}
+use Rattle.rr_fetch.proofs.RowLaws.{answer_of_state}
 use Rattle.rr_cluster.proofs.CheckLemmas.{fetch_at_node}
-use Rattle.rr_cluster.proofs.FetchLemmas.{answer_is}
-use Rattle.rr_cluster.proofs.FoundLemmas.{schema_of_state, node_found}
+use Rattle.rr_cluster.proofs.FoundLemmas.{node_found}
 
-module _ (c : Cluster) (m : State) (means : Means c m) (name function resolution start end key : List ℕ) (s : Layout) (x : Node) (schema : c.schema ≡ Some s) (here : Some x ≡ get name_cmp c.nodes name) where
-  abbrev request : Result Request CommandFault
-  request = requested s function resolution start end key
+-- what follows a request that is read, or refused
+abbrev pub answered : Layout → Node → Result Request RequestFault → Result (List ℕ) CommandFault
+answered s n said = request_of said >>= λ q. Ok (fetch_text s n.known q)
 
-  abbrev answer : Result (List ℕ) CommandFault
-  answer = answer_to m name function resolution start end key
+stopped : {X : Type 0} (view : X → Request) (s : Layout) (n : Node) (fault : RequestFault) (stop : Stop) (said : Result Request RequestFault)
+    → fetch.Follows view (Err fault) said → IsStopOfFetch fault stop → Follows {A = List ℕ} (λ text. text) (Err stop) (answered s n said)
+stopped view s n why.BadCommand stop said follows is = rw (is, follows) refl
+stopped view s n why.BadCf stop said follows is = rw (is, follows) refl
+stopped view s n why.BadNumber stop said follows is = rw (is, follows) refl
+stopped view s n why.BadKey stop said follows is = rw (is, follows) refl
+stopped view s n why.EmptyRange stop said follows is = rw (is, follows) refl
+stopped view s n why.TooManyRows stop said follows is = rw (is, follows) refl
+stopped view s n why.Memory stop said follows is = rw is tt
 
-  pub fetch_refused : (fault : CommandFault) → Err fault ≡ request → answer ≡ Err fault
-  fetch_refused fault said =
-      let n = node_found c m means name s x schema (sym here) in
-      fetch_at_node m name function resolution start end key s (schema_of_state c m means (Some s) schema) n.0 n.1
-      ∙ ap (λ (r : Result Request CommandFault). r >>= λ q. Ok (fetch_text s n.0.known q)) (sym said)
+module _ {A : Type 0} {g : Ghosts A} (c : Cluster A g) (m : State) (means : Means c m) (name words : List ℕ) (s : Layout) (h : Holding) (schema : m.schema ≡ Some s) (here : Some h ≡ get name_cmp c.nodes name) where
+  found : (n : Node) × (map.get m.nodes name ≡ Some n) × Keeps s h n
+  found = node_found c m means name s h schema (sym here)
 
-  pub fetch_stopped : {A : Type 0} (view : A → Request) (stop : Stop) → Follows view (Err stop) request → Follows {A = List ℕ} (λ text. text) (Err stop) answer
-  fetch_stopped view (Refused fault) said = fetch_refused fault (sym said)
-  fetch_stopped view Memory said = tt
+  answer : (n : Node) × Keeps s h n × (answer_to m name words ≡ answered s n (requested h.schema words))
+  answer =
+      let n = found in
+      (n.0, n.2, fetch_at_node m name words s schema n.0 n.1 ∙ ap (λ (t : Layout). answered s n.0 (requested t words)) (sym n.2.schema))
 
-  pub fetch_answered : IsPlain s → (q : Request) → Ok q ≡ request → q.function ≡ Average → q.archive ≡ 0 → (text : List ℕ) → text ≡ answer_text s (value_in (archive_at s q.archive).rows (get name_cmp x.series q.key)) q → answer ≡ Ok text
-  fetch_answered plain q said average first text written =
-      let n = node_found c m means name s x schema (sym here) in
-      fetch_at_node m name function resolution start end key s (schema_of_state c m means (Some s) schema) n.0 n.1
-      ∙ ap (λ (r : Result Request CommandFault). r >>= λ q. Ok (fetch_text s n.0.known q)) (sym said)
-      ∙ ap (λ (t : List ℕ). Ok t) (sym (written ∙ answer_is s x n.0 plain n.2 q average first))
+  pub fetch_stopped : {X : Type 0} (view : X → Request) (fault : RequestFault) (stop : Stop) → fetch.Follows view (Err fault) (requested h.schema words) → IsStopOfFetch fault stop
+      → Follows {A = List ℕ} (λ text. text) (Err stop) (answer_to m name words)
+  fetch_stopped view fault stop follows is =
+      let a = answer in
+      subst (Follows {A = List ℕ} (λ text. text) (Err stop)) (sym a.2) (stopped view s a.0 fault stop (requested h.schema words) follows is)
+
+  pub fetch_answered : IsLayout s → (q : Request) → requested h.schema words ≡ Ok q → (text : List ℕ) → text ≡ cells_text h.schema h.cells q → answer_to m name words ≡ Ok text
+  fetch_answered is q said text written =
+      let a = answer in
+      a.2 ∙ ap (answered s a.0) said ∙ ap (λ (t : List ℕ). Ok t) (sym (written ∙ (λ i. cells_text (a.1.schema i) (a.1.cells i) q) ∙ answer_of_state s is a.0.known q))

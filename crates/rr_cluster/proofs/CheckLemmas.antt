@@ -1,9 +1,10 @@
 -- What each command answers, check by check.
-use Rattle.std.proofs.Common.{◌≡◌, ℕ, true, false, List, ◌∷◌, Option, Some, None, Result, Ok, Err, refl, sym, ap, subst, ◌∙◌}
+use Rattle.std.proofs.Common.{◌≡◌, ℕ, ℤ, true, false, List, ◌∷◌, Option, Some, None, Result, Ok, Err, refl, sym, ap, subst, ◌∙◌}
 use Rattle.std.specs.Prelude.{◌==◌}
 use Rattle.std.specs.Option.{is_some, is_none}
 use Rattle.std.specs.List.{list_any}
 use Rattle.std.specs.FinMap as map
+use Rattle.rr_archive.specs.declared.archive.Archive.{Ghosts}
 use Rattle.rr_base.specs.Schema.{Layout}
 use Rattle.rr_model.specs.FetchText.{fetch_text}
 use Rattle.rr_cluster.specs.declared.fault.CommandFault.{CommandFault}
@@ -12,11 +13,10 @@ use Rattle.rr_cluster.specs.declared.cluster.Cluster.{Cluster}
 use Rattle.rr_cluster.specs.declared.stop.Stop.{Stop}
 use Rattle.rr_cluster.specs.declared.stop.Stop.TheVariants.{Refused, Memory}
 use Rattle.rr_cluster.specs.Checks.{◌>>=◌}
-use Rattle.rr_cluster.specs.Words.{is_name, origin_of}
-use Rattle.rr_cluster.specs.Request.{requested}
-use Rattle.rr_cluster.specs.State as model
-use Rattle.rr_cluster.specs.State.{State}
-use Rattle.rr_cluster.specs.Commands.{layout_of, after_schema, after_node, after_write, answer_to, written_by, with_all_written, with_samples}
+use Rattle.rr_cluster.specs.Words.{is_name, origin_of, moment_of, lead_of}
+use Rattle.rr_fetch.specs.Requests.{requested}
+use Rattle.rr_cluster.specs.State.{Node, State}
+use Rattle.rr_cluster.specs.Commands.{layout_of, after_schema, after_node, after_now, after_write, answer_to, request_of, written_by, with_all_written, with_samples}
 use Rattle.rr_cluster.specs.Stop.{Follows}
 use Rattle.rr_cluster.specs.Meaning.{Means, Settles}
 
@@ -69,6 +69,27 @@ module _ (m : State) (name origin : List ℕ) where
           unfolding after_node
           node_is_new e = rw (schema, named, free, is, e) refl
 
+-- ---- now
+
+module _ (m : State) (time : List ℕ) (lead : Option (List ℕ)) where
+  pub now_without_schema : m.schema ≡ None → after_now m time lead ≡ Err NoSchema
+  unfolding after_now
+  now_without_schema e = rw e refl
+
+  module _ (s : Layout) (schema : m.schema ≡ Some s) where
+    pub now_of_bad_time : (fault : CommandFault) → Err fault ≡ moment_of time → after_now m time lead ≡ Err fault
+    unfolding after_now
+    now_of_bad_time fault e = rw (schema, sym e) refl
+
+    module _ (clock : ℤ) (is : Ok clock ≡ moment_of time) where
+      pub now_of_bad_lead : (fault : CommandFault) → Err fault ≡ lead_of m.lead lead → after_now m time lead ≡ Err fault
+      unfolding after_now
+      now_of_bad_lead fault e = rw (schema, sym is, sym e) refl
+
+      pub now_is_set : (most : Option ℕ) → Ok most ≡ lead_of m.lead lead → after_now m time lead ≡ Ok (record m { clock = clock; lead = most })
+      unfolding after_now
+      now_is_set most e = rw (schema, sym is, sym e) refl
+
 -- ---- write
 
 module _ (m : State) (name line : List ℕ) where
@@ -81,36 +102,36 @@ module _ (m : State) (name line : List ℕ) where
     unfolding after_write
     write_without_node e = rw (schema, e) refl
 
-    pub write_to_node : (n : model.Node) → map.get m.nodes name ≡ Some n → after_write m name line ≡ (written_by n line >>= λ xs. Ok (record m { nodes = map.insert m.nodes name (with_all_written s n xs); world = with_samples m.world xs }))
+    pub write_to_node : (n : Node) → map.get m.nodes name ≡ Some n → after_write m name line ≡ (written_by n m.clock m.lead line >>= λ xs. Ok (record m { nodes = map.insert m.nodes name (with_all_written s n xs); world = with_samples m.world xs }))
     unfolding after_write
     write_to_node n e = rw (schema, e) refl
 
 -- ---- fetch
 
-module _ (m : State) (name function resolution start end key : List ℕ) where
-  pub fetch_without_schema : m.schema ≡ None → answer_to m name function resolution start end key ≡ Err NoSchema
+module _ (m : State) (name words : List ℕ) where
+  pub fetch_without_schema : m.schema ≡ None → answer_to m name words ≡ Err NoSchema
   unfolding answer_to
   fetch_without_schema e = rw e refl
 
   module _ (s : Layout) (schema : m.schema ≡ Some s) where
-    pub fetch_without_node : map.get m.nodes name ≡ None → answer_to m name function resolution start end key ≡ Err NoNode
+    pub fetch_without_node : map.get m.nodes name ≡ None → answer_to m name words ≡ Err NoNode
     unfolding answer_to
     fetch_without_node e = rw (schema, e) refl
 
-    pub fetch_at_node : (n : model.Node) → map.get m.nodes name ≡ Some n → answer_to m name function resolution start end key ≡ (requested s function resolution start end key >>= λ q. Ok (fetch_text s n.known q))
+    pub fetch_at_node : (n : Node) → map.get m.nodes name ≡ Some n → answer_to m name words ≡ (request_of (requested s words) >>= λ q. Ok (fetch_text s n.known q))
     unfolding answer_to
     fetch_at_node n e = rw (schema, e) refl
 
 -- ---- what a refusal leaves
 
-pub settles_refused : (c : Cluster) (m : State) (fault : CommandFault) (said : Result State CommandFault) → Means c m → said ≡ Err fault → Settles c m (Err (Refused fault)) said
+pub settles_refused : {A : Type 0} {g : Ghosts A} (c : Cluster A g) (m : State) (fault : CommandFault) (said : Result State CommandFault) → Means c m → said ≡ Err fault → Settles c m (Err (Refused fault)) said
 settles_refused c m fault said means e = subst (λ (r : Result State CommandFault). Settles c m (Err (Refused fault)) r) (sym e) (refl, means)
 
-pub settles_done : (c : Cluster) (m after : State) (said : Result State CommandFault) → Means c after → said ≡ Ok after → Settles c m (Ok tt) said
+pub settles_done : {A : Type 0} {g : Ghosts A} (c : Cluster A g) (m after : State) (said : Result State CommandFault) → Means c after → said ≡ Ok after → Settles c m (Ok tt) said
 settles_done c m after said means e = subst (λ (r : Result State CommandFault). Settles c m (Ok tt) r) (sym e) means
 
 -- a stop below is the command's stop
-pub settles_stop : {A B : Type 0} (c : Cluster) (m : State) (view : A → B) (stop : Stop) (r : Result B CommandFault) (next : B → Result State CommandFault) (said : Result State CommandFault) → Means c m → Follows view (Err stop) r → said ≡ (r >>= next) → Settles c m (Err stop) said
+pub settles_stop : {A B : Type 0} {X : Type 0} {g : Ghosts X} (c : Cluster X g) (m : State) (view : A → B) (stop : Stop) (r : Result B CommandFault) (next : B → Result State CommandFault) (said : Result State CommandFault) → Means c m → Follows view (Err stop) r → said ≡ (r >>= next) → Settles c m (Err stop) said
 settles_stop {A} {B} c m view (Refused fault) r next said means follows e =
     settles_refused c m fault said means (e ∙ ap (λ (x : Result B CommandFault). x >>= next) follows)
 settles_stop c m view Memory r next said means follows e = tt

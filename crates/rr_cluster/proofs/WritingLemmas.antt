@@ -1,70 +1,62 @@
--- A node that writes the samples of a point, field by field.
-use Rattle.std.proofs.Common.{◌≡◌, ℕ, zero, suc, ◌+◌, ◌-◌, ◌<◌, ℤ, pos, leb, true, Ok, subst, map, get_or, List, [], ◌∷◌, ◌++◌, length, refl, sym, ap, ◌∙◌, arith}
-use Rattle.std.specs.Prelude.{unwrap_or}
-use Rattle.std.specs.List.{AllByRecursion}
+-- A replica that writes the samples of a point, field by field, or refuses them.
+use Rattle.std.proofs.Common.{◌≡◌, ℕ, ◌+◌, ◌-◌, ℤ, Option, List, [], ◌∷◌, length, refl, sym, ap, subst, ◌∙◌, Ok, Err, inl, inr, IsTrue, arith}
+use Rattle.std.specs.Prelude.{unwrap_or, nat_lt, IsFalse}
+use Rattle.std.proofs.lemmas.Bool.{cases_Bool}
 use Rattle.rr_base.specs.declared.limits.TheConstants.{MAX_NUMBER}
-use Rattle.rr_base.specs.Schema.{Layout}
+use Rattle.rr_base.specs.Schema.{Layout, IsLayout}
+use Rattle.rr_line.specs.Key.{key_text}
 use Rattle.rr_line.specs.Line.{PointView}
-use Rattle.rr_model.specs.Samples.{Sample}
-use Rattle.rr_cluster.specs.declared.node.Node as held
+use Rattle.rr_replica.specs.declared.fault.WriteFault.{WriteFault}
+use Rattle.rr_replica.specs.declared.fault.WriteFault.TheVariants as why
+use Rattle.rr_replica.specs.Holding.{Holding, with_put}
+use Rattle.rr_replica.specs.Writing.{with_fields, is_ahead, lacks_numbers, IsAfterRefusal}
+use Rattle.rr_cluster.specs.declared.stop.Stop.{Stop}
+use Rattle.rr_cluster.specs.Commands.{sample_of, samples_of, samples_of_point, with_written, with_all_written}
 use Rattle.rr_cluster.specs.Meaning.{Keeps, Writes}
 use Rattle.rr_cluster.specs.State.{Node}
-use Rattle.rr_cluster.specs.Commands.{sample_of, samples_of, samples_of_point, with_written, with_all_written}
+use Rattle.rr_cluster.specs.Stop.{IsStopOfWrite}
+use Rattle.rr_cluster.proofs.KeepLemmas.{keeps_put}
 
--- one sample more at the end
-with_all_written-more : (s : Layout) (n : Node) (xs : List Sample) (x : Sample) → with_all_written s n (xs ++ x ∷ []) ≡ with_written s (with_all_written s n xs) x
-with_all_written-more s n [] x = refl
-with_all_written-more s n (y ∷ ys) x = with_all_written-more s (with_written s n y) ys x
+-- the fields of a point, one by one
+keeps_fields : (s : Layout) → IsLayout s → (h : Holding) (n : Node) (p : PointView) (time : ℤ) (fields : List (List ℕ × ℤ)) → Keeps s h n
+    → Keeps s (with_fields h p time fields) (with_all_written s n (samples_of n.origin n.written time p fields))
+keeps_fields s is h n p time [] keeps = keeps
+keeps_fields s is h n p time (field ∷ fields) keeps =
+    keeps_fields s is (with_put h (key_text p field.0) time field.1) (with_written s n (sample_of n.origin n.written time p field)) p time fields
+    (keeps_put s is h n keeps (key_text p field.0) time field.1)
 
-samples_of-more : (origin number : ℕ) (time : ℤ) (p : PointView) (fields : List (List ℕ × ℤ)) (field : List ℕ × ℤ) → samples_of origin number time p (fields ++ field ∷ []) ≡ samples_of origin number time p fields ++ sample_of origin (number + length fields) time p field ∷ []
-samples_of-more origin number time p [] field =
-    let same : number ≡ number + 0 = omega arith in
-    ap (λ (k : ℕ). sample_of origin k time p field ∷ []) same
-samples_of-more origin number time p (other ∷ fields) field =
-    let same : number + 1 + length fields ≡ number + length (other ∷ fields) = omega arith in
-    ap (λ (xs : List Sample). sample_of origin number time p other ∷ xs)
-    (samples_of-more origin (number + 1) time p fields field ∙ ap (λ (k : ℕ). samples_of origin (number + 1) time p fields ++ sample_of origin k time p field ∷ []) same)
+module _ (s : Layout) (is : IsLayout s) (old new : Holding) (n : Node) (clock : ℤ) (lead : Option ℕ) (p : PointView) (keeps : Keeps s old n) where
+  -- the numbers that the replica has left are those of the node
+  same_numbers : nat_lt (MAX_NUMBER - n.written) (length p.fields) ≡ lacks_numbers old (length p.fields)
+  same_numbers =
+      let left : MAX_NUMBER - n.written ≡ MAX_NUMBER + 1 - old.next = omega (arith, keeps.next) in
+      ap (λ (k : ℕ). nat_lt k (length p.fields)) left
 
--- the origin stays, and each sample is counted
-origin-with_all_written : (s : Layout) (n : Node) (xs : List Sample) → (with_all_written s n xs).origin ≡ n.origin
-origin-with_all_written s n [] = refl
-origin-with_all_written s n (x ∷ xs) = origin-with_all_written s (with_written s n x) xs
+  keeps_written : new ≡ with_fields old p (unwrap_or p.time clock) p.fields → Keeps s new (with_all_written s n (samples_of n.origin n.written (unwrap_or p.time clock) p p.fields))
+  keeps_written put =
+      subst (λ (h : Holding). Keeps s h (with_all_written s n (samples_of n.origin n.written (unwrap_or p.time clock) p p.fields))) (sym put)
+      (keeps_fields s is old n p (unwrap_or p.time clock) p.fields keeps)
 
-written-with_fields : (s : Layout) (n : Node) (origin number : ℕ) (time : ℤ) (p : PointView) (fields : List (List ℕ × ℤ)) → n.written ≡ number → (with_all_written s n (samples_of origin number time p fields)).written ≡ number + length fields
-written-with_fields s n origin number time p [] e = omega (arith, e)
-written-with_fields s n origin number time p (field ∷ fields) e =
-    let rest = written-with_fields s (with_written s n (sample_of origin number time p field)) origin (number + 1) time p fields refl in
-    omega (arith, rest)
+  module _ (count : ℕ) (many : count ≡ length p.fields) where
+    lacks : lacks_numbers old count ≡ nat_lt (MAX_NUMBER - n.written) (length p.fields)
+    lacks = ap (lacks_numbers old) many ∙ sym same_numbers
 
--- the node after these fields
-abbrev pub after_fields : Layout → Node → ℤ → PointView → List (List ℕ × ℤ) → Node
-after_fields s n time p fields =
-    with_all_written s n (samples_of n.origin n.written time p fields)
+    pub point_written : (IsTrue (is_ahead p.time clock lead) → ⊥) → (IsFalse (is_ahead p.time clock lead) × IsTrue (lacks_numbers old count) → ⊥)
+        → new ≡ with_fields old p (unwrap_or p.time clock) p.fields → Writes s new n (Ok tt) (samples_of_point n clock lead p)
+    point_written not_ahead not_spent put =
+        elim (cases_Bool (is_ahead p.time clock lead)) [
+          | inl ahead ↦ absurd (not_ahead ahead)
+          | inr timely ↦ elim (cases_Bool (nat_lt (MAX_NUMBER - n.written) (length p.fields))) [
+            | inl spent ↦ absurd (not_spent (timely, lacks ∙ spent))
+            | inr enough ↦ rw (timely, enough) (keeps_written put)
+          ]
+        ]
 
--- one field more is one sample more of what the node then is
-pub after_fields-more : (s : Layout) (n : Node) (time : ℤ) (p : PointView) (fields : List (List ℕ × ℤ)) (field : List ℕ × ℤ) → after_fields s n time p (fields ++ field ∷ []) ≡ with_written s (after_fields s n time p fields) (sample_of (after_fields s n time p fields).origin (after_fields s n time p fields).written time p field)
-after_fields-more s n time p fields field =
-    let xs = samples_of n.origin n.written time p fields in
-    let origin = sym (origin-with_all_written s n xs) in
-    let number = sym (written-with_fields s n n.origin n.written time p fields refl) in
-    ap (with_all_written s n) (samples_of-more n.origin n.written time p fields field)
-    ∙ with_all_written-more s n xs (sample_of n.origin (n.written + length fields) time p field)
-    ∙ λ i. with_written s (with_all_written s n xs) (sample_of (origin i) (number i) time p field)
-
--- what holds of each field of a point holds of the one at a place
-pub field_at : {A B : Type 0} (P : B → Type 0) (view : A → B) (xs : List A) (i : ℕ) (d : A) → AllByRecursion P (map view xs) → i < length xs → P (view (get_or xs i d))
-field_at P view [] i d all lt = absurd (omega arith)
-field_at P view (x ∷ xs) zero d all lt = all.0
-field_at P view (x ∷ xs) (suc i) d all lt = field_at P view xs i d all.1 (omega arith)
-
--- a point whose fields are all written, where there are numbers for them
-pub point_written : (s : Layout) (x : held.Node) (n : Node) (p : PointView) (time : ℤ) (written count : ℕ) → time ≡ unwrap_or p.time (pos 0) → written ≡ n.written → count ≡ length p.fields → leb count (MAX_NUMBER - written) ≡ true
-    → Keeps s x (after_fields s n time p p.fields) → Writes s x n (Ok tt) (samples_of_point n p)
-point_written s x n p time written count moment number many enough keeps =
-    let left : leb (length p.fields) (MAX_NUMBER - n.written) ≡ true = (λ i. leb (sym many i) (MAX_NUMBER - sym number i)) ∙ enough in
-    rw left (subst (λ (z : ℤ). Keeps s x (after_fields s n z p p.fields)) moment keeps)
-
--- a view of fields has as many
-pub view_len : {A B : Type 0} (view : A → B) (xs : List A) → length (map view xs) ≡ length xs
-view_len view [] = refl
-view_len view (x ∷ xs) = ap suc (view_len view xs)
+    pub point_refused : (fault : WriteFault) (stop : Stop) → IsStopOfWrite fault stop → IsAfterRefusal old new p (unwrap_or p.time clock) fault
+        → (fault ≡ why.AheadOfClock → IsTrue (is_ahead p.time clock lead))
+        → (fault ≡ why.NumbersSpent → IsFalse (is_ahead p.time clock lead) × IsTrue (lacks_numbers old count))
+        → Writes s new n (Err stop) (samples_of_point n clock lead p)
+    point_refused why.AheadOfClock stop stopped same ahead spent = rw (stopped, ahead refl) (refl, subst (λ (h : Holding). Keeps s h n) (sym same) keeps)
+    point_refused why.NumbersSpent stop stopped same ahead spent =
+        rw (stopped, (spent refl).0, sym lacks ∙ (spent refl).1) (refl, subst (λ (h : Holding). Keeps s h n) (sym same) keeps)
+    point_refused (why.Memory put) stop stopped same ahead spent = rw stopped tt

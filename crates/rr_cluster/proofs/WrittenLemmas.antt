@@ -1,73 +1,79 @@
 -- What a write to a node of the cluster leaves.
 use Rattle.std.proofs.Common.{◌≡◌, ℕ, Bool, true, false, cond, List, Option, Some, Result, Ok, Err, refl, sym, ap, subst, ◌∙◌}
 use Rattle.std.specs.Ordering.{eq_by_cmp}
+use Rattle.std.specs.Cmp.Lexicographic.{nat_list_cmp_total}
 use Rattle.std.specs.BTreeMap.{get}
 use Rattle.std.specs.FinMap as map
-use Rattle.rr_base.specs.Schema.{Layout}
+use Rattle.std.specs.FinMap.{nat_cmp-IsAntisymmetric, slice_cmp-IsAntisymmetric}
+use Rattle.rr_archive.specs.declared.archive.Archive.{Ghosts}
+use Rattle.rr_base.specs.Schema.{Layout, IsLayout}
+use Rattle.rr_join.proofs.Members.{same_from_tie}
 use Rattle.rr_model.specs.Samples.{Sample}
+use Rattle.rr_replica.specs.Holding.{Holding}
 use Rattle.rr_cluster.specs.declared.fault.CommandFault.{CommandFault}
-use Rattle.rr_cluster.specs.declared.node.Node.{Node}
 use Rattle.rr_cluster.specs.declared.cluster.Cluster.{Cluster}
 use Rattle.rr_cluster.specs.declared.stop.Stop.{Stop}
 use Rattle.rr_cluster.specs.declared.stop.Stop.TheVariants.{Refused, Memory}
 use Rattle.rr_cluster.specs.Checks.{◌>>=◌}
 use Rattle.rr_cluster.specs.Commands.{after_write, written_by, with_all_written, with_samples}
-use Rattle.rr_cluster.specs.State as model
-use Rattle.rr_cluster.specs.State.{State, name_cmp}
+use Rattle.rr_cluster.specs.State.{Node, State, name_cmp}
 use Rattle.rr_cluster.specs.Meaning.{Keeps, AreAlike, Means, Settles, Writes}
-use Rattle.rr_cluster.proofs.TallyLemmas.{same_name}
 use Rattle.rr_cluster.proofs.AlikeLemmas.{alike_put}
 use Rattle.rr_cluster.proofs.CheckLemmas.{write_to_node}
-use Rattle.rr_cluster.proofs.FoundLemmas.{schema_of_state, node_found}
+use Rattle.rr_cluster.proofs.FoundLemmas.{node_found}
 
--- a cluster of the same schema, nodes and origins means the same
-pub means_same : (old new : Cluster) (m : State) → Means old m → new.schema ≡ old.schema → new.nodes ≡ old.nodes → new.origins ≡ old.origins → Means new m
-means_same old new m means schema nodes origins = record {
-  schema = schema ∙ means.schema;
-  nodes = λ name. rw nodes (means.nodes name);
-  origins = λ origin. rw origins (means.origins origin);
-}
+same_name : (a b : List ℕ) → eq_by_cmp name_cmp a b ≡ true → a ≡ b
+same_name = same_from_tie nat_list_cmp_total (slice_cmp-IsAntisymmetric nat_cmp-IsAntisymmetric)
 
-module _ (old new : Cluster) (m : State) (name : List ℕ) (s : Layout) (x : Node)
-    (same_schema : new.schema ≡ old.schema) (same_origins : new.origins ≡ old.origins)
-    (updates : (q : List ℕ) → get name_cmp new.nodes q ≡ cond (eq_by_cmp name_cmp name q) (Some x) (get name_cmp old.nodes q))
-    (means : Means old m) (schema : m.schema ≡ Some s) where
-  alike_before : (q : List ℕ) → AreAlike (Some s) (get name_cmp old.nodes q) (map.get m.nodes q)
-  alike_before q = subst (λ (o : Option Layout). AreAlike o (get name_cmp old.nodes q) (map.get m.nodes q)) schema (means.nodes q)
+-- a cluster with the same in each field but its nodes
+pub record SameBesidesNodes {A : Type 0} {g : Ghosts A} (old new : Cluster A g) : Type 0 where
+  pub schema : new.schema ≡ old.schema
+  pub clock : new.clock ≡ old.clock
+  pub lead : new.lead ≡ old.lead
+  pub origins : new.origins ≡ old.origins
 
-  -- the node as the model has it afterwards
-  means_put : (n : model.Node) (w : _) → Keeps s x n → Means new (record m { nodes = map.insert m.nodes name n; world = w })
-  means_put n w keeps = record {
-    schema = same_schema ∙ means.schema;
-    nodes = λ q. subst (λ (o : Option Layout). AreAlike o (get name_cmp new.nodes q) (map.get (map.insert m.nodes name n) q)) (sym schema) (alike_put s old.nodes new.nodes m.nodes name x n alike_before updates keeps q);
-    origins = λ origin. rw same_origins (means.origins origin);
-  }
+module _ {A : Type 0} {g : Ghosts A} (old new : Cluster A g) (m : State) (same : SameBesidesNodes old new) (means : Means old m) where
+  module _ (name : List ℕ) (s : Layout) (h : Holding)
+      (updates : (q : List ℕ) → get name_cmp new.nodes q ≡ cond (eq_by_cmp name_cmp name q) (Some h) (get name_cmp old.nodes q))
+      (schema : m.schema ≡ Some s) where
+    alike_before : (q : List ℕ) → AreAlike (Some s) (get name_cmp old.nodes q) (map.get m.nodes q)
+    alike_before q = subst (λ (o : Option Layout). AreAlike o (get name_cmp old.nodes q) (map.get m.nodes q)) schema (means.nodes q)
 
-  -- the node as the model had it
-  means_still : (n : model.Node) → map.get m.nodes name ≡ Some n → Keeps s x n → Means new m
-  means_still n had keeps = record {
-    schema = same_schema ∙ means.schema;
-    nodes = λ q. subst (λ (o : Option Layout). AreAlike o (get name_cmp new.nodes q) (map.get m.nodes q)) (sym schema) (subst (λ (o : Option Node). AreAlike (Some s) o (map.get m.nodes q)) (sym (updates q)) (by q (eq_by_cmp name_cmp name q) refl));
-    origins = λ origin. rw same_origins (means.origins origin);
-  }
-    where
-      by : (q : List ℕ) (b : Bool) → eq_by_cmp name_cmp name q ≡ b → AreAlike (Some s) (cond b (Some x) (get name_cmp old.nodes q)) (map.get m.nodes q)
-      by q true e = subst (λ (o : Option model.Node). AreAlike (Some s) (Some x) o) (sym had ∙ ap (map.get m.nodes) (same_name name q e)) keeps
-      by q false e = alike_before q
+    -- the node as the model has it afterwards
+    means_put : (n : Node) (w : _) → Keeps s h n → Means new (record m { nodes = map.insert m.nodes name n; world = w })
+    means_put n w keeps = record {
+      schema = same.schema ∙ means.schema;
+      clock = same.clock ∙ means.clock;
+      lead = same.lead ∙ means.lead;
+      nodes = λ q. subst (λ (o : Option Layout). AreAlike o (get name_cmp new.nodes q) (map.get (map.insert m.nodes name n) q)) (sym schema) (alike_put s old.nodes new.nodes m.nodes name h n alike_before updates keeps q);
+      origins = λ origin. rw same.origins (means.origins origin);
+    }
 
-  settles : (n : model.Node) → map.get m.nodes name ≡ Some n → (result : Result (Unit {0}) Stop) (said : Result (List Sample) CommandFault) → Writes s x n result said → Settles new m result (said >>= λ xs. Ok (record m { nodes = map.insert m.nodes name (with_all_written s n xs); world = with_samples m.world xs }))
-  settles n had (Ok done) (Ok xs) writes = means_put (with_all_written s n xs) (with_samples m.world xs) writes
-  settles n had (Ok done) (Err fault) writes = absurd writes
-  settles n had (Err (Refused fault)) (Ok xs) writes = absurd writes
-  settles n had (Err (Refused fault)) (Err said) writes = (writes.0, means_still n had writes.1)
-  settles n had (Err Memory) said writes = tt
+    -- the node as the model had it
+    means_still : (n : Node) → map.get m.nodes name ≡ Some n → Keeps s h n → Means new m
+    means_still n had keeps = record {
+      schema = same.schema ∙ means.schema;
+      clock = same.clock ∙ means.clock;
+      lead = same.lead ∙ means.lead;
+      nodes = λ q. subst (λ (o : Option Layout). AreAlike o (get name_cmp new.nodes q) (map.get m.nodes q)) (sym schema) (subst (λ (o : Option Holding). AreAlike (Some s) o (map.get m.nodes q)) (sym (updates q)) (by q (eq_by_cmp name_cmp name q) refl));
+      origins = λ origin. rw same.origins (means.origins origin);
+    }
+      where
+        by : (q : List ℕ) (b : Bool) → eq_by_cmp name_cmp name q ≡ b → AreAlike (Some s) (cond b (Some h) (get name_cmp old.nodes q)) (map.get m.nodes q)
+        by q true e = subst (λ (o : Option Node). AreAlike (Some s) (Some h) o) (sym had ∙ ap (map.get m.nodes) (same_name name q e)) keeps
+        by q false e = alike_before q
 
-pub settles_written : (old new : Cluster) (m : State) (name line : List ℕ) (s : Layout) (was x : Node) → new.schema ≡ old.schema → new.origins ≡ old.origins
-    → ((q : List ℕ) → get name_cmp new.nodes q ≡ cond (eq_by_cmp name_cmp name q) (Some x) (get name_cmp old.nodes q))
-    → Means old m → old.schema ≡ Some s → Some was ≡ get name_cmp old.nodes name
-    → (result : Result (Unit {0}) Stop) → ((n : model.Node) → Keeps s was n → Writes s x n result (written_by n line)) → Settles new m result (after_write m name line)
-settles_written old new m name line s was x same_schema same_origins updates means schema here result writes =
-    let n = node_found old m means name s was schema (sym here) in
-    let known = schema_of_state old m means (Some s) schema in
-    subst (λ (r : Result State CommandFault). Settles new m result r) (sym (write_to_node m name line s known n.0 n.1))
-    (settles old new m name s x same_schema same_origins updates means known n.0 n.1 result (written_by n.0 line) (writes n.0 n.2))
+    settles : (n : Node) → map.get m.nodes name ≡ Some n → (result : Result (Unit {0}) Stop) (said : Result (List Sample) CommandFault) → Writes s h n result said → Settles new m result (said >>= λ xs. Ok (record m { nodes = map.insert m.nodes name (with_all_written s n xs); world = with_samples m.world xs }))
+    settles n had (Ok done) (Ok xs) writes = means_put (with_all_written s n xs) (with_samples m.world xs) writes
+    settles n had (Ok done) (Err fault) writes = absurd writes
+    settles n had (Err (Refused fault)) (Ok xs) writes = absurd writes
+    settles n had (Err (Refused fault)) (Err said) writes = (writes.0, means_still n had writes.1)
+    settles n had (Err Memory) said writes = tt
+
+    pub settles_written : (line : List ℕ) (was : Holding) → IsLayout s → Some was ≡ get name_cmp old.nodes name → (result : Result (Unit {0}) Stop)
+        → ((n : Node) → IsLayout s → Keeps s was n → Writes s h n result (written_by n old.clock old.lead line)) → Settles new m result (after_write m name line)
+    settles_written line was is here result writes =
+        let n = node_found old m means name s was schema (sym here) in
+        let said : written_by n.0 old.clock old.lead line ≡ written_by n.0 m.clock m.lead line = λ i. written_by n.0 (means.clock i) (means.lead i) line in
+        subst (λ (r : Result State CommandFault). Settles new m result r) (sym (write_to_node m name line s schema n.0 n.1))
+        (settles n.0 n.1 result (written_by n.0 m.clock m.lead line) (subst (Writes s h n.0 result) said (writes n.0 is n.2)))

@@ -2,15 +2,8 @@ pub mod Script
 pub mod Fault
 pub mod Words
 pub mod Checks
-pub mod Request
 pub mod State
 pub mod Commands
 pub mod Output
-pub mod Sums
-pub mod Series
-pub mod Tallies
-pub mod Node
-pub mod Answer
 pub mod Stop
-pub mod Plain
 pub mod Meaning

@@ -13,6 +13,7 @@ use crate::fault::{CommandFault, RunFault};
 use crate::script::parse_script;
 use crate::stop::Stop;
 use itoa::Buffer;
+use rr_archive::{Archive, PlainArchive};
 use std::alloc::{AllocError, Global};
 
 /// What a script prints: the answers of its fetches, and `line N: NAME` for each command that is
@@ -23,8 +24,15 @@ use std::alloc::{AllocError, Global};
 pub fn run(alloc: Global, script: &[u8]) -> Result<Vec<u8>, RunFault>
     ensures { IfOk result (λ text. text.items ≡ output_of script.now) }
 {
+    run_on::<PlainArchive>(alloc, script)
+}
+
+/// The same, with the series of all nodes in archives of this kind.
+fn run_on<A: Archive>(alloc: Global, script: &[u8]) -> Result<Vec<u8>, RunFault>
+    ensures { IfOk result (λ text. text.items ≡ output_of script.now) }
+{
     let lines = parse_script(alloc, script)?;
-    let mut cluster = Cluster::new(alloc);
+    let mut cluster = Cluster::<A>::new(alloc);
     let mut text = Vec::new(alloc);
     for line in &lines {
         obey_line(&mut cluster, line, &mut text)?;
@@ -33,8 +41,8 @@ pub fn run(alloc: Global, script: &[u8]) -> Result<Vec<u8>, RunFault>
 }
 
 /// Obeys a line, and writes what it prints behind the text.
-fn obey_line(
-    cluster: &mut Cluster,
+fn obey_line<A: Archive>(
+    cluster: &mut Cluster<A>,
     line: &ScriptLine<'_>,
     text: &mut Vec<u8>,
 ) -> Result<(), RunFault>
@@ -54,7 +62,11 @@ fn obey_line(
 }
 
 /// Obeys a command, and writes what it prints behind the text.
-fn obey(cluster: &mut Cluster, event: Event<'_>, text: &mut Vec<u8>) -> Result<(), Stop>
+fn obey<A: Archive>(
+    cluster: &mut Cluster<A>,
+    event: Event<'_>,
+    text: &mut Vec<u8>,
+) -> Result<(), Stop>
     requires { IsOneLine (view_of event) }
     ensures { (m : State) → Means cluster.old m
         → Obeys cluster.new m text.old.items text.new.items result (step m (view_of event.entry)) }
@@ -62,16 +74,10 @@ fn obey(cluster: &mut Cluster, event: Event<'_>, text: &mut Vec<u8>) -> Result<(
     match event {
         Event::Schema { step, archives } => cluster.set_schema(step, archives),
         Event::Node { name, origin } => cluster.add_node(name, origin),
+        Event::Now { time, lead } => cluster.set_clock(time, lead),
         Event::Write { node, line } => cluster.write(node, line),
-        Event::Fetch {
-            node,
-            function,
-            resolution,
-            start,
-            end,
-            key,
-        } => {
-            let answer = cluster.fetch(node, function, resolution, start, end, key)?;
+        Event::Fetch { node, request } => {
+            let answer = cluster.fetch(node, request)?;
             text.extend_from_slice(answer.as_slice())?;
             Ok(())
         }

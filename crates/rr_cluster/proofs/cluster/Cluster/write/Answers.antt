@@ -1,25 +1,31 @@
-use Rattle.std.proofs.Common.{◌≡◌, None, refl, sym, rules}
+use Rattle.std.proofs.Common.{◌≡◌, ◌∙◌, refl, sym, rules}
+use Rattle.std.specs.Int.{w64}
+use Rattle.std.proofs.Math.Facts.{to_z-of_z}
+use Rattle.rr_cluster.proofs.AlikeLemmas.{means_same}
 use Rattle.rr_cluster.proofs.CheckLemmas.{write_without_schema, write_without_node, settles_refused}
-use Rattle.rr_cluster.proofs.FoundLemmas.{schema_of_state, node_missing}
-use Rattle.rr_cluster.proofs.WrittenLemmas.{means_same, settles_written}
+use Rattle.rr_cluster.proofs.FoundLemmas.{no_schema, some_schema, node_missing}
+use Rattle.rr_cluster.proofs.WrittenLemmas.{settles_written}
 use Rattle.rr_cluster.proofs.cluster.Cluster.write.Goals as goal
 
-pub returns-in_default : goal.returns-in_default
-returns-in_default c = λ m means.
-    settles_refused _ m _ _ (means_same c.args.self.now _ m means refl refl refl) (write_without_schema m c.args.node.now c.args.line.now (schema_of_state c.args.self.now m means None c.in_default.is))
+pub returns-then-is_none : goal.returns-then-is_none
+returns-then-is_none g c = λ m means.
+    settles_refused _ m _ _ means (write_without_schema m c.args.node.now c.args.line.now (no_schema c.args.self.now m means c.if-is_none.ensures))
 
-pub write_line-requires-clause-plain : goal.write_line-requires-clause-plain
-write_line-requires-clause-plain c = c.args.self.now.plain c.in-Some.schema c.in-Some.is
-
-pub returns-in-Some-get_mut : goal.returns-in-Some-get_mut
-returns-in-Some-get_mut c = λ m means.
-    let here = rw c.in_ok-name.ensures at c.in-Some-get_mut.ensures.value in
-    let updates = rw c.in_ok-name.ensures at ((c.get_mut.follows.holds c.write_line.new.node).3 (search rules)).0 in
-    settles_written c.args.self.now _ m c.args.node.now c.args.line.now c.in-Some.schema c.in-Some-get_mut.node.now c.write_line.new.node refl refl updates means c.in-Some.is here c.write_line.result c.write_line.ensures
+pub returns-in-Some : goal.returns-in-Some
+returns-in-Some g c = λ m means.
+    let s = some_schema c.args.self.now m means c.if-is_none.ensures in
+    let is = c.args.self.now.within s.0 (means.schema ∙ s.1) in
+    let here = rw c.in_ok-name.ensures at c.in-Some.ensures.value in
+    let updates = rw c.in_ok-name.ensures at ((c.get_mut.follows.holds c.write_line.new.replica).3 (search rules)).0 in
+    let back = to_z-of_z {w = w64} {z = c.args.self.now.clock} (search rules) in
+    let writes = rw back at (c.write_line.ensures s.0) in
+    settles_written c.args.self.now _ m (record { schema = refl; clock = refl; lead = refl; origins = refl }) means c.args.node.now s.0 c.write_line.new.replica updates s.1
+    c.args.line.now c.in-Some.replica.now is here c.write_line.result writes
 
 pub returns : goal.returns
-returns c = λ m means.
+returns g c = λ m means.
+    let s = some_schema c.args.self.now m means c.if-is_none.ensures in
     let missing = rw c.in_ok-name.ensures at c.in-None.ensures.value in
     let same : c.get_mut.follows.lender-at-none ≡ c.args.self.now.nodes = c.get_mut.follows.holds-at-none in
-    settles_refused _ m _ _ (means_same c.args.self.now _ m means refl same refl)
-    (write_without_node m c.args.node.now c.args.line.now c.in-Some.schema (schema_of_state c.args.self.now m means _ c.in-Some.is) (node_missing c.args.self.now m means c.args.node.now (sym missing)))
+    settles_refused _ m _ _ (means_same c.args.self.now _ m means refl refl refl same refl)
+    (write_without_node m c.args.node.now c.args.line.now s.0 s.1 (node_missing c.args.self.now m means c.args.node.now (sym missing)))

@@ -1,0 +1,24 @@
+-- A key text is told from other bytes.
+use Rattle.std.proofs.Common.{◌≡◌, ℕ, true, false, List, Ok, Err, refl, inl, inr}
+use Rattle.std.proofs.lemmas.Bool.{cases_Bool}
+use Rattle.rr_key.specs.Reading.{is_key_text}
+use Rattle.rr_key.specs.Series.{IsKeyText}
+use Rattle.rr_key.proofs.ToldLemmas.{key_text_told}
+use Rattle.rr_fetch.specs.declared.fault.RequestFault.TheVariants.{BadKey}
+use Rattle.rr_fetch.specs.Requests.{key_of}
+
+told : (text : List ℕ) → IsKeyText text → is_key_text text ≡ true
+told text is = (key_text_told text).1 is
+
+told_none : (text : List ℕ) → (IsKeyText text → ⊥) → is_key_text text ≡ false
+told_none text none =
+    elim (cases_Bool (is_key_text text)) [
+      | inl is ↦ absurd (none ((key_text_told text).0 is))
+      | inr other ↦ other
+    ]
+
+pub key_read : (text : List ℕ) → IsKeyText text → key_of text ≡ Ok text
+key_read text is = rw (told text is) refl
+
+pub bad_key : (text : List ℕ) → (IsKeyText text → ⊥) → key_of text ≡ Err BadKey
+bad_key text none = rw (told_none text none) refl

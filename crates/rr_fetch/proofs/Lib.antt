@@ -1,0 +1,12 @@
+pub mod Gathering
+pub mod MoreEntries
+pub mod SumLemmas
+pub mod KeyLemmas
+pub mod RequestLemmas
+pub mod CsvLemmas
+pub mod AnswerLemmas
+pub mod RowEntries
+pub mod PlaceBits
+pub mod SeenMarks
+pub mod RowNames
+pub mod RowLaws

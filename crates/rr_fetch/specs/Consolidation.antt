@@ -1,0 +1,61 @@
+-- What a consolidation function makes of the contributions to a row.
+use Rattle.std.specs.Prelude.{ℕ, ℤ, pos, ◌*◌, ◌*ℤ◌, ◌≤◌, ◌≤ℤ◌, ◌^◌, List, [], ◌∷◌, map, Option, None, IsTrue, All, neg_ℤ, ◌-◌, bit_or, count_ones, if◌then◌else◌}
+use Rattle.std.specs.List.{sum}
+use Rattle.std.specs.Option.{option_map}
+use Rattle.std.specs.declared.cmp.Ordering.{Ordering}
+use Rattle.std.specs.Ordering.{ordering_then, nat_cmp, int_cmp, flip_args}
+use Rattle.rr_base.specs.declared.consolidation.ConsolidationFunction.{ConsolidationFunction}
+use Rattle.rr_base.specs.declared.consolidation.ConsolidationFunction.TheVariants.{Average, Min, Max, Last}
+use Rattle.rr_base.specs.declared.limits.TheConstants.{MAX_NUMBER}
+use Rattle.rr_base.specs.Schema.{Layout, is_known_enough}
+use Rattle.rr_join.specs.Maps.{greatest}
+use Rattle.rr_contrib.specs.declared.contribution.Contribution.{Contribution}
+use Rattle.rr_archive.specs.declared.entry.Entry.{Entry}
+use Rattle.rr_archive.specs.Row.{ascends}
+use Rattle.rr_model.specs.Rows.{int_sum, average}
+
+-- the places in which some origin has a sample, as one mask
+abbrev pub united : List Entry → ℕ
+united [] = 0
+united (e ∷ es) = bit_or e.contribution.mask (united es)
+
+-- the sum of all samples, and how many they are
+abbrev pub total_of : List Entry → ℤ
+total_of es = int_sum (map (λ e. e.contribution.sum) es)
+
+abbrev pub count_of : List Entry → ℕ
+count_of es = sum (map (λ e. e.contribution.count) es)
+
+-- by the time of the last sample, and at one time by origin
+abbrev pub last_cmp : Entry → Entry → Ordering
+last_cmp a b = ordering_then (int_cmp a.contribution.last_time b.contribution.last_time) (nat_cmp a.origin b.origin)
+
+-- what the function makes of these entries
+abbrev pub of_entries : ConsolidationFunction → List Entry → Option ℤ
+of_entries Average es = average (total_of es) (count_of es)
+of_entries Min es = greatest (flip_args int_cmp) (map (λ e. e.contribution.min) es)
+of_entries Max es = greatest int_cmp (map (λ e. e.contribution.max) es)
+of_entries Last es = option_map (λ e. e.contribution.last_value) (greatest last_cmp es)
+
+-- the row of these entries; None is unknown
+unfoldable pub consolidated : Layout → ℕ → ConsolidationFunction → List Entry → Option ℤ
+consolidated s archive f es = if is_known_enough s archive (count_ones (united es)) then of_entries f es else None
+
+-- ---- what rows keep to
+
+-- some samples, but no more than have numbers, whose sum lies between their extremes
+pub record IsSummable (c : Contribution) : Type 0 where
+  pub some : 1 ≤ c.count
+  pub few : c.count ≤ MAX_NUMBER
+  pub low : (pos c.count *ℤ c.min) ≤ℤ c.sum
+  pub high : c.sum ≤ℤ (pos c.count *ℤ c.max)
+
+-- one entry for an origin, in their order, each of which can be added up
+pub record IsRow (es : List Entry) : Type 0 where
+  pub ascends : IsTrue (ascends es)
+  pub summable : All (λ e. IsSummable e.contribution) es
+
+-- so many samples of 64 bits, and a total that they can have
+pub record IsBounded (count : ℕ) (total : ℤ) : Type 0 where
+  pub least : neg_ℤ (pos (count * 2 ^ 63)) ≤ℤ total
+  pub most : total ≤ℤ pos (count * (2 ^ 63 - 1))

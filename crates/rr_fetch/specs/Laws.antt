@@ -1,0 +1,27 @@
+-- The laws, each the contract of a function of `src/laws.rt`.
+use Rattle.std.specs.Prelude.{◌≡◌, ℕ, ℤ, List}
+use Rattle.rr_base.specs.declared.consolidation.ConsolidationFunction.{ConsolidationFunction}
+use Rattle.rr_base.specs.Schema.{Layout, IsLayout}
+use Rattle.rr_model.specs.Knowledge.{Knowledge}
+use Rattle.rr_model.specs.Rows.{row}
+use Rattle.rr_model.specs.FetchText.{Request, fetch_text}
+use Rattle.rr_replica.specs.Cells.{row_at}
+use Rattle.rr_replica.specs.Holding.{Holding}
+use Rattle.rr_replica.specs.Kept.{IsHolding}
+use Rattle.rr_replica.specs.State.{state}
+use Rattle.rr_fetch.specs.Answers.{cells_text}
+use Rattle.rr_fetch.specs.Consolidation.{consolidated, IsRow}
+
+-- what is consolidated from the cells of what is known is what its samples say
+abbrev pub RowsAgree : Type 0
+RowsAgree =
+    (s : Layout) (k : Knowledge) (key : List ℕ) (archive : ℕ) (slot : ℤ) (f : ConsolidationFunction) → IsLayout s
+    → consolidated s archive f (row_at (state s k) key archive slot) ≡ row s k key archive slot f
+
+-- so whoever has these cells answers as whoever knows the samples
+abbrev pub AnswersAgree : Type 0
+AnswersAgree = (s : Layout) (k : Knowledge) (q : Request) → IsLayout s → cells_text s (state s k) q ≡ fetch_text s k q
+
+-- each row of a replica can be consolidated
+abbrev pub HeldRowsAreRows : Type 0
+HeldRowsAreRows = (h : Holding) (key : List ℕ) (archive : ℕ) (slot : ℤ) → IsHolding h → IsRow (row_at h.cells key archive slot)

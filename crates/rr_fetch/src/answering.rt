@@ -1,0 +1,96 @@
+//! What a replica answers to a request.
+
+ghost use Rattle.std.specs.Prelude.{◌≡◌, ◌*◌, ◌≤◌, ◌+◌, ◌+ℤ◌, ◌*ℤ◌, pos, unsigned_abs, Err, IfOk, OnOk};
+ghost use Rattle.std.specs.Io.KnownBytes.{Appends};
+ghost use Rattle.rr_base.specs.Counted.{inner_of, failures_of, HasRisen};
+ghost use Rattle.rr_base.specs.Stream.{AppendsPrefix};
+ghost use Rattle.rr_fetch.specs.Answers.{cells_text};
+ghost use Rattle.rr_fetch.specs.Requests.{request_view, IsFetchable};
+
+use crate::consolidation::consolidate;
+use crate::fault::AnswerFault;
+use crate::record::write_row;
+use crate::request::Request;
+use csv::WriterBuilder;
+use rr_archive::Archive;
+use rr_base::Counted;
+use rr_base::limits::{MAX_FETCH_ROWS, MAX_SECOND, MAX_STEP, MAX_STEPS};
+use rr_base::stream::write_all;
+use rr_replica::Replica;
+use std::alloc::{AllocError, Global};
+use std::io::Write;
+
+/// The slot of a row.
+fn slot_of(first: i64, row: u32) -> i64
+    requires near { unsigned_abs first ≤ MAX_SECOND }
+    requires few { row ≤ MAX_FETCH_ROWS }
+    ensures value { result ≡ first +ℤ pos row }
+    ensures near { unsigned_abs result ≤ MAX_SECOND + MAX_FETCH_ROWS }
+{
+    first + i64::from(row)
+}
+
+/// The start of a slot in seconds.
+fn start_of(slot: i64, span: u32) -> i64
+    requires near { unsigned_abs slot ≤ MAX_SECOND + MAX_FETCH_ROWS }
+    requires few { span ≤ MAX_STEP * MAX_STEPS }
+    ensures { result ≡ slot *ℤ pos span }
+{
+    slot * i64::from(span)
+}
+
+/// The answer to a request as CSV: for each row a record of the key text, the start second and the
+/// value, or `U` for an unknown one, ended by a line feed.
+///
+/// The request's archive is one of the replica's schema, its first slot is at most
+/// [`MAX_SECOND`] either side of the epoch, and its rows are from 1 to [`MAX_FETCH_ROWS`]. The cost
+/// of each row is one look-up of the key and its slot, and linear in its entries.
+pub fn answer_text<A: Archive>(
+    alloc: Global,
+    replica: &Replica<A>,
+    request: &Request,
+) -> Result<Vec<u8>, AllocError>
+    requires { IsFetchable replica.now.schema (request_view request.now) }
+    ensures { IfOk result (λ text. text.items
+        ≡ cells_text replica.now.schema replica.now.cells (request_view request.now)) }
+{
+    let schema = replica.schema();
+    let span = schema.span(request.archive);
+    let mut writer = WriterBuilder::new().from_writer(Vec::new(alloc));
+    for row in 0..request.rows {
+        let slot = slot_of(request.first, row);
+        let start = start_of(slot, span);
+        let entries = replica.row(&request.key, request.archive, slot);
+        let value = consolidate(entries, schema, request.archive, request.cf);
+        write_row(&mut writer, request.key.text(), start, value)?;
+    }
+    match writer.into_inner() {
+        Ok(text) => Ok(text),
+        Err(_) => Err(AllocError),
+    }
+}
+
+/// Makes the answer to a request, as [`answer_text`] does, and then writes it.
+///
+/// Refused as `Memory`, which writes nothing, and as `WriteFailed`, which leaves a front of the text
+/// written, and only where a call of the writer failed.
+pub fn answer<A: Archive, W: Write>(
+    alloc: Global,
+    replica: &Replica<A>,
+    request: &Request,
+    output: &mut Counted<W>,
+) -> Result<(), AnswerFault>
+    requires { IsFetchable replica.now.schema (request_view request.now) }
+    ensures whole { OnOk result (Appends (W.contents (inner_of output.old)) (W.contents (inner_of output.new))
+        (cells_text replica.now.schema replica.now.cells (request_view request.now))) }
+    ensures nothing { result ≡ Err AnswerFault.Memory → output.new ≡ output.old }
+    ensures front { result ≡ Err AnswerFault.WriteFailed
+        → AppendsPrefix (W.contents (inner_of output.old)) (W.contents (inner_of output.new))
+        (cells_text replica.now.schema replica.now.cells (request_view request.now)) }
+    ensures count { failures_of output.old ≤ failures_of output.new }
+    ensures failed { result ≡ Err AnswerFault.WriteFailed → HasRisen (failures_of output.old) (failures_of output.new) }
+{
+    let text = answer_text(alloc, replica, request)?;
+    write_all(output, &text)?;
+    Ok(())
+}

@@ -1,0 +1,107 @@
+//! Why bytes are no request, and why an answer isn't written.
+
+ghost use Rattle.std.specs.Prelude.{◌≡◌};
+
+use rr_base::stream::WriteFailed;
+use std::alloc::{AllocError, AllocFailed};
+use thiserror::Error;
+
+/// Why bytes are no request.
+#[derive(Clone, Copy, Debug, PartialEq, Eq, Error)]
+pub enum RequestFault {
+    /// There are fewer than five words.
+    #[error("BadCommand")]
+    BadCommand,
+    /// The first word names no consolidation function.
+    #[error("BadCf")]
+    BadCf,
+    /// The resolution, the start or the end is no number, or one out of its range.
+    #[error("BadNumber")]
+    BadNumber,
+    /// What follows the four words is no key text.
+    #[error("BadKey")]
+    BadKey,
+    /// The start is not below the end.
+    #[error("EmptyRange")]
+    EmptyRange,
+    /// There are more rows than a fetch may have.
+    #[error("TooManyRows")]
+    TooManyRows,
+    /// Memory ran out.
+    #[error("Memory")]
+    Memory,
+}
+
+impl RequestFault {
+    ghost use Rattle.rr_fetch.specs.Fault.{request_fault_name};
+
+    /// The printed name.
+    pub fn name(&self) -> &'static str
+        ensures { result.now ≡ request_fault_name self.now }
+    {
+        match self {
+            RequestFault::BadCommand => "BadCommand",
+            RequestFault::BadCf => "BadCf",
+            RequestFault::BadNumber => "BadNumber",
+            RequestFault::BadKey => "BadKey",
+            RequestFault::EmptyRange => "EmptyRange",
+            RequestFault::TooManyRows => "TooManyRows",
+            RequestFault::Memory => "Memory",
+        }
+    }
+}
+
+/// Why an answer isn't written whole.
+#[derive(Clone, Copy, Debug, PartialEq, Eq, Error)]
+pub enum AnswerFault {
+    /// Memory ran out.
+    #[error("Memory")]
+    Memory,
+    /// The writer failed, or took nothing.
+    #[error("WriteFailed")]
+    WriteFailed,
+}
+
+impl AnswerFault {
+    ghost use Rattle.rr_fetch.specs.Fault.{answer_fault_name};
+
+    /// The printed name.
+    pub fn name(&self) -> &'static str
+        ensures { result.now ≡ answer_fault_name self.now }
+    {
+        match self {
+            AnswerFault::Memory => "Memory",
+            AnswerFault::WriteFailed => "WriteFailed",
+        }
+    }
+}
+
+impl From<AllocError> for AnswerFault {
+    ghost use Rattle.rr_fetch.specs.declared.fault.AnswerFault.TheVariants.{Memory};
+
+    ghost from_gives = { λ _ e. e ≡ Memory };
+
+    fn from(_e: AllocError) -> AnswerFault {
+        AnswerFault::Memory
+    }
+}
+
+impl<T: Drop> From<AllocFailed<T>> for AnswerFault {
+    ghost use Rattle.rr_fetch.specs.declared.fault.AnswerFault.TheVariants.{Memory};
+
+    ghost from_gives = { λ _ e. e ≡ Memory };
+
+    fn from(_e: AllocFailed<T>) -> AnswerFault {
+        AnswerFault::Memory
+    }
+}
+
+impl From<WriteFailed> for AnswerFault {
+    ghost use Rattle.rr_fetch.specs.declared.fault.AnswerFault.TheVariants.{WriteFailed};
+
+    ghost from_gives = { λ _ e. e ≡ WriteFailed };
+
+    fn from(_e: WriteFailed) -> AnswerFault {
+        AnswerFault::WriteFailed
+    }
+}

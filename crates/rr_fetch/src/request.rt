@@ -1,0 +1,117 @@
+//! What a fetch asks for.
+
+ghost use Rattle.std.specs.Prelude.{◌≡◌, ◌<◌, ◌≤◌, pos, neg_ℤ, ◌-ℤ◌, ◌<ℤ◌, unsigned_abs, length, IfOk};
+ghost use Rattle.std.specs.Int.{int_div_euclid};
+ghost use Rattle.rr_fetch.specs.Requests.{few_rows, requested, request_view, rows_between, IsFetchable, Follows};
+
+use crate::fault::RequestFault;
+use crate::words::{function_of, key_of, resolution_of, second_of, words_of};
+use rr_base::limits::{MAX_FETCH_ROWS, MAX_SECOND};
+use rr_base::{ConsolidationFunction, Schema};
+use rr_key::SeriesKey;
+use std::alloc::Global;
+
+/// So many rows of an archive of a series, from a first slot on, each made by a function.
+#[derive(Debug, Drop)]
+pub struct Request {
+    /// Whose rows.
+    pub key: SeriesKey,
+    /// What a row makes of its samples.
+    pub cf: ConsolidationFunction,
+    /// The number of the archive in its schema, from 0.
+    pub archive: u8,
+    /// The slot of the first row.
+    pub first: i64,
+    /// How many rows.
+    pub rows: u32,
+}
+
+/// `floor(second / span)`.
+fn first_slot(second: i64, span: u32) -> i64
+    requires { 0 < span }
+    ensures value { result ≡ int_div_euclid second (pos span) }
+    ensures nearer { unsigned_abs result ≤ unsigned_abs second }
+{
+    second.div_euclid(i64::from(span))
+}
+
+/// `ceil(second / span)`.
+fn slot_after(second: i64, span: u32) -> i64
+    requires some { 0 < span }
+    requires near { unsigned_abs second ≤ MAX_SECOND }
+    ensures value { result ≡ neg_ℤ (int_div_euclid (neg_ℤ second) (pos span)) }
+    ensures nearer { unsigned_abs result ≤ unsigned_abs second }
+{
+    let behind = -second;
+    -first_slot(behind, span)
+}
+
+/// How many slots there are from one up to another.
+fn slots_between(first: i64, last: i64) -> u64
+    requires first_near { unsigned_abs first ≤ MAX_SECOND }
+    requires last_near { unsigned_abs last ≤ MAX_SECOND }
+    ensures { result ≡ unsigned_abs (last -ℤ first) }
+{
+    (last - first).unsigned_abs()
+}
+
+/// The rows from the slot of the start, up to the last one that begins before the end.
+fn rows_of(
+    schema: &Schema,
+    key: SeriesKey,
+    cf: ConsolidationFunction,
+    archive: u8,
+    start: i64,
+    end: i64,
+) -> Result<Request, RequestFault>
+    requires is_there { archive < length schema.now.archives }
+    requires start_near { unsigned_abs start ≤ MAX_SECOND }
+    requires end_near { unsigned_abs end ≤ MAX_SECOND }
+    requires some { start <ℤ end }
+    ensures value { Follows request_view result (few_rows (rows_between schema.now key cf archive start end)) }
+    ensures near { IfOk result (λ q. IsFetchable schema.now (request_view q)) }
+{
+    let span = schema.span(archive);
+    let first = first_slot(start, span);
+    let last = slot_after(end, span);
+    let rows = slots_between(first, last);
+    if rows > u64::from(MAX_FETCH_ROWS) {
+        return Err(RequestFault::TooManyRows);
+    }
+    Ok(Request {
+        key,
+        cf,
+        archive,
+        first,
+        rows: rows as u32,
+    })
+}
+
+/// The request of the words `CF RESOLUTION START END KEY`, with one space between two; spaces in
+/// the key are its own.
+///
+/// The function is `AVERAGE`, `MIN`, `MAX` or `LAST`. The other three are seconds in decimal, a
+/// resolution from 1 to [`MAX_SECOND`], and a start and an end up to it either side of the epoch.
+/// The archive is the one that [`Schema::choose`] chooses, and the rows are those from the slot of
+/// the start up to the last one that begins before the end.
+///
+/// Refusals, in this order: `BadCommand`, for fewer than five words; `BadCf`; `BadNumber`, for each
+/// of the three numbers; `BadKey`; `EmptyRange`, for a start that is not below the end;
+/// `TooManyRows`, for more than [`MAX_FETCH_ROWS`]. `Memory` may stand in place of the last two. The
+/// cost is linear in the bytes.
+#[tactic(auto, unfolding(crate::specs::Requests::requested))]
+pub fn parse_request(alloc: Global, bytes: &[u8], schema: &Schema) -> Result<Request, RequestFault>
+    ensures value { Follows request_view result (requested schema.now bytes.now) }
+    ensures near { IfOk result (λ q. IsFetchable schema.now (request_view q)) }
+{
+    let words = words_of(bytes).ok_or(RequestFault::BadCommand)?;
+    let cf = function_of(words.function).ok_or(RequestFault::BadCf)?;
+    let resolution = resolution_of(words.resolution).ok_or(RequestFault::BadNumber)?;
+    let start = second_of(words.start).ok_or(RequestFault::BadNumber)?;
+    let end = second_of(words.end).ok_or(RequestFault::BadNumber)?;
+    let key = key_of(alloc, words.key)?;
+    if start >= end {
+        return Err(RequestFault::EmptyRange);
+    }
+    rows_of(schema, key, cf, schema.choose(resolution), start, end)
+}

@@ -1,0 +1,66 @@
+//! The samples of a row, summed up.
+
+ghost use Rattle.std.specs.Prelude.{◌≡◌, ◌+◌, ◌*◌, ◌≤◌, ◌+ℤ◌, All, length};
+ghost use Rattle.rr_model.specs.Rows.{average};
+ghost use Rattle.rr_fetch.specs.Consolidation.{IsBounded, IsSummable, total_of, count_of};
+
+use rr_archive::Entry;
+use rr_base::limits::MAX_NUMBER;
+use rr_contrib::Contribution;
+
+/// The most entries of a row: origins have 16 bits.
+pub(crate) const MAX_ENTRIES: usize = 65_536;
+
+/// Samples, by their number and the sum of their values.
+#[derive(Clone, Copy, Debug)]
+pub(crate) struct Sum {
+    count: u64,
+    total: i128,
+}
+
+/// No sample.
+const NONE: Sum = Sum { count: 0, total: 0 };
+
+impl Sum {
+    /// With the samples of a contribution too.
+    fn with(self, contribution: &Contribution) -> Sum
+        requires summable { IsSummable contribution.now }
+        requires few { self.count ≤ MAX_ENTRIES * MAX_NUMBER }
+        requires bounded { IsBounded self.count self.total }
+        ensures count { result.count ≡ self.count + contribution.now.count }
+        ensures total { result.total ≡ self.total +ℤ contribution.now.sum }
+        ensures bounded { IsBounded result.count result.total }
+    {
+        let contribution = *contribution;
+        Sum {
+            count: self.count + contribution.count,
+            total: self.total + contribution.sum,
+        }
+    }
+
+    /// The floor of the mean, if there is a sample.
+    pub(crate) fn average(&self) -> Option<i64>
+        requires { IsBounded self.now.count self.now.total }
+        ensures { result ≡ average self.now.total self.now.count }
+    {
+        if self.count == 0 {
+            return None;
+        }
+        Some(self.total.div_euclid(i128::from(self.count)) as i64)
+    }
+}
+
+/// All samples of a row.
+pub(crate) fn sum_of(row: &[Entry]) -> Sum
+    requires few { length row.now ≤ MAX_ENTRIES }
+    requires summable { All (λ e. IsSummable e.contribution) row.now }
+    ensures count { result.count ≡ count_of row.now }
+    ensures total { result.total ≡ total_of row.now }
+    ensures bounded { IsBounded result.count result.total }
+{
+    let mut sum = NONE;
+    for entry in row {
+        sum = sum.with(&entry.contribution);
+    }
+    sum
+}

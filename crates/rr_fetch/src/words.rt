@@ -1,0 +1,92 @@
+//! The words of a request, and what each stands for.
+
+ghost use Rattle.std.specs.Prelude.{◌≡◌, ◌≤◌, unsigned_abs, option_map, IfSome};
+ghost use Rattle.rr_fetch.specs.Requests.{Follows, key_of};
+ghost use Rattle.rr_fetch.specs.Words.{words_of, parts, function_of, resolution_of, second_of};
+
+use crate::fault::RequestFault;
+use rr_base::ConsolidationFunction;
+use rr_base::limits::MAX_SECOND;
+use rr_base::text::{cut, integer, number};
+use rr_key::{KeyFault, SeriesKey};
+use std::alloc::Global;
+
+/// Stands between two words.
+pub(crate) const SPACE: u8 = b' ';
+
+/// The words of a request. The key is the rest of its bytes, so that its spaces are its own.
+#[derive(Clone, Copy, Debug)]
+pub(crate) struct Words<'a> {
+    pub(crate) function: &'a [u8],
+    pub(crate) resolution: &'a [u8],
+    pub(crate) start: &'a [u8],
+    pub(crate) end: &'a [u8],
+    pub(crate) key: &'a [u8],
+}
+
+/// The words of a request, if there are as many.
+#[tactic(auto, unfolding(crate::specs::Words::words_of))]
+pub(crate) fn words_of(bytes: &[u8]) -> Option<Words<'_>>
+    ensures { option_map parts result ≡ words_of bytes.now }
+{
+    let (function, rest) = cut(SPACE, bytes)?;
+    let (resolution, rest) = cut(SPACE, rest)?;
+    let (start, rest) = cut(SPACE, rest)?;
+    let (end, key) = cut(SPACE, rest)?;
+    Some(Words {
+        function,
+        resolution,
+        start,
+        end,
+        key,
+    })
+}
+
+/// A consolidation function, by its name in RRDtool.
+pub(crate) fn function_of(word: &[u8]) -> Option<ConsolidationFunction>
+    ensures { result ≡ function_of word.now }
+{
+    if word == b"AVERAGE".as_slice() {
+        Some(ConsolidationFunction::Average)
+    } else if word == b"MIN".as_slice() {
+        Some(ConsolidationFunction::Min)
+    } else if word == b"MAX".as_slice() {
+        Some(ConsolidationFunction::Max)
+    } else if word == b"LAST".as_slice() {
+        Some(ConsolidationFunction::Last)
+    } else {
+        None
+    }
+}
+
+/// A resolution in seconds, from 1 to the last second.
+pub(crate) fn resolution_of(word: &[u8]) -> Option<u64>
+    ensures { result ≡ resolution_of word.now }
+{
+    match number(word) {
+        Some(seconds) if 1 <= seconds && seconds <= MAX_SECOND => Some(seconds),
+        _ => None,
+    }
+}
+
+/// A start or an end in seconds, up to the last second either side of the epoch.
+pub(crate) fn second_of(word: &[u8]) -> Option<i64>
+    ensures value { result ≡ second_of word.now }
+    ensures near { IfSome result (λ second. unsigned_abs second ≤ MAX_SECOND) }
+{
+    match integer(word) {
+        Some(second) if second.unsigned_abs() <= MAX_SECOND => Some(second),
+        _ => None,
+    }
+}
+
+/// A series key, by its text.
+pub(crate) fn key_of(alloc: Global, text: &[u8]) -> Result<SeriesKey, RequestFault>
+    ensures { Follows (λ key. key) result (key_of text.now) }
+{
+    match SeriesKey::parse_text(alloc, text) {
+        Ok(key) => Ok(key),
+        Err(KeyFault::BadKey) => Err(RequestFault::BadKey),
+        Err(_) => Err(RequestFault::Memory),
+    }
+}
