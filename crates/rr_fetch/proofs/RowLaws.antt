@@ -30,7 +30,7 @@ use Rattle.rr_model.specs.Rows.{int_sum, average, last_of, of_marks, is_at, mark
 use Rattle.rr_model.specs.FetchText.{Request, answer_text, fetch_text}
 use Rattle.rr_model.proofs.Orders.{cell_name_cmp_total, cell_name_cmp-IsAntisymmetric, mark_cmp_total, mark_cmp-IsAntisymmetric}
 use Rattle.rr_model.proofs.Horizon.{is_at_says}
-use Rattle.rr_model.proofs.SingleSteps.{place_below}
+use Rattle.rr_model.proofs.Places.{place_below}
 use Rattle.rr_replica.specs.Cells.{row_at}
 use Rattle.rr_replica.specs.Puts.{seen}
 use Rattle.rr_replica.specs.State.{state}

@@ -1,6 +1,5 @@
 pub mod Special
 pub mod Walk
-pub mod UnitLemmas
 pub mod EscapeLemmas
 pub mod NameLemmas
 pub mod TagLemmas

@@ -15,4 +15,3 @@ pub mod FrontLemmas
 pub mod ReadPointLemmas
 pub mod LineLemmas
 pub mod SortedLemmas
-pub mod LineFeedLemmas

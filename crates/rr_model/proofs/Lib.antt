@@ -1,10 +1,7 @@
 pub mod Orders
 pub mod Horizon
 pub mod Knowing
-pub mod OneMore
-pub mod RowMarks
-pub mod RowTotals
-pub mod SingleSteps
+pub mod Places
 pub mod Writes
 pub mod WholeCells
 pub mod Deliveries
