@@ -10,3 +10,6 @@ pub mod NewNodeLemmas
 pub mod WritingLemmas
 pub mod WrittenLemmas
 pub mod AnsweredLemmas
+pub mod SoundNodes
+pub mod SoundStates
+pub mod SoundCommands

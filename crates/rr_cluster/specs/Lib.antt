@@ -7,3 +7,4 @@ pub mod Commands
 pub mod Output
 pub mod Stop
 pub mod Meaning
+pub mod Soundness

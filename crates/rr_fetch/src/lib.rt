@@ -18,6 +18,8 @@ pub mod laws;
 mod record;
 mod request;
 mod sum;
+#[cfg(test)]
+mod tests;
 mod words;
 
 pub use answering::{answer, answer_text};

@@ -62,7 +62,8 @@ written_before w x y next e =
       | false ↦ λ t. e
     ] refl
 
-written_now : (w : World) (x y : Sample) → IsWritten (with_sample w x) y → (y ≡ x) ⊎ IsWritten w y
+-- what is written then was written before, or is that sample
+pub written_now : (w : World) (x y : Sample) → IsWritten (with_sample w x) y → (y ≡ x) ⊎ IsWritten w y
 written_now w x y e =
     elim (eq_by_cmp id_cmp (y.origin, y.number) (x.origin, x.number)) as (λ b. cond b (Some x) (get w (y.origin, y.number)) ≡ Some y → (y ≡ x) ⊎ IsWritten w y) [
       | true ↦ λ h. inl (ap (λ v. unwrap_or v x) (sym h))
