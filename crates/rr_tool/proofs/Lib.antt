@@ -1,1 +1,4 @@
 pub mod WordsLemmas
+pub mod CsvLemmas
+pub mod PointLemmas
+pub mod ToldLemmas

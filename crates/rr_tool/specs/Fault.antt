@@ -1,16 +1,32 @@
--- What is told of a fault, and the status that it ends the program with.
+-- What is told of a fault.
 use Rattle.std.specs.Prelude.{ℕ, List, codes}
+use Rattle.rr_base.specs.declared.stream.ReadFault.{ReadFault}
+use Rattle.rr_base.specs.declared.stream.ReadFault.TheVariants as read
 use Rattle.rr_tool.specs.declared.fault.ToolFault.{ToolFault}
-use Rattle.rr_tool.specs.declared.fault.ToolFault.TheVariants.{WrongWords, ReadFailed, WriteFailed, Memory}
+use Rattle.rr_tool.specs.declared.fault.ToolFault.TheVariants.{ReadFailed, WriteFailed, TooManyReads, Memory}
+use Rattle.rr_tool.specs.declared.order.WordsFault.{WordsFault}
+use Rattle.rr_tool.specs.declared.order.WordsFault.TheVariants as words
 
+-- the printed name is the variant's
+abbrev pub tool_fault_name : ToolFault → List ℕ
+tool_fault_name ReadFailed = codes "ReadFailed"
+tool_fault_name WriteFailed = codes "WriteFailed"
+tool_fault_name TooManyReads = codes "TooManyReads"
+tool_fault_name Memory = codes "Memory"
+
+abbrev pub words_fault_name : WordsFault → List ℕ
+words_fault_name (words.Refused text) = codes "Refused"
+words_fault_name words.Memory = codes "Memory"
+
+-- the line for standard error
 abbrev pub message_of : ToolFault → List ℕ
-message_of WrongWords = codes "usage: rr < SCRIPT"
 message_of ReadFailed = codes "rr: read failed"
 message_of WriteFailed = codes "rr: write failed"
+message_of TooManyReads = codes "rr: too many reads"
 message_of Memory = codes "rr: out of memory"
 
-abbrev pub status_of : ToolFault → ℕ
-status_of WrongWords = 2
-status_of ReadFailed = 3
-status_of WriteFailed = 3
-status_of Memory = 3
+-- why an input isn't read to its end
+abbrev pub of_read_fault : ReadFault → ToolFault
+of_read_fault read.ReadFailed = ReadFailed
+of_read_fault read.TooManyReads = TooManyReads
+of_read_fault read.Memory = Memory

@@ -1,45 +1,37 @@
-//! The program `rr`: a script on standard input, what it prints on standard output.
+//! The program `rr`: it runs a script of several nodes, or checks lines of the line protocol.
 //!
-//! [`script::obey_script`] reads the script whole, runs it, and writes its output in one piece. A
-//! run that is done ends with status 0. Any other tells why on standard error: a command line with
-//! words ends with status 2, a failed read, a failed write and want of memory with status 3
-//! ([`fault::ToolFault`]).
+//! ```text
+//! words ── words ──> an order ── obey ──> an ending, with its status
+//! a script ── script ──> what it prints
+//! lines ── checking ──> items ── telling ──> a record for each sample, or why the line is refused
+//! ```
+//!
+//! A script is read whole and run, and its output is written in one piece. Lines are read and told
+//! piece by piece. Input and output are counted streams, so that a failure is told only where a
+//! call of theirs failed. A run ends with status 0 where it is done, 1 where lines were refused, 2
+//! where the command line is, and 3 where reading or writing failed or memory ran out; it tells
+//! why on standard error ([`ending::Ending`]).
 #![tactic(auto)]
 
+mod checking;
+mod ending;
 mod fault;
 mod laws;
+mod obey;
 mod order;
 mod script;
+mod tally;
+mod telling;
 #[cfg(test)]
 mod tests;
 mod words;
 
-use fault::ToolFault;
-use script::obey_script;
-use std::env::{Env, FillError};
-use std::io;
+use obey::run;
 use std::process::ExitCode;
 
-/// Whether a word follows the program's name.
-fn has_words(rt: &impl Env) -> bool {
-    !matches!(rt.arg(1, &mut []), Err(FillError::NotPresent))
-}
-
-/// Does what the command line asks for.
-fn obey(rt: &(impl AllocGlobal + Env + Input + Print)) -> Result<(), ToolFault> {
-    if has_words(rt) {
-        return Err(ToolFault::WrongWords);
-    }
-    obey_script(rt.alloc(), &mut rt.reader(), &mut io::writer(rt))
-}
-
 fn main(rt: HostRuntime) -> ExitCode {
-    match obey(&rt) {
-        Ok(()) => ExitCode::SUCCESS,
-        Err(fault) => {
-            // Where this can't be written either, the status still tells.
-            let _told = rt.eprintln(fault.message());
-            ExitCode::from(fault.status())
-        }
-    }
+    let ending = run(&rt);
+    // Where this can't be written either, the status still tells.
+    let _told = ending.tell(&rt);
+    ExitCode::from(ending.status())
 }

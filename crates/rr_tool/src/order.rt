@@ -1,5 +1,7 @@
 //! What a command line asks for, and why it is refused.
 
+ghost use Rattle.std.specs.Prelude.{◌≡◌};
+
 use rr_line::Precision;
 use std::alloc::AllocError;
 use thiserror::Error;
@@ -31,8 +33,21 @@ pub(crate) enum WordsFault {
     Memory,
 }
 
+impl WordsFault {
+    ghost use Rattle.rr_tool.specs.Fault.{words_fault_name};
+
+    /// The printed name.
+    pub(crate) fn name(&self) -> &'static str
+        ensures { result.now ≡ words_fault_name self.now }
+    {
+        match self {
+            WordsFault::Refused(_) => "Refused",
+            WordsFault::Memory => "Memory",
+        }
+    }
+}
+
 impl From<AllocError> for WordsFault {
-    ghost use Rattle.std.specs.Prelude.{◌≡◌};
     ghost use Rattle.rr_tool.specs.declared.order.WordsFault.TheVariants.{Memory};
 
     ghost from_gives = { λ _ e. e ≡ Memory };

@@ -1,28 +1,40 @@
 //! A script, from a reader's bytes to a writer's.
 
-ghost use Rattle.std.specs.Prelude.{◌≡◌, ◌≢◌, ◌⊎◌, ◌↔◌, IfSome, IfOk, OnOk, IfErr};
+ghost use Rattle.std.specs.Prelude.{◌≡◌, ◌≢◌, ◌≤◌, Err, length, IfSome, IfOk, OnOk, IfErr};
 ghost use Rattle.std.specs.Io.KnownBytes.{Appends};
-ghost use Rattle.std.specs.IoError.{error_kind};
+ghost use Rattle.rr_base.specs.Counted.{inner_of, failures_of, HasRisen};
+ghost use Rattle.rr_base.specs.Stream.{AppendsPrefix};
+ghost use Rattle.rr_base.specs.declared.limits.TheConstants.{MAX_READS};
 ghost use Rattle.rr_cluster.specs.Output.{output_of};
 
 use crate::fault::ToolFault;
+use rr_base::Counted;
+use rr_base::stream::{flush, read_to_end, write_all};
 use rr_cluster::run;
 use std::alloc::Global;
-use std::io;
-use std::io::{ErrorKind, Read, Write};
+use std::io::{Read, Write};
 
 /// Runs the script that `input` still has, read to its end, and writes what it prints to `output`.
 ///
-/// Nothing is written before the script is done. After `WriteFailed` a part of the text may be.
+/// Nothing is written before the script is done. After `WriteFailed` a front of the text is.
 pub(crate) fn obey_script<R: Read, W: Write>(
     alloc: Global,
-    input: &mut R,
-    output: &mut W,
+    input: &mut Counted<R>,
+    output: &mut Counted<W>,
 ) -> Result<(), ToolFault>
-    ensures done { OnOk result (IfSome (R.remaining input.old)
-        (λ script. Appends (W.contents output.old) (W.contents output.new) (output_of script))) }
+    ensures done { OnOk result (IfSome (R.remaining (inner_of input.old))
+        (λ script. Appends (W.contents (inner_of output.old)) (W.contents (inner_of output.new)) (output_of script))) }
+
+    // What stands after a refusal.
     ensures unwritten { IfErr result (λ fault. fault ≢ ToolFault.WriteFailed → output.new ≡ output.old) }
-    ensures failed { IfErr result (λ fault. fault ≢ ToolFault.WrongWords) }
+    ensures front { IfSome (R.remaining (inner_of input.old))
+        (λ script. AppendsPrefix (W.contents (inner_of output.old)) (W.contents (inner_of output.new)) (output_of script)) }
+
+    // When a stream is to blame.
+    ensures read_failed { result ≡ Err ToolFault.ReadFailed → HasRisen (failures_of input.old) (failures_of input.new) }
+    ensures too_many { result ≡ Err ToolFault.TooManyReads → IfSome (R.remaining (inner_of input.old))
+        (λ script. MAX_READS ≤ length script) }
+    ensures write_failed { result ≡ Err ToolFault.WriteFailed → HasRisen (failures_of output.old) (failures_of output.new) }
 {
     let script = read_script(alloc, input)?;
     let text = run(alloc, script.as_slice())?;
@@ -30,35 +42,26 @@ pub(crate) fn obey_script<R: Read, W: Write>(
 }
 
 /// All that `input` still has.
-fn read_script<R: Read>(alloc: Global, input: &mut R) -> Result<Vec<u8>, ToolFault>
-    ensures read { IfOk result (λ script. IfSome (R.remaining input.old) (λ bytes. script.items ≡ bytes)) }
-    ensures failed { IfErr result (λ fault. (fault ≡ ToolFault.ReadFailed) ⊎ (fault ≡ ToolFault.Memory)) }
+fn read_script<R: Read>(alloc: Global, input: &mut Counted<R>) -> Result<Vec<u8>, ToolFault>
+    ensures read { IfOk result (λ script. IfSome (R.remaining (inner_of input.old)) (λ bytes. script.items ≡ bytes)) }
+    ensures read_failed { result ≡ Err ToolFault.ReadFailed → HasRisen (failures_of input.old) (failures_of input.new) }
+    ensures too_many { result ≡ Err ToolFault.TooManyReads → IfSome (R.remaining (inner_of input.old))
+        (λ script. MAX_READS ≤ length script) }
+    ensures failed { IfErr result (λ fault. fault ≢ ToolFault.WriteFailed) }
 {
     let mut script = Vec::new(alloc);
-    match input.read_to_end(&mut script) {
-        Ok(_) => Ok(script),
-        Err(error) => Err(read_fault(&error)),
-    }
-}
-
-/// Why a read to the end failed.
-fn read_fault(error: &io::Error) -> ToolFault
-    ensures kinds { (result ≡ ToolFault.ReadFailed) ⊎ (result ≡ ToolFault.Memory) }
-    ensures memory { (result ≡ ToolFault.Memory) ↔ (error_kind error.now ≡ ErrorKind.OutOfMemory) }
-{
-    match error.kind() {
-        ErrorKind::OutOfMemory => ToolFault::Memory,
-        _ => ToolFault::ReadFailed,
-    }
+    read_to_end(input, &mut script)?;
+    Ok(script)
 }
 
 /// Writes the text whole, and what the writer holds back of it.
-fn write_text<W: Write>(output: &mut W, text: &[u8]) -> Result<(), ToolFault>
-    ensures whole { OnOk result (Appends (W.contents output.old) (W.contents output.new) text.now) }
+fn write_text<W: Write>(output: &mut Counted<W>, text: &[u8]) -> Result<(), ToolFault>
+    ensures whole { OnOk result (Appends (W.contents (inner_of output.old)) (W.contents (inner_of output.new)) text.now) }
+    ensures front { AppendsPrefix (W.contents (inner_of output.old)) (W.contents (inner_of output.new)) text.now }
     ensures failed { IfErr result (λ fault. fault ≡ ToolFault.WriteFailed) }
+    ensures write_failed { result ≡ Err ToolFault.WriteFailed → HasRisen (failures_of output.old) (failures_of output.new) }
 {
-    if output.write_all(text).is_err() || output.flush().is_err() {
-        return Err(ToolFault::WriteFailed);
-    }
+    write_all(output, text)?;
+    flush(output)?;
     Ok(())
 }

@@ -20,6 +20,8 @@ const BAD_PRECISION: &str = "invalid value for '--precision <P>': it is none of 
 
 const BAD_NOW: &str = "invalid value for '--now <T>': it is no integer of 64 bits";
 
+const NO_TEXT: &str = "invalid UTF-8 was detected in one or more arguments";
+
 const UNKNOWN_COMMAND: &str = "unrecognized subcommand";
 
 /// `sim [FILE]`.
@@ -189,6 +191,14 @@ fn words_fault(alloc: Global, error: &Error) -> WordsFault
 fn value_fault(alloc: Global, command: &mut Command<'_>, message: &str) -> WordsFault {
     match command.error(ErrorKind::InvalidValue, message) {
         Ok(error) => words_fault(alloc, &error),
+        Err(_) => WordsFault::Memory,
+    }
+}
+
+/// The refusal of words that are no text.
+pub(crate) fn words_are_no_text(alloc: Global) -> WordsFault {
+    match program(alloc) {
+        Ok(mut command) => value_fault(alloc, &mut command, NO_TEXT),
         Err(_) => WordsFault::Memory,
     }
 }
