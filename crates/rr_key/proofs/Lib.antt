@@ -1,6 +1,7 @@
 pub mod Special
 pub mod Walk
 pub mod EscapeLemmas
+pub mod PlainLemmas
 pub mod NameLemmas
 pub mod TagLemmas
 pub mod TailLemmas

@@ -1,6 +1,8 @@
 //! How the bytes of a name are written, and which name was written.
 
 ghost use Rattle.std.specs.Prelude.{◌≡◌, ◌++◌, IfOk, OnOk, [], ◌∷◌, ◌<◌, length, IfSome, MatchOption};
+ghost use Rattle.std.specs.List.{list_any};
+ghost use Rattle.rr_key.specs.Class.{is_special};
 ghost use Rattle.rr_key.specs.Unit.{escape, unescape};
 
 use crate::class::{Class, is_special};
@@ -15,7 +17,17 @@ use std::alloc::{AllocError, Global};
 pub fn unescape(alloc: Global, class: Class, raw: &[u8]) -> Result<Vec<u8>, AllocError>
     ensures { IfOk result (λ name. name.items ≡ unescape class raw.now) }
 {
-    let mut name = Vec::new(alloc);
+    if !raw.contains(&BACKSLASH) {
+        return Vec::from_slice(alloc, raw);
+    }
+    unescape_units(alloc, class, raw)
+}
+
+/// The same, unit by unit.
+fn unescape_units(alloc: Global, class: Class, raw: &[u8]) -> Result<Vec<u8>, AllocError>
+    ensures { IfOk result (λ name. name.items ≡ unescape class raw.now) }
+{
+    let mut name = Vec::with_capacity(alloc, raw.len())?;
     let mut left = raw;
     while let Some((byte, rest)) = first_unit(class, left) {
         name.push(byte)?;
@@ -43,13 +55,30 @@ pub(crate) fn first_unit(class: Class, raw: &[u8]) -> Option<(u8, &[u8])>
 pub fn escape(alloc: Global, class: Class, name: &[u8]) -> Result<Vec<u8>, AllocError>
     ensures { IfOk result (λ raw. raw.items ≡ escape class name.now) }
 {
-    let mut raw = Vec::new(alloc);
+    let mut raw = Vec::with_capacity(alloc, name.len())?;
     push_escaped(&mut raw, class, name)?;
     Ok(raw)
 }
 
 /// Writes a name behind a text.
 pub(crate) fn push_escaped(text: &mut Vec<u8>, class: Class, name: &[u8]) -> Result<(), AllocError>
+    ensures { OnOk result (text.new.items ≡ text.old.items ++ escape class name.now) }
+{
+    if !has_special(class, name) {
+        return text.extend_from_slice(name);
+    }
+    push_units(text, class, name)
+}
+
+/// Whether a byte of a name is special.
+fn has_special(class: Class, name: &[u8]) -> bool
+    ensures { result ≡ list_any (is_special class) name.now }
+{
+    name.iter().any(|byte| is_special(class, *byte))
+}
+
+/// Writes a name behind a text, byte by byte.
+fn push_units(text: &mut Vec<u8>, class: Class, name: &[u8]) -> Result<(), AllocError>
     ensures { OnOk result (text.new.items ≡ text.old.items ++ escape class name.now) }
 {
     for byte in name {

@@ -12,6 +12,9 @@ use crate::delimiter::{COMMA, EQUALS, SPACE};
 use crate::escapes::push_escaped;
 use std::alloc::{AllocError, Global};
 
+/// The bytes that are taken at once for a key text; most have fewer.
+const ROOM: usize = 128;
+
 /// The key text of names whose tags stand in the order of their keys.
 pub(crate) fn write_key(
     alloc: Global,
@@ -22,7 +25,7 @@ pub(crate) fn write_key(
     ensures { IfOk result (λ text. text.items ≡ escape Measurement measurement.now
         ++ tail_text (tags_of tags.now) field.now) }
 {
-    let mut text = Vec::new(alloc);
+    let mut text = Vec::with_capacity(alloc, ROOM)?;
     push_escaped(&mut text, Class::Measurement, measurement)?;
     push_tags(&mut text, tags)?;
     text.push(SPACE)?;

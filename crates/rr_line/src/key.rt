@@ -38,7 +38,7 @@ fn unescape_tags(
 ) -> Result<Vec<(Vec<u8>, Vec<u8>)>, AllocError>
     ensures { IfOk result (λ names. tag_names names.items ≡ tags_unescaped (tags_of tags.now)) }
 {
-    let mut names = Vec::new(alloc);
+    let mut names = Vec::with_capacity(alloc, tags.len())?;
     for tag in tags {
         let key = unescape(alloc, Class::Other, tag.0)?;
         let value = unescape(alloc, Class::Other, tag.1)?;
@@ -54,7 +54,7 @@ fn slices_of<'a>(
 ) -> Result<Vec<(&'a [u8], &'a [u8])>, AllocError>
     ensures { IfOk result (λ slices. tags_of slices.items ≡ tag_names names.now) }
 {
-    let mut slices = Vec::new(alloc);
+    let mut slices = Vec::with_capacity(alloc, names.len())?;
     for name in names {
         slices.push((name.0.as_slice(), name.1.as_slice()))?;
     }
