@@ -6,3 +6,4 @@ pub mod CutLemmas
 pub mod IntegerLemmas
 pub mod StreamLemmas
 pub mod DocumentLemmas
+pub mod SchemaBytesLemmas

@@ -6,3 +6,4 @@ pub mod Text
 pub mod Counted
 pub mod Stream
 pub mod Document
+pub mod SchemaBytes

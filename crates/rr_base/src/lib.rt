@@ -20,9 +20,11 @@ mod consolidation;
 mod counted;
 mod document;
 mod fault;
+pub mod laws;
 pub mod limits;
 mod origin;
 mod schema;
+mod schema_bytes;
 pub mod stream;
 #[cfg(test)]
 mod tests;

@@ -7,12 +7,17 @@ ghost use Rattle.rr_base.specs.Schema.{IsLayout, archive_at, span, slot_of, plac
 ghost use Rattle.rr_base.specs.Check.{archive_fault, archives_fault, schema_fault};
 ghost use Rattle.rr_base.specs.Choice.{IsChoice};
 ghost use Rattle.rr_base.specs.declared.limits.TheConstants.{MAX_STEPS};
+ghost use Rattle.rr_base.specs.SchemaBytes.{schema_bytes};
 
 use crate::archive::ArchiveSpec;
 use crate::fault::SchemaFault;
 use crate::limits::{MAX_ARCHIVES, MAX_ROWS, MAX_STEP, MAX_STEPS, MAX_XFF_DEN, NANOSECONDS};
+use crate::schema_bytes::{ARCHIVE_LEN, push_archives};
 use std::alloc::{AllocError, Global};
 use std::marker::Model;
+
+/// How many bytes the step and the number of archives have.
+const HEAD_LEN: usize = 5;
 
 /// A step, and the archives from the finest on, within the limits of the store.
 #[derive(Debug, Drop)]
@@ -154,6 +159,27 @@ impl Schema {
             step: self.step,
             archives,
         })
+    }
+
+    /// The schema as bytes, big-endian: the step in four, the number of archives in one, and for
+    /// each archive its steps in one, its rows in four and its xff in two and two. The cost is
+    /// linear in the archives.
+    #[tactic(auto, unfolding(crate::specs::SchemaBytes::schema_bytes))]
+    pub fn bytes(&self, alloc: Global) -> Result<Vec<u8>, AllocError>
+        ensures { IfOk result (λ bytes. bytes.items ≡ schema_bytes self.now) }
+    {
+        let mut bytes = Vec::with_capacity(alloc, self.byte_len())?;
+        bytes.extend_from_slice(&self.step.to_be_bytes())?;
+        bytes.push(self.archives.len() as u8)?;
+        push_archives(&mut bytes, &self.archives)?;
+        Ok(bytes)
+    }
+
+    /// How many bytes these are.
+    pub fn byte_len(&self) -> usize
+        ensures { result ≡ length (schema_bytes self.now) }
+    {
+        HEAD_LEN + ARCHIVE_LEN * self.archives.len()
     }
 
     /// The archive with a number, from 0.

@@ -51,7 +51,7 @@ one_more m n c absent = same_map cell_name_cmp_total cell_name_cmp-IsAntisymmetr
     ] refl
     ∙ sym (get-insert cell_name_cmp_total m n c q))
 
-join_nothing : (s : Layout) (m : Cells) → IsTrimmed s m → m ≡ join s m empty
+pub join_nothing : (s : Layout) (m : Cells) → IsTrimmed s m → m ≡ join s m empty
 unfolding Maps.joined
 join_nothing s m kept = sym kept ∙ ap (trimmed (is_live s)) (same_map cell_name_cmp_total cell_name_cmp-IsAntisymmetric m (merged contribution_cmp m empty) (λ q.
     sym (get-merged cell_name_cmp_total cell_name_cmp-IsAntisymmetric contribution_cmp m empty q ∙ ap (greater contribution_cmp (get m q)) (get-empty cell_name_cmp q) ∙ greater-None contribution_cmp (get m q))))

@@ -18,3 +18,5 @@ pub mod Differing
 pub mod CellByCell
 pub mod Parting
 pub mod FieldLemmas
+pub mod OneArchive
+pub mod JoinedCell

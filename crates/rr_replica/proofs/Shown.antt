@@ -80,13 +80,13 @@ module _ {X : Type 0} (cells : X → Rows) where
   Sets old new key archives = (q : List ℕ) → archives_of new q ≡ cond (is_at (bytes_cmp key) q) (Some archives) (archives_of old q)
 
   module _ (old new : List (List ℕ × Vec X)) (key : List ℕ) (archives : Vec X) (sets : (q : List ℕ) → archives_of new q ≡ cond (is_at (bytes_cmp key) q) (Some archives) (archives_of old q)) (before : IsStrictlySortedBy bytes_cmp (keys_of old)) (after : IsStrictlySortedBy bytes_cmp (keys_of new)) where
-    at_key : (i : ℕ) → rows_at (cells_of (shown cells new)) key i ≡ held_at cells archives.items i
+    pub at_key : (i : ℕ) → rows_at (cells_of (shown cells new)) key i ≡ held_at cells archives.items i
     at_key i = rows_shown new key i after ∙ ap (λ o. held_at cells (items_of o) i) (sets key ∙ ap (λ b. cond b (Some archives) (archives_of old key)) (tie_itself nat_list_cmp_total bytes_cmp-IsAntisymmetric key))
 
-    at_other : (q : List ℕ) (i : ℕ) → is_at (bytes_cmp key) q ≡ false → rows_at (cells_of (shown cells new)) q i ≡ rows_at (cells_of (shown cells old)) q i
+    pub at_other : (q : List ℕ) (i : ℕ) → is_at (bytes_cmp key) q ≡ false → rows_at (cells_of (shown cells new)) q i ≡ rows_at (cells_of (shown cells old)) q i
     at_other q i apart = rows_shown new q i after ∙ ap (λ o. held_at cells (items_of o) i) (sets q ∙ ap (λ b. cond b (Some archives) (archives_of old q)) apart) ∙ sym (rows_shown old q i before)
 
-    same_key : (q : List ℕ) → is_at (bytes_cmp key) q ≡ true → key ≡ q
+    pub same_key : (q : List ℕ) → is_at (bytes_cmp key) q ≡ true → key ≡ q
     same_key q t = same_from_tie nat_list_cmp_total bytes_cmp-IsAntisymmetric key q t
 
     -- with the same cells

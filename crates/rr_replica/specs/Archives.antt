@@ -1,13 +1,14 @@
 -- The archives of one key, each seen as a map by a function, and what a sample makes of each.
-use Rattle.std.specs.Prelude.{◌≡◌, ℕ, List, map, length, Some, slice_get}
+use Rattle.std.specs.Prelude.{◌≡◌, ◌≢◌, ℕ, List, map, length, Some, slice_get}
 use Rattle.std.specs.FinMap.{get}
 use Rattle.rr_base.specs.Schema.{Layout, archive_at, slot_of, place_of}
 use Rattle.rr_contrib.specs.Contributions.{SlotSample, slot_sample}
 use Rattle.rr_contrib.specs.Validity.{CanAdd}
 use Rattle.std.specs.Prelude.{IfSome}
 use Rattle.rr_archive.specs.Places.{Place, place_at}
-use Rattle.rr_archive.specs.Cells.{Rows, put_row}
+use Rattle.rr_archive.specs.Cells.{Rows, put_row, join_cell}
 use Rattle.rr_replica.specs.declared.sample.Written.{Written}
+use Rattle.rr_replica.specs.declared.cell.Cell.{Cell}
 
 -- where the sample falls in an archive
 abbrev pub place_for : Layout → Written → ℕ → Place
@@ -42,3 +43,9 @@ module _ {X : Type 0} where
   pub record HavePut (cells : X → Rows) (s : Layout) (x : Written) (old new : List X) : Type 0 where
     pub many : length new ≡ length old
     pub each : EachPair (λ i a b. cells b ≡ put_row (archive_at s i).rows (cells a) (place_for s x i) (sample_for s x i)) old new
+
+  -- as many archives, with the cell joined into its own
+  pub record HaveJoined (cells : X → Rows) (limit : X → ℕ) (c : Cell) (old new : List X) : Type 0 where
+    pub many : length new ≡ length old
+    pub here : (a b : X) → slice_get old c.archive ≡ Some a → slice_get new c.archive ≡ Some b → cells b ≡ join_cell (limit a) (cells a) (place_at c.slot c.origin) c.contribution
+    pub others : EachPair (λ i a b. i ≢ c.archive → cells b ≡ cells a) old new

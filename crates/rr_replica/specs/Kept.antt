@@ -45,7 +45,11 @@ module _ {X : Type 0} where
   holding cells schema origin next entries = record { schema = schema; origin = origin; next = next; cells = cells_of (shown cells entries) }
 
   -- each key has an archive for each of the schema's, of its rows
+  abbrev pub AreAllSized : (X → ℕ) → Layout → List (List ℕ × Vec X) → Type 0
+  AreAllSized limit schema entries = (key : List ℕ) (archives : Vec X) → archives_of entries key ≡ Some archives → AreSized limit schema archives.items
+
+  -- so the replica keeps to both, its cells and its archives
   pub record IsKept (cells : X → Rows) (limit : X → ℕ) (schema : Layout) (origin next : ℕ) (entries : List (List ℕ × Vec X)) : Type 0 where
     pub holds : IsHolding (holding cells schema origin next entries)
-    pub sized : (key : List ℕ) (archives : Vec X) → archives_of entries key ≡ Some archives → AreSized limit schema archives.items
+    pub sized : AreAllSized limit schema entries
     pub ordered : IsStrictlySortedBy bytes_cmp (keys_of entries)

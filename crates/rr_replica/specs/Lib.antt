@@ -6,6 +6,7 @@ pub mod Archives
 pub mod Kept
 pub mod Listing
 pub mod Joins
+pub mod Joining
 pub mod State
 pub mod Versions
 pub mod Laws

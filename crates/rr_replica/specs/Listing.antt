@@ -5,10 +5,15 @@ use Rattle.rr_contrib.specs.declared.contribution.Contribution.{Contribution}
 use Rattle.rr_archive.specs.Cells.{Rows}
 use Rattle.rr_model.specs.CellNames.{CellName}
 use Rattle.rr_replica.specs.declared.cell.CellRef.{CellRef}
+use Rattle.rr_replica.specs.declared.cell.Cell.{Cell}
 
 -- a cell with its key lent, as a name and what stands there
 abbrev pub seen_cell : CellRef → CellName × Contribution
 seen_cell c = (record { key = c.key.now; archive = c.archive; slot = c.slot; origin = c.origin }, c.contribution)
+
+-- and one that owns it
+abbrev pub owned_cell : Cell → CellName × Contribution
+owned_cell c = (record { key = c.key; archive = c.archive; slot = c.slot; origin = c.origin }, c.contribution)
 
 -- how many cells archives hold
 abbrev pub count_of : List Rows → ℕ

@@ -2,8 +2,10 @@
 ghost use Rattle.std.specs.Prelude.{◌≡◌, ◌<◌, ◌≤◌, length, IsTrue, IsOk, OnOk, OnErr, IfOk};
 ghost use Rattle.std.specs.FinMap as fin;
 ghost use Rattle.rr_base.specs.Schema.{IsLayout};
-ghost use Rattle.rr_replica.specs.Archives.{place_for, Each, AreSized, CanTake, AreSame, HavePut};
+ghost use Rattle.rr_replica.specs.Archives.{place_for, Each, AreSized, CanTake, AreSame, HavePut, HaveJoined};
+ghost use Rattle.rr_replica.specs.Joining.{IsCell};
 
+use crate::cell::Cell;
 use crate::sample::Written;
 use rr_archive::Archive;
 use rr_base::Schema;
@@ -93,4 +95,23 @@ pub(crate) fn put_into<A: Archive>(
 {
     make_ready(archives, schema, sample)?;
     put_ready(archives, schema, sample)
+}
+
+/// Joins a cell into the archive that it is of, or into none.
+pub(crate) fn join_into<A: Archive>(
+    archives: &mut Vec<A>,
+    schema: &Schema,
+    cell: &Cell,
+) -> Result<(), AllocError>
+    requires layout { IsLayout schema.now }
+    requires sized { AreSized A.row_limit schema.now archives.old.items }
+    requires cell { IsCell schema.now cell.now }
+    ensures joined { OnOk result (HaveJoined A.cells A.row_limit cell.now archives.old.items archives.new.items) }
+    ensures same { OnErr result (AreSame A.cells archives.old.items archives.new.items) }
+    ensures sized { AreSized A.row_limit schema.now archives.new.items }
+{
+    // It is the cell's own slot, since the cell is valid; as that of a time it is within bounds.
+    let slot = schema.slot(cell.archive, cell.contribution.last_time);
+    let archive = &mut archives[cell.archive as usize];
+    archive.join_cell(slot, cell.origin, &cell.contribution)
 }

@@ -18,3 +18,18 @@ pub struct CellRef<'a> {
     /// What they come to.
     pub contribution: Contribution,
 }
+
+/// A cell that owns its key, as it came from elsewhere.
+#[derive(Drop)]
+pub struct Cell {
+    /// The key of the series.
+    pub key: SeriesKey,
+    /// Which of the schema's archives, from 0.
+    pub archive: u8,
+    /// Which slot.
+    pub slot: i64,
+    /// Whose samples these are.
+    pub origin: Origin,
+    /// What they come to.
+    pub contribution: Contribution,
+}

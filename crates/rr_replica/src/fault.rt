@@ -1,4 +1,4 @@
-//! Why a sample isn't put, or a point isn't written.
+//! Why a sample isn't put, a point isn't written, or cells aren't joined.
 
 ghost use Rattle.std.specs.Prelude.{◌≡◌};
 
@@ -78,6 +78,30 @@ impl WriteFault {
             WriteFault::AheadOfClock => "AheadOfClock",
             WriteFault::NumbersSpent => "NumbersSpent",
             WriteFault::Memory { .. } => "Memory",
+        }
+    }
+}
+
+/// Why cells aren't all joined.
+#[derive(Clone, Copy, Debug, PartialEq, Eq, Error)]
+pub enum JoinFault {
+    /// Memory ran out.
+    #[error("Memory")]
+    Memory {
+        /// How many cells, from the first on, were joined before.
+        joined: usize,
+    },
+}
+
+impl JoinFault {
+    ghost use Rattle.rr_replica.specs.Fault.{join_fault_name};
+
+    /// The printed name.
+    pub fn name(&self) -> &'static str
+        ensures { result.now ≡ join_fault_name self.now }
+    {
+        match self {
+            JoinFault::Memory { .. } => "Memory",
         }
     }
 }

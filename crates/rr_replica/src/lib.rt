@@ -4,12 +4,17 @@
 //! It is seen as one finite map from the names of cells, each a key, an archive, a slot and an
 //! origin, to contributions (`specs/Cells.antt`), whatever the archives are made of. A sample that
 //! is put gets the replica's next number, and in each archive it is added to the cell that its time
-//! falls in; then only the live cells are kept (`specs/Puts.antt`).
+//! falls in; then only the live cells are kept (`specs/Puts.antt`). Of a [`Cell`] from elsewhere and
+//! what stands at its name the greater is kept, and the next number moves past a cell of the
+//! replica's own origin (`specs/Joining.antt`).
 #![tactic(auto)]
 
 mod archives;
 mod cell;
 mod fault;
+mod joining;
+#[cfg(test)]
+mod joining_tests;
 pub mod laws;
 mod listing;
 mod replica;
@@ -17,6 +22,6 @@ mod sample;
 #[cfg(test)]
 mod tests;
 
-pub use cell::CellRef;
-pub use fault::{PutFault, WriteFault};
+pub use cell::{Cell, CellRef};
+pub use fault::{JoinFault, PutFault, WriteFault};
 pub use replica::Replica;

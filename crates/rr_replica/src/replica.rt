@@ -16,8 +16,9 @@ ghost use Rattle.rr_replica.specs.Listing.{seen_cell, at_most_usize};
 ghost use Rattle.rr_replica.specs.Kept.{shown, sample_of, IsHolding, IsKept};
 
 use crate::archives::{empty_archives, put_into};
-use crate::cell::CellRef;
-use crate::fault::{PutFault, WriteFault};
+use crate::cell::{Cell, CellRef};
+use crate::fault::{JoinFault, PutFault, WriteFault};
+use crate::joining::{join_in, next_after};
 use crate::listing::{count_cells, nth_cell};
 use crate::sample::Written;
 use rr_archive::{Archive, Entry};
@@ -261,6 +262,45 @@ impl<A: Archive> Replica<A> {
             Ok(_) => Ok(()),
             Err(_) => Err(AllocError),
         }
+    }
+}
+
+impl<A: Archive> Replica<A> {
+    ghost use Rattle.std.specs.Prelude.{All};
+    ghost use Rattle.rr_replica.specs.Joining.{IsCell, with_cell, with_cells, IsAfterJoined};
+
+    /// Joins a cell from elsewhere, which is valid under the schema: of it and what stands at its
+    /// name the greater stays, and then only the live cells. A cell of the replica's own origin,
+    /// whose version is the next number or past it, moves the next number past it.
+    ///
+    /// A cell that is past the horizon itself leaves no trace among the cells. After an error
+    /// nothing has changed. The cost is one look-up of the key and, in the cell's archive, one of
+    /// the slot, the entries of a row, and the rows that go.
+    pub fn join_cell(&mut self, cell: &Cell) -> Result<(), AllocError>
+        requires { IsCell self.old.schema cell.now }
+        ensures joined { OnOk result (self.new ≡ with_cell self.old cell.now) }
+        ensures unchanged { OnErr result (self.new ≡ self.old) }
+    {
+        join_in(&mut self.series, self.alloc, &self.schema, cell)?;
+        self.next = next_after(self.origin, self.next, cell);
+        Ok(())
+    }
+
+    /// Joins cells from elsewhere, in order, each as `join_cell` does. Where memory runs out the
+    /// first so many cells that `Memory` names are joined.
+    pub fn join_cells(&mut self, cells: &[Cell]) -> Result<(), JoinFault>
+        requires { All (IsCell self.old.schema) cells.now }
+        ensures joined { OnOk result (self.new ≡ with_cells self.old cells.now) }
+        ensures stopped { IfErr result (IsAfterJoined self.old self.new cells.now) }
+    {
+        let mut joined = 0;
+        for cell in cells {
+            if self.join_cell(cell).is_err() {
+                return Err(JoinFault::Memory { joined });
+            }
+            joined += 1;
+        }
+        Ok(())
     }
 }
 

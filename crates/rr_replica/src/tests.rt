@@ -7,10 +7,10 @@ use std::alloc::Global;
 use std::process::Abort;
 use std::test::Fail;
 
-const MINUTE: i64 = 60_000_000_000;
+pub(crate) const MINUTE: i64 = 60_000_000_000;
 
 /// A step of a minute and one archive of so many rows of one step.
-fn minutes(alloc: Global, rows: u32) -> Result<Schema, SchemaFault> {
+pub(crate) fn minutes(alloc: Global, rows: u32) -> Result<Schema, SchemaFault> {
     let row = ArchiveSpec {
         steps: 1,
         rows,
@@ -21,12 +21,12 @@ fn minutes(alloc: Global, rows: u32) -> Result<Schema, SchemaFault> {
 }
 
 /// The key of the field `v` of `m`.
-fn key(alloc: Global) -> Result<SeriesKey, KeyFault> {
+pub(crate) fn key(alloc: Global) -> Result<SeriesKey, KeyFault> {
     SeriesKey::parse_text(alloc, b"m v")
 }
 
 /// A replica of three rows a minute, of origin 1.
-fn replica<A: Archive>(alloc: Global) -> Result<Replica<A>, Fail> {
+pub(crate) fn replica<A: Archive>(alloc: Global) -> Result<Replica<A>, Fail> {
     let schema = minutes(alloc, 3)?;
     Ok(Replica::new(alloc, &schema, Origin::new(1)?)?)
 }
@@ -48,7 +48,7 @@ fn a_new_replica_holds_nothing(rt: HostRuntime) -> Result<(), Fail> {
 }
 
 /// Asserts the last value, the version and the count of the one entry of a slot.
-fn assert_holds<A: Archive>(
+pub(crate) fn assert_holds<A: Archive>(
     rt: &impl Abort,
     replica: &Replica<A>,
     key: &SeriesKey,

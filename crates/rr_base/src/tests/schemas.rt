@@ -195,3 +195,13 @@ fn archives_are_checked_one_by_one(rt: HostRuntime) {
     let archives = [good, good, spec(65, 3, 0, 1)];
     assert_eq!(rt; fault_of(alloc, 60, archives.as_slice()), "StepsNotRising");
 }
+
+#[test]
+fn a_schema_has_bytes(rt: HostRuntime) -> Result<(), Fail> {
+    let schema = Schema::new(rt.alloc(), 60, [spec(1, 3, 0, 1)].as_slice())?;
+    let bytes = schema.bytes(rt.alloc())?;
+    let expected = [0, 0, 0, 60, 1, 1, 0, 0, 0, 3, 0, 0, 0, 1];
+    assert_eq!(rt; bytes.as_slice(), expected.as_slice());
+    assert_eq!(rt; schema.byte_len(), 14);
+    Ok(())
+}

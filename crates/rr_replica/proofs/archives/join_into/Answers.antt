@@ -1,0 +1,46 @@
+use Rattle.std.proofs.Common.{rules, ◌≡◌, ◌<◌, sym, ap, ◌∙◌, Some, slice_get, length, to_z, of_z, w64, arith}
+use Rattle.std.proofs.lemmas.Option.{slice_get-get_or}
+use Rattle.std.proofs.lemmas.Result.{on_ok_weaker, on_err_weaker}
+use Rattle.rr_base.specs.Schema.{slot_of}
+use Rattle.rr_replica.proofs.Each.{map-set_same, sized_many, slot_is}
+use Rattle.rr_replica.proofs.OneArchive.{same_at, joined_at}
+use Rattle.rr_replica.proofs.archives.join_into.Goals as goal
+
+pub join_cell-requires : goal.join_cell-requires
+join_cell-requires g c =
+    let kept : to_z w64 (of_z w64 c.slot-slot.result) ≡ c.slot-slot.result = search rules in
+    let slot : c.slot-slot.result ≡ slot_of c.args.schema.now c.args.cell.now.archive c.args.cell.now.contribution.last_time = search rules in
+    rw (kept, slot) (slot_is c.args.schema.now c.requires.layout c.args.cell.now.archive c.args.cell.now.contribution.last_time (search rules))
+
+pub returns-clause-joined : goal.returns-clause-joined
+returns-clause-joined g c =
+    let items = c.args.archives.now.items in
+    let cell = c.args.cell.now in
+    let many = sized_many g.A.Archive.row_limit c.args.schema.now items c.requires.sized in
+    let of_schema = c.requires.cell.within in
+    let within : cell.archive < length items = omega arith in
+    let at : slice_get items cell.archive ≡ Some c.index_mut-archive.result.now = slice_get-get_or items cell.archive c.index_mut-archive.result.now within ∙ ap (λ a. Some a) (sym c.index_mut-archive.ensures.value) in
+    let kept : to_z w64 (of_z w64 c.slot-slot.result) ≡ c.slot-slot.result = search rules in
+    let found : c.slot-slot.result ≡ slot_of c.args.schema.now cell.archive cell.contribution.last_time = search rules in
+    let slot : c.slot-slot.result ≡ cell.slot = found ∙ c.requires.cell.valid.in_slot in
+    on_ok_weaker c.join_cell.result (joined_at g.A.Archive.cells g.A.Archive.row_limit cell items c.index_mut-archive.result.now c.join_cell.new.self at) (rw (kept, slot) at c.join_cell.ensures.ok)
+
+pub returns-clause-same : goal.returns-clause-same
+returns-clause-same g c =
+    let items = c.args.archives.now.items in
+    let cell = c.args.cell.now in
+    let many = sized_many g.A.Archive.row_limit c.args.schema.now items c.requires.sized in
+    let of_schema = c.requires.cell.within in
+    let within : cell.archive < length items = omega arith in
+    let at : slice_get items cell.archive ≡ Some c.index_mut-archive.result.now = slice_get-get_or items cell.archive c.index_mut-archive.result.now within ∙ ap (λ a. Some a) (sym c.index_mut-archive.ensures.value) in
+    on_err_weaker c.join_cell.result (same_at g.A.Archive.cells cell items c.index_mut-archive.result.now c.join_cell.new.self at) c.join_cell.ensures.err
+
+pub returns-clause-sized : goal.returns-clause-sized
+returns-clause-sized g c =
+    let items = c.args.archives.now.items in
+    let cell = c.args.cell.now in
+    let many = sized_many g.A.Archive.row_limit c.args.schema.now items c.requires.sized in
+    let of_schema = c.requires.cell.within in
+    let within : cell.archive < length items = omega arith in
+    let at : slice_get items cell.archive ≡ Some c.index_mut-archive.result.now = slice_get-get_or items cell.archive c.index_mut-archive.result.now within ∙ ap (λ a. Some a) (sym c.index_mut-archive.ensures.value) in
+    map-set_same g.A.Archive.row_limit items cell.archive c.index_mut-archive.result.now c.join_cell.new.self at c.join_cell.ensures.limit ∙ c.requires.sized

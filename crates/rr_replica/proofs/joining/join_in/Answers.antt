@@ -1,0 +1,47 @@
+use Rattle.std.proofs.Common.{rules, ◌≡◌, ◌<◌, ℕ, List, cond, length, Some, None, sym, arith}
+use Rattle.std.specs.BTreeMap.{is_at}
+use Rattle.std.proofs.lemmas.Result.{on_ok_weaker, on_err_weaker}
+use Rattle.rr_replica.specs.Series.{bytes_cmp}
+use Rattle.rr_replica.specs.Kept.{archives_of}
+use Rattle.rr_replica.proofs.Each.{sized_many}
+use Rattle.rr_replica.proofs.JoinedCell.{cells_joined, cells_unchanged, before_found, before_fresh}
+use Rattle.rr_replica.proofs.joining.join_in.Goals as goal
+
+pub returns-in-Some-clause-joined : goal.returns-in-Some-clause-joined
+returns-in-Some-clause-joined g c =
+    let old = c.args.series.now.entries in
+    let found : Some c.in-Some.archives.now ≡ archives_of old c.args.cell.now.key = c.in-Some.ensures.value in
+    let before = before_found g.A.Archive.cells c.args.cell.now.key old c.requires.ordered c.in-Some.archives.now found in
+    let new = (c.get_mut.follows.lender c.join_into.new.archives).entries in
+    let holds = c.get_mut.follows.holds c.join_into.new.archives in
+    let updates = holds.3 (search rules) in
+    let sized = c.requires.sized c.args.cell.now.key c.in-Some.archives.now (sym found) in
+    let many = sized_many g.A.Archive.row_limit c.args.schema.now c.in-Some.archives.now.items sized in
+    let is_within = c.requires.cell.within in
+    let within : c.args.cell.now.archive < length c.in-Some.archives.now.items = omega arith in
+    on_ok_weaker c.join_into.result (cells_joined g.A.Archive.cells g.A.Archive.row_limit c.args.schema.now c.requires.layout c.args.cell.now old new c.join_into.new.archives updates.0 c.requires.ordered holds.4 c.requires.live c.in-Some.archives.now.items sized before within) c.join_into.ensures.joined
+
+pub returns-in-Some-clause-same : goal.returns-in-Some-clause-same
+returns-in-Some-clause-same g c =
+    let old = c.args.series.now.entries in
+    let found : Some c.in-Some.archives.now ≡ archives_of old c.args.cell.now.key = c.in-Some.ensures.value in
+    let before = before_found g.A.Archive.cells c.args.cell.now.key old c.requires.ordered c.in-Some.archives.now found in
+    let new = (c.get_mut.follows.lender c.join_into.new.archives).entries in
+    let holds = c.get_mut.follows.holds c.join_into.new.archives in
+    let updates = holds.3 (search rules) in
+    on_err_weaker c.join_into.result (cells_unchanged g.A.Archive.cells g.A.Archive.row_limit c.args.schema.now c.requires.layout c.args.cell.now old new c.join_into.new.archives updates.0 c.requires.ordered holds.4 c.requires.live c.in-Some.archives.now.items before) c.join_into.ensures.same
+
+pub returns-in_ok-insert-in-None-clause-joined : goal.returns-in_ok-insert-in-None-clause-joined
+returns-in_ok-insert-in-None-clause-joined g c =
+    let old = c.args.series.now.entries in
+    let none : None ≡ archives_of old c.args.cell.now.key = c.in-None.ensures.value in
+    let fresh = c.in_ok-archives-in-None in
+    let before = before_fresh g.A.Archive.cells c.args.cell.now.key old c.requires.ordered fresh.archives.items none fresh.ensures.empty in
+    let same : c.get_mut.follows.lender-at-none ≡ c.args.series.now = c.get_mut.follows.holds-at-none in
+    let key : c.in_ok-copy-in-None.field-0 ≡ c.args.cell.now.key = search rules in
+    let updates = rw (same, key) at c.in_ok-insert-in-None.ensures.updates in
+    let sets : (q : List ℕ) → archives_of c.insert.new.self.entries q ≡ cond (is_at (bytes_cmp c.args.cell.now.key) q) (Some c.join_into-in-None.new.archives) (archives_of old q) = updates.0 in
+    let many = sized_many g.A.Archive.row_limit c.args.schema.now fresh.archives.items fresh.ensures.sized in
+    let is_within = c.requires.cell.within in
+    let within : c.args.cell.now.archive < length fresh.archives.items = omega arith in
+    cells_joined g.A.Archive.cells g.A.Archive.row_limit c.args.schema.now c.requires.layout c.args.cell.now old c.insert.new.self.entries c.join_into-in-None.new.archives sets c.requires.ordered c.insert.ensures.ordered c.requires.live fresh.archives.items fresh.ensures.sized before within c.in_ok-join_into-in-None.ensures.joined

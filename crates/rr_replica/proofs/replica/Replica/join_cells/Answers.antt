@@ -1,0 +1,25 @@
+-- The cells so far are joined, each to what the ones before left.
+use Rattle.std.proofs.Common.{rules, ◌≡◌, ◌∙◌, [], ◌∷◌, ◌++◌, take, get_or, sym, ap, subst, arith}
+use Rattle.std.proofs.lemmas.List.{take_more}
+use Rattle.std.proofs.lemmas.List.Elements.{All-get_or}
+use Rattle.rr_base.specs.Schema.{Layout}
+use Rattle.rr_replica.specs.declared.cell.Cell.{Cell}
+use Rattle.rr_replica.specs.Holding.{Holding}
+use Rattle.rr_replica.specs.Joining.{IsCell, with_cell, with_cells}
+use Rattle.rr_replica.proofs.FieldLemmas.{passed}
+use Rattle.rr_replica.proofs.JoinedCell.{with_cells-more}
+use Rattle.rr_replica.proofs.replica.Replica.join_cells.Goals as goal
+
+pub loop-cell-preserved : goal.loop-cell-preserved
+loop-cell-preserved g c =
+    let cells = c.args.cells.now in
+    let i = c.loop-cell.cell-index in
+    let cell = c.cell-item.result in
+    let item : get_or cells i cell ≡ cell = search rules in
+    let written = passed c.join_cell.result c.join_cell.ensures.joined c.if-is_err.ensures.value in
+    let more = take_more cells i cell c.loop-cell-test.true ∙ ap (λ d. take i cells ++ d ∷ []) item in
+    record {
+      counted = omega (arith, c.loop-cell.invariant.counted);
+      schema = ap (λ (h : Holding). h.schema) written ∙ c.loop-cell.invariant.schema;
+      joined = written ∙ ap (λ h. with_cell h cell) c.loop-cell.invariant.joined ∙ sym (with_cells-more c.args.self.now (take i cells) cell) ∙ ap (with_cells c.args.self.now) (sym more);
+    }

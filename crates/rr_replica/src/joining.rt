@@ -1,0 +1,61 @@
+//! Cells from elsewhere, joined into the archives of their keys.
+ghost use Rattle.std.specs.Prelude.{◌≡◌, ◌≤◌, OnOk, OnErr};
+ghost use Rattle.std.specs.List.Sorted.{IsStrictlySortedBy};
+ghost use Rattle.std.specs.Map.{keys_of};
+ghost use Rattle.rr_base.specs.Schema.{IsLayout};
+ghost use Rattle.rr_base.specs.declared.limits.TheConstants.{MAX_NUMBER};
+ghost use Rattle.rr_replica.specs.Cells.{IsTrimmed};
+ghost use Rattle.rr_replica.specs.Joins.{join_cell};
+ghost use Rattle.rr_replica.specs.Joining.{IsCell, next_after};
+ghost use Rattle.rr_replica.specs.Kept.{shown, AreAllSized};
+ghost use Rattle.rr_replica.specs.Listing.{owned_cell};
+ghost use Rattle.rr_replica.specs.Series.{bytes_cmp, cells_of};
+
+use crate::archives::{empty_archives, join_into};
+use crate::cell::Cell;
+use rr_archive::Archive;
+use rr_base::{Origin, Schema};
+use rr_key::SeriesKey;
+use std::alloc::{AllocError, Global};
+use std::collections::BTreeMap;
+
+/// Joins a cell into the archives of its key, or into none.
+pub(crate) fn join_in<A: Archive>(
+    series: &mut BTreeMap<SeriesKey, Vec<A>>,
+    alloc: Global,
+    schema: &Schema,
+    cell: &Cell,
+) -> Result<(), AllocError>
+    requires layout { IsLayout schema.now }
+    requires cell { IsCell schema.now cell.now }
+    requires live { IsTrimmed schema.now (cells_of (shown A.cells series.old.entries)) }
+    requires sized { AreAllSized A.row_limit schema.now series.old.entries }
+    requires ordered { IsStrictlySortedBy bytes_cmp (keys_of series.old.entries) }
+    ensures joined { OnOk result (cells_of (shown A.cells series.new.entries)
+        ≡ join_cell schema.now (cells_of (shown A.cells series.old.entries)) (owned_cell cell.now).0 cell.now.contribution) }
+    ensures same { OnErr result (cells_of (shown A.cells series.new.entries) ≡ cells_of (shown A.cells series.old.entries)) }
+    ensures sized { AreAllSized A.row_limit schema.now series.new.entries }
+    ensures ordered { IsStrictlySortedBy bytes_cmp (keys_of series.new.entries) }
+{
+    match series.get_mut(&cell.key) {
+        Some(archives) => join_into(archives, schema, cell),
+        None => {
+            let mut archives = empty_archives(alloc, schema)?;
+            join_into(&mut archives, schema, cell)?;
+            series.insert(cell.key.copy()?, archives)?;
+            Ok(())
+        }
+    }
+}
+
+/// The next number, moved past the version of a cell of the replica's own origin.
+pub(crate) fn next_after(origin: Origin, next: u64, cell: &Cell) -> u64
+    requires { cell.now.contribution.version ≤ MAX_NUMBER }
+    ensures { result ≡ next_after origin next (owned_cell cell.now) }
+{
+    if cell.origin == origin && next <= cell.contribution.version {
+        cell.contribution.version + 1
+    } else {
+        next
+    }
+}
