@@ -63,8 +63,8 @@ pub(crate) fn make_room(slots: &mut Slots, alloc: Global, slot: i64) -> Result<(
     match slots.get_mut(&slot) {
         Some(row) => row.reserve(1),
         None => {
-            let mut row = Vec::new(alloc);
-            row.reserve(1)?;
+            // Most rows stay of one origin, so no more than its entry is taken room for.
+            let row = Vec::with_capacity(alloc, 1)?;
             slots.insert(slot, row)?;
             Ok(())
         }

@@ -19,6 +19,6 @@ returns-in_ok-insert-in-None-clause-cells c =
     let none : None ≡ row_in c.args.slots.now.entries c.args.slot = rw back at c.in-None.ensures.value in
     let same : c.get_mut.follows.lender-at-none ≡ c.args.slots.now = c.get_mut.follows.holds-at-none in
     let updates = rw same at c.in_ok-insert-in-None.ensures.updates in
-    let sets : Sets c.args.slots.now.entries c.insert.new.self.entries c.args.slot c.reserve-in-None.new.self = record { at = λ q. grind (arith, updates.0 q) } in
-    let items : c.reserve-in-None.new.self.items ≡ [] = search rules in
-    set_alike _ _ c.args.slot c.reserve-in-None.new.self sets (items ∙ ap items_of none)
+    let sets : Sets c.args.slots.now.entries c.insert.new.self.entries c.args.slot c.in_ok-row-in-None.row = record { at = λ q. grind (arith, updates.0 q) } in
+    let items : c.in_ok-row-in-None.row.items ≡ [] = search rules in
+    set_alike _ _ c.args.slot c.in_ok-row-in-None.row sets (items ∙ ap items_of none)

@@ -1,0 +1,3 @@
+pub mod ValidLemmas
+pub mod ReadLemmas
+pub mod WriteLemmas

@@ -1,0 +1,64 @@
+-- The reading of a cell, once its parts are read.
+use Rattle.std.proofs.Common.{◌≡◌, ℕ, ℤ, Bool, true, false, ◌||◌, not, List, Result, Ok, Err, refl, ap, ◌∙◌}
+use Rattle.std.specs.Prelude.{nat_lt, ◌==◌}
+use Rattle.std.specs.Int.{w16, w64}
+use Rattle.std.proofs.lemmas.Bool.{false_from_ne_true}
+use Rattle.rr_base.specs.declared.limits.TheConstants.{MAX_KEY_TEXT}
+use Rattle.rr_base.specs.Schema.{Layout}
+use Rattle.rr_contrib.specs.declared.contribution.Contribution.{Contribution}
+use Rattle.rr_contrib.specs.Validity.{IsValid}
+use Rattle.rr_key.specs.Reading.{is_key_text}
+use Rattle.rr_key.specs.Series.{IsKeyText}
+use Rattle.rr_key.proofs.ToldLemmas.{key_text_told}
+use Rattle.rr_model.specs.CellNames.{CellName}
+use Rattle.rr_page.specs.declared.fault.PageFault.{PageFault}
+use Rattle.rr_page.specs.declared.fault.PageFault.TheVariants.{BadKey, BadContribution}
+use Rattle.rr_page.specs.Reading.{◌>>=◌, unless, front_at, number_at, signed_at, key_at, archive_at, contribution_at, cell_at}
+use Rattle.rr_page.specs.Valid.{is_valid}
+use Rattle.rr_page.proofs.ValidLemmas.{valid_told}
+
+abbrev keyed : List ℕ × List ℕ → Result (List ℕ × List ℕ) PageFault
+keyed text = unless BadKey (not (is_key_text text.0)) (Ok text)
+
+module _ (bytes : List ℕ) (len : ℕ) (rest text after : List ℕ) (l : number_at w16 bytes ≡ Ok (len, rest)) (fits : ((len == 0) || nat_lt MAX_KEY_TEXT len) ≡ false) (f : front_at len rest ≡ Ok (text, after)) where
+  key_parts : key_at bytes ≡ keyed (text, after)
+  unfolding key_at
+  key_parts =
+      ap (λ r. r >>= λ (n : ℕ × List ℕ). unless BadKey ((n.0 == 0) || nat_lt MAX_KEY_TEXT n.0) (front_at n.0 n.1) >>= keyed) l
+      ∙ ap (λ b. unless BadKey b (front_at len rest) >>= keyed) fits
+      ∙ ap (λ r. r >>= keyed) f
+
+  pub key_read : IsKeyText text → key_at bytes ≡ Ok (text, after)
+  key_read k = key_parts ∙ ap (λ b. unless BadKey (not b) (Ok (text, after))) ((key_text_told text).1 k)
+
+  pub key_refused : (IsKeyText text → ⊥) → key_at bytes ≡ Err BadKey
+  key_refused n = key_parts ∙ ap (λ b. unless BadKey (not b) (Ok (text, after))) (false_from_ne_true (is_key_text text) (λ e. n ((key_text_told text).0 e)))
+
+abbrev judged : Layout → List ℕ → ℕ → ℤ → ℕ → Contribution → List ℕ → Result ((CellName × Contribution) × List ℕ) PageFault
+judged s key archive slot origin c after =
+    unless BadContribution ((origin == 0) || not (is_valid s archive slot c))
+    (Ok ((record { key = key; archive = archive; slot = slot; origin = origin }, c), after))
+
+module _ (s : Layout) (bytes key r1 : List ℕ) (archive : ℕ) (r2 : List ℕ) (slot : ℤ) (r3 : List ℕ) (origin : ℕ) (r4 : List ℕ) (c : Contribution) (after : List ℕ)
+    (ek : key_at bytes ≡ Ok (key, r1)) (ea : archive_at s r1 ≡ Ok (archive, r2)) (es : signed_at w64 r2 ≡ Ok (slot, r3)) (eo : number_at w16 r3 ≡ Ok (origin, r4)) (ec : contribution_at r4 ≡ Ok (c, after)) where
+  cell_parts : cell_at s bytes ≡ judged s key archive slot origin c after
+  unfolding cell_at
+  cell_parts =
+      ap (λ r. r >>= λ (k : List ℕ × List ℕ). archive_at s k.1 >>= λ (a : ℕ × List ℕ). signed_at w64 a.1 >>= λ (t : ℤ × List ℕ). number_at w16 t.1 >>= λ (o : ℕ × List ℕ). contribution_at o.1 >>= λ (d : Contribution × List ℕ). judged s k.0 a.0 t.0 o.0 d.0 d.1) ek
+      ∙ ap (λ r. r >>= λ (a : ℕ × List ℕ). signed_at w64 a.1 >>= λ (t : ℤ × List ℕ). number_at w16 t.1 >>= λ (o : ℕ × List ℕ). contribution_at o.1 >>= λ (d : Contribution × List ℕ). judged s key a.0 t.0 o.0 d.0 d.1) ea
+      ∙ ap (λ r. r >>= λ (t : ℤ × List ℕ). number_at w16 t.1 >>= λ (o : ℕ × List ℕ). contribution_at o.1 >>= λ (d : Contribution × List ℕ). judged s key archive t.0 o.0 d.0 d.1) es
+      ∙ ap (λ r. r >>= λ (o : ℕ × List ℕ). contribution_at o.1 >>= λ (d : Contribution × List ℕ). judged s key archive slot o.0 d.0 d.1) eo
+      ∙ ap (λ r. r >>= λ (d : Contribution × List ℕ). judged s key archive slot origin d.0 d.1) ec
+
+  abbrev found : (CellName × Contribution) × List ℕ
+  found = ((record { key = key; archive = archive; slot = slot; origin = origin }, c), after)
+
+  pub cell_read : (origin == 0) ≡ false → IsValid s archive slot c → cell_at s bytes ≡ Ok ((record { key = key; archive = archive; slot = slot; origin = origin }, c), after)
+  cell_read some v = cell_parts ∙ (λ i. unless BadContribution (some i || not ((valid_told s archive slot c).1 v i)) (Ok found))
+
+  pub cell_refused : (IsValid s archive slot c → ⊥) → cell_at s bytes ≡ Err BadContribution
+  cell_refused n = cell_parts ∙ ap (λ b. unless BadContribution ((origin == 0) || not b) (Ok found)) (false_from_ne_true (is_valid s archive slot c) (λ e. n ((valid_told s archive slot c).0 e))) ∙ either (origin == 0)
+    where
+      either : (b : Bool) → unless BadContribution (b || true) (Ok found) ≡ Err BadContribution
+      either true = refl
+      either false = refl

@@ -1,0 +1,31 @@
+-- The bytes of a cell: each number big-endian, and of two's complement where it has a sign.
+use Rattle.std.specs.Prelude.{ℕ, ℤ, List, [], ◌∷◌, ◌++◌, length}
+use Rattle.std.specs.Int.{Width, w16, w64, w128, cast_unsigned, to_be_bytes}
+use Rattle.rr_contrib.specs.declared.contribution.Contribution.{Contribution}
+use Rattle.rr_model.specs.CellNames.{CellName}
+
+-- a number with a sign
+abbrev pub signed_bytes : Width → ℤ → List ℕ
+signed_bytes w z = to_be_bytes w (cast_unsigned w z)
+
+-- how many samples there are: the greatest number, the count, and the sum in sixteen bytes
+unfoldable pub sums_text : Contribution → List ℕ
+sums_text c = to_be_bytes w64 c.version ++ to_be_bytes w64 c.count ++ signed_bytes w128 c.sum
+
+-- which values there are, and at which places
+unfoldable pub values_text : Contribution → List ℕ
+values_text c =
+    signed_bytes w64 c.min
+    ++ signed_bytes w64 c.max
+    ++ signed_bytes w64 c.last_time
+    ++ signed_bytes w64 c.last_value
+    ++ to_be_bytes w64 c.mask
+
+-- the length of the key text in two bytes and the text, the archive in one, the slot in eight and the origin
+-- in two
+unfoldable pub name_text : CellName → List ℕ
+name_text n = to_be_bytes w16 (length n.key) ++ n.key ++ (n.archive ∷ []) ++ signed_bytes w64 n.slot ++ to_be_bytes w16 n.origin
+
+-- a name, and the eight fields of its contribution
+unfoldable pub cell_text : CellName × Contribution → List ℕ
+cell_text e = name_text e.0 ++ sums_text e.1 ++ values_text e.1

@@ -1,0 +1,5 @@
+pub mod Fault
+pub mod Answer
+pub mod CellText
+pub mod Valid
+pub mod Reading

@@ -1,0 +1,124 @@
+//! A cell from its bytes.
+ghost use Rattle.std.specs.Prelude.{◌≡◌, ◌<◌, length, drop, IfOk};
+ghost use Rattle.rr_base.specs.Schema.{IsLayout};
+ghost use Rattle.rr_page.specs.Answer.{Gives, GivesUnlessMemory};
+ghost use Rattle.rr_page.specs.CellText.{cell_text};
+ghost use Rattle.rr_page.specs.Reading.{key_at, archive_at, contribution_at, cell_at, first_of};
+ghost use Rattle.rr_replica.specs.Joining.{IsCell};
+ghost use Rattle.rr_replica.specs.Listing.{owned_cell};
+
+use crate::fault::PageFault;
+use crate::fields::{bytes_at, i64_at, i128_at, u8_at, u16_at, u64_at};
+use crate::writing::FIELDS_LEN;
+use rr_base::limits::MAX_KEY_TEXT;
+use rr_base::{Origin, Schema};
+use rr_contrib::Contribution;
+use rr_key::{KeyFault, SeriesKey};
+use rr_replica::Cell;
+use std::alloc::Global;
+
+/// The key whose text stands behind its length, and what follows it.
+#[tactic(auto, unfolding(crate::specs::Reading::key_at))]
+fn key_of(alloc: Global, bytes: &[u8]) -> Result<(SeriesKey, &[u8]), PageFault>
+    ensures { GivesUnlessMemory (λ x. (x.0, x.1.now)) result (key_at bytes.now) }
+{
+    let (len, rest) = u16_at(bytes)?;
+    let len = len as usize;
+    if len == 0 || len > MAX_KEY_TEXT {
+        return Err(PageFault::BadKey);
+    }
+    let (text, rest) = bytes_at(rest, len)?;
+    match SeriesKey::parse_text(alloc, text) {
+        Ok(key) => Ok((key, rest)),
+        Err(KeyFault::BadKey) => Err(PageFault::BadKey),
+        Err(_) => Err(PageFault::Memory),
+    }
+}
+
+/// The number of one of the schema's archives, and what follows it.
+#[tactic(auto, unfolding(crate::specs::Reading::archive_at))]
+fn archive_of<'a>(bytes: &'a [u8], schema: &Schema) -> Result<(u8, &'a [u8]), PageFault>
+    ensures read { Gives (λ x. (x.0, x.1.now)) result (archive_at schema.now bytes.now) }
+    ensures within { IfOk result (λ x. x.0 < length schema.now.archives) }
+{
+    let (archive, rest) = u8_at(bytes)?;
+    if archive as usize >= schema.archives().len() {
+        return Err(PageFault::BadArchive);
+    }
+    Ok((archive, rest))
+}
+
+/// The fields of a contribution, and what follows them.
+#[tactic(auto, unfolding(crate::specs::Reading::contribution_at))]
+fn contribution_of(bytes: &[u8]) -> Result<(Contribution, &[u8]), PageFault>
+    ensures { Gives (λ x. (x.0, x.1.now)) result (contribution_at bytes.now) }
+{
+    let (version, rest) = u64_at(bytes)?;
+    let (count, rest) = u64_at(rest)?;
+    let (sum, rest) = i128_at(rest)?;
+    let (min, rest) = i64_at(rest)?;
+    let (max, rest) = i64_at(rest)?;
+    let (last_time, rest) = i64_at(rest)?;
+    let (last_value, rest) = i64_at(rest)?;
+    let (mask, rest) = u64_at(rest)?;
+    let contribution = Contribution {
+        version,
+        count,
+        sum,
+        min,
+        max,
+        last_time,
+        last_value,
+        mask,
+    };
+    Ok((contribution, rest))
+}
+
+/// A cell, and what follows it.
+#[tactic(auto, unfolding(crate::specs::Reading::cell_at))]
+pub(crate) fn cell_of<'a>(
+    alloc: Global,
+    bytes: &'a [u8],
+    schema: &Schema,
+) -> Result<(Cell, &'a [u8]), PageFault>
+    ensures read { GivesUnlessMemory (λ x. (owned_cell x.0, x.1.now)) result (cell_at schema.now bytes.now) }
+    ensures valid { IfOk result (λ x. IsCell schema.now x.0) }
+{
+    let (key, rest) = key_of(alloc, bytes)?;
+    let (archive, rest) = archive_of(rest, schema)?;
+    let (slot, rest) = i64_at(rest)?;
+    let (origin, rest) = u16_at(rest)?;
+    let (contribution, rest) = contribution_of(rest)?;
+    let origin = match Origin::new(origin) {
+        Ok(origin) => origin,
+        Err(_) => return Err(PageFault::BadContribution),
+    };
+    if !contribution.is_valid(schema, archive, slot) {
+        return Err(PageFault::BadContribution);
+    }
+    let cell = Cell {
+        key,
+        archive,
+        slot,
+        origin,
+        contribution,
+    };
+    Ok((cell, rest))
+}
+
+/// The cell at the front of the bytes, one of the schema's and valid there, and how many bytes it
+/// has. Bytes may follow it.
+///
+/// Refusals are those of the first bad field: `Short` where fewer bytes are left than a field has;
+/// `BadKey` where the length of the key is 0 or above 1,024, before its text is read, or the text is
+/// no key text; `BadArchive`; and behind the last field `BadContribution`, for the origin 0 too.
+/// `Memory` may stand in place of what follows the key. The cost is linear in the key text.
+pub fn read_cell(alloc: Global, bytes: &[u8], schema: &Schema) -> Result<(Cell, usize), PageFault>
+    ensures read { GivesUnlessMemory (λ x. owned_cell x.0) result (first_of (cell_at schema.now bytes.now)) }
+    ensures valid { IfOk result (λ x. IsCell schema.now x.0) }
+    ensures len { IfOk result (λ x. x.1 ≡ length (cell_text (owned_cell x.0))) }
+{
+    let (cell, _) = cell_of(alloc, bytes, schema)?;
+    let len = FIELDS_LEN + cell.key.text().len();
+    Ok((cell, len))
+}

@@ -1,0 +1,78 @@
+//! A cell as bytes.
+ghost use Rattle.std.specs.Prelude.{◌≡◌, ◌++◌, IfOk, OnOk};
+ghost use Rattle.rr_page.specs.CellText.{sums_text, values_text, name_text, cell_text};
+ghost use Rattle.rr_archive.specs.Places.{place_at};
+ghost use Rattle.rr_replica.specs.Cells.{name_at};
+ghost use Rattle.rr_replica.specs.Listing.{seen_cell};
+
+use rr_base::Origin;
+use rr_contrib::Contribution;
+use rr_key::SeriesKey;
+use rr_replica::CellRef;
+use std::alloc::{AllocError, Global};
+
+/// How many bytes a cell has beside its key text.
+pub(crate) const FIELDS_LEN: usize = 85;
+
+/// Adds how many samples a contribution has.
+#[tactic(auto, unfolding(crate::specs::CellText::sums_text))]
+fn push_sums(bytes: &mut Vec<u8>, contribution: &Contribution) -> Result<(), AllocError>
+    ensures { OnOk result (bytes.new.items ≡ bytes.old.items ++ sums_text contribution.now) }
+{
+    bytes.extend_from_slice(&contribution.version.to_be_bytes())?;
+    bytes.extend_from_slice(&contribution.count.to_be_bytes())?;
+    bytes.extend_from_slice(&contribution.sum.to_be_bytes())?;
+    Ok(())
+}
+
+/// Adds which values a contribution has, and at which places.
+#[tactic(auto, unfolding(crate::specs::CellText::values_text))]
+fn push_values(bytes: &mut Vec<u8>, contribution: &Contribution) -> Result<(), AllocError>
+    ensures { OnOk result (bytes.new.items ≡ bytes.old.items ++ values_text contribution.now) }
+{
+    bytes.extend_from_slice(&contribution.min.to_be_bytes())?;
+    bytes.extend_from_slice(&contribution.max.to_be_bytes())?;
+    bytes.extend_from_slice(&contribution.last_time.to_be_bytes())?;
+    bytes.extend_from_slice(&contribution.last_value.to_be_bytes())?;
+    bytes.extend_from_slice(&contribution.mask.to_be_bytes())?;
+    Ok(())
+}
+
+/// Adds the name of a cell.
+#[tactic(auto, unfolding(crate::specs::CellText::name_text))]
+fn push_name(
+    bytes: &mut Vec<u8>,
+    key: &SeriesKey,
+    archive: u8,
+    slot: i64,
+    origin: Origin,
+) -> Result<(), AllocError>
+    ensures { OnOk result (bytes.new.items ≡ bytes.old.items ++ name_text (name_at key.now archive (place_at slot origin))) }
+{
+    let text = key.text();
+    bytes.extend_from_slice(&(text.len() as u16).to_be_bytes())?;
+    bytes.extend_from_slice(text)?;
+    bytes.push(archive)?;
+    bytes.extend_from_slice(&slot.to_be_bytes())?;
+    bytes.extend_from_slice(&origin.get().to_be_bytes())?;
+    Ok(())
+}
+
+/// A cell as bytes: 85 bytes and the key text. The cost is linear in the key text.
+#[tactic(auto, unfolding(crate::specs::CellText::cell_text))]
+pub fn cell_bytes(alloc: Global, cell: CellRef<'_>) -> Result<Vec<u8>, AllocError>
+    ensures { IfOk result (λ bytes. bytes.items ≡ cell_text (seen_cell cell.entry)) }
+{
+    let CellRef {
+        key,
+        archive,
+        slot,
+        origin,
+        contribution,
+    } = cell;
+    let mut bytes = Vec::with_capacity(alloc, FIELDS_LEN + key.text().len())?;
+    push_name(&mut bytes, key, archive, slot, origin)?;
+    push_sums(&mut bytes, &contribution)?;
+    push_values(&mut bytes, &contribution)?;
+    Ok(bytes)
+}
