@@ -1,13 +1,10 @@
 -- What a write to a node of the cluster leaves.
 use Rattle.std.proofs.Common.{◌≡◌, ℕ, Bool, true, false, cond, List, Option, Some, Result, Ok, Err, refl, sym, ap, subst, ◌∙◌}
 use Rattle.std.specs.Ordering.{eq_by_cmp}
-use Rattle.std.specs.Cmp.Lexicographic.{nat_list_cmp_total}
 use Rattle.std.specs.BTreeMap.{get}
 use Rattle.std.specs.FinMap as map
-use Rattle.std.specs.FinMap.{nat_cmp-IsAntisymmetric, slice_cmp-IsAntisymmetric}
 use Rattle.rr_archive.specs.declared.archive.Archive.{Ghosts}
 use Rattle.rr_base.specs.Schema.{Layout, IsLayout}
-use Rattle.rr_join.proofs.Members.{same_from_tie}
 use Rattle.rr_model.specs.Samples.{Sample}
 use Rattle.rr_replica.specs.Holding.{Holding}
 use Rattle.rr_cluster.specs.declared.fault.CommandFault.{CommandFault}
@@ -21,9 +18,7 @@ use Rattle.rr_cluster.specs.Meaning.{Keeps, AreAlike, Means, Settles, Writes}
 use Rattle.rr_cluster.proofs.AlikeLemmas.{alike_put}
 use Rattle.rr_cluster.proofs.CheckLemmas.{write_to_node}
 use Rattle.rr_cluster.proofs.FoundLemmas.{node_found}
-
-same_name : (a b : List ℕ) → eq_by_cmp name_cmp a b ≡ true → a ≡ b
-same_name = same_from_tie nat_list_cmp_total (slice_cmp-IsAntisymmetric nat_cmp-IsAntisymmetric)
+use Rattle.rr_cluster.proofs.SoundNodes.{same_name}
 
 -- a cluster with the same in each field but its nodes
 pub record SameBesidesNodes {A : Type 0} {g : Ghosts A} (old new : Cluster A g) : Type 0 where
