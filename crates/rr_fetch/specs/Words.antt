@@ -6,7 +6,7 @@ use Rattle.rr_base.specs.Text.{cut_at, is_digits, integer_at}
 use Rattle.rr_base.specs.declared.consolidation.ConsolidationFunction.{ConsolidationFunction}
 use Rattle.rr_base.specs.declared.consolidation.ConsolidationFunction.TheVariants.{Average, Min, Max, Last}
 use Rattle.rr_base.specs.declared.limits.TheConstants.{MAX_SECOND}
-use Rattle.rr_fetch.specs.declared.words.Words.{Words}
+use Rattle.rr_fetch.specs.declared.words.RequestWords.{RequestWords}
 use Rattle.rr_fetch.specs.declared.words.TheConstants.{SPACE}
 
 -- what follows a step that may give nothing
@@ -33,7 +33,7 @@ words_of text = do
   Some (record { function = function.0; resolution = resolution.0; start = start.0; end = end.0; key = end.1 })
 
 -- words as slices, by their bytes
-abbrev pub parts : Words → Parts
+abbrev pub parts : RequestWords → Parts
 parts w = record { function = w.function.now; resolution = w.resolution.now; start = w.start.now; end = w.end.now; key = w.key.now }
 
 -- a consolidation function, by its name in RRDtool
