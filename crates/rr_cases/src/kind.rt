@@ -1,0 +1,43 @@
+//! The kinds of cases.
+
+use crate::{cells, documents, keys};
+use anyhow::Result;
+use std::alloc::Global;
+
+/// What the files of a folder are.
+#[derive(Clone, Copy)]
+pub(crate) enum Kind {
+    /// A script, and what it prints.
+    Script,
+    /// Schemas as TOML texts, and what each is read as.
+    Documents,
+    /// Key texts, a line each, and which of them are.
+    Keys,
+    /// A cell in hexadecimal and changes of its bytes, and what each is read as.
+    Cell,
+}
+
+impl Kind {
+    /// Each kind once.
+    pub(crate) const ALL: [Kind; 4] = [Kind::Script, Kind::Documents, Kind::Keys, Kind::Cell];
+
+    /// The folder of its cases.
+    pub(crate) fn folder(self) -> &'static str {
+        match self {
+            Kind::Script => "scripts",
+            Kind::Documents => "documents",
+            Kind::Keys => "keys",
+            Kind::Cell => "cells",
+        }
+    }
+
+    /// What the libraries answer to a file's bytes.
+    pub(crate) fn output(self, alloc: Global, input: &[u8]) -> Result<Vec<u8>> {
+        match self {
+            Kind::Script => Ok(rr_cluster::run(alloc, input)?),
+            Kind::Documents => Ok(documents::answers(alloc, input)?),
+            Kind::Keys => Ok(keys::answers(alloc, input)?),
+            Kind::Cell => cells::answers(alloc, input),
+        }
+    }
+}
