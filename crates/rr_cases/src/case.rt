@@ -42,15 +42,32 @@ fn expected_path(alloc: Global, input: &str) -> Result<String, AllocError> {
 }
 
 /// Where two texts first differ: the number of the line, and what each has there.
-fn difference<'a>(expected: &'a str, got: &'a str) -> Option<(usize, &'a str, &'a str)> {
+fn difference<'a>(expected: &'a [u8], got: &'a [u8]) -> Option<(usize, &'a [u8], &'a [u8])> {
     let mut number = 0usize;
-    for (wanted, found) in expected.split('\n').zip(got.split('\n')) {
+    let is_end = |byte: &u8| *byte == b'\n';
+    for (wanted, found) in expected.split(is_end).zip(got.split(is_end)) {
         number = number.saturating_add(1);
         if wanted != found {
             return Some((number, wanted, found));
         }
     }
     None
+}
+
+/// Prints where what a file gives first differs from what is expected of it.
+fn report(
+    rt: &(impl AllocGlobal + Print),
+    file: &str,
+    expected: &[u8],
+    got: &[u8],
+) -> io::Result<()> {
+    let Some((number, wanted, found)) = difference(expected, got) else {
+        return println!(rt; "{file}: expected {} bytes, got {}", expected.len(), got.len());
+    };
+    let wanted = String::from_utf8_lossy(rt.alloc(), wanted)?;
+    let found = String::from_utf8_lossy(rt.alloc(), found)?;
+    let (wanted, found) = (wanted.as_str(), found.as_str());
+    println!(rt; "{file}: expected in line {number} '{wanted}', got '{found}'")
 }
 
 /// Whether the case of a file of input holds; where it doesn't, the first difference is printed.
@@ -62,17 +79,11 @@ pub(crate) fn holds(
     let alloc = rt.alloc();
     let input = fs::read(rt, file).context(file)?;
     let expected_file = expected_path(alloc, file)?;
-    let expected = fs::read_to_string(rt, expected_file.as_str()).context("no expected output")?;
-    let bytes = kind.output(alloc, &input)?;
-    let got = String::from_utf8_lossy(alloc, &bytes)?;
-    if got.as_str() == expected.as_str() {
+    let expected = fs::read(rt, expected_file.as_str()).context("no expected output")?;
+    let got = kind.output(alloc, &input)?;
+    if got.as_slice() == expected.as_slice() {
         return Ok(true);
     }
-    match difference(expected.as_str(), got.as_str()) {
-        Some((number, wanted, found)) => {
-            println!(rt; "{file}: expected in line {number} '{wanted}', got '{found}'")?;
-        }
-        None => println!(rt; "{file}: expected other line ends")?,
-    }
+    report(rt, file, &expected, &got)?;
     Ok(false)
 }
