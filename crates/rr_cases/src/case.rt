@@ -62,7 +62,11 @@ fn report(
     got: &[u8],
 ) -> io::Result<()> {
     let Some((number, wanted, found)) = difference(expected, got) else {
-        return println!(rt; "{file}: expected {} bytes, got {}", expected.len(), got.len());
+        return println!(rt;
+            "{file}: expected {} bytes, got {}",
+            expected.len(),
+            got.len()
+        );
     };
     let wanted = String::from_utf8_lossy(rt.alloc(), wanted)?;
     let found = String::from_utf8_lossy(rt.alloc(), found)?;

@@ -1,6 +1,6 @@
 //! The kinds of cases.
 
-use crate::{cells, documents, keys};
+use crate::{cells, documents, keys, lines};
 use anyhow::Result;
 use std::alloc::Global;
 
@@ -9,6 +9,8 @@ use std::alloc::Global;
 pub(crate) enum Kind {
     /// A script, and what it prints.
     Script,
+    /// Lines of the line protocol, and their report.
+    Lines,
     /// Schemas as TOML texts, and what each is read as.
     Documents,
     /// Key texts, a line each, and which of them are.
@@ -19,12 +21,19 @@ pub(crate) enum Kind {
 
 impl Kind {
     /// Each kind once.
-    pub(crate) const ALL: [Kind; 4] = [Kind::Script, Kind::Documents, Kind::Keys, Kind::Cell];
+    pub(crate) const ALL: [Kind; 5] = [
+        Kind::Script,
+        Kind::Lines,
+        Kind::Documents,
+        Kind::Keys,
+        Kind::Cell,
+    ];
 
     /// The folder of its cases.
     pub(crate) fn folder(self) -> &'static str {
         match self {
             Kind::Script => "scripts",
+            Kind::Lines => "lines",
             Kind::Documents => "documents",
             Kind::Keys => "keys",
             Kind::Cell => "cells",
@@ -35,6 +44,7 @@ impl Kind {
     pub(crate) fn output(self, alloc: Global, input: &[u8]) -> Result<Vec<u8>> {
         match self {
             Kind::Script => Ok(rr_cluster::run(alloc, input)?),
+            Kind::Lines => lines::answers(alloc, input),
             Kind::Documents => Ok(documents::answers(alloc, input)?),
             Kind::Keys => Ok(keys::answers(alloc, input)?),
             Kind::Cell => cells::answers(alloc, input),

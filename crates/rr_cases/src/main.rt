@@ -12,6 +12,7 @@ mod cells;
 mod documents;
 mod keys;
 mod kind;
+mod lines;
 
 use anyhow::Result;
 use kind::Kind;
