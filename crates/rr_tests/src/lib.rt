@@ -12,12 +12,18 @@ mod cells;
 #[cfg(test)]
 mod contributions;
 #[cfg(test)]
+mod failing;
+#[cfg(test)]
 mod feeds;
 #[cfg(test)]
 mod fetches;
 #[cfg(test)]
 mod keys;
 #[cfg(test)]
+mod lines;
+#[cfg(test)]
 mod replicas;
 #[cfg(test)]
 mod schemas;
+#[cfg(test)]
+mod streams;
