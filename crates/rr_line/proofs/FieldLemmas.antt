@@ -3,14 +3,16 @@ use Rattle.std.proofs.Common.{◌≡◌, ℕ, ◌≤◌, ℤ, true, false, List,
 use Rattle.std.specs.Prelude.{ok_or, ◌⊎◌}
 use Rattle.std.proofs.lemmas.List.{take-append-drop, length-take-le}
 use Rattle.std.proofs.lemmas.List.Sums.{prefix_len-le-length}
+use Rattle.rr_base.specs.Bytes.{strip, begins}
+use Rattle.rr_base.specs.Results.{◌>>=◌}
 use Rattle.rr_key.specs.declared.class.Class.TheVariants.{Other}
-use Rattle.rr_key.specs.Reading.{strip}
-use Rattle.rr_line.specs.declared.delimiter.TheConstants.{EQUALS, QUOTE}
+use Rattle.rr_base.specs.declared.bytes.TheConstants.{EQUALS}
+use Rattle.rr_line.specs.declared.mark.TheConstants.{QUOTE}
 use Rattle.rr_line.specs.declared.fault.LineFault.{LineFault}
 use Rattle.rr_line.specs.declared.fault.LineFault.TheVariants.{MissingFieldKey, MissingFieldValue}
 use Rattle.rr_line.specs.Field.{Field, IsField}
-use Rattle.rr_line.specs.Part.{begins, IsName, HasNoName, cut_behind}
-use Rattle.rr_line.specs.Reading.{◌>>=◌, name_at, value_at, field_at}
+use Rattle.rr_line.specs.Part.{IsName, HasNoName, cut_behind}
+use Rattle.rr_line.specs.Reading.{name_at, value_at, field_at}
 use Rattle.rr_line.specs.Value.{IsBare, IsValue, ValueFault, quoted, unquoted, value_of, value_len, quoted_fault}
 use Rattle.rr_line.proofs.AgreeLemmas.{Agrees, Agrees-as, Agrees-bind, Agrees-unless, Agrees-ok, Agrees-ok_or, Agrees-self}
 use Rattle.rr_line.proofs.PartLemmas.{name_agrees, first_is, cut_is, strip_some, strip_there, strip_none, strip_lacks}

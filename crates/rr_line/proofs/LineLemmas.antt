@@ -2,8 +2,10 @@
 use Rattle.std.proofs.Common.{◌≡◌, ◌≢◌, ℕ, Bool, true, false, eqb, cond, List, [], ◌∷◌, ◌++◌, length, ℤ, Option, Some, None, option_map, Result, Ok, Err, refl, sym, ap, subst, ◌∙◌, inl, inr}
 use Rattle.std.specs.Prelude.{unwrap_or, ok_or, option_and_then}
 use Rattle.std.proofs.lemmas.Bool.{cases_Bool}
+use Rattle.rr_base.specs.Bytes.{HasNoLineFeed}
 use Rattle.rr_base.specs.Text.{integer_at}
-use Rattle.rr_line.specs.declared.delimiter.TheConstants.{RETURN, INTEGER_MARK}
+use Rattle.rr_base.specs.declared.bytes.TheConstants.{RETURN}
+use Rattle.rr_line.specs.declared.mark.TheConstants.{INTEGER_MARK}
 use Rattle.rr_line.specs.declared.fault.LineFault.{LineFault}
 use Rattle.rr_line.specs.declared.fault.LineFault.TheVariants.{NoMeasurement, MissingTagKey, MissingTagValue, TooManyTags, DuplicateTag, NoFields, MissingFieldKey, MissingFieldValue, BooleanField, IntegerRange, UnsignedField, FloatField, TextField, BadField, TooManyFields, DuplicateField, BadTime, TimeRange, KeyTooLong, Memory}
 use Rattle.rr_line.specs.declared.precision.Precision.{Precision}
@@ -11,7 +13,7 @@ use Rattle.rr_line.specs.Field.{Field, FieldFault}
 use Rattle.rr_line.specs.Field as field
 use Rattle.rr_line.specs.Grammar.{is_nothing, IsPointOf, TextFault, no_measurement, at_tag, no_fields, at_field, at_time, long_key, HasFault, IsLineOf}
 use Rattle.rr_line.specs.Key.{HasKeys}
-use Rattle.rr_line.specs.Line.{PointView, LineView, nothing, point, HasNoLineFeed}
+use Rattle.rr_line.specs.Line.{PointView, LineView, nothing, point}
 use Rattle.rr_line.specs.Part.{content, before_last}
 use Rattle.rr_line.specs.Reading.{point_at, text_at, reading}
 use Rattle.rr_line.specs.Tag.{Tag, TagFault}

@@ -4,6 +4,7 @@ use Rattle.std.proofs.lemmas.Bool.{cases_Bool, or_parts}
 use Rattle.std.proofs.lemmas.List.Folds.{list_any-append}
 use Rattle.std.proofs.Math.Seq.{take-append_seam}
 use Rattle.std.specs.List.{list_any}
+use Rattle.rr_base.specs.Bytes.{HasNoLineFeed}
 use Rattle.rr_key.specs.declared.class.Class.{Class}
 use Rattle.rr_key.specs.Class.{is_special}
 use Rattle.rr_key.specs.Name.{is_name, ends_in_backslash}
@@ -11,8 +12,7 @@ use Rattle.rr_key.specs.Unit.{escape, unescape, name_len}
 use Rattle.rr_key.proofs.EscapeLemmas.{escape-unescape, both_true}
 use Rattle.rr_key.proofs.NameLemmas.{is_name-escape}
 use Rattle.rr_key.proofs.Special.{special_no_backslash}
-use Rattle.rr_line.specs.declared.delimiter.TheConstants.{LINE_FEED}
-use Rattle.rr_line.specs.Line.{HasNoLineFeed}
+use Rattle.rr_base.specs.declared.bytes.TheConstants.{LINE_FEED}
 use Rattle.rr_line.specs.Part.{IsName}
 use Rattle.rr_line.proofs.PartLemmas.{not_zero}
 

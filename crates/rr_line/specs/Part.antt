@@ -1,13 +1,8 @@
 -- The parts of a line, and where each of them ends.
-use Rattle.std.specs.Prelude.{◌≡◌, ℕ, ◌<◌, Bool, false, ◌==◌, List, [], ◌∷◌, ◌++◌, length, take, drop, Option, None, Some, option_map, unwrap_or, if◌then◌else◌}
+use Rattle.std.specs.Prelude.{◌≡◌, ℕ, ◌<◌, ◌==◌, List, [], ◌∷◌, ◌++◌, length, take, drop, Option, None, Some, option_map, unwrap_or, if◌then◌else◌}
 use Rattle.rr_key.specs.declared.class.Class.{Class}
 use Rattle.rr_key.specs.Unit.{name_len}
-use Rattle.rr_line.specs.declared.delimiter.TheConstants.{RETURN, SPACE}
-
--- whether a text begins with a byte
-abbrev pub begins : ℕ → List ℕ → Bool
-begins byte [] = false
-begins byte (first ∷ rest) = first == byte
+use Rattle.rr_base.specs.declared.bytes.TheConstants.{RETURN, SPACE}
 
 -- a text behind the spaces at its front
 abbrev pub skip_spaces : List ℕ → List ℕ
