@@ -11,14 +11,19 @@ use Rattle.rr_line.specs.declared.fault.LineFault.{LineFault}
 use Rattle.rr_line.specs.declared.fault.LineFault.TheVariants.{MissingFieldValue, BooleanField, IntegerRange, UnsignedField, FloatField, TextField, BadField}
 use Rattle.rr_line.specs.Part.{before_last}
 
--- true or false
-abbrev pub booleans : List (List ℕ)
-booleans =
-    codes "t" ∷ codes "T" ∷ codes "true" ∷ codes "True" ∷ codes "TRUE"
-    ∷ codes "f" ∷ codes "F" ∷ codes "false" ∷ codes "False" ∷ codes "FALSE" ∷ []
+-- the words for true, and those for false
+abbrev pub trues : List (List ℕ)
+trues = codes "t" ∷ codes "T" ∷ codes "true" ∷ codes "True" ∷ codes "TRUE" ∷ []
+
+abbrev pub falses : List (List ℕ)
+falses = codes "f" ∷ codes "F" ∷ codes "false" ∷ codes "False" ∷ codes "FALSE" ∷ []
+
+-- whether a text is one of some words
+abbrev pub is_one_of : List (List ℕ) → List ℕ → Bool
+is_one_of words text = list_any (λ word. pointwise nat_eq text word) words
 
 abbrev pub is_boolean : List ℕ → Bool
-is_boolean text = list_any (λ word. pointwise nat_eq text word) booleans
+is_boolean text = is_one_of trues text || is_one_of falses text
 
 -- what holds of a text that is there
 abbrev pub has : (List ℕ → Bool) → Option (List ℕ) → Bool
