@@ -49,13 +49,7 @@ tags_leave before text [] rest are = omega (arith, ap length are)
 tags_leave before text (tag ∷ tags) rest (inner, next, whole, is, may, later) =
     omega (arith, ap length whole, ap length is.key.whole, length-append tag.0 (EQUALS ∷ is.value_text), ap length is.value.whole, length-append tag.1 next, tags_leave (before ++ tag ∷ []) next tags rest later)
 
--- no line feed is behind a tag either
-none_behind_tag : (text : List ℕ) (tag : Tag) (next : List ℕ) → HasNoLineFeed text → IsTag text tag next → HasNoLineFeed next
-none_behind_tag text tag next none is =
-    let value_text = (none_in_parts tag.0 (EQUALS ∷ is.value_text) (subst HasNoLineFeed is.key.whole none)).1 in
-    let behind = (none_in_parts (EQUALS ∷ []) is.value_text value_text).1 in
-    (none_in_parts tag.1 next (subst HasNoLineFeed is.value.whole behind)).1
-
+-- no line feed is after a tag either
 none_behind_first : (first : ℕ) (text rest : List ℕ) → HasNoLineFeed text → text ≡ first ∷ rest → HasNoLineFeed rest
 none_behind_first first text rest none whole = (none_in_parts (first ∷ []) rest (subst HasNoLineFeed whole none)).1
 
