@@ -15,8 +15,6 @@ mod leaving_rows;
 mod plain;
 mod row;
 mod slots;
-#[cfg(test)]
-mod tests;
 
 pub use archive::Archive;
 pub use entry::Entry;

@@ -8,8 +8,9 @@ use Rattle.toml.specs.declared.value.Value.{Value}
 use Rattle.toml.proofs.Views.{items_view-drop}
 use Rattle.rr_base.specs.declared.archive.ArchiveSpec.{ArchiveSpec}
 use Rattle.rr_base.specs.declared.fault.SchemaFault.{SchemaFault}
-use Rattle.rr_base.specs.declared.fault.SchemaFault.TheVariants.{BadToml, MissingField, WrongKind, BadStep, NoArchive, TooManyArchives, BadSteps, BadRows, BadXff, StepsNotRising, Memory}
-use Rattle.rr_base.specs.Document.{◌>>=◌, archive_in, archives_in, Reads}
+use Rattle.rr_base.specs.declared.fault.SchemaFault.TheVariants.{WrongKind}
+use Rattle.rr_base.specs.Document.{archive_in, archives_in}
+use Rattle.rr_base.specs.Results.{◌>>=◌}
 
 -- the archives so far, and those of the tables that are left
 abbrev pub with_front : List ArchiveSpec → Result (List ArchiveSpec) SchemaFault → Result (List ArchiveSpec) SchemaFault
@@ -41,16 +42,3 @@ one_more_archive front v ds ms a all is read h =
 pub no_more : (front : List ArchiveSpec) (vs : List Value) (i : ℕ) (all : Result (List ArchiveSpec) SchemaFault) → length vs ≤ i → with_front front (archives_in (items_view (drop i vs))) ≡ all → all ≡ Ok front
 unfolding archives_in
 no_more front vs i all le h = sym h ∙ rw (drop_of_length-le vs le) (ap (λ (xs : List ArchiveSpec). Ok xs) (append-nil front))
-
-pub Reads-err : {X Y : Type 0} (see : X → Y) (fault : SchemaFault) (all : Result Y SchemaFault) → all ≡ Err fault → Reads see (Err fault) all
-Reads-err see BadToml all h = h
-Reads-err see MissingField all h = h
-Reads-err see WrongKind all h = h
-Reads-err see BadStep all h = h
-Reads-err see NoArchive all h = h
-Reads-err see TooManyArchives all h = h
-Reads-err see BadSteps all h = h
-Reads-err see BadRows all h = h
-Reads-err see BadXff all h = h
-Reads-err see StepsNotRising all h = h
-Reads-err see Memory all h = tt

@@ -7,3 +7,4 @@ pub mod IntegerLemmas
 pub mod StreamLemmas
 pub mod DocumentLemmas
 pub mod SchemaBytesLemmas
+pub mod RepeatLemmas

@@ -10,10 +10,6 @@ use Rattle.rr_base.specs.declared.archive.ArchiveSpec.{ArchiveSpec}
 use Rattle.rr_base.specs.Schema.{Layout, IsArchive}
 use Rattle.rr_base.specs.SchemaBytes.{archive_bytes, schema_bytes, BytesTellTheSchema}
 
-archive_len : (a : ArchiveSpec) → length (archive_bytes a) ≡ 9
-unfolding archive_bytes
-archive_len a = refl
-
 archives_len : (archives : List ArchiveSpec) → length (flat_map archive_bytes archives) ≡ 9 * length archives
 unfolding archive_bytes
 archives_len [] = refl

@@ -1,19 +1,14 @@
 -- What the TOML text of a schema says: the schema, or the first fault, key by key.
-use Rattle.std.specs.Prelude.{◌≡◌, ℕ, ◌-◌, ◌^◌, Bool, true, ◌&&◌, nat_lt, is_some, List, [], ◌∷◌, ℤ, pos, negsuc, codes, Option, Some, None, Result, Ok, Err, if◌then◌else◌}
+use Rattle.std.specs.Prelude.{ℕ, ◌-◌, ◌^◌, Bool, true, ◌&&◌, nat_lt, is_some, List, [], ◌∷◌, ℤ, pos, negsuc, codes, Option, Some, None, Result, Ok, Err, if◌then◌else◌}
 use Rattle.std.specs.Str.{is_utf8}
 use Rattle.toml.specs.Data.{Data, Items, no_items, item, Members, get_member, as_integer, as_array, as_table}
 use Rattle.toml.specs.Parse.{parse_document}
 use Rattle.rr_base.specs.declared.archive.ArchiveSpec.{ArchiveSpec}
 use Rattle.rr_base.specs.declared.fault.SchemaFault.{SchemaFault}
-use Rattle.rr_base.specs.declared.fault.SchemaFault.TheVariants.{BadToml, MissingField, WrongKind, Memory}
+use Rattle.rr_base.specs.declared.fault.SchemaFault.TheVariants.{BadToml, MissingField, WrongKind}
 use Rattle.rr_base.specs.Schema.{Layout}
 use Rattle.rr_base.specs.Check.{schema_fault}
-
--- what follows a check, where it passes
-infixl 10 ◌>>=◌
-abbrev pub ◌>>=◌ : {A B : Type 0} → Result A SchemaFault → (A → Result B SchemaFault) → Result B SchemaFault
-(Ok x) >>= next = next x
-(Err fault) >>= next = Err fault
+use Rattle.rr_base.specs.Results.{◌>>=◌, unless_faulty}
 
 -- a key that must be there
 abbrev pub needed : Option Data → Result Data SchemaFault
@@ -58,7 +53,7 @@ tables_at key table = do
   values ← of_kind (as_array value)
   if are_tables values then Ok values else Err WrongKind
 
--- the archives of such an array, one table after the other
+-- the archives of an array of tables, one after the other
 unfoldable pub archives_in : Items → Result (List ArchiveSpec) SchemaFault
 archives_in no_items = Ok []
 archives_in (item value values) = do
@@ -66,11 +61,6 @@ archives_in (item value values) = do
   archive ← archive_in table
   others ← archives_in values
   Ok (archive ∷ others)
-
--- the layout, if it has no fault
-abbrev pub unless_faulty : Option SchemaFault → Layout → Result Layout SchemaFault
-unless_faulty None layout = Ok layout
-unless_faulty (Some fault) layout = Err fault
 
 -- the schema of a table: other keys are passed over
 unfoldable pub layout_in : Members → Result Layout SchemaFault
@@ -91,9 +81,3 @@ layout_of text = read (table_of text)
     read : Option Members → Result Layout SchemaFault
     read None = Err BadToml
     read (Some table) = layout_in table
-
--- a call gave what reading gives, seen by a view, unless memory ran out
-abbrev pub Reads : {X Y : Type 0} → (X → Y) → Result X SchemaFault → Result Y SchemaFault → Type 0
-Reads view (Ok x) read = read ≡ Ok (view x)
-Reads view (Err Memory) read = Unit {0}
-Reads view (Err fault) read = read ≡ Err fault

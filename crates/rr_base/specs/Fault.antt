@@ -4,6 +4,8 @@ use Rattle.rr_base.specs.declared.fault.OriginFault.{OriginFault}
 use Rattle.rr_base.specs.declared.fault.OriginFault.TheVariants as origin
 use Rattle.rr_base.specs.declared.fault.SchemaFault.{SchemaFault}
 use Rattle.rr_base.specs.declared.fault.SchemaFault.TheVariants as schema
+use Rattle.rr_base.specs.declared.stream.ReadFault.{ReadFault}
+use Rattle.rr_base.specs.declared.stream.ReadFault.TheVariants as read
 
 abbrev pub origin_fault_name : OriginFault → List ℕ
 origin_fault_name origin.BadOrigin = codes "BadOrigin"
@@ -20,3 +22,8 @@ schema_fault_name schema.BadRows = codes "BadRows"
 schema_fault_name schema.BadXff = codes "BadXff"
 schema_fault_name schema.StepsNotRising = codes "StepsNotRising"
 schema_fault_name schema.Memory = codes "Memory"
+
+abbrev pub read_fault_name : ReadFault → List ℕ
+read_fault_name read.ReadFailed = codes "ReadFailed"
+read_fault_name read.TooManyReads = codes "TooManyReads"
+read_fault_name read.Memory = codes "Memory"

@@ -1,3 +1,6 @@
+pub mod Results
+pub mod Options
+pub mod Bytes
 pub mod Schema
 pub mod Fault
 pub mod Check

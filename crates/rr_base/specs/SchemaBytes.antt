@@ -1,5 +1,5 @@
 -- A schema as bytes: each number big-endian, the highest byte first.
-use Rattle.std.specs.Prelude.{◌≡◌, ℕ, List, [], ◌∷◌, ◌++◌, length}
+use Rattle.std.specs.Prelude.{◌≡◌, ℕ, List, ◌∷◌, ◌++◌, length}
 use Rattle.std.specs.Int.{w16, w32, to_be_bytes}
 use Rattle.std.specs.List.{flat_map}
 use Rattle.rr_base.specs.declared.archive.ArchiveSpec.{ArchiveSpec}

@@ -1,8 +1,8 @@
--- What a stream that fails has done by then.
-use Rattle.std.specs.Prelude.{◌≡◌, ℕ, List, ◌++◌, Option, IfSome}
-use Rattle.std.specs.Io.KnownBytes.{Appends, Consumes}
+-- What calls of a stream did, also where one failed.
+use Rattle.std.specs.Prelude.{◌≡◌, ℕ, ◌<◌, ◌≤◌, List, ◌++◌, length, take, Option, None, Some, IfSome, Result, Ok, Err}
+use Rattle.std.specs.Io.KnownBytes.{Appends, Consumes, IsAtEnd, Keeps}
 
--- where the bytes of a writer are known, a front of the text was written behind them, and nothing else
+-- where the bytes of a writer are known, a front of the text was written after them, and nothing else
 abbrev pub AppendsPrefix : Option (List ℕ) → Option (List ℕ) → List ℕ → Type 0
 AppendsPrefix old new text = (front : List ℕ) × (rest : List ℕ) × (text ≡ front ++ rest) × Appends old new front
 
@@ -10,6 +10,14 @@ AppendsPrefix old new text = (front : List ℕ) × (rest : List ℕ) × (text �
 abbrev pub ConsumesSome : Option (List ℕ) → Option (List ℕ) → Type 0
 ConsumesSome old new = (bytes : List ℕ) × Consumes old new bytes
 
--- a front of what a reader had, where that is known, was added behind the bytes that were there
+-- a front of what a reader had, where that is known, was added after the bytes that were there
 abbrev pub AddsFront : Option (List ℕ) → List ℕ → List ℕ → Type 0
 AddsFront known old new = (front : List ℕ) × (new ≡ old ++ front) × IfSome known (λ all. (rest : List ℕ) × (all ≡ front ++ rest))
+
+-- one read gave the bytes at the front of the buffer, none only at the end or with no room; or a signal interrupted
+-- it, or it failed, and it took nothing
+abbrev pub ReadsOnce : {E : Type 0} → Option (List ℕ) → Option (List ℕ) → Result (Option ℕ) E → List ℕ → Type 0
+ReadsOnce old new (Ok (Some given)) buf =
+    (given ≤ length buf) × Consumes old new (take given buf) × (given ≡ 0 → 0 < length buf → IsAtEnd new)
+ReadsOnce old new (Ok None) buf = Keeps old new
+ReadsOnce old new (Err fault) buf = Keeps old new

@@ -1,52 +1,64 @@
-//! Readers and writers that count the calls that failed.
+//! Readers and writers that count their calls.
 
 ghost use Rattle.std.specs.Prelude.{◌≡◌, length, MatchResult, if◌then◌else◌};
 ghost use Rattle.std.specs.Io.{ReadsAtMost, WritesAtMost};
 ghost use Rattle.std.specs.Io.KnownBytes.{Keeps, ReadConsumes, WriteAppends};
-ghost use Rattle.rr_base.specs.Counted.{inner_of, failures_of, one_more, is_failed_write};
+ghost use Rattle.rr_base.specs.Counted.{inner_of, failures_of, reads_of, one_more, is_failed_write};
 
 use std::io;
 use std::io::{Read, Write};
 
-/// A reader or a writer, and how many of its calls failed.
+/// A reader or a writer, with the number of its calls that failed and the number of its reads.
 ///
-/// Whoever says that a stream failed can be held to it: the count has then risen, or stands at its
-/// greatest value. The bytes are those of the stream inside.
+/// Code that answers that a stream failed can be held to it: the number of failures has then risen,
+/// or is at its greatest value. Code that reads within a limit can be held to that too. The bytes
+/// are those of the stream inside.
 #[derive(Drop)]
 pub struct Counted<S> {
     inner: S,
     failures: u64,
+    reads: u64,
 }
 
 impl<S> Counted<S> {
-    /// This stream, of which no call has failed yet.
+    /// This stream, before its first call.
     pub fn new(stream: S) -> Counted<S>
         ensures inner { inner_of result ≡ stream }
-        ensures none { failures_of result ≡ 0 }
+        ensures failures { failures_of result ≡ 0 }
+        ensures reads { reads_of result ≡ 0 }
     {
         Counted {
             inner: stream,
             failures: 0,
+            reads: 0,
         }
     }
 
-    /// How many calls failed: errors, and writes that took no byte of a piece that isn't empty. It
-    /// stays at its greatest value.
+    /// How many calls failed: errors, and writes that took no byte of a piece that isn't empty. The
+    /// number stops at its greatest value.
     pub fn failures(&self) -> u64
         ensures { result ≡ failures_of self.now }
     {
         self.failures
     }
 
+    /// How many times it was read, failed reads among them. The number stops at its greatest value.
+    pub fn reads(&self) -> u64
+        ensures { result ≡ reads_of self.now }
+    {
+        self.reads
+    }
+
     fn count_failure(&mut self)
         ensures inner { inner_of self.new ≡ inner_of self.old }
+        ensures reads { reads_of self.new ≡ reads_of self.old }
         ensures count { failures_of self.new ≡ one_more (failures_of self.old) }
     {
         self.failures = self.failures.saturating_add(1);
     }
 }
 
-/// Whether a write of a piece of so many bytes failed: it says so, or took none of some.
+/// Whether a write of a piece of `len` bytes failed: it says so, or took none of them.
 fn is_failed_write(taken: &io::Result<usize>, len: usize) -> bool
     ensures { result ≡ is_failed_write taken.now len }
 {
@@ -64,7 +76,9 @@ impl<R: Read> Read for Counted<R> {
         ensures bytes { ReadConsumes (R.remaining (inner_of self.old)) (R.remaining (inner_of self.new)) result buf.new }
         ensures count { MatchResult result (λ _. failures_of self.new ≡ failures_of self.old)
             (λ _. failures_of self.new ≡ one_more (failures_of self.old)) }
+        ensures reads { reads_of self.new ≡ one_more (reads_of self.old) }
     {
+        self.reads = self.reads.saturating_add(1);
         let given = self.inner.read(buf);
         if given.is_err() {
             self.count_failure();

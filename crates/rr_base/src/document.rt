@@ -5,7 +5,8 @@ ghost use Rattle.std.specs.Result.{result_map_both};
 ghost use Rattle.std.specs.Str.{is_utf8};
 ghost use Rattle.toml.specs.Data.{get_member};
 ghost use Rattle.toml.specs.View.{view, table_view, array_view};
-ghost use Rattle.rr_base.specs.Document.{needed, in_32_bits, whole_at, archive_in, are_tables, tables_at, archives_in, layout_in, layout_of, Reads};
+ghost use Rattle.rr_base.specs.Document.{needed, in_32_bits, whole_at, archive_in, are_tables, tables_at, archives_in, layout_in, layout_of};
+ghost use Rattle.rr_base.specs.Results.{GivesUnless};
 
 use crate::archive::ArchiveSpec;
 use crate::fault::SchemaFault;
@@ -81,7 +82,7 @@ fn tables_at<'a>(table: &'a Table, key: &str) -> Result<&'a Vec<Value>, SchemaFa
 
 /// The archives of an array of tables.
 fn archives_in(alloc: Global, values: &Vec<Value>) -> Result<Vec<ArchiveSpec>, SchemaFault>
-    ensures { Reads (λ v. v.items) result (archives_in (array_view values.now)) }
+    ensures { GivesUnless SchemaFault.Memory (λ archives. archives.items) result (archives_in (array_view values.now)) }
 {
     let mut archives = Vec::new(alloc);
     for value in values {
@@ -106,7 +107,7 @@ impl Schema {
     /// 32 bits is out of its range. The cost is linear in the archives, but for the look-ups.
     #[tactic(auto, unfolding(crate::specs::Document::layout_in))]
     pub fn from_table(alloc: Global, table: &Table) -> Result<Schema, SchemaFault>
-        ensures { Reads (λ s. s) result (layout_in (table_view table.now)) }
+        ensures { GivesUnless SchemaFault.Memory (λ s. s) result (layout_in (table_view table.now)) }
     {
         let step = whole_at(table, "step")?;
         let tables = tables_at(table, "archive")?;
@@ -119,7 +120,7 @@ impl Schema {
     /// `BadToml` comes first, where the text is no UTF-8 or no TOML; then the refusals of
     /// [`Schema::from_table`]. The cost is that of reading the text once.
     pub fn from_toml(alloc: Global, text: &[u8]) -> Result<Schema, SchemaFault>
-        ensures read { Reads (λ s. s) result (layout_of text.now) }
+        ensures read { GivesUnless SchemaFault.Memory (λ s. s) result (layout_of text.now) }
         ensures foreign { is_utf8 text.now ≡ false → result ≡ Err SchemaFault.BadToml }
     {
         let Ok(text) = str::from_utf8(text) else {

@@ -3,13 +3,13 @@
 ghost use Rattle.std.specs.Prelude.{◌≡◌};
 
 use std::alloc::{AllocError, AllocFailed};
+use std::fmt;
 use thiserror::Error;
 
-/// Why a number is no origin.
+/// Why a number is not an origin.
 #[derive(Clone, Copy, Debug, PartialEq, Eq, Error)]
 pub enum OriginFault {
     /// The number is 0.
-    #[error("BadOrigin")]
     BadOrigin,
 }
 
@@ -26,41 +26,38 @@ impl OriginFault {
     }
 }
 
+impl fmt::Display for OriginFault {
+    fn fmt<W: fmt::Write>(&self, f: &mut fmt::Formatter<W>) -> fmt::Result {
+        match self {
+            OriginFault::BadOrigin => f.write_str("the origin must be from 1 to 65,535"),
+        }
+    }
+}
+
 /// Why a schema is refused.
 #[derive(Clone, Copy, Debug, PartialEq, Eq, Error)]
 pub enum SchemaFault {
-    /// The text is no UTF-8, or no TOML.
-    #[error("BadToml")]
+    /// The text is not UTF-8, or not TOML.
     BadToml,
-    /// A key is not there.
-    #[error("MissingField")]
+    /// A key is missing.
     MissingField,
     /// The value of a key is of another kind.
-    #[error("WrongKind")]
     WrongKind,
     /// The step is 0 or above a day.
-    #[error("BadStep")]
     BadStep,
     /// There is no archive.
-    #[error("NoArchive")]
     NoArchive,
     /// There are more archives than a schema has.
-    #[error("TooManyArchives")]
     TooManyArchives,
-    /// An archive has no step in a row, or too many.
-    #[error("BadSteps")]
+    /// The steps of a row of an archive are 0 or too many.
     BadSteps,
-    /// An archive has no row, or too many.
-    #[error("BadRows")]
+    /// The rows of an archive are 0 or too many.
     BadRows,
-    /// An archive's xff is no fraction below 1, or its denominator is too great.
-    #[error("BadXff")]
+    /// An archive's xff is not a fraction below 1, or its denominator is too great.
     BadXff,
     /// An archive has no more steps in a row than the one before it.
-    #[error("StepsNotRising")]
     StepsNotRising,
     /// Memory ran out.
-    #[error("Memory")]
     Memory,
 }
 
@@ -84,6 +81,30 @@ impl SchemaFault {
             SchemaFault::StepsNotRising => "StepsNotRising",
             SchemaFault::Memory => "Memory",
         }
+    }
+
+    fn sentence(&self) -> &'static str {
+        match self {
+            SchemaFault::BadToml => "the text is not TOML in UTF-8",
+            SchemaFault::MissingField => "a key of the schema is missing",
+            SchemaFault::WrongKind => "a value of the schema is of the wrong kind",
+            SchemaFault::BadStep => "the step must be from 1 to 86,400 seconds",
+            SchemaFault::NoArchive => "the schema must have an archive",
+            SchemaFault::TooManyArchives => "the schema may have at most 8 archives",
+            SchemaFault::BadSteps => "an archive must have from 1 to 64 steps in a row",
+            SchemaFault::BadRows => "an archive must have from 1 to 100,000 rows",
+            SchemaFault::BadXff =>
+                "the xff must be a fraction below 1, of a denominator up to 1,000",
+            SchemaFault::StepsNotRising =>
+                "each archive must have more steps in a row than the one before it",
+            SchemaFault::Memory => "out of memory",
+        }
+    }
+}
+
+impl fmt::Display for SchemaFault {
+    fn fmt<W: fmt::Write>(&self, f: &mut fmt::Formatter<W>) -> fmt::Result {
+        f.write_str(self.sentence())
     }
 }
 

@@ -10,12 +10,13 @@
 //! Times are nanoseconds since the Unix epoch; steps, spans and resolutions are seconds. Divisions
 //! round to the floor, so times before the epoch fall into slots as those after it do.
 //!
-//! Whatever speaks over a stream wraps its reader and writer in [`Counted`], which counts the calls
-//! that failed, and reads and writes by the functions of [`stream`]: they say which bytes moved,
-//! also where they fail, and they fail only where the count rose or can rise no more.
+//! Code that reads or writes a stream wraps it in [`Counted`], which counts its reads and the calls
+//! that failed, and calls the functions of [`stream`]: their contracts say which bytes moved, also
+//! where they fail, and they fail only where the count of failures rose or can rise no more.
 #![tactic(auto)]
 
 mod archive;
+pub mod bytes;
 mod consolidation;
 mod counted;
 mod document;
@@ -26,8 +27,6 @@ mod origin;
 mod schema;
 mod schema_bytes;
 pub mod stream;
-#[cfg(test)]
-mod tests;
 pub mod text;
 
 pub use archive::ArchiveSpec;

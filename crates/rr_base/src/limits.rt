@@ -1,4 +1,5 @@
-//! The limits of the store, each named here alone.
+//! The limits of the store, each named here alone. The numbers are pinned at the end, so that none
+//! changes by an edit of one place.
 
 /// The greatest number that a sample of one origin can have: 2^40.
 pub const MAX_NUMBER: u64 = 1_099_511_627_776;
@@ -9,8 +10,8 @@ pub const MAX_STEP: u32 = 86_400;
 /// The most archives of a schema.
 pub const MAX_ARCHIVES: usize = 8;
 
-/// The most steps of one row of an archive. What keeps a mark for each step of a row has a type of
-/// at least so many bits.
+/// The most steps of one row of an archive, and so the least width of a mask that has a bit for each
+/// of them.
 pub const MAX_STEPS: u32 = 64;
 
 /// The most rows of an archive.
@@ -22,6 +23,12 @@ pub const MAX_XFF_DEN: u32 = 1_000;
 /// The most bytes of a line, without its LF.
 pub const MAX_LINE: usize = 65_536;
 
+/// The most tags of a key, and so of a line.
+pub const MAX_TAGS: usize = 32;
+
+/// The most fields of a line.
+pub const MAX_FIELDS: usize = 256;
+
 /// The most bytes of the text of a series key.
 pub const MAX_KEY_TEXT: usize = 1_024;
 
@@ -31,8 +38,37 @@ pub const MAX_FETCH_ROWS: u32 = 100_000;
 /// The most reads of one connection or input.
 pub const MAX_READS: u32 = 4_294_967_295;
 
-/// The last second, either side of the Unix epoch, that a fetch may name: the first one past every time of a sample.
+/// The last second, either side of the Unix epoch, that a fetch may name: the first one past every
+/// time of a sample.
 pub const MAX_SECOND: u64 = 9_223_372_037;
 
 /// The nanoseconds of a second.
 pub const NANOSECONDS: i64 = 1_000_000_000;
+
+const _: () = prove!(MAX_NUMBER == 1_099_511_627_776);
+
+const _: () = prove!(MAX_STEP == 86_400);
+
+const _: () = prove!(MAX_ARCHIVES == 8);
+
+const _: () = prove!(MAX_STEPS == 64);
+
+const _: () = prove!(MAX_ROWS == 100_000);
+
+const _: () = prove!(MAX_XFF_DEN == 1_000);
+
+const _: () = prove!(MAX_LINE == 65_536);
+
+const _: () = prove!(MAX_TAGS == 32);
+
+const _: () = prove!(MAX_FIELDS == 256);
+
+const _: () = prove!(MAX_KEY_TEXT == 1_024);
+
+const _: () = prove!(MAX_FETCH_ROWS == 100_000);
+
+const _: () = prove!(MAX_READS == 4_294_967_295);
+
+const _: () = prove!(MAX_SECOND == 9_223_372_037);
+
+const _: () = prove!(NANOSECONDS == 1_000_000_000);

@@ -1,15 +1,13 @@
-//! What lines, scripts and requests are read by: the cut of a text at a byte, and decimal numbers.
+//! The parts of lines, scripts and requests: the cut of a text at a byte, and decimal numbers.
 
 ghost use Rattle.std.specs.Prelude.{◌≡◌, option_map};
 ghost use Rattle.std.specs.Char.{is_ascii_digit};
 ghost use Rattle.std.specs.List.{list_all};
 ghost use Rattle.rr_base.specs.Text.{cut_at, is_digits, unsigned, number_at, integer_at};
 
+use crate::bytes::MINUS;
 use memchr::memchr;
 use std::str;
-
-/// Stands before a number below zero. The others have no sign.
-const MINUS: u8 = b'-';
 
 /// The bytes before the first `delimiter`, and those after it. The cost is linear in the former.
 pub fn cut(delimiter: u8, text: &[u8]) -> Option<(&[u8], &[u8])>
@@ -48,7 +46,7 @@ pub fn number(text: &[u8]) -> Option<u64>
     }
 }
 
-/// The number that decimal digits behind an optional minus write, if it is in `i64`.
+/// The number that decimal digits after an optional minus write, if it is in `i64`.
 pub fn integer(text: &[u8]) -> Option<i64>
     ensures { result ≡ integer_at text.now }
 {

@@ -15,7 +15,7 @@ use Rattle.rr_cluster.specs.Model.{cell_model, sample_model}
 use Rattle.rr_cluster.specs.Output.{obeyed, settled, output_from}
 use Rattle.rr_cluster.specs.Script.{commands_of}
 use Rattle.rr_cluster.specs.Soundness.{IsSound, CommandsKeepSound, ScriptsAreSound, state_after}
-use Rattle.rr_cluster.specs.State.{State, first_state}
+use Rattle.rr_cluster.specs.State.{State}
 use Rattle.rr_cluster.proofs.CommandsLemmas.Schema.{layout_is, first_states_agree, first_states_are_sound}
 use Rattle.rr_cluster.proofs.CommandsLemmas.Node.{node_agrees}
 use Rattle.rr_cluster.proofs.CommandsLemmas.Now.{now_agrees}

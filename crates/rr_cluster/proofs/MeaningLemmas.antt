@@ -1,5 +1,5 @@
 -- Which state a cluster represents after a step, and what it has where the state has it.
-use Rattle.std.proofs.Common.{◌≡◌, ℕ, pos, Bool, true, false, cond, List, [], Option, Some, None, Result, Ok, Err, refl, sym, ap, ◌∙◌}
+use Rattle.std.proofs.Common.{◌≡◌, ℕ, pos, Bool, true, false, cond, List, [], Option, Some, None, refl, sym, ap, ◌∙◌}
 use Rattle.std.specs.Option.{is_some, option_map}
 use Rattle.std.specs.Ordering.{eq_by_cmp}
 use Rattle.std.specs.Cmp.Lexicographic.{nat_list_cmp_total}
@@ -13,9 +13,10 @@ use Rattle.rr_join.proofs.ValuesLemmas.{get_called-insert, get_called-set}
 use Rattle.rr_model.specs.World.{World}
 use Rattle.rr_replica.specs.Cells.{Cells}
 use Rattle.rr_replica.specs.Holding.{Holding}
+use Rattle.rr_base.specs.Bytes.{bytes_cmp}
 use Rattle.rr_cluster.specs.declared.cluster.Cluster.{Cluster}
 use Rattle.rr_cluster.specs.Meaning.{node_of, replica_at, Represents}
-use Rattle.rr_cluster.specs.State.{Node, State, name_cmp, first_state}
+use Rattle.rr_cluster.specs.State.{Node, State, first_state}
 use Rattle.rr_cluster.proofs.StepLemmas.{names_apart}
 
 abbrev pub Replicas : Type 0
@@ -26,20 +27,20 @@ name_of key = key.items
 
 -- one map has the replica at a name, and at the others what the other has
 abbrev pub HasPut : Replicas → Replicas → List ℕ → Holding → Type 0
-HasPut old new name h = (q : List ℕ) → replica_at new q ≡ cond (eq_by_cmp name_cmp q name) (Some h) (replica_at old q)
+HasPut old new name h = (q : List ℕ) → replica_at new q ≡ cond (eq_by_cmp bytes_cmp q name) (Some h) (replica_at old q)
 
-pub inserted : (old new : Replicas) (key : Vec ℕ) (h : Holding) → new.entries ≡ insert_entry (λ a b. name_cmp a.items b.items) old.entries key h → HasPut old new key.items h
+pub inserted : (old new : Replicas) (key : Vec ℕ) (h : Holding) → new.entries ≡ insert_entry (λ a b. bytes_cmp a.items b.items) old.entries key h → HasPut old new key.items h
 inserted = get_called-insert nat_list_cmp_total names_apart name_of
 
-pub changed : (old new : Replicas) (name : List ℕ) (h : Holding) → new.entries ≡ set_value (λ key. eq_by_cmp name_cmp name key.items) old.entries h → is_some (replica_at old name) ≡ true → HasPut old new name h
+pub changed : (old new : Replicas) (name : List ℕ) (h : Holding) → new.entries ≡ set_value (λ key. eq_by_cmp bytes_cmp name key.items) old.entries h → is_some (replica_at old name) ≡ true → HasPut old new name h
 changed = get_called-set nat_list_cmp_total names_apart name_of
 
 -- a replica put under a name, on both sides
-pub nodes_put : (old new : Replicas) (before : map.FinMap name_cmp (Node Cells)) (name : List ℕ) (h : Holding)
+pub nodes_put : (old new : Replicas) (before : map.FinMap bytes_cmp (Node Cells)) (name : List ℕ) (h : Holding)
     → ((q : List ℕ) → map.get before q ≡ option_map node_of (replica_at old q)) → HasPut old new name h
     → (q : List ℕ) → map.get (map.insert before name (node_of h)) q ≡ option_map node_of (replica_at new q)
 nodes_put old new before name h same put q =
-    map.get-insert nat_list_cmp_total before name (node_of h) q ∙ by (eq_by_cmp name_cmp q name) ∙ sym (ap (option_map node_of) (put q))
+    map.get-insert nat_list_cmp_total before name (node_of h) q ∙ by (eq_by_cmp bytes_cmp q name) ∙ sym (ap (option_map node_of) (put q))
   where
     by : (b : Bool) → cond b (Some (node_of h)) (map.get before q) ≡ option_map node_of (cond b (Some h) (replica_at old q))
     by true = refl
@@ -55,7 +56,7 @@ module _ {A : Type 0} {g : Ghosts A} where
     schema = schema;
     clock = clock;
     lead = lead;
-    nodes = λ name. rw nodes (map.get-empty name_cmp name);
+    nodes = λ name. rw nodes (map.get-empty bytes_cmp name);
     origins = λ origin. rw origins refl;
   }
 

@@ -6,11 +6,12 @@ use Rattle.std.specs.FinMap.{FinMap, get, nat_cmp-IsAntisymmetric, slice_cmp-IsA
 use Rattle.std.specs.Cmp.Lexicographic.{nat_list_cmp_total}
 use Rattle.rr_join.specs.Values.{map_values}
 use Rattle.rr_join.proofs.ValuesLemmas.{get-map_values}
+use Rattle.rr_base.specs.Bytes.{bytes_cmp}
 use Rattle.rr_cluster.specs.declared.fault.CommandFault.{CommandFault}
-use Rattle.rr_cluster.specs.Checks.{◌>>=◌, checked, on_ok}
-use Rattle.rr_cluster.specs.State.{name_cmp}
+use Rattle.rr_base.specs.Results.{◌>>=◌, checked}
+use Rattle.rr_cluster.specs.Checks.{on_ok}
 
-pub names_apart : IsAntisymmetric name_cmp
+pub names_apart : IsAntisymmetric bytes_cmp
 names_apart = slice_cmp-IsAntisymmetric nat_cmp-IsAntisymmetric
 
 -- ---- what holds of an answer
@@ -59,7 +60,7 @@ option_agrees f P view fault next other None h = refl
 option_agrees f P view fault next other (Some v) h = h v refl
 
 -- the same look-up, and then what agrees
-pub found_agree : {V W B C : Type 0} (f : B → C) (P : B → Type 0) (view : V → W) (m : FinMap name_cmp V) (name : List ℕ) (fault : CommandFault) (next : W → Result C CommandFault) (other : V → Result B CommandFault)
+pub found_agree : {V W B C : Type 0} (f : B → C) (P : B → Type 0) (view : V → W) (m : FinMap bytes_cmp V) (name : List ℕ) (fault : CommandFault) (next : W → Result C CommandFault) (other : V → Result B CommandFault)
     → ((v : V) → get m name ≡ Some v → Agrees f P (next (view v)) (other v))
     → Agrees f P (ok_or (get (map_values view m) name) fault >>= next) (ok_or (get m name) fault >>= other)
 found_agree {V} {W} f P view m name fault next other h =

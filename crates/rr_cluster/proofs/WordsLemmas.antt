@@ -3,7 +3,7 @@ use Rattle.std.proofs.Common.{◌≡◌, ℕ, ◌<◌, length, arith, false, eqb
 use Rattle.std.proofs.lemmas.Bool.{cases_Bool}
 use Rattle.std.proofs.lemmas.List.Splits.{join_with_byte-slice_split}
 use Rattle.rr_base.specs.Text.{cut_at}
-use Rattle.rr_cluster.specs.declared.event.TheConstants.{SPACE}
+use Rattle.rr_base.specs.declared.bytes.TheConstants.{SPACE}
 use Rattle.rr_cluster.specs.Words.{parts_of, text_of, words_of}
 
 -- what a cut tells of the parts

@@ -12,12 +12,13 @@ use Rattle.rr_join.specs.Values.{get_called}
 use Rattle.rr_model.specs.Samples.{Sample}
 use Rattle.rr_replica.specs.Cells.{Cells}
 use Rattle.rr_replica.specs.Holding.{Holding}
+use Rattle.rr_base.specs.Bytes.{bytes_cmp}
 use Rattle.rr_cluster.specs.declared.fault.CommandFault.{CommandFault}
 use Rattle.rr_cluster.specs.declared.cluster.Cluster.{Cluster}
 use Rattle.rr_cluster.specs.declared.stop.Stop.{Stop}
 use Rattle.rr_cluster.specs.Commands.Write.{with_all_written}
 use Rattle.rr_cluster.specs.Model.{cell_model}
-use Rattle.rr_cluster.specs.State.{Node, State, name_cmp}
+use Rattle.rr_cluster.specs.State.{Node, State}
 use Rattle.rr_cluster.specs.Stop.{Matches}
 
 -- a replica, as a node
@@ -26,7 +27,7 @@ node_of h = record { schema = h.schema; origin = h.origin; next = h.next; conten
 
 -- the replica of a name, if there is one
 abbrev pub replica_at : BTreeMap (Vec ℕ) Holding → List ℕ → Option Holding
-replica_at = get_called name_cmp (λ (key : Vec ℕ). key.items)
+replica_at = get_called bytes_cmp (λ (key : Vec ℕ). key.items)
 
 -- a replica wrote the samples that a node writes, or is refused as the node is and has not changed
 abbrev pub Writes : Holding → Holding → Result (Unit {0}) Stop → Result (List Sample) CommandFault → Type 0

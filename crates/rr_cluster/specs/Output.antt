@@ -1,7 +1,8 @@
 -- The output of a script.
-use Rattle.std.specs.Prelude.{ℕ, List, [], ◌∷◌, ◌++◌, codes, decimal, Option, None, Result, Ok, Err}
+use Rattle.std.specs.Prelude.{ℕ, List, [], ◌∷◌, ◌++◌, Option, None, Result, Ok, Err}
+use Rattle.rr_records.specs.Records.{refusal_text}
 use Rattle.rr_cluster.specs.declared.fault.CommandFault.{CommandFault}
-use Rattle.rr_cluster.specs.Checks.{◌>>=◌}
+use Rattle.rr_base.specs.Results.{◌>>=◌}
 use Rattle.rr_cluster.specs.Command.{Command}
 use Rattle.rr_cluster.specs.Commands.{step}
 use Rattle.rr_cluster.specs.Fault.{command_fault_name}
@@ -9,14 +10,10 @@ use Rattle.rr_cluster.specs.Model.{Model}
 use Rattle.rr_cluster.specs.Script.{commands_of}
 use Rattle.rr_cluster.specs.State.{State}
 
--- line N: NAME
-abbrev pub refusal_text : ℕ → CommandFault → List ℕ
-refusal_text number fault = codes "line " ++ decimal number ++ codes ": " ++ command_fault_name fault ++ codes "\n"
-
--- a refused command prints its refusal, and changes nothing
+-- a refused command prints `line N: NAME`, and changes nothing
 abbrev pub settled : {K : Type 0} → Option (State K) → ℕ → Result (Option (State K) × List ℕ) CommandFault → Option (State K) × List ℕ
 settled m number (Ok done) = done
-settled m number (Err fault) = (m, refusal_text number fault)
+settled m number (Err fault) = (m, refusal_text number (command_fault_name fault))
 
 module _ {K : Type 0} (model : Model K) where
   -- the state after a line, and what it prints

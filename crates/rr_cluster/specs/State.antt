@@ -1,9 +1,7 @@
 -- What a script has made so far, in either model.
 use Rattle.std.specs.Prelude.{ℕ, ℤ, pos, List, [], Option, None}
-use Rattle.std.specs.declared.cmp.Ordering.{Ordering}
-use Rattle.std.specs.Ordering.{nat_cmp}
-use Rattle.std.specs.Cmp.Lexicographic.{slice_cmp}
 use Rattle.std.specs.FinMap.{FinMap, empty}
+use Rattle.rr_base.specs.Bytes.{bytes_cmp}
 use Rattle.rr_base.specs.Schema.{Layout}
 use Rattle.rr_model.specs.World.{World}
 
@@ -14,16 +12,12 @@ pub record Node (K : Type 0) : Type 0 where
   pub next : ℕ
   pub contents : K
 
--- names by their bytes
-abbrev pub name_cmp : List ℕ → List ℕ → Ordering
-name_cmp = slice_cmp nat_cmp
-
 -- the schema, the clock and the lead, the nodes by their names, the origins that were used, and all that was written
 pub record State (K : Type 0) : Type 0 where
   pub schema : Layout
   pub clock : ℤ
   pub lead : Option ℕ
-  pub nodes : FinMap name_cmp (Node K)
+  pub nodes : FinMap bytes_cmp (Node K)
   pub origins : List ℕ
   pub world : World
 

@@ -1,22 +1,22 @@
 //! A script, from its bytes to what it prints.
 
-ghost use Rattle.std.specs.Prelude.{◌≡◌, ◌++◌, Option, IfOk, OnOk};
+ghost use Rattle.std.specs.Prelude.{◌≡◌, Option, IfOk, OnOk};
 ghost use Rattle.rr_replica.specs.Cells.{Cells};
 ghost use Rattle.rr_cluster.specs.Meaning.{OptionRepresents, Prints};
 ghost use Rattle.rr_cluster.specs.Model.{cell_model, sample_model};
-ghost use Rattle.rr_cluster.specs.Output.{obeyed, output_of, refusal_text};
+ghost use Rattle.rr_cluster.specs.Output.{obeyed, output_of};
 ghost use Rattle.rr_cluster.specs.Script.{said_view, SaysOneLine};
 ghost use Rattle.rr_cluster.specs.State.{State};
 
 use crate::cluster::Cluster;
 use crate::commands::obey;
 use crate::event::ScriptLine;
-use crate::fault::{CommandFault, RunFault};
+use crate::fault::RunFault;
 use crate::script::parse_script;
 use crate::stop::Stop;
-use itoa::Buffer;
 use rr_archive::{Archive, PlainArchive};
-use std::alloc::{AllocError, Global};
+use rr_records::push_refusal;
+use std::alloc::Global;
 
 /// What a script prints: the answers of its fetches, and `line N: NAME` for each command that is
 /// refused, in the order of its lines.
@@ -61,19 +61,7 @@ fn obey_line<A: Archive>(
     };
     match done {
         Ok(()) => Ok(()),
-        Err(Stop::Refused(fault)) => Ok(push_refusal(text, line.number, fault)?),
+        Err(Stop::Refused(fault)) => Ok(push_refusal(text, line.number, fault.name())?),
         Err(Stop::Memory) => Err(RunFault::Memory),
     }
-}
-
-/// Adds `line N: NAME`.
-fn push_refusal(text: &mut Vec<u8>, number: u64, fault: CommandFault) -> Result<(), AllocError>
-    ensures { OnOk result (text.new.items ≡ text.old.items ++ refusal_text number fault) }
-{
-    let mut buffer = Buffer::new();
-    text.extend_from_slice(b"line ")?;
-    text.extend_from_slice(buffer.format(number).as_bytes())?;
-    text.extend_from_slice(b": ")?;
-    text.extend_from_slice(fault.name().as_bytes())?;
-    text.extend_from_slice(b"\n")
 }

@@ -10,7 +10,5 @@
 #![tactic(auto)]
 
 mod contribution;
-#[cfg(test)]
-mod tests;
 
 pub use contribution::{Contribution, Mask};

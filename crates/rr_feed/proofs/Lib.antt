@@ -2,4 +2,3 @@ pub mod SearchLemmas
 pub mod PieceLemmas
 pub mod HandLemmas
 pub mod FedLemmas
-pub mod ToldLemmas

@@ -3,8 +3,8 @@ use Rattle.std.specs.Prelude.{◌≡◌, ℕ, ◌+◌, ◌≤◌, Bool, true, fa
 use Rattle.rr_base.specs.declared.limits.TheConstants.{MAX_LINE}
 use Rattle.rr_feed.specs.Items.{Item, pieces, items_of, IsLine}
 
--- the bytes that are left, whether they begin within a line that was told to be too long, and
--- whether the end was told
+-- the bytes that are left, whether they begin within a line that was reported as too long, and
+-- whether the stream is at its end
 pub record FeedState : Type 0 where
   pub left : List ℕ
   pub skipping : Bool
@@ -21,7 +21,7 @@ empty_feed = state [] false false
 abbrev pub items_left : FeedState → List Item
 items_left s = items_of s.ended (if s.skipping then drop 1 (pieces s.left) else pieces s.left)
 
--- the same feed once more bytes came, and the end was told or not
+-- the same feed once more bytes came, which end the stream or not
 abbrev pub with_more : FeedState → List ℕ → Bool → FeedState
 with_more s more ended = state (s.left ++ more) s.skipping ended
 

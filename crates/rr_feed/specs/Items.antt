@@ -1,12 +1,13 @@
 -- The items of a byte stream: it is cut after each line feed.
-use Rattle.std.specs.Prelude.{ℕ, ◌≤◌, Bool, not, ◌&&◌, ◌==◌, nat_lt, nat_le, List, [], ◌∷◌, length, IsFalse, if◌then◌else◌}
-use Rattle.std.specs.List.{slice_split, list_any}
+use Rattle.std.specs.Prelude.{ℕ, ◌≤◌, Bool, not, ◌&&◌, ◌==◌, nat_lt, nat_le, List, [], ◌∷◌, length, if◌then◌else◌}
+use Rattle.std.specs.List.{slice_split}
+use Rattle.rr_base.specs.Bytes.{HasNoLineFeed}
 use Rattle.rr_base.specs.declared.limits.TheConstants.{MAX_LINE}
 use Rattle.rr_feed.specs.declared.line.FeedLine.{FeedLine}
 use Rattle.rr_feed.specs.declared.line.FeedLine.TheVariants as line
-use Rattle.rr_feed.specs.declared.line.TheConstants.{LINE_FEED}
+use Rattle.rr_base.specs.declared.bytes.TheConstants.{LINE_FEED}
 
--- a line without its line feed, or that a line is too long
+-- a line without its line feed, or a line that is too long
 pub data Item : Type 0 where
   Line : List ℕ → Item
   TooLong : Item
@@ -25,7 +26,7 @@ abbrev pub item_of : List ℕ → Item
 item_of piece = if nat_le (length piece) MAX_LINE then Line piece else TooLong
 
 -- the last piece, which no line feed ends: too long as soon as it has too many bytes, and else a
--- line once the end was told, unless it is empty
+-- line at the end of the stream, unless it is empty
 abbrev pub last_items : Bool → List ℕ → List Item
 last_items ended piece =
     if nat_lt MAX_LINE (length piece) then TooLong ∷ []
@@ -37,13 +38,9 @@ items_of ended [] = []
 items_of ended (last ∷ []) = last_items ended last
 items_of ended (piece ∷ next ∷ more) = item_of piece ∷ items_of ended (next ∷ more)
 
--- the items of the bytes that came so far, the end of which was told or not
+-- the items of the bytes that came so far, which are all of the stream or not
 abbrev pub items : Bool → List ℕ → List Item
 items ended bytes = items_of ended (pieces bytes)
-
--- no byte of a text is a line feed
-abbrev pub HasNoLineFeed : List ℕ → Type 0
-HasNoLineFeed text = IsFalse (list_any (λ byte. byte == LINE_FEED) text)
 
 -- a line has no line feed, and not too many bytes
 abbrev pub IsLine : Item → Type 0

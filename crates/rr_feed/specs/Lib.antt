@@ -3,4 +3,3 @@ pub mod Items
 pub mod Feed
 pub mod Next
 pub mod Laws
-pub mod Told

@@ -3,16 +3,15 @@
 ghost use Rattle.std.specs.Prelude.{◌≡◌};
 
 use std::alloc::AllocError;
+use std::fmt;
 use thiserror::Error;
 
 /// Why a piece is refused.
 #[derive(Clone, Copy, Debug, PartialEq, Eq, Error)]
 pub enum FeedFault {
-    /// The end was told before.
-    #[error("Ended")]
+    /// The stream had ended.
     Ended,
     /// Memory ran out.
-    #[error("Memory")]
     Memory,
 }
 
@@ -26,6 +25,15 @@ impl FeedFault {
         match self {
             FeedFault::Ended => "Ended",
             FeedFault::Memory => "Memory",
+        }
+    }
+}
+
+impl fmt::Display for FeedFault {
+    fn fmt<W: fmt::Write>(&self, f: &mut fmt::Formatter<W>) -> fmt::Result {
+        match self {
+            FeedFault::Ended => f.write_str("no bytes may follow the end of the stream"),
+            FeedFault::Memory => f.write_str("out of memory"),
         }
     }
 }

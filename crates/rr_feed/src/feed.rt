@@ -30,7 +30,7 @@ pub struct Feed {
     start: usize,
     /// How many of the bytes that are left are known to hold no line feed.
     searched: usize,
-    /// Whether the bytes that are left begin within a line that was told to be too long.
+    /// Whether the bytes that are left begin within a line that was reported as too long.
     skipping: bool,
     ended: bool,
 }
@@ -64,8 +64,8 @@ impl Feed {
 
     /// Takes in the next piece of the stream, of any size.
     ///
-    /// Refused with `Ended` after [`Feed::end`], and for want of memory; the feed then stays as it
-    /// was. The cost is linear in the piece, on the average over all pushes.
+    /// It is refused as `Ended` after [`Feed::end`], and as `Memory` where memory runs out; the feed
+    /// is then unchanged. The cost is linear in the piece, on average over all pushes.
     pub fn push(&mut self, piece: &[u8]) -> Result<(), FeedFault>
         ensures ok { OnOk result (self.new ≡ record self.old { left = self.old.left ++ piece.now }) }
         ensures ended { (result ≡ Err FeedFault.Ended) ↔ IsTrue self.old.ended }
@@ -90,14 +90,14 @@ impl Feed {
         }
     }
 
-    /// Tells that no more pieces come: a last line without a line feed is then whole.
+    /// Ends the stream: a last line without a line feed is then whole.
     pub fn end(&mut self)
         ensures { self.new ≡ record self.old { ended = true } }
     {
         self.ended = true;
     }
 
-    /// Hands out the next line, or that it is too long, if so much of it came.
+    /// Hands out the next line, or reports that it is too long, once enough of it came.
     ///
     /// The cost is linear in the bytes that are searched for its line feed, each of them once. No
     /// memory is taken.

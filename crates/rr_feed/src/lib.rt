@@ -1,11 +1,11 @@
 //! Lines from bytes that come in pieces of any size.
 //!
 //! Bytes are pushed into a [`Feed`] as they come, and whole lines are taken out, as slices of what
-//! the feed holds. A byte stream is cut after each line feed. What stands before a line feed is a
-//! line if it has at most [`MAX_LINE`](rr_base::limits::MAX_LINE) bytes; a longer one is told as
-//! [`FeedLine::TooLong`], once, as soon as it is too long, and the rest of it is skipped. What
-//! stands behind the last line feed becomes a line once the end was told, unless it is empty. A CR
-//! is a byte as any other.
+//! the feed holds. A byte stream is cut after each line feed. What precedes a line feed is a
+//! line if it has at most [`MAX_LINE`](rr_base::limits::MAX_LINE) bytes; a longer one is reported
+//! as [`FeedLine::TooLong`], once, as soon as it is too long, and the rest of it is skipped. What
+//! follows the last line feed becomes a line at the end of the stream, unless it is empty. A CR is
+//! a byte like any other.
 //!
 //! ```text
 //! pieces ── push ──> bytes that are left ── next_line ──> lines
@@ -21,10 +21,6 @@ mod feed;
 pub mod laws;
 mod line;
 mod next;
-#[cfg(test)]
-mod tests;
-#[cfg(test)]
-mod told;
 
 pub use fault::FeedFault;
 pub use feed::Feed;

@@ -1,8 +1,5 @@
 //! What a feed hands out.
 
-/// Ends a line.
-pub(crate) const LINE_FEED: u8 = b'\n';
-
 /// How [`FeedLine::TooLong`] is printed.
 pub const LINE_TOO_LONG: &str = "LineTooLong";
 

@@ -1,12 +1,14 @@
 //! The next item of the bytes that are left.
 
 ghost use Rattle.std.specs.Prelude.{◌≡◌, ◌==◌, ◌&&◌, nat_lt, not, false, length, option_map, MatchOption};
-ghost use Rattle.rr_feed.specs.Items.{HasNoLineFeed, item_of, item_view};
+ghost use Rattle.rr_base.specs.Bytes.{HasNoLineFeed};
+ghost use Rattle.rr_feed.specs.Items.{item_of, item_view};
 ghost use Rattle.rr_feed.specs.Feed.{HandsOut, state};
 ghost use Rattle.rr_feed.specs.Next.{IsCut, IsEnd, IsSearched};
 
-use crate::line::{FeedLine, LINE_FEED};
+use crate::line::FeedLine;
 use memchr::memchr;
+use rr_base::bytes::LINE_FEED;
 use rr_base::limits::MAX_LINE;
 
 /// An item, and what is left after it.
@@ -79,7 +81,7 @@ fn is_last_line(left: &[u8], ended: bool) -> bool
     ended && !left.is_empty()
 }
 
-/// The same of bytes with no line feed.
+/// The next item of bytes with no line feed.
 fn next_of_last(left: &[u8], ended: bool) -> Next<'_>
     requires { HasNoLineFeed left.now }
     ensures item { HandsOut (state left.now false ended) (option_map item_view result.item)

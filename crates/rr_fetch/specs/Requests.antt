@@ -1,8 +1,9 @@
 -- What the bytes of a request ask for.
-use Rattle.std.specs.Prelude.{◌≡◌, ℕ, ◌≤◌, ◌<◌, ℤ, pos, neg_ℤ, ◌-ℤ◌, Bool, nat_le, int_lt, List, length, Result, Ok, Err, IsOk, ok_or, unsigned_abs, if◌then◌else◌}
+use Rattle.std.specs.Prelude.{◌≡◌, ℕ, ◌≤◌, ◌<◌, ℤ, pos, neg_ℤ, ◌-ℤ◌, nat_le, int_lt, List, length, Result, Ok, Err, IsOk, ok_or, unsigned_abs, if◌then◌else◌}
 use Rattle.std.specs.Int.{int_div_euclid}
 use Rattle.rr_base.specs.declared.consolidation.ConsolidationFunction.{ConsolidationFunction}
 use Rattle.rr_base.specs.declared.limits.TheConstants.{MAX_FETCH_ROWS, MAX_SECOND}
+use Rattle.rr_base.specs.Results.{◌>>=◌, checked}
 use Rattle.rr_base.specs.Schema.{Layout, span, choice}
 use Rattle.rr_key.specs.Reading.{is_key_text}
 use Rattle.rr_model.specs.FetchText as text
@@ -10,16 +11,6 @@ use Rattle.rr_fetch.specs.declared.fault.RequestFault.{RequestFault}
 use Rattle.rr_fetch.specs.declared.fault.RequestFault.TheVariants.{BadCommand, BadCf, BadNumber, BadKey, EmptyRange, TooManyRows, Memory}
 use Rattle.rr_fetch.specs.declared.request.Request.{Request}
 use Rattle.rr_fetch.specs.Words.{Parts, words_of, function_of, resolution_of, second_of}
-
--- what follows a check, where it passes
-infixl 10 ◌>>=◌
-abbrev pub ◌>>=◌ : {A B : Type 0} → Result A RequestFault → (A → Result B RequestFault) → Result B RequestFault
-(Ok x) >>= next = next x
-(Err fault) >>= next = Err fault
-
--- a check of its own
-abbrev pub checked : Bool → RequestFault → Result (Unit {0}) RequestFault
-checked test fault = if test then Ok tt else Err fault
 
 -- a series key, by its text
 abbrev pub key_of : List ℕ → Result (List ℕ) RequestFault

@@ -6,13 +6,11 @@ ghost use Rattle.rr_fetch.specs.Words.{words_of, parts, function_of, resolution_
 
 use crate::fault::RequestFault;
 use rr_base::ConsolidationFunction;
+use rr_base::bytes::SPACE;
 use rr_base::limits::MAX_SECOND;
 use rr_base::text::{cut, integer, number};
 use rr_key::{KeyFault, SeriesKey};
 use std::alloc::Global;
-
-/// Stands between two words.
-pub(crate) const SPACE: u8 = b' ';
 
 /// The words of a request, `CF RESOLUTION START END KEY`, cut apart and not yet read. The key is all
 /// that follows the fourth space, so that its spaces are its own.

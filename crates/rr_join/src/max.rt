@@ -17,15 +17,3 @@ pub fn join_max<T: Copy + Ord>(a: T, b: T) -> T
         Ordering::Greater => a,
     }
 }
-
-#[cfg(test)]
-mod tests {
-    use super::join_max;
-
-    #[test]
-    fn the_greater_is_kept(rt: HostRuntime) {
-        assert_eq!(rt; join_max(3u8, 5), 5);
-        assert_eq!(rt; join_max(5u8, 3), 5);
-        assert_eq!(rt; join_max((2u8, -1i64), (2, 0)), (2, 0));
-    }
-}

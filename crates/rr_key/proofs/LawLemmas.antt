@@ -5,7 +5,8 @@ use Rattle.std.specs.List.Sorted.{IsPermutation}
 use Rattle.std.specs.FinMap.{from_entries, entries, same_map, same_entries_map, get-from_entries}
 use Rattle.std.proofs.lemmas.Cmp.{nat_list_cmp_total}
 use Rattle.rr_key.specs.declared.class.Class.TheVariants.{Measurement, Other}
-use Rattle.rr_key.specs.Making.{has_repeat}
+use Rattle.std.specs.Map.{keys_of}
+use Rattle.rr_base.specs.Bytes.{has_repeat}
 use Rattle.rr_key.specs.Name.{is_name}
 use Rattle.rr_key.specs.Series.{bytes_cmp, Tags, Series, is_tag, tail_text, key_text, IsSeries}
 use Rattle.rr_key.specs.Unit.{escape, unescape}
@@ -44,7 +45,7 @@ same_series s t h i e =
     λ i. record { measurement = first.0 i; tags = tags i; field = rest.1 i }
 
 -- tags make one map in any order
-pub same_tags : (tags others : List Tag) → IsPermutation tags others → has_repeat tags ≡ false → from_entries {R = bytes_cmp} tags ≡ from_entries others
+pub same_tags : (tags others : List Tag) → IsPermutation tags others → has_repeat (keys_of tags) ≡ false → from_entries {R = bytes_cmp} tags ≡ from_entries others
 same_tags tags others p h =
     let left : Tags = from_entries tags in
     let right : Tags = from_entries others in

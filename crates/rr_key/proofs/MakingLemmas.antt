@@ -8,7 +8,9 @@ use Rattle.std.proofs.lemmas.Bool.{ltb-false}
 use Rattle.std.proofs.lemmas.Cmp.{nat_list_cmp_total}
 use Rattle.rr_key.specs.declared.fault.KeyFault.{KeyFault}
 use Rattle.rr_key.specs.declared.fault.KeyFault.TheVariants.{EmptyName, BadName, DuplicateTag, TooManyTags, KeyTooLong}
-use Rattle.rr_key.specs.Making.{Names, series_of, any_tag, any_name, making_fault, has_repeat}
+use Rattle.rr_key.specs.Making.{Names, series_of, any_tag, any_name, making_fault}
+use Rattle.std.specs.Map.{keys_of}
+use Rattle.rr_base.specs.Bytes.{has_repeat}
 use Rattle.rr_key.specs.Name.{is_empty, is_bad, is_name}
 use Rattle.rr_key.specs.Series.{bytes_cmp, is_tag, key_text, IsSeries, IsKeyText}
 use Rattle.rr_key.proofs.EscapeLemmas.{both_true}
@@ -82,7 +84,7 @@ pub IsSeries-making_fault : (names : Names) → making_fault names ≡ None → 
 IsSeries-making_fault names e =
     let filled = passed (any_name is_empty names) EmptyName _ e in
     let good = passed (any_name is_bad names) BadName _ filled.1 in
-    let unique = passed (has_repeat names.tags) DuplicateTag _ good.1 in
+    let unique = passed (has_repeat (keys_of names.tags)) DuplicateTag _ good.1 in
     let few = passed (ltb 32 (length names.tags)) TooManyTags _ unique.1 in
     let short = passed (ltb 1024 (length (key_text (series_of names)))) KeyTooLong _ few.1 in
     let empty_parts = or_false (is_empty names.measurement || any_tag is_empty names.tags) (is_empty names.field) filled.0 in

@@ -38,7 +38,7 @@ ends-cons class b (c ∷ cs) e =
       | inr plain ↦ let f = rw plain at e in rw plain f
     ]
 
-ends-escape : (class : Class) (name : List ℕ) → ends_in_backslash (escape class name) ≡ ends_in_backslash name
+pub ends-escape : (class : Class) (name : List ℕ) → ends_in_backslash (escape class name) ≡ ends_in_backslash name
 ends-escape class [] = refl
 ends-escape class (b ∷ name) =
     let later = ends-cons class b name (ends-escape class name) in

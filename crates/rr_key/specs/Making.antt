@@ -1,15 +1,15 @@
 -- The key that names make, and why they make none.
-use Rattle.std.specs.Prelude.{◌≡◌, ℕ, Bool, ◌||◌, false, nat_lt, List, [], ◌∷◌, length, map, Option, None, Some, ◌⊎◌, if◌then◌else◌}
+use Rattle.std.specs.Prelude.{◌≡◌, ℕ, Bool, ◌||◌, nat_lt, List, length, map, Option, None, Some, ◌⊎◌, if◌then◌else◌}
 use Rattle.std.specs.Borrow.{Bor}
 use Rattle.std.specs.FinMap.{from_entries}
 use Rattle.std.specs.List.{list_any}
-use Rattle.std.specs.Ordering.{is_eq}
-use Rattle.rr_base.specs.declared.limits.TheConstants.{MAX_KEY_TEXT}
+use Rattle.std.specs.Map.{keys_of}
+use Rattle.rr_base.specs.Bytes.{has_repeat}
+use Rattle.rr_base.specs.declared.limits.TheConstants.{MAX_KEY_TEXT, MAX_TAGS}
 use Rattle.rr_key.specs.declared.fault.KeyFault.{KeyFault}
 use Rattle.rr_key.specs.declared.fault.KeyFault.TheVariants.{EmptyName, BadName, DuplicateTag, TooManyTags, KeyTooLong, Memory}
-use Rattle.rr_key.specs.declared.limits.TheConstants.{MAX_TAGS}
 use Rattle.rr_key.specs.Name.{is_empty, is_bad}
-use Rattle.rr_key.specs.Series.{Series, bytes_cmp, key_text}
+use Rattle.rr_key.specs.Series.{Series, key_text}
 
 -- the names of a series as they are handed in: the tags in any order
 pub record Names : Type 0 where
@@ -37,17 +37,12 @@ any_tag test tags = list_any (λ tag. test tag.0 || test tag.1) tags
 abbrev pub any_name : (List ℕ → Bool) → Names → Bool
 any_name test names = test names.measurement || any_tag test names.tags || test names.field
 
--- whether a key stands twice
-abbrev pub has_repeat : List (List ℕ × List ℕ) → Bool
-has_repeat [] = false
-has_repeat (tag ∷ tags) = list_any (λ other. is_eq (bytes_cmp tag.0 other.0)) tags || has_repeat tags
-
 -- the first fault of the names, if they have one
 abbrev pub making_fault : Names → Option KeyFault
 making_fault names =
     if any_name is_empty names then Some EmptyName
     else (if any_name is_bad names then Some BadName
-    else (if has_repeat names.tags then Some DuplicateTag
+    else (if has_repeat (keys_of names.tags) then Some DuplicateTag
     else (if nat_lt MAX_TAGS (length names.tags) then Some TooManyTags
     else (if nat_lt MAX_KEY_TEXT (length (key_text (series_of names))) then Some KeyTooLong else None))))
 

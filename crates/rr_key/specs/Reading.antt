@@ -1,14 +1,15 @@
 -- A key text from left to right.
-use Rattle.std.specs.Prelude.{◌≡◌, ℕ, zero, suc, ◌+◌, ◌≤◌, nat_le, Bool, true, false, ◌&&◌, ◌==◌, List, [], ◌∷◌, length, take, drop, IsTrue, Option, None, Some, option_and_then, if◌then◌else◌}
+use Rattle.std.specs.Prelude.{◌≡◌, ℕ, zero, suc, ◌+◌, ◌≤◌, nat_le, Bool, true, false, ◌&&◌, ◌==◌, List, [], ◌∷◌, length, take, drop, IsTrue, Option, None, Some, if◌then◌else◌}
 use Rattle.std.specs.List.{list_all}
 use Rattle.std.specs.Ordering.{is_lt}
-use Rattle.rr_base.specs.declared.limits.TheConstants.{MAX_KEY_TEXT}
+use Rattle.rr_base.specs.declared.limits.TheConstants.{MAX_KEY_TEXT, MAX_TAGS}
 use Rattle.rr_key.specs.declared.class.Class.{Class}
 use Rattle.rr_key.specs.declared.class.Class.TheVariants.{Measurement, Other}
-use Rattle.rr_key.specs.declared.delimiter.TheConstants.{COMMA, SPACE, EQUALS}
-use Rattle.rr_key.specs.declared.limits.TheConstants.{MAX_TAGS}
+use Rattle.rr_base.specs.declared.bytes.TheConstants.{COMMA, SPACE, EQUALS}
 use Rattle.rr_key.specs.Name.{is_name}
-use Rattle.rr_key.specs.Series.{bytes_cmp, is_tag, tail_text}
+use Rattle.rr_base.specs.Bytes.{bytes_cmp, strip}
+use Rattle.rr_base.specs.Options.{◌>>=◌}
+use Rattle.rr_key.specs.Series.{is_tag, tail_text}
 use Rattle.rr_key.specs.Unit.{escape, unescape, name_len}
 
 -- the written name at the front and the bytes after it, unless it is none of a key
@@ -16,16 +17,6 @@ abbrev pub name_at : Class → List ℕ → Option (List ℕ × List ℕ)
 name_at class text =
     let len = name_len class text in
     if is_name (take len text) then Some (take len text, drop len text) else None
-
--- the next step of a reading, if this one found something
-infixl 10 ◌>>=◌
-abbrev pub ◌>>=◌ : {A B : Type 0} → Option A → (A → Option B) → Option B
-o >>= next = option_and_then next o
-
--- what follows a byte at the front
-abbrev pub strip : ℕ → List ℕ → Option (List ℕ)
-strip byte [] = None
-strip byte (first ∷ rest) = if first == byte then Some rest else None
 
 -- the written key of the tag at the front, and the bytes after the tag
 abbrev pub tag_at : List ℕ → Option (List ℕ × List ℕ)

@@ -2,19 +2,12 @@
 use Rattle.std.specs.Prelude.{◌≡◌, ℕ, ◌≤◌, Bool, ◌&&◌, List, ◌∷◌, ◌++◌, length, IsTrue}
 use Rattle.std.specs.FinMap.{FinMap, entries}
 use Rattle.std.specs.List.{flat_map, list_all}
-use Rattle.std.specs.Ordering.{nat_cmp}
-use Rattle.std.specs.Cmp.Lexicographic.{slice_cmp}
-use Rattle.std.specs.declared.cmp.Ordering.{Ordering}
-use Rattle.rr_base.specs.declared.limits.TheConstants.{MAX_KEY_TEXT}
+pub use Rattle.rr_base.specs.Bytes.{bytes_cmp}
+use Rattle.rr_base.specs.declared.limits.TheConstants.{MAX_KEY_TEXT, MAX_TAGS}
 use Rattle.rr_key.specs.declared.class.Class.TheVariants.{Measurement, Other}
-use Rattle.rr_key.specs.declared.delimiter.TheConstants.{COMMA, SPACE, EQUALS}
-use Rattle.rr_key.specs.declared.limits.TheConstants.{MAX_TAGS}
+use Rattle.rr_base.specs.declared.bytes.TheConstants.{COMMA, SPACE, EQUALS}
 use Rattle.rr_key.specs.Name.{is_name}
 use Rattle.rr_key.specs.Unit.{escape}
-
--- keys are ordered by their bytes
-abbrev pub bytes_cmp : List ℕ → List ℕ → Ordering
-bytes_cmp = slice_cmp nat_cmp
 
 -- tags are a map from keys to values, both unescaped
 abbrev pub Tags : Type 0

@@ -3,7 +3,7 @@
 ghost use Rattle.std.specs.Prelude.{◌≡◌};
 ghost use Rattle.rr_key.specs.Class.{is_special};
 
-use crate::delimiter::{COMMA, EQUALS, SPACE};
+use rr_base::bytes::{COMMA, EQUALS, SPACE};
 
 /// Which bytes of a name are special: a backslash stands before each of them.
 #[derive(Clone, Copy, Debug, PartialEq, Eq)]

@@ -1,33 +1,27 @@
-//! Why there is no key.
+//! Why names make no key.
 
 ghost use Rattle.std.specs.Prelude.{◌≡◌};
 
 use std::alloc::{AllocError, AllocFailed};
+use std::fmt;
 use thiserror::Error;
 
-/// Why names make no key, or bytes are no key text.
+/// Why names make no key, or bytes are not a key text.
 #[derive(Clone, Copy, Debug, PartialEq, Eq, Error)]
 pub enum KeyFault {
     /// A name is empty.
-    #[error("EmptyName")]
     EmptyName,
     /// A name has a line feed or ends in a backslash.
-    #[error("BadName")]
     BadName,
     /// Two tags have one key.
-    #[error("DuplicateTag")]
     DuplicateTag,
-    /// There are more tags than a key has.
-    #[error("TooManyTags")]
+    /// There are more tags than a key may have.
     TooManyTags,
     /// The key text has more bytes than it may have.
-    #[error("KeyTooLong")]
     KeyTooLong,
-    /// The bytes are no key text.
-    #[error("BadKey")]
+    /// The bytes are not a key text.
     BadKey,
     /// Memory ran out.
-    #[error("Memory")]
     Memory,
 }
 
@@ -47,6 +41,24 @@ impl KeyFault {
             KeyFault::BadKey => "BadKey",
             KeyFault::Memory => "Memory",
         }
+    }
+
+    fn sentence(&self) -> &'static str {
+        match self {
+            KeyFault::EmptyName => "a name of the key is empty",
+            KeyFault::BadName => "a name of the key has a line feed or ends in a backslash",
+            KeyFault::DuplicateTag => "two tags of the key have the same name",
+            KeyFault::TooManyTags => "the key may have at most 32 tags",
+            KeyFault::KeyTooLong => "the key may have at most 1,024 bytes",
+            KeyFault::BadKey => "the text is not a series key",
+            KeyFault::Memory => "out of memory",
+        }
+    }
+}
+
+impl fmt::Display for KeyFault {
+    fn fmt<W: fmt::Write>(&self, f: &mut fmt::Formatter<W>) -> fmt::Result {
+        f.write_str(self.sentence())
     }
 }
 

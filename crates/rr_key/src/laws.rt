@@ -2,7 +2,9 @@
 
 ghost use Rattle.std.specs.Prelude.{◌≡◌, ◌↔◌, ℕ, List, ◌++◌, length, take, None, true, false};
 ghost use Rattle.std.specs.List.Sorted.{IsPermutation};
-ghost use Rattle.rr_key.specs.Making.{Names, series_of, has_repeat, making_fault};
+ghost use Rattle.std.specs.Map.{keys_of};
+ghost use Rattle.rr_base.specs.Bytes.{has_repeat};
+ghost use Rattle.rr_key.specs.Making.{Names, series_of, making_fault};
 ghost use Rattle.rr_key.specs.Name.{MayFollow};
 ghost use Rattle.rr_key.specs.Reading.{is_key_text};
 ghost use Rattle.rr_key.specs.Series.{Series, IsSeries, IsKeyText, key_text};
@@ -24,7 +26,7 @@ pub fn a_name_is_written_in_one_way(class: Class)
 pub fn tags_stand_in_any_order()
     ensures made { (names : Names) → making_fault names ≡ None → IsSeries (series_of names) }
     ensures moved { (measurement field : List ℕ) (tags others : List (List ℕ × List ℕ))
-        → IsPermutation tags others → has_repeat tags ≡ false
+        → IsPermutation tags others → has_repeat (keys_of tags) ≡ false
         → series_of (record { measurement = measurement; tags = tags; field = field })
         ≡ series_of (record { measurement = measurement; tags = others; field = field }) }
 {}

@@ -21,12 +21,10 @@
 #![tactic(auto)]
 
 mod class;
-mod delimiter;
 mod escapes;
 mod fault;
 mod key;
 pub mod laws;
-mod limits;
 mod making;
 mod names;
 mod reading;
@@ -36,8 +34,5 @@ pub use class::Class;
 pub use escapes::{escape, unescape};
 pub use fault::KeyFault;
 pub use key::SeriesKey;
-pub use limits::MAX_TAGS;
 pub use names::name_len;
-
-#[cfg(test)]
-mod tests;
+pub use rr_base::limits::MAX_TAGS;

@@ -3,16 +3,17 @@
 ghost use Rattle.std.specs.Prelude.{◌≡◌, ◌↔◌, ◌⊎◌, length, true, false, Err, None, Some, [], IfOk, IfErr, OnOk};
 ghost use Rattle.std.specs.FinMap.{entries, from_entries};
 ghost use Rattle.rr_key.specs.declared.fault.KeyFault.TheVariants.{DuplicateTag, Memory};
-ghost use Rattle.rr_key.specs.Making.{names_of, tags_of, series_of, any_tag, any_name, has_repeat, making_fault, IsDue};
+ghost use Rattle.rr_key.specs.Making.{names_of, tags_of, series_of, any_tag, any_name, making_fault, IsDue};
 ghost use Rattle.rr_key.specs.Name.{is_empty, is_bad};
 ghost use Rattle.rr_key.specs.Reading.{rises};
-ghost use Rattle.rr_key.specs.Series.{bytes_cmp, key_text};
+ghost use Rattle.rr_key.specs.Series.{key_text};
+ghost use Rattle.rr_base.specs.Bytes.{bytes_cmp, has_repeat};
+ghost use Rattle.std.specs.Map.{keys_of};
 
 use crate::fault::KeyFault;
-use crate::limits::MAX_TAGS;
 use crate::names::is_bad;
 use crate::writing::write_key;
-use rr_base::limits::MAX_KEY_TEXT;
+use rr_base::limits::{MAX_KEY_TEXT, MAX_TAGS};
 use std::alloc::Global;
 
 /// The key text of names.
@@ -105,11 +106,11 @@ fn ascending<'a>(
     tags: &[(&'a [u8], &'a [u8])],
 ) -> Result<Vec<(&'a [u8], &'a [u8])>, KeyFault>
     requires { any_tag is_empty (tags_of tags.now) ≡ false }
-    ensures unique { OnOk result (has_repeat (tags_of tags.now) ≡ false) }
+    ensures unique { OnOk result (has_repeat (keys_of (tags_of tags.now)) ≡ false) }
     ensures sorted { IfOk result (λ sorted. tags_of sorted.items ≡ entries (from_entries {R = bytes_cmp} (tags_of tags.now))) }
     ensures len { IfOk result (λ sorted. length sorted.items ≡ length tags.now) }
     ensures refused { IfErr result (λ fault. (fault ≡ Memory)
-        ⊎ ((fault ≡ DuplicateTag) × (has_repeat (tags_of tags.now) ≡ true))) }
+        ⊎ ((fault ≡ DuplicateTag) × (has_repeat (keys_of (tags_of tags.now)) ≡ true))) }
 {
     let mut sorted = Vec::from_slice(alloc, tags)?;
     sorted.sort_unstable();

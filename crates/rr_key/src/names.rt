@@ -8,8 +8,8 @@ ghost use Rattle.rr_key.specs.Name.{ends_in_backslash, is_bad, is_name};
 ghost use Rattle.rr_key.specs.Reading.{name_at};
 
 use crate::class::Class;
-use crate::delimiter::{BACKSLASH, COMMA, EQUALS, LINE_FEED, SPACE};
 use memchr::{memchr2, memchr3};
+use rr_base::bytes::{BACKSLASH, COMMA, EQUALS, LINE_FEED, SPACE};
 
 /// How many bytes the written name at the front of the text takes: up to the first special byte of
 /// the class that no backslash took, or to the end.

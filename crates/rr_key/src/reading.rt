@@ -2,17 +2,17 @@
 
 ghost use Rattle.std.specs.Prelude.{◌≡◌, ◌↔◌, IsTrue, option_map, []};
 ghost use Rattle.std.specs.Ordering.{is_lt};
-ghost use Rattle.rr_key.specs.Series.{bytes_cmp, IsKeyText};
-ghost use Rattle.rr_key.specs.Reading.{strip, tag_at, IsTail, IsLast};
+ghost use Rattle.rr_base.specs.Bytes.{bytes_cmp};
+ghost use Rattle.rr_key.specs.Series.{IsKeyText};
+ghost use Rattle.rr_key.specs.Reading.{tag_at, IsTail, IsLast};
 ghost use Rattle.rr_key.specs.declared.class.Class.TheVariants.{Other};
 ghost use Rattle.rr_key.specs.Unit.{unescape};
 
 use crate::class::Class;
-use crate::delimiter::{COMMA, EQUALS, SPACE};
 use crate::escapes::first_unit;
-use crate::limits::MAX_TAGS;
 use crate::names::split_name;
-use rr_base::limits::MAX_KEY_TEXT;
+use rr_base::bytes::{COMMA, EQUALS, SPACE, strip};
+use rr_base::limits::{MAX_KEY_TEXT, MAX_TAGS};
 
 /// Whether the bytes are a key text. One pass, and no memory.
 pub(crate) fn is_key_text(text: &[u8]) -> bool
@@ -70,16 +70,6 @@ fn split_tag(text: &[u8]) -> Option<(&[u8], &[u8])>
     let value = strip(EQUALS, rest)?;
     let (_, rest) = split_name(Class::Other, value)?;
     Some((key, rest))
-}
-
-/// What follows a byte at the front.
-fn strip(byte: u8, text: &[u8]) -> Option<&[u8]>
-    ensures { option_map (λ rest. rest.now) result ≡ strip byte text.now }
-{
-    match text {
-        [first, rest @ ..] if *first == byte => Some(rest),
-        _ => None,
-    }
 }
 
 /// Whether one written key, once it is unescaped, is below another.

@@ -8,8 +8,8 @@ ghost use Rattle.rr_key.specs.Series.{tag_text, tail_text};
 ghost use Rattle.rr_key.specs.Unit.{escape};
 
 use crate::class::Class;
-use crate::delimiter::{COMMA, EQUALS, SPACE};
 use crate::escapes::push_escaped;
+use rr_base::bytes::{COMMA, EQUALS, SPACE};
 use std::alloc::{AllocError, Global};
 
 /// The bytes that are taken at once for a key text; most have fewer.

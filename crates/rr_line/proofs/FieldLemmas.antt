@@ -1,28 +1,29 @@
 -- Fields, found by the reading and of the grammar.
-use Rattle.std.proofs.Common.{◌≡◌, ℕ, ◌≤◌, ℤ, true, false, List, ◌∷◌, length, take, drop, Some, None, Result, Ok, Err, refl, sym, ap, subst, ◌∙◌, inl, inr}
+use Rattle.std.proofs.Common.{◌≡◌, ℕ, ℤ, true, false, List, ◌∷◌, take, drop, Some, None, Result, Ok, Err, refl, sym, ap, subst, ◌∙◌, inl, inr}
 use Rattle.std.specs.Prelude.{ok_or, ◌⊎◌}
-use Rattle.std.proofs.lemmas.List.{take-append-drop, length-take-le}
-use Rattle.std.proofs.lemmas.List.Sums.{prefix_len-le-length}
+use Rattle.std.proofs.lemmas.List.{take-append-drop}
+use Rattle.rr_base.specs.Bytes.{strip, begins}
+use Rattle.rr_base.specs.Results.{◌>>=◌}
 use Rattle.rr_key.specs.declared.class.Class.TheVariants.{Other}
-use Rattle.rr_key.specs.Reading.{strip}
-use Rattle.rr_line.specs.declared.delimiter.TheConstants.{EQUALS, QUOTE}
+use Rattle.rr_base.specs.declared.bytes.TheConstants.{EQUALS}
+use Rattle.rr_line.specs.declared.mark.TheConstants.{QUOTE}
 use Rattle.rr_line.specs.declared.fault.LineFault.{LineFault}
 use Rattle.rr_line.specs.declared.fault.LineFault.TheVariants.{MissingFieldKey, MissingFieldValue}
 use Rattle.rr_line.specs.Field.{Field, IsField}
-use Rattle.rr_line.specs.Part.{begins, IsName, HasNoName, cut_behind}
-use Rattle.rr_line.specs.Reading.{◌>>=◌, name_at, value_at, field_at}
-use Rattle.rr_line.specs.Value.{IsBare, IsValue, ValueFault, quoted, unquoted, value_of, value_len, quoted_fault}
+use Rattle.rr_line.specs.Part.{IsName, HasNoName, cut_behind}
+use Rattle.rr_line.specs.Reading.{name_at, value_at, field_at}
+use Rattle.rr_line.specs.Value.{IsBare, IsValue, ValueFault, a_text, no_text, unquoted, value_of, value_len, is_text, quoted_fault}
+use Rattle.rr_line.proofs.ValueLemmas.{value_scanned, plain_scanned, ended_scanned, is_text_of, text_of}
+use Rattle.std.proofs.lemmas.Bool.{cases_Bool, false≢true}
 use Rattle.rr_line.proofs.AgreeLemmas.{Agrees, Agrees-as, Agrees-bind, Agrees-unless, Agrees-ok, Agrees-ok_or, Agrees-self}
 use Rattle.rr_line.proofs.PartLemmas.{name_agrees, first_is, cut_is, strip_some, strip_there, strip_none, strip_lacks}
-
-value_len_within : (text : List ℕ) → value_len text ≤ length text
-value_len_within text = prefix_len-le-length _ text
 
 -- the value that is cut off, where it is not quoted
 bare_cut : (text : List ℕ) → begins QUOTE text ≡ false → IsBare text (take (value_len text) text) (drop (value_len text) text)
 bare_cut text bare = record {
   bare = bare;
-  len = sym (length-take-le (value_len text) text (value_len_within text));
+  plain = plain_scanned text;
+  ended = ended_scanned text;
   whole = sym (take-append-drop (value_len text) text);
 }
 
@@ -37,7 +38,7 @@ value_to text value (bare, (number, is, at)) =
 
 -- a value that is not quoted is the one that is cut off
 bare_is : (text value rest : List ℕ) → IsBare text value rest → cut_behind (value_len text) text ≡ (value, rest)
-bare_is text value rest h = cut_is (value_len text) text value rest h.len h.whole
+bare_is text value rest h = cut_is (value_len text) text value rest (ap value_len h.whole ∙ value_scanned value rest h.plain h.ended) h.whole
 
 value_from : (text : List ℕ) (value : ℤ × List ℕ) → IsValue text value.0 value.1 → (begins QUOTE text ≡ false) × ((number : ℤ) × (value_of (take (value_len text) text) ≡ Ok number) × Behind text number value)
 value_from text (number, rest) (front, is_bare, is) =
@@ -48,12 +49,22 @@ value_from text (number, rest) (front, is_bare, is) =
     the_number n = n
 
 bad_value_to : (text : List ℕ) (fault : LineFault) → ((begins QUOTE text ≡ true) × (fault ≡ quoted_fault text)) ⊎ ((begins QUOTE text ≡ false) × ((value_of (take (value_len text) text) ≡ Err fault) ⊎ ((number : ℤ) × (value_of (take (value_len text) text) ≡ Ok number) × ⊥))) → ValueFault text fault
-bad_value_to text fault (inl h) = quoted h.0 h.1
+bad_value_to text fault (inl h) =
+    elim (cases_Bool (is_text text)) [
+      | inl quoted ↦ let found = text_of text h.0 quoted in a_text found.0 found.1 found.2 (h.1 ∙ rw quoted refl)
+      | inr other ↦ no_text h.0 (λ rest quoted ended. false≢true (sym other ∙ is_text_of text rest quoted ended)) (h.1 ∙ rw other refl)
+    ]
 bad_value_to text fault (inr (bare, inl is)) = unquoted (take (value_len text) text) (drop (value_len text) text) (bare_cut text bare) is
 bad_value_to text fault (inr (bare, inr never)) = absurd never.2
 
 bad_value_from : (text : List ℕ) (fault : LineFault) → ValueFault text fault → ((begins QUOTE text ≡ true) × (fault ≡ quoted_fault text)) ⊎ ((begins QUOTE text ≡ false) × ((value_of (take (value_len text) text) ≡ Err fault) ⊎ ((number : ℤ) × (value_of (take (value_len text) text) ≡ Ok number) × ⊥)))
-bad_value_from text fault (quoted begins is) = inl (begins, is)
+bad_value_from text fault (a_text rest quoted ended is) =
+    inl (ap (begins QUOTE) quoted.whole, is ∙ sym (rw (is_text_of text rest quoted ended) refl))
+bad_value_from text fault (no_text begins none is) =
+    elim (cases_Bool (is_text text)) [
+      | inl quoted ↦ let found = text_of text begins quoted in absurd (none found.0 found.1 found.2)
+      | inr other ↦ inl (begins, is ∙ sym (rw other refl))
+    ]
 bad_value_from text fault (unquoted value rest is_bare is) =
     let cut = first_is (cut_behind (value_len text) text) (value, rest) (bare_is text value rest is_bare) in
     inr (is_bare.bare, inl (ap value_of cut.0 ∙ is))

@@ -2,15 +2,16 @@
 use Rattle.std.proofs.Common.{◌≡◌, ℕ, zero, suc, ◌+◌, ◌<◌, true, false, List, [], ◌∷◌, ◌++◌, length, length-append, Option, Some, None, Result, Ok, Err, refl, sym, ap, subst, ◌∙◌, inl, inr, arith}
 use Rattle.std.specs.Prelude.{◌⊎◌}
 use Rattle.std.proofs.lemmas.List.{append-nil, append_assoc}
+use Rattle.rr_base.specs.Bytes.{strip, begins}
+use Rattle.rr_base.specs.Results.{◌>>=◌, unless}
 use Rattle.rr_key.specs.declared.class.Class.TheVariants.{Other}
-use Rattle.rr_key.specs.Reading.{strip}
-use Rattle.rr_line.specs.declared.delimiter.TheConstants.{EQUALS, COMMA}
+use Rattle.rr_base.specs.declared.bytes.TheConstants.{EQUALS, COMMA}
 use Rattle.rr_line.specs.declared.fault.LineFault.{LineFault}
 use Rattle.rr_line.specs.declared.fault.LineFault.TheVariants.{TooManyFields, DuplicateField}
-use Rattle.rr_line.specs.declared.limits.TheConstants.{MAX_FIELDS}
+use Rattle.rr_base.specs.declared.limits.TheConstants.{MAX_FIELDS}
 use Rattle.rr_line.specs.Field.{Field, IsField, MayStandBehind, LeadTo, FieldFault, no_key, no_value, bad_value, too_many, repeated}
-use Rattle.rr_line.specs.Part.{begins, IsName}
-use Rattle.rr_line.specs.Reading.{◌>>=◌, unless, field_at, fields_at, after_comma}
+use Rattle.rr_line.specs.Part.{IsName}
+use Rattle.rr_line.specs.Reading.{field_at, fields_at, after_comma}
 use Rattle.rr_line.specs.Tag.{has_key}
 use Rattle.rr_line.proofs.AgreeLemmas.{Agrees, Agrees-as, Agrees-bind, Agrees-unless, Agrees-err, just_read}
 use Rattle.rr_line.proofs.FieldLemmas.{NoField, field_agrees}

@@ -1,16 +1,14 @@
 -- What the steps before the fields say of the length of keys.
 use Rattle.std.proofs.Common.{◌≡◌, ℕ, ◌+◌, ◌-◌, ◌≤◌, ℤ, false, ltb, eqb, List, [], length, Option, Result, Ok, refl, subst, arith}
 use Rattle.std.specs.List.{list_any}
-use Rattle.rr_base.specs.declared.limits.TheConstants.{MAX_KEY_TEXT}
+use Rattle.rr_base.specs.Bytes.{HasNoLineFeed}
+use Rattle.rr_base.specs.declared.limits.TheConstants.{MAX_KEY_TEXT, MAX_TAGS, MAX_FIELDS}
 use Rattle.rr_key.specs.declared.class.Class.TheVariants.{Measurement}
-use Rattle.rr_key.specs.declared.limits.TheConstants.{MAX_TAGS}
 use Rattle.rr_line.specs.declared.fault.LineFault.{LineFault}
 use Rattle.rr_line.specs.declared.fault.LineFault.TheVariants.{NoMeasurement, NoFields}
-use Rattle.rr_line.specs.declared.limits.TheConstants.{MAX_FIELDS}
 use Rattle.rr_line.specs.Field.{Field}
 use Rattle.rr_line.specs.Grammar.{is_nothing, LeadsToTags}
 use Rattle.rr_line.specs.Key.{has_long_key}
-use Rattle.rr_line.specs.Line.{HasNoLineFeed}
 use Rattle.rr_line.specs.Part.{skip_spaces}
 use Rattle.rr_line.specs.Reading.{name_at, all_tags_at, fields_text_of, all_fields_at}
 use Rattle.rr_line.specs.Tag.{Tag}

@@ -3,18 +3,18 @@ use Rattle.std.proofs.Common.{◌≡◌, ℕ, zero, suc, ◌+◌, ◌-◌, ◌<�
 use Rattle.std.proofs.lemmas.List.{map-append}
 use Rattle.std.specs.Borrow.{Bor}
 use Rattle.std.specs.Map.{keys_of}
-use Rattle.rr_key.specs.declared.limits.TheConstants.{MAX_TAGS}
+use Rattle.rr_base.specs.Bytes.{strip, has_repeat}
+use Rattle.rr_base.specs.Results.{◌>>=◌, unless}
+use Rattle.rr_base.specs.declared.limits.TheConstants.{MAX_TAGS, MAX_FIELDS}
 use Rattle.rr_key.specs.Making.{tags_of}
-use Rattle.rr_key.specs.Reading.{strip}
-use Rattle.rr_line.specs.declared.delimiter.TheConstants.{COMMA}
+use Rattle.rr_base.specs.declared.bytes.TheConstants.{COMMA}
 use Rattle.rr_line.specs.declared.fault.LineFault.{LineFault}
 use Rattle.rr_line.specs.declared.fault.LineFault.TheVariants.{TooManyTags, DuplicateTag, TooManyFields, DuplicateField}
-use Rattle.rr_line.specs.declared.limits.TheConstants.{MAX_FIELDS}
 use Rattle.rr_line.specs.Field.{Field}
 use Rattle.rr_line.specs.Answer.{rest_view}
-use Rattle.rr_line.specs.Gathering.{repeats, without_repeat, gathered_tags, gathered_fields, all_gathered_tags, all_gathered_fields}
+use Rattle.rr_line.specs.Gathering.{without_repeat, gathered_tags, gathered_fields, all_gathered_tags, all_gathered_fields}
 use Rattle.rr_line.specs.Line.{fields_view}
-use Rattle.rr_line.specs.Reading.{◌>>=◌, unless, tag_at, all_tags_at, field_at, all_fields_at}
+use Rattle.rr_line.specs.Reading.{tag_at, all_tags_at, field_at, all_fields_at}
 use Rattle.rr_line.specs.Tag.{Tag}
 use Rattle.rr_line.proofs.GatherLemmas.{tags_gathered, fields_gathered}
 
@@ -100,33 +100,33 @@ field_keys [] = refl
 field_keys (field ∷ fields) = ap (λ (keys : List (List ℕ)). field.0.now ∷ keys) (field_keys fields)
 
 -- what is read of tags that are gathered, by whether a key stands twice among those that are held
-tags_read : (tags : List HeldTag) (rest : Result (List ℕ) LineFault) (text : List ℕ) → (tags_of tags, rest) ≡ all_gathered_tags text → all_tags_at text ≡ unless DuplicateTag (repeats (map (λ (tag : HeldTag). tag.0.now) tags)) (rest >>= λ r. Ok (tags_of tags, r))
+tags_read : (tags : List HeldTag) (rest : Result (List ℕ) LineFault) (text : List ℕ) → (tags_of tags, rest) ≡ all_gathered_tags text → all_tags_at text ≡ unless DuplicateTag (has_repeat (map (λ (tag : HeldTag). tag.0.now) tags)) (rest >>= λ r. Ok (tags_of tags, r))
 unfolding all_gathered_tags all_tags_at
 tags_read tags rest text e =
     tags_gathered MAX_TAGS [] text refl ∙ ap (without_repeat DuplicateTag) (sym e)
-    ∙ ap (λ (keys : List (List ℕ)). unless DuplicateTag (repeats keys) (rest >>= λ r. Ok (tags_of tags, r))) (tag_keys tags)
+    ∙ ap (λ (keys : List (List ℕ)). unless DuplicateTag (has_repeat keys) (rest >>= λ r. Ok (tags_of tags, r))) (tag_keys tags)
 
-fields_read : (fields : List HeldField) (rest : Result (List ℕ) LineFault) (text : List ℕ) → (fields_view fields, rest) ≡ all_gathered_fields text → all_fields_at text ≡ unless DuplicateField (repeats (map (λ (field : HeldField). field.0.now) fields)) (rest >>= λ r. Ok (fields_view fields, r))
+fields_read : (fields : List HeldField) (rest : Result (List ℕ) LineFault) (text : List ℕ) → (fields_view fields, rest) ≡ all_gathered_fields text → all_fields_at text ≡ unless DuplicateField (has_repeat (map (λ (field : HeldField). field.0.now) fields)) (rest >>= λ r. Ok (fields_view fields, r))
 unfolding all_gathered_fields all_fields_at
 fields_read fields rest text e =
     fields_gathered MAX_FIELDS [] text refl ∙ ap (without_repeat DuplicateField) (sym e)
-    ∙ ap (λ (keys : List (List ℕ)). unless DuplicateField (repeats keys) (rest >>= λ r. Ok (fields_view fields, r))) (field_keys fields)
+    ∙ ap (λ (keys : List (List ℕ)). unless DuplicateField (has_repeat keys) (rest >>= λ r. Ok (fields_view fields, r))) (field_keys fields)
 
 -- the three cases: a key stands twice, the rest is refused, or it is not
-pub tags_repeat : (tags held : List HeldTag) (rest : Result (Bor (List ℕ)) LineFault) (text : List ℕ) → (tags_of tags, rest_view rest) ≡ all_gathered_tags text → held ≡ tags → true ≡ repeats (map (λ (tag : HeldTag). tag.0.now) held) → all_tags_at text ≡ Err DuplicateTag
+pub tags_repeat : (tags held : List HeldTag) (rest : Result (Bor (List ℕ)) LineFault) (text : List ℕ) → (tags_of tags, rest_view rest) ≡ all_gathered_tags text → held ≡ tags → true ≡ has_repeat (map (λ (tag : HeldTag). tag.0.now) held) → all_tags_at text ≡ Err DuplicateTag
 tags_repeat tags held rest text e is twice = tags_read tags (rest_view rest) text e ∙ rw (sym is, sym twice) refl
 
-pub tags_refused : (tags held : List HeldTag) (rest : Result (Bor (List ℕ)) LineFault) (fault : LineFault) (text : List ℕ) → (tags_of tags, rest_view rest) ≡ all_gathered_tags text → held ≡ tags → false ≡ repeats (map (λ (tag : HeldTag). tag.0.now) held) → rest ≡ Err fault → all_tags_at text ≡ Err fault
-tags_refused tags held rest fault text e is once refused = tags_read tags (rest_view rest) text e ∙ rw (refused, ap (λ (l : List HeldTag). repeats (map (λ (tag : HeldTag). tag.0.now) l)) (sym is), sym once) refl
+pub tags_refused : (tags held : List HeldTag) (rest : Result (Bor (List ℕ)) LineFault) (fault : LineFault) (text : List ℕ) → (tags_of tags, rest_view rest) ≡ all_gathered_tags text → held ≡ tags → false ≡ has_repeat (map (λ (tag : HeldTag). tag.0.now) held) → rest ≡ Err fault → all_tags_at text ≡ Err fault
+tags_refused tags held rest fault text e is once refused = tags_read tags (rest_view rest) text e ∙ rw (refused, ap (λ (l : List HeldTag). has_repeat (map (λ (tag : HeldTag). tag.0.now) l)) (sym is), sym once) refl
 
-pub tags_good : (tags held : List HeldTag) (rest : Result (Bor (List ℕ)) LineFault) (left : Bor (List ℕ)) (text : List ℕ) → (tags_of tags, rest_view rest) ≡ all_gathered_tags text → held ≡ tags → false ≡ repeats (map (λ (tag : HeldTag). tag.0.now) held) → rest ≡ Ok left → all_tags_at text ≡ Ok (tags_of tags, left.now)
-tags_good tags held rest left text e is once good = tags_read tags (rest_view rest) text e ∙ rw (good, ap (λ (l : List HeldTag). repeats (map (λ (tag : HeldTag). tag.0.now) l)) (sym is), sym once) refl
+pub tags_good : (tags held : List HeldTag) (rest : Result (Bor (List ℕ)) LineFault) (left : Bor (List ℕ)) (text : List ℕ) → (tags_of tags, rest_view rest) ≡ all_gathered_tags text → held ≡ tags → false ≡ has_repeat (map (λ (tag : HeldTag). tag.0.now) held) → rest ≡ Ok left → all_tags_at text ≡ Ok (tags_of tags, left.now)
+tags_good tags held rest left text e is once good = tags_read tags (rest_view rest) text e ∙ rw (good, ap (λ (l : List HeldTag). has_repeat (map (λ (tag : HeldTag). tag.0.now) l)) (sym is), sym once) refl
 
-pub fields_repeat : (fields held : List HeldField) (rest : Result (Bor (List ℕ)) LineFault) (text : List ℕ) → (fields_view fields, rest_view rest) ≡ all_gathered_fields text → held ≡ fields → true ≡ repeats (map (λ (field : HeldField). field.0.now) held) → all_fields_at text ≡ Err DuplicateField
+pub fields_repeat : (fields held : List HeldField) (rest : Result (Bor (List ℕ)) LineFault) (text : List ℕ) → (fields_view fields, rest_view rest) ≡ all_gathered_fields text → held ≡ fields → true ≡ has_repeat (map (λ (field : HeldField). field.0.now) held) → all_fields_at text ≡ Err DuplicateField
 fields_repeat fields held rest text e is twice = fields_read fields (rest_view rest) text e ∙ rw (sym is, sym twice) refl
 
-pub fields_refused : (fields held : List HeldField) (rest : Result (Bor (List ℕ)) LineFault) (fault : LineFault) (text : List ℕ) → (fields_view fields, rest_view rest) ≡ all_gathered_fields text → held ≡ fields → false ≡ repeats (map (λ (field : HeldField). field.0.now) held) → rest ≡ Err fault → all_fields_at text ≡ Err fault
-fields_refused fields held rest fault text e is once refused = fields_read fields (rest_view rest) text e ∙ rw (refused, ap (λ (l : List HeldField). repeats (map (λ (field : HeldField). field.0.now) l)) (sym is), sym once) refl
+pub fields_refused : (fields held : List HeldField) (rest : Result (Bor (List ℕ)) LineFault) (fault : LineFault) (text : List ℕ) → (fields_view fields, rest_view rest) ≡ all_gathered_fields text → held ≡ fields → false ≡ has_repeat (map (λ (field : HeldField). field.0.now) held) → rest ≡ Err fault → all_fields_at text ≡ Err fault
+fields_refused fields held rest fault text e is once refused = fields_read fields (rest_view rest) text e ∙ rw (refused, ap (λ (l : List HeldField). has_repeat (map (λ (field : HeldField). field.0.now) l)) (sym is), sym once) refl
 
-pub fields_good : (fields held : List HeldField) (rest : Result (Bor (List ℕ)) LineFault) (left : Bor (List ℕ)) (text : List ℕ) → (fields_view fields, rest_view rest) ≡ all_gathered_fields text → held ≡ fields → false ≡ repeats (map (λ (field : HeldField). field.0.now) held) → rest ≡ Ok left → all_fields_at text ≡ Ok (fields_view fields, left.now)
-fields_good fields held rest left text e is once good = fields_read fields (rest_view rest) text e ∙ rw (good, ap (λ (l : List HeldField). repeats (map (λ (field : HeldField). field.0.now) l)) (sym is), sym once) refl
+pub fields_good : (fields held : List HeldField) (rest : Result (Bor (List ℕ)) LineFault) (left : Bor (List ℕ)) (text : List ℕ) → (fields_view fields, rest_view rest) ≡ all_gathered_fields text → held ≡ fields → false ≡ has_repeat (map (λ (field : HeldField). field.0.now) held) → rest ≡ Ok left → all_fields_at text ≡ Ok (fields_view fields, left.now)
+fields_good fields held rest left text e is once good = fields_read fields (rest_view rest) text e ∙ rw (good, ap (λ (l : List HeldField). has_repeat (map (λ (field : HeldField). field.0.now) l)) (sym is), sym once) refl

@@ -9,25 +9,26 @@ use Rattle.std.specs.Map.{keys_of}
 use Rattle.std.specs.Ordering.{is_eq}
 use Rattle.std.specs.declared.cmp.Ordering.{Ordering}
 use Rattle.std.specs.declared.cmp.Ordering.TheVariants.{Less, Equal, Greater}
-use Rattle.rr_base.specs.declared.limits.TheConstants.{MAX_KEY_TEXT}
+use Rattle.rr_base.proofs.RepeatLemmas.{same_turned}
+use Rattle.rr_base.specs.Bytes.{has_repeat, bytes_cmp, HasNoLineFeed, is_among}
+use Rattle.rr_base.specs.declared.limits.TheConstants.{MAX_KEY_TEXT, MAX_TAGS}
 use Rattle.rr_key.specs.declared.class.Class.TheVariants.{Measurement, Other}
-use Rattle.rr_key.specs.declared.limits.TheConstants.{MAX_TAGS}
 use Rattle.rr_key.specs.Making as making
 use Rattle.rr_key.specs.Name.{is_empty, is_bad, is_name}
-use Rattle.rr_key.specs.Series.{bytes_cmp, tag_text}
+use Rattle.rr_key.specs.Series.{tag_text}
 use Rattle.rr_key.specs.Unit.{escape, unescape}
 use Rattle.rr_key.proofs.OrderLemmas.{same_key}
-use Rattle.rr_line.specs.declared.delimiter.TheConstants.{EQUALS, COMMA, SPACE}
+use Rattle.rr_base.specs.declared.bytes.TheConstants.{EQUALS, COMMA, SPACE}
 use Rattle.rr_line.specs.declared.precision.Precision.{Precision}
 use Rattle.rr_line.specs.Field.{Field, IsField, LeadTo, AreFields}
-use Rattle.rr_line.specs.Gathering.{has_repeat}
+use Rattle.rr_line.specs.Gathering.{repeats_key}
 use Rattle.rr_line.specs.Grammar.{LeadsToTags, LeadsToFields, HasParts}
 use Rattle.rr_line.specs.Key.{names_of, key_text, has_long_key, HasKeys}
-use Rattle.rr_line.specs.Line.{PointView, HasNoLineFeed}
+use Rattle.rr_line.specs.Line.{PointView}
 use Rattle.rr_line.specs.Part.{skip_spaces}
-use Rattle.rr_line.specs.Tag.{Tag, IsTag, AreTags, is_among}
+use Rattle.rr_line.specs.Tag.{Tag, IsTag, AreTags}
 use Rattle.rr_line.proofs.NameLemmas.{IsGood, name_is_good, none_in_parts}
-use Rattle.rr_line.proofs.RepeatLemmas.{has_repeat_none}
+use Rattle.rr_line.proofs.RepeatLemmas.{repeats_key-new}
 use Rattle.rr_line.proofs.SizeLemmas.{size, size-entries}
 
 -- the tags of a series, unescaped
@@ -48,13 +49,7 @@ tags_leave before text [] rest are = omega (arith, ap length are)
 tags_leave before text (tag ∷ tags) rest (inner, next, whole, is, may, later) =
     omega (arith, ap length whole, ap length is.key.whole, length-append tag.0 (EQUALS ∷ is.value_text), ap length is.value.whole, length-append tag.1 next, tags_leave (before ++ tag ∷ []) next tags rest later)
 
--- no line feed is behind a tag either
-none_behind_tag : (text : List ℕ) (tag : Tag) (next : List ℕ) → HasNoLineFeed text → IsTag text tag next → HasNoLineFeed next
-none_behind_tag text tag next none is =
-    let value_text = (none_in_parts tag.0 (EQUALS ∷ is.value_text) (subst HasNoLineFeed is.key.whole none)).1 in
-    let behind = (none_in_parts (EQUALS ∷ []) is.value_text value_text).1 in
-    (none_in_parts tag.1 next (subst HasNoLineFeed is.value.whole behind)).1
-
+-- no line feed is after a tag either
 none_behind_first : (first : ℕ) (text rest : List ℕ) → HasNoLineFeed text → text ≡ first ∷ rest → HasNoLineFeed rest
 none_behind_first first text rest none whole = (none_in_parts (first ∷ []) rest (subst HasNoLineFeed whole none)).1
 
@@ -70,10 +65,10 @@ tags_good before text (tag ∷ tags) rest none (inner, next, whole, is, may, lat
     (((key.0, value.0), others.0), others.1)
 
 -- tags that stand behind one another differ
-tags_once : (before : List Tag) (text : List ℕ) (tags : List Tag) (rest : List ℕ) → AreTags before text tags rest → has_repeat before ≡ false → has_repeat (before ++ tags) ≡ false
-tags_once before text [] rest are h = ap has_repeat (append-nil before) ∙ h
+tags_once : (before : List Tag) (text : List ℕ) (tags : List Tag) (rest : List ℕ) → AreTags before text tags rest → repeats_key before ≡ false → repeats_key (before ++ tags) ≡ false
+tags_once before text [] rest are h = ap repeats_key (append-nil before) ∙ h
 tags_once before text (tag ∷ tags) rest (inner, next, whole, is, may, later) h =
-    ap has_repeat (sym (append_assoc before (tag ∷ []) tags)) ∙ tags_once (before ++ tag ∷ []) next tags rest later (has_repeat_none before tag h may.other)
+    ap repeats_key (sym (append_assoc before (tag ∷ []) tags)) ∙ tags_once (before ++ tag ∷ []) next tags rest later (repeats_key-new before tag h may.other)
 
 tags_few : (before : List Tag) (text : List ℕ) (tags : List Tag) (rest : List ℕ) → AreTags before text tags rest → length before ≤ MAX_TAGS → length before + length tags ≤ MAX_TAGS
 tags_few before text [] rest are few = omega (arith, few)
@@ -94,19 +89,19 @@ one_written name other good fine e =
     let spelled : other ≡ name = sym fine.written ∙ ap (escape Other) (sym same) ∙ good.written in
     ap (λ (n : List ℕ). is_eq (bytes_cmp n name)) spelled ∙ (eq_by_cmp_equiv nat_list_cmp_total).refl name
 
-still_new : (name : List ℕ) (tags : List Tag) → IsGood Other name → AreGood tags → is_among name (keys_of tags) ≡ false → list_any (λ other. is_eq (bytes_cmp (unescape Other name) other.0)) (unescaped tags) ≡ false
+still_new : (name : List ℕ) (tags : List Tag) → IsGood Other name → AreGood tags → is_among name (keys_of tags) ≡ false → is_among (unescape Other name) (keys_of (unescaped tags)) ≡ false
 still_new name [] good others h = refl
 still_new name (tag ∷ tags) good others h =
     let parts = or_parts (is_eq (bytes_cmp tag.0 name)) (is_among name (keys_of tags)) h in
-    elim (cases_Bool (is_eq (bytes_cmp (unescape Other name) (unescape Other tag.0)))) [
-      | inl same ↦ absurd (false≢true (sym parts.0 ∙ one_written name tag.0 good others.0.0 same))
+    elim (cases_Bool (is_eq (bytes_cmp (unescape Other tag.0) (unescape Other name)))) [
+      | inl same ↦ absurd (false≢true (sym parts.0 ∙ one_written name tag.0 good others.0.0 (same_turned (unescape Other tag.0) (unescape Other name) same)))
       | inr apart ↦ rw (apart, still_new name tags good others.1 parts.1) refl
     ]
 
-once_unescaped : (tags : List Tag) → AreGood tags → has_repeat tags ≡ false → making.has_repeat (unescaped tags) ≡ false
+once_unescaped : (tags : List Tag) → AreGood tags → repeats_key tags ≡ false → has_repeat (keys_of (unescaped tags)) ≡ false
 once_unescaped [] good h = refl
 once_unescaped (tag ∷ tags) good h =
-    let parts = or_parts (is_among tag.0 (keys_of tags)) (has_repeat tags) h in
+    let parts = or_parts (is_among tag.0 (keys_of tags)) (repeats_key tags) h in
     rw (still_new tag.0 tags good.0.0 good.1 parts.0, once_unescaped tags good.1 parts.1) refl
 
 tags_size : (tags : List Tag) → AreGood tags → size (unescaped tags) ≡ tags_len tags
@@ -122,7 +117,7 @@ tags_size (tag ∷ tags) good =
 pub record HasGoodNames (measurement : List ℕ) (tags : List Tag) : Type 0 where
   pub measurement_good : IsGood Measurement measurement
   pub tags_are_good : AreGood tags
-  pub once : making.has_repeat (unescaped tags) ≡ false
+  pub once : has_repeat (keys_of (unescaped tags)) ≡ false
   pub few : length tags ≤ MAX_TAGS
 
 pub good_names : (text measurement : List ℕ) (tags : List Tag) (rest : List ℕ) → HasNoLineFeed text → LeadsToTags text measurement tags rest → 0 < length rest → HasGoodNames measurement tags × HasNoLineFeed rest

@@ -1,6 +1,8 @@
 pub mod AgreeLemmas
+pub mod UnitLemmas
 pub mod PartLemmas
 pub mod TagLemmas
+pub mod ValueLemmas
 pub mod FieldLemmas
 pub mod FieldsLemmas
 pub mod TimeLemmas

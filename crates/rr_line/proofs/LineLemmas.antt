@@ -2,8 +2,10 @@
 use Rattle.std.proofs.Common.{◌≡◌, ◌≢◌, ℕ, Bool, true, false, eqb, cond, List, [], ◌∷◌, ◌++◌, length, ℤ, Option, Some, None, option_map, Result, Ok, Err, refl, sym, ap, subst, ◌∙◌, inl, inr}
 use Rattle.std.specs.Prelude.{unwrap_or, ok_or, option_and_then}
 use Rattle.std.proofs.lemmas.Bool.{cases_Bool}
+use Rattle.rr_base.specs.Bytes.{HasNoLineFeed}
 use Rattle.rr_base.specs.Text.{integer_at}
-use Rattle.rr_line.specs.declared.delimiter.TheConstants.{RETURN, INTEGER_MARK}
+use Rattle.rr_base.specs.declared.bytes.TheConstants.{RETURN}
+use Rattle.rr_line.specs.declared.mark.TheConstants.{INTEGER_MARK}
 use Rattle.rr_line.specs.declared.fault.LineFault.{LineFault}
 use Rattle.rr_line.specs.declared.fault.LineFault.TheVariants.{NoMeasurement, MissingTagKey, MissingTagValue, TooManyTags, DuplicateTag, NoFields, MissingFieldKey, MissingFieldValue, BooleanField, IntegerRange, UnsignedField, FloatField, TextField, BadField, TooManyFields, DuplicateField, BadTime, TimeRange, KeyTooLong, Memory}
 use Rattle.rr_line.specs.declared.precision.Precision.{Precision}
@@ -11,14 +13,14 @@ use Rattle.rr_line.specs.Field.{Field, FieldFault}
 use Rattle.rr_line.specs.Field as field
 use Rattle.rr_line.specs.Grammar.{is_nothing, IsPointOf, TextFault, no_measurement, at_tag, no_fields, at_field, at_time, long_key, HasFault, IsLineOf}
 use Rattle.rr_line.specs.Key.{HasKeys}
-use Rattle.rr_line.specs.Line.{PointView, LineView, nothing, point, HasNoLineFeed}
+use Rattle.rr_line.specs.Line.{PointView, LineView, nothing, point}
 use Rattle.rr_line.specs.Part.{content, before_last}
 use Rattle.rr_line.specs.Reading.{point_at, text_at, reading}
 use Rattle.rr_line.specs.Tag.{Tag, TagFault}
 use Rattle.rr_line.specs.Tag as tag
 use Rattle.rr_line.specs.Time.{EndingFault}
 use Rattle.rr_line.specs.Time as time
-use Rattle.rr_line.specs.Value.{ValueFault, quoted, unquoted, is_integer, is_boolean, is_unsigned, is_float, is_text, kind_fault, value_of, quoted_fault}
+use Rattle.rr_line.specs.Value.{ValueFault, a_text, no_text, unquoted, is_integer, is_boolean, is_unsigned, is_float, kind_fault, value_of}
 use Rattle.rr_line.proofs.AgreeLemmas.{Agrees, Agrees-as, Holds}
 use Rattle.rr_line.proofs.KeyLemmas.{has_keys, none_skipped}
 use Rattle.rr_line.proofs.NameLemmas.{none_in_parts}
@@ -107,9 +109,6 @@ value_is_no_memory text = at (is_integer text)
     at true e = integer_is_no_memory (option_and_then integer_at (before_last INTEGER_MARK text)) e
     at false e = kind_is_no_memory text (let same : kind_fault text ≡ Memory = cc in same)
 
-quote_is_no_memory : (text : List ℕ) → quoted_fault text ≢ Memory
-quote_is_no_memory text = either_is_no_memory (is_text text) TextField BadField (λ e. absurd cc) (λ e. absurd cc)
-
 -- a fault that is another one
 is_no_memory : (fault other : LineFault) → fault ≡ other → other ≢ Memory → fault ≢ Memory
 is_no_memory fault other e apart memory = apart (sym e ∙ memory)
@@ -121,7 +120,8 @@ tag_is_no_memory before text fault (tag.too_many t rest stands full is) = is_no_
 tag_is_no_memory before text fault (tag.repeated t rest stands room twice is) = is_no_memory fault DuplicateTag is (λ e. absurd cc)
 
 bad_value_is_no_memory : (text : List ℕ) (fault : LineFault) → ValueFault text fault → fault ≢ Memory
-bad_value_is_no_memory text fault (quoted begins is) = is_no_memory fault (quoted_fault text) is (quote_is_no_memory text)
+bad_value_is_no_memory text fault (a_text rest quoted ended is) = is_no_memory fault TextField is (λ e. absurd cc)
+bad_value_is_no_memory text fault (no_text begins none is) = is_no_memory fault BadField is (λ e. absurd cc)
 bad_value_is_no_memory text fault (unquoted value rest bare is) = λ memory. value_is_no_memory value (is ∙ ap (λ (f : LineFault). Err f) memory)
 
 field_is_no_memory : (before : List Field) (text : List ℕ) (fault : LineFault) → FieldFault before text fault → fault ≢ Memory

@@ -7,13 +7,14 @@ use Rattle.std.proofs.Math.Seq.{take-append_seam, drop-append_seam, split_at}
 use Rattle.std.proofs.lemmas.List.Sums.{position_or_len_is}
 use Rattle.std.specs.List.{position_or_len}
 use Rattle.memchr.specs.Find.{IsFirstByte}
+use Rattle.rr_base.specs.Bytes.{strip, begins}
 use Rattle.rr_key.specs.declared.class.Class.{Class}
 use Rattle.rr_key.specs.Class.{is_special}
-use Rattle.rr_key.specs.Reading.{strip}
 use Rattle.rr_key.specs.Unit.{name_len}
 use Rattle.rr_line.specs.declared.fault.LineFault.{LineFault}
-use Rattle.rr_line.specs.Part.{begins, IsName, HasNoName, cut_behind, before_last}
+use Rattle.rr_line.specs.Part.{IsName, HasNoName, cut_behind, before_last}
 use Rattle.rr_line.specs.Reading.{name_at}
+use Rattle.rr_line.proofs.UnitLemmas.{scanned, is_name_scanned, no_name_scanned, nothing_scanned}
 use Rattle.rr_line.proofs.AgreeLemmas.{Agrees, Agrees-as, Agrees-unless, Agrees-ok}
 
 -- the cut of a text behind a front of this length
@@ -53,21 +54,19 @@ name_to class text p h =
     let front : take n text ≡ p.0 = ap (λ (q : List ℕ × List ℕ). q.0) h.1 in
     let back : drop n text ≡ p.1 = ap (λ (q : List ℕ × List ℕ). q.1) h.1 in
     let len : length p.0 ≡ n = ap length (sym front) ∙ length-take-le n text (name_len_within class text) in
-    record {
-      some = omega (arith, len, above_zero n h.0);
-      units = sym len;
-      whole = sym (take-append-drop n text) ∙ rw (front, back) refl;
-    }
+    is_name_scanned class text p.0 p.1 (omega (arith, len, above_zero n h.0)) (sym len) (sym (take-append-drop n text) ∙ rw (front, back) refl)
 
 name_from : (class : Class) (text : List ℕ) (p : List ℕ × List ℕ) → IsName class text p.0 p.1 → (eqb (name_len class text) 0 ≡ false) × (cut_behind (name_len class text) text ≡ p)
-name_from class text (front, rest) h = (not_zero _ _ h.units h.some, cut_is (name_len class text) text front rest h.units h.whole)
+name_from class text (front, rest) h =
+    let len = scanned class text front rest h in
+    (not_zero _ _ len h.some, cut_is (name_len class text) text front rest len h.whole)
 
 pub name_agrees : (class : Class) (missing : LineFault) (text : List ℕ) → Agrees (name_at class missing text) (λ p. IsName class text p.0 p.1) (λ fault. HasNoName class text × (fault ≡ missing))
 name_agrees class missing text =
     let n = name_len class text in
     Agrees-as (name_at class missing text) _ _ _ _ (name_to class text) (name_from class text)
-    (λ fault h. elim h [ inl is ↦ (eqb-true n 0 is.0, is.1) | inr is ↦ absurd is.1 ])
-    (λ fault h. inl (eq-eqb n 0 h.0, h.1))
+    (λ fault h. elim h [ inl is ↦ (no_name_scanned class text (eqb-true n 0 is.0), is.1) | inr is ↦ absurd is.1 ])
+    (λ fault h. inl (eq-eqb n 0 (nothing_scanned class text h.0), h.1))
     (Agrees-unless missing (eqb n 0) (Ok (cut_behind n text)) (λ p. cut_behind n text ≡ p) (λ fault. ⊥) (λ e. Agrees-ok (cut_behind n text)))
 
 -- a byte at the front

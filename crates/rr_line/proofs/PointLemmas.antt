@@ -3,19 +3,20 @@ use Rattle.std.proofs.Common.{◌≡◌, ℕ, ◌<◌, true, false, eqb, List, [
 use Rattle.std.specs.Prelude.{◌⊎◌}
 use Rattle.std.proofs.lemmas.Bool.{cases_Bool, false≢true}
 use Rattle.std.proofs.Math.Dec.{eqb-suc-zero}
+use Rattle.rr_base.specs.Bytes.{begins}
+use Rattle.rr_base.specs.Results.{◌>>=◌}
 use Rattle.rr_key.specs.declared.class.Class.TheVariants.{Measurement}
-use Rattle.rr_key.specs.declared.limits.TheConstants.{MAX_TAGS}
-use Rattle.rr_line.specs.declared.delimiter.TheConstants.{COMMA}
+use Rattle.rr_base.specs.declared.limits.TheConstants.{MAX_TAGS, MAX_FIELDS}
+use Rattle.rr_base.specs.declared.bytes.TheConstants.{COMMA}
 use Rattle.rr_line.specs.declared.fault.LineFault.{LineFault}
 use Rattle.rr_line.specs.declared.fault.LineFault.TheVariants.{NoMeasurement, NoFields, KeyTooLong}
-use Rattle.rr_line.specs.declared.limits.TheConstants.{MAX_FIELDS}
 use Rattle.rr_line.specs.declared.precision.Precision.{Precision}
 use Rattle.rr_line.specs.Field.{Field, AreFields}
 use Rattle.rr_line.specs.Grammar.{is_nothing, LeadsToTags, LeadsToFields, HasParts, TextFault, no_measurement, at_tag, no_fields, at_field, at_time, long_key}
 use Rattle.rr_line.specs.Key.{has_long_key}
 use Rattle.rr_line.specs.Line.{PointView, LineView, nothing, point}
-use Rattle.rr_line.specs.Part.{begins, skip_spaces, IsName, HasNoName}
-use Rattle.rr_line.specs.Reading.{◌>>=◌, name_at, all_tags_at, fields_text_of, all_fields_at, ending_at, unless_long, point_at, text_at}
+use Rattle.rr_line.specs.Part.{skip_spaces, IsName, HasNoName}
+use Rattle.rr_line.specs.Reading.{name_at, all_tags_at, fields_text_of, all_fields_at, ending_at, unless_long, point_at, text_at}
 use Rattle.rr_line.specs.Tag.{Tag, AreTags}
 use Rattle.rr_line.specs.Time.{IsEnding, EndingFault}
 use Rattle.rr_line.proofs.AgreeLemmas.{Agrees, Agrees-as, Agrees-bind, Agrees-unless, Agrees-ok, just_read}

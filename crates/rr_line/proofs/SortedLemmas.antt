@@ -1,21 +1,19 @@
--- Keys in order: one stands twice where they do not rise.
-use Rattle.std.proofs.Common.{◌≡◌, ℕ, suc, ◌+◌, ◌<◌, ◌≤◌, Bool, true, false, not, ◌||◌, List, [], ◌∷◌, ◌++◌, length, map, set, take, get_or, refl, sym, ap, subst, ◌∙◌, inl, inr, arith}
-use Rattle.std.proofs.lemmas.Bool.{cases_Bool, and_parts, or_parts, false≢true}
-use Rattle.std.proofs.lemmas.Cmp.{nat_list_cmp_total, eq_by_cmp_equiv}
+-- Keys in order: one occurs twice where they do not rise.
+use Rattle.std.proofs.Common.{◌≡◌, ℕ, suc, ◌+◌, ◌<◌, ◌≤◌, Bool, true, false, not, List, [], ◌∷◌, ◌++◌, length, map, set, take, get_or, refl, sym, ap, subst, ◌∙◌, inl, inr, arith}
+use Rattle.std.proofs.lemmas.Bool.{cases_Bool, and_parts, false≢true}
+use Rattle.std.proofs.lemmas.Cmp.{nat_list_cmp_total}
 use Rattle.std.proofs.lemmas.List.{map_more, map-append}
 use Rattle.std.proofs.Math.Seq.{take-suc-set}
 use Rattle.std.proofs.lemmas.List.Sorted.{IsPermutation-map, IsPermutation-sym}
-use Rattle.std.proofs.lemmas.Map.Keys.{IsDistinct-IsPermutation}
 use Rattle.std.specs.Borrow.{Bor}
-use Rattle.std.specs.List.{AllByRecursion, IsDistinct}
 use Rattle.std.specs.List.Sorted.{IsPermutation, IsSortedBy}
-use Rattle.std.specs.Ordering.{is_lt, is_eq, eq_by_cmp, ordering_reverse}
+use Rattle.std.specs.Ordering.{is_lt, is_eq, ordering_reverse}
 use Rattle.std.specs.declared.cmp.Ordering.{Ordering}
 use Rattle.std.specs.declared.cmp.Ordering.TheVariants.{Less, Equal, Greater}
-use Rattle.rr_key.specs.Series.{bytes_cmp}
-use Rattle.rr_line.specs.declared.limits.TheConstants.{MAX_FIELDS}
-use Rattle.rr_line.specs.Gathering.{is_below, repeats, rise}
-use Rattle.rr_line.specs.Tag.{is_among}
+use Rattle.rr_base.proofs.RepeatLemmas.{or_true, has_repeat-IsPermutation}
+use Rattle.rr_base.specs.Bytes.{bytes_cmp, has_repeat, is_among}
+use Rattle.rr_base.specs.declared.limits.TheConstants.{MAX_FIELDS}
+use Rattle.rr_line.specs.Gathering.{is_below, rise}
 
 less : (o : Ordering) → is_lt o ≡ true → o ≡ Less
 less Less e = refl
@@ -45,7 +43,7 @@ differs name (other ∷ names) low up =
     let apart : is_eq (bytes_cmp other name) ≡ false = ap is_eq (nat_list_cmp_total.antisymm other name) ∙ less_differs (bytes_cmp name other) low in
     rw (apart, differs name names (below_next name other names low parts.0) parts.1) refl
 
-once_risen : (names : List (List ℕ)) → rise names ≡ true → repeats names ≡ false
+once_risen : (names : List (List ℕ)) → rise names ≡ true → has_repeat names ≡ false
 once_risen [] up = refl
 once_risen (name ∷ names) up =
     let parts = and_parts (is_below name names) (rise names) up in
@@ -66,11 +64,7 @@ sorted_tail x xs h k d low high =
     let n : suc k + 1 ≡ suc (k + 1) = omega arith in
     subst (λ (j : ℕ). keys_lt (get_or (x ∷ xs) j d) (get_or xs k d) ≡ false) n (h (suc k) d (omega arith) (omega arith))
 
-or_true : (a : Bool) → (a || true) ≡ true
-or_true true = refl
-or_true false = refl
-
-twice_unless_risen : (keys : List Key) → IsSortedBy keys_lt keys → rise (names_of keys) ≡ false → repeats (names_of keys) ≡ true
+twice_unless_risen : (keys : List Key) → IsSortedBy keys_lt keys → rise (names_of keys) ≡ false → has_repeat (names_of keys) ≡ true
 twice_unless_risen [] h down = absurd cc
 twice_unless_risen (x ∷ []) h down = absurd cc
 twice_unless_risen (x ∷ y ∷ keys) h down =
@@ -84,46 +78,17 @@ twice_unless_risen (x ∷ y ∷ keys) h down =
           rw same refl
     ]
 
--- names that differ, by the word of the library
-all_differ : (name : List ℕ) (names : List (List ℕ)) → is_among name names ≡ false → AllByRecursion (λ other. eq_by_cmp bytes_cmp name other ≡ false) names
-all_differ name [] h = tt
-all_differ name (other ∷ names) h =
-    let parts = or_parts (is_eq (bytes_cmp other name)) (is_among name names) h in
-    ((eq_by_cmp_equiv nat_list_cmp_total).symm name other ∙ parts.0, all_differ name names parts.1)
+-- keys in another order have a repeat where these have one
+moved : (keys others : List Key) → IsPermutation keys others → has_repeat (names_of keys) ≡ false → has_repeat (names_of others) ≡ false
+moved keys others p h = has_repeat-IsPermutation (names_of keys) (names_of others) (IsPermutation-map (λ (key : Key). key.now) keys others p) h
 
-none_among : (name : List ℕ) (names : List (List ℕ)) → AllByRecursion (λ other. eq_by_cmp bytes_cmp name other ≡ false) names → is_among name names ≡ false
-none_among name [] h = refl
-none_among name (other ∷ names) h =
-    let apart : is_eq (bytes_cmp other name) ≡ false = (eq_by_cmp_equiv nat_list_cmp_total).symm other name ∙ h.0 in
-    rw (apart, none_among name names h.1) refl
-
-distinct : (names : List (List ℕ)) → repeats names ≡ false → IsDistinct (eq_by_cmp bytes_cmp) names
-unfolding IsDistinct
-distinct [] h = tt
-distinct (name ∷ names) h =
-    let parts = or_parts (is_among name names) (repeats names) h in
-    (all_differ name names parts.0, distinct names parts.1)
-
-no_repeat : (names : List (List ℕ)) → IsDistinct (eq_by_cmp bytes_cmp) names → repeats names ≡ false
-unfolding IsDistinct
-no_repeat [] h = refl
-no_repeat (name ∷ names) h = rw (none_among name names h.0, no_repeat names h.1) refl
-
-moved : (keys sorted : List Key) → IsPermutation keys sorted → repeats (names_of sorted) ≡ false → repeats (names_of keys) ≡ false
-moved keys sorted p h =
-    no_repeat (names_of keys) (IsDistinct-IsPermutation (eq_by_cmp bytes_cmp) (eq_by_cmp_equiv nat_list_cmp_total).symm (names_of sorted) (names_of keys) (IsPermutation-map (λ (key : Key). key.now) sorted keys (IsPermutation-sym keys sorted p)) (distinct (names_of sorted) h))
-
-moved_back : (keys sorted : List Key) → IsPermutation keys sorted → repeats (names_of keys) ≡ false → repeats (names_of sorted) ≡ false
-moved_back keys sorted p h =
-    no_repeat (names_of sorted) (IsDistinct-IsPermutation (eq_by_cmp bytes_cmp) (eq_by_cmp_equiv nat_list_cmp_total).symm (names_of keys) (names_of sorted) (IsPermutation-map (λ (key : Key). key.now) keys sorted p) (distinct (names_of keys) h))
-
--- a key stands twice exactly where sorted keys do not rise
-pub repeats_by_sort : (keys sorted : List Key) (risen : Bool) → IsPermutation keys sorted → IsSortedBy keys_lt sorted → risen ≡ rise (names_of sorted) → not risen ≡ repeats (names_of keys)
-repeats_by_sort keys sorted true p h e = sym (moved keys sorted p (once_risen (names_of sorted) (sym e)))
+-- a key occurs twice exactly where sorted keys do not rise
+pub repeats_by_sort : (keys sorted : List Key) (risen : Bool) → IsPermutation keys sorted → IsSortedBy keys_lt sorted → risen ≡ rise (names_of sorted) → not risen ≡ has_repeat (names_of keys)
+repeats_by_sort keys sorted true p h e = sym (moved sorted keys (IsPermutation-sym keys sorted p) (once_risen (names_of sorted) (sym e)))
 repeats_by_sort keys sorted false p h e =
-    elim (cases_Bool (repeats (names_of keys))) [
+    elim (cases_Bool (has_repeat (names_of keys))) [
       | inl twice ↦ sym twice
-      | inr once ↦ absurd (false≢true (sym (moved_back keys sorted p once) ∙ twice_unless_risen sorted h (sym e)))
+      | inr once ↦ absurd (false≢true (sym (moved keys sorted p once) ∙ twice_unless_risen sorted h (sym e)))
     ]
 
 -- one key more in front

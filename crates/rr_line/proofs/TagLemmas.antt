@@ -3,14 +3,15 @@ use Rattle.std.proofs.Common.{◌≡◌, ℕ, zero, suc, ◌+◌, ◌<◌, true,
 use Rattle.std.proofs.lemmas.Bool.{false≢true}
 use Rattle.std.proofs.lemmas.List.{append-nil, append_assoc}
 use Rattle.std.specs.Prelude.{ok_or, ◌⊎◌}
+use Rattle.rr_base.specs.Bytes.{strip, begins}
+use Rattle.rr_base.specs.Results.{◌>>=◌, unless}
 use Rattle.rr_key.specs.declared.class.Class.TheVariants.{Other}
-use Rattle.rr_key.specs.Reading.{strip}
-use Rattle.rr_key.specs.declared.limits.TheConstants.{MAX_TAGS}
-use Rattle.rr_line.specs.declared.delimiter.TheConstants.{EQUALS, COMMA}
+use Rattle.rr_base.specs.declared.limits.TheConstants.{MAX_TAGS}
+use Rattle.rr_base.specs.declared.bytes.TheConstants.{EQUALS, COMMA}
 use Rattle.rr_line.specs.declared.fault.LineFault.{LineFault}
 use Rattle.rr_line.specs.declared.fault.LineFault.TheVariants.{MissingTagKey, MissingTagValue, TooManyTags, DuplicateTag}
-use Rattle.rr_line.specs.Part.{begins, IsName, HasNoName}
-use Rattle.rr_line.specs.Reading.{◌>>=◌, unless, name_at, tag_at, tags_at, after_comma}
+use Rattle.rr_line.specs.Part.{IsName, HasNoName}
+use Rattle.rr_line.specs.Reading.{name_at, tag_at, tags_at, after_comma}
 use Rattle.rr_line.specs.Tag.{Tag, IsTag, HasNoTagValue, without_equals, without_name, before_equals, has_key, AreTags, TagFault, no_key, no_value, too_many, repeated}
 use Rattle.rr_line.proofs.AgreeLemmas.{Agrees, Agrees-as, Agrees-bind, Agrees-unless, Agrees-ok, Agrees-ok_or, Agrees-err, just_read}
 use Rattle.rr_line.proofs.PartLemmas.{name_agrees, first_is, strip_some, strip_there, strip_none, strip_lacks, begins_there}

@@ -5,13 +5,14 @@ use Rattle.std.proofs.lemmas.Bool.{cases_Bool, eqb-true, eqb-false, or_parts, no
 use Rattle.std.proofs.Math.Dec.{eqb-suc-zero}
 use Rattle.std.proofs.lemmas.List.{take-append-drop, length-take-le, nil_from_length}
 use Rattle.std.proofs.lemmas.List.Sums.{prefix_len-le-length}
+use Rattle.rr_base.specs.Results.{◌>>=◌}
 use Rattle.rr_base.specs.Text.{is_digits, unsigned, fits_i64}
-use Rattle.rr_line.specs.declared.delimiter.TheConstants.{SPACE}
+use Rattle.rr_base.specs.declared.bytes.TheConstants.{SPACE}
 use Rattle.rr_line.specs.declared.fault.LineFault.{LineFault}
 use Rattle.rr_line.specs.declared.fault.LineFault.TheVariants.{BadTime, TimeRange}
 use Rattle.rr_line.specs.declared.precision.Precision.{Precision}
 use Rattle.rr_line.specs.Part.{skip_spaces, cut_behind}
-use Rattle.rr_line.specs.Reading.{◌>>=◌, time_at, word_time, ending_at}
+use Rattle.rr_line.specs.Reading.{time_at, word_time, ending_at}
 use Rattle.rr_line.specs.Time.{nanoseconds, word_len, IsWord, IsEnding, EndingFault, bad_time, out_of_range}
 use Rattle.rr_line.proofs.AgreeLemmas.{Agrees, Agrees-as, Agrees-bind, Agrees-unless, Agrees-ok, just_read}
 use Rattle.rr_line.proofs.PartLemmas.{first_is, cut_is}

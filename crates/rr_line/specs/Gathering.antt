@@ -1,23 +1,17 @@
 -- What is gathered of a line before repeated keys are looked for, once for all of them: in a list that has a repeated
 -- key, that is the first fault.
-use Rattle.std.specs.Prelude.{ℕ, zero, suc, Bool, true, false, ◌&&◌, ◌||◌, List, [], ◌∷◌, ◌++◌, Result, Ok, Err}
+use Rattle.std.specs.Prelude.{ℕ, zero, suc, Bool, true, ◌&&◌, List, [], ◌∷◌, ◌++◌, Result, Ok, Err}
 use Rattle.std.specs.Map.{keys_of}
 use Rattle.std.specs.Ordering.{is_lt}
-use Rattle.rr_key.specs.declared.limits.TheConstants.{MAX_TAGS}
-use Rattle.rr_key.specs.Reading.{strip}
-use Rattle.rr_key.specs.Series.{bytes_cmp}
-use Rattle.rr_line.specs.declared.delimiter.TheConstants.{COMMA}
+use Rattle.rr_base.specs.Bytes.{strip, bytes_cmp, has_repeat}
+use Rattle.rr_base.specs.Results.{◌>>=◌, unless}
+use Rattle.rr_base.specs.declared.limits.TheConstants.{MAX_TAGS, MAX_FIELDS}
+use Rattle.rr_base.specs.declared.bytes.TheConstants.{COMMA}
 use Rattle.rr_line.specs.declared.fault.LineFault.{LineFault}
 use Rattle.rr_line.specs.declared.fault.LineFault.TheVariants.{TooManyTags, TooManyFields}
-use Rattle.rr_line.specs.declared.limits.TheConstants.{MAX_FIELDS}
 use Rattle.rr_line.specs.Field.{Field}
-use Rattle.rr_line.specs.Reading.{◌>>=◌, unless, after_comma, tag_at, field_at}
-use Rattle.rr_line.specs.Tag.{Tag, is_among}
-
--- whether a name stands twice
-abbrev pub repeats : List (List ℕ) → Bool
-repeats [] = false
-repeats (name ∷ names) = is_among name names || repeats names
+use Rattle.rr_line.specs.Reading.{after_comma, tag_at, field_at}
+use Rattle.rr_line.specs.Tag.{Tag}
 
 -- whether a name is below the first of others, if there is one
 abbrev pub is_below : List ℕ → List (List ℕ) → Bool
@@ -29,9 +23,9 @@ abbrev pub rise : List (List ℕ) → Bool
 rise [] = true
 rise (name ∷ names) = is_below name names && rise names
 
--- whether a key stands twice among entries
-abbrev pub has_repeat : {V : Type 0} → List (List ℕ × V) → Bool
-has_repeat entries = repeats (keys_of entries)
+-- whether a key occurs twice among entries
+abbrev pub repeats_key : {V : Type 0} → List (List ℕ × V) → Bool
+repeats_key entries = has_repeat (keys_of entries)
 
 -- what is gathered, and what follows it or why nothing is
 abbrev pub Gathered : Type 0 → Type 0
@@ -67,4 +61,4 @@ all_gathered_fields text = gathered_fields MAX_FIELDS [] text
 -- what was gathered and what follows it, unless a key stands twice
 abbrev pub without_repeat : {V : Type 0} → LineFault → Gathered (List ℕ × V) → Result (List (List ℕ × V) × List ℕ) LineFault
 without_repeat fault gathered =
-    unless fault (has_repeat gathered.0) (gathered.1 >>= λ rest. Ok (gathered.0, rest))
+    unless fault (repeats_key gathered.0) (gathered.1 >>= λ rest. Ok (gathered.0, rest))

@@ -2,15 +2,16 @@
 --
 -- line = spaces measurement { "," tag } spaces field { "," field } spaces [ time spaces ] [ CR ]
 use Rattle.std.specs.Prelude.{◌≡◌, ℕ, ◌<◌, Bool, true, false, ◌==◌, List, [], ◌∷◌, length, Result, Ok, Err}
+use Rattle.rr_base.specs.Bytes.{begins}
 use Rattle.rr_key.specs.declared.class.Class.TheVariants.{Measurement}
-use Rattle.rr_line.specs.declared.delimiter.TheConstants.{COMMA, HASH}
+use Rattle.rr_base.specs.declared.bytes.TheConstants.{COMMA, HASH}
 use Rattle.rr_line.specs.declared.fault.LineFault.{LineFault}
 use Rattle.rr_line.specs.declared.fault.LineFault.TheVariants.{NoMeasurement, NoFields, KeyTooLong}
 use Rattle.rr_line.specs.declared.precision.Precision.{Precision}
 use Rattle.rr_line.specs.Field.{Field, LeadTo, AreFields, FieldFault}
 use Rattle.rr_line.specs.Key.{has_long_key}
 use Rattle.rr_line.specs.Line.{PointView, LineView, nothing, point}
-use Rattle.rr_line.specs.Part.{begins, skip_spaces, content, IsName, HasNoName}
+use Rattle.rr_line.specs.Part.{skip_spaces, content, IsName, HasNoName}
 use Rattle.rr_line.specs.Tag.{Tag, AreTags, TagFault}
 use Rattle.rr_line.specs.Time.{IsEnding, EndingFault}
 

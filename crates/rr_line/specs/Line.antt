@@ -1,9 +1,8 @@
 -- What a line says, without where its parts lie in memory.
-use Rattle.std.specs.Prelude.{ℕ, ℤ, ◌==◌, List, map, Option, IsFalse}
+use Rattle.std.specs.Prelude.{ℕ, ℤ, List, map, Option}
 use Rattle.std.specs.Borrow.{Bor}
-use Rattle.std.specs.List.{list_any}
 use Rattle.rr_key.specs.Making.{tags_of}
-use Rattle.rr_line.specs.declared.delimiter.TheConstants.{LINE_FEED}
+pub use Rattle.rr_base.specs.Bytes.{HasNoLineFeed}
 use Rattle.rr_line.specs.declared.line.Line.{Line}
 use Rattle.rr_line.specs.declared.line.Line.TheVariants as line
 use Rattle.rr_line.specs.declared.line.Point.{Point}
@@ -37,7 +36,3 @@ point_view p = record {
 abbrev pub line_view : Line → LineView
 line_view line.Nothing = nothing
 line_view (line.Point p) = point (point_view p)
-
--- no byte of a line is a line feed
-abbrev pub HasNoLineFeed : List ℕ → Type 0
-HasNoLineFeed text = IsFalse (list_any (λ byte. byte == LINE_FEED) text)

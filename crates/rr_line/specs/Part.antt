@@ -1,13 +1,10 @@
 -- The parts of a line, and where each of them ends.
-use Rattle.std.specs.Prelude.{◌≡◌, ℕ, ◌<◌, Bool, false, ◌==◌, List, [], ◌∷◌, ◌++◌, length, take, drop, Option, None, Some, option_map, unwrap_or, if◌then◌else◌}
+use Rattle.std.specs.Prelude.{◌≡◌, ℕ, ◌<◌, true, ◌==◌, List, [], ◌∷◌, ◌++◌, length, take, drop, Option, None, Some, option_map, unwrap_or, if◌then◌else◌}
 use Rattle.rr_key.specs.declared.class.Class.{Class}
-use Rattle.rr_key.specs.Unit.{name_len}
-use Rattle.rr_line.specs.declared.delimiter.TheConstants.{RETURN, SPACE}
-
--- whether a text begins with a byte
-abbrev pub begins : ℕ → List ℕ → Bool
-begins byte [] = false
-begins byte (first ∷ rest) = first == byte
+use Rattle.rr_key.specs.Class.{is_special}
+use Rattle.rr_key.specs.Name.{MayFollow}
+use Rattle.rr_key.specs.Unit.{escape}
+use Rattle.rr_base.specs.declared.bytes.TheConstants.{RETURN, SPACE}
 
 -- a text behind the spaces at its front
 abbrev pub skip_spaces : List ℕ → List ℕ
@@ -28,12 +25,16 @@ content line = skip_spaces (unwrap_or (before_last RETURN line) line)
 abbrev pub cut_behind : ℕ → List ℕ → List ℕ × List ℕ
 cut_behind len text = (take len text, drop len text)
 
--- text = name rest; the name has a byte or more, and ends where its units do
+-- text = name rest; the name is one unit or more, each of which writes a byte: a special byte with a backslash before
+-- it, any other byte as itself. What follows is nothing, or a special byte that the name does not take.
 pub record IsName (class : Class) (text name rest : List ℕ) : Type 0 where
+  pub bytes : List ℕ
   pub some : 0 < length name
-  pub units : name_len class text ≡ length name
+  pub units : name ≡ escape class bytes
+  pub ended : MayFollow class bytes rest
   pub whole : text ≡ name ++ rest
 
--- no name stands at the front
+-- no name is at the front: the text is empty, or begins with a special byte
 abbrev pub HasNoName : Class → List ℕ → Type 0
-HasNoName class text = name_len class text ≡ 0
+HasNoName class [] = Unit {0}
+HasNoName class (byte ∷ rest) = is_special class byte ≡ true

@@ -1,34 +1,25 @@
 -- The reading, as a function of the bytes of a line: part by part, up to the first fault.
-use Rattle.std.specs.Prelude.{ℕ, zero, suc, ℤ, Bool, ◌||◌, not, ◌==◌, List, [], ◌∷◌, ◌++◌, length, take, drop, Option, None, Some, Result, Ok, Err, ok_or, if◌then◌else◌}
+use Rattle.std.specs.Prelude.{ℕ, zero, suc, ℤ, ◌||◌, not, ◌==◌, List, [], ◌∷◌, ◌++◌, length, take, drop, Option, None, Some, Result, Ok, Err, ok_or, if◌then◌else◌}
+use Rattle.rr_base.specs.Bytes.{strip, begins}
+use Rattle.rr_base.specs.Results.{◌>>=◌, unless}
 use Rattle.rr_base.specs.Text.{is_digits, unsigned, fits_i64}
 use Rattle.rr_key.specs.declared.class.Class.{Class}
 use Rattle.rr_key.specs.declared.class.Class.TheVariants.{Measurement, Other}
-use Rattle.rr_key.specs.declared.limits.TheConstants.{MAX_TAGS}
-use Rattle.rr_key.specs.Reading.{strip}
+use Rattle.rr_base.specs.declared.limits.TheConstants.{MAX_TAGS, MAX_FIELDS}
 use Rattle.rr_key.specs.Unit.{name_len}
-use Rattle.rr_line.specs.declared.delimiter.TheConstants.{COMMA, EQUALS, QUOTE}
+use Rattle.rr_base.specs.declared.bytes.TheConstants.{COMMA, EQUALS}
+use Rattle.rr_line.specs.declared.mark.TheConstants.{QUOTE}
 use Rattle.rr_line.specs.declared.fault.LineFault.{LineFault}
 use Rattle.rr_line.specs.declared.fault.LineFault.TheVariants.{NoMeasurement, MissingTagKey, MissingTagValue, TooManyTags, DuplicateTag, NoFields, MissingFieldKey, MissingFieldValue, TooManyFields, DuplicateField, BadTime, TimeRange, KeyTooLong}
-use Rattle.rr_line.specs.declared.limits.TheConstants.{MAX_FIELDS}
 use Rattle.rr_line.specs.declared.precision.Precision.{Precision}
 use Rattle.rr_line.specs.Field.{Field}
 use Rattle.rr_line.specs.Grammar.{is_nothing}
 use Rattle.rr_line.specs.Key.{has_long_key}
 use Rattle.rr_line.specs.Line.{PointView, LineView, nothing, point}
-use Rattle.rr_line.specs.Part.{begins, skip_spaces, content, cut_behind}
+use Rattle.rr_line.specs.Part.{skip_spaces, content, cut_behind}
 use Rattle.rr_line.specs.Tag.{Tag, has_key}
 use Rattle.rr_line.specs.Time.{word_len, nanoseconds}
 use Rattle.rr_line.specs.Value.{value_of, value_len, quoted_fault}
-
--- the next step of a reading, unless this one found a fault
-infixl 10 ◌>>=◌
-abbrev pub ◌>>=◌ : {A B : Type 0} → Result A LineFault → (A → Result B LineFault) → Result B LineFault
-(Ok x) >>= next = next x
-(Err fault) >>= next = Err fault
-
--- a step, unless a test refuses it
-abbrev pub unless : {A : Type 0} → LineFault → Bool → Result A LineFault → Result A LineFault
-unless fault refused step = if refused then Err fault else step
 
 -- the name at the front, and what follows it
 abbrev pub name_at : Class → LineFault → List ℕ → Result (List ℕ × List ℕ) LineFault

@@ -1,15 +1,13 @@
 -- Tags: a comma stands before each.
 use Rattle.std.specs.Prelude.{◌≡◌, ℕ, ◌<◌, Bool, true, false, List, [], ◌∷◌, ◌++◌, length}
-use Rattle.std.specs.List.{list_any}
 use Rattle.std.specs.Map.{keys_of}
-use Rattle.std.specs.Ordering.{is_eq}
+use Rattle.rr_base.specs.Bytes.{begins, is_among}
 use Rattle.rr_key.specs.declared.class.Class.TheVariants.{Other}
-use Rattle.rr_key.specs.declared.limits.TheConstants.{MAX_TAGS}
-use Rattle.rr_key.specs.Series.{bytes_cmp}
-use Rattle.rr_line.specs.declared.delimiter.TheConstants.{COMMA, EQUALS}
+use Rattle.rr_base.specs.declared.limits.TheConstants.{MAX_TAGS}
+use Rattle.rr_base.specs.declared.bytes.TheConstants.{COMMA, EQUALS}
 use Rattle.rr_line.specs.declared.fault.LineFault.{LineFault}
 use Rattle.rr_line.specs.declared.fault.LineFault.TheVariants.{MissingTagKey, MissingTagValue, TooManyTags, DuplicateTag}
-use Rattle.rr_line.specs.Part.{begins, IsName, HasNoName}
+use Rattle.rr_line.specs.Part.{IsName, HasNoName}
 
 -- a key and a value, as they are written
 abbrev pub Tag : Type 0
@@ -22,11 +20,7 @@ pub record IsTag (text : List ℕ) (tag : Tag) (rest : List ℕ) : Type 0 where
   pub value : IsName Other value_text tag.1 rest
   pub ended : begins EQUALS rest ≡ false
 
--- whether a name stands among others; a name is written in one way
-abbrev pub is_among : List ℕ → List (List ℕ) → Bool
-is_among name names = list_any (λ other. is_eq (bytes_cmp other name)) names
-
--- whether a key stands among entries
+-- whether a key is among those of entries; a key is written in one way
 abbrev pub has_key : {V : Type 0} → List (List ℕ × V) → List ℕ → Bool
 has_key entries key = is_among key (keys_of entries)
 

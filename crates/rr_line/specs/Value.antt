@@ -1,22 +1,29 @@
 -- Values of fields.
 use Rattle.std.specs.Prelude.{◌≡◌, ℕ, ℤ, Bool, true, false, ◌&&◌, ◌||◌, ◌==◌, List, [], ◌∷◌, ◌++◌, length, take, drop, codes, Option, None, Some, option_and_then, Result, Ok, Err, ok_or, nat_eq, if◌then◌else◌}
-use Rattle.std.specs.List.{list_any, position_or_len}
+use Rattle.std.specs.List.{flat_map, list_any, position_or_len}
 use Rattle.std.specs.Cmp.Lexicographic.{pointwise}
 use Rattle.memchr.specs.Find.{is_byte2}
+use Rattle.rr_base.specs.Bytes.{begins}
 use Rattle.rr_base.specs.Text.{cut_at, is_digits, unsigned, integer_at}
-use Rattle.rr_line.specs.declared.delimiter.TheConstants.{COMMA, SPACE, QUOTE, BACKSLASH, INTEGER_MARK, UNSIGNED_MARK, POINT, EXPONENT_MARK, GREAT_EXPONENT_MARK, PLUS, MINUS}
+use Rattle.rr_base.specs.declared.bytes.TheConstants.{COMMA, SPACE, BACKSLASH, MINUS}
+use Rattle.rr_line.specs.declared.mark.TheConstants.{QUOTE, INTEGER_MARK, UNSIGNED_MARK, POINT, EXPONENT_MARK, GREAT_EXPONENT_MARK, PLUS}
 use Rattle.rr_line.specs.declared.fault.LineFault.{LineFault}
 use Rattle.rr_line.specs.declared.fault.LineFault.TheVariants.{MissingFieldValue, BooleanField, IntegerRange, UnsignedField, FloatField, TextField, BadField}
-use Rattle.rr_line.specs.Part.{begins, before_last}
+use Rattle.rr_line.specs.Part.{before_last}
 
--- true or false
-abbrev pub booleans : List (List ℕ)
-booleans =
-    codes "t" ∷ codes "T" ∷ codes "true" ∷ codes "True" ∷ codes "TRUE"
-    ∷ codes "f" ∷ codes "F" ∷ codes "false" ∷ codes "False" ∷ codes "FALSE" ∷ []
+-- the words for true, and those for false
+abbrev pub trues : List (List ℕ)
+trues = codes "t" ∷ codes "T" ∷ codes "true" ∷ codes "True" ∷ codes "TRUE" ∷ []
+
+abbrev pub falses : List (List ℕ)
+falses = codes "f" ∷ codes "F" ∷ codes "false" ∷ codes "False" ∷ codes "FALSE" ∷ []
+
+-- whether a text is one of some words
+abbrev pub is_one_of : List (List ℕ) → List ℕ → Bool
+is_one_of words text = list_any (λ word. pointwise nat_eq text word) words
 
 abbrev pub is_boolean : List ℕ → Bool
-is_boolean text = list_any (λ word. pointwise nat_eq text word) booleans
+is_boolean text = is_one_of trues text || is_one_of falses text
 
 -- what holds of a text that is there
 abbrev pub has : (List ℕ → Bool) → Option (List ℕ) → Bool
@@ -73,9 +80,13 @@ value_of text =
     if is_integer text then ok_or (option_and_then integer_at (before_last INTEGER_MARK text)) IntegerRange
     else Err (kind_fault text)
 
--- how many bytes stand before the first comma or space, or how many there are
+-- whether a byte ends a value that is not quoted
+abbrev pub ends_value : ℕ → Bool
+ends_value byte = is_byte2 COMMA SPACE byte
+
+-- how many bytes precede the first comma or space, or how many there are
 abbrev pub value_len : List ℕ → ℕ
-value_len text = position_or_len (is_byte2 COMMA SPACE) text
+value_len text = position_or_len ends_value text
 
 -- what follows a byte of a text and the byte that it takes: a backslash takes a quote or a backslash
 abbrev pub behind_unit : ℕ → List ℕ → List ℕ
@@ -98,17 +109,59 @@ is_text text = has (λ rest. value_len rest == 0) (after_quote (drop 1 text))
 abbrev pub quoted_fault : List ℕ → LineFault
 quoted_fault text = if is_text text then TextField else BadField
 
--- text = value rest; the value is not quoted, and ends before a comma, a space or the end
+-- nothing follows a value, or a comma or a space
+abbrev pub EndsValue : List ℕ → Type 0
+EndsValue [] = Unit {0}
+EndsValue (byte ∷ rest) = ends_value byte ≡ true
+
+-- text = value rest; the value is not quoted, and has no comma and no space
 pub record IsBare (text value rest : List ℕ) : Type 0 where
   pub bare : begins QUOTE text ≡ false
-  pub len : value_len text ≡ length value
+  pub plain : list_any ends_value value ≡ false
+  pub ended : EndsValue rest
   pub whole : text ≡ value ++ rest
 
 -- text = value rest, where the value is an integer
 abbrev pub IsValue : List ℕ → ℤ → List ℕ → Type 0
 IsValue text number rest = (value : List ℕ) × IsBare text value rest × (value_of value ≡ Ok number)
 
+-- a unit of a quoted text: a byte that stands for itself, or the one that a backslash takes
+pub data TextUnit : Type 0 where
+  itself : ℕ → TextUnit
+  taken : ℕ → TextUnit
+
+-- how a unit is written
+abbrev pub unit_text : TextUnit → List ℕ
+unit_text (itself byte) = byte ∷ []
+unit_text (taken byte) = BACKSLASH ∷ byte ∷ []
+
+-- whether a byte is one that a backslash takes
+abbrev pub is_taken : ℕ → Bool
+is_taken byte = is_byte2 QUOTE BACKSLASH byte
+
+-- whether a text begins with such a byte
+abbrev pub begins_taken : List ℕ → Bool
+begins_taken [] = false
+begins_taken (byte ∷ rest) = is_taken byte
+
+-- what may be a unit before the bytes that follow it: a quote is taken, and a backslash takes what it can
+abbrev pub IsUnit : TextUnit → List ℕ → Type 0
+IsUnit (taken byte) rest = is_taken byte ≡ true
+IsUnit (itself byte) rest = ((byte == QUOTE) ≡ false) × ((byte == BACKSLASH) ≡ true → begins_taken rest ≡ false)
+
+-- units, one after the other, before the bytes that follow them
+abbrev pub AreUnits : List TextUnit → List ℕ → Type 0
+AreUnits [] rest = Unit {0}
+AreUnits (unit ∷ units) rest = IsUnit unit (flat_map unit_text units ++ rest) × AreUnits units rest
+
+-- text = quote units quote rest
+pub record IsQuoted (text rest : List ℕ) : Type 0 where
+  pub units : List TextUnit
+  pub are_units : AreUnits units (QUOTE ∷ rest)
+  pub whole : text ≡ QUOTE ∷ (flat_map unit_text units ++ QUOTE ∷ rest)
+
 -- why the value is refused
 pub data ValueFault (text : List ℕ) (fault : LineFault) : Type 0 where
-  quoted : begins QUOTE text ≡ true → fault ≡ quoted_fault text → ValueFault text fault
+  a_text : (rest : List ℕ) → IsQuoted text rest → EndsValue rest → fault ≡ TextField → ValueFault text fault
+  no_text : begins QUOTE text ≡ true → ((rest : List ℕ) → IsQuoted text rest → EndsValue rest → ⊥) → fault ≡ BadField → ValueFault text fault
   unquoted : (value rest : List ℕ) → IsBare text value rest → value_of value ≡ Err fault → ValueFault text fault

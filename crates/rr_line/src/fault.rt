@@ -3,70 +3,51 @@
 ghost use Rattle.std.specs.Prelude.{◌≡◌};
 
 use std::alloc::{AllocError, AllocFailed};
+use std::fmt;
 use thiserror::Error;
 
 /// Why a line is refused: of the faults that a line has, the first one as it is read.
 #[derive(Clone, Copy, Debug, PartialEq, Eq, Error)]
 pub enum LineFault {
-    /// No measurement stands at the front.
-    #[error("NoMeasurement")]
+    /// The line has no measurement.
     NoMeasurement,
     /// A tag has no key.
-    #[error("MissingTagKey")]
     MissingTagKey,
-    /// A tag has no value, or an equals stands behind its value.
-    #[error("MissingTagValue")]
+    /// A tag has no value, or an equals follows its value.
     MissingTagValue,
     /// There are more than [`MAX_TAGS`](rr_key::MAX_TAGS) tags.
-    #[error("TooManyTags")]
     TooManyTags,
-    /// The key of a tag stood before.
-    #[error("DuplicateTag")]
+    /// The key of a tag occurs before it.
     DuplicateTag,
     /// The line ends before its fields.
-    #[error("NoFields")]
     NoFields,
     /// A field has no key.
-    #[error("MissingFieldKey")]
     MissingFieldKey,
     /// A field has no value.
-    #[error("MissingFieldValue")]
     MissingFieldValue,
     /// A field is true or false.
-    #[error("BooleanField")]
     BooleanField,
     /// An integer is not in `i64`.
-    #[error("IntegerRange")]
     IntegerRange,
     /// A field is an unsigned integer.
-    #[error("UnsignedField")]
     UnsignedField,
     /// A field is a float.
-    #[error("FloatField")]
     FloatField,
     /// A field is a text.
-    #[error("TextField")]
     TextField,
-    /// A field's value is of no kind.
-    #[error("BadField")]
+    /// A field's value is of none of these kinds.
     BadField,
     /// There are more than [`MAX_FIELDS`](crate::MAX_FIELDS) fields.
-    #[error("TooManyFields")]
     TooManyFields,
-    /// The key of a field stood before.
-    #[error("DuplicateField")]
+    /// The key of a field occurs before it.
     DuplicateField,
-    /// The time is no integer, or something stands behind it.
-    #[error("BadTime")]
+    /// The time is not an integer, or something other than spaces follows it.
     BadTime,
     /// The time in nanoseconds is not in `i64`.
-    #[error("TimeRange")]
     TimeRange,
     /// The key text of a field is longer than [`MAX_KEY_TEXT`](rr_base::limits::MAX_KEY_TEXT).
-    #[error("KeyTooLong")]
     KeyTooLong,
     /// Memory ran out.
-    #[error("Memory")]
     Memory,
 }
 
@@ -99,6 +80,37 @@ impl LineFault {
             LineFault::KeyTooLong => "KeyTooLong",
             LineFault::Memory => "Memory",
         }
+    }
+
+    fn sentence(&self) -> &'static str {
+        match self {
+            LineFault::NoMeasurement => "the line has no measurement",
+            LineFault::MissingTagKey => "a tag has no key",
+            LineFault::MissingTagValue => "a tag has no value",
+            LineFault::TooManyTags => "the line may have at most 32 tags",
+            LineFault::DuplicateTag => "two tags have the same key",
+            LineFault::NoFields => "the line has no fields",
+            LineFault::MissingFieldKey => "a field has no key",
+            LineFault::MissingFieldValue => "a field has no value",
+            LineFault::BooleanField => "a field is a boolean, and not an integer",
+            LineFault::IntegerRange => "an integer is not in 64 bits",
+            LineFault::UnsignedField => "a field is an unsigned integer, and not a signed one",
+            LineFault::FloatField => "a field is a float, and not an integer",
+            LineFault::TextField => "a field is a text, and not an integer",
+            LineFault::BadField => "a field's value is not an integer",
+            LineFault::TooManyFields => "the line may have at most 256 fields",
+            LineFault::DuplicateField => "two fields have the same key",
+            LineFault::BadTime => "the time is not an integer at the end of the line",
+            LineFault::TimeRange => "the time in nanoseconds is not in 64 bits",
+            LineFault::KeyTooLong => "the key of a field may have at most 1,024 bytes",
+            LineFault::Memory => "out of memory",
+        }
+    }
+}
+
+impl fmt::Display for LineFault {
+    fn fmt<W: fmt::Write>(&self, f: &mut fmt::Formatter<W>) -> fmt::Result {
+        f.write_str(self.sentence())
     }
 }
 

@@ -1,18 +1,19 @@
 //! The fields of a line.
 
 ghost use Rattle.std.specs.Prelude.{◌≡◌, ◌≤◌, length, IfOk};
-ghost use Rattle.rr_line.specs.declared.limits.TheConstants.{MAX_FIELDS};
-ghost use Rattle.rr_line.specs.Answer.{Gives, GivesUnlessMemory, rest_view};
+ghost use Rattle.rr_base.specs.Results.{Gives, GivesUnless};
+ghost use Rattle.rr_base.specs.declared.limits.TheConstants.{MAX_FIELDS};
+ghost use Rattle.rr_line.specs.Answer.{rest_view};
 ghost use Rattle.rr_line.specs.Gathering.{all_gathered_fields};
 ghost use Rattle.rr_line.specs.Line.{fields_view};
 ghost use Rattle.rr_line.specs.Reading.{field_at, all_fields_at};
 
-use crate::delimiter::{COMMA, EQUALS};
 use crate::fault::LineFault;
-use crate::limits::MAX_FIELDS;
-use crate::part::{read_name, strip};
+use crate::part::read_name;
 use crate::repeat::has_repeat;
 use crate::value::read_value;
+use rr_base::bytes::{COMMA, EQUALS, strip};
+use rr_base::limits::MAX_FIELDS;
 use rr_key::Class;
 use std::alloc::{AllocError, Global};
 
@@ -21,7 +22,7 @@ pub(crate) fn read_fields<'a>(
     alloc: Global,
     text: &'a [u8],
 ) -> Result<(Vec<(&'a [u8], i64)>, &'a [u8]), LineFault>
-    ensures { GivesUnlessMemory (λ fields. (fields_view fields.0.items, fields.1.now)) result (all_fields_at text.now) }
+    ensures { GivesUnless LineFault.Memory (λ fields. (fields_view fields.0.items, fields.1.now)) result (all_fields_at text.now) }
 {
     let (fields, rest) = gather_fields(alloc, text)?;
     if has_repeat(&fields) {

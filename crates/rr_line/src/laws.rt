@@ -1,13 +1,13 @@
 //! What holds of the definitions themselves: functions without a body, whose contracts say it.
 
 ghost use Rattle.std.specs.Prelude.{◌≡◌, ◌≢◌, ◌↔◌, ℕ, List, Result, Err};
+ghost use Rattle.rr_base.specs.Bytes.{HasNoLineFeed};
 ghost use Rattle.rr_line.specs.declared.fault.LineFault.{LineFault};
 ghost use Rattle.rr_line.specs.declared.fault.LineFault.TheVariants.{Memory};
 ghost use Rattle.rr_line.specs.declared.precision.Precision.{Precision};
-ghost use Rattle.rr_line.specs.Grammar.{IsLineOf, HasFault};
+ghost use Rattle.rr_line.specs.Grammar.{IsLineOf, HasFault, IsPointOf};
 ghost use Rattle.rr_line.specs.Key.{HasKeys};
-ghost use Rattle.rr_line.specs.Line.{LineView, PointView, HasNoLineFeed, point};
-ghost use Rattle.rr_line.specs.Grammar.{IsPointOf};
+ghost use Rattle.rr_line.specs.Line.{LineView, PointView, point};
 ghost use Rattle.rr_line.specs.Reading.{reading};
 
 /// Of each line the grammar has exactly one of three: it says nothing, it says one point, or it

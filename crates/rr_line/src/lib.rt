@@ -29,13 +29,12 @@
 //! says that the two are one, and that each line has exactly one answer.
 #![tactic(auto)]
 
-mod delimiter;
 mod fault;
 mod fields;
 mod key;
 pub mod laws;
-mod limits;
 mod line;
+mod mark;
 mod parse;
 mod part;
 mod precision;
@@ -44,12 +43,9 @@ mod tags;
 mod time;
 mod value;
 
-pub use delimiter::LINE_FEED;
 pub use fault::LineFault;
-pub use limits::MAX_FIELDS;
 pub use line::{Line, Point};
 pub use parse::parse_line;
 pub use precision::Precision;
-
-#[cfg(test)]
-mod tests;
+pub use rr_base::bytes::LINE_FEED;
+pub use rr_base::limits::MAX_FIELDS;

@@ -2,14 +2,14 @@
 
 ghost use Rattle.std.specs.Prelude.{◌≡◌, ◌+◌, false, length, nat_lt, Result, IfOk, Ok};
 ghost use Rattle.std.specs.List.{list_any};
+ghost use Rattle.rr_base.specs.Bytes.{HasNoLineFeed};
+ghost use Rattle.rr_base.specs.Results.{Gives, GivesUnless, AnswersUnless};
 ghost use Rattle.rr_base.specs.declared.limits.TheConstants.{MAX_KEY_TEXT};
-ghost use Rattle.rr_line.specs.Answer.{Gives, GivesUnlessMemory, AnswersUnlessMemory};
 ghost use Rattle.rr_line.specs.Grammar.{is_nothing, IsLineOf};
 ghost use Rattle.rr_line.specs.Key.{LineHasKeys};
-ghost use Rattle.rr_line.specs.Line.{LineView, point_view, line_view, fields_view, HasNoLineFeed};
+ghost use Rattle.rr_line.specs.Line.{LineView, point_view, line_view, fields_view};
 ghost use Rattle.rr_line.specs.Reading.{fields_text_of, point_at, reading};
 
-use crate::delimiter::HASH;
 use crate::fault::LineFault;
 use crate::fields::read_fields;
 use crate::line::{Line, Point};
@@ -17,6 +17,7 @@ use crate::part::{content, read_name, skip_spaces};
 use crate::precision::Precision;
 use crate::tags::read_tags;
 use crate::time::read_ending;
+use rr_base::bytes::HASH;
 use rr_base::limits::MAX_KEY_TEXT;
 use rr_key::Class;
 use std::alloc::Global;
@@ -38,12 +39,12 @@ pub fn parse_line<'a>(
     requires { HasNoLineFeed line.now }
 
     // The answer is what the reading says, unless memory runs out.
-    ensures read { GivesUnlessMemory line_view result (reading precision line.now) }
+    ensures read { GivesUnless LineFault.Memory line_view result (reading precision line.now) }
 
     // What is answered is of the grammar, and what is of the grammar is answered.
-    ensures found { AnswersUnlessMemory line_view result (IsLineOf precision line.now) }
+    ensures found { AnswersUnless LineFault.Memory line_view result (IsLineOf precision line.now) }
     ensures only { (said : Result LineView LineFault) → IsLineOf precision line.now said
-        → GivesUnlessMemory line_view result said }
+        → GivesUnless LineFault.Memory line_view result said }
 
     // Each field of a point has a key.
     ensures keyed { IfOk result (λ said. LineHasKeys (line_view said)) }
@@ -75,7 +76,7 @@ fn read_point<'a>(
 ) -> Result<Point<'a>, LineFault>
     requires one_line { HasNoLineFeed text.now }
     requires said { is_nothing text.now ≡ false }
-    ensures { GivesUnlessMemory point_view result (point_at precision text.now) }
+    ensures { GivesUnless LineFault.Memory point_view result (point_at precision text.now) }
 {
     let (measurement, rest) = read_name(Class::Measurement, LineFault::NoMeasurement, text)?;
     let (tags, gap) = read_tags(alloc, rest)?;

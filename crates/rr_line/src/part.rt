@@ -1,31 +1,14 @@
 //! The parts of a line: what stands at the front of a text, and what follows it.
 
 ghost use Rattle.std.specs.Prelude.{◌≡◌, ◌≤◌, length, option_map};
-ghost use Rattle.rr_key.specs.Reading.{strip};
-ghost use Rattle.rr_line.specs.Answer.{Gives};
-ghost use Rattle.rr_line.specs.Part.{begins, skip_spaces, before_last, content};
+ghost use Rattle.rr_base.specs.Bytes.{strip, begins};
+ghost use Rattle.rr_base.specs.Results.{Gives};
+ghost use Rattle.rr_line.specs.Part.{skip_spaces, before_last, content};
 ghost use Rattle.rr_line.specs.Reading.{name_at};
 
-use crate::delimiter::{RETURN, SPACE};
 use crate::fault::LineFault;
+use rr_base::bytes::{RETURN, SPACE};
 use rr_key::{Class, name_len};
-
-/// What follows a byte at the front.
-pub(crate) fn strip(byte: u8, text: &[u8]) -> Option<&[u8]>
-    ensures { option_map (λ rest. rest.now) result ≡ strip byte text.now }
-{
-    match text {
-        [first, rest @ ..] if *first == byte => Some(rest),
-        _ => None,
-    }
-}
-
-/// Whether a byte stands at the front.
-pub(crate) fn begins(byte: u8, text: &[u8]) -> bool
-    ensures { result ≡ begins byte text.now }
-{
-    matches!(text, [first, ..] if *first == byte)
-}
 
 /// The text behind the spaces at its front.
 pub(crate) fn skip_spaces(text: &[u8]) -> &[u8]

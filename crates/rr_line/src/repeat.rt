@@ -1,11 +1,11 @@
 //! Keys that stand twice.
 
 ghost use Rattle.std.specs.Prelude.{◌≡◌, ◌≤◌, not, map, length};
-ghost use Rattle.rr_line.specs.declared.limits.TheConstants.{MAX_FIELDS};
-ghost use Rattle.rr_line.specs.Gathering.{is_below, repeats, rise};
-ghost use Rattle.rr_line.specs.Tag.{is_among};
+ghost use Rattle.rr_base.specs.Bytes.{has_repeat, is_among};
+ghost use Rattle.rr_base.specs.declared.limits.TheConstants.{MAX_FIELDS};
+ghost use Rattle.rr_line.specs.Gathering.{is_below, rise};
 
-use crate::limits::MAX_FIELDS;
+use rr_base::limits::MAX_FIELDS;
 
 /// The most keys that are compared pair by pair. More of them are sorted.
 const FEW: usize = 16;
@@ -13,7 +13,7 @@ const FEW: usize = 16;
 /// Whether a key stands twice among entries.
 pub(crate) fn has_repeat<T>(entries: &[(&[u8], T)]) -> bool
     requires { length entries.now ≤ MAX_FIELDS }
-    ensures { result ≡ repeats (map (λ entry. entry.0.now) entries.now) }
+    ensures { result ≡ has_repeat (map (λ entry. entry.0.now) entries.now) }
 {
     if entries.len() <= FEW {
         has_repeat_among_few(entries)
@@ -24,7 +24,7 @@ pub(crate) fn has_repeat<T>(entries: &[(&[u8], T)]) -> bool
 
 /// The same, pair by pair.
 fn has_repeat_among_few<T>(entries: &[(&[u8], T)]) -> bool
-    ensures { result ≡ repeats (map (λ entry. entry.0.now) entries.now) }
+    ensures { result ≡ has_repeat (map (λ entry. entry.0.now) entries.now) }
 {
     let mut left = entries;
     while let [first, others @ ..] = left {
@@ -39,7 +39,7 @@ fn has_repeat_among_few<T>(entries: &[(&[u8], T)]) -> bool
 /// The same, by the keys in order.
 fn has_repeat_among_many<T>(entries: &[(&[u8], T)]) -> bool
     requires { length entries.now ≤ MAX_FIELDS }
-    ensures { result ≡ repeats (map (λ entry. entry.0.now) entries.now) }
+    ensures { result ≡ has_repeat (map (λ entry. entry.0.now) entries.now) }
 {
     let mut keys: [&[u8]; MAX_FIELDS] = [b""; MAX_FIELDS];
     let mut count = 0;
@@ -52,7 +52,7 @@ fn has_repeat_among_many<T>(entries: &[(&[u8], T)]) -> bool
 
 /// Whether a key stands twice among keys, which are sorted.
 fn has_repeat_once_sorted(keys: &mut [&[u8]]) -> bool
-    ensures { result ≡ repeats (map (λ key. key.now) keys.old) }
+    ensures { result ≡ has_repeat (map (λ key. key.now) keys.old) }
 {
     keys.sort_unstable();
     !rise(keys)

@@ -1,16 +1,17 @@
 //! The tags of a line.
 
 ghost use Rattle.std.specs.Prelude.{◌≡◌, ◌≤◌, length, IfOk};
+ghost use Rattle.rr_base.specs.Results.{Gives, GivesUnless};
 ghost use Rattle.rr_key.specs.Making.{tags_of};
-ghost use Rattle.rr_key.specs.declared.limits.TheConstants.{MAX_TAGS};
-ghost use Rattle.rr_line.specs.Answer.{Gives, GivesUnlessMemory, rest_view};
+ghost use Rattle.rr_base.specs.declared.limits.TheConstants.{MAX_TAGS};
+ghost use Rattle.rr_line.specs.Answer.{rest_view};
 ghost use Rattle.rr_line.specs.Gathering.{all_gathered_tags};
 ghost use Rattle.rr_line.specs.Reading.{tag_at, all_tags_at};
 
-use crate::delimiter::{COMMA, EQUALS};
 use crate::fault::LineFault;
-use crate::part::{begins, read_name, strip};
+use crate::part::read_name;
 use crate::repeat::has_repeat;
+use rr_base::bytes::{COMMA, EQUALS, begins, strip};
 use rr_key::{Class, MAX_TAGS};
 use std::alloc::{AllocError, Global};
 
@@ -19,7 +20,7 @@ pub(crate) fn read_tags<'a>(
     alloc: Global,
     text: &'a [u8],
 ) -> Result<(Vec<(&'a [u8], &'a [u8])>, &'a [u8]), LineFault>
-    ensures { GivesUnlessMemory (λ tags. (tags_of tags.0.items, tags.1.now)) result (all_tags_at text.now) }
+    ensures { GivesUnless LineFault.Memory (λ tags. (tags_of tags.0.items, tags.1.now)) result (all_tags_at text.now) }
 {
     let (tags, rest) = gather_tags(alloc, text)?;
     if has_repeat(&tags) {

@@ -7,11 +7,11 @@ ghost use Rattle.rr_line.specs.Part.{skip_spaces};
 ghost use Rattle.rr_line.specs.Reading.{time_at, word_time, ending_at};
 ghost use Rattle.rr_line.specs.Time.{word_len};
 
-use crate::delimiter::SPACE;
 use crate::fault::LineFault;
 use crate::part::skip_spaces;
 use crate::precision::Precision;
 use memchr::memchr;
+use rr_base::bytes::SPACE;
 use rr_base::text::{integer, is_digits, unsigned};
 
 /// The time behind the fields, in nanoseconds, if there is one.

@@ -1,18 +1,18 @@
 //! Values of fields.
 
 ghost use Rattle.std.specs.Prelude.{◌≡◌, ◌≤◌, ◌++◌, length, option_map};
+ghost use Rattle.rr_base.specs.Results.{Gives};
 ghost use Rattle.rr_base.specs.Text.{is_digits};
-ghost use Rattle.rr_line.specs.Answer.{Gives};
 ghost use Rattle.rr_line.specs.Reading.{value_at};
-ghost use Rattle.rr_line.specs.Value.{is_boolean, is_integer, is_unsigned, is_float, is_mantissa, is_exponent, mantissa_len, kind_fault, value_of, value_len, after_quote, behind_unit, is_text, quoted_fault, without_sign};
+ghost use Rattle.rr_line.specs.Value.{is_boolean, is_one_of, trues, falses, is_integer, is_unsigned, is_float, is_mantissa, is_exponent, mantissa_len, kind_fault, value_of, value_len, after_quote, behind_unit, is_text, quoted_fault, without_sign};
 
-use crate::delimiter::{
-    BACKSLASH, COMMA, EXPONENT_MARK, GREAT_EXPONENT_MARK, INTEGER_MARK, MINUS, PLUS, POINT, QUOTE,
-    SPACE, UNSIGNED_MARK,
-};
 use crate::fault::LineFault;
-use crate::part::{before_last, begins};
+use crate::mark::{
+    EXPONENT_MARK, GREAT_EXPONENT_MARK, INTEGER_MARK, PLUS, POINT, QUOTE, UNSIGNED_MARK,
+};
+use crate::part::before_last;
 use memchr::memchr2;
+use rr_base::bytes::{BACKSLASH, COMMA, MINUS, SPACE, begins};
 use rr_base::text::{cut, integer, is_digits, unsigned};
 
 /// A value and what follows it: a value that is no integer is refused by what it is.
@@ -71,10 +71,27 @@ fn kind_fault(text: &[u8]) -> LineFault
 fn is_boolean(text: &[u8]) -> bool
     ensures { result ≡ is_boolean text.now }
 {
-    matches!(
-        text,
-        b"t" | b"T" | b"true" | b"True" | b"TRUE" | b"f" | b"F" | b"false" | b"False" | b"FALSE"
-    )
+    is_true(text) || is_false(text)
+}
+
+fn is_true(text: &[u8]) -> bool
+    ensures { result ≡ is_one_of trues text.now }
+{
+    text == b"t".as_slice()
+        || text == b"T".as_slice()
+        || text == b"true".as_slice()
+        || text == b"True".as_slice()
+        || text == b"TRUE".as_slice()
+}
+
+fn is_false(text: &[u8]) -> bool
+    ensures { result ≡ is_one_of falses text.now }
+{
+    text == b"f".as_slice()
+        || text == b"F".as_slice()
+        || text == b"false".as_slice()
+        || text == b"False".as_slice()
+        || text == b"FALSE".as_slice()
 }
 
 /// Whether the text is digits and the mark of an unsigned integer.

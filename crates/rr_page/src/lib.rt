@@ -9,8 +9,6 @@
 mod fault;
 mod fields;
 mod reading;
-#[cfg(test)]
-mod tests;
 mod writing;
 
 pub use fault::PageFault;

@@ -13,14 +13,10 @@ mod archives;
 mod cell;
 mod fault;
 mod joining;
-#[cfg(test)]
-mod joining_tests;
 pub mod laws;
 mod listing;
 mod replica;
 mod sample;
-#[cfg(test)]
-mod tests;
 
 pub use cell::{Cell, CellRef};
 pub use fault::{JoinFault, PutFault, WriteFault};

@@ -4,7 +4,7 @@ ghost use Rattle.std.specs.Option.{option_map};
 ghost use Rattle.std.specs.FinMap as fin;
 ghost use Rattle.rr_base.specs.Schema.{IsLayout};
 ghost use Rattle.rr_key.specs.Making.{making_fault};
-ghost use Rattle.rr_line.specs.declared.limits.TheConstants.{MAX_FIELDS};
+ghost use Rattle.rr_base.specs.declared.limits.TheConstants.{MAX_FIELDS};
 ghost use Rattle.rr_line.specs.Key.{HasKeys, names_of, key_text};
 ghost use Rattle.rr_line.specs.Line.{point_view};
 ghost use Rattle.rr_replica.specs.Writing.{is_ahead};

@@ -1,5 +1,5 @@
 -- fetch NODE CF RESOLUTION START END KEY
-use Rattle.std.proofs.Common.{◌≡◌, ℕ, List, [], ◌∷◌, Option, None, Some, IfSome, option_map, Result, Ok, Err, refl, sym, ap, subst, ◌∙◌}
+use Rattle.std.proofs.Common.{◌≡◌, ℕ, List, [], ◌∷◌, None, Some, IfSome, option_map, Result, Ok, Err, refl, sym, ap, subst, ◌∙◌}
 use Rattle.std.specs.FinMap as map
 use Rattle.rr_archive.specs.declared.archive.Archive.{Ghosts}
 use Rattle.rr_base.specs.Text.{cut_at}
@@ -15,13 +15,13 @@ use Rattle.rr_model.specs.Knowledge.{Knowledge}
 use Rattle.rr_replica.specs.Cells.{Cells}
 use Rattle.rr_replica.specs.Holding.{Holding}
 use Rattle.rr_cluster.specs.declared.cluster.Cluster.{Cluster}
-use Rattle.rr_cluster.specs.declared.event.TheConstants.{SPACE}
+use Rattle.rr_base.specs.declared.bytes.TheConstants.{SPACE}
 use Rattle.rr_cluster.specs.declared.fault.CommandFault.{CommandFault}
 use Rattle.rr_cluster.specs.declared.fault.CommandFault.TheVariants.{NoNode}
 use Rattle.rr_cluster.specs.declared.stop.Stop.{Stop}
 use Rattle.rr_cluster.specs.Agreement.{in_cells, node_in_cells}
-use Rattle.rr_cluster.specs.Checks.{◌>>=◌}
-use Rattle.rr_cluster.specs.Command.{Command, fetch, IsOneLine}
+use Rattle.rr_base.specs.Results.{◌>>=◌}
+use Rattle.rr_cluster.specs.Command.{fetch, IsOneLine}
 use Rattle.rr_cluster.specs.Commands.Fetch.{fetch_command, request_of, answer_to}
 use Rattle.rr_cluster.specs.Meaning.{node_of, replica_at, Represents}
 use Rattle.rr_cluster.specs.Model.{Model, cell_model, sample_model}

@@ -1,5 +1,5 @@
 -- node NAME ORIGIN
-use Rattle.std.proofs.Common.{◌≡◌, ℕ, Bool, true, false, not, cond, ◌&&◌, ◌||◌, List, [], ◌∷◌, None, Some, IfSome, Ok, Err, refl, sym, ap, ◌∙◌, eq-eqb}
+use Rattle.std.proofs.Common.{◌≡◌, ℕ, Bool, true, false, not, cond, ◌&&◌, ◌||◌, List, [], ◌∷◌, None, IfSome, Ok, Err, refl, sym, ap, ◌∙◌, eq-eqb}
 use Rattle.std.specs.Prelude.{◌==◌}
 use Rattle.std.specs.List.{list_any}
 use Rattle.std.proofs.lemmas.Bool.{eqb-true}
@@ -30,7 +30,7 @@ use Rattle.rr_cluster.specs.declared.cluster.Cluster.{Cluster}
 use Rattle.rr_cluster.specs.declared.fault.CommandFault.{CommandFault}
 use Rattle.rr_cluster.specs.declared.fault.CommandFault.TheVariants.{BadName, NameUsed, OriginUsed}
 use Rattle.rr_cluster.specs.Agreement.{in_cells, node_in_cells}
-use Rattle.rr_cluster.specs.Checks.{checked}
+use Rattle.rr_base.specs.Results.{checked}
 use Rattle.rr_cluster.specs.Command.{IsOneLine}
 use Rattle.rr_cluster.specs.Commands.Node.{node_command, new_node, after_node}
 use Rattle.rr_cluster.specs.Meaning.{Represents}

@@ -6,15 +6,15 @@ use Rattle.rr_base.specs.declared.fault.SchemaFault.{SchemaFault}
 use Rattle.rr_base.specs.Check.{schema_fault}
 use Rattle.rr_base.specs.Schema.{Layout, IsLayout}
 use Rattle.rr_base.proofs.Checked.{checked_layout}
-use Rattle.rr_join.specs.Values.{map_values}
 use Rattle.rr_replica.specs.Cells.{Cells}
+use Rattle.rr_base.specs.Bytes.{bytes_cmp}
 use Rattle.rr_cluster.specs.declared.fault.CommandFault.TheVariants.{BadNumber}
 use Rattle.rr_cluster.specs.declared.words.TheConstants.{MAX_U32}
 use Rattle.rr_cluster.specs.Agreement.{in_cells, node_in_cells}
 use Rattle.rr_cluster.specs.Command.{IsOneLine}
 use Rattle.rr_cluster.specs.Commands.Schema.{schema_command, layout_of, unless_faulty}
 use Rattle.rr_cluster.specs.Soundness.{FirstStatesAreSound}
-use Rattle.rr_cluster.specs.State.{State, name_cmp, first_state}
+use Rattle.rr_cluster.specs.State.{State, first_state}
 use Rattle.rr_cluster.specs.Words.{archives_of, number_to}
 use Rattle.rr_join.proofs.ValuesLemmas.{map_values-empty}
 use Rattle.std.specs.Cmp.Lexicographic.{nat_list_cmp_total}
@@ -42,9 +42,9 @@ first_states_agree s = λ i. record (first_state s) { nodes = sym (map_values-em
 pub first_states_are_sound : FirstStatesAreSound
 first_states_are_sound s is = record {
   layout = is;
-  shared = λ name n e. let none = sym (get-empty name_cmp name) ∙ e in absurd cc;
-  nodes = λ name n e. let none = sym (get-empty name_cmp name) ∙ e in absurd cc;
-  apart = λ a b n o e h same. let none = sym (get-empty name_cmp a) ∙ e in absurd cc;
-  used = λ name n e. let none = sym (get-empty name_cmp name) ∙ e in absurd cc;
+  shared = λ name n e. let none = sym (get-empty bytes_cmp name) ∙ e in absurd cc;
+  nodes = λ name n e. let none = sym (get-empty bytes_cmp name) ∙ e in absurd cc;
+  apart = λ a b n o e h same. let none = sym (get-empty bytes_cmp a) ∙ e in absurd cc;
+  used = λ name n e. let none = sym (get-empty bytes_cmp name) ∙ e in absurd cc;
   written = λ x e. let none = sym (get-empty _ (x.origin, x.number)) ∙ e in absurd cc;
 }

@@ -2,7 +2,6 @@
 use Rattle.std.proofs.Common.{◌≡◌, ◌≢◌, ℕ, ◌+◌, ◌<◌, ℤ, not, eqb, List, [], ◌∷◌, Option, Some, None, IfSome, IsTrue, length, Result, Ok, Err, refl, sym, ap, subst, ◌∙◌, inl, inr, arith, ⊎_elim}
 use Rattle.std.specs.Prelude.{◌-◌, nat_lt, unwrap_or, IsFalse}
 use Rattle.std.specs.List.{list_any}
-use Rattle.std.specs.Option.{is_some, option_map}
 use Rattle.std.specs.Cmp.Lexicographic.{nat_list_cmp_total}
 use Rattle.std.specs.FinMap as map
 use Rattle.std.proofs.lemmas.Bool.{cases_Bool, or_parts}
@@ -13,11 +12,12 @@ use Rattle.rr_base.specs.declared.limits.TheConstants.{MAX_NUMBER}
 use Rattle.rr_join.proofs.ValuesLemmas.{get-insert_itself, insert_there, insert_twice}
 use Rattle.rr_line.specs.declared.precision.Precision.TheVariants.{Ns}
 use Rattle.rr_line.specs.Key.{key_text}
-use Rattle.rr_line.specs.Line.{LineView, PointView, HasNoLineFeed, nothing, point}
+use Rattle.rr_base.specs.Bytes.{HasNoLineFeed}
+use Rattle.rr_line.specs.Line.{LineView, PointView, nothing, point}
 use Rattle.rr_line.specs.Reading.{reading}
 use Rattle.rr_model.specs.Knowledge.{Knowledge, IsAheadOf, with_marks}
 use Rattle.rr_model.specs.Samples.{Sample, marks_of}
-use Rattle.rr_model.specs.World.{World, IsNext, IsWritten, HoldsAllOf, with_sample}
+use Rattle.rr_model.specs.World.{World, IsNext, HoldsAllOf, with_sample}
 use Rattle.rr_model.proofs.Writes.{writer_stays_closed, writer_holds_own, others_stay_closed, others_hold_own, written_now}
 use Rattle.rr_replica.specs.declared.fault.WriteFault.{WriteFault}
 use Rattle.rr_replica.specs.declared.fault.WriteFault.TheVariants as why
@@ -27,13 +27,13 @@ use Rattle.rr_replica.specs.Holding.{Holding, with_put}
 use Rattle.rr_replica.specs.Writing.{with_fields, is_ahead, lacks_numbers, IsAfterRefusal}
 use Rattle.rr_replica.proofs.OneSampleMore.{put_is_one_sample_more}
 use Rattle.rr_cluster.specs.declared.cluster.Cluster.{Cluster}
-use Rattle.rr_cluster.specs.declared.event.TheConstants.{LINE_FEED, SPACE}
+use Rattle.rr_base.specs.declared.bytes.TheConstants.{LINE_FEED, SPACE}
 use Rattle.rr_cluster.specs.declared.fault.CommandFault.{CommandFault}
 use Rattle.rr_cluster.specs.declared.fault.CommandFault.TheVariants.{NoNode, Write}
 use Rattle.rr_cluster.specs.declared.stop.Stop.{Stop}
 use Rattle.rr_cluster.specs.declared.stop.Stop.TheVariants.{Refused, Memory}
 use Rattle.rr_cluster.specs.Agreement.{in_cells, node_in_cells}
-use Rattle.rr_cluster.specs.Checks.{◌>>=◌, checked}
+use Rattle.rr_base.specs.Results.{◌>>=◌, checked}
 use Rattle.rr_cluster.specs.Command.{write, IsOneLine}
 use Rattle.rr_cluster.specs.Commands.Write.{write_command, line_of, samples_of, samples_of_point, samples_of_view, samples_of_line, with_samples, with_written, with_all_written, after_write}
 use Rattle.rr_cluster.specs.Meaning.{node_of, replica_at, Represents, Leaves, Writes}

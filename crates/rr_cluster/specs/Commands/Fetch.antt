@@ -1,5 +1,5 @@
 -- fetch NODE CF RESOLUTION START END KEY
-use Rattle.std.specs.Prelude.{ℕ, List, [], ◌∷◌, Option, None, Some, Result, Ok, Err, ok_or}
+use Rattle.std.specs.Prelude.{ℕ, List, ◌∷◌, Option, None, Some, Result, Ok, Err, ok_or}
 use Rattle.std.specs.FinMap.{get}
 use Rattle.rr_model.specs.FetchText.{Request}
 use Rattle.rr_fetch.specs.declared.fault.RequestFault.{RequestFault}
@@ -7,7 +7,7 @@ use Rattle.rr_fetch.specs.Requests.{read}
 use Rattle.rr_fetch.specs.Words.{Parts}
 use Rattle.rr_cluster.specs.declared.fault.CommandFault.{CommandFault}
 use Rattle.rr_cluster.specs.declared.fault.CommandFault.TheVariants.{NoNode, Fetch}
-use Rattle.rr_cluster.specs.Checks.{◌>>=◌}
+use Rattle.rr_base.specs.Results.{◌>>=◌}
 use Rattle.rr_cluster.specs.Command.{Command, fetch}
 use Rattle.rr_cluster.specs.Model.{Model}
 use Rattle.rr_cluster.specs.State.{State}

@@ -13,7 +13,7 @@ use Rattle.rr_replica.specs.declared.fault.WriteFault.TheVariants.{AheadOfClock,
 use Rattle.rr_replica.specs.Writing.{is_ahead}
 use Rattle.rr_cluster.specs.declared.fault.CommandFault.{CommandFault}
 use Rattle.rr_cluster.specs.declared.fault.CommandFault.TheVariants.{NoNode, Line, Write}
-use Rattle.rr_cluster.specs.Checks.{◌>>=◌, checked}
+use Rattle.rr_base.specs.Results.{◌>>=◌, checked}
 use Rattle.rr_cluster.specs.Command.{Command, write}
 use Rattle.rr_cluster.specs.Model.{Model}
 use Rattle.rr_cluster.specs.State.{Node, State}

@@ -1,9 +1,9 @@
 use Rattle.std.proofs.Common.{◌≡◌, map, length}
-use Rattle.rr_line.specs.Gathering.{repeats}
+use Rattle.rr_base.specs.Bytes.{has_repeat}
 use Rattle.rr_line.proofs.repeat.has_repeat_among_few.Given as goal
 
 abbrev pub invariant-loop-left : goal.invariant-loop-left
-invariant-loop-left g l = repeats (map (λ entry. entry.0.now) l.left) ≡ repeats (map (λ entry. entry.0.now) l.entries)
+invariant-loop-left g l = has_repeat (map (λ entry. entry.0.now) l.left) ≡ has_repeat (map (λ entry. entry.0.now) l.entries)
 
 abbrev pub decreases-loop-left : goal.decreases-loop-left
 decreases-loop-left g l = length l.left

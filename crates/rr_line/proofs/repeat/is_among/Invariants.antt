@@ -1,5 +1,5 @@
 use Rattle.std.proofs.Common.{◌≡◌, map, drop}
-use Rattle.rr_line.specs.Tag.{is_among}
+use Rattle.rr_base.specs.Bytes.{is_among}
 use Rattle.rr_line.proofs.repeat.is_among.Given as goal
 
 abbrev pub invariant-loop-entry : goal.invariant-loop-entry

@@ -1,6 +1,6 @@
 -- What `memchr` finds is where the first delimiter stands.
 use Rattle.memchr.specs.Find.{is_byte2}
-use Rattle.rr_line.specs.declared.delimiter.TheConstants.{EXPONENT_MARK, GREAT_EXPONENT_MARK}
+use Rattle.rr_line.specs.declared.mark.TheConstants.{EXPONENT_MARK, GREAT_EXPONENT_MARK}
 use Rattle.rr_line.proofs.PartLemmas.{found_first, found_none}
 use Rattle.rr_line.proofs.value.mantissa_len.Goals as goal
 

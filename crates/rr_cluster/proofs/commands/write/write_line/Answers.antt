@@ -1,8 +1,7 @@
-use Rattle.std.proofs.Common.{◌≡◌, true, None, refl, sym, ap, rules}
+use Rattle.std.proofs.Common.{◌≡◌, None, refl, sym, ap, rules}
 use Rattle.std.specs.Int.{w64}
 use Rattle.std.specs.Option.{is_some}
 use Rattle.std.proofs.Math.Facts.{to_z-of_z}
-use Rattle.rr_cluster.specs.Meaning.{replica_at}
 use Rattle.rr_cluster.specs.Model.{cell_model}
 use Rattle.rr_cluster.proofs.CommandsLemmas.Write.{no_node, leaves_written}
 use Rattle.rr_cluster.proofs.MeaningLemmas.{changed, node_at, represents_same}

@@ -1,0 +1,45 @@
+//! The bytes that divide lines, keys, scripts and requests.
+
+ghost use Rattle.std.specs.Prelude.{◌≡◌, option_map};
+ghost use Rattle.rr_base.specs.Bytes.{begins, strip};
+
+/// Ends a line.
+pub const LINE_FEED: u8 = b'\n';
+
+/// Dropped at the end of a line.
+pub const RETURN: u8 = b'\r';
+
+/// Separates words, and the parts of a line.
+pub const SPACE: u8 = b' ';
+
+/// Separates the measurement, the tags and the fields.
+pub const COMMA: u8 = b',';
+
+/// Separates a key from its value.
+pub const EQUALS: u8 = b'=';
+
+/// Escapes the special byte after it.
+pub const BACKSLASH: u8 = b'\\';
+
+/// Begins a comment.
+pub const HASH: u8 = b'#';
+
+/// The sign of a number below zero.
+pub const MINUS: u8 = b'-';
+
+/// Whether a byte is at the front of the text.
+pub fn begins(byte: u8, text: &[u8]) -> bool
+    ensures { result ≡ begins byte text.now }
+{
+    matches!(text, [first, ..] if *first == byte)
+}
+
+/// The text after a byte at its front.
+pub fn strip(byte: u8, text: &[u8]) -> Option<&[u8]>
+    ensures { option_map (λ rest. rest.now) result ≡ strip byte text.now }
+{
+    match text {
+        [first, rest @ ..] if *first == byte => Some(rest),
+        _ => None,
+    }
+}

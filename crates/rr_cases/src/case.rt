@@ -1,0 +1,93 @@
+//! A case: a file of input and the file of its expected output.
+
+use crate::kind::Kind;
+use anyhow::{Context, Result};
+use std::alloc::{AllocError, Global};
+use std::rt::Files;
+use std::{fs, io};
+
+/// How the name of a file of expected output ends.
+const EXPECTED: &str = ".out";
+
+/// The folder of all cases, where it isn't the folder that the program runs in.
+const DATA: &str = "data/";
+
+/// The paths of the files of input of one kind, in order.
+pub(crate) fn inputs<R: Files + AllocGlobal + Clone + Drop>(
+    rt: &R,
+    kind: Kind,
+) -> io::Result<Vec<String>> {
+    let top = if fs::exists(rt, DATA)? { DATA } else { "" };
+    let folder = format!(in rt.alloc(); "{top}{}", kind.folder())?;
+    let folder = folder.as_str();
+    let mut paths = Vec::new(rt.alloc());
+    for entry in fs::read_dir(rt, folder)? {
+        let entry = entry?;
+        let name = entry.file_name();
+        if !name.ends_with(EXPECTED) {
+            paths.push(format!(in rt.alloc(); "{folder}/{name}")?)?;
+        }
+    }
+    paths.sort()?;
+    Ok(paths)
+}
+
+/// The path of the expected output: that of the input with another ending.
+fn expected_path(alloc: Global, input: &str) -> Result<String, AllocError> {
+    let stem = match input.rsplit_once('.') {
+        Some((stem, _)) => stem,
+        None => input,
+    };
+    format!(in alloc; "{stem}{EXPECTED}")
+}
+
+/// Where two texts first differ: the number of the line, and what each has there.
+fn difference<'a>(expected: &'a [u8], got: &'a [u8]) -> Option<(usize, &'a [u8], &'a [u8])> {
+    let mut number = 0usize;
+    let is_end = |byte: &u8| *byte == b'\n';
+    for (wanted, found) in expected.split(is_end).zip(got.split(is_end)) {
+        number = number.saturating_add(1);
+        if wanted != found {
+            return Some((number, wanted, found));
+        }
+    }
+    None
+}
+
+/// Prints where what a file gives first differs from what is expected of it.
+fn report(
+    rt: &(impl AllocGlobal + Print),
+    file: &str,
+    expected: &[u8],
+    got: &[u8],
+) -> io::Result<()> {
+    let Some((number, wanted, found)) = difference(expected, got) else {
+        return println!(rt;
+            "{file}: expected {} bytes, got {}",
+            expected.len(),
+            got.len()
+        );
+    };
+    let wanted = String::from_utf8_lossy(rt.alloc(), wanted)?;
+    let found = String::from_utf8_lossy(rt.alloc(), found)?;
+    let (wanted, found) = (wanted.as_str(), found.as_str());
+    println!(rt; "{file}: expected in line {number} '{wanted}', got '{found}'")
+}
+
+/// Whether the case of a file of input holds; where it doesn't, the first difference is printed.
+pub(crate) fn holds(
+    rt: &(impl Files + AllocGlobal + Print),
+    kind: Kind,
+    file: &str,
+) -> Result<bool> {
+    let alloc = rt.alloc();
+    let input = fs::read(rt, file).context(file)?;
+    let expected_file = expected_path(alloc, file)?;
+    let expected = fs::read(rt, expected_file.as_str()).context("no expected output")?;
+    let got = kind.output(alloc, &input)?;
+    if got.as_slice() == expected.as_slice() {
+        return Ok(true);
+    }
+    report(rt, file, &expected, &got)?;
+    Ok(false)
+}

@@ -1,0 +1,42 @@
+//! Schemas as TOML texts. A line `---` stands between two of them.
+
+use rr_base::Schema;
+use std::alloc::{AllocError, Global};
+
+/// The line between two texts.
+const SEPARATOR: &[u8] = b"---\n";
+
+/// For each text its schema in the words of a script's command `schema`, or why it is refused.
+pub(crate) fn answers(alloc: Global, input: &[u8]) -> Result<Vec<u8>, AllocError> {
+    let mut output = String::new(alloc);
+    let mut text = Vec::new(alloc);
+    for line in input.split_inclusive(|byte| *byte == b'\n') {
+        if line == SEPARATOR {
+            push_answer(alloc, &mut output, &text)?;
+            text.clear();
+        } else {
+            text.extend_from_slice(line)?;
+        }
+    }
+    push_answer(alloc, &mut output, &text)?;
+    Ok(output.into_bytes())
+}
+
+fn push_answer(alloc: Global, output: &mut String, text: &[u8]) -> Result<(), AllocError> {
+    match Schema::from_toml(alloc, text) {
+        Ok(schema) => push_schema(output, &schema),
+        Err(fault) => {
+            output.push_str(fault.name())?;
+            output.push('\n')
+        }
+    }
+}
+
+fn push_schema(output: &mut String, schema: &Schema) -> Result<(), AllocError> {
+    write!(output, "{}", schema.step())?;
+    for archive in schema.archives() {
+        let (steps, rows) = (archive.steps, archive.rows);
+        write!(output, " {steps}:{rows}:{}/{}", archive.num, archive.den)?;
+    }
+    output.push('\n')
+}

@@ -1,0 +1,53 @@
+//! The kinds of cases.
+
+use crate::{cells, documents, keys, lines};
+use anyhow::Result;
+use std::alloc::Global;
+
+/// What the files of a folder are.
+#[derive(Clone, Copy)]
+pub(crate) enum Kind {
+    /// A script, and what it prints.
+    Script,
+    /// Lines of the line protocol, and their report.
+    Lines,
+    /// Schemas as TOML texts, and what each is read as.
+    Documents,
+    /// Key texts, a line each, and which of them are.
+    Keys,
+    /// A cell in hexadecimal and changes of its bytes, and what each is read as.
+    Cell,
+}
+
+impl Kind {
+    /// Each kind once.
+    pub(crate) const ALL: [Kind; 5] = [
+        Kind::Script,
+        Kind::Lines,
+        Kind::Documents,
+        Kind::Keys,
+        Kind::Cell,
+    ];
+
+    /// The folder of its cases.
+    pub(crate) fn folder(self) -> &'static str {
+        match self {
+            Kind::Script => "scripts",
+            Kind::Lines => "lines",
+            Kind::Documents => "documents",
+            Kind::Keys => "keys",
+            Kind::Cell => "cells",
+        }
+    }
+
+    /// What the libraries answer to a file's bytes.
+    pub(crate) fn output(self, alloc: Global, input: &[u8]) -> Result<Vec<u8>> {
+        match self {
+            Kind::Script => Ok(rr_cluster::run(alloc, input)?),
+            Kind::Lines => lines::answers(alloc, input),
+            Kind::Documents => Ok(documents::answers(alloc, input)?),
+            Kind::Keys => Ok(keys::answers(alloc, input)?),
+            Kind::Cell => cells::answers(alloc, input),
+        }
+    }
+}

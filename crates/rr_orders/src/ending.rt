@@ -1,0 +1,69 @@
+//! How a run of the program ends.
+
+ghost use Rattle.std.specs.Prelude.{◌≡◌};
+
+use rr_report::ToolFault;
+use rr_words::WordsFault;
+use std::io;
+
+/// How a run of the program ends.
+#[derive(Debug, Drop, PartialEq, Eq)]
+pub enum Ending {
+    /// The order is obeyed.
+    Done,
+    /// The order is obeyed, and lines were refused.
+    LinesRefused,
+    /// The command line is refused; with the text for standard error.
+    WordsRefused(String),
+    /// The order can't be obeyed.
+    Failed(ToolFault),
+}
+
+impl Ending {
+    ghost use Rattle.rr_orders.specs.Ending.{ending_of_lines, status_of};
+
+    /// The ending after lines, by how many of them were refused.
+    pub fn of_lines(refused: u64) -> Ending
+        ensures { result ≡ ending_of_lines refused }
+    {
+        if refused == 0 {
+            Ending::Done
+        } else {
+            Ending::LinesRefused
+        }
+    }
+
+    /// The status of the process.
+    pub fn status(&self) -> u8
+        ensures { result ≡ status_of self.now }
+    {
+        match self {
+            Ending::Done => 0,
+            Ending::LinesRefused => 1,
+            Ending::WordsRefused(_) => 2,
+            Ending::Failed(_) => 3,
+        }
+    }
+
+    /// Prints on standard error why the order isn't obeyed; nothing where it is.
+    pub fn print(&self, rt: &impl Eprint) -> io::Result<()> {
+        match self {
+            Ending::Done | Ending::LinesRefused => Ok(()),
+            Ending::WordsRefused(text) => rt.eprint(text),
+            Ending::Failed(fault) => rt.eprintln(fault.message()),
+        }
+    }
+}
+
+impl From<WordsFault> for Ending {
+    ghost use Rattle.rr_orders.specs.Ending.{of_words_fault};
+
+    ghost from_gives = { λ fault e. e ≡ of_words_fault fault };
+
+    fn from(fault: WordsFault) -> Ending {
+        match fault {
+            WordsFault::Refused(text) => Ending::WordsRefused(text),
+            WordsFault::Memory => Ending::Failed(ToolFault::Memory),
+        }
+    }
+}

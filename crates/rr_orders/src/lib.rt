@@ -1,0 +1,24 @@
+//! What the program does: an order obeyed over two streams, and how that ends.
+//!
+//! ```text
+//! words ── read_words ──> an order ── obey_order ──> the output, and an ending with its status
+//! ```
+//!
+//! [`obey_order`] runs a script or checks lines, from a reader to a writer, and its contract says
+//! what is written. [`run`] does so for a process: it reads the process's words and picks its
+//! streams, by the traits of a runtime, so that a test can stand in for the process.
+//!
+//! Streams are counted, so that one is blamed only where a call of it failed. A run ends with status
+//! 0 where it is done, 1 where lines were refused, 2 where the command line is, and 3 where reading
+//! or writing failed or memory ran out ([`Ending`]).
+#![tactic(auto)]
+
+mod ending;
+mod orders;
+mod process;
+mod script;
+
+pub use ending::Ending;
+pub use orders::obey_order;
+pub use process::{obey, read_order, run};
+pub use script::run_script;

@@ -1,0 +1,121 @@
+//! The report of a line: a record for each of its samples, or why it is refused.
+
+ghost use Rattle.std.specs.Prelude.{◌≡◌, ◌≢◌, ◌++◌, None, IfOk, OnOk, is_err};
+ghost use Rattle.rr_feed.specs.Items.{item_view, IsLine};
+ghost use Rattle.rr_key.specs.Making.{making_fault};
+ghost use Rattle.rr_line.specs.Fault.{line_fault_name};
+ghost use Rattle.rr_line.specs.Key.{HasKeys, key_text, names_of};
+ghost use Rattle.rr_line.specs.Line.{point_view, HasNoLineFeed};
+ghost use Rattle.rr_line.specs.Reading.{reading};
+ghost use Rattle.rr_records.specs.Records.{refusal_text};
+ghost use Rattle.rr_report.specs.Report.{is_refused, item_text, line_text, point_text, sample_text};
+
+use itoa::Buffer;
+use rr_feed::{FeedLine, LINE_TOO_LONG};
+use rr_line::{Line, LineFault, Point, Precision, parse_line};
+use rr_records::Records;
+use std::alloc::{AllocError, Global};
+
+/// Adds the record of a sample: its key text, its value and its time.
+fn push_sample(records: &mut Records, key: &[u8], value: i64, time: i64) -> Result<(), AllocError>
+    ensures { OnOk result (records.new ≡ records.old ++ sample_text key.now value time) }
+{
+    let mut value_buffer = Buffer::new();
+    let mut time_buffer = Buffer::new();
+    let value = value_buffer.format(value).as_bytes();
+    let time = time_buffer.format(time).as_bytes();
+    records.push(&[key, value, time])
+}
+
+/// Adds the sample of a field.
+fn push_field(
+    alloc: Global,
+    records: &mut Records,
+    point: &Point<'_>,
+    time: i64,
+    field: &(&[u8], i64),
+) -> Result<(), AllocError>
+    requires { making_fault (names_of (point_view point.now) field.now.0.now) ≡ None }
+    ensures { OnOk result (records.new
+        ≡ records.old ++ sample_text (key_text (point_view point.now) field.now.0.now) field.now.1 time) }
+{
+    let (name, value) = *field;
+    let key = point.series_key(alloc, name)?;
+    push_sample(records, key.text(), value, time)
+}
+
+/// Adds the samples of a point; one without a time is of the time `now`.
+fn push_point(
+    alloc: Global,
+    records: &mut Records,
+    point: &Point<'_>,
+    now: i64,
+) -> Result<(), AllocError>
+    requires { HasKeys (point_view point.now) }
+    ensures { OnOk result (records.new ≡ records.old ++ point_text now (point_view point.now)) }
+{
+    let time = point.time.unwrap_or(now);
+    for field in &point.fields {
+        push_field(alloc, records, point, time, field)?;
+    }
+    Ok(())
+}
+
+/// Adds the refusal of the line of this number, unless memory ran out.
+fn push_fault(records: &mut Records, number: u64, fault: LineFault) -> Result<(), AllocError>
+    ensures pushed { OnOk result (records.new ≡ records.old ++ refusal_text number (line_fault_name fault)) }
+    ensures read { OnOk result (fault ≢ LineFault.Memory) }
+{
+    match fault {
+        LineFault::Memory => Err(AllocError),
+        _ => records.push_refusal(number, fault.name()),
+    }
+}
+
+/// Adds the report of the line of this number, and says whether it is refused.
+fn push_line(
+    alloc: Global,
+    records: &mut Records,
+    line: &[u8],
+    number: u64,
+    precision: Precision,
+    now: i64,
+) -> Result<bool, AllocError>
+    requires { HasNoLineFeed line.now }
+    ensures pushed { OnOk result (records.new ≡ records.old ++ line_text now number (reading precision line.now)) }
+    ensures refused { IfOk result (λ refused. refused ≡ is_err (reading precision line.now)) }
+{
+    match parse_line(alloc, line, precision) {
+        Ok(Line::Nothing) => Ok(false),
+        Ok(Line::Point(point)) => {
+            push_point(alloc, records, &point, now)?;
+            Ok(false)
+        }
+        Err(fault) => {
+            push_fault(records, number, fault)?;
+            Ok(true)
+        }
+    }
+}
+
+/// Adds the report of the item of this number, and says whether it is refused.
+pub(crate) fn push_item(
+    alloc: Global,
+    records: &mut Records,
+    item: FeedLine<'_>,
+    number: u64,
+    precision: Precision,
+    now: i64,
+) -> Result<bool, AllocError>
+    requires { IsLine (item_view item) }
+    ensures pushed { OnOk result (records.new ≡ records.old ++ item_text precision now number (item_view item.entry)) }
+    ensures refused { IfOk result (λ refused. refused ≡ is_refused precision (item_view item.entry)) }
+{
+    match item {
+        FeedLine::Line(line) => push_line(alloc, records, line, number, precision, now),
+        FeedLine::TooLong => {
+            records.push_refusal(number, LINE_TOO_LONG)?;
+            Ok(true)
+        }
+    }
+}

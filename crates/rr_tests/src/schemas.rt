@@ -1,0 +1,124 @@
+//! Origins and schemas: slots, places and known rows, which archive answers, and the bytes.
+
+use rr_base::{ArchiveSpec, Origin, Schema, SchemaFault};
+use std::alloc::Global;
+use std::test::Fail;
+
+const MINUTE: ArchiveSpec = ArchiveSpec {
+    steps: 1,
+    rows: 3,
+    num: 0,
+    den: 1,
+};
+
+/// Five steps, at most half of which may be unknown.
+const FIVE_MINUTES: ArchiveSpec = ArchiveSpec {
+    steps: 5,
+    rows: 2,
+    num: 1,
+    den: 2,
+};
+
+const HOUR: ArchiveSpec = ArchiveSpec {
+    steps: 60,
+    rows: 1,
+    num: 0,
+    den: 1,
+};
+
+fn three_archives(alloc: Global) -> Result<Schema, SchemaFault> {
+    Schema::new(alloc, 60, &[MINUTE, FIVE_MINUTES, HOUR])
+}
+
+#[test]
+fn times_fall_into_slots_and_places(rt: HostRuntime) -> Result<(), Fail> {
+    let schema = three_archives(rt.alloc())?;
+    assert!(rt; schema.archives().len() == 3);
+    for (time, want) in [
+        (0, (0, 0, 0, 0)),
+        (59_999_999_999, (0, 0, 0, 0)),
+        (60_000_000_000, (1, 0, 0, 1)),
+        (299_999_999_999, (4, 0, 0, 4)),
+        (300_000_000_000, (5, 0, 1, 0)),
+        (-1, (-1, 0, -1, 4)),
+        (-60_000_000_000, (-1, 0, -1, 4)),
+        (-60_000_000_001, (-2, 0, -1, 3)),
+        (-300_000_000_000, (-5, 0, -1, 0)),
+        (-300_000_000_001, (-6, 0, -2, 4)),
+        (i64::MAX, (153_722_867, 0, 30_744_573, 2)),
+        (i64::MIN, (-153_722_868, 0, -30_744_574, 2)),
+    ] {
+        let minute = (schema.slot(0, time), schema.place(0, time));
+        let five = (schema.slot(1, time), schema.place(1, time));
+        assert_eq!(rt; (minute.0, minute.1, five.0, five.1), want);
+    }
+    Ok(())
+}
+
+#[test]
+fn a_schema_has_what_it_was_made_of(rt: HostRuntime) -> Result<(), Fail> {
+    let schema = three_archives(rt.alloc())?;
+    let copy = schema.copy(rt.alloc())?;
+    assert!(rt; copy.archives().len() == 3);
+    let spans = (copy.span(0), copy.span(1), copy.span(2));
+    assert_eq!(rt;
+        (copy.step(), copy.byte_len(), spans),
+        (60, 32, (60, 300, 3_600))
+    );
+    assert_eq!(rt; copy.archives(), [MINUTE, FIVE_MINUTES, HOUR].as_slice());
+    Ok(())
+}
+
+#[test]
+fn enough_places_make_a_row_known(rt: HostRuntime) -> Result<(), Fail> {
+    let schema = three_archives(rt.alloc())?;
+    assert!(rt; schema.archives().len() == 3);
+    for (known, want) in [
+        (0, (false, false)),
+        (1, (true, false)),
+        (2, (true, false)),
+        (3, (true, true)),
+        (5, (true, true)),
+    ] {
+        let enough = (schema.known_enough(0, known), schema.known_enough(1, known));
+        assert_eq!(rt; enough, want);
+    }
+    Ok(())
+}
+
+#[test]
+fn the_greatest_span_within_the_resolution_answers(rt: HostRuntime) -> Result<(), Fail> {
+    let schema = three_archives(rt.alloc())?;
+    for (resolution, archive) in [
+        (0, 0),
+        (59, 0),
+        (60, 0),
+        (61, 0),
+        (299, 0),
+        (300, 1),
+        (301, 1),
+        (3_599, 1),
+        (3_600, 2),
+        (u64::MAX, 2),
+    ] {
+        assert_eq!(rt; schema.choose(resolution), archive);
+    }
+    Ok(())
+}
+
+#[test]
+fn a_schema_has_bytes(rt: HostRuntime) -> Result<(), Fail> {
+    let schema = Schema::new(rt.alloc(), 60, &[MINUTE])?;
+    let bytes = schema.bytes(rt.alloc())?;
+    let want = [0, 0, 0, 60, 1, 1, 0, 0, 0, 3, 0, 0, 0, 1];
+    assert_eq!(rt; bytes.as_slice(), want.as_slice());
+    Ok(())
+}
+
+#[test]
+fn origins_begin_at_1(rt: HostRuntime) {
+    for (number, want) in [(0, None), (1, Some(1)), (65_535, Some(65_535))] {
+        let origin = Origin::new(number).ok().map(|origin| origin.get());
+        assert_eq!(rt; origin, want);
+    }
+}

@@ -1,4 +1,0 @@
-pub mod WordsLemmas
-pub mod CsvLemmas
-pub mod PointLemmas
-pub mod ToldLemmas

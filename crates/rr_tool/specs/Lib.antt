@@ -1,6 +1,0 @@
-pub mod Fault
-pub mod Ending
-pub mod Program
-pub mod Words
-pub mod Checking
-pub mod Telling

@@ -1,5 +1,0 @@
-mod checking;
-mod endings;
-mod orders;
-mod scripts;
-mod streams;

@@ -1,0 +1,67 @@
+use Rattle.std.proofs.Common.{refl}
+use Rattle.clap.proofs.OnLiterals.{clap_on_literals}
+use Rattle.rr_words.proofs.laws.command_lines_are_read.Goals as goal
+
+pub returns-clause-no_words : goal.returns-clause-no_words
+unfolding clap_on_literals
+returns-clause-no_words c = refl
+
+pub returns-clause-sim : goal.returns-clause-sim
+unfolding clap_on_literals
+returns-clause-sim c = refl
+
+pub returns-clause-sim_of_a_file : goal.returns-clause-sim_of_a_file
+unfolding clap_on_literals
+returns-clause-sim_of_a_file c = refl
+
+pub returns-clause-check_lines : goal.returns-clause-check_lines
+unfolding clap_on_literals
+returns-clause-check_lines c = refl
+
+pub returns-clause-ns : goal.returns-clause-ns
+unfolding clap_on_literals
+returns-clause-ns c = refl
+
+pub returns-clause-us : goal.returns-clause-us
+unfolding clap_on_literals
+returns-clause-us c = refl
+
+pub returns-clause-ms : goal.returns-clause-ms
+unfolding clap_on_literals
+returns-clause-ms c = refl
+
+pub returns-clause-s : goal.returns-clause-s
+unfolding clap_on_literals
+returns-clause-s c = refl
+
+pub returns-clause-below_zero : goal.returns-clause-below_zero
+unfolding clap_on_literals
+returns-clause-below_zero c = refl
+
+pub returns-clause-dashed_word : goal.returns-clause-dashed_word
+unfolding clap_on_literals
+returns-clause-dashed_word c = refl
+
+pub returns-clause-plus : goal.returns-clause-plus
+unfolding clap_on_literals
+returns-clause-plus c = refl
+
+pub returns-clause-past_i64 : goal.returns-clause-past_i64
+unfolding clap_on_literals
+returns-clause-past_i64 c = refl
+
+pub returns-clause-other_precision : goal.returns-clause-other_precision
+unfolding clap_on_literals
+returns-clause-other_precision c = refl
+
+pub returns-clause-two_files : goal.returns-clause-two_files
+unfolding clap_on_literals
+returns-clause-two_files c = refl
+
+pub returns-clause-other_word : goal.returns-clause-other_word
+unfolding clap_on_literals
+returns-clause-other_word c = refl
+
+pub returns-clause-help : goal.returns-clause-help
+unfolding clap_on_literals
+returns-clause-help c = refl

@@ -1,0 +1,61 @@
+-- What the words of a command line ask for, by what clap makes of them.
+use Rattle.std.specs.Prelude.{◌≡◌, ℤ, pos, List, codes, Option, Some, None, option_map, string_bytes, if◌then◌else◌}
+use Rattle.std.specs.Option.{option_and_then}
+use Rattle.std.specs.Str.{bytes_eq}
+use Rattle.clap.specs.Walk.{Row, Text, first_of, is_empty}
+use Rattle.clap.specs.Words.{fault_of, subcommand_of}
+use Rattle.rr_base.specs.Text.{integer_at}
+use Rattle.rr_line.specs.declared.precision.Precision.{Precision}
+use Rattle.rr_line.specs.declared.precision.Precision.TheVariants.{Ns, Us, Ms, S}
+use Rattle.rr_words.specs.declared.order.Order.{Order}
+use Rattle.rr_words.specs.declared.order.Order.TheVariants as order
+use Rattle.rr_words.specs.Program.{program_app}
+
+-- an order, with its texts as bytes
+pub data Asked : Type 0 where
+  sim : Option Text → Asked
+  check_lines : Precision → ℤ → Asked
+
+abbrev pub asked_by : Order → Asked
+asked_by (order.Sim file) = sim (option_map string_bytes file)
+asked_by (order.CheckLines precision now) = check_lines precision now
+
+-- ns, us, ms or s; nanoseconds if none is written
+abbrev pub precision_at : Option Text → Option Precision
+precision_at None = Some Ns
+precision_at (Some text) =
+    if bytes_eq text (codes "ns") then Some Ns
+    else (if bytes_eq text (codes "us") then Some Us
+    else (if bytes_eq text (codes "ms") then Some Ms
+    else (if bytes_eq text (codes "s") then Some S else None)))
+
+-- an integer in i64; 0 if none is written
+abbrev pub moment_at : Option Text → Option ℤ
+moment_at None = Some (pos 0)
+moment_at (Some text) = integer_at text
+
+-- what the values of `check-lines` ask for
+abbrev pub lines_asked : List Row → Option Asked
+lines_asked rows = option_and_then
+    (λ precision. option_map (check_lines precision) (moment_at (first_of (codes "now") rows)))
+    (precision_at (first_of (codes "precision") rows))
+
+-- what a subcommand and its values ask for, or no subcommand
+abbrev pub asked_of : Option (Text × List Row) → Option Asked
+asked_of None = Some (sim None)
+asked_of (Some met) =
+    if bytes_eq met.0 (codes "sim") then Some (sim (first_of (codes "FILE") met.1))
+    else (if bytes_eq met.0 (codes "check-lines") then lines_asked met.1 else None)
+
+-- what words ask for that clap finds no fault in
+abbrev pub asked_at : List Text → Option Asked
+asked_at words =
+    if is_empty (fault_of program_app words) then asked_of (subcommand_of program_app words) else None
+
+-- the words ask for this
+abbrev pub AskFor : List Text → Asked → Type 0
+AskFor words asked = asked_at words ≡ Some asked
+
+-- the words are refused
+abbrev pub AskForNothing : List Text → Type 0
+AskForNothing words = asked_at words ≡ None

@@ -1,0 +1,20 @@
+//! What a command line asks for.
+
+use rr_line::Precision;
+
+/// What the words of a command line ask for.
+#[derive(Debug, Drop, PartialEq, Eq)]
+pub enum Order {
+    /// To run a script.
+    Sim {
+        /// The script's file; standard input where there is none.
+        file: Option<String>,
+    },
+    /// To check lines on standard input.
+    CheckLines {
+        /// The unit of their times.
+        precision: Precision,
+        /// The time of a line without one, in nanoseconds since the Unix epoch.
+        now: i64,
+    },
+}

@@ -1,0 +1,64 @@
+//! The program's command line, as `clap` is told of it.
+
+ghost use Rattle.std.specs.Prelude.{◌≡◌, false, IfOk};
+ghost use Rattle.clap.specs.Words.{app_of, rule_of};
+ghost use Rattle.clap.specs.declared.builder.command.Command.TheViews.{out-Command as fields_of};
+ghost use Rattle.rr_words.specs.Program.{sim_app, precision_rule, now_rule, check_lines_app, program_app};
+
+use clap::{Arg, Command};
+use std::alloc::{AllocError, Global};
+
+/// `sim [FILE]`.
+fn sim<'a>(alloc: Global) -> Result<Command<'a>, AllocError>
+    ensures app { IfOk result (λ c. app_of c ≡ sim_app) }
+    ensures local { IfOk result (λ c. (fields_of c).has_globals ≡ false) }
+{
+    let file = Arg::new(alloc, "FILE").help("The script, in place of standard input");
+    Command::new(alloc, "sim")
+        .about("Runs a script of several nodes (the default)")
+        .arg(file)
+}
+
+/// `--precision P`.
+fn precision_arg<'a>(alloc: Global) -> Arg<'a>
+    ensures rule { rule_of result ≡ precision_rule }
+    ensures local { result.global ≡ false }
+{
+    Arg::new(alloc, "precision")
+        .long("precision")
+        .value_name("P")
+        .help("The unit of times: ns, us, ms or s [default: ns]")
+}
+
+/// `--now T`.
+fn now_arg<'a>(alloc: Global) -> Arg<'a>
+    ensures rule { rule_of result ≡ now_rule }
+    ensures local { result.global ≡ false }
+{
+    Arg::new(alloc, "now").long("now").value_name("T").help(
+        "The time of lines without one, in nanoseconds; below zero as --now=T [default: 0]",
+    )
+}
+
+/// `check-lines [--precision P] [--now T]`.
+fn check_lines<'a>(alloc: Global) -> Result<Command<'a>, AllocError>
+    ensures app { IfOk result (λ c. app_of c ≡ check_lines_app) }
+    ensures local { IfOk result (λ c. (fields_of c).has_globals ≡ false) }
+{
+    Command::new(alloc, "check-lines")
+        .about("Checks lines on standard input and prints their samples")
+        .arg(precision_arg(alloc))?
+        .arg(now_arg(alloc))
+}
+
+/// The program and its subcommands.
+pub(crate) fn program<'a>(alloc: Global) -> Result<Command<'a>, AllocError>
+    ensures { IfOk result (λ c. app_of c ≡ program_app) }
+{
+    Command::new(alloc, "rr")
+        .bin_name("rr")?
+        .about("A replicated round-robin store for integer time series")
+        .no_binary_name(true)
+        .subcommand(sim(alloc)?)?
+        .subcommand(check_lines(alloc)?)
+}

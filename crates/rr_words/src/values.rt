@@ -1,0 +1,53 @@
+//! The values of arguments.
+
+ghost use Rattle.std.specs.Prelude.{◌≡◌, IfOk, option_map, string_bytes};
+ghost use Rattle.clap.specs.Words.{found_of, first_of, rows_of};
+ghost use Rattle.rr_words.specs.Words.{moment_at, precision_at};
+
+use clap::ArgMatches;
+use rr_base::text::integer;
+use rr_line::Precision;
+use std::alloc::{AllocError, Global};
+
+/// The value of an argument, if it is written.
+pub(crate) fn value_of<'a>(matches: &ArgMatches<'a>, id: &str) -> Option<&'a str>
+    ensures { option_map (λ s. s.now) result ≡ first_of id.now (rows_of (found_of matches.now)) }
+{
+    matches.get_str(id)
+}
+
+/// A text of the caller's own.
+pub(crate) fn owned(alloc: Global, text: Option<&str>) -> Result<Option<String>, AllocError>
+    ensures { IfOk result (λ o. option_map string_bytes o ≡ option_map (λ s. s.now) text.entry) }
+{
+    match text {
+        None => Ok(None),
+        Some(text) => Ok(Some(String::from_str(alloc, text)?)),
+    }
+}
+
+/// The precision that a text names; nanoseconds where there is none.
+pub(crate) fn precision_of(text: Option<&str>) -> Option<Precision>
+    ensures { result ≡ precision_at (option_map (λ s. s.now) text.entry) }
+{
+    let Some(text) = text else {
+        return Some(Precision::Ns);
+    };
+    match text {
+        "ns" => Some(Precision::Ns),
+        "us" => Some(Precision::Us),
+        "ms" => Some(Precision::Ms),
+        "s" => Some(Precision::S),
+        _ => None,
+    }
+}
+
+/// The moment that a text writes; 0 where there is none.
+pub(crate) fn moment_of(text: Option<&str>) -> Option<i64>
+    ensures { result ≡ moment_at (option_map (λ s. s.now) text.entry) }
+{
+    match text {
+        None => Some(0),
+        Some(text) => integer(text.as_bytes()),
+    }
+}
