@@ -3,6 +3,7 @@ use Rattle.std.specs.Prelude.{ℕ, ◌||◌, ◌==◌, nat_lt, nat_le, List, [],
 use Rattle.rr_base.specs.declared.archive.ArchiveSpec.{ArchiveSpec}
 use Rattle.rr_base.specs.declared.fault.SchemaFault.{SchemaFault}
 use Rattle.rr_base.specs.declared.fault.SchemaFault.TheVariants.{BadStep, NoArchive, TooManyArchives, BadSteps, BadRows, BadXff, StepsNotRising}
+use Rattle.rr_base.specs.Results.{first_fault}
 use Rattle.rr_base.specs.declared.limits.TheConstants.{MAX_STEP, MAX_ARCHIVES, MAX_STEPS, MAX_ROWS, MAX_XFF_DEN}
 
 -- of an archive behind one of `before` steps, 0 if it is the first
@@ -12,11 +13,6 @@ archive_fault before a =
     else (if a.rows == 0 || nat_lt MAX_ROWS a.rows then Some BadRows
     else (if nat_le a.den a.num || nat_lt MAX_XFF_DEN a.den then Some BadXff
     else (if nat_le a.steps before then Some StepsNotRising else None)))
-
--- the first of two
-abbrev pub first_fault : Option SchemaFault → Option SchemaFault → Option SchemaFault
-first_fault None later = later
-first_fault (Some fault) later = Some fault
 
 -- of archives behind one of `before` steps
 abbrev pub archives_fault : ℕ → List ArchiveSpec → Option SchemaFault
