@@ -36,7 +36,7 @@ impl Model for Schema {
     ghost invariant = { λ s. IsLayout (record { step = s.step; archives = s.archives.items }) };
 }
 
-/// The first fault of an archive behind one of `before` steps, if there is one.
+/// The first fault of an archive, if it has one; the archive before it has `before` steps.
 fn check_archive(before: u32, archive: &ArchiveSpec) -> Result<(), SchemaFault>
     ensures { result_err result ≡ archive_fault before archive.now }
 {
@@ -219,8 +219,8 @@ impl Schema {
         left_over(time, self.step, self.archive(archive).steps)
     }
 
-    /// Whether a row of an archive is known when so many of its places are: at most the fraction
-    /// xff of its steps is then unknown.
+    /// Whether a row of an archive is known when `known` of its places are: at most the fraction xff
+    /// of its steps is then unknown.
     pub fn known_enough(&self, archive: u8, known: u32) -> bool
         requires { archive < length self.now.archives }
         ensures { result ≡ is_known_enough self.now archive known }

@@ -1,4 +1,4 @@
-//! Which names make a key, and in which order its tags stand.
+//! Which names make a key, and the order of its tags.
 
 ghost use Rattle.std.specs.Prelude.{◌≡◌, ◌≤◌, length, false, Err, None, [], if◌then◌else◌};
 ghost use Rattle.rr_key.specs.declared.fault.KeyFault.TheVariants.{DuplicateTag, TooManyTags};

@@ -103,7 +103,7 @@ fn read_point<'a>(
     })
 }
 
-/// What stands behind the spaces before the fields.
+/// The text of the fields, after the spaces that precede them.
 fn skip_gap(gap: &[u8]) -> Result<&[u8], LineFault>
     ensures { Gives (λ text. text.now) result (fields_text_of gap.now) }
 {
@@ -114,8 +114,8 @@ fn skip_gap(gap: &[u8]) -> Result<&[u8], LineFault>
     Ok(text)
 }
 
-/// Whether a key text is too long: in it a space stands between what the line has before the
-/// fields and the field's key.
+/// Whether a key text is too long: it is as long as what precedes the fields in the line, a space
+/// and the field's key.
 fn has_long_key(front: &[u8], fields: &[(&[u8], i64)]) -> bool
     ensures { result ≡ list_any (λ field. nat_lt MAX_KEY_TEXT (length front.now + 1 + length field.0)) (fields_view fields.now) }
 {
