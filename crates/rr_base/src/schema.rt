@@ -186,7 +186,7 @@ impl Schema {
     pub fn archive(&self, number: u8) -> ArchiveSpec
         requires { number < length self.now.archives }
         ensures value { result ≡ archive_at self.now number }
-        ensures some { 0 < result.steps }
+        ensures some_steps { 0 < result.steps }
     {
         self.archives[number as usize]
     }
@@ -195,8 +195,8 @@ impl Schema {
     pub fn span(&self, archive: u8) -> u32
         requires { archive < length self.now.archives }
         ensures value { result ≡ span self.now archive }
-        ensures some { 0 < result }
-        ensures few { result ≤ MAX_STEP * MAX_STEPS }
+        ensures not_zero { 0 < result }
+        ensures span_fits { result ≤ MAX_STEP * MAX_STEPS }
     {
         self.step * self.archive(archive).steps
     }
@@ -214,7 +214,7 @@ impl Schema {
         requires { archive < length self.now.archives }
         ensures place { result ≡ place_of self.now archive time }
         ensures within { result < (archive_at self.now archive).steps }
-        ensures few { result < MAX_STEPS }
+        ensures place_fits { result < MAX_STEPS }
     {
         left_over(time, self.step, self.archive(archive).steps)
     }

@@ -65,7 +65,7 @@ fn sort_and_write(
 ) -> Result<Vec<u8>, KeyFault>
     requires filled { any_name is_empty (names_of measurement.now tags.old field.now) ≡ false }
     requires good { any_name is_bad (names_of measurement.now tags.old field.now) ≡ false }
-    requires few { length tags.old ≤ MAX_TAGS }
+    requires tags_fit { length tags.old ≤ MAX_TAGS }
     ensures made { GivesUnless KeyFault.Memory (λ text. text.items) result
         (key_of (names_of measurement.now tags.old field.now)) }
     ensures memory { result ≡ Err KeyFault.Memory

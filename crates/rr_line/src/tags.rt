@@ -36,7 +36,7 @@ fn gather_tags<'a>(
     text: &'a [u8],
 ) -> Result<(Vec<(&'a [u8], &'a [u8])>, Result<&'a [u8], LineFault>), AllocError>
     ensures gathered { IfOk result (λ tags. (tags_of tags.0.items, rest_view tags.1) ≡ all_gathered_tags text.now) }
-    ensures few { IfOk result (λ tags. length tags.0.items ≤ MAX_TAGS) }
+    ensures tags_fit { IfOk result (λ tags. length tags.0.items ≤ MAX_TAGS) }
 {
     let mut tags = Vec::new(alloc);
     let mut left = text;

@@ -15,19 +15,19 @@ returns-then-not-rises-clause-made c =
 pub returns-in_err-text-clause-memory : goal.returns-in_err-text-clause-memory
 returns-in_err-text-clause-memory c =
     let up : rises [] (tags_of c.sort_unstable.new.self) ≡ true = sym c.rises.ensures ∙ c.if-not-rises.false in
-    let order = in_order c.args.measurement.now c.args.field.now c.args.tags.now c.sort_unstable.new.self c.requires.filled c.requires.good c.requires.few c.sort_unstable.ensures.permutation up in
+    let order = in_order c.args.measurement.now c.args.field.now c.args.tags.now c.sort_unstable.new.self c.requires.filled c.requires.good c.requires.tags_fit c.sort_unstable.ensures.permutation up in
     λ memory. order.named
 
 pub returns-then-len-gt-MAX_KEY_TEXT-clause-made : goal.returns-then-len-gt-MAX_KEY_TEXT-clause-made
 returns-then-len-gt-MAX_KEY_TEXT-clause-made c =
     let up : rises [] (tags_of c.sort_unstable.new.self) ≡ true = sym c.rises.ensures ∙ c.if-not-rises.false in
-    let order = in_order c.args.measurement.now c.args.field.now c.args.tags.now c.sort_unstable.new.self c.requires.filled c.requires.good c.requires.few c.sort_unstable.ensures.permutation up in
+    let order = in_order c.args.measurement.now c.args.field.now c.args.tags.now c.sort_unstable.new.self c.requires.filled c.requires.good c.requires.tags_fit c.sort_unstable.ensures.permutation up in
     let counted : c.len.result ≡ length c.in_ok-text.text.items = search rules in
     inr (long_key (names_of c.args.measurement.now c.args.tags.now c.args.field.now) c.in_ok-text.text.items c.len.result order.named (c.in_ok-text.ensures ∙ order.written) counted c.if-len-gt-MAX_KEY_TEXT.true)
 
 pub returns-clause-made : goal.returns-clause-made
 returns-clause-made c =
     let up : rises [] (tags_of c.sort_unstable.new.self) ≡ true = sym c.rises.ensures ∙ c.if-not-rises.false in
-    let order = in_order c.args.measurement.now c.args.field.now c.args.tags.now c.sort_unstable.new.self c.requires.filled c.requires.good c.requires.few c.sort_unstable.ensures.permutation up in
+    let order = in_order c.args.measurement.now c.args.field.now c.args.tags.now c.sort_unstable.new.self c.requires.filled c.requires.good c.requires.tags_fit c.sort_unstable.ensures.permutation up in
     let counted : c.len.result ≡ length c.in_ok-text.text.items = search rules in
     short_key (names_of c.args.measurement.now c.args.tags.now c.args.field.now) c.in_ok-text.text.items c.len.result order.named (c.in_ok-text.ensures ∙ order.written) counted c.if-len-gt-MAX_KEY_TEXT.false
