@@ -3,9 +3,10 @@ use Rattle.std.specs.Prelude.{ℕ, ◌||◌, ◌==◌, nat_lt, nat_le, List, [],
 use Rattle.rr_base.specs.declared.archive.ArchiveSpec.{ArchiveSpec}
 use Rattle.rr_base.specs.declared.fault.SchemaFault.{SchemaFault}
 use Rattle.rr_base.specs.declared.fault.SchemaFault.TheVariants.{BadStep, NoArchive, TooManyArchives, BadSteps, BadRows, BadXff, StepsNotRising}
+use Rattle.rr_base.specs.Results.{first_fault}
 use Rattle.rr_base.specs.declared.limits.TheConstants.{MAX_STEP, MAX_ARCHIVES, MAX_STEPS, MAX_ROWS, MAX_XFF_DEN}
 
--- of an archive behind one of `before` steps, 0 if it is the first
+-- of an archive, the one before which has `before` steps, 0 if it is the first
 abbrev pub archive_fault : ℕ → ArchiveSpec → Option SchemaFault
 archive_fault before a =
     if a.steps == 0 || nat_lt MAX_STEPS a.steps then Some BadSteps
@@ -13,12 +14,7 @@ archive_fault before a =
     else (if nat_le a.den a.num || nat_lt MAX_XFF_DEN a.den then Some BadXff
     else (if nat_le a.steps before then Some StepsNotRising else None)))
 
--- the first of two
-abbrev pub first_fault : Option SchemaFault → Option SchemaFault → Option SchemaFault
-first_fault None later = later
-first_fault (Some fault) later = Some fault
-
--- of archives behind one of `before` steps
+-- of archives, the one before which has `before` steps
 abbrev pub archives_fault : ℕ → List ArchiveSpec → Option SchemaFault
 archives_fault before [] = None
 archives_fault before (a ∷ others) = first_fault (archive_fault before a) (archives_fault a.steps others)

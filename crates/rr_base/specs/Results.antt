@@ -11,6 +11,11 @@ abbrev pub ◌>>=◌ : {A B E : Type 0} → Result A E → (A → Result B E) �
 abbrev pub unless : {A E : Type 0} → E → Bool → Result A E → Result A E
 unless fault refused step = if refused then Err fault else step
 
+-- the first of two faults
+abbrev pub first_fault : {E : Type 0} → Option E → Option E → Option E
+first_fault None later = later
+first_fault (Some fault) later = Some fault
+
 -- a value, unless it has a fault
 abbrev pub unless_faulty : {A E : Type 0} → Option E → A → Result A E
 unless_faulty None value = Ok value

@@ -45,7 +45,7 @@ unfoldable pub place_of : Layout → ℕ → ℤ → ℕ
 place_of s i time =
     unsigned_abs (int_div_euclid time (pos (s.step * 1_000_000_000)) -ℤ (slot_of s i time *ℤ pos (archive_at s i).steps))
 
--- whether so many known places leave at most the fraction xff of a row unknown
+-- whether `known` places leave at most the fraction xff of a row unknown
 abbrev pub is_known_enough : Layout → ℕ → ℕ → Bool
 is_known_enough s i known =
     let a = archive_at s i in nat_le ((a.steps - known) * a.den) (a.num * a.steps)

@@ -1,7 +1,7 @@
-//! The bytes that divide lines, keys, scripts and requests.
+//! The bytes that divide lines, keys, scripts and requests, and texts that occur twice.
 
-ghost use Rattle.std.specs.Prelude.{◌≡◌, option_map};
-ghost use Rattle.rr_base.specs.Bytes.{begins, strip};
+ghost use Rattle.std.specs.Prelude.{◌≡◌, map, option_map};
+ghost use Rattle.rr_base.specs.Bytes.{begins, strip, is_among, has_repeat};
 
 /// Ends a line.
 pub const LINE_FEED: u8 = b'\n';
@@ -42,4 +42,31 @@ pub fn strip(byte: u8, text: &[u8]) -> Option<&[u8]>
         [first, rest @ ..] if *first == byte => Some(rest),
         _ => None,
     }
+}
+
+/// Whether a key is among those of entries.
+fn is_among<T>(key: &[u8], entries: &[(&[u8], T)]) -> bool
+    ensures { result ≡ is_among key.now (map (λ entry. entry.0.now) entries.now) }
+{
+    for entry in entries {
+        if entry.0.cmp(key).is_eq() {
+            return true;
+        }
+    }
+    false
+}
+
+/// Whether a key occurs twice among entries. They are compared pair by pair, which is cheap for few
+/// of them and takes no memory.
+pub fn has_repeat<T>(entries: &[(&[u8], T)]) -> bool
+    ensures { result ≡ has_repeat (map (λ entry. entry.0.now) entries.now) }
+{
+    let mut left = entries;
+    while let [first, others @ ..] = left {
+        if is_among(first.0, others) {
+            return true;
+        }
+        left = others;
+    }
+    false
 }

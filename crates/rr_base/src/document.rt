@@ -98,8 +98,7 @@ fn archives_in(alloc: Global, values: &Vec<Value>) -> Result<Vec<ArchiveSpec>, S
 }
 
 impl Schema {
-    /// The schema of a TOML table, as of a configuration that has other keys too, which are passed
-    /// over.
+    /// The schema of a TOML table, as of a configuration. Other keys are ignored.
     ///
     /// The keys are `step`, a whole number of seconds, and `archive`, an array of tables with the
     /// whole numbers `steps`, `rows`, `xff_num` and `xff_den`. Refusals, key by key in this order:
@@ -117,7 +116,7 @@ impl Schema {
 
     /// The schema that a text writes.
     ///
-    /// `BadToml` comes first, where the text is no UTF-8 or no TOML; then the refusals of
+    /// `BadToml` comes first, where the text is not UTF-8 or not TOML; then the refusals of
     /// [`Schema::from_table`]. The cost is that of reading the text once.
     pub fn from_toml(alloc: Global, text: &[u8]) -> Result<Schema, SchemaFault>
         ensures read { GivesUnless SchemaFault.Memory (λ s. s) result (layout_of text.now) }

@@ -38,7 +38,7 @@ impl Origin {
     /// Its number.
     pub fn get(self) -> u16
         ensures same { result ≡ self }
-        ensures some { 0 < result }
+        ensures not_zero { 0 < result }
     {
         self.number
     }

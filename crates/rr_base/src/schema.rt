@@ -36,7 +36,7 @@ impl Model for Schema {
     ghost invariant = { λ s. IsLayout (record { step = s.step; archives = s.archives.items }) };
 }
 
-/// The first fault of an archive behind one of `before` steps, if there is one.
+/// The first fault of an archive, if it has one; the archive before it has `before` steps.
 fn check_archive(before: u32, archive: &ArchiveSpec) -> Result<(), SchemaFault>
     ensures { result_err result ≡ archive_fault before archive.now }
 {
@@ -186,7 +186,7 @@ impl Schema {
     pub fn archive(&self, number: u8) -> ArchiveSpec
         requires { number < length self.now.archives }
         ensures value { result ≡ archive_at self.now number }
-        ensures some { 0 < result.steps }
+        ensures some_steps { 0 < result.steps }
     {
         self.archives[number as usize]
     }
@@ -195,8 +195,8 @@ impl Schema {
     pub fn span(&self, archive: u8) -> u32
         requires { archive < length self.now.archives }
         ensures value { result ≡ span self.now archive }
-        ensures some { 0 < result }
-        ensures few { result ≤ MAX_STEP * MAX_STEPS }
+        ensures not_zero { 0 < result }
+        ensures span_fits { result ≤ MAX_STEP * MAX_STEPS }
     {
         self.step * self.archive(archive).steps
     }
@@ -214,13 +214,13 @@ impl Schema {
         requires { archive < length self.now.archives }
         ensures place { result ≡ place_of self.now archive time }
         ensures within { result < (archive_at self.now archive).steps }
-        ensures few { result < MAX_STEPS }
+        ensures place_fits { result < MAX_STEPS }
     {
         left_over(time, self.step, self.archive(archive).steps)
     }
 
-    /// Whether a row of an archive is known when so many of its places are: at most the fraction
-    /// xff of its steps is then unknown.
+    /// Whether a row of an archive is known when `known` of its places are: at most the fraction xff
+    /// of its steps is then unknown.
     pub fn known_enough(&self, archive: u8, known: u32) -> bool
         requires { archive < length self.now.archives }
         ensures { result ≡ is_known_enough self.now archive known }

@@ -178,9 +178,9 @@ pub fn read_to_end<R: Read>(input: &mut Counted<R>, bytes: &mut Vec<u8>) -> Resu
 
 /// Adds all that the input still has to `bytes`, within a limit of reads.
 ///
-/// Each call of the reader is a read: one that a signal interrupted, and the one that gives no byte
-/// and so tells the end. `TooManyReads` is answered after `reads` of them none of which told the
-/// end, and no further call is made. After a refusal a front of the input was added.
+/// Each call of the reader is a read: one that a signal interrupted, and the one that gives no byte,
+/// which is the end. `TooManyReads` is answered after `reads` calls that did not reach the end, and
+/// no further call is made. After a refusal a front of the input was added.
 pub fn read_to_end_within<R: Read>(
     input: &mut Counted<R>,
     bytes: &mut Vec<u8>,

@@ -4,7 +4,7 @@ use crate::{cells, documents, keys, lines};
 use anyhow::Result;
 use std::alloc::Global;
 
-/// What the files of a folder are.
+/// What a file of input is.
 #[derive(Clone, Copy)]
 pub(crate) enum Kind {
     /// A script, and what it prints.
@@ -20,23 +20,15 @@ pub(crate) enum Kind {
 }
 
 impl Kind {
-    /// Each kind once.
-    pub(crate) const ALL: [Kind; 5] = [
-        Kind::Script,
-        Kind::Lines,
-        Kind::Documents,
-        Kind::Keys,
-        Kind::Cell,
-    ];
-
-    /// The folder of its cases.
-    pub(crate) fn folder(self) -> &'static str {
-        match self {
-            Kind::Script => "scripts",
-            Kind::Lines => "lines",
-            Kind::Documents => "documents",
-            Kind::Keys => "keys",
-            Kind::Cell => "cells",
+    /// What a file is whose name ends so.
+    pub(crate) fn of_ending(ending: &str) -> Option<Kind> {
+        match ending {
+            "rr" => Some(Kind::Script),
+            "lines" => Some(Kind::Lines),
+            "toml" => Some(Kind::Documents),
+            "keys" => Some(Kind::Keys),
+            "hex" => Some(Kind::Cell),
+            _ => None,
         }
     }
 

@@ -1,30 +1,31 @@
 //! The cases of the store: files of input, each with a file of the output that is expected of it.
 //!
-//! The program runs in the folder `data/` or in the folder above it. There each kind of case has a
-//! folder ([`kind::Kind`]). The program runs each file through the public calls of the libraries and compares what
-//! they answer with the file of the same name that ends in `.out`. It prints where the two first
-//! differ, and at the end how many cases there are, so that files that aren't found are noticed.
-//! It ends with status 1 where a case differs.
+//! The program runs in the folder `data/` or in the folder above it. There it looks into each folder,
+//! runs each file through the public calls of the libraries, and compares what they answer with the
+//! file of the same name that ends in `.out`. The ending of a file says what it is
+//! ([`kind::Kind`]). The program prints where the two first differ, and at the end how many cases
+//! there are, so that files that aren't found are noticed. It ends with status 1 where a case
+//! differs.
 #![tactic(auto)]
 
 mod case;
 mod cells;
 mod documents;
+mod files;
 mod keys;
 mod kind;
 mod lines;
 
 use anyhow::Result;
-use kind::Kind;
 use std::process::ExitCode;
 
 fn main(rt: HostRuntime) -> Result<ExitCode> {
     let mut count = 0usize;
     let mut wrong = 0usize;
-    for kind in Kind::ALL {
-        for file in &case::inputs(&rt, kind)? {
+    for folder in &files::folders(&rt)? {
+        for input in &files::inputs(&rt, folder)? {
             count = count.saturating_add(1);
-            if !case::holds(&rt, kind, file)? {
+            if !case::holds(&rt, input)? {
                 wrong = wrong.saturating_add(1);
             }
         }

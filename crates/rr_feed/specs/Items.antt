@@ -17,7 +17,7 @@ abbrev pub item_view : FeedLine → Item
 item_view (line.Line bytes) = Line bytes.now
 item_view line.TooLong = TooLong
 
--- the pieces of a byte stream: a line feed stands between two
+-- the pieces of a byte stream, separated by line feeds
 abbrev pub pieces : List ℕ → List (List ℕ)
 pieces bytes = slice_split (λ byte. byte == LINE_FEED) bytes
 

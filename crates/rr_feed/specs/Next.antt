@@ -3,7 +3,7 @@ use Rattle.std.specs.Prelude.{◌≡◌, ℕ, ◌-◌, ◌≤◌, List, ◌∷�
 use Rattle.rr_base.specs.declared.bytes.TheConstants.{LINE_FEED}
 use Rattle.rr_base.specs.Bytes.{HasNoLineFeed}
 
--- so many of the bytes that are left hold no line feed
+-- this many of the bytes that are left hold no line feed
 pub record IsSearched (left : List ℕ) (searched : ℕ) : Type 0 where
   pub within : searched ≤ length left
   pub none : HasNoLineFeed (take searched left)

@@ -1,21 +1,27 @@
 -- The series that names make.
-use Rattle.std.proofs.Common.{◌≡◌, ℕ, ◌+◌, ◌≤◌, Bool, true, false, cond, ltb, ◌&&◌, ◌||◌, List, [], ◌∷◌, length, Option, None, Some, refl, sym, ap, ◌∙◌, arith}
+use Rattle.std.proofs.Common.{◌≡◌, ℕ, ◌+◌, ◌≤◌, Bool, true, false, cond, ltb, ◌&&◌, ◌||◌, List, [], ◌∷◌, ◌++◌, length, Option, None, Some, Ok, Err, ◌<◌, refl, sym, ap, subst, ◌∙◌, inl, inr, arith}
 use Rattle.std.specs.List.{list_all}
+use Rattle.std.specs.List.Sorted.{IsPermutation}
 use Rattle.std.specs.declared.cmp.Ordering.TheVariants.{Less, Equal, Greater}
 use Rattle.std.specs.FinMap.{entries, empty, from_entries, entries-insert, len-empty, len-entries, put}
 use Rattle.std.specs.FinMap.Entries.{by_order}
-use Rattle.std.proofs.lemmas.Bool.{ltb-false}
+use Rattle.std.proofs.lemmas.Bool.{cases_Bool, ltb-false, le-ltb, lt-ltb}
 use Rattle.std.proofs.lemmas.Cmp.{nat_list_cmp_total}
 use Rattle.rr_key.specs.declared.fault.KeyFault.{KeyFault}
 use Rattle.rr_key.specs.declared.fault.KeyFault.TheVariants.{EmptyName, BadName, DuplicateTag, TooManyTags, KeyTooLong}
-use Rattle.rr_key.specs.Making.{Names, series_of, any_tag, any_name, making_fault}
+use Rattle.rr_key.specs.declared.class.Class.TheVariants.{Measurement}
+use Rattle.rr_key.specs.Reading.{rises}
+use Rattle.rr_key.specs.Unit.{escape}
+use Rattle.rr_key.specs.Making.{Names, names_of, tags_of, series_of, any_tag, any_name, naming_fault, making_fault, key_of}
+use Rattle.rr_base.specs.Results.{first_fault, unless_faulty}
+use Rattle.rr_base.specs.declared.limits.TheConstants.{MAX_KEY_TEXT, MAX_TAGS}
 use Rattle.std.specs.Map.{keys_of}
 use Rattle.rr_base.specs.Bytes.{has_repeat}
 use Rattle.rr_key.specs.Name.{is_empty, is_bad, is_name}
-use Rattle.rr_key.specs.Series.{bytes_cmp, is_tag, key_text, IsSeries, IsKeyText}
+use Rattle.rr_key.specs.Series.{bytes_cmp, is_tag, key_text, tail_text, IsSeries, IsKeyText}
 use Rattle.rr_key.proofs.EscapeLemmas.{both_true}
 use Rattle.rr_key.proofs.NameLemmas.{or_false}
-use Rattle.rr_key.proofs.OrderLemmas.{Tag}
+use Rattle.rr_key.proofs.OrderLemmas.{Tag, Slices, length-tags_of, rising_entries}
 
 name_if : (name : List ℕ) → is_empty name ≡ false → is_bad name ≡ false → is_name name ≡ true
 name_if name e b = rw (e, b) refl
@@ -79,14 +85,19 @@ passed : (b : Bool) (fault : KeyFault) (rest : Option KeyFault) → cond b (Some
 passed true fault rest e = absurd cc
 passed false fault rest e = (refl, e)
 
+passed_both : (first last : Option KeyFault) → first_fault first last ≡ None → (first ≡ None) × (last ≡ None)
+passed_both None last e = (refl, e)
+passed_both (Some fault) last e = absurd cc
+
 -- names with no fault make a series
 pub IsSeries-making_fault : (names : Names) → making_fault names ≡ None → IsSeries (series_of names)
 IsSeries-making_fault names e =
-    let filled = passed (any_name is_empty names) EmptyName _ e in
+    let both = passed_both (naming_fault names) _ e in
+    let filled = passed (any_name is_empty names) EmptyName _ both.0 in
     let good = passed (any_name is_bad names) BadName _ filled.1 in
     let unique = passed (has_repeat (keys_of names.tags)) DuplicateTag _ good.1 in
     let few = passed (ltb 32 (length names.tags)) TooManyTags _ unique.1 in
-    let short = passed (ltb 1024 (length (key_text (series_of names)))) KeyTooLong _ few.1 in
+    let short = passed (ltb 1024 (length (key_text (series_of names)))) KeyTooLong _ both.1 in
     let empty_parts = or_false (is_empty names.measurement || any_tag is_empty names.tags) (is_empty names.field) filled.0 in
     let bad_parts = or_false (is_bad names.measurement || any_tag is_bad names.tags) (is_bad names.field) good.0 in
     let empty_front = or_false (is_empty names.measurement) (any_tag is_empty names.tags) empty_parts.0 in
@@ -101,3 +112,65 @@ IsSeries-making_fault names e =
 
 pub IsKeyText-made : (names : Names) (text : List ℕ) → making_fault names ≡ None → text ≡ key_text (series_of names) → IsKeyText text
 IsKeyText-made names text e is = record { series = series_of names; named = IsSeries-making_fault names e; whole = is }
+
+-- what names make whose tags repeat a key
+pub repeated_key : (names : Names) → any_name is_empty names ≡ false → any_name is_bad names ≡ false → has_repeat (keys_of names.tags) ≡ true → key_of names ≡ Err DuplicateTag
+repeated_key names filled good twice = rw (filled, good, twice) refl
+
+-- what names make whose tags are too many
+pub key_of_many : (names : Names) → any_name is_empty names ≡ false → any_name is_bad names ≡ false → MAX_TAGS < length names.tags → key_of names ≡ Err (cond (has_repeat (keys_of names.tags)) DuplicateTag TooManyTags)
+key_of_many names filled good many =
+    let tested : ltb MAX_TAGS (length names.tags) ≡ true = lt-ltb _ _ many in
+    elim (cases_Bool (has_repeat (keys_of names.tags))) [
+      | inl twice ↦ rw (filled, good, twice) refl
+      | inr once ↦ rw (filled, good, once, tested) refl
+    ]
+
+no_naming_fault : (names : Names) → any_name is_empty names ≡ false → any_name is_bad names ≡ false → has_repeat (keys_of names.tags) ≡ false → length names.tags ≤ MAX_TAGS → naming_fault names ≡ None
+no_naming_fault names filled good once few = let tested : ltb MAX_TAGS (length names.tags) ≡ false = le-ltb _ _ few in rw (filled, good, once, tested) refl
+
+-- what names make that have no fault, by the length of their key
+key_of_named : (names : Names) → naming_fault names ≡ None → key_of names ≡ cond (ltb MAX_KEY_TEXT (length (key_text (series_of names)))) (Err KeyTooLong) (Ok (key_text (series_of names)))
+key_of_named names named =
+    elim (cases_Bool (ltb MAX_KEY_TEXT (length (key_text (series_of names))))) [
+      | inl long ↦ ap (λ (o : Option KeyFault). unless_faulty (first_fault o (cond (ltb MAX_KEY_TEXT (length (key_text (series_of names)))) (Some KeyTooLong) None)) (key_text (series_of names))) named ∙ rw long refl
+      | inr short ↦ ap (λ (o : Option KeyFault). unless_faulty (first_fault o (cond (ltb MAX_KEY_TEXT (length (key_text (series_of names)))) (Some KeyTooLong) None)) (key_text (series_of names))) named ∙ rw short refl
+    ]
+
+-- names that make a key have no fault
+pub made_of : (names : Names) (text : List ℕ) → key_of names ≡ Ok text → (making_fault names ≡ None) × (key_text (series_of names) ≡ text)
+made_of names text e = at (making_fault names) e
+  where
+    at : (o : Option KeyFault) → unless_faulty o (key_text (series_of names)) ≡ Ok text → (o ≡ None) × (key_text (series_of names) ≡ text)
+    at None e = (refl, cc)
+    at (Some fault) e = absurd cc
+
+-- no name of the tags is empty
+pub tags_filled : (names : Names) → any_name is_empty names ≡ false → any_tag is_empty names.tags ≡ false
+tags_filled names filled =
+    let parts = or_false (is_empty names.measurement || any_tag is_empty names.tags) (is_empty names.field) filled in
+    (or_false (is_empty names.measurement) (any_tag is_empty names.tags) parts.0).1
+
+-- what names without such a fault make, by the length of the text that is written for them
+pub long_key : (names : Names) (text : List ℕ) (len : ℕ) → naming_fault names ≡ None → text ≡ key_text (series_of names) → len ≡ length text → MAX_KEY_TEXT < len → key_of names ≡ Err KeyTooLong
+long_key names text len named is counted long =
+    let tested : ltb MAX_KEY_TEXT (length (key_text (series_of names))) ≡ true = lt-ltb _ _ (subst (λ (n : ℕ). MAX_KEY_TEXT < n) (counted ∙ ap length is) long) in
+    key_of_named names named ∙ rw tested refl
+
+pub short_key : (names : Names) (text : List ℕ) (len : ℕ) → naming_fault names ≡ None → text ≡ key_text (series_of names) → len ≡ length text → len ≤ MAX_KEY_TEXT → key_of names ≡ Ok text
+short_key names text len named is counted short =
+    let tested : ltb MAX_KEY_TEXT (length (key_text (series_of names))) ≡ false = le-ltb _ _ (subst (λ (n : ℕ). n ≤ MAX_KEY_TEXT) (counted ∙ ap length is) short) in
+    key_of_named names named ∙ rw tested (ap (λ (t : List ℕ). Ok t) (sym is))
+
+-- sorted tags that rise: the names have no such fault, and the text is written in the order of the sorted tags
+pub record IsInOrder (measurement field : List ℕ) (tags sorted : List Slices) : Type 0 where
+  pub named : naming_fault (names_of measurement tags field) ≡ None
+  pub written : escape Measurement measurement ++ tail_text (tags_of sorted) field ≡ key_text (series_of (names_of measurement tags field))
+
+pub in_order : (measurement field : List ℕ) (tags sorted : List Slices) → any_name is_empty (names_of measurement tags field) ≡ false → any_name is_bad (names_of measurement tags field) ≡ false → length tags ≤ MAX_TAGS → IsPermutation tags sorted → rises [] (tags_of sorted) ≡ true → IsInOrder measurement field tags sorted
+in_order measurement field tags sorted filled good few moved up =
+    let parts = rising_entries tags sorted moved up in
+    record {
+      named = no_naming_fault (names_of measurement tags field) filled good parts.0 (omega (arith, length-tags_of tags, few));
+      written = ap (λ (order : List Tag). escape Measurement measurement ++ tail_text order field) parts.1;
+    }

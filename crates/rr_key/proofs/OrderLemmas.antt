@@ -1,5 +1,5 @@
 -- Tags in the order of their keys.
-use Rattle.std.proofs.Common.{◌≡◌, ℕ, suc, ◌+◌, Bool, true, false, cond, ◌||◌, List, [], ◌∷◌, get_or, Option, None, Some, refl, sym, ap, ◌∙◌, arith, inl, inr, subst}
+use Rattle.std.proofs.Common.{◌≡◌, ℕ, suc, ◌+◌, Bool, true, false, cond, ◌||◌, List, [], ◌∷◌, length, map, get_or, Option, None, Some, refl, sym, ap, ◌∙◌, arith, inl, inr, subst}
 use Rattle.std.specs.Borrow.{Bor}
 use Rattle.std.specs.List.Sorted.{IsPermutation, IsSortedBy}
 use Rattle.std.specs.Map.{keys_of, lookup}
@@ -10,6 +10,7 @@ use Rattle.std.specs.FinMap.{FinMap, entries, from_entries, entries_sorted, get-
 use Rattle.std.specs.FinMap.Entries.{same_entries, below_all}
 use Rattle.std.proofs.lemmas.Bool.{cases_Bool, false≢true}
 use Rattle.std.proofs.lemmas.Cmp.{nat_list_cmp_total, eq_by_cmp_equiv}
+use Rattle.std.proofs.lemmas.List.{length-map}
 use Rattle.std.proofs.lemmas.List.Sorted.{IsPermutation-map, IsPermutation-sym, Contains-permutation, list_any-IsPermutation}
 use Rattle.std.proofs.lemmas.Map.Views.{Contains-from_lookup, lookup-from_Contains}
 use Rattle.rr_base.specs.Bytes.{bytes_cmp, is_among, has_repeat}
@@ -31,6 +32,14 @@ Slices = Bor (List ℕ) × Bor (List ℕ)
 
 pub tags_move : (tags others : List Slices) → IsPermutation tags others → IsPermutation (tags_of tags) (tags_of others)
 tags_move tags others p = IsPermutation-map (λ (tag : Slices). (tag.0.now, tag.1.now)) tags others p
+
+pub length-tags_of : (tags : List Slices) → length (tags_of tags) ≡ length tags
+length-tags_of tags = length-map tags (λ (tag : Slices). (tag.0.now, tag.1.now))
+
+-- the keys of tags that are slices
+pub keys_of_slices : (tags : List Slices) → keys_of (tags_of tags) ≡ map (λ (tag : Slices). tag.0.now) tags
+keys_of_slices [] = refl
+keys_of_slices (tag ∷ tags) = ap (λ (keys : List (List ℕ)). tag.0.now ∷ keys) (keys_of_slices tags)
 
 pub same_key : IsAntisymmetric bytes_cmp
 same_key = slice_cmp-IsAntisymmetric nat_cmp-IsAntisymmetric
@@ -138,3 +147,10 @@ repeats_unless_rises tags sorted p h e down =
           let up = rises_by_sort sorted h named (has_repeat-IsPermutation (tags_of tags) (tags_of sorted) moved once) in
           absurd (false≢true (sym down ∙ up))
     ]
+
+-- sorted tags that rise: no key occurs twice, and they are the entries of the map of the tags
+pub rising_entries : (tags sorted : List Slices) → IsPermutation tags sorted → rises [] (tags_of sorted) ≡ true → (has_repeat (keys_of (tags_of tags)) ≡ false) × (tags_of sorted ≡ entries (from_entries {R = bytes_cmp} (tags_of tags)))
+rising_entries tags sorted p up =
+    let moved = tags_move tags sorted p in
+    let once = unique_if_rises (tags_of tags) (tags_of sorted) moved up in
+    (once, entries_rise (tags_of tags) (tags_of sorted) moved once up)

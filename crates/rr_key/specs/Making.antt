@@ -1,13 +1,14 @@
 -- The key that names make, and why they make none.
-use Rattle.std.specs.Prelude.{◌≡◌, ℕ, Bool, ◌||◌, nat_lt, List, length, map, Option, None, Some, ◌⊎◌, if◌then◌else◌}
+use Rattle.std.specs.Prelude.{ℕ, Bool, ◌||◌, nat_lt, List, length, map, Option, None, Some, Result, if◌then◌else◌}
 use Rattle.std.specs.Borrow.{Bor}
 use Rattle.std.specs.FinMap.{from_entries}
 use Rattle.std.specs.List.{list_any}
 use Rattle.std.specs.Map.{keys_of}
 use Rattle.rr_base.specs.Bytes.{has_repeat}
+use Rattle.rr_base.specs.Results.{first_fault, unless_faulty}
 use Rattle.rr_base.specs.declared.limits.TheConstants.{MAX_KEY_TEXT, MAX_TAGS}
 use Rattle.rr_key.specs.declared.fault.KeyFault.{KeyFault}
-use Rattle.rr_key.specs.declared.fault.KeyFault.TheVariants.{EmptyName, BadName, DuplicateTag, TooManyTags, KeyTooLong, Memory}
+use Rattle.rr_key.specs.declared.fault.KeyFault.TheVariants.{EmptyName, BadName, DuplicateTag, TooManyTags, KeyTooLong}
 use Rattle.rr_key.specs.Name.{is_empty, is_bad}
 use Rattle.rr_key.specs.Series.{Series, key_text}
 
@@ -37,15 +38,20 @@ any_tag test tags = list_any (λ tag. test tag.0 || test tag.1) tags
 abbrev pub any_name : (List ℕ → Bool) → Names → Bool
 any_name test names = test names.measurement || any_tag test names.tags || test names.field
 
--- the first fault of the names, if they have one
-abbrev pub making_fault : Names → Option KeyFault
-making_fault names =
+-- the first fault of the names, if they have one; the key may still be too long
+abbrev pub naming_fault : Names → Option KeyFault
+naming_fault names =
     if any_name is_empty names then Some EmptyName
     else (if any_name is_bad names then Some BadName
     else (if has_repeat (keys_of names.tags) then Some DuplicateTag
-    else (if nat_lt MAX_TAGS (length names.tags) then Some TooManyTags
-    else (if nat_lt MAX_KEY_TEXT (length (key_text (series_of names))) then Some KeyTooLong else None))))
+    else (if nat_lt MAX_TAGS (length names.tags) then Some TooManyTags else None)))
 
--- a fault is the one that is due, unless memory ran out
-abbrev pub IsDue : Option KeyFault → KeyFault → Type 0
-IsDue due fault = (fault ≡ Memory) ⊎ (due ≡ Some fault)
+-- the first fault of the names or of their key
+abbrev pub making_fault : Names → Option KeyFault
+making_fault names =
+    first_fault (naming_fault names)
+    (if nat_lt MAX_KEY_TEXT (length (key_text (series_of names))) then Some KeyTooLong else None)
+
+-- the key text that names make
+abbrev pub key_of : Names → Result (List ℕ) KeyFault
+key_of names = unless_faulty (making_fault names) (key_text (series_of names))

@@ -12,7 +12,7 @@ use Rattle.rr_base.specs.Options.{◌>>=◌}
 use Rattle.rr_key.specs.Series.{is_tag, tail_text}
 use Rattle.rr_key.specs.Unit.{escape, unescape, name_len}
 
--- the written name at the front and the bytes after it, unless it is none of a key
+-- the written name at the front and the bytes after it, if it may be one of a key
 abbrev pub name_at : Class → List ℕ → Option (List ℕ × List ℕ)
 name_at class text =
     let len = name_len class text in
@@ -31,7 +31,7 @@ abbrev pub rises : List ℕ → List (List ℕ × List ℕ) → Bool
 rises before [] = true
 rises before (tag ∷ tags) = is_lt (bytes_cmp before tag.0) && rises tag.0 tags
 
--- the bytes behind a tag, or behind the measurement: further tags with rising keys, a space and the field
+-- the bytes after the measurement or a tag: further tags with rising keys, a space and the field
 pub record IsTail (before : List ℕ) (count : ℕ) (text : List ℕ) : Type 0 where
   pub tags : List (List ℕ × List ℕ)
   pub field : List ℕ
@@ -50,16 +50,16 @@ abbrev pub is_some_and : {A : Type 0} → Option A → (A → Bool) → Bool
 is_some_and None test = false
 is_some_and (Some x) test = test x
 
--- whether a space, the field and nothing more stand there
+-- whether a text is a space, the field and nothing more
 abbrev pub is_last : List ℕ → Bool
 is_last text = is_some_and (strip SPACE text) (λ field. is_some_and (name_at Other field) (λ name. length name.1 == 0))
 
--- a last part, or one more where a comma stands
+-- the last part, or one more where a comma follows
 abbrev pub if_comma : Option (List ℕ) → Bool → (List ℕ → Bool) → Bool
 if_comma None last more = last
 if_comma (Some tag) last more = more tag
 
--- whether a tail stands behind a key, with room for so many tags
+-- whether a text is a tail after this key, with room for this many tags
 abbrev pub is_tail : ℕ → List ℕ → List ℕ → Bool
 is_tail zero before text = if_comma (strip COMMA text) (is_last text) (λ tag. false)
 is_tail (suc room) before text = if_comma (strip COMMA text) (is_last text) (λ tag.

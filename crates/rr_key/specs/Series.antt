@@ -19,15 +19,15 @@ pub record Series : Type 0 where
   pub tags : Tags
   pub field : List ℕ
 
--- a tag is written behind a comma, its key and its value around an equals
+-- a tag is written as a comma, its key, an equals and its value
 abbrev pub tag_text : List ℕ × List ℕ → List ℕ
 tag_text tag = COMMA ∷ (escape Other tag.0 ++ EQUALS ∷ escape Other tag.1)
 
--- behind the measurement: the tags, a space and the field
+-- after the measurement: the tags, a space and the field
 abbrev pub tail_text : List (List ℕ × List ℕ) → List ℕ → List ℕ
 tail_text tags field = flat_map tag_text tags ++ SPACE ∷ escape Other field
 
--- the key text: the tags stand in the order of their keys
+-- the key text: the tags are in the order of their keys
 abbrev pub key_text : Series → List ℕ
 key_text series = escape Measurement series.measurement ++ tail_text (entries series.tags) series.field
 

@@ -5,7 +5,7 @@ use Rattle.rr_key.specs.declared.class.Class.{Class}
 use Rattle.rr_base.specs.declared.bytes.TheConstants.{BACKSLASH}
 use Rattle.rr_key.specs.Class.{is_special}
 
--- the name as it is written: a backslash stands before each special byte
+-- the name as it is written: with a backslash before each special byte
 abbrev pub escape : Class → List ℕ → List ℕ
 escape class [] = []
 escape class (byte ∷ name) =

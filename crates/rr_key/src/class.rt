@@ -5,7 +5,7 @@ ghost use Rattle.rr_key.specs.Class.{is_special};
 
 use rr_base::bytes::{COMMA, EQUALS, SPACE};
 
-/// Which bytes of a name are special: a backslash stands before each of them.
+/// Which bytes of a name are special: each is written with a backslash before it.
 #[derive(Clone, Copy, Debug, PartialEq, Eq)]
 pub enum Class {
     /// A measurement: comma and space.

@@ -23,7 +23,7 @@ pub fn unescape(alloc: Global, class: Class, raw: &[u8]) -> Result<Vec<u8>, Allo
     unescape_units(alloc, class, raw)
 }
 
-/// The same, unit by unit.
+/// The name that is written, unit by unit.
 fn unescape_units(alloc: Global, class: Class, raw: &[u8]) -> Result<Vec<u8>, AllocError>
     ensures { IfOk result (λ name. name.items ≡ unescape class raw.now) }
 {
@@ -60,7 +60,7 @@ pub fn escape(alloc: Global, class: Class, name: &[u8]) -> Result<Vec<u8>, Alloc
     Ok(raw)
 }
 
-/// Writes a name behind a text.
+/// Adds a written name to a text.
 pub(crate) fn push_escaped(text: &mut Vec<u8>, class: Class, name: &[u8]) -> Result<(), AllocError>
     ensures { OnOk result (text.new.items ≡ text.old.items ++ escape class name.now) }
 {
@@ -77,7 +77,7 @@ fn has_special(class: Class, name: &[u8]) -> bool
     name.iter().any(|byte| is_special(class, *byte))
 }
 
-/// Writes a name behind a text, byte by byte.
+/// Adds a written name to a text, byte by byte.
 fn push_units(text: &mut Vec<u8>, class: Class, name: &[u8]) -> Result<(), AllocError>
     ensures { OnOk result (text.new.items ≡ text.old.items ++ escape class name.now) }
 {
@@ -87,7 +87,7 @@ fn push_units(text: &mut Vec<u8>, class: Class, name: &[u8]) -> Result<(), Alloc
     Ok(())
 }
 
-/// Writes one byte of a name behind a text.
+/// Adds one byte of a written name to a text.
 fn push_unit(text: &mut Vec<u8>, class: Class, byte: u8) -> Result<(), AllocError>
     ensures { OnOk result (text.new.items ≡ text.old.items ++ escape class (byte ∷ [])) }
 {

@@ -76,30 +76,28 @@ impl PartialOrd for SeriesKey {
 }
 
 impl SeriesKey {
-    ghost use Rattle.rr_key.specs.Series.{IsKeyText, key_text};
-    ghost use Rattle.rr_key.specs.Making.{names_of, series_of, making_fault, IsDue};
+    ghost use Rattle.rr_base.specs.Results.{GivesUnless};
+    ghost use Rattle.rr_key.specs.Series.{IsKeyText};
+    ghost use Rattle.rr_key.specs.Making.{names_of, naming_fault, key_of};
 
     /// The key of a measurement, tags in any order and a field, all of them unescaped.
     ///
     /// Refusals, in this order: `EmptyName`; `BadName`, a name with a line feed or that ends in a
     /// backslash; `DuplicateTag`; `TooManyTags`, more than [`MAX_TAGS`](crate::MAX_TAGS);
     /// `KeyTooLong`, a text of more than [`MAX_KEY_TEXT`](rr_base::limits::MAX_KEY_TEXT) bytes.
-    /// `Memory` may stand in place of the last three. The cost is that of sorting the tags and
-    /// writing the text.
+    /// `Memory` is answered where memory runs out for the text, so never in place of the first four.
+    /// The cost is that of sorting the tags and writing the text; more tags than a key may have are
+    /// compared pair by pair.
     pub fn new(
         alloc: Global,
         measurement: &[u8],
         tags: &[(&[u8], &[u8])],
         field: &[u8],
     ) -> Result<SeriesKey, KeyFault>
-        ensures made { IfOk result (λ key.
-            key ≡ key_text (series_of (names_of measurement.now tags.now field.now))) }
-        ensures accepted { OnOk result (making_fault (names_of measurement.now tags.now field.now) ≡ None) }
-        ensures refused { IfErr result (IsDue (making_fault (names_of measurement.now tags.now field.now))) }
-        ensures empty { (result ≡ Err KeyFault.EmptyName)
-            ↔ (making_fault (names_of measurement.now tags.now field.now) ≡ Some KeyFault.EmptyName) }
-        ensures bad { (result ≡ Err KeyFault.BadName)
-            ↔ (making_fault (names_of measurement.now tags.now field.now) ≡ Some KeyFault.BadName) }
+        ensures made { GivesUnless KeyFault.Memory (λ key. key) result
+            (key_of (names_of measurement.now tags.now field.now)) }
+        ensures memory { result ≡ Err KeyFault.Memory
+            → naming_fault (names_of measurement.now tags.now field.now) ≡ None }
         ensures grammar { IfOk result IsKeyText }
     {
         let text = make_text(alloc, measurement, tags, field)?;
@@ -107,8 +105,8 @@ impl SeriesKey {
         Ok(SeriesKey { text })
     }
 
-    /// The key whose text the bytes are. Bytes that are no key text are refused as `BadKey`, before
-    /// any memory is taken.
+    /// The key whose text the bytes are. Other bytes are refused as `BadKey`, before any memory is
+    /// taken.
     ///
     /// The cost is one pass over the bytes and a copy of them.
     pub fn parse_text(alloc: Global, bytes: &[u8]) -> Result<SeriesKey, KeyFault>

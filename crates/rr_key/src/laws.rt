@@ -31,7 +31,7 @@ pub fn tags_stand_in_any_order()
         ≡ series_of (record { measurement = measurement; tags = others; field = field }) }
 {}
 
-/// Whether a text is a key text can be told.
+/// Whether a text is a key text is decided by one pass over it.
 pub fn a_key_text_can_be_told()
     ensures { (text : List ℕ) → (is_key_text text ≡ true) ↔ IsKeyText text }
 {}

@@ -11,7 +11,7 @@
 //!
 //! A name is written as in the "InfluxDB line protocol reference": [`escape`] puts a backslash
 //! before each special byte of the name's [`Class`], [`unescape`] drops it again, and [`name_len`]
-//! says where a written name ends in a text. A backslash that stands before no special byte is a
+//! says where a written name ends in a text. A backslash that no special byte follows is a
 //! byte of the name. No name of a key is empty, has a line feed or ends in a backslash; a key has at
 //! most [`MAX_TAGS`] tags, their keys differ, and its text has at most
 //! [`MAX_KEY_TEXT`](rr_base::limits::MAX_KEY_TEXT) bytes.

@@ -1,18 +1,19 @@
-//! Which names make a key, and in which order its tags stand.
+//! Which names make a key, and the order of its tags.
 
-ghost use Rattle.std.specs.Prelude.{◌≡◌, ◌↔◌, ◌⊎◌, length, true, false, Err, None, Some, [], IfOk, IfErr, OnOk};
-ghost use Rattle.std.specs.FinMap.{entries, from_entries};
-ghost use Rattle.rr_key.specs.declared.fault.KeyFault.TheVariants.{DuplicateTag, Memory};
-ghost use Rattle.rr_key.specs.Making.{names_of, tags_of, series_of, any_tag, any_name, making_fault, IsDue};
+ghost use Rattle.std.specs.Prelude.{◌≡◌, ◌≤◌, length, false, Err, None, [], if◌then◌else◌};
+ghost use Rattle.rr_key.specs.declared.fault.KeyFault.TheVariants.{DuplicateTag, TooManyTags};
+ghost use Rattle.rr_key.specs.Making.{names_of, tags_of, any_tag, any_name, naming_fault, key_of};
 ghost use Rattle.rr_key.specs.Name.{is_empty, is_bad};
 ghost use Rattle.rr_key.specs.Reading.{rises};
-ghost use Rattle.rr_key.specs.Series.{key_text};
-ghost use Rattle.rr_base.specs.Bytes.{bytes_cmp, has_repeat};
+ghost use Rattle.rr_base.specs.Bytes.{has_repeat};
+ghost use Rattle.rr_base.specs.Results.{GivesUnless};
+ghost use Rattle.rr_base.specs.declared.limits.TheConstants.{MAX_TAGS};
 ghost use Rattle.std.specs.Map.{keys_of};
 
 use crate::fault::KeyFault;
 use crate::names::is_bad;
 use crate::writing::write_key;
+use rr_base::bytes::has_repeat;
 use rr_base::limits::{MAX_KEY_TEXT, MAX_TAGS};
 use std::alloc::Global;
 
@@ -23,14 +24,10 @@ pub(crate) fn make_text(
     tags: &[(&[u8], &[u8])],
     field: &[u8],
 ) -> Result<Vec<u8>, KeyFault>
-    ensures made { IfOk result (λ text.
-        text.items ≡ key_text (series_of (names_of measurement.now tags.now field.now))) }
-    ensures accepted { OnOk result (making_fault (names_of measurement.now tags.now field.now) ≡ None) }
-    ensures refused { IfErr result (IsDue (making_fault (names_of measurement.now tags.now field.now))) }
-    ensures empty { (result ≡ Err KeyFault.EmptyName)
-        ↔ (making_fault (names_of measurement.now tags.now field.now) ≡ Some KeyFault.EmptyName) }
-    ensures bad { (result ≡ Err KeyFault.BadName)
-        ↔ (making_fault (names_of measurement.now tags.now field.now) ≡ Some KeyFault.BadName) }
+    ensures made { GivesUnless KeyFault.Memory (λ text. text.items) result
+        (key_of (names_of measurement.now tags.now field.now)) }
+    ensures memory { result ≡ Err KeyFault.Memory
+        → naming_fault (names_of measurement.now tags.now field.now) ≡ None }
 {
     if has_empty(measurement, tags, field) {
         return Err(KeyFault::EmptyName);
@@ -38,11 +35,47 @@ pub(crate) fn make_text(
     if has_bad(measurement, tags, field) {
         return Err(KeyFault::BadName);
     }
-    let tags = ascending(alloc, tags)?;
     if tags.len() > MAX_TAGS {
-        return Err(KeyFault::TooManyTags);
+        return Err(fault_of_many(tags));
     }
-    let text = write_key(alloc, measurement, &tags, field)?;
+    let none: &[u8] = b"";
+    let mut room = [(none, none); MAX_TAGS];
+    let sorted = &mut room[..tags.len()];
+    sorted.copy_from_slice(tags);
+    sort_and_write(alloc, measurement, sorted, field)
+}
+
+/// Why more tags than a key may have are refused.
+fn fault_of_many(tags: &[(&[u8], &[u8])]) -> KeyFault
+    ensures { result ≡ (if has_repeat (keys_of (tags_of tags.now)) then DuplicateTag else TooManyTags) }
+{
+    if has_repeat(tags) {
+        KeyFault::DuplicateTag
+    } else {
+        KeyFault::TooManyTags
+    }
+}
+
+/// The key text of names that are names of a key, with at most as many tags as a key may have.
+fn sort_and_write(
+    alloc: Global,
+    measurement: &[u8],
+    tags: &mut [(&[u8], &[u8])],
+    field: &[u8],
+) -> Result<Vec<u8>, KeyFault>
+    requires filled { any_name is_empty (names_of measurement.now tags.old field.now) ≡ false }
+    requires good { any_name is_bad (names_of measurement.now tags.old field.now) ≡ false }
+    requires tags_fit { length tags.old ≤ MAX_TAGS }
+    ensures made { GivesUnless KeyFault.Memory (λ text. text.items) result
+        (key_of (names_of measurement.now tags.old field.now)) }
+    ensures memory { result ≡ Err KeyFault.Memory
+        → naming_fault (names_of measurement.now tags.old field.now) ≡ None }
+{
+    tags.sort_unstable();
+    if !rises(tags) {
+        return Err(KeyFault::DuplicateTag);
+    }
+    let text = write_key(alloc, measurement, tags, field)?;
     if text.len() > MAX_KEY_TEXT {
         return Err(KeyFault::KeyTooLong);
     }
@@ -98,24 +131,4 @@ fn rises(tags: &[(&[u8], &[u8])]) -> bool
         before = tag.0;
     }
     true
-}
-
-/// The tags in the order of their keys; a key that stands twice is refused as `DuplicateTag`.
-fn ascending<'a>(
-    alloc: Global,
-    tags: &[(&'a [u8], &'a [u8])],
-) -> Result<Vec<(&'a [u8], &'a [u8])>, KeyFault>
-    requires { any_tag is_empty (tags_of tags.now) ≡ false }
-    ensures unique { OnOk result (has_repeat (keys_of (tags_of tags.now)) ≡ false) }
-    ensures sorted { IfOk result (λ sorted. tags_of sorted.items ≡ entries (from_entries {R = bytes_cmp} (tags_of tags.now))) }
-    ensures len { IfOk result (λ sorted. length sorted.items ≡ length tags.now) }
-    ensures refused { IfErr result (λ fault. (fault ≡ Memory)
-        ⊎ ((fault ≡ DuplicateTag) × (has_repeat (keys_of (tags_of tags.now)) ≡ true))) }
-{
-    let mut sorted = Vec::from_slice(alloc, tags)?;
-    sorted.sort_unstable();
-    if !rises(&sorted) {
-        return Err(KeyFault::DuplicateTag);
-    }
-    Ok(sorted)
 }

@@ -42,7 +42,7 @@ fn find_special(class: Class, text: &[u8]) -> Option<usize>
     }
 }
 
-/// Whether a name that is not empty is none of a key: it has a line feed or ends in a backslash.
+/// Whether a name can't be one of a key: it has a line feed or ends in a backslash.
 pub(crate) fn is_bad(name: &[u8]) -> bool
     ensures { result ≡ is_bad name.now }
 {
@@ -66,7 +66,7 @@ fn is_name(name: &[u8]) -> bool
     !name.is_empty() && !is_bad(name)
 }
 
-/// The written name at the front and the bytes after it, unless it is none of a key.
+/// The written name at the front and the bytes after it, if it may be one of a key.
 pub(crate) fn split_name(class: Class, text: &[u8]) -> Option<(&[u8], &[u8])>
     ensures { option_map (λ parts. (parts.0.now, parts.1.now)) result ≡ name_at class text.now }
 {

@@ -15,7 +15,7 @@ use std::alloc::{AllocError, Global};
 /// The bytes that are taken at once for a key text; most have fewer.
 const ROOM: usize = 128;
 
-/// The key text of names whose tags stand in the order of their keys.
+/// The key text of names whose tags are in the order of their keys.
 pub(crate) fn write_key(
     alloc: Global,
     measurement: &[u8],

@@ -9,7 +9,7 @@ use Rattle.rr_base.specs.declared.bytes.TheConstants.{EQUALS, COMMA}
 use Rattle.rr_line.specs.declared.fault.LineFault.{LineFault}
 use Rattle.rr_line.specs.declared.fault.LineFault.TheVariants.{TooManyFields, DuplicateField}
 use Rattle.rr_base.specs.declared.limits.TheConstants.{MAX_FIELDS}
-use Rattle.rr_line.specs.Field.{Field, IsField, MayStandBehind, LeadTo, FieldFault, no_key, no_value, bad_value, too_many, repeated}
+use Rattle.rr_line.specs.Field.{Field, IsField, MayComeAfter, LeadTo, FieldFault, no_key, no_value, bad_value, too_many, repeated}
 use Rattle.rr_line.specs.Part.{IsName}
 use Rattle.rr_line.specs.Reading.{field_at, fields_at, after_comma}
 use Rattle.rr_line.specs.Tag.{has_key}
@@ -22,7 +22,7 @@ use Rattle.rr_line.proofs.TagLemmas.{comma_is, no_comma}
 abbrev pub HasFields : List Field → List ℕ → List Field × List ℕ → Type 0
 HasFields before text fields =
     (front : List Field) × (last : Field) × (last_text : List ℕ) × LeadTo before text front last_text × IsField last_text last fields.1
-    × MayStandBehind (before ++ front) last × (begins COMMA fields.1 ≡ false) × (fields.0 ≡ before ++ (front ++ last ∷ []))
+    × MayComeAfter (before ++ front) last × (begins COMMA fields.1 ≡ false) × (fields.0 ≡ before ++ (front ++ last ∷ []))
 
 -- good fields, and then one that is not
 abbrev pub HasBadField : List Field → List ℕ → LineFault → Type 0
@@ -72,7 +72,7 @@ fields_to before text fields few ((field, rest), is, (other, inl (ended, all))) 
       text,
       refl,
       subst (λ (r : List ℕ). IsField text field r) parts.1 is,
-      subst (λ (fs : List Field). MayStandBehind fs field) (sym (append-nil before)) (record { few = few; other = other }),
+      subst (λ (fs : List Field). MayComeAfter fs field) (sym (append-nil before)) (record { few = few; other = other }),
       subst (λ (r : List ℕ). begins COMMA r ≡ false) parts.1 ended,
       sym parts.0,
     )
@@ -82,14 +82,14 @@ fields_to before text fields few ((field, rest), is, (other, inr (next, whole, (
   last_text,
   (next, subst (λ (r : List ℕ). IsField text field r) whole is, record { few = few; other = other }, leading),
   ends,
-  subst (λ (fs : List Field). MayStandBehind fs last) (append_assoc before (field ∷ []) front) new,
+  subst (λ (fs : List Field). MayComeAfter fs last) (append_assoc before (field ∷ []) front) new,
   ended,
   all ∙ append_assoc before (field ∷ []) (front ++ last ∷ []),
 )
 
 fields_from : (before : List Field) (text : List ℕ) (fields : List Field × List ℕ) → HasFields before text fields → (field : Field × List ℕ) × IsField text field.0 field.1 × Then before field fields
 fields_from before text (fields, rest) ([], last, last_text, leading, ends, new, ended, all) =
-    let may = subst (λ (fs : List Field). MayStandBehind fs last) (append-nil before) new in
+    let may = subst (λ (fs : List Field). MayComeAfter fs last) (append-nil before) new in
     ((last, rest), subst (λ (t : List ℕ). IsField t last rest) (sym leading) ends, (may.other, inl (ended, rw all refl)))
 fields_from before text (fields, rest) (field ∷ front, last, last_text, leading, ends, new, ended, all) = (
   (field, COMMA ∷ leading.0),
@@ -105,7 +105,7 @@ fields_from before text (fields, rest) (field ∷ front, last, last_text, leadin
         last_text,
         leading.3,
         ends,
-        subst (λ (fs : List Field). MayStandBehind fs last) (sym (append_assoc before (field ∷ []) front)) new,
+        subst (λ (fs : List Field). MayComeAfter fs last) (sym (append_assoc before (field ∷ []) front)) new,
         ended,
         all ∙ sym (append_assoc before (field ∷ []) (front ++ last ∷ [])),
       ),
@@ -145,7 +145,7 @@ bad_from before text fault few (field ∷ more, bad_text, leading, bad) =
 -- no room is left
 full_good : (before : List Field) (text : List ℕ) (fields : List Field × List ℕ) → length before ≡ MAX_FIELDS → HasFields before text fields → ⊥
 full_good before text fields full ([], last, last_text, leading, ends, new, ended, all) =
-    let few = (subst (λ (fs : List Field). MayStandBehind fs last) (append-nil before) new).few in omega (arith, few, full)
+    let few = (subst (λ (fs : List Field). MayComeAfter fs last) (append-nil before) new).few in omega (arith, few, full)
 full_good before text fields full (field ∷ front, last, last_text, leading, ends, new, ended, all) = omega (arith, leading.2.few, full)
 
 full_to : (before : List Field) (text : List ℕ) (fault : LineFault) → length before ≡ MAX_FIELDS → NoField text fault ⊎ ((field : Field × List ℕ) × IsField text field.0 field.1 × (fault ≡ TooManyFields)) → HasBadField before text fault

@@ -26,7 +26,7 @@ use Rattle.rr_line.specs.Grammar.{LeadsToTags, LeadsToFields, HasParts}
 use Rattle.rr_line.specs.Key.{names_of, key_text, has_long_key, HasKeys}
 use Rattle.rr_line.specs.Line.{PointView}
 use Rattle.rr_line.specs.Part.{skip_spaces}
-use Rattle.rr_line.specs.Tag.{Tag, IsTag, AreTags}
+use Rattle.rr_line.specs.Tag.{Tag, AreTags}
 use Rattle.rr_line.proofs.NameLemmas.{IsGood, name_is_good, none_in_parts}
 use Rattle.rr_line.proofs.RepeatLemmas.{repeats_key-new}
 use Rattle.rr_line.proofs.SizeLemmas.{size, size-entries}

@@ -1,4 +1,4 @@
--- Fields: a comma stands between two.
+-- Fields, separated by commas.
 use Rattle.std.specs.Prelude.{◌≡◌, ℕ, ◌<◌, ℤ, true, false, List, [], ◌∷◌, ◌++◌, length}
 use Rattle.rr_base.specs.Bytes.{begins}
 use Rattle.rr_key.specs.declared.class.Class.TheVariants.{Other}
@@ -20,16 +20,16 @@ pub record IsField (text : List ℕ) (field : Field) (rest : List ℕ) : Type 0 
   pub key : IsName Other text field.0 (EQUALS ∷ value_text)
   pub value : IsValue value_text field.1 rest
 
--- fields may stand before this one
-pub record MayStandBehind (before : List Field) (field : Field) : Type 0 where
+-- a field may come after these
+pub record MayComeAfter (before : List Field) (field : Field) : Type 0 where
   pub few : length before < MAX_FIELDS
   pub other : has_key before field.0 ≡ false
 
--- text = { field "," } rest, behind the fields before
+-- text = { field "," } rest, after the fields before
 abbrev pub LeadTo : List Field → List ℕ → List Field → List ℕ → Type 0
 LeadTo before text [] rest = text ≡ rest
 LeadTo before text (field ∷ fields) rest =
-    (next : List ℕ) × IsField text field (COMMA ∷ next) × MayStandBehind before field
+    (next : List ℕ) × IsField text field (COMMA ∷ next) × MayComeAfter before field
     × LeadTo (before ++ field ∷ []) next fields rest
 
 -- text = { field "," } field rest, and the rest begins with no comma
@@ -39,11 +39,11 @@ pub record AreFields (text : List ℕ) (fields : List Field) (rest : List ℕ) :
   pub last_text : List ℕ
   pub leading : LeadTo [] text front last_text
   pub ends : IsField last_text last rest
-  pub new : MayStandBehind front last
+  pub new : MayComeAfter front last
   pub ended : begins COMMA rest ≡ false
   pub all : fields ≡ front ++ last ∷ []
 
--- why no field is read behind the fields before
+-- why no field is read after the fields before
 pub data FieldFault (before : List Field) (text : List ℕ) (fault : LineFault) : Type 0 where
   no_key : HasNoName Other text → fault ≡ MissingFieldKey → FieldFault before text fault
   no_value : (key rest : List ℕ) → IsName Other text key rest → begins EQUALS rest ≡ false → fault ≡ MissingFieldValue → FieldFault before text fault

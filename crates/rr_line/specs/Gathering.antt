@@ -36,21 +36,21 @@ abbrev pub gather : {A : Type 0} → List A → Result (A × List ℕ) LineFault
 gather before (Ok (part, rest)) more = more part rest
 gather before (Err fault) more = (before, Err fault)
 
--- the tags behind these, of which there may be so many more
+-- the tags after these, with room for this many more
 abbrev pub gathered_tags : ℕ → List Tag → List ℕ → Gathered Tag
 gathered_tags zero before text = after_comma (strip COMMA text) (before, Ok text) (λ tag_text.
     gather before (tag_at tag_text) (λ tag rest. (before, Err TooManyTags)))
 gathered_tags (suc room) before text = after_comma (strip COMMA text) (before, Ok text) (λ tag_text.
     gather before (tag_at tag_text) (λ tag rest. gathered_tags room (before ++ tag ∷ []) rest))
 
--- the fields behind these, of which there may be so many more
+-- the fields after these, with room for this many more
 abbrev pub gathered_fields : ℕ → List Field → List ℕ → Gathered Field
 gathered_fields zero before text = gather before (field_at text) (λ field rest. (before, Err TooManyFields))
 gathered_fields (suc room) before text = gather before (field_at text) (λ field rest.
     after_comma (strip COMMA rest) (before ++ field ∷ [], Ok rest) (λ next.
     gathered_fields room (before ++ field ∷ []) next))
 
--- the tags behind a measurement, as far as they are good
+-- the tags after a measurement, as far as they are good
 unfoldable pub all_gathered_tags : List ℕ → Gathered Tag
 all_gathered_tags text = gathered_tags MAX_TAGS [] text
 
@@ -58,7 +58,7 @@ all_gathered_tags text = gathered_tags MAX_TAGS [] text
 unfoldable pub all_gathered_fields : List ℕ → Gathered Field
 all_gathered_fields text = gathered_fields MAX_FIELDS [] text
 
--- what was gathered and what follows it, unless a key stands twice
+-- what was gathered and what follows it, unless a key occurs twice
 abbrev pub without_repeat : {V : Type 0} → LineFault → Gathered (List ℕ × V) → Result (List (List ℕ × V) × List ℕ) LineFault
 without_repeat fault gathered =
     unless fault (repeats_key gathered.0) (gathered.1 >>= λ rest. Ok (gathered.0, rest))

@@ -6,7 +6,7 @@ use Rattle.rr_key.specs.Name.{MayFollow}
 use Rattle.rr_key.specs.Unit.{escape}
 use Rattle.rr_base.specs.declared.bytes.TheConstants.{RETURN, SPACE}
 
--- a text behind the spaces at its front
+-- a text without the spaces at its front
 abbrev pub skip_spaces : List ℕ → List ℕ
 skip_spaces [] = []
 skip_spaces (byte ∷ rest) = if byte == SPACE then skip_spaces rest else byte ∷ rest

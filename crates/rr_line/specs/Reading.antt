@@ -34,12 +34,12 @@ tag_at text = do
   value ← name_at Other MissingTagValue value_text
   unless MissingTagValue (begins EQUALS value.1) (Ok ((key.0, value.0), value.1))
 
--- what a tag is followed by, where a comma stands next
+-- what follows a comma, or the last part where there is none
 abbrev pub after_comma : {A : Type 0} → Option (List ℕ) → A → (List ℕ → A) → A
 after_comma None last more = last
 after_comma (Some text) last more = more text
 
--- the tags behind these, of which there may be so many more, and what follows them
+-- the tags after these, with room for this many more, and what follows them
 abbrev pub tags_at : ℕ → List Tag → List ℕ → Result (List Tag × List ℕ) LineFault
 tags_at zero before text = after_comma (strip COMMA text) (Ok (before, text)) (λ tag_text.
     tag_at tag_text >>= λ tag. Err TooManyTags)
@@ -47,11 +47,11 @@ tags_at (suc room) before text = after_comma (strip COMMA text) (Ok (before, tex
     tag_at tag_text >>= λ tag.
     unless DuplicateTag (has_key before tag.0.0) (tags_at room (before ++ tag.0 ∷ []) tag.1))
 
--- the tags behind a measurement, and what follows them
+-- the tags after a measurement, and what follows them
 unfoldable pub all_tags_at : List ℕ → Result (List Tag × List ℕ) LineFault
 all_tags_at text = tags_at MAX_TAGS [] text
 
--- what stands behind the gap before the fields
+-- the text of the fields, after the gap that precedes them
 abbrev pub fields_text_of : List ℕ → Result (List ℕ) LineFault
 fields_text_of gap = unless NoFields (length (skip_spaces gap) == 0) (Ok (skip_spaces gap))
 
@@ -68,7 +68,7 @@ field_at text = do
   value ← value_at value_text
   Ok ((key.0, value.0), value.1)
 
--- the fields behind these, of which there may be so many more, and what follows them
+-- the fields after these, with room for this many more, and what follows them
 abbrev pub fields_at : ℕ → List Field → List ℕ → Result (List Field × List ℕ) LineFault
 fields_at zero before text = field_at text >>= λ field. Err TooManyFields
 fields_at (suc room) before text =

@@ -1,4 +1,4 @@
--- Tags: a comma stands before each.
+-- Tags, each after a comma.
 use Rattle.std.specs.Prelude.{◌≡◌, ℕ, ◌<◌, Bool, true, false, List, [], ◌∷◌, ◌++◌, length}
 use Rattle.std.specs.Map.{keys_of}
 use Rattle.rr_base.specs.Bytes.{begins, is_among}
@@ -24,25 +24,25 @@ pub record IsTag (text : List ℕ) (tag : Tag) (rest : List ℕ) : Type 0 where
 abbrev pub has_key : {V : Type 0} → List (List ℕ × V) → List ℕ → Bool
 has_key entries key = is_among key (keys_of entries)
 
--- tags may stand before this one
-pub record MayStandBehind (before : List Tag) (tag : Tag) : Type 0 where
+-- a tag may come after these
+pub record MayComeAfter (before : List Tag) (tag : Tag) : Type 0 where
   pub few : length before < MAX_TAGS
   pub other : has_key before tag.0 ≡ false
 
--- text = { "," tag } rest, behind the tags before
+-- text = { "," tag } rest, after the tags before
 abbrev pub AreTags : List Tag → List ℕ → List Tag → List ℕ → Type 0
 AreTags before text [] rest = text ≡ rest
 AreTags before text (tag ∷ tags) rest =
-    (tag_text next : List ℕ) × (text ≡ COMMA ∷ tag_text) × IsTag tag_text tag next × MayStandBehind before tag
+    (tag_text next : List ℕ) × (text ≡ COMMA ∷ tag_text) × IsTag tag_text tag next × MayComeAfter before tag
     × AreTags (before ++ tag ∷ []) next tags rest
 
--- a key stands at the front, and no value behind it
+-- a key is at the front, and no value follows it
 pub data HasNoTagValue (text : List ℕ) : Type 0 where
   without_equals : (key rest : List ℕ) → IsName Other text key rest → begins EQUALS rest ≡ false → HasNoTagValue text
   without_name : (key value_text : List ℕ) → IsName Other text key (EQUALS ∷ value_text) → HasNoName Other value_text → HasNoTagValue text
   before_equals : (key value_text value rest : List ℕ) → IsName Other text key (EQUALS ∷ value_text) → IsName Other value_text value rest → begins EQUALS rest ≡ true → HasNoTagValue text
 
--- why no tag is read behind a comma and the tags before
+-- why no tag is read after a comma and the tags before
 pub data TagFault (before : List Tag) (text : List ℕ) (fault : LineFault) : Type 0 where
   no_key : HasNoName Other text → fault ≡ MissingTagKey → TagFault before text fault
   no_value : HasNoTagValue text → fault ≡ MissingTagValue → TagFault before text fault

@@ -17,11 +17,11 @@ unit Us = 1_000
 unit Ms = 1_000_000
 unit S = 1_000_000_000
 
--- the nanoseconds that digits behind an optional "-" write
+-- the nanoseconds that digits after an optional "-" write
 abbrev pub nanoseconds : Precision → List ℕ → ℤ
 nanoseconds precision digits = signed_digits_value 10 digits *ℤ pos (unit precision)
 
--- how many bytes stand before the first space, or how many there are
+-- how many bytes precede the first space, or how many there are
 abbrev pub word_len : List ℕ → ℕ
 word_len text = position_or_len (λ byte. byte == SPACE) text
 
@@ -31,7 +31,7 @@ pub record IsWord (text word rest : List ℕ) : Type 0 where
   pub len : word_len (skip_spaces text) ≡ length word
   pub whole : skip_spaces text ≡ word ++ rest
 
--- a word of digits behind an optional "-", and nothing but spaces after it
+-- a word of digits after an optional "-", and nothing but spaces after it
 pub record IsTimeText (text word : List ℕ) : Type 0 where
   pub rest : List ℕ
   pub is_word : IsWord text word rest

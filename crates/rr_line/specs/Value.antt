@@ -57,7 +57,7 @@ abbrev pub is_exponent : List ℕ → Bool
 is_exponent [] = true
 is_exponent (mark ∷ text) = is_digits (without_sign text)
 
--- how many bytes stand before the first "e" or "E", or how many there are
+-- how many bytes precede the first "e" or "E", or how many there are
 abbrev pub mantissa_len : List ℕ → ℕ
 mantissa_len text = position_or_len (is_byte2 EXPONENT_MARK GREAT_EXPONENT_MARK) text
 
@@ -66,7 +66,7 @@ abbrev pub is_float : List ℕ → Bool
 is_float text =
     is_mantissa (unsigned (take (mantissa_len text) text)) && is_exponent (drop (mantissa_len text) text)
 
--- why a value that is no integer is refused
+-- why a value that is not an integer is refused
 abbrev pub kind_fault : List ℕ → LineFault
 kind_fault text =
     if length text == 0 then MissingFieldValue
@@ -89,9 +89,9 @@ abbrev pub value_len : List ℕ → ℕ
 value_len text = position_or_len ends_value text
 
 -- what follows a byte of a text and the byte that it takes: a backslash takes a quote or a backslash
-abbrev pub behind_unit : ℕ → List ℕ → List ℕ
-behind_unit first [] = []
-behind_unit first (next ∷ rest) = if first == BACKSLASH && is_byte2 QUOTE BACKSLASH next then rest else next ∷ rest
+abbrev pub after_unit : ℕ → List ℕ → List ℕ
+after_unit first [] = []
+after_unit first (next ∷ rest) = if first == BACKSLASH && is_byte2 QUOTE BACKSLASH next then rest else next ∷ rest
 
 -- what follows the quote that ends a text; a backslash before a quote or a backslash takes both
 abbrev pub after_quote : List ℕ → Option (List ℕ)

@@ -38,7 +38,7 @@ fn gather_fields<'a>(
     text: &'a [u8],
 ) -> Result<(Vec<(&'a [u8], i64)>, Result<&'a [u8], LineFault>), AllocError>
     ensures gathered { IfOk result (λ fields. (fields_view fields.0.items, rest_view fields.1) ≡ all_gathered_fields text.now) }
-    ensures few { IfOk result (λ fields. length fields.0.items ≤ MAX_FIELDS) }
+    ensures fields_fit { IfOk result (λ fields. length fields.0.items ≤ MAX_FIELDS) }
 {
     let mut fields = Vec::new(alloc);
     let mut left = text;

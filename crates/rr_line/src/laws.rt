@@ -11,7 +11,7 @@ ghost use Rattle.rr_line.specs.Line.{LineView, PointView, point};
 ghost use Rattle.rr_line.specs.Reading.{reading};
 
 /// Of each line the grammar has exactly one of three: it says nothing, it says one point, or it
-/// has one fault, which is not want of memory.
+/// has one fault. Running out of memory is not one of them.
 pub fn a_line_is_one_of_three()
     ensures one { (precision : Precision) (line : List ℕ)
         → (said : Result LineView LineFault) × IsLineOf precision line said

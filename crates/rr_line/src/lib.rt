@@ -22,7 +22,7 @@
 //! A line has at most [`MAX_TAGS`](rr_key::MAX_TAGS) tags and [`MAX_FIELDS`] fields, each with a
 //! key of its own, and the key text of each field has at most
 //! [`MAX_KEY_TEXT`](rr_base::limits::MAX_KEY_TEXT) bytes. The rules are those of the "InfluxDB
-//! line protocol reference" where it has them; fields of other kinds are told apart and refused.
+//! line protocol reference" where it has them; fields of other kinds are refused by their kind.
 //!
 //! In `specs/` the grammar is a relation between a line's bytes and what they say, or why they are
 //! refused: good parts, and what follows them. The reading is a function of these bytes. [`laws`]

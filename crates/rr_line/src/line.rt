@@ -9,8 +9,8 @@ pub enum Line<'a> {
     Point(Point<'a>),
 }
 
-/// The samples of one moment. The names are slices of the line, as it writes them: a backslash
-/// stands before each special byte of a name (see [`rr_key::unescape`]).
+/// The samples of one moment. The names are slices of the line, as it writes them: with a
+/// backslash before each special byte of a name (see [`rr_key::unescape`]).
 #[derive(Debug, Drop)]
 pub struct Point<'a> {
     /// What was measured, a name of the class [`Measurement`](rr_key::Class::Measurement).

@@ -1,14 +1,17 @@
 //! A line, read from left to right.
 
-ghost use Rattle.std.specs.Prelude.{◌≡◌, ◌+◌, false, length, nat_lt, Result, IfOk, Ok};
+ghost use Rattle.std.specs.Prelude.{◌≡◌, ◌+◌, true, false, length, nat_lt, Result, IfOk, IsOk, Ok};
 ghost use Rattle.std.specs.List.{list_any};
 ghost use Rattle.rr_base.specs.Bytes.{HasNoLineFeed};
-ghost use Rattle.rr_base.specs.Results.{Gives, GivesUnless, AnswersUnless};
+ghost use Rattle.rr_base.specs.Results.{Gives, GivesUnless, AnswersUnless, NeedsMemoryAfter};
 ghost use Rattle.rr_base.specs.declared.limits.TheConstants.{MAX_KEY_TEXT};
 ghost use Rattle.rr_line.specs.Grammar.{is_nothing, IsLineOf};
 ghost use Rattle.rr_line.specs.Key.{LineHasKeys};
 ghost use Rattle.rr_line.specs.Line.{LineView, point_view, line_view, fields_view};
-ghost use Rattle.rr_line.specs.Reading.{fields_text_of, point_at, reading};
+ghost use Rattle.rr_line.specs.Part.{content};
+ghost use Rattle.rr_line.specs.Reading.{fields_text_of, name_at, point_at, reading};
+ghost use Rattle.rr_key.specs.declared.class.Class.TheVariants.{Measurement};
+ghost use Rattle.rr_line.specs.declared.fault.LineFault.TheVariants.{NoMeasurement};
 
 use crate::fault::LineFault;
 use crate::fields::read_fields;
@@ -46,6 +49,10 @@ pub fn parse_line<'a>(
     ensures only { (said : Result LineView LineFault) → IsLineOf precision line.now said
         → GivesUnless LineFault.Memory line_view result said }
 
+    // Memory is taken only for a line that says something and begins with a measurement.
+    ensures nothing { is_nothing (content line.now) ≡ true → IsOk result }
+    ensures memory { NeedsMemoryAfter LineFault.Memory (name_at Measurement NoMeasurement (content line.now)) result }
+
     // Each field of a point has a key.
     ensures keyed { IfOk result (λ said. LineHasKeys (line_view said)) }
 {
@@ -76,7 +83,8 @@ fn read_point<'a>(
 ) -> Result<Point<'a>, LineFault>
     requires one_line { HasNoLineFeed text.now }
     requires said { is_nothing text.now ≡ false }
-    ensures { GivesUnless LineFault.Memory point_view result (point_at precision text.now) }
+    ensures read { GivesUnless LineFault.Memory point_view result (point_at precision text.now) }
+    ensures memory { NeedsMemoryAfter LineFault.Memory (name_at Measurement NoMeasurement text.now) result }
 {
     let (measurement, rest) = read_name(Class::Measurement, LineFault::NoMeasurement, text)?;
     let (tags, gap) = read_tags(alloc, rest)?;
@@ -95,7 +103,7 @@ fn read_point<'a>(
     })
 }
 
-/// What stands behind the spaces before the fields.
+/// The text of the fields, after the spaces that precede them.
 fn skip_gap(gap: &[u8]) -> Result<&[u8], LineFault>
     ensures { Gives (λ text. text.now) result (fields_text_of gap.now) }
 {
@@ -106,8 +114,8 @@ fn skip_gap(gap: &[u8]) -> Result<&[u8], LineFault>
     Ok(text)
 }
 
-/// Whether a key text is too long: in it a space stands between what the line has before the
-/// fields and the field's key.
+/// Whether a key text is too long: it is as long as what precedes the fields in the line, a space
+/// and the field's key.
 fn has_long_key(front: &[u8], fields: &[(&[u8], i64)]) -> bool
     ensures { result ≡ list_any (λ field. nat_lt MAX_KEY_TEXT (length front.now + 1 + length field.0)) (fields_view fields.now) }
 {

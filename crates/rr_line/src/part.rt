@@ -1,4 +1,4 @@
-//! The parts of a line: what stands at the front of a text, and what follows it.
+//! The parts of a line: what is at the front of a text, and what follows it.
 
 ghost use Rattle.std.specs.Prelude.{◌≡◌, ◌≤◌, length, option_map};
 ghost use Rattle.rr_base.specs.Bytes.{strip, begins};
@@ -10,7 +10,7 @@ use crate::fault::LineFault;
 use rr_base::bytes::{RETURN, SPACE};
 use rr_key::{Class, name_len};
 
-/// The text behind the spaces at its front.
+/// The text without the spaces at its front.
 pub(crate) fn skip_spaces(text: &[u8]) -> &[u8]
     ensures { result.now ≡ skip_spaces text.now }
 {

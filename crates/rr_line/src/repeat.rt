@@ -1,42 +1,29 @@
-//! Keys that stand twice.
+//! Keys that occur twice.
 
 ghost use Rattle.std.specs.Prelude.{◌≡◌, ◌≤◌, not, map, length};
-ghost use Rattle.rr_base.specs.Bytes.{has_repeat, is_among};
+ghost use Rattle.rr_base.specs.Bytes.{has_repeat};
 ghost use Rattle.rr_base.specs.declared.limits.TheConstants.{MAX_FIELDS};
 ghost use Rattle.rr_line.specs.Gathering.{is_below, rise};
 
+use rr_base::bytes;
 use rr_base::limits::MAX_FIELDS;
 
 /// The most keys that are compared pair by pair. More of them are sorted.
 const FEW: usize = 16;
 
-/// Whether a key stands twice among entries.
+/// Whether a key occurs twice among entries.
 pub(crate) fn has_repeat<T>(entries: &[(&[u8], T)]) -> bool
     requires { length entries.now ≤ MAX_FIELDS }
     ensures { result ≡ has_repeat (map (λ entry. entry.0.now) entries.now) }
 {
     if entries.len() <= FEW {
-        has_repeat_among_few(entries)
+        bytes::has_repeat(entries)
     } else {
         has_repeat_among_many(entries)
     }
 }
 
-/// The same, pair by pair.
-fn has_repeat_among_few<T>(entries: &[(&[u8], T)]) -> bool
-    ensures { result ≡ has_repeat (map (λ entry. entry.0.now) entries.now) }
-{
-    let mut left = entries;
-    while let [first, others @ ..] = left {
-        if is_among(first.0, others) {
-            return true;
-        }
-        left = others;
-    }
-    false
-}
-
-/// The same, by the keys in order.
+/// Whether a key occurs twice among entries, by the keys in order.
 fn has_repeat_among_many<T>(entries: &[(&[u8], T)]) -> bool
     requires { length entries.now ≤ MAX_FIELDS }
     ensures { result ≡ has_repeat (map (λ entry. entry.0.now) entries.now) }
@@ -50,7 +37,7 @@ fn has_repeat_among_many<T>(entries: &[(&[u8], T)]) -> bool
     has_repeat_once_sorted(&mut keys[..count])
 }
 
-/// Whether a key stands twice among keys, which are sorted.
+/// Whether a key occurs twice among keys, which are sorted.
 fn has_repeat_once_sorted(keys: &mut [&[u8]]) -> bool
     ensures { result ≡ has_repeat (map (λ key. key.now) keys.old) }
 {
@@ -80,16 +67,4 @@ fn is_below(key: &[u8], others: &[&[u8]]) -> bool
         [next, ..] => key.cmp(next).is_lt(),
         [] => true,
     }
-}
-
-/// Whether a key stands among entries.
-fn is_among<T>(key: &[u8], entries: &[(&[u8], T)]) -> bool
-    ensures { result ≡ is_among key.now (map (λ entry. entry.0.now) entries.now) }
-{
-    for entry in entries {
-        if entry.0.cmp(key).is_eq() {
-            return true;
-        }
-    }
-    false
 }

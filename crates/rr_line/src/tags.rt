@@ -15,7 +15,7 @@ use rr_base::bytes::{COMMA, EQUALS, begins, strip};
 use rr_key::{Class, MAX_TAGS};
 use std::alloc::{AllocError, Global};
 
-/// The tags behind a measurement, and what follows them.
+/// The tags after a measurement, and what follows them.
 pub(crate) fn read_tags<'a>(
     alloc: Global,
     text: &'a [u8],
@@ -36,7 +36,7 @@ fn gather_tags<'a>(
     text: &'a [u8],
 ) -> Result<(Vec<(&'a [u8], &'a [u8])>, Result<&'a [u8], LineFault>), AllocError>
     ensures gathered { IfOk result (λ tags. (tags_of tags.0.items, rest_view tags.1) ≡ all_gathered_tags text.now) }
-    ensures few { IfOk result (λ tags. length tags.0.items ≤ MAX_TAGS) }
+    ensures tags_fit { IfOk result (λ tags. length tags.0.items ≤ MAX_TAGS) }
 {
     let mut tags = Vec::new(alloc);
     let mut left = text;
@@ -54,7 +54,7 @@ fn gather_tags<'a>(
     Ok((tags, Ok(left)))
 }
 
-/// A tag behind its comma, and what follows it.
+/// A tag after its comma, and what follows it.
 #[tactic(auto, unfolding(crate::specs::Reading::tag_at))]
 fn read_tag(text: &[u8]) -> Result<((&[u8], &[u8]), &[u8]), LineFault>
     ensures { Gives (λ tag. ((tag.0.0.now, tag.0.1.now), tag.1.now)) result (tag_at text.now) }

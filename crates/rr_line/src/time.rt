@@ -14,7 +14,7 @@ use memchr::memchr;
 use rr_base::bytes::SPACE;
 use rr_base::text::{integer, is_digits, unsigned};
 
-/// The time behind the fields, in nanoseconds, if there is one.
+/// The time after the fields, in nanoseconds, if there is one.
 pub(crate) fn read_ending(precision: Precision, ending: &[u8]) -> Result<Option<i64>, LineFault>
     ensures { result ≡ ending_at precision (skip_spaces ending.now) }
 {
@@ -27,7 +27,7 @@ pub(crate) fn read_ending(precision: Precision, ending: &[u8]) -> Result<Option<
     Ok(Some(time))
 }
 
-/// How many bytes stand before the first space, or how many there are.
+/// How many bytes precede the first space, or how many there are.
 fn word_len(text: &[u8]) -> usize
     ensures value { result ≡ word_len text.now }
     ensures within { result ≤ length text.now }

@@ -4,7 +4,7 @@ ghost use Rattle.std.specs.Prelude.{◌≡◌, ◌≤◌, ◌++◌, length, opti
 ghost use Rattle.rr_base.specs.Results.{Gives};
 ghost use Rattle.rr_base.specs.Text.{is_digits};
 ghost use Rattle.rr_line.specs.Reading.{value_at};
-ghost use Rattle.rr_line.specs.Value.{is_boolean, is_one_of, trues, falses, is_integer, is_unsigned, is_float, is_mantissa, is_exponent, mantissa_len, kind_fault, value_of, value_len, after_quote, behind_unit, is_text, quoted_fault, without_sign};
+ghost use Rattle.rr_line.specs.Value.{is_boolean, is_one_of, trues, falses, is_integer, is_unsigned, is_float, is_mantissa, is_exponent, mantissa_len, kind_fault, value_of, value_len, after_quote, after_unit, is_text, quoted_fault, without_sign};
 
 use crate::fault::LineFault;
 use crate::mark::{
@@ -15,7 +15,7 @@ use memchr::memchr2;
 use rr_base::bytes::{BACKSLASH, COMMA, MINUS, SPACE, begins};
 use rr_base::text::{cut, integer, is_digits, unsigned};
 
-/// A value and what follows it: a value that is no integer is refused by what it is.
+/// An integer and what follows it. A value of another kind is refused by its kind.
 pub(crate) fn read_value(text: &[u8]) -> Result<(i64, &[u8]), LineFault>
     ensures { Gives (λ value. (value.0, value.1.now)) result (value_at text.now) }
 {
@@ -27,7 +27,7 @@ pub(crate) fn read_value(text: &[u8]) -> Result<(i64, &[u8]), LineFault>
     Ok((number, rest))
 }
 
-/// How many bytes stand before the first comma or space, or how many there are.
+/// How many bytes precede the first comma or space, or how many there are.
 fn value_len(text: &[u8]) -> usize
     ensures value { result ≡ value_len text.now }
     ensures within { result ≤ length text.now }
@@ -50,7 +50,7 @@ fn value_of(text: &[u8]) -> Result<i64, LineFault>
     }
 }
 
-/// Why a value that is no integer is refused.
+/// Why a value that is not an integer is refused.
 fn kind_fault(text: &[u8]) -> LineFault
     ensures { result ≡ kind_fault text.now }
 {
@@ -112,7 +112,7 @@ fn is_float(text: &[u8]) -> bool
     is_mantissa(unsigned(mantissa)) && is_exponent(exponent)
 }
 
-/// How many bytes stand before the mark of an exponent, or how many there are.
+/// How many bytes precede the mark of an exponent, or how many there are.
 fn mantissa_len(text: &[u8]) -> usize
     ensures value { result ≡ mantissa_len text.now }
     ensures within { result ≤ length text.now }
@@ -197,18 +197,18 @@ fn after_quote(text: &[u8]) -> Option<&[u8]>
         if *first == QUOTE {
             return Some(rest);
         }
-        left = behind_unit(*first, rest);
+        left = after_unit(*first, rest);
     }
     None
 }
 
 /// What follows a byte of a text, and the quote or the backslash that it takes if it is a backslash.
-fn behind_unit(first: u8, rest: &[u8]) -> &[u8]
-    ensures value { result.now ≡ behind_unit first rest.now }
+fn after_unit(first: u8, rest: &[u8]) -> &[u8]
+    ensures value { result.now ≡ after_unit first rest.now }
     ensures shorter { length result.now ≤ length rest.now }
 {
     match rest {
-        [QUOTE | BACKSLASH, behind @ ..] if first == BACKSLASH => behind,
+        [QUOTE | BACKSLASH, after @ ..] if first == BACKSLASH => after,
         _ => rest,
     }
 }

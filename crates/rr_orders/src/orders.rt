@@ -1,11 +1,12 @@
 //! An order, obeyed over two streams.
 
-ghost use Rattle.std.specs.Prelude.{◌≡◌, ◌≤◌, Err, length, IfSome, IfOk, OnOk};
+ghost use Rattle.std.specs.Prelude.{◌≡◌, ◌+◌, ◌≤◌, Err, IfSome, IfOk, OnOk};
 ghost use Rattle.std.specs.Io.KnownBytes.{Appends};
-ghost use Rattle.rr_base.specs.Counted.{inner_of, failures_of, HasRisen};
+ghost use Rattle.rr_base.specs.Counted.{inner_of, failures_of, reads_of, HasRisen};
 ghost use Rattle.rr_base.specs.Stream.{AppendsPrefix};
 ghost use Rattle.rr_base.specs.declared.limits.TheConstants.{MAX_READS};
 ghost use Rattle.rr_orders.specs.Orders.{ending_of, output_of};
+ghost use Rattle.rr_report.specs.Reads.{HasMade};
 ghost use Rattle.rr_words.specs.Words.{asked_by};
 
 use crate::ending::Ending;
@@ -37,8 +38,9 @@ pub fn obey_order<R: Read, W: Write>(
 
     // When a stream is to blame.
     ensures read_failed { result ≡ Err ToolFault.ReadFailed → HasRisen (failures_of input.old) (failures_of input.new) }
-    ensures too_many { result ≡ Err ToolFault.TooManyReads → IfSome (R.remaining (inner_of input.old))
-        (λ bytes. MAX_READS ≤ length bytes) }
+    ensures limit { reads_of input.new ≤ reads_of input.old + MAX_READS }
+    ensures too_many { result ≡ Err ToolFault.TooManyReads
+        → HasMade MAX_READS (reads_of input.old) (reads_of input.new) }
     ensures write_failed { result ≡ Err ToolFault.WriteFailed → HasRisen (failures_of output.old) (failures_of output.new) }
 {
     match order {

@@ -1,12 +1,13 @@
 //! A script, from a reader's bytes to a writer's.
 
-ghost use Rattle.std.specs.Prelude.{◌≡◌, ◌≢◌, ◌≤◌, Err, length, IfSome, IfOk, OnOk, IfErr};
+ghost use Rattle.std.specs.Prelude.{◌≡◌, ◌≢◌, ◌+◌, ◌≤◌, Err, IfSome, IfOk, OnOk, IfErr};
 ghost use Rattle.std.specs.Io.KnownBytes.{Appends};
-ghost use Rattle.rr_base.specs.Counted.{inner_of, failures_of, reads_of, HasRisen, HasRisenBy};
+ghost use Rattle.rr_base.specs.Counted.{inner_of, failures_of, reads_of, HasRisen};
 ghost use Rattle.rr_base.specs.Stream.{AppendsPrefix};
 ghost use Rattle.rr_base.specs.declared.limits.TheConstants.{MAX_READS};
 ghost use Rattle.rr_cluster.specs.Model.{sample_model};
 ghost use Rattle.rr_cluster.specs.Output.{output_of};
+ghost use Rattle.rr_report.specs.Reads.{HasMade};
 
 use rr_base::Counted;
 use rr_base::stream::{flush, read_to_end, write_all};
@@ -33,7 +34,9 @@ pub fn run_script<R: Read, W: Write>(
 
     // When a stream is to blame.
     ensures read_failed { result ≡ Err ToolFault.ReadFailed → HasRisen (failures_of input.old) (failures_of input.new) }
-    ensures too_many { result ≡ Err ToolFault.TooManyReads → HasRisenBy MAX_READS (reads_of input.old) (reads_of input.new) }
+    ensures limit { reads_of input.new ≤ reads_of input.old + MAX_READS }
+    ensures too_many { result ≡ Err ToolFault.TooManyReads
+        → HasMade MAX_READS (reads_of input.old) (reads_of input.new) }
     ensures write_failed { result ≡ Err ToolFault.WriteFailed → HasRisen (failures_of output.old) (failures_of output.new) }
 {
     let script = read_script(alloc, input)?;
@@ -48,7 +51,9 @@ pub fn run_script<R: Read, W: Write>(
 fn read_script<R: Read>(alloc: Global, input: &mut Counted<R>) -> Result<Vec<u8>, ToolFault>
     ensures read { IfOk result (λ script. IfSome (R.remaining (inner_of input.old)) (λ bytes. script.items ≡ bytes)) }
     ensures read_failed { result ≡ Err ToolFault.ReadFailed → HasRisen (failures_of input.old) (failures_of input.new) }
-    ensures too_many { result ≡ Err ToolFault.TooManyReads → HasRisenBy MAX_READS (reads_of input.old) (reads_of input.new) }
+    ensures limit { reads_of input.new ≤ reads_of input.old + MAX_READS }
+    ensures too_many { result ≡ Err ToolFault.TooManyReads
+        → HasMade MAX_READS (reads_of input.old) (reads_of input.new) }
     ensures failed { IfErr result (λ fault. fault ≢ ToolFault.WriteFailed) }
 {
     let mut script = Vec::new(alloc);

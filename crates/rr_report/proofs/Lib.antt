@@ -1,3 +1,4 @@
 pub mod PointLemmas
+pub mod ReadLemmas
 pub mod ReportLemmas
 pub mod StreamLemmas

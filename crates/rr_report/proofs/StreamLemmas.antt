@@ -1,8 +1,8 @@
 -- A report that is written while its stream is read.
-use Rattle.std.proofs.Common.{◌≡◌, ℕ, ◌+◌, ◌<◌, ◌≤◌, take, true, false, List, [], ◌++◌, length, Option, Some, None, refl, sym, ap, subst, ◌∙◌, arith, length-append}
+use Rattle.std.proofs.Common.{◌≡◌, ℕ, take, true, false, List, [], ◌++◌, Option, Some, None, refl, sym, ap, subst, ◌∙◌}
 use Rattle.std.proofs.lemmas.List.{append-nil}
 use Rattle.std.specs.Prelude.{IfSome}
-use Rattle.std.specs.Io.KnownBytes.{Appends, Consumes, IsAtEnd}
+use Rattle.std.specs.Io.KnownBytes.{Appends, Consumes, IsAtEnd, Keeps}
 use Rattle.std.proofs.KnownBytes.{Appends-trans, Consumes-trans, Consumes-whole}
 use Rattle.rr_base.specs.Stream.{AppendsPrefix}
 use Rattle.rr_base.proofs.StreamLemmas.{prefix_after, prefix_before}
@@ -49,6 +49,13 @@ of_all_taken a b c taken buffer given P first second zero end holds =
     let last = Consumes-trans a b c taken [] first (subst (Consumes b c) nothing second) in
     Consumes-whole a c taken P (subst (Consumes a c) (append-nil taken) last) end holds
 
+-- what was taken stays so where nothing more is
+pub Consumes-kept : (a b c : Option (List ℕ)) (taken : List ℕ) → Consumes a b taken → Keeps b c → Consumes a c taken
+Consumes-kept None b c taken consumed kept = tt
+Consumes-kept (Some x) None c taken consumed kept = absurd consumed
+Consumes-kept (Some x) (Some y) None taken consumed kept = absurd kept
+Consumes-kept (Some x) (Some y) (Some z) taken consumed kept = consumed ∙ ap (λ (left : List ℕ). taken ++ left) (sym kept)
+
 -- what was taken of a reader's bytes is reported to a writer
 pub record HasWritten (c : Checker) (had left : Option (List ℕ)) (start written : Option (List ℕ)) : Type 0 where
   pub taken : List ℕ
@@ -62,15 +69,3 @@ pub front_so_far : (c : Checker) (had left start written : Option (List ℕ)) �
 front_so_far c had left start written going so_far =
     of_all_bytes had left so_far.taken (λ bytes. AppendsPrefix start written (report_of c.precision c.now bytes)) so_far.consumed
     (λ more. front_of_reported c so_far.taken so_far.text more start written (may_come c more going) so_far.reported so_far.appended)
-
--- each turn takes a byte at least
-pub each_more : (had left rest : Option (List ℕ)) (taken bytes : List ℕ) (turns : ℕ) → Consumes had left taken → Consumes left rest bytes → 0 < length bytes → IfSome had (λ all. IfSome left (λ more. turns + length more ≤ length all)) → IfSome had (λ all. IfSome rest (λ more. turns + 1 + length more ≤ length all))
-each_more None left rest taken bytes turns first second some each = tt
-each_more (Some x) None rest taken bytes turns first second some each = absurd first
-each_more (Some x) (Some y) None taken bytes turns first second some each = absurd second
-each_more (Some x) (Some y) (Some z) taken bytes turns first second some each = omega (arith, each, ap (λ (xs : List ℕ). length xs) second, length-append bytes z)
-
--- before the first turn
-pub each_first : (had : Option (List ℕ)) → IfSome had (λ all. IfSome had (λ more. 0 + length more ≤ length all))
-each_first None = tt
-each_first (Some x) = omega arith

@@ -1,3 +1,4 @@
 pub mod Fault
 pub mod Report
+pub mod Reads
 pub mod Checker

@@ -11,13 +11,13 @@ use thiserror::Error;
 #[derive(Clone, Copy, Debug, PartialEq, Eq, Error)]
 pub enum ToolFault {
     /// A call of the reader failed.
-    #[error("the input can't be read")]
+    #[error("the input could not be read")]
     ReadFailed,
     /// A call of the writer failed.
-    #[error("the output can't be written")]
+    #[error("the output could not be written")]
     WriteFailed,
     /// The input didn't end within the reads that it may take.
-    #[error("the input takes too many reads")]
+    #[error("the input did not end within the reads that it may take")]
     TooManyReads,
     /// Memory ran out.
     #[error("out of memory")]

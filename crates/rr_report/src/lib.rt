@@ -16,5 +16,5 @@ mod checker;
 mod fault;
 mod report;
 
-pub use check::check_lines;
+pub use check::{check_lines, check_lines_within};
 pub use fault::ToolFault;

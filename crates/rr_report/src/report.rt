@@ -1,11 +1,12 @@
 //! The report of a line: a record for each of its samples, or why it is refused.
 
 ghost use Rattle.std.specs.Prelude.{◌≡◌, ◌≢◌, ◌++◌, None, IfOk, OnOk, is_err};
+ghost use Rattle.rr_base.specs.Bytes.{HasNoLineFeed};
 ghost use Rattle.rr_feed.specs.Items.{item_view, IsLine};
 ghost use Rattle.rr_key.specs.Making.{making_fault};
 ghost use Rattle.rr_line.specs.Fault.{line_fault_name};
 ghost use Rattle.rr_line.specs.Key.{HasKeys, key_text, names_of};
-ghost use Rattle.rr_line.specs.Line.{point_view, HasNoLineFeed};
+ghost use Rattle.rr_line.specs.Line.{point_view};
 ghost use Rattle.rr_line.specs.Reading.{reading};
 ghost use Rattle.rr_records.specs.Records.{refusal_text};
 ghost use Rattle.rr_report.specs.Report.{is_refused, item_text, line_text, point_text, sample_text};

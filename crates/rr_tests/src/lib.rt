@@ -14,6 +14,8 @@ mod contributions;
 #[cfg(test)]
 mod failing;
 #[cfg(test)]
+mod fake_process;
+#[cfg(test)]
 mod feeds;
 #[cfg(test)]
 mod fetches;
@@ -22,8 +24,14 @@ mod keys;
 #[cfg(test)]
 mod lines;
 #[cfg(test)]
+mod process;
+#[cfg(test)]
 mod replicas;
+#[cfg(test)]
+mod reports;
 #[cfg(test)]
 mod schemas;
 #[cfg(test)]
 mod streams;
+#[cfg(test)]
+mod words;

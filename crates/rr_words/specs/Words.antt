@@ -34,11 +34,14 @@ abbrev pub moment_at : Option Text → Option ℤ
 moment_at None = Some (pos 0)
 moment_at (Some text) = integer_at text
 
+-- what `check-lines` asks for by the texts of its two options
+abbrev pub lines_asked_by : Option Text → Option Text → Option Asked
+lines_asked_by precision now =
+    option_and_then (λ p. option_map (check_lines p) (moment_at now)) (precision_at precision)
+
 -- what the values of `check-lines` ask for
 abbrev pub lines_asked : List Row → Option Asked
-lines_asked rows = option_and_then
-    (λ precision. option_map (check_lines precision) (moment_at (first_of (codes "now") rows)))
-    (precision_at (first_of (codes "precision") rows))
+lines_asked rows = lines_asked_by (first_of (codes "precision") rows) (first_of (codes "now") rows)
 
 -- what a subcommand and its values ask for, or no subcommand
 abbrev pub asked_of : Option (Text × List Row) → Option Asked

@@ -1,11 +1,27 @@
-//! What the definition of command lines says of some of them: a function with an empty body, whose
-//! contract says it.
+//! What the definition of command lines makes of them: functions with empty bodies, whose contracts
+//! say it.
 
-ghost use Rattle.std.specs.Prelude.{[], ◌∷◌, pos, negsuc, codes, None, Some};
+ghost use Rattle.std.specs.Prelude.{◌≡◌, ℕ, List, [], ◌∷◌, ◌++◌, pos, negsuc, codes, None, Some};
 ghost use Rattle.rr_line.specs.declared.precision.Precision.TheVariants.{Ns, Us, Ms, S};
-ghost use Rattle.rr_words.specs.Words.{AskFor, AskForNothing, check_lines, sim};
+ghost use Rattle.rr_words.specs.Words.{AskFor, AskForNothing, asked_at, check_lines, lines_asked_by, sim};
 
-/// Command lines of each kind ask for what they are to ask for, or are refused.
+/// The options of `check-lines` take any text as their value, in either order; what they ask for is
+/// then up to these texts. A script's file may have any name.
+pub fn values_are_any_text()
+    ensures file { (f : List ℕ) → AskFor (codes "sim" ∷ codes "--" ∷ f ∷ []) (sim (Some f)) }
+    ensures precision { (p : List ℕ) → asked_at (codes "check-lines" ∷ (codes "--precision=" ++ p) ∷ [])
+        ≡ lines_asked_by (Some p) None }
+    ensures now { (t : List ℕ) → asked_at (codes "check-lines" ∷ (codes "--now=" ++ t) ∷ [])
+        ≡ lines_asked_by None (Some t) }
+    ensures both { (p t : List ℕ)
+        → asked_at (codes "check-lines" ∷ (codes "--precision=" ++ p) ∷ (codes "--now=" ++ t) ∷ [])
+        ≡ lines_asked_by (Some p) (Some t) }
+    ensures both_the_other_way { (p t : List ℕ)
+        → asked_at (codes "check-lines" ∷ (codes "--now=" ++ t) ∷ (codes "--precision=" ++ p) ∷ [])
+        ≡ lines_asked_by (Some p) (Some t) }
+{}
+
+/// Command lines of each kind, written out, ask for what they are to ask for, or are refused.
 pub fn command_lines_are_read()
     ensures no_words { AskFor [] (sim None) }
     ensures sim { AskFor (codes "sim" ∷ []) (sim None) }

@@ -14,8 +14,8 @@ pub slice_bounds-front-count : goal.slice_bounds-front-count
 slice_bounds-front-count c =
     gap_within c.args.text.now (c.in_ok-measurement.measurement.now, c.in_ok-measurement.rest.now) (tags_of c.in_ok-tags.tags.items, c.in_ok-tags.gap.now) c.requires.said c.in_ok-measurement.ensures c.in_ok-tags.ensures
 
-pub returns-then-has_long_key : goal.returns-then-has_long_key
-returns-then-has_long_key c =
+pub returns-then-has_long_key-clause-read : goal.returns-then-has_long_key-clause-read
+returns-then-has_long_key-clause-read c =
     let measurement : List ℕ × List ℕ = (c.in_ok-measurement.measurement.now, c.in_ok-measurement.rest.now) in
     let tags : List Tag × List ℕ = (tags_of c.in_ok-tags.tags.items, c.in_ok-tags.gap.now) in
     let fields : List Field × List ℕ = (fields_view c.in_ok-fields.fields.items, c.in_ok-fields.ending.now) in
@@ -26,8 +26,8 @@ returns-then-has_long_key c =
     ∙ ap (tests_of (length (take (length text - length tags.1) text))) (sym c.deref.ensures.value) ∙ sym c.if-has_long_key.ensures in
     inr (point_too_long c.args.precision text measurement tags c.in_ok-fields_text.fields_text.now fields c.in_ok-time.time c.in_ok-measurement.ensures c.in_ok-tags.ensures c.in_ok-fields_text.ensures c.in_ok-fields.ensures (sym c.in_ok-time.ensures) long)
 
-pub returns : goal.returns
-returns c =
+pub returns-clause-read : goal.returns-clause-read
+returns-clause-read c =
     let measurement : List ℕ × List ℕ = (c.in_ok-measurement.measurement.now, c.in_ok-measurement.rest.now) in
     let tags : List Tag × List ℕ = (tags_of c.in_ok-tags.tags.items, c.in_ok-tags.gap.now) in
     let fields : List Field × List ℕ = (fields_view c.in_ok-fields.fields.items, c.in_ok-fields.ending.now) in

@@ -1,9 +1,10 @@
-use Rattle.std.proofs.Common.{◌≡◌, ◌+◌, ◌≤◌, false, length, IfSome}
-use Rattle.rr_base.specs.Counted.{inner_of, failures_of}
+use Rattle.std.proofs.Common.{◌≡◌, ◌+◌, ◌≤◌, false}
+use Rattle.rr_base.specs.Counted.{inner_of, failures_of, reads_of}
+use Rattle.rr_report.specs.Reads.{HasMade}
 use Rattle.rr_report.proofs.StreamLemmas.{HasWritten}
-use Rattle.rr_report.proofs.check.check_lines.Given as goal
+use Rattle.rr_report.proofs.check.check_lines_within.Given as goal
 
--- what was taken of the input is reported, at least a byte at each turn
+-- what was taken of the input is reported, by one read at each turn
 abbrev pub invariant-loop : goal.invariant-loop
 invariant-loop g l = record {
   written : HasWritten l.checker (g.R.Read.remaining (inner_of l.initial.input)) (g.R.Read.remaining (inner_of l.input)) (g.W.Write.contents (inner_of l.initial.output)) (g.W.Write.contents (inner_of l.output));
@@ -11,7 +12,8 @@ invariant-loop g l = record {
   precision : l.checker.precision ≡ l.fn.precision;
   now : l.checker.now ≡ l.fn.now;
   pieces : l.checker.pieces ≤ l.counter;
-  each : IfSome (g.R.Read.remaining (inner_of l.initial.input)) (λ rest. IfSome (g.R.Read.remaining (inner_of l.input)) (λ left. l.counter + length left ≤ length rest));
+  made : HasMade l.counter (reads_of l.initial.input) (reads_of l.input);
+  few : reads_of l.input ≤ reads_of l.initial.input + l.counter;
   in_count : failures_of l.initial.input ≤ failures_of l.input;
   out_count : failures_of l.initial.output ≤ failures_of l.output;
 }

@@ -1,0 +1,33 @@
+-- Sorted tags rise exactly where no key occurs twice, and are then the entries of the series.
+use Rattle.std.proofs.Common.{◌≡◌, [], length, true, false, inr, sym, ◌∙◌, rules}
+use Rattle.rr_key.specs.Making.{names_of, tags_of}
+use Rattle.rr_key.specs.Reading.{rises}
+use Rattle.rr_key.proofs.OrderLemmas.{repeats_unless_rises}
+use Rattle.rr_key.proofs.MakingLemmas.{repeated_key, in_order, long_key, short_key, tags_filled}
+use Rattle.rr_key.proofs.making.sort_and_write.Goals as goal
+
+pub returns-then-not-rises-clause-made : goal.returns-then-not-rises-clause-made
+returns-then-not-rises-clause-made c =
+    let names = names_of c.args.measurement.now c.args.tags.now c.args.field.now in
+    let down : rises [] (tags_of c.sort_unstable.new.self) ≡ false = sym c.rises.ensures ∙ c.if-not-rises.true in
+    inr (repeated_key names c.requires.filled c.requires.good (repeats_unless_rises c.args.tags.now c.sort_unstable.new.self c.sort_unstable.ensures.permutation c.sort_unstable.ensures.sorted (tags_filled names c.requires.filled) down))
+
+pub returns-in_err-text-clause-memory : goal.returns-in_err-text-clause-memory
+returns-in_err-text-clause-memory c =
+    let up : rises [] (tags_of c.sort_unstable.new.self) ≡ true = sym c.rises.ensures ∙ c.if-not-rises.false in
+    let order = in_order c.args.measurement.now c.args.field.now c.args.tags.now c.sort_unstable.new.self c.requires.filled c.requires.good c.requires.tags_fit c.sort_unstable.ensures.permutation up in
+    λ memory. order.named
+
+pub returns-then-len-gt-MAX_KEY_TEXT-clause-made : goal.returns-then-len-gt-MAX_KEY_TEXT-clause-made
+returns-then-len-gt-MAX_KEY_TEXT-clause-made c =
+    let up : rises [] (tags_of c.sort_unstable.new.self) ≡ true = sym c.rises.ensures ∙ c.if-not-rises.false in
+    let order = in_order c.args.measurement.now c.args.field.now c.args.tags.now c.sort_unstable.new.self c.requires.filled c.requires.good c.requires.tags_fit c.sort_unstable.ensures.permutation up in
+    let counted : c.len.result ≡ length c.in_ok-text.text.items = search rules in
+    inr (long_key (names_of c.args.measurement.now c.args.tags.now c.args.field.now) c.in_ok-text.text.items c.len.result order.named (c.in_ok-text.ensures ∙ order.written) counted c.if-len-gt-MAX_KEY_TEXT.true)
+
+pub returns-clause-made : goal.returns-clause-made
+returns-clause-made c =
+    let up : rises [] (tags_of c.sort_unstable.new.self) ≡ true = sym c.rises.ensures ∙ c.if-not-rises.false in
+    let order = in_order c.args.measurement.now c.args.field.now c.args.tags.now c.sort_unstable.new.self c.requires.filled c.requires.good c.requires.tags_fit c.sort_unstable.ensures.permutation up in
+    let counted : c.len.result ≡ length c.in_ok-text.text.items = search rules in
+    short_key (names_of c.args.measurement.now c.args.tags.now c.args.field.now) c.in_ok-text.text.items c.len.result order.named (c.in_ok-text.ensures ∙ order.written) counted c.if-len-gt-MAX_KEY_TEXT.false

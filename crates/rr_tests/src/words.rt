@@ -1,0 +1,91 @@
+//! The words of a command line.
+
+use rr_words::{Order, WordsFault, read_words};
+use std::alloc::{AllocError, Global};
+use std::test::Fail;
+
+/// What words ask for, or the text of their refusal. The words have single spaces between them.
+fn asked(alloc: Global, words: &str) -> Result<String, AllocError> {
+    let words: Vec<&str> = words
+        .split(' ')
+        .filter(|word| !word.is_empty())
+        .collect(alloc)?;
+    match read_words(alloc, &words) {
+        Ok(Order::Sim { file: None }) => String::from_str(alloc, "sim"),
+        Ok(Order::Sim { file: Some(file) }) => format!(in alloc; "sim of {}", file.as_str()),
+        Ok(Order::CheckLines { precision, now }) => format!(in alloc; "{precision:?} {now}"),
+        Err(WordsFault::Refused(text)) => Ok(text),
+        Err(WordsFault::Memory) => Err(AllocError),
+    }
+}
+
+#[test]
+fn checks_of_lines_have_defaults(rt: HostRuntime) -> Result<(), Fail> {
+    for (words, want) in [
+        ("check-lines", "Ns 0"),
+        ("check-lines --precision s", "S 0"),
+        ("check-lines --precision=ms", "Ms 0"),
+        ("check-lines --precision us", "Us 0"),
+        ("check-lines --precision ns", "Ns 0"),
+        ("check-lines --now 5", "Ns 5"),
+        ("check-lines --now=-5", "Ns -5"),
+        ("check-lines --now=007 --precision s", "S 7"),
+        (
+            "check-lines --now=-9223372036854775808",
+            "Ns -9223372036854775808",
+        ),
+    ] {
+        assert_eq!(rt; asked(rt.alloc(), words)?.as_str(), want);
+    }
+    Ok(())
+}
+
+#[test]
+fn scripts_come_from_a_file_or_not(rt: HostRuntime) -> Result<(), Fail> {
+    for (words, want) in [
+        ("", "sim"),
+        ("sim", "sim"),
+        ("sim f", "sim of f"),
+        ("sim -- -f", "sim of -f"),
+    ] {
+        assert_eq!(rt; asked(rt.alloc(), words)?.as_str(), want);
+    }
+    Ok(())
+}
+
+#[test]
+fn other_values_are_refused(rt: HostRuntime) -> Result<(), Fail> {
+    for (words, part) in [
+        ("check-lines --now -5", "error: unexpected argument '-5'"),
+        ("check-lines --now=+5", "'--now <T>'"),
+        ("check-lines --now=", "'--now <T>'"),
+        ("check-lines --now=9223372036854775808", "'--now <T>'"),
+        ("check-lines --now", "'--now <T>'"),
+        ("check-lines --now=1 --now=1", "'--now <T>'"),
+        ("check-lines --precision h", "'--precision <P>'"),
+        ("check-lines --precision NS", "'--precision <P>'"),
+    ] {
+        let text = asked(rt.alloc(), words)?;
+        assert!(rt; text.starts_with("error: ") && text.contains(part));
+    }
+    Ok(())
+}
+
+#[test]
+fn other_words_are_refused(rt: HostRuntime) -> Result<(), Fail> {
+    for (words, part) in [
+        ("check-lines f", "error: unexpected argument 'f'"),
+        ("sim f g", "error: unexpected argument 'g'"),
+        ("sim --now=1", "error: unexpected argument '--now'"),
+        ("serve c", "error: unrecognized subcommand 'serve'"),
+        ("frob", "error: unrecognized subcommand 'frob'"),
+        ("--frob", "error: unexpected argument '--frob'"),
+        ("--help", "Usage: rr [COMMAND]"),
+        ("help", "Usage: rr [COMMAND]"),
+        ("sim --help", "Usage: rr sim [FILE]"),
+        ("check-lines -h", "Usage: rr check-lines [OPTIONS]"),
+    ] {
+        assert!(rt; asked(rt.alloc(), words)?.contains(part));
+    }
+    Ok(())
+}
