@@ -1,6 +1,5 @@
 pub mod WordsLemmas
 pub mod ScriptLemmas
-pub mod StopLemmas
 pub mod MeaningLemmas
 pub mod StepLemmas
 pub mod SoundnessLemmas

@@ -6,7 +6,7 @@ use Rattle.rr_base.specs.Text.{cut_at}
 use Rattle.rr_base.specs.declared.bytes.TheConstants.{SPACE}
 use Rattle.rr_cluster.specs.Words.{parts_of, text_of, words_of}
 
--- what a cut tells of the parts
+-- what a cut says of the parts
 abbrev pub Cuts : ℕ → List ℕ → Option (List ℕ × List ℕ) → Type 0
 Cuts c text None = parts_of c text ≡ text ∷ []
 Cuts c text (Some p) = parts_of c text ≡ p.0 ∷ parts_of c p.1
@@ -15,28 +15,28 @@ longer : (c b : ℕ) (text : List ℕ) (o : Option (List ℕ × List ℕ)) → e
 longer c b text None other h = rw (other, h) refl
 longer c b text (Some p) other h = rw (other, h) refl
 
-pub cut_tells : (c : ℕ) (text : List ℕ) → Cuts c text (cut_at c text)
-cut_tells c [] = refl
-cut_tells c (b ∷ text) =
+pub cut_parts : (c : ℕ) (text : List ℕ) → Cuts c text (cut_at c text)
+cut_parts c [] = refl
+cut_parts c (b ∷ text) =
     elim (cases_Bool (eqb b c)) [
       | inl here ↦ rw here (rw here refl)
-      | inr other ↦ rw other (longer c b text (cut_at c text) other (cut_tells c text))
+      | inr other ↦ rw other (longer c b text (cut_at c text) other (cut_parts c text))
     ]
 
 -- a text has a first part
 pub some_parts : (c : ℕ) (text : List ℕ) → (first : List ℕ) × (rest : List (List ℕ)) × (parts_of c text ≡ first ∷ rest)
-some_parts c text = by (cut_at c text) (cut_tells c text)
+some_parts c text = by (cut_at c text) (cut_parts c text)
   where
     by : (o : Option (List ℕ × List ℕ)) → Cuts c text o → (first : List ℕ) × (rest : List (List ℕ)) × (parts_of c text ≡ first ∷ rest)
     by None h = (text, [], h)
     by (Some p) h = (p.0, parts_of c p.1, h)
 
--- the same of a cut that is seen by f
+-- what a cut that is seen by f says of the parts
 pub cut_is : {T : Type 0} (c : ℕ) (text : List ℕ) (f : T → List ℕ × List ℕ) (o : Option T) → option_map f o ≡ cut_at c text → MatchOption o (parts_of c text ≡ text ∷ []) (λ x. parts_of c text ≡ (f x).0 ∷ parts_of c (f x).1)
-cut_is c text f None e = subst (Cuts c text) (sym e) (cut_tells c text)
-cut_is c text f (Some x) e = subst (Cuts c text) (sym e) (cut_tells c text)
+cut_is c text f None e = subst (Cuts c text) (sym e) (cut_parts c text)
+cut_is c text f (Some x) e = subst (Cuts c text) (sym e) (cut_parts c text)
 
--- what is behind the cut is shorter
+-- what follows the cut is shorter
 cut_shorter : (c : ℕ) (text : List ℕ) → IfSome {T = List ℕ × List ℕ} (cut_at c text) (λ p. length p.1 < length text)
 cut_shorter c [] = tt
 cut_shorter c (b ∷ text) =

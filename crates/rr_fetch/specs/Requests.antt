@@ -1,5 +1,5 @@
 -- What the bytes of a request ask for.
-use Rattle.std.specs.Prelude.{◌≡◌, ℕ, ◌≤◌, ◌<◌, ℤ, pos, neg_ℤ, ◌-ℤ◌, nat_le, int_lt, List, length, Result, Ok, Err, IsOk, ok_or, unsigned_abs, if◌then◌else◌}
+use Rattle.std.specs.Prelude.{ℕ, ◌≤◌, ◌<◌, ℤ, pos, neg_ℤ, ◌-ℤ◌, nat_le, int_lt, List, length, Result, Ok, Err, ok_or, unsigned_abs, if◌then◌else◌}
 use Rattle.std.specs.Int.{int_div_euclid}
 use Rattle.rr_base.specs.declared.consolidation.ConsolidationFunction.{ConsolidationFunction}
 use Rattle.rr_base.specs.declared.limits.TheConstants.{MAX_FETCH_ROWS, MAX_SECOND}
@@ -8,7 +8,7 @@ use Rattle.rr_base.specs.Schema.{Layout, span, choice}
 use Rattle.rr_key.specs.Reading.{is_key_text}
 use Rattle.rr_model.specs.FetchText as text
 use Rattle.rr_fetch.specs.declared.fault.RequestFault.{RequestFault}
-use Rattle.rr_fetch.specs.declared.fault.RequestFault.TheVariants.{BadCommand, BadCf, BadNumber, BadKey, EmptyRange, TooManyRows, Memory}
+use Rattle.rr_fetch.specs.declared.fault.RequestFault.TheVariants.{BadCommand, BadCf, BadNumber, BadKey, EmptyRange, TooManyRows}
 use Rattle.rr_fetch.specs.declared.request.Request.{Request}
 use Rattle.rr_fetch.specs.Words.{Parts, words_of, function_of, resolution_of, second_of}
 
@@ -47,12 +47,6 @@ requested s bytes = do
 -- a request as it is held, by what it asks for
 abbrev pub request_view : Request → text.Request
 request_view q = record { key = q.key; function = q.cf; archive = q.archive; first = q.first; rows = q.rows }
-
--- what was given, seen by view, is what is due, and so is a refusal; memory may run out where no refusal is due
-abbrev pub Gives : {A B : Type 0} → (A → B) → Result A RequestFault → Result B RequestFault → Type 0
-Gives view (Ok x) due = due ≡ Ok (view x)
-Gives view (Err Memory) due = IsOk due
-Gives view (Err fault) due = due ≡ Err fault
 
 -- a request that can be answered: of an archive that is there, with some rows and not too many, none of which
 -- starts at a second past 64 bits

@@ -2,7 +2,8 @@
 
 ghost use Rattle.std.specs.Prelude.{◌≡◌, ◌<◌, ◌≤◌, pos, neg_ℤ, ◌-ℤ◌, ◌<ℤ◌, unsigned_abs, length, List, ℕ, IfOk, IfErr};
 ghost use Rattle.std.specs.Int.{int_div_euclid};
-ghost use Rattle.rr_fetch.specs.Requests.{few_rows, read, requested, request_view, rows_between, IsFetchable, Gives};
+ghost use Rattle.rr_base.specs.Results.{Gives, GivesUnless, NeedsMemoryAfter};
+ghost use Rattle.rr_fetch.specs.Requests.{few_rows, read, requested, request_view, rows_between, IsFetchable};
 ghost use Rattle.rr_fetch.specs.Words.{parts};
 
 use crate::fault::RequestFault;
@@ -69,7 +70,7 @@ fn rows_of(schema: &Schema, archive: u8, start: i64, end: i64) -> Result<(i64, u
     ensures near { IfOk result (λ rows. (key : List ℕ) (function : ConsolidationFunction)
         → IsFetchable schema.now
         (record { key = key; function = function; archive = archive; first = rows.0; rows = rows.1 })) }
-    ensures memory { IfErr result (λ fault. fault ≡ RequestFault.TooManyRows) }
+    ensures fault { IfErr result (λ fault. fault ≡ RequestFault.TooManyRows) }
 {
     let span = schema.span(archive);
     let first = first_slot(start, span);
@@ -95,7 +96,8 @@ fn rows_of(schema: &Schema, archive: u8, start: i64, end: i64) -> Result<(i64, u
 /// The cost is linear in the bytes.
 #[tactic(auto, unfolding(crate::specs::Requests::requested))]
 pub fn parse_request(alloc: Global, bytes: &[u8], schema: &Schema) -> Result<Request, RequestFault>
-    ensures value { Gives request_view result (requested schema.now bytes.now) }
+    ensures value { GivesUnless RequestFault.Memory request_view result (requested schema.now bytes.now) }
+    ensures memory { NeedsMemoryAfter RequestFault.Memory (requested schema.now bytes.now) result }
     ensures near { IfOk result (λ q. IsFetchable schema.now (request_view q)) }
 {
     let words = request_words(bytes).ok_or(RequestFault::BadCommand)?;
@@ -110,7 +112,8 @@ pub fn read_request(
     words: &RequestWords<'_>,
     schema: &Schema,
 ) -> Result<Request, RequestFault>
-    ensures value { Gives request_view result (read schema.now (parts words.now)) }
+    ensures value { GivesUnless RequestFault.Memory request_view result (read schema.now (parts words.now)) }
+    ensures memory { NeedsMemoryAfter RequestFault.Memory (read schema.now (parts words.now)) result }
     ensures near { IfOk result (λ q. IsFetchable schema.now (request_view q)) }
 {
     let cf = function_of(words.function).ok_or(RequestFault::BadCf)?;

@@ -1,14 +1,13 @@
 -- fetch NODE CF RESOLUTION START END KEY
-use Rattle.std.proofs.Common.{◌≡◌, ℕ, List, [], ◌∷◌, None, Some, IfSome, option_map, Result, Ok, Err, refl, sym, ap, subst, ◌∙◌}
+use Rattle.std.proofs.Common.{◌≡◌, inl, inr, ℕ, List, [], ◌∷◌, None, Some, IfSome, option_map, Result, Ok, Err, refl, sym, ap, subst, ◌∙◌}
 use Rattle.std.specs.FinMap as map
 use Rattle.rr_archive.specs.declared.archive.Archive.{Ghosts}
 use Rattle.rr_base.specs.Text.{cut_at}
 use Rattle.rr_fetch.specs.Answers.{cells_text}
-use Rattle.rr_fetch.specs.Requests as request
 use Rattle.rr_fetch.specs.Requests.{read}
 use Rattle.rr_fetch.specs.Words.{Parts, words_of as request_words}
 use Rattle.rr_fetch.specs.declared.fault.RequestFault.{RequestFault}
-use Rattle.rr_fetch.specs.declared.fault.RequestFault.TheVariants as why
+use Rattle.rr_fetch.specs.declared.fault.RequestFault.TheVariants.{Memory}
 use Rattle.rr_fetch.proofs.RowLaws.{answer_of_state}
 use Rattle.rr_model.specs.FetchText.{Request}
 use Rattle.rr_model.specs.Knowledge.{Knowledge}
@@ -17,22 +16,22 @@ use Rattle.rr_replica.specs.Holding.{Holding}
 use Rattle.rr_cluster.specs.declared.cluster.Cluster.{Cluster}
 use Rattle.rr_base.specs.declared.bytes.TheConstants.{SPACE}
 use Rattle.rr_cluster.specs.declared.fault.CommandFault.{CommandFault}
-use Rattle.rr_cluster.specs.declared.fault.CommandFault.TheVariants.{NoNode}
+use Rattle.rr_cluster.specs.declared.fault.CommandFault.TheVariants.{NoNode, Fetch}
 use Rattle.rr_cluster.specs.declared.stop.Stop.{Stop}
 use Rattle.rr_cluster.specs.Agreement.{in_cells, node_in_cells}
-use Rattle.rr_base.specs.Results.{◌>>=◌}
+use Rattle.rr_base.specs.Results.{◌>>=◌, GivesUnless}
 use Rattle.rr_cluster.specs.Command.{fetch, IsOneLine}
 use Rattle.rr_cluster.specs.Commands.Fetch.{fetch_command, request_of, answer_to}
 use Rattle.rr_cluster.specs.Meaning.{node_of, replica_at, Represents}
 use Rattle.rr_cluster.specs.Model.{Model, cell_model, sample_model}
 use Rattle.rr_cluster.specs.Soundness.{IsSound}
 use Rattle.rr_cluster.specs.State.{Node, State}
-use Rattle.rr_cluster.specs.Stop.{Gives, IsStopOfFetch}
+use Rattle.rr_cluster.specs.Stop.{Gives, IsStopOf}
 use Rattle.rr_cluster.specs.Words.{words_of}
 use Rattle.rr_cluster.proofs.CommandsLemmas.Write.{layout_at}
 use Rattle.rr_cluster.proofs.MeaningLemmas.{node_at}
 use Rattle.rr_cluster.proofs.StepLemmas.{Agrees, then_agree, found_agree, done_agrees}
-use Rattle.rr_cluster.proofs.WordsLemmas.{Cuts, cut_tells, some_parts, text_of-words}
+use Rattle.rr_cluster.proofs.WordsLemmas.{Cuts, cut_parts, some_parts, text_of-words}
 
 -- ---- words
 
@@ -58,10 +57,10 @@ fetch_command-rest name rest =
           | Some c ↦ λ g j. elim (cut_at SPACE c.1) as (λ cut. cut_at SPACE c.1 ≡ cut → Cuts SPACE c.1 cut → IsRead name rest) [
             | None ↦ λ k l. rw (e, h, f, i, g, j, k, l) refl
             | Some d ↦ λ k l. rw (e, h, f, i, g, j, k, l) (with_key name a.0 b.0 c.0 d.0 d.1)
-          ] refl (cut_tells SPACE c.1)
-        ] refl (cut_tells SPACE b.1)
-      ] refl (cut_tells SPACE a.1)
-    ] refl (cut_tells SPACE rest)
+          ] refl (cut_parts SPACE c.1)
+        ] refl (cut_parts SPACE b.1)
+      ] refl (cut_parts SPACE a.1)
+    ] refl (cut_parts SPACE rest)
 
 pub fetch_is_one_line : (words : List (List ℕ)) → IfSome (fetch_command words) IsOneLine
 fetch_is_one_line [] = tt
@@ -90,20 +89,16 @@ abbrev answered : Holding → Result Request RequestFault → Result (List ℕ) 
 answered h said = request_of said >>= λ q. Ok (cells_text h.schema h.cells q)
 
 refused : {X : Type 0} (view : X → Request) (h : Holding) (fault : RequestFault) (stop : Stop) (said : Result Request RequestFault)
-    → request.Gives view (Err fault) said → IsStopOfFetch fault stop → Gives {A = List ℕ} (λ text. text) (Err stop) (answered h said)
-refused view h why.BadCommand stop said due is = rw (is, due) refl
-refused view h why.BadCf stop said due is = rw (is, due) refl
-refused view h why.BadNumber stop said due is = rw (is, due) refl
-refused view h why.BadKey stop said due is = rw (is, due) refl
-refused view h why.EmptyRange stop said due is = rw (is, due) refl
-refused view h why.TooManyRows stop said due is = rw (is, due) refl
-refused view h why.Memory stop said due is = rw is tt
+    → GivesUnless Memory view (Err fault) said → IsStopOf Memory Fetch fault stop → Gives {A = List ℕ} (λ text. text) (Err stop) (answered h said)
+refused view h fault stop said due (inl memory) = rw memory.1 tt
+refused view h fault stop said (inl memory) (inr other) = absurd (other.0 memory)
+refused view h fault stop said (inr due) (inr other) = rw (other.1, due) refl
 
 module _ {A : Type 0} {g : Ghosts A} (c : Cluster A g) (m : State Cells) (is : Represents c m) (name : List ℕ) (words : Parts) (h : Holding) (here : Some h ≡ replica_at c.nodes name) where
   answer : answer_to cell_model m name words ≡ answered h (read h.schema words)
   answer = answer_of_node cell_model m name words (node_of h) (node_at c m is name (Some h) (sym here))
 
-  pub fetch_refused : {X : Type 0} (view : X → Request) (fault : RequestFault) (stop : Stop) → request.Gives view (Err fault) (read h.schema words) → IsStopOfFetch fault stop
+  pub fetch_refused : {X : Type 0} (view : X → Request) (fault : RequestFault) (stop : Stop) → GivesUnless Memory view (Err fault) (read h.schema words) → IsStopOf Memory Fetch fault stop
       → Gives {A = List ℕ} (λ text. text) (Err stop) (answer_to cell_model m name words)
   fetch_refused view fault stop due stopped =
       subst (Gives {A = List ℕ} (λ text. text) (Err stop)) (sym answer) (refused view h fault stop (read h.schema words) due stopped)

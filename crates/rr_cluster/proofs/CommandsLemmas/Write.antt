@@ -1,6 +1,6 @@
 -- write NODE LINE
 use Rattle.std.proofs.Common.{◌≡◌, ◌≢◌, ℕ, ◌+◌, ◌<◌, ℤ, not, eqb, List, [], ◌∷◌, Option, Some, None, IfSome, IsTrue, length, Result, Ok, Err, refl, sym, ap, subst, ◌∙◌, inl, inr, arith, ⊎_elim}
-use Rattle.std.specs.Prelude.{◌-◌, nat_lt, unwrap_or, IsFalse}
+use Rattle.std.specs.Prelude.{◌⊎◌, ◌-◌, nat_lt, unwrap_or, IsFalse}
 use Rattle.std.specs.List.{list_any}
 use Rattle.std.specs.Cmp.Lexicographic.{nat_list_cmp_total}
 use Rattle.std.specs.FinMap as map
@@ -10,6 +10,8 @@ use Rattle.rr_archive.specs.declared.archive.Archive.{Ghosts}
 use Rattle.rr_base.specs.Schema.{IsLayout}
 use Rattle.rr_base.specs.declared.limits.TheConstants.{MAX_NUMBER}
 use Rattle.rr_join.proofs.ValuesLemmas.{get-insert_itself, insert_there, insert_twice}
+use Rattle.rr_line.specs.declared.fault.LineFault.{LineFault}
+use Rattle.rr_line.specs.declared.fault.LineFault.TheVariants as line
 use Rattle.rr_line.specs.declared.precision.Precision.TheVariants.{Ns}
 use Rattle.rr_line.specs.Key.{key_text}
 use Rattle.rr_base.specs.Bytes.{HasNoLineFeed}
@@ -29,7 +31,7 @@ use Rattle.rr_replica.proofs.OneSampleMore.{put_is_one_sample_more}
 use Rattle.rr_cluster.specs.declared.cluster.Cluster.{Cluster}
 use Rattle.rr_base.specs.declared.bytes.TheConstants.{LINE_FEED, SPACE}
 use Rattle.rr_cluster.specs.declared.fault.CommandFault.{CommandFault}
-use Rattle.rr_cluster.specs.declared.fault.CommandFault.TheVariants.{NoNode, Write}
+use Rattle.rr_cluster.specs.declared.fault.CommandFault.TheVariants.{NoNode, Line, Write}
 use Rattle.rr_cluster.specs.declared.stop.Stop.{Stop}
 use Rattle.rr_cluster.specs.declared.stop.Stop.TheVariants.{Refused, Memory}
 use Rattle.rr_cluster.specs.Agreement.{in_cells, node_in_cells}
@@ -40,7 +42,7 @@ use Rattle.rr_cluster.specs.Meaning.{node_of, replica_at, Represents, Leaves, Wr
 use Rattle.rr_cluster.specs.Model.{Model, cell_model, sample_model}
 use Rattle.rr_cluster.specs.Soundness.{IsSound, IsSoundNode, IsUsed}
 use Rattle.rr_cluster.specs.State.{Node, State}
-use Rattle.rr_cluster.specs.Stop.{IsStopOfWrite}
+use Rattle.rr_cluster.specs.Stop.{IsStopOf, IsStopOfWrite}
 use Rattle.rr_cluster.specs.Words.{text_of, words_of}
 use Rattle.rr_cluster.proofs.CommandsLemmas.Node.{with_node_agrees}
 use Rattle.rr_cluster.proofs.MeaningLemmas.{HasPut, SameBesidesNodes, represents_put, node_at}
@@ -107,6 +109,13 @@ module _ (old new : Holding) (clock : ℤ) (lead : Option ℕ) (p : PointView) (
   point_refused why.AheadOfClock stop stopped same ahead spent = rw (stopped, ahead refl) (refl, same)
   point_refused why.NumbersSpent stop stopped same ahead spent = rw (stopped, (spent refl).0, sym lacks ∙ (spent refl).1) (refl, same)
   point_refused (why.Memory put) stop stopped same ahead spent = rw stopped tt
+
+-- a line that is refused
+pub stopped_line : (h : Holding) (clock : ℤ) (lead : Option ℕ) (text : List ℕ) (fault : LineFault) (stop : Stop) → IsStopOf line.Memory Line fault stop → (fault ≡ line.Memory) ⊎ (reading Ns text ≡ Err fault)
+    → Writes h h (Err stop) (samples_of_line (node_of h) clock lead text)
+stopped_line h clock lead text fault stop (inl memory) said = rw memory.1 tt
+stopped_line h clock lead text fault stop (inr other) (inl memory) = absurd (other.0 memory)
+stopped_line h clock lead text fault stop (inr other) (inr said) = rw (other.1, said) (refl, refl)
 
 -- ---- the cluster after a write
 

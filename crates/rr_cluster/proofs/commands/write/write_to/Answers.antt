@@ -1,6 +1,6 @@
 -- A line that is refused changes nothing.
 use Rattle.std.proofs.lemmas.Result.{err_from_is_err_and}
-use Rattle.rr_cluster.proofs.StopLemmas.{stopped_line}
+use Rattle.rr_cluster.proofs.CommandsLemmas.Write.{stopped_line}
 use Rattle.rr_cluster.proofs.commands.write.write_to.Goals as goal
 
 pub returns-in_err-parse_line : goal.returns-in_err-parse_line
