@@ -58,7 +58,8 @@ pub(crate) fn obey<A: Archive>(
 ) -> Result<(), Stop>
     requires { IsOneLine (view_of event) }
     ensures { (m : Option (State Cells)) → OptionRepresents cluster.old m
-        → Obeys cluster.new m text.old.items text.new.items result (step cell_model m (view_of event.entry)) }
+        → Obeys cluster.new m text.old.items text.new.items result
+        (step cell_model m (view_of event.entry)) }
 {
     match cluster {
         Some(cluster) => obey_later(cluster, event, text),

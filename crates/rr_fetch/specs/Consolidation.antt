@@ -55,7 +55,7 @@ pub record IsRow (es : List Entry) : Type 0 where
   pub ascends : IsTrue (ascends es)
   pub summable : All (λ e. IsSummable e.contribution) es
 
--- so many samples of 64 bits, and a total that they can have
+-- a number of samples of 64 bits, and a total that they can have
 pub record IsBounded (count : ℕ) (total : ℤ) : Type 0 where
   pub least : neg_ℤ (pos (count * 2 ^ 63)) ≤ℤ total
   pub most : total ≤ℤ pos (count * (2 ^ 63 - 1))

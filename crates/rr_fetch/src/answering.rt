@@ -92,14 +92,16 @@ pub fn answer<A: Archive, W: Write>(
     output: &mut Counted<W>,
 ) -> Result<(), AnswerFault>
     requires { IsFetchable replica.now.schema (request_view request.now) }
-    ensures whole { OnOk result (Appends (W.contents (inner_of output.old)) (W.contents (inner_of output.new))
+    ensures whole { OnOk result (Appends (W.contents (inner_of output.old))
+        (W.contents (inner_of output.new))
         (cells_text replica.now.schema replica.now.cells (request_view request.now))) }
     ensures nothing { result ≡ Err AnswerFault.Memory → output.new ≡ output.old }
     ensures front { result ≡ Err AnswerFault.WriteFailed
         → AppendsPrefix (W.contents (inner_of output.old)) (W.contents (inner_of output.new))
         (cells_text replica.now.schema replica.now.cells (request_view request.now)) }
     ensures count { failures_of output.old ≤ failures_of output.new }
-    ensures failed { result ≡ Err AnswerFault.WriteFailed → HasRisen (failures_of output.old) (failures_of output.new) }
+    ensures failed { result ≡ Err AnswerFault.WriteFailed
+        → HasRisen (failures_of output.old) (failures_of output.new) }
 {
     let text = answer_text(alloc, replica, request)?;
     write_all(output, &text)?;

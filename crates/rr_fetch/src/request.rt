@@ -65,7 +65,8 @@ fn rows_of(schema: &Schema, archive: u8, start: i64, end: i64) -> Result<(i64, u
     requires end_near { unsigned_abs end ≤ MAX_SECOND }
     requires some { start <ℤ end }
     ensures value { (key : List ℕ) (function : ConsolidationFunction)
-        → Gives (λ rows. record { key = key; function = function; archive = archive; first = rows.0; rows = rows.1 })
+        → Gives (λ rows. record {
+            key = key; function = function; archive = archive; first = rows.0; rows = rows.1 })
         result (few_rows (rows_between schema.now key function archive start end)) }
     ensures near { IfOk result (λ rows. (key : List ℕ) (function : ConsolidationFunction)
         → IsFetchable schema.now
@@ -96,7 +97,8 @@ fn rows_of(schema: &Schema, archive: u8, start: i64, end: i64) -> Result<(i64, u
 /// The cost is linear in the bytes.
 #[tactic(auto, unfolding(crate::specs::Requests::requested))]
 pub fn parse_request(alloc: Global, bytes: &[u8], schema: &Schema) -> Result<Request, RequestFault>
-    ensures value { GivesUnless RequestFault.Memory request_view result (requested schema.now bytes.now) }
+    ensures value { GivesUnless RequestFault.Memory request_view result
+        (requested schema.now bytes.now) }
     ensures memory { NeedsMemoryAfter RequestFault.Memory (requested schema.now bytes.now) result }
     ensures near { IfOk result (λ q. IsFetchable schema.now (request_view q)) }
 {
@@ -112,7 +114,8 @@ pub fn read_request(
     words: &RequestWords<'_>,
     schema: &Schema,
 ) -> Result<Request, RequestFault>
-    ensures value { GivesUnless RequestFault.Memory request_view result (read schema.now (parts words.now)) }
+    ensures value { GivesUnless RequestFault.Memory request_view result
+        (read schema.now (parts words.now)) }
     ensures memory { NeedsMemoryAfter RequestFault.Memory (read schema.now (parts words.now)) result }
     ensures near { IfOk result (λ q. IsFetchable schema.now (request_view q)) }
 {

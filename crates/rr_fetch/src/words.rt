@@ -81,7 +81,8 @@ pub(crate) fn second_of(word: &[u8]) -> Option<i64>
 
 /// A series key by its text, or `BadKey`; no key where memory ran out.
 pub(crate) fn key_of(alloc: Global, text: &[u8]) -> Result<Option<SeriesKey>, RequestFault>
-    ensures value { MatchResult result (λ _. key_of text.now ≡ Ok text.now) (λ fault. key_of text.now ≡ Err fault) }
+    ensures value { MatchResult result (λ _. key_of text.now ≡ Ok text.now)
+        (λ fault. key_of text.now ≡ Err fault) }
     ensures key { IfOk result (λ found. IfSome found (λ key. key ≡ text.now)) }
     ensures memory { IfErr result (λ fault. fault ≢ RequestFault.Memory) }
 {

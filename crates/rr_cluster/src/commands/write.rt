@@ -55,7 +55,8 @@ fn write_to<A: Archive>(
     line: &[u8],
 ) -> Result<(), Stop>
     requires { HasNoLineFeed line.now }
-    ensures { Writes replica.old replica.new result (samples_of_line (node_of replica.old) clock lead line.now) }
+    ensures { Writes replica.old replica.new result
+        (samples_of_line (node_of replica.old) clock lead line.now) }
 {
     match parse_line(alloc, line, Precision::Ns)? {
         Line::Nothing => Ok(()),
