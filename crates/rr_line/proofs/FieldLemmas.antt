@@ -27,7 +27,7 @@ bare_cut text bare = record {
   whole = sym (take-append-drop (value_len text) text);
 }
 
--- what stands behind a value
+-- what follows a value
 abbrev Behind : List ℕ → ℤ → ℤ × List ℕ → Type 0
 Behind text number value = (number, drop (value_len text) text) ≡ value
 

@@ -17,7 +17,7 @@ use Rattle.rr_line.specs.Reading.{name_at}
 use Rattle.rr_line.proofs.UnitLemmas.{scanned, is_name_scanned, no_name_scanned, nothing_scanned}
 use Rattle.rr_line.proofs.AgreeLemmas.{Agrees, Agrees-as, Agrees-unless, Agrees-ok}
 
--- the cut of a text behind a front of this length
+-- the cut of a text after a front of this length
 pub cut_is : (len : ℕ) (text front rest : List ℕ) → len ≡ length front → text ≡ front ++ rest → cut_behind len text ≡ (front, rest)
 cut_is len text front rest e whole = rw (e, whole, take-append_seam front rest, drop-append_seam front rest) refl
 
@@ -96,7 +96,7 @@ strip_lacks byte (first ∷ text) e = rw e refl
 pub begins_there : (byte : ℕ) (rest : List ℕ) → begins byte (byte ∷ rest) ≡ true
 begins_there byte rest = eq-eqb byte byte refl
 
--- what `memchr` finds is where the first byte that passes stands, or the end
+-- what `memchr` finds is the place of the first byte that passes, or the end
 pub found_first : (test : ℕ → Bool) (text : List ℕ) (at : ℕ) → IsFirstByte test text (Some at) → at ≡ position_or_len test text
 found_first test text at h =
     sym (position_or_len_is test text at 0 (let within = h.0.high in omega arith) (λ k lt. false_from_ne_true _ (h.0.before k (omega arith) lt)) (λ lt. h.1))

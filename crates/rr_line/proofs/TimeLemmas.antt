@@ -26,7 +26,7 @@ some_left text e = let other = eqb-false (length text) 0 e in omega arith
 word_len_within : (text : List ℕ) → word_len text ≤ length text
 word_len_within text = prefix_len-le-length _ text
 
--- behind skipped spaces stands no space
+-- no space follows skipped spaces
 first_stays : (text : List ℕ) (byte : ℕ) (rest : List ℕ) → skip_spaces text ≡ byte ∷ rest → eqb byte SPACE ≡ false
 first_stays [] byte rest e = absurd cc
 first_stays (first ∷ text) byte rest e =
