@@ -12,8 +12,9 @@ use Rattle.rr_line.specs.declared.fault.LineFault.TheVariants.{MissingFieldKey, 
 use Rattle.rr_line.specs.Field.{Field, IsField}
 use Rattle.rr_line.specs.Part.{IsName, HasNoName, cut_behind}
 use Rattle.rr_line.specs.Reading.{name_at, value_at, field_at}
-use Rattle.rr_line.specs.Value.{IsBare, IsValue, ValueFault, a_text, no_text, unquoted, value_of, value_len, is_text, quoted_fault}
-use Rattle.rr_line.proofs.ValueLemmas.{value_scanned, plain_scanned, ended_scanned, is_text_of, text_of}
+use Rattle.rr_line.specs.Value.{IsBare, IsValue, ValueFault, a_text, no_text, unquoted, value_of, ends_value, value_len, is_text, quoted_fault}
+use Rattle.rr_line.proofs.ValueLemmas.{is_text_of, text_of}
+use Rattle.rr_line.proofs.ScanLemmas.{part_scanned, plain_scanned, ended_scanned}
 use Rattle.std.proofs.lemmas.Bool.{cases_Bool, false≢true}
 use Rattle.rr_line.proofs.AgreeLemmas.{Agrees, Agrees-as, Agrees-bind, Agrees-unless, Agrees-ok, Agrees-ok_or, Agrees-self}
 use Rattle.rr_line.proofs.PartLemmas.{name_agrees, first_is, cut_is, strip_some, strip_there, strip_none, strip_lacks}
@@ -22,8 +23,8 @@ use Rattle.rr_line.proofs.PartLemmas.{name_agrees, first_is, cut_is, strip_some,
 bare_cut : (text : List ℕ) → begins QUOTE text ≡ false → IsBare text (take (value_len text) text) (drop (value_len text) text)
 bare_cut text bare = record {
   bare = bare;
-  plain = plain_scanned text;
-  ended = ended_scanned text;
+  plain = plain_scanned ends_value text;
+  ended = ended_scanned ends_value text;
   whole = sym (take-append-drop (value_len text) text);
 }
 
@@ -38,7 +39,7 @@ value_to text value (bare, (number, is, at)) =
 
 -- a value that is not quoted is the one that is cut off
 bare_is : (text value rest : List ℕ) → IsBare text value rest → cut_behind (value_len text) text ≡ (value, rest)
-bare_is text value rest h = cut_is (value_len text) text value rest (ap value_len h.whole ∙ value_scanned value rest h.plain h.ended) h.whole
+bare_is text value rest h = cut_is (value_len text) text value rest (ap value_len h.whole ∙ part_scanned ends_value value rest h.plain h.ended) h.whole
 
 value_from : (text : List ℕ) (value : ℤ × List ℕ) → IsValue text value.0 value.1 → (begins QUOTE text ≡ false) × ((number : ℤ) × (value_of (take (value_len text) text) ≡ Ok number) × Behind text number value)
 value_from text (number, rest) (front, is_bare, is) =
