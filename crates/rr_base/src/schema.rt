@@ -95,7 +95,7 @@ fn left_over(time: i64, step: u32, steps: u32) -> u32
     requires some_steps { 0 < steps }
     ensures value { result
         ≡ unsigned_abs (int_rem_euclid (int_div_euclid time (pos (step * 1_000_000_000)))
-            (pos steps)) }
+        (pos steps)) }
     ensures within { result < steps }
 {
     let whole_steps = whole_spans(time, step);
