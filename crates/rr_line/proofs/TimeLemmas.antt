@@ -11,7 +11,7 @@ use Rattle.rr_base.specs.declared.bytes.TheConstants.{SPACE}
 use Rattle.rr_line.specs.declared.fault.LineFault.{LineFault}
 use Rattle.rr_line.specs.declared.fault.LineFault.TheVariants.{BadTime, TimeRange}
 use Rattle.rr_line.specs.declared.precision.Precision.{Precision}
-use Rattle.rr_line.specs.Part.{skip_spaces, cut_behind}
+use Rattle.rr_line.specs.Part.{skip_spaces, cut_after}
 use Rattle.rr_line.specs.Reading.{time_at, word_time, ending_at}
 use Rattle.rr_line.specs.Time.{nanoseconds, ends_word, word_len, IsWord, IsEnding, EndingFault, bad_time, out_of_range}
 use Rattle.rr_line.proofs.AgreeLemmas.{Agrees, Agrees-as, Agrees-bind, Agrees-unless, Agrees-ok, just_read}
@@ -52,7 +52,7 @@ word_cut text some =
       whole = sym (take-append-drop (word_len left) left);
     }
 
-word_is : (text word rest : List ℕ) → IsWord text word rest → cut_behind (word_len (skip_spaces text)) (skip_spaces text) ≡ (word, rest)
+word_is : (text word rest : List ℕ) → IsWord text word rest → cut_after (word_len (skip_spaces text)) (skip_spaces text) ≡ (word, rest)
 word_is text word rest h = cut_is (word_len (skip_spaces text)) (skip_spaces text) word rest (ap word_len h.whole ∙ part_scanned ends_word word rest h.plain h.ended) h.whole
 
 no_word : (text word rest : List ℕ) → skip_spaces text ≡ [] → IsWord text word rest → ⊥

@@ -22,8 +22,8 @@ abbrev pub content : List ℕ → List ℕ
 content line = skip_spaces (unwrap_or (before_last RETURN line) line)
 
 -- the front of this length, and what follows it
-abbrev pub cut_behind : ℕ → List ℕ → List ℕ × List ℕ
-cut_behind len text = (take len text, drop len text)
+abbrev pub cut_after : ℕ → List ℕ → List ℕ × List ℕ
+cut_after len text = (take len text, drop len text)
 
 -- nothing follows a part, or a byte that ends it
 abbrev pub Ends : (ℕ → Bool) → List ℕ → Type 0
