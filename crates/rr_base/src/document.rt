@@ -5,8 +5,8 @@ ghost use Rattle.std.specs.Result.{result_map_both};
 ghost use Rattle.std.specs.Str.{is_utf8};
 ghost use Rattle.toml.specs.Data.{get_member};
 ghost use Rattle.toml.specs.View.{view, table_view, array_view};
-ghost use Rattle.rr_base.specs.Document.{needed, in_32_bits, whole_at, archive_in, are_tables, tables_at, archives_in, layout_in, layout_of};
-ghost use Rattle.rr_base.specs.Results.{GivesUnless};
+ghost use Rattle.rr_base.specs.Document.{needed, in_32_bits, whole_at, archive_in, are_tables, tables_at, archives_in, tables_in, layout_in, layout_of};
+ghost use Rattle.rr_base.specs.Results.{GivesUnless, NeedsMemoryAfter};
 
 use crate::archive::ArchiveSpec;
 use crate::fault::SchemaFault;
@@ -109,8 +109,9 @@ impl Schema {
     /// 32 bits is out of its range. The cost is linear in the archives, but for the look-ups.
     #[tactic(auto, unfolding(crate::specs::Document::layout_in))]
     pub fn from_table(alloc: Global, table: &Table) -> Result<Schema, SchemaFault>
-        ensures { GivesUnless SchemaFault.Memory (λ s. s) result
+        ensures read { GivesUnless SchemaFault.Memory (λ s. s) result
             (layout_in (table_view table.now)) }
+        ensures memory { NeedsMemoryAfter SchemaFault.Memory (tables_in (table_view table.now)) result }
     {
         let step = whole_at(table, "step")?;
         let tables = tables_at(table, "archive")?;
