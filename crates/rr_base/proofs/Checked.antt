@@ -9,7 +9,7 @@ use Rattle.rr_base.specs.Check.{archive_fault, archives_fault, schema_fault}
 use Rattle.rr_base.specs.Results.{first_fault}
 use Rattle.rr_base.proofs.Rising.{Rise}
 
--- a test that finds no fault was false, and so found none behind it
+-- a test that finds no fault was false, and none was found after it
 none_found : (b : Bool) (fault : SchemaFault) (later : Option SchemaFault) → cond b (Some fault) later ≡ None → (b ≡ false) × (later ≡ None)
 none_found true fault later h = absurd cc
 none_found false fault later h = (refl, h)

@@ -49,7 +49,7 @@ last_is step resolution found next (a ∷ archives) =
 spans_rise : (s : Layout) → IsLayout s → (i j : ℕ) → i ≤ j → j < length s.archives → span s i ≤ span s j
 spans_rise s is i j le lt = mul-le-mul_left s.step (steps_rise s.archives is.rising i j le lt)
 
--- an archive whose span is not above the resolution does not stand behind the last such one
+-- an archive whose span is not above the resolution does not come after the last such one
 not_past : (s : Layout) (resolution k j : ℕ) → AboveFrom s.step resolution (suc k) s.archives → j < length s.archives → span s j ≤ resolution → j ≤ k
 not_past s resolution k j past lt fits =
     elim (cases_lt k j) [ inl behind ↦ absurd (omega (arith, past j (omega arith) lt, fits)) | inr before ↦ before ]

@@ -50,7 +50,7 @@ parts_of_cut delimiter (byte ∷ text) before after e =
 not_the_delimiter : (test : ℕ → Bool) (delimiter byte : ℕ) → test delimiter ≡ false → test byte ≡ true → eqb byte delimiter ≡ false
 not_the_delimiter test delimiter byte misses passes = ne_eqb byte delimiter (λ e. false≢true (sym misses ∙ ap test (sym e) ∙ passes))
 
--- a text is cut behind bytes that pass a test which the delimiter doesn't
+-- a text is cut after bytes that pass a test which the delimiter doesn't
 pub cut_at-join : (test : ℕ → Bool) (delimiter : ℕ) → test delimiter ≡ false → (before after : List ℕ) → list_all test before ≡ true → cut_at delimiter (before ++ delimiter ∷ after) ≡ Some (before, after)
 cut_at-join test delimiter misses [] after passes = rw (eq-eqb delimiter delimiter refl) refl
 cut_at-join test delimiter misses (byte ∷ before) after passes =

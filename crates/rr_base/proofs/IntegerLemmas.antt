@@ -32,7 +32,7 @@ digits_parts digits h =
 numeral_of_digits : (digits : List ℕ) → is_digits digits ≡ true → IsNumeral 10 digits
 numeral_of_digits digits h = let both = digits_parts digits h in (both.0, own.to digits both.1)
 
--- a text of digits behind a minus or not is a numeral behind a sign or not
+-- digits after a minus, or alone, are a numeral after a sign, or alone
 numeral_of_unsigned : (text : List ℕ) → is_digits (unsigned text) ≡ true → IsNumeral 10 (without_leading_sign text)
 numeral_of_unsigned [] h = absurd cc
 numeral_of_unsigned (byte ∷ text) h =

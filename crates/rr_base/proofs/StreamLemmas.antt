@@ -45,7 +45,7 @@ front_of_added old new start bytes same added is = (added.0, is ∙ added.1, at 
     at (Some all) None consumed = absurd consumed
     at (Some all) (Some rest) consumed = (rest, consumed)
 
--- n bytes more stand in the front of a buffer, once its part from a on is overwritten
+-- the front of a buffer has n bytes more, once its part from a on is overwritten
 pub filled_more : (xs ys : List ℕ) (a n : ℕ) → a ≤ length xs → n ≤ length ys → take (a + n) (put_mid a (length xs - a) xs ys) ≡ take a xs ++ take n ys
 filled_more xs ys a n le few =
     let all = put_mid a (length xs - a) xs ys in

@@ -62,7 +62,13 @@ archives_in (item value values) = do
   others ← archives_in values
   Ok (archive ∷ others)
 
--- the schema of a table: other keys are passed over
+-- the array of tables after a step: what is read before any archive
+abbrev pub tables_in : Members → Result Items SchemaFault
+tables_in table = do
+  step ← whole_at (codes "step") table
+  tables_at (codes "archive") table
+
+-- the schema of a table: other keys are ignored
 unfoldable pub layout_in : Members → Result Layout SchemaFault
 layout_in table = do
   step ← whole_at (codes "step") table

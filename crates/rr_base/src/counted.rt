@@ -73,7 +73,8 @@ impl<R: Read> Read for Counted<R> {
 
     fn read(&mut self, buf: &mut [u8]) -> io::Result<usize>
         ensures bound { ReadsAtMost result buf.new }
-        ensures bytes { ReadConsumes (R.remaining (inner_of self.old)) (R.remaining (inner_of self.new)) result buf.new }
+        ensures bytes { ReadConsumes (R.remaining (inner_of self.old))
+            (R.remaining (inner_of self.new)) result buf.new }
         ensures count { MatchResult result (λ _. failures_of self.new ≡ failures_of self.old)
             (λ _. failures_of self.new ≡ one_more (failures_of self.old)) }
         ensures reads { reads_of self.new ≡ one_more (reads_of self.old) }
@@ -92,7 +93,8 @@ impl<W: Write> Write for Counted<W> {
 
     fn write(&mut self, buf: &[u8]) -> io::Result<usize>
         ensures bound { WritesAtMost result buf.now }
-        ensures bytes { WriteAppends (W.contents (inner_of self.old)) (W.contents (inner_of self.new)) result buf.now }
+        ensures bytes { WriteAppends (W.contents (inner_of self.old))
+            (W.contents (inner_of self.new)) result buf.now }
         ensures count { failures_of self.new ≡ (if is_failed_write result (length buf.now)
             then one_more (failures_of self.old) else failures_of self.old) }
     {

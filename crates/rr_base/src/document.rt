@@ -5,8 +5,8 @@ ghost use Rattle.std.specs.Result.{result_map_both};
 ghost use Rattle.std.specs.Str.{is_utf8};
 ghost use Rattle.toml.specs.Data.{get_member};
 ghost use Rattle.toml.specs.View.{view, table_view, array_view};
-ghost use Rattle.rr_base.specs.Document.{needed, in_32_bits, whole_at, archive_in, are_tables, tables_at, archives_in, layout_in, layout_of};
-ghost use Rattle.rr_base.specs.Results.{GivesUnless};
+ghost use Rattle.rr_base.specs.Document.{needed, in_32_bits, whole_at, archive_in, are_tables, tables_at, archives_in, tables_in, layout_in, layout_of};
+ghost use Rattle.rr_base.specs.Results.{GivesUnless, NeedsMemoryAfter};
 
 use crate::archive::ArchiveSpec;
 use crate::fault::SchemaFault;
@@ -17,7 +17,8 @@ use toml::{Table, Value};
 
 /// The value at a key.
 fn value_at<'a>(table: &'a Table, key: &str) -> Result<&'a Value, SchemaFault>
-    ensures { result_map_both (λ value. view value.now) (λ fault. fault) result ≡ needed (get_member key.now (table_view table.now)) }
+    ensures { result_map_both (λ value. view value.now) (λ fault. fault) result
+        ≡ needed (get_member key.now (table_view table.now)) }
 {
     match table.get(key) {
         Some(value) => Ok(value),
@@ -72,7 +73,8 @@ fn are_tables(values: &Vec<Value>) -> bool
 
 /// The array of tables at a key.
 fn tables_at<'a>(table: &'a Table, key: &str) -> Result<&'a Vec<Value>, SchemaFault>
-    ensures { result_map_both (λ values. array_view values.now) (λ fault. fault) result ≡ tables_at key.now (table_view table.now) }
+    ensures { result_map_both (λ values. array_view values.now) (λ fault. fault) result
+        ≡ tables_at key.now (table_view table.now) }
 {
     match value_at(table, key)?.as_array() {
         Some(values) if are_tables(values) => Ok(values),
@@ -82,7 +84,8 @@ fn tables_at<'a>(table: &'a Table, key: &str) -> Result<&'a Vec<Value>, SchemaFa
 
 /// The archives of an array of tables.
 fn archives_in(alloc: Global, values: &Vec<Value>) -> Result<Vec<ArchiveSpec>, SchemaFault>
-    ensures { GivesUnless SchemaFault.Memory (λ archives. archives.items) result (archives_in (array_view values.now)) }
+    ensures { GivesUnless SchemaFault.Memory (λ archives. archives.items) result
+        (archives_in (array_view values.now)) }
 {
     let mut archives = Vec::new(alloc);
     for value in values {
@@ -106,7 +109,9 @@ impl Schema {
     /// 32 bits is out of its range. The cost is linear in the archives, but for the look-ups.
     #[tactic(auto, unfolding(crate::specs::Document::layout_in))]
     pub fn from_table(alloc: Global, table: &Table) -> Result<Schema, SchemaFault>
-        ensures { GivesUnless SchemaFault.Memory (λ s. s) result (layout_in (table_view table.now)) }
+        ensures read { GivesUnless SchemaFault.Memory (λ s. s) result
+            (layout_in (table_view table.now)) }
+        ensures memory { NeedsMemoryAfter SchemaFault.Memory (tables_in (table_view table.now)) result }
     {
         let step = whole_at(table, "step")?;
         let tables = tables_at(table, "archive")?;

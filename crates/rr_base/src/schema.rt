@@ -94,7 +94,8 @@ fn left_over(time: i64, step: u32, steps: u32) -> u32
     requires some_step { 0 < step }
     requires some_steps { 0 < steps }
     ensures value { result
-        ≡ unsigned_abs (int_rem_euclid (int_div_euclid time (pos (step * 1_000_000_000))) (pos steps)) }
+        ≡ unsigned_abs (int_rem_euclid (int_div_euclid time (pos (step * 1_000_000_000)))
+        (pos steps)) }
     ensures within { result < steps }
 {
     let whole_steps = whole_spans(time, step);

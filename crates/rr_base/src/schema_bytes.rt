@@ -26,7 +26,8 @@ fn push_archive(bytes: &mut Vec<u8>, archive: &ArchiveSpec) -> Result<(), AllocE
 /// Adds the bytes of archives, in order.
 pub(crate) fn push_archives(bytes: &mut Vec<u8>, archives: &[ArchiveSpec]) -> Result<(), AllocError>
     requires { All IsArchive archives.now }
-    ensures { OnOk result (bytes.new.items ≡ bytes.old.items ++ flat_map archive_bytes archives.now) }
+    ensures { OnOk result (bytes.new.items ≡ bytes.old.items
+        ++ flat_map archive_bytes archives.now) }
 {
     for archive in archives {
         push_archive(bytes, archive)?;

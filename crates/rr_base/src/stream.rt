@@ -45,10 +45,12 @@ pub fn read_once<R: Read>(
     input: &mut Counted<R>,
     buf: &mut [u8],
 ) -> Result<Option<usize>, ReadFailed>
-    ensures bytes { ReadsOnce (R.remaining (inner_of input.old)) (R.remaining (inner_of input.new)) result buf.new }
+    ensures bytes { ReadsOnce (R.remaining (inner_of input.old))
+        (R.remaining (inner_of input.new)) result buf.new }
     ensures reads { reads_of input.new ≡ one_more (reads_of input.old) }
     ensures count { failures_of input.old ≤ failures_of input.new }
-    ensures interrupted { result ≡ Ok None → HasRisen (failures_of input.old) (failures_of input.new) }
+    ensures interrupted { result ≡ Ok None
+        → HasRisen (failures_of input.old) (failures_of input.new) }
     ensures failed { OnErr result (HasRisen (failures_of input.old) (failures_of input.new)) }
 {
     match input.read(buf) {
@@ -66,7 +68,8 @@ pub fn read_once<R: Read>(
 /// input, or where `buf` is empty. A read that failed took no byte of the input.
 pub fn read_some<R: Read>(input: &mut Counted<R>, buf: &mut [u8]) -> Result<usize, ReadFailed>
     ensures bound { ReadsAtMost result buf.new }
-    ensures bytes { ReadConsumes (R.remaining (inner_of input.old)) (R.remaining (inner_of input.new)) result buf.new }
+    ensures bytes { ReadConsumes (R.remaining (inner_of input.old))
+        (R.remaining (inner_of input.new)) result buf.new }
     ensures count { failures_of input.old ≤ failures_of input.new }
     ensures failed { OnErr result (HasRisen (failures_of input.old) (failures_of input.new)) }
 {
@@ -82,9 +85,12 @@ pub fn read_some<R: Read>(input: &mut Counted<R>, buf: &mut [u8]) -> Result<usiz
 /// `buf`. After a failure some bytes may have been taken from the input.
 pub fn fill<R: Read>(input: &mut Counted<R>, buf: &mut [u8]) -> Result<usize, ReadFailed>
     ensures bound { IfOk result (λ filled. filled ≤ length buf.new) }
-    ensures bytes { IfOk result (λ filled. Consumes (R.remaining (inner_of input.old)) (R.remaining (inner_of input.new)) (take filled buf.new)) }
-    ensures end { IfOk result (λ filled. filled < length buf.new → IsAtEnd (R.remaining (inner_of input.new))) }
-    ensures front { ConsumesSome (R.remaining (inner_of input.old)) (R.remaining (inner_of input.new)) }
+    ensures bytes { IfOk result (λ filled. Consumes (R.remaining (inner_of input.old))
+        (R.remaining (inner_of input.new)) (take filled buf.new)) }
+    ensures end { IfOk result (λ filled. filled < length buf.new
+        → IsAtEnd (R.remaining (inner_of input.new))) }
+    ensures front { ConsumesSome (R.remaining (inner_of input.old))
+        (R.remaining (inner_of input.new)) }
     ensures count { failures_of input.old ≤ failures_of input.new }
     ensures failed { OnErr result (HasRisen (failures_of input.old) (failures_of input.new)) }
 {
@@ -168,7 +174,8 @@ pub fn read_to_end<R: Read>(input: &mut Counted<R>, bytes: &mut Vec<u8>) -> Resu
         (Consumes (R.remaining (inner_of input.old)) (R.remaining (inner_of input.new)))) }
     ensures front { AddsFront (R.remaining (inner_of input.old)) bytes.old.items bytes.new.items }
     ensures count { failures_of input.old ≤ failures_of input.new }
-    ensures failed { result ≡ Err ReadFault.ReadFailed → HasRisen (failures_of input.old) (failures_of input.new) }
+    ensures failed { result ≡ Err ReadFault.ReadFailed
+        → HasRisen (failures_of input.old) (failures_of input.new) }
     ensures limit { reads_of input.new ≤ reads_of input.old + MAX_READS }
     ensures too_many { result ≡ Err ReadFault.TooManyReads
         → HasRisenBy MAX_READS (reads_of input.old) (reads_of input.new) }
@@ -192,7 +199,8 @@ pub fn read_to_end_within<R: Read>(
         (Consumes (R.remaining (inner_of input.old)) (R.remaining (inner_of input.new)))) }
     ensures front { AddsFront (R.remaining (inner_of input.old)) bytes.old.items bytes.new.items }
     ensures count { failures_of input.old ≤ failures_of input.new }
-    ensures failed { result ≡ Err ReadFault.ReadFailed → HasRisen (failures_of input.old) (failures_of input.new) }
+    ensures failed { result ≡ Err ReadFault.ReadFailed
+        → HasRisen (failures_of input.old) (failures_of input.new) }
     ensures limit { reads_of input.new ≤ reads_of input.old + reads }
     ensures too_many { result ≡ Err ReadFault.TooManyReads
         → HasRisenBy reads (reads_of input.old) (reads_of input.new) }
@@ -215,7 +223,8 @@ fn write_some<W: Write>(output: &mut Counted<W>, piece: &[u8]) -> Result<usize, 
     requires { 0 < length piece.now }
     ensures some { IfOk result (λ taken. 0 < taken) }
     ensures bound { WritesAtMost result piece.now }
-    ensures bytes { WriteAppends (W.contents (inner_of output.old)) (W.contents (inner_of output.new)) result piece.now }
+    ensures bytes { WriteAppends (W.contents (inner_of output.old))
+        (W.contents (inner_of output.new)) result piece.now }
     ensures count { failures_of output.old ≤ failures_of output.new }
     ensures failed { OnErr result (HasRisen (failures_of output.old) (failures_of output.new)) }
 {
@@ -235,8 +244,10 @@ fn write_some<W: Write>(output: &mut Counted<W>, piece: &[u8]) -> Result<usize, 
 
 /// Writes the text whole. Where that fails, a front of it was written.
 pub fn write_all<W: Write>(output: &mut Counted<W>, text: &[u8]) -> Result<(), WriteFailed>
-    ensures whole { OnOk result (Appends (W.contents (inner_of output.old)) (W.contents (inner_of output.new)) text.now) }
-    ensures front { AppendsPrefix (W.contents (inner_of output.old)) (W.contents (inner_of output.new)) text.now }
+    ensures whole { OnOk result (Appends (W.contents (inner_of output.old))
+        (W.contents (inner_of output.new)) text.now) }
+    ensures front { AppendsPrefix (W.contents (inner_of output.old))
+        (W.contents (inner_of output.new)) text.now }
     ensures count { failures_of output.old ≤ failures_of output.new }
     ensures failed { OnErr result (HasRisen (failures_of output.old) (failures_of output.new)) }
 {

@@ -11,7 +11,7 @@ use Rattle.rr_feed.specs.Feed.{state, HandsOut}
 use Rattle.rr_feed.specs.Next.{IsCut, IsEnd}
 use Rattle.rr_feed.proofs.PieceLemmas.{some_pieces, pieces_line, pieces_last, pieces_front, items_of_line, items_of_long, last_items_line, last_items_none, IsLine-item_of}
 
--- the pieces of what is cut, and of what comes behind it
+-- the pieces of what is cut, and of what comes after it
 pieces_cut : (left line rest more : List ℕ) → IsCut left line rest → pieces (left ++ more) ≡ line ∷ pieces (rest ++ more)
 pieces_cut left line rest more cut =
     ap (λ (bytes : List ℕ). pieces (bytes ++ more)) cut.whole

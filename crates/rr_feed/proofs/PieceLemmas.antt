@@ -33,7 +33,7 @@ pieces_line line rest none = slice_split_at (λ b. eqb b LINE_FEED) line LINE_FE
 pub pieces_last : (last : List ℕ) → HasNoLineFeed last → pieces last ≡ last ∷ []
 pieces_last last none = slice_split_none (λ b. eqb b LINE_FEED) last (none_is_line_feed last none)
 
--- bytes with no line feed stand before the first piece of what comes after them
+-- bytes with no line feed go in front of the first piece of what comes after them
 pub pieces_front : (front bytes first : List ℕ) (rest : List (List ℕ)) → HasNoLineFeed front → pieces bytes ≡ first ∷ rest → pieces (front ++ bytes) ≡ (front ++ first) ∷ rest
 pieces_front [] bytes first rest none e = e
 pieces_front (byte ∷ front) bytes first rest none e =

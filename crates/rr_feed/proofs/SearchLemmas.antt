@@ -24,7 +24,7 @@ HasNoLineFeed-append a b none_a none_b =
     let whole = list_any-append (λ byte. eqb byte LINE_FEED) a b in
     whole ∙ ap (λ x. x || list_any (λ byte. eqb byte LINE_FEED) b) none_a ∙ none_b
 
--- what is searched now, behind what was searched before
+-- what is searched now, after what was searched before
 HasNoLineFeed-searched : (left : List ℕ) (searched k : ℕ) → IsSearched left searched → HasNoLineFeed (take k (drop searched left)) → HasNoLineFeed (take (searched + k) left)
 HasNoLineFeed-searched left searched k before now =
     rw (take-add searched k left) (HasNoLineFeed-append (take searched left) (take k (drop searched left)) before.none now)
@@ -37,7 +37,7 @@ whole_at left k within here =
     ∙ ap (λ (byte : ℕ). take k left ++ byte ∷ drop (suc k) left) (eqb-true _ _ here)
     ∙ ap (λ (n : ℕ). take k left ++ LINE_FEED ∷ drop n left) (sym (add-one k))
 
--- the first line feed behind what was searched before
+-- the first line feed after what was searched before
 pub IsCut-found : (left : List ℕ) (searched k : ℕ) → IsSearched left searched → IsFirstByte (is_byte LINE_FEED) (drop searched left) (Some k) → IsCut left (take (searched + k) left) (drop (searched + k + 1) left)
 IsCut-found left searched k before found =
     let within : searched + k < length left = omega (arith, found.0.high, length-drop searched left) in

@@ -67,7 +67,8 @@ impl Feed {
     /// It is refused as `Ended` after [`Feed::end`], and as `Memory` where memory runs out; the feed
     /// is then unchanged. The cost is linear in the piece, on average over all pushes.
     pub fn push(&mut self, piece: &[u8]) -> Result<(), FeedFault>
-        ensures ok { OnOk result (self.new ≡ record self.old { left = self.old.left ++ piece.now }) }
+        ensures ok { OnOk result
+            (self.new ≡ record self.old { left = self.old.left ++ piece.now }) }
         ensures ended { (result ≡ Err FeedFault.Ended) ↔ IsTrue self.old.ended }
         ensures err { OnErr result (self.new ≡ self.old) }
     {

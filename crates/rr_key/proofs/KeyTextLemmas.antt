@@ -73,7 +73,7 @@ names_above_empty (tag ∷ tags) h =
     let key = both_true (is_name tag.0) (is_name tag.1) parts.0 in
     rw (above_empty tag.0 key.0, names_above_empty tags parts.1) refl
 
--- a series behind its measurement is a tail, and a tail is one
+-- a series after its measurement is a tail, and a tail is one
 pub tail_of_series : (s : Series) → IsSeries s → IsTail [] 0 (tail_text (entries s.tags) s.field)
 tail_of_series s h = record {
   tags = entries s.tags;
@@ -122,7 +122,7 @@ no_bytes : (rest : List ℕ) → eqb (length rest) 0 ≡ true → rest ≡ []
 no_bytes [] e = refl
 no_bytes (b ∷ bs) e = absurd (false≢true (sym (eqb-suc-zero _) ∙ e))
 
--- the field stands alone
+-- the field alone
 pub last_is : (text field raw rest : List ℕ) → strip 32 text ≡ Some field → name_at Other field ≡ Some (raw, rest) → (eqb (length rest) 0 ≡ true) ↔ IsLast text
 last_is text field raw rest s e =
     let f = name_at-found Other field raw rest e in

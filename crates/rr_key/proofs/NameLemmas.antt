@@ -1,4 +1,4 @@
--- What a name of a key is, read off its bytes, and where it stands in a text.
+-- What a name of a key is, by its bytes, and where it is in a text.
 use Rattle.std.proofs.Common.{◌≡◌, ℕ, suc, ◌-◌, Bool, true, false, not, cond, eqb, ◌||◌, List, [], ◌∷◌, ◌++◌, length, get_or, take, drop, None, Some, refl, sym, ap, ◌∙◌, inl, inr, arith}
 use Rattle.std.proofs.lemmas.Bool.{cases_Bool}
 use Rattle.std.proofs.lemmas.List.{take-append-drop}

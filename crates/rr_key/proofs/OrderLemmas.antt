@@ -49,7 +49,7 @@ pub has_repeat-IsPermutation : (tags others : List Tag) → IsPermutation tags o
 has_repeat-IsPermutation tags others p h =
     repeats.has_repeat-IsPermutation (keys_of tags) (keys_of others) (IsPermutation-map (λ (tag : Tag). tag.0) tags others p) h
 
--- a look-up finds in tags that differ what stands among them
+-- a look-up in tags that differ finds what is among them
 find_lookup : (tags : List Tag) (q : List ℕ) → find bytes_cmp q tags ≡ lookup (eq_by_cmp bytes_cmp q) tags
 find_lookup [] q = refl
 find_lookup (tag ∷ tags) q = ap (cond (eq_by_cmp bytes_cmp q tag.0) (Some tag.1)) (find_lookup tags q)
@@ -133,7 +133,7 @@ rises_by_sort (x ∷ xs) h e u =
     let key = or_false (is_empty x.0.now) (is_empty x.1.now) names.0 in
     rw (no_bytes_below x.0.now key.0, rises-sorted x xs h u) refl
 
--- after a sort, rising keys show that no key stands twice, and where keys do not rise one does
+-- after a sort, no key occurs twice where keys rise, and one does where they do not
 pub unique_if_rises : (tags others : List Tag) → IsPermutation tags others → rises [] others ≡ true → has_repeat (keys_of tags) ≡ false
 unique_if_rises tags others p up = has_repeat-IsPermutation others tags (IsPermutation-sym tags others p) (has_repeat-rises [] others up)
 

@@ -10,7 +10,7 @@ use Rattle.rr_key.specs.Series.{is_tag}
 use Rattle.rr_key.specs.Unit.{escape, unescape}
 use Rattle.rr_key.proofs.NameLemmas.{Divides, name_at-escape, name_at-found, some_if}
 
--- what is read from the bytes behind a tag's written key
+-- what is read from the bytes after a tag's written key
 abbrev after_key : List ℕ → List ℕ → Option (List ℕ × List ℕ)
 after_key raw value = option_and_then (λ (end : List ℕ × List ℕ). Some (raw, end.1)) (name_at Other value)
 

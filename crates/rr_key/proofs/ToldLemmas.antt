@@ -1,4 +1,4 @@
--- Whether a text is a key text, told byte by byte.
+-- Whether a text is a key text, decided byte by byte.
 use Rattle.std.proofs.Common.{◌≡◌, ℕ, zero, suc, ◌+◌, ◌≤◌, ◌↔◌, true, false, leb, eqb, ◌&&◌, List, [], length, Option, None, Some, refl, ap, arith}
 use Rattle.std.proofs.lemmas.Bool.{leb-true, le-leb}
 use Rattle.std.specs.Ordering.{is_lt}
@@ -24,7 +24,7 @@ last_told text = at (strip 32 text) refl
     at None s = (λ t. absurd cc, λ l. absurd (no_space text s l))
     at (Some field) s = named field (name_at Other field) s refl
 
--- where no comma stands
+-- where there is no comma
 end_told : (before : List ℕ) (count : ℕ) (text : List ℕ) → strip 44 text ≡ None → count ≤ 32 → (is_last text ≡ true) ↔ IsTail before count text
 end_told before count text s few =
     let told = last_told text in

@@ -12,7 +12,7 @@ use Rattle.rr_key.proofs.Special.{special_no_backslash, and_false}
 pub rest_is : (n : ℕ) (xs : List ℕ) → take (length xs - n) (drop n xs) ≡ drop n xs
 rest_is n xs = ap (λ k. take k (drop n xs)) (sym (length-drop n xs)) ∙ take-length (drop n xs)
 
--- whether a backslash stands before place k
+-- whether a backslash precedes place k
 abbrev pub before : List ℕ → ℕ → Bool
 before s zero = false
 before s (suc k) = eqb (get_or s k 0) 92

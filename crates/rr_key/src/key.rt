@@ -113,7 +113,8 @@ impl SeriesKey {
         ensures found { IfOk result (λ key. key ≡ bytes.now) }
         ensures grammar { OnOk result (IsKeyText bytes.now) }
         ensures refused { (result ≡ Err KeyFault.BadKey) ↔ (¬ IsKeyText bytes.now) }
-        ensures faults { IfErr result (λ fault. (fault ≡ KeyFault.BadKey) ⊎ (fault ≡ KeyFault.Memory)) }
+        ensures faults { IfErr result (λ fault. (fault ≡ KeyFault.BadKey) ⊎ (fault
+            ≡ KeyFault.Memory)) }
     {
         if !is_key_text(bytes) {
             return Err(KeyFault::BadKey);

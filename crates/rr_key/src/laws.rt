@@ -19,7 +19,8 @@ pub fn a_name_is_written_in_one_way(class: Class)
     ensures ends { (name rest : List ℕ) → MayFollow class name rest
         → name_len class (escape class name ++ rest) ≡ length (escape class name) }
     ensures units { (text : List ℕ)
-        → escape class (unescape class (take (name_len class text) text)) ≡ take (name_len class text) text }
+        → escape class (unescape class (take (name_len class text) text))
+        ≡ take (name_len class text) text }
 {}
 
 /// Names without a fault make a series that has a key, whatever the order of their tags.

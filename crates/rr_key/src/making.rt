@@ -47,7 +47,8 @@ pub(crate) fn make_text(
 
 /// Why more tags than a key may have are refused.
 fn fault_of_many(tags: &[(&[u8], &[u8])]) -> KeyFault
-    ensures { result ≡ (if has_repeat (keys_of (tags_of tags.now)) then DuplicateTag else TooManyTags) }
+    ensures { result
+        ≡ (if has_repeat (keys_of (tags_of tags.now)) then DuplicateTag else TooManyTags) }
 {
     if has_repeat(tags) {
         KeyFault::DuplicateTag

@@ -10,10 +10,11 @@ use Rattle.rr_line.specs.declared.mark.TheConstants.{QUOTE}
 use Rattle.rr_line.specs.declared.fault.LineFault.{LineFault}
 use Rattle.rr_line.specs.declared.fault.LineFault.TheVariants.{MissingFieldKey, MissingFieldValue}
 use Rattle.rr_line.specs.Field.{Field, IsField}
-use Rattle.rr_line.specs.Part.{IsName, HasNoName, cut_behind}
+use Rattle.rr_line.specs.Part.{IsName, HasNoName, cut_after}
 use Rattle.rr_line.specs.Reading.{name_at, value_at, field_at}
-use Rattle.rr_line.specs.Value.{IsBare, IsValue, ValueFault, a_text, no_text, unquoted, value_of, value_len, is_text, quoted_fault}
-use Rattle.rr_line.proofs.ValueLemmas.{value_scanned, plain_scanned, ended_scanned, is_text_of, text_of}
+use Rattle.rr_line.specs.Value.{IsBare, IsValue, ValueFault, a_text, no_text, unquoted, value_of, ends_value, value_len, is_text, quoted_fault}
+use Rattle.rr_line.proofs.ValueLemmas.{is_text_of, text_of}
+use Rattle.rr_line.proofs.ScanLemmas.{part_scanned, plain_scanned, ended_scanned}
 use Rattle.std.proofs.lemmas.Bool.{cases_Bool, false≢true}
 use Rattle.rr_line.proofs.AgreeLemmas.{Agrees, Agrees-as, Agrees-bind, Agrees-unless, Agrees-ok, Agrees-ok_or, Agrees-self}
 use Rattle.rr_line.proofs.PartLemmas.{name_agrees, first_is, cut_is, strip_some, strip_there, strip_none, strip_lacks}
@@ -22,12 +23,12 @@ use Rattle.rr_line.proofs.PartLemmas.{name_agrees, first_is, cut_is, strip_some,
 bare_cut : (text : List ℕ) → begins QUOTE text ≡ false → IsBare text (take (value_len text) text) (drop (value_len text) text)
 bare_cut text bare = record {
   bare = bare;
-  plain = plain_scanned text;
-  ended = ended_scanned text;
+  plain = plain_scanned ends_value text;
+  ended = ended_scanned ends_value text;
   whole = sym (take-append-drop (value_len text) text);
 }
 
--- what stands behind a value
+-- what follows a value
 abbrev Behind : List ℕ → ℤ → ℤ × List ℕ → Type 0
 Behind text number value = (number, drop (value_len text) text) ≡ value
 
@@ -37,12 +38,12 @@ value_to text value (bare, (number, is, at)) =
     (take (value_len text) text, subst (λ (rest : List ℕ). IsBare text (take (value_len text) text) rest) parts.1 (bare_cut text bare), subst (λ (n : ℤ). value_of (take (value_len text) text) ≡ Ok n) parts.0 is)
 
 -- a value that is not quoted is the one that is cut off
-bare_is : (text value rest : List ℕ) → IsBare text value rest → cut_behind (value_len text) text ≡ (value, rest)
-bare_is text value rest h = cut_is (value_len text) text value rest (ap value_len h.whole ∙ value_scanned value rest h.plain h.ended) h.whole
+bare_is : (text value rest : List ℕ) → IsBare text value rest → cut_after (value_len text) text ≡ (value, rest)
+bare_is text value rest h = cut_is (value_len text) text value rest (ap value_len h.whole ∙ part_scanned ends_value value rest h.plain h.ended) h.whole
 
 value_from : (text : List ℕ) (value : ℤ × List ℕ) → IsValue text value.0 value.1 → (begins QUOTE text ≡ false) × ((number : ℤ) × (value_of (take (value_len text) text) ≡ Ok number) × Behind text number value)
 value_from text (number, rest) (front, is_bare, is) =
-    let cut = first_is (cut_behind (value_len text) text) (front, rest) (bare_is text front rest is_bare) in
+    let cut = first_is (cut_after (value_len text) text) (front, rest) (bare_is text front rest is_bare) in
     (is_bare.bare, (number, ap value_of cut.0 ∙ is, ap (λ (r : List ℕ). (the_number number, r)) cut.1))
   where
     the_number : ℤ → ℤ
@@ -66,7 +67,7 @@ bad_value_from text fault (no_text begins none is) =
       | inr other ↦ inl (begins, is ∙ sym (rw other refl))
     ]
 bad_value_from text fault (unquoted value rest is_bare is) =
-    let cut = first_is (cut_behind (value_len text) text) (value, rest) (bare_is text value rest is_bare) in
+    let cut = first_is (cut_after (value_len text) text) (value, rest) (bare_is text value rest is_bare) in
     inr (is_bare.bare, inl (ap value_of cut.0 ∙ is))
 
 pub value_agrees : (text : List ℕ) → Agrees (value_at text) (λ value. IsValue text value.0 value.1) (ValueFault text)

@@ -18,7 +18,7 @@ use Rattle.rr_line.proofs.FieldLemmas.{NoField, field_agrees}
 use Rattle.rr_line.proofs.PartLemmas.{first_is, strip_some, strip_none}
 use Rattle.rr_line.proofs.TagLemmas.{comma_is, no_comma}
 
--- the fields that are read behind others, and what follows them
+-- the fields that are read after others, and what follows them
 abbrev pub HasFields : List Field → List ℕ → List Field × List ℕ → Type 0
 HasFields before text fields =
     (front : List Field) × (last : Field) × (last_text : List ℕ) × LeadTo before text front last_text × IsField last_text last fields.1
@@ -29,7 +29,7 @@ abbrev pub HasBadField : List Field → List ℕ → LineFault → Type 0
 HasBadField before text fault =
     (more : List Field) × (field_text : List ℕ) × LeadTo before text more field_text × FieldFault (before ++ more) field_text fault
 
--- what stands behind a field: the end of the fields, or more of them
+-- what follows a field: the end of the fields, or more of them
 abbrev Follows : List Field → Field × List ℕ → List Field × List ℕ → Type 0
 Follows before field fields =
     ((begins COMMA field.1 ≡ false) × ((before ++ field.0 ∷ [], field.1) ≡ fields))

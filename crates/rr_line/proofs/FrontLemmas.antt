@@ -40,7 +40,7 @@ pub gap_within : (text : List ℕ) (measurement : List ℕ × List ℕ) (tags : 
 gap_within text measurement tags said name are =
     let size = front_size text measurement.0 tags.0 tags.1 (front_of_steps text measurement tags said name are) in omega (arith, size)
 
--- a key of the point is too long where one is by the length of what stands before the fields
+-- a key of the point is too long where one is by the length of what precedes the fields
 pub long_of_steps : (text : List ℕ) (measurement : List ℕ × List ℕ) (tags : List Tag × List ℕ) (fields_text : List ℕ) (fields : List Field × List ℕ) (time : Option ℤ) (front : ℕ) → HasNoLineFeed text → is_nothing text ≡ false
     → name_at Measurement NoMeasurement text ≡ Ok measurement → all_tags_at measurement.1 ≡ Ok tags → fields_text_of tags.1 ≡ Ok fields_text → all_fields_at fields_text ≡ Ok fields → front ≡ length text - length tags.1
     → has_long_key (record { measurement = measurement.0; tags = tags.0; fields = fields.0; time = time }) ≡ list_any (λ field. ltb MAX_KEY_TEXT (front + 1 + length field.0)) fields.0

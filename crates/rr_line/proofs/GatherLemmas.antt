@@ -1,4 +1,4 @@
--- Repeated keys may be looked for once, behind the last part that is good.
+-- Repeated keys may be looked for once, after the last part that is good.
 use Rattle.std.proofs.Common.{◌≡◌, ℕ, zero, suc, true, false, List, [], ◌∷◌, ◌++◌, Option, Some, None, Result, Ok, Err, refl, sym, ap, ◌∙◌, inl, inr}
 use Rattle.std.proofs.lemmas.Bool.{cases_Bool}
 use Rattle.std.proofs.lemmas.List.{append-nil, append_assoc}
@@ -45,7 +45,7 @@ twice fault gathered h = rw h refl
 twice_of : {X : Type 0} (fault : LineFault) (before : List (List ℕ × X)) (entry : List ℕ × X) (gathered : Gathered (List ℕ × X)) → has_key before entry.0 ≡ true → Begins (before ++ entry ∷ []) gathered.0 → without_repeat fault gathered ≡ Err fault
 twice_of fault before entry gathered h grown = twice fault gathered (ap repeats_key grown.1 ∙ repeats_key-again before grown.0 entry h)
 
--- the tags that are read are those that are gathered, unless a key stands twice
+-- the tags that are read are those that are gathered, unless a key occurs twice
 pub tags_gathered : (room : ℕ) (before : List Tag) (text : List ℕ) → repeats_key before ≡ false → tags_at room before text ≡ without_repeat DuplicateTag (gathered_tags room before text)
 tags_gathered zero before text h = at (strip COMMA text)
   where
@@ -92,7 +92,7 @@ fields_grow (suc room) before text = one (field_at text) (λ field rest. fields_
     one (Ok (field, rest)) later = end field rest (strip COMMA rest) later
     one (Err fault) later = ([], sym (append-nil before))
 
--- the fields behind one that is good
+-- the fields after one that is good
 abbrev gathered_behind : ℕ → List Field → Field → List ℕ → Gathered Field
 gathered_behind room before field rest = after_comma (strip COMMA rest) (before ++ field ∷ [], Ok rest) (λ next. gathered_fields room (before ++ field ∷ []) next)
 
@@ -106,7 +106,7 @@ behind_grows room before field rest = at (strip COMMA rest)
     at None = ([], sym (append-nil (before ++ field ∷ [])))
     at (Some next) = fields_grow room (before ++ field ∷ []) next
 
--- the fields that are read are those that are gathered, unless a key stands twice
+-- the fields that are read are those that are gathered, unless a key occurs twice
 pub fields_gathered : (room : ℕ) (before : List Field) (text : List ℕ) → repeats_key before ≡ false → fields_at room before text ≡ without_repeat DuplicateField (gathered_fields room before text)
 fields_gathered zero before text h = one (field_at text)
   where

@@ -32,7 +32,7 @@ the_fault fault = Err fault
 abbrev pub the_rest : List ℕ → Result (List ℕ) LineFault
 the_rest rest = Ok rest
 
--- behind these tags as many more are gathered as there is room for
+-- after these tags as many more are gathered as there is room for
 abbrev pub GathersTags : List HeldTag → List ℕ → List ℕ → Type 0
 GathersTags tags left text = (room : ℕ) × (room + length tags ≡ MAX_TAGS) × (gathered_tags room (tags_of tags) left ≡ all_gathered_tags text)
 
@@ -99,7 +99,7 @@ field_keys : (fields : List HeldField) → keys_of (fields_view fields) ≡ map 
 field_keys [] = refl
 field_keys (field ∷ fields) = ap (λ (keys : List (List ℕ)). field.0.now ∷ keys) (field_keys fields)
 
--- what is read of tags that are gathered, by whether a key stands twice among those that are held
+-- what is read of tags that are gathered, by whether a key occurs twice among those that are held
 tags_read : (tags : List HeldTag) (rest : Result (List ℕ) LineFault) (text : List ℕ) → (tags_of tags, rest) ≡ all_gathered_tags text → all_tags_at text ≡ unless DuplicateTag (has_repeat (map (λ (tag : HeldTag). tag.0.now) tags)) (rest >>= λ r. Ok (tags_of tags, r))
 unfolding all_gathered_tags all_tags_at
 tags_read tags rest text e =
@@ -112,7 +112,7 @@ fields_read fields rest text e =
     fields_gathered MAX_FIELDS [] text refl ∙ ap (without_repeat DuplicateField) (sym e)
     ∙ ap (λ (keys : List (List ℕ)). unless DuplicateField (has_repeat keys) (rest >>= λ r. Ok (fields_view fields, r))) (field_keys fields)
 
--- the three cases: a key stands twice, the rest is refused, or it is not
+-- the three cases: a key occurs twice, the rest is refused, or it is not
 pub tags_repeat : (tags held : List HeldTag) (rest : Result (Bor (List ℕ)) LineFault) (text : List ℕ) → (tags_of tags, rest_view rest) ≡ all_gathered_tags text → held ≡ tags → true ≡ has_repeat (map (λ (tag : HeldTag). tag.0.now) held) → all_tags_at text ≡ Err DuplicateTag
 tags_repeat tags held rest text e is twice = tags_read tags (rest_view rest) text e ∙ rw (sym is, sym twice) refl
 

@@ -64,7 +64,7 @@ tags_good before text (tag ∷ tags) rest none (inner, next, whole, is, may, lat
     let others = tags_good (before ++ tag ∷ []) next tags rest value.1 later some in
     (((key.0, value.0), others.0), others.1)
 
--- tags that stand behind one another differ
+-- tags that follow one another differ
 tags_once : (before : List Tag) (text : List ℕ) (tags : List Tag) (rest : List ℕ) → AreTags before text tags rest → repeats_key before ≡ false → repeats_key (before ++ tags) ≡ false
 tags_once before text [] rest are h = ap repeats_key (append-nil before) ∙ h
 tags_once before text (tag ∷ tags) rest (inner, next, whole, is, may, later) h =
@@ -134,7 +134,7 @@ good_names text measurement tags rest none h some =
       good.1,
     )
 
--- how many bytes stand before what follows the tags
+-- how many bytes precede what follows the tags
 pub front_size : (text measurement : List ℕ) (tags : List Tag) (rest : List ℕ) → LeadsToTags text measurement tags rest → length text ≡ length measurement + tags_len tags + length rest
 front_size text measurement tags rest h =
     omega (arith, ap length h.name.whole, length-append measurement h.tags_text, tags_leave [] h.tags_text tags rest h.are_tags)
@@ -173,7 +173,7 @@ fields_good text fields rest none h =
     let front = lead_good [] text h.front h.last_text none h.leading in
     subst FieldsGood (sym h.all) (one_more_good h.front h.last front.0 (field_good h.last_text h.last rest front.1 h.ends).0)
 
--- whether a key is too long, by what stands before the fields
+-- whether a key is too long, by what precedes the fields
 pub long_by_size : (p : PointView) (front : ℕ) (fields : List Field) → HasGoodNames p.measurement p.tags → front ≡ length p.measurement + tags_len p.tags → FieldsGood fields → list_any (λ field. ltb MAX_KEY_TEXT (length (key_text p field.0))) fields ≡ list_any (λ field. ltb MAX_KEY_TEXT (front + 1 + length field.0)) fields
 long_by_size p front [] names is good = refl
 long_by_size p front (field ∷ fields) names is good =
@@ -217,7 +217,7 @@ has_keys_of p (field ∷ fields) names good short =
     let parts = or_parts (ltb MAX_KEY_TEXT (length (key_text p field.0))) (list_any (λ field. ltb MAX_KEY_TEXT (length (key_text p field.0))) fields) short in
     (has_key_of p field.0 names good.0 parts.0, has_keys_of p fields names good.1 parts.1)
 
--- what stands behind the spaces at the front has no line feed either
+-- what follows the spaces at the front has no line feed either
 pub none_skipped : (text : List ℕ) → HasNoLineFeed text → HasNoLineFeed (skip_spaces text)
 none_skipped [] none = refl
 none_skipped (byte ∷ text) none =

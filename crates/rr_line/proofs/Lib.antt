@@ -2,6 +2,7 @@ pub mod AgreeLemmas
 pub mod UnitLemmas
 pub mod PartLemmas
 pub mod TagLemmas
+pub mod ScanLemmas
 pub mod ValueLemmas
 pub mod FieldLemmas
 pub mod FieldsLemmas

@@ -86,7 +86,7 @@ none_in_content line text none e = subst HasNoLineFeed (sym e) (none_skipped (un
 pub keys_of_point : (precision : Precision) (line : List ℕ) (p : PointView) → HasNoLineFeed line → IsPointOf precision line p → HasKeys p
 keys_of_point precision line p none h = has_keys precision (content line) p (none_in_content line (content line) none refl) h.parts h.short
 
--- no fault of a line is want of memory
+-- no fault of a line is running out of memory
 either_is_no_memory : (test : Bool) (one other : LineFault) → one ≢ Memory → other ≢ Memory → cond test one other ≢ Memory
 either_is_no_memory true one other first second = first
 either_is_no_memory false one other first second = second

@@ -12,13 +12,13 @@ use Rattle.rr_key.specs.declared.class.Class.{Class}
 use Rattle.rr_key.specs.Class.{is_special}
 use Rattle.rr_key.specs.Unit.{name_len}
 use Rattle.rr_line.specs.declared.fault.LineFault.{LineFault}
-use Rattle.rr_line.specs.Part.{IsName, HasNoName, cut_behind, before_last}
+use Rattle.rr_line.specs.Part.{IsName, HasNoName, cut_after, before_last}
 use Rattle.rr_line.specs.Reading.{name_at}
 use Rattle.rr_line.proofs.UnitLemmas.{scanned, is_name_scanned, no_name_scanned, nothing_scanned}
 use Rattle.rr_line.proofs.AgreeLemmas.{Agrees, Agrees-as, Agrees-unless, Agrees-ok}
 
--- the cut of a text behind a front of this length
-pub cut_is : (len : ℕ) (text front rest : List ℕ) → len ≡ length front → text ≡ front ++ rest → cut_behind len text ≡ (front, rest)
+-- the cut of a text after a front of this length
+pub cut_is : (len : ℕ) (text front rest : List ℕ) → len ≡ length front → text ≡ front ++ rest → cut_after len text ≡ (front, rest)
 cut_is len text front rest e whole = rw (e, whole, take-append_seam front rest, drop-append_seam front rest) refl
 
 pub first_is : {A B : Type 0} (x y : A × B) → x ≡ y → (x.0 ≡ y.0) × (x.1 ≡ y.1)
@@ -48,7 +48,7 @@ pub not_zero : (n m : ℕ) → n ≡ m → 0 < m → eqb n 0 ≡ false
 not_zero zero m e lt = absurd (omega arith)
 not_zero (suc n) m e lt = eqb-suc-zero n
 
-name_to : (class : Class) (text : List ℕ) (p : List ℕ × List ℕ) → (eqb (name_len class text) 0 ≡ false) × (cut_behind (name_len class text) text ≡ p) → IsName class text p.0 p.1
+name_to : (class : Class) (text : List ℕ) (p : List ℕ × List ℕ) → (eqb (name_len class text) 0 ≡ false) × (cut_after (name_len class text) text ≡ p) → IsName class text p.0 p.1
 name_to class text p h =
     let n = name_len class text in
     let front : take n text ≡ p.0 = ap (λ (q : List ℕ × List ℕ). q.0) h.1 in
@@ -56,7 +56,7 @@ name_to class text p h =
     let len : length p.0 ≡ n = ap length (sym front) ∙ length-take-le n text (name_len_within class text) in
     is_name_scanned class text p.0 p.1 (omega (arith, len, above_zero n h.0)) (sym len) (sym (take-append-drop n text) ∙ rw (front, back) refl)
 
-name_from : (class : Class) (text : List ℕ) (p : List ℕ × List ℕ) → IsName class text p.0 p.1 → (eqb (name_len class text) 0 ≡ false) × (cut_behind (name_len class text) text ≡ p)
+name_from : (class : Class) (text : List ℕ) (p : List ℕ × List ℕ) → IsName class text p.0 p.1 → (eqb (name_len class text) 0 ≡ false) × (cut_after (name_len class text) text ≡ p)
 name_from class text (front, rest) h =
     let len = scanned class text front rest h in
     (not_zero _ _ len h.some, cut_is (name_len class text) text front rest len h.whole)
@@ -67,7 +67,7 @@ name_agrees class missing text =
     Agrees-as (name_at class missing text) _ _ _ _ (name_to class text) (name_from class text)
     (λ fault h. elim h [ inl is ↦ (no_name_scanned class text (eqb-true n 0 is.0), is.1) | inr is ↦ absurd is.1 ])
     (λ fault h. inl (eq-eqb n 0 (nothing_scanned class text h.0), h.1))
-    (Agrees-unless missing (eqb n 0) (Ok (cut_behind n text)) (λ p. cut_behind n text ≡ p) (λ fault. ⊥) (λ e. Agrees-ok (cut_behind n text)))
+    (Agrees-unless missing (eqb n 0) (Ok (cut_after n text)) (λ p. cut_after n text ≡ p) (λ fault. ⊥) (λ e. Agrees-ok (cut_after n text)))
 
 -- a byte at the front
 pub strip_some : (byte : ℕ) (text rest : List ℕ) → strip byte text ≡ Some rest → text ≡ byte ∷ rest
@@ -96,7 +96,7 @@ strip_lacks byte (first ∷ text) e = rw e refl
 pub begins_there : (byte : ℕ) (rest : List ℕ) → begins byte (byte ∷ rest) ≡ true
 begins_there byte rest = eq-eqb byte byte refl
 
--- what `memchr` finds is where the first byte that passes stands, or the end
+-- what `memchr` finds is the place of the first byte that passes, or the end
 pub found_first : (test : ℕ → Bool) (text : List ℕ) (at : ℕ) → IsFirstByte test text (Some at) → at ≡ position_or_len test text
 found_first test text at h =
     sym (position_or_len_is test text at 0 (let within = h.0.high in omega arith) (λ k lt. false_from_ne_true _ (h.0.before k (omega arith) lt)) (λ lt. h.1))

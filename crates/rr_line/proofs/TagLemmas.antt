@@ -20,7 +20,7 @@ use Rattle.rr_line.proofs.PartLemmas.{name_agrees, first_is, strip_some, strip_t
 abbrev pub NoTag : List ℕ → LineFault → Type 0
 NoTag text fault = (HasNoName Other text × (fault ≡ MissingTagKey)) ⊎ (HasNoTagValue text × (fault ≡ MissingTagValue))
 
--- the steps of a tag, behind its key and behind its equals
+-- the steps of a tag, after its key and after its equals
 abbrev value_step : List ℕ → List ℕ → Result (Tag × List ℕ) LineFault
 value_step key value_text =
     name_at Other MissingTagValue value_text >>= λ value.
@@ -98,14 +98,14 @@ abbrev pub HasBadTag : List Tag → List ℕ → LineFault → Type 0
 HasBadTag before text fault =
     (more : List Tag) × (tag_text : List ℕ) × AreTags before text more (COMMA ∷ tag_text) × TagFault (before ++ more) tag_text fault
 
--- a text of commas has one behind the first
+-- a text of commas has one after the first
 pub comma_is : (text one two : List ℕ) → text ≡ COMMA ∷ one → text ≡ COMMA ∷ two → two ≡ one
 comma_is text one two e f = ap (drop 1) (sym f ∙ e)
 
 pub no_comma : (text rest : List ℕ) → text ≡ COMMA ∷ rest → begins COMMA text ≡ false → ⊥
 no_comma text rest e none = false≢true (sym none ∙ ap (begins COMMA) e ∙ begins_there COMMA rest)
 
--- where no comma stands next
+-- where no comma follows
 no_more : (before : List Tag) (text : List ℕ) → strip COMMA text ≡ None → Agrees {A = List Tag × List ℕ} (Ok (before, text)) (HasTags before text) (HasBadTag before text)
 no_more before text e =
     let none = strip_none COMMA text e in

@@ -11,11 +11,12 @@ use Rattle.rr_base.specs.declared.bytes.TheConstants.{SPACE}
 use Rattle.rr_line.specs.declared.fault.LineFault.{LineFault}
 use Rattle.rr_line.specs.declared.fault.LineFault.TheVariants.{BadTime, TimeRange}
 use Rattle.rr_line.specs.declared.precision.Precision.{Precision}
-use Rattle.rr_line.specs.Part.{skip_spaces, cut_behind}
+use Rattle.rr_line.specs.Part.{skip_spaces, cut_after}
 use Rattle.rr_line.specs.Reading.{time_at, word_time, ending_at}
-use Rattle.rr_line.specs.Time.{nanoseconds, word_len, IsWord, IsEnding, EndingFault, bad_time, out_of_range}
+use Rattle.rr_line.specs.Time.{nanoseconds, ends_word, word_len, IsWord, IsEnding, EndingFault, bad_time, out_of_range}
 use Rattle.rr_line.proofs.AgreeLemmas.{Agrees, Agrees-as, Agrees-bind, Agrees-unless, Agrees-ok, just_read}
 use Rattle.rr_line.proofs.PartLemmas.{first_is, cut_is}
+use Rattle.rr_line.proofs.ScanLemmas.{part_scanned, plain_scanned, ended_scanned}
 
 pub none_left : (text : List ℕ) → eqb (length text) 0 ≡ true → text ≡ []
 none_left text e = nil_from_length text (eqb-true (length text) 0 e)
@@ -26,7 +27,7 @@ some_left text e = let other = eqb-false (length text) 0 e in omega arith
 word_len_within : (text : List ℕ) → word_len text ≤ length text
 word_len_within text = prefix_len-le-length _ text
 
--- behind skipped spaces stands no space
+-- no space follows skipped spaces
 first_stays : (text : List ℕ) (byte : ℕ) (rest : List ℕ) → skip_spaces text ≡ byte ∷ rest → eqb byte SPACE ≡ false
 first_stays [] byte rest e = absurd cc
 first_stays (first ∷ text) byte rest e =
@@ -46,12 +47,13 @@ word_cut text some =
     let len = length-take-le (word_len left) left (word_len_within left) in
     record {
       some = omega (arith, len, word_is_some text left refl some);
-      len = sym len;
+      plain = plain_scanned ends_word left;
+      ended = ended_scanned ends_word left;
       whole = sym (take-append-drop (word_len left) left);
     }
 
-word_is : (text word rest : List ℕ) → IsWord text word rest → cut_behind (word_len (skip_spaces text)) (skip_spaces text) ≡ (word, rest)
-word_is text word rest h = cut_is (word_len (skip_spaces text)) (skip_spaces text) word rest h.len h.whole
+word_is : (text word rest : List ℕ) → IsWord text word rest → cut_after (word_len (skip_spaces text)) (skip_spaces text) ≡ (word, rest)
+word_is text word rest h = cut_is (word_len (skip_spaces text)) (skip_spaces text) word rest (ap word_len h.whole ∙ part_scanned ends_word word rest h.plain h.ended) h.whole
 
 no_word : (text word rest : List ℕ) → skip_spaces text ≡ [] → IsWord text word rest → ⊥
 no_word text [] rest e h = absurd (let some = h.some in omega arith)

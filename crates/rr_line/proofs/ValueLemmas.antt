@@ -1,41 +1,15 @@
--- Values, found by the scan and of the grammar: where one that is not quoted ends, and the units of a quoted text.
-use Rattle.std.proofs.Common.{◌≡◌, ℕ, suc, ◌+◌, true, false, eqb, ◌&&◌, List, [], ◌∷◌, ◌++◌, length, take, drop, Option, Some, None, refl, sym, ap, subst, ◌∙◌, inl, inr, arith}
-use Rattle.std.proofs.lemmas.Bool.{cases_Bool, and_parts, or_parts, eqb-true, eq-eqb}
-use Rattle.std.specs.List.{flat_map, list_any}
+-- Quoted texts, found by the scan and of the grammar.
+use Rattle.std.proofs.Common.{◌≡◌, ℕ, true, false, eqb, ◌&&◌, List, [], ◌∷◌, ◌++◌, drop, Option, Some, None, refl, sym, ap, subst, ◌∙◌, inl, inr}
+use Rattle.std.proofs.lemmas.Bool.{cases_Bool, and_parts, eqb-true, eq-eqb}
+use Rattle.std.specs.List.{flat_map}
 use Rattle.rr_base.specs.Bytes.{begins}
 use Rattle.rr_base.specs.declared.bytes.TheConstants.{BACKSLASH}
 use Rattle.rr_line.specs.declared.mark.TheConstants.{QUOTE}
+use Rattle.rr_line.proofs.ScanLemmas.{part_scanned, ended_scanned}
 use Rattle.rr_line.specs.Value.{ends_value, value_len, EndsValue, TextUnit, itself, taken, unit_text, is_taken, begins_taken, AreUnits, IsQuoted, after_quote, is_text}
 
--- the scan of a value ends where the value does
-pub value_scanned : (value rest : List ℕ) → list_any ends_value value ≡ false → EndsValue rest → value_len (value ++ rest) ≡ length value
-value_scanned [] [] plain ended = refl
-value_scanned [] (byte ∷ rest) plain ended = rw ended refl
-value_scanned (byte ∷ value) rest plain ended =
-    let parts = or_parts (ends_value byte) (list_any ends_value value) plain in
-    rw (parts.0, value_scanned value rest parts.1 ended) (omega arith)
-
--- what it passed is a value
-pub plain_scanned : (text : List ℕ) → list_any ends_value (take (value_len text) text) ≡ false
-plain_scanned [] = refl
-plain_scanned (byte ∷ text) =
-    let n : 1 + value_len text ≡ suc (value_len text) = omega arith in
-    elim (cases_Bool (ends_value byte)) [
-      | inl ends ↦ rw ends refl
-      | inr plain ↦ rw (plain, n, plain) (plain_scanned text)
-    ]
-
-pub ended_scanned : (text : List ℕ) → EndsValue (drop (value_len text) text)
-ended_scanned [] = tt
-ended_scanned (byte ∷ text) =
-    let n : 1 + value_len text ≡ suc (value_len text) = omega arith in
-    elim (cases_Bool (ends_value byte)) [
-      | inl ends ↦ rw (ends, ends) refl
-      | inr plain ↦ rw (plain, n) (ended_scanned text)
-    ]
-
 ends_scanned : (rest : List ℕ) → eqb (value_len rest) 0 ≡ true → EndsValue rest
-ends_scanned rest e = subst (λ (n : ℕ). EndsValue (drop n rest)) (eqb-true (value_len rest) 0 e) (ended_scanned rest)
+ends_scanned rest e = subst (λ (n : ℕ). EndsValue (drop n rest)) (eqb-true (value_len rest) 0 e) (ended_scanned ends_value rest)
 
 -- the bytes after the quote that begins a text are units, the quote that ends it, and a rest
 abbrev IsInner : List ℕ → List ℕ → Type 0
@@ -92,7 +66,7 @@ units_scanned (itself byte ∷ units) rest are = one_more byte (flat_map unit_te
 pub is_text_of : (text rest : List ℕ) → IsQuoted text rest → EndsValue rest → is_text text ≡ true
 is_text_of text rest h ended =
     let found : after_quote (drop 1 text) ≡ Some rest = ap (λ (t : List ℕ). after_quote (drop 1 t)) h.whole ∙ units_scanned h.units rest h.are_units in
-    let len : eqb (value_len rest) 0 ≡ true = eq-eqb (value_len rest) 0 (value_scanned [] rest refl ended) in
+    let len : eqb (value_len rest) 0 ≡ true = eq-eqb (value_len rest) 0 (part_scanned ends_value [] rest refl ended) in
     rw (found, len) refl
 
 pub text_of : (text : List ℕ) → begins QUOTE text ≡ true → is_text text ≡ true → (rest : List ℕ) × IsQuoted text rest × EndsValue rest

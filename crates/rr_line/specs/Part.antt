@@ -1,5 +1,5 @@
 -- The parts of a line, and where each of them ends.
-use Rattle.std.specs.Prelude.{◌≡◌, ℕ, ◌<◌, true, ◌==◌, List, [], ◌∷◌, ◌++◌, length, take, drop, Option, None, Some, option_map, unwrap_or, if◌then◌else◌}
+use Rattle.std.specs.Prelude.{◌≡◌, ℕ, ◌<◌, Bool, true, ◌==◌, List, [], ◌∷◌, ◌++◌, length, take, drop, Option, None, Some, option_map, unwrap_or, if◌then◌else◌}
 use Rattle.rr_key.specs.declared.class.Class.{Class}
 use Rattle.rr_key.specs.Class.{is_special}
 use Rattle.rr_key.specs.Name.{MayFollow}
@@ -22,8 +22,13 @@ abbrev pub content : List ℕ → List ℕ
 content line = skip_spaces (unwrap_or (before_last RETURN line) line)
 
 -- the front of this length, and what follows it
-abbrev pub cut_behind : ℕ → List ℕ → List ℕ × List ℕ
-cut_behind len text = (take len text, drop len text)
+abbrev pub cut_after : ℕ → List ℕ → List ℕ × List ℕ
+cut_after len text = (take len text, drop len text)
+
+-- nothing follows a part, or a byte that ends it
+abbrev pub Ends : (ℕ → Bool) → List ℕ → Type 0
+Ends test [] = Unit {0}
+Ends test (byte ∷ rest) = test byte ≡ true
 
 -- text = name rest; the name is one unit or more, each of which writes a byte: a special byte with a backslash before
 -- it, any other byte as itself. What follows is nothing, or a special byte that the name does not take.
@@ -36,5 +41,4 @@ pub record IsName (class : Class) (text name rest : List ℕ) : Type 0 where
 
 -- no name is at the front: the text is empty, or begins with a special byte
 abbrev pub HasNoName : Class → List ℕ → Type 0
-HasNoName class [] = Unit {0}
-HasNoName class (byte ∷ rest) = is_special class byte ≡ true
+HasNoName class text = Ends (is_special class) text

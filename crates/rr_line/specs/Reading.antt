@@ -16,7 +16,7 @@ use Rattle.rr_line.specs.Field.{Field}
 use Rattle.rr_line.specs.Grammar.{is_nothing}
 use Rattle.rr_line.specs.Key.{has_long_key}
 use Rattle.rr_line.specs.Line.{PointView, LineView, nothing, point}
-use Rattle.rr_line.specs.Part.{skip_spaces, content, cut_behind}
+use Rattle.rr_line.specs.Part.{skip_spaces, content, cut_after}
 use Rattle.rr_line.specs.Tag.{Tag, has_key}
 use Rattle.rr_line.specs.Time.{word_len, nanoseconds}
 use Rattle.rr_line.specs.Value.{value_of, value_len, quoted_fault}
@@ -24,7 +24,7 @@ use Rattle.rr_line.specs.Value.{value_of, value_len, quoted_fault}
 -- the name at the front, and what follows it
 abbrev pub name_at : Class → LineFault → List ℕ → Result (List ℕ × List ℕ) LineFault
 name_at class missing text =
-    unless missing (name_len class text == 0) (Ok (cut_behind (name_len class text) text))
+    unless missing (name_len class text == 0) (Ok (cut_after (name_len class text) text))
 
 -- a tag, and what follows it
 unfoldable pub tag_at : List ℕ → Result (Tag × List ℕ) LineFault

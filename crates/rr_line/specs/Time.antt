@@ -1,6 +1,6 @@
 -- The time of a line, and its end.
-use Rattle.std.specs.Prelude.{◌≡◌, ℕ, ◌<◌, ℤ, pos, ◌*ℤ◌, ◌==◌, true, false, List, [], ◌++◌, length, Option, None, Some, ◌⊎◌}
-use Rattle.std.specs.List.{position_or_len}
+use Rattle.std.specs.Prelude.{◌≡◌, ℕ, ◌<◌, ℤ, pos, ◌*ℤ◌, ◌==◌, Bool, true, false, List, [], ◌++◌, length, Option, None, Some, ◌⊎◌}
+use Rattle.std.specs.List.{list_any, position_or_len}
 use Rattle.std.specs.Str.Parse.{signed_digits_value}
 use Rattle.rr_base.specs.Text.{is_digits, unsigned, fits_i64}
 use Rattle.rr_base.specs.declared.bytes.TheConstants.{SPACE}
@@ -8,7 +8,7 @@ use Rattle.rr_line.specs.declared.fault.LineFault.{LineFault}
 use Rattle.rr_line.specs.declared.fault.LineFault.TheVariants.{BadTime, TimeRange}
 use Rattle.rr_line.specs.declared.precision.Precision.{Precision}
 use Rattle.rr_line.specs.declared.precision.Precision.TheVariants.{Ns, Us, Ms, S}
-use Rattle.rr_line.specs.Part.{skip_spaces}
+use Rattle.rr_line.specs.Part.{skip_spaces, Ends}
 
 -- the nanoseconds of the unit of a time
 abbrev pub unit : Precision → ℕ
@@ -21,14 +21,19 @@ unit S = 1_000_000_000
 abbrev pub nanoseconds : Precision → List ℕ → ℤ
 nanoseconds precision digits = signed_digits_value 10 digits *ℤ pos (unit precision)
 
+-- whether a byte ends a word
+abbrev pub ends_word : ℕ → Bool
+ends_word byte = byte == SPACE
+
 -- how many bytes precede the first space, or how many there are
 abbrev pub word_len : List ℕ → ℕ
-word_len text = position_or_len (λ byte. byte == SPACE) text
+word_len text = position_or_len ends_word text
 
--- text = spaces word rest; the word has a byte or more, and ends before a space or the end
+-- text = spaces word rest; the word has a byte or more and no space, and a space or nothing follows it
 pub record IsWord (text word rest : List ℕ) : Type 0 where
   pub some : 0 < length word
-  pub len : word_len (skip_spaces text) ≡ length word
+  pub plain : list_any ends_word word ≡ false
+  pub ended : Ends ends_word rest
   pub whole : skip_spaces text ≡ word ++ rest
 
 -- a word of digits after an optional "-", and nothing but spaces after it

@@ -9,7 +9,7 @@ use Rattle.rr_base.specs.declared.bytes.TheConstants.{COMMA, SPACE, BACKSLASH, M
 use Rattle.rr_line.specs.declared.mark.TheConstants.{QUOTE, INTEGER_MARK, UNSIGNED_MARK, POINT, EXPONENT_MARK, GREAT_EXPONENT_MARK, PLUS}
 use Rattle.rr_line.specs.declared.fault.LineFault.{LineFault}
 use Rattle.rr_line.specs.declared.fault.LineFault.TheVariants.{MissingFieldValue, BooleanField, IntegerRange, UnsignedField, FloatField, TextField, BadField}
-use Rattle.rr_line.specs.Part.{before_last}
+use Rattle.rr_line.specs.Part.{before_last, Ends}
 
 -- the words for true, and those for false
 abbrev pub trues : List (List ℕ)
@@ -111,8 +111,7 @@ quoted_fault text = if is_text text then TextField else BadField
 
 -- nothing follows a value, or a comma or a space
 abbrev pub EndsValue : List ℕ → Type 0
-EndsValue [] = Unit {0}
-EndsValue (byte ∷ rest) = ends_value byte ≡ true
+EndsValue rest = Ends ends_value rest
 
 -- text = value rest; the value is not quoted, and has no comma and no space
 pub record IsBare (text value rest : List ℕ) : Type 0 where

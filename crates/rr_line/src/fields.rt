@@ -22,7 +22,8 @@ pub(crate) fn read_fields<'a>(
     alloc: Global,
     text: &'a [u8],
 ) -> Result<(Vec<(&'a [u8], i64)>, &'a [u8]), LineFault>
-    ensures { GivesUnless LineFault.Memory (λ fields. (fields_view fields.0.items, fields.1.now)) result (all_fields_at text.now) }
+    ensures { GivesUnless LineFault.Memory (λ fields.
+        (fields_view fields.0.items, fields.1.now)) result (all_fields_at text.now) }
 {
     let (fields, rest) = gather_fields(alloc, text)?;
     if has_repeat(&fields) {
@@ -37,7 +38,8 @@ fn gather_fields<'a>(
     alloc: Global,
     text: &'a [u8],
 ) -> Result<(Vec<(&'a [u8], i64)>, Result<&'a [u8], LineFault>), AllocError>
-    ensures gathered { IfOk result (λ fields. (fields_view fields.0.items, rest_view fields.1) ≡ all_gathered_fields text.now) }
+    ensures gathered { IfOk result (λ fields. (fields_view fields.0.items, rest_view fields.1)
+        ≡ all_gathered_fields text.now) }
     ensures fields_fit { IfOk result (λ fields. length fields.0.items ≤ MAX_FIELDS) }
 {
     let mut fields = Vec::new(alloc);
@@ -61,7 +63,8 @@ fn gather_fields<'a>(
 /// A field, and what follows it.
 #[tactic(auto, unfolding(crate::specs::Reading::field_at))]
 fn read_field(text: &[u8]) -> Result<((&[u8], i64), &[u8]), LineFault>
-    ensures { Gives (λ field. ((field.0.0.now, field.0.1), field.1.now)) result (field_at text.now) }
+    ensures { Gives (λ field. ((field.0.0.now, field.0.1), field.1.now)) result (field_at
+        text.now) }
 {
     let (key, rest) = read_name(Class::Other, LineFault::MissingFieldKey, text)?;
     let value = strip(EQUALS, rest).ok_or(LineFault::MissingFieldValue)?;

@@ -51,7 +51,8 @@ pub fn parse_line<'a>(
 
     // Memory is taken only for a line that says something and begins with a measurement.
     ensures nothing { is_nothing (content line.now) ≡ true → IsOk result }
-    ensures memory { NeedsMemoryAfter LineFault.Memory (name_at Measurement NoMeasurement (content line.now)) result }
+    ensures memory { NeedsMemoryAfter LineFault.Memory
+        (name_at Measurement NoMeasurement (content line.now)) result }
 
     // Each field of a point has a key.
     ensures keyed { IfOk result (λ said. LineHasKeys (line_view said)) }
@@ -84,7 +85,8 @@ fn read_point<'a>(
     requires one_line { HasNoLineFeed text.now }
     requires said { is_nothing text.now ≡ false }
     ensures read { GivesUnless LineFault.Memory point_view result (point_at precision text.now) }
-    ensures memory { NeedsMemoryAfter LineFault.Memory (name_at Measurement NoMeasurement text.now) result }
+    ensures memory { NeedsMemoryAfter LineFault.Memory
+        (name_at Measurement NoMeasurement text.now) result }
 {
     let (measurement, rest) = read_name(Class::Measurement, LineFault::NoMeasurement, text)?;
     let (tags, gap) = read_tags(alloc, rest)?;
@@ -117,7 +119,9 @@ fn skip_gap(gap: &[u8]) -> Result<&[u8], LineFault>
 /// Whether a key text is too long: it is as long as what precedes the fields in the line, a space
 /// and the field's key.
 fn has_long_key(front: &[u8], fields: &[(&[u8], i64)]) -> bool
-    ensures { result ≡ list_any (λ field. nat_lt MAX_KEY_TEXT (length front.now + 1 + length field.0)) (fields_view fields.now) }
+    ensures { result ≡ list_any
+        (λ field. nat_lt MAX_KEY_TEXT (length front.now + 1 + length field.0))
+        (fields_view fields.now) }
 {
     for field in fields {
         if front.len() + 1 + field.0.len() > MAX_KEY_TEXT {

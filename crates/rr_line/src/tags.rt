@@ -20,7 +20,8 @@ pub(crate) fn read_tags<'a>(
     alloc: Global,
     text: &'a [u8],
 ) -> Result<(Vec<(&'a [u8], &'a [u8])>, &'a [u8]), LineFault>
-    ensures { GivesUnless LineFault.Memory (λ tags. (tags_of tags.0.items, tags.1.now)) result (all_tags_at text.now) }
+    ensures { GivesUnless LineFault.Memory (λ tags. (tags_of tags.0.items, tags.1.now))
+        result (all_tags_at text.now) }
 {
     let (tags, rest) = gather_tags(alloc, text)?;
     if has_repeat(&tags) {
@@ -35,7 +36,8 @@ fn gather_tags<'a>(
     alloc: Global,
     text: &'a [u8],
 ) -> Result<(Vec<(&'a [u8], &'a [u8])>, Result<&'a [u8], LineFault>), AllocError>
-    ensures gathered { IfOk result (λ tags. (tags_of tags.0.items, rest_view tags.1) ≡ all_gathered_tags text.now) }
+    ensures gathered { IfOk result (λ tags. (tags_of tags.0.items, rest_view tags.1)
+        ≡ all_gathered_tags text.now) }
     ensures tags_fit { IfOk result (λ tags. length tags.0.items ≤ MAX_TAGS) }
 {
     let mut tags = Vec::new(alloc);

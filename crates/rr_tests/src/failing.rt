@@ -87,29 +87,17 @@ impl Read for Pieces<'_> {
     }
 }
 
-/// A writer that holds back what it takes until it is flushed, and has room for some bytes.
+/// A writer that holds back what it takes until it is flushed, and then passes it on.
 #[derive(Drop)]
 pub(crate) struct Holding<'a> {
-    held: Vec<u8>,
-    passed: &'a mut Vec<u8>,
-    room: usize,
-}
-
-/// A counted writer with room for `room` bytes, which passes them on when it is flushed.
-pub(crate) fn holding_back(
-    passed: &mut Vec<u8>,
-    held: Vec<u8>,
-    room: usize,
-) -> Counted<Holding<'_>> {
-    Counted::new(Holding { held, passed, room })
+    pub(crate) held: Vec<u8>,
+    pub(crate) passed: &'a mut Vec<u8>,
 }
 
 impl Write for Holding<'_> {
     fn write(&mut self, buf: &[u8]) -> io::Result<usize> {
-        let taken = buf.len().min(self.room);
-        self.held.extend_from_slice(&buf[..taken])?;
-        self.room -= taken;
-        Ok(taken)
+        self.held.extend_from_slice(buf)?;
+        Ok(buf.len())
     }
 
     fn flush(&mut self) -> io::Result<()> {

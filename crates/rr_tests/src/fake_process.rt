@@ -6,7 +6,7 @@ use std::env::{Env, FillError};
 use std::fmt::Display;
 use std::fs::{Metadata, OpenOptions};
 use std::io;
-use std::io::{ErrorKind, Lines};
+use std::io::{BufRead, ErrorKind, Lines};
 use std::rt::Files;
 
 /// A process with these words, the program's name first, and this standard input. Its files are the

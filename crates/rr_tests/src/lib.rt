@@ -32,6 +32,8 @@ mod reports;
 #[cfg(test)]
 mod schemas;
 #[cfg(test)]
+mod scripts;
+#[cfg(test)]
 mod streams;
 #[cfg(test)]
 mod words;

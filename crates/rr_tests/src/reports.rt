@@ -1,9 +1,11 @@
 //! Lines checked from a stream to another: however they are cut, and where a stream fails.
 
-use crate::failing::{failing_after, in_pieces};
+use crate::failing::{Holding, failing_after, in_pieces};
 use rr_base::Counted;
 use rr_line::Precision;
-use rr_report::{ToolFault, check_lines};
+use rr_orders::obey_order;
+use rr_report::{ToolFault, check_lines, check_lines_within};
+use rr_words::Order;
 use std::alloc::Global;
 use std::test::Fail;
 
@@ -43,15 +45,13 @@ fn report_of_spaces(alloc: Global, spaces: usize) -> Result<(Vec<u8>, u64), Fail
 #[test]
 fn a_line_of_65537_bytes_is_too_long(rt: HostRuntime) -> Result<(), Fail> {
     let (longest, none) = report_of_spaces(rt.alloc(), 65_530)?;
-    assert_eq!(rt;
-        (longest.as_slice(), none),
-        (b"m v,1,0\nm v,2,6\n".as_slice(), 0)
-    );
+    assert_eq!(rt; longest.as_slice(), b"m v,1,0\nm v,2,6\n".as_slice());
     let (longer, one) = report_of_spaces(rt.alloc(), 65_531)?;
     assert_eq!(rt;
-        (longer.as_slice(), one),
-        (b"line 1: LineTooLong\nm v,2,6\n".as_slice(), 1)
+        longer.as_slice(),
+        b"line 1: LineTooLong\nm v,2,6\n".as_slice()
     );
+    assert_eq!(rt; (none, one), (0, 1));
     Ok(())
 }
 
@@ -75,4 +75,42 @@ fn a_failed_write_leaves_a_front(rt: HostRuntime) {
     let done = check_lines(rt.alloc(), &mut input, &mut output, Precision::Ns, 0);
     assert_eq!(rt; (done, output.failures()), (Err(ToolFault::WriteFailed), 1));
     assert_eq!(rt; room.as_slice(), &REPORT[..40]);
+}
+
+#[test]
+fn the_end_of_the_input_takes_a_read(rt: HostRuntime) {
+    for (reads, want) in [(7, Err(ToolFault::TooManyReads)), (8, Ok(0))] {
+        let mut report = Vec::new(rt.alloc());
+        let mut output = Counted::new(&mut report);
+        let mut input = in_pieces(b"m v=1i\n", 1);
+        let done = check_lines_within(rt.alloc(), &mut input, &mut output, Precision::Ns, 0, reads);
+        assert_eq!(rt; (done, input.reads()), (want, u64::from(reads)));
+    }
+}
+
+/// What a writer has passed on once an order is obeyed.
+fn passed_on(alloc: Global, order: &Order, input: &[u8]) -> Result<Vec<u8>, Fail> {
+    let mut passed = Vec::new(alloc);
+    let mut output = Counted::new(Holding {
+        held: Vec::new(alloc),
+        passed: &mut passed,
+    });
+    let done = obey_order(alloc, order, &mut in_pieces(input, 100), &mut output);
+    drop(output);
+    done?;
+    Ok(passed)
+}
+
+#[test]
+fn what_the_writer_holds_back_is_passed_on(rt: HostRuntime) -> Result<(), Fail> {
+    let sim = Order::Sim { file: None };
+    let output = passed_on(rt.alloc(), &sim, b"frob")?;
+    assert_eq!(rt; output.as_slice(), b"line 1: BadCommand\n".as_slice());
+    let check_lines = Order::CheckLines {
+        precision: Precision::Ns,
+        now: 0,
+    };
+    let report = passed_on(rt.alloc(), &check_lines, b"m v=1i")?;
+    assert_eq!(rt; report.as_slice(), b"m v,1,0\n".as_slice());
+    Ok(())
 }

@@ -1,4 +1,4 @@
--- The command line of the program, as clap is told of it.
+-- The command line of the program, by the rules that clap has for it.
 use Rattle.std.specs.Prelude.{[], Some, true, codes}
 use Rattle.clap.specs.Words.{App, Rule, new_app, new_rule, with_rule, with_subcommand}
 

@@ -1,4 +1,4 @@
-//! The program's command line, as `clap` is told of it.
+//! The program's command line, built with `clap`.
 
 ghost use Rattle.std.specs.Prelude.{◌≡◌, false, IfOk};
 ghost use Rattle.clap.specs.Words.{app_of, rule_of};

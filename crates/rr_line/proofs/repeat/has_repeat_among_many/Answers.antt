@@ -1,4 +1,4 @@
--- Each entry's key is stored behind those before it.
+-- Each entry's key is stored after those before it.
 use Rattle.std.proofs.Common.{◌∙◌, arith}
 use Rattle.std.proofs.lemmas.List.{length-set}
 use Rattle.rr_line.proofs.SortedLemmas.{one_key_more}

@@ -2,7 +2,7 @@ use Rattle.std.proofs.Common.{◌≡◌, length, map, take}
 use Rattle.rr_base.specs.declared.limits.TheConstants.{MAX_FIELDS}
 use Rattle.rr_line.proofs.repeat.has_repeat_among_many.Given as goal
 
--- the keys so far stand in front
+-- the keys so far are in front
 abbrev pub invariant-loop-entry : goal.invariant-loop-entry
 invariant-loop-entry g l = record {
   long : length l.keys ≡ MAX_FIELDS;

@@ -1,4 +1,4 @@
--- What is read is what was gathered, unless a key stands twice.
+-- What is read is what was gathered, unless a key occurs twice.
 use Rattle.std.proofs.Common.{inr}
 use Rattle.std.proofs.lemmas.Result.{err_from_is_err_and}
 use Rattle.rr_line.proofs.GatheredLemmas.{tags_repeat, tags_refused, tags_good}

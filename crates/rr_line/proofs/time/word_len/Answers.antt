@@ -1,4 +1,4 @@
--- What `memchr` finds is where the first delimiter stands.
+-- What `memchr` finds is where the first delimiter is.
 use Rattle.std.proofs.Common.{eqb}
 use Rattle.rr_base.specs.declared.bytes.TheConstants.{SPACE}
 use Rattle.rr_line.proofs.PartLemmas.{found_first, found_none}

@@ -1,4 +1,4 @@
--- What `memchr` finds is where the first delimiter stands.
+-- What `memchr` finds is where the first delimiter is.
 use Rattle.memchr.specs.Find.{is_byte2}
 use Rattle.rr_line.specs.declared.mark.TheConstants.{EXPONENT_MARK, GREAT_EXPONENT_MARK}
 use Rattle.rr_line.proofs.PartLemmas.{found_first, found_none}

@@ -14,7 +14,7 @@ returns-in-Ok-table_from_str-clause-read c =
     let text = c.in-Ok.ensures.cases in
     let good : is_utf8 c.args.text.now ≡ true = is_utf8-from_IsUtf8 _ text.1 in
     let parsed = rw text.0 at c.in-Ok-table_from_str.ensures.ok in
-    rw (good, parsed) c.from_table.ensures
+    rw (good, parsed) c.from_table.ensures.read
 
 pub returns-then-is_memory-clause-foreign : goal.returns-then-is_memory-clause-foreign
 returns-then-is_memory-clause-foreign c = λ bad.
