@@ -1,5 +1,6 @@
 //! The ordered map of rows of one archive.
 
+use crate::contributions::TWO_SAMPLES;
 use rr_archive::{Archive, PlainArchive};
 use rr_base::Origin;
 use rr_contrib::Contribution;
@@ -38,21 +39,11 @@ fn two_samples<A: Archive>(alloc: Global, origin: Origin) -> Result<A, AllocErro
 #[test]
 fn samples_are_put(rt: HostRuntime) -> Result<(), Fail> {
     let archive: PlainArchive = two_samples(rt.alloc(), Origin::new(1)?)?;
-    let want = Contribution {
-        version: 2,
-        count: 2,
-        sum: -7,
-        min: -4,
-        max: -3,
-        last_time: 1,
-        last_value: -4,
-        mask: 1,
-    };
     let row = archive.row(0);
     assert!(rt; row.len() == 1);
     assert_eq!(rt;
         (row[0].contribution, extent(&archive)),
-        (want, (Some(0), 1))
+        (TWO_SAMPLES, (Some(0), 1))
     );
     let cells = (cell(&archive, 0), cell(&archive, 1), archive.row(1).len());
     assert_eq!(rt; cells, (Some((0, 1, -4)), None, 0));

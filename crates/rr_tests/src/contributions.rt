@@ -7,7 +7,7 @@ use std::alloc::Global;
 use std::test::Fail;
 
 /// -3, and -4 a nanosecond later.
-const TWO_SAMPLES: Contribution = Contribution {
+pub(crate) const TWO_SAMPLES: Contribution = Contribution {
     version: 2,
     count: 2,
     sum: -7,
