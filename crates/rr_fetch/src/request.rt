@@ -66,7 +66,12 @@ fn rows_of(schema: &Schema, archive: u8, start: i64, end: i64) -> Result<(i64, u
     requires some { start <ℤ end }
     ensures value { (key : List ℕ) (function : ConsolidationFunction)
         → Gives (λ rows. record {
-            key = key; function = function; archive = archive; first = rows.0; rows = rows.1 })
+          key = key;
+          function = function;
+          archive = archive;
+          first = rows.0;
+          rows = rows.1;
+        })
         result (few_rows (rows_between schema.now key function archive start end)) }
     ensures near { IfOk result (λ rows. (key : List ℕ) (function : ConsolidationFunction)
         → IsFetchable schema.now
