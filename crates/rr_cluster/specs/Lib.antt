@@ -1,10 +1,13 @@
+pub mod Words
+pub mod Command
 pub mod Script
 pub mod Fault
-pub mod Words
 pub mod Checks
+pub mod Model
 pub mod State
 pub mod Commands
 pub mod Output
 pub mod Stop
 pub mod Meaning
 pub mod Soundness
+pub mod Agreement

@@ -1,30 +1,30 @@
 -- The output of a script.
-use Rattle.std.specs.Prelude.{ℕ, List, [], ◌∷◌, ◌++◌, codes, decimal, Result, Ok, Err}
+use Rattle.std.specs.Prelude.{ℕ, List, [], ◌∷◌, ◌++◌, Option, None, Result, Ok, Err}
+use Rattle.rr_records.specs.Records.{refusal_text}
 use Rattle.rr_cluster.specs.declared.fault.CommandFault.{CommandFault}
-use Rattle.rr_cluster.specs.Script.{Command, commands_of}
-use Rattle.rr_cluster.specs.Fault.{command_fault_name}
-use Rattle.rr_cluster.specs.State.{State, nothing_yet}
-use Rattle.rr_cluster.specs.Checks.{◌>>=◌}
+use Rattle.rr_base.specs.Results.{◌>>=◌}
+use Rattle.rr_cluster.specs.Command.{Command}
 use Rattle.rr_cluster.specs.Commands.{step}
+use Rattle.rr_cluster.specs.Fault.{command_fault_name}
+use Rattle.rr_cluster.specs.Model.{Model}
+use Rattle.rr_cluster.specs.Script.{commands_of}
+use Rattle.rr_cluster.specs.State.{State}
 
--- line N: NAME
-abbrev pub refusal_text : ℕ → CommandFault → List ℕ
-refusal_text number fault = codes "line " ++ decimal number ++ codes ": " ++ command_fault_name fault ++ codes "\n"
-
--- a refused command prints its refusal, and changes nothing
-abbrev pub settled : State → ℕ → Result (State × List ℕ) CommandFault → State × List ℕ
+-- a refused command prints `line N: NAME`, and changes nothing
+abbrev pub settled : {K : Type 0} → Option (State K) → ℕ → Result (Option (State K) × List ℕ) CommandFault → Option (State K) × List ℕ
 settled m number (Ok done) = done
-settled m number (Err fault) = (m, refusal_text number fault)
+settled m number (Err fault) = (m, refusal_text number (command_fault_name fault))
 
--- the state after a line, and what it prints
-abbrev pub obeyed : State → ℕ → Result Command CommandFault → State × List ℕ
-obeyed m number said = settled m number (said >>= step m)
+module _ {K : Type 0} (model : Model K) where
+  -- the state after a line, and what it prints
+  abbrev pub obeyed : Option (State K) → ℕ → Result Command CommandFault → Option (State K) × List ℕ
+  obeyed m number said = settled m number (said >>= step model m)
 
--- what these lines print, one after the other
-abbrev pub output_from : State → List (ℕ × Result Command CommandFault) → List ℕ
-output_from m [] = []
-output_from m (line ∷ lines) = let done = obeyed m line.0 line.1 in done.1 ++ output_from done.0 lines
+  -- what these lines print, one after the other
+  abbrev pub output_from : Option (State K) → List (ℕ × Result Command CommandFault) → List ℕ
+  output_from m [] = []
+  output_from m (line ∷ lines) = let done = obeyed m line.0 line.1 in done.1 ++ output_from done.0 lines
 
--- what a script prints
-abbrev pub output_of : List ℕ → List ℕ
-output_of script = output_from nothing_yet (commands_of script)
+  -- what a script prints
+  abbrev pub output_of : List ℕ → List ℕ
+  output_of script = output_from None (commands_of script)

@@ -1,33 +1,26 @@
--- The sample model: what a script has made so far.
+-- What a script has made so far, in either model.
 use Rattle.std.specs.Prelude.{ℕ, ℤ, pos, List, [], Option, None}
-use Rattle.std.specs.declared.cmp.Ordering.{Ordering}
-use Rattle.std.specs.Ordering.{nat_cmp}
-use Rattle.std.specs.Cmp.Lexicographic.{slice_cmp}
 use Rattle.std.specs.FinMap.{FinMap, empty}
+use Rattle.rr_base.specs.Bytes.{bytes_cmp}
 use Rattle.rr_base.specs.Schema.{Layout}
-use Rattle.rr_model.specs.Knowledge.{Knowledge}
 use Rattle.rr_model.specs.World.{World}
 
--- a node: its origin, how many samples it wrote, and what it knows
-pub record Node : Type 0 where
+-- a node: its schema, its origin, the number of its next sample, and what it holds
+pub record Node (K : Type 0) : Type 0 where
+  pub schema : Layout
   pub origin : ℕ
-  pub written : ℕ
-  pub known : Knowledge
+  pub next : ℕ
+  pub contents : K
 
--- names by their bytes
-abbrev pub name_cmp : List ℕ → List ℕ → Ordering
-name_cmp = slice_cmp nat_cmp
-
--- the schema once it is set, the clock and the lead, the nodes by their names, the origins that were used,
--- and all that was written
-pub record State : Type 0 where
-  pub schema : Option Layout
+-- the schema, the clock and the lead, the nodes by their names, the origins that were used, and all that was written
+pub record State (K : Type 0) : Type 0 where
+  pub schema : Layout
   pub clock : ℤ
   pub lead : Option ℕ
-  pub nodes : FinMap name_cmp Node
+  pub nodes : FinMap bytes_cmp (Node K)
   pub origins : List ℕ
   pub world : World
 
--- before the first line there is nothing
-abbrev pub nothing_yet : State
-nothing_yet = record { schema = None; clock = pos 0; lead = None; nodes = empty; origins = []; world = empty }
+-- once the schema is set
+abbrev pub first_state : {K : Type 0} → Layout → State K
+first_state s = record { schema = s; clock = pos 0; lead = None; nodes = empty; origins = []; world = empty }

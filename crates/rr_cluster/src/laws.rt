@@ -1,10 +1,19 @@
 //! The laws of scripts, with no work to do: each function has an empty body.
-ghost use Rattle.rr_cluster.specs.Soundness.{CommandsKeepSound, NothingIsSound, ScriptsAreSound};
+ghost use Rattle.rr_cluster.specs.Agreement.{CommandsAgree, ScriptsAgree};
+ghost use Rattle.rr_cluster.specs.Soundness.{CommandsKeepSound, FirstStatesAreSound, ScriptsAreSound};
 
 /// In each state that a script comes to, what a node knows has no gaps, and each node knows all that
 /// was written under its origin, its next number past it.
 pub fn knowledge_has_no_gaps()
-    ensures start { NothingIsSound }
+    ensures start { FirstStatesAreSound }
     ensures commands { CommandsKeepSound }
     ensures scripts { ScriptsAreSound }
+{}
+
+/// The cell model and the sample model agree: where the nodes of one hold the cells of the samples
+/// that those of the other know, each command does the same in both and prints the same, and so
+/// does each script.
+pub fn cells_and_samples_agree()
+    ensures commands { CommandsAgree }
+    ensures scripts { ScriptsAgree }
 {}

@@ -1,6 +1,7 @@
 -- A key text is told from other bytes.
-use Rattle.std.proofs.Common.{◌≡◌, ℕ, true, false, List, Ok, Err, refl, inl, inr}
+use Rattle.std.proofs.Common.{◌≡◌, ℕ, true, false, List, Result, Ok, Err, refl, ap, sym, ◌∙◌, true≢false, inl, inr}
 use Rattle.std.proofs.lemmas.Bool.{cases_Bool}
+use Rattle.rr_key.specs.declared.fault.KeyFault.{KeyFault}
 use Rattle.rr_key.specs.Reading.{is_key_text}
 use Rattle.rr_key.specs.Series.{IsKeyText}
 use Rattle.rr_key.proofs.ToldLemmas.{key_text_told}
@@ -22,3 +23,18 @@ key_read text is = rw (told text is) refl
 
 pub bad_key : (text : List ℕ) → (IsKeyText text → ⊥) → key_of text ≡ Err BadKey
 bad_key text none = rw (told_none text none) refl
+
+-- a text that is not refused is read
+pub key_unless_bad : (text : List ℕ) → ((IsKeyText text → ⊥) → ⊥) → key_of text ≡ Ok text
+key_unless_bad text not_bad =
+    elim (cases_Bool (is_key_text text)) [
+      | inl is ↦ rw is refl
+      | inr other ↦ absurd (not_bad (λ is. true≢false (sym (told text is) ∙ other)))
+    ]
+
+pub same_fault : {A : Type 0} (fault other : KeyFault) → ◌≡◌ {A = Result A KeyFault} (Err fault) (Err other) → fault ≡ other
+same_fault {A} fault other = ap (λ (r : Result A KeyFault). of_err r)
+  where
+    of_err : Result A KeyFault → KeyFault
+    of_err (Ok x) = fault
+    of_err (Err e) = e

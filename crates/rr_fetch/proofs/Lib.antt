@@ -3,7 +3,6 @@ pub mod MoreEntries
 pub mod SumLemmas
 pub mod KeyLemmas
 pub mod RequestLemmas
-pub mod CsvLemmas
 pub mod AnswerLemmas
 pub mod RowEntries
 pub mod PlaceBits

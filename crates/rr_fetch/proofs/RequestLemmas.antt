@@ -1,6 +1,6 @@
 -- The rows that a fetch asks for, from the slots at its ends.
-use Rattle.std.proofs.Common.{◌≡◌, ℕ, zero, suc, ◌/◌, ◌<◌, ◌≤◌, ℤ, pos, negsuc, neg_ℤ, ◌-ℤ◌, ◌<ℤ◌, List, Ok, Err, sym, ap, ◌∙◌, arith}
-use Rattle.std.specs.Prelude.{unsigned_abs}
+use Rattle.std.proofs.Common.{◌≡◌, true, ℕ, zero, suc, ◌/◌, ◌<◌, ◌≤◌, ℤ, pos, negsuc, neg_ℤ, ◌-ℤ◌, ◌<ℤ◌, List, Some, Ok, Err, sym, ap, ◌∙◌, arith}
+use Rattle.std.specs.Prelude.{int_lt, unsigned_abs}
 use Rattle.std.specs.Int.{int_div_euclid}
 use Rattle.std.proofs.Math.Nat.{div-mul-le_self}
 use Rattle.std.proofs.lemmas.Bool.{le-leb, lt-leb}
@@ -8,12 +8,21 @@ use Rattle.std.proofs.lemmas.Int.{ints}
 use Rattle.std.proofs.lemmas.Nat.{le-div}
 use Rattle.rr_base.specs.declared.consolidation.ConsolidationFunction.{ConsolidationFunction}
 use Rattle.rr_base.specs.declared.limits.TheConstants.{MAX_FETCH_ROWS}
-use Rattle.rr_base.specs.Schema.{Layout, span}
+use Rattle.rr_base.specs.Schema.{Layout, span, choice}
 use Rattle.rr_model.specs.FetchText as text
 use Rattle.rr_fetch.specs.declared.fault.RequestFault.TheVariants.{TooManyRows}
-use Rattle.rr_fetch.specs.Requests.{rows_between, few_rows}
+use Rattle.rr_fetch.specs.Requests.{rows_between, few_rows, key_of, read}
+use Rattle.rr_fetch.specs.Words.{Parts, function_of, resolution_of, second_of}
 
 -- ---- the request
+
+-- words that pass their checks are read as the rows between the two seconds
+pub read_by_words : (s : Layout) (w : Parts) (function : ConsolidationFunction) (resolution : ℕ) (start end : ℤ) (q : text.Request)
+    → function_of w.function ≡ Some function → resolution_of w.resolution ≡ Some resolution → second_of w.start ≡ Some start → second_of w.end ≡ Some end
+    → key_of w.key ≡ Ok w.key → int_lt start end ≡ true → few_rows (rows_between s w.key function (choice s resolution) start end) ≡ Ok q → read s w ≡ Ok q
+unfolding read
+read_by_words s w function resolution start end q is_function is_resolution is_start is_end is_key before rows =
+    rw (is_function, is_resolution, is_start, is_end, is_key, before) rows
 
 module _ (s : Layout) (key : List ℕ) (function : ConsolidationFunction) (archive : ℕ) (start end first last : ℤ) (rows : ℕ) (first_is : first ≡ int_div_euclid start (pos (span s archive))) (last_is : last ≡ neg_ℤ (int_div_euclid (neg_ℤ end) (pos (span s archive)))) (rows_are : rows ≡ unsigned_abs (last -ℤ first)) where
   found : text.Request

@@ -1,25 +1,16 @@
 -- What the bytes of a request ask for.
-use Rattle.std.specs.Prelude.{◌≡◌, ℕ, ◌≤◌, ◌<◌, ℤ, pos, neg_ℤ, ◌-ℤ◌, Bool, nat_le, int_lt, List, length, Result, Ok, Err, ok_or, unsigned_abs, if◌then◌else◌}
+use Rattle.std.specs.Prelude.{◌≡◌, ℕ, ◌≤◌, ◌<◌, ℤ, pos, neg_ℤ, ◌-ℤ◌, nat_le, int_lt, List, length, Result, Ok, Err, IsOk, ok_or, unsigned_abs, if◌then◌else◌}
 use Rattle.std.specs.Int.{int_div_euclid}
 use Rattle.rr_base.specs.declared.consolidation.ConsolidationFunction.{ConsolidationFunction}
 use Rattle.rr_base.specs.declared.limits.TheConstants.{MAX_FETCH_ROWS, MAX_SECOND}
+use Rattle.rr_base.specs.Results.{◌>>=◌, checked}
 use Rattle.rr_base.specs.Schema.{Layout, span, choice}
 use Rattle.rr_key.specs.Reading.{is_key_text}
 use Rattle.rr_model.specs.FetchText as text
 use Rattle.rr_fetch.specs.declared.fault.RequestFault.{RequestFault}
 use Rattle.rr_fetch.specs.declared.fault.RequestFault.TheVariants.{BadCommand, BadCf, BadNumber, BadKey, EmptyRange, TooManyRows, Memory}
 use Rattle.rr_fetch.specs.declared.request.Request.{Request}
-use Rattle.rr_fetch.specs.Words.{words_of, function_of, resolution_of, second_of}
-
--- what follows a check, where it passes
-infixl 10 ◌>>=◌
-abbrev pub ◌>>=◌ : {A B : Type 0} → Result A RequestFault → (A → Result B RequestFault) → Result B RequestFault
-(Ok x) >>= next = next x
-(Err fault) >>= next = Err fault
-
--- a check of its own
-abbrev pub checked : Bool → RequestFault → Result (Unit {0}) RequestFault
-checked test fault = if test then Ok tt else Err fault
+use Rattle.rr_fetch.specs.Words.{Parts, words_of, function_of, resolution_of, second_of}
 
 -- a series key, by its text
 abbrev pub key_of : List ℕ → Result (List ℕ) RequestFault
@@ -36,10 +27,9 @@ rows_between s key function archive start end =
 abbrev pub few_rows : text.Request → Result text.Request RequestFault
 few_rows q = if nat_le q.rows MAX_FETCH_ROWS then Ok q else Err TooManyRows
 
--- the request of the words CF RESOLUTION START END KEY, or the first fault in the order of its checks
-unfoldable pub requested : Layout → List ℕ → Result text.Request RequestFault
-requested s bytes = do
-  words ← ok_or (words_of bytes) BadCommand
+-- the request of five words, or the first fault in the order of its checks
+unfoldable pub read : Layout → Parts → Result text.Request RequestFault
+read s words = do
   function ← ok_or (function_of words.function) BadCf
   resolution ← ok_or (resolution_of words.resolution) BadNumber
   start ← ok_or (second_of words.start) BadNumber
@@ -48,15 +38,21 @@ requested s bytes = do
   some ← checked (int_lt start end) EmptyRange
   few_rows (rows_between s key function (choice s resolution) start end)
 
+-- the request of the words CF RESOLUTION START END KEY
+unfoldable pub requested : Layout → List ℕ → Result text.Request RequestFault
+requested s bytes = do
+  words ← ok_or (words_of bytes) BadCommand
+  read s words
+
 -- a request as it is held, by what it asks for
 abbrev pub request_view : Request → text.Request
 request_view q = record { key = q.key; function = q.cf; archive = q.archive; first = q.first; rows = q.rows }
 
--- an answer, seen by view, is the one that is said, and so is a refusal; memory may run out
-abbrev pub Follows : {A B : Type 0} → (A → B) → Result A RequestFault → Result B RequestFault → Type 0
-Follows view (Ok x) said = said ≡ Ok (view x)
-Follows view (Err Memory) said = Unit {0}
-Follows view (Err fault) said = said ≡ Err fault
+-- what was given, seen by view, is what is due, and so is a refusal; memory may run out where no refusal is due
+abbrev pub Gives : {A B : Type 0} → (A → B) → Result A RequestFault → Result B RequestFault → Type 0
+Gives view (Ok x) due = due ≡ Ok (view x)
+Gives view (Err Memory) due = IsOk due
+Gives view (Err fault) due = due ≡ Err fault
 
 -- a request that can be answered: of an archive that is there, with some rows and not too many, none of which
 -- starts at a second past 64 bits

@@ -2,18 +2,13 @@
 use Rattle.std.specs.Prelude.{ℕ, ℤ, ◌&&◌, nat_eq, nat_le, List, codes, Option, None, Some, unsigned_abs, if◌then◌else◌}
 use Rattle.std.specs.Cmp.Lexicographic.{pointwise}
 use Rattle.std.specs.Str.Parse.{digits_value}
+use Rattle.rr_base.specs.Options.{◌>>=◌}
 use Rattle.rr_base.specs.Text.{cut_at, is_digits, integer_at}
 use Rattle.rr_base.specs.declared.consolidation.ConsolidationFunction.{ConsolidationFunction}
 use Rattle.rr_base.specs.declared.consolidation.ConsolidationFunction.TheVariants.{Average, Min, Max, Last}
 use Rattle.rr_base.specs.declared.limits.TheConstants.{MAX_SECOND}
-use Rattle.rr_fetch.specs.declared.words.Words.{Words}
-use Rattle.rr_fetch.specs.declared.words.TheConstants.{SPACE}
-
--- what follows a step that may give nothing
-infixl 10 ◌>>=◌
-abbrev pub ◌>>=◌ : {A B : Type 0} → Option A → (A → Option B) → Option B
-None >>= next = None
-(Some x) >>= next = next x
+use Rattle.rr_fetch.specs.declared.words.RequestWords.{RequestWords}
+use Rattle.rr_base.specs.declared.bytes.TheConstants.{SPACE}
 
 -- four words, each ended by a space, and the key, which is all that follows
 pub record Parts : Type 0 where
@@ -33,7 +28,7 @@ words_of text = do
   Some (record { function = function.0; resolution = resolution.0; start = start.0; end = end.0; key = end.1 })
 
 -- words as slices, by their bytes
-abbrev pub parts : Words → Parts
+abbrev pub parts : RequestWords → Parts
 parts w = record { function = w.function.now; resolution = w.resolution.now; start = w.start.now; end = w.end.now; key = w.key.now }
 
 -- a consolidation function, by its name in RRDtool

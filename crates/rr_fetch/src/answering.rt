@@ -1,21 +1,23 @@
 //! What a replica answers to a request.
 
-ghost use Rattle.std.specs.Prelude.{◌≡◌, ◌*◌, ◌≤◌, ◌+◌, ◌+ℤ◌, ◌*ℤ◌, pos, unsigned_abs, Err, IfOk, OnOk};
+ghost use Rattle.std.specs.Prelude.{◌≡◌, ◌*◌, ◌≤◌, ◌+◌, ◌+ℤ◌, ◌*ℤ◌, pos, unsigned_abs, Err, IfOk, OnOk, MatchOption};
+ghost use Rattle.std.specs.FinMap.{empty};
 ghost use Rattle.std.specs.Io.KnownBytes.{Appends};
 ghost use Rattle.rr_base.specs.Counted.{inner_of, failures_of, HasRisen};
 ghost use Rattle.rr_base.specs.Stream.{AppendsPrefix};
+ghost use Rattle.rr_archive.specs.Cells.{Rows, row_of};
 ghost use Rattle.rr_fetch.specs.Answers.{cells_text};
 ghost use Rattle.rr_fetch.specs.Requests.{request_view, IsFetchable};
 
 use crate::consolidation::consolidate;
 use crate::fault::AnswerFault;
-use crate::record::write_row;
+use crate::record::push_row;
 use crate::request::Request;
-use csv::WriterBuilder;
-use rr_archive::Archive;
+use rr_archive::{Archive, Entry};
 use rr_base::Counted;
 use rr_base::limits::{MAX_FETCH_ROWS, MAX_SECOND, MAX_STEP, MAX_STEPS};
 use rr_base::stream::write_all;
+use rr_records::Records;
 use rr_replica::Replica;
 use std::alloc::{AllocError, Global};
 use std::io::Write;
@@ -39,12 +41,23 @@ fn start_of(slot: i64, span: u32) -> i64
     slot * i64::from(span)
 }
 
+/// The entries of a slot, of which there are none without an archive.
+fn entries_at<A: Archive>(archive: Option<&A>, slot: i64) -> &[Entry]
+    ensures { (rows : Rows) → MatchOption archive.entry (rows ≡ empty) (λ a. A.cells a.now ≡ rows)
+        → result.now ≡ row_of rows slot }
+{
+    match archive {
+        Some(archive) => archive.row(slot),
+        None => &[],
+    }
+}
+
 /// The answer to a request as CSV: for each row a record of the key text, the start second and the
 /// value, or `U` for an unknown one, ended by a line feed.
 ///
 /// The request's archive is one of the replica's schema, its first slot is at most
 /// [`MAX_SECOND`] either side of the epoch, and its rows are from 1 to [`MAX_FETCH_ROWS`]. The cost
-/// of each row is one look-up of the key and its slot, and linear in its entries.
+/// is one look-up of the key and, for each row, one of its slot, and linear in its entries.
 pub fn answer_text<A: Archive>(
     alloc: Global,
     replica: &Replica<A>,
@@ -56,18 +69,16 @@ pub fn answer_text<A: Archive>(
 {
     let schema = replica.schema();
     let span = schema.span(request.archive);
-    let mut writer = WriterBuilder::new().from_writer(Vec::new(alloc));
+    let archive = replica.archive(&request.key, request.archive);
+    let mut records = Records::new(alloc);
     for row in 0..request.rows {
         let slot = slot_of(request.first, row);
         let start = start_of(slot, span);
-        let entries = replica.row(&request.key, request.archive, slot);
+        let entries = entries_at(archive, slot);
         let value = consolidate(entries, schema, request.archive, request.cf);
-        write_row(&mut writer, request.key.text(), start, value)?;
+        push_row(&mut records, request.key.text(), start, value)?;
     }
-    match writer.into_inner() {
-        Ok(text) => Ok(text),
-        Err(_) => Err(AllocError),
-    }
+    records.into_text()
 }
 
 /// Makes the answer to a request, as [`answer_text`] does, and then writes it.

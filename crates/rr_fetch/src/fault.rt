@@ -1,4 +1,4 @@
-//! Why bytes are no request, and why an answer isn't written.
+//! Why a request is refused, and why an answer isn't written.
 
 ghost use Rattle.std.specs.Prelude.{◌≡◌};
 
@@ -6,29 +6,29 @@ use rr_base::stream::WriteFailed;
 use std::alloc::{AllocError, AllocFailed};
 use thiserror::Error;
 
-/// Why bytes are no request.
+/// Why a request is refused.
 #[derive(Clone, Copy, Debug, PartialEq, Eq, Error)]
 pub enum RequestFault {
     /// There are fewer than five words.
-    #[error("BadCommand")]
+    #[error("a request has five words: CF RESOLUTION START END KEY")]
     BadCommand,
-    /// The first word names no consolidation function.
-    #[error("BadCf")]
+    /// The first word is not the name of a consolidation function.
+    #[error("the function is not AVERAGE, MIN, MAX or LAST")]
     BadCf,
-    /// The resolution, the start or the end is no number, or one out of its range.
-    #[error("BadNumber")]
+    /// The resolution, the start or the end is not a number, or is out of its range.
+    #[error("the resolution, start or end is not a number, or is out of its range")]
     BadNumber,
-    /// What follows the four words is no key text.
-    #[error("BadKey")]
+    /// What follows the four words is not a key text.
+    #[error("the key is not a valid key text")]
     BadKey,
     /// The start is not below the end.
-    #[error("EmptyRange")]
+    #[error("the start is not before the end")]
     EmptyRange,
     /// There are more rows than a fetch may have.
-    #[error("TooManyRows")]
+    #[error("the range has more than 100,000 rows: ask for a shorter one, or a coarser resolution")]
     TooManyRows,
     /// Memory ran out.
-    #[error("Memory")]
+    #[error("memory ran out")]
     Memory,
 }
 
@@ -55,10 +55,10 @@ impl RequestFault {
 #[derive(Clone, Copy, Debug, PartialEq, Eq, Error)]
 pub enum AnswerFault {
     /// Memory ran out.
-    #[error("Memory")]
+    #[error("memory ran out")]
     Memory,
     /// The writer failed, or took nothing.
-    #[error("WriteFailed")]
+    #[error("the answer could not be written")]
     WriteFailed,
 }
 

@@ -18,11 +18,10 @@ pub mod laws;
 mod record;
 mod request;
 mod sum;
-#[cfg(test)]
-mod tests;
 mod words;
 
 pub use answering::{answer, answer_text};
 pub use consolidation::consolidate;
 pub use fault::{AnswerFault, RequestFault};
-pub use request::{Request, parse_request};
+pub use request::{Request, parse_request, read_request};
+pub use words::{RequestWords, request_words};

@@ -1,32 +1,30 @@
-//! A row as a record of CSV, by csv's writer over a vector.
+//! A row as a record of CSV.
 
-ghost use Rattle.std.specs.Prelude.{◌≡◌, ◌++◌, [], ◌∷◌, List, ℕ, OnOk};
-ghost use Rattle.csv.specs.Writing.{row_text, default_writer};
+ghost use Rattle.std.specs.Prelude.{◌≡◌, ◌++◌, [], ◌∷◌, OnOk};
 ghost use Rattle.rr_model.specs.FetchText.{record_text, value_text};
-ghost use Rattle.rr_fetch.specs.Answers.{IsFresh};
+ghost use Rattle.rr_records.specs.Records as csv;
 
-use csv::Writer;
 use itoa::Buffer;
+use rr_records::Records;
 use std::alloc::AllocError;
 
 /// What is written for an unknown value.
 const UNKNOWN: &[u8] = b"U";
 
-/// Writes the key, the start second and the value of a row as one record.
-pub(crate) fn write_row(
-    writer: &mut Writer<Vec<u8>>,
+/// Adds the record of a row: its key, its start second and its value.
+pub(crate) fn push_row(
+    records: &mut Records,
     key: &[u8],
     start: i64,
     value: Option<i64>,
 ) -> Result<(), AllocError>
-    ensures { OnOk result ((text : List ℕ) → IsFresh writer.old text
-        → IsFresh writer.new (text ++ record_text key.now (start, value))) }
+    ensures { OnOk result (records.new ≡ records.old ++ record_text key.now (start, value)) }
 {
     let mut start_buffer = Buffer::new();
     let mut value_buffer = Buffer::new();
     let start = start_buffer.format(start).as_bytes();
     let value = value_text(&mut value_buffer, value);
-    write_three(writer, key, start, value)
+    push_three(records, key, start, value)
 }
 
 /// A value in decimal, or `U` for an unknown one.
@@ -39,19 +37,15 @@ fn value_text(buffer: &mut Buffer, value: Option<i64>) -> &[u8]
     }
 }
 
-/// Writes a record of three fields.
-fn write_three<'a>(
-    writer: &mut Writer<Vec<u8>>,
+/// Adds a record of three fields.
+fn push_three<'a>(
+    records: &mut Records,
     first: &'a [u8],
     second: &'a [u8],
     third: &'a [u8],
 ) -> Result<(), AllocError>
-    ensures { OnOk result ((text : List ℕ) → IsFresh writer.old text
-        → IsFresh writer.new (text ++ row_text default_writer (first.now ∷ second.now ∷ third.now ∷ []))) }
+    ensures { OnOk result (records.new
+        ≡ records.old ++ csv.record_text (first.now ∷ second.now ∷ third.now ∷ [])) }
 {
-    match writer.write_fields(&[first, second, third]) {
-        Ok(()) => Ok(()),
-        // Over a vector, with records of one length, only memory can be wanting.
-        Err(_) => Err(AllocError),
-    }
+    records.push(&[first, second, third])
 }

@@ -1,11 +1,12 @@
 //! What a fetch asks for.
 
-ghost use Rattle.std.specs.Prelude.{◌≡◌, ◌<◌, ◌≤◌, pos, neg_ℤ, ◌-ℤ◌, ◌<ℤ◌, unsigned_abs, length, IfOk};
+ghost use Rattle.std.specs.Prelude.{◌≡◌, ◌<◌, ◌≤◌, pos, neg_ℤ, ◌-ℤ◌, ◌<ℤ◌, unsigned_abs, length, List, ℕ, IfOk, IfErr};
 ghost use Rattle.std.specs.Int.{int_div_euclid};
-ghost use Rattle.rr_fetch.specs.Requests.{few_rows, requested, request_view, rows_between, IsFetchable, Follows};
+ghost use Rattle.rr_fetch.specs.Requests.{few_rows, read, requested, request_view, rows_between, IsFetchable, Gives};
+ghost use Rattle.rr_fetch.specs.Words.{parts};
 
 use crate::fault::RequestFault;
-use crate::words::{function_of, key_of, resolution_of, second_of, words_of};
+use crate::words::{RequestWords, function_of, key_of, request_words, resolution_of, second_of};
 use rr_base::limits::{MAX_FETCH_ROWS, MAX_SECOND};
 use rr_base::{ConsolidationFunction, Schema};
 use rr_key::SeriesKey;
@@ -55,21 +56,20 @@ fn slots_between(first: i64, last: i64) -> u64
     (last - first).unsigned_abs()
 }
 
-/// The rows from the slot of the start, up to the last one that begins before the end.
-fn rows_of(
-    schema: &Schema,
-    key: SeriesKey,
-    cf: ConsolidationFunction,
-    archive: u8,
-    start: i64,
-    end: i64,
-) -> Result<Request, RequestFault>
+/// The slot of the first row and the number of rows: from the slot of the start up to the last one
+/// that begins before the end.
+fn rows_of(schema: &Schema, archive: u8, start: i64, end: i64) -> Result<(i64, u32), RequestFault>
     requires is_there { archive < length schema.now.archives }
     requires start_near { unsigned_abs start ≤ MAX_SECOND }
     requires end_near { unsigned_abs end ≤ MAX_SECOND }
     requires some { start <ℤ end }
-    ensures value { Follows request_view result (few_rows (rows_between schema.now key cf archive start end)) }
-    ensures near { IfOk result (λ q. IsFetchable schema.now (request_view q)) }
+    ensures value { (key : List ℕ) (function : ConsolidationFunction)
+        → Gives (λ rows. record { key = key; function = function; archive = archive; first = rows.0; rows = rows.1 })
+        result (few_rows (rows_between schema.now key function archive start end)) }
+    ensures near { IfOk result (λ rows. (key : List ℕ) (function : ConsolidationFunction)
+        → IsFetchable schema.now
+        (record { key = key; function = function; archive = archive; first = rows.0; rows = rows.1 })) }
+    ensures memory { IfErr result (λ fault. fault ≡ RequestFault.TooManyRows) }
 {
     let span = schema.span(archive);
     let first = first_slot(start, span);
@@ -78,13 +78,7 @@ fn rows_of(
     if rows > u64::from(MAX_FETCH_ROWS) {
         return Err(RequestFault::TooManyRows);
     }
-    Ok(Request {
-        key,
-        cf,
-        archive,
-        first,
-        rows: rows as u32,
-    })
+    Ok((first, rows as u32))
 }
 
 /// The request of the words `CF RESOLUTION START END KEY`, with one space between two; spaces in
@@ -97,14 +91,28 @@ fn rows_of(
 ///
 /// Refusals, in this order: `BadCommand`, for fewer than five words; `BadCf`; `BadNumber`, for each
 /// of the three numbers; `BadKey`; `EmptyRange`, for a start that is not below the end;
-/// `TooManyRows`, for more than [`MAX_FETCH_ROWS`]. `Memory` may stand in place of the last two. The
-/// cost is linear in the bytes.
+/// `TooManyRows`, for more than [`MAX_FETCH_ROWS`]; and `Memory` only where none of these is due.
+/// The cost is linear in the bytes.
 #[tactic(auto, unfolding(crate::specs::Requests::requested))]
 pub fn parse_request(alloc: Global, bytes: &[u8], schema: &Schema) -> Result<Request, RequestFault>
-    ensures value { Follows request_view result (requested schema.now bytes.now) }
+    ensures value { Gives request_view result (requested schema.now bytes.now) }
     ensures near { IfOk result (λ q. IsFetchable schema.now (request_view q)) }
 {
-    let words = words_of(bytes).ok_or(RequestFault::BadCommand)?;
+    let words = request_words(bytes).ok_or(RequestFault::BadCommand)?;
+    read_request(alloc, &words, schema)
+}
+
+/// The request of words that are cut already; the refusals are those of [`parse_request`] after
+/// `BadCommand`.
+#[tactic(auto, unfolding(crate::specs::Requests::read))]
+pub fn read_request(
+    alloc: Global,
+    words: &RequestWords<'_>,
+    schema: &Schema,
+) -> Result<Request, RequestFault>
+    ensures value { Gives request_view result (read schema.now (parts words.now)) }
+    ensures near { IfOk result (λ q. IsFetchable schema.now (request_view q)) }
+{
     let cf = function_of(words.function).ok_or(RequestFault::BadCf)?;
     let resolution = resolution_of(words.resolution).ok_or(RequestFault::BadNumber)?;
     let start = second_of(words.start).ok_or(RequestFault::BadNumber)?;
@@ -113,5 +121,14 @@ pub fn parse_request(alloc: Global, bytes: &[u8], schema: &Schema) -> Result<Req
     if start >= end {
         return Err(RequestFault::EmptyRange);
     }
-    rows_of(schema, key, cf, schema.choose(resolution), start, end)
+    let archive = schema.choose(resolution);
+    let (first, rows) = rows_of(schema, archive, start, end)?;
+    let key = key.ok_or(RequestFault::Memory)?;
+    Ok(Request {
+        key,
+        cf,
+        archive,
+        first,
+        rows,
+    })
 }

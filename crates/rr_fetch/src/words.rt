@@ -1,22 +1,21 @@
 //! The words of a request, and what each stands for.
 
-ghost use Rattle.std.specs.Prelude.{◌≡◌, ◌≤◌, unsigned_abs, option_map, IfSome};
-ghost use Rattle.rr_fetch.specs.Requests.{Follows, key_of};
+ghost use Rattle.std.specs.Prelude.{◌≡◌, ◌≢◌, ◌≤◌, unsigned_abs, option_map, Ok, Err, IfOk, IfErr, IfSome, MatchResult};
+ghost use Rattle.rr_fetch.specs.Requests.{key_of};
 ghost use Rattle.rr_fetch.specs.Words.{words_of, parts, function_of, resolution_of, second_of};
 
 use crate::fault::RequestFault;
 use rr_base::ConsolidationFunction;
+use rr_base::bytes::SPACE;
 use rr_base::limits::MAX_SECOND;
 use rr_base::text::{cut, integer, number};
 use rr_key::{KeyFault, SeriesKey};
 use std::alloc::Global;
 
-/// Stands between two words.
-pub(crate) const SPACE: u8 = b' ';
-
-/// The words of a request. The key is the rest of its bytes, so that its spaces are its own.
-#[derive(Clone, Copy, Debug)]
-pub(crate) struct Words<'a> {
+/// The words of a request, `CF RESOLUTION START END KEY`, cut apart and not yet read. The key is all
+/// that follows the fourth space, so that its spaces are its own.
+#[derive(Clone, Copy, Debug, PartialEq, Eq)]
+pub struct RequestWords<'a> {
     pub(crate) function: &'a [u8],
     pub(crate) resolution: &'a [u8],
     pub(crate) start: &'a [u8],
@@ -24,16 +23,16 @@ pub(crate) struct Words<'a> {
     pub(crate) key: &'a [u8],
 }
 
-/// The words of a request, if there are as many.
+/// Cuts a request into its words; none where there are fewer than five.
 #[tactic(auto, unfolding(crate::specs::Words::words_of))]
-pub(crate) fn words_of(bytes: &[u8]) -> Option<Words<'_>>
+pub fn request_words(bytes: &[u8]) -> Option<RequestWords<'_>>
     ensures { option_map parts result ≡ words_of bytes.now }
 {
     let (function, rest) = cut(SPACE, bytes)?;
     let (resolution, rest) = cut(SPACE, rest)?;
     let (start, rest) = cut(SPACE, rest)?;
     let (end, key) = cut(SPACE, rest)?;
-    Some(Words {
+    Some(RequestWords {
         function,
         resolution,
         start,
@@ -80,13 +79,15 @@ pub(crate) fn second_of(word: &[u8]) -> Option<i64>
     }
 }
 
-/// A series key, by its text.
-pub(crate) fn key_of(alloc: Global, text: &[u8]) -> Result<SeriesKey, RequestFault>
-    ensures { Follows (λ key. key) result (key_of text.now) }
+/// A series key by its text, or `BadKey`; no key where memory ran out.
+pub(crate) fn key_of(alloc: Global, text: &[u8]) -> Result<Option<SeriesKey>, RequestFault>
+    ensures value { MatchResult result (λ _. key_of text.now ≡ Ok text.now) (λ fault. key_of text.now ≡ Err fault) }
+    ensures key { IfOk result (λ found. IfSome found (λ key. key ≡ text.now)) }
+    ensures memory { IfErr result (λ fault. fault ≢ RequestFault.Memory) }
 {
     match SeriesKey::parse_text(alloc, text) {
-        Ok(key) => Ok(key),
-        Err(KeyFault::BadKey) => Err(RequestFault::BadKey),
-        Err(_) => Err(RequestFault::Memory),
+        Ok(key) => Ok(Some(key)),
+        Err(fault) if fault == KeyFault::BadKey => Err(RequestFault::BadKey),
+        Err(_) => Ok(None),
     }
 }

@@ -7,3 +7,4 @@ pub mod Joining
 pub mod Keys
 pub mod Distinct
 pub mod Inserting
+pub mod ValuesLemmas

@@ -1,2 +1,3 @@
 pub mod Maps
 pub mod Laws
+pub mod Values

@@ -1,5 +1,6 @@
 -- What an order prints for its input, and how it ends.
 use Rattle.std.specs.Prelude.{ℕ, List}
+use Rattle.rr_cluster.specs.Model.{sample_model}
 use Rattle.rr_cluster.specs.Output as script
 use Rattle.rr_orders.specs.declared.ending.Ending.{Ending}
 use Rattle.rr_orders.specs.declared.ending.Ending.TheVariants.{Done}
@@ -9,7 +10,7 @@ use Rattle.rr_words.specs.Words.{Asked, sim, check_lines}
 
 -- a script prints its output, and lines print their report
 abbrev pub output_of : Asked → List ℕ → List ℕ
-output_of (sim file) input = script.output_of input
+output_of (sim file) input = script.output_of sample_model input
 output_of (check_lines precision now) input = report_of precision now input
 
 -- a script is done, and so are lines unless one of them is refused

@@ -5,6 +5,7 @@ ghost use Rattle.std.specs.Io.KnownBytes.{Appends};
 ghost use Rattle.rr_base.specs.Counted.{inner_of, failures_of, reads_of, HasRisen};
 ghost use Rattle.rr_base.specs.Stream.{AppendsPrefix};
 ghost use Rattle.rr_base.specs.declared.limits.TheConstants.{MAX_READS};
+ghost use Rattle.rr_cluster.specs.Model.{sample_model};
 ghost use Rattle.rr_cluster.specs.Output.{output_of};
 ghost use Rattle.rr_report.specs.Reads.{HasMade};
 
@@ -24,12 +25,12 @@ pub fn run_script<R: Read, W: Write>(
     output: &mut Counted<W>,
 ) -> Result<(), ToolFault>
     ensures done { OnOk result (IfSome (R.remaining (inner_of input.old))
-        (λ script. Appends (W.contents (inner_of output.old)) (W.contents (inner_of output.new)) (output_of script))) }
+        (λ script. Appends (W.contents (inner_of output.old)) (W.contents (inner_of output.new)) (output_of sample_model script))) }
 
     // What is written after a fault.
     ensures unwritten { IfErr result (λ fault. fault ≢ ToolFault.WriteFailed → output.new ≡ output.old) }
     ensures front { IfSome (R.remaining (inner_of input.old))
-        (λ script. AppendsPrefix (W.contents (inner_of output.old)) (W.contents (inner_of output.new)) (output_of script)) }
+        (λ script. AppendsPrefix (W.contents (inner_of output.old)) (W.contents (inner_of output.new)) (output_of sample_model script)) }
 
     // When a stream is to blame.
     ensures read_failed { result ≡ Err ToolFault.ReadFailed → HasRisen (failures_of input.old) (failures_of input.new) }

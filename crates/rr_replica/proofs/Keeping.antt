@@ -123,7 +123,7 @@ pub row_found : {X : Type 0} (cells : X → Rows) (limit : X → ℕ) (s : Layou
 row_found cells limit s origin next entries key i slot archives a kept found at =
     ap (λ r. row_of r slot) (sym (rows_shown cells entries key i kept.ordered ∙ ap (λ o. held_at cells (items_of o) i) (sym found) ∙ ap (λ o. unwrap_or (option_map cells o) empty) at))
 
-row_of-empty : (slot : ℤ) → row_of empty slot ≡ []
+pub row_of-empty : (slot : ℤ) → row_of empty slot ≡ []
 unfolding row_of
 row_of-empty slot = ap (λ es. map entry_of (filter (λ e. int_eq e.0.slot slot) es)) (nothing_from_length (entries none) (sym (len-entries none) ∙ len-empty place_cmp Contribution))
   where

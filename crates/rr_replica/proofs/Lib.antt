@@ -20,3 +20,4 @@ pub mod Parting
 pub mod FieldLemmas
 pub mod OneArchive
 pub mod JoinedCell
+pub mod Lending

@@ -1,5 +1,5 @@
 //! A replica of the store.
-ghost use Rattle.std.specs.Prelude.{◌≡◌, ◌<◌, ◌≤◌, ◌+◌, ◌↔◌, length, None, Err, IfOk, IfErr, OnOk, OnErr, IsTrue, IsFalse, slice_get, unwrap_or};
+ghost use Rattle.std.specs.Prelude.{◌≡◌, ◌<◌, ◌≤◌, ◌+◌, ◌↔◌, length, None, Err, IfOk, IfErr, OnOk, OnErr, IsTrue, IsFalse, MatchOption, slice_get, unwrap_or};
 ghost use Rattle.std.specs.Option.{option_map};
 ghost use Rattle.std.specs.FinMap as fin;
 ghost use Rattle.rr_base.specs.Schema.{IsLayout};
@@ -8,7 +8,7 @@ ghost use Rattle.rr_base.specs.declared.limits.TheConstants.{MAX_FIELDS};
 ghost use Rattle.rr_line.specs.Key.{HasKeys, names_of, key_text};
 ghost use Rattle.rr_line.specs.Line.{point_view};
 ghost use Rattle.rr_replica.specs.Writing.{is_ahead};
-ghost use Rattle.rr_replica.specs.Cells.{row_at};
+ghost use Rattle.rr_replica.specs.Cells.{row_at, rows_at};
 ghost use Rattle.rr_replica.specs.Puts.{put_sample};
 ghost use Rattle.rr_replica.specs.Holding.{Holding, with_put};
 ghost use Rattle.rr_replica.specs.Series.{cells_of};
@@ -150,6 +150,18 @@ impl<A: Archive> Replica<A> {
         let number = self.next;
         self.next += 1;
         Ok(number)
+    }
+
+    /// The archive of a key with a number, from 0. There is none where the key is unknown, nor past
+    /// the schema's last archive; then no cell is there. The cost is one look-up of the key.
+    pub fn archive(&self, key: &SeriesKey, i: u8) -> Option<&A>
+        ensures { MatchOption result (rows_at self.now.cells key.now i ≡ fin.empty)
+            (λ archive. A.cells archive.now ≡ rows_at self.now.cells key.now i) }
+    {
+        match self.series.get(key) {
+            Some(archives) => archives.get(i as usize),
+            None => None,
+        }
     }
 
     /// The entries of a slot of an archive of a key, ascending by origin. There are none past the

@@ -1,10 +1,11 @@
+use Rattle.std.proofs.Common.{◌≡◌}
 use Rattle.rr_model.specs.FetchText.{answer_text}
-use Rattle.rr_fetch.specs.Answers.{IsFresh, value_of_cells}
+use Rattle.rr_fetch.specs.Answers.{value_of_cells}
 use Rattle.rr_fetch.specs.Requests.{request_view}
 use Rattle.rr_fetch.proofs.answering.answer_text.Given as goal
 
--- the records so far are those of a request for so many rows
+-- the records so far are those of a request for as many rows
 abbrev pub invariant-loop-row : goal.invariant-loop-row
 invariant-loop-row g l =
     let q = request_view l.request in
-    IsFresh l.writer (answer_text l.replica.schema (value_of_cells l.replica.schema l.replica.cells q) (record q { rows = l.row }))
+    l.records ≡ answer_text l.replica.schema (value_of_cells l.replica.schema l.replica.cells q) (record q { rows = l.row })

@@ -1,0 +1,105 @@
+-- The cell model and the sample model agree on each command, and so on scripts; and sound states stay sound.
+use Rattle.std.proofs.Common.{◌≡◌, ℕ, zero, suc, List, [], ◌∷◌, take, Some, None, Option, Result, Ok, Err, refl, ap, ◌∙◌}
+use Rattle.std.specs.Prelude.{IfOk, IfSome}
+use Rattle.std.specs.Option.{option_map}
+use Rattle.rr_base.specs.Schema.{Layout, IsLayout}
+use Rattle.rr_model.specs.Knowledge.{Knowledge}
+use Rattle.rr_replica.specs.Cells.{Cells}
+use Rattle.rr_cluster.specs.declared.fault.CommandFault.{CommandFault}
+use Rattle.rr_cluster.specs.Agreement.{in_cells, step_in_cells, CommandsAgree, ScriptsAgree}
+use Rattle.rr_cluster.specs.Checks.{on_ok}
+use Rattle.rr_cluster.specs.Command.{Command, schema, node, now, write, fetch}
+use Rattle.rr_cluster.specs.Commands.{step, silently, beginning, printing}
+use Rattle.rr_cluster.specs.Commands.Schema.{layout_of}
+use Rattle.rr_cluster.specs.Model.{cell_model, sample_model}
+use Rattle.rr_cluster.specs.Output.{obeyed, settled, output_from}
+use Rattle.rr_cluster.specs.Script.{commands_of}
+use Rattle.rr_cluster.specs.Soundness.{IsSound, CommandsKeepSound, ScriptsAreSound, state_after}
+use Rattle.rr_cluster.specs.State.{State}
+use Rattle.rr_cluster.proofs.CommandsLemmas.Schema.{layout_is, first_states_agree, first_states_are_sound}
+use Rattle.rr_cluster.proofs.CommandsLemmas.Node.{node_agrees}
+use Rattle.rr_cluster.proofs.CommandsLemmas.Now.{now_agrees}
+use Rattle.rr_cluster.proofs.CommandsLemmas.Write.{write_agrees}
+use Rattle.rr_cluster.proofs.CommandsLemmas.Fetch.{fetch_agrees}
+use Rattle.rr_cluster.proofs.StepLemmas.{OfAnswer, Agrees, on_ok-agrees, same_answer, holds_after}
+
+abbrev Step : Type 0
+Step = Option (State Knowledge) × List ℕ
+
+abbrev LeavesSound : Step → Type 0
+LeavesSound done = IfSome done.0 IsSound
+
+abbrev StepAgrees : Result (Option (State Cells) × List ℕ) CommandFault → Result Step CommandFault → Type 0
+StepAgrees = Agrees step_in_cells LeavesSound
+
+refusal_agrees : (fault : CommandFault) → StepAgrees (Err fault) (Err fault)
+unfolding Agrees
+refusal_agrees fault = refl
+
+silently_agrees : (r : Result (State Cells) CommandFault) (t : Result (State Knowledge) CommandFault) → Agrees in_cells IsSound r t → StepAgrees (on_ok silently r) (on_ok silently t)
+silently_agrees = on_ok-agrees in_cells IsSound step_in_cells LeavesSound silently silently (λ m. refl) (λ m sound. sound)
+
+printing_agrees : (m : State Knowledge) → IsSound m → (r t : Result (List ℕ) CommandFault) → Agrees (λ text. text) (λ text. Unit {0}) r t → StepAgrees (on_ok (printing (in_cells m)) r) (on_ok (printing m) t)
+printing_agrees m sound = on_ok-agrees (λ text. text) (λ text. Unit {0}) step_in_cells LeavesSound (printing m) (printing (in_cells m)) (λ text. refl) (λ text u. sound)
+
+beginning_agrees : (r : Result Layout CommandFault) → OfAnswer IsLayout r → StepAgrees (on_ok beginning r) (on_ok beginning r)
+unfolding Agrees OfAnswer
+beginning_agrees (Ok s) is = (ap (λ (m : State Cells). Ok (Some m, [])) (first_states_agree s), first_states_are_sound s is)
+beginning_agrees (Err fault) is = refl
+
+step_agrees : (m : Option (State Knowledge)) (command : Command) → IfSome m IsSound → StepAgrees (step cell_model (option_map in_cells m) command) (step sample_model m command)
+step_agrees None (schema word archives) sound = beginning_agrees (layout_of word archives) (layout_is word archives)
+step_agrees None (node name origin) sound = refusal_agrees _
+step_agrees None (now time lead) sound = refusal_agrees _
+step_agrees None (write name line) sound = refusal_agrees _
+step_agrees None (fetch name request) sound = refusal_agrees _
+step_agrees (Some m) (schema word archives) sound = refusal_agrees _
+step_agrees (Some m) (node name origin) sound = silently_agrees _ _ (node_agrees m sound name origin)
+step_agrees (Some m) (now time lead) sound = silently_agrees _ _ (now_agrees m sound time lead)
+step_agrees (Some m) (write name line) sound = silently_agrees _ _ (write_agrees m sound name line)
+step_agrees (Some m) (fetch name request) sound = printing_agrees m sound _ _ (fetch_agrees m sound name request)
+
+pub commands_agree : CommandsAgree
+commands_agree m command sound = same_answer step_in_cells LeavesSound _ _ (step_agrees m command sound)
+
+pub commands_keep_sound : CommandsKeepSound
+commands_keep_sound m command sound = holds_after step_in_cells LeavesSound (step cell_model (option_map in_cells m) command) _ (step_agrees m command sound)
+
+-- ---- scripts
+
+abbrev Line : Type 0
+Line = ℕ × Result Command CommandFault
+
+line_keeps_sound : (m : Option (State Knowledge)) (number : ℕ) (said : Result Command CommandFault) → IfSome m IsSound → IfSome (obeyed sample_model m number said).0 IsSound
+line_keeps_sound m number (Err fault) sound = sound
+line_keeps_sound m number (Ok command) sound = by (step sample_model m command) (commands_keep_sound m command sound)
+  where
+    by : (r : Result Step CommandFault) → IfOk r LeavesSound → IfSome (settled m number r).0 IsSound
+    by (Ok done) h = h
+    by (Err fault) h = sound
+
+lines_keep_sound : (m : Option (State Knowledge)) (lines : List Line) (count : ℕ) → IfSome m IsSound → IfSome (state_after m (take count lines)) IsSound
+lines_keep_sound m lines zero sound = sound
+lines_keep_sound m [] (suc count) sound = sound
+lines_keep_sound m (line ∷ lines) (suc count) sound = lines_keep_sound (obeyed sample_model m line.0 line.1).0 lines count (line_keeps_sound m line.0 line.1 sound)
+
+pub scripts_are_sound : ScriptsAreSound
+scripts_are_sound script count = lines_keep_sound None (commands_of script) count tt
+
+line_agrees : (m : Option (State Knowledge)) (number : ℕ) (said : Result Command CommandFault) → IfSome m IsSound
+    → obeyed cell_model (option_map in_cells m) number said ≡ step_in_cells (obeyed sample_model m number said)
+line_agrees m number (Err fault) sound = refl
+line_agrees m number (Ok command) sound = ap (settled (option_map in_cells m) number) (commands_agree m command sound) ∙ by (step sample_model m command)
+  where
+    by : (r : Result Step CommandFault) → settled (option_map in_cells m) number (on_ok step_in_cells r) ≡ step_in_cells (settled m number r)
+    by (Ok done) = refl
+    by (Err fault) = refl
+
+lines_agree : (m : Option (State Knowledge)) (lines : List Line) → IfSome m IsSound → output_from cell_model (option_map in_cells m) lines ≡ output_from sample_model m lines
+lines_agree m [] sound = refl
+lines_agree m (line ∷ lines) sound =
+    let done = obeyed sample_model m line.0 line.1 in
+    rw (line_agrees m line.0 line.1 sound, lines_agree done.0 lines (line_keeps_sound m line.0 line.1 sound)) refl
+
+pub scripts_agree : ScriptsAgree
+scripts_agree script = lines_agree None (commands_of script) tt

@@ -1,0 +1,6 @@
+-- The lemmas on each command: how its words are read, what the code's step does, and that the models agree on it.
+pub mod Schema
+pub mod Node
+pub mod Now
+pub mod Write
+pub mod Fetch

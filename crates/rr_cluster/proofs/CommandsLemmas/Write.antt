@@ -1,0 +1,244 @@
+-- write NODE LINE
+use Rattle.std.proofs.Common.{◌≡◌, ◌≢◌, ℕ, ◌+◌, ◌<◌, ℤ, not, eqb, List, [], ◌∷◌, Option, Some, None, IfSome, IsTrue, length, Result, Ok, Err, refl, sym, ap, subst, ◌∙◌, inl, inr, arith, ⊎_elim}
+use Rattle.std.specs.Prelude.{◌-◌, nat_lt, unwrap_or, IsFalse}
+use Rattle.std.specs.List.{list_any}
+use Rattle.std.specs.Cmp.Lexicographic.{nat_list_cmp_total}
+use Rattle.std.specs.FinMap as map
+use Rattle.std.proofs.lemmas.Bool.{cases_Bool, or_parts}
+use Rattle.std.proofs.lemmas.List.Folds.{list_any-append}
+use Rattle.rr_archive.specs.declared.archive.Archive.{Ghosts}
+use Rattle.rr_base.specs.Schema.{IsLayout}
+use Rattle.rr_base.specs.declared.limits.TheConstants.{MAX_NUMBER}
+use Rattle.rr_join.proofs.ValuesLemmas.{get-insert_itself, insert_there, insert_twice}
+use Rattle.rr_line.specs.declared.precision.Precision.TheVariants.{Ns}
+use Rattle.rr_line.specs.Key.{key_text}
+use Rattle.rr_base.specs.Bytes.{HasNoLineFeed}
+use Rattle.rr_line.specs.Line.{LineView, PointView, nothing, point}
+use Rattle.rr_line.specs.Reading.{reading}
+use Rattle.rr_model.specs.Knowledge.{Knowledge, IsAheadOf, with_marks}
+use Rattle.rr_model.specs.Samples.{Sample, marks_of}
+use Rattle.rr_model.specs.World.{World, IsNext, HoldsAllOf, with_sample}
+use Rattle.rr_model.proofs.Writes.{writer_stays_closed, writer_holds_own, others_stay_closed, others_hold_own, written_now}
+use Rattle.rr_replica.specs.declared.fault.WriteFault.{WriteFault}
+use Rattle.rr_replica.specs.declared.fault.WriteFault.TheVariants as why
+use Rattle.rr_replica.specs.declared.fault.WriteFault.TheVariants.{AheadOfClock, NumbersSpent}
+use Rattle.rr_replica.specs.Cells.{Cells}
+use Rattle.rr_replica.specs.Holding.{Holding, with_put}
+use Rattle.rr_replica.specs.Writing.{with_fields, is_ahead, lacks_numbers, IsAfterRefusal}
+use Rattle.rr_replica.proofs.OneSampleMore.{put_is_one_sample_more}
+use Rattle.rr_cluster.specs.declared.cluster.Cluster.{Cluster}
+use Rattle.rr_base.specs.declared.bytes.TheConstants.{LINE_FEED, SPACE}
+use Rattle.rr_cluster.specs.declared.fault.CommandFault.{CommandFault}
+use Rattle.rr_cluster.specs.declared.fault.CommandFault.TheVariants.{NoNode, Write}
+use Rattle.rr_cluster.specs.declared.stop.Stop.{Stop}
+use Rattle.rr_cluster.specs.declared.stop.Stop.TheVariants.{Refused, Memory}
+use Rattle.rr_cluster.specs.Agreement.{in_cells, node_in_cells}
+use Rattle.rr_base.specs.Results.{◌>>=◌, checked}
+use Rattle.rr_cluster.specs.Command.{write, IsOneLine}
+use Rattle.rr_cluster.specs.Commands.Write.{write_command, line_of, samples_of, samples_of_point, samples_of_view, samples_of_line, with_samples, with_written, with_all_written, after_write}
+use Rattle.rr_cluster.specs.Meaning.{node_of, replica_at, Represents, Leaves, Writes}
+use Rattle.rr_cluster.specs.Model.{Model, cell_model, sample_model}
+use Rattle.rr_cluster.specs.Soundness.{IsSound, IsSoundNode, IsUsed}
+use Rattle.rr_cluster.specs.State.{Node, State}
+use Rattle.rr_cluster.specs.Stop.{IsStopOfWrite}
+use Rattle.rr_cluster.specs.Words.{text_of, words_of}
+use Rattle.rr_cluster.proofs.CommandsLemmas.Node.{with_node_agrees}
+use Rattle.rr_cluster.proofs.MeaningLemmas.{HasPut, SameBesidesNodes, represents_put, node_at}
+use Rattle.rr_cluster.proofs.SoundnessLemmas.{place_is_sound}
+use Rattle.rr_cluster.proofs.StepLemmas.{names_apart, OfAnswer, last_holds, then_holds, holds_of, Agrees, then_agree, found_agree, done_agrees}
+use Rattle.rr_cluster.proofs.WordsLemmas.{some_parts, text_of-words}
+
+-- ---- words
+
+pub write_command-rest : (name line : List ℕ) → write_command (name ∷ words_of line) ≡ Some (write name line)
+write_command-rest name line =
+    let some = some_parts 32 line in
+    rw some.2 (ap (λ (l : List ℕ). Some (write name l)) (text_of-words line some.0 some.1 some.2))
+
+-- the words after the first
+rest_has_none : (first second : List ℕ) (rest : List (List ℕ)) → HasNoLineFeed (text_of (first ∷ second ∷ rest)) → HasNoLineFeed (text_of (second ∷ rest))
+rest_has_none first second rest none =
+    let after = text_of (second ∷ rest) in
+    let halves = or_parts (list_any (λ byte. eqb byte LINE_FEED) first) (list_any (λ byte. eqb byte LINE_FEED) (SPACE ∷ after)) (sym (list_any-append (λ byte. eqb byte LINE_FEED) first (SPACE ∷ after)) ∙ none) in
+    (or_parts (eqb SPACE LINE_FEED) (list_any (λ byte. eqb byte LINE_FEED) after) halves.1).1
+
+pub write_is_one_line : (name : List ℕ) (words : List (List ℕ)) → HasNoLineFeed (text_of (name ∷ words)) → IfSome (write_command words) IsOneLine
+write_is_one_line name [] none = tt
+write_is_one_line name (node ∷ []) none = tt
+write_is_one_line name (node ∷ line ∷ rest) none = rest_has_none node line rest (rest_has_none name node (line ∷ rest) none)
+
+-- ---- check by check
+
+module _ {K : Type 0} (model : Model K) (m : State K) (name line : List ℕ) where
+  pub no_node : map.get m.nodes name ≡ None → after_write model m name line ≡ Err NoNode
+  unfolding after_write
+  no_node e = rw e refl
+
+  write_to_node : (n : Node K) → map.get m.nodes name ≡ Some n → after_write model m name line ≡ (samples_of_line n m.clock m.lead line >>= λ xs. Ok (record m { nodes = map.insert m.nodes name (with_all_written model n xs); world = with_samples m.world xs }))
+  unfolding after_write
+  write_to_node n e = rw e refl
+
+-- ---- a replica that writes the samples of a point, field by field, or refuses them
+
+fields_written : (h : Holding) (p : PointView) (time : ℤ) (fields : List (List ℕ × ℤ))
+    → node_of (with_fields h p time fields) ≡ with_all_written cell_model (node_of h) (samples_of h.origin h.next time p fields)
+fields_written h p time [] = refl
+fields_written h p time (field ∷ fields) = fields_written (with_put h (key_text p field.0) time field.1) p time fields
+
+module _ (old new : Holding) (clock : ℤ) (lead : Option ℕ) (p : PointView) (count : ℕ) (many : count ≡ length p.fields) where
+  lacks : lacks_numbers old count ≡ lacks_numbers old (length p.fields)
+  lacks = ap (lacks_numbers old) many
+
+  pub point_written : (IsTrue (is_ahead p.time clock lead) → ⊥) → (IsFalse (is_ahead p.time clock lead) × IsTrue (lacks_numbers old count) → ⊥)
+      → new ≡ with_fields old p (unwrap_or p.time clock) p.fields → Writes old new (Ok tt) (samples_of_point (node_of old) clock lead p)
+  point_written not_ahead not_spent put =
+      elim (cases_Bool (is_ahead p.time clock lead)) [
+        | inl ahead ↦ absurd (not_ahead ahead)
+        | inr timely ↦ elim (cases_Bool (lacks_numbers old (length p.fields))) [
+          | inl spent ↦ absurd (not_spent (timely, lacks ∙ spent))
+          | inr enough ↦ (samples_of old.origin old.next (unwrap_or p.time clock) p p.fields, rw (timely, enough) refl, ap node_of put ∙ fields_written old p (unwrap_or p.time clock) p.fields)
+        ]
+      ]
+
+  pub point_refused : (fault : WriteFault) (stop : Stop) → IsStopOfWrite fault stop → IsAfterRefusal old new p (unwrap_or p.time clock) fault
+      → (fault ≡ why.AheadOfClock → IsTrue (is_ahead p.time clock lead))
+      → (fault ≡ why.NumbersSpent → IsFalse (is_ahead p.time clock lead) × IsTrue (lacks_numbers old count))
+      → Writes old new (Err stop) (samples_of_point (node_of old) clock lead p)
+  point_refused why.AheadOfClock stop stopped same ahead spent = rw (stopped, ahead refl) (refl, same)
+  point_refused why.NumbersSpent stop stopped same ahead spent = rw (stopped, (spent refl).0, sym lacks ∙ (spent refl).1) (refl, same)
+  point_refused (why.Memory put) stop stopped same ahead spent = rw stopped tt
+
+-- ---- the cluster after a write
+
+module _ {A : Type 0} {g : Ghosts A} (old new : Cluster A g) (m : State Cells) (same : SameBesidesNodes old new) (is : Represents old m)
+    (name : List ℕ) (was h : Holding) (here : replica_at old.nodes name ≡ Some was) (put : HasPut old.nodes new.nodes name h) where
+  -- a replica that hasn't changed is a node in its own place
+  represents_still : h ≡ was → Represents new m
+  represents_still unchanged =
+      let there = node_at old m is name (Some was) here in
+      let back = insert_there nat_list_cmp_total names_apart m.nodes name (node_of h) (there ∙ ap (λ (x : Holding). Some (node_of x)) (sym unchanged)) in
+      subst (Represents new) (λ i. record m { nodes = back i }) (represents_put old new m same is name h m.world put)
+
+  leaves : (result : Result (Unit {0}) Stop) (said : Result (List Sample) CommandFault) → Writes was h result said
+      → Leaves new m result (said >>= λ xs. Ok (record m { nodes = map.insert m.nodes name (with_all_written cell_model (node_of was) xs); world = with_samples m.world xs }))
+  leaves (Ok done) said writes =
+      let after : List Sample → Node Cells → State Cells = λ xs n. record m { nodes = map.insert m.nodes name n; world = with_samples m.world xs } in (
+        after writes.0 (with_all_written cell_model (node_of was) writes.0),
+        ap (λ (r : Result (List Sample) CommandFault). r >>= λ xs. Ok (after xs (with_all_written cell_model (node_of was) xs))) writes.1,
+        subst (λ (n : Node Cells). Represents new (after writes.0 n)) writes.2 (represents_put old new m same is name h (with_samples m.world writes.0) put),
+      )
+  leaves (Err (Refused fault)) said writes = (
+    ap (λ (r : Result (List Sample) CommandFault). r >>= λ xs. Ok (record m { nodes = map.insert m.nodes name (with_all_written cell_model (node_of was) xs); world = with_samples m.world xs })) writes.0,
+    represents_still writes.1,
+  )
+  leaves (Err Memory) said writes = tt
+
+  pub leaves_written : (line : List ℕ) (result : Result (Unit {0}) Stop) → Writes was h result (samples_of_line (node_of was) old.clock old.lead line)
+      → Leaves new m result (after_write cell_model m name line)
+  leaves_written line result writes =
+      let said : samples_of_line (node_of was) old.clock old.lead line ≡ samples_of_line (node_of was) m.clock m.lead line = λ i. samples_of_line (node_of was) (is.clock i) (is.lead i) line in
+      subst (λ (r : Result (State Cells) CommandFault). Leaves new m result r) (sym (write_to_node cell_model m name line (node_of was) (node_at old m is name (Some was) here)))
+      (leaves result (samples_of_line (node_of was) m.clock m.lead line) (subst (Writes was h result) said writes))
+
+-- ---- samples that a node writes next
+
+-- samples under the numbers from this one on
+abbrev AreNext : ℕ → ℕ → List Sample → Type 0
+AreNext origin number [] = Unit {0}
+AreNext origin number (x ∷ xs) = (x.origin ≡ origin) × (x.number ≡ number) × AreNext origin (number + 1) xs
+
+samples_are_next : (origin number : ℕ) (time : ℤ) (p : PointView) (fields : List (List ℕ × ℤ)) → AreNext origin number (samples_of origin number time p fields)
+samples_are_next origin number time p [] = tt
+samples_are_next origin number time p (field ∷ fields) = (refl, refl, samples_are_next origin (number + 1) time p fields)
+
+view_is_next : {K : Type 0} (n : Node K) (clock : ℤ) (lead : Option ℕ) (view : LineView) → OfAnswer (AreNext n.origin n.next) (samples_of_view n clock lead view)
+view_is_next n clock lead nothing = last_holds (AreNext n.origin n.next) [] tt
+view_is_next n clock lead (point p) = then_holds (AreNext n.origin n.next) (checked (not (is_ahead p.time clock lead)) (Write AheadOfClock)) _ (λ timely yes. then_holds (AreNext n.origin n.next) (checked (not (nat_lt (MAX_NUMBER + 1 - n.next) (length p.fields))) (Write NumbersSpent)) _ (λ left also. last_holds (AreNext n.origin n.next) _ (samples_are_next n.origin n.next (unwrap_or p.time clock) p p.fields)))
+
+line_is_next : {K : Type 0} (n : Node K) (clock : ℤ) (lead : Option ℕ) (line : List ℕ) (xs : List Sample) → samples_of_line n clock lead line ≡ Ok xs → AreNext n.origin n.next xs
+line_is_next n clock lead line xs = holds_of (AreNext n.origin n.next) (samples_of_line n clock lead line) xs (then_holds (AreNext n.origin n.next) (line_of (reading Ns line)) _ (λ view is. view_is_next n clock lead view))
+
+-- ---- a sound state stays sound
+
+-- the sample that a node writes next
+module _ (w : World) (n : Node Knowledge) (is : IsLayout n.schema) (sound : IsSoundNode w n) (x : Sample) (ours : x.origin ≡ n.origin) (next : x.number ≡ n.next) where
+  is_next : IsNext w x
+  is_next y e same = let before : y.number < n.next = sound.numbered y e (same ∙ ours) in omega arith
+
+  -- the node that writes it
+  writer_is_sound : IsSoundNode (with_sample w x) (with_written sample_model n x)
+  writer_is_sound =
+      let own : HoldsAllOf n.schema w n.contents x.origin = subst (λ (o : ℕ). HoldsAllOf n.schema w n.contents o) (sym ours) sound.own in
+      record {
+        closed = writer_stays_closed n.schema w n.contents x is sound.closed is_next own;
+        own = subst (λ (o : ℕ). HoldsAllOf n.schema (with_sample w x) (with_marks n.contents (marks_of n.schema x)) o) ours (writer_holds_own n.schema w n.contents x own);
+        numbered = λ y e same. ⊎_elim
+            (λ it. let one : y.number ≡ x.number = ap (λ (z : Sample). z.number) it in omega arith)
+            (λ before. let below : y.number < x.number = is_next y before (same ∙ sym ours) in omega arith)
+            (written_now w x y e);
+      }
+
+  -- a node of another origin
+  other_is_sound : (o : Node Knowledge) → o.origin ≢ n.origin → IsSoundNode w o → IsSoundNode (with_sample w x) o
+  other_is_sound o apart is_sound = record {
+    closed = others_stay_closed o.schema w o.contents x is_sound.closed is_next;
+    own = others_hold_own o.schema w o.contents x o.origin (λ e. apart (e ∙ ours)) is_sound.own;
+    numbered = λ y e same. ⊎_elim
+        (λ it. absurd (apart (sym same ∙ ap (λ (z : Sample). z.origin) it ∙ ours)))
+        (λ before. is_sound.numbered y before same)
+        (written_now w x y e);
+  }
+
+-- the schema of a node is within its limits
+pub layout_at : (m : State Knowledge) → IsSound m → (name : List ℕ) (n : Node Knowledge) → map.get m.nodes name ≡ Some n → IsLayout n.schema
+layout_at m sound name n here = subst IsLayout (sym (sound.shared name n here)) sound.layout
+
+-- a sample more
+module _ (m : State Knowledge) (sound : IsSound m) (name : List ℕ) (n : Node Knowledge) (here : map.get m.nodes name ≡ Some n) (x : Sample) (ours : x.origin ≡ n.origin) (next : x.number ≡ n.next) where
+  abbrev with_sample_at : State Knowledge
+  with_sample_at = record m { nodes = map.insert m.nodes name (with_written sample_model n x); world = with_sample m.world x }
+
+  sample_is_sound : IsSound with_sample_at
+  sample_is_sound =
+      let is = layout_at m sound name n here in
+      let n_is_sound = sound.nodes name n here in
+      place_is_sound m sound name n (with_written sample_model n x) here refl refl (with_sample m.world x)
+      (writer_is_sound m.world n is n_is_sound x ours next)
+      (other_is_sound m.world n is n_is_sound x ours next)
+      (λ y e. ⊎_elim
+      (λ it. subst (IsUsed m) (sym (ap (λ (z : Sample). z.origin) it ∙ ours)) (sound.used name n here))
+      (λ before. sound.written y before)
+      (written_now m.world x y e))
+
+samples_are_sound : (m : State Knowledge) → IsSound m → (name : List ℕ) (n : Node Knowledge) → map.get m.nodes name ≡ Some n → (xs : List Sample) → AreNext n.origin n.next xs
+    → IsSound (record m { nodes = map.insert m.nodes name (with_all_written sample_model n xs); world = with_samples m.world xs })
+samples_are_sound m sound name n here [] next = subst IsSound (λ i. record m { nodes = sym (insert_there nat_list_cmp_total names_apart m.nodes name n here) i }) sound
+samples_are_sound m sound name n here (x ∷ xs) next =
+    let more = with_sample_at m sound name n here x next.0 next.1 in
+    let rest = samples_are_sound more (sample_is_sound m sound name n here x next.0 next.1) name (with_written sample_model n x) (get-insert_itself nat_list_cmp_total names_apart m.nodes name (with_written sample_model n x)) xs
+    (subst (λ (k : ℕ). AreNext n.origin (k + 1) xs) (sym next.1) next.2) in
+    subst IsSound (λ i. record m { nodes = insert_twice nat_list_cmp_total names_apart m.nodes name (with_written sample_model n x) (with_all_written sample_model n (x ∷ xs)) i; world = with_samples m.world (x ∷ xs) }) rest
+
+-- ---- the models agree
+
+-- the next sample is ahead of what a sound node knows
+is_ahead_of : (w : World) (n : Node Knowledge) → IsSoundNode w n → (x : Sample) → x.origin ≡ n.origin → x.number ≡ n.next → IsAheadOf x n.contents
+is_ahead_of w n sound x ours next m e same =
+    subst (λ (k : ℕ). m.number < k) (sym next) (sound.numbered m.sample (sound.closed.written m e).0 (same ∙ ours))
+
+all_written_agree : (w : World) (n : Node Knowledge) → IsLayout n.schema → IsSoundNode w n → (xs : List Sample) → AreNext n.origin n.next xs
+    → with_all_written cell_model (node_in_cells n) xs ≡ node_in_cells (with_all_written sample_model n xs)
+all_written_agree w n is sound [] next = refl
+all_written_agree w n is sound (x ∷ xs) next =
+    let put = put_is_one_sample_more n.schema n.contents x is (is_ahead_of w n sound x next.0 next.1) in
+    let more = with_written sample_model n x in
+    ap (λ (c : Cells). with_all_written cell_model (record { schema = n.schema; origin = n.origin; next = x.number + 1; contents = c }) xs) put
+    ∙ all_written_agree (with_sample w x) more is (writer_is_sound w n is sound x next.0 next.1) xs (subst (λ (k : ℕ). AreNext n.origin (k + 1) xs) (sym next.1) next.2)
+
+pub write_agrees : (m : State Knowledge) → IsSound m → (name line : List ℕ) → Agrees in_cells IsSound (after_write cell_model (in_cells m) name line) (after_write sample_model m name line)
+unfolding after_write
+write_agrees m sound name line =
+    found_agree in_cells IsSound node_in_cells m.nodes name NoNode _ _ (λ n here. then_agree in_cells IsSound (samples_of_line n m.clock m.lead line) _ _ (λ xs said.
+    let next = line_is_next n m.clock m.lead line xs said in
+    done_agrees in_cells IsSound _ _ (with_node_agrees m name (with_all_written cell_model (node_in_cells n) xs) (with_all_written sample_model n xs) m.origins (with_samples m.world xs) (all_written_agree m.world n (layout_at m sound name n here) (sound.nodes name n here) xs next))
+    (samples_are_sound m sound name n here xs next)))

@@ -1,0 +1,97 @@
+-- Which state a cluster represents after a step, and what it has where the state has it.
+use Rattle.std.proofs.Common.{◌≡◌, ℕ, pos, Bool, true, false, cond, List, [], Option, Some, None, refl, sym, ap, ◌∙◌}
+use Rattle.std.specs.Option.{is_some, option_map}
+use Rattle.std.specs.Ordering.{eq_by_cmp}
+use Rattle.std.specs.Cmp.Lexicographic.{nat_list_cmp_total}
+use Rattle.std.specs.BTreeMap.{BTreeMap, insert_entry}
+use Rattle.std.specs.Map.{set_value}
+use Rattle.std.specs.Global.{Vec}
+use Rattle.std.specs.FinMap as map
+use Rattle.rr_archive.specs.declared.archive.Archive.{Ghosts}
+use Rattle.rr_base.specs.Schema.{Layout}
+use Rattle.rr_join.proofs.ValuesLemmas.{get_called-insert, get_called-set}
+use Rattle.rr_model.specs.World.{World}
+use Rattle.rr_replica.specs.Cells.{Cells}
+use Rattle.rr_replica.specs.Holding.{Holding}
+use Rattle.rr_base.specs.Bytes.{bytes_cmp}
+use Rattle.rr_cluster.specs.declared.cluster.Cluster.{Cluster}
+use Rattle.rr_cluster.specs.Meaning.{node_of, replica_at, Represents}
+use Rattle.rr_cluster.specs.State.{Node, State, first_state}
+use Rattle.rr_cluster.proofs.StepLemmas.{names_apart}
+
+abbrev pub Replicas : Type 0
+Replicas = BTreeMap (Vec ℕ) Holding
+
+abbrev name_of : Vec ℕ → List ℕ
+name_of key = key.items
+
+-- one map has the replica at a name, and at the others what the other has
+abbrev pub HasPut : Replicas → Replicas → List ℕ → Holding → Type 0
+HasPut old new name h = (q : List ℕ) → replica_at new q ≡ cond (eq_by_cmp bytes_cmp q name) (Some h) (replica_at old q)
+
+pub inserted : (old new : Replicas) (key : Vec ℕ) (h : Holding) → new.entries ≡ insert_entry (λ a b. bytes_cmp a.items b.items) old.entries key h → HasPut old new key.items h
+inserted = get_called-insert nat_list_cmp_total names_apart name_of
+
+pub changed : (old new : Replicas) (name : List ℕ) (h : Holding) → new.entries ≡ set_value (λ key. eq_by_cmp bytes_cmp name key.items) old.entries h → is_some (replica_at old name) ≡ true → HasPut old new name h
+changed = get_called-set nat_list_cmp_total names_apart name_of
+
+-- a replica put under a name, on both sides
+pub nodes_put : (old new : Replicas) (before : map.FinMap bytes_cmp (Node Cells)) (name : List ℕ) (h : Holding)
+    → ((q : List ℕ) → map.get before q ≡ option_map node_of (replica_at old q)) → HasPut old new name h
+    → (q : List ℕ) → map.get (map.insert before name (node_of h)) q ≡ option_map node_of (replica_at new q)
+nodes_put old new before name h same put q =
+    map.get-insert nat_list_cmp_total before name (node_of h) q ∙ by (eq_by_cmp bytes_cmp q name) ∙ sym (ap (option_map node_of) (put q))
+  where
+    by : (b : Bool) → cond b (Some (node_of h)) (map.get before q) ≡ option_map node_of (cond b (Some h) (replica_at old q))
+    by true = refl
+    by false = same q
+
+some_of_map : (o : Option Holding) → is_some o ≡ is_some (option_map node_of o)
+some_of_map None = refl
+some_of_map (Some h) = refl
+
+module _ {A : Type 0} {g : Ghosts A} where
+  pub represents_first : (c : Cluster A g) (s : Layout) → c.schema ≡ s → c.clock ≡ pos 0 → c.lead ≡ None → c.nodes.entries ≡ [] → c.origins.keys ≡ [] → Represents c (first_state s)
+  represents_first c s schema clock lead nodes origins = record {
+    schema = schema;
+    clock = clock;
+    lead = lead;
+    nodes = λ name. rw nodes (map.get-empty bytes_cmp name);
+    origins = λ origin. rw origins refl;
+  }
+
+  -- a cluster with the same in each field but its nodes
+  pub record SameBesidesNodes (old new : Cluster A g) : Type 0 where
+    pub schema : new.schema ≡ old.schema
+    pub clock : new.clock ≡ old.clock
+    pub lead : new.lead ≡ old.lead
+    pub origins : new.origins ≡ old.origins
+
+  module _ (old new : Cluster A g) (m : State Cells) (same : SameBesidesNodes old new) (is : Represents old m) where
+    pub represents_same : new.nodes ≡ old.nodes → Represents new m
+    represents_same nodes = record {
+      schema = same.schema ∙ is.schema;
+      clock = same.clock ∙ is.clock;
+      lead = same.lead ∙ is.lead;
+      nodes = λ name. rw nodes (is.nodes name);
+      origins = λ origin. rw same.origins (is.origins origin);
+    }
+
+    -- with a replica changed, and more written
+    pub represents_put : (name : List ℕ) (h : Holding) (w : World) → HasPut old.nodes new.nodes name h → Represents new (record m { nodes = map.insert m.nodes name (node_of h); world = w })
+    represents_put name h w put = record {
+      schema = same.schema ∙ is.schema;
+      clock = same.clock ∙ is.clock;
+      lead = same.lead ∙ is.lead;
+      nodes = nodes_put old.nodes new.nodes m.nodes name h is.nodes put;
+      origins = λ origin. rw same.origins (is.origins origin);
+    }
+
+  module _ (c : Cluster A g) (m : State Cells) (is : Represents c m) where
+    -- whether the state has the name
+    pub node_there : (name : List ℕ) → is_some (replica_at c.nodes name) ≡ map.contains_key m.nodes name
+    node_there name = some_of_map (replica_at c.nodes name) ∙ ap is_some (sym (is.nodes name))
+
+    -- what it has there
+    pub node_at : (name : List ℕ) (o : Option Holding) → replica_at c.nodes name ≡ o → map.get m.nodes name ≡ option_map node_of o
+    node_at name o e = is.nodes name ∙ ap (option_map node_of) e

@@ -1,0 +1,99 @@
+-- States of the sample model that are sound: with a node more, and with another in its place.
+use Rattle.std.proofs.Common.{◌≡◌, ◌≢◌, ℕ, false, ◌∷◌, List, Some, sym, ap, subst, ◌∙◌, true≢false}
+use Rattle.std.specs.Prelude.{◌==◌}
+use Rattle.std.specs.List.{list_any}
+use Rattle.std.specs.Cmp.Lexicographic.{nat_list_cmp_total}
+use Rattle.std.specs.FinMap.{get, insert}
+use Rattle.std.proofs.lemmas.Bool.{eq-eqb, or_left, or_right}
+use Rattle.rr_base.specs.Schema.{Layout}
+use Rattle.rr_join.proofs.ValuesLemmas.{insert_cases}
+use Rattle.rr_model.specs.Knowledge.{Knowledge}
+use Rattle.rr_model.specs.Samples.{Sample}
+use Rattle.rr_model.specs.World.{World, IsWritten, IsClosed}
+use Rattle.rr_cluster.specs.Soundness.{IsSound, IsSoundNode, IsUsed}
+use Rattle.rr_cluster.specs.State.{Node, State}
+use Rattle.rr_cluster.proofs.StepLemmas.{names_apart}
+
+put_cases : {P : Type 0} (m : State Knowledge) (name : List ℕ) (n : Node Knowledge) (q : List ℕ) (o : Node Knowledge) → get (insert m.nodes name n) q ≡ Some o
+    → (q ≡ name → n ≡ o → P) → (q ≢ name → get m.nodes q ≡ Some o → P) → P
+put_cases m name n q o = insert_cases nat_list_cmp_total names_apart m.nodes name n q o
+
+-- ---- a node of a new origin
+
+module _ (m : State Knowledge) (sound : IsSound m) (name : List ℕ) (n : Node Knowledge) (shared : n.schema ≡ m.schema) (is_sound : IsSoundNode m.world n) (unused : list_any (λ used. used == n.origin) m.origins ≡ false) where
+  abbrev with_node : State Knowledge
+  with_node = record m { nodes = insert m.nodes name n; origins = n.origin ∷ m.origins }
+
+  not_used : (origin : ℕ) → IsUsed m origin → origin ≢ n.origin
+  not_used origin is same = true≢false (sym is ∙ ap (λ (o : ℕ). list_any (λ used. used == o) m.origins) same ∙ unused)
+
+  still_used : (origin : ℕ) → IsUsed m origin → IsUsed with_node origin
+  still_used origin is = or_right (n.origin == origin) (list_any (λ used. used == origin) m.origins) is
+
+  pub with_node_is_sound : IsSound with_node
+  with_node_is_sound = record {
+    layout = sound.layout;
+    shared = λ q o e. put_cases m name n q o e
+        (λ at same. ap (λ (x : Node Knowledge). x.schema) (sym same) ∙ shared)
+        (λ other here. sound.shared q o here);
+    nodes = λ q o e. put_cases m name n q o e
+        (λ at same. subst (IsSoundNode m.world) same is_sound)
+        (λ other here. sound.nodes q o here);
+    apart = λ a b p o e h same. put_cases m name n a p e
+        (λ at is. put_cases m name n b o h
+        (λ bt it. at ∙ sym bt)
+        (λ other here. absurd (not_used o.origin (sound.used b o here) (sym same ∙ sym (ap (λ (x : Node Knowledge). x.origin) is)))))
+        (λ other here. put_cases m name n b o h
+        (λ bt it. absurd (not_used p.origin (sound.used a p here) (same ∙ sym (ap (λ (x : Node Knowledge). x.origin) it))))
+        (λ also there. sound.apart a b p o here there same));
+    used = λ q o e. put_cases m name n q o e
+        (λ at same. or_left (n.origin == o.origin) (list_any (λ used. used == o.origin) m.origins) (eq-eqb n.origin o.origin (ap (λ (x : Node Knowledge). x.origin) same)))
+        (λ other here. still_used o.origin (sound.used q o here));
+    written = λ x was. still_used x.origin (sound.written x was);
+  }
+
+-- a node of an origin under which nothing was written, that knows what has no gaps
+pub starting_is_sound : (m : State Knowledge) → IsSound m → (s : Layout) (number : ℕ) (k : Knowledge) → IsClosed s m.world k → list_any (λ used. used == number) m.origins ≡ false
+    → IsSoundNode m.world (record { schema = s; origin = number; next = 1; contents = k })
+starting_is_sound m sound s number k closed unused =
+    let none : (x : Sample) → IsWritten m.world x → x.origin ≢ number = λ x was same. true≢false (sym (sound.written x was) ∙ ap (λ (o : ℕ). list_any (λ used. used == o) m.origins) same ∙ unused) in
+    record {
+      closed = closed;
+      own = λ mark of is. absurd (none mark.sample of.0 is);
+      numbered = λ x was is. absurd (none x was is);
+    }
+
+-- ---- a node in the place of one of its schema and origin, in a world that may have grown
+
+module _ (m : State Knowledge) (sound : IsSound m) (name : List ℕ) (n o : Node Knowledge) (here : get m.nodes name ≡ Some n) (schema : o.schema ≡ n.schema) (origin : o.origin ≡ n.origin) (w : World) where
+  abbrev with_node_in_place : State Knowledge
+  with_node_in_place = record m { nodes = insert m.nodes name o; world = w }
+
+  -- a node of another name has another origin
+  other_origin : (q : List ℕ) (p : Node Knowledge) → q ≢ name → get m.nodes q ≡ Some p → p.origin ≢ n.origin
+  other_origin q p other there same = other (sound.apart q name p n there here same)
+
+  abbrev OthersStaySound : Type 0
+  OthersStaySound = (p : Node Knowledge) → p.origin ≢ n.origin → IsSoundNode m.world p → IsSoundNode w p
+
+  pub place_is_sound : IsSoundNode w o → OthersStaySound → ((x : Sample) → IsWritten w x → IsUsed m x.origin) → IsSound with_node_in_place
+  place_is_sound itself others written = record {
+    layout = sound.layout;
+    shared = λ q p e. put_cases m name o q p e
+        (λ at same. ap (λ (y : Node Knowledge). y.schema) (sym same) ∙ schema ∙ sound.shared name n here)
+        (λ other there. sound.shared q p there);
+    nodes = λ q p e. put_cases m name o q p e
+        (λ at same. subst (IsSoundNode w) same itself)
+        (λ other there. others p (other_origin q p other there) (sound.nodes q p there));
+    apart = λ a b p q e h same. put_cases m name o a p e
+        (λ at is. put_cases m name o b q h
+        (λ bt it. at ∙ sym bt)
+        (λ other there. absurd (other_origin b q other there (sym same ∙ sym (ap (λ (y : Node Knowledge). y.origin) is) ∙ origin))))
+        (λ other there. put_cases m name o b q h
+        (λ bt it. absurd (other_origin a p other there (same ∙ sym (ap (λ (y : Node Knowledge). y.origin) it) ∙ origin)))
+        (λ also there_too. sound.apart a b p q there there_too same));
+    used = λ q p e. put_cases m name o q p e
+        (λ at same. subst (IsUsed m) (sym origin ∙ ap (λ (y : Node Knowledge). y.origin) same) (sound.used name n here))
+        (λ other there. sound.used q p there);
+    written = written;
+  }

@@ -1,0 +1,10 @@
+use Rattle.std.proofs.Common.{◌≡◌, ◌++◌, Some, ap, rules}
+use Rattle.rr_cluster.specs.Checks.{on_ok}
+use Rattle.rr_cluster.specs.Commands.{printing}
+use Rattle.rr_cluster.proofs.commands.obey_later.Goals as goal
+
+pub returns-in_ok-extend_from_slice-in-Fetch : goal.returns-in_ok-extend_from_slice-in-Fetch
+returns-in_ok-extend_from_slice-in-Fetch g c = λ m is.
+    let answer = c.in_ok-answer-in-Fetch.answer.items in
+    let text : c.extend_from_slice.new.self.items ≡ c.args.text.now.items ++ answer = search rules in
+    rw c.in-Fetch.is ((Some m, answer), ap (on_ok (printing m)) (c.in_ok-answer-in-Fetch.ensures m is), (text, is))

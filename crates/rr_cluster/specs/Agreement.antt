@@ -1,0 +1,42 @@
+-- The cell model and the sample model agree: a state of samples has its cells, and a script prints the same in both.
+use Rattle.std.specs.Prelude.{◌≡◌, ℕ, List, Option, IfSome}
+use Rattle.std.specs.Option.{option_map}
+use Rattle.rr_join.specs.Values.{map_values}
+use Rattle.rr_model.specs.Knowledge.{Knowledge}
+use Rattle.rr_replica.specs.Cells.{Cells}
+use Rattle.rr_replica.specs.State.{state}
+use Rattle.rr_cluster.specs.Checks.{on_ok}
+use Rattle.rr_cluster.specs.Command.{Command}
+use Rattle.rr_cluster.specs.Commands.{step}
+use Rattle.rr_cluster.specs.Model.{cell_model, sample_model}
+use Rattle.rr_cluster.specs.Output.{output_of}
+use Rattle.rr_cluster.specs.Soundness.{IsSound}
+use Rattle.rr_cluster.specs.State.{Node, State}
+
+-- a node, with the cells of the samples that it knows
+abbrev pub node_in_cells : Node Knowledge → Node Cells
+node_in_cells n = record { schema = n.schema; origin = n.origin; next = n.next; contents = state n.schema n.contents }
+
+-- a state, with each node in cells
+abbrev pub in_cells : State Knowledge → State Cells
+in_cells m = record {
+  schema = m.schema;
+  clock = m.clock;
+  lead = m.lead;
+  nodes = map_values node_in_cells m.nodes;
+  origins = m.origins;
+  world = m.world;
+}
+
+-- a state, if the schema is set, in cells, with what is printed
+abbrev pub step_in_cells : Option (State Knowledge) × List ℕ → Option (State Cells) × List ℕ
+step_in_cells done = (option_map in_cells done.0, done.1)
+
+-- in a sound state of samples, turned into cells, each command leaves the same, turned into cells, and prints the same
+abbrev pub CommandsAgree : Type 0
+CommandsAgree = (m : Option (State Knowledge)) (command : Command) → IfSome m IsSound
+    → step cell_model (option_map in_cells m) command ≡ on_ok step_in_cells (step sample_model m command)
+
+-- so each script prints the same
+abbrev pub ScriptsAgree : Type 0
+ScriptsAgree = (script : List ℕ) → output_of cell_model script ≡ output_of sample_model script

@@ -1,0 +1,43 @@
+-- A command with its words, and how one in memory is seen.
+use Rattle.std.specs.Prelude.{ℕ, ◌+◌, List, [], length, Option, None, Some}
+use Rattle.std.specs.Borrow.{Bor}
+use Rattle.rr_base.specs.Bytes.{HasNoLineFeed}
+use Rattle.rr_fetch.specs.Words.{Parts, parts}
+use Rattle.rr_cluster.specs.declared.event.Event.{Event}
+use Rattle.rr_cluster.specs.declared.event.Event.TheVariants as event
+use Rattle.rr_cluster.specs.Words.{words_of}
+
+pub data Command : Type 0 where
+  schema : (step : List ℕ) (archives : List (List ℕ)) → Command
+  node : (name origin : List ℕ) → Command
+  now : (time : List ℕ) (lead : Option (List ℕ)) → Command
+  write : (node line : List ℕ) → Command
+  fetch : (node : List ℕ) (request : Parts) → Command
+
+-- the words of the archives, if there are any
+abbrev pub archive_words : Option (Bor (List ℕ)) → List (List ℕ)
+archive_words None = []
+archive_words (Some words) = words_of words.now
+
+-- how many bytes of them are left, and one more where there are words at all
+abbrev pub bytes_left : Option (Bor (List ℕ)) → ℕ
+bytes_left None = 0
+bytes_left (Some words) = length words.now + 1
+
+-- a word, if there is one
+abbrev pub word_of : Option (Bor (List ℕ)) → Option (List ℕ)
+word_of None = None
+word_of (Some word) = Some word.now
+
+-- an event by the bytes of its words
+abbrev pub view_of : Event → Command
+view_of (event.Schema step archives) = schema step.now (archive_words archives)
+view_of (event.Node name origin) = node name.now origin.now
+view_of (event.Now time lead) = now time.now (word_of lead)
+view_of (event.Write name line) = write name.now line.now
+view_of (event.Fetch name request) = fetch name.now (parts request)
+
+-- the line of a write is one line
+abbrev pub IsOneLine : Command → Type 0
+IsOneLine (write name line) = HasNoLineFeed line
+IsOneLine command = Unit {0}

@@ -1,0 +1,107 @@
+//! The commands. Each has a file of its own, with how it is read from its words and what it does.
+
+ghost use Rattle.std.specs.Prelude.{◌≡◌, Option, None, Some, option_map};
+ghost use Rattle.rr_replica.specs.Cells.{Cells};
+ghost use Rattle.rr_cluster.specs.Command.{view_of, IsOneLine};
+ghost use Rattle.rr_cluster.specs.Commands.{command_of, step};
+ghost use Rattle.rr_cluster.specs.Meaning.{Begins, OptionRepresents, Obeys, Represents};
+ghost use Rattle.rr_cluster.specs.Model.{cell_model};
+ghost use Rattle.rr_cluster.specs.State.{State};
+ghost use Rattle.rr_cluster.specs.Words.{words_of};
+
+pub(crate) mod fetch;
+pub(crate) mod node;
+pub(crate) mod now;
+pub(crate) mod schema;
+pub(crate) mod write;
+
+use crate::cluster::Cluster;
+use crate::event::Event;
+use crate::fault::CommandFault;
+use crate::stop::Stop;
+use crate::words::first_word;
+use fetch::{answer_to, fetch_command};
+use node::{add_node, node_command};
+use now::{now_command, set_clock};
+use rr_archive::Archive;
+use schema::{schema_command, schema_of};
+use std::alloc::Global;
+use write::{write_command, write_line};
+
+/// The command that a line spells. Each has two words at least.
+pub(crate) fn command_of(line: &[u8]) -> Option<Event<'_>>
+    ensures { option_map view_of result ≡ command_of (words_of line.now) }
+{
+    let (name, words) = first_word(line)?;
+    if name == b"schema".as_slice() {
+        Some(schema_command(words))
+    } else if name == b"node".as_slice() {
+        node_command(words)
+    } else if name == b"now".as_slice() {
+        now_command(words)
+    } else if name == b"write".as_slice() {
+        write_command(words)
+    } else if name == b"fetch".as_slice() {
+        fetch_command(words)
+    } else {
+        None
+    }
+}
+
+/// Obeys a command, and adds what it prints to the text. Until the schema is set there is no
+/// cluster.
+pub(crate) fn obey<A: Archive>(
+    alloc: Global,
+    cluster: &mut Option<Cluster<A>>,
+    event: Event<'_>,
+    text: &mut Vec<u8>,
+) -> Result<(), Stop>
+    requires { IsOneLine (view_of event) }
+    ensures { (m : Option (State Cells)) → OptionRepresents cluster.old m
+        → Obeys cluster.new m text.old.items text.new.items result (step cell_model m (view_of event.entry)) }
+{
+    match cluster {
+        Some(cluster) => obey_later(cluster, event, text),
+        None => {
+            *cluster = Some(begin(alloc, event)?);
+            Ok(())
+        }
+    }
+}
+
+/// Obeys the first command, which has to be `schema`.
+fn begin<A: Archive>(alloc: Global, event: Event<'_>) -> Result<Cluster<A>, Stop>
+    ensures { Begins result (step cell_model None (view_of event.entry)) }
+{
+    match event {
+        Event::Schema { step, archives } => {
+            let schema = schema_of(alloc, step, archives)?;
+            Ok(Cluster::new(alloc, schema))
+        }
+        _ => Err(Stop::Refused(CommandFault::NoSchema)),
+    }
+}
+
+/// Obeys a command once the schema is set.
+fn obey_later<A: Archive>(
+    cluster: &mut Cluster<A>,
+    event: Event<'_>,
+    text: &mut Vec<u8>,
+) -> Result<(), Stop>
+    requires { IsOneLine (view_of event) }
+    ensures { (m : State Cells) → Represents cluster.old m
+        → Obeys (Some cluster.new) (Some m) text.old.items text.new.items result
+        (step cell_model (Some m) (view_of event.entry)) }
+{
+    match event {
+        Event::Schema { .. } => Err(Stop::Refused(CommandFault::SchemaSet)),
+        Event::Node { name, origin } => add_node(cluster, name, origin),
+        Event::Now { time, lead } => set_clock(cluster, time, lead),
+        Event::Write { node, line } => write_line(cluster, node, line),
+        Event::Fetch { node, request } => {
+            let answer = answer_to(cluster, node, &request)?;
+            text.extend_from_slice(answer.as_slice())?;
+            Ok(())
+        }
+    }
+}

@@ -1,0 +1,45 @@
+//! `fetch NODE CF RESOLUTION START END KEY`: prints rows of a series.
+
+ghost use Rattle.std.specs.Prelude.{◌≡◌, option_map};
+ghost use Rattle.rr_fetch.specs.Words.{parts};
+ghost use Rattle.rr_replica.specs.Cells.{Cells};
+ghost use Rattle.rr_cluster.specs.Command.{view_of};
+ghost use Rattle.rr_cluster.specs.Commands.Fetch.{answer_to, fetch_command};
+ghost use Rattle.rr_cluster.specs.Meaning.{Represents};
+ghost use Rattle.rr_cluster.specs.Model.{cell_model};
+ghost use Rattle.rr_cluster.specs.State.{State};
+ghost use Rattle.rr_cluster.specs.Stop.{Gives};
+ghost use Rattle.rr_cluster.specs.Words.{words_of};
+
+use crate::cluster::Cluster;
+use crate::event::Event;
+use crate::fault::CommandFault;
+use crate::stop::Stop;
+use crate::words::first_word;
+use rr_archive::Archive;
+use rr_fetch::{RequestWords, answer_text, read_request, request_words};
+
+/// The command of the words after `fetch`; the key is all that follows the end.
+pub(crate) fn fetch_command(words: &[u8]) -> Option<Event<'_>>
+    ensures { option_map view_of result ≡ fetch_command (words_of words.now) }
+{
+    let (node, rest) = first_word(words)?;
+    let request = request_words(rest)?;
+    Some(Event::Fetch { node, request })
+}
+
+/// The answer of a node to a request.
+pub(crate) fn answer_to<A: Archive>(
+    cluster: &Cluster<A>,
+    node: &[u8],
+    request: &RequestWords<'_>,
+) -> Result<Vec<u8>, Stop>
+    ensures { (m : State Cells) → Represents cluster.now m
+        → Gives (λ text. text.items) result (answer_to cell_model m node.now (parts request.now)) }
+{
+    let Some(replica) = cluster.nodes.get(node) else {
+        return Err(Stop::Refused(CommandFault::NoNode));
+    };
+    let request = read_request(cluster.alloc, request, replica.schema())?;
+    Ok(answer_text(cluster.alloc, replica, &request)?)
+}

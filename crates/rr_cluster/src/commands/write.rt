@@ -1,0 +1,79 @@
+//! `write NODE LINE`: hands a line of the line protocol to a node.
+
+ghost use Rattle.std.specs.Prelude.{◌≡◌, option_map};
+ghost use Rattle.rr_base.specs.Bytes.{HasNoLineFeed};
+ghost use Rattle.rr_line.specs.Line.{point_view};
+ghost use Rattle.rr_replica.specs.Cells.{Cells};
+ghost use Rattle.rr_replica.specs.Writing.{IsOfALine};
+ghost use Rattle.rr_cluster.specs.Command.{view_of};
+ghost use Rattle.rr_cluster.specs.Commands.Write.{after_write, samples_of_line, samples_of_point, write_command};
+ghost use Rattle.rr_cluster.specs.Meaning.{node_of, Leaves, Represents, Writes};
+ghost use Rattle.rr_cluster.specs.Model.{cell_model};
+ghost use Rattle.rr_cluster.specs.State.{State};
+ghost use Rattle.rr_cluster.specs.Words.{words_of};
+
+use crate::cluster::Cluster;
+use crate::event::Event;
+use crate::fault::CommandFault;
+use crate::stop::Stop;
+use crate::words::first_word;
+use rr_archive::Archive;
+use rr_line::{Line, Point, Precision, parse_line};
+use rr_replica::Replica;
+use std::alloc::Global;
+
+/// The command of the words after `write`; the line is all that follows the node.
+pub(crate) fn write_command(words: &[u8]) -> Option<Event<'_>>
+    ensures { option_map view_of result ≡ write_command (words_of words.now) }
+{
+    let (node, line) = first_word(words)?;
+    Some(Event::Write { node, line })
+}
+
+/// Writes a line to a node.
+pub(crate) fn write_line<A: Archive>(
+    cluster: &mut Cluster<A>,
+    node: &[u8],
+    line: &[u8],
+) -> Result<(), Stop>
+    requires { HasNoLineFeed line.now }
+    ensures { (m : State Cells) → Represents cluster.old m
+        → Leaves cluster.new m result (after_write cell_model m node.now line.now) }
+{
+    match cluster.nodes.get_mut(node) {
+        Some(replica) => write_to(cluster.alloc, replica, cluster.clock, cluster.lead, line),
+        None => Err(Stop::Refused(CommandFault::NoNode)),
+    }
+}
+
+/// Writes the samples of a line at a moment, or none: a line that is refused changes nothing.
+fn write_to<A: Archive>(
+    alloc: Global,
+    replica: &mut Replica<A>,
+    clock: i64,
+    lead: Option<u64>,
+    line: &[u8],
+) -> Result<(), Stop>
+    requires { HasNoLineFeed line.now }
+    ensures { Writes replica.old replica.new result (samples_of_line (node_of replica.old) clock lead line.now) }
+{
+    match parse_line(alloc, line, Precision::Ns)? {
+        Line::Nothing => Ok(()),
+        Line::Point(point) => write_point(replica, &point, clock, lead),
+    }
+}
+
+/// Writes the samples of a point, or none.
+fn write_point<A: Archive>(
+    replica: &mut Replica<A>,
+    point: &Point<'_>,
+    clock: i64,
+    lead: Option<u64>,
+) -> Result<(), Stop>
+    requires { IsOfALine (point_view point.now) }
+    ensures { Writes replica.old replica.new result
+        (samples_of_point (node_of replica.old) clock lead (point_view point.now)) }
+{
+    replica.write(point, clock, lead)?;
+    Ok(())
+}

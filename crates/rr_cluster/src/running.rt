@@ -1,0 +1,67 @@
+//! A script, from its bytes to what it prints.
+
+ghost use Rattle.std.specs.Prelude.{◌≡◌, Option, IfOk, OnOk};
+ghost use Rattle.rr_replica.specs.Cells.{Cells};
+ghost use Rattle.rr_cluster.specs.Meaning.{OptionRepresents, Prints};
+ghost use Rattle.rr_cluster.specs.Model.{cell_model, sample_model};
+ghost use Rattle.rr_cluster.specs.Output.{obeyed, output_of};
+ghost use Rattle.rr_cluster.specs.Script.{said_view, SaysOneLine};
+ghost use Rattle.rr_cluster.specs.State.{State};
+
+use crate::cluster::Cluster;
+use crate::commands::obey;
+use crate::event::ScriptLine;
+use crate::fault::RunFault;
+use crate::script::parse_script;
+use crate::stop::Stop;
+use rr_archive::{Archive, PlainArchive};
+use rr_records::push_refusal;
+use std::alloc::Global;
+
+/// What a script prints: the answers of its fetches, and `line N: NAME` for each command that is
+/// refused, in the order of its lines.
+///
+/// The cost of a line is that of its own command: a write looks up its node, its series and its
+/// slot; a fetch looks up its node and its series, and one slot for each row.
+pub fn run(alloc: Global, script: &[u8]) -> Result<Vec<u8>, RunFault>
+    ensures cells { IfOk result (λ text. text.items ≡ output_of cell_model script.now) }
+    ensures samples { IfOk result (λ text. text.items ≡ output_of sample_model script.now) }
+{
+    run_on::<PlainArchive>(alloc, script)
+}
+
+/// What a script prints, with the series of all nodes in archives of this kind.
+fn run_on<A: Archive>(alloc: Global, script: &[u8]) -> Result<Vec<u8>, RunFault>
+    ensures { IfOk result (λ text. text.items ≡ output_of cell_model script.now) }
+{
+    let lines = parse_script(alloc, script)?;
+    let mut cluster: Option<Cluster<A>> = None;
+    let mut text = Vec::new(alloc);
+    for line in &lines {
+        obey_line(alloc, &mut cluster, line, &mut text)?;
+    }
+    Ok(text)
+}
+
+/// Obeys a line, and adds what it prints to the text.
+fn obey_line<A: Archive>(
+    alloc: Global,
+    cluster: &mut Option<Cluster<A>>,
+    line: &ScriptLine<'_>,
+    text: &mut Vec<u8>,
+) -> Result<(), RunFault>
+    requires { SaysOneLine (said_view line.now.said) }
+    ensures { OnOk result ((m : Option (State Cells)) → OptionRepresents cluster.old m
+        → Prints cluster.new text.old.items text.new.items
+        (obeyed cell_model m line.now.number (said_view line.now.said))) }
+{
+    let done = match line.said {
+        Ok(event) => obey(alloc, cluster, event, text),
+        Err(fault) => Err(Stop::Refused(fault)),
+    };
+    match done {
+        Ok(()) => Ok(()),
+        Err(Stop::Refused(fault)) => Ok(push_refusal(text, line.number, fault.name())?),
+        Err(Stop::Memory) => Err(RunFault::Memory),
+    }
+}
