@@ -1,6 +1,7 @@
 -- Which contributions a cell of an archive can hold in a slot.
-use Rattle.std.specs.Prelude.{◌≡◌, ℕ, ℤ, pos, ◌*ℤ◌, ◌≤ℤ◌, ◌^◌, ◌<◌, ◌≤◌, length, count_ones}
+use Rattle.std.specs.Prelude.{◌≡◌, ◌↔◌, ◌==◌, ℕ, ℤ, pos, ◌*ℤ◌, ◌≤ℤ◌, ◌^◌, ◌<◌, ◌≤◌, nat_le, nat_lt, int_le, Bool, ◌&&◌, IsTrue, length, count_ones}
 use Rattle.std.specs.Int.{bit_at}
+use Rattle.std.specs.Ordering.{int_eq}
 use Rattle.rr_base.specs.declared.limits.TheConstants.{MAX_NUMBER}
 use Rattle.rr_base.specs.Schema.{Layout, IsLayout, archive_at, slot_of, place_of}
 use Rattle.rr_contrib.specs.declared.contribution.Contribution.{Contribution}
@@ -32,6 +33,25 @@ pub record IsValid (s : Layout) (archive : ℕ) (slot : ℤ) (c : Contribution) 
   pub in_steps : c.mask < 2 ^ (archive_at s archive).steps
   pub has_last : bit_at c.mask (place_of s archive c.last_time) ≡ 1
   pub few : count_ones c.mask ≤ c.count
+
+-- whether a contribution is valid
+unfoldable pub is_valid : Layout → ℕ → ℤ → Contribution → Bool
+is_valid s archive slot c =
+    nat_le 1 c.count
+    && (nat_le c.count c.version
+    && (nat_le c.version MAX_NUMBER
+    && (int_le c.min c.last_value
+    && (int_le c.last_value c.max
+    && (int_le (pos c.count *ℤ c.min) c.sum
+    && (int_le c.sum (pos c.count *ℤ c.max)
+    && (int_eq (slot_of s archive c.last_time) slot
+    && (nat_lt c.mask (2 ^ (archive_at s archive).steps)
+    && ((bit_at c.mask (place_of s archive c.last_time) == 1)
+    && nat_le (count_ones c.mask) c.count)))))))))
+
+-- the test says whether the contribution is valid
+abbrev pub ValidityIsTested : Type 0
+ValidityIsTested = (s : Layout) (archive : ℕ) (slot : ℤ) (c : Contribution) → IsTrue (is_valid s archive slot c) ↔ IsValid s archive slot c
 
 -- in each archive where the sample has this place, its contribution is valid in its slot
 abbrev pub StartsValid : SlotSample → Contribution → Type 0

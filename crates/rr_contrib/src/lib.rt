@@ -10,5 +10,6 @@
 #![tactic(auto)]
 
 mod contribution;
+pub mod laws;
 
 pub use contribution::{Contribution, Mask};

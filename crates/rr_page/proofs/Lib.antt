@@ -1,3 +1,2 @@
-pub mod ValidLemmas
 pub mod ReadLemmas
 pub mod WriteLemmas

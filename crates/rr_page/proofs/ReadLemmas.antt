@@ -4,18 +4,18 @@ use Rattle.std.specs.Prelude.{nat_lt, ◌==◌}
 use Rattle.std.specs.Int.{w16, w64}
 use Rattle.std.proofs.lemmas.Bool.{false_from_ne_true}
 use Rattle.rr_base.specs.declared.limits.TheConstants.{MAX_KEY_TEXT}
+use Rattle.rr_base.specs.Results.{◌>>=◌, unless}
 use Rattle.rr_base.specs.Schema.{Layout}
 use Rattle.rr_contrib.specs.declared.contribution.Contribution.{Contribution}
-use Rattle.rr_contrib.specs.Validity.{IsValid}
+use Rattle.rr_contrib.specs.Validity.{IsValid, is_valid}
+use Rattle.rr_contrib.proofs.ValidityLemmas.{Decides-is_valid}
 use Rattle.rr_key.specs.Reading.{is_key_text}
 use Rattle.rr_key.specs.Series.{IsKeyText}
 use Rattle.rr_key.proofs.ToldLemmas.{key_text_told}
 use Rattle.rr_model.specs.CellNames.{CellName}
 use Rattle.rr_page.specs.declared.fault.PageFault.{PageFault}
 use Rattle.rr_page.specs.declared.fault.PageFault.TheVariants.{BadKey, BadContribution}
-use Rattle.rr_page.specs.Reading.{◌>>=◌, unless, front_at, number_at, signed_at, key_at, archive_at, contribution_at, cell_at}
-use Rattle.rr_page.specs.Valid.{is_valid}
-use Rattle.rr_page.proofs.ValidLemmas.{valid_told}
+use Rattle.rr_page.specs.Reading.{front_at, number_at, signed_at, key_at, archive_at, contribution_at, cell_at}
 
 abbrev keyed : List ℕ × List ℕ → Result (List ℕ × List ℕ) PageFault
 keyed text = unless BadKey (not (is_key_text text.0)) (Ok text)
@@ -54,10 +54,10 @@ module _ (s : Layout) (bytes key r1 : List ℕ) (archive : ℕ) (r2 : List ℕ) 
   found = ((record { key = key; archive = archive; slot = slot; origin = origin }, c), after)
 
   pub cell_read : (origin == 0) ≡ false → IsValid s archive slot c → cell_at s bytes ≡ Ok ((record { key = key; archive = archive; slot = slot; origin = origin }, c), after)
-  cell_read some v = cell_parts ∙ (λ i. unless BadContribution (some i || not ((valid_told s archive slot c).1 v i)) (Ok found))
+  cell_read some v = cell_parts ∙ (λ i. unless BadContribution (some i || not ((Decides-is_valid s archive slot c).1 v i)) (Ok found))
 
   pub cell_refused : (IsValid s archive slot c → ⊥) → cell_at s bytes ≡ Err BadContribution
-  cell_refused n = cell_parts ∙ ap (λ b. unless BadContribution ((origin == 0) || not b) (Ok found)) (false_from_ne_true (is_valid s archive slot c) (λ e. n ((valid_told s archive slot c).0 e))) ∙ either (origin == 0)
+  cell_refused n = cell_parts ∙ ap (λ b. unless BadContribution ((origin == 0) || not b) (Ok found)) (false_from_ne_true (is_valid s archive slot c) (λ e. n ((Decides-is_valid s archive slot c).0 e))) ∙ either (origin == 0)
     where
       either : (b : Bool) → unless BadContribution (b || true) (Ok found) ≡ Err BadContribution
       either true = refl

@@ -1,24 +1,15 @@
 -- The reading of a cell, as a function of the bytes: field by field, up to the first fault.
-use Rattle.std.specs.Prelude.{ℕ, ℤ, nat_lt, Bool, ◌||◌, not, ◌==◌, List, length, take, drop, Result, Ok, Err, if◌then◌else◌}
+use Rattle.std.specs.Prelude.{ℕ, ℤ, nat_lt, ◌||◌, not, ◌==◌, List, length, take, drop, Result, Ok}
 use Rattle.std.specs.Int.{Width, w8, w16, w64, w128, byte_len, cast_signed, from_be_bytes}
 use Rattle.rr_base.specs.declared.limits.TheConstants.{MAX_KEY_TEXT}
+use Rattle.rr_base.specs.Results.{◌>>=◌, unless}
 use Rattle.rr_base.specs.Schema.{Layout}
 use Rattle.rr_contrib.specs.declared.contribution.Contribution.{Contribution}
+use Rattle.rr_contrib.specs.Validity.{is_valid}
 use Rattle.rr_key.specs.Reading.{is_key_text}
 use Rattle.rr_model.specs.CellNames.{CellName}
 use Rattle.rr_page.specs.declared.fault.PageFault.{PageFault}
 use Rattle.rr_page.specs.declared.fault.PageFault.TheVariants.{Short, BadKey, BadArchive, BadContribution}
-use Rattle.rr_page.specs.Valid.{is_valid}
-
--- the next step of a reading, unless this one found a fault
-infixl 10 ◌>>=◌
-abbrev pub ◌>>=◌ : {A B : Type 0} → Result A PageFault → (A → Result B PageFault) → Result B PageFault
-(Ok x) >>= next = next x
-(Err fault) >>= next = Err fault
-
--- a step, unless a test refuses it
-abbrev pub unless : {A : Type 0} → PageFault → Bool → Result A PageFault → Result A PageFault
-unless fault refused step = if refused then Err fault else step
 
 -- so many bytes at the front, and what follows them
 abbrev pub front_at : ℕ → List ℕ → Result (List ℕ × List ℕ) PageFault

@@ -1,7 +1,7 @@
 //! A cell from its bytes.
 ghost use Rattle.std.specs.Prelude.{◌≡◌, ◌<◌, length, drop, IfOk};
 ghost use Rattle.rr_base.specs.Schema.{IsLayout};
-ghost use Rattle.rr_page.specs.Answer.{Gives, GivesUnlessMemory};
+ghost use Rattle.rr_base.specs.Results.{Gives, GivesUnless};
 ghost use Rattle.rr_page.specs.CellText.{cell_text};
 ghost use Rattle.rr_page.specs.Reading.{key_at, archive_at, contribution_at, cell_at, first_of};
 ghost use Rattle.rr_replica.specs.Joining.{IsCell};
@@ -20,7 +20,7 @@ use std::alloc::Global;
 /// The key whose text stands behind its length, and what follows it.
 #[tactic(auto, unfolding(crate::specs::Reading::key_at))]
 fn key_of(alloc: Global, bytes: &[u8]) -> Result<(SeriesKey, &[u8]), PageFault>
-    ensures { GivesUnlessMemory (λ x. (x.0, x.1.now)) result (key_at bytes.now) }
+    ensures { GivesUnless PageFault.Memory (λ x. (x.0, x.1.now)) result (key_at bytes.now) }
 {
     let (len, rest) = u16_at(bytes)?;
     let len = len as usize;
@@ -81,7 +81,7 @@ pub(crate) fn cell_of<'a>(
     bytes: &'a [u8],
     schema: &Schema,
 ) -> Result<(Cell, &'a [u8]), PageFault>
-    ensures read { GivesUnlessMemory (λ x. (owned_cell x.0, x.1.now)) result (cell_at schema.now bytes.now) }
+    ensures read { GivesUnless PageFault.Memory (λ x. (owned_cell x.0, x.1.now)) result (cell_at schema.now bytes.now) }
     ensures valid { IfOk result (λ x. IsCell schema.now x.0) }
 {
     let (key, rest) = key_of(alloc, bytes)?;
@@ -114,7 +114,7 @@ pub(crate) fn cell_of<'a>(
 /// no key text; `BadArchive`; and behind the last field `BadContribution`, for the origin 0 too.
 /// `Memory` may stand in place of what follows the key. The cost is linear in the key text.
 pub fn read_cell(alloc: Global, bytes: &[u8], schema: &Schema) -> Result<(Cell, usize), PageFault>
-    ensures read { GivesUnlessMemory (λ x. owned_cell x.0) result (first_of (cell_at schema.now bytes.now)) }
+    ensures read { GivesUnless PageFault.Memory (λ x. owned_cell x.0) result (first_of (cell_at schema.now bytes.now)) }
     ensures valid { IfOk result (λ x. IsCell schema.now x.0) }
     ensures len { IfOk result (λ x. x.1 ≡ length (cell_text (owned_cell x.0))) }
 {

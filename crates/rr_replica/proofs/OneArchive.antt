@@ -1,5 +1,5 @@
 -- A cell that is joined into one archive of a list.
-use Rattle.std.proofs.Common.{◌≡◌, ◌≢◌, ℕ, List, set, slice_get, refl, sym, ap, ◌∙◌, Option, Some, unwrap_or, ⊎_elim}
+use Rattle.std.proofs.Common.{◌≡◌, ◌≢◌, ℕ, List, set, slice_get, sym, ap, ◌∙◌, Some, unwrap_or, ⊎_elim}
 use Rattle.std.proofs.lemmas.Bool.Decides.{eqb_tells}
 use Rattle.std.proofs.lemmas.Option.{slice_get_within}
 use Rattle.rr_archive.specs.Places.{place_at}

@@ -3,16 +3,15 @@
 ghost use Rattle.std.specs.Prelude.{◌≡◌};
 
 use std::alloc::{AllocError, AllocFailed};
+use std::fmt;
 use thiserror::Error;
 
 /// Why a sample isn't put.
 #[derive(Clone, Copy, Debug, PartialEq, Eq, Error)]
 pub enum PutFault {
-    /// No number is left: the last was 2^40.
-    #[error("NumbersSpent")]
+    /// The origin has used all its numbers, up to 2^40.
     NumbersSpent,
     /// Memory ran out.
-    #[error("Memory")]
     Memory,
 }
 
@@ -27,6 +26,15 @@ impl PutFault {
             PutFault::NumbersSpent => "NumbersSpent",
             PutFault::Memory => "Memory",
         }
+    }
+}
+
+impl fmt::Display for PutFault {
+    fn fmt<W: fmt::Write>(&self, f: &mut fmt::Formatter<W>) -> fmt::Result {
+        f.write_str(match self {
+            PutFault::NumbersSpent => "the origin has used all its numbers",
+            PutFault::Memory => "out of memory",
+        })
     }
 }
 
@@ -54,15 +62,12 @@ impl<T: Drop> From<AllocFailed<T>> for PutFault {
 #[derive(Clone, Copy, Debug, PartialEq, Eq, Error)]
 pub enum WriteFault {
     /// The point's own time is later than the clock's by more than the lead.
-    #[error("AheadOfClock")]
     AheadOfClock,
     /// Fewer numbers are left than the point has fields.
-    #[error("NumbersSpent")]
     NumbersSpent,
     /// Memory ran out.
-    #[error("Memory")]
     Memory {
-        /// How many fields, from the first on, were put before.
+        /// How many fields were written before, from the first on.
         put: u32,
     },
 }
@@ -82,13 +87,28 @@ impl WriteFault {
     }
 }
 
+impl fmt::Display for WriteFault {
+    fn fmt<W: fmt::Write>(&self, f: &mut fmt::Formatter<W>) -> fmt::Result {
+        match self {
+            WriteFault::AheadOfClock => {
+                f.write_str("the time is later than the clock by more than the lead")
+            }
+            WriteFault::NumbersSpent => {
+                f.write_str("the origin has too few numbers left for the fields")
+            }
+            WriteFault::Memory { put } => {
+                write!(f, "memory ran out after {put} of the fields were written")
+            }
+        }
+    }
+}
+
 /// Why cells aren't all joined.
 #[derive(Clone, Copy, Debug, PartialEq, Eq, Error)]
 pub enum JoinFault {
     /// Memory ran out.
-    #[error("Memory")]
     Memory {
-        /// How many cells, from the first on, were joined before.
+        /// How many cells were joined before, from the first on.
         joined: usize,
     },
 }
@@ -102,6 +122,16 @@ impl JoinFault {
     {
         match self {
             JoinFault::Memory { .. } => "Memory",
+        }
+    }
+}
+
+impl fmt::Display for JoinFault {
+    fn fmt<W: fmt::Write>(&self, f: &mut fmt::Formatter<W>) -> fmt::Result {
+        match self {
+            JoinFault::Memory { joined } => {
+                write!(f, "memory ran out after {joined} of the cells were joined")
+            }
         }
     }
 }

@@ -1,5 +1,5 @@
 //! A replica of the store.
-ghost use Rattle.std.specs.Prelude.{◌≡◌, ◌<◌, ◌≤◌, ◌+◌, ◌↔◌, length, None, Err, IfOk, IfErr, OnOk, OnErr, IsTrue, IsFalse, MatchOption, slice_get, unwrap_or};
+ghost use Rattle.std.specs.Prelude.{◌≡◌, ℕ, ◌<◌, ◌≤◌, ◌+◌, ◌↔◌, length, None, Err, IfOk, IfErr, OnOk, OnErr, IsTrue, IsFalse, MatchOption, slice_get, unwrap_or};
 ghost use Rattle.std.specs.Option.{option_map};
 ghost use Rattle.std.specs.FinMap as fin;
 ghost use Rattle.rr_base.specs.Schema.{IsLayout};
@@ -220,6 +220,7 @@ impl<A: Archive> Replica<A> {
         ensures spent { (result ≡ Err WriteFault.NumbersSpent)
             ↔ (IsFalse (is_ahead point.now.time now lead) × IsTrue (lacks_numbers self.old (length point.now.fields.items))) }
         ensures refused { IfErr result (IsAfterRefusal self.old self.new (point_view point.now) (unwrap_or point.now.time now)) }
+        ensures fields_left { (put : ℕ) → result ≡ Err (WriteFault.Memory put) → put < length point.now.fields.items }
     {
         if is_ahead(point.time, now, lead) {
             return Err(WriteFault::AheadOfClock);
@@ -245,6 +246,7 @@ impl<A: Archive> Replica<A> {
         ensures count { IfOk result (λ count. count ≡ length point.now.fields.items) }
         ensures put { OnOk result (self.new ≡ with_fields self.old (point_view point.now) time (point_view point.now).fields) }
         ensures stopped { IfErr result (IsMemoryAfter self.old self.new (point_view point.now) time) }
+        ensures fields_left { (put : ℕ) → result ≡ Err (WriteFault.Memory put) → put < length point.now.fields.items }
     {
         let mut put = 0;
         for field in &point.fields {
@@ -304,6 +306,7 @@ impl<A: Archive> Replica<A> {
         requires { All (IsCell self.old.schema) cells.now }
         ensures joined { OnOk result (self.new ≡ with_cells self.old cells.now) }
         ensures stopped { IfErr result (IsAfterJoined self.old self.new cells.now) }
+        ensures cells_left { (joined : ℕ) → result ≡ Err (JoinFault.Memory joined) → joined < length cells.now }
     {
         let mut joined = 0;
         for cell in cells {

@@ -1,11 +1,8 @@
 -- The cells so far are joined, each to what the ones before left.
-use Rattle.std.proofs.Common.{rules, ◌≡◌, ◌∙◌, [], ◌∷◌, ◌++◌, take, get_or, sym, ap, subst, arith}
+use Rattle.std.proofs.Common.{rules, ◌≡◌, ◌∙◌, [], ◌∷◌, ◌++◌, take, get_or, sym, ap, arith}
 use Rattle.std.proofs.lemmas.List.{take_more}
-use Rattle.std.proofs.lemmas.List.Elements.{All-get_or}
-use Rattle.rr_base.specs.Schema.{Layout}
-use Rattle.rr_replica.specs.declared.cell.Cell.{Cell}
 use Rattle.rr_replica.specs.Holding.{Holding}
-use Rattle.rr_replica.specs.Joining.{IsCell, with_cell, with_cells}
+use Rattle.rr_replica.specs.Joining.{with_cell, with_cells}
 use Rattle.rr_replica.proofs.FieldLemmas.{passed}
 use Rattle.rr_replica.proofs.JoinedCell.{with_cells-more}
 use Rattle.rr_replica.proofs.replica.Replica.join_cells.Goals as goal
