@@ -9,7 +9,9 @@ use rr_base::{
     ArchiveSpec, ConsolidationFunction, Counted, Origin, OriginFault, Schema, SchemaFault,
 };
 use rr_contrib::Contribution;
-use rr_fetch::{AnswerFault, answer, answer_text, consolidate, parse_request};
+use rr_fetch::{
+    AnswerFault, answer, answer_text, consolidate, parse_request, read_request, request_words,
+};
 use rr_key::SeriesKey;
 use rr_replica::Replica;
 use std::alloc::Global;
@@ -157,5 +159,19 @@ fn a_failed_write_leaves_a_front(rt: HostRuntime) -> Result<(), Fail> {
         (Err(AnswerFault::WriteFailed), 1)
     );
     assert_eq!(rt; room.as_slice(), b"m v,0,U\nm v".as_slice());
+    Ok(())
+}
+
+#[test]
+fn words_that_are_cut_are_read_alike(rt: HostRuntime) -> Result<(), Fail> {
+    let schema = minutes(rt.alloc())?;
+    let bytes = b"LAST 300 -60 6000 m v".as_slice();
+    let whole = parse_request(rt.alloc(), bytes, &schema)?;
+    let words = request_words(bytes).expect(&rt, "five words");
+    let cut = read_request(rt.alloc(), &words, &schema)?;
+    let asked = (cut.cf, cut.archive, cut.first, cut.rows);
+    assert_eq!(rt; asked, (whole.cf, whole.archive, whole.first, whole.rows));
+    assert_eq!(rt; asked, (ConsolidationFunction::Last, 1, -1, 21));
+    assert!(rt; cut.key == whole.key && request_words(b"LAST 300 -60 6000").is_none());
     Ok(())
 }

@@ -16,6 +16,8 @@ mod failing;
 #[cfg(test)]
 mod fake_process;
 #[cfg(test)]
+mod faults;
+#[cfg(test)]
 mod feeds;
 #[cfg(test)]
 mod fetches;
@@ -25,6 +27,8 @@ mod keys;
 mod lines;
 #[cfg(test)]
 mod process;
+#[cfg(test)]
+mod records;
 #[cfg(test)]
 mod replicas;
 #[cfg(test)]

@@ -150,6 +150,22 @@ fn a_million_samples_leave_ten_rows(rt: HostRuntime) -> Result<(), Fail> {
     Ok(())
 }
 
+#[test]
+fn a_replica_lends_the_archives_of_a_series(rt: HostRuntime) -> Result<(), Fail> {
+    let alloc = rt.alloc();
+    let mut replica = replica(alloc, 1)?;
+    put_all(alloc, &mut replica, &[(0, 5)])?;
+    let key = SeriesKey::parse_text(alloc, b"m v")?;
+    let other = SeriesKey::parse_text(alloc, b"m w")?;
+    let cells = replica.archive(&key, 0).map(|archive| archive.cell_count());
+    let none = (
+        replica.archive(&key, 1).is_none(),
+        replica.archive(&other, 0).is_none(),
+    );
+    assert_eq!(rt; (cells, none), (Some(1), (true, true)));
+    Ok(())
+}
+
 /// What is answered to a write: how many fields are put, or the name of the fault.
 fn written<A: Archive>(
     rt: &impl Abort,
