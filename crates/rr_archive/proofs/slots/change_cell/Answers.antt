@@ -19,47 +19,30 @@ change_entry-requires c =
     let has = rw back at c.in-Some.ensures.value in
     subst (λ (o : Option Contribution). Fits o c.args.change.now) (cell_here c.args.slots.now.entries (place_at c.args.slot c.args.origin) c.in-Some.row.now has) c.requires
 
-pub returns-in-Some-clause-ok : goal.returns-in-Some-clause-ok
-returns-in-Some-clause-ok c =
+pub returns-in-Some : goal.returns-in-Some
+returns-in-Some c =
     let back = to_z-of_z {w = w64} {z = c.args.slot} (search rules) in
-    let has = rw back at c.in-Some.ensures.value in
     let old = c.args.slots.now.entries in
     let p = place_at c.args.slot c.args.origin in
-    let updates = (c.get_mut.follows.holds c.change_entry.new.row).3 (search rules) in
-    let sets : Sets old (c.get_mut.follows.lender c.change_entry.new.row).entries c.args.slot c.change_entry.new.row = record { at = λ q. grind (arith, updates.0 q) } in
-    on_ok_weaker c.change_entry.result
-    (λ e.
-    set_found _ _ c.args.slot c.change_entry.new.row c.in-Some.row.now (entry_after c.in-Some.row.now.items c.args.origin c.args.change.now) sets has e
-    ∙ ap (λ (o : Option Contribution). insert (cells_in old) p (contribution_after o c.args.change.now)) (sym (cell_here old p c.in-Some.row.now has)))
-    c.change_entry.ensures.ok
-
-pub returns-in-Some-clause-is_new : goal.returns-in-Some-clause-is_new
-returns-in-Some-clause-is_new c =
-    let back = to_z-of_z {w = w64} {z = c.args.slot} (search rules) in
-    let has = rw back at c.in-Some.ensures.value in
-    subst (λ (o : Option Contribution). IfOk c.change_entry.result (λ is_new. is_new ≡ is_none o)) (sym (cell_here c.args.slots.now.entries (place_at c.args.slot c.args.origin) c.in-Some.row.now has)) c.change_entry.ensures.is_new
-
-pub returns-in-Some-clause-err : goal.returns-in-Some-clause-err
-returns-in-Some-clause-err c =
-    let back = to_z-of_z {w = w64} {z = c.args.slot} (search rules) in
-    let has : Some c.in-Some.row.now ≡ row_in c.args.slots.now.entries c.args.slot = rw back at c.in-Some.ensures.value in
-    let updates = (c.get_mut.follows.holds c.change_entry.new.row).3 (search rules) in
-    let sets : Sets c.args.slots.now.entries (c.get_mut.follows.lender c.change_entry.new.row).entries c.args.slot c.change_entry.new.row = record { at = λ q. grind (arith, updates.0 q) } in
-    on_err_weaker c.change_entry.result (λ e. set_alike _ _ c.args.slot c.change_entry.new.row sets (e ∙ ap items_of has)) c.change_entry.ensures.err
-
-pub returns-in-Some-clause-ascend : goal.returns-in-Some-clause-ascend
-returns-in-Some-clause-ascend c =
-    let back = to_z-of_z {w = w64} {z = c.args.slot} (search rules) in
-    let has : Some c.in-Some.row.now ≡ row_in c.args.slots.now.entries c.args.slot = rw back at c.in-Some.ensures.value in
-    let updates = (c.get_mut.follows.holds c.change_entry.new.row).3 (search rules) in
-    let sets : Sets c.args.slots.now.entries (c.get_mut.follows.lender c.change_entry.new.row).entries c.args.slot c.change_entry.new.row = record { at = λ q. grind (arith, updates.0 q) } in
-    λ before. rows_ascend _ _ c.args.slot c.change_entry.new.row sets before (c.change_entry.ensures.ascend (ap row_ascends has ∙ before c.args.slot))
-
-pub returns-in-Some-clause-room : goal.returns-in-Some-clause-room
-returns-in-Some-clause-room c =
-    let back = to_z-of_z {w = w64} {z = c.args.slot} (search rules) in
-    let has = rw back at c.in-Some.ensures.value in
-    λ room. c.change_entry.ensures.room (room_is c.args.slots.now.entries (place_at c.args.slot c.args.origin) c.in-Some.row.now has room)
+    let change = c.args.change.now in
+    let was = c.in-Some.row.now in
+    let row = c.change_entry.new.row in
+    let has : Some was ≡ row_in old c.args.slot = rw back at c.in-Some.ensures.value in
+    let here = cell_here old p was has in
+    let holds = c.get_mut.follows.holds row in
+    let updates = holds.3 (search rules) in
+    let sets : Sets old (c.get_mut.follows.lender row).entries c.args.slot row = record { at = λ q. grind (arith, updates.0 q) } in
+    let step = c.change_entry.ensures in
+    record {
+      ok = on_ok_weaker c.change_entry.result (λ e.
+          set_found _ _ c.args.slot row was (entry_after was.items c.args.origin change) sets has e
+          ∙ ap (λ (o : Option Contribution). insert (cells_in old) p (contribution_after o change)) (sym here)) step.ok;
+      is_new = subst (λ (o : Option Contribution). IfOk c.change_entry.result (λ is_new. is_new ≡ is_none o)) (sym here) step.is_new;
+      err = on_err_weaker c.change_entry.result (λ e. set_alike _ _ c.args.slot row sets (e ∙ ap items_of has)) step.err;
+      ascend = λ before. rows_ascend _ _ c.args.slot row sets before (step.ascend (ap row_ascends has ∙ before c.args.slot));
+      ordered = holds.4;
+      room = λ room. step.room (room_is old p was has room);
+    }
 
 -- ---- the slot has none
 
