@@ -17,9 +17,10 @@ use Rattle.rr_join.proofs.Greater.{greater-None}
 use Rattle.rr_join.proofs.Members.{same_from_tie}
 use Rattle.rr_contrib.specs.declared.contribution.Contribution.{Contribution}
 use Rattle.rr_contrib.specs.Contributions.{contribution_cmp}
-use Rattle.std.specs.Ordering.{eq_by_cmp, ord_max}
+use Rattle.std.specs.Ordering.{eq_by_cmp}
 use Rattle.rr_archive.specs.declared.entry.Entry.{Entry}
 use Rattle.rr_archive.specs.Places.{Place, place_at, place_cmp, newest_of, is_above, is_live_at, IsSlot}
+use Rattle.rr_archive.specs.Changes.{greater_of}
 use Rattle.rr_archive.specs.Cells.{Rows, with_cell, join_cell, IsTrimmed}
 use Rattle.rr_archive.specs.Held.{cells_in, is_placed, IsHeld, RowsAscend}
 use Rattle.rr_archive.proofs.PlaceOrder.{place_cmp_total, place_cmp-IsAntisymmetric}
@@ -137,20 +138,10 @@ with_cell-is m p c joined is = same_map place_cmp_total place_cmp-IsAntisymmetri
     ∙ sym (get-merged place_cmp_total place_cmp-IsAntisymmetric contribution_cmp m (insert empty p c) q))
 
 -- and then the live ones
-pub join_cell-is : (limit : ℕ) (m : Rows) (p : Place) (c joined : Contribution) → Some joined ≡ greater contribution_cmp (get m p) (Some c) → trimmed (is_live_at limit) (insert m p joined) ≡ join_cell limit m p c
+pub join_cell-is : (limit : ℕ) (m : Rows) (p : Place) (c : Contribution) → trimmed (is_live_at limit) (insert m p (greater_of (get m p) c)) ≡ join_cell limit m p c
 unfolding Maps.joined
-join_cell-is limit m p c joined is = ap (trimmed (is_live_at limit)) (with_cell-is m p c joined is)
-
--- which leaves no trace either, past the horizon
-pub join_dead : (limit count : ℕ) (newest : Option ℤ) (rows : List (ℤ × Vec Entry)) (p : Place) (c : Contribution) → IsHeld limit count newest rows → is_above limit newest p.slot ≡ false → cells_in rows ≡ join_cell limit (cells_in rows) p c
-join_dead limit count newest rows p c h dead =
-    set_dead limit count newest rows p (joined_with (get (cells_in rows) p)) h dead
-    ∙ join_cell-is limit (cells_in rows) p c (joined_with (get (cells_in rows) p)) (joined_is (get (cells_in rows) p))
+join_cell-is limit m p c = ap (trimmed (is_live_at limit)) (with_cell-is m p c (greater_of (get m p) c) (greater_is (get m p)))
   where
-    joined_with : Option Contribution → Contribution
-    joined_with None = c
-    joined_with (Some a) = ord_max contribution_cmp a c
-
-    joined_is : (o : Option Contribution) → Some (joined_with o) ≡ greater contribution_cmp o (Some c)
-    joined_is None = refl
-    joined_is (Some a) = refl
+    greater_is : (known : Option Contribution) → Some (greater_of known c) ≡ greater contribution_cmp known (Some c)
+    greater_is None = refl
+    greater_is (Some a) = refl

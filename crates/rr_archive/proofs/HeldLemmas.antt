@@ -127,3 +127,13 @@ room_is rows p row has room = ltb-true (vec_len row) (vec_capacity row) (subst (
 
 pub no_room : (rows : List (ℤ × Vec Entry)) (p : Place) → None ≡ row_in rows p.slot → IsTrue (has_room_in rows p) → ⊥
 no_room rows p none room = true≢false (sym (subst (λ r. unwrap_or (option_map (λ (w : Vec Entry). nat_lt (vec_len w) (vec_capacity w)) r) false ≡ true) (sym none) room))
+
+-- ---- the cell of a place
+
+-- where the slot has a row, the cell is the entry of the origin
+pub cell_here : (rows : List (ℤ × Vec Entry)) (p : Place) (row : Vec Entry) → Some row ≡ row_in rows p.slot → get (cells_in rows) p ≡ entry_at row.items p.origin
+cell_here rows p row has = get-cells_in rows p ∙ ap (option_and_then (λ (r : Vec Entry). entry_at r.items p.origin)) (sym has)
+
+-- where it has none, there is no cell
+pub cell_nowhere : (rows : List (ℤ × Vec Entry)) (p : Place) → None ≡ row_in rows p.slot → get (cells_in rows) p ≡ None
+cell_nowhere rows p none = get-cells_in rows p ∙ ap (option_and_then (λ (r : Vec Entry). entry_at r.items p.origin)) (sym none)

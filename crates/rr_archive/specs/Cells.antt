@@ -7,6 +7,8 @@ use Rattle.rr_join.specs.Maps.{trimmed, merged, joined}
 use Rattle.rr_contrib.specs.declared.contribution.Contribution.{Contribution}
 use Rattle.rr_contrib.specs.Contributions.{contribution_cmp, SlotSample, added}
 use Rattle.rr_archive.specs.declared.entry.Entry.{Entry}
+use Rattle.rr_archive.specs.declared.change.Change.{Change}
+use Rattle.rr_archive.specs.Changes.{contribution_after}
 use Rattle.rr_archive.specs.Places.{Place, place_cmp, is_live_at}
 
 abbrev pub Rows : Type 0
@@ -17,6 +19,10 @@ Rows = FinMap place_cmp Contribution
 -- with a sample more at a place
 abbrev pub with_put : Rows → Place → SlotSample → Rows
 with_put m p x = insert m p (added (get m p) x)
+
+-- with the cell of a place changed
+abbrev pub with_change : Rows → Place → Change → Rows
+with_change m p change = insert m p (contribution_after (get m p) change)
 
 -- at each place of either map the greater contribution
 abbrev pub merge_rows : Rows → Rows → Rows

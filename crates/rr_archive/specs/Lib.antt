@@ -1,6 +1,7 @@
 pub mod Places
-pub mod Cells
 pub mod Row
+pub mod Changes
+pub mod Cells
 pub mod Codes
 pub mod Held
 pub mod Laws

@@ -49,8 +49,8 @@ pub trait Archive: Drop {
     /// `Contribution::first`, or where the cell is there, of `Contribution::add`.
     ///
     /// Rows that are then past the horizon are let go; a sample that is past it itself changes
-    /// nothing. After an error nothing has changed. The cost is logarithmic in the rows and linear
-    /// in the entries of the row, and that of the rows that go.
+    /// nothing. After an error nothing has changed. The cost is logarithmic in the rows (one look-up
+    /// of the slot) and linear in the entries of the row and of the rows that go.
     fn put(
         &mut self,
         slot: i64,

@@ -9,9 +9,11 @@
 #![tactic(auto)]
 
 mod archive;
+mod change;
 mod entry;
 pub mod laws;
 mod leaving_rows;
+mod new_sample;
 mod plain;
 mod row;
 mod slots;

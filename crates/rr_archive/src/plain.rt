@@ -1,23 +1,23 @@
 //! An archive as an ordered map from slots to rows.
-ghost use Rattle.std.specs.Prelude.{◌≡◌, ◌<◌, ◌≤◌, IsTrue, IsOk, OnOk, OnErr, Some, IfSome};
+ghost use Rattle.std.specs.Prelude.{◌≡◌, IsTrue, IsFalse, IsOk, OnOk, OnErr, Some};
 ghost use Rattle.std.proofs.Props.{props};
 ghost use Rattle.std.specs.Ordering.{int_cmp};
 ghost use Rattle.std.specs.FinMap as fin;
 ghost use Rattle.rr_join.specs.Maps.{greater, trimmed};
-ghost use Rattle.rr_contrib.specs.Contributions.{slot_sample, added, contribution_cmp};
-ghost use Rattle.rr_contrib.specs.Validity.{CanAdd};
 ghost use Rattle.rr_archive.specs.Places.{place_at, IsSlot, is_above, is_live_at};
+ghost use Rattle.rr_archive.specs.Changes.{Fits};
+ghost use Rattle.rr_archive.specs.Cells.{with_change};
 ghost use Rattle.rr_archive.specs.Codes.{coded_rows};
-ghost use Rattle.rr_archive.specs.Held.{IsHeld, cells_in, has_room_in, is_ready_in};
+ghost use Rattle.rr_archive.specs.Held.{IsHeld, cells_in, is_ready_in};
 
 use crate::archive::Archive;
+use crate::change::Change;
 use crate::entry::Entry;
 use crate::leaving_rows::{drop_dead, is_above};
-use crate::slots::{Slots, cell_behind, cell_in, copy_slots, make_room, nth_cell, set_cell};
+use crate::new_sample::NewSample;
+use crate::slots::{Slots, cell_behind, change_cell, copy_slots, make_room, nth_cell};
 use rr_base::Origin;
-use rr_base::limits::{MAX_NUMBER, MAX_STEPS};
 use rr_contrib::Contribution;
-use rr_join::Join;
 use std::alloc::{AllocError, Global};
 use std::collections::BTreeMap;
 
@@ -42,42 +42,6 @@ fn later(newest: Option<i64>, slot: i64) -> i64
     }
 }
 
-/// What a cell contributes with a sample more.
-fn with_sample(
-    known: Option<Contribution>,
-    number: u64,
-    place: u32,
-    time: i64,
-    value: i64,
-) -> Contribution
-    requires some_number { 1 ≤ number }
-    requires known_number { number ≤ MAX_NUMBER }
-    requires place { place < MAX_STEPS }
-    requires newer { IfSome known (CanAdd number) }
-    ensures { result ≡ added known (slot_sample number place time value) }
-{
-    match known {
-        Some(mut contribution) => {
-            contribution.add(number, place, time, value);
-            contribution
-        }
-        None => Contribution::first(number, place, time, value),
-    }
-}
-
-/// What a cell contributes with a contribution joined in.
-fn with_joined(known: Option<Contribution>, other: Contribution) -> Contribution
-    ensures { Some result ≡ greater contribution_cmp known (Some other) }
-{
-    match known {
-        Some(mut contribution) => {
-            contribution.join(&other);
-            contribution
-        }
-        None => other,
-    }
-}
-
 impl PlainArchive {
     /// Whether a slot is not past the horizon.
     fn is_live(&self, slot: i64) -> bool
@@ -89,29 +53,25 @@ impl PlainArchive {
         }
     }
 
-    /// Sets what stands at a slot and an origin, and lets go of the rows that are then past the
-    /// horizon.
-    fn set(
-        &mut self,
-        slot: i64,
-        origin: Origin,
-        contribution: Contribution,
-    ) -> Result<(), AllocError>
-        requires { IsSlot slot }
+    /// Changes the cell of a slot and an origin, and lets go of the rows that are then past the
+    /// horizon. A change that is past it itself is passed over.
+    fn change(&mut self, slot: i64, origin: Origin, change: &Change) -> Result<(), AllocError>
+        requires slot { IsSlot slot }
+        requires fits { Fits (fin.get (cells_in self.old.slots.entries) (place_at slot origin)) change.now }
         ensures ok { OnOk result (cells_in self.new.slots.entries
-            ≡ trimmed (is_live_at self.old.rows) (fin.insert (cells_in self.old.slots.entries) (place_at slot origin) contribution)) }
+            ≡ trimmed (is_live_at self.old.rows) (with_change (cells_in self.old.slots.entries) (place_at slot origin) change.now)) }
+        ensures dead { IsFalse (is_above self.old.rows self.old.newest slot)
+            → cells_in self.new.slots.entries ≡ cells_in self.old.slots.entries }
         ensures err { OnErr result (cells_in self.new.slots.entries ≡ cells_in self.old.slots.entries) }
         ensures limit { self.new.rows ≡ self.old.rows }
-        ensures room { IsTrue (has_room_in self.old.slots.entries (place_at slot origin)) → IsOk result }
+        ensures room { IsTrue (is_ready_in self.old.rows self.old.newest self.old.slots.entries (place_at slot origin)) → IsOk result }
     {
+        if !self.is_live(slot) {
+            return Ok(());
+        }
         // An origin is one of so many, and so the cells can be counted.
         let _number = origin.get();
-        let is_new = cell_in(&self.slots, slot, origin).is_none();
-        let entry = Entry {
-            origin,
-            contribution,
-        };
-        set_cell(&mut self.slots, self.alloc, slot, entry)?;
+        let is_new = change_cell(&mut self.slots, self.alloc, slot, origin, change)?;
         let cells = self.count + usize::from(is_new);
         let newest = later(self.newest, slot);
         self.count = drop_dead(&mut self.slots, cells, self.rows, newest);
@@ -157,12 +117,13 @@ impl Archive for PlainArchive {
         time: i64,
         value: i64,
     ) -> Result<(), AllocError> {
-        if !self.is_live(slot) {
-            return Ok(());
-        }
-        let known = cell_in(&self.slots, slot, origin);
-        let contribution = with_sample(known, number, place, time, value);
-        self.set(slot, origin, contribution)
+        let sample = NewSample {
+            number,
+            place,
+            time,
+            value,
+        };
+        self.change(slot, origin, &Change::Put(sample))
     }
 
     fn join_cell(
@@ -171,11 +132,7 @@ impl Archive for PlainArchive {
         origin: Origin,
         contribution: &Contribution,
     ) -> Result<(), AllocError> {
-        if !self.is_live(slot) {
-            return Ok(());
-        }
-        let known = cell_in(&self.slots, slot, origin);
-        self.set(slot, origin, with_joined(known, *contribution))
+        self.change(slot, origin, &Change::Join(*contribution))
     }
 
     fn newest(&self) -> Option<i64> {

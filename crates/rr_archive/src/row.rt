@@ -1,8 +1,10 @@
 //! The entries of one row, ascending by origin.
-ghost use Rattle.std.specs.Prelude.{◌≡◌, ◌<◌, vec_len, vec_capacity, IsTrue, IsOk, OnOk, OnErr};
+ghost use Rattle.std.specs.Prelude.{◌≡◌, ◌<◌, vec_len, vec_capacity, is_none, IsTrue, IsOk, OnOk, OnErr, IfOk};
 ghost use Rattle.std.specs.List.{find, position_from};
 ghost use Rattle.rr_archive.specs.Row.{entry_at, with_entry, is_from, is_behind, ascends};
+ghost use Rattle.rr_archive.specs.Changes.{Fits, entry_after};
 
+use crate::change::{Change, contribution_after};
 use crate::entry::Entry;
 use rr_base::Origin;
 use rr_contrib::Contribution;
@@ -16,7 +18,7 @@ fn first_from(row: &[Entry], origin: Origin) -> Option<usize>
 }
 
 /// The contribution of an origin, if it has one.
-pub(crate) fn entry_at(row: &[Entry], origin: Origin) -> Option<Contribution>
+fn entry_at(row: &[Entry], origin: Origin) -> Option<Contribution>
     ensures { result ≡ entry_at row.now origin }
 {
     row.iter()
@@ -40,7 +42,7 @@ pub(crate) fn first_behind(row: &[Entry], is_later: bool, origin: Origin) -> Opt
 }
 
 /// Sets the entry of an origin.
-pub(crate) fn set_entry(row: &mut Vec<Entry>, entry: Entry) -> Result<(), AllocError>
+fn set_entry(row: &mut Vec<Entry>, entry: Entry) -> Result<(), AllocError>
     ensures ok { OnOk result (row.new.items ≡ with_entry row.old.items entry) }
     ensures err { OnErr result (row.new.items ≡ row.old.items) }
     ensures ascend { IsTrue (ascends row.old.items) → IsTrue (ascends row.new.items) }
@@ -53,4 +55,29 @@ pub(crate) fn set_entry(row: &mut Vec<Entry>, entry: Entry) -> Result<(), AllocE
     }
     row.insert(at, entry)?;
     Ok(())
+}
+
+/// Changes the entry of an origin, and says whether it is a new one.
+pub(crate) fn change_entry(
+    row: &mut Vec<Entry>,
+    origin: Origin,
+    change: &Change,
+) -> Result<bool, AllocError>
+    requires { Fits (entry_at row.old.items origin) change.now }
+    ensures ok { OnOk result (row.new.items ≡ with_entry row.old.items (entry_after row.old.items origin change.now)) }
+    ensures is_new { IfOk result (λ is_new. is_new ≡ is_none (entry_at row.old.items origin)) }
+    ensures err { OnErr result (row.new.items ≡ row.old.items) }
+    ensures ascend { IsTrue (ascends row.old.items) → IsTrue (ascends row.new.items) }
+    ensures room { vec_len row.old < vec_capacity row.old → IsOk result }
+{
+    let known = entry_at(row, origin);
+    let contribution = contribution_after(known, change);
+    set_entry(
+        row,
+        Entry {
+            origin,
+            contribution,
+        },
+    )?;
+    Ok(known.is_none())
 }

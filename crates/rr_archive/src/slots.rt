@@ -1,54 +1,53 @@
 //! Rows by their slots.
-ghost use Rattle.std.specs.Prelude.{◌≡◌, ℕ, IsTrue, IsOk, OnOk, OnErr, IfOk, slice_get};
+ghost use Rattle.std.specs.Prelude.{◌≡◌, ℕ, is_none, IsTrue, IsOk, OnOk, OnErr, IfOk, slice_get};
 ghost use Rattle.std.specs.Option.{option_map};
 ghost use Rattle.std.specs.Ordering.{int_cmp};
 ghost use Rattle.std.specs.BTreeMap.{IsOrdered};
 ghost use Rattle.std.specs.FinMap as fin;
 ghost use Rattle.rr_archive.specs.Places.{place_at};
-ghost use Rattle.rr_archive.specs.Cells.{cell_of, next_cell};
+ghost use Rattle.rr_archive.specs.Cells.{with_change, cell_of, next_cell};
+ghost use Rattle.rr_archive.specs.Changes.{Fits};
 ghost use Rattle.rr_archive.specs.Held.{cells_in, has_room_in, RowsAscend};
 
+use crate::change::{Change, contribution_after};
 use crate::entry::Entry;
-use crate::row::{entry_at, first_behind, set_entry};
+use crate::row::{change_entry, first_behind};
 use rr_base::Origin;
-use rr_contrib::Contribution;
 use std::alloc::{AllocError, Global};
 use std::collections::BTreeMap;
 
 /// The rows of an archive by their slots, each ascending by origin.
 pub(crate) type Slots = BTreeMap<i64, Vec<Entry>>;
 
-/// What stands at a slot and an origin, if anything does.
-pub(crate) fn cell_in(slots: &Slots, slot: i64, origin: Origin) -> Option<Contribution>
-    ensures { result ≡ fin.get (cells_in slots.now.entries) (place_at slot origin) }
-{
-    match slots.get(&slot) {
-        Some(row) => entry_at(row, origin),
-        None => None,
-    }
-}
-
-/// Sets what stands at a slot and an origin.
-pub(crate) fn set_cell(
+/// Changes the cell of a slot and an origin, and says whether it is a new one. The map is searched
+/// for the slot once, and again only where the row is new.
+pub(crate) fn change_cell(
     slots: &mut Slots,
     alloc: Global,
     slot: i64,
-    entry: Entry,
-) -> Result<(), AllocError>
+    origin: Origin,
+    change: &Change,
+) -> Result<bool, AllocError>
+    requires { Fits (fin.get (cells_in slots.old.entries) (place_at slot origin)) change.now }
     ensures ok { OnOk result (cells_in slots.new.entries
-        ≡ fin.insert (cells_in slots.old.entries) (place_at slot entry.origin) entry.contribution) }
+        ≡ with_change (cells_in slots.old.entries) (place_at slot origin) change.now) }
+    ensures is_new { IfOk result (λ is_new. is_new ≡ is_none (fin.get (cells_in slots.old.entries) (place_at slot origin))) }
     ensures err { OnErr result (cells_in slots.new.entries ≡ cells_in slots.old.entries) }
     ensures ascend { RowsAscend slots.old.entries → RowsAscend slots.new.entries }
     ensures ordered { IsOrdered int_cmp slots.new }
-    ensures room { IsTrue (has_room_in slots.old.entries (place_at slot entry.origin)) → IsOk result }
+    ensures room { IsTrue (has_room_in slots.old.entries (place_at slot origin)) → IsOk result }
 {
     match slots.get_mut(&slot) {
-        Some(row) => set_entry(row, entry),
+        Some(row) => change_entry(row, origin, change),
         None => {
+            let contribution = contribution_after(None, change);
             let mut row = Vec::new(alloc);
-            row.push(entry)?;
+            row.push(Entry {
+                origin,
+                contribution,
+            })?;
             slots.insert(slot, row)?;
-            Ok(())
+            Ok(true)
         }
     }
 }

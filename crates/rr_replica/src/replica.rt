@@ -129,8 +129,8 @@ impl<A: Archive> Replica<A> {
     /// refusal, `Memory` included, nothing has changed: room is made in all archives before a cell
     /// changes.
     ///
-    /// The cost is one look-up of the key and, in each archive, one of the slot and the entries of a
-    /// row, however many series there are.
+    /// The cost is one look-up of the key and, in each archive, two of the slot (one makes room, one
+    /// puts) and the entries of a row, however many series there are.
     pub fn put(&mut self, key: &SeriesKey, time: i64, value: i64) -> Result<u64, PutFault>
         ensures number { IfOk result (λ number. number ≡ self.old.next) }
         ensures put { OnOk result (self.new ≡ with_put self.old key.now time value) }

@@ -12,35 +12,23 @@ join_cell-requires g c =
     let slot : c.slot-slot.result ≡ slot_of c.args.schema.now c.args.cell.now.archive c.args.cell.now.contribution.last_time = search rules in
     rw (kept, slot) (slot_is c.args.schema.now c.requires.layout c.args.cell.now.archive c.args.cell.now.contribution.last_time (search rules))
 
-pub returns-clause-joined : goal.returns-clause-joined
-returns-clause-joined g c =
+pub returns : goal.returns
+returns g c =
+    let cells = g.A.Archive.cells in
+    let limit = g.A.Archive.row_limit in
     let items = c.args.archives.now.items in
     let cell = c.args.cell.now in
-    let many = sized_many g.A.Archive.row_limit c.args.schema.now items c.requires.sized in
+    let was = c.index_mut-archive.result.now in
+    let new = c.join_cell.new.self in
+    let many = sized_many limit c.args.schema.now items c.requires.sized in
     let of_schema = c.requires.cell.within in
     let within : cell.archive < length items = omega arith in
-    let at : slice_get items cell.archive ≡ Some c.index_mut-archive.result.now = slice_get-get_or items cell.archive c.index_mut-archive.result.now within ∙ ap (λ a. Some a) (sym c.index_mut-archive.ensures.value) in
+    let at : slice_get items cell.archive ≡ Some was = slice_get-get_or items cell.archive was within ∙ ap (λ a. Some a) (sym c.index_mut-archive.ensures.value) in
     let kept : to_z w64 (of_z w64 c.slot-slot.result) ≡ c.slot-slot.result = search rules in
     let found : c.slot-slot.result ≡ slot_of c.args.schema.now cell.archive cell.contribution.last_time = search rules in
     let slot : c.slot-slot.result ≡ cell.slot = found ∙ c.requires.cell.valid.in_slot in
-    on_ok_weaker c.join_cell.result (joined_at g.A.Archive.cells g.A.Archive.row_limit cell items c.index_mut-archive.result.now c.join_cell.new.self at) (rw (kept, slot) at c.join_cell.ensures.ok)
-
-pub returns-clause-same : goal.returns-clause-same
-returns-clause-same g c =
-    let items = c.args.archives.now.items in
-    let cell = c.args.cell.now in
-    let many = sized_many g.A.Archive.row_limit c.args.schema.now items c.requires.sized in
-    let of_schema = c.requires.cell.within in
-    let within : cell.archive < length items = omega arith in
-    let at : slice_get items cell.archive ≡ Some c.index_mut-archive.result.now = slice_get-get_or items cell.archive c.index_mut-archive.result.now within ∙ ap (λ a. Some a) (sym c.index_mut-archive.ensures.value) in
-    on_err_weaker c.join_cell.result (same_at g.A.Archive.cells cell items c.index_mut-archive.result.now c.join_cell.new.self at) c.join_cell.ensures.err
-
-pub returns-clause-sized : goal.returns-clause-sized
-returns-clause-sized g c =
-    let items = c.args.archives.now.items in
-    let cell = c.args.cell.now in
-    let many = sized_many g.A.Archive.row_limit c.args.schema.now items c.requires.sized in
-    let of_schema = c.requires.cell.within in
-    let within : cell.archive < length items = omega arith in
-    let at : slice_get items cell.archive ≡ Some c.index_mut-archive.result.now = slice_get-get_or items cell.archive c.index_mut-archive.result.now within ∙ ap (λ a. Some a) (sym c.index_mut-archive.ensures.value) in
-    map-set_same g.A.Archive.row_limit items cell.archive c.index_mut-archive.result.now c.join_cell.new.self at c.join_cell.ensures.limit ∙ c.requires.sized
+    record {
+      joined = on_ok_weaker c.join_cell.result (joined_at cells limit cell items was new at) (rw (kept, slot) at c.join_cell.ensures.ok);
+      same = on_err_weaker c.join_cell.result (same_at cells cell items was new at) c.join_cell.ensures.err;
+      sized = map-set_same limit items cell.archive was new at c.join_cell.ensures.limit ∙ c.requires.sized;
+    }

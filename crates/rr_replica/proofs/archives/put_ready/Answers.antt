@@ -24,32 +24,8 @@ put-requires-clause-newer g c =
     let slot : c.slot-slot.result ≡ slot_of c.args.schema.now c.loop-i.i c.args.sample.now.time = search rules in
     rw (kept, slot) (c.requires.newer c.loop-i.i c.index_mut.result.now was)
 
-pub returns-in_err-put-clause-ok : goal.returns-in_err-put-clause-ok
-returns-in_err-put-clause-ok g c =
-    let items = c.loop-i.archives.items in
-    let within : c.loop-i.i < length items = search rules in
-    let at : slice_get items c.loop-i.i ≡ Some c.index_mut.result.now = slice_get-get_or items c.loop-i.i c.index_mut.result.now within ∙ ap (λ a. Some a) (sym c.index_mut.ensures.value) in
-    let was : slice_get c.args.archives.now.items c.loop-i.i ≡ Some c.index_mut.result.now = sym (c.loop-i.invariant.rest c.loop-i.i (omega arith)) ∙ at in
-    let kept : to_z w64 (of_z w64 c.slot-slot.result) ≡ c.slot-slot.result = search rules in
-    let slot : c.slot-slot.result ≡ slot_of c.args.schema.now c.loop-i.i c.args.sample.now.time = search rules in
-    let ready = c.requires.ready c.loop-i.i c.index_mut.result.now was in
-    let ok : IsOk c.put.result = c.put.ensures.room (rw (kept, slot) ready) in
-    absurd (true≢false (sym (subst IsOk c.in_err-put.was ok)))
-
-pub returns-in_err-put-clause-put : goal.returns-in_err-put-clause-put
-returns-in_err-put-clause-put g c =
-    let items = c.loop-i.archives.items in
-    let within : c.loop-i.i < length items = search rules in
-    let at : slice_get items c.loop-i.i ≡ Some c.index_mut.result.now = slice_get-get_or items c.loop-i.i c.index_mut.result.now within ∙ ap (λ a. Some a) (sym c.index_mut.ensures.value) in
-    let was : slice_get c.args.archives.now.items c.loop-i.i ≡ Some c.index_mut.result.now = sym (c.loop-i.invariant.rest c.loop-i.i (omega arith)) ∙ at in
-    let kept : to_z w64 (of_z w64 c.slot-slot.result) ≡ c.slot-slot.result = search rules in
-    let slot : c.slot-slot.result ≡ slot_of c.args.schema.now c.loop-i.i c.args.sample.now.time = search rules in
-    let ready = c.requires.ready c.loop-i.i c.index_mut.result.now was in
-    let ok : IsOk c.put.result = c.put.ensures.room (rw (kept, slot) ready) in
-    absurd (true≢false (sym (subst IsOk c.in_err-put.was ok)))
-
-pub returns-in_err-put-clause-sized : goal.returns-in_err-put-clause-sized
-returns-in_err-put-clause-sized g c =
+pub returns-in_err-put : goal.returns-in_err-put
+returns-in_err-put g c =
     let items = c.loop-i.archives.items in
     let within : c.loop-i.i < length items = search rules in
     let at : slice_get items c.loop-i.i ≡ Some c.index_mut.result.now = slice_get-get_or items c.loop-i.i c.index_mut.result.now within ∙ ap (λ a. Some a) (sym c.index_mut.ensures.value) in

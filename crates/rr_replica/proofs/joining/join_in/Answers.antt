@@ -7,29 +7,29 @@ use Rattle.rr_replica.proofs.Each.{sized_many}
 use Rattle.rr_replica.proofs.JoinedCell.{cells_joined, cells_unchanged, before_found, before_fresh}
 use Rattle.rr_replica.proofs.joining.join_in.Goals as goal
 
-pub returns-in-Some-clause-joined : goal.returns-in-Some-clause-joined
-returns-in-Some-clause-joined g c =
+pub returns-in-Some : goal.returns-in-Some
+returns-in-Some g c =
+    let cells = g.A.Archive.cells in
+    let limit = g.A.Archive.row_limit in
+    let schema = c.args.schema.now in
+    let cell = c.args.cell.now in
     let old = c.args.series.now.entries in
-    let found : Some c.in-Some.archives.now ≡ archives_of old c.args.cell.now.key = c.in-Some.ensures.value in
-    let before = before_found g.A.Archive.cells c.args.cell.now.key old c.requires.ordered c.in-Some.archives.now found in
+    let was = c.in-Some.archives.now in
+    let found : Some was ≡ archives_of old cell.key = c.in-Some.ensures.value in
+    let before = before_found cells cell.key old c.requires.ordered was found in
     let new = (c.get_mut.follows.lender c.join_into.new.archives).entries in
     let holds = c.get_mut.follows.holds c.join_into.new.archives in
     let updates = holds.3 (search rules) in
-    let sized = c.requires.sized c.args.cell.now.key c.in-Some.archives.now (sym found) in
-    let many = sized_many g.A.Archive.row_limit c.args.schema.now c.in-Some.archives.now.items sized in
+    let sized = c.requires.sized cell.key was (sym found) in
+    let many = sized_many limit schema was.items sized in
     let is_within = c.requires.cell.within in
-    let within : c.args.cell.now.archive < length c.in-Some.archives.now.items = omega arith in
-    on_ok_weaker c.join_into.result (cells_joined g.A.Archive.cells g.A.Archive.row_limit c.args.schema.now c.requires.layout c.args.cell.now old new c.join_into.new.archives updates.0 c.requires.ordered holds.4 c.requires.live c.in-Some.archives.now.items sized before within) c.join_into.ensures.joined
-
-pub returns-in-Some-clause-same : goal.returns-in-Some-clause-same
-returns-in-Some-clause-same g c =
-    let old = c.args.series.now.entries in
-    let found : Some c.in-Some.archives.now ≡ archives_of old c.args.cell.now.key = c.in-Some.ensures.value in
-    let before = before_found g.A.Archive.cells c.args.cell.now.key old c.requires.ordered c.in-Some.archives.now found in
-    let new = (c.get_mut.follows.lender c.join_into.new.archives).entries in
-    let holds = c.get_mut.follows.holds c.join_into.new.archives in
-    let updates = holds.3 (search rules) in
-    on_err_weaker c.join_into.result (cells_unchanged g.A.Archive.cells g.A.Archive.row_limit c.args.schema.now c.requires.layout c.args.cell.now old new c.join_into.new.archives updates.0 c.requires.ordered holds.4 c.requires.live c.in-Some.archives.now.items before) c.join_into.ensures.same
+    let within : cell.archive < length was.items = omega arith in
+    record {
+      joined = on_ok_weaker c.join_into.result (cells_joined cells limit schema c.requires.layout cell old new c.join_into.new.archives updates.0 c.requires.ordered holds.4 c.requires.live was.items sized before within) c.join_into.ensures.joined;
+      same = on_err_weaker c.join_into.result (cells_unchanged cells limit schema c.requires.layout cell old new c.join_into.new.archives updates.0 c.requires.ordered holds.4 c.requires.live was.items before) c.join_into.ensures.same;
+      sized = search rules;
+      ordered = holds.4;
+    }
 
 pub returns-in_ok-insert-in-None-clause-joined : goal.returns-in_ok-insert-in-None-clause-joined
 returns-in_ok-insert-in-None-clause-joined g c =

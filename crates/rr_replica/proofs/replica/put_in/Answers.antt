@@ -19,64 +19,44 @@ put_into-requires-in-None-clause-newer g c =
     let before = before_fresh g.A.Archive.cells g.A.Archive.row_limit c.args.schema.now c.args.key.now c.args.sample.now c.args.series.now.entries c.requires.kept c.requires.known c.in_ok-archives-in-None.archives.items none c.in_ok-archives-in-None.ensures.empty in
     can_take g.A.Archive.cells g.A.Archive.row_limit c.args.schema.now c.args.key.now c.args.sample.now c.args.series.now.entries c.requires.kept c.requires.known c.in_ok-archives-in-None.archives.items before
 
-pub returns-in-Some-clause-put : goal.returns-in-Some-clause-put
-returns-in-Some-clause-put g c =
-    let found : Some c.in-Some.archives.now ≡ archives_of c.args.series.now.entries c.args.key.now = c.in-Some.ensures.value in
-    let before = before_found g.A.Archive.cells g.A.Archive.row_limit c.args.schema.now c.args.key.now c.args.sample.now c.args.series.now.entries c.requires.kept c.requires.known c.in-Some.archives.now found in
+pub returns-in-Some : goal.returns-in-Some
+returns-in-Some g c =
+    let cells = g.A.Archive.cells in
+    let limit = g.A.Archive.row_limit in
+    let schema = c.args.schema.now in
+    let old = c.args.series.now.entries in
+    let was = c.in-Some.archives.now in
+    let found : Some was ≡ archives_of old c.args.key.now = c.in-Some.ensures.value in
+    let before = before_found cells limit schema c.args.key.now c.args.sample.now old c.requires.kept c.requires.known was found in
     let new = (c.get_mut.follows.lender c.put_into.new.archives).entries in
     let holds = c.get_mut.follows.holds c.put_into.new.archives in
     let updates = holds.3 (search rules) in
-    let many = sized_many g.A.Archive.row_limit c.args.schema.now c.in-Some.archives.now.items (c.requires.kept.sized c.args.key.now c.in-Some.archives.now (sym found)) in
-    on_ok_weaker c.put_into.result (cells_with g.A.Archive.cells g.A.Archive.row_limit c.args.schema.now c.args.key.now c.args.sample.now c.args.series.now.entries c.requires.kept c.requires.known new c.put_into.new.archives updates.0 holds.4 c.in-Some.archives.now.items before c.put_into.ensures.sized many) c.put_into.ensures.put
+    let many = sized_many limit schema was.items (c.requires.kept.sized c.args.key.now was (sym found)) in
+    let step = c.put_into.ensures in
+    record {
+      put = on_ok_weaker c.put_into.result (cells_with cells limit schema c.args.key.now c.args.sample.now old c.requires.kept c.requires.known new c.put_into.new.archives updates.0 holds.4 was.items before step.sized many) step.put;
+      ok = on_ok_weaker c.put_into.result (kept_with cells limit schema c.args.key.now c.args.sample.now old c.requires.kept c.requires.known new c.put_into.new.archives updates.0 holds.4 was.items before step.sized many) step.put;
+      err = on_err_weaker c.put_into.result (cells_without cells limit schema c.args.key.now c.args.sample.now old c.requires.kept c.requires.known new c.put_into.new.archives updates.0 holds.4 was.items before step.sized) step.same;
+      kept = on_err_weaker c.put_into.result (kept_without cells limit schema c.args.key.now c.args.sample.now old c.requires.kept c.requires.known new c.put_into.new.archives updates.0 holds.4 was.items before step.sized) step.same;
+    }
 
-pub returns-in-Some-clause-ok : goal.returns-in-Some-clause-ok
-returns-in-Some-clause-ok g c =
-    let found : Some c.in-Some.archives.now ≡ archives_of c.args.series.now.entries c.args.key.now = c.in-Some.ensures.value in
-    let before = before_found g.A.Archive.cells g.A.Archive.row_limit c.args.schema.now c.args.key.now c.args.sample.now c.args.series.now.entries c.requires.kept c.requires.known c.in-Some.archives.now found in
-    let new = (c.get_mut.follows.lender c.put_into.new.archives).entries in
-    let holds = c.get_mut.follows.holds c.put_into.new.archives in
-    let updates = holds.3 (search rules) in
-    let many = sized_many g.A.Archive.row_limit c.args.schema.now c.in-Some.archives.now.items (c.requires.kept.sized c.args.key.now c.in-Some.archives.now (sym found)) in
-    on_ok_weaker c.put_into.result (kept_with g.A.Archive.cells g.A.Archive.row_limit c.args.schema.now c.args.key.now c.args.sample.now c.args.series.now.entries c.requires.kept c.requires.known new c.put_into.new.archives updates.0 holds.4 c.in-Some.archives.now.items before c.put_into.ensures.sized many) c.put_into.ensures.put
-
-pub returns-in-Some-clause-err : goal.returns-in-Some-clause-err
-returns-in-Some-clause-err g c =
-    let found : Some c.in-Some.archives.now ≡ archives_of c.args.series.now.entries c.args.key.now = c.in-Some.ensures.value in
-    let before = before_found g.A.Archive.cells g.A.Archive.row_limit c.args.schema.now c.args.key.now c.args.sample.now c.args.series.now.entries c.requires.kept c.requires.known c.in-Some.archives.now found in
-    let new = (c.get_mut.follows.lender c.put_into.new.archives).entries in
-    let holds = c.get_mut.follows.holds c.put_into.new.archives in
-    let updates = holds.3 (search rules) in
-    let many = sized_many g.A.Archive.row_limit c.args.schema.now c.in-Some.archives.now.items (c.requires.kept.sized c.args.key.now c.in-Some.archives.now (sym found)) in
-    on_err_weaker c.put_into.result (cells_without g.A.Archive.cells g.A.Archive.row_limit c.args.schema.now c.args.key.now c.args.sample.now c.args.series.now.entries c.requires.kept c.requires.known new c.put_into.new.archives updates.0 holds.4 c.in-Some.archives.now.items before c.put_into.ensures.sized) c.put_into.ensures.same
-
-pub returns-in-Some-clause-kept : goal.returns-in-Some-clause-kept
-returns-in-Some-clause-kept g c =
-    let found : Some c.in-Some.archives.now ≡ archives_of c.args.series.now.entries c.args.key.now = c.in-Some.ensures.value in
-    let before = before_found g.A.Archive.cells g.A.Archive.row_limit c.args.schema.now c.args.key.now c.args.sample.now c.args.series.now.entries c.requires.kept c.requires.known c.in-Some.archives.now found in
-    let new = (c.get_mut.follows.lender c.put_into.new.archives).entries in
-    let holds = c.get_mut.follows.holds c.put_into.new.archives in
-    let updates = holds.3 (search rules) in
-    let many = sized_many g.A.Archive.row_limit c.args.schema.now c.in-Some.archives.now.items (c.requires.kept.sized c.args.key.now c.in-Some.archives.now (sym found)) in
-    on_err_weaker c.put_into.result (kept_without g.A.Archive.cells g.A.Archive.row_limit c.args.schema.now c.args.key.now c.args.sample.now c.args.series.now.entries c.requires.kept c.requires.known new c.put_into.new.archives updates.0 holds.4 c.in-Some.archives.now.items before c.put_into.ensures.sized) c.put_into.ensures.same
-
-pub returns-in_ok-insert-in-None-clause-put : goal.returns-in_ok-insert-in-None-clause-put
-returns-in_ok-insert-in-None-clause-put g c =
-    let none : None ≡ archives_of c.args.series.now.entries c.args.key.now = c.in-None.ensures.value in
-    let before = before_fresh g.A.Archive.cells g.A.Archive.row_limit c.args.schema.now c.args.key.now c.args.sample.now c.args.series.now.entries c.requires.kept c.requires.known c.in_ok-archives-in-None.archives.items none c.in_ok-archives-in-None.ensures.empty in
+pub returns-in_ok-insert-in-None : goal.returns-in_ok-insert-in-None
+returns-in_ok-insert-in-None g c =
+    let cells = g.A.Archive.cells in
+    let limit = g.A.Archive.row_limit in
+    let schema = c.args.schema.now in
+    let old = c.args.series.now.entries in
+    let fresh = c.in_ok-archives-in-None in
+    let none : None ≡ archives_of old c.args.key.now = c.in-None.ensures.value in
+    let before = before_fresh cells limit schema c.args.key.now c.args.sample.now old c.requires.kept c.requires.known fresh.archives.items none fresh.ensures.empty in
     let same : c.get_mut.follows.lender-at-none ≡ c.args.series.now = c.get_mut.follows.holds-at-none in
     let key : c.in_ok-copy-in-None.field-0 ≡ c.args.key.now = search rules in
     let updates = rw (same, key) at c.in_ok-insert-in-None.ensures.updates in
-    let sets : (q : List ℕ) → archives_of c.insert.new.self.entries q ≡ cond (is_at (bytes_cmp c.args.key.now) q) (Some c.put_into-in-None.new.archives) (archives_of c.args.series.now.entries q) = updates.0 in
-    let many = sized_many g.A.Archive.row_limit c.args.schema.now c.in_ok-archives-in-None.archives.items c.in_ok-archives-in-None.ensures.sized in
-    cells_with g.A.Archive.cells g.A.Archive.row_limit c.args.schema.now c.args.key.now c.args.sample.now c.args.series.now.entries c.requires.kept c.requires.known c.insert.new.self.entries c.put_into-in-None.new.archives sets c.insert.ensures.ordered c.in_ok-archives-in-None.archives.items before c.put_into-in-None.ensures.sized many c.in_ok-put_into-in-None.ensures.put
-
-pub returns-in_ok-insert-in-None-clause-ok : goal.returns-in_ok-insert-in-None-clause-ok
-returns-in_ok-insert-in-None-clause-ok g c =
-    let none : None ≡ archives_of c.args.series.now.entries c.args.key.now = c.in-None.ensures.value in
-    let before = before_fresh g.A.Archive.cells g.A.Archive.row_limit c.args.schema.now c.args.key.now c.args.sample.now c.args.series.now.entries c.requires.kept c.requires.known c.in_ok-archives-in-None.archives.items none c.in_ok-archives-in-None.ensures.empty in
-    let same : c.get_mut.follows.lender-at-none ≡ c.args.series.now = c.get_mut.follows.holds-at-none in
-    let key : c.in_ok-copy-in-None.field-0 ≡ c.args.key.now = search rules in
-    let updates = rw (same, key) at c.in_ok-insert-in-None.ensures.updates in
-    let sets : (q : List ℕ) → archives_of c.insert.new.self.entries q ≡ cond (is_at (bytes_cmp c.args.key.now) q) (Some c.put_into-in-None.new.archives) (archives_of c.args.series.now.entries q) = updates.0 in
-    let many = sized_many g.A.Archive.row_limit c.args.schema.now c.in_ok-archives-in-None.archives.items c.in_ok-archives-in-None.ensures.sized in
-    kept_with g.A.Archive.cells g.A.Archive.row_limit c.args.schema.now c.args.key.now c.args.sample.now c.args.series.now.entries c.requires.kept c.requires.known c.insert.new.self.entries c.put_into-in-None.new.archives sets c.insert.ensures.ordered c.in_ok-archives-in-None.archives.items before c.put_into-in-None.ensures.sized many c.in_ok-put_into-in-None.ensures.put
+    let sets : (q : List ℕ) → archives_of c.insert.new.self.entries q ≡ cond (is_at (bytes_cmp c.args.key.now) q) (Some c.put_into-in-None.new.archives) (archives_of old q) = updates.0 in
+    let many = sized_many limit schema fresh.archives.items fresh.ensures.sized in
+    record {
+      put = cells_with cells limit schema c.args.key.now c.args.sample.now old c.requires.kept c.requires.known c.insert.new.self.entries c.put_into-in-None.new.archives sets c.insert.ensures.ordered fresh.archives.items before c.put_into-in-None.ensures.sized many c.in_ok-put_into-in-None.ensures.put;
+      ok = kept_with cells limit schema c.args.key.now c.args.sample.now old c.requires.kept c.requires.known c.insert.new.self.entries c.put_into-in-None.new.archives sets c.insert.ensures.ordered fresh.archives.items before c.put_into-in-None.ensures.sized many c.in_ok-put_into-in-None.ensures.put;
+      err = tt;
+      kept = tt;
+    }

@@ -1,0 +1,15 @@
+//! A sample on its way into a cell.
+ghost use Rattle.std.specs.Prelude.{◌<◌, ◌≤◌};
+ghost use Rattle.rr_base.specs.declared.limits.TheConstants.{MAX_NUMBER, MAX_STEPS};
+
+/// A sample as its slot sees it.
+#[derive(Clone, Copy)]
+pub(crate) struct NewSample {
+    pub(crate) number: u64,
+    pub(crate) place: u32,
+    pub(crate) time: i64,
+    pub(crate) value: i64,
+    ghost some_number: { 1 ≤ number },
+    ghost known_number: { number ≤ MAX_NUMBER },
+    ghost in_slot: { place < MAX_STEPS },
+}
