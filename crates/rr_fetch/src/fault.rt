@@ -28,7 +28,7 @@ pub enum RequestFault {
     #[error("the range has more than 100,000 rows: ask for a shorter one, or a coarser resolution")]
     TooManyRows,
     /// Memory ran out.
-    #[error("memory ran out")]
+    #[error("out of memory")]
     Memory,
 }
 
@@ -55,7 +55,7 @@ impl RequestFault {
 #[derive(Clone, Copy, Debug, PartialEq, Eq, Error)]
 pub enum AnswerFault {
     /// Memory ran out.
-    #[error("memory ran out")]
+    #[error("out of memory")]
     Memory,
     /// The writer failed, or took nothing.
     #[error("the answer could not be written")]

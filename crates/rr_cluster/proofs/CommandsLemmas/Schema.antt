@@ -15,7 +15,7 @@ use Rattle.rr_cluster.specs.Command.{IsOneLine}
 use Rattle.rr_cluster.specs.Commands.Schema.{schema_command, layout_of, unless_faulty}
 use Rattle.rr_cluster.specs.Soundness.{FirstStatesAreSound}
 use Rattle.rr_cluster.specs.State.{State, first_state}
-use Rattle.rr_cluster.specs.Words.{archives_of, number_to}
+use Rattle.rr_cluster.specs.Words.{archives_of, number_within}
 use Rattle.rr_join.proofs.ValuesLemmas.{map_values-empty}
 use Rattle.std.specs.Cmp.Lexicographic.{nat_list_cmp_total}
 use Rattle.rr_cluster.proofs.StepLemmas.{names_apart, OfAnswer, then_holds}
@@ -33,7 +33,7 @@ unless_faulty-ok (Some fault) layout is = tt
 
 pub layout_is : (word : List ℕ) (archives : List (List ℕ)) → OfAnswer IsLayout (layout_of word archives)
 unfolding layout_of
-layout_is word archives = then_holds IsLayout (ok_or (number_to MAX_U32 word) BadNumber) _ (λ seconds said. then_holds IsLayout (ok_or (archives_of archives) BadNumber) _ (λ specs also.
+layout_is word archives = then_holds IsLayout (ok_or (number_within 0 MAX_U32 word) BadNumber) _ (λ seconds said. then_holds IsLayout (ok_or (archives_of archives) BadNumber) _ (λ specs also.
     unless_faulty-ok (schema_fault seconds specs) (record { step = seconds; archives = specs }) (checked_layout seconds specs)))
 
 pub first_states_agree : (s : Layout) → ◌≡◌ {A = State Cells} (first_state s) (in_cells (first_state s))

@@ -8,7 +8,7 @@ use Rattle.rr_cluster.specs.declared.fault.CommandFault.TheVariants.{BadNumber, 
 use Rattle.rr_cluster.specs.declared.words.TheConstants.{MAX_U32}
 use Rattle.rr_base.specs.Results.{◌>>=◌}
 use Rattle.rr_cluster.specs.Command.{Command, schema}
-use Rattle.rr_cluster.specs.Words.{archives_of, number_to}
+use Rattle.rr_cluster.specs.Words.{archives_of, number_within}
 
 -- the command of the words after its name
 abbrev pub schema_command : List (List ℕ) → Option Command
@@ -23,6 +23,6 @@ unless_faulty (Some fault) layout = Err (Schema fault)
 -- the schema of the words STEP S:R:N/D ..
 unfoldable pub layout_of : List ℕ → List (List ℕ) → Result Layout CommandFault
 layout_of step archives = do
-  seconds ← ok_or (number_to MAX_U32 step) BadNumber
+  seconds ← ok_or (number_within 0 MAX_U32 step) BadNumber
   specs ← ok_or (archives_of archives) BadNumber
   unless_faulty (schema_fault seconds specs) (record { step = seconds; archives = specs })
