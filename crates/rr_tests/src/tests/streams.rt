@@ -1,6 +1,6 @@
 //! Counted streams: reads and writes that are short, fail, or are interrupted.
 
-use crate::failing::{failing_first, in_pieces};
+use crate::tests::failing::{failing_first, in_pieces};
 use rr_base::Counted;
 use rr_base::stream::{
     MAX_INTERRUPTS, ReadFailed, ReadFault, WriteFailed, fill, flush, read_some, read_to_end,

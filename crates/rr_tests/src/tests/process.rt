@@ -1,6 +1,6 @@
 //! The program as a process: its words and streams, and how it ends.
 
-use crate::fake_process::Process;
+use crate::tests::fake_process::Process;
 use rr_orders::run;
 use std::fs;
 use std::test::Fail;
@@ -34,6 +34,7 @@ fn a_script_comes_from_standard_input(rt: HostRuntime) -> Result<(), Fail> {
 fn a_script_may_come_from_a_file(rt: HostRuntime) -> Result<(), Fail> {
     fs::write(&rt, "script.rr", SCRIPT)?;
     let (printed, complained, status) = ended(rt, &[b"rr", b"sim", b"script.rr"], b"")?;
+    fs::remove_file(&rt, "script.rr")?;
     assert_eq!(rt;
         (printed.as_slice(), complained.len(), status),
         (b"m v,60,7\n".as_slice(), 0, 0)

@@ -1,6 +1,6 @@
 //! Lines checked from a stream to another: however they are cut, and where a stream fails.
 
-use crate::failing::{Holding, failing_after, in_pieces};
+use crate::tests::failing::{Holding, failing_after, in_pieces};
 use rr_base::Counted;
 use rr_line::Precision;
 use rr_orders::obey_order;

@@ -6,7 +6,7 @@ use Rattle.rr_contrib.specs.Validity.{CanAdd}
 use Rattle.rr_archive.specs.Places.{place_at, place_cmp}
 use Rattle.rr_archive.specs.Cells.{Rows, put_row}
 use Rattle.rr_archive.proofs.Putting.{after_put-first}
-use Rattle.rr_tests.proofs.archives.two_samples.Goals as goal
+use Rattle.rr_tests.proofs.tests.archives.two_samples.Goals as goal
 
 pub put-requires-clause-newer : goal.put-requires-clause-newer
 put-requires-clause-newer g c =

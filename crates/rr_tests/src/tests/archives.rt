@@ -1,6 +1,6 @@
 //! The ordered map of rows of one archive.
 
-use crate::contributions::TWO_SAMPLES;
+use crate::tests::contributions::TWO_SAMPLES;
 use rr_archive::{Archive, PlainArchive};
 use rr_base::Origin;
 use rr_contrib::Contribution;
