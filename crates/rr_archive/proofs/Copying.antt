@@ -1,5 +1,5 @@
 -- Rows that are copied one by one.
-use Rattle.std.proofs.Common.{◌≡◌, ℤ, Bool, true, false, cond, List, [], ◌∷◌, ℕ, subst, refl, sym, ap, ◌∙◌, Option, Some, None, int_cmp}
+use Rattle.std.proofs.Common.{◌≡◌, ℤ, true, false, cond, List, [], ◌∷◌, ℕ, subst, refl, sym, ap, ◌∙◌, Option, Some, None, int_cmp}
 use Rattle.std.specs.Global.{Vec}
 use Rattle.std.specs.List.Sorted.{IsStrictlySortedBy}
 use Rattle.std.specs.Map.{keys_of}
@@ -7,8 +7,8 @@ use Rattle.std.specs.Option.{option_map, option_or, option_and_then}
 use Rattle.std.specs.Ordering.{is_eq}
 use Rattle.std.specs.Cmp.{int_cmp_total, eq_by_cmp_equiv}
 use Rattle.rr_archive.specs.declared.entry.Entry.{Entry}
-use Rattle.rr_archive.specs.Row.{entry_at, ascends}
-use Rattle.rr_archive.specs.Held.{row_in, cells_in, row_ascends, RowsAscend}
+use Rattle.rr_archive.specs.Row.{entry_at}
+use Rattle.rr_archive.specs.Held.{row_in, cells_in}
 use Rattle.rr_archive.proofs.HeldLemmas.{Sets, cells_in-same, same_slot}
 use Rattle.rr_archive.proofs.Listing.{none_later}
 
@@ -21,17 +21,6 @@ pub record Copied (rows left new : List (ℤ × Vec Entry)) : Type 0 where
   pub sorted : IsStrictlySortedBy int_cmp (keys_of left)
   pub alike : (slot : ℤ) → items_in rows slot ≡ option_or (items_in left slot) (items_in new slot)
   pub ordered : IsStrictlySortedBy int_cmp (keys_of new)
-
-pub copied_none : (rows new : List (ℤ × Vec Entry)) → new ≡ [] → IsStrictlySortedBy int_cmp (keys_of rows) → IsStrictlySortedBy int_cmp (keys_of new) → Copied rows rows new
-copied_none rows new none sorted ordered = record {
-  sorted = sorted;
-  alike = λ slot. or_none (items_in rows slot) ∙ ap (λ n. option_or (items_in rows slot) (items_in n slot)) (sym none);
-  ordered = ordered;
-}
-  where
-    or_none : (o : Option (List Entry)) → o ≡ option_or o None
-    or_none None = refl
-    or_none (Some x) = refl
 
 pub copied_more : (rows left rest new more : List (ℤ × Vec Entry)) (slot : ℤ) (row copy : Vec Entry) → Copied rows left new → left ≡ (slot, row) ∷ rest → Sets new more slot copy → copy.items ≡ row.items → IsStrictlySortedBy int_cmp (keys_of more) → Copied rows rest more
 unfolding IsStrictlySortedBy
@@ -62,17 +51,3 @@ copied_cells rows left new c none = cells_in-same rows new (λ q. by_items (row_
 
     by_items : (a b : Option (Vec Entry)) (origin : ℕ) → option_map (λ (r : Vec Entry). r.items) a ≡ option_map (λ (r : Vec Entry). r.items) b → option_and_then (λ (r : Vec Entry). entry_at r.items origin) a ≡ option_and_then (λ (r : Vec Entry). entry_at r.items origin) b
     by_items a b origin e = through a origin ∙ ap (option_and_then (λ es. entry_at es origin)) e ∙ sym (through b origin)
-
-abbrev ascend_items : Option (List Entry) → Bool
-ascend_items None = true
-ascend_items (Some es) = ascends es
-
-pub copied_ascend : (rows left new : List (ℤ × Vec Entry)) → Copied rows left new → left ≡ [] → RowsAscend rows → RowsAscend new
-copied_ascend rows left new c none ascend = λ q. by_items (row_in new q) (row_in rows q) (copied_items rows left new q c none) ∙ ascend q
-  where
-    through : (row : Option (Vec Entry)) → row_ascends row ≡ ascend_items (option_map (λ (r : Vec Entry). r.items) row)
-    through None = refl
-    through (Some row) = refl
-
-    by_items : (a b : Option (Vec Entry)) → option_map (λ (r : Vec Entry). r.items) a ≡ option_map (λ (r : Vec Entry). r.items) b → row_ascends a ≡ row_ascends b
-    by_items a b e = through a ∙ ap ascend_items e ∙ sym (through b)

@@ -19,7 +19,8 @@ use Rattle.rr_contrib.specs.declared.contribution.Contribution.{Contribution}
 use Rattle.rr_contrib.specs.Contributions.{contribution_cmp}
 use Rattle.std.specs.Ordering.{eq_by_cmp}
 use Rattle.rr_archive.specs.declared.entry.Entry.{Entry}
-use Rattle.rr_archive.specs.Places.{Place, place_at, place_cmp, newest_of, is_above, is_live_at, IsSlot}
+use Rattle.rr_join.specs.Horizon.{is_above}
+use Rattle.rr_archive.specs.Places.{Place, place_at, place_cmp, newest_of, is_live_at, IsSlot}
 use Rattle.rr_archive.specs.Changes.{greater_of}
 use Rattle.rr_archive.specs.Cells.{Rows, with_cell, join_cell, IsTrimmed}
 use Rattle.rr_archive.specs.Held.{cells_in, is_placed, IsHeld, RowsAscend}

@@ -1,5 +1,5 @@
 -- What a cell more changes of the keys of a map, and how many cells there can be.
-use Rattle.std.proofs.Common.{◌≡◌, ℕ, ◌+◌, ◌*◌, ◌<◌, ◌≤◌, ℤ, pos, negsuc, ◌+ℤ◌, Bool, true, false, ◌&&◌, T, List, [], ◌∷◌, map, length, refl, sym, ap, ◌∙◌, subst, Some, Ordering, Less, Equal, Greater, int_cmp, nat_cmp, arith, leb, ⊎_elim, ◌⊎◌, inl, inr}
+use Rattle.std.proofs.Common.{◌≡◌, ℕ, ◌+◌, ◌*◌, ◌<◌, ◌≤◌, ℤ, pos, negsuc, ◌+ℤ◌, true, T, List, [], ◌∷◌, map, length, refl, sym, ap, ◌∙◌, subst, Some, Ordering, Less, Equal, Greater, int_cmp, nat_cmp, arith, leb, ⊎_elim, ◌⊎◌, inl, inr}
 use Rattle.std.specs.Prelude.{unsigned_abs, int_lt}
 use Rattle.std.specs.List.{list_all}
 use Rattle.std.specs.Ordering.{ordering_then, is_lt}
@@ -11,7 +11,7 @@ use Rattle.std.proofs.lemmas.Bool.Decides.{nat_tests}
 use Rattle.std.proofs.lemmas.Int.{ints}
 use Rattle.rr_base.specs.declared.limits.TheConstants.{MAX_SECOND}
 use Rattle.rr_join.specs.Maps.{greater}
-use Rattle.rr_join.proofs.Booleans.{and_first, and_second}
+use Rattle.rr_join.proofs.Booleans.{and_first, and_second, first_T, second_T, true_from_T}
 use Rattle.rr_join.proofs.Greater.{greater_comm, greater_assoc, greater_itself, greater_swap}
 use Rattle.rr_contrib.specs.declared.contribution.Contribution.{Contribution}
 use Rattle.rr_archive.specs.Places.{Place, place_cmp, newest_of}
@@ -30,8 +30,8 @@ newest_put p c (e ∷ es) = elim (place_cmp p e.0) as (λ r. place_cmp p e.0 ≡
   | Less ↦ λ t. refl
   | Equal ↦ λ t.
       let rest = newest_of (keys_of es) in
-      ap (λ g. greater int_cmp g rest) (sym (greater_itself int_cmp_total int_cmp-IsAntisymmetric (Some e.0.slot)))
-      ∙ greater_assoc int_cmp_total int_cmp-IsAntisymmetric (Some e.0.slot) (Some e.0.slot) rest
+      ap (λ g. greater int_cmp g rest) (sym (greater_itself int_cmp_total (Some e.0.slot)))
+      ∙ greater_assoc int_cmp_total (Some e.0.slot) (Some e.0.slot) rest
       ∙ ap (λ (y : Place). greater int_cmp (Some y.slot) (newest_of (keys_of (e ∷ es)))) (sym (place_cmp-IsAntisymmetric p e.0 t))
   | Greater ↦ λ t.
       ap (greater int_cmp (Some e.0.slot)) (newest_put p c es)
@@ -117,18 +117,6 @@ code_rises p q hp hq less =
     (λ above. let rise = slots_rise p.slot q.slot f.slot g.slot above in omega arith)
     (λ same. let at = ap (λ z. unsigned_abs (z +ℤ pos MAX_SECOND)) same.0 in let rise = same.1 in omega arith)
     (less_tells p q less)
-
-first_T : (a b : Bool) → T (a && b) → T a
-first_T true b h = tt
-first_T false b h = h
-
-second_T : (a b : Bool) → T (a && b) → T b
-second_T true b h = h
-second_T false b h = absurd h
-
-true_from_T : (a : Bool) → T a → a ≡ true
-true_from_T true h = refl
-true_from_T false h = absurd h
 
 -- behind a place there are no more than fit
 few_behind : (es : List (Place × Contribution)) (q : Place) → T (is_sorted place_cmp es) → T (below_all place_cmp q es) → list_all is_placed (keys_of es) ≡ true → is_placed q ≡ true → code q + 1 + length es ≤ most_cells

@@ -18,7 +18,8 @@ use Rattle.rr_join.proofs.Members.{is_in, same_from_tie, tie_itself, head_in}
 use Rattle.rr_join.proofs.Lookups.{is_in-keys, get-trimmed}
 use Rattle.rr_join.proofs.Distinct.{IsDistinct, keys_distinct}
 use Rattle.rr_join.proofs.Distinct.IsDistinct.{more}
-use Rattle.rr_archive.specs.Places.{Place, place_cmp, newest_of, is_above, is_live_at}
+use Rattle.rr_join.specs.Horizon.{is_above}
+use Rattle.rr_archive.specs.Places.{Place, place_cmp, newest_of, is_live_at}
 use Rattle.rr_archive.specs.Cells.{Rows, IsTrimmed}
 use Rattle.rr_archive.specs.Laws.{CellsAreFew}
 use Rattle.rr_archive.proofs.PlaceOrder.{place_cmp_total, place_cmp-IsAntisymmetric}

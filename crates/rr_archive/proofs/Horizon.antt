@@ -7,7 +7,8 @@ use Rattle.std.proofs.Math.Bool.{and-true}
 use Rattle.std.proofs.lemmas.Bool.{not-true}
 use Rattle.std.proofs.lemmas.Int.{ints}
 use Rattle.rr_join.specs.Maps.{greater, IsHorizon}
-use Rattle.rr_archive.specs.Places.{Place, newest_of, is_above, is_live_at}
+use Rattle.rr_join.specs.Horizon.{is_above}
+use Rattle.rr_archive.specs.Places.{Place, newest_of, is_live_at}
 
 above_both : (x y slot : ℤ) (rows : ℕ) → int_lt (ord_max int_cmp x y -ℤ pos rows) slot ≡ (int_lt (x -ℤ pos rows) slot && int_lt (y -ℤ pos rows) slot)
 above_both x y slot rows = grind (arith, ints)

@@ -1,5 +1,5 @@
 -- Rows that leave from the front, until the first is live.
-use Rattle.std.proofs.Common.{◌≡◌, ℕ, ◌-◌, ◌<◌, ◌≤◌, ℤ, pos, ◌-ℤ◌, Bool, true, false, cond, not, List, [], ◌∷◌, ◌++◌, drop, length, refl, sym, ap, ◌∙◌, true≢false, Some, Less, int_cmp, arith}
+use Rattle.std.proofs.Common.{◌≡◌, ℕ, ◌-◌, ◌≤◌, ℤ, pos, ◌-ℤ◌, Bool, true, false, cond, not, List, [], ◌∷◌, ◌++◌, drop, length, refl, sym, ap, ◌∙◌, true≢false, Some, Less, int_cmp, arith}
 use Rattle.std.specs.Prelude.{int_lt}
 use Rattle.std.specs.Global.{Vec}
 use Rattle.std.specs.List.{filter, AllByRecursion}
@@ -12,7 +12,8 @@ use Rattle.std.proofs.lemmas.List.Elements.{filter-append}
 use Rattle.rr_join.proofs.Keys.{entries-retain}
 use Rattle.rr_contrib.specs.declared.contribution.Contribution.{Contribution}
 use Rattle.rr_archive.specs.declared.entry.Entry.{Entry}
-use Rattle.rr_archive.specs.Places.{Place, place_at, place_cmp, is_above}
+use Rattle.rr_join.specs.Horizon.{is_above}
+use Rattle.rr_archive.specs.Places.{Place, place_at, place_cmp}
 use Rattle.rr_archive.specs.Cells.{Rows}
 use Rattle.rr_archive.specs.Held.{cells_in, RowsAscend, starts_dead, first_len}
 use Rattle.rr_archive.proofs.PlaceOrder.{place_cmp_total, place_cmp-IsAntisymmetric}
@@ -68,14 +69,6 @@ left_all limit top rows count ascend ordered counted = record {
   ascend = ascend;
   ordered = ordered;
 }
-
-pub first_fits : (limit : ℕ) (top : ℤ) (rows left : List (ℤ × Vec Entry)) (count : ℕ) → LeftOver limit top rows left count → first_len left ≤ count
-first_fits limit top rows [] count l = omega arith
-first_fits limit top rows (r ∷ rs) count l = let fits = within_row_cells r.0 r.1.items (cells_list rs) in let counted = l.counted in omega arith
-
-pub left_shorter : (limit : ℕ) (top : ℤ) (left : List (ℤ × Vec Entry)) → starts_dead limit top left ≡ true → length (drop 1 left) < length left
-left_shorter limit top [] dead = absurd (true≢false (sym dead))
-left_shorter limit top (r ∷ rs) dead = omega arith
 
 pub left_fewer : (limit : ℕ) (top : ℤ) (rows left : List (ℤ × Vec Entry)) (count : ℕ) → LeftOver limit top rows left count → starts_dead limit top left ≡ true → LeftOver limit top rows (drop 1 left) (count - first_len left)
 unfolding IsStrictlySortedBy

@@ -1,5 +1,5 @@
 -- The cells of rows whose slots and origins ascend, as one list in order.
-use Rattle.std.proofs.Common.{◌≡◌, ℕ, ◌<◌, ℤ, Bool, true, false, cond, ◌&&◌, T, List, [], ◌∷◌, ◌++◌, map, length, refl, sym, ap, ◌∙◌, subst, Option, Some, None, Less, Equal, int_cmp, nat_cmp, arith, eqb, ltb, true≢false, append-nil, zero, suc, ◌-◌, ◌≤◌, get_or}
+use Rattle.std.proofs.Common.{◌≡◌, ℕ, ◌<◌, ℤ, Bool, true, false, cond, ◌&&◌, T, List, [], ◌∷◌, ◌++◌, map, length, refl, sym, ap, ◌∙◌, subst, Option, Some, None, Less, Equal, int_cmp, nat_cmp, arith, eqb, ltb, append-nil, zero, suc, ◌-◌, ◌≤◌, get_or}
 use Rattle.std.specs.Global.{Vec}
 use Rattle.std.specs.List.{filter, slice_get, AllByRecursion}
 use Rattle.std.specs.List.Sorted.{IsStrictlySortedBy}
@@ -14,7 +14,7 @@ use Rattle.std.proofs.lemmas.List.Elements.{filter-append}
 use Rattle.std.proofs.lemmas.Bool.Decides.{nat_tests}
 use Rattle.std.proofs.lemmas.Int.{ints}
 use Rattle.rr_join.proofs.Members.{tie_itself}
-use Rattle.rr_join.proofs.Booleans.{and_first, and_second}
+use Rattle.rr_join.proofs.Booleans.{and_first, and_second, T_from_true, T_and, first_T, second_T}
 use Rattle.rr_contrib.specs.declared.contribution.Contribution.{Contribution}
 use Rattle.rr_archive.specs.declared.entry.Entry.{Entry}
 use Rattle.rr_archive.specs.Places.{Place, place_at, place_cmp}
@@ -39,22 +39,6 @@ pub data Listed : List (ℤ × Vec Entry) → Type 0 where
   more : {r : ℤ × Vec Entry} {rs : List (ℤ × Vec Entry)} → AllByRecursion (λ s. int_cmp r.0 s ≡ Less) (keys_of rs) → ascends r.1.items ≡ true → Listed rs → Listed (r ∷ rs)
 
 -- ---- in order
-
-T_from_true : (a : Bool) → a ≡ true → T a
-T_from_true true e = tt
-T_from_true false e = absurd (true≢false (sym e))
-
-T_and : (a b : Bool) → T a → T b → T (a && b)
-T_and true b p q = q
-T_and false b p q = absurd p
-
-first_T : (a b : Bool) → T (a && b) → T a
-first_T true b h = tt
-first_T false b h = h
-
-second_T : (a b : Bool) → T (a && b) → T b
-second_T true b h = h
-second_T false b h = absurd h
 
 -- a place is below one of a later slot, or of a greater origin in its slot
 before_slot : (s t : ℤ) (o p : ℕ) → int_cmp s t ≡ Less → is_lt (place_cmp (place_at s o) (place_at t p)) ≡ true

@@ -3,7 +3,7 @@ use Rattle.std.proofs.Common.{◌≡◌}
 use Rattle.std.specs.Ordering.{int_cmp}
 use Rattle.std.specs.Cmp.{IsTotalOrder, nat_cmp_total, int_cmp_total, then_total, on_total}
 use Rattle.std.specs.FinMap.{IsAntisymmetric, nat_cmp-IsAntisymmetric, int_cmp-IsAntisymmetric}
-use Rattle.rr_contrib.specs.ContributionOrder.{first_Equal, then_Equal}
+use Rattle.rr_join.proofs.Orders.{first_Equal, then_Equal}
 use Rattle.rr_archive.specs.Places.{place_cmp}
 
 pub place_cmp_total : IsTotalOrder place_cmp

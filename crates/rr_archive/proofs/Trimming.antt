@@ -12,7 +12,8 @@ use Rattle.rr_join.proofs.Members.{same_from_tie}
 use Rattle.rr_join.proofs.Lookups.{get-trimmed}
 use Rattle.rr_join.proofs.Keys.{keys-retain}
 use Rattle.rr_contrib.specs.declared.contribution.Contribution.{Contribution}
-use Rattle.rr_archive.specs.Places.{Place, place_cmp, newest_of, is_above, is_live_at}
+use Rattle.rr_join.specs.Horizon.{is_above}
+use Rattle.rr_archive.specs.Places.{Place, place_cmp, newest_of, is_live_at}
 use Rattle.rr_archive.specs.Cells.{Rows, IsTrimmed}
 use Rattle.rr_archive.proofs.PlaceOrder.{place_cmp_total, place_cmp-IsAntisymmetric}
 use Rattle.rr_archive.proofs.FewCells.{newest-insert}

@@ -12,7 +12,8 @@ use Rattle.rr_base.specs.declared.limits.TheConstants.{MAX_SECOND}
 use Rattle.rr_join.specs.Maps.{map_of}
 use Rattle.rr_contrib.specs.declared.contribution.Contribution.{Contribution}
 use Rattle.rr_archive.specs.declared.entry.Entry.{Entry}
-use Rattle.rr_archive.specs.Places.{Place, place_at, newest_of, is_above}
+use Rattle.rr_join.specs.Horizon.{is_above}
+use Rattle.rr_archive.specs.Places.{Place, place_at, newest_of}
 use Rattle.rr_archive.specs.Cells.{Rows, IsTrimmed}
 use Rattle.rr_archive.specs.Row.{entry_at, ascends}
 

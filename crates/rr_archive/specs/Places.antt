@@ -1,9 +1,10 @@
 -- The places of one archive of one key, which are slots and origins, and which of them are live.
-use Rattle.std.specs.Prelude.{ℕ, ℤ, pos, negsuc, ◌-◌, ◌-ℤ◌, ◌≤ℤ◌, Bool, true, int_lt, List, map, Option, Some, None}
+use Rattle.std.specs.Prelude.{ℕ, ℤ, pos, negsuc, ◌-◌, ◌≤ℤ◌, Bool, List, map, Option}
 use Rattle.std.specs.declared.cmp.Ordering.{Ordering}
 use Rattle.std.specs.Ordering.{ordering_then, nat_cmp, int_cmp}
 use Rattle.rr_base.specs.declared.limits.TheConstants.{MAX_SECOND}
 use Rattle.rr_join.specs.Maps.{greatest}
+use Rattle.rr_join.specs.Horizon.{is_above}
 
 -- the slot and the origin of a cell
 pub record Place : Type 0 where
@@ -20,11 +21,6 @@ place_cmp a b = ordering_then (int_cmp a.slot b.slot) (nat_cmp a.origin b.origin
 -- the greatest slot, if there is one
 abbrev pub newest_of : List Place → Option ℤ
 newest_of ps = greatest int_cmp (map (λ p. p.slot) ps)
-
--- whether the slot is one of the last rows up to the newest, or after it
-abbrev pub is_above : ℕ → Option ℤ → ℤ → Bool
-is_above rows None slot = true
-is_above rows (Some top) slot = int_lt (top -ℤ pos rows) slot
 
 -- whether a place, beside these, is not past the horizon of an archive of so many rows
 abbrev pub is_live_at : ℕ → List Place → Place → Bool

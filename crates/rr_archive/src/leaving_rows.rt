@@ -3,7 +3,7 @@ ghost use Rattle.std.specs.Prelude.{◌≡◌, Some, drop};
 ghost use Rattle.std.specs.Ordering.{int_cmp};
 ghost use Rattle.std.specs.BTreeMap.{IsOrdered};
 ghost use Rattle.std.specs.FinMap as fin;
-ghost use Rattle.rr_archive.specs.Places.{is_above};
+ghost use Rattle.rr_join.specs.Horizon.{is_above};
 ghost use Rattle.rr_archive.specs.Held.{cells_in, RowsAscend, starts_dead, first_len};
 
 use crate::slots::Slots;

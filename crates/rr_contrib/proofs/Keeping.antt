@@ -108,12 +108,6 @@ once_high z = subst (λ y. z ≤ℤ y) (sym (one-*ℤ z)) (le_same z)
 pub CanAdd-of_one : (x : SlotSample) (number : ℕ) → 1 ≤ x.number → x.number < number → CanAdd number (of_one x)
 CanAdd-of_one x number some newer = record { newer = newer; counted = some; low = once_low x.value; high = once_high x.value }
 
-pub CanAdd-with_sample : (c : Contribution) (x : SlotSample) (number : ℕ) → CanAdd x.number c → x.number < number → CanAdd number (with_sample c x)
-CanAdd-with_sample c x number can newer =
-    let above = can.newer in
-    let counted = can.counted in
-    record { newer = newer; counted = omega arith; low = low_with c.count c.min x.value c.sum can.low; high = high_with c.count c.max x.value c.sum can.high }
-
 -- ---- together
 
 -- the sample falls into the slot, at its place there

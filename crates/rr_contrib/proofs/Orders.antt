@@ -4,7 +4,7 @@ use Rattle.std.specs.Ordering.{nat_cmp, int_cmp}
 use Rattle.std.specs.Cmp.{IsTotalOrder, nat_cmp_total, int_cmp_total, then_total, on_total}
 use Rattle.std.specs.FinMap.{IsAntisymmetric, nat_cmp-IsAntisymmetric, int_cmp-IsAntisymmetric}
 use Rattle.rr_contrib.specs.Samples.{sample_cmp}
-use Rattle.rr_contrib.specs.ContributionOrder.{first_Equal, then_Equal}
+use Rattle.rr_join.proofs.Orders.{first_Equal, then_Equal}
 
 pub sample_cmp_total : IsTotalOrder sample_cmp
 sample_cmp_total =

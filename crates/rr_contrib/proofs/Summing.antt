@@ -15,7 +15,8 @@ use Rattle.rr_join.specs.Maps.{greater, greatest}
 use Rattle.rr_join.proofs.Greater.{greatest_some, max_comm}
 use Rattle.rr_contrib.specs.declared.contribution.Contribution.{Contribution}
 use Rattle.rr_contrib.specs.Contributions.{SlotSample, of_one, with_sample}
-use Rattle.rr_contrib.specs.Samples.{sample_cmp, last_of, int_sum, mask_of, summary, contribution_of}
+use Rattle.rr_join.specs.Sums.{int_sum}
+use Rattle.rr_contrib.specs.Samples.{sample_cmp, last_of, mask_of, summary, contribution_of}
 
 Some_inj : {V : Type 0} (x y : V) → Some x ≡ Some y → x ≡ y
 Some_inj x y e = ap (λ v. unwrap_or v x) e

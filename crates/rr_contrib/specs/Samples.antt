@@ -1,9 +1,10 @@
 -- What the samples of one origin in one slot contribute together.
-use Rattle.std.specs.Prelude.{ℕ, ℤ, pos, ◌+ℤ◌, ◌^◌, bit_or, List, [], ◌∷◌, map, length, Option, Some, None, unwrap_or}
+use Rattle.std.specs.Prelude.{ℕ, pos, ◌^◌, bit_or, List, [], ◌∷◌, map, length, Option, Some, None, unwrap_or}
 use Rattle.std.specs.declared.cmp.Ordering.{Ordering}
 use Rattle.std.specs.Option.{option_map}
 use Rattle.std.specs.Ordering.{ordering_then, nat_cmp, int_cmp, flip_args}
 use Rattle.rr_join.specs.Maps.{greatest}
+use Rattle.rr_join.specs.Sums.{int_sum}
 use Rattle.rr_contrib.specs.declared.contribution.Contribution.{Contribution}
 use Rattle.rr_contrib.specs.Contributions.{SlotSample}
 
@@ -18,11 +19,6 @@ sample_cmp a b =
 -- the last sample, if there is one
 abbrev pub last_of : List SlotSample → Option SlotSample
 last_of xs = greatest sample_cmp xs
-
--- the sum of some values
-abbrev pub int_sum : List ℤ → ℤ
-int_sum [] = pos 0
-int_sum (v ∷ vs) = v +ℤ int_sum vs
 
 -- the mask that has a bit for each of these places
 abbrev pub mask_of : List ℕ → ℕ

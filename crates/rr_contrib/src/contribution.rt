@@ -211,7 +211,7 @@ impl Join for Contribution {
 
     ghost commutative = { max_comm contribution_cmp_total contribution_cmp-IsAntisymmetric };
 
-    ghost associative = { max_assoc contribution_cmp_total contribution_cmp-IsAntisymmetric };
+    ghost associative = { max_assoc contribution_cmp_total };
 
-    ghost idempotent = { max_itself contribution_cmp_total contribution_cmp-IsAntisymmetric };
+    ghost idempotent = { max_itself contribution_cmp_total };
 }

@@ -1,19 +1,19 @@
 -- What entries come to, with one more behind them.
-use Rattle.std.proofs.Common.{◌≡◌, ℕ, ◌+◌, ◌<◌, ℤ, pos, ◌+ℤ◌, true, false, cond, List, [], ◌∷◌, ◌++◌, map, length, take, get_or, refl, sym, ap, ◌∙◌, Ordering, Less, Equal, Greater, true≢false, Option, Some, None, int_cmp, add_assoc, arith}
+use Rattle.std.proofs.Common.{◌≡◌, ℕ, ◌+◌, ◌<◌, ℤ, pos, ◌+ℤ◌, List, [], ◌∷◌, ◌++◌, map, length, take, get_or, refl, sym, ap, ◌∙◌, Ordering, Some, None, int_cmp, add_assoc, arith}
 use Rattle.std.specs.Prelude.{bit_or}
 use Rattle.std.specs.List.{sum}
 use Rattle.std.specs.Int.Bits as bits
-use Rattle.std.specs.Ordering.{is_lt, ord_max, ordering_reverse, flip_args}
+use Rattle.std.specs.Ordering.{flip_args}
 use Rattle.std.specs.Cmp.{IsTotalOrder, int_cmp_total, nat_cmp_total, back_total, then_total, on_total}
 use Rattle.std.proofs.Math.IntN.{+ℤ_assoc, +ℤ_comm}
 use Rattle.std.proofs.lemmas.Nat.{or_comm}
 use Rattle.std.proofs.lemmas.List.{take_more}
 use Rattle.std.proofs.lemmas.List.Sums.{sum_by-cons}
 use Rattle.rr_join.specs.Maps.{greatest, greater}
-use Rattle.rr_join.proofs.Greater.{greater-None}
+use Rattle.rr_join.proofs.Greater.{greater-None, greater_assoc}
 use Rattle.rr_contrib.proofs.Masks.{or_swap}
 use Rattle.rr_archive.specs.declared.entry.Entry.{Entry}
-use Rattle.rr_model.specs.Rows.{int_sum}
+use Rattle.rr_join.specs.Sums.{int_sum}
 use Rattle.rr_fetch.specs.Consolidation.{united, total_of, count_of, last_cmp}
 use Rattle.rr_fetch.proofs.Gathering.{gather, gather-more, gather-greatest}
 
@@ -40,48 +40,12 @@ map_itself (x ∷ xs) = ap (λ l. x ∷ l) (map_itself xs)
 
 -- ---- the greatest of values of which others may tie
 
-Less_from_is_lt : (r : Ordering) → is_lt r ≡ true → r ≡ Less
-Less_from_is_lt Less e = refl
-Less_from_is_lt Equal e = absurd (true≢false (sym e))
-Less_from_is_lt Greater e = absurd (true≢false (sym e))
-
 module _ {V : Type 0} {S : V → V → Ordering} (s : IsTotalOrder S) where
-  not_less_further : (a b c : V) → is_lt (S b a) ≡ false → is_lt (S c b) ≡ false → is_lt (S c a) ≡ false
-  not_less_further a b c p q =
-      elim (S c a) as (λ r. S c a ≡ r → is_lt r ≡ false) [
-        | Less ↦ λ e. elim (S c b) as (λ r. S c b ≡ r → is_lt r ≡ false → true ≡ false) [
-          | Less ↦ λ f g. g
-          | Equal ↦ λ f g. sym (ap is_lt (sym (s.congr c b a f) ∙ e)) ∙ p
-          | Greater ↦ λ f g. sym (ap is_lt (s.trans b c a (s.antisymm b c ∙ ap ordering_reverse f) e)) ∙ p
-        ] refl q
-        | Equal ↦ λ e. refl
-        | Greater ↦ λ e. refl
-      ] refl
-
-  max_grouped : (a b c : V) → ord_max S (ord_max S a b) c ≡ ord_max S a (ord_max S b c)
-  max_grouped a b c =
-      elim (is_lt (S b a)) as (λ p. is_lt (S b a) ≡ p → ord_max S (cond p a b) c ≡ ord_max S a (ord_max S b c)) [
-        | true ↦ λ p. elim (is_lt (S c b)) as (λ q. is_lt (S c b) ≡ q → ord_max S a c ≡ ord_max S a (cond q b c)) [
-          | true ↦ λ q. ap (λ r. cond (is_lt r) a c) (s.trans c b a (Less_from_is_lt _ q) (Less_from_is_lt _ p)) ∙ sym (ap (λ t. cond t a b) p)
-          | false ↦ λ q. refl
-        ] refl
-        | false ↦ λ p. elim (is_lt (S c b)) as (λ q. is_lt (S c b) ≡ q → cond q b c ≡ ord_max S a (cond q b c)) [
-          | true ↦ λ q. sym (ap (λ t. cond t a b) p)
-          | false ↦ λ q. sym (ap (λ t. cond t a c) (not_less_further a b c p q))
-        ] refl
-      ] refl
-
-  greater_grouped : (x y z : Option V) → greater S (greater S x y) z ≡ greater S x (greater S y z)
-  greater_grouped None y z = refl
-  greater_grouped (Some a) None z = refl
-  greater_grouped (Some a) (Some b) None = refl
-  greater_grouped (Some a) (Some b) (Some c) = ap (λ v. Some v) (max_grouped a b c)
-
   pub greatest_more : {N : Type 0} (f : N → V) (ns : List N) (i : ℕ) (d : N) → i < length ns → greatest S (map f (take (i + 1) ns)) ≡ greater S (greatest S (map f (take i ns))) (Some (f (get_or ns i d)))
   greatest_more f ns i d h =
       ap (λ l. greatest S (map f l)) (take_more ns i d h)
       ∙ gather-greatest S f (take i ns ++ get_or ns i d ∷ [])
-      ∙ gather-more (greater S) None (λ n. Some (f n)) (greater-None S) greater_grouped (take i ns) (get_or ns i d)
+      ∙ gather-more (greater S) None (λ n. Some (f n)) (greater-None S) (greater_assoc s) (take i ns) (get_or ns i d)
       ∙ ap (λ g. greater S g (Some (f (get_or ns i d)))) (sym (gather-greatest S f (take i ns)))
 
 -- ---- entries

@@ -26,7 +26,8 @@ use Rattle.rr_archive.specs.declared.entry.Entry.{Entry}
 use Rattle.rr_model.specs.CellNames.{CellName, cell_name_cmp}
 use Rattle.rr_model.specs.Samples.{Mark, mark_cmp, name_of}
 use Rattle.rr_model.specs.Knowledge.{Knowledge, live}
-use Rattle.rr_model.specs.Rows.{int_sum, average, last_of, of_marks, is_at, marks_of_row, known_places, row}
+use Rattle.rr_join.specs.Sums.{int_sum}
+use Rattle.rr_model.specs.Rows.{average, last_of, of_marks, is_at, marks_of_row, known_places, row}
 use Rattle.rr_model.specs.FetchText.{Request, answer_text, fetch_text}
 use Rattle.rr_model.proofs.Orders.{cell_name_cmp_total, cell_name_cmp-IsAntisymmetric, mark_cmp_total, mark_cmp-IsAntisymmetric}
 use Rattle.rr_model.proofs.Horizon.{is_at_says}
@@ -111,7 +112,7 @@ module _ (s : Layout) (is : IsLayout s) (k : Knowledge) (key : List ℕ) (archiv
       ap (λ v. Some v) (reads (marks n) ∙ ap (λ vs. unwrap_or (greatest S vs) (pos 0)) (values-seen s (marks n)))
       ∙ some_value s S (marks n) (pos 0) (in_row_names s k key archive slot n e).1
       ∙ gather-greatest S (λ m. m.value) (marks n))
-      ∙ by_name (greater S) None (λ x. refl) (greater_assoc o same) (greater_comm o same) (λ m. Some m.value)
+      ∙ by_name (greater S) None (λ x. refl) (greater_assoc o) (greater_comm o same) (λ m. Some m.value)
       ∙ sym (gather-greatest S (λ m. m.value) row_marks)
 
   -- ---- places
@@ -208,7 +209,7 @@ module _ (s : Layout) (is : IsLayout s) (k : Knowledge) (key : List ℕ) (archiv
       ∙ last_values (greatest by_marks ns) agree.1
       ∙ ap (option_map (λ (m : Mark). m.value)) (sym (
       last-marks row_marks
-      ∙ sym (by_name (greater mark_cmp) None (λ x. refl) (greater_assoc mark_cmp_total mark_cmp-IsAntisymmetric) (greater_comm mark_cmp_total mark_cmp-IsAntisymmetric) (λ m. Some m))
+      ∙ sym (by_name (greater mark_cmp) None (λ x. refl) (greater_assoc mark_cmp_total) (greater_comm mark_cmp_total mark_cmp-IsAntisymmetric) (λ m. Some m))
       ∙ gather_agree cell_name_cmp_total cell_name_cmp-IsAntisymmetric (greater mark_cmp) None (λ n. gather (greater mark_cmp) None (λ m. Some m) (marks n)) (λ n. Some (last_at n)) ns (λ n e. sym (last-marks (marks n)) ∙ is_last n e)
       ∙ sym (gather-greatest mark_cmp last_at ns)
       ∙ greatest-map mark_cmp last_at ns))

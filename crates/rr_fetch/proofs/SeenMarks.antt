@@ -8,6 +8,7 @@ use Rattle.std.specs.Cmp.Lexicographic.{slice_cmp, nat_list_cmp_total}
 use Rattle.std.specs.FinMap.{int_cmp-IsAntisymmetric}
 use Rattle.rr_base.specs.Schema.{Layout, place_of}
 use Rattle.rr_join.specs.Maps.{greatest}
+use Rattle.rr_join.specs.Sums.{int_sum}
 use Rattle.rr_join.proofs.Greater.{greatest_some}
 use Rattle.rr_join.proofs.Members.{is_in}
 use Rattle.rr_contrib.specs.Samples as samples
@@ -22,7 +23,7 @@ use Rattle.rr_fetch.proofs.Gathering.{gather, greatest-map, greatest_agree}
 use Rattle.rr_fetch.proofs.RowEntries.{map-map}
 
 module _ (s : Layout) where
-  pub sum-seen : (ms : List Mark) → samples.int_sum (map (λ x. x.value) (map (seen s) ms)) ≡ gather ◌+ℤ◌ (pos 0) (λ m. m.value) ms
+  pub sum-seen : (ms : List Mark) → int_sum (map (λ x. x.value) (map (seen s) ms)) ≡ gather ◌+ℤ◌ (pos 0) (λ m. m.value) ms
   sum-seen [] = refl
   sum-seen (m ∷ ms) = ap (λ y. m.value +ℤ y) (sum-seen ms)
 

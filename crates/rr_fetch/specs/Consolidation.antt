@@ -12,7 +12,8 @@ use Rattle.rr_join.specs.Maps.{greatest}
 use Rattle.rr_contrib.specs.declared.contribution.Contribution.{Contribution}
 use Rattle.rr_archive.specs.declared.entry.Entry.{Entry}
 use Rattle.rr_archive.specs.Row.{ascends}
-use Rattle.rr_model.specs.Rows.{int_sum, average}
+use Rattle.rr_join.specs.Sums.{int_sum}
+use Rattle.rr_model.specs.Rows.{average}
 
 -- the places in which some origin has a sample, as one mask
 abbrev pub united : List Entry → ℕ

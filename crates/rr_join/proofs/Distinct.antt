@@ -1,23 +1,16 @@
 -- Lists in which no element stands twice.
-use Rattle.std.proofs.Common.{◌≡◌, Bool, true, false, cond, ◌&&◌, T, List, [], ◌∷◌, map, refl, Ordering, Less, Equal, Greater}
+use Rattle.std.proofs.Common.{◌≡◌, Bool, true, false, cond, T, List, [], ◌∷◌, map, refl, Ordering, Less, Equal, Greater}
 use Rattle.std.specs.List.{filter}
 use Rattle.std.specs.Ordering.{eq_by_cmp, is_lt, is_eq}
 use Rattle.std.specs.FinMap.{FinMap, keys, entries, entries_sorted, is_sorted}
 use Rattle.std.specs.FinMap.Entries.{below_all}
 use Rattle.std.proofs.lemmas.Bool.{or_from, or_parts}
+use Rattle.rr_join.proofs.Booleans.{first_T, second_T}
 use Rattle.rr_join.proofs.Members.{is_in}
 
 pub data IsDistinct {K : Type 0} (R : K → K → Ordering) : List K → Type 0 where
   none : IsDistinct R []
   more : {k : K} {ks : List K} → is_in R ks k ≡ false → IsDistinct R ks → IsDistinct R (k ∷ ks)
-
-first_T : (a b : Bool) → T (a && b) → T a
-first_T true b h = tt
-first_T false b h = h
-
-second_T : (a b : Bool) → T (a && b) → T b
-second_T true b h = h
-second_T false b h = absurd h
 
 less_not_equal : (r : Ordering) → T (is_lt r) → is_eq r ≡ false
 less_not_equal Less h = refl

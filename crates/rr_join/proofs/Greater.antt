@@ -21,15 +21,8 @@ greater-None S (Some a) = refl
 pub greatest_some : {V : Type 0} (S : V → V → Ordering) (y : V) (ys : List V) (d : V) → greatest S (y ∷ ys) ≡ Some (unwrap_or (greatest S (y ∷ ys)) d)
 greatest_some S y ys d = elim (greatest S ys) as (λ g. greater S (Some y) g ≡ Some (unwrap_or (greater S (Some y) g) d)) [ None ↦ refl | Some v ↦ refl ]
 
-module _ {V : Type 0} {S : V → V → Ordering} (s : IsTotalOrder S) (alike : IsAntisymmetric S) where
-  pub max_comm : (a b : V) → ord_max S a b ≡ ord_max S b a
-  max_comm a b =
-      elim (S b a) as (λ r. S b a ≡ r → cond (is_lt r) a b ≡ cond (is_lt (S a b)) b a) [
-        | Less ↦ λ e. ap (λ r. cond (is_lt r) b a) (sym (s.antisymm a b ∙ ap ordering_reverse e))
-        | Equal ↦ λ e. alike b a e ∙ ap (λ r. cond (is_lt r) b a) (sym (s.antisymm a b ∙ ap ordering_reverse e))
-        | Greater ↦ λ e. ap (λ r. cond (is_lt r) b a) (sym (s.antisymm a b ∙ ap ordering_reverse e))
-      ] refl
-
+-- of any total order, also one by which unequal values tie
+module _ {V : Type 0} {S : V → V → Ordering} (s : IsTotalOrder S) where
   pub max_itself : (a : V) → ord_max S a a ≡ a
   max_itself a = ap (λ r. cond (is_lt r) a a) (tied_itself s a)
 
@@ -58,12 +51,6 @@ module _ {V : Type 0} {S : V → V → Ordering} (s : IsTotalOrder S) (alike : I
         ] refl
       ] refl
 
-  pub greater_comm : (x y : Option V) → greater S x y ≡ greater S y x
-  greater_comm None None = refl
-  greater_comm None (Some b) = refl
-  greater_comm (Some a) None = refl
-  greater_comm (Some a) (Some b) = ap (λ v. Some v) (max_comm a b)
-
   pub greater_itself : (x : Option V) → greater S x x ≡ x
   greater_itself None = refl
   greater_itself (Some a) = ap (λ v. Some v) (max_itself a)
@@ -74,5 +61,21 @@ module _ {V : Type 0} {S : V → V → Ordering} (s : IsTotalOrder S) (alike : I
   greater_assoc (Some a) (Some b) None = refl
   greater_assoc (Some a) (Some b) (Some c) = ap (λ v. Some v) (max_assoc a b c)
 
+-- of one by which only equal values tie
+module _ {V : Type 0} {S : V → V → Ordering} (s : IsTotalOrder S) (alike : IsAntisymmetric S) where
+  pub max_comm : (a b : V) → ord_max S a b ≡ ord_max S b a
+  max_comm a b =
+      elim (S b a) as (λ r. S b a ≡ r → cond (is_lt r) a b ≡ cond (is_lt (S a b)) b a) [
+        | Less ↦ λ e. ap (λ r. cond (is_lt r) b a) (sym (s.antisymm a b ∙ ap ordering_reverse e))
+        | Equal ↦ λ e. alike b a e ∙ ap (λ r. cond (is_lt r) b a) (sym (s.antisymm a b ∙ ap ordering_reverse e))
+        | Greater ↦ λ e. ap (λ r. cond (is_lt r) b a) (sym (s.antisymm a b ∙ ap ordering_reverse e))
+      ] refl
+
+  pub greater_comm : (x y : Option V) → greater S x y ≡ greater S y x
+  greater_comm None None = refl
+  greater_comm None (Some b) = refl
+  greater_comm (Some a) None = refl
+  greater_comm (Some a) (Some b) = ap (λ v. Some v) (max_comm a b)
+
   pub greater_swap : (x y z : Option V) → greater S x (greater S y z) ≡ greater S y (greater S x z)
-  greater_swap x y z = sym (greater_assoc x y z) ∙ ap (λ g. greater S g z) (greater_comm x y) ∙ greater_assoc y x z
+  greater_swap x y z = sym (greater_assoc s x y z) ∙ ap (λ g. greater S g z) (greater_comm x y) ∙ greater_assoc s y x z

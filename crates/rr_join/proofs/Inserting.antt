@@ -1,10 +1,10 @@
 -- The keys of a map with one key more, and what is added up over them.
-use Rattle.std.proofs.Common.{◌≡◌, Bool, true, false, cond, ◌||◌, List, [], ◌∷◌, map, refl, sym, ap, ◌∙◌, Ordering, Less, Equal, Greater, true≢false, Some, None}
-use Rattle.std.specs.Ordering.{eq_by_cmp, is_eq}
+use Rattle.std.proofs.Common.{◌≡◌, false, ◌||◌, List, [], ◌∷◌, map, refl, sym, ap, ◌∙◌, Ordering, Less, Equal, Greater, true≢false}
+use Rattle.std.specs.Ordering.{is_eq}
 use Rattle.std.specs.Cmp.{IsTotalOrder}
-use Rattle.std.specs.FinMap.{FinMap, IsAntisymmetric, get, keys, entries, insert, entries-insert, retain_keys, get-insert, get-retain_keys, same_map}
+use Rattle.std.specs.FinMap.{FinMap, IsAntisymmetric, keys, entries, insert, entries-insert}
 use Rattle.std.specs.FinMap.Entries.{put, by_order}
-use Rattle.rr_join.proofs.Members.{is_in, same_from_tie}
+use Rattle.rr_join.proofs.Members.{is_in}
 
 -- a key put into its place among others
 pub inserted : {K : Type 0} → (K → K → Ordering) → K → List K → List K
@@ -36,26 +36,3 @@ module _ {K A : Type 0} (R : K → K → Ordering) (op : A → A → A) (part : 
         | Equal ↦ λ h. absurd (true≢false h)
         | Greater ↦ λ h. more x (inserted R k xs) ∙ ap (op (part x)) (total-inserted k xs h) ∙ swap (part x) (part k) (total xs) ∙ ap (op (part k)) (sym (more x xs))
       ] none
-
--- the keys that pass a test, after one key more
-module _ {K X : Type 0} {R : K → K → Ordering} (o : IsTotalOrder R) (same : IsAntisymmetric R) (m : FinMap R X) (test : K → Bool) (k : K) (v : X) where
-  get-retain : (n : FinMap R X) (q : K) → get (retain_keys n test) q ≡ cond (test q) (get n q) None
-  get-retain n q = get-retain_keys n test q (λ x e. ap test (sym (same q x e)))
-
-  pub retain-insert : test k ≡ true → retain_keys (insert m k v) test ≡ insert (retain_keys m test) k v
-  retain-insert pass = same_map o same _ _ (λ q.
-      get-retain (insert m k v) q ∙ ap (λ x. cond (test q) x None) (get-insert o m k v q)
-      ∙ elim (eq_by_cmp R q k) as (λ t. eq_by_cmp R q k ≡ t → cond (test q) (cond t (Some v) (get m q)) None ≡ cond t (Some v) (get (retain_keys m test) q)) [
-        | true ↦ λ t. ap (λ b. cond b (Some v) None) (ap test (same_from_tie o same q k t) ∙ pass)
-        | false ↦ λ t. sym (get-retain m q)
-      ] refl
-      ∙ sym (get-insert o (retain_keys m test) k v q))
-
-  pub retain-insert_other : test k ≡ false → retain_keys (insert m k v) test ≡ retain_keys m test
-  retain-insert_other fail = same_map o same _ _ (λ q.
-      get-retain (insert m k v) q ∙ ap (λ x. cond (test q) x None) (get-insert o m k v q)
-      ∙ elim (eq_by_cmp R q k) as (λ t. eq_by_cmp R q k ≡ t → cond (test q) (cond t (Some v) (get m q)) None ≡ cond (test q) (get m q) None) [
-        | true ↦ λ t. (λ i. cond ((ap test (same_from_tie o same q k t) ∙ fail) i) (Some v) None) ∙ sym (ap (λ b. cond b (get m q) None) (ap test (same_from_tie o same q k t) ∙ fail))
-        | false ↦ λ t. refl
-      ] refl
-      ∙ sym (get-retain m q))

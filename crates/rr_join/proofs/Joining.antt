@@ -14,11 +14,11 @@ module _ {N V : Type 0} {R : N → N → Ordering} (o : IsTotalOrder R) (same : 
   pub merged_assoc : (l m n : FinMap R V) → merged S (merged S l m) n ≡ merged S l (merged S m n)
   merged_assoc l m n = same_map o same _ _ (λ q.
       get-merged o same S (merged S l m) n q ∙ ap (λ x. greater S x (get n q)) (get-merged o same S l m q)
-      ∙ greater_assoc s alike (get l q) (get m q) (get n q)
+      ∙ greater_assoc s (get l q) (get m q) (get n q)
       ∙ sym (get-merged o same S l (merged S m n) q ∙ ap (greater S (get l q)) (get-merged o same S m n q)))
 
   pub merged_itself : (m : FinMap R V) → merged S m m ≡ m
-  merged_itself m = same_map o same _ _ (λ q. get-merged o same S m m q ∙ greater_itself s alike (get m q))
+  merged_itself m = same_map o same _ _ (λ q. get-merged o same S m m q ∙ greater_itself s (get m q))
 
   module _ {is_live : List N → N → Bool} {is_past : N → N → Bool} (h : IsHorizon is_live is_past) where
     pub get-joined : (m n : FinMap R V) (q : N) → get (joined S is_live m n) q ≡ cond (is_live (keys m) q && is_live (keys n) q) (greater S (get m q) (get n q)) None
@@ -41,7 +41,7 @@ module _ {N V : Type 0} {R : N → N → Ordering} (o : IsTotalOrder R) (same : 
     joined_comm m n = same_map o same _ _ (λ q. get-joined m n q ∙ swapped (is_live (keys m) q) (is_live (keys n) q) (get m q) (get n q) ∙ sym (get-joined n m q))
 
     regrouped : (a b c : Bool) (x y z : Option V) → cond ((a && b) && c) (greater S (cond (a && b) (greater S x y) None) z) None ≡ cond (a && (b && c)) (greater S x (cond (b && c) (greater S y z) None)) None
-    regrouped true true true x y z = greater_assoc s alike x y z
+    regrouped true true true x y z = greater_assoc s x y z
     regrouped true true false x y z = refl
     regrouped true false c x y z = refl
     regrouped false b c x y z = refl
@@ -54,7 +54,7 @@ module _ {N V : Type 0} {R : N → N → Ordering} (o : IsTotalOrder R) (same : 
         ∙ sym (get-joined l (joined S is_live m n) q ∙ (λ i. cond (is_live (keys l) q && live-joined m n q i) (greater S (get l q) (get-joined m n q i)) None)))
 
     once : (a : Bool) (x : Option V) → cond (a && a) (greater S x x) None ≡ cond a x None
-    once true x = greater_itself s alike x
+    once true x = greater_itself s x
     once false x = refl
 
     -- the join of a map with itself is what stays of it

@@ -1,4 +1,5 @@
 pub mod Booleans
+pub mod Orders
 pub mod Members
 pub mod Greater
 pub mod Lookups

@@ -1,14 +1,10 @@
 -- What a map has at each name.
-use Rattle.std.proofs.Common.{◌≡◌, Bool, true, false, cond, ◌||◌, List, [], ◌∷◌, ◌++◌, refl, sym, ap, ◌∙◌, subst, Ordering, true≢false, Option, Some, None, is_some}
+use Rattle.std.proofs.Common.{◌≡◌, Bool, true, false, cond, ◌||◌, List, [], ◌∷◌, ◌++◌, refl, sym, ap, ◌∙◌, subst, Ordering, Option, Some, None, is_some}
 use Rattle.std.specs.Ordering.{eq_by_cmp}
 use Rattle.std.specs.Cmp.{IsTotalOrder}
 use Rattle.std.specs.FinMap.{FinMap, IsAntisymmetric, get, keys, contains_key-keys, get-empty, get-insert, get-retain_keys}
 use Rattle.rr_join.specs.Maps.{greater, insert_some, map_of, set_of, trimmed, merged}
 use Rattle.rr_join.proofs.Members.{is_in, same_from_tie, tie_itself, is_in-append}
-
-pub None_from_is_some : {V : Type 0} (x : Option V) → is_some x ≡ false → x ≡ None
-None_from_is_some None e = refl
-None_from_is_some (Some v) e = absurd (true≢false e)
 
 -- what a set has at a name: whether the name is in it
 abbrev pub marked : Bool → Option (Unit {0})

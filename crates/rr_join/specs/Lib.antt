@@ -1,3 +1,5 @@
 pub mod Maps
 pub mod Laws
 pub mod Values
+pub mod Sums
+pub mod Horizon

@@ -14,7 +14,8 @@ use Rattle.rr_base.specs.Schema.{Layout, IsArchive, IsLayout, archive_at}
 use Rattle.rr_join.specs.Maps.{greatest, greater, IsHorizon}
 use Rattle.rr_join.proofs.Booleans.{and_first, and_second}
 use Rattle.rr_join.proofs.Members.{Equal_from_is_eq}
-use Rattle.rr_model.specs.CellNames.{CellName, is_of, newest, is_above, is_slot_live, is_live}
+use Rattle.rr_join.specs.Horizon.{is_above}
+use Rattle.rr_model.specs.CellNames.{CellName, is_of, newest, is_live}
 use Rattle.rr_model.specs.Rows.{is_at}
 
 -- ---- names of one archive of a key, and of one slot in it
@@ -26,10 +27,6 @@ pub is_at_says : (key : List ℕ) (archive : ℕ) (slot : ℤ) (n : CellName) �
 is_at_says key archive slot n e =
     let of = is_of_says key archive n (and_first (is_of key archive n) (int_eq n.slot slot) e) in
     (of.0, of.1, int_cmp-IsAntisymmetric n.slot slot (Equal_from_is_eq (int_cmp n.slot slot) (and_second (is_of key archive n) (int_eq n.slot slot) e)))
-
--- the names of one slot are live alike
-pub live_at : (s : Layout) (ns : List CellName) (key : List ℕ) (archive : ℕ) (slot : ℤ) (n : CellName) → is_at key archive slot n ≡ true → is_live s ns n ≡ is_slot_live s ns key archive slot
-live_at s ns key archive slot n e = let says = is_at_says key archive slot n e in λ i. is_slot_live s ns (says.0 i) (says.1 i) (says.2 i)
 
 -- ---- slots above a horizon
 

@@ -1,10 +1,9 @@
 -- What is known, by the marks that it holds.
-use Rattle.std.proofs.Common.{◌≡◌, Bool, true, false, cond, ◌&&◌, ◌||◌, List, [], ◌∷◌, ◌++◌, refl, sym, ap, ◌∙◌, arith, true≢false, Option, None, Some, is_some}
+use Rattle.std.proofs.Common.{◌≡◌, Bool, true, false, cond, ◌&&◌, ◌||◌, List, [], ◌∷◌, ◌++◌, refl, sym, ap, ◌∙◌, true≢false, Option, None, Some, is_some}
 use Rattle.std.specs.List.{list_any}
 use Rattle.std.specs.Ordering.{eq_by_cmp}
 use Rattle.std.specs.FinMap.{get, keys, empty, retain_keys, get-empty, get-retain_keys, same_map}
 use Rattle.std.proofs.Math.Bool.{or_comm, or_assoc, or_self, or-false}
-use Rattle.std.proofs.lemmas.Bool.{false_from_ne_true}
 use Rattle.std.proofs.lemmas.List.Folds.{list_any-append}
 use Rattle.rr_base.specs.Schema.{Layout, IsLayout}
 use Rattle.rr_join.specs.Maps.{set_of}
@@ -13,7 +12,7 @@ use Rattle.rr_join.proofs.Lookups.{get-map_of, is_in-keys, marked, is_some-marke
 use Rattle.rr_join.proofs.Horizons.{live_by_members, live-append}
 use Rattle.rr_model.specs.CellNames.{CellName, cell_name_cmp}
 use Rattle.rr_model.specs.Samples.{Mark, mark_cmp, name_of, names_of}
-use Rattle.rr_model.specs.Knowledge.{Knowledge, knows, union, with_marks, IsAheadOf, is_live_in, live, cell}
+use Rattle.rr_model.specs.Knowledge.{Knowledge, knows, union, with_marks, is_live_in, live, cell}
 use Rattle.rr_model.specs.Laws.{UnionIsCommutative, UnionIsAssociative, UnionIsIdempotent}
 use Rattle.rr_model.proofs.Orders.{cell_name_cmp_total, cell_name_cmp-IsAntisymmetric, mark_cmp_total, mark_cmp-IsAntisymmetric}
 use Rattle.rr_model.proofs.Horizon.{live_horizon}
@@ -47,13 +46,6 @@ knows-union k l m = knows-set_of (keys k ++ keys l) m ∙ is_in-append mark_cmp_
 pub knows-with_marks : (k : Knowledge) (ms : List Mark) (m : Mark) → knows (with_marks k ms) m ≡ (knows k m || is_in mark_cmp ms m)
 knows-with_marks k ms m = knows-union k (set_of ms) m ∙ ap (λ b. knows k m || b) (knows-set_of ms m)
 
--- whether a mark is known does not change by another
-pub knows-with_other : (k : Knowledge) (m other : Mark) → (m ≡ other → ⊥) → knows (with_marks k (other ∷ [])) m ≡ knows k m
-knows-with_other k m other apart =
-    knows-with_marks k (other ∷ []) m
-    ∙ ap (λ b. knows k m || (b || false)) (false_from_ne_true (eq_by_cmp mark_cmp m other) (λ e. apart (same_from_tie mark_cmp_total mark_cmp-IsAntisymmetric m other e)))
-    ∙ or-false (knows k m)
-
 -- what knows no mark lists none
 pub no_keys : (k : Knowledge) → ((m : Mark) → knows k m ≡ false) → keys k ≡ []
 no_keys k none = nothing_in (keys k) (λ m. is_in-keys_of k m ∙ none m)
@@ -61,10 +53,6 @@ no_keys k none = nothing_in (keys k) (λ m. is_in-keys_of k m ∙ none m)
     nothing_in : (ms : List Mark) → ((m : Mark) → is_in mark_cmp ms m ≡ false) → ms ≡ []
     nothing_in [] f = refl
     nothing_in (x ∷ xs) f = absurd (true≢false (sym (head_in mark_cmp_total mark_cmp-IsAntisymmetric x xs) ∙ f x))
-
--- a sample that is ahead of what is known is not known
-pub not_known_ahead : (k : Knowledge) (m : Mark) → IsAheadOf m.sample k → knows k m ≡ false
-not_known_ahead k m ahead = false_from_ne_true (knows k m) (λ e. let below = ahead m e refl in omega arith)
 
 -- ---- unions
 

@@ -1,23 +1,13 @@
 -- The orders of cell names, marks and sample ids are total, and only equal ones tie.
-use Rattle.std.proofs.Common.{◌≡◌, refl, sym, ap, Ordering, Less, Equal, Greater, true≢false}
-use Rattle.std.specs.Ordering.{ordering_then, nat_cmp, int_cmp, is_eq}
+use Rattle.std.proofs.Common.{◌≡◌}
+use Rattle.std.specs.Ordering.{nat_cmp, int_cmp}
 use Rattle.std.specs.Cmp.{IsTotalOrder, nat_cmp_total, int_cmp_total, then_total, on_total}
 use Rattle.std.specs.Cmp.Lexicographic.{slice_cmp, nat_list_cmp_total}
 use Rattle.std.specs.FinMap.{IsAntisymmetric, nat_cmp-IsAntisymmetric, int_cmp-IsAntisymmetric, slice_cmp-IsAntisymmetric}
+use Rattle.rr_join.proofs.Orders.{first_Equal, then_Equal}
 use Rattle.rr_model.specs.CellNames.{cell_name_cmp}
 use Rattle.rr_model.specs.Samples.{mark_cmp}
 use Rattle.rr_model.specs.World.{id_cmp}
-
--- where two orders one after the other tie, each ties
-pub first_Equal : (a b : Ordering) → ordering_then a b ≡ Equal → a ≡ Equal
-first_Equal Less b e = e
-first_Equal Equal b e = refl
-first_Equal Greater b e = e
-
-pub then_Equal : (a b : Ordering) → ordering_then a b ≡ Equal → b ≡ Equal
-then_Equal Less b e = absurd (true≢false (sym (ap is_eq e)))
-then_Equal Equal b e = e
-then_Equal Greater b e = absurd (true≢false (sym (ap is_eq e)))
 
 pub cell_name_cmp_total : IsTotalOrder cell_name_cmp
 cell_name_cmp_total =

@@ -11,8 +11,8 @@ use Rattle.rr_join.proofs.Booleans.{and_first, and_second, either_case}
 use Rattle.rr_join.proofs.Members.{is_in, same_from_tie, tie_itself}
 use Rattle.rr_model.specs.CellNames.{CellName}
 use Rattle.rr_model.specs.Samples.{Sample, Mark, mark_cmp, name_of, marks_of}
-use Rattle.rr_model.specs.Knowledge.{Knowledge, knows, union, with_marks, IsAheadOf, is_live_in}
-use Rattle.rr_model.specs.World.{World, id_cmp, IsWritten, with_sample, IsNext, IsClosed}
+use Rattle.rr_model.specs.Knowledge.{knows, union, with_marks, is_live_in}
+use Rattle.rr_model.specs.World.{World, id_cmp, IsWritten, with_sample, IsNext}
 use Rattle.rr_model.specs.Laws.{NothingIsClosed, WriterStaysClosed, WriterHoldsOwn, OthersStayClosed, OthersHoldOwn, UnionIsClosed, UnionHoldsOwn}
 use Rattle.rr_model.proofs.Orders.{mark_cmp_total, mark_cmp-IsAntisymmetric, id_cmp_total, id_cmp-IsAntisymmetric}
 use Rattle.rr_model.proofs.Knowing.{knows-empty, knows-union, knows-with_marks, live_in-union, knows-live}
@@ -72,10 +72,6 @@ written_now w x y e =
 
 itself_written : (w : World) (x : Sample) → IsWritten (with_sample w x) x
 itself_written w x = get-insert id_cmp_total w (x.origin, x.number) x (x.origin, x.number) ∙ ap (λ b. cond b (Some x) (get w (x.origin, x.number))) (tie_itself id_cmp_total id_cmp-IsAntisymmetric (x.origin, x.number))
-
--- the next sample is ahead of what is known
-pub next_is_ahead : (s : Layout) (w : World) (k : Knowledge) (x : Sample) → IsClosed s w k → IsNext w x → IsAheadOf x k
-next_is_ahead s w k x ck next m e same = next m.sample (ck.written m e).0 same
 
 -- ---- closed knowledges
 

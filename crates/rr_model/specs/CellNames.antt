@@ -1,11 +1,12 @@
 -- The names of cells, and which of them are live.
-use Rattle.std.specs.Prelude.{ℕ, ℤ, pos, ◌-ℤ◌, Bool, true, ◌&&◌, nat_eq, ◌==◌, int_lt, List, map, Option, Some, None}
+use Rattle.std.specs.Prelude.{ℕ, ℤ, Bool, ◌&&◌, nat_eq, ◌==◌, List, map, Option}
 use Rattle.std.specs.declared.cmp.Ordering.{Ordering}
 use Rattle.std.specs.Ordering.{ordering_then, nat_cmp, int_cmp}
 use Rattle.std.specs.Cmp.Lexicographic.{slice_cmp, pointwise}
 use Rattle.std.specs.List.{filter}
 use Rattle.rr_base.specs.Schema.{Layout, archive_at}
 use Rattle.rr_join.specs.Maps.{greatest}
+use Rattle.rr_join.specs.Horizon.{is_above}
 
 -- what one origin knows of one row: the cell of a key (its text), an archive, a slot and an origin
 pub record CellName : Type 0 where
@@ -29,11 +30,6 @@ is_of key archive n = pointwise nat_eq n.key key && (n.archive == archive)
 -- the greatest slot of these names in one archive of a key, if there is one
 unfoldable pub newest : List CellName → List ℕ → ℕ → Option ℤ
 newest ns key archive = greatest int_cmp (map (λ n. n.slot) (filter (is_of key archive) ns))
-
--- whether the slot is one of the last rows up to the newest, or after it
-abbrev pub is_above : ℕ → Option ℤ → ℤ → Bool
-is_above rows None slot = true
-is_above rows (Some top) slot = int_lt (top -ℤ pos rows) slot
 
 -- whether a slot of an archive of a key, beside these names, is not past the horizon
 abbrev pub is_slot_live : Layout → List CellName → List ℕ → ℕ → ℤ → Bool

@@ -1,5 +1,5 @@
 -- What a consolidation function makes of the samples of a row.
-use Rattle.std.specs.Prelude.{ℕ, ℤ, pos, ◌+ℤ◌, Bool, ◌&&◌, List, [], ◌∷◌, map, length, Option, Some, None, ◌==◌, if◌then◌else◌}
+use Rattle.std.specs.Prelude.{ℕ, ℤ, pos, Bool, ◌&&◌, List, map, length, Option, Some, None, ◌==◌, if◌then◌else◌}
 use Rattle.std.specs.List.{filter, list_any, range_with_len}
 use Rattle.std.specs.Option.{option_map}
 use Rattle.std.specs.Int.{int_div_euclid}
@@ -9,14 +9,10 @@ use Rattle.rr_base.specs.declared.consolidation.ConsolidationFunction.{Consolida
 use Rattle.rr_base.specs.declared.consolidation.ConsolidationFunction.TheVariants.{Average, Min, Max, Last}
 use Rattle.rr_base.specs.Schema.{Layout, archive_at, place_of, is_known_enough}
 use Rattle.rr_join.specs.Maps.{greatest}
+use Rattle.rr_join.specs.Sums.{int_sum}
 use Rattle.rr_model.specs.CellNames.{CellName, is_of}
 use Rattle.rr_model.specs.Samples.{Mark, mark_cmp, name_of}
 use Rattle.rr_model.specs.Knowledge.{Knowledge, live}
-
--- the sum of some values
-abbrev pub int_sum : List ℤ → ℤ
-int_sum [] = pos 0
-int_sum (x ∷ xs) = x +ℤ int_sum xs
 
 -- floor(total / count), if there is one to count
 abbrev pub average : ℤ → ℕ → Option ℤ

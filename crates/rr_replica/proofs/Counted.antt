@@ -39,9 +39,6 @@ at_most-then a b n count e = grind (arith, nat_tests)
 pub at_most-sum : (n a others result : ℕ) → n ≡ at_most_usize (others) → result ≡ min (n + a) (2 ^ 64 - 1) → result ≡ at_most_usize (others + a)
 at_most-sum n a others result e f = grind (arith, nat_tests)
 
-pub at_most-more : (a b count : ℕ) → count ≡ at_most_usize a → at_most_usize (count + b) ≡ at_most_usize (a + b)
-at_most-more a b count e = grind (arith, nat_tests)
-
 -- ---- the archives of a key
 
 pub length-cells_from : (key : List ℕ) (first : ℕ) (rs : List Rows) → length (cells_from key first rs) ≡ count_of rs
@@ -129,9 +126,6 @@ module _ {X : Type 0} (cells : X → Rows) (key : List ℕ) (archives : List X) 
       length-named : (es : List (Place × Contribution)) → length (named_as key i es) ≡ length es
       length-named [] = refl
       length-named (e ∷ es) = ap suc (length-named es)
-
-  pub left_end : (i left : ℕ) → length archives ≤ i → IsLeft cells key archives number i left → number ≡ count_of (map cells archives) + left
-  left_end i left h l = l.before ∙ ap (λ xs. count_of (map cells xs) + left) (take_all archives i h)
 
 past_end : {X : Type 0} (xs : List X) (i : ℕ) → slice_get xs i ≡ None → length xs ≤ i
 past_end [] i e = omega arith

@@ -19,11 +19,6 @@ field_at P view [] i d all lt = absurd (omega arith)
 field_at P view (x ∷ xs) zero d all lt = all.0
 field_at P view (x ∷ xs) (suc i) d all lt = field_at P view xs i d all.1 (omega arith)
 
--- a view of fields has as many
-pub view_len : {A B : Type 0} (view : A → B) (xs : List A) → length (map view xs) ≡ length xs
-view_len view [] = refl
-view_len view (x ∷ xs) = ap suc (view_len view xs)
-
 -- the first of the fields, seen, are the first that are seen
 pub take-view : {A B : Type 0} (view : A → B) (i : ℕ) (xs : List A) → map view (take i xs) ≡ take i (map view xs)
 take-view view zero xs = refl

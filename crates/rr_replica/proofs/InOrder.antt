@@ -1,5 +1,5 @@
 -- The cells of all series are listed in order.
-use Rattle.std.proofs.Common.{◌≡◌, ℕ, ◌+◌, ◌<◌, Bool, true, false, ◌&&◌, T, List, [], ◌∷◌, ◌++◌, map, refl, sym, ap, ◌∙◌, subst, arith, true≢false, Less, nat_cmp}
+use Rattle.std.proofs.Common.{◌≡◌, ℕ, ◌+◌, ◌<◌, true, ◌&&◌, T, List, [], ◌∷◌, ◌++◌, map, refl, sym, ap, ◌∙◌, subst, arith, Less, nat_cmp}
 use Rattle.std.specs.List.{AllByRecursion}
 use Rattle.std.specs.List.Sorted.{IsStrictlySortedBy}
 use Rattle.std.specs.Map.{keys_of}
@@ -9,6 +9,7 @@ use Rattle.std.specs.Cmp.Lexicographic.{nat_list_cmp_total}
 use Rattle.std.specs.FinMap.{entries, entries_sorted, from_sorted, entries-from_sorted, get-from_sorted, get-from_entries, same_map, is_sorted}
 use Rattle.std.specs.FinMap.Entries.{below_all}
 use Rattle.std.proofs.lemmas.Bool.Decides.{nat_tests}
+use Rattle.rr_join.proofs.Booleans.{T_from_true, T_and, first_T, second_T}
 use Rattle.rr_contrib.specs.declared.contribution.Contribution.{Contribution}
 use Rattle.rr_archive.specs.Places.{Place, place_cmp}
 use Rattle.rr_archive.specs.Cells.{Rows}
@@ -16,22 +17,6 @@ use Rattle.rr_model.specs.CellNames.{CellName, cell_name_cmp}
 use Rattle.rr_model.proofs.Orders.{cell_name_cmp_total, cell_name_cmp-IsAntisymmetric}
 use Rattle.rr_replica.specs.Cells.{name_at}
 use Rattle.rr_replica.specs.Series.{Series, bytes_cmp, cells_from, all_cells, cells_of}
-
-T_from_true : (a : Bool) → a ≡ true → T a
-T_from_true true e = tt
-T_from_true false e = absurd (true≢false (sym e))
-
-T_and : (a b : Bool) → T a → T b → T (a && b)
-T_and true b p q = q
-T_and false b p q = absurd p
-
-first_T : (a b : Bool) → T (a && b) → T a
-first_T true b h = tt
-first_T false b h = h
-
-second_T : (a b : Bool) → T (a && b) → T b
-second_T true b h = h
-second_T false b h = absurd h
 
 abbrev Listing : Type 0
 Listing = List (CellName × Contribution)

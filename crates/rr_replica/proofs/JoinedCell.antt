@@ -187,13 +187,6 @@ kept_joined cells limit s origin next c old new kept cell joined sized ordered =
   ordered = ordered;
 }
 
-pub kept_unchanged : {X : Type 0} (cells : X → Rows) (limit : X → ℕ) (s : Layout) (origin next : ℕ) (old new : List (List ℕ × Vec X)) → IsKept cells limit s origin next old → cells_of (shown cells new) ≡ cells_of (shown cells old) → AreAllSized limit s new → IsStrictlySortedBy bytes_cmp (keys_of new) → IsKept cells limit s origin next new
-kept_unchanged cells limit s origin next old new kept same sized ordered = record {
-  holds = subst (λ (m : Cells). IsHolding (record { schema = s; origin = origin; next = next; cells = m })) (sym same) kept.holds;
-  sized = sized;
-  ordered = ordered;
-}
-
 -- ---- cells one after the other
 
 -- one cell more is one join more

@@ -173,7 +173,7 @@ module _ (s : Layout) (is : IsLayout s) where
       let lower : x.number ≤ ta.mark.number = omega arith in
       reaches w l k cl ck n alive_k x ta.mark known in_k lower in
       let same : marks_at s k n ≡ marks_at s l n = sym (only_theirs l k n back) ∙ ap (λ q. marks_at s q n) (union_swaps l k) ∙ unites in
-      (λ i. greater contribution_cmp ((sym ea ∙ ap (value s) same ∙ eb) i) (Some b)) ∙ ap (λ v. Some v) (max_itself contribution_cmp_total contribution_cmp-IsAntisymmetric b))
+      (λ i. greater contribution_cmp ((sym ea ∙ ap (value s) same ∙ eb) i) (Some b)) ∙ ap (λ v. Some v) (max_itself contribution_cmp_total b))
       (cases_lt a.version b.version) in
       (λ i. greater contribution_cmp (ea i) (eb i)) ∙ joins ∙ sym eb ∙ ap (value s) (sym unites)
 

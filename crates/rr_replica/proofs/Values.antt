@@ -14,7 +14,8 @@ use Rattle.rr_join.proofs.Greater.{greater_swap, greatest_some, flip_args-IsAnti
 use Rattle.rr_join.proofs.Inserting.{inserted, keys-insert, total-inserted}
 use Rattle.rr_join.proofs.Members.{is_in, head_in}
 use Rattle.rr_contrib.specs.Contributions.{SlotSample, added}
-use Rattle.rr_contrib.specs.Samples.{sample_cmp, last_of, int_sum, mask_of, summary, contribution_of}
+use Rattle.rr_join.specs.Sums.{int_sum}
+use Rattle.rr_contrib.specs.Samples.{sample_cmp, last_of, mask_of, summary, contribution_of}
 use Rattle.rr_contrib.proofs.Orders.{sample_cmp_total, sample_cmp-IsAntisymmetric}
 use Rattle.rr_contrib.proofs.Masks.{or_swap}
 use Rattle.rr_contrib.proofs.Summing.{contribution_of-more, contribution_of-one}

@@ -5,7 +5,8 @@ use Rattle.std.specs.FinMap as fin
 use Rattle.rr_join.specs.Maps.{greater}
 use Rattle.rr_archive.specs.Changes.{contribution_after}
 use Rattle.rr_archive.specs.Cells.{with_change}
-use Rattle.rr_archive.specs.Places.{place_at, is_above}
+use Rattle.rr_join.specs.Horizon.{is_above}
+use Rattle.rr_archive.specs.Places.{place_at}
 use Rattle.rr_archive.specs.Held.{cells_in}
 use Rattle.rr_archive.proofs.Counting.{held_kept, cells_kept, len_with, placed_from, set_dead}
 use Rattle.rr_archive.proofs.FewCells.{few_cells}
