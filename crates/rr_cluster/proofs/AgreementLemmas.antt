@@ -30,7 +30,7 @@ use Rattle.rr_cluster.proofs.StepLemmas.{OfAnswer, Agrees, on_ok-agrees, same_an
 abbrev Step : Type 0
 Step = Option (State Knowledge) × List ℕ
 
--- a command of one line leaves a sound state
+-- the state that a command of one line leaves is sound
 abbrev LeavesSound : Command → Step → Type 0
 LeavesSound command done = IsOneLine command → IfSome done.0 IsSound
 

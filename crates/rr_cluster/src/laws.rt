@@ -1,4 +1,4 @@
-//! The laws of scripts, with no work to do: each function has an empty body.
+//! The laws of scripts: functions with empty bodies, whose contracts state them.
 ghost use Rattle.rr_cluster.specs.Agreement.{CommandsAgree, ScriptsAgree};
 ghost use Rattle.rr_cluster.specs.Soundness.{CommandsKeepSound, FirstStatesAreSound, ScriptsAreSound};
 
