@@ -1,19 +1,22 @@
 -- The cell model and the sample model agree on each command, and so on scripts; and sound states stay sound.
 use Rattle.std.proofs.Common.{◌≡◌, ℕ, zero, suc, List, [], ◌∷◌, take, Some, None, Option, Result, Ok, Err, refl, ap, ◌∙◌}
 use Rattle.std.specs.Prelude.{IfOk, IfSome}
+use Rattle.std.specs.List.{All}
 use Rattle.std.specs.Option.{option_map}
+use Rattle.std.proofs.lemmas.List.Elements.{All-head, All-tail}
+use Rattle.rr_base.specs.Bytes.{HasNoLineFeed}
 use Rattle.rr_base.specs.Schema.{Layout, IsLayout}
 use Rattle.rr_model.specs.Knowledge.{Knowledge}
 use Rattle.rr_replica.specs.Cells.{Cells}
 use Rattle.rr_cluster.specs.declared.fault.CommandFault.{CommandFault}
 use Rattle.rr_cluster.specs.Agreement.{in_cells, step_in_cells, CommandsAgree, ScriptsAgree}
 use Rattle.rr_cluster.specs.Checks.{on_ok}
-use Rattle.rr_cluster.specs.Command.{Command, schema, node, now, write, fetch}
+use Rattle.rr_cluster.specs.Command.{IsOneLine, Command, schema, node, now, write, fetch}
 use Rattle.rr_cluster.specs.Commands.{step, silently, beginning, printing}
 use Rattle.rr_cluster.specs.Commands.Schema.{layout_of}
 use Rattle.rr_cluster.specs.Model.{cell_model, sample_model}
 use Rattle.rr_cluster.specs.Output.{obeyed, settled, output_from}
-use Rattle.rr_cluster.specs.Script.{commands_of}
+use Rattle.rr_cluster.specs.Script.{commands_of, SaysOneLine}
 use Rattle.rr_cluster.specs.Soundness.{IsSound, CommandsKeepSound, ScriptsAreSound, state_after}
 use Rattle.rr_cluster.specs.State.{State}
 use Rattle.rr_cluster.proofs.CommandsLemmas.Schema.{layout_is, first_states_agree, first_states_are_sound}
@@ -21,70 +24,81 @@ use Rattle.rr_cluster.proofs.CommandsLemmas.Node.{node_agrees}
 use Rattle.rr_cluster.proofs.CommandsLemmas.Now.{now_agrees}
 use Rattle.rr_cluster.proofs.CommandsLemmas.Write.{write_agrees}
 use Rattle.rr_cluster.proofs.CommandsLemmas.Fetch.{fetch_agrees}
+use Rattle.rr_cluster.proofs.ScriptLemmas.{commands_are_one_line}
 use Rattle.rr_cluster.proofs.StepLemmas.{OfAnswer, Agrees, on_ok-agrees, same_answer, holds_after}
 
 abbrev Step : Type 0
 Step = Option (State Knowledge) × List ℕ
 
-abbrev LeavesSound : Step → Type 0
-LeavesSound done = IfSome done.0 IsSound
+-- the state that a command of one line leaves is sound
+abbrev LeavesSound : Command → Step → Type 0
+LeavesSound command done = IsOneLine command → IfSome done.0 IsSound
 
-abbrev StepAgrees : Result (Option (State Cells) × List ℕ) CommandFault → Result Step CommandFault → Type 0
-StepAgrees = Agrees step_in_cells LeavesSound
+abbrev StepAgrees : Command → Result (Option (State Cells) × List ℕ) CommandFault → Result Step CommandFault → Type 0
+StepAgrees command = Agrees step_in_cells (LeavesSound command)
 
-refusal_agrees : (fault : CommandFault) → StepAgrees (Err fault) (Err fault)
+refusal_agrees : (command : Command) (fault : CommandFault) → StepAgrees command (Err fault) (Err fault)
 unfolding Agrees
-refusal_agrees fault = refl
+refusal_agrees command fault = refl
 
-silently_agrees : (r : Result (State Cells) CommandFault) (t : Result (State Knowledge) CommandFault) → Agrees in_cells IsSound r t → StepAgrees (on_ok silently r) (on_ok silently t)
-silently_agrees = on_ok-agrees in_cells IsSound step_in_cells LeavesSound silently silently (λ m. refl) (λ m sound. sound)
+silently_agrees : (command : Command) (P : State Knowledge → Type 0) → ((m : State Knowledge) → P m → IsOneLine command → IsSound m) → (r : Result (State Cells) CommandFault) (t : Result (State Knowledge) CommandFault)
+    → Agrees in_cells P r t → StepAgrees command (on_ok silently r) (on_ok silently t)
+silently_agrees command P holds = on_ok-agrees in_cells P step_in_cells (LeavesSound command) silently silently (λ m. refl) holds
 
-printing_agrees : (m : State Knowledge) → IsSound m → (r t : Result (List ℕ) CommandFault) → Agrees (λ text. text) (λ text. Unit {0}) r t → StepAgrees (on_ok (printing (in_cells m)) r) (on_ok (printing m) t)
-printing_agrees m sound = on_ok-agrees (λ text. text) (λ text. Unit {0}) step_in_cells LeavesSound (printing m) (printing (in_cells m)) (λ text. refl) (λ text u. sound)
+printing_agrees : (command : Command) (m : State Knowledge) → IsSound m → (r t : Result (List ℕ) CommandFault) → Agrees (λ text. text) (λ text. Unit {0}) r t → StepAgrees command (on_ok (printing (in_cells m)) r) (on_ok (printing m) t)
+printing_agrees command m sound = on_ok-agrees (λ text. text) (λ text. Unit {0}) step_in_cells (LeavesSound command) (printing m) (printing (in_cells m)) (λ text. refl) (λ text u one. sound)
 
-beginning_agrees : (r : Result Layout CommandFault) → OfAnswer IsLayout r → StepAgrees (on_ok beginning r) (on_ok beginning r)
+beginning_agrees : (command : Command) (r : Result Layout CommandFault) → OfAnswer IsLayout r → StepAgrees command (on_ok beginning r) (on_ok beginning r)
 unfolding Agrees OfAnswer
-beginning_agrees (Ok s) is = (ap (λ (m : State Cells). Ok (Some m, [])) (first_states_agree s), first_states_are_sound s is)
-beginning_agrees (Err fault) is = refl
+beginning_agrees command (Ok s) is = (ap (λ (m : State Cells). Ok (Some m, [])) (first_states_agree s), λ one. first_states_are_sound s is)
+beginning_agrees command (Err fault) is = refl
 
-step_agrees : (m : Option (State Knowledge)) (command : Command) → IfSome m IsSound → StepAgrees (step cell_model (option_map in_cells m) command) (step sample_model m command)
-step_agrees None (schema word archives) sound = beginning_agrees (layout_of word archives) (layout_is word archives)
-step_agrees None (node name origin) sound = refusal_agrees _
-step_agrees None (now time lead) sound = refusal_agrees _
-step_agrees None (write name line) sound = refusal_agrees _
-step_agrees None (fetch name request) sound = refusal_agrees _
-step_agrees (Some m) (schema word archives) sound = refusal_agrees _
-step_agrees (Some m) (node name origin) sound = silently_agrees _ _ (node_agrees m sound name origin)
-step_agrees (Some m) (now time lead) sound = silently_agrees _ _ (now_agrees m sound time lead)
-step_agrees (Some m) (write name line) sound = silently_agrees _ _ (write_agrees m sound name line)
-step_agrees (Some m) (fetch name request) sound = printing_agrees m sound _ _ (fetch_agrees m sound name request)
+step_agrees : (m : Option (State Knowledge)) (command : Command) → IfSome m IsSound → StepAgrees command (step cell_model (option_map in_cells m) command) (step sample_model m command)
+step_agrees None (schema word archives) sound = beginning_agrees (schema word archives) (layout_of word archives) (layout_is word archives)
+step_agrees None (node name origin) sound = refusal_agrees (node name origin) _
+step_agrees None (now time lead) sound = refusal_agrees (now time lead) _
+step_agrees None (write name line) sound = refusal_agrees (write name line) _
+step_agrees None (fetch name request) sound = refusal_agrees (fetch name request) _
+step_agrees (Some m) (schema word archives) sound = refusal_agrees (schema word archives) _
+step_agrees (Some m) (node name origin) sound = silently_agrees (node name origin) IsSound (λ after is one. is) _ _ (node_agrees m sound name origin)
+step_agrees (Some m) (now time lead) sound = silently_agrees (now time lead) IsSound (λ after is one. is) _ _ (now_agrees m sound time lead)
+step_agrees (Some m) (write name line) sound = silently_agrees (write name line) (λ after. HasNoLineFeed line → IsSound after) (λ after is one. is one) _ _ (write_agrees m sound name line)
+step_agrees (Some m) (fetch name request) sound = printing_agrees (fetch name request) m sound _ _ (fetch_agrees m sound name request)
 
 pub commands_agree : CommandsAgree
-commands_agree m command sound = same_answer step_in_cells LeavesSound _ _ (step_agrees m command sound)
+commands_agree m command sound = same_answer step_in_cells (LeavesSound command) _ _ (step_agrees m command sound)
 
 pub commands_keep_sound : CommandsKeepSound
-commands_keep_sound m command sound = holds_after step_in_cells LeavesSound (step cell_model (option_map in_cells m) command) _ (step_agrees m command sound)
+commands_keep_sound m command sound one = by (step sample_model m command) (holds_after step_in_cells (LeavesSound command) (step cell_model (option_map in_cells m) command) _ (step_agrees m command sound))
+  where
+    by : (r : Result Step CommandFault) → IfOk r (LeavesSound command) → IfOk r (λ done. IfSome done.0 IsSound)
+    by (Ok done) h = h one
+    by (Err fault) h = tt
 
 -- ---- scripts
 
 abbrev Line : Type 0
 Line = ℕ × Result Command CommandFault
 
-line_keeps_sound : (m : Option (State Knowledge)) (number : ℕ) (said : Result Command CommandFault) → IfSome m IsSound → IfSome (obeyed sample_model m number said).0 IsSound
-line_keeps_sound m number (Err fault) sound = sound
-line_keeps_sound m number (Ok command) sound = by (step sample_model m command) (commands_keep_sound m command sound)
+abbrev IsLineOfOne : Line → Type 0
+IsLineOfOne line = SaysOneLine line.1
+
+line_keeps_sound : (m : Option (State Knowledge)) (number : ℕ) (said : Result Command CommandFault) → SaysOneLine said → IfSome m IsSound → IfSome (obeyed sample_model m number said).0 IsSound
+line_keeps_sound m number (Err fault) one sound = sound
+line_keeps_sound m number (Ok command) one sound = by (step sample_model m command) (commands_keep_sound m command sound one)
   where
-    by : (r : Result Step CommandFault) → IfOk r LeavesSound → IfSome (settled m number r).0 IsSound
+    by : (r : Result Step CommandFault) → IfOk r (λ done. IfSome done.0 IsSound) → IfSome (settled m number r).0 IsSound
     by (Ok done) h = h
     by (Err fault) h = sound
 
-lines_keep_sound : (m : Option (State Knowledge)) (lines : List Line) (count : ℕ) → IfSome m IsSound → IfSome (state_after m (take count lines)) IsSound
-lines_keep_sound m lines zero sound = sound
-lines_keep_sound m [] (suc count) sound = sound
-lines_keep_sound m (line ∷ lines) (suc count) sound = lines_keep_sound (obeyed sample_model m line.0 line.1).0 lines count (line_keeps_sound m line.0 line.1 sound)
+lines_keep_sound : (m : Option (State Knowledge)) (lines : List Line) (count : ℕ) → All IsLineOfOne lines → IfSome m IsSound → IfSome (state_after m (take count lines)) IsSound
+lines_keep_sound m lines zero one sound = sound
+lines_keep_sound m [] (suc count) one sound = sound
+lines_keep_sound m (line ∷ lines) (suc count) one sound =
+    lines_keep_sound (obeyed sample_model m line.0 line.1).0 lines count (All-tail IsLineOfOne line lines one) (line_keeps_sound m line.0 line.1 (All-head IsLineOfOne line lines one) sound)
 
 pub scripts_are_sound : ScriptsAreSound
-scripts_are_sound script count = lines_keep_sound None (commands_of script) count tt
+scripts_are_sound script count = lines_keep_sound None (commands_of script) count (commands_are_one_line script) tt
 
 line_agrees : (m : Option (State Knowledge)) (number : ℕ) (said : Result Command CommandFault) → IfSome m IsSound
     → obeyed cell_model (option_map in_cells m) number said ≡ step_in_cells (obeyed sample_model m number said)
@@ -95,11 +109,11 @@ line_agrees m number (Ok command) sound = ap (settled (option_map in_cells m) nu
     by (Ok done) = refl
     by (Err fault) = refl
 
-lines_agree : (m : Option (State Knowledge)) (lines : List Line) → IfSome m IsSound → output_from cell_model (option_map in_cells m) lines ≡ output_from sample_model m lines
-lines_agree m [] sound = refl
-lines_agree m (line ∷ lines) sound =
+lines_agree : (m : Option (State Knowledge)) (lines : List Line) → All IsLineOfOne lines → IfSome m IsSound → output_from cell_model (option_map in_cells m) lines ≡ output_from sample_model m lines
+lines_agree m [] one sound = refl
+lines_agree m (line ∷ lines) one sound =
     let done = obeyed sample_model m line.0 line.1 in
-    rw (line_agrees m line.0 line.1 sound, lines_agree done.0 lines (line_keeps_sound m line.0 line.1 sound)) refl
+    rw (line_agrees m line.0 line.1 sound, lines_agree done.0 lines (All-tail IsLineOfOne line lines one) (line_keeps_sound m line.0 line.1 (All-head IsLineOfOne line lines one) sound)) refl
 
 pub scripts_agree : ScriptsAgree
-scripts_agree script = lines_agree None (commands_of script) tt
+scripts_agree script = lines_agree None (commands_of script) (commands_are_one_line script) tt

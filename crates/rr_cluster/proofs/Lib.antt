@@ -1,4 +1,5 @@
 pub mod WordsLemmas
+pub mod LimitLemmas
 pub mod ScriptLemmas
 pub mod MeaningLemmas
 pub mod StepLemmas

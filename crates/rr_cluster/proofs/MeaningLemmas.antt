@@ -1,4 +1,4 @@
--- Which state a cluster represents after a step, and what it has where the state has it.
+-- Which state a cluster represents after a step, and the nodes of a state by the replicas of its cluster.
 use Rattle.std.proofs.Common.{◌≡◌, ℕ, pos, Bool, true, false, cond, List, [], Option, Some, None, refl, sym, ap, ◌∙◌}
 use Rattle.std.specs.Option.{is_some, option_map}
 use Rattle.std.specs.Ordering.{eq_by_cmp}
@@ -25,7 +25,7 @@ Replicas = BTreeMap (Vec ℕ) Holding
 abbrev name_of : Vec ℕ → List ℕ
 name_of key = key.items
 
--- one map has the replica at a name, and at the others what the other has
+-- the new map has the replica at the name, and is the old one at all others
 abbrev pub HasPut : Replicas → Replicas → List ℕ → Holding → Type 0
 HasPut old new name h = (q : List ℕ) → replica_at new q ≡ cond (eq_by_cmp bytes_cmp q name) (Some h) (replica_at old q)
 
@@ -60,7 +60,7 @@ module _ {A : Type 0} {g : Ghosts A} where
     origins = λ origin. rw origins refl;
   }
 
-  -- a cluster with the same in each field but its nodes
+  -- two clusters that differ in their nodes alone
   pub record SameBesidesNodes (old new : Cluster A g) : Type 0 where
     pub schema : new.schema ≡ old.schema
     pub clock : new.clock ≡ old.clock
@@ -88,10 +88,10 @@ module _ {A : Type 0} {g : Ghosts A} where
     }
 
   module _ (c : Cluster A g) (m : State Cells) (is : Represents c m) where
-    -- whether the state has the name
+    -- a name is in the state if it is in the cluster
     pub node_there : (name : List ℕ) → is_some (replica_at c.nodes name) ≡ map.contains_key m.nodes name
     node_there name = some_of_map (replica_at c.nodes name) ∙ ap is_some (sym (is.nodes name))
 
-    -- what it has there
+    -- the node of a name
     pub node_at : (name : List ℕ) (o : Option Holding) → replica_at c.nodes name ≡ o → map.get m.nodes name ≡ option_map node_of o
     node_at name o e = is.nodes name ∙ ap (option_map node_of) e

@@ -99,7 +99,7 @@ numbered_are_one_line number (line ∷ lines) all =
       | inr other ↦ rw other (All-cons (λ (l : Line). SaysOneLine l.1) (number, said_by line) (numbered (number + 1) lines) (said_is_one_line line (All-head HasNoLineFeed line lines all)) rest)
     ]
 
-commands_are_one_line : (script : List ℕ) → All (λ (line : Line). SaysOneLine line.1) (commands_of script)
+pub commands_are_one_line : (script : List ℕ) → All (λ (line : Line). SaysOneLine line.1) (commands_of script)
 commands_are_one_line script = numbered_are_one_line 1 (parts_of LINE_FEED script) (lines_have_none script)
 
 pub line_says_one_line : (lines : List ScriptLine) (script : List ℕ) (i : ℕ) (d : ScriptLine) → map line_view lines ≡ commands_of script → i < length lines → SaysOneLine (said_view (get_or lines i d).said)

@@ -1,16 +1,16 @@
 -- States of the sample model that are sound: with a node more, and with another in its place.
-use Rattle.std.proofs.Common.{◌≡◌, ◌≢◌, ℕ, false, ◌∷◌, List, Some, sym, ap, subst, ◌∙◌, true≢false}
+use Rattle.std.proofs.Common.{◌≡◌, ◌≢◌, ℕ, ◌||◌, Bool, true, false, IsTrue, refl, arith, ◌∷◌, List, Some, sym, ap, subst, ◌∙◌, true≢false}
 use Rattle.std.specs.Prelude.{◌==◌}
 use Rattle.std.specs.List.{list_any}
 use Rattle.std.specs.Cmp.Lexicographic.{nat_list_cmp_total}
 use Rattle.std.specs.FinMap.{get, insert}
-use Rattle.std.proofs.lemmas.Bool.{eq-eqb, or_left, or_right}
+use Rattle.std.proofs.lemmas.Bool.{eq-eqb, eqb-true, or_left, or_right}
 use Rattle.rr_base.specs.Schema.{Layout}
 use Rattle.rr_join.proofs.ValuesLemmas.{insert_cases}
 use Rattle.rr_model.specs.Knowledge.{Knowledge}
 use Rattle.rr_model.specs.Samples.{Sample}
 use Rattle.rr_model.specs.World.{World, IsWritten, IsClosed}
-use Rattle.rr_cluster.specs.Soundness.{IsSound, IsSoundNode, IsUsed}
+use Rattle.rr_cluster.specs.Soundness.{IsOrigin, IsSoundSample, IsSound, IsSoundNode, IsUsed}
 use Rattle.rr_cluster.specs.State.{Node, State}
 use Rattle.rr_cluster.proofs.StepLemmas.{names_apart}
 
@@ -20,19 +20,27 @@ put_cases m name n q o = insert_cases nat_list_cmp_total names_apart m.nodes nam
 
 -- ---- a node of a new origin
 
-module _ (m : State Knowledge) (sound : IsSound m) (name : List ℕ) (n : Node Knowledge) (shared : n.schema ≡ m.schema) (is_sound : IsSoundNode m.world n) (unused : list_any (λ used. used == n.origin) m.origins ≡ false) where
+module _ (m : State Knowledge) (sound : IsSound m) (name : List ℕ) (n : Node Knowledge) (shared : n.schema ≡ m.schema) (is_sound : IsSoundNode m.world n) (is : IsOrigin n.origin) (unused : list_any (λ used. used == n.origin) m.origins ≡ false) where
   abbrev with_node : State Knowledge
   with_node = record m { nodes = insert m.nodes name n; origins = n.origin ∷ m.origins }
 
   not_used : (origin : ℕ) → IsUsed m origin → origin ≢ n.origin
-  not_used origin is same = true≢false (sym is ∙ ap (λ (o : ℕ). list_any (λ used. used == o) m.origins) same ∙ unused)
+  not_used origin was same = true≢false (sym was ∙ ap (λ (o : ℕ). list_any (λ used. used == o) m.origins) same ∙ unused)
 
   still_used : (origin : ℕ) → IsUsed m origin → IsUsed with_node origin
-  still_used origin is = or_right (n.origin == origin) (list_any (λ used. used == origin) m.origins) is
+  still_used origin was = or_right (n.origin == origin) (list_any (λ used. used == origin) m.origins) was
+
+  each_is_origin : (origin : ℕ) → IsUsed with_node origin → IsOrigin origin
+  each_is_origin origin = by (n.origin == origin) refl
+    where
+      by : (same : Bool) → (n.origin == origin) ≡ same → IsTrue (same || list_any (λ used. used == origin) m.origins) → IsOrigin origin
+      by true same was = subst IsOrigin (eqb-true n.origin origin same) is
+      by false other was = sound.origins origin was
 
   pub with_node_is_sound : IsSound with_node
   with_node_is_sound = record {
     layout = sound.layout;
+    clock = sound.clock;
     shared = λ q o e. put_cases m name n q o e
         (λ at same. ap (λ (x : Node Knowledge). x.schema) (sym same) ∙ shared)
         (λ other here. sound.shared q o here);
@@ -49,7 +57,9 @@ module _ (m : State Knowledge) (sound : IsSound m) (name : List ℕ) (n : Node K
     used = λ q o e. put_cases m name n q o e
         (λ at same. or_left (n.origin == o.origin) (list_any (λ used. used == o.origin) m.origins) (eq-eqb n.origin o.origin (ap (λ (x : Node Knowledge). x.origin) same)))
         (λ other here. still_used o.origin (sound.used q o here));
+    origins = each_is_origin;
     written = λ x was. still_used x.origin (sound.written x was);
+    samples = sound.samples;
   }
 
 -- a node of an origin under which nothing was written, that knows what has no gaps
@@ -61,6 +71,8 @@ starting_is_sound m sound s number k closed unused =
       closed = closed;
       own = λ mark of is. absurd (none mark.sample of.0 is);
       numbered = λ x was is. absurd (none x was is);
+      some_number = omega arith;
+      few_numbers = omega arith;
     }
 
 -- ---- a node in the place of one of its schema and origin, in a world that may have grown
@@ -76,9 +88,10 @@ module _ (m : State Knowledge) (sound : IsSound m) (name : List ℕ) (n o : Node
   abbrev OthersStaySound : Type 0
   OthersStaySound = (p : Node Knowledge) → p.origin ≢ n.origin → IsSoundNode m.world p → IsSoundNode w p
 
-  pub place_is_sound : IsSoundNode w o → OthersStaySound → ((x : Sample) → IsWritten w x → IsUsed m x.origin) → IsSound with_node_in_place
-  place_is_sound itself others written = record {
+  pub place_is_sound : IsSoundNode w o → OthersStaySound → ((x : Sample) → IsWritten w x → IsUsed m x.origin) → ((x : Sample) → IsWritten w x → IsSoundSample x) → IsSound with_node_in_place
+  place_is_sound itself others written samples = record {
     layout = sound.layout;
+    clock = sound.clock;
     shared = λ q p e. put_cases m name o q p e
         (λ at same. ap (λ (y : Node Knowledge). y.schema) (sym same) ∙ schema ∙ sound.shared name n here)
         (λ other there. sound.shared q p there);
@@ -95,5 +108,7 @@ module _ (m : State Knowledge) (sound : IsSound m) (name : List ℕ) (n o : Node
     used = λ q p e. put_cases m name o q p e
         (λ at same. subst (IsUsed m) (sym origin ∙ ap (λ (y : Node Knowledge). y.origin) same) (sound.used name n here))
         (λ other there. sound.used q p there);
+    origins = sound.origins;
     written = written;
+    samples = samples;
   }

@@ -16,7 +16,7 @@ names_apart = slice_cmp-IsAntisymmetric nat_cmp-IsAntisymmetric
 
 -- ---- what holds of an answer
 
--- the answer, if it is no refusal, has P
+-- P holds of the answer, unless it is a refusal
 unfoldable pub OfAnswer : {A : Type 0} → (A → Type 0) → Result A CommandFault → Type 0
 OfAnswer P (Ok x) = P x
 OfAnswer P (Err fault) = Unit {0}
@@ -41,7 +41,7 @@ not_true false fault u e = refl
 
 -- ---- the answers of two models
 
--- the one answer is the other, seen by f; and if it is no refusal, it has P
+-- the first answer is f of the second, and P holds of the second unless it is a refusal
 unfoldable pub Agrees : {B C : Type 0} → (B → C) → (B → Type 0) → Result C CommandFault → Result B CommandFault → Type 0
 Agrees f P r (Ok y) = (r ≡ Ok (f y)) × P y
 Agrees f P r (Err fault) = r ≡ Err fault
@@ -71,7 +71,7 @@ pub done_agrees : {B C : Type 0} (f : B → C) (P : B → Type 0) (x : C) (y : B
 unfolding Agrees
 done_agrees f P x y e h = (ap (λ z. Ok z) e, h)
 
--- what agrees, seen further
+-- what is made of answers that agree
 pub on_ok-agrees : {B C D E : Type 0} (f : B → C) (P : B → Type 0) (f' : D → E) (P' : D → Type 0) (before : B → D) (after : C → E) → ((y : B) → after (f y) ≡ f' (before y)) → ((y : B) → P y → P' (before y))
     → (r : Result C CommandFault) (t : Result B CommandFault) → Agrees f P r t → Agrees f' P' (on_ok after r) (on_ok before t)
 unfolding Agrees

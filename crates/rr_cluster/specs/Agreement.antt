@@ -1,4 +1,5 @@
--- The cell model and the sample model agree: a state of samples has its cells, and a script prints the same in both.
+-- The cell model and the sample model agree: from a sound state each command does the same in both, and each script
+-- prints the same.
 use Rattle.std.specs.Prelude.{◌≡◌, ℕ, List, Option, IfSome}
 use Rattle.std.specs.Option.{option_map}
 use Rattle.rr_join.specs.Values.{map_values}

@@ -1,4 +1,4 @@
--- A command with its words, and how one in memory is seen.
+-- A command with its words, and the command of an event in memory.
 use Rattle.std.specs.Prelude.{ℕ, ◌+◌, List, [], length, Option, None, Some}
 use Rattle.std.specs.Borrow.{Bor}
 use Rattle.rr_base.specs.Bytes.{HasNoLineFeed}
@@ -19,7 +19,7 @@ abbrev pub archive_words : Option (Bor (List ℕ)) → List (List ℕ)
 archive_words None = []
 archive_words (Some words) = words_of words.now
 
--- how many bytes of them are left, and one more where there are words at all
+-- the number of bytes left of the words of the archives, and one more if there are words
 abbrev pub bytes_left : Option (Bor (List ℕ)) → ℕ
 bytes_left None = 0
 bytes_left (Some words) = length words.now + 1
@@ -29,7 +29,7 @@ abbrev pub word_of : Option (Bor (List ℕ)) → Option (List ℕ)
 word_of None = None
 word_of (Some word) = Some word.now
 
--- an event by the bytes of its words
+-- the command of an event
 abbrev pub view_of : Event → Command
 view_of (event.Schema step archives) = schema step.now (archive_words archives)
 view_of (event.Node name origin) = node name.now origin.now

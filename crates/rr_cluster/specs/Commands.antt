@@ -1,5 +1,5 @@
 -- The commands. Each has a file of its own, with how it is read from its words and what it does to a state: its
--- checks, in their order, the first of which to fail refuses it.
+-- checks, in their order, and then the change. The first check that fails refuses it.
 pub mod Schema
 pub mod Node
 pub mod Now

@@ -1,38 +1,63 @@
--- What scripts keep true of the sample model: each node knows all that its origin wrote, and what it knows has no gaps.
-use Rattle.std.specs.Prelude.{◌≡◌, ℕ, ◌<◌, ◌==◌, List, [], ◌∷◌, take, Option, None, Some, Result, IfOk, IfSome, IsTrue}
+-- What scripts keep true of the sample model: what was written is within the limits, each node knows all that its origin
+-- wrote, and what it knows has no gaps.
+use Rattle.std.specs.Prelude.{◌≡◌, ℕ, ◌+◌, ◌<◌, ◌≤◌, ◌==◌, List, [], ◌∷◌, take, Option, None, Some, Result, IfOk, IfSome, IsTrue}
 use Rattle.std.specs.List.{list_any}
 use Rattle.std.specs.FinMap.{get}
+use Rattle.rr_base.specs.declared.limits.TheConstants.{MAX_NUMBER}
 use Rattle.rr_base.specs.Schema.{Layout, IsLayout}
+use Rattle.rr_base.specs.Text.{fits_i64}
+use Rattle.rr_key.specs.Series.{IsKeyText}
 use Rattle.rr_model.specs.Samples.{Sample}
 use Rattle.rr_model.specs.Knowledge.{Knowledge}
 use Rattle.rr_model.specs.World.{World, IsWritten, IsClosed, HoldsAllOf}
 use Rattle.rr_cluster.specs.declared.fault.CommandFault.{CommandFault}
-use Rattle.rr_cluster.specs.Command.{Command}
+use Rattle.rr_cluster.specs.declared.words.TheConstants.{MAX_ORIGIN}
+use Rattle.rr_cluster.specs.Command.{Command, IsOneLine}
 use Rattle.rr_cluster.specs.Commands.{step}
 use Rattle.rr_cluster.specs.Model.{sample_model}
 use Rattle.rr_cluster.specs.Output.{obeyed}
 use Rattle.rr_cluster.specs.Script.{commands_of}
 use Rattle.rr_cluster.specs.State.{Node, State, first_state}
 
--- what a node knows has no gaps, it knows all that was written under its origin, and its next number is past those
+-- an origin has a number from 1 to 65,535
+pub record IsOrigin (number : ℕ) : Type 0 where
+  pub some : 1 ≤ number
+  pub few : number ≤ MAX_ORIGIN
+
+-- a sample within the limits, of a key text, with a time and a value of 64 bits
+pub record IsSoundSample (x : Sample) : Type 0 where
+  pub origin : IsOrigin x.origin
+  pub some_number : 1 ≤ x.number
+  pub few_numbers : x.number ≤ MAX_NUMBER
+  pub key : IsKeyText x.key
+  pub time : IsTrue (fits_i64 x.time)
+  pub value : IsTrue (fits_i64 x.value)
+
+-- what a node knows has no gaps, it knows all that was written under its origin, and its next number is past those;
+-- where no number is left, the next is past the last
 pub record IsSoundNode (w : World) (n : Node Knowledge) : Type 0 where
   pub closed : IsClosed n.schema w n.contents
   pub own : HoldsAllOf n.schema w n.contents n.origin
   pub numbered : (x : Sample) → IsWritten w x → x.origin ≡ n.origin → x.number < n.next
+  pub some_number : 1 ≤ n.next
+  pub few_numbers : n.next ≤ MAX_NUMBER + 1
 
 -- the script used this origin
 abbrev pub IsUsed : State Knowledge → ℕ → Type 0
 IsUsed m origin = IsTrue (list_any (λ used. used == origin) m.origins)
 
--- the schema is within its limits, the nodes have it and are sound, each has an origin of its own that the script
--- used, and all that was written was written under an origin that it used
+-- the schema is within its limits, the nodes have it and are sound, and each has an origin of its own that the script
+-- used; each sample that was written is sound, and of an origin that the script used
 pub record IsSound (m : State Knowledge) : Type 0 where
   pub layout : IsLayout m.schema
+  pub clock : IsTrue (fits_i64 m.clock)
   pub shared : (name : List ℕ) (n : Node Knowledge) → get m.nodes name ≡ Some n → n.schema ≡ m.schema
   pub nodes : (name : List ℕ) (n : Node Knowledge) → get m.nodes name ≡ Some n → IsSoundNode m.world n
   pub apart : (a b : List ℕ) (n o : Node Knowledge) → get m.nodes a ≡ Some n → get m.nodes b ≡ Some o → n.origin ≡ o.origin → a ≡ b
   pub used : (name : List ℕ) (n : Node Knowledge) → get m.nodes name ≡ Some n → IsUsed m n.origin
+  pub origins : (origin : ℕ) → IsUsed m origin → IsOrigin origin
   pub written : (x : Sample) → IsWritten m.world x → IsUsed m x.origin
+  pub samples : (x : Sample) → IsWritten m.world x → IsSoundSample x
 
 -- the state after some lines
 abbrev pub state_after : Option (State Knowledge) → List (ℕ × Result Command CommandFault) → Option (State Knowledge)
@@ -43,9 +68,11 @@ state_after m (line ∷ lines) = state_after (obeyed sample_model m line.0 line.
 abbrev pub FirstStatesAreSound : Type 0
 FirstStatesAreSound = (s : Layout) → IsLayout s → IsSound (first_state s)
 
--- a command leaves a sound state sound
+-- a command of one line leaves a sound state sound
 abbrev pub CommandsKeepSound : Type 0
-CommandsKeepSound = (m : Option (State Knowledge)) (command : Command) → IfSome m IsSound → IfOk (step sample_model m command) (λ done. IfSome done.0 IsSound)
+CommandsKeepSound =
+    (m : Option (State Knowledge)) (command : Command) → IfSome m IsSound → IsOneLine command
+    → IfOk (step sample_model m command) (λ done. IfSome done.0 IsSound)
 
 -- so each state that a script comes to is sound
 abbrev pub ScriptsAreSound : Type 0

@@ -13,7 +13,7 @@ use std::collections::{BTreeMap, BTreeSet};
 pub(crate) struct Cluster<A: Archive> {
     pub(crate) alloc: Global,
     pub(crate) schema: Schema,
-    /// The moment of a point without a time, in nanoseconds since the Unix epoch.
+    /// The time of a point that has none of its own, in nanoseconds since the Unix epoch.
     pub(crate) clock: i64,
     /// How far ahead of the clock a point's own time may be, in nanoseconds.
     pub(crate) lead: Option<u64>,
@@ -28,7 +28,7 @@ impl<A: Archive> Cluster<A> {
     ghost use Rattle.rr_cluster.specs.Meaning.{Represents};
     ghost use Rattle.rr_cluster.specs.State.{first_state};
 
-    /// No node, under a schema.
+    /// A cluster without nodes.
     pub(crate) fn new(alloc: Global, schema: Schema) -> Cluster<A>
         requires { IsLayout schema }
         ensures { Represents result (first_state schema) }

@@ -28,7 +28,7 @@ use schema::{schema_command, schema_of};
 use std::alloc::Global;
 use write::{write_command, write_line};
 
-/// The command that a line spells. Each has two words at least.
+/// The command of a line. Every command has at least two words.
 pub(crate) fn command_of(line: &[u8]) -> Option<Event<'_>>
     ensures { option_map view_of result ≡ command_of (words_of line.now) }
 {

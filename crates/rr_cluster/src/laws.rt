@@ -1,10 +1,11 @@
-//! The laws of scripts, with no work to do: each function has an empty body.
+//! The laws of scripts: functions with empty bodies, whose contracts state them.
 ghost use Rattle.rr_cluster.specs.Agreement.{CommandsAgree, ScriptsAgree};
 ghost use Rattle.rr_cluster.specs.Soundness.{CommandsKeepSound, FirstStatesAreSound, ScriptsAreSound};
 
-/// In each state that a script comes to, what a node knows has no gaps, and each node knows all that
-/// was written under its origin, its next number past it.
-pub fn knowledge_has_no_gaps()
+/// Each state that a script comes to is sound: each sample that was written is within the limits
+/// and of a key text, each node knows all that was written under its origin and has a greater next
+/// number, and what a node knows has no gaps.
+pub fn states_are_sound()
     ensures start { FirstStatesAreSound }
     ensures commands { CommandsKeepSound }
     ensures scripts { ScriptsAreSound }

@@ -16,7 +16,7 @@ abbrev pub gather : {A M : Type 0} → (A → A → A) → A → (M → A) → L
 gather op none part [] = none
 gather op none part (x ∷ xs) = op (part x) (gather op none part xs)
 
--- with one element more behind them
+-- with one more element at the end
 pub gather-more : {A M : Type 0} (op : A → A → A) (none : A) (part : M → A) → ((x : A) → op x none ≡ op none x) → ((x y z : A) → op (op x y) z ≡ op x (op y z)) → (xs : List M) (y : M) → gather op none part (xs ++ y ∷ []) ≡ op (gather op none part xs) (part y)
 gather-more op none part either assoc [] y = either (part y)
 gather-more op none part either assoc (x ∷ xs) y = ap (op (part x)) (gather-more op none part either assoc xs y) ∙ sym (assoc (part x) (gather op none part xs) (part y))

@@ -1,4 +1,4 @@
--- A key text is told from other bytes.
+-- Which bytes are read as a key.
 use Rattle.std.proofs.Common.{◌≡◌, ℕ, true, false, List, Result, Ok, Err, refl, ap, sym, ◌∙◌, true≢false, inl, inr}
 use Rattle.std.proofs.lemmas.Bool.{cases_Bool}
 use Rattle.rr_key.specs.declared.fault.KeyFault.{KeyFault}
@@ -8,28 +8,28 @@ use Rattle.rr_key.proofs.ToldLemmas.{key_text_told}
 use Rattle.rr_fetch.specs.declared.fault.RequestFault.TheVariants.{BadKey}
 use Rattle.rr_fetch.specs.Requests.{key_of}
 
-told : (text : List ℕ) → IsKeyText text → is_key_text text ≡ true
-told text is = (key_text_told text).1 is
+is_key : (text : List ℕ) → IsKeyText text → is_key_text text ≡ true
+is_key text is = (key_text_told text).1 is
 
-told_none : (text : List ℕ) → (IsKeyText text → ⊥) → is_key_text text ≡ false
-told_none text none =
+is_no_key : (text : List ℕ) → (IsKeyText text → ⊥) → is_key_text text ≡ false
+is_no_key text none =
     elim (cases_Bool (is_key_text text)) [
       | inl is ↦ absurd (none ((key_text_told text).0 is))
       | inr other ↦ other
     ]
 
 pub key_read : (text : List ℕ) → IsKeyText text → key_of text ≡ Ok text
-key_read text is = rw (told text is) refl
+key_read text is = rw (is_key text is) refl
 
 pub bad_key : (text : List ℕ) → (IsKeyText text → ⊥) → key_of text ≡ Err BadKey
-bad_key text none = rw (told_none text none) refl
+bad_key text none = rw (is_no_key text none) refl
 
 -- a text that is not refused is read
 pub key_unless_bad : (text : List ℕ) → ((IsKeyText text → ⊥) → ⊥) → key_of text ≡ Ok text
 key_unless_bad text not_bad =
     elim (cases_Bool (is_key_text text)) [
       | inl is ↦ rw is refl
-      | inr other ↦ absurd (not_bad (λ is. true≢false (sym (told text is) ∙ other)))
+      | inr other ↦ absurd (not_bad (λ is. true≢false (sym (is_key text is) ∙ other)))
     ]
 
 pub same_fault : {A : Type 0} (fault other : KeyFault) → ◌≡◌ {A = Result A KeyFault} (Err fault) (Err other) → fault ≡ other

@@ -67,7 +67,7 @@ mask_below (p ∷ ps) n f =
 by_one : (x : ℕ) → x ≡ x / 2 ^ 0
 by_one x = omega arith
 
--- as many bits are 1 as there are places
+-- the number of bits that are 1 is the number of places
 pub ones-mask : (ps : List ℕ) (n : ℕ) → ((p : ℕ) → list_any (λ q. q == p) ps ≡ true → p < n) → count_ones (mask_of ps) ≡ places_where (λ i. list_any (λ p. p == i) ps) n
 ones-mask ps n f =
     ap count_ones (by_one (mask_of ps)) ∙ ones_from (mask_of ps) 0 n (subst (λ k. mask_of ps < 2 ^ k) (omega arith) (mask_below ps n f))

@@ -51,7 +51,7 @@ module _ (s : Layout) (key : List ℕ) (function : ConsolidationFunction) (archi
 later_quotient : (a b n : ℕ) → 0 < n → a ≤ b → a / n ≤ b / n
 later_quotient a b n some le = let most = div-mul-le_self a n in le-div (a / n) b n some (omega arith)
 
--- a slot that begins before the end stands behind that of an earlier start, or is it
+-- the floor of a quotient is below the ceiling of a greater one
 pub floor_below_ceil : (start end : ℤ) (n : ℕ) → 0 < n → start <ℤ end → int_div_euclid start (pos n) <ℤ neg_ℤ (int_div_euclid (neg_ℤ end) (pos n))
 floor_below_ceil (pos a) (pos zero) n some before = absurd (omega (arith, ints))
 floor_below_ceil (pos a) (pos (suc b)) n some before =

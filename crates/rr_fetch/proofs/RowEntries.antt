@@ -39,11 +39,11 @@ filter-map p f (x ∷ xs) = elim (p (f x)) as (λ b. cond b (f x ∷ filter p (m
   | false ↦ filter-map p f xs
 ]
 
--- the places of a slot at which there is something
+-- the places of a slot that have a contribution
 abbrev pub places_of : Rows → ℤ → List Place
 places_of m slot = filter (λ p. int_eq p.slot slot) (keys m)
 
--- what stands at a place, or d
+-- the entry of a place, of the contribution d where there is none
 abbrev pub entry_at : Rows → Contribution → Place → Entry
 entry_at m d p = record { origin = p.origin; contribution = unwrap_or (get m p) d }
 
@@ -55,7 +55,7 @@ row_by_places m slot d =
     ∙ ap (map entry_of) (filter-map (λ e. int_eq e.0.slot slot) held (keys m))
     ∙ map-map entry_of held (places_of m slot)
 
--- at each of them there is something
+-- each of them has a contribution
 pub found_at : (m : Rows) (slot : ℤ) (d : Contribution) (p : Place) → is_in place_cmp (places_of m slot) p ≡ true → get m p ≡ Some (unwrap_or (get m p) d)
 found_at m slot d p e =
     read_back (get m p) (sym (is_in-keys place_cmp_total place_cmp-IsAntisymmetric m p)
@@ -92,17 +92,17 @@ module _ (slot : ℤ) where
   same_slot : (p : Place) → int_eq p.slot slot ≡ true → int_cmp p.slot slot ≡ Equal
   same_slot p e = Equal_from_is_eq (int_cmp p.slot slot) e
 
-  kept_behind : (p : Place) (es : List (Place × Contribution)) → p.slot ≡ slot → T (below_all place_cmp p es) → T (is_sorted place_cmp es) → ascends_from p.origin (kept es) ≡ true
-  kept_behind p [] at below sorted = refl
-  kept_behind p (e ∷ es) at below sorted =
+  kept_after : (p : Place) (es : List (Place × Contribution)) → p.slot ≡ slot → T (below_all place_cmp p es) → T (is_sorted place_cmp es) → ascends_from p.origin (kept es) ≡ true
+  kept_after p [] at below sorted = refl
+  kept_after p (e ∷ es) at below sorted =
       elim (int_eq e.0.slot slot) as (λ b. int_eq e.0.slot slot ≡ b → ascends_from p.origin (map entry_of (cond b (e ∷ filter (λ x. int_eq x.0.slot slot) es) (filter (λ x. int_eq x.0.slot slot) es))) ≡ true) [
         | true ↦ λ t.
             let here : e.0.slot ≡ slot = int_cmp-IsAntisymmetric e.0.slot slot (same_slot e.0 t) in
             let tied : int_cmp p.slot e.0.slot ≡ Equal = (λ i. int_cmp (at i) (here i)) ∙ tied_itself int_cmp_total slot in
             and_from (ltb p.origin e.0.origin) _
             (below_from_less p.origin e.0.origin (less_then (int_cmp p.slot e.0.slot) (nat_cmp p.origin e.0.origin) tied (passes (is_lt (place_cmp p e.0)) (T_first (is_lt (place_cmp p e.0)) (below_all place_cmp p es) below))))
-            (kept_behind e.0 es here (T_first (below_all place_cmp e.0 es) (is_sorted place_cmp es) sorted) (T_second (below_all place_cmp e.0 es) (is_sorted place_cmp es) sorted))
-        | false ↦ λ t. kept_behind p es at (T_second (is_lt (place_cmp p e.0)) (below_all place_cmp p es) below) (T_second (below_all place_cmp e.0 es) (is_sorted place_cmp es) sorted)
+            (kept_after e.0 es here (T_first (below_all place_cmp e.0 es) (is_sorted place_cmp es) sorted) (T_second (below_all place_cmp e.0 es) (is_sorted place_cmp es) sorted))
+        | false ↦ λ t. kept_after p es at (T_second (is_lt (place_cmp p e.0)) (below_all place_cmp p es) below) (T_second (below_all place_cmp e.0 es) (is_sorted place_cmp es) sorted)
       ] refl
 
   kept_ascends : (es : List (Place × Contribution)) → T (is_sorted place_cmp es) → ascends (kept es) ≡ true
@@ -110,7 +110,7 @@ module _ (slot : ℤ) where
   kept_ascends (e ∷ es) sorted =
       elim (int_eq e.0.slot slot) as (λ b. int_eq e.0.slot slot ≡ b → ascends (map entry_of (cond b (e ∷ filter (λ x. int_eq x.0.slot slot) es) (filter (λ x. int_eq x.0.slot slot) es))) ≡ true) [
         | true ↦ λ t.
-            kept_behind e.0 es (int_cmp-IsAntisymmetric e.0.slot slot (same_slot e.0 t)) (T_first (below_all place_cmp e.0 es) (is_sorted place_cmp es) sorted) (T_second (below_all place_cmp e.0 es) (is_sorted place_cmp es) sorted)
+            kept_after e.0 es (int_cmp-IsAntisymmetric e.0.slot slot (same_slot e.0 t)) (T_first (below_all place_cmp e.0 es) (is_sorted place_cmp es) sorted) (T_second (below_all place_cmp e.0 es) (is_sorted place_cmp es) sorted)
         | false ↦ λ t. kept_ascends es (T_second (below_all place_cmp e.0 es) (is_sorted place_cmp es) sorted)
       ] refl
 

@@ -44,7 +44,7 @@ use Rattle.rr_fetch.proofs.RowEntries.{map-map}
 use Rattle.rr_fetch.proofs.RowNames.{any-map, row_names, of_name, entry, entries_are, names_apart, in_row_names, all_named, of_name-named}
 use Rattle.rr_fetch.proofs.SeenMarks.{sum-seen, count-seen, mask-seen, values-seen, some_value, some_last, last-seen, last_in}
 
--- a mark where there is none
+-- a mark in place of one that is missing
 abbrev no_mark : Mark
 no_mark = record { sample = record { time = pos 0; origin = 0; number = 0; key = []; value = pos 0 }; archive = 0 }
 

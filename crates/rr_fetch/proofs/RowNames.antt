@@ -118,7 +118,7 @@ module _ (s : Layout) (k : Knowledge) (key : List ℕ) (archive : ℕ) (slot : �
       (is_in-filter mark_cmp_total mark_cmp-IsAntisymmetric (λ x. eq_by_cmp cell_name_cmp (name_of s x) (name_of s m)) (keys (live s k)) m
       ∙ and_from (eq_by_cmp cell_name_cmp (name_of s m) (name_of s m)) (is_in mark_cmp (keys (live s k)) m) (tie_of (name_of s m) (name_of s m) refl) e))))
 
-  -- a mark of a name has it
+  -- the name of a mark of a cell is the name of the cell
   pub of_name-named : (n : CellName) (m : Mark) → is_in mark_cmp (of_name n) m ≡ true → name_of s m ≡ n
   of_name-named n m e =
       same_from_tie cell_name_cmp_total cell_name_cmp-IsAntisymmetric (name_of s m) n

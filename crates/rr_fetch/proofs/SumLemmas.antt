@@ -10,7 +10,7 @@ use Rattle.rr_archive.specs.declared.entry.Entry.{Entry}
 use Rattle.rr_archive.specs.Row.{ascends, ascends_from}
 use Rattle.rr_fetch.specs.Consolidation.{IsBounded}
 
--- so many times a value of 64 bits
+-- k times a value of 64 bits
 times_low : (k : ℕ) (m : ℤ) → FitsSigned w64 m → neg_ℤ (pos (k * 2 ^ 63)) ≤ℤ (pos k *ℤ m)
 times_low k (pos n) fits = omega (arith, ints)
 times_low k (negsuc n) fits =
@@ -25,14 +25,14 @@ times_high k (pos n) fits =
     omega (arith, ints)
 times_high k (negsuc n) fits = omega (arith, ints)
 
--- with so many more, whose sum lies between theirs at their extremes
+-- with more samples, whose sum lies between their number times their extremes
 pub bounded_with : (count more : ℕ) (total sum least most : ℤ) → IsBounded count total → FitsSigned w64 least → FitsSigned w64 most → (pos more *ℤ least) ≤ℤ sum → sum ≤ℤ (pos more *ℤ most) → IsBounded (count + more) (total +ℤ sum)
 bounded_with count more total sum least most is least_fits most_fits low high =
     let below = times_low more least least_fits in
     let above = times_high more most most_fits in
     record { least = omega (arith, ints, is.least); most = omega (arith, ints, is.most) }
 
--- ascending origins are each at least as great as their place
+-- an origin of an ascending list is at least its place
 ascends_from-place : (below : ℕ) (es : List Entry) (i : ℕ) (d : Entry) → ascends_from below es ≡ true → i < length es → below + suc i ≤ (get_or es i d).origin
 ascends_from-place below [] i d up there = absurd (omega arith)
 ascends_from-place below (e ∷ es) zero d up there =

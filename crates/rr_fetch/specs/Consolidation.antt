@@ -42,21 +42,21 @@ of_entries Last es = option_map (λ e. e.contribution.last_value) (greatest last
 unfoldable pub consolidated : Layout → ℕ → ConsolidationFunction → List Entry → Option ℤ
 consolidated s archive f es = if is_known_enough s archive (count_ones (united es)) then of_entries f es else None
 
--- ---- what rows keep to
+-- ---- what a consolidation requires of a row
 
--- some samples, but no more than have numbers, whose sum lies between their extremes
+-- at least one sample, no more than there are numbers, and a sum from count * min to count * max
 pub record IsSummable (c : Contribution) : Type 0 where
   pub some : 1 ≤ c.count
   pub few : c.count ≤ MAX_NUMBER
   pub low : (pos c.count *ℤ c.min) ≤ℤ c.sum
   pub high : c.sum ≤ℤ (pos c.count *ℤ c.max)
 
--- one entry for an origin, in their order, each of which can be added up
+-- entries in the order of their origins, no two of one origin, each of which can be added up
 pub record IsRow (es : List Entry) : Type 0 where
   pub ascends : IsTrue (ascends es)
   pub summable : All (λ e. IsSummable e.contribution) es
 
--- a number of samples of 64 bits, and a total that they can have
+-- the total of `count` values of 64 bits
 pub record IsBounded (count : ℕ) (total : ℤ) : Type 0 where
   pub least : neg_ℤ (pos (count * 2 ^ 63)) ≤ℤ total
   pub most : total ≤ℤ pos (count * (2 ^ 63 - 1))

@@ -18,7 +18,7 @@ RowsAgree =
     (s : Layout) (k : Knowledge) (key : List ℕ) (archive : ℕ) (slot : ℤ) (f : ConsolidationFunction) → IsLayout s
     → consolidated s archive f (row_at (state s k) key archive slot) ≡ row s k key archive slot f
 
--- so whoever has these cells answers as whoever knows the samples
+-- so an answer from these cells is the answer from the samples
 abbrev pub AnswersAgree : Type 0
 AnswersAgree = (s : Layout) (k : Knowledge) (q : Request) → IsLayout s → cells_text s (state s k) q ≡ fetch_text s k q
 

@@ -44,12 +44,12 @@ requested s bytes = do
   words ← ok_or (words_of bytes) BadCommand
   read s words
 
--- a request as it is held, by what it asks for
+-- what a request in memory asks for
 abbrev pub request_view : Request → text.Request
 request_view q = record { key = q.key; function = q.cf; archive = q.archive; first = q.first; rows = q.rows }
 
--- a request that can be answered: of an archive that is there, with some rows and not too many, none of which
--- starts at a second past 64 bits
+-- a request that can be answered: its archive is one of the layout's, its first slot is near the epoch, and it has at
+-- least one row and no more than a fetch may have
 pub record IsFetchable (s : Layout) (q : text.Request) : Type 0 where
   pub is_there : q.archive < length s.archives
   pub near : unsigned_abs q.first ≤ MAX_SECOND

@@ -1,4 +1,4 @@
--- The words of a request, and what each stands for.
+-- The words of a request, and what each of them means.
 use Rattle.std.specs.Prelude.{ℕ, ℤ, ◌&&◌, nat_eq, nat_le, List, codes, Option, None, Some, unsigned_abs, if◌then◌else◌}
 use Rattle.std.specs.Cmp.Lexicographic.{pointwise}
 use Rattle.std.specs.Str.Parse.{digits_value}
@@ -18,7 +18,7 @@ pub record Parts : Type 0 where
   pub end : List ℕ
   pub key : List ℕ
 
--- the words of a text, if it has as many
+-- the words of a text, if there are five or more
 unfoldable pub words_of : List ℕ → Option Parts
 words_of text = do
   function ← cut_at SPACE text
@@ -27,7 +27,7 @@ words_of text = do
   end ← cut_at SPACE start.1
   Some (record { function = function.0; resolution = resolution.0; start = start.0; end = end.0; key = end.1 })
 
--- words as slices, by their bytes
+-- the bytes of words that are slices
 abbrev pub parts : RequestWords → Parts
 parts w = record { function = w.function.now; resolution = w.resolution.now; start = w.start.now; end = w.end.now; key = w.key.now }
 

@@ -24,24 +24,24 @@ use std::io::Write;
 
 /// The slot of a row.
 fn slot_of(first: i64, row: u32) -> i64
-    requires near { unsigned_abs first ≤ MAX_SECOND }
-    requires few { row ≤ MAX_FETCH_ROWS }
+    requires first_near { unsigned_abs first ≤ MAX_SECOND }
+    requires row_within { row ≤ MAX_FETCH_ROWS }
     ensures value { result ≡ first +ℤ pos row }
-    ensures near { unsigned_abs result ≤ MAX_SECOND + MAX_FETCH_ROWS }
+    ensures slot_near { unsigned_abs result ≤ MAX_SECOND + MAX_FETCH_ROWS }
 {
     first + i64::from(row)
 }
 
 /// The start of a slot in seconds.
 fn start_of(slot: i64, span: u32) -> i64
-    requires near { unsigned_abs slot ≤ MAX_SECOND + MAX_FETCH_ROWS }
-    requires few { span ≤ MAX_STEP * MAX_STEPS }
+    requires slot_near { unsigned_abs slot ≤ MAX_SECOND + MAX_FETCH_ROWS }
+    requires span_fits { span ≤ MAX_STEP * MAX_STEPS }
     ensures { result ≡ slot *ℤ pos span }
 {
     slot * i64::from(span)
 }
 
-/// The entries of a slot, of which there are none without an archive.
+/// The entries of a slot; none if there is no archive.
 fn entries_at<A: Archive>(archive: Option<&A>, slot: i64) -> &[Entry]
     ensures { (rows : Rows) → MatchOption archive.entry (rows ≡ empty) (λ a. A.cells a.now ≡ rows)
         → result.now ≡ row_of rows slot }
@@ -57,7 +57,7 @@ fn entries_at<A: Archive>(archive: Option<&A>, slot: i64) -> &[Entry]
 ///
 /// The request's archive is one of the replica's schema, its first slot is at most
 /// [`MAX_SECOND`] either side of the epoch, and its rows are from 1 to [`MAX_FETCH_ROWS`]. The cost
-/// is one look-up of the key and, for each row, one of its slot, and linear in its entries.
+/// is one look-up of the key and, for each row, one look-up of its slot and a pass over its entries.
 pub fn answer_text<A: Archive>(
     alloc: Global,
     replica: &Replica<A>,
@@ -83,8 +83,8 @@ pub fn answer_text<A: Archive>(
 
 /// Makes the answer to a request, as [`answer_text`] does, and then writes it.
 ///
-/// Refused as `Memory`, which writes nothing, and as `WriteFailed`, which leaves a front of the text
-/// written, and only where a call of the writer failed.
+/// `Memory` writes nothing. `WriteFailed` leaves a prefix of the text written, and is answered only
+/// where a call of the writer failed.
 pub fn answer<A: Archive, W: Write>(
     alloc: Global,
     replica: &Replica<A>,

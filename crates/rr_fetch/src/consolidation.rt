@@ -11,8 +11,8 @@ use crate::sum::sum_of;
 use rr_archive::Entry;
 use rr_base::{ConsolidationFunction, Schema};
 
-/// What a function makes of the entries of a row, or nothing where the row is unknown: where more
-/// than the fraction xff of its steps has no sample of any origin.
+/// What a function makes of the entries of a row, or `None` where the row is unknown: where
+/// more than the fraction xff of its steps has no sample of any origin.
 ///
 /// An average is the floor of the mean of all samples. The last sample is that of the greatest
 /// time, and at one time of the greatest origin.
@@ -27,7 +27,7 @@ pub fn consolidate(
     archive: u8,
     cf: ConsolidationFunction,
 ) -> Option<i64>
-    requires is_there { archive < length schema.now.archives }
+    requires archive_exists { archive < length schema.now.archives }
     requires row { IsRow row.now }
     ensures { result ≡ consolidated schema.now archive cf row.now }
 {

@@ -1,4 +1,4 @@
-//! Why a request is refused, and why an answer isn't written.
+//! Why a request is refused, and why an answer could not be written.
 
 ghost use Rattle.std.specs.Prelude.{◌≡◌};
 
@@ -21,7 +21,7 @@ pub enum RequestFault {
     /// What follows the four words is not a key text.
     #[error("the key is not a valid key text")]
     BadKey,
-    /// The start is not below the end.
+    /// The start is not before the end.
     #[error("the start is not before the end")]
     EmptyRange,
     /// There are more rows than a fetch may have.
@@ -51,7 +51,7 @@ impl RequestFault {
     }
 }
 
-/// Why an answer isn't written whole.
+/// Why an answer could not be written whole.
 #[derive(Clone, Copy, Debug, PartialEq, Eq, Error)]
 pub enum AnswerFault {
     /// Memory ran out.

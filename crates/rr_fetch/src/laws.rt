@@ -1,4 +1,4 @@
-//! The laws of rows and answers, with no work to do: each function has an empty body.
+//! The laws of rows and answers: functions with empty bodies, whose contracts state them.
 ghost use Rattle.rr_fetch.specs.Laws.{AnswersAgree, HeldRowsAreRows, RowsAgree};
 
 /// A row that is consolidated from the cells of what is known is the row of the samples known, for

@@ -8,7 +8,7 @@
 //! In `specs/` a request is a function of the bytes, or the first fault that they have
 //! (`specs/Requests.antt`); a row is a function of the entries (`specs/Consolidation.antt`), and an
 //! answer one of the replica's cells (`specs/Answers.antt`). [`laws`] says that rows and answers are
-//! those of the samples that the cells were made of.
+//! those of the samples that the cells were made from.
 #![tactic(auto)]
 
 mod answering;

@@ -13,18 +13,18 @@ use rr_base::{ConsolidationFunction, Schema};
 use rr_key::SeriesKey;
 use std::alloc::Global;
 
-/// So many rows of an archive of a series, from a first slot on, each made by a function.
+/// Rows of a series in an archive, from a first slot on, each consolidated by a function.
 #[derive(Debug, Drop)]
 pub struct Request {
-    /// Whose rows.
+    /// The key of the series.
     pub key: SeriesKey,
-    /// What a row makes of its samples.
+    /// How the samples of a row are consolidated.
     pub cf: ConsolidationFunction,
     /// The number of the archive in its schema, from 0.
     pub archive: u8,
     /// The slot of the first row.
     pub first: i64,
-    /// How many rows.
+    /// The number of rows.
     pub rows: u32,
 }
 
@@ -32,23 +32,23 @@ pub struct Request {
 fn first_slot(second: i64, span: u32) -> i64
     requires { 0 < span }
     ensures value { result ≡ int_div_euclid second (pos span) }
-    ensures nearer { unsigned_abs result ≤ unsigned_abs second }
+    ensures slot_nearer { unsigned_abs result ≤ unsigned_abs second }
 {
     second.div_euclid(i64::from(span))
 }
 
 /// `ceil(second / span)`.
 fn slot_after(second: i64, span: u32) -> i64
-    requires some { 0 < span }
-    requires near { unsigned_abs second ≤ MAX_SECOND }
+    requires span_positive { 0 < span }
+    requires second_near { unsigned_abs second ≤ MAX_SECOND }
     ensures value { result ≡ neg_ℤ (int_div_euclid (neg_ℤ second) (pos span)) }
-    ensures nearer { unsigned_abs result ≤ unsigned_abs second }
+    ensures slot_nearer { unsigned_abs result ≤ unsigned_abs second }
 {
-    let behind = -second;
-    -first_slot(behind, span)
+    let negated = -second;
+    -first_slot(negated, span)
 }
 
-/// How many slots there are from one up to another.
+/// The number of slots from one up to another.
 fn slots_between(first: i64, last: i64) -> u64
     requires first_near { unsigned_abs first ≤ MAX_SECOND }
     requires last_near { unsigned_abs last ≤ MAX_SECOND }
@@ -60,10 +60,10 @@ fn slots_between(first: i64, last: i64) -> u64
 /// The slot of the first row and the number of rows: from the slot of the start up to the last one
 /// that begins before the end.
 fn rows_of(schema: &Schema, archive: u8, start: i64, end: i64) -> Result<(i64, u32), RequestFault>
-    requires is_there { archive < length schema.now.archives }
+    requires archive_exists { archive < length schema.now.archives }
     requires start_near { unsigned_abs start ≤ MAX_SECOND }
     requires end_near { unsigned_abs end ≤ MAX_SECOND }
-    requires some { start <ℤ end }
+    requires start_before_end { start <ℤ end }
     ensures value { (key : List ℕ) (function : ConsolidationFunction)
         → Gives (λ rows. record {
           key = key;
@@ -73,7 +73,7 @@ fn rows_of(schema: &Schema, archive: u8, start: i64, end: i64) -> Result<(i64, u
           rows = rows.1;
         })
         result (few_rows (rows_between schema.now key function archive start end)) }
-    ensures near { IfOk result (λ rows. (key : List ℕ) (function : ConsolidationFunction)
+    ensures fetchable { IfOk result (λ rows. (key : List ℕ) (function : ConsolidationFunction)
         → IsFetchable schema.now
         (record { key = key; function = function; archive = archive; first = rows.0; rows = rows.1 })) }
     ensures fault { IfErr result (λ fault. fault ≡ RequestFault.TooManyRows) }
@@ -97,7 +97,7 @@ fn rows_of(schema: &Schema, archive: u8, start: i64, end: i64) -> Result<(i64, u
 /// the start up to the last one that begins before the end.
 ///
 /// Refusals, in this order: `BadCommand`, for fewer than five words; `BadCf`; `BadNumber`, for each
-/// of the three numbers; `BadKey`; `EmptyRange`, for a start that is not below the end;
+/// of the three numbers; `BadKey`; `EmptyRange`, for a start that is not before the end;
 /// `TooManyRows`, for more than [`MAX_FETCH_ROWS`]; and `Memory` only where none of these is due.
 /// The cost is linear in the bytes.
 #[tactic(auto, unfolding(crate::specs::Requests::requested))]
@@ -105,7 +105,7 @@ pub fn parse_request(alloc: Global, bytes: &[u8], schema: &Schema) -> Result<Req
     ensures value { GivesUnless RequestFault.Memory request_view result
         (requested schema.now bytes.now) }
     ensures memory { NeedsMemoryAfter RequestFault.Memory (requested schema.now bytes.now) result }
-    ensures near { IfOk result (λ q. IsFetchable schema.now (request_view q)) }
+    ensures fetchable { IfOk result (λ q. IsFetchable schema.now (request_view q)) }
 {
     let words = request_words(bytes).ok_or(RequestFault::BadCommand)?;
     read_request(alloc, &words, schema)
@@ -122,7 +122,7 @@ pub fn read_request(
     ensures value { GivesUnless RequestFault.Memory request_view result
         (read schema.now (parts words.now)) }
     ensures memory { NeedsMemoryAfter RequestFault.Memory (read schema.now (parts words.now)) result }
-    ensures near { IfOk result (λ q. IsFetchable schema.now (request_view q)) }
+    ensures fetchable { IfOk result (λ q. IsFetchable schema.now (request_view q)) }
 {
     let cf = function_of(words.function).ok_or(RequestFault::BadCf)?;
     let resolution = resolution_of(words.resolution).ok_or(RequestFault::BadNumber)?;

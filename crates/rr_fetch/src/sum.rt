@@ -22,10 +22,10 @@ pub(crate) struct Sum {
 const NONE: Sum = Sum { count: 0, total: 0 };
 
 impl Sum {
-    /// With the samples of a contribution too.
+    /// The sum with the samples of a contribution added.
     fn with(self, contribution: &Contribution) -> Sum
         requires summable { IsSummable contribution.now }
-        requires few { self.count ≤ MAX_ENTRIES * MAX_NUMBER }
+        requires count_fits { self.count ≤ MAX_ENTRIES * MAX_NUMBER }
         requires bounded { IsBounded self.count self.total }
         ensures count { result.count ≡ self.count + contribution.now.count }
         ensures total { result.total ≡ self.total +ℤ contribution.now.sum }
@@ -50,9 +50,9 @@ impl Sum {
     }
 }
 
-/// All samples of a row.
+/// The sum of all samples of a row.
 pub(crate) fn sum_of(row: &[Entry]) -> Sum
-    requires few { length row.now ≤ MAX_ENTRIES }
+    requires row_fits { length row.now ≤ MAX_ENTRIES }
     requires summable { All (λ e. IsSummable e.contribution) row.now }
     ensures count { result.count ≡ count_of row.now }
     ensures total { result.total ≡ total_of row.now }

@@ -1,4 +1,4 @@
-//! The words of a request, and what each stands for.
+//! The words of a request, and what each of them means.
 
 ghost use Rattle.std.specs.Prelude.{◌≡◌, ◌≢◌, ◌≤◌, unsigned_abs, option_map, Ok, Err, IfOk, IfErr, IfSome, MatchResult};
 ghost use Rattle.rr_fetch.specs.Requests.{key_of};
@@ -23,7 +23,7 @@ pub struct RequestWords<'a> {
     pub(crate) key: &'a [u8],
 }
 
-/// Cuts a request into its words; none where there are fewer than five.
+/// Cuts a request into its words; `None` where there are fewer than five.
 #[tactic(auto, unfolding(crate::specs::Words::words_of))]
 pub fn request_words(bytes: &[u8]) -> Option<RequestWords<'_>>
     ensures { option_map parts result ≡ words_of bytes.now }
@@ -71,7 +71,7 @@ pub(crate) fn resolution_of(word: &[u8]) -> Option<u64>
 /// A start or an end in seconds, up to the last second either side of the epoch.
 pub(crate) fn second_of(word: &[u8]) -> Option<i64>
     ensures value { result ≡ second_of word.now }
-    ensures near { IfSome result (λ second. unsigned_abs second ≤ MAX_SECOND) }
+    ensures second_near { IfSome result (λ second. unsigned_abs second ≤ MAX_SECOND) }
 {
     match integer(word) {
         Some(second) if second.unsigned_abs() <= MAX_SECOND => Some(second),
@@ -79,7 +79,7 @@ pub(crate) fn second_of(word: &[u8]) -> Option<i64>
     }
 }
 
-/// A series key by its text, or `BadKey`; no key where memory ran out.
+/// The series key of a text, or `BadKey`; `None` where memory ran out.
 pub(crate) fn key_of(alloc: Global, text: &[u8]) -> Result<Option<SeriesKey>, RequestFault>
     ensures value { MatchResult result (λ _. key_of text.now ≡ Ok text.now)
         (λ fault. key_of text.now ≡ Err fault) }

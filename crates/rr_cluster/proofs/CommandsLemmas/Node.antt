@@ -38,6 +38,7 @@ use Rattle.rr_cluster.specs.Model.{Model, cell_model, sample_model}
 use Rattle.rr_cluster.specs.Soundness.{IsSound}
 use Rattle.rr_cluster.specs.State.{Node, State}
 use Rattle.rr_cluster.specs.Words.{words_of, is_name, origin_of}
+use Rattle.rr_cluster.proofs.LimitLemmas.{origin_is}
 use Rattle.rr_cluster.proofs.MeaningLemmas.{HasPut, nodes_put}
 use Rattle.rr_cluster.proofs.SoundnessLemmas.{with_node_is_sound, starting_is_sound}
 use Rattle.rr_cluster.proofs.StepLemmas.{names_apart, Agrees, then_agree, done_agrees, not_true}
@@ -138,4 +139,4 @@ node_agrees m sound name origin =
     rw (is_some-map_values nat_list_cmp_total names_apart node_in_cells m.nodes name) (then_agree in_cells IsSound (checked (is_name name) BadName) _ _ (λ named is. then_agree in_cells IsSound (checked (not (map.contains_key m.nodes name)) NameUsed) _ _ (λ free new. then_agree in_cells IsSound (origin_of origin) _ _ (λ number read. then_agree in_cells IsSound (checked (not (list_any (λ used. used == number) m.origins)) OriginUsed) _ _ (λ unused yes.
     let none = not_true _ _ unused yes in
     done_agrees in_cells IsSound _ _ (with_node_agrees m name (new_node cell_model m.schema number) (new_node sample_model m.schema number) (number ∷ m.origins) m.world (new_nodes_agree m.schema number))
-    (with_node_is_sound m sound name (new_node sample_model m.schema number) refl (starting_is_sound m sound m.schema number _ (nothing_is_closed m.schema m.world) none) none))))))
+    (with_node_is_sound m sound name (new_node sample_model m.schema number) refl (starting_is_sound m sound m.schema number _ (nothing_is_closed m.schema m.world) none) (origin_is origin number read) none))))))

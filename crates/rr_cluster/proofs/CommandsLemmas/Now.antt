@@ -12,6 +12,7 @@ use Rattle.rr_cluster.specs.Meaning.{Represents}
 use Rattle.rr_cluster.specs.Soundness.{IsSound}
 use Rattle.rr_cluster.specs.State.{State}
 use Rattle.rr_cluster.specs.Words.{words_of, moment_of, lead_of}
+use Rattle.rr_cluster.proofs.LimitLemmas.{moment_fits}
 use Rattle.rr_cluster.proofs.StepLemmas.{Agrees, then_agree, done_agrees}
 use Rattle.rr_cluster.proofs.WordsLemmas.{some_parts}
 
@@ -67,9 +68,12 @@ now_agrees m sound time lead =
     then_agree in_cells IsSound (moment_of time) _ _ (λ clock is. then_agree in_cells IsSound (lead_of m.lead lead) _ _ (λ most read.
     done_agrees in_cells IsSound _ _ refl (record {
       layout = sound.layout;
+      clock = moment_fits time clock is;
       shared = sound.shared;
       nodes = sound.nodes;
       apart = sound.apart;
       used = sound.used;
+      origins = sound.origins;
       written = sound.written;
+      samples = sound.samples;
     })))

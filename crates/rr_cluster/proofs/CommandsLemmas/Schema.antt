@@ -42,9 +42,12 @@ first_states_agree s = λ i. record (first_state s) { nodes = sym (map_values-em
 pub first_states_are_sound : FirstStatesAreSound
 first_states_are_sound s is = record {
   layout = is;
+  clock = refl;
   shared = λ name n e. let none = sym (get-empty bytes_cmp name) ∙ e in absurd cc;
   nodes = λ name n e. let none = sym (get-empty bytes_cmp name) ∙ e in absurd cc;
   apart = λ a b n o e h same. let none = sym (get-empty bytes_cmp a) ∙ e in absurd cc;
   used = λ name n e. let none = sym (get-empty bytes_cmp name) ∙ e in absurd cc;
+  origins = λ origin was. absurd cc;
   written = λ x e. let none = sym (get-empty _ (x.origin, x.number)) ∙ e in absurd cc;
+  samples = λ x e. let none = sym (get-empty _ (x.origin, x.number)) ∙ e in absurd cc;
 }

@@ -1,22 +1,25 @@
 -- write NODE LINE
-use Rattle.std.proofs.Common.{◌≡◌, ◌≢◌, ℕ, ◌+◌, ◌<◌, ℤ, not, eqb, List, [], ◌∷◌, Option, Some, None, IfSome, IsTrue, length, Result, Ok, Err, refl, sym, ap, subst, ◌∙◌, inl, inr, arith, ⊎_elim}
+use Rattle.std.proofs.Common.{◌≡◌, ◌≢◌, ℕ, ◌+◌, ◌<◌, ◌≤◌, ℤ, not, eqb, List, [], ◌∷◌, Option, Some, None, IfSome, IsTrue, length, Result, Ok, Err, refl, sym, ap, subst, ◌∙◌, inl, inr, arith, ⊎_elim}
 use Rattle.std.specs.Prelude.{◌⊎◌, ◌-◌, nat_lt, unwrap_or, IsFalse}
-use Rattle.std.specs.List.{list_any}
+use Rattle.std.specs.List.{list_any, AllByRecursion}
 use Rattle.std.specs.Cmp.Lexicographic.{nat_list_cmp_total}
 use Rattle.std.specs.FinMap as map
-use Rattle.std.proofs.lemmas.Bool.{cases_Bool, or_parts}
+use Rattle.std.proofs.lemmas.Bool.{cases_Bool, ltb-false, or_parts}
 use Rattle.std.proofs.lemmas.List.Folds.{list_any-append}
 use Rattle.rr_archive.specs.declared.archive.Archive.{Ghosts}
 use Rattle.rr_base.specs.Schema.{IsLayout}
+use Rattle.rr_base.specs.Text.{fits_i64}
 use Rattle.rr_base.specs.declared.limits.TheConstants.{MAX_NUMBER}
 use Rattle.rr_join.proofs.ValuesLemmas.{get-insert_itself, insert_there, insert_twice}
 use Rattle.rr_line.specs.declared.fault.LineFault.{LineFault}
 use Rattle.rr_line.specs.declared.fault.LineFault.TheVariants as line
 use Rattle.rr_line.specs.declared.precision.Precision.TheVariants.{Ns}
+use Rattle.rr_line.specs.Grammar.{IsLineOf}
 use Rattle.rr_line.specs.Key.{key_text}
 use Rattle.rr_base.specs.Bytes.{HasNoLineFeed}
 use Rattle.rr_line.specs.Line.{LineView, PointView, nothing, point}
 use Rattle.rr_line.specs.Reading.{reading}
+use Rattle.rr_line.proofs.LineLemmas.{line_found, keys_of_point}
 use Rattle.rr_model.specs.Knowledge.{Knowledge, IsAheadOf, with_marks}
 use Rattle.rr_model.specs.Samples.{Sample, marks_of}
 use Rattle.rr_model.specs.World.{World, IsNext, HoldsAllOf, with_sample}
@@ -37,17 +40,18 @@ use Rattle.rr_cluster.specs.declared.stop.Stop.TheVariants.{Refused, Memory}
 use Rattle.rr_cluster.specs.Agreement.{in_cells, node_in_cells}
 use Rattle.rr_base.specs.Results.{◌>>=◌, checked}
 use Rattle.rr_cluster.specs.Command.{write, IsOneLine}
-use Rattle.rr_cluster.specs.Commands.Write.{write_command, line_of, samples_of, samples_of_point, samples_of_view, samples_of_line, with_samples, with_written, with_all_written, after_write}
+use Rattle.rr_cluster.specs.Commands.Write.{write_command, line_of, samples_of, samples_at, samples_of_point, samples_of_view, samples_of_line, with_samples, with_written, with_all_written, after_write}
 use Rattle.rr_cluster.specs.Meaning.{node_of, replica_at, Represents, Leaves, Writes}
 use Rattle.rr_cluster.specs.Model.{Model, cell_model, sample_model}
-use Rattle.rr_cluster.specs.Soundness.{IsSound, IsSoundNode, IsUsed}
+use Rattle.rr_cluster.specs.Soundness.{IsOrigin, IsSoundSample, IsSound, IsSoundNode, IsUsed}
 use Rattle.rr_cluster.specs.State.{Node, State}
 use Rattle.rr_cluster.specs.Stop.{IsStopOf, IsStopOfWrite}
 use Rattle.rr_cluster.specs.Words.{text_of, words_of}
 use Rattle.rr_cluster.proofs.CommandsLemmas.Node.{with_node_agrees}
+use Rattle.rr_cluster.proofs.LimitLemmas.{fields_fit, time_fits, samples_fit}
 use Rattle.rr_cluster.proofs.MeaningLemmas.{HasPut, SameBesidesNodes, represents_put, node_at}
 use Rattle.rr_cluster.proofs.SoundnessLemmas.{place_is_sound}
-use Rattle.rr_cluster.proofs.StepLemmas.{names_apart, OfAnswer, last_holds, then_holds, holds_of, Agrees, then_agree, found_agree, done_agrees}
+use Rattle.rr_cluster.proofs.StepLemmas.{names_apart, OfAnswer, last_holds, then_holds, holds_of, not_true, Agrees, then_agree, found_agree, done_agrees}
 use Rattle.rr_cluster.proofs.WordsLemmas.{some_parts, text_of-words}
 
 -- ---- words
@@ -110,6 +114,11 @@ module _ (old new : Holding) (clock : ℤ) (lead : Option ℕ) (p : PointView) (
   point_refused why.NumbersSpent stop stopped same ahead spent = rw (stopped, (spent refl).0, sym lacks ∙ (spent refl).1) (refl, same)
   point_refused (why.Memory put) stop stopped same ahead spent = rw stopped tt
 
+-- a line that is read
+line_read : (said : Result LineView LineFault) (view : LineView) → line_of said ≡ Ok view → said ≡ Ok view
+line_read (Ok other) view e = cc
+line_read (Err fault) view e = absurd cc
+
 -- a line that is refused
 pub stopped_line : (h : Holding) (clock : ℤ) (lead : Option ℕ) (text : List ℕ) (fault : LineFault) (stop : Stop) → IsStopOf line.Memory Line fault stop → (fault ≡ line.Memory) ⊎ (reading Ns text ≡ Err fault)
     → Writes h h (Err stop) (samples_of_line (node_of h) clock lead text)
@@ -151,26 +160,46 @@ module _ {A : Type 0} {g : Ghosts A} (old new : Cluster A g) (m : State Cells) (
 
 -- ---- samples that a node writes next
 
--- samples under the numbers from this one on
+-- samples under the numbers from this one on, none of which is past the last
 abbrev AreNext : ℕ → ℕ → List Sample → Type 0
 AreNext origin number [] = Unit {0}
-AreNext origin number (x ∷ xs) = (x.origin ≡ origin) × (x.number ≡ number) × AreNext origin (number + 1) xs
+AreNext origin number (x ∷ xs) = (x.origin ≡ origin) × (x.number ≡ number) × (x.number ≤ MAX_NUMBER) × AreNext origin (number + 1) xs
 
-samples_are_next : (origin number : ℕ) (time : ℤ) (p : PointView) (fields : List (List ℕ × ℤ)) → AreNext origin number (samples_of origin number time p fields)
-samples_are_next origin number time p [] = tt
-samples_are_next origin number time p (field ∷ fields) = (refl, refl, samples_are_next origin (number + 1) time p fields)
+samples_are_next : (origin number : ℕ) (time : ℤ) (p : PointView) (fields : List (List ℕ × ℤ)) → number + length fields ≤ MAX_NUMBER + 1 → AreNext origin number (samples_of origin number time p fields)
+samples_are_next origin number time p [] few = tt
+samples_are_next origin number time p (field ∷ fields) few = (refl, refl, omega (arith, few), samples_are_next origin (number + 1) time p fields (omega (arith, few)))
 
-view_is_next : {K : Type 0} (n : Node K) (clock : ℤ) (lead : Option ℕ) (view : LineView) → OfAnswer (AreNext n.origin n.next) (samples_of_view n clock lead view)
-view_is_next n clock lead nothing = last_holds (AreNext n.origin n.next) [] tt
-view_is_next n clock lead (point p) = then_holds (AreNext n.origin n.next) (checked (not (is_ahead p.time clock lead)) (Write AheadOfClock)) _ (λ timely yes. then_holds (AreNext n.origin n.next) (checked (not (nat_lt (MAX_NUMBER + 1 - n.next) (length p.fields))) (Write NumbersSpent)) _ (λ left also. last_holds (AreNext n.origin n.next) _ (samples_are_next n.origin n.next (unwrap_or p.time clock) p p.fields)))
+module _ {K : Type 0} (n : Node K) (few : n.next ≤ MAX_NUMBER + 1) (clock : ℤ) (lead : Option ℕ) where
+  -- what holds of the samples of a point, if enough numbers are left for them, holds of those that are written of it
+  of_point : (P : List Sample → Type 0) (p : PointView) → (n.next + length p.fields ≤ MAX_NUMBER + 1 → P (samples_at n clock p)) → OfAnswer P (samples_of_point n clock lead p)
+  of_point P p holds = then_holds P (checked (not (is_ahead p.time clock lead)) (Write AheadOfClock)) _ (λ timely yes. then_holds P (checked (not (nat_lt (MAX_NUMBER + 1 - n.next) (length p.fields))) (Write NumbersSpent)) _ (λ left also.
+      let enough = ltb-false _ _ (not_true _ (Write NumbersSpent) left also) in
+      last_holds P _ (holds (omega (arith, few, enough)))))
 
-line_is_next : {K : Type 0} (n : Node K) (clock : ℤ) (lead : Option ℕ) (line : List ℕ) (xs : List Sample) → samples_of_line n clock lead line ≡ Ok xs → AreNext n.origin n.next xs
-line_is_next n clock lead line xs = holds_of (AreNext n.origin n.next) (samples_of_line n clock lead line) xs (then_holds (AreNext n.origin n.next) (line_of (reading Ns line)) _ (λ view is. view_is_next n clock lead view))
+  view_is_next : (view : LineView) → OfAnswer (AreNext n.origin n.next) (samples_of_view n clock lead view)
+  view_is_next nothing = last_holds (AreNext n.origin n.next) [] tt
+  view_is_next (point p) = of_point (AreNext n.origin n.next) p (samples_are_next n.origin n.next (unwrap_or p.time clock) p p.fields)
+
+  line_is_next : (line : List ℕ) (xs : List Sample) → samples_of_line n clock lead line ≡ Ok xs → AreNext n.origin n.next xs
+  line_is_next line xs = holds_of (AreNext n.origin n.next) (samples_of_line n clock lead line) xs (then_holds (AreNext n.origin n.next) (line_of (reading Ns line)) _ (λ view is. view_is_next view))
+
+  module _ (is : IsOrigin n.origin) (some : 1 ≤ n.next) (fits : IsTrue (fits_i64 clock)) (line : List ℕ) (one : HasNoLineFeed line) where
+    view_is_sound : (view : LineView) → IsLineOf Ns line (Ok view) → OfAnswer (AllByRecursion IsSoundSample) (samples_of_view n clock lead view)
+    view_is_sound nothing said = last_holds (AllByRecursion IsSoundSample) [] tt
+    view_is_sound (point p) said = of_point (AllByRecursion IsSoundSample) p (λ enough.
+        samples_fit n.origin n.next (unwrap_or p.time clock) p p.fields is some enough
+        (time_fits Ns said.parts.ending p.time clock said.parts.is_ending fits)
+        (keys_of_point Ns line p one said)
+        (fields_fit said.parts.fields_text p.fields said.parts.ending said.parts.are_fields))
+
+    line_is_sound : (xs : List Sample) → samples_of_line n clock lead line ≡ Ok xs → AllByRecursion IsSoundSample xs
+    line_is_sound xs = holds_of (AllByRecursion IsSoundSample) (samples_of_line n clock lead line) xs (then_holds (AllByRecursion IsSoundSample) (line_of (reading Ns line)) _ (λ view is.
+        view_is_sound view (subst (IsLineOf Ns line) (line_read (reading Ns line) view is) (line_found Ns line))))
 
 -- ---- a sound state stays sound
 
 -- the sample that a node writes next
-module _ (w : World) (n : Node Knowledge) (is : IsLayout n.schema) (sound : IsSoundNode w n) (x : Sample) (ours : x.origin ≡ n.origin) (next : x.number ≡ n.next) where
+module _ (w : World) (n : Node Knowledge) (is : IsLayout n.schema) (sound : IsSoundNode w n) (x : Sample) (ours : x.origin ≡ n.origin) (next : x.number ≡ n.next) (few : x.number ≤ MAX_NUMBER) where
   is_next : IsNext w x
   is_next y e same = let before : y.number < n.next = sound.numbered y e (same ∙ ours) in omega arith
 
@@ -185,6 +214,8 @@ module _ (w : World) (n : Node Knowledge) (is : IsLayout n.schema) (sound : IsSo
             (λ it. let one : y.number ≡ x.number = ap (λ (z : Sample). z.number) it in omega arith)
             (λ before. let below : y.number < x.number = is_next y before (same ∙ sym ours) in omega arith)
             (written_now w x y e);
+        some_number = omega arith;
+        few_numbers = omega (arith, few);
       }
 
   -- a node of another origin
@@ -196,6 +227,8 @@ module _ (w : World) (n : Node Knowledge) (is : IsLayout n.schema) (sound : IsSo
         (λ it. absurd (apart (sym same ∙ ap (λ (z : Sample). z.origin) it ∙ ours)))
         (λ before. is_sound.numbered y before same)
         (written_now w x y e);
+    some_number = is_sound.some_number;
+    few_numbers = is_sound.few_numbers;
   }
 
 -- the schema of a node is within its limits
@@ -203,7 +236,7 @@ pub layout_at : (m : State Knowledge) → IsSound m → (name : List ℕ) (n : N
 layout_at m sound name n here = subst IsLayout (sym (sound.shared name n here)) sound.layout
 
 -- a sample more
-module _ (m : State Knowledge) (sound : IsSound m) (name : List ℕ) (n : Node Knowledge) (here : map.get m.nodes name ≡ Some n) (x : Sample) (ours : x.origin ≡ n.origin) (next : x.number ≡ n.next) where
+module _ (m : State Knowledge) (sound : IsSound m) (name : List ℕ) (n : Node Knowledge) (here : map.get m.nodes name ≡ Some n) (x : Sample) (ours : x.origin ≡ n.origin) (next : x.number ≡ n.next) (is_sound : IsSoundSample x) where
   abbrev with_sample_at : State Knowledge
   with_sample_at = record m { nodes = map.insert m.nodes name (with_written sample_model n x); world = with_sample m.world x }
 
@@ -212,20 +245,24 @@ module _ (m : State Knowledge) (sound : IsSound m) (name : List ℕ) (n : Node K
       let is = layout_at m sound name n here in
       let n_is_sound = sound.nodes name n here in
       place_is_sound m sound name n (with_written sample_model n x) here refl refl (with_sample m.world x)
-      (writer_is_sound m.world n is n_is_sound x ours next)
-      (other_is_sound m.world n is n_is_sound x ours next)
+      (writer_is_sound m.world n is n_is_sound x ours next is_sound.few_numbers)
+      (other_is_sound m.world n is n_is_sound x ours next is_sound.few_numbers)
       (λ y e. ⊎_elim
       (λ it. subst (IsUsed m) (sym (ap (λ (z : Sample). z.origin) it ∙ ours)) (sound.used name n here))
       (λ before. sound.written y before)
       (written_now m.world x y e))
+      (λ y e. ⊎_elim
+      (λ it. subst IsSoundSample (sym it) is_sound)
+      (λ before. sound.samples y before)
+      (written_now m.world x y e))
 
-samples_are_sound : (m : State Knowledge) → IsSound m → (name : List ℕ) (n : Node Knowledge) → map.get m.nodes name ≡ Some n → (xs : List Sample) → AreNext n.origin n.next xs
+samples_are_sound : (m : State Knowledge) → IsSound m → (name : List ℕ) (n : Node Knowledge) → map.get m.nodes name ≡ Some n → (xs : List Sample) → AreNext n.origin n.next xs → AllByRecursion IsSoundSample xs
     → IsSound (record m { nodes = map.insert m.nodes name (with_all_written sample_model n xs); world = with_samples m.world xs })
-samples_are_sound m sound name n here [] next = subst IsSound (λ i. record m { nodes = sym (insert_there nat_list_cmp_total names_apart m.nodes name n here) i }) sound
-samples_are_sound m sound name n here (x ∷ xs) next =
-    let more = with_sample_at m sound name n here x next.0 next.1 in
-    let rest = samples_are_sound more (sample_is_sound m sound name n here x next.0 next.1) name (with_written sample_model n x) (get-insert_itself nat_list_cmp_total names_apart m.nodes name (with_written sample_model n x)) xs
-    (subst (λ (k : ℕ). AreNext n.origin (k + 1) xs) (sym next.1) next.2) in
+samples_are_sound m sound name n here [] next each = subst IsSound (λ i. record m { nodes = sym (insert_there nat_list_cmp_total names_apart m.nodes name n here) i }) sound
+samples_are_sound m sound name n here (x ∷ xs) next each =
+    let more = with_sample_at m sound name n here x next.0 next.1 each.0 in
+    let rest = samples_are_sound more (sample_is_sound m sound name n here x next.0 next.1 each.0) name (with_written sample_model n x) (get-insert_itself nat_list_cmp_total names_apart m.nodes name (with_written sample_model n x)) xs
+    (subst (λ (k : ℕ). AreNext n.origin (k + 1) xs) (sym next.1) next.3) each.1 in
     subst IsSound (λ i. record m { nodes = insert_twice nat_list_cmp_total names_apart m.nodes name (with_written sample_model n x) (with_all_written sample_model n (x ∷ xs)) i; world = with_samples m.world (x ∷ xs) }) rest
 
 -- ---- the models agree
@@ -242,12 +279,16 @@ all_written_agree w n is sound (x ∷ xs) next =
     let put = put_is_one_sample_more n.schema n.contents x is (is_ahead_of w n sound x next.0 next.1) in
     let more = with_written sample_model n x in
     ap (λ (c : Cells). with_all_written cell_model (record { schema = n.schema; origin = n.origin; next = x.number + 1; contents = c }) xs) put
-    ∙ all_written_agree (with_sample w x) more is (writer_is_sound w n is sound x next.0 next.1) xs (subst (λ (k : ℕ). AreNext n.origin (k + 1) xs) (sym next.1) next.2)
+    ∙ all_written_agree (with_sample w x) more is (writer_is_sound w n is sound x next.0 next.1 next.2) xs (subst (λ (k : ℕ). AreNext n.origin (k + 1) xs) (sym next.1) next.3)
 
-pub write_agrees : (m : State Knowledge) → IsSound m → (name line : List ℕ) → Agrees in_cells IsSound (after_write cell_model (in_cells m) name line) (after_write sample_model m name line)
+pub write_agrees : (m : State Knowledge) → IsSound m → (name line : List ℕ)
+    → Agrees in_cells (λ after. HasNoLineFeed line → IsSound after) (after_write cell_model (in_cells m) name line) (after_write sample_model m name line)
 unfolding after_write
 write_agrees m sound name line =
-    found_agree in_cells IsSound node_in_cells m.nodes name NoNode _ _ (λ n here. then_agree in_cells IsSound (samples_of_line n m.clock m.lead line) _ _ (λ xs said.
-    let next = line_is_next n m.clock m.lead line xs said in
-    done_agrees in_cells IsSound _ _ (with_node_agrees m name (with_all_written cell_model (node_in_cells n) xs) (with_all_written sample_model n xs) m.origins (with_samples m.world xs) (all_written_agree m.world n (layout_at m sound name n here) (sound.nodes name n here) xs next))
-    (samples_are_sound m sound name n here xs next)))
+    let P : State Knowledge → Type 0 = λ after. HasNoLineFeed line → IsSound after in
+    found_agree in_cells P node_in_cells m.nodes name NoNode _ _ (λ n here. then_agree in_cells P (samples_of_line n m.clock m.lead line) _ _ (λ xs said.
+    let node = sound.nodes name n here in
+    let next = line_is_next n node.few_numbers m.clock m.lead line xs said in
+    done_agrees in_cells P _ _ (with_node_agrees m name (with_all_written cell_model (node_in_cells n) xs) (with_all_written sample_model n xs) m.origins (with_samples m.world xs) (all_written_agree m.world n (layout_at m sound name n here) node xs next))
+    (λ one. samples_are_sound m sound name n here xs next
+    (line_is_sound n node.few_numbers m.clock m.lead (sound.origins n.origin (sound.used name n here)) node.some_number sound.clock line one xs said))))

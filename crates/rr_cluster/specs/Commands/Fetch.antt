@@ -25,7 +25,7 @@ request_of (Ok request) = Ok request
 request_of (Err fault) = Err (Fetch fault)
 
 module _ {K : Type 0} (model : Model K) where
-  -- the answer, which is printed
+  -- the answer that is printed
   unfoldable pub answer_to : State K → List ℕ → Parts → Result (List ℕ) CommandFault
   answer_to m name words = do
     n ← ok_or (get m.nodes name) NoNode

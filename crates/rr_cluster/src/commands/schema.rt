@@ -31,7 +31,7 @@ pub(crate) fn schema_command(words: &[u8]) -> Event<'_>
     }
 }
 
-/// The first of the words that are left, if there is one, and the others.
+/// The first of the words that are left, if there is one, and the rest.
 fn next_word(words: Option<&[u8]>) -> Option<(&[u8], Option<&[u8]>)>
     ensures word { MatchOption result (archive_words words.entry ≡ [])
         (λ next. archive_words words.entry ≡ next.0.now ∷ archive_words next.1) }
@@ -44,7 +44,7 @@ fn next_word(words: Option<&[u8]>) -> Option<(&[u8], Option<&[u8]>)>
     }
 }
 
-/// The archives of the words `S:R:N/D`, unless one of them is none.
+/// The archives of the words `S:R:N/D`, or `None` if one of the words is not an archive.
 fn archives_of(alloc: Global, words: Option<&[u8]>) -> Result<Option<Vec<ArchiveSpec>>, AllocError>
     ensures { IfOk result (λ found.
         option_map (λ archives. archives.items) found ≡ archives_of (archive_words words.entry)) }
@@ -65,7 +65,7 @@ fn archives_of(alloc: Global, words: Option<&[u8]>) -> Result<Option<Vec<Archive
 #[tactic(auto, unfolding(crate::specs::Commands::Schema::layout_of))]
 pub(crate) fn schema_of(alloc: Global, step: &[u8], archives: Option<&[u8]>) -> Result<Schema, Stop>
     ensures value { Gives (λ s. s) result (layout_of step.now (archive_words archives.entry)) }
-    ensures within { IfOk result IsLayout }
+    ensures layout { IfOk result IsLayout }
 {
     let step = number_u32(step).ok_or(CommandFault::BadNumber)?;
     let archives = archives_of(alloc, archives)?.ok_or(CommandFault::BadNumber)?;

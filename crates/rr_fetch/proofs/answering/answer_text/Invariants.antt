@@ -4,7 +4,7 @@ use Rattle.rr_fetch.specs.Answers.{value_of_cells}
 use Rattle.rr_fetch.specs.Requests.{request_view}
 use Rattle.rr_fetch.proofs.answering.answer_text.Given as goal
 
--- the records so far are those of a request for as many rows
+-- the records so far are the answer to a request for the rows so far
 abbrev pub invariant-loop-row : goal.invariant-loop-row
 invariant-loop-row g l =
     let q = request_view l.request in

@@ -21,7 +21,7 @@ returns-clause-value c =
     let rows = rw (start_back, end_back, c.choose-archive.ensures.value) at (c.in_ok-first.ensures.value w.key c.in_ok-cf.cf) in
     rw (back, key, c.choose-archive.ensures.value) (read_by_words c.args.schema.now w c.in_ok-cf.cf c.in_ok-resolution.resolution c.in_ok-start.start c.in_ok-end.end _ function resolution start end c.in_ok-key.ensures.value before rows)
 
-pub returns-clause-near : goal.returns-clause-near
-returns-clause-near c =
+pub returns-clause-fetchable : goal.returns-clause-fetchable
+returns-clause-fetchable c =
     let back = to_z-of_z {w = w64} {z = c.in_ok-first.first} (search rules) in
-    rw back (c.in_ok-first.ensures.near c.in_ok-key-2.key c.in_ok-cf.cf)
+    rw back (c.in_ok-first.ensures.fetchable c.in_ok-key-2.key c.in_ok-cf.cf)

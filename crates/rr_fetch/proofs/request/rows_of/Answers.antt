@@ -26,18 +26,18 @@ returns-clause-value c =
     let back = to_z-of_z {w = w64} {z = c.first_slot-first.result} (search rules) in
     λ key function. rw back (few s key function c.args.archive c.args.start c.args.end c.first_slot-first.result c.slot_after-last.result c.slots_between-rows.result first last rows within)
 
-pub returns-clause-near : goal.returns-clause-near
-returns-clause-near c =
+pub returns-clause-fetchable : goal.returns-clause-fetchable
+returns-clause-fetchable c =
     let s = c.args.schema.now in
     let first : c.first_slot-first.result ≡ int_div_euclid c.args.start (pos (span s c.args.archive)) = search rules in
     let last : c.slot_after-last.result ≡ neg_ℤ (int_div_euclid (neg_ℤ c.args.end) (pos (span s c.args.archive))) = search rules in
     let rows : c.slots_between-rows.result ≡ unsigned_abs (c.slot_after-last.result -ℤ c.first_slot-first.result) = search rules in
     let wide : 0 < span s c.args.archive = search rules in
-    let before = rw (← first, ← last) at (floor_below_ceil c.args.start c.args.end (span s c.args.archive) wide c.requires.some) in
+    let before = rw (← first, ← last) at (floor_below_ceil c.args.start c.args.end (span s c.args.archive) wide c.requires.start_before_end) in
     let back = to_z-of_z {w = w64} {z = c.first_slot-first.result} (search rules) in
     let near : unsigned_abs c.first_slot-first.result ≤ MAX_SECOND = search rules in
     λ key function. record {
-      is_there = c.requires.is_there;
+      is_there = c.requires.archive_exists;
       near = rw back near;
       some = rw rows (some_rows c.first_slot-first.result c.slot_after-last.result before);
       few = search rules;

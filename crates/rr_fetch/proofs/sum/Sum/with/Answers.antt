@@ -12,7 +12,7 @@ bounded c =
 pub returns-clause-total : goal.returns-clause-total
 returns-clause-total c =
     let is = bounded c in
-    let few = c.requires.few in
+    let few = c.requires.count_fits in
     omega (arith, ints)
 
 pub returns-clause-bounded : goal.returns-clause-bounded
