@@ -1,4 +1,5 @@
 pub mod Rising
+pub mod CountLemmas
 pub mod ChoiceLemmas
 pub mod PlaceLemmas
 pub mod Checked

@@ -27,6 +27,7 @@ is_failed_write (Err e) len = true
 abbrev pub HasRisen : ℕ → ℕ → Type 0
 HasRisen old new = (old < new) ⊎ (new ≡ 2 ^ 64 - 1)
 
--- this many calls were made since the count was `old`, as far as counts can tell
+-- this many calls were made since the count was `old`, a number of 64 bits: it rose by them, up to
+-- the greatest one
 abbrev pub HasRisenBy : ℕ → ℕ → ℕ → Type 0
-HasRisenBy n old new = new ≡ min (old + n) (2 ^ 64 - 1)
+HasRisenBy n old new = old < 2 ^ 64 → new ≡ min (old + n) (2 ^ 64 - 1)

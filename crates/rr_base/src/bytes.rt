@@ -1,6 +1,6 @@
 //! The bytes that divide lines, keys, scripts and requests, and texts that occur twice.
 
-ghost use Rattle.std.specs.Prelude.{◌≡◌, map, option_map};
+ghost use Rattle.std.specs.Prelude.{◌≡◌, ℕ, List, map, option_map};
 ghost use Rattle.rr_base.specs.Bytes.{begins, strip, is_among, has_repeat};
 
 /// Ends a line.
@@ -44,12 +44,29 @@ pub fn strip(byte: u8, text: &[u8]) -> Option<&[u8]>
     }
 }
 
+/// An entry that has a key.
+pub trait Keyed {
+    ghost key_of: { Self → List ℕ };
+
+    /// The entry's key.
+    fn key(&self) -> &[u8]
+        ensures { result.now ≡ key_of self.now };
+}
+
+impl Keyed for (&[u8], &[u8]) {
+    ghost key_of = { λ entry. entry.0.now };
+
+    fn key(&self) -> &[u8] {
+        self.0
+    }
+}
+
 /// Whether a key is among those of entries.
-fn is_among<T>(key: &[u8], entries: &[(&[u8], T)]) -> bool
-    ensures { result ≡ is_among key.now (map (λ entry. entry.0.now) entries.now) }
+fn is_among<T: Keyed>(key: &[u8], entries: &[T]) -> bool
+    ensures { result ≡ is_among key.now (map T.key_of entries.now) }
 {
     for entry in entries {
-        if entry.0.cmp(key).is_eq() {
+        if entry.key().cmp(key).is_eq() {
             return true;
         }
     }
@@ -58,12 +75,12 @@ fn is_among<T>(key: &[u8], entries: &[(&[u8], T)]) -> bool
 
 /// Whether a key occurs twice among entries. They are compared pair by pair, which is cheap for few
 /// of them and takes no memory.
-pub fn has_repeat<T>(entries: &[(&[u8], T)]) -> bool
-    ensures { result ≡ has_repeat (map (λ entry. entry.0.now) entries.now) }
+pub fn has_repeat<T: Keyed>(entries: &[T]) -> bool
+    ensures { result ≡ has_repeat (map T.key_of entries.now) }
 {
     let mut left = entries;
     while let [first, others @ ..] = left {
-        if is_among(first.0, others) {
+        if is_among(first.key(), others) {
             return true;
         }
         left = others;

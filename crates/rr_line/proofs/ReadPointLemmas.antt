@@ -1,11 +1,11 @@
 -- A point is read as its steps say, but for keys that are too long.
 use Rattle.std.proofs.Common.{◌≡◌, ℕ, ◌+◌, Bool, true, false, ltb, List, length, Option, Ok, Err, ℤ, refl, ◌∙◌}
-use Rattle.std.specs.Borrow.{Bor}
 use Rattle.std.specs.List.{list_any}
 use Rattle.rr_base.specs.declared.limits.TheConstants.{MAX_KEY_TEXT}
 use Rattle.rr_key.specs.declared.class.Class.TheVariants.{Measurement}
 use Rattle.rr_line.specs.declared.fault.LineFault.TheVariants.{NoMeasurement, KeyTooLong}
 use Rattle.rr_line.specs.declared.precision.Precision.{Precision}
+use Rattle.rr_line.specs.declared.line.Field as line_field
 use Rattle.rr_line.specs.Field.{Field}
 use Rattle.rr_line.specs.Key.{has_long_key}
 use Rattle.rr_line.specs.Line.{PointView, fields_view}
@@ -34,7 +34,7 @@ point_is_read precision text measurement tags fields_text fields time name are g
 
 -- fields as they are held, and whether a key of them is too long
 abbrev pub HeldField : Type 0
-HeldField = Bor (List ℕ) × ℤ
+HeldField = line_field.Field
 
 abbrev pub tests_of : ℕ → List HeldField → Bool
 tests_of front fields = list_any (λ field. ltb MAX_KEY_TEXT (front + 1 + length field.0)) (fields_view fields)

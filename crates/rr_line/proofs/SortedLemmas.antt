@@ -92,17 +92,16 @@ repeats_by_sort keys sorted false p h e =
     ]
 
 -- one key more in front
-pub one_key_more : {X : Type 0} (keys : List Key) (entries : List (Key × X)) (count i : ℕ) (item : Key × X) → length keys ≡ MAX_FIELDS → length entries ≤ MAX_FIELDS → count ≡ i → i < length entries → item ≡ get_or entries i item
-    → map (λ (key : Key). key.now) (take count keys) ≡ map (λ (entry : Key × X). entry.0.now) (take i entries)
-    → map (λ (key : Key). key.now) (take (count + 1) (set keys count item.0)) ≡ map (λ (entry : Key × X). entry.0.now) (take (i + 1) entries)
-one_key_more {X} keys entries count i item long few counted lt is front =
+pub one_key_more : {X : Type 0} (key_of : X → List ℕ) (keys : List Key) (entries : List X) (count i : ℕ) (item : X) (key : Key) → length keys ≡ MAX_FIELDS → length entries ≤ MAX_FIELDS → count ≡ i → i < length entries → item ≡ get_or entries i item → key.now ≡ key_of item
+    → map (λ (key : Key). key.now) (take count keys) ≡ map key_of (take i entries)
+    → map (λ (key : Key). key.now) (take (count + 1) (set keys count key)) ≡ map key_of (take (i + 1) entries)
+one_key_more key_of keys entries count i item key long few counted lt is key_is front =
     let view : Key → List ℕ = λ key. key.now in
-    let shown : Key × X → List ℕ = λ entry. entry.0.now in
     let room : count < length keys = omega (arith, long, few, counted, lt) in
     let n : count + 1 ≡ suc count = omega arith in
-    ap (λ (k : ℕ). map view (take k (set keys count item.0))) n
-    ∙ ap (map view) (take-suc-set keys count item.0 room)
-    ∙ map-append view (take count keys) (item.0 ∷ [])
-    ∙ ap (λ (names : List (List ℕ)). names ++ item.0.now ∷ []) front
-    ∙ ap (λ (entry : Key × X). map shown (take i entries) ++ shown entry ∷ []) is
-    ∙ sym (map_more shown entries i item lt)
+    ap (λ (k : ℕ). map view (take k (set keys count key))) n
+    ∙ ap (map view) (take-suc-set keys count key room)
+    ∙ map-append view (take count keys) (key ∷ [])
+    ∙ ap (λ (names : List (List ℕ)). names ++ key.now ∷ []) front
+    ∙ ap (λ (name : List ℕ). map key_of (take i entries) ++ name ∷ []) (key_is ∙ ap key_of is)
+    ∙ sym (map_more key_of entries i item lt)

@@ -1,11 +1,11 @@
 -- What a line says, without where its parts lie in memory.
 use Rattle.std.specs.Prelude.{ℕ, ℤ, List, map, Option}
-use Rattle.std.specs.Borrow.{Bor}
-use Rattle.rr_key.specs.Making.{tags_of}
 pub use Rattle.rr_base.specs.Bytes.{HasNoLineFeed}
+use Rattle.rr_line.specs.declared.line.Field.{Field}
 use Rattle.rr_line.specs.declared.line.Line.{Line}
 use Rattle.rr_line.specs.declared.line.Line.TheVariants as line
 use Rattle.rr_line.specs.declared.line.Point.{Point}
+use Rattle.rr_line.specs.declared.line.Tag.{Tag}
 
 -- the samples of one moment: the time is in nanoseconds
 pub record PointView : Type 0 where
@@ -19,20 +19,30 @@ pub data LineView : Type 0 where
   nothing : LineView
   point : PointView → LineView
 
--- fields whose keys are slices, by their bytes
-abbrev pub fields_view : List (Bor (List ℕ) × ℤ) → List (List ℕ × ℤ)
-fields_view fields = map (λ field. (field.0.now, field.1)) fields
+-- a tag, by its bytes
+abbrev pub tag_view : Tag → List ℕ × List ℕ
+tag_view tag = (tag.key.now, tag.value.now)
+
+abbrev pub tags_view : List Tag → List (List ℕ × List ℕ)
+tags_view tags = map tag_view tags
+
+-- a field, its key by its bytes
+abbrev pub field_view : Field → List ℕ × ℤ
+field_view field = (field.key.now, field.value)
+
+abbrev pub fields_view : List Field → List (List ℕ × ℤ)
+fields_view fields = map field_view fields
 
 -- the names of a point are the bytes of their slices
 abbrev pub point_view : Point → PointView
 point_view p = record {
   measurement = p.measurement.now;
-  tags = tags_of p.tags.items;
+  tags = tags_view p.tags.items;
   fields = fields_view p.fields.items;
   time = p.time;
 }
 
--- the same of a line
+-- a line, by the bytes of its point
 abbrev pub line_view : Line → LineView
 line_view line.Nothing = nothing
 line_view (line.Point p) = point (point_view p)

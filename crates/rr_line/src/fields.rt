@@ -5,10 +5,11 @@ ghost use Rattle.rr_base.specs.Results.{Gives, GivesUnless};
 ghost use Rattle.rr_base.specs.declared.limits.TheConstants.{MAX_FIELDS};
 ghost use Rattle.rr_line.specs.Answer.{rest_view};
 ghost use Rattle.rr_line.specs.Gathering.{all_gathered_fields};
-ghost use Rattle.rr_line.specs.Line.{fields_view};
+ghost use Rattle.rr_line.specs.Line.{field_view, fields_view};
 ghost use Rattle.rr_line.specs.Reading.{field_at, all_fields_at};
 
 use crate::fault::LineFault;
+use crate::line::Field;
 use crate::part::read_name;
 use crate::repeat::has_repeat;
 use crate::value::read_value;
@@ -21,7 +22,7 @@ use std::alloc::{AllocError, Global};
 pub(crate) fn read_fields<'a>(
     alloc: Global,
     text: &'a [u8],
-) -> Result<(Vec<(&'a [u8], i64)>, &'a [u8]), LineFault>
+) -> Result<(Vec<Field<'a>>, &'a [u8]), LineFault>
     ensures { GivesUnless LineFault.Memory (λ fields.
         (fields_view fields.0.items, fields.1.now)) result (all_fields_at text.now) }
 {
@@ -37,7 +38,7 @@ pub(crate) fn read_fields<'a>(
 fn gather_fields<'a>(
     alloc: Global,
     text: &'a [u8],
-) -> Result<(Vec<(&'a [u8], i64)>, Result<&'a [u8], LineFault>), AllocError>
+) -> Result<(Vec<Field<'a>>, Result<&'a [u8], LineFault>), AllocError>
     ensures gathered { IfOk result (λ fields. (fields_view fields.0.items, rest_view fields.1)
         ≡ all_gathered_fields text.now) }
     ensures fields_fit { IfOk result (λ fields. length fields.0.items ≤ MAX_FIELDS) }
@@ -62,12 +63,11 @@ fn gather_fields<'a>(
 
 /// A field, and what follows it.
 #[tactic(auto, unfolding(crate::specs::Reading::field_at))]
-fn read_field(text: &[u8]) -> Result<((&[u8], i64), &[u8]), LineFault>
-    ensures { Gives (λ field. ((field.0.0.now, field.0.1), field.1.now)) result (field_at
-        text.now) }
+fn read_field(text: &[u8]) -> Result<(Field<'_>, &[u8]), LineFault>
+    ensures { Gives (λ field. (field_view field.0, field.1.now)) result (field_at text.now) }
 {
     let (key, rest) = read_name(Class::Other, LineFault::MissingFieldKey, text)?;
     let value = strip(EQUALS, rest).ok_or(LineFault::MissingFieldValue)?;
     let (value, rest) = read_value(value)?;
-    Ok(((key, value), rest))
+    Ok((Field { key, value }, rest))
 }

@@ -5,9 +5,9 @@ ghost use Rattle.rr_key.specs.declared.class.Class.TheVariants.{Other};
 ghost use Rattle.rr_key.specs.Making.{making_fault, tags_of};
 ghost use Rattle.rr_key.specs.Unit.{unescape};
 ghost use Rattle.rr_line.specs.Key.{names_of, key_text, tags_unescaped, tag_names};
-ghost use Rattle.rr_line.specs.Line.{point_view};
+ghost use Rattle.rr_line.specs.Line.{point_view, tags_view};
 
-use crate::line::Point;
+use crate::line::{Point, Tag};
 use rr_key::{Class, SeriesKey, unescape};
 use std::alloc::{AllocError, Global};
 
@@ -32,16 +32,13 @@ impl<'a> Point<'a> {
 }
 
 /// The names of tags, unescaped.
-fn unescape_tags(
-    alloc: Global,
-    tags: &[(&[u8], &[u8])],
-) -> Result<Vec<(Vec<u8>, Vec<u8>)>, AllocError>
-    ensures { IfOk result (λ names. tag_names names.items ≡ tags_unescaped (tags_of tags.now)) }
+fn unescape_tags(alloc: Global, tags: &[Tag<'_>]) -> Result<Vec<(Vec<u8>, Vec<u8>)>, AllocError>
+    ensures { IfOk result (λ names. tag_names names.items ≡ tags_unescaped (tags_view tags.now)) }
 {
     let mut names = Vec::with_capacity(alloc, tags.len())?;
     for tag in tags {
-        let key = unescape(alloc, Class::Other, tag.0)?;
-        let value = unescape(alloc, Class::Other, tag.1)?;
+        let key = unescape(alloc, Class::Other, tag.key)?;
+        let value = unescape(alloc, Class::Other, tag.value)?;
         names.push((key, value))?;
     }
     Ok(names)

@@ -44,7 +44,7 @@ mod time;
 mod value;
 
 pub use fault::LineFault;
-pub use line::{Line, Point};
+pub use line::{Field, Line, Point, Tag};
 pub use parse::parse_line;
 pub use precision::Precision;
 pub use rr_base::bytes::LINE_FEED;

@@ -1,5 +1,9 @@
 //! What a line says.
 
+ghost use Rattle.std.specs.Prelude.{◌≡◌};
+
+use rr_base::bytes::Keyed;
+
 /// What a line says.
 #[derive(Debug, Drop)]
 pub enum Line<'a> {
@@ -15,11 +19,46 @@ pub enum Line<'a> {
 pub struct Point<'a> {
     /// What was measured, a name of the class [`Measurement`](rr_key::Class::Measurement).
     pub measurement: &'a [u8],
-    /// The keys and values that tell series of one measurement apart, in the line's order. Their
-    /// names, and those of fields, are of the class [`Other`](rr_key::Class::Other).
-    pub tags: Vec<(&'a [u8], &'a [u8])>,
-    /// What was sampled, each with its key, in the line's order.
-    pub fields: Vec<(&'a [u8], i64)>,
+    /// What tells series of one measurement apart, in the line's order.
+    pub tags: Vec<Tag<'a>>,
+    /// What was sampled, in the line's order.
+    pub fields: Vec<Field<'a>>,
     /// Nanoseconds since the Unix epoch, if the line says when.
     pub time: Option<i64>,
+}
+
+/// A tag of a point. Its key and its value are names of the class [`Other`](rr_key::Class::Other),
+/// slices of the line, still escaped.
+#[derive(Clone, Copy, Debug, PartialEq, Eq)]
+pub struct Tag<'a> {
+    /// Its key.
+    pub key: &'a [u8],
+    /// Its value.
+    pub value: &'a [u8],
+}
+
+/// A field of a point. Its key is a name of the class [`Other`](rr_key::Class::Other), a slice of
+/// the line, still escaped.
+#[derive(Clone, Copy, Debug, PartialEq, Eq)]
+pub struct Field<'a> {
+    /// Its key.
+    pub key: &'a [u8],
+    /// Its value.
+    pub value: i64,
+}
+
+impl Keyed for Tag<'_> {
+    ghost key_of = { λ tag. tag.key.now };
+
+    fn key(&self) -> &[u8] {
+        self.key
+    }
+}
+
+impl Keyed for Field<'_> {
+    ghost key_of = { λ field. field.key.now };
+
+    fn key(&self) -> &[u8] {
+        self.key
+    }
 }

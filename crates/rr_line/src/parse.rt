@@ -15,7 +15,7 @@ ghost use Rattle.rr_line.specs.declared.fault.LineFault.TheVariants.{NoMeasureme
 
 use crate::fault::LineFault;
 use crate::fields::read_fields;
-use crate::line::{Line, Point};
+use crate::line::{Field, Line, Point};
 use crate::part::{content, read_name, skip_spaces};
 use crate::precision::Precision;
 use crate::tags::read_tags;
@@ -118,13 +118,13 @@ fn skip_gap(gap: &[u8]) -> Result<&[u8], LineFault>
 
 /// Whether a key text is too long: it is as long as what precedes the fields in the line, a space
 /// and the field's key.
-fn has_long_key(front: &[u8], fields: &[(&[u8], i64)]) -> bool
+fn has_long_key(front: &[u8], fields: &[Field<'_>]) -> bool
     ensures { result ≡ list_any
         (λ field. nat_lt MAX_KEY_TEXT (length front.now + 1 + length field.0))
         (fields_view fields.now) }
 {
     for field in fields {
-        if front.len() + 1 + field.0.len() > MAX_KEY_TEXT {
+        if front.len() + 1 + field.key.len() > MAX_KEY_TEXT {
             return true;
         }
     }

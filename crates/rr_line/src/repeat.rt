@@ -5,16 +5,16 @@ ghost use Rattle.rr_base.specs.Bytes.{has_repeat};
 ghost use Rattle.rr_base.specs.declared.limits.TheConstants.{MAX_FIELDS};
 ghost use Rattle.rr_line.specs.Gathering.{is_below, rise};
 
-use rr_base::bytes;
+use rr_base::bytes::{self, Keyed};
 use rr_base::limits::MAX_FIELDS;
 
 /// The most keys that are compared pair by pair. More of them are sorted.
 const FEW: usize = 16;
 
 /// Whether a key occurs twice among entries.
-pub(crate) fn has_repeat<T>(entries: &[(&[u8], T)]) -> bool
+pub(crate) fn has_repeat<T: Keyed>(entries: &[T]) -> bool
     requires { length entries.now ≤ MAX_FIELDS }
-    ensures { result ≡ has_repeat (map (λ entry. entry.0.now) entries.now) }
+    ensures { result ≡ has_repeat (map T.key_of entries.now) }
 {
     if entries.len() <= FEW {
         bytes::has_repeat(entries)
@@ -24,14 +24,14 @@ pub(crate) fn has_repeat<T>(entries: &[(&[u8], T)]) -> bool
 }
 
 /// Whether a key occurs twice among entries, by the keys in order.
-fn has_repeat_among_many<T>(entries: &[(&[u8], T)]) -> bool
+fn has_repeat_among_many<T: Keyed>(entries: &[T]) -> bool
     requires { length entries.now ≤ MAX_FIELDS }
-    ensures { result ≡ has_repeat (map (λ entry. entry.0.now) entries.now) }
+    ensures { result ≡ has_repeat (map T.key_of entries.now) }
 {
     let mut keys: [&[u8]; MAX_FIELDS] = [b""; MAX_FIELDS];
     let mut count = 0;
     for entry in entries {
-        keys[count] = entry.0;
+        keys[count] = entry.key();
         count += 1;
     }
     has_repeat_once_sorted(&mut keys[..count])

@@ -2,13 +2,14 @@
 
 ghost use Rattle.std.specs.Prelude.{◌≡◌, ◌≤◌, length, IfOk};
 ghost use Rattle.rr_base.specs.Results.{Gives, GivesUnless};
-ghost use Rattle.rr_key.specs.Making.{tags_of};
 ghost use Rattle.rr_base.specs.declared.limits.TheConstants.{MAX_TAGS};
 ghost use Rattle.rr_line.specs.Answer.{rest_view};
 ghost use Rattle.rr_line.specs.Gathering.{all_gathered_tags};
+ghost use Rattle.rr_line.specs.Line.{tag_view, tags_view};
 ghost use Rattle.rr_line.specs.Reading.{tag_at, all_tags_at};
 
 use crate::fault::LineFault;
+use crate::line::Tag;
 use crate::part::read_name;
 use crate::repeat::has_repeat;
 use rr_base::bytes::{COMMA, EQUALS, begins, strip};
@@ -19,8 +20,8 @@ use std::alloc::{AllocError, Global};
 pub(crate) fn read_tags<'a>(
     alloc: Global,
     text: &'a [u8],
-) -> Result<(Vec<(&'a [u8], &'a [u8])>, &'a [u8]), LineFault>
-    ensures { GivesUnless LineFault.Memory (λ tags. (tags_of tags.0.items, tags.1.now))
+) -> Result<(Vec<Tag<'a>>, &'a [u8]), LineFault>
+    ensures { GivesUnless LineFault.Memory (λ tags. (tags_view tags.0.items, tags.1.now))
         result (all_tags_at text.now) }
 {
     let (tags, rest) = gather_tags(alloc, text)?;
@@ -35,8 +36,8 @@ pub(crate) fn read_tags<'a>(
 fn gather_tags<'a>(
     alloc: Global,
     text: &'a [u8],
-) -> Result<(Vec<(&'a [u8], &'a [u8])>, Result<&'a [u8], LineFault>), AllocError>
-    ensures gathered { IfOk result (λ tags. (tags_of tags.0.items, rest_view tags.1)
+) -> Result<(Vec<Tag<'a>>, Result<&'a [u8], LineFault>), AllocError>
+    ensures gathered { IfOk result (λ tags. (tags_view tags.0.items, rest_view tags.1)
         ≡ all_gathered_tags text.now) }
     ensures tags_fit { IfOk result (λ tags. length tags.0.items ≤ MAX_TAGS) }
 {
@@ -58,8 +59,8 @@ fn gather_tags<'a>(
 
 /// A tag after its comma, and what follows it.
 #[tactic(auto, unfolding(crate::specs::Reading::tag_at))]
-fn read_tag(text: &[u8]) -> Result<((&[u8], &[u8]), &[u8]), LineFault>
-    ensures { Gives (λ tag. ((tag.0.0.now, tag.0.1.now), tag.1.now)) result (tag_at text.now) }
+fn read_tag(text: &[u8]) -> Result<(Tag<'_>, &[u8]), LineFault>
+    ensures { Gives (λ tag. (tag_view tag.0, tag.1.now)) result (tag_at text.now) }
 {
     let (key, rest) = read_name(Class::Other, LineFault::MissingTagKey, text)?;
     let value = strip(EQUALS, rest).ok_or(LineFault::MissingTagValue)?;
@@ -67,5 +68,5 @@ fn read_tag(text: &[u8]) -> Result<((&[u8], &[u8]), &[u8]), LineFault>
     if begins(EQUALS, rest) {
         return Err(LineFault::MissingTagValue);
     }
-    Ok(((key, value), rest))
+    Ok((Tag { key, value }, rest))
 }

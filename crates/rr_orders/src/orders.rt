@@ -2,11 +2,10 @@
 
 ghost use Rattle.std.specs.Prelude.{◌≡◌, ◌+◌, ◌≤◌, Err, IfSome, IfOk, OnOk};
 ghost use Rattle.std.specs.Io.KnownBytes.{Appends};
-ghost use Rattle.rr_base.specs.Counted.{inner_of, failures_of, reads_of, HasRisen};
+ghost use Rattle.rr_base.specs.Counted.{inner_of, failures_of, reads_of, HasRisen, HasRisenBy};
 ghost use Rattle.rr_base.specs.Stream.{AppendsPrefix};
 ghost use Rattle.rr_base.specs.declared.limits.TheConstants.{MAX_READS};
 ghost use Rattle.rr_orders.specs.Orders.{ending_of, output_of};
-ghost use Rattle.rr_report.specs.Reads.{HasMade};
 ghost use Rattle.rr_words.specs.Words.{asked_by};
 
 use crate::ending::Ending;
@@ -40,7 +39,7 @@ pub fn obey_order<R: Read, W: Write>(
     ensures read_failed { result ≡ Err ToolFault.ReadFailed → HasRisen (failures_of input.old) (failures_of input.new) }
     ensures limit { reads_of input.new ≤ reads_of input.old + MAX_READS }
     ensures too_many { result ≡ Err ToolFault.TooManyReads
-        → HasMade MAX_READS (reads_of input.old) (reads_of input.new) }
+        → HasRisenBy MAX_READS (reads_of input.old) (reads_of input.new) }
     ensures write_failed { result ≡ Err ToolFault.WriteFailed → HasRisen (failures_of output.old) (failures_of output.new) }
 {
     match order {

@@ -2,12 +2,11 @@
 
 ghost use Rattle.std.specs.Prelude.{◌≡◌, ◌≢◌, ◌+◌, ◌≤◌, Err, IfSome, IfOk, OnOk, IfErr};
 ghost use Rattle.std.specs.Io.KnownBytes.{Appends};
-ghost use Rattle.rr_base.specs.Counted.{inner_of, failures_of, reads_of, HasRisen};
+ghost use Rattle.rr_base.specs.Counted.{inner_of, failures_of, reads_of, HasRisen, HasRisenBy};
 ghost use Rattle.rr_base.specs.Stream.{AppendsPrefix};
 ghost use Rattle.rr_base.specs.declared.limits.TheConstants.{MAX_READS};
 ghost use Rattle.rr_cluster.specs.Model.{sample_model};
 ghost use Rattle.rr_cluster.specs.Output.{output_of};
-ghost use Rattle.rr_report.specs.Reads.{HasMade};
 
 use rr_base::Counted;
 use rr_base::stream::{flush, read_to_end, write_all};
@@ -36,7 +35,7 @@ pub fn run_script<R: Read, W: Write>(
     ensures read_failed { result ≡ Err ToolFault.ReadFailed → HasRisen (failures_of input.old) (failures_of input.new) }
     ensures limit { reads_of input.new ≤ reads_of input.old + MAX_READS }
     ensures too_many { result ≡ Err ToolFault.TooManyReads
-        → HasMade MAX_READS (reads_of input.old) (reads_of input.new) }
+        → HasRisenBy MAX_READS (reads_of input.old) (reads_of input.new) }
     ensures write_failed { result ≡ Err ToolFault.WriteFailed → HasRisen (failures_of output.old) (failures_of output.new) }
 {
     let script = read_script(alloc, input)?;
@@ -53,7 +52,7 @@ fn read_script<R: Read>(alloc: Global, input: &mut Counted<R>) -> Result<Vec<u8>
     ensures read_failed { result ≡ Err ToolFault.ReadFailed → HasRisen (failures_of input.old) (failures_of input.new) }
     ensures limit { reads_of input.new ≤ reads_of input.old + MAX_READS }
     ensures too_many { result ≡ Err ToolFault.TooManyReads
-        → HasMade MAX_READS (reads_of input.old) (reads_of input.new) }
+        → HasRisenBy MAX_READS (reads_of input.old) (reads_of input.new) }
     ensures failed { IfErr result (λ fault. fault ≢ ToolFault.WriteFailed) }
 {
     let mut script = Vec::new(alloc);

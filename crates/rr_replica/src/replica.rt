@@ -25,7 +25,7 @@ use rr_archive::{Archive, Entry};
 use rr_base::limits::MAX_NUMBER;
 use rr_base::{Origin, Schema};
 use rr_key::SeriesKey;
-use rr_line::Point;
+use rr_line::{Field, Point};
 use std::alloc::{AllocError, Global};
 use std::collections::BTreeMap;
 use std::marker::Model;
@@ -263,16 +263,15 @@ impl<A: Archive> Replica<A> {
         &mut self,
         point: &Point<'_>,
         time: i64,
-        field: &(&[u8], i64),
+        field: &Field<'_>,
     ) -> Result<(), AllocError>
-        requires keyed { making_fault (names_of (point_view point.now) field.now.0.now) ≡ None }
+        requires keyed { making_fault (names_of (point_view point.now) field.now.key.now) ≡ None }
         requires left { self.old.next ≤ MAX_NUMBER }
-        ensures put { OnOk result (self.new ≡ with_put self.old (key_text (point_view point.now) field.now.0.now) time field.now.1) }
+        ensures put { OnOk result (self.new ≡ with_put self.old (key_text (point_view point.now) field.now.key.now) time field.now.value) }
         ensures unchanged { OnErr result (self.new ≡ self.old) }
     {
-        let (name, value) = *field;
-        let key = point.series_key(self.alloc, name)?;
-        match self.put(&key, time, value) {
+        let key = point.series_key(self.alloc, field.key)?;
+        match self.put(&key, time, field.value) {
             Ok(_) => Ok(()),
             Err(_) => Err(AllocError),
         }

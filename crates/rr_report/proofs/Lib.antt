@@ -1,4 +1,3 @@
 pub mod PointLemmas
-pub mod ReadLemmas
 pub mod ReportLemmas
 pub mod StreamLemmas

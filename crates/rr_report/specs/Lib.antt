@@ -1,4 +1,3 @@
 pub mod Fault
 pub mod Report
-pub mod Reads
 pub mod Checker

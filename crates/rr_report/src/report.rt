@@ -13,7 +13,7 @@ ghost use Rattle.rr_report.specs.Report.{is_refused, item_text, line_text, point
 
 use itoa::Buffer;
 use rr_feed::{FeedLine, LINE_TOO_LONG};
-use rr_line::{Line, LineFault, Point, Precision, parse_line};
+use rr_line::{Field, Line, LineFault, Point, Precision, parse_line};
 use rr_records::Records;
 use std::alloc::{AllocError, Global};
 
@@ -34,15 +34,14 @@ fn push_field(
     records: &mut Records,
     point: &Point<'_>,
     time: i64,
-    field: &(&[u8], i64),
+    field: &Field<'_>,
 ) -> Result<(), AllocError>
-    requires { making_fault (names_of (point_view point.now) field.now.0.now) ≡ None }
+    requires { making_fault (names_of (point_view point.now) field.now.key.now) ≡ None }
     ensures { OnOk result (records.new
-        ≡ records.old ++ sample_text (key_text (point_view point.now) field.now.0.now) field.now.1 time) }
+        ≡ records.old ++ sample_text (key_text (point_view point.now) field.now.key.now) field.now.value time) }
 {
-    let (name, value) = *field;
-    let key = point.series_key(alloc, name)?;
-    push_sample(records, key.text(), value, time)
+    let key = point.series_key(alloc, field.key)?;
+    push_sample(records, key.text(), field.value, time)
 }
 
 /// Adds the samples of a point; one without a time is of the time `now`.

@@ -1,6 +1,6 @@
 //! Points: the slices of a line, and the keys of their series.
 
-use rr_line::{LINE_FEED, Line, LineFault, Precision, parse_line};
+use rr_line::{Field, LINE_FEED, Line, LineFault, Precision, Tag, parse_line};
 use std::test::Fail;
 
 #[test]
@@ -16,11 +16,31 @@ fn a_point_has_the_parts_of_its_line(rt: HostRuntime) -> Result<(), Fail> {
     );
     assert_eq!(rt;
         point.tags.as_slice(),
-        [(b"b".as_slice(), b"2".as_slice()), (b"a", b"1")].as_slice()
+        [
+            Tag {
+                key: b"b",
+                value: b"2",
+            },
+            Tag {
+                key: b"a",
+                value: b"1",
+            },
+        ]
+        .as_slice()
     );
     assert_eq!(rt;
         point.fields.as_slice(),
-        [(b"in".as_slice(), 3), (b"out", -4)].as_slice()
+        [
+            Field {
+                key: b"in",
+                value: 3,
+            },
+            Field {
+                key: b"out",
+                value: -4,
+            },
+        ]
+        .as_slice()
     );
     Ok(())
 }

@@ -1,6 +1,7 @@
 -- What is gathered in the loop is what the definition gathers.
 use Rattle.std.proofs.Common.{◌≡◌, ◌∙◌, sym, length, rules}
 use Rattle.rr_base.specs.declared.limits.TheConstants.{MAX_FIELDS}
+use Rattle.rr_line.specs.Line.{field_view}
 use Rattle.rr_line.proofs.GatheredLemmas.{fields_begin, fields_stop, fields_full, fields_go_on, fields_end, fewer_left}
 use Rattle.rr_line.proofs.fields.gather_fields.Goals as goal
 
@@ -13,7 +14,7 @@ returns-in-Err-clause-gathered c = fields_stop c.loop-read.fields.items c.loop-r
 pub returns-then-len-eq-MAX_FIELDS-clause-gathered : goal.returns-then-len-eq-MAX_FIELDS-clause-gathered
 returns-then-len-eq-MAX_FIELDS-clause-gathered c =
     let full : length c.loop-read.fields.items ≡ MAX_FIELDS = search rules in
-    fields_full c.loop-read.fields.items c.loop-read.left.now c.args.text.now ((c.in-Ok.read.0.0.now, c.in-Ok.read.0.1), c.in-Ok.read.1.now) c.loop-read.invariant c.in-Ok.ensures full
+    fields_full c.loop-read.fields.items c.loop-read.left.now c.args.text.now (field_view c.in-Ok.read.0, c.in-Ok.read.1.now) c.loop-read.invariant c.in-Ok.ensures full
 
 pub loop-read-smaller : goal.loop-read-smaller
 loop-read-smaller c =

@@ -1,7 +1,7 @@
 use Rattle.std.proofs.Common.{◌≡◌, take}
-use Rattle.rr_key.specs.Making.{tags_of}
 use Rattle.rr_line.specs.Key.{tags_unescaped, tag_names}
+use Rattle.rr_line.specs.Line.{tags_view}
 use Rattle.rr_line.proofs.key.unescape_tags.Given as goal
 
 abbrev pub invariant-loop-tag : goal.invariant-loop-tag
-invariant-loop-tag l = tag_names l.names.items ≡ tags_unescaped (tags_of (take l.tag-index l.tags))
+invariant-loop-tag l = tag_names l.names.items ≡ tags_unescaped (tags_view (take l.tag-index l.tags))

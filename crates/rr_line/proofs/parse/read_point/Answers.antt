@@ -1,10 +1,9 @@
 -- The steps are those of the reading, and the length of a key text is that of its parts in the line.
 use Rattle.std.proofs.Common.{◌≡◌, ℕ, ◌-◌, List, length, take, true, false, sym, ap, ◌∙◌, inr, arith}
 use Rattle.std.proofs.lemmas.List.{length-take-le}
-use Rattle.rr_key.specs.Making.{tags_of}
 use Rattle.rr_line.specs.Field.{Field}
 use Rattle.rr_line.specs.Key.{has_long_key}
-use Rattle.rr_line.specs.Line.{fields_view}
+use Rattle.rr_line.specs.Line.{tags_view, fields_view}
 use Rattle.rr_line.specs.Tag.{Tag}
 use Rattle.rr_line.proofs.FrontLemmas.{gap_within, long_of_steps}
 use Rattle.rr_line.proofs.ReadPointLemmas.{point_of, point_too_long, point_is_read, tests_of}
@@ -12,12 +11,12 @@ use Rattle.rr_line.proofs.parse.read_point.Goals as goal
 
 pub slice_bounds-front-count : goal.slice_bounds-front-count
 slice_bounds-front-count c =
-    gap_within c.args.text.now (c.in_ok-measurement.measurement.now, c.in_ok-measurement.rest.now) (tags_of c.in_ok-tags.tags.items, c.in_ok-tags.gap.now) c.requires.said c.in_ok-measurement.ensures c.in_ok-tags.ensures
+    gap_within c.args.text.now (c.in_ok-measurement.measurement.now, c.in_ok-measurement.rest.now) (tags_view c.in_ok-tags.tags.items, c.in_ok-tags.gap.now) c.requires.said c.in_ok-measurement.ensures c.in_ok-tags.ensures
 
 pub returns-then-has_long_key-clause-read : goal.returns-then-has_long_key-clause-read
 returns-then-has_long_key-clause-read c =
     let measurement : List ℕ × List ℕ = (c.in_ok-measurement.measurement.now, c.in_ok-measurement.rest.now) in
-    let tags : List Tag × List ℕ = (tags_of c.in_ok-tags.tags.items, c.in_ok-tags.gap.now) in
+    let tags : List Tag × List ℕ = (tags_view c.in_ok-tags.tags.items, c.in_ok-tags.gap.now) in
     let fields : List Field × List ℕ = (fields_view c.in_ok-fields.fields.items, c.in_ok-fields.ending.now) in
     let text = c.args.text.now in
     let len : length (take (length text - length tags.1) text) ≡ length text - length tags.1 = length-take-le (length text - length tags.1) text (omega arith) in
@@ -29,7 +28,7 @@ returns-then-has_long_key-clause-read c =
 pub returns-clause-read : goal.returns-clause-read
 returns-clause-read c =
     let measurement : List ℕ × List ℕ = (c.in_ok-measurement.measurement.now, c.in_ok-measurement.rest.now) in
-    let tags : List Tag × List ℕ = (tags_of c.in_ok-tags.tags.items, c.in_ok-tags.gap.now) in
+    let tags : List Tag × List ℕ = (tags_view c.in_ok-tags.tags.items, c.in_ok-tags.gap.now) in
     let fields : List Field × List ℕ = (fields_view c.in_ok-fields.fields.items, c.in_ok-fields.ending.now) in
     let text = c.args.text.now in
     let len : length (take (length text - length tags.1) text) ≡ length text - length tags.1 = length-take-le (length text - length tags.1) text (omega arith) in

@@ -7,5 +7,5 @@ abbrev pub invariant-loop-entry : goal.invariant-loop-entry
 invariant-loop-entry g l = record {
   long : length l.keys ≡ MAX_FIELDS;
   counted : l.count ≡ l.entry-index;
-  front : map (λ key. key.now) (take l.count l.keys) ≡ map (λ entry. entry.0.now) (take l.entry-index l.entries);
+  front : map (λ key. key.now) (take l.count l.keys) ≡ map g.T.Keyed.key_of (take l.entry-index l.entries);
 }

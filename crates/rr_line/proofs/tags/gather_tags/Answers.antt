@@ -1,6 +1,7 @@
 -- What is gathered in the loop is what the definition gathers.
 use Rattle.std.proofs.Common.{◌≡◌, ◌∙◌, sym, length, rules}
 use Rattle.rr_base.specs.declared.limits.TheConstants.{MAX_TAGS}
+use Rattle.rr_line.specs.Line.{tag_view}
 use Rattle.rr_line.proofs.GatheredLemmas.{tags_begin, tags_stop, tags_full, tags_go_on, tags_end, fewer_left}
 use Rattle.rr_line.proofs.tags.gather_tags.Goals as goal
 
@@ -13,7 +14,7 @@ returns-in-Err-clause-gathered c = tags_stop c.loop-text.tags.items c.loop-text.
 pub returns-then-len-eq-MAX_TAGS-clause-gathered : goal.returns-then-len-eq-MAX_TAGS-clause-gathered
 returns-then-len-eq-MAX_TAGS-clause-gathered c =
     let full : length c.loop-text.tags.items ≡ MAX_TAGS = search rules in
-    tags_full c.loop-text.tags.items c.loop-text.left.now c.args.text.now c.in-Some.text.now ((c.in-Ok.read.0.0.now, c.in-Ok.read.0.1.now), c.in-Ok.read.1.now) c.loop-text.invariant (sym c.in-Some.ensures) c.in-Ok.ensures full
+    tags_full c.loop-text.tags.items c.loop-text.left.now c.args.text.now c.in-Some.text.now (tag_view c.in-Ok.read.0, c.in-Ok.read.1.now) c.loop-text.invariant (sym c.in-Some.ensures) c.in-Ok.ensures full
 
 pub loop-text-smaller : goal.loop-text-smaller
 loop-text-smaller c =

@@ -1,14 +1,14 @@
-use Rattle.std.proofs.Common.{◌≡◌, [], ◌++◌, false, take, List, ℕ, inl, ap, ◌∙◌, arith, rules}
+use Rattle.std.proofs.Common.{◌≡◌, [], ◌++◌, false, take, List, ℕ, ap, ◌∙◌, arith, rules}
 use Rattle.std.proofs.Math.Facts.{to_z-of_z}
 use Rattle.std.specs.Int.{w64}
 use Rattle.std.proofs.KnownBytes.{Consumes-nil, Consumes-trans, Appends-nil, Appends-trans}
 use Rattle.std.proofs.lemmas.Result.{on_ok_weaker, IfOk-weaker}
 use Rattle.std.specs.Io.KnownBytes.{Appends}
+use Rattle.rr_base.proofs.CountLemmas.{no_call, HasRisenBy-more, one_more_at_most}
 use Rattle.rr_base.specs.Counted.{inner_of}
 use Rattle.rr_base.specs.Stream.{AppendsPrefix}
 use Rattle.rr_feed.specs.Feed.{FeedState}
 use Rattle.rr_report.specs.Report.{report_of, refused_count}
-use Rattle.rr_report.proofs.ReadLemmas.{HasMade-more, one_more_at_most}
 use Rattle.rr_report.proofs.ReportLemmas.{HasReported-push}
 use Rattle.rr_report.proofs.StreamLemmas.{front_so_far, of_all_bytes, of_all_taken, may_come}
 use Rattle.rr_report.proofs.check.check_lines_within.Goals as goal
@@ -68,7 +68,7 @@ loop-init g c = record {
   precision = c.new-checker.ensures.precision;
   now = c.new-checker.ensures.now;
   pieces = omega (arith, c.new-checker.ensures.pieces);
-  made = inl (omega arith);
+  made = no_call _;
   few = omega arith;
   in_count = omega arith;
   out_count = omega arith;
@@ -94,7 +94,7 @@ loop-preserved g c =
       precision = more.1.precision ∙ takes.precision ∙ c.loop.invariant.precision;
       now = more.1.now ∙ takes.now ∙ c.loop.invariant.now;
       pieces = omega (arith, more.1.pieces, takes.pieces, c.loop.invariant.pieces);
-      made = HasMade-more c.loop.counter _ _ _ c.loop.invariant.made c.in_ok-given.ensures.reads;
+      made = HasRisenBy-more c.loop.counter _ _ _ c.loop.invariant.made c.in_ok-given.ensures.reads;
       few = one_more_at_most c.loop.counter _ _ _ c.loop.invariant.few c.in_ok-given.ensures.reads;
       in_count = omega (arith, c.loop.invariant.in_count, c.in_ok-given.ensures.count);
       out_count = omega (arith, c.loop.invariant.out_count, c.in_ok-write_items.ensures.count);

@@ -1,6 +1,5 @@
 use Rattle.std.proofs.Common.{◌≡◌, ◌+◌, ◌≤◌, false}
-use Rattle.rr_base.specs.Counted.{inner_of, failures_of, reads_of}
-use Rattle.rr_report.specs.Reads.{HasMade}
+use Rattle.rr_base.specs.Counted.{inner_of, failures_of, reads_of, HasRisenBy}
 use Rattle.rr_report.proofs.StreamLemmas.{HasWritten}
 use Rattle.rr_report.proofs.check.check_lines_within.Given as goal
 
@@ -12,7 +11,7 @@ invariant-loop g l = record {
   precision : l.checker.precision ≡ l.fn.precision;
   now : l.checker.now ≡ l.fn.now;
   pieces : l.checker.pieces ≤ l.counter;
-  made : HasMade l.counter (reads_of l.initial.input) (reads_of l.input);
+  made : HasRisenBy l.counter (reads_of l.initial.input) (reads_of l.input);
   few : reads_of l.input ≤ reads_of l.initial.input + l.counter;
   in_count : failures_of l.initial.input ≤ failures_of l.input;
   out_count : failures_of l.initial.output ≤ failures_of l.output;

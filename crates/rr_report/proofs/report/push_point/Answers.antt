@@ -1,21 +1,18 @@
 use Rattle.std.proofs.Common.{◌≡◌, List, [], ℕ, ℤ, pos, ◌++◌, map, take, get_or, None, sym, subst, ap, ◌∙◌, append_assoc, rules}
-use Rattle.std.specs.Borrow.{Bor}
 use Rattle.std.specs.Int.{w64}
 use Rattle.std.specs.List.{AllByRecursion, flat_map}
 use Rattle.std.proofs.Math.Facts.{to_z-of_z}
 use Rattle.std.proofs.lemmas.List.{take_all}
 use Rattle.rr_key.specs.Making.{making_fault}
 use Rattle.rr_line.specs.Key.{names_of, key_text}
-use Rattle.rr_line.specs.Line.{PointView, point_view}
+use Rattle.rr_line.specs.Line.{PointView, field_view, point_view}
+use Rattle.rr_line.specs.declared.line.Field.{Field}
 use Rattle.rr_report.specs.Report.{sample_text}
 use Rattle.rr_report.proofs.PointLemmas.{field_at, texts_more}
 use Rattle.rr_report.proofs.report.push_point.Goals as goal
 
-abbrev view : Bor (List ℕ) × ℤ → List ℕ × ℤ
-view field = (field.0.now, field.1)
-
-abbrev any : Bor (List ℕ) × ℤ
-any = (record { ref_ptr = (0, 0); now = [] }, pos 0)
+abbrev any : Field
+any = record { key = record { ref_ptr = (0, 0); now = [] }; value = pos 0 }
 
 abbrev text_at : PointView → ℤ → List ℕ × ℤ → List ℕ
 text_at p time field = sample_text (key_text p field.0) field.1 time
@@ -28,20 +25,20 @@ loop-field-preserved c =
     let back = to_z-of_z {w = w64} {z = c.unwrap_or-time.result} (search rules) in
     let field = get_or items i any in
     let start = c.args.records.now in
-    let before = flat_map (text_at p c.unwrap_or-time.result) (map view (take i items)) in
+    let before = flat_map (text_at p c.unwrap_or-time.result) (map field_view (take i items)) in
     let so_far = rw back at c.loop-field.invariant in
     let added = rw back at c.in_ok-push_field.ensures in
-    let more = texts_more (text_at p c.unwrap_or-time.result) view items i any c.loop-field-test.true in
-    rw back (added ∙ ap (λ (t : List ℕ). t ++ text_at p c.unwrap_or-time.result (view field)) so_far
-    ∙ append_assoc start before (text_at p c.unwrap_or-time.result (view field))
+    let more = texts_more (text_at p c.unwrap_or-time.result) field_view items i any c.loop-field-test.true in
+    rw back (added ∙ ap (λ (t : List ℕ). t ++ text_at p c.unwrap_or-time.result (field_view field)) so_far
+    ∙ append_assoc start before (text_at p c.unwrap_or-time.result (field_view field))
     ∙ ap (λ (t : List ℕ). start ++ t) (sym more))
 
 pub push_field-requires : goal.push_field-requires
 push_field-requires c =
     let p = point_view c.args.point.now in
     let Keyed : List ℕ × ℤ → Type 0 = λ field. making_fault (names_of p field.0) ≡ None in
-    let keyed : AllByRecursion Keyed (map view c.deref-field-items.result.now) = subst (λ (items : List (Bor (List ℕ) × ℤ)). AllByRecursion Keyed (map view items)) (sym c.deref-field-items.ensures.value) c.requires in
-    field_at Keyed view c.deref-field-items.result.now c.loop-field.field-index any keyed c.loop-field-test.true
+    let keyed : AllByRecursion Keyed (map field_view c.deref-field-items.result.now) = subst (λ (items : List Field). AllByRecursion Keyed (map field_view items)) (sym c.deref-field-items.ensures.value) c.requires in
+    field_at Keyed field_view c.deref-field-items.result.now c.loop-field.field-index any keyed c.loop-field-test.true
 
 pub returns : goal.returns
 returns c =

@@ -2,12 +2,12 @@
 use Rattle.std.proofs.Common.{◌≡◌, ℕ, ℤ, pos, List, [], map, take, get_or, None, refl, sym, ap, subst, ◌∙◌, arith, rules}
 use Rattle.std.proofs.Math.Facts.{to_z-of_z}
 use Rattle.std.proofs.lemmas.List.{map_more}
-use Rattle.std.specs.Borrow.{Bor}
 use Rattle.std.specs.Int.{w64}
 use Rattle.std.specs.List.{AllByRecursion}
 use Rattle.rr_key.specs.Making.{making_fault}
 use Rattle.rr_line.specs.Key.{names_of, key_text}
-use Rattle.rr_line.specs.Line.{point_view}
+use Rattle.rr_line.specs.Line.{field_view, point_view}
+use Rattle.rr_line.specs.declared.line.Field.{Field}
 use Rattle.rr_replica.specs.Holding.{Holding, with_put}
 use Rattle.rr_replica.specs.Writing.{with_fields}
 use Rattle.rr_replica.proofs.FieldLemmas.{with_fields-more, field_at, take-view, failed, passed}
@@ -16,37 +16,34 @@ use Rattle.rr_replica.proofs.replica.Replica.write_fields.Goals as goal
 pub write_field-requires-clause-keyed : goal.write_field-requires-clause-keyed
 write_field-requires-clause-keyed g c =
     let p = point_view c.args.point.now in
-    let view : Bor (List ℕ) × ℤ → List ℕ × ℤ = λ field. (field.0.now, field.1) in
-    let any : Bor (List ℕ) × ℤ = (record { ref_ptr = (0, 0); now = [] }, pos 0) in
+    let any : Field = record { key = record { ref_ptr = (0, 0); now = [] }; value = pos 0 } in
     let Keyed : List ℕ × ℤ → Type 0 = λ field. making_fault (names_of p field.0) ≡ None in
-    let keyed : AllByRecursion Keyed (map view c.deref-field-items.result.now) = subst (λ (items : List (Bor (List ℕ) × ℤ)). AllByRecursion Keyed (map view items)) (sym c.deref-field-items.ensures.value) c.requires.keyed in
-    field_at Keyed view c.deref-field-items.result.now c.loop-field.field-index any keyed c.loop-field-test.true
+    let keyed : AllByRecursion Keyed (map field_view c.deref-field-items.result.now) = subst (λ (items : List Field). AllByRecursion Keyed (map field_view items)) (sym c.deref-field-items.ensures.value) c.requires.keyed in
+    field_at Keyed field_view c.deref-field-items.result.now c.loop-field.field-index any keyed c.loop-field-test.true
 
 pub returns-then-is_err-clause-stopped : goal.returns-then-is_err-clause-stopped
 returns-then-is_err-clause-stopped g c =
-    let view : Bor (List ℕ) × ℤ → List ℕ × ℤ = λ field. (field.0.now, field.1) in
     let p = point_view c.args.point.now in
     let back = to_z-of_z {w = w64} {z = c.args.time} (search rules) in
     let same = failed c.write_field.result c.write_field.ensures.unchanged c.if-is_err.ensures.value in
     let state = rw back at c.loop-field.invariant.put in
-    let first : map view (take c.loop-field.field-index c.deref-field-items.result.now) ≡ take c.loop-field.put (map view c.args.point.now.fields.items) =
-    take-view view c.loop-field.field-index c.deref-field-items.result.now
-    ∙ ap (λ (items : List (Bor (List ℕ) × ℤ)). take c.loop-field.field-index (map view items)) c.deref-field-items.ensures.value
-    ∙ ap (λ (k : ℕ). take k (map view c.args.point.now.fields.items)) (sym c.loop-field.invariant.counted) in
+    let first : map field_view (take c.loop-field.field-index c.deref-field-items.result.now) ≡ take c.loop-field.put (map field_view c.args.point.now.fields.items) =
+    take-view field_view c.loop-field.field-index c.deref-field-items.result.now
+    ∙ ap (λ (items : List Field). take c.loop-field.field-index (map field_view items)) c.deref-field-items.ensures.value
+    ∙ ap (λ (k : ℕ). take k (map field_view c.args.point.now.fields.items)) (sym c.loop-field.invariant.counted) in
     (c.loop-field.put, refl, same ∙ state ∙ ap (with_fields c.args.self.now p c.args.time) first)
 
 pub loop-field-preserved : goal.loop-field-preserved
 loop-field-preserved g c =
-    let view : Bor (List ℕ) × ℤ → List ℕ × ℤ = λ field. (field.0.now, field.1) in
-    let any : Bor (List ℕ) × ℤ = (record { ref_ptr = (0, 0); now = [] }, pos 0) in
+    let any : Field = record { key = record { ref_ptr = (0, 0); now = [] }; value = pos 0 } in
     let p = point_view c.args.point.now in
     let items = c.deref-field-items.result.now in
     let back = to_z-of_z {w = w64} {z = c.args.time} (search rules) in
     let written = rw back at (passed c.write_field.result c.write_field.ensures.put c.if-is_err.ensures.value) in
     let state = rw back at c.loop-field.invariant.put in
-    let before = map view (take c.loop-field.field-index items) in
-    let field = view (get_or items c.loop-field.field-index any) in
-    let more = map_more view items c.loop-field.field-index any c.loop-field-test.true in
+    let before = map field_view (take c.loop-field.field-index items) in
+    let field = field_view (get_or items c.loop-field.field-index any) in
+    let more = map_more field_view items c.loop-field.field-index any c.loop-field-test.true in
     let next = ap (λ (h : Holding). h.next) written in
     record {
       counted = omega (arith, c.loop-field.invariant.counted);

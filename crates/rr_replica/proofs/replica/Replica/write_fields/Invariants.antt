@@ -1,5 +1,5 @@
 use Rattle.std.proofs.Common.{◌≡◌, ◌+◌, map, take}
-use Rattle.rr_line.specs.Line.{point_view}
+use Rattle.rr_line.specs.Line.{field_view, point_view}
 use Rattle.rr_replica.specs.Writing.{with_fields}
 use Rattle.rr_replica.proofs.replica.Replica.write_fields.Given as goal
 
@@ -8,5 +8,5 @@ abbrev pub invariant-loop-field : goal.invariant-loop-field
 invariant-loop-field g l = record {
   counted : l.put ≡ l.field-index;
   numbered : l.self.next ≡ l.initial.self.next + l.field-index;
-  put : l.self ≡ with_fields l.initial.self (point_view l.point) l.time (map (λ field. (field.0.now, field.1)) (take l.field-index l.field-items));
+  put : l.self ≡ with_fields l.initial.self (point_view l.point) l.time (map field_view (take l.field-index l.field-items));
 }
