@@ -20,18 +20,18 @@ use Rattle.rr_contrib.specs.Contributions.{contribution_cmp}
 use Rattle.std.specs.Ordering.{eq_by_cmp}
 use Rattle.rr_archive.specs.declared.entry.Entry.{Entry}
 use Rattle.rr_join.specs.Horizon.{is_above}
-use Rattle.rr_archive.specs.Places.{Place, place_at, place_cmp, newest_of, is_live_at, IsSlot}
+use Rattle.rr_archive.specs.CellSlots.{CellSlot, cell_slot, cell_slot_cmp, newest_of, is_live_at, IsSlot}
 use Rattle.rr_archive.specs.Changes.{greater_of}
 use Rattle.rr_archive.specs.Cells.{Rows, with_cell, join_cell, IsTrimmed}
-use Rattle.rr_archive.specs.Held.{cells_in, is_placed, IsHeld, RowsAscend}
-use Rattle.rr_archive.proofs.PlaceOrder.{place_cmp_total, place_cmp-IsAntisymmetric}
+use Rattle.rr_archive.specs.Held.{cells_in, is_in_range, IsHeld, RowsAscend}
+use Rattle.rr_archive.proofs.CellSlotOrder.{cell_slot_cmp_total, cell_slot_cmp-IsAntisymmetric}
 use Rattle.rr_join.proofs.Joining.{trimmed-trimmed}
 use Rattle.rr_archive.proofs.Horizon.{live_at_horizon}
-use Rattle.rr_archive.proofs.FewCells.{newest-insert, placed-insert}
+use Rattle.rr_archive.proofs.FewCells.{newest-insert, in_range-insert}
 use Rattle.rr_archive.proofs.Trimming.{trimmed_by_slots, trimmed_none, all_other-trimmed, newest-trimmed, trimmed_dead}
 
-pub placed_from : (slot : ℤ) (origin : ℕ) → IsSlot slot → origin < 2 ^ 16 → is_placed (place_at slot origin) ≡ true
-placed_from slot origin is fits = and_from (leb (unsigned_abs slot) MAX_SECOND) _ (in_slots slot is) (lt_test origin fits)
+pub in_range_from : (slot : ℤ) (origin : ℕ) → IsSlot slot → origin < 2 ^ 16 → is_in_range (cell_slot slot origin) ≡ true
+in_range_from slot origin is fits = and_from (leb (unsigned_abs slot) MAX_SECOND) _ (in_slots slot is) (lt_test origin fits)
   where
     le_test : (m n : ℕ) → m ≤ n → leb m n ≡ true
     le_test m n h = grind (arith, nat_tests)
@@ -44,30 +44,30 @@ placed_from slot origin is fits = and_from (leb (unsigned_abs slot) MAX_SECOND) 
     in_slots (negsuc n) is = le_test (suc n) MAX_SECOND (let low = is.0 in omega (arith, ints))
 
 -- one cell more, where none stood
-pub len_with : (m : Rows) (p : Place) (c : Contribution) → len m + cond (is_none (get m p)) 1 0 ≡ len (insert m p c)
+pub len_with : (m : Rows) (p : CellSlot) (c : Contribution) → len m + cond (is_none (get m p)) 1 0 ≡ len (insert m p c)
 len_with m p c =
     elim (get m p) as (λ o. get m p ≡ o → len m + cond (is_none o) 1 0 ≡ cond (is_some o) (len m) (len m + 1)) [
       | None ↦ λ _. refl
       | Some v ↦ λ _. add-zero (len m)
     ] refl
     ∙ ap (λ b. cond b (len m) (len m + 1)) (sym (is_some-get m p))
-    ∙ sym (len-insert place_cmp_total m p c)
+    ∙ sym (len-insert cell_slot_cmp_total m p c)
   where
-    is_some-get : (n : Rows) (q : Place) → contains_key n q ≡ is_some (get n q)
-    is_some-get n q = contains_key-keys n q ∙ is_in-keys place_cmp_total place_cmp-IsAntisymmetric n q
+    is_some-get : (n : Rows) (q : CellSlot) → contains_key n q ≡ is_some (get n q)
+    is_some-get n q = contains_key-keys n q ∙ is_in-keys cell_slot_cmp_total cell_slot_cmp-IsAntisymmetric n q
 
-latest_is : (limit count : ℕ) (newest : Option ℤ) (latest : ℤ) (old : List (ℤ × Vec Entry)) (p : Place) (c : Contribution) → IsHeld limit count newest old → Some latest ≡ greater int_cmp newest (Some p.slot) → Some latest ≡ newest_of (keys (insert (cells_in old) p c))
+latest_is : (limit count : ℕ) (newest : Option ℤ) (latest : ℤ) (old : List (ℤ × Vec Entry)) (p : CellSlot) (c : Contribution) → IsHeld limit count newest old → Some latest ≡ greater int_cmp newest (Some p.slot) → Some latest ≡ newest_of (keys (insert (cells_in old) p c))
 latest_is limit count newest latest old p c h later = later ∙ ap (λ g. greater int_cmp g (Some p.slot)) h.latest ∙ sym (newest-insert (cells_in old) p c)
 
 -- they hold the live cells of those that were there and the one that was set
-pub cells_kept : (limit count : ℕ) (newest : Option ℤ) (latest : ℤ) (old set new : List (ℤ × Vec Entry)) (p : Place) (c : Contribution) → IsHeld limit count newest old → cells_in set ≡ insert (cells_in old) p c → cells_in new ≡ retain_keys (cells_in set) (λ q. is_above limit (Some latest) q.slot) → Some latest ≡ greater int_cmp newest (Some p.slot) → cells_in new ≡ trimmed (is_live_at limit) (insert (cells_in old) p c)
+pub cells_kept : (limit count : ℕ) (newest : Option ℤ) (latest : ℤ) (old set new : List (ℤ × Vec Entry)) (p : CellSlot) (c : Contribution) → IsHeld limit count newest old → cells_in set ≡ insert (cells_in old) p c → cells_in new ≡ retain_keys (cells_in set) (λ q. is_above limit (Some latest) q.slot) → Some latest ≡ greater int_cmp newest (Some p.slot) → cells_in new ≡ trimmed (is_live_at limit) (insert (cells_in old) p c)
 cells_kept limit count newest latest old set new p c h is kept later =
     kept ∙ ap (λ (m : Rows). retain_keys m (λ q. is_above limit (Some latest) q.slot)) is
     ∙ sym (trimmed_by_slots limit (insert (cells_in old) p c) (Some latest) (sym (latest_is limit count newest latest old p c h later)))
 
 -- the rows that are left, once a cell is set and the dead rows have left
-pub held_kept : (limit count left : ℕ) (newest : Option ℤ) (latest : ℤ) (old set new : List (ℤ × Vec Entry)) (p : Place) (c : Contribution) → IsHeld limit count newest old → RowsAscend new → IsStrictlySortedBy int_cmp (keys_of new) → is_placed p ≡ true → cells_in set ≡ insert (cells_in old) p c → cells_in new ≡ retain_keys (cells_in set) (λ q. is_above limit (Some latest) q.slot) → left ≡ len (cells_in new) → Some latest ≡ greater int_cmp newest (Some p.slot) → IsHeld limit left (Some latest) new
-held_kept limit count left newest latest old set new p c h ascend ordered placed is kept counted later =
+pub held_kept : (limit count left : ℕ) (newest : Option ℤ) (latest : ℤ) (old set new : List (ℤ × Vec Entry)) (p : CellSlot) (c : Contribution) → IsHeld limit count newest old → RowsAscend new → IsStrictlySortedBy int_cmp (keys_of new) → is_in_range p ≡ true → cells_in set ≡ insert (cells_in old) p c → cells_in new ≡ retain_keys (cells_in set) (λ q. is_above limit (Some latest) q.slot) → left ≡ len (cells_in new) → Some latest ≡ greater int_cmp newest (Some p.slot) → IsHeld limit left (Some latest) new
+held_kept limit count left newest latest old set new p c h ascend ordered in_range is kept counted later =
     let cells = cells_kept limit count newest latest old set new p c h is kept later in
     let more : Rows = insert (cells_in old) p c in
     let top = latest_is limit count newest latest old p c h later in
@@ -76,14 +76,14 @@ held_kept limit count left newest latest old set new p c h ascend ordered placed
       some = h.some;
       counted = counted;
       latest = sym (ap (λ m. newest_of (keys m)) cells ∙ same);
-      live = subst (IsTrimmed limit) (sym cells) (trimmed-trimmed place_cmp_total place_cmp-IsAntisymmetric (live_at_horizon limit h.some) more);
-      placed = ap (λ m. list_all is_placed (keys m)) cells ∙ all_other-trimmed limit more is_placed (placed-insert (cells_in old) p c placed h.placed);
+      live = subst (IsTrimmed limit) (sym cells) (trimmed-trimmed cell_slot_cmp_total cell_slot_cmp-IsAntisymmetric (live_at_horizon limit h.some) more);
+      in_range = ap (λ m. list_all is_in_range (keys m)) cells ∙ all_other-trimmed limit more is_in_range (in_range-insert (cells_in old) p c in_range h.in_range);
       ascend = ascend;
       ordered = ordered;
     }
 
 -- a cell past the horizon leaves no trace
-pub set_dead : (limit count : ℕ) (newest : Option ℤ) (rows : List (ℤ × Vec Entry)) (p : Place) (c : Contribution) → IsHeld limit count newest rows → is_above limit newest p.slot ≡ false → cells_in rows ≡ trimmed (is_live_at limit) (insert (cells_in rows) p c)
+pub set_dead : (limit count : ℕ) (newest : Option ℤ) (rows : List (ℤ × Vec Entry)) (p : CellSlot) (c : Contribution) → IsHeld limit count newest rows → is_above limit newest p.slot ≡ false → cells_in rows ≡ trimmed (is_live_at limit) (insert (cells_in rows) p c)
 set_dead limit count newest rows p c h dead = sym (trimmed_dead limit (cells_in rows) p c h.live (ap (λ o. is_above limit o p.slot) (sym h.latest) ∙ dead))
 
 -- the same cells in other rows
@@ -93,7 +93,7 @@ held_same limit count newest old new h ascend ordered is = record {
   live = subst (IsTrimmed limit) (sym is) h.live;
   counted = h.counted ∙ ap len (sym is);
   latest = h.latest ∙ ap (λ m. newest_of (keys m)) (sym is);
-  placed = ap (λ m. list_all is_placed (keys m)) is ∙ h.placed;
+  in_range = ap (λ m. list_all is_in_range (keys m)) is ∙ h.in_range;
   ascend = ascend;
   ordered = ordered;
 }
@@ -107,9 +107,9 @@ abbrev nothing : Rows
 nothing = empty
 
 keys-empty : keys nothing ≡ []
-keys-empty = ap (map (λ e. e.0)) (nothing_from_length (entries nothing) (sym (len-entries nothing) ∙ len-empty place_cmp Contribution))
+keys-empty = ap (map (λ e. e.0)) (nothing_from_length (entries nothing) (sym (len-entries nothing) ∙ len-empty cell_slot_cmp Contribution))
   where
-    nothing_from_length : (es : List (Place × Contribution)) → length es ≡ 0 → es ≡ []
+    nothing_from_length : (es : List (CellSlot × Contribution)) → length es ≡ 0 → es ≡ []
     nothing_from_length [] e = refl
     nothing_from_length (x ∷ es) e = absurd (omega arith)
 
@@ -118,28 +118,28 @@ unfolding IsStrictlySortedBy
 held_none limit rows some e = subst (IsHeld limit 0 None) (sym e) (record {
   some = some;
   live = subst (IsTrimmed limit) (sym cells_in-none) (trimmed_none limit);
-  counted = sym (len-empty place_cmp Contribution) ∙ ap len (sym cells_in-none);
+  counted = sym (len-empty cell_slot_cmp Contribution) ∙ ap len (sym cells_in-none);
   latest = ap newest_of (sym keys-empty) ∙ ap (λ m. newest_of (keys m)) (sym cells_in-none);
-  placed = ap (λ m. list_all is_placed (keys m)) cells_in-none ∙ ap (list_all is_placed) keys-empty;
+  in_range = ap (λ m. list_all is_in_range (keys m)) cells_in-none ∙ ap (list_all is_in_range) keys-empty;
   ascend = λ slot. refl;
   ordered = tt;
 })
 
 -- ---- a cell joined in
 
-pub with_cell-is : (m : Rows) (p : Place) (c joined : Contribution) → Some joined ≡ greater contribution_cmp (get m p) (Some c) → insert m p joined ≡ with_cell m p c
-with_cell-is m p c joined is = same_map place_cmp_total place_cmp-IsAntisymmetric _ _ (λ q.
-    get-insert place_cmp_total m p joined q
-    ∙ elim (eq_by_cmp place_cmp q p) as (λ b. eq_by_cmp place_cmp q p ≡ b → cond b (Some joined) (get m q) ≡ greater contribution_cmp (get m q) (cond b (Some c) None)) [
-      | true ↦ λ t. is ∙ ap (λ r. greater contribution_cmp (get m r) (Some c)) (sym (same_from_tie place_cmp_total place_cmp-IsAntisymmetric q p t))
+pub with_cell-is : (m : Rows) (p : CellSlot) (c joined : Contribution) → Some joined ≡ greater contribution_cmp (get m p) (Some c) → insert m p joined ≡ with_cell m p c
+with_cell-is m p c joined is = same_map cell_slot_cmp_total cell_slot_cmp-IsAntisymmetric _ _ (λ q.
+    get-insert cell_slot_cmp_total m p joined q
+    ∙ elim (eq_by_cmp cell_slot_cmp q p) as (λ b. eq_by_cmp cell_slot_cmp q p ≡ b → cond b (Some joined) (get m q) ≡ greater contribution_cmp (get m q) (cond b (Some c) None)) [
+      | true ↦ λ t. is ∙ ap (λ r. greater contribution_cmp (get m r) (Some c)) (sym (same_from_tie cell_slot_cmp_total cell_slot_cmp-IsAntisymmetric q p t))
       | false ↦ λ t. sym (greater-None contribution_cmp (get m q))
     ] refl
-    ∙ ap (λ o. greater contribution_cmp (get m q) (cond (eq_by_cmp place_cmp q p) (Some c) o)) (sym (get-empty place_cmp q))
-    ∙ ap (greater contribution_cmp (get m q)) (sym (get-insert place_cmp_total empty p c q))
-    ∙ sym (get-merged place_cmp_total place_cmp-IsAntisymmetric contribution_cmp m (insert empty p c) q))
+    ∙ ap (λ o. greater contribution_cmp (get m q) (cond (eq_by_cmp cell_slot_cmp q p) (Some c) o)) (sym (get-empty cell_slot_cmp q))
+    ∙ ap (greater contribution_cmp (get m q)) (sym (get-insert cell_slot_cmp_total empty p c q))
+    ∙ sym (get-merged cell_slot_cmp_total cell_slot_cmp-IsAntisymmetric contribution_cmp m (insert empty p c) q))
 
 -- and then the live ones
-pub join_cell-is : (limit : ℕ) (m : Rows) (p : Place) (c : Contribution) → trimmed (is_live_at limit) (insert m p (greater_of (get m p) c)) ≡ join_cell limit m p c
+pub join_cell-is : (limit : ℕ) (m : Rows) (p : CellSlot) (c : Contribution) → trimmed (is_live_at limit) (insert m p (greater_of (get m p) c)) ≡ join_cell limit m p c
 unfolding Maps.joined
 join_cell-is limit m p c = ap (trimmed (is_live_at limit)) (with_cell-is m p c (greater_of (get m p) c) (greater_is (get m p)))
   where

@@ -19,17 +19,17 @@ use Rattle.rr_join.proofs.Lookups.{is_in-keys, get-trimmed}
 use Rattle.rr_join.proofs.Distinct.{IsDistinct, keys_distinct}
 use Rattle.rr_join.proofs.Distinct.IsDistinct.{more}
 use Rattle.rr_join.specs.Horizon.{is_above}
-use Rattle.rr_archive.specs.Places.{Place, place_cmp, newest_of, is_live_at}
+use Rattle.rr_archive.specs.CellSlots.{CellSlot, cell_slot_cmp, newest_of, is_live_at}
 use Rattle.rr_archive.specs.Cells.{Rows, IsTrimmed}
 use Rattle.rr_archive.specs.Laws.{CellsAreFew}
-use Rattle.rr_archive.proofs.PlaceOrder.{place_cmp_total, place_cmp-IsAntisymmetric}
+use Rattle.rr_archive.proofs.CellSlotOrder.{cell_slot_cmp_total, cell_slot_cmp-IsAntisymmetric}
 
 -- ---- no slot is above the newest
 
 Some_inj : (x y : ℤ) → Some x ≡ Some y → x ≡ y
 Some_inj x y e = ap (λ v. unwrap_or v x) e
 
-none_newest : (ps : List Place) → newest_of ps ≡ None → (p : Place) → is_in place_cmp ps p ≡ false
+none_newest : (ps : List CellSlot) → newest_of ps ≡ None → (p : CellSlot) → is_in cell_slot_cmp ps p ≡ false
 none_newest [] e p = refl
 none_newest (x ∷ xs) e p = absurd (true≢false (sym (ap is_some (greatest_some int_cmp x.slot (map (λ q. q.slot) xs) (pos 0))) ∙ ap is_some e))
 
@@ -39,17 +39,17 @@ not_above_max x y z h = (grind (arith, ints), grind (arith, ints))
 not_above_itself : (x : ℤ) → int_lt x x ≡ false
 not_above_itself x = grind (arith, ints)
 
-newest_is_last : (ps : List Place) (top : ℤ) → newest_of ps ≡ Some top → (p : Place) → is_in place_cmp ps p ≡ true → int_lt top p.slot ≡ true → true ≡ false
+newest_is_last : (ps : List CellSlot) (top : ℤ) → newest_of ps ≡ Some top → (p : CellSlot) → is_in cell_slot_cmp ps p ≡ true → int_lt top p.slot ≡ true → true ≡ false
 newest_is_last [] top e p is above = absurd (true≢false (sym is))
 newest_is_last (q ∷ ps) top e p is above =
     elim (newest_of ps) as (λ g. newest_of ps ≡ g → greater int_cmp (Some q.slot) g ≡ Some top → true ≡ false) [
-      | None ↦ λ g e. either_case (eq_by_cmp place_cmp p q) (is_in place_cmp ps p) is
-          (λ t. sym above ∙ (λ i. int_lt (sym (Some_inj q.slot top e) i) (same_from_tie place_cmp_total place_cmp-IsAntisymmetric p q t i).slot) ∙ not_above_itself q.slot)
+      | None ↦ λ g e. either_case (eq_by_cmp cell_slot_cmp p q) (is_in cell_slot_cmp ps p) is
+          (λ t. sym above ∙ (λ i. int_lt (sym (Some_inj q.slot top e) i) (same_from_tie cell_slot_cmp_total cell_slot_cmp-IsAntisymmetric p q t i).slot) ∙ not_above_itself q.slot)
           (λ h. absurd (true≢false (sym h ∙ none_newest ps g p)))
       | Some y ↦ λ g e.
           let beyond = not_above_max q.slot y p.slot (subst (λ z. int_lt z p.slot ≡ true) (sym (Some_inj (ord_max int_cmp q.slot y) top e)) above) in
-          either_case (eq_by_cmp place_cmp p q) (is_in place_cmp ps p) is
-          (λ t. sym beyond.0 ∙ ap (λ (r : Place). int_lt q.slot r.slot) (same_from_tie place_cmp_total place_cmp-IsAntisymmetric p q t) ∙ not_above_itself q.slot)
+          either_case (eq_by_cmp cell_slot_cmp p q) (is_in cell_slot_cmp ps p) is
+          (λ t. sym beyond.0 ∙ ap (λ (r : CellSlot). int_lt q.slot r.slot) (same_from_tie cell_slot_cmp_total cell_slot_cmp-IsAntisymmetric p q t) ∙ not_above_itself q.slot)
           (λ h. newest_is_last ps y g p h beyond.1)
     ] refl e
 
@@ -79,25 +79,25 @@ length-map : {A B : Type 0} (f : A → B) (xs : List A) → length (map f xs) �
 length-map f [] = refl
 length-map f (x ∷ xs) = ap suc (length-map f xs)
 
--- ---- a place as a number below the rows times the origins
+-- ---- a cell slot as a number below the rows times the origins
 
-code : ℕ → ℤ → Place → ℕ
+code : ℕ → ℤ → CellSlot → ℕ
 code origins top p = unsigned_abs (top -ℤ p.slot) * origins + (p.origin - 1)
 
-record Fits (rows origins : ℕ) (top : ℤ) (p : Place) : Type 0 where
+record Fits (rows origins : ℕ) (top : ℤ) (p : CellSlot) : Type 0 where
   least : 1 ≤ p.origin
   most : p.origin ≤ origins
   below : int_lt top p.slot ≡ false
   near : unsigned_abs (top -ℤ p.slot) < rows
 
 module _ (rows origins : ℕ) (top : ℤ) where
-  code_below : (p : Place) → Fits rows origins top p → code origins top p < rows * origins
+  code_below : (p : CellSlot) → Fits rows origins top p → code origins top p < rows * origins
   unfolding code
   code_below p f =
       let last : p.origin - 1 < origins = (let a = f.least in let b = f.most in omega arith) in
       subst (λ n. unsigned_abs (top -ℤ p.slot) * origins + (p.origin - 1) < n) (mul_comm origins rows) (mul-add-lt (unsigned_abs (top -ℤ p.slot)) origins (p.origin - 1) rows f.near last)
 
-  one_code : (p q : Place) → Fits rows origins top p → Fits rows origins top q → code origins top p ≡ code origins top q → p ≡ q
+  one_code : (p q : CellSlot) → Fits rows origins top p → Fits rows origins top q → code origins top p ≡ code origins top q → p ≡ q
   unfolding code
   one_code p q f g e =
       let last_p : p.origin - 1 < origins = (let a = f.least in let b = f.most in omega arith) in
@@ -108,24 +108,24 @@ module _ (rows origins : ℕ) (top : ℤ) where
       let origins_are : p.origin ≡ q.origin = (let a = f.least in let b = g.least in omega arith) in
       λ i. record { slot = slots i; origin = origins_are i }
 
-  abbrev AllFit : List Place → Type 0
-  AllFit ps = (p : Place) → is_in place_cmp ps p ≡ true → Fits rows origins top p
+  abbrev AllFit : List CellSlot → Type 0
+  AllFit ps = (p : CellSlot) → is_in cell_slot_cmp ps p ≡ true → Fits rows origins top p
 
-  head_fits : (p : Place) (ps : List Place) → AllFit (p ∷ ps) → Fits rows origins top p
-  head_fits p ps f = f p (head_in place_cmp_total place_cmp-IsAntisymmetric p ps)
+  head_fits : (p : CellSlot) (ps : List CellSlot) → AllFit (p ∷ ps) → Fits rows origins top p
+  head_fits p ps f = f p (head_in cell_slot_cmp_total cell_slot_cmp-IsAntisymmetric p ps)
 
-  rest_fits : (p : Place) (ps : List Place) → AllFit (p ∷ ps) → AllFit ps
-  rest_fits p ps f = λ q e. f q (or_right (eq_by_cmp place_cmp q p) (is_in place_cmp ps q) e)
+  rest_fits : (p : CellSlot) (ps : List CellSlot) → AllFit (p ∷ ps) → AllFit ps
+  rest_fits p ps f = λ q e. f q (or_right (eq_by_cmp cell_slot_cmp q p) (is_in cell_slot_cmp ps q) e)
 
-  codes_apart : (x : Place) (ps : List Place) → Fits rows origins top x → AllFit ps → is_in place_cmp ps x ≡ false → AllByRecursion (λ y. eqb (code origins top x) y ≡ false) (map (code origins top) ps)
+  codes_apart : (x : CellSlot) (ps : List CellSlot) → Fits rows origins top x → AllFit ps → is_in cell_slot_cmp ps x ≡ false → AllByRecursion (λ y. eqb (code origins top x) y ≡ false) (map (code origins top) ps)
   codes_apart x [] fx f h = tt
   codes_apart x (p ∷ ps) fx f h =
-      let neither = or_parts (eq_by_cmp place_cmp x p) (is_in place_cmp ps x) h in (
-        ne_eqb (code origins top x) (code origins top p) (λ e. true≢false (sym (subst (λ y. eq_by_cmp place_cmp x y ≡ true) (one_code x p fx (head_fits p ps f) e) (tie_itself place_cmp_total place_cmp-IsAntisymmetric x)) ∙ neither.0)),
+      let neither = or_parts (eq_by_cmp cell_slot_cmp x p) (is_in cell_slot_cmp ps x) h in (
+        ne_eqb (code origins top x) (code origins top p) (λ e. true≢false (sym (subst (λ y. eq_by_cmp cell_slot_cmp x y ≡ true) (one_code x p fx (head_fits p ps f) e) (tie_itself cell_slot_cmp_total cell_slot_cmp-IsAntisymmetric x)) ∙ neither.0)),
         codes_apart x ps fx (rest_fits p ps f) neither.1,
       )
 
-  codes_distinct : (ps : List Place) → IsDistinct place_cmp ps → AllFit ps → lists.IsDistinct eqb (map (code origins top) ps)
+  codes_distinct : (ps : List CellSlot) → IsDistinct cell_slot_cmp ps → AllFit ps → lists.IsDistinct eqb (map (code origins top) ps)
   unfolding lists.IsDistinct
   codes_distinct [] d f = tt
   codes_distinct (p ∷ ps) (more apart d) f =
@@ -133,29 +133,29 @@ module _ (rows origins : ℕ) (top : ℤ) where
       (codes_apart p ps (head_fits p ps f) (rest_fits p ps f) apart)
       (codes_distinct ps d (rest_fits p ps f))
 
-  all_below : (ps : List Place) → AllFit ps → (q : ℕ) → list_any (eqb q) (map (code origins top) ps) ≡ true → q < rows * origins
+  all_below : (ps : List CellSlot) → AllFit ps → (q : ℕ) → list_any (eqb q) (map (code origins top) ps) ≡ true → q < rows * origins
   all_below [] f q e = absurd (true≢false (sym e))
   all_below (p ∷ ps) f q e = either_case (eqb q (code origins top p)) (list_any (eqb q) (map (code origins top) ps)) e
       (λ t. subst (λ n. n < rows * origins) (sym (eqb-true q (code origins top p) t)) (code_below p (head_fits p ps f)))
       (λ h. all_below ps (rest_fits p ps f) q h)
 
-  few : (ps : List Place) → IsDistinct place_cmp ps → AllFit ps → length ps ≤ rows * origins
+  few : (ps : List CellSlot) → IsDistinct cell_slot_cmp ps → AllFit ps → length ps ≤ rows * origins
   few ps d f = subst (λ n. n ≤ rows * origins) (length-map (code origins top) ps) (length-le_from_distinct_below (map (code origins top) ps) (rows * origins) (codes_distinct ps d f) (all_below ps f))
 
--- ---- the places of a trimmed map
+-- ---- the cell slots of a trimmed map
 
-live_there : (rows : ℕ) (m : Rows) → IsTrimmed rows m → (p : Place) → contains_key m p ≡ true → is_live_at rows (keys m) p ≡ true
+live_there : (rows : ℕ) (m : Rows) → IsTrimmed rows m → (p : CellSlot) → contains_key m p ≡ true → is_live_at rows (keys m) p ≡ true
 live_there rows m kept p e = elim (is_live_at rows (keys m) p) as (λ b. is_live_at rows (keys m) p ≡ b → b ≡ true) [
   | true ↦ λ _. refl
-  | false ↦ λ h. sym (ap is_some (sym (ap (λ n. get n p) kept) ∙ get-trimmed place_cmp_total place_cmp-IsAntisymmetric (is_live_at rows) m p ∙ ap (λ b. cond b (get m p) None) h)) ∙ e
+  | false ↦ λ h. sym (ap is_some (sym (ap (λ n. get n p) kept) ∙ get-trimmed cell_slot_cmp_total cell_slot_cmp-IsAntisymmetric (is_live_at rows) m p ∙ ap (λ b. cond b (get m p) None) h)) ∙ e
 ] refl
 
-above_top : (rows : ℕ) (ps : List Place) (top : ℤ) (p : Place) → newest_of ps ≡ Some top → is_live_at rows ps p ≡ true → int_lt (top -ℤ pos rows) p.slot ≡ true
+above_top : (rows : ℕ) (ps : List CellSlot) (top : ℤ) (p : CellSlot) → newest_of ps ≡ Some top → is_live_at rows ps p ≡ true → int_lt (top -ℤ pos rows) p.slot ≡ true
 above_top rows ps top p e h = ap (λ g. is_above rows g p.slot) (sym e) ∙ h
 
-nothing_long : (ps : List Place) (n : ℕ) → newest_of ps ≡ None → length ps ≤ n
+nothing_long : (ps : List CellSlot) (n : ℕ) → newest_of ps ≡ None → length ps ≤ n
 nothing_long [] n e = omega arith
-nothing_long (x ∷ xs) n e = absurd (true≢false (sym (head_in place_cmp_total place_cmp-IsAntisymmetric x xs) ∙ none_newest (x ∷ xs) e x))
+nothing_long (x ∷ xs) n e = absurd (true≢false (sym (head_in cell_slot_cmp_total cell_slot_cmp-IsAntisymmetric x xs) ∙ none_newest (x ∷ xs) e x))
 
 pub cells_are_few : CellsAreFew
 cells_are_few rows origins m kept of =
@@ -163,7 +163,7 @@ cells_are_few rows origins m kept of =
     (elim (newest_of (keys m)) as (λ g. newest_of (keys m) ≡ g → length (keys m) ≤ rows * origins) [
       | None ↦ λ e. nothing_long (keys m) (rows * origins) e
       | Some top ↦ λ e. few rows origins top (keys m) (keys_distinct m) (λ p is.
-          let here = sym (is_in-keys place_cmp_total place_cmp-IsAntisymmetric m p) ∙ is in
+          let here = sym (is_in-keys cell_slot_cmp_total cell_slot_cmp-IsAntisymmetric m p) ∙ is in
           let below = elim (int_lt top p.slot) as (λ b. int_lt top p.slot ≡ b → b ≡ false) [ true ↦ λ h. newest_is_last (keys m) top e p is h | false ↦ λ h. refl ] refl in
           record { least = (of p here).0; most = (of p here).1; below = below; near = within_rows top p.slot rows (above_top rows (keys m) top p e (live_there rows m kept p here)) below })
     ] refl)

@@ -1,4 +1,4 @@
--- A place is live beside others exactly where none of them puts it past the horizon.
+-- A cell slot is live beside others exactly where none of them puts it past the horizon.
 use Rattle.std.proofs.Common.{◌≡◌, arith, ℕ, ◌<◌, ℤ, pos, ◌-ℤ◌, Bool, true, false, not, ◌&&◌, List, [], ◌∷◌, refl, sym, ap, ◌∙◌, Option, Some, None}
 use Rattle.std.specs.Prelude.{int_lt}
 use Rattle.std.specs.List.{list_all}
@@ -8,7 +8,7 @@ use Rattle.std.proofs.lemmas.Bool.{not-true}
 use Rattle.std.proofs.lemmas.Int.{ints}
 use Rattle.rr_join.specs.Maps.{greater, IsHorizon}
 use Rattle.rr_join.specs.Horizon.{is_above}
-use Rattle.rr_archive.specs.Places.{Place, newest_of, is_live_at}
+use Rattle.rr_archive.specs.CellSlots.{CellSlot, newest_of, is_live_at}
 
 above_both : (x y slot : ℤ) (rows : ℕ) → int_lt (ord_max int_cmp x y -ℤ pos rows) slot ≡ (int_lt (x -ℤ pos rows) slot && int_lt (y -ℤ pos rows) slot)
 above_both x y slot rows = grind (arith, ints)
@@ -25,14 +25,14 @@ past_further : (l m n : ℤ) (rows : ℕ) → int_lt (l -ℤ pos rows) m ≡ fal
 past_further l m n rows p q = grind (arith, ints)
 
 -- q is so far ahead that p is past the horizon
-abbrev pub is_past_at : ℕ → Place → Place → Bool
+abbrev pub is_past_at : ℕ → CellSlot → CellSlot → Bool
 is_past_at rows q p = not (int_lt (q.slot -ℤ pos rows) p.slot)
 
 not_not : (a : Bool) → a ≡ not (not a)
 not_not true = refl
 not_not false = refl
 
-live_says : (rows : ℕ) (ps : List Place) (p : Place) → is_live_at rows ps p ≡ list_all (λ q. not (is_past_at rows q p)) ps
+live_says : (rows : ℕ) (ps : List CellSlot) (p : CellSlot) → is_live_at rows ps p ≡ list_all (λ q. not (is_past_at rows q p)) ps
 live_says rows [] p = refl
 live_says rows (q ∷ ps) p =
     is_above-greater rows (Some q.slot) (newest_of ps) p.slot

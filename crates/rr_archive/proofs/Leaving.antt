@@ -13,26 +13,26 @@ use Rattle.rr_join.proofs.Keys.{entries-retain}
 use Rattle.rr_contrib.specs.declared.contribution.Contribution.{Contribution}
 use Rattle.rr_archive.specs.declared.entry.Entry.{Entry}
 use Rattle.rr_join.specs.Horizon.{is_above}
-use Rattle.rr_archive.specs.Places.{Place, place_at, place_cmp}
+use Rattle.rr_archive.specs.CellSlots.{CellSlot, cell_slot, cell_slot_cmp}
 use Rattle.rr_archive.specs.Cells.{Rows}
 use Rattle.rr_archive.specs.Held.{cells_in, RowsAscend, starts_dead, first_len}
-use Rattle.rr_archive.proofs.PlaceOrder.{place_cmp_total, place_cmp-IsAntisymmetric}
+use Rattle.rr_archive.proofs.CellSlotOrder.{cell_slot_cmp_total, cell_slot_cmp-IsAntisymmetric}
 use Rattle.rr_archive.proofs.Listing.{row_cells, cells_list, listed_from, entries-cells_in, rest_ascends}
 
-abbrev is_kept : ℕ → ℤ → Place × Contribution → Bool
+abbrev is_kept : ℕ → ℤ → CellSlot × Contribution → Bool
 is_kept limit top e = is_above limit (Some top) e.0.slot
 
 -- ---- one row, and those after it
 
 none_kept : (limit : ℕ) (top slot : ℤ) (es : List Entry) → is_above limit (Some top) slot ≡ false → filter (is_kept limit top) (row_cells slot es) ≡ []
 none_kept limit top slot [] h = refl
-none_kept limit top slot (e ∷ es) h = ap (λ b. cond b ((place_at slot e.origin, e.contribution) ∷ filter (is_kept limit top) (row_cells slot es)) (filter (is_kept limit top) (row_cells slot es))) h ∙ none_kept limit top slot es h
+none_kept limit top slot (e ∷ es) h = ap (λ b. cond b ((cell_slot slot e.origin, e.contribution) ∷ filter (is_kept limit top) (row_cells slot es)) (filter (is_kept limit top) (row_cells slot es))) h ∙ none_kept limit top slot es h
 
 all_kept : (limit : ℕ) (top slot : ℤ) (es : List Entry) → is_above limit (Some top) slot ≡ true → filter (is_kept limit top) (row_cells slot es) ≡ row_cells slot es
 all_kept limit top slot [] h = refl
 all_kept limit top slot (e ∷ es) h =
-    ap (λ b. cond b ((place_at slot e.origin, e.contribution) ∷ filter (is_kept limit top) (row_cells slot es)) (filter (is_kept limit top) (row_cells slot es))) h
-    ∙ ap (λ l. (place_at slot e.origin, e.contribution) ∷ l) (all_kept limit top slot es h)
+    ap (λ b. cond b ((cell_slot slot e.origin, e.contribution) ∷ filter (is_kept limit top) (row_cells slot es)) (filter (is_kept limit top) (row_cells slot es))) h
+    ∙ ap (λ l. (cell_slot slot e.origin, e.contribution) ∷ l) (all_kept limit top slot es h)
 
 later_above : (limit : ℕ) (top slot t : ℤ) → is_above limit (Some top) slot ≡ true → int_cmp slot t ≡ Less → is_above limit (Some top) t ≡ true
 later_above limit top slot t h less = further (top -ℤ pos limit) slot t h less
@@ -54,11 +54,11 @@ pub record LeftOver (limit : ℕ) (top : ℤ) (rows left : List (ℤ × Vec Entr
   pub ascend : RowsAscend left
   pub ordered : IsStrictlySortedBy int_cmp (keys_of left)
 
-length-row_cells : (slot : ℤ) (es : List Entry) (rest : List (Place × Contribution)) → length (row_cells slot es ++ rest) - length es ≡ length rest
+length-row_cells : (slot : ℤ) (es : List Entry) (rest : List (CellSlot × Contribution)) → length (row_cells slot es ++ rest) - length es ≡ length rest
 length-row_cells slot [] rest = omega arith
 length-row_cells slot (e ∷ es) rest = let h = length-row_cells slot es rest in omega arith
 
-within_row_cells : (slot : ℤ) (es : List Entry) (rest : List (Place × Contribution)) → length es ≤ length (row_cells slot es ++ rest)
+within_row_cells : (slot : ℤ) (es : List Entry) (rest : List (CellSlot × Contribution)) → length es ≤ length (row_cells slot es ++ rest)
 within_row_cells slot [] rest = omega arith
 within_row_cells slot (e ∷ es) rest = let more = within_row_cells slot es rest in omega arith
 
@@ -98,14 +98,14 @@ live_left limit top (r ∷ rs) ordered alive =
     not_false false e = sym e
 
 same_entries : (m n : Rows) → entries m ≡ entries n → m ≡ n
-same_entries m n e = same_map place_cmp_total place_cmp-IsAntisymmetric m n (λ q. get-entries m q ∙ ap (find place_cmp q) e ∙ sym (get-entries n q))
+same_entries m n e = same_map cell_slot_cmp_total cell_slot_cmp-IsAntisymmetric m n (λ q. get-entries m q ∙ ap (find cell_slot_cmp q) e ∙ sym (get-entries n q))
 
 pub left_live : (limit : ℕ) (top : ℤ) (rows left : List (ℤ × Vec Entry)) (count : ℕ) → RowsAscend rows → IsStrictlySortedBy int_cmp (keys_of rows) → LeftOver limit top rows left count → starts_dead limit top left ≡ false → cells_in left ≡ retain_keys (cells_in rows) (λ p. is_above limit (Some top) p.slot)
 left_live limit top rows left count ascend ordered l alive = same_entries _ _
     (entries-cells_in left (listed_from left l.ordered l.ascend)
     ∙ sym (live_left limit top left l.ordered alive) ∙ l.live
     ∙ ap (filter (is_kept limit top)) (sym (entries-cells_in rows (listed_from rows ordered ascend)))
-    ∙ sym (entries-retain place_cmp_total place_cmp-IsAntisymmetric (cells_in rows) (λ p. is_above limit (Some top) p.slot)))
+    ∙ sym (entries-retain cell_slot_cmp_total cell_slot_cmp-IsAntisymmetric (cells_in rows) (λ p. is_above limit (Some top) p.slot)))
 
 pub left_count : (limit : ℕ) (top : ℤ) (rows left : List (ℤ × Vec Entry)) (count : ℕ) → LeftOver limit top rows left count → count ≡ len (cells_in left)
 left_count limit top rows left count l = l.counted ∙ ap length (sym (entries-cells_in left (listed_from left l.ordered l.ascend))) ∙ sym (len-entries (cells_in left))

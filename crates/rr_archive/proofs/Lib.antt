@@ -1,4 +1,4 @@
-pub mod PlaceOrder
+pub mod CellSlotOrder
 pub mod Horizon
 pub mod RowLemmas
 pub mod HeldLemmas
@@ -10,4 +10,4 @@ pub mod Counting
 pub mod Listing
 pub mod Leaving
 pub mod Copying
-pub mod Behind
+pub mod NextCell

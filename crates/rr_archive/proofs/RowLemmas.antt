@@ -28,28 +28,28 @@ not_from : (m n : ℕ) → n < m → leb m n ≡ false
 not_from m n h = grind (arith, nat_tests)
 
 -- the number of the first entry whose origin is not below, or how many there are
-abbrev pub place_for : ℕ → List Entry → ℕ
-place_for origin es = position_or_len (is_from origin) es
+abbrev pub position_for : ℕ → List Entry → ℕ
+position_for origin es = position_or_len (is_from origin) es
 
-place_for-first : (origin : ℕ) (e : Entry) (es : List Entry) → origin ≤ e.origin → place_for origin (e ∷ es) ≡ 0
-place_for-first origin e es h = ap (λ b. cond (not b) (1 + place_for origin es) 0) (from_le origin e.origin h)
+position_for-first : (origin : ℕ) (e : Entry) (es : List Entry) → origin ≤ e.origin → position_for origin (e ∷ es) ≡ 0
+position_for-first origin e es h = ap (λ b. cond (not b) (1 + position_for origin es) 0) (from_le origin e.origin h)
 
-place_for-later : (origin : ℕ) (e : Entry) (es : List Entry) → e.origin < origin → place_for origin (e ∷ es) ≡ suc (place_for origin es)
-place_for-later origin e es h = ap (λ b. cond (not b) (1 + place_for origin es) 0) (not_from origin e.origin h) ∙ one-add (place_for origin es)
+position_for-later : (origin : ℕ) (e : Entry) (es : List Entry) → e.origin < origin → position_for origin (e ∷ es) ≡ suc (position_for origin es)
+position_for-later origin e es h = ap (λ b. cond (not b) (1 + position_for origin es) 0) (not_from origin e.origin h) ∙ one-add (position_for origin es)
 
-pub place_for-le : (origin : ℕ) (es : List Entry) → place_for origin es ≤ length es
-place_for-le origin [] = omega arith
-place_for-le origin (e ∷ es) =
-    let rest = place_for-le origin es in
+pub position_for-le : (origin : ℕ) (es : List Entry) → position_for origin es ≤ length es
+position_for-le origin [] = omega arith
+position_for-le origin (e ∷ es) =
+    let rest = position_for-le origin es in
     ⊎_elim
-    (λ below. let at = place_for-later origin e es below in omega arith)
-    (λ from. let at = place_for-first origin e es from in omega arith)
+    (λ below. let at = position_for-later origin e es below in omega arith)
+    (λ from. let at = position_for-first origin e es from in omega arith)
     (cases_lt e.origin origin)
 
-pub place_for-is : (origin : ℕ) (es : List Entry) → unwrap_or (position_from (is_from origin) 0 es) (length es) ≡ place_for origin es
-place_for-is origin es =
-    let at = place_for origin es in
-    let most = place_for-le origin es in
+pub position_for-is : (origin : ℕ) (es : List Entry) → unwrap_or (position_from (is_from origin) 0 es) (length es) ≡ position_for origin es
+position_for-is origin es =
+    let at = position_for origin es in
+    let most = position_for-le origin es in
     ap (λ o. unwrap_or o (length es)) (sym (position_from-zero (is_from origin) es))
     ∙ elim (ltb at (length es)) as (λ b. ltb at (length es) ≡ b → unwrap_or (cond b (Some at) None) (length es) ≡ at) [
       | true ↦ λ _. refl
@@ -59,34 +59,34 @@ place_for-is origin es =
 -- ---- what the row has then
 
 -- an entry in place of one of its origin
-pub with_entry-set : (es : List Entry) (new d : Entry) → place_for new.origin es < length es → (get_or es (place_for new.origin es) d).origin ≡ new.origin → set es (place_for new.origin es) new ≡ with_entry es new
+pub with_entry-set : (es : List Entry) (new d : Entry) → position_for new.origin es < length es → (get_or es (position_for new.origin es) d).origin ≡ new.origin → set es (position_for new.origin es) new ≡ with_entry es new
 with_entry-set [] new d lt same = absurd (omega arith)
 with_entry-set (e ∷ es) new d lt same =
-    elim (nat_cmp new.origin e.origin) as (λ r. nat_cmp new.origin e.origin ≡ r → set (e ∷ es) (place_for new.origin (e ∷ es)) new ≡ by_order r (new ∷ e ∷ es) (new ∷ es) (e ∷ with_entry es new)) [
+    elim (nat_cmp new.origin e.origin) as (λ r. nat_cmp new.origin e.origin ≡ r → set (e ∷ es) (position_for new.origin (e ∷ es)) new ≡ by_order r (new ∷ e ∷ es) (new ∷ es) (e ∷ with_entry es new)) [
       | Less ↦ λ t.
           let below = Less_tells new.origin e.origin t in
-          let at = place_for-first new.origin e es (omega arith) in
+          let at = position_for-first new.origin e es (omega arith) in
           let here : e.origin ≡ new.origin = subst (λ k. (get_or (e ∷ es) k d).origin ≡ new.origin) at same in
           absurd (omega arith)
-      | Equal ↦ λ t. ap (λ k. set (e ∷ es) k new) (place_for-first new.origin e es (let is = Equal_tells new.origin e.origin t in omega arith))
+      | Equal ↦ λ t. ap (λ k. set (e ∷ es) k new) (position_for-first new.origin e es (let is = Equal_tells new.origin e.origin t in omega arith))
       | Greater ↦ λ t.
-          let at = place_for-later new.origin e es (Greater_tells new.origin e.origin t) in
+          let at = position_for-later new.origin e es (Greater_tells new.origin e.origin t) in
           ap (λ k. set (e ∷ es) k new) at
           ∙ ap (λ l. e ∷ l) (with_entry-set es new d (omega arith) (subst (λ k. (get_or (e ∷ es) k d).origin ≡ new.origin) at same))
     ] refl
 
 -- and one of an origin that has none
-pub with_entry-insert : (es : List Entry) (new d : Entry) → (place_for new.origin es < length es → (get_or es (place_for new.origin es) d).origin ≢ new.origin) → insert es (place_for new.origin es) new ≡ with_entry es new
+pub with_entry-insert : (es : List Entry) (new d : Entry) → (position_for new.origin es < length es → (get_or es (position_for new.origin es) d).origin ≢ new.origin) → insert es (position_for new.origin es) new ≡ with_entry es new
 with_entry-insert [] new d other = refl
 with_entry-insert (e ∷ es) new d other =
-    elim (nat_cmp new.origin e.origin) as (λ r. nat_cmp new.origin e.origin ≡ r → insert (e ∷ es) (place_for new.origin (e ∷ es)) new ≡ by_order r (new ∷ e ∷ es) (new ∷ es) (e ∷ with_entry es new)) [
-      | Less ↦ λ t. ap (λ k. insert (e ∷ es) k new) (place_for-first new.origin e es (let below = Less_tells new.origin e.origin t in omega arith))
+    elim (nat_cmp new.origin e.origin) as (λ r. nat_cmp new.origin e.origin ≡ r → insert (e ∷ es) (position_for new.origin (e ∷ es)) new ≡ by_order r (new ∷ e ∷ es) (new ∷ es) (e ∷ with_entry es new)) [
+      | Less ↦ λ t. ap (λ k. insert (e ∷ es) k new) (position_for-first new.origin e es (let below = Less_tells new.origin e.origin t in omega arith))
       | Equal ↦ λ t.
           let is = Equal_tells new.origin e.origin t in
-          let at = place_for-first new.origin e es (omega arith) in
+          let at = position_for-first new.origin e es (omega arith) in
           absurd (other (omega arith) (ap (λ k. (get_or (e ∷ es) k d).origin) at ∙ sym is))
       | Greater ↦ λ t.
-          let at = place_for-later new.origin e es (Greater_tells new.origin e.origin t) in
+          let at = position_for-later new.origin e es (Greater_tells new.origin e.origin t) in
           ap (λ k. insert (e ∷ es) k new) at
           ∙ ap (λ l. e ∷ l) (with_entry-insert es new d (λ lt same. other (omega arith) (ap (λ k. (get_or (e ∷ es) k d).origin) at ∙ same)))
     ] refl

@@ -1,4 +1,4 @@
--- Maps of live places: what a cell more makes of them.
+-- Maps of live cell slots: what a cell more makes of them.
 use Rattle.std.proofs.Common.{◌≡◌, ℕ, ◌≤◌, ℤ, pos, ◌-ℤ◌, Bool, true, false, cond, List, [], ◌∷◌, refl, sym, ap, ◌∙◌, true≢false, Option, Some, None, int_cmp, arith}
 use Rattle.std.specs.Prelude.{int_lt}
 use Rattle.std.specs.List.{filter, list_all}
@@ -13,9 +13,9 @@ use Rattle.rr_join.proofs.Lookups.{get-trimmed}
 use Rattle.rr_join.proofs.Keys.{keys-retain}
 use Rattle.rr_contrib.specs.declared.contribution.Contribution.{Contribution}
 use Rattle.rr_join.specs.Horizon.{is_above}
-use Rattle.rr_archive.specs.Places.{Place, place_cmp, newest_of, is_live_at}
+use Rattle.rr_archive.specs.CellSlots.{CellSlot, cell_slot_cmp, newest_of, is_live_at}
 use Rattle.rr_archive.specs.Cells.{Rows, IsTrimmed}
-use Rattle.rr_archive.proofs.PlaceOrder.{place_cmp_total, place_cmp-IsAntisymmetric}
+use Rattle.rr_archive.proofs.CellSlotOrder.{cell_slot_cmp_total, cell_slot_cmp-IsAntisymmetric}
 use Rattle.rr_archive.proofs.FewCells.{newest-insert}
 
 -- ---- the elements that pass a test
@@ -65,7 +65,7 @@ max_above z x y =
     neither : (z x y : ℤ) → int_lt z x ≡ false → int_lt z y ≡ false → int_lt z (ord_max int_cmp x y) ≡ false
     neither z x y p q = grind (arith, ints)
 
-newest_above : (z : ℤ) (ps : List Place) → newest_of (filter (λ p. int_lt z p.slot) ps) ≡ if_above z (newest_of ps)
+newest_above : (z : ℤ) (ps : List CellSlot) → newest_of (filter (λ p. int_lt z p.slot) ps) ≡ if_above z (newest_of ps)
 newest_above z [] = refl
 newest_above z (p ∷ ps) =
     pushed (int_lt z p.slot) p (filter (λ q. int_lt z q.slot) ps)
@@ -75,7 +75,7 @@ newest_above z (p ∷ ps) =
       | Some y ↦ max_above z p.slot y
     ]
   where
-    pushed : (b : Bool) (p : Place) (ps : List Place) → newest_of (cond b (p ∷ ps) ps) ≡ greater int_cmp (cond b (Some p.slot) None) (newest_of ps)
+    pushed : (b : Bool) (p : CellSlot) (ps : List CellSlot) → newest_of (cond b (p ∷ ps) ps) ≡ greater int_cmp (cond b (Some p.slot) None) (newest_of ps)
     pushed true p ps = refl
     pushed false p ps = refl
 
@@ -89,13 +89,13 @@ module _ (limit : ℕ) where
   -- the keys of a trimmed map
   keys-trimmed : (m : Rows) → keys (trimmed (is_live_at limit) m) ≡ filter (is_live_at limit (keys m)) (keys m)
   unfolding trimmed
-  keys-trimmed m = keys-retain place_cmp_total place_cmp-IsAntisymmetric m (is_live_at limit (keys m))
+  keys-trimmed m = keys-retain cell_slot_cmp_total cell_slot_cmp-IsAntisymmetric m (is_live_at limit (keys m))
 
   pub trimmed_by_slots : (m : Rows) (top : Option ℤ) → newest_of (keys m) ≡ top → trimmed (is_live_at limit) m ≡ retain_keys m (λ p. is_above limit top p.slot)
   unfolding trimmed
   trimmed_by_slots m top is = ap (λ o. retain_keys m (λ p. is_above limit o p.slot)) is
 
-  pub all_other-trimmed : (m : Rows) (test : Place → Bool) → list_all test (keys m) ≡ true → list_all test (keys (trimmed (is_live_at limit) m)) ≡ true
+  pub all_other-trimmed : (m : Rows) (test : CellSlot → Bool) → list_all test (keys m) ≡ true → list_all test (keys (trimmed (is_live_at limit) m)) ≡ true
   all_other-trimmed m test h = ap (list_all test) (keys-trimmed m) ∙ all_filter_other (is_live_at limit (keys m)) test (keys m) h
 
   -- the newest slot stays
@@ -105,7 +105,7 @@ module _ (limit : ℕ) where
     | Some top ↦ λ is. newest_above (top -ℤ pos limit) (keys m) ∙ ap (if_above (top -ℤ pos limit)) is ∙ ap (λ b. cond b (Some top) None) (below_itself top limit some)
   ] refl
     where
-      all_pass : (ps : List Place) → filter (λ _. true) ps ≡ ps
+      all_pass : (ps : List CellSlot) → filter (λ _. true) ps ≡ ps
       all_pass [] = refl
       all_pass (p ∷ ps) = ap (λ l. p ∷ l) (all_pass ps)
 
@@ -120,20 +120,20 @@ module _ (limit : ℕ) where
   nothing = empty
 
   pub trimmed_none : IsTrimmed limit empty
-  trimmed_none = same_map place_cmp_total place_cmp-IsAntisymmetric _ _ (λ q.
-      get-trimmed place_cmp_total place_cmp-IsAntisymmetric (is_live_at limit) empty q
-      ∙ ap (λ o. cond (is_live_at limit (keys nothing) q) o None) (get-empty place_cmp q)
+  trimmed_none = same_map cell_slot_cmp_total cell_slot_cmp-IsAntisymmetric _ _ (λ q.
+      get-trimmed cell_slot_cmp_total cell_slot_cmp-IsAntisymmetric (is_live_at limit) empty q
+      ∙ ap (λ o. cond (is_live_at limit (keys nothing) q) o None) (get-empty cell_slot_cmp q)
       ∙ none_either_way (is_live_at limit (keys nothing) q)
-      ∙ sym (get-empty place_cmp q))
+      ∙ sym (get-empty cell_slot_cmp q))
 
   -- a cell past the horizon leaves no trace
-  pub trimmed_dead : (m : Rows) (p : Place) (c : Contribution) → IsTrimmed limit m → is_live_at limit (keys m) p ≡ false → trimmed (is_live_at limit) (insert m p c) ≡ m
-  trimmed_dead m p c kept dead = same_map place_cmp_total place_cmp-IsAntisymmetric _ _ (λ q.
-      let seen = ap (λ n. get n q) (sym kept) ∙ get-trimmed place_cmp_total place_cmp-IsAntisymmetric (is_live_at limit) m q in
-      get-trimmed place_cmp_total place_cmp-IsAntisymmetric (is_live_at limit) (insert m p c) q
-      ∙ (λ i. cond (is_above limit (newest_stays i) q.slot) (get-insert place_cmp_total m p c q i) None)
-      ∙ elim (eq_by_cmp place_cmp q p) as (λ t. eq_by_cmp place_cmp q p ≡ t → cond (is_live_at limit (keys m) q) (cond t (Some c) (get m q)) None ≡ cond (is_live_at limit (keys m) q) (get m q) None) [
-        | true ↦ λ t. let gone = ap (is_live_at limit (keys m)) (same_from_tie place_cmp_total place_cmp-IsAntisymmetric q p t) ∙ dead in ap (λ b. cond b (Some c) None) gone ∙ sym (ap (λ b. cond b (get m q) None) gone)
+  pub trimmed_dead : (m : Rows) (p : CellSlot) (c : Contribution) → IsTrimmed limit m → is_live_at limit (keys m) p ≡ false → trimmed (is_live_at limit) (insert m p c) ≡ m
+  trimmed_dead m p c kept dead = same_map cell_slot_cmp_total cell_slot_cmp-IsAntisymmetric _ _ (λ q.
+      let seen = ap (λ n. get n q) (sym kept) ∙ get-trimmed cell_slot_cmp_total cell_slot_cmp-IsAntisymmetric (is_live_at limit) m q in
+      get-trimmed cell_slot_cmp_total cell_slot_cmp-IsAntisymmetric (is_live_at limit) (insert m p c) q
+      ∙ (λ i. cond (is_above limit (newest_stays i) q.slot) (get-insert cell_slot_cmp_total m p c q i) None)
+      ∙ elim (eq_by_cmp cell_slot_cmp q p) as (λ t. eq_by_cmp cell_slot_cmp q p ≡ t → cond (is_live_at limit (keys m) q) (cond t (Some c) (get m q)) None ≡ cond (is_live_at limit (keys m) q) (get m q) None) [
+        | true ↦ λ t. let gone = ap (is_live_at limit (keys m)) (same_from_tie cell_slot_cmp_total cell_slot_cmp-IsAntisymmetric q p t) ∙ dead in ap (λ b. cond b (Some c) None) gone ∙ sym (ap (λ b. cond b (get m q) None) gone)
         | false ↦ λ t. refl
       ] refl
       ∙ sym seen)

@@ -1,4 +1,4 @@
--- The cells of one archive of one key: a finite map from places to contributions.
+-- The cells of one archive of one key: a finite map from cell slots to contributions.
 use Rattle.std.specs.Prelude.{◌≡◌, ℕ, ℤ, List, map, Option}
 use Rattle.std.specs.List.{filter, find}
 use Rattle.std.specs.Ordering.{int_eq, is_lt}
@@ -9,27 +9,27 @@ use Rattle.rr_contrib.specs.Contributions.{contribution_cmp, SlotSample, added}
 use Rattle.rr_archive.specs.declared.entry.Entry.{Entry}
 use Rattle.rr_archive.specs.declared.change.Change.{Change}
 use Rattle.rr_archive.specs.Changes.{contribution_after}
-use Rattle.rr_archive.specs.Places.{Place, place_cmp, is_live_at}
+use Rattle.rr_archive.specs.CellSlots.{CellSlot, cell_slot_cmp, is_live_at}
 
 abbrev pub Rows : Type 0
-Rows = FinMap place_cmp Contribution
+Rows = FinMap cell_slot_cmp Contribution
 
 -- ---- without a horizon
 
--- with a sample more at a place
-abbrev pub with_put : Rows → Place → SlotSample → Rows
+-- with a sample more at a cell slot
+abbrev pub with_put : Rows → CellSlot → SlotSample → Rows
 with_put m p x = insert m p (added (get m p) x)
 
--- with the cell of a place changed
-abbrev pub with_change : Rows → Place → Change → Rows
+-- with the cell at a cell slot changed
+abbrev pub with_change : Rows → CellSlot → Change → Rows
 with_change m p change = insert m p (contribution_after (get m p) change)
 
--- at each place of either map the greater contribution
+-- at each cell slot of either map the greater contribution
 abbrev pub merge_rows : Rows → Rows → Rows
 merge_rows m n = merged contribution_cmp m n
 
 -- with a cell merged in
-abbrev pub with_cell : Rows → Place → Contribution → Rows
+abbrev pub with_cell : Rows → CellSlot → Contribution → Rows
 with_cell m p c = merge_rows m (insert empty p c)
 
 -- ---- of an archive of so many rows
@@ -38,8 +38,8 @@ with_cell m p c = merge_rows m (insert empty p c)
 abbrev pub IsTrimmed : ℕ → Rows → Type 0
 IsTrimmed rows m = trimmed (is_live_at rows) m ≡ m
 
--- with a sample more at a place, and then the live cells
-abbrev pub put_row : ℕ → Rows → Place → SlotSample → Rows
+-- with a sample more at a cell slot, and then the live cells
+abbrev pub put_row : ℕ → Rows → CellSlot → SlotSample → Rows
 put_row rows m p x = trimmed (is_live_at rows) (with_put m p x)
 
 -- the two merged, and then the live cells
@@ -47,13 +47,13 @@ abbrev pub join_rows : ℕ → Rows → Rows → Rows
 join_rows rows m n = joined contribution_cmp (is_live_at rows) m n
 
 -- with a cell joined in
-abbrev pub join_cell : ℕ → Rows → Place → Contribution → Rows
+abbrev pub join_cell : ℕ → Rows → CellSlot → Contribution → Rows
 join_cell rows m p c = join_rows rows m (insert empty p c)
 
 -- ---- read
 
--- what stands at a place, as the entry of a row
-abbrev pub entry_of : Place × Contribution → Entry
+-- what stands at a cell slot, as the entry of a row
+abbrev pub entry_of : CellSlot × Contribution → Entry
 entry_of e = record { origin = e.0.origin; contribution = e.1 }
 
 -- the entries of a slot, ascending by origin
@@ -61,9 +61,9 @@ unfoldable pub row_of : Rows → ℤ → List Entry
 row_of m slot = map entry_of (filter (λ e. int_eq e.0.slot slot) (entries m))
 
 -- a cell, as its slot and its entry
-abbrev pub cell_of : Place × Contribution → ℤ × Entry
+abbrev pub cell_of : CellSlot × Contribution → ℤ × Entry
 cell_of e = (e.0.slot, entry_of e)
 
--- the first cell behind a place, if there is one
-abbrev pub next_cell : Rows → Place → Option (Place × Contribution)
-next_cell m p = find (λ e. is_lt (place_cmp p e.0)) (entries m)
+-- the first cell after a cell slot, if there is one
+abbrev pub next_cell : Rows → CellSlot → Option (CellSlot × Contribution)
+next_cell m p = find (λ e. is_lt (cell_slot_cmp p e.0)) (entries m)

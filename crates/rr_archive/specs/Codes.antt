@@ -1,13 +1,13 @@
--- Codes of places and of what an archive holds, which show that these are sets.
+-- Codes of cell slots and of what an archive holds, which show that these are sets.
 use Rattle.std.specs.Prelude.{ℕ, ℤ, refl}
 use Rattle.std.specs.FinMap as fin
 use Rattle.std.specs.Coded.{Coded, code_by, coded×, coded_ℕ, coded_ℤ}
 use Rattle.rr_contrib.specs.declared.contribution.Contribution.{Contribution}
-use Rattle.rr_archive.specs.Places.{Place, place_at}
+use Rattle.rr_archive.specs.CellSlots.{CellSlot, cell_slot}
 use Rattle.rr_archive.specs.Cells.{Rows}
 
-abbrev pub coded_place : Coded Place
-coded_place = code_by (ℤ × ℕ) (coded× coded_ℤ coded_ℕ) (λ p. (p.slot, p.origin)) (λ p. place_at p.0 p.1) (λ _. refl)
+abbrev pub coded_cell_slot : Coded CellSlot
+coded_cell_slot = code_by (ℤ × ℕ) (coded× coded_ℤ coded_ℕ) (λ p. (p.slot, p.origin)) (λ p. cell_slot p.0 p.1) (λ _. refl)
 
 abbrev pub coded_contribution : Coded Contribution
 coded_contribution =
@@ -18,4 +18,4 @@ coded_contribution =
     (λ _. refl)
 
 abbrev pub coded_rows : Coded Rows
-coded_rows = fin.code coded_place coded_contribution
+coded_rows = fin.code coded_cell_slot coded_contribution

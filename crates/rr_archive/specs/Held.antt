@@ -13,7 +13,7 @@ use Rattle.rr_join.specs.Maps.{map_of}
 use Rattle.rr_contrib.specs.declared.contribution.Contribution.{Contribution}
 use Rattle.rr_archive.specs.declared.entry.Entry.{Entry}
 use Rattle.rr_join.specs.Horizon.{is_above}
-use Rattle.rr_archive.specs.Places.{Place, place_at, newest_of}
+use Rattle.rr_archive.specs.CellSlots.{CellSlot, cell_slot, newest_of}
 use Rattle.rr_archive.specs.Cells.{Rows, IsTrimmed}
 use Rattle.rr_archive.specs.Row.{entry_at, ascends}
 
@@ -21,21 +21,21 @@ use Rattle.rr_archive.specs.Row.{entry_at, ascends}
 abbrev pub row_in : List (ℤ × Vec Entry) → ℤ → Option (Vec Entry)
 row_in rows slot = lookup (is_at (int_cmp slot)) rows
 
--- the contribution at a place, if there is one
-abbrev pub cell_in : List (ℤ × Vec Entry) → Place → Option Contribution
+-- the contribution at a cell slot, if there is one
+abbrev pub cell_in : List (ℤ × Vec Entry) → CellSlot → Option Contribution
 cell_in rows p = option_and_then (λ row. entry_at row.items p.origin) (row_in rows p.slot)
 
--- the places of the entries
-abbrev pub places_in : List (ℤ × Vec Entry) → List Place
-places_in [] = []
-places_in (r ∷ rs) = map (λ e. place_at r.0 e.origin) r.1.items ++ places_in rs
+-- the cell slots of the entries
+abbrev pub cell_slots_in : List (ℤ × Vec Entry) → List CellSlot
+cell_slots_in [] = []
+cell_slots_in (r ∷ rs) = map (λ e. cell_slot r.0 e.origin) r.1.items ++ cell_slots_in rs
 
 -- the cells that the rows hold
 unfoldable pub cells_in : List (ℤ × Vec Entry) → Rows
-cells_in rows = map_of (places_in rows) (cell_in rows)
+cells_in rows = map_of (cell_slots_in rows) (cell_in rows)
 
--- whether the row of the place can take an entry more without memory
-abbrev pub has_room_in : List (ℤ × Vec Entry) → Place → Bool
+-- whether the row of the cell slot can take an entry more without memory
+abbrev pub has_room_in : List (ℤ × Vec Entry) → CellSlot → Bool
 has_room_in rows p = unwrap_or (option_map (λ row. nat_lt (vec_len row) (vec_capacity row)) (row_in rows p.slot)) false
 
 -- whether the entries of a row, if there is one, ascend by origin
@@ -47,12 +47,12 @@ row_ascends (Some row) = ascends row.items
 abbrev pub RowsAscend : List (ℤ × Vec Entry) → Type 0
 RowsAscend rows = (slot : ℤ) → row_ascends (row_in rows slot) ≡ true
 
--- whether a cell can stand at a place
-abbrev pub is_placed : Place → Bool
-is_placed p = nat_le (unsigned_abs p.slot) MAX_SECOND && nat_lt p.origin (2 ^ 16)
+-- whether a cell can stand at a cell slot
+abbrev pub is_in_range : CellSlot → Bool
+is_in_range p = nat_le (unsigned_abs p.slot) MAX_SECOND && nat_lt p.origin (2 ^ 16)
 
--- whether a put or a join at a place takes no memory: the place is past the horizon, or its row has room
-abbrev pub is_ready_in : ℕ → Option ℤ → List (ℤ × Vec Entry) → Place → Bool
+-- whether a put or a join at a cell slot takes no memory: the cell slot is past the horizon, or its row has room
+abbrev pub is_ready_in : ℕ → Option ℤ → List (ℤ × Vec Entry) → CellSlot → Bool
 is_ready_in limit newest rows p = not (is_above limit newest p.slot) || has_room_in rows p
 
 -- whether the first row is past the horizon of so many rows up to a newest slot
@@ -72,6 +72,6 @@ pub record IsHeld (limit count : ℕ) (newest : Option ℤ) (rows : List (ℤ ×
   pub counted : count ≡ len (cells_in rows)
   pub latest : newest ≡ newest_of (keys (cells_in rows))
   pub live : IsTrimmed limit (cells_in rows)
-  pub placed : list_all is_placed (keys (cells_in rows)) ≡ true
+  pub in_range : list_all is_in_range (keys (cells_in rows)) ≡ true
   pub ascend : RowsAscend rows
   pub ordered : IsStrictlySortedBy int_cmp (keys_of rows)

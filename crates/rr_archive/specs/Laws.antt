@@ -1,7 +1,7 @@
 -- The laws of merging and joining the cells of one archive.
 use Rattle.std.specs.Prelude.{◌≡◌, ℕ, ◌<◌, ◌≤◌, ◌*◌, IsTrue}
 use Rattle.std.specs.FinMap.{contains_key, len}
-use Rattle.rr_archive.specs.Places.{Place}
+use Rattle.rr_archive.specs.CellSlots.{CellSlot}
 use Rattle.rr_archive.specs.Cells.{Rows, merge_rows, join_rows, IsTrimmed}
 
 abbrev pub MergeIsCommutative : Type 0
@@ -28,4 +28,4 @@ JoinIsTrimmed = (rows : ℕ) (m n : Rows) → 0 < rows → IsTrimmed rows (join_
 
 -- live cells of so many origins are at most so many as the rows times the origins
 abbrev pub CellsAreFew : Type 0
-CellsAreFew = (rows origins : ℕ) (m : Rows) → IsTrimmed rows m → ((p : Place) → IsTrue (contains_key m p) → (1 ≤ p.origin) × (p.origin ≤ origins)) → len m ≤ rows * origins
+CellsAreFew = (rows origins : ℕ) (m : Rows) → IsTrimmed rows m → ((p : CellSlot) → IsTrue (contains_key m p) → (1 ≤ p.origin) × (p.origin ≤ origins)) → len m ≤ rows * origins

@@ -1,4 +1,4 @@
-pub mod Places
+pub mod CellSlots
 pub mod Row
 pub mod Changes
 pub mod Cells

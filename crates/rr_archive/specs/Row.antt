@@ -20,9 +20,9 @@ with_entry (e ∷ es) new = by_order (nat_cmp new.origin e.origin) (new ∷ e �
 abbrev pub is_from : ℕ → Entry → Bool
 is_from origin e = nat_le origin e.origin
 
--- whether an entry is in a later slot than the origin's, or behind the origin in its own
-abbrev pub is_behind : Bool → ℕ → Entry → Bool
-is_behind is_later origin e = is_later || nat_lt origin e.origin
+-- whether an entry is in a later slot than the origin's, or after the origin in its own
+abbrev pub is_after : Bool → ℕ → Entry → Bool
+is_after is_later origin e = is_later || nat_lt origin e.origin
 
 -- whether every origin is above the one before, the first of them above this one
 abbrev pub ascends_from : ℕ → List Entry → Bool

@@ -4,7 +4,7 @@ ghost use Rattle.std.specs.Option.{option_map};
 ghost use Rattle.std.specs.FinMap as fin;
 ghost use Rattle.rr_contrib.specs.Contributions.{slot_sample};
 ghost use Rattle.rr_contrib.specs.Validity.{CanAdd};
-ghost use Rattle.rr_archive.specs.Places.{Place, place_at, newest_of, is_live_at, IsSlot};
+ghost use Rattle.rr_archive.specs.CellSlots.{CellSlot, cell_slot, newest_of, is_live_at, IsSlot};
 ghost use Rattle.rr_archive.specs.Cells.{Rows, IsTrimmed, put_row, join_cell, row_of, cell_of, next_cell};
 
 use crate::entry::Entry;
@@ -15,22 +15,22 @@ use std::alloc::{AllocError, Global};
 
 /// The cells of one archive of one series, each the contribution of an origin to a slot.
 ///
-/// An archive of so many rows keeps the cells whose slots are live: above the newest slot less the
-/// rows. A cell of any other slot is past the horizon and leaves no trace. Slots are from -9,223,372,037 to 9,223,372,037. Only `ready`, `put`, `join_cell` and `copy` take
-/// memory.
+/// It keeps the cells whose slots are live: above the newest slot less the rows of the archive. A
+/// cell of any other slot is past the horizon and leaves no trace. Slots are from -9,223,372,037 to
+/// 9,223,372,037. Only `ready`, `put`, `join_cell` and `copy` take memory.
 pub trait Archive: Drop {
     ghost cells: { Self → Rows };
 
     ghost row_limit: { Self → ℕ };
 
-    ghost is_ready: { Self → Place → Bool };
+    ghost is_ready: { Self → CellSlot → Bool };
 
     /// No cell is past the horizon.
     ghost is_trimmed: { (a : Self) → IsTrimmed (row_limit a) (cells a) };
 
     ghost has_rows: { (a : Self) → 1 ≤ row_limit a };
 
-    /// An archive of so many rows, from 1 to 100,000, that holds no cell. It takes no memory yet.
+    /// An archive of `rows` rows, from 1 to 100,000, that holds no cell. It takes no memory yet.
     fn new(alloc: Global, rows: u32) -> Self
         requires some_row { 1 ≤ rows }
         requires few_rows { rows ≤ MAX_ROWS }
@@ -43,7 +43,7 @@ pub trait Archive: Drop {
         requires { IsSlot slot }
         ensures cells { cells self.new ≡ cells self.old }
         ensures limit { row_limit self.new ≡ row_limit self.old }
-        ensures room { OnOk result (IsTrue (is_ready self.new (place_at slot origin))) };
+        ensures room { OnOk result (IsTrue (is_ready self.new (cell_slot slot origin))) };
 
     /// Puts a sample of an origin into a slot. Its number, place, time and value are those of
     /// `Contribution::first`, or where the cell is there, of `Contribution::add`.
@@ -64,14 +64,14 @@ pub trait Archive: Drop {
         requires some_number { 1 ≤ number }
         requires known_number { number ≤ MAX_NUMBER }
         requires place { place < MAX_STEPS }
-        requires newer { IfSome (fin.get (cells self.old) (place_at slot origin)) (CanAdd number) }
+        requires newer { IfSome (fin.get (cells self.old) (cell_slot slot origin)) (CanAdd number) }
         ensures ok { OnOk result (cells self.new
-            ≡ put_row (row_limit self.old) (cells self.old) (place_at slot origin) (slot_sample number place time value)) }
-        ensures dead { IsFalse (is_live_at (row_limit self.old) (fin.keys (cells self.old)) (place_at slot origin))
+            ≡ put_row (row_limit self.old) (cells self.old) (cell_slot slot origin) (slot_sample number place time value)) }
+        ensures dead { IsFalse (is_live_at (row_limit self.old) (fin.keys (cells self.old)) (cell_slot slot origin))
             → cells self.new ≡ cells self.old }
         ensures err { OnErr result (cells self.new ≡ cells self.old) }
         ensures limit { row_limit self.new ≡ row_limit self.old }
-        ensures room { IsTrue (is_ready self.old (place_at slot origin)) → IsOk result };
+        ensures room { IsTrue (is_ready self.old (cell_slot slot origin)) → IsOk result };
 
     /// Joins a cell from elsewhere: the greater of the two contributions stays.
     ///
@@ -85,12 +85,12 @@ pub trait Archive: Drop {
     ) -> Result<(), AllocError>
         requires { IsSlot slot }
         ensures ok { OnOk result (cells self.new
-            ≡ join_cell (row_limit self.old) (cells self.old) (place_at slot origin) contribution.now) }
-        ensures dead { IsFalse (is_live_at (row_limit self.old) (fin.keys (cells self.old)) (place_at slot origin))
+            ≡ join_cell (row_limit self.old) (cells self.old) (cell_slot slot origin) contribution.now) }
+        ensures dead { IsFalse (is_live_at (row_limit self.old) (fin.keys (cells self.old)) (cell_slot slot origin))
             → cells self.new ≡ cells self.old }
         ensures err { OnErr result (cells self.new ≡ cells self.old) }
         ensures limit { row_limit self.new ≡ row_limit self.old }
-        ensures room { IsTrue (is_ready self.old (place_at slot origin)) → IsOk result };
+        ensures room { IsTrue (is_ready self.old (cell_slot slot origin)) → IsOk result };
 
     /// The greatest slot of a cell, if there is a cell.
     fn newest(&self) -> Option<i64>
@@ -109,10 +109,10 @@ pub trait Archive: Drop {
     fn cell_at(&self, i: usize) -> Option<(i64, Entry)>
         ensures { result ≡ option_map cell_of (slice_get (fin.entries (cells self.now)) i) };
 
-    /// The first cell behind a slot and an origin, in order. The cost is logarithmic in the rows,
+    /// The first cell after a slot and an origin, in order. The cost is logarithmic in the rows,
     /// and linear in the entries of the row that it is found in.
     fn next_cell(&self, slot: i64, origin: Origin) -> Option<(i64, Entry)>
-        ensures { result ≡ option_map cell_of (next_cell (cells self.now) (place_at slot origin)) };
+        ensures { result ≡ option_map cell_of (next_cell (cells self.now) (cell_slot slot origin)) };
 
     /// An archive with the same cells. The cost is linear in the cells.
     fn copy(&self, alloc: Global) -> Result<Self, AllocError>

@@ -1,7 +1,7 @@
 //! The laws of the cells of one archive, with no work to do: each function has an empty body.
 ghost use Rattle.rr_archive.specs.Laws.{MergeIsCommutative, MergeIsAssociative, MergeIsIdempotent, JoinIsCommutative, JoinIsAssociative, JoinIsIdempotent, JoinIsTrimmed, CellsAreFew};
 
-/// To keep at each place the greater contribution of two maps: in any order, in any grouping, and
+/// To keep at each cell slot the greater contribution of two maps: in any order, in any grouping, and
 /// any number of times.
 pub fn merge_keeps_the_greater()
     ensures commutative { MergeIsCommutative }
@@ -9,7 +9,8 @@ pub fn merge_keeps_the_greater()
     ensures idempotent { MergeIsIdempotent }
 {}
 
-/// The same of merging and then keeping the live rows, of maps that hold no other rows.
+/// Merging and then keeping the live rows gives the same in any order, in any grouping and any
+/// number of times, of maps that hold no other rows.
 pub fn join_keeps_the_live()
     ensures commutative { JoinIsCommutative }
     ensures associative { JoinIsAssociative }
@@ -17,7 +18,7 @@ pub fn join_keeps_the_live()
     ensures trimmed { JoinIsTrimmed }
 {}
 
-/// However many samples were put and cells joined, an archive has at most so many cells as its rows
+/// However many samples were put and cells joined, an archive has at most as many cells as its rows
 /// times the origins.
 pub fn live_cells_are_few()
     ensures { CellsAreFew }

@@ -36,7 +36,7 @@ fn drop_first(slots: &mut Slots) -> usize
     }
 }
 
-/// Takes the rows past the horizon out, and says how many of so many cells are left.
+/// Takes the rows past the horizon out, and says how many of the cells are left.
 ///
 /// The cost is that of the rows that leave: none is walked over that stays.
 pub(crate) fn drop_dead(slots: &mut Slots, cells: usize, rows: u32, newest: i64) -> usize

@@ -5,7 +5,7 @@ ghost use Rattle.std.specs.Ordering.{int_cmp};
 ghost use Rattle.std.specs.FinMap as fin;
 ghost use Rattle.rr_join.specs.Maps.{greater, trimmed};
 ghost use Rattle.rr_join.specs.Horizon.{is_above};
-ghost use Rattle.rr_archive.specs.Places.{place_at, IsSlot, is_live_at};
+ghost use Rattle.rr_archive.specs.CellSlots.{cell_slot, IsSlot, is_live_at};
 ghost use Rattle.rr_archive.specs.Changes.{Fits};
 ghost use Rattle.rr_archive.specs.Cells.{with_change};
 ghost use Rattle.rr_archive.specs.Codes.{coded_rows};
@@ -16,7 +16,7 @@ use crate::change::Change;
 use crate::entry::Entry;
 use crate::leaving_rows::{drop_dead, is_above};
 use crate::new_sample::NewSample;
-use crate::slots::{Slots, cell_behind, change_cell, copy_slots, make_room, nth_cell};
+use crate::slots::{Slots, cell_after, change_cell, copy_slots, make_room, nth_cell};
 use rr_base::Origin;
 use rr_contrib::Contribution;
 use std::alloc::{AllocError, Global};
@@ -58,19 +58,19 @@ impl PlainArchive {
     /// horizon. A change that is past it itself is passed over.
     fn change(&mut self, slot: i64, origin: Origin, change: &Change) -> Result<(), AllocError>
         requires slot { IsSlot slot }
-        requires fits { Fits (fin.get (cells_in self.old.slots.entries) (place_at slot origin)) change.now }
+        requires fits { Fits (fin.get (cells_in self.old.slots.entries) (cell_slot slot origin)) change.now }
         ensures ok { OnOk result (cells_in self.new.slots.entries
-            ≡ trimmed (is_live_at self.old.rows) (with_change (cells_in self.old.slots.entries) (place_at slot origin) change.now)) }
+            ≡ trimmed (is_live_at self.old.rows) (with_change (cells_in self.old.slots.entries) (cell_slot slot origin) change.now)) }
         ensures dead { IsFalse (is_above self.old.rows self.old.newest slot)
             → cells_in self.new.slots.entries ≡ cells_in self.old.slots.entries }
         ensures err { OnErr result (cells_in self.new.slots.entries ≡ cells_in self.old.slots.entries) }
         ensures limit { self.new.rows ≡ self.old.rows }
-        ensures room { IsTrue (is_ready_in self.old.rows self.old.newest self.old.slots.entries (place_at slot origin)) → IsOk result }
+        ensures room { IsTrue (is_ready_in self.old.rows self.old.newest self.old.slots.entries (cell_slot slot origin)) → IsOk result }
     {
         if !self.is_live(slot) {
             return Ok(());
         }
-        // An origin is one of so many, and so the cells can be counted.
+        // Origins have 16 bits, so the cells can be counted.
         let _number = origin.get();
         let is_new = change_cell(&mut self.slots, self.alloc, slot, origin, change)?;
         let cells = self.count + usize::from(is_new);
@@ -156,7 +156,7 @@ impl Archive for PlainArchive {
     }
 
     fn next_cell(&self, slot: i64, origin: Origin) -> Option<(i64, Entry)> {
-        cell_behind(&self.slots, slot, origin)
+        cell_after(&self.slots, slot, origin)
     }
 
     fn copy(&self, alloc: Global) -> Result<PlainArchive, AllocError> {

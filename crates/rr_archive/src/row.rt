@@ -1,7 +1,7 @@
 //! The entries of one row, ascending by origin.
 ghost use Rattle.std.specs.Prelude.{◌≡◌, ◌<◌, vec_len, vec_capacity, is_none, IsTrue, IsOk, OnOk, OnErr, IfOk};
 ghost use Rattle.std.specs.List.{find, position_from};
-ghost use Rattle.rr_archive.specs.Row.{entry_at, with_entry, is_from, is_behind, ascends};
+ghost use Rattle.rr_archive.specs.Row.{entry_at, with_entry, is_from, is_after, ascends};
 ghost use Rattle.rr_archive.specs.Changes.{Fits, entry_after};
 
 use crate::change::{Change, contribution_after};
@@ -26,18 +26,18 @@ fn entry_at(row: &[Entry], origin: Origin) -> Option<Contribution>
         .map(|entry| entry.contribution)
 }
 
-fn is_behind(entry: &Entry, is_later: bool, origin: Origin) -> bool
-    ensures { result ≡ is_behind is_later origin entry.now }
+fn is_after(entry: &Entry, is_later: bool, origin: Origin) -> bool
+    ensures { result ≡ is_after is_later origin entry.now }
 {
     is_later || origin < entry.origin
 }
 
-/// The first entry of a later slot than an origin's, or the first behind it in its own.
-pub(crate) fn first_behind(row: &[Entry], is_later: bool, origin: Origin) -> Option<Entry>
-    ensures { result ≡ find (is_behind is_later origin) row.now }
+/// The first entry of a later slot than an origin's, or the first after it in its own.
+pub(crate) fn first_after(row: &[Entry], is_later: bool, origin: Origin) -> Option<Entry>
+    ensures { result ≡ find (is_after is_later origin) row.now }
 {
     row.iter()
-        .find(|entry| is_behind(entry, is_later, origin))
+        .find(|entry| is_after(entry, is_later, origin))
         .copied()
 }
 

@@ -4,14 +4,14 @@ ghost use Rattle.std.specs.Option.{option_map};
 ghost use Rattle.std.specs.Ordering.{int_cmp};
 ghost use Rattle.std.specs.BTreeMap.{IsOrdered};
 ghost use Rattle.std.specs.FinMap as fin;
-ghost use Rattle.rr_archive.specs.Places.{place_at};
+ghost use Rattle.rr_archive.specs.CellSlots.{cell_slot};
 ghost use Rattle.rr_archive.specs.Cells.{with_change, cell_of, next_cell};
 ghost use Rattle.rr_archive.specs.Changes.{Fits};
 ghost use Rattle.rr_archive.specs.Held.{cells_in, has_room_in, RowsAscend};
 
 use crate::change::{Change, contribution_after};
 use crate::entry::Entry;
-use crate::row::{change_entry, first_behind};
+use crate::row::{change_entry, first_after};
 use rr_base::Origin;
 use std::alloc::{AllocError, Global};
 use std::collections::BTreeMap;
@@ -28,14 +28,14 @@ pub(crate) fn change_cell(
     origin: Origin,
     change: &Change,
 ) -> Result<bool, AllocError>
-    requires { Fits (fin.get (cells_in slots.old.entries) (place_at slot origin)) change.now }
+    requires { Fits (fin.get (cells_in slots.old.entries) (cell_slot slot origin)) change.now }
     ensures ok { OnOk result (cells_in slots.new.entries
-        ≡ with_change (cells_in slots.old.entries) (place_at slot origin) change.now) }
-    ensures is_new { IfOk result (λ is_new. is_new ≡ is_none (fin.get (cells_in slots.old.entries) (place_at slot origin))) }
+        ≡ with_change (cells_in slots.old.entries) (cell_slot slot origin) change.now) }
+    ensures is_new { IfOk result (λ is_new. is_new ≡ is_none (fin.get (cells_in slots.old.entries) (cell_slot slot origin))) }
     ensures err { OnErr result (cells_in slots.new.entries ≡ cells_in slots.old.entries) }
     ensures ascend { RowsAscend slots.old.entries → RowsAscend slots.new.entries }
     ensures ordered { IsOrdered int_cmp slots.new }
-    ensures room { IsTrue (has_room_in slots.old.entries (place_at slot origin)) → IsOk result }
+    ensures room { IsTrue (has_room_in slots.old.entries (cell_slot slot origin)) → IsOk result }
 {
     match slots.get_mut(&slot) {
         Some(row) => change_entry(row, origin, change),
@@ -57,7 +57,7 @@ pub(crate) fn make_room(slots: &mut Slots, alloc: Global, slot: i64) -> Result<(
     ensures cells { cells_in slots.new.entries ≡ cells_in slots.old.entries }
     ensures ascend { RowsAscend slots.old.entries → RowsAscend slots.new.entries }
     ensures ordered { IsOrdered int_cmp slots.new }
-    ensures room { (origin : ℕ) → OnOk result (IsTrue (has_room_in slots.new.entries (place_at slot origin))) }
+    ensures room { (origin : ℕ) → OnOk result (IsTrue (has_room_in slots.new.entries (cell_slot slot origin))) }
 {
     match slots.get_mut(&slot) {
         Some(row) => row.reserve(1),
@@ -86,14 +86,14 @@ pub(crate) fn nth_cell(slots: &Slots, i: usize) -> Option<(i64, Entry)>
     None
 }
 
-/// The first cell behind a slot and an origin, in order.
-pub(crate) fn cell_behind(slots: &Slots, slot: i64, origin: Origin) -> Option<(i64, Entry)>
+/// The first cell after a slot and an origin, in order.
+pub(crate) fn cell_after(slots: &Slots, slot: i64, origin: Origin) -> Option<(i64, Entry)>
     requires ascend { RowsAscend slots.now.entries }
     requires ordered { IsOrdered int_cmp slots.now }
-    ensures { result ≡ option_map cell_of (next_cell (cells_in slots.now.entries) (place_at slot origin)) }
+    ensures { result ≡ option_map cell_of (next_cell (cells_in slots.now.entries) (cell_slot slot origin)) }
 {
     for (at, row) in slots.range(slot..) {
-        if let Some(entry) = first_behind(row, slot < *at, origin) {
+        if let Some(entry) = first_after(row, slot < *at, origin) {
             return Some((*at, entry));
         }
     }

@@ -1,5 +1,5 @@
 pub mod Orders
 pub mod Masks
 pub mod Summing
-pub mod Keeping
+pub mod KeepsValidLemmas
 pub mod ValidityLemmas

@@ -1,4 +1,4 @@
--- The entries of a row: by the places of an archive, in their order, and each of a cell.
+-- The entries of a row: by the cell slots of an archive, in their order, and each of a cell.
 use Rattle.std.proofs.Common.{◌≡◌, ℕ, ℤ, pos, Bool, true, false, cond, ◌&&◌, T, List, [], ◌∷◌, map, refl, sym, ap, ◌∙◌, subst, arith, Ordering, Equal, true≢false, Option, Some, None, is_some, int_cmp, nat_cmp, ltb}
 use Rattle.std.specs.List.{filter, All}
 use Rattle.std.specs.Option.{unwrap_or}
@@ -17,16 +17,16 @@ use Rattle.rr_contrib.specs.declared.contribution.Contribution.{Contribution}
 use Rattle.rr_contrib.specs.Contributions.{of_one, slot_sample}
 use Rattle.rr_archive.specs.declared.entry.Entry.{Entry}
 use Rattle.rr_archive.specs.Cells.{Rows, entry_of, row_of}
-use Rattle.rr_archive.specs.Places.{Place, place_cmp}
+use Rattle.rr_archive.specs.CellSlots.{CellSlot, cell_slot_cmp}
 use Rattle.rr_archive.specs.Row.{ascends, ascends_from}
-use Rattle.rr_archive.proofs.PlaceOrder.{place_cmp_total, place_cmp-IsAntisymmetric}
+use Rattle.rr_archive.proofs.CellSlotOrder.{cell_slot_cmp_total, cell_slot_cmp-IsAntisymmetric}
 use Rattle.rr_replica.specs.Cells.{name_at, rows_at, row_at}
 use Rattle.rr_replica.specs.Holding.{Holding}
-use Rattle.rr_replica.specs.Kept.{IsHolding}
+use Rattle.rr_replica.specs.Held.{IsHolding}
 use Rattle.rr_replica.proofs.Local.{get-rows_at}
 use Rattle.rr_fetch.specs.Consolidation.{IsSummable, IsRow}
 
--- ---- by places
+-- ---- by cell slots
 
 pub map-map : {A B C : Type 0} (g : B → C) (f : A → B) (xs : List A) → map g (map f xs) ≡ map (λ x. g (f x)) xs
 map-map g f [] = refl
@@ -40,26 +40,26 @@ filter-map p f (x ∷ xs) = elim (p (f x)) as (λ b. cond b (f x ∷ filter p (m
 ]
 
 -- the places of a slot that have a contribution
-abbrev pub places_of : Rows → ℤ → List Place
+abbrev pub places_of : Rows → ℤ → List CellSlot
 places_of m slot = filter (λ p. int_eq p.slot slot) (keys m)
 
 -- the entry of a place, of the contribution d where there is none
-abbrev pub entry_at : Rows → Contribution → Place → Entry
+abbrev pub entry_at : Rows → Contribution → CellSlot → Entry
 entry_at m d p = record { origin = p.origin; contribution = unwrap_or (get m p) d }
 
 pub row_by_places : (m : Rows) (slot : ℤ) (d : Contribution) → row_of m slot ≡ map (entry_at m d) (places_of m slot)
 unfolding row_of
 row_by_places m slot d =
-    let held : Place → Place × Contribution = λ p. (p, unwrap_or (get m p) d) in
-    ap (λ es. map entry_of (filter (λ e. int_eq e.0.slot slot) es)) (entries_by_keys place_cmp_total place_cmp-IsAntisymmetric m d)
+    let held : CellSlot → CellSlot × Contribution = λ p. (p, unwrap_or (get m p) d) in
+    ap (λ es. map entry_of (filter (λ e. int_eq e.0.slot slot) es)) (entries_by_keys cell_slot_cmp_total cell_slot_cmp-IsAntisymmetric m d)
     ∙ ap (map entry_of) (filter-map (λ e. int_eq e.0.slot slot) held (keys m))
     ∙ map-map entry_of held (places_of m slot)
 
 -- each of them has a contribution
-pub found_at : (m : Rows) (slot : ℤ) (d : Contribution) (p : Place) → is_in place_cmp (places_of m slot) p ≡ true → get m p ≡ Some (unwrap_or (get m p) d)
+pub found_at : (m : Rows) (slot : ℤ) (d : Contribution) (p : CellSlot) → is_in cell_slot_cmp (places_of m slot) p ≡ true → get m p ≡ Some (unwrap_or (get m p) d)
 found_at m slot d p e =
-    read_back (get m p) (sym (is_in-keys place_cmp_total place_cmp-IsAntisymmetric m p)
-    ∙ and_second (int_eq p.slot slot) (is_in place_cmp (keys m) p) (sym (is_in-filter place_cmp_total place_cmp-IsAntisymmetric (λ q. int_eq q.slot slot) (keys m) p) ∙ e))
+    read_back (get m p) (sym (is_in-keys cell_slot_cmp_total cell_slot_cmp-IsAntisymmetric m p)
+    ∙ and_second (int_eq p.slot slot) (is_in cell_slot_cmp (keys m) p) (sym (is_in-filter cell_slot_cmp_total cell_slot_cmp-IsAntisymmetric (λ q. int_eq q.slot slot) (keys m) p) ∙ e))
   where
     read_back : (x : Option Contribution) → is_some x ≡ true → x ≡ Some (unwrap_or x d)
     read_back None is = absurd (true≢false (sym is))
@@ -86,13 +86,13 @@ below_from_less : (m n : ℕ) → is_lt (nat_cmp m n) ≡ true → ltb m n ≡ t
 below_from_less m n h = grind (arith, nat_tests)
 
 module _ (slot : ℤ) where
-  abbrev kept : List (Place × Contribution) → List Entry
+  abbrev kept : List (CellSlot × Contribution) → List Entry
   kept es = map entry_of (filter (λ e. int_eq e.0.slot slot) es)
 
-  same_slot : (p : Place) → int_eq p.slot slot ≡ true → int_cmp p.slot slot ≡ Equal
+  same_slot : (p : CellSlot) → int_eq p.slot slot ≡ true → int_cmp p.slot slot ≡ Equal
   same_slot p e = Equal_from_is_eq (int_cmp p.slot slot) e
 
-  kept_after : (p : Place) (es : List (Place × Contribution)) → p.slot ≡ slot → T (below_all place_cmp p es) → T (is_sorted place_cmp es) → ascends_from p.origin (kept es) ≡ true
+  kept_after : (p : CellSlot) (es : List (CellSlot × Contribution)) → p.slot ≡ slot → T (below_all cell_slot_cmp p es) → T (is_sorted cell_slot_cmp es) → ascends_from p.origin (kept es) ≡ true
   kept_after p [] at below sorted = refl
   kept_after p (e ∷ es) at below sorted =
       elim (int_eq e.0.slot slot) as (λ b. int_eq e.0.slot slot ≡ b → ascends_from p.origin (map entry_of (cond b (e ∷ filter (λ x. int_eq x.0.slot slot) es) (filter (λ x. int_eq x.0.slot slot) es))) ≡ true) [
@@ -100,18 +100,18 @@ module _ (slot : ℤ) where
             let here : e.0.slot ≡ slot = int_cmp-IsAntisymmetric e.0.slot slot (same_slot e.0 t) in
             let tied : int_cmp p.slot e.0.slot ≡ Equal = (λ i. int_cmp (at i) (here i)) ∙ tied_itself int_cmp_total slot in
             and_from (ltb p.origin e.0.origin) _
-            (below_from_less p.origin e.0.origin (less_then (int_cmp p.slot e.0.slot) (nat_cmp p.origin e.0.origin) tied (passes (is_lt (place_cmp p e.0)) (T_first (is_lt (place_cmp p e.0)) (below_all place_cmp p es) below))))
-            (kept_after e.0 es here (T_first (below_all place_cmp e.0 es) (is_sorted place_cmp es) sorted) (T_second (below_all place_cmp e.0 es) (is_sorted place_cmp es) sorted))
-        | false ↦ λ t. kept_after p es at (T_second (is_lt (place_cmp p e.0)) (below_all place_cmp p es) below) (T_second (below_all place_cmp e.0 es) (is_sorted place_cmp es) sorted)
+            (below_from_less p.origin e.0.origin (less_then (int_cmp p.slot e.0.slot) (nat_cmp p.origin e.0.origin) tied (passes (is_lt (cell_slot_cmp p e.0)) (T_first (is_lt (cell_slot_cmp p e.0)) (below_all cell_slot_cmp p es) below))))
+            (kept_after e.0 es here (T_first (below_all cell_slot_cmp e.0 es) (is_sorted cell_slot_cmp es) sorted) (T_second (below_all cell_slot_cmp e.0 es) (is_sorted cell_slot_cmp es) sorted))
+        | false ↦ λ t. kept_after p es at (T_second (is_lt (cell_slot_cmp p e.0)) (below_all cell_slot_cmp p es) below) (T_second (below_all cell_slot_cmp e.0 es) (is_sorted cell_slot_cmp es) sorted)
       ] refl
 
-  kept_ascends : (es : List (Place × Contribution)) → T (is_sorted place_cmp es) → ascends (kept es) ≡ true
+  kept_ascends : (es : List (CellSlot × Contribution)) → T (is_sorted cell_slot_cmp es) → ascends (kept es) ≡ true
   kept_ascends [] sorted = refl
   kept_ascends (e ∷ es) sorted =
       elim (int_eq e.0.slot slot) as (λ b. int_eq e.0.slot slot ≡ b → ascends (map entry_of (cond b (e ∷ filter (λ x. int_eq x.0.slot slot) es) (filter (λ x. int_eq x.0.slot slot) es))) ≡ true) [
         | true ↦ λ t.
-            kept_after e.0 es (int_cmp-IsAntisymmetric e.0.slot slot (same_slot e.0 t)) (T_first (below_all place_cmp e.0 es) (is_sorted place_cmp es) sorted) (T_second (below_all place_cmp e.0 es) (is_sorted place_cmp es) sorted)
-        | false ↦ λ t. kept_ascends es (T_second (below_all place_cmp e.0 es) (is_sorted place_cmp es) sorted)
+            kept_after e.0 es (int_cmp-IsAntisymmetric e.0.slot slot (same_slot e.0 t)) (T_first (below_all cell_slot_cmp e.0 es) (is_sorted cell_slot_cmp es) sorted) (T_second (below_all cell_slot_cmp e.0 es) (is_sorted cell_slot_cmp es) sorted)
+        | false ↦ λ t. kept_ascends es (T_second (below_all cell_slot_cmp e.0 es) (is_sorted cell_slot_cmp es) sorted)
       ] refl
 
 pub row_ascends : (m : Rows) (slot : ℤ) → ascends (row_of m slot) ≡ true
@@ -129,7 +129,7 @@ all_images {R = R} o same P f (n ∷ ns) each =
 pub row_holds : (h : Holding) → IsHolding h → (key : List ℕ) (archive : ℕ) (slot : ℤ) → IsRow (row_at h.cells key archive slot)
 row_holds h is key archive slot = record {
   ascends = row_ascends (rows_at h.cells key archive) slot;
-  summable = subst (All (λ e. IsSummable e.contribution)) (sym (row_by_places rows slot d)) (all_images place_cmp_total place_cmp-IsAntisymmetric (λ (e : Entry). IsSummable e.contribution) (entry_at rows d) (places_of rows slot) (λ p e.
+  summable = subst (All (λ e. IsSummable e.contribution)) (sym (row_by_places rows slot d)) (all_images cell_slot_cmp_total cell_slot_cmp-IsAntisymmetric (λ (e : Entry). IsSummable e.contribution) (entry_at rows d) (places_of rows slot) (λ p e.
       let valid = is.valid (name_at key archive p) (unwrap_or (get rows p) d) (sym (get-rows_at key archive h.cells p) ∙ found_at rows slot d p e) in
       record {
         some = valid.some;

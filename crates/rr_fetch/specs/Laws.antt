@@ -7,7 +7,7 @@ use Rattle.rr_model.specs.Rows.{row}
 use Rattle.rr_model.specs.FetchText.{Request, fetch_text}
 use Rattle.rr_replica.specs.Cells.{row_at}
 use Rattle.rr_replica.specs.Holding.{Holding}
-use Rattle.rr_replica.specs.Kept.{IsHolding}
+use Rattle.rr_replica.specs.Held.{IsHolding}
 use Rattle.rr_replica.specs.State.{state}
 use Rattle.rr_fetch.specs.Answers.{cells_text}
 use Rattle.rr_fetch.specs.Consolidation.{consolidated, IsRow}

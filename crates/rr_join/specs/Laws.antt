@@ -1,4 +1,4 @@
--- The laws of merging and joining, for names and values that only tie where they are equal.
+-- The laws of merging and joining, for keys and values that tie only where they are equal.
 use Rattle.std.specs.Prelude.{◌≡◌, Bool, List}
 use Rattle.std.specs.declared.cmp.Ordering.{Ordering}
 use Rattle.std.specs.FinMap.{FinMap, IsAntisymmetric}

@@ -1,4 +1,4 @@
--- Finite maps whose values are ordered: merged name by name, and trimmed to their live names.
+-- Finite maps whose values are ordered: merged key by key, and trimmed to their live keys.
 use Rattle.std.specs.Prelude.{◌≡◌, Bool, true, false, not, Option, Some, None, List, [], ◌∷◌, ◌++◌}
 use Rattle.std.specs.declared.cmp.Ordering.{Ordering}
 use Rattle.std.specs.Ordering.{ord_max}
@@ -17,21 +17,21 @@ greatest S [] = None
 greatest S (x ∷ xs) = greater S (Some x) (greatest S xs)
 
 module _ {N V : Type 0} {R : N → N → Ordering} where
-  -- the map with the value at the name, if there is one
+  -- the map with the value at the key, if there is one
   abbrev pub insert_some : FinMap R V → N → Option V → FinMap R V
   insert_some m n None = m
   insert_some m n (Some v) = insert m n v
 
-  -- the map that has at each of these names the value that f gives it, if any
+  -- the map that has at each of these keys the value that f gives it, if any
   unfoldable pub map_of : List N → (N → Option V) → FinMap R V
   map_of [] f = empty
   map_of (n ∷ ns) f = insert_some (map_of ns f) n (f n)
 
-  -- of the map what stands at names that are live beside all its names
+  -- the part of the map whose keys are live among all its keys
   unfoldable pub trimmed : (List N → N → Bool) → FinMap R V → FinMap R V
   trimmed is_live m = retain_keys m (is_live (keys m))
 
-  -- at each name of either map the greater of its values
+  -- at each key of either map the greater of its values
   unfoldable pub merged : (V → V → Ordering) → FinMap R V → FinMap R V → FinMap R V
   merged S m n = map_of (keys m ++ keys n) (λ q. greater S (get m q) (get n q))
 
@@ -39,11 +39,11 @@ module _ {N V : Type 0} {R : N → N → Ordering} where
   unfoldable pub joined : (V → V → Ordering) → (List N → N → Bool) → FinMap R V → FinMap R V → FinMap R V
   joined S is_live m n = trimmed is_live (merged S m n)
 
--- the set of these names
+-- the set of these keys
 abbrev pub set_of : {N : Type 0} {R : N → N → Ordering} → List N → FinMap R (Unit {0})
 set_of {R = R} ns = map_of {R = R} ns (λ n. Some tt)
 
--- a name is live beside others where none of them puts it past the horizon
+-- a key is live among others where none of them puts it past the horizon
 pub record IsHorizon {N : Type 0} (is_live : List N → N → Bool) (is_past : N → N → Bool) : Type 0 where
   pub says : (ns : List N) (n : N) → is_live ns n ≡ list_all (λ m. not (is_past m n)) ns
   pub itself : (n : N) → is_past n n ≡ false

@@ -1,7 +1,7 @@
 //! The laws of the join, with no work to do: each function has an empty body.
 ghost use Rattle.rr_join.specs.Laws.{MergeIsCommutative, MergeIsAssociative, MergeIsIdempotent, JoinIsCommutative, JoinIsAssociative, JoinIsIdempotent, JoinIsTrimmed};
 
-/// Merging keeps at each name the greater value: in any order, in any grouping, and any number of
+/// Merging keeps at each key the greater value: in any order, in any grouping, and any number of
 /// times.
 pub fn merge_keeps_the_greater<N: Ord, T: Ord>()
     ensures commutative { MergeIsCommutative N.cmp T.cmp }
@@ -9,7 +9,8 @@ pub fn merge_keeps_the_greater<N: Ord, T: Ord>()
     ensures idempotent { MergeIsIdempotent N.cmp T.cmp }
 {}
 
-/// The same of merging and then trimming to the live names.
+/// Merging and then trimming to the live keys gives the same in any order, in any grouping, and any
+/// number of times.
 pub fn join_keeps_the_live<N: Ord, T: Ord>()
     ensures commutative { JoinIsCommutative N.cmp T.cmp }
     ensures associative { JoinIsAssociative N.cmp T.cmp }

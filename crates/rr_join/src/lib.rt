@@ -1,7 +1,7 @@
-//! Finite maps whose values are ordered and that are joined: merged name by name by the greater
-//! value, and trimmed to the names that are then live.
+//! Finite maps whose values are ordered and that are joined: merged key by key by the greater
+//! value, and trimmed to the keys that are then live.
 //!
-//! The definitions stand in `specs/Maps.antt`. For names and values that tie only where they are
+//! The definitions stand in `specs/Maps.antt`. For keys and values that tie only where they are
 //! equal, and any horizon, the join is commutative and associative, what it gives is trimmed, and
 //! the join of a map with itself only trims it (`laws`). [`join_max`] keeps the greater of two
 //! values, and [`Join`] is what a type promises whose values are joined.

@@ -11,7 +11,7 @@ use Rattle.rr_model.specs.CellNames.{CellName}
 use Rattle.rr_page.specs.declared.fault.PageFault.{PageFault}
 use Rattle.rr_page.specs.declared.fault.PageFault.TheVariants.{Short, BadKey, BadArchive, BadContribution}
 
--- so many bytes at the front, and what follows them
+-- `len` bytes at the front, and what follows them
 abbrev pub front_at : ℕ → List ℕ → Result (List ℕ × List ℕ) PageFault
 front_at len bytes = unless Short (nat_lt (length bytes) len) (Ok (take len bytes, drop len bytes))
 
@@ -23,7 +23,7 @@ number_at w bytes = front_at (byte_len w) bytes >>= λ field. Ok (from_be_bytes 
 abbrev pub signed_at : Width → List ℕ → Result (ℤ × List ℕ) PageFault
 signed_at w bytes = front_at (byte_len w) bytes >>= λ field. Ok (cast_signed w (from_be_bytes w field.0), field.1)
 
--- a key text behind its length, and what follows it
+-- a length and a key text of it, and what follows
 unfoldable pub key_at : List ℕ → Result (List ℕ × List ℕ) PageFault
 key_at bytes = do
   len ← number_at w16 bytes

@@ -17,7 +17,7 @@ use rr_key::{KeyFault, SeriesKey};
 use rr_replica::Cell;
 use std::alloc::Global;
 
-/// The key whose text stands behind its length, and what follows it.
+/// The key that the bytes begin with, as a length and a text, and what follows it.
 #[tactic(auto, unfolding(crate::specs::Reading::key_at))]
 fn key_of(alloc: Global, bytes: &[u8]) -> Result<(SeriesKey, &[u8]), PageFault>
     ensures { GivesUnless PageFault.Memory (λ x. (x.0, x.1.now)) result (key_at bytes.now) }
@@ -111,7 +111,7 @@ pub(crate) fn cell_of<'a>(
 ///
 /// Refusals are those of the first bad field: `Short` where fewer bytes are left than a field has;
 /// `BadKey` where the length of the key is 0 or above 1,024, before its text is read, or the text is
-/// no key text; `BadArchive`; and behind the last field `BadContribution`, for the origin 0 too.
+/// not a key text; `BadArchive`; and after the last field `BadContribution`, for the origin 0 too.
 /// `Memory` may stand in place of what follows the key. The cost is linear in the key text.
 pub fn read_cell(alloc: Global, bytes: &[u8], schema: &Schema) -> Result<(Cell, usize), PageFault>
     ensures read { GivesUnless PageFault.Memory (λ x. owned_cell x.0) result (first_of (cell_at schema.now bytes.now)) }

@@ -1,7 +1,7 @@
 //! A cell as bytes.
 ghost use Rattle.std.specs.Prelude.{◌≡◌, ◌++◌, IfOk, OnOk};
 ghost use Rattle.rr_page.specs.CellText.{sums_text, values_text, name_text, cell_text};
-ghost use Rattle.rr_archive.specs.Places.{place_at};
+ghost use Rattle.rr_archive.specs.CellSlots.{cell_slot};
 ghost use Rattle.rr_replica.specs.Cells.{name_at};
 ghost use Rattle.rr_replica.specs.Listing.{seen_cell};
 
@@ -11,7 +11,7 @@ use rr_key::SeriesKey;
 use rr_replica::CellRef;
 use std::alloc::{AllocError, Global};
 
-/// How many bytes a cell has beside its key text.
+/// How many bytes a cell has besides its key text.
 pub(crate) const FIELDS_LEN: usize = 85;
 
 /// Adds how many samples a contribution has.
@@ -47,7 +47,7 @@ fn push_name(
     slot: i64,
     origin: Origin,
 ) -> Result<(), AllocError>
-    ensures { OnOk result (bytes.new.items ≡ bytes.old.items ++ name_text (name_at key.now archive (place_at slot origin))) }
+    ensures { OnOk result (bytes.new.items ≡ bytes.old.items ++ name_text (name_at key.now archive (cell_slot slot origin))) }
 {
     let text = key.text();
     bytes.extend_from_slice(&(text.len() as u16).to_be_bytes())?;

@@ -9,12 +9,12 @@ use Rattle.std.proofs.lemmas.List.{length-append}
 use Rattle.std.proofs.lemmas.Bool.Decides.{nat_tests}
 use Rattle.rr_contrib.specs.declared.contribution.Contribution.{Contribution}
 use Rattle.rr_archive.specs.declared.entry.Entry.{Entry}
-use Rattle.rr_archive.specs.Places.{Place, place_at}
+use Rattle.rr_archive.specs.CellSlots.{CellSlot, cell_slot}
 use Rattle.rr_archive.specs.Cells.{Rows, cell_of}
 use Rattle.rr_model.specs.CellNames.{CellName}
 use Rattle.rr_replica.specs.Cells.{name_at}
 use Rattle.rr_replica.specs.Series.{Series, bytes_cmp, cells_from, all_cells, cells_of}
-use Rattle.rr_replica.specs.Kept.{shown, archives_of}
+use Rattle.rr_replica.specs.Held.{shown, archives_of}
 use Rattle.rr_replica.specs.Listing.{count_of, at_most_usize}
 use Rattle.rr_replica.proofs.InOrder.{named_as, entries-cells_of}
 use Rattle.rr_replica.proofs.Shown.{keys_shown}
@@ -47,7 +47,7 @@ length-cells_from key first (r ∷ rs) =
     length-append (named_as key first (entries r)) (cells_from key (first + 1) rs)
     ∙ (λ i. (length-named key first (entries r) ∙ sym (len-entries r)) i + length-cells_from key (first + 1) rs i)
   where
-    length-named : (key : List ℕ) (first : ℕ) (es : List (Place × Contribution)) → length (named_as key first es) ≡ length es
+    length-named : (key : List ℕ) (first : ℕ) (es : List (CellSlot × Contribution)) → length (named_as key first es) ≡ length es
     length-named key first [] = refl
     length-named key first (e ∷ es) = ap suc (length-named key first es)
 
@@ -81,7 +81,7 @@ get_first [] ys i x e = absurd (true≢false (sym (ap is_some e)))
 get_first (y ∷ xs) ys zero x e = e
 get_first (y ∷ xs) ys (suc i) x e = get_first xs ys i x e
 
-get_named : (key : List ℕ) (archive : ℕ) (es : List (Place × Contribution)) (i : ℕ) (e : Place × Contribution) → slice_get es i ≡ Some e → slice_get (named_as key archive es) i ≡ Some (name_at key archive e.0, e.1)
+get_named : (key : List ℕ) (archive : ℕ) (es : List (CellSlot × Contribution)) (i : ℕ) (e : CellSlot × Contribution) → slice_get es i ≡ Some e → slice_get (named_as key archive es) i ≡ Some (name_at key archive e.0, e.1)
 get_named key archive [] i e h = absurd (true≢false (sym (ap is_some h)))
 get_named key archive (x ∷ es) zero e h = ap (λ o. Some (name_at key archive (unwrap_or o x).0, (unwrap_or o x).1)) h
 get_named key archive (x ∷ es) (suc i) e h = get_named key archive es i e h
@@ -106,7 +106,7 @@ module _ {X : Type 0} (cells : X → Rows) (key : List ℕ) (archives : List X) 
           one_more : (n : ℕ) → suc (n + 1) ≡ suc n + 1
           one_more n = omega arith
 
-  pub left_found : (i left : ℕ) (d : X) (e : Place × Contribution) → i < length archives → IsLeft cells key archives number i left → slice_get (entries (cells (get_or archives i d))) left ≡ Some e → slice_get (cells_from key 0 (map cells archives)) number ≡ Some (name_at key i e.0, e.1)
+  pub left_found : (i left : ℕ) (d : X) (e : CellSlot × Contribution) → i < length archives → IsLeft cells key archives number i left → slice_get (entries (cells (get_or archives i d))) left ≡ Some e → slice_get (cells_from key 0 (map cells archives)) number ≡ Some (name_at key i e.0, e.1)
   left_found i left d e h l at =
       sym l.same ∙ ap (λ xs. slice_get (cells_from key i (map cells xs)) left) (drop_more i d h)
       ∙ get_first (named_as key i (entries (cells (get_or archives i d)))) (cells_from key (i + 1) (map cells (drop (i + 1) archives))) left _ (get_named key i (entries (cells (get_or archives i d))) left e at)
@@ -123,7 +123,7 @@ module _ {X : Type 0} (cells : X → Rows) (key : List ℕ) (archives : List X) 
         ∙ l.same;
   }
     where
-      length-named : (es : List (Place × Contribution)) → length (named_as key i es) ≡ length es
+      length-named : (es : List (CellSlot × Contribution)) → length (named_as key i es) ≡ length es
       length-named [] = refl
       length-named (e ∷ es) = ap suc (length-named es)
 
@@ -148,20 +148,20 @@ none_past m i e = let h = past_end (entries m) i (sym e) in let n = len-entries 
 pub none_seen : (m : Rows) (i : ℕ) → None ≡ option_map cell_of (slice_get (entries m) i) → len m ≤ i
 none_seen m i e = by_cell (slice_get (entries m) i) refl e
   where
-    by_cell : (o : Option (Place × Contribution)) → slice_get (entries m) i ≡ o → None ≡ option_map cell_of o → len m ≤ i
+    by_cell : (o : Option (CellSlot × Contribution)) → slice_get (entries m) i ≡ o → None ≡ option_map cell_of o → len m ≤ i
     by_cell None at e = none_past m i (sym at)
     by_cell (Some f) at e = absurd (true≢false (sym (ap is_some e)))
 
 module _ {X : Type 0} (cells : X → Rows) (key : List ℕ) (archives : List X) (number : ℕ) where
   -- the cell that an archive finds
-  pub left_seen : (i left : ℕ) (a : X) (cell : ℤ × Entry) → i < length archives → a ≡ get_or archives i a → IsLeft cells key archives number i left → Some cell ≡ option_map cell_of (slice_get (entries (cells a)) left) → slice_get (cells_from key 0 (map cells archives)) number ≡ Some (name_at key i (place_at cell.0 cell.1.origin), cell.1.contribution)
+  pub left_seen : (i left : ℕ) (a : X) (cell : ℤ × Entry) → i < length archives → a ≡ get_or archives i a → IsLeft cells key archives number i left → Some cell ≡ option_map cell_of (slice_get (entries (cells a)) left) → slice_get (cells_from key 0 (map cells archives)) number ≡ Some (name_at key i (cell_slot cell.0 cell.1.origin), cell.1.contribution)
   left_seen i left a cell h item l e = by_cell (slice_get (entries (cells a)) left) refl e
     where
-      by_cell : (o : Option (Place × Contribution)) → slice_get (entries (cells a)) left ≡ o → Some cell ≡ option_map cell_of o → slice_get (cells_from key 0 (map cells archives)) number ≡ Some (name_at key i (place_at cell.0 cell.1.origin), cell.1.contribution)
+      by_cell : (o : Option (CellSlot × Contribution)) → slice_get (entries (cells a)) left ≡ o → Some cell ≡ option_map cell_of o → slice_get (cells_from key 0 (map cells archives)) number ≡ Some (name_at key i (cell_slot cell.0 cell.1.origin), cell.1.contribution)
       by_cell None at e = absurd (true≢false (ap is_some e))
       by_cell (Some f) at e =
           left_found cells key archives number i left a f h l (ap (λ b. slice_get (entries (cells b)) left) (sym item) ∙ at)
-          ∙ ap (λ o. Some (name_at key i (place_at (unwrap_or o cell).0 (unwrap_or o cell).1.origin), (unwrap_or o cell).1.contribution)) (sym e)
+          ∙ ap (λ o. Some (name_at key i (cell_slot (unwrap_or o cell).0 (unwrap_or o cell).1.origin), (unwrap_or o cell).1.contribution)) (sym e)
 
   pub left_past : (i left : ℕ) (a : X) → i < length archives → a ≡ get_or archives i a → IsLeft cells key archives number i left → None ≡ option_map cell_of (slice_get (entries (cells a)) left) → IsLeft cells key archives number (i + 1) (left - len (cells a))
   left_past i left a h item l e = left_more cells key archives number i left (left - len (cells a)) a h l (let fits = none_seen (cells a) left e in let same = ap (λ b. len (cells b)) item in omega arith)

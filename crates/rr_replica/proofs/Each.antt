@@ -11,11 +11,11 @@ use Rattle.std.proofs.lemmas.Int.{ints}
 use Rattle.rr_base.specs.declared.archive.ArchiveSpec.{ArchiveSpec}
 use Rattle.rr_base.specs.Schema.{Layout, IsLayout, archive_at, slot_of, span}
 use Rattle.rr_contrib.specs.Validity.{CanAdd}
-use Rattle.rr_archive.specs.Places.{Place, IsSlot}
+use Rattle.rr_archive.specs.CellSlots.{CellSlot, IsSlot}
 use Rattle.rr_archive.specs.Cells.{Rows, put_row}
 use Rattle.rr_model.proofs.Horizon.{archive_is}
-use Rattle.rr_replica.specs.declared.sample.Written.{Written}
-use Rattle.rr_replica.specs.Archives.{place_for, sample_for, Each, AreSized, CanTake, AreSame, HavePut}
+use Rattle.rr_replica.specs.declared.sample.Sample.{Sample}
+use Rattle.rr_replica.specs.Archives.{cell_slot_for, sample_for, Each, AreSized, CanTake, AreSame, HavePut}
 
 pub on_ok_from : {T E P : Type 0} (r : Result T E) → P → OnOk r P
 on_ok_from (Ok x) h = h
@@ -89,12 +89,12 @@ slot_is s is i time fits = slot_bound time (span s i) (some_span s.step (archive
 
 -- ---- room is made
 
-pub record AreReadied {X : Type 0} (cells : X → Rows) (limit : X → ℕ) (is_ready : X → Place → Bool) (s : Layout) (x : Written) (i : ℕ) (old new : List X) : Type 0 where
+pub record AreReadied {X : Type 0} (cells : X → Rows) (limit : X → ℕ) (is_ready : X → CellSlot → Bool) (s : Layout) (x : Sample) (i : ℕ) (old new : List X) : Type 0 where
   pub same : AreSame cells old new
   pub sized : AreSized limit s new
-  pub ready : (j : ℕ) (b : X) → j < i → slice_get new j ≡ Some b → is_ready b (place_for s x j) ≡ true
+  pub ready : (j : ℕ) (b : X) → j < i → slice_get new j ≡ Some b → is_ready b (cell_slot_for s x j) ≡ true
 
-module _ {X : Type 0} (cells : X → Rows) (limit : X → ℕ) (is_ready : X → Place → Bool) (s : Layout) (x : Written) where
+module _ {X : Type 0} (cells : X → Rows) (limit : X → ℕ) (is_ready : X → CellSlot → Bool) (s : Layout) (x : Sample) where
   Some_inj : (a b : X) → Some a ≡ Some b → a ≡ b
   Some_inj a b e = ap (λ o. unwrap_or o a) e
 
@@ -116,12 +116,12 @@ module _ {X : Type 0} (cells : X → Rows) (limit : X → ℕ) (is_ready : X →
         (eqb_tells j i);
   }
 
-  pub readied_more : (i : ℕ) (old new : List X) (a b : X) → AreReadied cells limit is_ready s x i old new → slice_get new i ≡ Some a → cells b ≡ cells a → limit b ≡ limit a → is_ready b (place_for s x i) ≡ true → AreReadied cells limit is_ready s x (i + 1) old (set new i b)
+  pub readied_more : (i : ℕ) (old new : List X) (a b : X) → AreReadied cells limit is_ready s x i old new → slice_get new i ≡ Some a → cells b ≡ cells a → limit b ≡ limit a → is_ready b (cell_slot_for s x i) ≡ true → AreReadied cells limit is_ready s x (i + 1) old (set new i b)
   readied_more i old new a b r at is size ready = record {
     same = same_more i old new a b r.same at is;
     sized = map-set_same limit new i a b at size ∙ r.sized;
     ready = λ j d below here. ⊎_elim
-        (λ h. subst (λ k. is_ready d (place_for s x k) ≡ true) (sym h.1) (subst (λ e. is_ready e (place_for s x i) ≡ true) (sym (Some_inj d b (sym here ∙ ap (slice_get (set new i b)) h.1 ∙ slice_get-set_same new i b (slice_get_within new i a at)))) ready))
+        (λ h. subst (λ k. is_ready d (cell_slot_for s x k) ≡ true) (sym h.1) (subst (λ e. is_ready e (cell_slot_for s x i) ≡ true) (sym (Some_inj d b (sym here ∙ ap (slice_get (set new i b)) h.1 ∙ slice_get-set_same new i b (slice_get_within new i a at)))) ready))
         (λ h. r.ready j d (below_it j i below h.1) (sym (slice_get-set_other new i j b h.1) ∙ here))
         (eqb_tells j i);
   }
@@ -131,13 +131,13 @@ module _ {X : Type 0} (cells : X → Rows) (limit : X → ℕ) (is_ready : X →
 
 -- ---- samples are put
 
-pub record ArePut {X : Type 0} (cells : X → Rows) (limit : X → ℕ) (s : Layout) (x : Written) (i : ℕ) (old new : List X) : Type 0 where
+pub record ArePut {X : Type 0} (cells : X → Rows) (limit : X → ℕ) (s : Layout) (x : Sample) (i : ℕ) (old new : List X) : Type 0 where
   pub many : length new ≡ length old
   pub sized : AreSized limit s new
-  pub put : (j : ℕ) (a b : X) → j < i → slice_get old j ≡ Some a → slice_get new j ≡ Some b → cells b ≡ put_row (archive_at s j).rows (cells a) (place_for s x j) (sample_for s x j)
+  pub put : (j : ℕ) (a b : X) → j < i → slice_get old j ≡ Some a → slice_get new j ≡ Some b → cells b ≡ put_row (archive_at s j).rows (cells a) (cell_slot_for s x j) (sample_for s x j)
   pub rest : (j : ℕ) → i ≤ j → slice_get new j ≡ slice_get old j
 
-module _ {X : Type 0} (cells : X → Rows) (limit : X → ℕ) (s : Layout) (x : Written) where
+module _ {X : Type 0} (cells : X → Rows) (limit : X → ℕ) (s : Layout) (x : Sample) where
   pub put_none : (old : List X) → AreSized limit s old → ArePut cells limit s x 0 old old
   put_none old sized = record {
     many = refl;
@@ -146,7 +146,7 @@ module _ {X : Type 0} (cells : X → Rows) (limit : X → ℕ) (s : Layout) (x :
     rest = λ j h. refl;
   }
 
-  pub put_more : (i : ℕ) (old new : List X) (a b : X) → ArePut cells limit s x i old new → slice_get new i ≡ Some a → cells b ≡ put_row (limit a) (cells a) (place_for s x i) (sample_for s x i) → limit b ≡ limit a → ArePut cells limit s x (i + 1) old (set new i b)
+  pub put_more : (i : ℕ) (old new : List X) (a b : X) → ArePut cells limit s x i old new → slice_get new i ≡ Some a → cells b ≡ put_row (limit a) (cells a) (cell_slot_for s x i) (sample_for s x i) → limit b ≡ limit a → ArePut cells limit s x (i + 1) old (set new i b)
   put_more i old new a b r at is size = record {
     many = length-set new i b ∙ r.many;
     sized = map-set_same limit new i a b at size ∙ r.sized;
@@ -154,8 +154,8 @@ module _ {X : Type 0} (cells : X → Rows) (limit : X → ℕ) (s : Layout) (x :
         (λ h.
         let d_is : d ≡ b = ap (λ o. unwrap_or o d) (sym here ∙ ap (slice_get (set new i b)) h.1 ∙ slice_get-set_same new i b (slice_get_within new i a at)) in
         let c_is : a ≡ c = ap (λ o. unwrap_or o a) (sym at ∙ r.rest i (omega arith) ∙ ap (slice_get old) (sym h.1) ∙ was) in
-        ap cells d_is ∙ is ∙ (λ k. put_row (sized_at limit s new r.sized i a at k) (cells (c_is k)) (place_for s x i) (sample_for s x i))
-        ∙ ap (λ k. put_row (archive_at s k).rows (cells c) (place_for s x k) (sample_for s x k)) (sym h.1))
+        ap cells d_is ∙ is ∙ (λ k. put_row (sized_at limit s new r.sized i a at k) (cells (c_is k)) (cell_slot_for s x i) (sample_for s x i))
+        ∙ ap (λ k. put_row (archive_at s k).rows (cells c) (cell_slot_for s x k) (sample_for s x k)) (sym h.1))
         (λ h. r.put j c d (below_it j i below h.1) was (sym (slice_get-set_other new i j b h.1) ∙ here))
         (eqb_tells j i);
     rest = λ j above. slice_get-set_other new i j b (λ e. absurd (omega arith)) ∙ r.rest j (omega arith);
@@ -177,7 +177,7 @@ module _ {X : Type 0} (cells : X → Rows) (limit : X → ℕ) (s : Layout) (x :
     each = λ j a b was here. through j a b was here (slice_get mid j) refl;
   }
     where
-      through : (j : ℕ) (a b : X) → slice_get old j ≡ Some a → slice_get new j ≡ Some b → (o : Option X) → slice_get mid j ≡ o → cells b ≡ put_row (archive_at s j).rows (cells a) (place_for s x j) (sample_for s x j)
+      through : (j : ℕ) (a b : X) → slice_get old j ≡ Some a → slice_get new j ≡ Some b → (o : Option X) → slice_get mid j ≡ o → cells b ≡ put_row (archive_at s j).rows (cells a) (cell_slot_for s x j) (sample_for s x j)
       through j a b was here None e = absurd (let within = slice_get_within old j a was in let past = past_end mid j e in let many = same.many in omega arith)
         where
           past_end : (xs : List X) (j : ℕ) → slice_get xs j ≡ None → length xs ≤ j
@@ -187,19 +187,19 @@ module _ {X : Type 0} (cells : X → Rows) (limit : X → ℕ) (s : Layout) (x :
               some_none : {y : X} → ◌≡◌ {A = Option X} (Some y) None → ⊥
               some_none e = true≢false (ap is_some e)
           past_end (y ∷ ys) (suc j) e = let h = past_end ys j e in omega arith
-      through j a b was here (Some m) e = h.each j m b e here ∙ ap (λ r. put_row (archive_at s j).rows r (place_for s x j) (sample_for s x j)) (same.each j a m was e)
+      through j a b was here (Some m) e = h.each j m b e here ∙ ap (λ r. put_row (archive_at s j).rows r (cell_slot_for s x j) (sample_for s x j)) (same.each j a m was e)
 
   pub can_take_same : (old mid : List X) → AreSame cells old mid → CanTake cells s x old → CanTake cells s x mid
   can_take_same old mid same can = λ j b here. through j b here (slice_get old j) refl
     where
-      through : (j : ℕ) (b : X) → slice_get mid j ≡ Some b → (o : Option X) → slice_get old j ≡ o → IfSome (get (cells b) (place_for s x j)) (CanAdd x.number)
+      through : (j : ℕ) (b : X) → slice_get mid j ≡ Some b → (o : Option X) → slice_get old j ≡ o → IfSome (get (cells b) (cell_slot_for s x j)) (CanAdd x.number)
       through j b here None e = absurd (let within = slice_get_within mid j b here in let past = past_end old j e in let many = same.many in omega arith)
         where
           past_end : (xs : List X) (j : ℕ) → slice_get xs j ≡ None → length xs ≤ j
           past_end [] j e = omega arith
           past_end (y ∷ ys) zero e = absurd (true≢false (ap is_some e))
           past_end (y ∷ ys) (suc j) e = let h = past_end ys j e in omega arith
-      through j b here (Some a) e = subst (λ r. IfSome (get r (place_for s x j)) (CanAdd x.number)) (sym (same.each j a b e here)) (can j a e)
+      through j b here (Some a) e = subst (λ r. IfSome (get r (cell_slot_for s x j)) (CanAdd x.number)) (sym (same.each j a b e here)) (can j a e)
 
 -- ---- archives that are made
 

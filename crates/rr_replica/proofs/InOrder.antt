@@ -11,7 +11,7 @@ use Rattle.std.specs.FinMap.Entries.{below_all}
 use Rattle.std.proofs.lemmas.Bool.Decides.{nat_tests}
 use Rattle.rr_join.proofs.Booleans.{T_from_true, T_and, first_T, second_T}
 use Rattle.rr_contrib.specs.declared.contribution.Contribution.{Contribution}
-use Rattle.rr_archive.specs.Places.{Place, place_cmp}
+use Rattle.rr_archive.specs.CellSlots.{CellSlot, cell_slot_cmp}
 use Rattle.rr_archive.specs.Cells.{Rows}
 use Rattle.rr_model.specs.CellNames.{CellName, cell_name_cmp}
 use Rattle.rr_model.proofs.Orders.{cell_name_cmp_total, cell_name_cmp-IsAntisymmetric}
@@ -21,7 +21,7 @@ use Rattle.rr_replica.specs.Series.{Series, bytes_cmp, cells_from, all_cells, ce
 abbrev Listing : Type 0
 Listing = List (CellName × Contribution)
 
--- ---- lists one behind the other
+-- ---- lists one after the other
 
 AllBelow : Listing → Listing → Type 0
 AllBelow [] ys = Unit {0}
@@ -38,41 +38,41 @@ sorted_append (x ∷ xs) ys p q all = T_and _ _ (below_append x.0 xs ys (first_T
 
 -- ---- one archive
 
-abbrev pub named_as : List ℕ → ℕ → List (Place × Contribution) → Listing
+abbrev pub named_as : List ℕ → ℕ → List (CellSlot × Contribution) → Listing
 named_as key archive es = map (λ e. (name_at key archive e.0, e.1)) es
 
-same_archive : (key : List ℕ) (archive : ℕ) (p q : Place) → cell_name_cmp (name_at key archive p) (name_at key archive q) ≡ place_cmp p q
+same_archive : (key : List ℕ) (archive : ℕ) (p q : CellSlot) → cell_name_cmp (name_at key archive p) (name_at key archive q) ≡ cell_slot_cmp p q
 same_archive key archive p q =
-    (λ i. ordering_then (tied_itself nat_list_cmp_total key i) (ordering_then (nat_cmp archive archive) (place_cmp p q)))
-    ∙ ap (λ r. ordering_then r (place_cmp p q)) (tied_itself nat_cmp_total archive)
+    (λ i. ordering_then (tied_itself nat_list_cmp_total key i) (ordering_then (nat_cmp archive archive) (cell_slot_cmp p q)))
+    ∙ ap (λ r. ordering_then r (cell_slot_cmp p q)) (tied_itself nat_cmp_total archive)
 
-below_named : (key : List ℕ) (archive : ℕ) (p : Place) (es : List (Place × Contribution)) → below_all cell_name_cmp (name_at key archive p) (named_as key archive es) ≡ below_all place_cmp p es
+below_named : (key : List ℕ) (archive : ℕ) (p : CellSlot) (es : List (CellSlot × Contribution)) → below_all cell_name_cmp (name_at key archive p) (named_as key archive es) ≡ below_all cell_slot_cmp p es
 below_named key archive p [] = refl
 below_named key archive p (e ∷ es) = λ i. is_lt (same_archive key archive p e.0 i) && below_named key archive p es i
 
-sorted_named : (key : List ℕ) (archive : ℕ) (es : List (Place × Contribution)) → is_sorted cell_name_cmp (named_as key archive es) ≡ is_sorted place_cmp es
+sorted_named : (key : List ℕ) (archive : ℕ) (es : List (CellSlot × Contribution)) → is_sorted cell_name_cmp (named_as key archive es) ≡ is_sorted cell_slot_cmp es
 sorted_named key archive [] = refl
 sorted_named key archive (e ∷ es) = λ i. below_named key archive e.0 es i && sorted_named key archive es i
 
 -- ---- the archives of a key
 
-later_archive : (key : List ℕ) (a b : ℕ) (p q : Place) → a < b → is_lt (cell_name_cmp (name_at key a p) (name_at key b q)) ≡ true
+later_archive : (key : List ℕ) (a b : ℕ) (p q : CellSlot) → a < b → is_lt (cell_name_cmp (name_at key a p) (name_at key b q)) ≡ true
 later_archive key a b p q less =
-    (λ i. is_lt (ordering_then (tied_itself nat_list_cmp_total key i) (ordering_then (nat_cmp a b) (place_cmp p q))))
-    ∙ ap (λ r. is_lt (ordering_then r (place_cmp p q))) (is_less a b less)
+    (λ i. is_lt (ordering_then (tied_itself nat_list_cmp_total key i) (ordering_then (nat_cmp a b) (cell_slot_cmp p q))))
+    ∙ ap (λ r. is_lt (ordering_then r (cell_slot_cmp p q))) (is_less a b less)
   where
     is_less : (m n : ℕ) → m < n → nat_cmp m n ≡ Less
     is_less m n h = grind (arith, nat_tests)
 
-below_archive : (key : List ℕ) (a b : ℕ) (p : Place) (es : List (Place × Contribution)) → a < b → T (below_all cell_name_cmp (name_at key a p) (named_as key b es))
+below_archive : (key : List ℕ) (a b : ℕ) (p : CellSlot) (es : List (CellSlot × Contribution)) → a < b → T (below_all cell_name_cmp (name_at key a p) (named_as key b es))
 below_archive key a b p [] less = tt
 below_archive key a b p (e ∷ es) less = T_and _ _ (T_from_true _ (later_archive key a b p e.0 less)) (below_archive key a b p es less)
 
-below_archives : (key : List ℕ) (a b : ℕ) (p : Place) (rs : List Rows) → a < b → T (below_all cell_name_cmp (name_at key a p) (cells_from key b rs))
+below_archives : (key : List ℕ) (a b : ℕ) (p : CellSlot) (rs : List Rows) → a < b → T (below_all cell_name_cmp (name_at key a p) (cells_from key b rs))
 below_archives key a b p [] less = tt
 below_archives key a b p (r ∷ rs) less = below_append (name_at key a p) (named_as key b (entries r)) (cells_from key (b + 1) rs) (below_archive key a b p (entries r) less) (below_archives key a (b + 1) p rs (omega arith))
 
-all_below_archives : (key : List ℕ) (a : ℕ) (es : List (Place × Contribution)) (rs : List Rows) → AllBelow (named_as key a es) (cells_from key (a + 1) rs)
+all_below_archives : (key : List ℕ) (a : ℕ) (es : List (CellSlot × Contribution)) (rs : List Rows) → AllBelow (named_as key a es) (cells_from key (a + 1) rs)
 unfolding AllBelow
 all_below_archives key a [] rs = tt
 all_below_archives key a (e ∷ es) rs = (below_archives key a (a + 1) e.0 rs (omega arith), all_below_archives key a es rs)
@@ -83,22 +83,22 @@ sorted_from key first (r ∷ rs) = sorted_append (named_as key first (entries r)
 
 -- ---- all keys
 
-later_key : (k l : List ℕ) (a b : ℕ) (p q : Place) → bytes_cmp k l ≡ Less → is_lt (cell_name_cmp (name_at k a p) (name_at l b q)) ≡ true
-later_key k l a b p q less = ap (λ r. is_lt (ordering_then r (ordering_then (nat_cmp a b) (place_cmp p q)))) less
+later_key : (k l : List ℕ) (a b : ℕ) (p q : CellSlot) → bytes_cmp k l ≡ Less → is_lt (cell_name_cmp (name_at k a p) (name_at l b q)) ≡ true
+later_key k l a b p q less = ap (λ r. is_lt (ordering_then r (ordering_then (nat_cmp a b) (cell_slot_cmp p q)))) less
 
-below_row_of : (k l : List ℕ) (a b : ℕ) (p : Place) (es : List (Place × Contribution)) → bytes_cmp k l ≡ Less → T (below_all cell_name_cmp (name_at k a p) (named_as l b es))
+below_row_of : (k l : List ℕ) (a b : ℕ) (p : CellSlot) (es : List (CellSlot × Contribution)) → bytes_cmp k l ≡ Less → T (below_all cell_name_cmp (name_at k a p) (named_as l b es))
 below_row_of k l a b p [] less = tt
 below_row_of k l a b p (e ∷ es) less = T_and _ _ (T_from_true _ (later_key k l a b p e.0 less)) (below_row_of k l a b p es less)
 
-below_key : (k l : List ℕ) (a b : ℕ) (p : Place) (rs : List Rows) → bytes_cmp k l ≡ Less → T (below_all cell_name_cmp (name_at k a p) (cells_from l b rs))
+below_key : (k l : List ℕ) (a b : ℕ) (p : CellSlot) (rs : List Rows) → bytes_cmp k l ≡ Less → T (below_all cell_name_cmp (name_at k a p) (cells_from l b rs))
 below_key k l a b p [] less = tt
 below_key k l a b p (r ∷ rs) less = below_append (name_at k a p) (named_as l b (entries r)) (cells_from l (b + 1) rs) (below_row_of k l a b p (entries r) less) (below_key k l a (b + 1) p rs less)
 
-below_keys : (k : List ℕ) (a : ℕ) (p : Place) (es : Series) → AllByRecursion (λ l. bytes_cmp k l ≡ Less) (keys_of es) → T (below_all cell_name_cmp (name_at k a p) (all_cells es))
+below_keys : (k : List ℕ) (a : ℕ) (p : CellSlot) (es : Series) → AllByRecursion (λ l. bytes_cmp k l ≡ Less) (keys_of es) → T (below_all cell_name_cmp (name_at k a p) (all_cells es))
 below_keys k a p [] later = tt
 below_keys k a p (e ∷ es) later = below_append (name_at k a p) (cells_from e.0 0 e.1) (all_cells es) (below_key k e.0 a 0 p e.1 later.0) (below_keys k a p es later.1)
 
-row_below_keys : (k : List ℕ) (a : ℕ) (cells : List (Place × Contribution)) (es : Series) → AllByRecursion (λ l. bytes_cmp k l ≡ Less) (keys_of es) → AllBelow (named_as k a cells) (all_cells es)
+row_below_keys : (k : List ℕ) (a : ℕ) (cells : List (CellSlot × Contribution)) (es : Series) → AllByRecursion (λ l. bytes_cmp k l ≡ Less) (keys_of es) → AllBelow (named_as k a cells) (all_cells es)
 unfolding AllBelow
 row_below_keys k a [] es later = tt
 row_below_keys k a (c ∷ cells) es later = (below_keys k a c.0 es later, row_below_keys k a cells es later)

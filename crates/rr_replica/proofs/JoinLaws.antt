@@ -8,8 +8,8 @@ use Rattle.rr_join.proofs.Joining.{joined_comm, joined_assoc, joined_itself, tri
 use Rattle.rr_join.proofs.Lookups.{get-merged}
 use Rattle.rr_contrib.specs.Contributions.{contribution_cmp}
 use Rattle.rr_contrib.specs.ContributionOrder.{contribution_cmp_total, contribution_cmp-IsAntisymmetric}
-use Rattle.rr_archive.specs.Places.{is_live_at}
-use Rattle.rr_archive.proofs.PlaceOrder.{place_cmp_total, place_cmp-IsAntisymmetric}
+use Rattle.rr_archive.specs.CellSlots.{is_live_at}
+use Rattle.rr_archive.proofs.CellSlotOrder.{cell_slot_cmp_total, cell_slot_cmp-IsAntisymmetric}
 use Rattle.rr_model.proofs.Orders.{cell_name_cmp_total, cell_name_cmp-IsAntisymmetric}
 use Rattle.rr_model.proofs.Horizon.{live_horizon}
 use Rattle.rr_replica.specs.Cells.{name_at, rows_at}
@@ -33,11 +33,11 @@ pub join_goes_by_archives : JoinGoesByArchives
 unfolding Maps.joined
 join_goes_by_archives s m n key archive is =
     trimmed_local key archive s is (merged contribution_cmp m n)
-    ∙ ap (trimmed (is_live_at (archive_at s archive).rows)) (same_map place_cmp_total place_cmp-IsAntisymmetric _ _ (λ p.
+    ∙ ap (trimmed (is_live_at (archive_at s archive).rows)) (same_map cell_slot_cmp_total cell_slot_cmp-IsAntisymmetric _ _ (λ p.
     get-rows_at key archive (merged contribution_cmp m n) p
     ∙ get-merged cell_name_cmp_total cell_name_cmp-IsAntisymmetric contribution_cmp m n (name_at key archive p)
     ∙ (λ i. greater contribution_cmp (sym (get-rows_at key archive m p) i) (sym (get-rows_at key archive n p) i))
-    ∙ sym (get-merged place_cmp_total place_cmp-IsAntisymmetric contribution_cmp (rows_at m key archive) (rows_at n key archive) p)))
+    ∙ sym (get-merged cell_slot_cmp_total cell_slot_cmp-IsAntisymmetric contribution_cmp (rows_at m key archive) (rows_at n key archive) p)))
 
 pub join_unites : JoinUnites
 join_unites s w k l is ck cl = join_states s is w k l ck cl

@@ -22,19 +22,19 @@ use Rattle.rr_contrib.specs.declared.contribution.Contribution.{Contribution}
 use Rattle.rr_contrib.specs.Contributions.{contribution_cmp}
 use Rattle.rr_contrib.specs.ContributionOrder.{contribution_cmp_total, contribution_cmp-IsAntisymmetric}
 use Rattle.rr_contrib.specs.Validity.{IsValid}
-use Rattle.rr_archive.specs.Places.{place_cmp, place_at}
+use Rattle.rr_archive.specs.CellSlots.{cell_slot_cmp, cell_slot}
 use Rattle.rr_archive.specs.Cells.{Rows, join_rows}
 use Rattle.rr_archive.specs.Cells as held
-use Rattle.rr_archive.proofs.PlaceOrder.{place_cmp_total, place_cmp-IsAntisymmetric}
+use Rattle.rr_archive.proofs.CellSlotOrder.{cell_slot_cmp_total, cell_slot_cmp-IsAntisymmetric}
 use Rattle.rr_model.specs.CellNames.{CellName, cell_name_cmp, is_of, is_live}
 use Rattle.rr_model.proofs.Horizon.{live_horizon}
 use Rattle.rr_model.proofs.Orders.{cell_name_cmp_total, cell_name_cmp-IsAntisymmetric}
 use Rattle.rr_replica.specs.declared.cell.Cell.{Cell}
 use Rattle.rr_replica.specs.Archives.{Each, AreSized, AreSame, HaveJoined}
-use Rattle.rr_replica.specs.Cells.{Cells, IsTrimmed, place_in, rows_at}
+use Rattle.rr_replica.specs.Cells.{Cells, IsTrimmed, cell_slot_of, rows_at}
 use Rattle.rr_replica.specs.Joins.{join_cell}
 use Rattle.rr_replica.specs.Joining.{IsCell, next_after, with_cell, with_cells}
-use Rattle.rr_replica.specs.Kept.{IsHolding, AreAllSized, IsKept, shown, archives_of, holding}
+use Rattle.rr_replica.specs.Held.{IsHolding, AreAllSized, IsHeld, shown, archives_of, holding}
 use Rattle.rr_replica.specs.Holding.{Holding}
 use Rattle.rr_replica.specs.Listing.{owned_cell}
 use Rattle.rr_replica.specs.Series.{bytes_cmp, cells_of}
@@ -46,15 +46,15 @@ use Rattle.rr_replica.proofs.SeriesLemmas.{bytes_cmp-IsAntisymmetric}
 use Rattle.rr_replica.proofs.Shown.{there, held_at, items_of, rows_shown, at_key, at_other, same_key, cells_same, held_same}
 
 no_rows : (key : List ℕ) (archive : ℕ) → rows_at empty key archive ≡ empty
-no_rows key archive = same_map place_cmp_total place_cmp-IsAntisymmetric _ _ (λ p. get-rows_at key archive empty p ∙ get-empty cell_name_cmp _ ∙ sym (get-empty place_cmp p))
+no_rows key archive = same_map cell_slot_cmp_total cell_slot_cmp-IsAntisymmetric _ _ (λ p. get-rows_at key archive empty p ∙ get-empty cell_name_cmp _ ∙ sym (get-empty cell_slot_cmp p))
 
 -- ---- one archive of one key
 
 module _ (s : Layout) (is : IsLayout s) (m : Cells) (n : CellName) (c : Contribution) where
-  pub cell_here : rows_at (join_cell s m n c) n.key n.archive ≡ held.join_cell (archive_at s n.archive).rows (rows_at m n.key n.archive) (place_in n) c
+  pub cell_here : rows_at (join_cell s m n c) n.key n.archive ≡ held.join_cell (archive_at s n.archive).rows (rows_at m n.key n.archive) (cell_slot_of n) c
   cell_here =
       join_goes_by_archives s m (insert empty n c) n.key n.archive is
-      ∙ ap (join_rows (archive_at s n.archive).rows (rows_at m n.key n.archive)) (insert_here n.key n.archive empty (place_in n) c ∙ ap (λ r. insert r (place_in n) c) (no_rows n.key n.archive))
+      ∙ ap (join_rows (archive_at s n.archive).rows (rows_at m n.key n.archive)) (insert_here n.key n.archive empty (cell_slot_of n) c ∙ ap (λ r. insert r (cell_slot_of n) c) (no_rows n.key n.archive))
 
   pub cell_elsewhere : (key : List ℕ) (archive : ℕ) → IsTrimmed s m → is_of key archive n ≡ false → rows_at (join_cell s m n c) key archive ≡ rows_at m key archive
   cell_elsewhere key archive kept apart =
@@ -74,7 +74,7 @@ module _ {X : Type 0} (cells : X → Rows) (limit : X → ℕ) (s : Layout) (is 
       let a = there old c.archive within in
       let b = there new c.archive (let more = h.many in omega arith) in
       ap (λ o. unwrap_or (option_map cells o) empty) b.1 ∙ h.here a.0 b.0 a.1 b.1
-      ∙ (λ k. held.join_cell (sized_at limit s old sized c.archive a.0 a.1 k) ((sym (ap (λ o. unwrap_or (option_map cells o) empty) a.1) ∙ sym (before c.archive)) k) (place_at c.slot c.origin) c.contribution)
+      ∙ (λ k. held.join_cell (sized_at limit s old sized c.archive a.0 a.1 k) ((sym (ap (λ o. unwrap_or (option_map cells o) empty) a.1) ∙ sym (before c.archive)) k) (cell_slot c.slot c.origin) c.contribution)
       ∙ sym (cell_here s is all (owned_cell c).0 c.contribution)
 
   held_other : (i : ℕ) → i ≢ c.archive → held_at cells new i ≡ held_at cells old i
@@ -180,7 +180,7 @@ module _ (h : Holding) (holds : IsHolding h) (c : Cell) (cell : IsCell h.schema 
       }
 
 -- with a cell joined in a replica keeps to the same
-pub kept_joined : {X : Type 0} (cells : X → Rows) (limit : X → ℕ) (s : Layout) (origin next : ℕ) (c : Cell) (old new : List (List ℕ × Vec X)) → IsKept cells limit s origin next old → IsCell s c → cells_of (shown cells new) ≡ join_cell s (cells_of (shown cells old)) (owned_cell c).0 c.contribution → AreAllSized limit s new → IsStrictlySortedBy bytes_cmp (keys_of new) → IsKept cells limit s origin (next_after origin next (owned_cell c)) new
+pub kept_joined : {X : Type 0} (cells : X → Rows) (limit : X → ℕ) (s : Layout) (origin next : ℕ) (c : Cell) (old new : List (List ℕ × Vec X)) → IsHeld cells limit s origin next old → IsCell s c → cells_of (shown cells new) ≡ join_cell s (cells_of (shown cells old)) (owned_cell c).0 c.contribution → AreAllSized limit s new → IsStrictlySortedBy bytes_cmp (keys_of new) → IsHeld cells limit s origin (next_after origin next (owned_cell c)) new
 kept_joined cells limit s origin next c old new kept cell joined sized ordered = record {
   holds = subst (λ (m : Cells). IsHolding (record { schema = s; origin = origin; next = next_after origin next (owned_cell c); cells = m })) (sym joined) (holds_joined (holding cells s origin next old) kept.holds c cell);
   sized = sized;

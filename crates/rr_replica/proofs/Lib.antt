@@ -3,8 +3,8 @@ pub mod SeriesLemmas
 pub mod Putting
 pub mod Each
 pub mod Shown
-pub mod Holding
-pub mod Keeping
+pub mod HoldingLemmas
+pub mod HeldLemmas
 pub mod InOrder
 pub mod Counted
 pub mod PutLaws

@@ -2,7 +2,7 @@
 use Rattle.std.proofs.Common.{◌≡◌, ◌≢◌, ℕ, List, set, slice_get, sym, ap, ◌∙◌, Some, unwrap_or, ⊎_elim}
 use Rattle.std.proofs.lemmas.Bool.Decides.{eqb_tells}
 use Rattle.std.proofs.lemmas.Option.{slice_get_within}
-use Rattle.rr_archive.specs.Places.{place_at}
+use Rattle.rr_archive.specs.CellSlots.{cell_slot}
 use Rattle.rr_archive.specs.Cells.{Rows, join_cell}
 use Rattle.rr_replica.specs.declared.cell.Cell.{Cell}
 use Rattle.rr_replica.specs.Archives.{AreSame, HaveJoined}
@@ -29,10 +29,10 @@ module _ {X : Type 0} (cells : X → Rows) where
           (eqb_tells j c.archive);
     }
 
-  pub joined_at : (limit : X → ℕ) (c : Cell) (old : List X) (a b : X) → slice_get old c.archive ≡ Some a → cells b ≡ join_cell (limit a) (cells a) (place_at c.slot c.origin) c.contribution → HaveJoined cells limit c old (set old c.archive b)
+  pub joined_at : (limit : X → ℕ) (c : Cell) (old : List X) (a b : X) → slice_get old c.archive ≡ Some a → cells b ≡ join_cell (limit a) (cells a) (cell_slot c.slot c.origin) c.contribution → HaveJoined cells limit c old (set old c.archive b)
   joined_at limit c old a b at is = record {
     many = length-set old c.archive b;
     here = λ d e was now.
-        ap cells (the_new old c.archive a b e at now) ∙ is ∙ ap (λ x. join_cell (limit x) (cells x) (place_at c.slot c.origin) c.contribution) (the_old old c.archive a d at was);
+        ap cells (the_new old c.archive a b e at now) ∙ is ∙ ap (λ x. join_cell (limit x) (cells x) (cell_slot c.slot c.origin) c.contribution) (the_old old c.archive a d at was);
     others = λ j d e was now apart. unchanged old c.archive j b d e apart was now;
   }

@@ -7,11 +7,11 @@ use Rattle.std.proofs.lemmas.Bool.{false_from_ne_true}
 use Rattle.rr_base.specs.Schema.{archive_at}
 use Rattle.rr_contrib.specs.declared.contribution.Contribution.{Contribution}
 use Rattle.rr_contrib.specs.Contributions.{added}
-use Rattle.rr_archive.specs.Places.{Place}
+use Rattle.rr_archive.specs.CellSlots.{CellSlot}
 use Rattle.rr_archive.proofs.Trimming.{trimmed_dead}
 use Rattle.rr_archive.proofs.FewLive.{cells_are_few}
 use Rattle.rr_model.specs.Samples.{name_of, marks_of}
-use Rattle.rr_replica.specs.Cells.{name_at, place_in, rows_at}
+use Rattle.rr_replica.specs.Cells.{name_at, cell_slot_of, rows_at}
 use Rattle.rr_replica.specs.Puts.{seen}
 use Rattle.rr_replica.specs.Laws.{PutGoesByArchives, PutLeavesOtherKeys, PutIsTrimmed, DeadLeaveNoTrace, CellsAreFew, mark_in}
 use Rattle.rr_replica.proofs.Local.{get-rows_at, live_local, trimmed_local}
@@ -29,7 +29,7 @@ put_is_trimmed s m x is kept = puts_trimmed s is (marks_of s x) m kept
 pub dead_leave_no_trace : DeadLeaveNoTrace
 dead_leave_no_trace s m x archive is kept there dead =
     let k = mark_in x archive in
-    let p = place_in (name_of s k) in
+    let p = cell_slot_of (name_of s k) in
     let rows = rows_at m x.key archive in
     let trimmed = sym (trimmed_local x.key archive s is m) ∙ ap (λ c. rows_at c x.key archive) kept in
     put_at s is x archive m kept there
@@ -41,6 +41,6 @@ cells_few s m key archive origins is kept of =
     (sym (trimmed_local key archive s is m) ∙ ap (λ c. rows_at c key archive) kept)
     (λ p h. by_cell p (get m (name_at key archive p)) refl (ap is_some (sym (get-rows_at key archive m p)) ∙ h))
   where
-    by_cell : (p : Place) (o : Option Contribution) → get m (name_at key archive p) ≡ o → is_some o ≡ true → (1 ≤ p.origin) × (p.origin ≤ origins)
+    by_cell : (p : CellSlot) (o : Option Contribution) → get m (name_at key archive p) ≡ o → is_some o ≡ true → (1 ≤ p.origin) × (p.origin ≤ origins)
     by_cell p None e h = absurd (true≢false (sym h))
     by_cell p (Some c) e h = of (name_at key archive p) c e

@@ -11,14 +11,14 @@ use Rattle.rr_join.specs.Maps.{trimmed}
 use Rattle.rr_join.proofs.Joining.{trimmed-trimmed}
 use Rattle.rr_contrib.specs.declared.contribution.Contribution.{Contribution}
 use Rattle.rr_contrib.specs.Contributions.{added}
-use Rattle.rr_archive.specs.Places.{is_live_at}
+use Rattle.rr_archive.specs.CellSlots.{is_live_at}
 use Rattle.rr_archive.specs.Cells.{put_row}
 use Rattle.rr_archive.specs.Cells as held
 use Rattle.rr_model.specs.CellNames.{is_of}
 use Rattle.rr_model.specs.Samples.{Sample, Mark, name_of}
 use Rattle.rr_model.proofs.Orders.{cell_name_cmp_total, cell_name_cmp-IsAntisymmetric}
 use Rattle.rr_model.proofs.Horizon.{live_horizon}
-use Rattle.rr_replica.specs.Cells.{Cells, IsTrimmed, place_in, rows_at}
+use Rattle.rr_replica.specs.Cells.{Cells, IsTrimmed, cell_slot_of, rows_at}
 use Rattle.rr_replica.specs.Puts.{seen, put_mark, put_marks, put_sample}
 use Rattle.rr_replica.proofs.Local.{get-rows_at, trimmed_local, insert_here, insert_elsewhere}
 
@@ -28,7 +28,7 @@ mark x archive = record { sample = x; archive = archive }
 
 -- the rows of an archive with the mark put
 abbrev pub with_mark : Layout → held.Rows → Mark → held.Rows
-with_mark s rows m = put_row (archive_at s m.archive).rows rows (place_in (name_of s m)) (seen s m)
+with_mark s rows m = put_row (archive_at s m.archive).rows rows (cell_slot_of (name_of s m)) (seen s m)
 
 module _ (s : Layout) (is : IsLayout s) where
   put_here : (cells : Cells) (m : Mark) → rows_at (put_mark s cells m) m.key m.archive ≡ with_mark s (rows_at cells m.key m.archive) m
@@ -38,8 +38,8 @@ module _ (s : Layout) (is : IsLayout s) where
       let v : Contribution = added (get cells n) (seen s m) in
       trimmed_local m.key m.archive s is (insert cells n v)
       ∙ ap (trimmed (is_live_at (archive_at s m.archive).rows))
-      (insert_here m.key m.archive cells (place_in n) v
-      ∙ ap (λ o. insert (rows_at cells m.key m.archive) (place_in n) (added o (seen s m))) (sym (get-rows_at m.key m.archive cells (place_in n))))
+      (insert_here m.key m.archive cells (cell_slot_of n) v
+      ∙ ap (λ o. insert (rows_at cells m.key m.archive) (cell_slot_of n) (added o (seen s m))) (sym (get-rows_at m.key m.archive cells (cell_slot_of n))))
 
   put_elsewhere : (cells : Cells) (m : Mark) (key : List ℕ) (archive : ℕ) → IsTrimmed s cells → is_of key archive (name_of s m) ≡ false → rows_at (put_mark s cells m) key archive ≡ rows_at cells key archive
   unfolding put_mark

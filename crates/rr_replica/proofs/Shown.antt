@@ -14,13 +14,13 @@ use Rattle.std.proofs.lemmas.Option.{slice_get_past}
 use Rattle.rr_base.specs.Schema.{Layout, IsLayout, archive_at}
 use Rattle.rr_join.proofs.Members.{same_from_tie, tie_itself}
 use Rattle.rr_archive.specs.Cells.{Rows, put_row}
-use Rattle.rr_model.specs.Samples.{Sample}
-use Rattle.rr_replica.specs.declared.sample.Written.{Written}
+use Rattle.rr_model.specs.Samples as model
+use Rattle.rr_replica.specs.declared.sample.Sample.{Sample}
 use Rattle.rr_replica.specs.Cells.{Cells, IsTrimmed, rows_at}
 use Rattle.rr_replica.specs.Puts.{put_sample}
 use Rattle.rr_replica.specs.Series.{bytes_cmp, cells_of, rows_from}
-use Rattle.rr_replica.specs.Archives.{place_for, sample_for, AreSame, HavePut}
-use Rattle.rr_replica.specs.Kept.{shown, archives_of, sample_of}
+use Rattle.rr_replica.specs.Archives.{cell_slot_for, sample_for, AreSame, HavePut}
+use Rattle.rr_replica.specs.Held.{shown, archives_of, sample_of}
 use Rattle.rr_replica.proofs.Local.{same_cells}
 use Rattle.rr_replica.proofs.SeriesLemmas.{bytes_cmp-IsAntisymmetric, rows_of_series}
 use Rattle.rr_replica.proofs.Putting.{put_at, put_past, put_other_key}
@@ -98,7 +98,7 @@ module _ {X : Type 0} (cells : X → Rows) where
         ] refl)
 
     -- with a sample put
-    pub cells_put : (s : Layout) → IsLayout s → (x : Sample) → x.key ≡ key → IsTrimmed s (cells_of (shown cells old)) → ((i : ℕ) → held_at cells archives.items i ≡ rows_at (put_sample s (cells_of (shown cells old)) x) key i) → cells_of (shown cells new) ≡ put_sample s (cells_of (shown cells old)) x
+    pub cells_put : (s : Layout) → IsLayout s → (x : model.Sample) → x.key ≡ key → IsTrimmed s (cells_of (shown cells old)) → ((i : ℕ) → held_at cells archives.items i ≡ rows_at (put_sample s (cells_of (shown cells old)) x) key i) → cells_of (shown cells new) ≡ put_sample s (cells_of (shown cells old)) x
     cells_put s is x of kept put = same_cells _ _ (λ q i.
         elim (is_at (bytes_cmp key) q) as (λ b. is_at (bytes_cmp key) q ≡ b → rows_at (cells_of (shown cells new)) q i ≡ rows_at (put_sample s (cells_of (shown cells old)) x) q i) [
           | true ↦ λ t. subst (λ k. rows_at (cells_of (shown cells new)) k i ≡ rows_at (put_sample s (cells_of (shown cells old)) x) k i) (same_key q t) (at_key i ∙ put i)
@@ -116,13 +116,13 @@ module _ {X : Type 0} (cells : X → Rows) where
       (λ past. (λ j. unwrap_or (option_map cells (slice_get_past new i (let many = same.many in omega arith) j)) empty) ∙ sym (λ j. unwrap_or (option_map cells (slice_get_past old i past j)) empty))
       (cases_lt i (length old))
 
-  pub held_put : (s : Layout) → IsLayout s → (key : List ℕ) (x : Written) (all : Cells) (old new : List X) (i : ℕ) → IsTrimmed s all → length old ≡ length s.archives → HavePut cells s x old new → ((j : ℕ) → rows_at all key j ≡ held_at cells old j) → held_at cells new i ≡ rows_at (put_sample s all (sample_of key x)) key i
+  pub held_put : (s : Layout) → IsLayout s → (key : List ℕ) (x : Sample) (all : Cells) (old new : List X) (i : ℕ) → IsTrimmed s all → length old ≡ length s.archives → HavePut cells s x old new → ((j : ℕ) → rows_at all key j ≡ held_at cells old j) → held_at cells new i ≡ rows_at (put_sample s all (sample_of key x)) key i
   held_put s is key x all old new i kept many h before = ⊎_elim
       (λ within.
       let a = there old i within in
       let b = there new i (let more = h.many in omega arith) in
       ap (λ o. unwrap_or (option_map cells o) empty) b.1 ∙ h.each i a.0 b.0 a.1 b.1
-      ∙ ap (λ r. put_row (archive_at s i).rows r (place_for s x i) (sample_for s x i)) (sym (ap (λ o. unwrap_or (option_map cells o) empty) a.1) ∙ sym (before i))
+      ∙ ap (λ r. put_row (archive_at s i).rows r (cell_slot_for s x i) (sample_for s x i)) (sym (ap (λ o. unwrap_or (option_map cells o) empty) a.1) ∙ sym (before i))
       ∙ sym (put_at s is (sample_of key x) i all kept (let more = many in omega arith)))
       (λ past. (λ j. unwrap_or (option_map cells (slice_get_past new i (let more = h.many in omega arith) j)) empty) ∙ sym (put_past s is (sample_of key x) key i all kept (let more = many in omega arith) ∙ before i ∙ (λ j. unwrap_or (option_map cells (slice_get_past old i past j)) empty)))
       (cases_lt i (length old))

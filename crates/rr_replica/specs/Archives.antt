@@ -5,17 +5,17 @@ use Rattle.rr_base.specs.Schema.{Layout, archive_at, slot_of, place_of}
 use Rattle.rr_contrib.specs.Contributions.{SlotSample, slot_sample}
 use Rattle.rr_contrib.specs.Validity.{CanAdd}
 use Rattle.std.specs.Prelude.{IfSome}
-use Rattle.rr_archive.specs.Places.{Place, place_at}
+use Rattle.rr_archive.specs.CellSlots.{CellSlot, cell_slot}
 use Rattle.rr_archive.specs.Cells.{Rows, put_row, join_cell}
-use Rattle.rr_replica.specs.declared.sample.Written.{Written}
+use Rattle.rr_replica.specs.declared.sample.Sample.{Sample}
 use Rattle.rr_replica.specs.declared.cell.Cell.{Cell}
 
 -- where the sample falls in an archive
-abbrev pub place_for : Layout → Written → ℕ → Place
-place_for s x archive = place_at (slot_of s archive x.time) x.origin
+abbrev pub cell_slot_for : Layout → Sample → ℕ → CellSlot
+cell_slot_for s x archive = cell_slot (slot_of s archive x.time) x.origin
 
 -- the sample, as the slot of an archive sees it
-abbrev pub sample_for : Layout → Written → ℕ → SlotSample
+abbrev pub sample_for : Layout → Sample → ℕ → SlotSample
 sample_for s x archive = slot_sample x.number (place_of s archive x.time) x.time x.value
 
 module _ {X : Type 0} where
@@ -31,8 +31,8 @@ module _ {X : Type 0} where
   AreSized limit s archives = map limit archives ≡ map (λ a. a.rows) s.archives
 
   -- a sample of this number can be added to the cell where it falls
-  abbrev pub CanTake : (X → Rows) → Layout → Written → List X → Type 0
-  CanTake cells s x archives = Each (λ i a. IfSome (get (cells a) (place_for s x i)) (CanAdd x.number)) archives
+  abbrev pub CanTake : (X → Rows) → Layout → Sample → List X → Type 0
+  CanTake cells s x archives = Each (λ i a. IfSome (get (cells a) (cell_slot_for s x i)) (CanAdd x.number)) archives
 
   -- as many archives, with the same cells
   pub record AreSame (cells : X → Rows) (old new : List X) : Type 0 where
@@ -40,12 +40,12 @@ module _ {X : Type 0} where
     pub each : EachPair (λ i a b. cells b ≡ cells a) old new
 
   -- as many archives, each with the sample put
-  pub record HavePut (cells : X → Rows) (s : Layout) (x : Written) (old new : List X) : Type 0 where
+  pub record HavePut (cells : X → Rows) (s : Layout) (x : Sample) (old new : List X) : Type 0 where
     pub many : length new ≡ length old
-    pub each : EachPair (λ i a b. cells b ≡ put_row (archive_at s i).rows (cells a) (place_for s x i) (sample_for s x i)) old new
+    pub each : EachPair (λ i a b. cells b ≡ put_row (archive_at s i).rows (cells a) (cell_slot_for s x i) (sample_for s x i)) old new
 
   -- as many archives, with the cell joined into its own
   pub record HaveJoined (cells : X → Rows) (limit : X → ℕ) (c : Cell) (old new : List X) : Type 0 where
     pub many : length new ≡ length old
-    pub here : (a b : X) → slice_get old c.archive ≡ Some a → slice_get new c.archive ≡ Some b → cells b ≡ join_cell (limit a) (cells a) (place_at c.slot c.origin) c.contribution
+    pub here : (a b : X) → slice_get old c.archive ≡ Some a → slice_get new c.archive ≡ Some b → cells b ≡ join_cell (limit a) (cells a) (cell_slot c.slot c.origin) c.contribution
     pub others : EachPair (λ i a b. i ≢ c.archive → cells b ≡ cells a) old new

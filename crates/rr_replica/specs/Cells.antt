@@ -6,7 +6,7 @@ use Rattle.rr_base.specs.Schema.{Layout}
 use Rattle.rr_join.specs.Maps.{map_of, trimmed}
 use Rattle.rr_contrib.specs.declared.contribution.Contribution.{Contribution}
 use Rattle.rr_archive.specs.declared.entry.Entry.{Entry}
-use Rattle.rr_archive.specs.Places.{Place, place_at}
+use Rattle.rr_archive.specs.CellSlots.{CellSlot, cell_slot}
 use Rattle.rr_archive.specs.Cells as held
 use Rattle.rr_model.specs.CellNames.{CellName, cell_name_cmp, is_of, is_live}
 
@@ -20,17 +20,17 @@ IsTrimmed s m = trimmed (is_live s) m ≡ m
 
 -- ---- one archive of one key
 
--- the cell at a place of it
-abbrev pub name_at : List ℕ → ℕ → Place → CellName
+-- the name of the cell at a cell slot of it
+abbrev pub name_at : List ℕ → ℕ → CellSlot → CellName
 name_at key archive p = record { key = key; archive = archive; slot = p.slot; origin = p.origin }
 
--- the place of a cell in its archive
-abbrev pub place_in : CellName → Place
-place_in n = place_at n.slot n.origin
+-- the cell slot of a cell in its archive
+abbrev pub cell_slot_of : CellName → CellSlot
+cell_slot_of n = cell_slot n.slot n.origin
 
--- of all cells those of an archive of a key, by their places
+-- of all cells those of an archive of a key, by their cell slots
 unfoldable pub rows_at : Cells → List ℕ → ℕ → held.Rows
-rows_at m key archive = map_of (map place_in (filter (is_of key archive) (keys m))) (λ p. get m (name_at key archive p))
+rows_at m key archive = map_of (map cell_slot_of (filter (is_of key archive) (keys m))) (λ p. get m (name_at key archive p))
 
 -- the entries of a slot of it, ascending by origin
 abbrev pub row_at : Cells → List ℕ → ℕ → ℤ → List Entry

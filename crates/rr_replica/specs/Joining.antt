@@ -37,6 +37,6 @@ abbrev pub with_cells : Holding → List Cell → Holding
 with_cells h [] = h
 with_cells h (c ∷ cs) = with_cells (with_cell h c) cs
 
--- where memory ran out the first so many cells are joined
+-- where memory ran out, the first cells are joined, as many as the fault says
 abbrev pub IsAfterJoined : Holding → Holding → List Cell → JoinFault → Type 0
 IsAfterJoined old new cells (why.Memory joined) = new ≡ with_cells old (take joined cells)

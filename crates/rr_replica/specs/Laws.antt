@@ -7,7 +7,7 @@ use Rattle.rr_contrib.specs.declared.contribution.Contribution.{Contribution}
 use Rattle.rr_archive.specs.Cells.{put_row, join_rows}
 use Rattle.rr_model.specs.CellNames.{CellName, cell_name_cmp, is_slot_live}
 use Rattle.rr_model.specs.Samples.{Sample, Mark, name_of}
-use Rattle.rr_replica.specs.Cells.{Cells, IsTrimmed, place_in, rows_at}
+use Rattle.rr_replica.specs.Cells.{Cells, IsTrimmed, cell_slot_of, rows_at}
 use Rattle.rr_model.specs.Knowledge.{Knowledge, union, live, cells_where, part, difference}
 use Rattle.rr_model.specs.World.{World, IsClosed}
 use Rattle.rr_replica.specs.Puts.{seen, put_sample}
@@ -24,7 +24,7 @@ abbrev pub PutGoesByArchives : Type 0
 PutGoesByArchives =
     (s : Layout) (m : Cells) (x : Sample) (archive : ℕ) → IsLayout s → IsTrimmed s m → archive < length s.archives
     → rows_at (put_sample s m x) x.key archive
-    ≡ put_row (archive_at s archive).rows (rows_at m x.key archive) (place_in (name_of s (mark_in x archive))) (seen s (mark_in x archive))
+    ≡ put_row (archive_at s archive).rows (rows_at m x.key archive) (cell_slot_of (name_of s (mark_in x archive))) (seen s (mark_in x archive))
 
 -- and changes no other key
 abbrev pub PutLeavesOtherKeys : Type 0

@@ -3,7 +3,7 @@ pub mod Puts
 pub mod Holding
 pub mod Series
 pub mod Archives
-pub mod Kept
+pub mod Held
 pub mod Listing
 pub mod Joins
 pub mod Joining

@@ -37,6 +37,6 @@ IsAfterRefusal old new p time why.AheadOfClock = new ≡ old
 IsAfterRefusal old new p time why.NumbersSpent = new ≡ old
 IsAfterRefusal old new p time (why.Memory put) = new ≡ with_fields old p time (take put p.fields)
 
--- memory ran out behind the first fields
+-- memory ran out after the first fields
 abbrev pub IsMemoryAfter : Holding → Holding → PointView → ℤ → WriteFault → Type 0
 IsMemoryAfter old new p time fault = (put : ℕ) × (fault ≡ why.Memory put) × (new ≡ with_fields old p time (take put p.fields))

@@ -2,11 +2,11 @@
 ghost use Rattle.std.specs.Prelude.{◌≡◌, ◌<◌, ◌≤◌, length, IsTrue, IsOk, OnOk, OnErr, IfOk};
 ghost use Rattle.std.specs.FinMap as fin;
 ghost use Rattle.rr_base.specs.Schema.{IsLayout};
-ghost use Rattle.rr_replica.specs.Archives.{place_for, Each, AreSized, CanTake, AreSame, HavePut, HaveJoined};
+ghost use Rattle.rr_replica.specs.Archives.{cell_slot_for, Each, AreSized, CanTake, AreSame, HavePut, HaveJoined};
 ghost use Rattle.rr_replica.specs.Joining.{IsCell};
 
 use crate::cell::Cell;
-use crate::sample::Written;
+use crate::sample::Sample;
 use rr_archive::Archive;
 use rr_base::Schema;
 use rr_base::limits::MAX_NUMBER;
@@ -32,13 +32,13 @@ pub(crate) fn empty_archives<A: Archive>(
 fn make_ready<A: Archive>(
     archives: &mut Vec<A>,
     schema: &Schema,
-    sample: &Written,
+    sample: &Sample,
 ) -> Result<(), AllocError>
     requires layout { IsLayout schema.now }
     requires sized { AreSized A.row_limit schema.now archives.old.items }
     ensures same { AreSame A.cells archives.old.items archives.new.items }
     ensures sized { AreSized A.row_limit schema.now archives.new.items }
-    ensures ready { OnOk result (Each (λ i a. IsTrue (A.is_ready a (place_for schema.now sample.now i))) archives.new.items) }
+    ensures ready { OnOk result (Each (λ i a. IsTrue (A.is_ready a (cell_slot_for schema.now sample.now i))) archives.new.items) }
 {
     for i in 0..archives.len() {
         let slot = schema.slot(i as u8, sample.time);
@@ -51,14 +51,14 @@ fn make_ready<A: Archive>(
 fn put_ready<A: Archive>(
     archives: &mut Vec<A>,
     schema: &Schema,
-    sample: &Written,
+    sample: &Sample,
 ) -> Result<(), AllocError>
     requires layout { IsLayout schema.now }
     requires sized { AreSized A.row_limit schema.now archives.old.items }
     requires some_number { 1 ≤ sample.now.number }
     requires known_number { sample.now.number ≤ MAX_NUMBER }
     requires newer { CanTake A.cells schema.now sample.now archives.old.items }
-    requires ready { Each (λ i a. IsTrue (A.is_ready a (place_for schema.now sample.now i))) archives.old.items }
+    requires ready { Each (λ i a. IsTrue (A.is_ready a (cell_slot_for schema.now sample.now i))) archives.old.items }
     ensures ok { IsOk result }
     ensures put { HavePut A.cells schema.now sample.now archives.old.items archives.new.items }
     ensures sized { AreSized A.row_limit schema.now archives.new.items }
@@ -82,7 +82,7 @@ fn put_ready<A: Archive>(
 pub(crate) fn put_into<A: Archive>(
     archives: &mut Vec<A>,
     schema: &Schema,
-    sample: &Written,
+    sample: &Sample,
 ) -> Result<(), AllocError>
     requires layout { IsLayout schema.now }
     requires sized { AreSized A.row_limit schema.now archives.old.items }

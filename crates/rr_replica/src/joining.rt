@@ -7,7 +7,7 @@ ghost use Rattle.rr_base.specs.declared.limits.TheConstants.{MAX_NUMBER};
 ghost use Rattle.rr_replica.specs.Cells.{IsTrimmed};
 ghost use Rattle.rr_replica.specs.Joins.{join_cell};
 ghost use Rattle.rr_replica.specs.Joining.{IsCell, next_after};
-ghost use Rattle.rr_replica.specs.Kept.{shown, AreAllSized};
+ghost use Rattle.rr_replica.specs.Held.{shown, AreAllSized};
 ghost use Rattle.rr_replica.specs.Listing.{owned_cell};
 ghost use Rattle.rr_replica.specs.Series.{bytes_cmp, cells_of};
 

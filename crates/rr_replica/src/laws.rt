@@ -11,7 +11,7 @@ pub fn puts_go_by_archives()
     ensures trimmed { PutIsTrimmed }
 {}
 
-/// An archive of a key has at most so many live cells as its rows times the origins, whatever was
+/// An archive of a key has at most as many live cells as its rows times the origins, whatever was
 /// written.
 pub fn live_cells_are_few()
     ensures { CellsAreFew }

@@ -1,9 +1,9 @@
 //! The cells of archives, in order.
 ghost use Rattle.std.specs.Prelude.{◌≡◌, ◌+◌, ◌≤◌, length, map, Some, IfOk, IfErr, slice_get};
-ghost use Rattle.rr_archive.specs.Places.{place_at};
+ghost use Rattle.rr_archive.specs.CellSlots.{cell_slot};
 ghost use Rattle.rr_replica.specs.Cells.{name_at};
 ghost use Rattle.rr_replica.specs.Series.{bytes_cmp, cells_from, cells_of};
-ghost use Rattle.rr_replica.specs.Kept.{shown};
+ghost use Rattle.rr_replica.specs.Held.{shown};
 ghost use Rattle.std.specs.List.{AllByRecursion};
 ghost use Rattle.std.specs.List.Sorted.{IsStrictlySortedBy};
 ghost use Rattle.std.specs.Map.{keys_of};
@@ -31,7 +31,7 @@ pub(crate) fn count_in<A: Archive>(archives: &[A], others: usize) -> usize
 
 /// A cell of an archive, with its key.
 fn named(key: &SeriesKey, archive: u8, cell: (i64, Entry)) -> CellRef<'_>
-    ensures { seen_cell result ≡ (name_at key.now archive (place_at cell.0 cell.1.origin), cell.1.contribution) }
+    ensures { seen_cell result ≡ (name_at key.now archive (cell_slot cell.0 cell.1.origin), cell.1.contribution) }
 {
     CellRef {
         key,
@@ -42,7 +42,7 @@ fn named(key: &SeriesKey, archive: u8, cell: (i64, Entry)) -> CellRef<'_>
     }
 }
 
-/// The cell with a number among those of a key's archives, or else what is left of the number behind
+/// The cell with a number among those of a key's archives, or else what is left of the number after
 /// them.
 pub(crate) fn nth_in<'a, A: Archive>(
     key: &'a SeriesKey,

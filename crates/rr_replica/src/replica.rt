@@ -13,14 +13,14 @@ ghost use Rattle.rr_replica.specs.Puts.{put_sample};
 ghost use Rattle.rr_replica.specs.Holding.{Holding, with_put};
 ghost use Rattle.rr_replica.specs.Series.{cells_of};
 ghost use Rattle.rr_replica.specs.Listing.{seen_cell, at_most_usize};
-ghost use Rattle.rr_replica.specs.Kept.{shown, sample_of, IsHolding, IsKept};
+ghost use Rattle.rr_replica.specs.Held.{shown, sample_of, IsHolding, IsHeld};
 
 use crate::archives::{empty_archives, put_into};
 use crate::cell::{Cell, CellRef};
 use crate::fault::{JoinFault, PutFault, WriteFault};
 use crate::joining::{join_in, next_after};
 use crate::listing::{count_cells, nth_cell};
-use crate::sample::Written;
+use crate::sample::Sample;
 use rr_archive::{Archive, Entry};
 use rr_base::limits::MAX_NUMBER;
 use rr_base::{Origin, Schema};
@@ -46,7 +46,7 @@ pub struct Replica<A: Archive> {
 
 impl<A: Archive> Model for Replica<A> {
     ghost use Rattle.rr_replica.specs.Holding.{Holding, coded_holding};
-    ghost use Rattle.rr_replica.specs.Kept.{holding, IsKept};
+    ghost use Rattle.rr_replica.specs.Held.{holding, IsHeld};
 
     ghost Value = { Holding };
 
@@ -54,7 +54,7 @@ impl<A: Archive> Model for Replica<A> {
 
     ghost view = { λ r. holding A.cells r.schema r.origin r.next r.series.entries };
 
-    ghost invariant = { λ r. IsKept A.cells A.row_limit r.schema r.origin r.next r.series.entries };
+    ghost invariant = { λ r. IsHeld A.cells A.row_limit r.schema r.origin r.next r.series.entries };
 }
 
 /// Puts a sample of a key into each of its archives, or into none.
@@ -63,15 +63,15 @@ fn put_in<A: Archive>(
     alloc: Global,
     schema: &Schema,
     key: &SeriesKey,
-    sample: &Written,
+    sample: &Sample,
 ) -> Result<(), AllocError>
-    requires kept { IsKept A.cells A.row_limit schema.now sample.now.origin sample.now.number series.old.entries }
+    requires kept { IsHeld A.cells A.row_limit schema.now sample.now.origin sample.now.number series.old.entries }
     requires known { sample.now.number ≤ MAX_NUMBER }
     ensures put { OnOk result (cells_of (shown A.cells series.new.entries)
         ≡ put_sample schema.now (cells_of (shown A.cells series.old.entries)) (sample_of key.now sample.now)) }
-    ensures ok { OnOk result (IsKept A.cells A.row_limit schema.now sample.now.origin (sample.now.number + 1) series.new.entries) }
+    ensures ok { OnOk result (IsHeld A.cells A.row_limit schema.now sample.now.origin (sample.now.number + 1) series.new.entries) }
     ensures err { OnErr result (cells_of (shown A.cells series.new.entries) ≡ cells_of (shown A.cells series.old.entries)) }
-    ensures kept { OnErr result (IsKept A.cells A.row_limit schema.now sample.now.origin sample.now.number series.new.entries) }
+    ensures kept { OnErr result (IsHeld A.cells A.row_limit schema.now sample.now.origin sample.now.number series.new.entries) }
 {
     match series.get_mut(key) {
         Some(archives) => put_into(archives, schema, sample),
@@ -140,7 +140,7 @@ impl<A: Archive> Replica<A> {
         if self.next > MAX_NUMBER {
             return Err(PutFault::NumbersSpent);
         }
-        let sample = Written {
+        let sample = Sample {
             origin: self.origin,
             number: self.next,
             time,
@@ -204,8 +204,8 @@ impl<A: Archive> Replica<A> {
     ///
     /// Refused as `AheadOfClock` where the point's own time is greater than `now + lead`, and as
     /// `NumbersSpent` where fewer numbers are left than the point has fields; nothing has then
-    /// changed. Where memory runs out, the first so many fields that `Memory` names are put. The
-    /// cost is that of making the keys and of the puts.
+    /// changed. Where memory runs out, `Memory` says how many fields, from the first on, were put.
+    /// The cost is that of making the keys and of the puts.
     pub fn write(
         &mut self,
         point: &Point<'_>,
@@ -299,8 +299,8 @@ impl<A: Archive> Replica<A> {
         Ok(())
     }
 
-    /// Joins cells from elsewhere, in order, each as `join_cell` does. Where memory runs out the
-    /// first so many cells that `Memory` names are joined.
+    /// Joins cells from elsewhere, in order, each as `join_cell` does. Where memory runs out,
+    /// `Memory` says how many cells, from the first on, were joined.
     pub fn join_cells(&mut self, cells: &[Cell]) -> Result<(), JoinFault>
         requires { All (IsCell self.old.schema) cells.now }
         ensures joined { OnOk result (self.new ≡ with_cells self.old cells.now) }

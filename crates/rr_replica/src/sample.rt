@@ -4,7 +4,7 @@ use rr_base::Origin;
 
 /// What an origin writes under a number: a value at a time, in nanoseconds since the Unix epoch.
 #[derive(Clone, Copy)]
-pub(crate) struct Written {
+pub(crate) struct Sample {
     pub(crate) origin: Origin,
     pub(crate) number: u64,
     pub(crate) time: i64,

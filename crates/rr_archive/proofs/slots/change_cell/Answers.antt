@@ -6,7 +6,7 @@ use Rattle.std.specs.Prelude.{is_none, IfOk}
 use Rattle.std.specs.FinMap.{insert}
 use Rattle.rr_contrib.specs.declared.contribution.Contribution.{Contribution}
 use Rattle.rr_archive.specs.Changes.{Fits, contribution_after, entry_after}
-use Rattle.rr_archive.specs.Places.{place_at}
+use Rattle.rr_archive.specs.CellSlots.{cell_slot}
 use Rattle.rr_archive.specs.Held.{row_in, row_ascends, cells_in}
 use Rattle.rr_archive.proofs.HeldLemmas.{Sets, items_of, set_found, set_fresh, set_alike, rows_ascend, room_is, no_room, cell_here, cell_nowhere}
 use Rattle.rr_archive.proofs.slots.change_cell.Goals as goal
@@ -17,13 +17,13 @@ pub change_entry-requires : goal.change_entry-requires
 change_entry-requires c =
     let back = to_z-of_z {w = w64} {z = c.args.slot} (search rules) in
     let has = rw back at c.in-Some.ensures.value in
-    subst (λ (o : Option Contribution). Fits o c.args.change.now) (cell_here c.args.slots.now.entries (place_at c.args.slot c.args.origin) c.in-Some.row.now has) c.requires
+    subst (λ (o : Option Contribution). Fits o c.args.change.now) (cell_here c.args.slots.now.entries (cell_slot c.args.slot c.args.origin) c.in-Some.row.now has) c.requires
 
 pub returns-in-Some : goal.returns-in-Some
 returns-in-Some c =
     let back = to_z-of_z {w = w64} {z = c.args.slot} (search rules) in
     let old = c.args.slots.now.entries in
-    let p = place_at c.args.slot c.args.origin in
+    let p = cell_slot c.args.slot c.args.origin in
     let change = c.args.change.now in
     let was = c.in-Some.row.now in
     let row = c.change_entry.new.row in
@@ -50,20 +50,20 @@ pub contribution_after-contribution-requires : goal.contribution_after-contribut
 contribution_after-contribution-requires c =
     let back = to_z-of_z {w = w64} {z = c.args.slot} (search rules) in
     let none = rw back at c.in-None.ensures.value in
-    subst (λ (o : Option Contribution). Fits o c.args.change.now) (cell_nowhere c.args.slots.now.entries (place_at c.args.slot c.args.origin) none) c.requires
+    subst (λ (o : Option Contribution). Fits o c.args.change.now) (cell_nowhere c.args.slots.now.entries (cell_slot c.args.slot c.args.origin) none) c.requires
 
 pub returns-in_err-push-in-None-clause-room : goal.returns-in_err-push-in-None-clause-room
 returns-in_err-push-in-None-clause-room c =
     let back = to_z-of_z {w = w64} {z = c.args.slot} (search rules) in
     let none = rw back at c.in-None.ensures.value in
-    λ room. absurd (no_room c.args.slots.now.entries (place_at c.args.slot c.args.origin) none room)
+    λ room. absurd (no_room c.args.slots.now.entries (cell_slot c.args.slot c.args.origin) none room)
 
 pub returns-in_ok-insert-in-None-clause-ok : goal.returns-in_ok-insert-in-None-clause-ok
 returns-in_ok-insert-in-None-clause-ok c =
     let back = to_z-of_z {w = w64} {z = c.args.slot} (search rules) in
     let none = rw back at c.in-None.ensures.value in
     let old = c.args.slots.now.entries in
-    let p = place_at c.args.slot c.args.origin in
+    let p = cell_slot c.args.slot c.args.origin in
     let same : c.get_mut.follows.lender-at-none ≡ c.args.slots.now = c.get_mut.follows.holds-at-none in
     let updates = rw same at c.in_ok-insert-in-None.ensures.updates in
     let sets : Sets old c.insert.new.self.entries c.args.slot c.push.new.self = record { at = λ q. grind (arith, updates.0 q) } in
@@ -75,4 +75,4 @@ pub returns-in_ok-insert-in-None-clause-is_new : goal.returns-in_ok-insert-in-No
 returns-in_ok-insert-in-None-clause-is_new c =
     let back = to_z-of_z {w = w64} {z = c.args.slot} (search rules) in
     let none = rw back at c.in-None.ensures.value in
-    sym (ap is_none (cell_nowhere c.args.slots.now.entries (place_at c.args.slot c.args.origin) none))
+    sym (ap is_none (cell_nowhere c.args.slots.now.entries (cell_slot c.args.slot c.args.origin) none))

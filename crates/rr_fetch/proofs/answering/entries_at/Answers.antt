@@ -1,6 +1,6 @@
 use Rattle.std.proofs.Common.{sym, ap, ◌∙◌}
 use Rattle.rr_archive.specs.Cells.{Rows, row_of}
-use Rattle.rr_replica.proofs.Keeping.{row_of-empty}
+use Rattle.rr_replica.proofs.HeldLemmas.{row_of-empty}
 use Rattle.rr_fetch.proofs.answering.entries_at.Goals as goal
 
 pub returns-in-None : goal.returns-in-None

@@ -1,7 +1,7 @@
 use Rattle.std.proofs.Common.{rules, ◌≡◌, ◌<◌, true, length, Some, slice_get, ap, sym, ◌∙◌, arith, to_z, of_z, w64}
 use Rattle.std.proofs.lemmas.Option.{slice_get-get_or, slice_get_within}
 use Rattle.rr_base.specs.Schema.{slot_of}
-use Rattle.rr_archive.specs.Places.{place_at}
+use Rattle.rr_archive.specs.CellSlots.{cell_slot}
 use Rattle.rr_replica.proofs.Each.{slot_is, readied_none, readied_more, same_more}
 use Rattle.rr_replica.proofs.archives.make_ready.Goals as goal
 
@@ -31,7 +31,7 @@ loop-i-preserved g c =
     let limit : g.A.Archive.row_limit c.ready.new.self ≡ g.A.Archive.row_limit c.index_mut.result.now = c.ready.ensures.limit in
     let kept : to_z w64 (of_z w64 c.slot-slot.result) ≡ c.slot-slot.result = search rules in
     let slot : c.slot-slot.result ≡ slot_of c.args.schema.now c.loop-i.i c.args.sample.now.time = search rules in
-    let room : g.A.Archive.is_ready c.ready.new.self (place_at (to_z w64 (of_z w64 c.slot-slot.result)) c.args.sample.now.origin) ≡ true = search rules in
+    let room : g.A.Archive.is_ready c.ready.new.self (cell_slot (to_z w64 (of_z w64 c.slot-slot.result)) c.args.sample.now.origin) ≡ true = search rules in
     readied_more g.A.Archive.cells g.A.Archive.row_limit g.A.Archive.is_ready c.args.schema.now c.args.sample.now c.loop-i.i c.args.archives.now.items items c.index_mut.result.now c.ready.new.self c.loop-i.invariant at cells limit (rw (kept, slot) at room)
 
 pub returns-clause-ready : goal.returns-clause-ready

@@ -2,7 +2,7 @@ use Rattle.std.proofs.Common.{rules, ◌≡◌, ◌<◌, ℕ, List, cond, length
 use Rattle.std.specs.BTreeMap.{is_at}
 use Rattle.std.proofs.lemmas.Result.{on_ok_weaker, on_err_weaker}
 use Rattle.rr_replica.specs.Series.{bytes_cmp}
-use Rattle.rr_replica.specs.Kept.{archives_of}
+use Rattle.rr_replica.specs.Held.{archives_of}
 use Rattle.rr_replica.proofs.Each.{sized_many}
 use Rattle.rr_replica.proofs.JoinedCell.{cells_joined, cells_unchanged, before_found, before_fresh}
 use Rattle.rr_replica.proofs.joining.join_in.Goals as goal

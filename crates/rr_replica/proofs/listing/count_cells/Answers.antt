@@ -1,7 +1,7 @@
 use Rattle.std.proofs.Common.{rules, ◌≡◌, ◌+◌, [], ◌∷◌, length, map, ap, sym, ◌∙◌}
 use Rattle.rr_replica.specs.Listing.{at_most_usize, count_of}
 use Rattle.rr_replica.specs.Series.{all_cells}
-use Rattle.rr_replica.specs.Kept.{shown}
+use Rattle.rr_replica.specs.Held.{shown}
 use Rattle.rr_replica.proofs.Counted.{at_most-then, at_most-start, at_most-fits, length-all, len-shown}
 use Rattle.rr_replica.proofs.listing.count_cells.Goals as goal
 

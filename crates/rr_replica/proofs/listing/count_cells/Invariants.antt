@@ -1,7 +1,7 @@
 use Rattle.std.proofs.Common.{◌≡◌, ◌+◌, length}
 use Rattle.rr_replica.specs.Listing.{at_most_usize}
 use Rattle.rr_replica.specs.Series.{all_cells}
-use Rattle.rr_replica.specs.Kept.{shown}
+use Rattle.rr_replica.specs.Held.{shown}
 use Rattle.rr_replica.proofs.listing.count_cells.Given as goal
 
 abbrev pub invariant-loop-archives : goal.invariant-loop-archives

@@ -3,7 +3,7 @@ use Rattle.std.specs.List.{AllByRecursion}
 use Rattle.rr_base.specs.declared.limits.TheConstants.{MAX_ARCHIVES}
 use Rattle.rr_replica.specs.Listing.{seen_cell, count_of}
 use Rattle.rr_replica.specs.Series.{cells_from, all_cells}
-use Rattle.rr_replica.specs.Kept.{shown}
+use Rattle.rr_replica.specs.Held.{shown}
 use Rattle.rr_replica.proofs.Counted.{get-all_first, get-all_later, entries-shown}
 use Rattle.rr_replica.proofs.listing.nth_cell.Goals as goal
 

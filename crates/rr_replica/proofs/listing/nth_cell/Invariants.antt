@@ -2,7 +2,7 @@ use Rattle.std.proofs.Common.{◌≡◌, ◌≤◌, length, slice_get}
 use Rattle.std.specs.List.{AllByRecursion}
 use Rattle.rr_base.specs.declared.limits.TheConstants.{MAX_ARCHIVES}
 use Rattle.rr_replica.specs.Series.{all_cells}
-use Rattle.rr_replica.specs.Kept.{shown}
+use Rattle.rr_replica.specs.Held.{shown}
 use Rattle.rr_replica.proofs.listing.nth_cell.Given as goal
 
 abbrev pub invariant-loop-key : goal.invariant-loop-key

@@ -2,9 +2,9 @@ use Rattle.std.proofs.Common.{rules, ◌≡◌, ℕ, List, cond, Some, None, sym
 use Rattle.std.specs.BTreeMap.{is_at}
 use Rattle.std.proofs.lemmas.Result.{on_ok_weaker, on_err_weaker}
 use Rattle.rr_replica.specs.Series.{bytes_cmp}
-use Rattle.rr_replica.specs.Kept.{archives_of}
+use Rattle.rr_replica.specs.Held.{archives_of}
 use Rattle.rr_replica.proofs.Each.{sized_many}
-use Rattle.rr_replica.proofs.Keeping.{before_found, before_fresh, can_take, cells_with, kept_with, cells_without, kept_without}
+use Rattle.rr_replica.proofs.HeldLemmas.{before_found, before_fresh, can_take, cells_with, kept_with, cells_without, kept_without}
 use Rattle.rr_replica.proofs.replica.put_in.Goals as goal
 
 pub put_into-requires-clause-newer : goal.put_into-requires-clause-newer

@@ -2,7 +2,7 @@ use Rattle.std.proofs.Common.{rules, ◌∙◌}
 use Rattle.std.proofs.lemmas.Result.{on_ok_weaker}
 use Rattle.std.proofs.Math.Facts.{to_z-of_z}
 use Rattle.std.specs.Int.{w64}
-use Rattle.rr_archive.specs.Places.{place_at}
+use Rattle.rr_archive.specs.CellSlots.{cell_slot}
 use Rattle.rr_archive.specs.Held.{cells_in}
 use Rattle.rr_archive.proofs.Counting.{join_cell-is}
 use Rattle.rr_archive.proofs.plain.PlainArchiveArchive.join_cell.Goals as goal
@@ -11,4 +11,4 @@ pub returns-clause-ok : goal.returns-clause-ok
 returns-clause-ok c =
     let back = to_z-of_z {w = w64} {z = c.args.slot} (search rules) in
     let ok = rw back at c.change.ensures.ok in
-    on_ok_weaker c.change.result (λ e. e ∙ join_cell-is c.args.self.now.rows (cells_in c.args.self.now.slots.entries) (place_at c.args.slot c.args.origin) c.args.contribution.now) ok
+    on_ok_weaker c.change.result (λ e. e ∙ join_cell-is c.args.self.now.rows (cells_in c.args.self.now.slots.entries) (cell_slot c.args.slot c.args.origin) c.args.contribution.now) ok

@@ -8,7 +8,7 @@ use Rattle.rr_contrib.specs.Samples.{contribution_of}
 use Rattle.rr_contrib.specs.Validity.{KeepsValid}
 use Rattle.rr_contrib.proofs.Summing.{contribution_of-more}
 use Rattle.rr_contrib.proofs.Masks.{width}
-use Rattle.rr_contrib.proofs.Keeping.{keeps_valid}
+use Rattle.rr_contrib.proofs.KeepsValidLemmas.{keeps_valid}
 use Rattle.rr_contrib.proofs.contribution.Contribution.add.Goals as goal
 
 pub returns-clause-value : goal.returns-clause-value

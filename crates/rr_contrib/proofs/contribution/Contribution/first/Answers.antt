@@ -6,7 +6,7 @@ use Rattle.rr_contrib.specs.Samples.{contribution_of}
 use Rattle.rr_contrib.specs.Validity.{StartsValid}
 use Rattle.rr_contrib.proofs.Summing.{contribution_of-one}
 use Rattle.rr_contrib.proofs.Masks.{width}
-use Rattle.rr_contrib.proofs.Keeping.{starts_valid}
+use Rattle.rr_contrib.proofs.KeepsValidLemmas.{starts_valid}
 use Rattle.rr_contrib.proofs.contribution.Contribution.first.Goals as goal
 
 pub returns-clause-value : goal.returns-clause-value

@@ -1,5 +1,5 @@
 use Rattle.std.proofs.Common.{◌≡◌, Some, None}
-use Rattle.rr_replica.specs.Kept.{archives_of}
+use Rattle.rr_replica.specs.Held.{archives_of}
 use Rattle.rr_replica.proofs.Lending.{archive_found, archive_unknown}
 use Rattle.rr_replica.proofs.replica.Replica.archive.Goals as goal
 

@@ -2,7 +2,7 @@ use Rattle.std.proofs.Common.{◌≡◌, sym, subst}
 use Rattle.rr_replica.specs.Holding.{Holding}
 use Rattle.rr_replica.specs.Joining.{IsCell, next_after}
 use Rattle.rr_replica.specs.Listing.{owned_cell}
-use Rattle.rr_replica.specs.Kept.{IsKept}
+use Rattle.rr_replica.specs.Held.{IsHeld}
 use Rattle.rr_replica.proofs.JoinedCell.{kept_joined}
 use Rattle.rr_replica.proofs.replica.Replica.join_cell.Goals as goal
 
@@ -12,5 +12,5 @@ invariant_of-self-2 g c =
     let cell : IsCell r.schema c.args.cell.now = subst (λ (h : Holding). IsCell h.schema c.args.cell.now) (sym c.self.view_is) c.requires in
     let next : c.next_after-self-inside.result ≡ next_after r.origin r.next (owned_cell c.args.cell.now) = c.next_after-self-inside.ensures in
     let e = c.in_ok-join_in.ensures in
-    subst (λ n. IsKept g.A.Archive.cells g.A.Archive.row_limit r.schema r.origin n c.join_in.new.series.entries) (sym next)
+    subst (λ n. IsHeld g.A.Archive.cells g.A.Archive.row_limit r.schema r.origin n c.join_in.new.series.entries) (sym next)
     (kept_joined g.A.Archive.cells g.A.Archive.row_limit r.schema r.origin r.next c.args.cell.now r.series.entries c.join_in.new.series.entries c.self.invariant cell e.joined e.sized e.ordered)

@@ -1,6 +1,6 @@
 use Rattle.std.proofs.Common.{rules, ◌≡◌, []}
 use Rattle.rr_base.specs.Schema.{IsLayout}
-use Rattle.rr_replica.proofs.Keeping.{kept_none, cells_none}
+use Rattle.rr_replica.proofs.HeldLemmas.{kept_none, cells_none}
 use Rattle.rr_replica.proofs.replica.Replica.new.Goals as goal
 
 pub invariant_of-result : goal.invariant_of-result

@@ -12,33 +12,33 @@ use Rattle.rr_join.proofs.Lookups.{get-trimmed}
 use Rattle.rr_contrib.specs.declared.contribution.Contribution.{Contribution}
 use Rattle.rr_contrib.specs.Contributions.{SlotSample, added}
 use Rattle.rr_contrib.specs.Validity.{IsValid, CanAdd}
-use Rattle.rr_contrib.proofs.Keeping.{Falls, place_below, of_one_valid, with_sample_valid}
-use Rattle.rr_archive.specs.Places.{Place, place_cmp, is_live_at}
+use Rattle.rr_contrib.proofs.KeepsValidLemmas.{Falls, place_below, of_one_valid, with_sample_valid}
+use Rattle.rr_archive.specs.CellSlots.{CellSlot, cell_slot_cmp, is_live_at}
 use Rattle.rr_archive.specs.Cells.{Rows, put_row}
-use Rattle.rr_archive.proofs.PlaceOrder.{place_cmp_total, place_cmp-IsAntisymmetric}
+use Rattle.rr_archive.proofs.CellSlotOrder.{cell_slot_cmp_total, cell_slot_cmp-IsAntisymmetric}
 use Rattle.rr_model.specs.CellNames.{CellName}
 use Rattle.rr_model.specs.Samples.{Sample, name_of, marks_of}
 use Rattle.rr_model.proofs.Horizon.{archive_is}
-use Rattle.rr_replica.specs.Cells.{Cells, IsTrimmed, place_in, rows_at}
+use Rattle.rr_replica.specs.Cells.{Cells, IsTrimmed, cell_slot_of, rows_at}
 use Rattle.rr_replica.specs.Puts.{seen, put_sample}
 use Rattle.rr_replica.specs.Holding.{Holding}
-use Rattle.rr_replica.specs.Kept.{IsHolding}
+use Rattle.rr_replica.specs.Held.{IsHolding}
 use Rattle.rr_replica.proofs.Local.{get-rows_at}
 use Rattle.rr_replica.proofs.Putting.{mark, with_mark, puts_trimmed, put_at, put_past, put_other_key}
 
--- what stands at a place once a sample is put: what stood there, or what it comes to
-put_row_cases : (limit : ℕ) (rows : Rows) (p : Place) (z : SlotSample) (q : Place) (c : Contribution) → get (put_row limit rows p z) q ≡ Some c → (get rows q ≡ Some c) ⊎ ((q ≡ p) × (added (get rows p) z ≡ c))
-put_row_cases limit rows p z q c e = by_live (is_live_at limit (keys more) q) (sym (get-trimmed place_cmp_total place_cmp-IsAntisymmetric (is_live_at limit) more q ∙ ap (λ o. cond (is_live_at limit (keys more) q) o None) (get-insert place_cmp_total rows p (added (get rows p) z) q)) ∙ e)
+-- what stands at a cell slot once a sample is put: what stood there, or what it comes to
+put_row_cases : (limit : ℕ) (rows : Rows) (p : CellSlot) (z : SlotSample) (q : CellSlot) (c : Contribution) → get (put_row limit rows p z) q ≡ Some c → (get rows q ≡ Some c) ⊎ ((q ≡ p) × (added (get rows p) z ≡ c))
+put_row_cases limit rows p z q c e = by_live (is_live_at limit (keys more) q) (sym (get-trimmed cell_slot_cmp_total cell_slot_cmp-IsAntisymmetric (is_live_at limit) more q ∙ ap (λ o. cond (is_live_at limit (keys more) q) o None) (get-insert cell_slot_cmp_total rows p (added (get rows p) z) q)) ∙ e)
   where
     more : Rows
     more = insert rows p (added (get rows p) z)
 
-    by_tie : (b : Bool) → eq_by_cmp place_cmp q p ≡ b → cond b (Some (added (get rows p) z)) (get rows q) ≡ Some c → (get rows q ≡ Some c) ⊎ ((q ≡ p) × (added (get rows p) z ≡ c))
-    by_tie true t e = inr (same_from_tie place_cmp_total place_cmp-IsAntisymmetric q p t, ap (λ o. unwrap_or o c) e)
+    by_tie : (b : Bool) → eq_by_cmp cell_slot_cmp q p ≡ b → cond b (Some (added (get rows p) z)) (get rows q) ≡ Some c → (get rows q ≡ Some c) ⊎ ((q ≡ p) × (added (get rows p) z ≡ c))
+    by_tie true t e = inr (same_from_tie cell_slot_cmp_total cell_slot_cmp-IsAntisymmetric q p t, ap (λ o. unwrap_or o c) e)
     by_tie false t e = inl e
 
-    by_live : (b : Bool) → cond b (cond (eq_by_cmp place_cmp q p) (Some (added (get rows p) z)) (get rows q)) None ≡ Some c → (get rows q ≡ Some c) ⊎ ((q ≡ p) × (added (get rows p) z ≡ c))
-    by_live true e = by_tie (eq_by_cmp place_cmp q p) refl e
+    by_live : (b : Bool) → cond b (cond (eq_by_cmp cell_slot_cmp q p) (Some (added (get rows p) z)) (get rows q)) None ≡ Some c → (get rows q ≡ Some c) ⊎ ((q ≡ p) × (added (get rows p) z ≡ c))
+    by_live true e = by_tie (eq_by_cmp cell_slot_cmp q p) refl e
     by_live false e = absurd (true≢false (sym (ap is_some e)))
 
 module _ (s : Layout) (is : IsLayout s) (cells : Cells) (kept : IsTrimmed s cells) (x : Sample) where
@@ -54,22 +54,22 @@ module _ (s : Layout) (is : IsLayout s) (cells : Cells) (kept : IsTrimmed s cell
   -- the cell of a name has what it had, or what it comes to with the sample
   pub put_cases : (n : CellName) (c : Contribution) → get (put_sample s cells x) n ≡ Some c → Cases n c
   put_cases n c e =
-      let here : get (rows_at (put_sample s cells x) n.key n.archive) (place_in n) ≡ Some c = get-rows_at n.key n.archive (put_sample s cells x) (place_in n) ∙ e in
+      let here : get (rows_at (put_sample s cells x) n.key n.archive) (cell_slot_of n) ≡ Some c = get-rows_at n.key n.archive (put_sample s cells x) (cell_slot_of n) ∙ e in
       elim (pointwise nat_eq x.key n.key) as (λ b. pointwise nat_eq x.key n.key ≡ b → Cases n c) [
-        | false ↦ λ t. inl (sym (get-rows_at n.key n.archive cells (place_in n)) ∙ ap (λ r. get r (place_in n)) (sym (put_other_key s is x n.key n.archive cells kept t)) ∙ here)
+        | false ↦ λ t. inl (sym (get-rows_at n.key n.archive cells (cell_slot_of n)) ∙ ap (λ r. get r (cell_slot_of n)) (sym (put_other_key s is x n.key n.archive cells kept t)) ∙ here)
         | true ↦ λ t. ⊎_elim
             (λ within.
             let same : x.key ≡ n.key = (bytes_decides x.key n.key).0 t in
             let at : rows_at (put_sample s cells x) n.key n.archive ≡ with_mark s (rows_at cells n.key n.archive) (mark x n.archive) = subst (λ k. rows_at (put_sample s cells x) k n.archive ≡ with_mark s (rows_at cells k n.archive) (mark x n.archive)) same (put_at s is x n.archive cells kept within) in
             ⊎_elim
-            (λ was. inl (sym (get-rows_at n.key n.archive cells (place_in n)) ∙ was))
+            (λ was. inl (sym (get-rows_at n.key n.archive cells (cell_slot_of n)) ∙ was))
             (λ new. inr (record {
               named = λ i. record { key = sym same i; archive = n.archive; slot = (new.0 i).slot; origin = (new.0 i).origin };
-              comes = ap (λ o. added o (seen s (mark x n.archive))) (sym (get-rows_at n.key n.archive cells (place_in n)) ∙ ap (get (rows_at cells n.key n.archive)) new.0) ∙ new.1;
+              comes = ap (λ o. added o (seen s (mark x n.archive))) (sym (get-rows_at n.key n.archive cells (cell_slot_of n)) ∙ ap (get (rows_at cells n.key n.archive)) new.0) ∙ new.1;
               within = within;
             }))
-            (put_row_cases (archive_at s n.archive).rows (rows_at cells n.key n.archive) (place_in (name_of s (mark x n.archive))) (seen s (mark x n.archive)) (place_in n) c (ap (λ r. get r (place_in n)) (sym at) ∙ here)))
-            (λ past. inl (sym (get-rows_at n.key n.archive cells (place_in n)) ∙ ap (λ r. get r (place_in n)) (sym (put_past s is x n.key n.archive cells kept past)) ∙ here))
+            (put_row_cases (archive_at s n.archive).rows (rows_at cells n.key n.archive) (cell_slot_of (name_of s (mark x n.archive))) (seen s (mark x n.archive)) (cell_slot_of n) c (ap (λ r. get r (cell_slot_of n)) (sym at) ∙ here)))
+            (λ past. inl (sym (get-rows_at n.key n.archive cells (cell_slot_of n)) ∙ ap (λ r. get r (cell_slot_of n)) (sym (put_past s is x n.key n.archive cells kept past)) ∙ here))
             (cases_lt n.archive (length s.archives))
       ] refl
 

@@ -1,4 +1,4 @@
--- The places of one archive of one key, which are slots and origins, and which of them are live.
+-- The cell slots of one archive of one key, which are slots and origins, and which of them are live.
 use Rattle.std.specs.Prelude.{ℕ, ℤ, pos, negsuc, ◌-◌, ◌≤ℤ◌, Bool, List, map, Option}
 use Rattle.std.specs.declared.cmp.Ordering.{Ordering}
 use Rattle.std.specs.Ordering.{ordering_then, nat_cmp, int_cmp}
@@ -7,23 +7,23 @@ use Rattle.rr_join.specs.Maps.{greatest}
 use Rattle.rr_join.specs.Horizon.{is_above}
 
 -- the slot and the origin of a cell
-pub record Place : Type 0 where
+pub record CellSlot : Type 0 where
   pub slot : ℤ
   pub origin : ℕ
 
-abbrev pub place_at : ℤ → ℕ → Place
-place_at slot origin = record { slot = slot; origin = origin }
+abbrev pub cell_slot : ℤ → ℕ → CellSlot
+cell_slot slot origin = record { slot = slot; origin = origin }
 
 -- by slot, and in one slot by origin
-abbrev pub place_cmp : Place → Place → Ordering
-place_cmp a b = ordering_then (int_cmp a.slot b.slot) (nat_cmp a.origin b.origin)
+abbrev pub cell_slot_cmp : CellSlot → CellSlot → Ordering
+cell_slot_cmp a b = ordering_then (int_cmp a.slot b.slot) (nat_cmp a.origin b.origin)
 
 -- the greatest slot, if there is one
-abbrev pub newest_of : List Place → Option ℤ
+abbrev pub newest_of : List CellSlot → Option ℤ
 newest_of ps = greatest int_cmp (map (λ p. p.slot) ps)
 
--- whether a place, beside these, is not past the horizon of an archive of so many rows
-abbrev pub is_live_at : ℕ → List Place → Place → Bool
+-- whether a cell slot, beside these, is not past the horizon of an archive of so many rows
+abbrev pub is_live_at : ℕ → List CellSlot → CellSlot → Bool
 is_live_at rows ps p = is_above rows (newest_of ps) p.slot
 
 -- whether it can be the slot of a time: of a step of one second or more, from the least time to the greatest

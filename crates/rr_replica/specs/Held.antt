@@ -11,8 +11,8 @@ use Rattle.rr_contrib.specs.declared.contribution.Contribution.{Contribution}
 use Rattle.rr_contrib.specs.Validity.{IsValid}
 use Rattle.rr_archive.specs.Cells.{Rows}
 use Rattle.rr_model.specs.CellNames.{CellName}
-use Rattle.rr_model.specs.Samples.{Sample}
-use Rattle.rr_replica.specs.declared.sample.Written.{Written}
+use Rattle.rr_model.specs.Samples as model
+use Rattle.rr_replica.specs.declared.sample.Sample.{Sample}
 use Rattle.rr_replica.specs.Cells.{IsTrimmed}
 use Rattle.rr_replica.specs.Holding.{Holding}
 use Rattle.rr_replica.specs.Series.{Series, bytes_cmp, cells_of}
@@ -29,7 +29,7 @@ pub record IsHolding (h : Holding) : Type 0 where
   pub own : (n : CellName) (c : Contribution) → get h.cells n ≡ Some c → n.origin ≡ h.origin → c.version < h.next
 
 -- what is written, as a sample of a key
-abbrev pub sample_of : List ℕ → Written → Sample
+abbrev pub sample_of : List ℕ → Sample → model.Sample
 sample_of key x = record { time = x.time; origin = x.origin; number = x.number; key = key; value = x.value }
 
 module _ {X : Type 0} where
@@ -49,7 +49,7 @@ module _ {X : Type 0} where
   AreAllSized limit schema entries = (key : List ℕ) (archives : Vec X) → archives_of entries key ≡ Some archives → AreSized limit schema archives.items
 
   -- so the replica keeps to both, its cells and its archives
-  pub record IsKept (cells : X → Rows) (limit : X → ℕ) (schema : Layout) (origin next : ℕ) (entries : List (List ℕ × Vec X)) : Type 0 where
+  pub record IsHeld (cells : X → Rows) (limit : X → ℕ) (schema : Layout) (origin next : ℕ) (entries : List (List ℕ × Vec X)) : Type 0 where
     pub holds : IsHolding (holding cells schema origin next entries)
     pub sized : AreAllSized limit schema entries
     pub ordered : IsStrictlySortedBy bytes_cmp (keys_of entries)

@@ -12,9 +12,9 @@ use Rattle.std.specs.FinMap.{get, keys, entries, empty, len-entries, len-empty, 
 use Rattle.rr_base.specs.declared.limits.TheConstants.{MAX_NUMBER}
 use Rattle.rr_base.specs.Schema.{Layout, IsLayout}
 use Rattle.rr_contrib.specs.Validity.{CanAdd}
-use Rattle.rr_archive.specs.Places.{Place, place_cmp}
+use Rattle.rr_archive.specs.CellSlots.{CellSlot, cell_slot_cmp}
 use Rattle.rr_archive.specs.Cells.{Rows, entry_of, row_of}
-use Rattle.rr_replica.specs.declared.sample.Written.{Written}
+use Rattle.rr_replica.specs.declared.sample.Sample.{Sample}
 use Rattle.rr_replica.specs.Cells.{Cells, IsTrimmed, name_at, rows_at, row_at}
 use Rattle.rr_contrib.specs.declared.contribution.Contribution.{Contribution}
 use Rattle.rr_join.proofs.Lookups.{get-trimmed}
@@ -22,13 +22,13 @@ use Rattle.rr_model.specs.CellNames.{cell_name_cmp, is_live}
 use Rattle.rr_model.proofs.Orders.{cell_name_cmp_total, cell_name_cmp-IsAntisymmetric}
 use Rattle.rr_replica.specs.Puts.{put_sample}
 use Rattle.rr_replica.specs.Series.{bytes_cmp, cells_of}
-use Rattle.rr_replica.specs.Archives.{place_for, Each, AreSized, CanTake, AreSame, HavePut}
-use Rattle.rr_replica.specs.Kept.{IsHolding, shown, archives_of, sample_of, holding, IsKept}
+use Rattle.rr_replica.specs.Archives.{cell_slot_for, Each, AreSized, CanTake, AreSame, HavePut}
+use Rattle.rr_replica.specs.Held.{IsHolding, shown, archives_of, sample_of, holding, IsHeld}
 use Rattle.rr_replica.proofs.Local.{get-rows_at}
 use Rattle.rr_replica.proofs.Shown.{held_at, items_of, rows_shown, cells_same, cells_put, held_same, held_put}
-use Rattle.rr_replica.proofs.Holding.{holds_put, can_add}
+use Rattle.rr_replica.proofs.HoldingLemmas.{holds_put, can_add}
 
-module _ {X : Type 0} (cells : X → Rows) (limit : X → ℕ) (s : Layout) (key : List ℕ) (x : Written) (old : List (List ℕ × Vec X)) (kept : IsKept cells limit s x.origin x.number old) (known : x.number ≤ MAX_NUMBER) where
+module _ {X : Type 0} (cells : X → Rows) (limit : X → ℕ) (s : Layout) (key : List ℕ) (x : Sample) (old : List (List ℕ × Vec X)) (kept : IsHeld cells limit s x.origin x.number old) (known : x.number ≤ MAX_NUMBER) where
   abbrev all : Cells
   all = cells_of (shown cells old)
 
@@ -48,7 +48,7 @@ module _ {X : Type 0} (cells : X → Rows) (limit : X → ℕ) (s : Layout) (key
 
   pub can_take : (before : List X) → ((i : ℕ) → rows_at all key i ≡ held_at cells before i) → CanTake cells s x before
   can_take before at i a here =
-      let p = place_for s x i in
+      let p = cell_slot_for s x i in
       let is : get (cells a) p ≡ get all (name_at key i p) = sym (ap (λ o. get (unwrap_or (option_map cells o) empty) p) here) ∙ ap (λ r. get r p) (sym (at i)) ∙ get-rows_at key i all p in
       subst (λ o. IfSome o (CanAdd x.number)) (sym is) (can_add (holding cells s x.origin x.number old) kept.holds (sample_of key x) refl refl known (name_at key i p) refl)
 
@@ -63,7 +63,7 @@ module _ {X : Type 0} (cells : X → Rows) (limit : X → ℕ) (s : Layout) (key
     pub cells_with : length before ≡ length s.archives → HavePut cells s x before now.items → cells_of (shown cells new) ≡ put_sample s all (sample_of key x)
     cells_with many h = cells_put cells old new key now sets kept.ordered sorted s kept.holds.layout (sample_of key x) refl kept.holds.live (λ i. held_put cells s kept.holds.layout key x all before now.items i kept.holds.live many h at)
 
-    pub kept_with : length before ≡ length s.archives → HavePut cells s x before now.items → IsKept cells limit s x.origin (x.number + 1) new
+    pub kept_with : length before ≡ length s.archives → HavePut cells s x before now.items → IsHeld cells limit s x.origin (x.number + 1) new
     kept_with many h = record {
       holds = subst (λ (m : Cells). IsHolding (record { schema = s; origin = x.origin; next = x.number + 1; cells = m })) (sym (cells_with many h)) (holds_put (holding cells s x.origin x.number old) kept.holds (sample_of key x) refl refl known);
       sized = sized_now;
@@ -73,7 +73,7 @@ module _ {X : Type 0} (cells : X → Rows) (limit : X → ℕ) (s : Layout) (key
     pub cells_without : AreSame cells before now.items → cells_of (shown cells new) ≡ all
     cells_without same = cells_same cells old new key now sets kept.ordered sorted (λ i. held_same cells before now.items i same ∙ sym (at i))
 
-    pub kept_without : AreSame cells before now.items → IsKept cells limit s x.origin x.number new
+    pub kept_without : AreSame cells before now.items → IsHeld cells limit s x.origin x.number new
     kept_without same = record {
       holds = subst (λ (m : Cells). IsHolding (record { schema = s; origin = x.origin; next = x.number; cells = m })) (sym (cells_without same)) kept.holds;
       sized = sized_now;
@@ -83,9 +83,9 @@ module _ {X : Type 0} (cells : X → Rows) (limit : X → ℕ) (s : Layout) (key
 -- ---- a replica that holds nothing
 
 -- no key has archives
-pub kept_none : {X : Type 0} (cells : X → Rows) (limit : X → ℕ) (s : Layout) (origin : ℕ) (entries : List (List ℕ × Vec X)) → IsLayout s → entries ≡ [] → IsKept cells limit s origin 1 entries
+pub kept_none : {X : Type 0} (cells : X → Rows) (limit : X → ℕ) (s : Layout) (origin : ℕ) (entries : List (List ℕ × Vec X)) → IsLayout s → entries ≡ [] → IsHeld cells limit s origin 1 entries
 unfolding IsStrictlySortedBy cells_of
-kept_none cells limit s origin entries is none = subst (IsKept cells limit s origin 1) (sym none) (record {
+kept_none cells limit s origin entries is none = subst (IsHeld cells limit s origin 1) (sym none) (record {
   holds = record {
     layout = is;
     some = omega arith;
@@ -119,25 +119,25 @@ cells_none cells entries none = ap (λ es. cells_of (shown cells es)) none
 -- ---- reading
 
 -- a row of an archive of a key
-pub row_found : {X : Type 0} (cells : X → Rows) (limit : X → ℕ) (s : Layout) (origin next : ℕ) (entries : List (List ℕ × Vec X)) (key : List ℕ) (i : ℕ) (slot : ℤ) (archives : Vec X) (a : X) → IsKept cells limit s origin next entries → Some archives ≡ archives_of entries key → slice_get archives.items i ≡ Some a → row_of (cells a) slot ≡ row_at (cells_of (shown cells entries)) key i slot
+pub row_found : {X : Type 0} (cells : X → Rows) (limit : X → ℕ) (s : Layout) (origin next : ℕ) (entries : List (List ℕ × Vec X)) (key : List ℕ) (i : ℕ) (slot : ℤ) (archives : Vec X) (a : X) → IsHeld cells limit s origin next entries → Some archives ≡ archives_of entries key → slice_get archives.items i ≡ Some a → row_of (cells a) slot ≡ row_at (cells_of (shown cells entries)) key i slot
 row_found cells limit s origin next entries key i slot archives a kept found at =
     ap (λ r. row_of r slot) (sym (rows_shown cells entries key i kept.ordered ∙ ap (λ o. held_at cells (items_of o) i) (sym found) ∙ ap (λ o. unwrap_or (option_map cells o) empty) at))
 
 pub row_of-empty : (slot : ℤ) → row_of empty slot ≡ []
 unfolding row_of
-row_of-empty slot = ap (λ es. map entry_of (filter (λ e. int_eq e.0.slot slot) es)) (nothing_from_length (entries none) (sym (len-entries none) ∙ len-empty place_cmp Contribution))
+row_of-empty slot = ap (λ es. map entry_of (filter (λ e. int_eq e.0.slot slot) es)) (nothing_from_length (entries none) (sym (len-entries none) ∙ len-empty cell_slot_cmp Contribution))
   where
     none : Rows
     none = empty
 
-    nothing_from_length : (es : List (Place × Contribution)) → length es ≡ 0 → es ≡ []
+    nothing_from_length : (es : List (CellSlot × Contribution)) → length es ≡ 0 → es ≡ []
     nothing_from_length [] e = refl
     nothing_from_length (x ∷ es) e = absurd (omega arith)
 
-pub row_missing : {X : Type 0} (cells : X → Rows) (limit : X → ℕ) (s : Layout) (origin next : ℕ) (entries : List (List ℕ × Vec X)) (key : List ℕ) (i : ℕ) (slot : ℤ) (archives : Vec X) → IsKept cells limit s origin next entries → Some archives ≡ archives_of entries key → slice_get archives.items i ≡ None → [] ≡ row_at (cells_of (shown cells entries)) key i slot
+pub row_missing : {X : Type 0} (cells : X → Rows) (limit : X → ℕ) (s : Layout) (origin next : ℕ) (entries : List (List ℕ × Vec X)) (key : List ℕ) (i : ℕ) (slot : ℤ) (archives : Vec X) → IsHeld cells limit s origin next entries → Some archives ≡ archives_of entries key → slice_get archives.items i ≡ None → [] ≡ row_at (cells_of (shown cells entries)) key i slot
 row_missing cells limit s origin next entries key i slot archives kept found at =
     sym (ap (λ r. row_of r slot) (rows_shown cells entries key i kept.ordered ∙ ap (λ o. held_at cells (items_of o) i) (sym found) ∙ ap (λ o. unwrap_or (option_map cells o) empty) at) ∙ row_of-empty slot)
 
-pub row_unknown : {X : Type 0} (cells : X → Rows) (limit : X → ℕ) (s : Layout) (origin next : ℕ) (entries : List (List ℕ × Vec X)) (key : List ℕ) (i : ℕ) (slot : ℤ) → IsKept cells limit s origin next entries → None ≡ archives_of entries key → [] ≡ row_at (cells_of (shown cells entries)) key i slot
+pub row_unknown : {X : Type 0} (cells : X → Rows) (limit : X → ℕ) (s : Layout) (origin next : ℕ) (entries : List (List ℕ × Vec X)) (key : List ℕ) (i : ℕ) (slot : ℤ) → IsHeld cells limit s origin next entries → None ≡ archives_of entries key → [] ≡ row_at (cells_of (shown cells entries)) key i slot
 row_unknown cells limit s origin next entries key i slot kept none =
     sym (ap (λ r. row_of r slot) (rows_shown cells entries key i kept.ordered ∙ ap (λ o. held_at cells (items_of o) i) (sym none)) ∙ row_of-empty slot)
