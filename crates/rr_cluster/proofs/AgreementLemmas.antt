@@ -10,9 +10,8 @@ use Rattle.rr_model.specs.Knowledge.{Knowledge}
 use Rattle.rr_replica.specs.Cells.{Cells}
 use Rattle.rr_cluster.specs.declared.fault.CommandFault.{CommandFault}
 use Rattle.rr_cluster.specs.Agreement.{in_cells, step_in_cells, CommandsAgree, ScriptsAgree}
-use Rattle.rr_cluster.specs.Checks.{on_ok}
 use Rattle.rr_cluster.specs.Command.{IsOneLine, Command, schema, node, now, write, fetch}
-use Rattle.rr_cluster.specs.Commands.{step, silently, beginning, printing}
+use Rattle.rr_cluster.specs.Commands.{on_ok, step, silently, beginning, printing}
 use Rattle.rr_cluster.specs.Commands.Schema.{layout_of}
 use Rattle.rr_cluster.specs.Model.{cell_model, sample_model}
 use Rattle.rr_cluster.specs.Output.{obeyed, settled, output_from}

@@ -9,7 +9,7 @@ use Rattle.rr_join.proofs.ValuesLemmas.{get-map_values}
 use Rattle.rr_base.specs.Bytes.{bytes_cmp}
 use Rattle.rr_cluster.specs.declared.fault.CommandFault.{CommandFault}
 use Rattle.rr_base.specs.Results.{◌>>=◌, checked}
-use Rattle.rr_cluster.specs.Checks.{on_ok}
+use Rattle.rr_cluster.specs.Commands.{on_ok}
 
 pub names_apart : IsAntisymmetric bytes_cmp
 names_apart = slice_cmp-IsAntisymmetric nat_cmp-IsAntisymmetric

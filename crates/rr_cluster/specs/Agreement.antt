@@ -6,9 +6,8 @@ use Rattle.rr_join.specs.Values.{map_values}
 use Rattle.rr_model.specs.Knowledge.{Knowledge}
 use Rattle.rr_replica.specs.Cells.{Cells}
 use Rattle.rr_replica.specs.State.{state}
-use Rattle.rr_cluster.specs.Checks.{on_ok}
 use Rattle.rr_cluster.specs.Command.{Command}
-use Rattle.rr_cluster.specs.Commands.{step}
+use Rattle.rr_cluster.specs.Commands.{on_ok, step}
 use Rattle.rr_cluster.specs.Model.{cell_model, sample_model}
 use Rattle.rr_cluster.specs.Output.{output_of}
 use Rattle.rr_cluster.specs.Soundness.{IsSound}

@@ -5,12 +5,11 @@ pub mod Node
 pub mod Now
 pub mod Write
 pub mod Fetch
-use Rattle.std.specs.Prelude.{ℕ, nat_eq, List, [], ◌∷◌, codes, Option, None, Some, Result, Err, if◌then◌else◌}
+use Rattle.std.specs.Prelude.{ℕ, nat_eq, List, [], ◌∷◌, codes, Option, None, Some, Result, Ok, Err, if◌then◌else◌}
 use Rattle.std.specs.Cmp.Lexicographic.{pointwise}
 use Rattle.rr_base.specs.Schema.{Layout}
 use Rattle.rr_cluster.specs.declared.fault.CommandFault.{CommandFault}
 use Rattle.rr_cluster.specs.declared.fault.CommandFault.TheVariants.{NoSchema, SchemaSet}
-use Rattle.rr_cluster.specs.Checks.{on_ok}
 use Rattle.rr_cluster.specs.Command.{Command, schema, node, now, write, fetch}
 use Rattle.rr_cluster.specs.Commands.Schema.{schema_command, layout_of}
 use Rattle.rr_cluster.specs.Commands.Node.{node_command, after_node}
@@ -29,6 +28,11 @@ command_of (name ∷ words) =
     else (if pointwise nat_eq name (codes "now") then now_command words
     else (if pointwise nat_eq name (codes "write") then write_command words
     else (if pointwise nat_eq name (codes "fetch") then fetch_command words else None))))
+
+-- f of an answer; a refusal stays
+abbrev pub on_ok : {A B : Type 0} → (A → B) → Result A CommandFault → Result B CommandFault
+on_ok f (Ok x) = Ok (f x)
+on_ok f (Err fault) = Err fault
 
 module _ {K : Type 0} where
   -- this state, with nothing printed

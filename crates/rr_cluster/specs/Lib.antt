@@ -2,7 +2,6 @@ pub mod Words
 pub mod Command
 pub mod Script
 pub mod Fault
-pub mod Checks
 pub mod Model
 pub mod State
 pub mod Commands

@@ -1,6 +1,5 @@
 use Rattle.std.proofs.Common.{[], Some, refl, ap}
-use Rattle.rr_cluster.specs.Checks.{on_ok}
-use Rattle.rr_cluster.specs.Commands.{beginning}
+use Rattle.rr_cluster.specs.Commands.{on_ok, beginning}
 use Rattle.rr_cluster.specs.State.{first_state}
 use Rattle.rr_cluster.proofs.commands.begin.Goals as goal
 

@@ -1,6 +1,5 @@
 use Rattle.std.proofs.Common.{◌≡◌, ◌++◌, Some, ap, rules}
-use Rattle.rr_cluster.specs.Checks.{on_ok}
-use Rattle.rr_cluster.specs.Commands.{printing}
+use Rattle.rr_cluster.specs.Commands.{on_ok, printing}
 use Rattle.rr_cluster.proofs.commands.obey_later.Goals as goal
 
 pub returns-in_ok-extend_from_slice-in-Fetch : goal.returns-in_ok-extend_from_slice-in-Fetch
