@@ -5,12 +5,14 @@ use Rattle.std.specs.List.Sorted.{IsPermutation}
 use Rattle.std.specs.declared.cmp.Ordering.TheVariants.{Less, Equal, Greater}
 use Rattle.std.specs.FinMap.{entries, empty, from_entries, entries-insert, len-empty, len-entries, put}
 use Rattle.std.specs.FinMap.Entries.{by_order}
-use Rattle.std.proofs.lemmas.Bool.{cases_Bool, ltb-false, le-ltb, lt-ltb}
+use Rattle.std.proofs.lemmas.Bool.{cases_Bool, ltb-false, ltb-true, le-ltb, lt-ltb}
 use Rattle.std.proofs.lemmas.Cmp.{nat_list_cmp_total}
 use Rattle.rr_key.specs.declared.fault.KeyFault.{KeyFault}
 use Rattle.rr_key.specs.declared.fault.KeyFault.TheVariants.{EmptyName, BadName, DuplicateTag, TooManyTags, KeyTooLong}
 use Rattle.rr_key.specs.declared.class.Class.TheVariants.{Measurement}
 use Rattle.rr_key.specs.Reading.{rises}
+use Rattle.rr_key.specs.Room.{IsRoomAfter}
+use Rattle.std.specs.Prelude.{is_some}
 use Rattle.rr_key.specs.Unit.{escape}
 use Rattle.rr_key.specs.Making.{Names, names_of, tags_of, series_of, any_tag, any_name, naming_fault, making_fault, key_of}
 use Rattle.rr_base.specs.Results.{first_fault, unless_faulty}
@@ -152,15 +154,34 @@ tags_filled names filled =
     (or_false (is_empty names.measurement) (any_tag is_empty names.tags) parts.0).1
 
 -- what names without such a fault make, by the length of the text that is written for them
-pub long_key : (names : Names) (text : List ℕ) (len : ℕ) → naming_fault names ≡ None → text ≡ key_text (series_of names) → len ≡ length text → MAX_KEY_TEXT < len → key_of names ≡ Err KeyTooLong
-long_key names text len named is counted long =
-    let tested : ltb MAX_KEY_TEXT (length (key_text (series_of names))) ≡ true = lt-ltb _ _ (subst (λ (n : ℕ). MAX_KEY_TEXT < n) (counted ∙ ap length is) long) in
+pub long_key : (names : Names) (text : List ℕ) → naming_fault names ≡ None → text ≡ key_text (series_of names) → MAX_KEY_TEXT < length text → key_of names ≡ Err KeyTooLong
+long_key names text named is long =
+    let tested : ltb MAX_KEY_TEXT (length (key_text (series_of names))) ≡ true = lt-ltb _ _ (subst (λ (n : ℕ). MAX_KEY_TEXT < n) (ap length is) long) in
     key_of_named names named ∙ rw tested refl
 
-pub short_key : (names : Names) (text : List ℕ) (len : ℕ) → naming_fault names ≡ None → text ≡ key_text (series_of names) → len ≡ length text → len ≤ MAX_KEY_TEXT → key_of names ≡ Ok text
-short_key names text len named is counted short =
-    let tested : ltb MAX_KEY_TEXT (length (key_text (series_of names))) ≡ false = le-ltb _ _ (subst (λ (n : ℕ). n ≤ MAX_KEY_TEXT) (counted ∙ ap length is) short) in
+pub short_key : (names : Names) (text : List ℕ) → naming_fault names ≡ None → text ≡ key_text (series_of names) → length text ≤ MAX_KEY_TEXT → key_of names ≡ Ok text
+short_key names text named is short =
+    let tested : ltb MAX_KEY_TEXT (length (key_text (series_of names))) ≡ false = le-ltb _ _ (subst (λ (n : ℕ). n ≤ MAX_KEY_TEXT) (ap length is) short) in
     key_of_named names named ∙ rw tested (ap (λ (t : List ℕ). Ok t) (sym is))
+
+-- names without such a fault whose text is short make a key
+pub no_making_fault : (names : Names) (text : List ℕ) → naming_fault names ≡ None → text ≡ key_text (series_of names) → length text ≤ MAX_KEY_TEXT → making_fault names ≡ None
+no_making_fault names text named is short =
+    let tested : ltb MAX_KEY_TEXT (length (key_text (series_of names))) ≡ false = le-ltb _ _ (subst (λ (n : ℕ). n ≤ MAX_KEY_TEXT) (ap length is) short) in
+    ap (λ (o : Option KeyFault). first_fault o (cond (ltb MAX_KEY_TEXT (length (key_text (series_of names)))) (Some KeyTooLong) None)) named ∙ rw tested refl
+
+-- a text has no room where nothing is left, and has room where something is
+pub no_room : (text : List ℕ) (room : ℕ) (left : Option ℕ) → IsRoomAfter text room left → is_some left ≡ false → room < length text
+no_room text room None h e =
+    elim (cases_Bool (ltb room (length text))) [
+      | inl long ↦ ltb-true room (length text) long
+      | inr short ↦ absurd (h (ltb-false room (length text) short))
+    ]
+no_room text room (Some n) h e = absurd cc
+
+pub some_room : (text : List ℕ) (room : ℕ) (left : Option ℕ) → IsRoomAfter text room left → is_some left ≡ true → length text ≤ room
+some_room text room None h e = absurd cc
+some_room text room (Some n) h e = h.0
 
 -- sorted tags that rise: the names have no such fault, and the text is written in the order of the sorted tags
 pub record IsInOrder (measurement field : List ℕ) (tags sorted : List Slices) : Type 0 where

@@ -5,3 +5,4 @@ pub mod Series
 pub mod Making
 pub mod Fault
 pub mod Reading
+pub mod Room

@@ -78,16 +78,16 @@ impl PartialOrd for SeriesKey {
 impl SeriesKey {
     ghost use Rattle.rr_base.specs.Results.{GivesUnless};
     ghost use Rattle.rr_key.specs.Series.{IsKeyText};
-    ghost use Rattle.rr_key.specs.Making.{names_of, naming_fault, key_of};
+    ghost use Rattle.rr_key.specs.Making.{names_of, making_fault, key_of};
 
     /// The key of a measurement, tags in any order and a field, all of them unescaped.
     ///
     /// Refusals, in this order: `EmptyName`; `BadName`, a name with a line feed or that ends in a
     /// backslash; `DuplicateTag`; `TooManyTags`, more than [`MAX_TAGS`](crate::MAX_TAGS);
     /// `KeyTooLong`, a text of more than [`MAX_KEY_TEXT`](rr_base::limits::MAX_KEY_TEXT) bytes.
-    /// `Memory` is answered where memory runs out for the text, so never in place of the first four.
-    /// The cost is that of sorting the tags and writing the text; more tags than a key may have are
-    /// compared pair by pair.
+    /// `Memory` is answered where memory runs out for the text, so never in place of a refusal. The
+    /// cost is that of sorting the tags, measuring the text and writing it; more tags than a key may
+    /// have are compared pair by pair.
     pub fn new(
         alloc: Global,
         measurement: &[u8],
@@ -97,7 +97,7 @@ impl SeriesKey {
         ensures made { GivesUnless KeyFault.Memory (λ key. key) result
             (key_of (names_of measurement.now tags.now field.now)) }
         ensures memory { result ≡ Err KeyFault.Memory
-            → naming_fault (names_of measurement.now tags.now field.now) ≡ None }
+            → making_fault (names_of measurement.now tags.now field.now) ≡ None }
         ensures grammar { IfOk result IsKeyText }
     {
         let text = make_text(alloc, measurement, tags, field)?;

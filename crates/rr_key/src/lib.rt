@@ -28,6 +28,7 @@ pub mod laws;
 mod making;
 mod names;
 mod reading;
+mod room;
 mod writing;
 
 pub use class::Class;

@@ -2,7 +2,7 @@
 
 ghost use Rattle.std.specs.Prelude.{◌≡◌, ◌≤◌, length, false, Err, None, [], if◌then◌else◌};
 ghost use Rattle.rr_key.specs.declared.fault.KeyFault.TheVariants.{DuplicateTag, TooManyTags};
-ghost use Rattle.rr_key.specs.Making.{names_of, tags_of, any_tag, any_name, naming_fault, key_of};
+ghost use Rattle.rr_key.specs.Making.{names_of, tags_of, any_tag, any_name, making_fault, key_of};
 ghost use Rattle.rr_key.specs.Name.{is_empty, is_bad};
 ghost use Rattle.rr_key.specs.Reading.{rises};
 ghost use Rattle.rr_base.specs.Bytes.{has_repeat};
@@ -12,9 +12,10 @@ ghost use Rattle.std.specs.Map.{keys_of};
 
 use crate::fault::KeyFault;
 use crate::names::is_bad;
+use crate::room::room_after_key;
 use crate::writing::write_key;
 use rr_base::bytes::has_repeat;
-use rr_base::limits::{MAX_KEY_TEXT, MAX_TAGS};
+use rr_base::limits::MAX_TAGS;
 use std::alloc::Global;
 
 /// The key text of names.
@@ -27,7 +28,7 @@ pub(crate) fn make_text(
     ensures made { GivesUnless KeyFault.Memory (λ text. text.items) result
         (key_of (names_of measurement.now tags.now field.now)) }
     ensures memory { result ≡ Err KeyFault.Memory
-        → naming_fault (names_of measurement.now tags.now field.now) ≡ None }
+        → making_fault (names_of measurement.now tags.now field.now) ≡ None }
 {
     if has_empty(measurement, tags, field) {
         return Err(KeyFault::EmptyName);
@@ -70,16 +71,16 @@ fn sort_and_write(
     ensures made { GivesUnless KeyFault.Memory (λ text. text.items) result
         (key_of (names_of measurement.now tags.old field.now)) }
     ensures memory { result ≡ Err KeyFault.Memory
-        → naming_fault (names_of measurement.now tags.old field.now) ≡ None }
+        → making_fault (names_of measurement.now tags.old field.now) ≡ None }
 {
     tags.sort_unstable();
     if !rises(tags) {
         return Err(KeyFault::DuplicateTag);
     }
-    let text = write_key(alloc, measurement, tags, field)?;
-    if text.len() > MAX_KEY_TEXT {
+    if room_after_key(measurement, tags, field).is_none() {
         return Err(KeyFault::KeyTooLong);
     }
+    let text = write_key(alloc, measurement, tags, field)?;
     Ok(text)
 }
 
