@@ -1,30 +1,49 @@
 //! The ordered map of rows of one archive.
 
 use crate::tests::contributions::TWO_SAMPLES;
-use rr_archive::{Archive, PlainArchive};
+use rr_archive::{Archive, Entry, PlainArchive};
 use rr_base::Origin;
 use rr_contrib::Contribution;
 use std::alloc::{AllocError, Global};
 use std::test::Fail;
 
-/// The slot, the origin and the last value of a cell.
-type Shown = Option<(i64, u16, i64)>;
-
-/// The cell with this number.
-fn cell<A: Archive>(archive: &A, i: usize) -> Shown {
-    let (slot, entry) = archive.cell_at(i)?;
-    Some((slot, entry.origin.get(), entry.contribution.last_value))
+/// Adds a cell to a text: slot, origin, version, count and last value.
+fn push_cell(text: &mut String, cell: (i64, Entry)) -> Result<(), AllocError> {
+    let (slot, entry) = cell;
+    let (origin, summary) = (entry.origin.get(), entry.contribution);
+    write!(text, "{slot} {origin} {} ", summary.version)?;
+    write!(text, "{} {}\n", summary.count, summary.last_value)
 }
 
-/// The first cell after that of a slot and an origin.
-fn cell_after<A: Archive>(archive: &A, slot: i64, origin: Origin) -> Shown {
-    let (slot, entry) = archive.next_cell(slot, origin)?;
-    Some((slot, entry.origin.get(), entry.contribution.last_value))
+/// All cells of an archive by their numbers, and its newest slot.
+fn cells_of<A: Archive>(alloc: Global, archive: &A) -> Result<String, AllocError> {
+    let mut text = String::new(alloc);
+    for i in 0..archive.cell_count() {
+        if let Some(cell) = archive.cell_at(i) {
+            push_cell(&mut text, cell)?;
+        }
+    }
+    write!(text, "newest {:?}", archive.newest())?;
+    Ok(text)
 }
 
-/// The newest slot and the number of cells.
-fn extent<A: Archive>(archive: &A) -> (Option<i64>, usize) {
-    (archive.newest(), archive.cell_count())
+/// The cells of an archive after a slot and an origin, each after the one before it.
+fn cells_after<A: Archive>(
+    alloc: Global,
+    archive: &A,
+    slot: i64,
+    origin: Origin,
+) -> Result<String, AllocError> {
+    let mut text = String::new(alloc);
+    let (mut slot, mut origin) = (slot, origin);
+    for _ in 0..1_000 {
+        let Some(cell) = archive.next_cell(slot, origin) else {
+            return Ok(text);
+        };
+        (slot, origin) = (cell.0, cell.1.origin);
+        push_cell(&mut text, cell)?;
+    }
+    Ok(text)
 }
 
 /// An archive with -3 at time 0 and -4 at time 1 of one origin in slot 0.
@@ -39,14 +58,13 @@ fn two_samples<A: Archive>(alloc: Global, origin: Origin) -> Result<A, AllocErro
 #[test]
 fn samples_are_put(rt: HostRuntime) -> Result<(), Fail> {
     let archive: PlainArchive = two_samples(rt.alloc(), Origin::new(1)?)?;
-    let row = archive.row(0);
-    assert!(rt; row.len() == 1);
     assert_eq!(rt;
-        (row[0].contribution, extent(&archive)),
-        (TWO_SAMPLES, (Some(0), 1))
+        cells_of(rt.alloc(), &archive)?.as_str(),
+        "0 1 2 2 -4\nnewest Some(0)"
     );
-    let cells = (cell(&archive, 0), cell(&archive, 1), archive.row(1).len());
-    assert_eq!(rt; cells, (Some((0, 1, -4)), None, 0));
+    let row = archive.row(0);
+    assert!(rt; row.len() == 1 && archive.row(1).is_empty());
+    assert_eq!(rt; row[0].contribution, TWO_SAMPLES);
     Ok(())
 }
 
@@ -65,19 +83,13 @@ fn three_cells<A: Archive>(alloc: Global, origins: (Origin, Origin)) -> Result<A
 fn cells_are_listed_by_slot_and_origin(rt: HostRuntime) -> Result<(), Fail> {
     let origins = (Origin::new(1)?, Origin::new(2)?);
     let archive: PlainArchive = three_cells(rt.alloc(), origins)?;
-    let (first, second, third) = (Some((-1, 2, 9)), Some((0, 1, 5)), Some((0, 2, 9)));
-    let listed = (cell(&archive, 0), cell(&archive, 1), cell(&archive, 2));
+    let listed = cells_of(rt.alloc(), &archive)?;
     assert_eq!(rt;
-        (listed, extent(&archive)),
-        ((first, second, third), (Some(0), 3))
+        listed.as_str(),
+        "-1 2 1 1 9\n0 1 1 1 5\n0 2 1 1 9\nnewest Some(0)"
     );
-    let after = (
-        cell_after(&archive, -9_223_372_037, origins.0),
-        cell_after(&archive, -1, origins.1),
-        cell_after(&archive, 0, origins.0),
-        cell_after(&archive, 0, origins.1),
-    );
-    assert_eq!(rt; after, (first, second, third, None));
+    let all = cells_after(rt.alloc(), &archive, -9_223_372_037, origins.0)?;
+    assert_eq!(rt; all.as_str(), "-1 2 1 1 9\n0 1 1 1 5\n0 2 1 1 9\n");
     Ok(())
 }
 
@@ -85,7 +97,7 @@ fn cells_are_listed_by_slot_and_origin(rt: HostRuntime) -> Result<(), Fail> {
 fn room_is_not_a_cell(rt: HostRuntime) -> Result<(), Fail> {
     let mut archive: PlainArchive = Archive::new(rt.alloc(), 3);
     archive.ready(9, Origin::new(3)?)?;
-    assert_eq!(rt; (extent(&archive), cell(&archive, 0)), ((None, 0), None));
+    assert_eq!(rt; cells_of(rt.alloc(), &archive)?.as_str(), "newest None");
     Ok(())
 }
 
@@ -104,13 +116,15 @@ fn joined<A: Archive>(
 #[test]
 fn joins_in_both_orders_are_alike(rt: HostRuntime) -> Result<(), Fail> {
     let origin = Origin::new(7)?;
-    let less = Contribution::first(1, 0, 0, i64::MAX);
+    let less = Contribution::first(1, 0, 0, 5);
     let mut more = less;
-    more.add(2, 0, 1, i64::MAX);
+    more.add(2, 0, 1, 9);
     for cells in [(less, more), (more, less)] {
         let archive: PlainArchive = joined(rt.alloc(), origin, cells)?;
-        let entry = archive.cell_at(0).map(|cell| cell.1.contribution);
-        assert_eq!(rt; (entry, archive.cell_count()), (Some(more), 1));
+        assert_eq!(rt;
+            cells_of(rt.alloc(), &archive)?.as_str(),
+            "0 7 2 2 9\nnewest Some(0)"
+        );
     }
     Ok(())
 }
@@ -121,10 +135,11 @@ fn copies_are_independent(rt: HostRuntime) -> Result<(), Fail> {
     let archive: PlainArchive = two_samples(rt.alloc(), origin)?;
     let mut copy = archive.copy(rt.alloc())?;
     copy.join_cell(1, origin, &Contribution::first(1, 0, 0, 8))?;
-    assert_eq!(rt; copy.row(0), archive.row(0));
+    let copied = cells_of(rt.alloc(), &copy)?;
+    assert_eq!(rt; copied.as_str(), "0 1 2 2 -4\n1 1 1 1 8\nnewest Some(1)");
     assert_eq!(rt;
-        (extent(&copy), extent(&archive)),
-        ((Some(1), 2), (Some(0), 1))
+        cells_of(rt.alloc(), &archive)?.as_str(),
+        "0 1 2 2 -4\nnewest Some(0)"
     );
     Ok(())
 }
@@ -142,59 +157,34 @@ fn late_samples<A: Archive>(alloc: Global, origin: Origin) -> Result<A, AllocErr
 #[test]
 fn samples_past_the_horizon_leave_no_trace(rt: HostRuntime) -> Result<(), Fail> {
     let archive: PlainArchive = late_samples(rt.alloc(), Origin::new(1)?)?;
-    let cells = (cell(&archive, 0), cell(&archive, 1), cell(&archive, 2));
-    assert_eq!(rt;
-        (cells, archive.newest()),
-        ((Some((3, 1, 9)), Some((5, 1, 7)), None), Some(5))
-    );
+    let text = cells_of(rt.alloc(), &archive)?;
+    assert_eq!(rt; text.as_str(), "3 1 3 1 9\n5 1 1 1 7\nnewest Some(5)");
     Ok(())
 }
 
-/// An archive of three rows with cells joined in these slots.
-fn with_slots<A: Archive>(alloc: Global, origin: Origin, slots: [i64; 6]) -> Result<A, AllocError> {
-    let mut archive = A::new(alloc, 3);
+/// The cells of an archive of three rows with a cell joined in each of these slots.
+fn after_slots(alloc: Global, slots: &[i64]) -> Result<String, Fail> {
+    let origin = Origin::new(1)?;
+    let mut archive: PlainArchive = Archive::new(alloc, 3);
     for slot in slots {
-        if (-9_223_372_037..=9_223_372_037).contains(&slot) {
-            archive.join_cell(slot, origin, &Contribution::first(1, 0, 0, slot))?;
+        if (-9_223_372_037..=9_223_372_037).contains(slot) {
+            archive.join_cell(*slot, origin, &Contribution::first(1, 0, 0, *slot))?;
         }
     }
-    Ok(archive)
+    Ok(cells_of(alloc, &archive)?)
 }
 
 #[test]
 fn rows_leave_as_the_newest_moves_on(rt: HostRuntime) -> Result<(), Fail> {
-    let (alloc, origin) = (rt.alloc(), Origin::new(1)?);
-    for (slots, want, first) in [
-        ([0, 2, 1, 0, 0, 0], (Some(2), 3), 0),
-        ([0, 2, 1, -1, 0, -9_223_372_037], (Some(2), 3), 0),
-        ([0, 2, 1, 3, 0, 0], (Some(3), 3), 1),
-        (
-            [0, 2, 1, 3, 9_223_372_037, 3],
-            (Some(9_223_372_037), 1),
-            9_223_372_037,
-        ),
-    ] {
-        let archive: PlainArchive = with_slots(alloc, origin, slots)?;
-        let front = archive.cell_at(0).map(|cell| cell.0);
-        assert_eq!(rt; (extent(&archive), front), (want, Some(first)));
-    }
-    Ok(())
-}
-
-#[test]
-fn a_million_rows_pass_through_ten(rt: HostRuntime) -> Result<(), Fail> {
-    let origin = Origin::new(1)?;
-    let mut archive: PlainArchive = Archive::new(rt.alloc(), 10);
-    for number in 0..1_000_000u32 {
-        let slot = i64::from(number);
-        archive.join_cell(slot, origin, &Contribution::first(1, 0, 0, slot))?;
-    }
-    let ends = (cell(&archive, 0), cell(&archive, 9), cell(&archive, 10));
-    let want = (
-        Some((999_990, 1, 999_990)),
-        Some((999_999, 1, 999_999)),
-        None,
+    let three = after_slots(rt.alloc(), &[0, 2, 1, -1, -9_223_372_037])?;
+    assert_eq!(rt;
+        three.as_str(),
+        "0 1 1 1 0\n1 1 1 1 1\n2 1 1 1 2\nnewest Some(2)"
     );
-    assert_eq!(rt; (ends, archive.cell_count()), (want, 10));
+    let one = after_slots(rt.alloc(), &[0, 2, 1, 3, 9_223_372_037, 3])?;
+    assert_eq!(rt;
+        one.as_str(),
+        "9223372037 1 1 1 9223372037\nnewest Some(9223372037)"
+    );
     Ok(())
 }
