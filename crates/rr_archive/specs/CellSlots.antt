@@ -1,4 +1,4 @@
--- The cell slots of one archive of one key, which are slots and origins, and which of them are live.
+-- Cell slots, each a slot and an origin of one archive of one key, and which of them are live.
 use Rattle.std.specs.Prelude.{ℕ, ℤ, pos, negsuc, ◌-◌, ◌≤ℤ◌, Bool, List, map, Option}
 use Rattle.std.specs.declared.cmp.Ordering.{Ordering}
 use Rattle.std.specs.Ordering.{ordering_then, nat_cmp, int_cmp}
@@ -22,7 +22,7 @@ cell_slot_cmp a b = ordering_then (int_cmp a.slot b.slot) (nat_cmp a.origin b.or
 abbrev pub newest_of : List CellSlot → Option ℤ
 newest_of ps = greatest int_cmp (map (λ p. p.slot) ps)
 
--- whether a cell slot, beside these, is not past the horizon of an archive of so many rows
+-- whether a cell slot, among these, is not past the horizon of an archive of `rows` rows
 abbrev pub is_live_at : ℕ → List CellSlot → CellSlot → Bool
 is_live_at rows ps p = is_above rows (newest_of ps) p.slot
 

@@ -5,7 +5,7 @@ use Rattle.std.specs.Ordering.{int_eq, is_lt}
 use Rattle.std.specs.FinMap.{FinMap, empty, get, insert, entries}
 use Rattle.rr_join.specs.Maps.{trimmed, merged, joined}
 use Rattle.rr_contrib.specs.declared.contribution.Contribution.{Contribution}
-use Rattle.rr_contrib.specs.Contributions.{contribution_cmp, SlotSample, added}
+use Rattle.rr_contrib.specs.Contributions.{contribution_cmp, SlotSample, contribution_with}
 use Rattle.rr_archive.specs.declared.entry.Entry.{Entry}
 use Rattle.rr_archive.specs.declared.change.Change.{Change}
 use Rattle.rr_archive.specs.Changes.{contribution_after}
@@ -18,7 +18,7 @@ Rows = FinMap cell_slot_cmp Contribution
 
 -- with a sample more at a cell slot
 abbrev pub with_put : Rows → CellSlot → SlotSample → Rows
-with_put m p x = insert m p (added (get m p) x)
+with_put m p x = insert m p (contribution_with (get m p) x)
 
 -- with the cell at a cell slot changed
 abbrev pub with_change : Rows → CellSlot → Change → Rows
@@ -32,7 +32,7 @@ merge_rows m n = merged contribution_cmp m n
 abbrev pub with_cell : Rows → CellSlot → Contribution → Rows
 with_cell m p c = merge_rows m (insert empty p c)
 
--- ---- of an archive of so many rows
+-- ---- of an archive of a number of rows
 
 -- no cell is past the horizon
 abbrev pub IsTrimmed : ℕ → Rows → Type 0

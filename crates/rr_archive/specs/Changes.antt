@@ -2,7 +2,7 @@
 use Rattle.std.specs.Prelude.{ℕ, List, Option, Some, None, IfSome}
 use Rattle.std.specs.Ordering.{ord_max}
 use Rattle.rr_contrib.specs.declared.contribution.Contribution.{Contribution}
-use Rattle.rr_contrib.specs.Contributions.{SlotSample, slot_sample, added, contribution_cmp}
+use Rattle.rr_contrib.specs.Contributions.{SlotSample, slot_sample, contribution_with, contribution_cmp}
 use Rattle.rr_contrib.specs.Validity.{CanAdd}
 use Rattle.rr_archive.specs.declared.entry.Entry.{Entry}
 use Rattle.rr_archive.specs.Row.{entry_at}
@@ -25,7 +25,7 @@ Fits known (Join c) = Unit {0}
 
 -- what a cell contributes after a change
 abbrev pub contribution_after : Option Contribution → Change → Contribution
-contribution_after known (Put x) = added known (sample_of x)
+contribution_after known (Put x) = contribution_with known (sample_of x)
 contribution_after known (Join c) = greater_of known c
 
 -- the entry of an origin after a change

@@ -55,7 +55,7 @@ is_in_range p = nat_le (unsigned_abs p.slot) MAX_SECOND && nat_lt p.origin (2 ^ 
 abbrev pub is_ready_in : ℕ → Option ℤ → List (ℤ × Vec Entry) → CellSlot → Bool
 is_ready_in limit newest rows p = not (is_above limit newest p.slot) || has_room_in rows p
 
--- whether the first row is past the horizon of so many rows up to a newest slot
+-- whether the first row is past the horizon of `limit` rows up to a newest slot
 abbrev pub starts_dead : ℕ → ℤ → List (ℤ × Vec Entry) → Bool
 starts_dead limit newest [] = false
 starts_dead limit newest (r ∷ rs) = not (is_above limit (Some newest) r.0)
@@ -65,7 +65,7 @@ abbrev pub first_len : List (ℤ × Vec Entry) → ℕ
 first_len [] = 0
 first_len (r ∷ rs) = length r.1.items
 
--- of an archive of so many rows: how many cells they hold, the newest slot of a cell, and what each cell
+-- of an archive of `limit` rows: how many cells they hold, the newest slot of a cell, and what each cell
 -- and row keeps to
 pub record IsHeld (limit count : ℕ) (newest : Option ℤ) (rows : List (ℤ × Vec Entry)) : Type 0 where
   pub some : 1 ≤ limit

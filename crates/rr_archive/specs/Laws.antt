@@ -26,6 +26,6 @@ JoinIsIdempotent = (rows : ℕ) (m : Rows) → 0 < rows → IsTrimmed rows m →
 abbrev pub JoinIsTrimmed : Type 0
 JoinIsTrimmed = (rows : ℕ) (m n : Rows) → 0 < rows → IsTrimmed rows (join_rows rows m n)
 
--- live cells of so many origins are at most so many as the rows times the origins
+-- live cells are at most as many as the rows times the origins
 abbrev pub CellsAreFew : Type 0
 CellsAreFew = (rows origins : ℕ) (m : Rows) → IsTrimmed rows m → ((p : CellSlot) → IsTrue (contains_key m p) → (1 ≤ p.origin) × (p.origin ≤ origins)) → len m ≤ rows * origins

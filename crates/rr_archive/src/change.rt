@@ -1,7 +1,7 @@
 //! What comes to a cell, and what the cell contributes then.
 ghost use Rattle.std.specs.Prelude.{◌≡◌, Some, IfSome};
 ghost use Rattle.rr_join.specs.Maps.{greater};
-ghost use Rattle.rr_contrib.specs.Contributions.{added, contribution_cmp};
+ghost use Rattle.rr_contrib.specs.Contributions.{contribution_with, contribution_cmp};
 ghost use Rattle.rr_contrib.specs.Validity.{CanAdd};
 ghost use Rattle.rr_archive.specs.Changes.{sample_of, contribution_after, Fits};
 
@@ -19,7 +19,7 @@ pub(crate) enum Change {
 /// What a cell contributes with a sample more.
 fn with_sample(known: Option<Contribution>, sample: &NewSample) -> Contribution
     requires { IfSome known (CanAdd sample.now.number) }
-    ensures { result ≡ added known (sample_of sample.now) }
+    ensures { result ≡ contribution_with known (sample_of sample.now) }
 {
     match known {
         Some(mut contribution) => {

@@ -54,6 +54,6 @@ with_sample c x = record {
 }
 
 -- the contribution of a cell with a sample more; an empty cell has none before
-abbrev pub added : Option Contribution → SlotSample → Contribution
-added None x = of_one x
-added (Some c) x = with_sample c x
+abbrev pub contribution_with : Option Contribution → SlotSample → Contribution
+contribution_with None x = of_one x
+contribution_with (Some c) x = with_sample c x

@@ -46,7 +46,7 @@ abbrev pub record_text : List ℕ → ℤ × Option ℤ → List ℕ
 record_text key row =
     field_text key ++ comma ∷ field_text (signed_decimal row.0) ++ comma ∷ field_text (value_text row.1) ++ line_feed ∷ []
 
--- a fetch: so many rows of an archive of a key (its text), from a first slot on
+-- a fetch: a number of rows of an archive of a key (its text), from a first slot on
 pub record Request : Type 0 where
   pub key : List ℕ
   pub function : ConsolidationFunction

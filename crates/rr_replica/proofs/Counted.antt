@@ -13,8 +13,9 @@ use Rattle.rr_archive.specs.CellSlots.{CellSlot, cell_slot}
 use Rattle.rr_archive.specs.Cells.{Rows, cell_of}
 use Rattle.rr_model.specs.CellNames.{CellName}
 use Rattle.rr_replica.specs.Cells.{name_at}
-use Rattle.rr_replica.specs.Series.{Series, bytes_cmp, cells_from, all_cells, cells_of}
-use Rattle.rr_replica.specs.Held.{shown, archives_of}
+use Rattle.rr_base.specs.Bytes.{bytes_cmp}
+use Rattle.rr_replica.specs.Series.{Series, cells_from, all_cells, cells_of}
+use Rattle.rr_replica.specs.Held.{held_series, archives_of}
 use Rattle.rr_replica.specs.Listing.{count_of, at_most_usize}
 use Rattle.rr_replica.proofs.InOrder.{named_as, entries-cells_of}
 use Rattle.rr_replica.proofs.Shown.{keys_shown}
@@ -178,11 +179,11 @@ pub get-all_later : (key : List ℕ) (rs : List Rows) (es : Series) (i left : �
 get-all_later key rs es i left e = ap (slice_get (all_cells ((key, rs) ∷ es))) (e ∙ ap (λ n. n + left) (sym (length-cells_from key 0 rs))) ∙ get_append (cells_from key 0 rs) (all_cells es) left
 
 -- so many cells, and in this order
-pub entries-shown : {X : Type 0} (cells : X → Rows) (es : List (List ℕ × Vec X)) → IsStrictlySortedBy bytes_cmp (keys_of es) → entries (cells_of (shown cells es)) ≡ all_cells (shown cells es)
-entries-shown cells es sorted = entries-cells_of (shown cells es) (subst (IsStrictlySortedBy bytes_cmp) (sym (keys_shown cells es)) sorted)
+pub entries-held_series : {X : Type 0} (cells : X → Rows) (es : List (List ℕ × Vec X)) → IsStrictlySortedBy bytes_cmp (keys_of es) → entries (cells_of (held_series cells es)) ≡ all_cells (held_series cells es)
+entries-held_series cells es sorted = entries-cells_of (held_series cells es) (subst (IsStrictlySortedBy bytes_cmp) (sym (keys_shown cells es)) sorted)
 
-pub len-shown : {X : Type 0} (cells : X → Rows) (es : List (List ℕ × Vec X)) → IsStrictlySortedBy bytes_cmp (keys_of es) → len (cells_of (shown cells es)) ≡ length (all_cells (shown cells es))
-len-shown cells es sorted = len-entries (cells_of (shown cells es)) ∙ ap length (entries-shown cells es sorted)
+pub len-held_series : {X : Type 0} (cells : X → Rows) (es : List (List ℕ × Vec X)) → IsStrictlySortedBy bytes_cmp (keys_of es) → len (cells_of (held_series cells es)) ≡ length (all_cells (held_series cells es))
+len-held_series cells es sorted = len-entries (cells_of (held_series cells es)) ∙ ap length (entries-held_series cells es sorted)
 
 -- ---- each key has few archives
 

@@ -21,16 +21,17 @@ use Rattle.rr_join.proofs.Lookups.{get-trimmed}
 use Rattle.rr_model.specs.CellNames.{cell_name_cmp, is_live}
 use Rattle.rr_model.proofs.Orders.{cell_name_cmp_total, cell_name_cmp-IsAntisymmetric}
 use Rattle.rr_replica.specs.Puts.{put_sample}
-use Rattle.rr_replica.specs.Series.{bytes_cmp, cells_of}
+use Rattle.rr_base.specs.Bytes.{bytes_cmp}
+use Rattle.rr_replica.specs.Series.{cells_of}
 use Rattle.rr_replica.specs.Archives.{cell_slot_for, Each, AreSized, CanTake, AreSame, HavePut}
-use Rattle.rr_replica.specs.Held.{IsHolding, shown, archives_of, sample_of, holding, IsHeld}
+use Rattle.rr_replica.specs.Held.{IsHolding, held_series, archives_of, sample_of, holding_of, IsHeld}
 use Rattle.rr_replica.proofs.Local.{get-rows_at}
 use Rattle.rr_replica.proofs.Shown.{held_at, items_of, rows_shown, cells_same, cells_put, held_same, held_put}
 use Rattle.rr_replica.proofs.HoldingLemmas.{holds_put, can_add}
 
 module _ {X : Type 0} (cells : X → Rows) (limit : X → ℕ) (s : Layout) (key : List ℕ) (x : Sample) (old : List (List ℕ × Vec X)) (kept : IsHeld cells limit s x.origin x.number old) (known : x.number ≤ MAX_NUMBER) where
   abbrev all : Cells
-  all = cells_of (shown cells old)
+  all = cells_of (held_series cells old)
 
   -- what the archives of the key hold before
   pub AreBefore : List X → Type 0
@@ -50,7 +51,7 @@ module _ {X : Type 0} (cells : X → Rows) (limit : X → ℕ) (s : Layout) (key
   can_take before at i a here =
       let p = cell_slot_for s x i in
       let is : get (cells a) p ≡ get all (name_at key i p) = sym (ap (λ o. get (unwrap_or (option_map cells o) empty) p) here) ∙ ap (λ r. get r p) (sym (at i)) ∙ get-rows_at key i all p in
-      subst (λ o. IfSome o (CanAdd x.number)) (sym is) (can_add (holding cells s x.origin x.number old) kept.holds (sample_of key x) refl refl known (name_at key i p) refl)
+      subst (λ o. IfSome o (CanAdd x.number)) (sym is) (can_add (holding_of cells s x.origin x.number old) kept.holds (sample_of key x) refl refl known (name_at key i p) refl)
 
   module _ (new : List (List ℕ × Vec X)) (now : Vec X) (sets : (q : List ℕ) → archives_of new q ≡ cond (is_at (bytes_cmp key) q) (Some now) (archives_of old q)) (sorted : IsStrictlySortedBy bytes_cmp (keys_of new)) (before : List X) (at : (i : ℕ) → rows_at all key i ≡ held_at cells before i) (size : AreSized limit s now.items) where
     sized_now : (q : List ℕ) (archives : Vec X) → archives_of new q ≡ Some archives → AreSized limit s archives.items
@@ -60,17 +61,17 @@ module _ {X : Type 0} (cells : X → Rows) (limit : X → ℕ) (s : Layout) (key
         by_key true e = subst (λ (v : Vec X). AreSized limit s v.items) (ap (λ o. unwrap_or o now) e) size
         by_key false e = kept.sized q archives e
 
-    pub cells_with : length before ≡ length s.archives → HavePut cells s x before now.items → cells_of (shown cells new) ≡ put_sample s all (sample_of key x)
+    pub cells_with : length before ≡ length s.archives → HavePut cells s x before now.items → cells_of (held_series cells new) ≡ put_sample s all (sample_of key x)
     cells_with many h = cells_put cells old new key now sets kept.ordered sorted s kept.holds.layout (sample_of key x) refl kept.holds.live (λ i. held_put cells s kept.holds.layout key x all before now.items i kept.holds.live many h at)
 
     pub kept_with : length before ≡ length s.archives → HavePut cells s x before now.items → IsHeld cells limit s x.origin (x.number + 1) new
     kept_with many h = record {
-      holds = subst (λ (m : Cells). IsHolding (record { schema = s; origin = x.origin; next = x.number + 1; cells = m })) (sym (cells_with many h)) (holds_put (holding cells s x.origin x.number old) kept.holds (sample_of key x) refl refl known);
+      holds = subst (λ (m : Cells). IsHolding (record { schema = s; origin = x.origin; next = x.number + 1; cells = m })) (sym (cells_with many h)) (holds_put (holding_of cells s x.origin x.number old) kept.holds (sample_of key x) refl refl known);
       sized = sized_now;
       ordered = sorted;
     }
 
-    pub cells_without : AreSame cells before now.items → cells_of (shown cells new) ≡ all
+    pub cells_without : AreSame cells before now.items → cells_of (held_series cells new) ≡ all
     cells_without same = cells_same cells old new key now sets kept.ordered sorted (λ i. held_same cells before now.items i same ∙ sym (at i))
 
     pub kept_without : AreSame cells before now.items → IsHeld cells limit s x.origin x.number new
@@ -88,8 +89,8 @@ unfolding IsStrictlySortedBy cells_of
 kept_none cells limit s origin entries is none = subst (IsHeld cells limit s origin 1) (sym none) (record {
   holds = record {
     layout = is;
-    some = omega arith;
-    few = omega arith;
+    next_at_least = omega arith;
+    next_at_most = omega arith;
     live = trimmed_none s;
     valid = λ n c e. absurd (true≢false (sym (ap is_some (sym (get-empty cell_name_cmp n) ∙ e))));
     own = λ n c e. absurd (true≢false (sym (ap is_some (sym (get-empty cell_name_cmp n) ∙ e))));
@@ -112,14 +113,14 @@ kept_none cells limit s origin entries is none = subst (IsHeld cells limit s ori
         ∙ none_either_way (is_live s (keys nothing) q)
         ∙ sym (get-empty cell_name_cmp q))
 
-pub cells_none : {X : Type 0} (cells : X → Rows) (entries : List (List ℕ × Vec X)) → entries ≡ [] → cells_of (shown cells entries) ≡ empty
+pub cells_none : {X : Type 0} (cells : X → Rows) (entries : List (List ℕ × Vec X)) → entries ≡ [] → cells_of (held_series cells entries) ≡ empty
 unfolding cells_of
-cells_none cells entries none = ap (λ es. cells_of (shown cells es)) none
+cells_none cells entries none = ap (λ es. cells_of (held_series cells es)) none
 
 -- ---- reading
 
 -- a row of an archive of a key
-pub row_found : {X : Type 0} (cells : X → Rows) (limit : X → ℕ) (s : Layout) (origin next : ℕ) (entries : List (List ℕ × Vec X)) (key : List ℕ) (i : ℕ) (slot : ℤ) (archives : Vec X) (a : X) → IsHeld cells limit s origin next entries → Some archives ≡ archives_of entries key → slice_get archives.items i ≡ Some a → row_of (cells a) slot ≡ row_at (cells_of (shown cells entries)) key i slot
+pub row_found : {X : Type 0} (cells : X → Rows) (limit : X → ℕ) (s : Layout) (origin next : ℕ) (entries : List (List ℕ × Vec X)) (key : List ℕ) (i : ℕ) (slot : ℤ) (archives : Vec X) (a : X) → IsHeld cells limit s origin next entries → Some archives ≡ archives_of entries key → slice_get archives.items i ≡ Some a → row_of (cells a) slot ≡ row_at (cells_of (held_series cells entries)) key i slot
 row_found cells limit s origin next entries key i slot archives a kept found at =
     ap (λ r. row_of r slot) (sym (rows_shown cells entries key i kept.ordered ∙ ap (λ o. held_at cells (items_of o) i) (sym found) ∙ ap (λ o. unwrap_or (option_map cells o) empty) at))
 
@@ -134,10 +135,10 @@ row_of-empty slot = ap (λ es. map entry_of (filter (λ e. int_eq e.0.slot slot)
     nothing_from_length [] e = refl
     nothing_from_length (x ∷ es) e = absurd (omega arith)
 
-pub row_missing : {X : Type 0} (cells : X → Rows) (limit : X → ℕ) (s : Layout) (origin next : ℕ) (entries : List (List ℕ × Vec X)) (key : List ℕ) (i : ℕ) (slot : ℤ) (archives : Vec X) → IsHeld cells limit s origin next entries → Some archives ≡ archives_of entries key → slice_get archives.items i ≡ None → [] ≡ row_at (cells_of (shown cells entries)) key i slot
+pub row_missing : {X : Type 0} (cells : X → Rows) (limit : X → ℕ) (s : Layout) (origin next : ℕ) (entries : List (List ℕ × Vec X)) (key : List ℕ) (i : ℕ) (slot : ℤ) (archives : Vec X) → IsHeld cells limit s origin next entries → Some archives ≡ archives_of entries key → slice_get archives.items i ≡ None → [] ≡ row_at (cells_of (held_series cells entries)) key i slot
 row_missing cells limit s origin next entries key i slot archives kept found at =
     sym (ap (λ r. row_of r slot) (rows_shown cells entries key i kept.ordered ∙ ap (λ o. held_at cells (items_of o) i) (sym found) ∙ ap (λ o. unwrap_or (option_map cells o) empty) at) ∙ row_of-empty slot)
 
-pub row_unknown : {X : Type 0} (cells : X → Rows) (limit : X → ℕ) (s : Layout) (origin next : ℕ) (entries : List (List ℕ × Vec X)) (key : List ℕ) (i : ℕ) (slot : ℤ) → IsHeld cells limit s origin next entries → None ≡ archives_of entries key → [] ≡ row_at (cells_of (shown cells entries)) key i slot
+pub row_unknown : {X : Type 0} (cells : X → Rows) (limit : X → ℕ) (s : Layout) (origin next : ℕ) (entries : List (List ℕ × Vec X)) (key : List ℕ) (i : ℕ) (slot : ℤ) → IsHeld cells limit s origin next entries → None ≡ archives_of entries key → [] ≡ row_at (cells_of (held_series cells entries)) key i slot
 row_unknown cells limit s origin next entries key i slot kept none =
     sym (ap (λ r. row_of r slot) (rows_shown cells entries key i kept.ordered ∙ ap (λ o. held_at cells (items_of o) i) (sym none)) ∙ row_of-empty slot)

@@ -10,7 +10,7 @@ use Rattle.rr_base.specs.Schema.{Layout, IsLayout, archive_at}
 use Rattle.rr_join.proofs.Members.{same_from_tie}
 use Rattle.rr_join.proofs.Lookups.{get-trimmed}
 use Rattle.rr_contrib.specs.declared.contribution.Contribution.{Contribution}
-use Rattle.rr_contrib.specs.Contributions.{SlotSample, added}
+use Rattle.rr_contrib.specs.Contributions.{SlotSample, contribution_with}
 use Rattle.rr_contrib.specs.Validity.{IsValid, CanAdd}
 use Rattle.rr_contrib.proofs.KeepsValidLemmas.{Falls, place_below, of_one_valid, with_sample_valid}
 use Rattle.rr_archive.specs.CellSlots.{CellSlot, cell_slot_cmp, is_live_at}
@@ -27,17 +27,17 @@ use Rattle.rr_replica.proofs.Local.{get-rows_at}
 use Rattle.rr_replica.proofs.Putting.{mark, with_mark, puts_trimmed, put_at, put_past, put_other_key}
 
 -- what stands at a cell slot once a sample is put: what stood there, or what it comes to
-put_row_cases : (limit : ℕ) (rows : Rows) (p : CellSlot) (z : SlotSample) (q : CellSlot) (c : Contribution) → get (put_row limit rows p z) q ≡ Some c → (get rows q ≡ Some c) ⊎ ((q ≡ p) × (added (get rows p) z ≡ c))
-put_row_cases limit rows p z q c e = by_live (is_live_at limit (keys more) q) (sym (get-trimmed cell_slot_cmp_total cell_slot_cmp-IsAntisymmetric (is_live_at limit) more q ∙ ap (λ o. cond (is_live_at limit (keys more) q) o None) (get-insert cell_slot_cmp_total rows p (added (get rows p) z) q)) ∙ e)
+put_row_cases : (limit : ℕ) (rows : Rows) (p : CellSlot) (z : SlotSample) (q : CellSlot) (c : Contribution) → get (put_row limit rows p z) q ≡ Some c → (get rows q ≡ Some c) ⊎ ((q ≡ p) × (contribution_with (get rows p) z ≡ c))
+put_row_cases limit rows p z q c e = by_live (is_live_at limit (keys more) q) (sym (get-trimmed cell_slot_cmp_total cell_slot_cmp-IsAntisymmetric (is_live_at limit) more q ∙ ap (λ o. cond (is_live_at limit (keys more) q) o None) (get-insert cell_slot_cmp_total rows p (contribution_with (get rows p) z) q)) ∙ e)
   where
     more : Rows
-    more = insert rows p (added (get rows p) z)
+    more = insert rows p (contribution_with (get rows p) z)
 
-    by_tie : (b : Bool) → eq_by_cmp cell_slot_cmp q p ≡ b → cond b (Some (added (get rows p) z)) (get rows q) ≡ Some c → (get rows q ≡ Some c) ⊎ ((q ≡ p) × (added (get rows p) z ≡ c))
+    by_tie : (b : Bool) → eq_by_cmp cell_slot_cmp q p ≡ b → cond b (Some (contribution_with (get rows p) z)) (get rows q) ≡ Some c → (get rows q ≡ Some c) ⊎ ((q ≡ p) × (contribution_with (get rows p) z ≡ c))
     by_tie true t e = inr (same_from_tie cell_slot_cmp_total cell_slot_cmp-IsAntisymmetric q p t, ap (λ o. unwrap_or o c) e)
     by_tie false t e = inl e
 
-    by_live : (b : Bool) → cond b (cond (eq_by_cmp cell_slot_cmp q p) (Some (added (get rows p) z)) (get rows q)) None ≡ Some c → (get rows q ≡ Some c) ⊎ ((q ≡ p) × (added (get rows p) z ≡ c))
+    by_live : (b : Bool) → cond b (cond (eq_by_cmp cell_slot_cmp q p) (Some (contribution_with (get rows p) z)) (get rows q)) None ≡ Some c → (get rows q ≡ Some c) ⊎ ((q ≡ p) × (contribution_with (get rows p) z ≡ c))
     by_live true e = by_tie (eq_by_cmp cell_slot_cmp q p) refl e
     by_live false e = absurd (true≢false (sym (ap is_some e)))
 
@@ -45,7 +45,7 @@ module _ (s : Layout) (is : IsLayout s) (cells : Cells) (kept : IsTrimmed s cell
   -- n is where the sample falls, and c what it comes to there
   pub record Falls_at (n : CellName) (c : Contribution) : Type 0 where
     pub named : n ≡ name_of s (mark x n.archive)
-    pub comes : added (get cells n) (seen s (mark x n.archive)) ≡ c
+    pub comes : contribution_with (get cells n) (seen s (mark x n.archive)) ≡ c
     pub within : n.archive < length s.archives
 
   abbrev pub Cases : CellName → Contribution → Type 0
@@ -65,7 +65,7 @@ module _ (s : Layout) (is : IsLayout s) (cells : Cells) (kept : IsTrimmed s cell
             (λ was. inl (sym (get-rows_at n.key n.archive cells (cell_slot_of n)) ∙ was))
             (λ new. inr (record {
               named = λ i. record { key = sym same i; archive = n.archive; slot = (new.0 i).slot; origin = (new.0 i).origin };
-              comes = ap (λ o. added o (seen s (mark x n.archive))) (sym (get-rows_at n.key n.archive cells (cell_slot_of n)) ∙ ap (get (rows_at cells n.key n.archive)) new.0) ∙ new.1;
+              comes = ap (λ o. contribution_with o (seen s (mark x n.archive))) (sym (get-rows_at n.key n.archive cells (cell_slot_of n)) ∙ ap (get (rows_at cells n.key n.archive)) new.0) ∙ new.1;
               within = within;
             }))
             (put_row_cases (archive_at s n.archive).rows (rows_at cells n.key n.archive) (cell_slot_of (name_of s (mark x n.archive))) (seen s (mark x n.archive)) (cell_slot_of n) c (ap (λ r. get r (cell_slot_of n)) (sym at) ∙ here)))
@@ -76,28 +76,28 @@ module _ (s : Layout) (is : IsLayout s) (cells : Cells) (kept : IsTrimmed s cell
 module _ (h : Holding) (holds : IsHolding h) (x : Sample) (number : x.number ≡ h.next) (origin : x.origin ≡ h.origin) (known : h.next ≤ MAX_NUMBER) where
   falls : (n : CellName) → n ≡ name_of h.schema (mark x n.archive) → Falls h.schema n.archive n.slot (seen h.schema (mark x n.archive))
   falls n same = record {
-    some_number = (let some = holds.some in omega arith);
+    some_number = (let some = holds.next_at_least in omega arith);
     known_number = omega arith;
     in_slot = sym (ap (λ (m : CellName). m.slot) same);
     place = refl;
     within = place_below h.schema n.archive x.time (archive_is h.schema holds.layout n.archive).some_step;
   }
 
-  added_valid : (n : CellName) → n ≡ name_of h.schema (mark x n.archive) → (o : Option Contribution) → get h.cells n ≡ o → IsValid h.schema n.archive n.slot (added o (seen h.schema (mark x n.archive)))
+  added_valid : (n : CellName) → n ≡ name_of h.schema (mark x n.archive) → (o : Option Contribution) → get h.cells n ≡ o → IsValid h.schema n.archive n.slot (contribution_with o (seen h.schema (mark x n.archive)))
   added_valid n same None e = of_one_valid h.schema n.archive n.slot (seen h.schema (mark x n.archive)) (falls n same)
   added_valid n same (Some c) e =
       with_sample_valid h.schema n.archive n.slot c (seen h.schema (mark x n.archive)) (holds.valid n c e) (falls n same)
       (let below = holds.own n c e (ap (λ (m : CellName). m.origin) same ∙ origin) in omega arith)
 
-  added_version : (o : Option Contribution) (z : SlotSample) → (added o z).version ≡ z.number
+  added_version : (o : Option Contribution) (z : SlotSample) → (contribution_with o z).version ≡ z.number
   added_version None z = refl
   added_version (Some c) z = refl
 
   pub holds_put : IsHolding (record { schema = h.schema; origin = h.origin; next = h.next + 1; cells = put_sample h.schema h.cells x })
   holds_put = record {
     layout = holds.layout;
-    some = omega arith;
-    few = omega arith;
+    next_at_least = omega arith;
+    next_at_most = omega arith;
     live = puts_trimmed h.schema holds.layout (marks_of h.schema x) h.cells holds.live;
     valid = λ n c e. ⊎_elim
         (λ was. holds.valid n c was)

@@ -34,10 +34,11 @@ use Rattle.rr_replica.specs.Archives.{Each, AreSized, AreSame, HaveJoined}
 use Rattle.rr_replica.specs.Cells.{Cells, IsTrimmed, cell_slot_of, rows_at}
 use Rattle.rr_replica.specs.Joins.{join_cell}
 use Rattle.rr_replica.specs.Joining.{IsCell, next_after, with_cell, with_cells}
-use Rattle.rr_replica.specs.Held.{IsHolding, AreAllSized, IsHeld, shown, archives_of, holding}
+use Rattle.rr_replica.specs.Held.{IsHolding, AreAllSized, IsHeld, held_series, archives_of, holding_of}
 use Rattle.rr_replica.specs.Holding.{Holding}
 use Rattle.rr_replica.specs.Listing.{owned_cell}
-use Rattle.rr_replica.specs.Series.{bytes_cmp, cells_of}
+use Rattle.rr_base.specs.Bytes.{bytes_cmp}
+use Rattle.rr_replica.specs.Series.{cells_of}
 use Rattle.rr_replica.proofs.CellByCell.{join_nothing}
 use Rattle.rr_replica.proofs.Each.{sized_at}
 use Rattle.rr_replica.proofs.JoinLaws.{join_trims, join_goes_by_archives}
@@ -95,28 +96,28 @@ module _ {X : Type 0} (cells : X → Rows) (limit : X → ℕ) (s : Layout) (is 
 
 -- ---- all archives
 
-module _ {X : Type 0} (cells : X → Rows) (limit : X → ℕ) (s : Layout) (is : IsLayout s) (c : Cell) (old new : List (List ℕ × Vec X)) (now : Vec X) (sets : (q : List ℕ) → archives_of new q ≡ cond (is_at (bytes_cmp c.key) q) (Some now) (archives_of old q)) (ordered : IsStrictlySortedBy bytes_cmp (keys_of old)) (sorted : IsStrictlySortedBy bytes_cmp (keys_of new)) (kept : IsTrimmed s (cells_of (shown cells old))) where
-  pub cells_joined : (before : List X) → AreSized limit s before → ((i : ℕ) → rows_at (cells_of (shown cells old)) c.key i ≡ held_at cells before i) → c.archive < length before → HaveJoined cells limit c before now.items → cells_of (shown cells new) ≡ join_cell s (cells_of (shown cells old)) (owned_cell c).0 c.contribution
+module _ {X : Type 0} (cells : X → Rows) (limit : X → ℕ) (s : Layout) (is : IsLayout s) (c : Cell) (old new : List (List ℕ × Vec X)) (now : Vec X) (sets : (q : List ℕ) → archives_of new q ≡ cond (is_at (bytes_cmp c.key) q) (Some now) (archives_of old q)) (ordered : IsStrictlySortedBy bytes_cmp (keys_of old)) (sorted : IsStrictlySortedBy bytes_cmp (keys_of new)) (kept : IsTrimmed s (cells_of (held_series cells old))) where
+  pub cells_joined : (before : List X) → AreSized limit s before → ((i : ℕ) → rows_at (cells_of (held_series cells old)) c.key i ≡ held_at cells before i) → c.archive < length before → HaveJoined cells limit c before now.items → cells_of (held_series cells new) ≡ join_cell s (cells_of (held_series cells old)) (owned_cell c).0 c.contribution
   cells_joined before sized at within h = same_cells _ _ (λ q i.
-      elim (is_at (bytes_cmp c.key) q) as (λ b. is_at (bytes_cmp c.key) q ≡ b → rows_at (cells_of (shown cells new)) q i ≡ rows_at (join_cell s (cells_of (shown cells old)) (owned_cell c).0 c.contribution) q i) [
-        | true ↦ λ t. subst (λ k. rows_at (cells_of (shown cells new)) k i ≡ rows_at (join_cell s (cells_of (shown cells old)) (owned_cell c).0 c.contribution) k i) (same_key cells old new c.key now sets ordered sorted q t)
-            (at_key cells old new c.key now sets ordered sorted i ∙ held_joined cells limit s is c (cells_of (shown cells old)) kept before now.items sized h at within i)
-        | false ↦ λ t. at_other cells old new c.key now sets ordered sorted q i t ∙ sym (cell_elsewhere s is (cells_of (shown cells old)) (owned_cell c).0 c.contribution q i kept (other_key q i t))
+      elim (is_at (bytes_cmp c.key) q) as (λ b. is_at (bytes_cmp c.key) q ≡ b → rows_at (cells_of (held_series cells new)) q i ≡ rows_at (join_cell s (cells_of (held_series cells old)) (owned_cell c).0 c.contribution) q i) [
+        | true ↦ λ t. subst (λ k. rows_at (cells_of (held_series cells new)) k i ≡ rows_at (join_cell s (cells_of (held_series cells old)) (owned_cell c).0 c.contribution) k i) (same_key cells old new c.key now sets ordered sorted q t)
+            (at_key cells old new c.key now sets ordered sorted i ∙ held_joined cells limit s is c (cells_of (held_series cells old)) kept before now.items sized h at within i)
+        | false ↦ λ t. at_other cells old new c.key now sets ordered sorted q i t ∙ sym (cell_elsewhere s is (cells_of (held_series cells old)) (owned_cell c).0 c.contribution q i kept (other_key q i t))
       ] refl)
     where
       other_key : (q : List ℕ) (i : ℕ) → is_at (bytes_cmp c.key) q ≡ false → is_of q i (owned_cell c).0 ≡ false
       other_key q i t = and_left (pointwise nat_eq c.key q) (c.archive == i) (false_from_ne_true (pointwise nat_eq c.key q) (λ e. true≢false (sym (ap (is_at (bytes_cmp c.key)) (sym ((bytes_decides c.key q).0 e)) ∙ tie_itself nat_list_cmp_total bytes_cmp-IsAntisymmetric c.key) ∙ t)))
 
-  pub cells_unchanged : (before : List X) → ((i : ℕ) → rows_at (cells_of (shown cells old)) c.key i ≡ held_at cells before i) → AreSame cells before now.items → cells_of (shown cells new) ≡ cells_of (shown cells old)
+  pub cells_unchanged : (before : List X) → ((i : ℕ) → rows_at (cells_of (held_series cells old)) c.key i ≡ held_at cells before i) → AreSame cells before now.items → cells_of (held_series cells new) ≡ cells_of (held_series cells old)
   cells_unchanged before at same = cells_same cells old new c.key now sets ordered sorted (λ i. held_same cells before now.items i same ∙ sym (at i))
 
 -- ---- what the archives of a key hold before
 
 module _ {X : Type 0} (cells : X → Rows) (key : List ℕ) (old : List (List ℕ × Vec X)) (ordered : IsStrictlySortedBy bytes_cmp (keys_of old)) where
-  pub before_found : (was : Vec X) → Some was ≡ archives_of old key → (i : ℕ) → rows_at (cells_of (shown cells old)) key i ≡ held_at cells was.items i
+  pub before_found : (was : Vec X) → Some was ≡ archives_of old key → (i : ℕ) → rows_at (cells_of (held_series cells old)) key i ≡ held_at cells was.items i
   before_found was found i = rows_shown cells old key i ordered ∙ ap (λ o. held_at cells (items_of o) i) (sym found)
 
-  pub before_fresh : (fresh : List X) → None ≡ archives_of old key → Each (λ _ a. cells a ≡ empty) fresh → (i : ℕ) → rows_at (cells_of (shown cells old)) key i ≡ held_at cells fresh i
+  pub before_fresh : (fresh : List X) → None ≡ archives_of old key → Each (λ _ a. cells a ≡ empty) fresh → (i : ℕ) → rows_at (cells_of (held_series cells old)) key i ≡ held_at cells fresh i
   before_fresh fresh none all_empty i = rows_shown cells old key i ordered ∙ ap (λ o. held_at cells (items_of o) i) (sym none) ∙ sym (nothing (slice_get fresh i) refl)
     where
       nothing : (o : Option X) → slice_get fresh i ≡ o → unwrap_or (option_map cells o) empty ≡ empty
@@ -153,8 +154,8 @@ module _ (h : Holding) (holds : IsHolding h) (c : Cell) (cell : IsCell h.schema 
 
   next_is : (a b : Bool) → (c.origin == h.origin) ≡ a → nat_le h.next c.contribution.version ≡ b → (h.next ≤ cond (a && b) (c.contribution.version + 1) h.next) × (cond (a && b) (c.contribution.version + 1) h.next ≤ MAX_NUMBER + 1)
   next_is true true e f = (let past = leb-true h.next c.contribution.version f in omega arith, let known = cell.valid.numbered in omega arith)
-  next_is true false e f = (omega arith, holds.few)
-  next_is false b e f = (omega arith, holds.few)
+  next_is true false e f = (omega arith, holds.next_at_most)
+  next_is false b e f = (omega arith, holds.next_at_most)
 
   own_is : (a b : Bool) → (c.origin == h.origin) ≡ a → nat_le h.next c.contribution.version ≡ b → c.origin ≡ h.origin → c.contribution.version < cond (a && b) (c.contribution.version + 1) h.next
   own_is true true e f same = omega arith
@@ -166,8 +167,8 @@ module _ (h : Holding) (holds : IsHolding h) (c : Cell) (cell : IsCell h.schema 
       let bounds = next_is (c.origin == h.origin) (nat_le h.next c.contribution.version) refl refl in
       record {
         layout = holds.layout;
-        some = (let some = holds.some in let more = bounds.0 in omega arith);
-        few = bounds.1;
+        next_at_least = (let least = holds.next_at_least in let more = bounds.0 in omega arith);
+        next_at_most = bounds.1;
         live = join_trims h.schema h.cells (insert empty (owned_cell c).0 c.contribution) holds.layout;
         valid = λ n d e. ⊎_elim
             (λ was. holds.valid n d was)
@@ -180,9 +181,9 @@ module _ (h : Holding) (holds : IsHolding h) (c : Cell) (cell : IsCell h.schema 
       }
 
 -- with a cell joined in a replica keeps to the same
-pub kept_joined : {X : Type 0} (cells : X → Rows) (limit : X → ℕ) (s : Layout) (origin next : ℕ) (c : Cell) (old new : List (List ℕ × Vec X)) → IsHeld cells limit s origin next old → IsCell s c → cells_of (shown cells new) ≡ join_cell s (cells_of (shown cells old)) (owned_cell c).0 c.contribution → AreAllSized limit s new → IsStrictlySortedBy bytes_cmp (keys_of new) → IsHeld cells limit s origin (next_after origin next (owned_cell c)) new
+pub kept_joined : {X : Type 0} (cells : X → Rows) (limit : X → ℕ) (s : Layout) (origin next : ℕ) (c : Cell) (old new : List (List ℕ × Vec X)) → IsHeld cells limit s origin next old → IsCell s c → cells_of (held_series cells new) ≡ join_cell s (cells_of (held_series cells old)) (owned_cell c).0 c.contribution → AreAllSized limit s new → IsStrictlySortedBy bytes_cmp (keys_of new) → IsHeld cells limit s origin (next_after origin next (owned_cell c)) new
 kept_joined cells limit s origin next c old new kept cell joined sized ordered = record {
-  holds = subst (λ (m : Cells). IsHolding (record { schema = s; origin = origin; next = next_after origin next (owned_cell c); cells = m })) (sym joined) (holds_joined (holding cells s origin next old) kept.holds c cell);
+  holds = subst (λ (m : Cells). IsHolding (record { schema = s; origin = origin; next = next_after origin next (owned_cell c); cells = m })) (sym joined) (holds_joined (holding_of cells s origin next old) kept.holds c cell);
   sized = sized;
   ordered = ordered;
 }

@@ -8,7 +8,7 @@ use Rattle.std.proofs.lemmas.Option.{slice_get-get_or, slice_get_past}
 use Rattle.rr_archive.specs.Cells.{Rows}
 use Rattle.rr_base.specs.Schema.{Layout}
 use Rattle.rr_replica.specs.Cells.{rows_at}
-use Rattle.rr_replica.specs.Held.{shown, archives_of, IsHeld}
+use Rattle.rr_replica.specs.Held.{held_series, archives_of, IsHeld}
 use Rattle.rr_replica.specs.Series.{cells_of}
 use Rattle.rr_replica.proofs.Shown.{held_at, items_of, rows_shown}
 
@@ -29,12 +29,12 @@ is_lent cells rows (Some a) e = sym e
 module _ {X : Type 0} (cells : X → Rows) (limit : X → ℕ) (s : Layout) (origin next : ℕ) (entries : List (List ℕ × Vec X)) (key : List ℕ) (i : ℕ) (kept : IsHeld cells limit s origin next entries) where
   -- an archive of a key
   pub archive_found : (archives : Vec X) (lent : Option (Bor X)) → Some archives ≡ archives_of entries key → IfSome lent (λ x. x.now ≡ get_or archives.items i x.now) → is_some lent ≡ ltb i (length archives.items)
-      → MatchOption lent (rows_at (cells_of (shown cells entries)) key i ≡ empty) (λ a. cells a.now ≡ rows_at (cells_of (shown cells entries)) key i)
+      → MatchOption lent (rows_at (cells_of (held_series cells entries)) key i ≡ empty) (λ a. cells a.now ≡ rows_at (cells_of (held_series cells entries)) key i)
   unfolding IsLent
   archive_found archives lent found same within =
-      is_lent cells (rows_at (cells_of (shown cells entries)) key i) lent
+      is_lent cells (rows_at (cells_of (held_series cells entries)) key i) lent
       (rows_shown cells entries key i kept.ordered ∙ ap (λ o. held_at cells (items_of o) i) (sym found) ∙ ap (λ o. unwrap_or (option_map cells o) empty) (lent_at archives.items i lent same within))
 
   -- a key without archives
-  pub archive_unknown : None ≡ archives_of entries key → rows_at (cells_of (shown cells entries)) key i ≡ empty
+  pub archive_unknown : None ≡ archives_of entries key → rows_at (cells_of (held_series cells entries)) key i ≡ empty
   archive_unknown none = rows_shown cells entries key i kept.ordered ∙ ap (λ o. held_at cells (items_of o) i) (sym none)

@@ -11,7 +11,7 @@ use Rattle.rr_join.proofs.Members.{same_from_tie, any_by_members}
 use Rattle.rr_join.proofs.Lookups.{get-trimmed, is_in-keys}
 use Rattle.rr_join.proofs.Horizons.{live_by_members, live-append}
 use Rattle.rr_contrib.specs.declared.contribution.Contribution.{Contribution}
-use Rattle.rr_contrib.specs.Contributions.{added}
+use Rattle.rr_contrib.specs.Contributions.{contribution_with}
 use Rattle.rr_model.specs.CellNames.{CellName, cell_name_cmp, is_live}
 use Rattle.rr_model.specs.Samples.{Sample, Mark, mark_cmp, name_of, names_of}
 use Rattle.rr_model.specs.Knowledge.{Knowledge, knows, with_marks, is_live_in}
@@ -91,7 +91,7 @@ module _ (s : Layout) (is : IsLayout s) (k : Knowledge) (m : Mark) (fresh : (y :
         | false ↦ λ h. refl
       ] refl
 
-  value_here : value s (marks_at s more here) ≡ Some (added (value s (marks_at s k here)) (seen s m))
+  value_here : value s (marks_at s more here) ≡ Some (contribution_with (value s (marks_at s k here)) (seen s m))
   value_here = ap (value s) marks_here ∙ value-insert s (marks_at s k here) m
       (knows-marks_at s k here m ∙ ap (λ b. b && eq_by_cmp cell_name_cmp here here) not_known)
       (λ y e. let a = known_at s k here y e in fresh y a.0 a.1)
@@ -108,7 +108,7 @@ module _ (s : Layout) (is : IsLayout s) (k : Knowledge) (m : Mark) (fresh : (y :
   pub put_state : put_mark s (state s k) m ≡ state s more
   unfolding put_mark
   put_state =
-      let v = added (get (state s k) here) (seen s m) in
+      let v = contribution_with (get (state s k) here) (seen s m) in
       same_map cell_name_cmp_total cell_name_cmp-IsAntisymmetric (put_mark s (state s k) m) (state s more) (λ q.
       get-trimmed cell_name_cmp_total cell_name_cmp-IsAntisymmetric (is_live s) (insert (state s k) here v) q
       ∙ (λ i. cond (live_inserted v q i) (get-insert cell_name_cmp_total (state s k) here v q i) None)
@@ -116,7 +116,7 @@ module _ (s : Layout) (is : IsLayout s) (k : Knowledge) (m : Mark) (fresh : (y :
       elim (eq_by_cmp cell_name_cmp q here) as (λ t. eq_by_cmp cell_name_cmp q here ≡ t → cond t (Some v) (get (state s k) q) ≡ value s (marks_at s more q)) [
         | true ↦ λ t.
             let at_here : q ≡ here = same_from_tie cell_name_cmp_total cell_name_cmp-IsAntisymmetric q here t in
-            ap (λ x. Some (added x (seen s m))) (get_live here (subst (λ x. is_live_in s k x ≡ true) at_here b)) ∙ sym value_here ∙ ap (λ x. value s (marks_at s more x)) (sym at_here)
+            ap (λ x. Some (contribution_with x (seen s m))) (get_live here (subst (λ x. is_live_in s k x ≡ true) at_here b)) ∙ sym value_here ∙ ap (λ x. value s (marks_at s more x)) (sym at_here)
         | false ↦ λ t. get_live q b ∙ ap (value s) (sym (marks_elsewhere q t))
       ] refl)
       ∙ sym (get-state s more q ∙ value_cell s is more q ∙ ap (λ b. cond b (value s (marks_at s more q)) None) (live_more q)))

@@ -6,7 +6,7 @@ use Rattle.std.specs.FinMap.{get}
 use Rattle.std.proofs.lemmas.Bool.{false_from_ne_true}
 use Rattle.rr_base.specs.Schema.{archive_at}
 use Rattle.rr_contrib.specs.declared.contribution.Contribution.{Contribution}
-use Rattle.rr_contrib.specs.Contributions.{added}
+use Rattle.rr_contrib.specs.Contributions.{contribution_with}
 use Rattle.rr_archive.specs.CellSlots.{CellSlot}
 use Rattle.rr_archive.proofs.Trimming.{trimmed_dead}
 use Rattle.rr_archive.proofs.FewLive.{cells_are_few}
@@ -33,7 +33,7 @@ dead_leave_no_trace s m x archive is kept there dead =
     let rows = rows_at m x.key archive in
     let trimmed = sym (trimmed_local x.key archive s is m) ∙ ap (λ c. rows_at c x.key archive) kept in
     put_at s is x archive m kept there
-    ∙ trimmed_dead (archive_at s archive).rows rows p (added (get rows p) (seen s k)) trimmed (sym (live_local x.key archive s is m p) ∙ dead)
+    ∙ trimmed_dead (archive_at s archive).rows rows p (contribution_with (get rows p) (seen s k)) trimmed (sym (live_local x.key archive s is m p) ∙ dead)
 
 pub cells_few : CellsAreFew
 cells_few s m key archive origins is kept of =

@@ -10,7 +10,7 @@ use Rattle.rr_base.specs.Schema.{Layout, IsLayout, archive_at}
 use Rattle.rr_join.specs.Maps.{trimmed}
 use Rattle.rr_join.proofs.Joining.{trimmed-trimmed}
 use Rattle.rr_contrib.specs.declared.contribution.Contribution.{Contribution}
-use Rattle.rr_contrib.specs.Contributions.{added}
+use Rattle.rr_contrib.specs.Contributions.{contribution_with}
 use Rattle.rr_archive.specs.CellSlots.{is_live_at}
 use Rattle.rr_archive.specs.Cells.{put_row}
 use Rattle.rr_archive.specs.Cells as held
@@ -35,17 +35,17 @@ module _ (s : Layout) (is : IsLayout s) where
   unfolding put_mark
   put_here cells m =
       let n = name_of s m in
-      let v : Contribution = added (get cells n) (seen s m) in
+      let v : Contribution = contribution_with (get cells n) (seen s m) in
       trimmed_local m.key m.archive s is (insert cells n v)
       ∙ ap (trimmed (is_live_at (archive_at s m.archive).rows))
       (insert_here m.key m.archive cells (cell_slot_of n) v
-      ∙ ap (λ o. insert (rows_at cells m.key m.archive) (cell_slot_of n) (added o (seen s m))) (sym (get-rows_at m.key m.archive cells (cell_slot_of n))))
+      ∙ ap (λ o. insert (rows_at cells m.key m.archive) (cell_slot_of n) (contribution_with o (seen s m))) (sym (get-rows_at m.key m.archive cells (cell_slot_of n))))
 
   put_elsewhere : (cells : Cells) (m : Mark) (key : List ℕ) (archive : ℕ) → IsTrimmed s cells → is_of key archive (name_of s m) ≡ false → rows_at (put_mark s cells m) key archive ≡ rows_at cells key archive
   unfolding put_mark
   put_elsewhere cells m key archive kept apart =
       let n = name_of s m in
-      let v : Contribution = added (get cells n) (seen s m) in
+      let v : Contribution = contribution_with (get cells n) (seen s m) in
       trimmed_local key archive s is (insert cells n v)
       ∙ ap (trimmed (is_live_at (archive_at s archive).rows)) (insert_elsewhere key archive cells n v apart)
       ∙ sym (trimmed_local key archive s is cells)

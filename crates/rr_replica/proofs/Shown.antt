@@ -18,9 +18,10 @@ use Rattle.rr_model.specs.Samples as model
 use Rattle.rr_replica.specs.declared.sample.Sample.{Sample}
 use Rattle.rr_replica.specs.Cells.{Cells, IsTrimmed, rows_at}
 use Rattle.rr_replica.specs.Puts.{put_sample}
-use Rattle.rr_replica.specs.Series.{bytes_cmp, cells_of, rows_from}
+use Rattle.rr_base.specs.Bytes.{bytes_cmp}
+use Rattle.rr_replica.specs.Series.{cells_of, rows_from}
 use Rattle.rr_replica.specs.Archives.{cell_slot_for, sample_for, AreSame, HavePut}
-use Rattle.rr_replica.specs.Held.{shown, archives_of, sample_of}
+use Rattle.rr_replica.specs.Held.{held_series, archives_of, sample_of}
 use Rattle.rr_replica.proofs.Local.{same_cells}
 use Rattle.rr_replica.proofs.SeriesLemmas.{bytes_cmp-IsAntisymmetric, rows_of_series}
 use Rattle.rr_replica.proofs.Putting.{put_at, put_past, put_other_key}
@@ -52,20 +53,20 @@ items_of None = []
 items_of (Some archives) = archives.items
 
 module _ {X : Type 0} (cells : X → Rows) where
-  pub keys_shown : (entries : List (List ℕ × Vec X)) → keys_of (shown cells entries) ≡ keys_of entries
+  pub keys_shown : (entries : List (List ℕ × Vec X)) → keys_of (held_series cells entries) ≡ keys_of entries
   keys_shown [] = refl
   keys_shown (e ∷ es) = ap (λ ks. e.0 ∷ ks) (keys_shown es)
 
-  lookup_shown : (entries : List (List ℕ × Vec X)) (key : List ℕ) → unwrap_or (lookup (is_at (bytes_cmp key)) (shown cells entries)) [] ≡ map cells (items_of (archives_of entries key))
+  lookup_shown : (entries : List (List ℕ × Vec X)) (key : List ℕ) → unwrap_or (lookup (is_at (bytes_cmp key)) (held_series cells entries)) [] ≡ map cells (items_of (archives_of entries key))
   lookup_shown [] key = refl
-  lookup_shown (e ∷ es) key = elim (is_eq (bytes_cmp key e.0)) as (λ b. unwrap_or (cond b (Some (map cells e.1.items)) (lookup (is_at (bytes_cmp key)) (shown cells es))) [] ≡ map cells (items_of (cond b (Some e.1) (archives_of es key)))) [
+  lookup_shown (e ∷ es) key = elim (is_eq (bytes_cmp key e.0)) as (λ b. unwrap_or (cond b (Some (map cells e.1.items)) (lookup (is_at (bytes_cmp key)) (held_series cells es))) [] ≡ map cells (items_of (cond b (Some e.1) (archives_of es key)))) [
     | true ↦ refl
     | false ↦ lookup_shown es key
   ]
 
-  pub rows_shown : (entries : List (List ℕ × Vec X)) (key : List ℕ) (i : ℕ) → IsStrictlySortedBy bytes_cmp (keys_of entries) → rows_at (cells_of (shown cells entries)) key i ≡ held_at cells (items_of (archives_of entries key)) i
+  pub rows_shown : (entries : List (List ℕ × Vec X)) (key : List ℕ) (i : ℕ) → IsStrictlySortedBy bytes_cmp (keys_of entries) → rows_at (cells_of (held_series cells entries)) key i ≡ held_at cells (items_of (archives_of entries key)) i
   rows_shown entries key i sorted =
-      rows_of_series (shown cells entries) key i (subst (IsStrictlySortedBy bytes_cmp) (sym (keys_shown entries)) sorted)
+      rows_of_series (held_series cells entries) key i (subst (IsStrictlySortedBy bytes_cmp) (sym (keys_shown entries)) sorted)
       ∙ ap (λ rs. rows_from 0 rs i) (lookup_shown entries key)
       ∙ ap (rows_from 0 (map cells (items_of (archives_of entries key)))) (from_zero i)
       ∙ rows_from-is zero (map cells (items_of (archives_of entries key))) i
@@ -80,29 +81,29 @@ module _ {X : Type 0} (cells : X → Rows) where
   Sets old new key archives = (q : List ℕ) → archives_of new q ≡ cond (is_at (bytes_cmp key) q) (Some archives) (archives_of old q)
 
   module _ (old new : List (List ℕ × Vec X)) (key : List ℕ) (archives : Vec X) (sets : (q : List ℕ) → archives_of new q ≡ cond (is_at (bytes_cmp key) q) (Some archives) (archives_of old q)) (before : IsStrictlySortedBy bytes_cmp (keys_of old)) (after : IsStrictlySortedBy bytes_cmp (keys_of new)) where
-    pub at_key : (i : ℕ) → rows_at (cells_of (shown cells new)) key i ≡ held_at cells archives.items i
+    pub at_key : (i : ℕ) → rows_at (cells_of (held_series cells new)) key i ≡ held_at cells archives.items i
     at_key i = rows_shown new key i after ∙ ap (λ o. held_at cells (items_of o) i) (sets key ∙ ap (λ b. cond b (Some archives) (archives_of old key)) (tie_itself nat_list_cmp_total bytes_cmp-IsAntisymmetric key))
 
-    pub at_other : (q : List ℕ) (i : ℕ) → is_at (bytes_cmp key) q ≡ false → rows_at (cells_of (shown cells new)) q i ≡ rows_at (cells_of (shown cells old)) q i
+    pub at_other : (q : List ℕ) (i : ℕ) → is_at (bytes_cmp key) q ≡ false → rows_at (cells_of (held_series cells new)) q i ≡ rows_at (cells_of (held_series cells old)) q i
     at_other q i apart = rows_shown new q i after ∙ ap (λ o. held_at cells (items_of o) i) (sets q ∙ ap (λ b. cond b (Some archives) (archives_of old q)) apart) ∙ sym (rows_shown old q i before)
 
     pub same_key : (q : List ℕ) → is_at (bytes_cmp key) q ≡ true → key ≡ q
     same_key q t = same_from_tie nat_list_cmp_total bytes_cmp-IsAntisymmetric key q t
 
     -- with the same cells
-    pub cells_same : ((i : ℕ) → held_at cells archives.items i ≡ rows_at (cells_of (shown cells old)) key i) → cells_of (shown cells new) ≡ cells_of (shown cells old)
+    pub cells_same : ((i : ℕ) → held_at cells archives.items i ≡ rows_at (cells_of (held_series cells old)) key i) → cells_of (held_series cells new) ≡ cells_of (held_series cells old)
     cells_same alike = same_cells _ _ (λ q i.
-        elim (is_at (bytes_cmp key) q) as (λ b. is_at (bytes_cmp key) q ≡ b → rows_at (cells_of (shown cells new)) q i ≡ rows_at (cells_of (shown cells old)) q i) [
-          | true ↦ λ t. subst (λ k. rows_at (cells_of (shown cells new)) k i ≡ rows_at (cells_of (shown cells old)) k i) (same_key q t) (at_key i ∙ alike i)
+        elim (is_at (bytes_cmp key) q) as (λ b. is_at (bytes_cmp key) q ≡ b → rows_at (cells_of (held_series cells new)) q i ≡ rows_at (cells_of (held_series cells old)) q i) [
+          | true ↦ λ t. subst (λ k. rows_at (cells_of (held_series cells new)) k i ≡ rows_at (cells_of (held_series cells old)) k i) (same_key q t) (at_key i ∙ alike i)
           | false ↦ λ t. at_other q i t
         ] refl)
 
     -- with a sample put
-    pub cells_put : (s : Layout) → IsLayout s → (x : model.Sample) → x.key ≡ key → IsTrimmed s (cells_of (shown cells old)) → ((i : ℕ) → held_at cells archives.items i ≡ rows_at (put_sample s (cells_of (shown cells old)) x) key i) → cells_of (shown cells new) ≡ put_sample s (cells_of (shown cells old)) x
+    pub cells_put : (s : Layout) → IsLayout s → (x : model.Sample) → x.key ≡ key → IsTrimmed s (cells_of (held_series cells old)) → ((i : ℕ) → held_at cells archives.items i ≡ rows_at (put_sample s (cells_of (held_series cells old)) x) key i) → cells_of (held_series cells new) ≡ put_sample s (cells_of (held_series cells old)) x
     cells_put s is x of kept put = same_cells _ _ (λ q i.
-        elim (is_at (bytes_cmp key) q) as (λ b. is_at (bytes_cmp key) q ≡ b → rows_at (cells_of (shown cells new)) q i ≡ rows_at (put_sample s (cells_of (shown cells old)) x) q i) [
-          | true ↦ λ t. subst (λ k. rows_at (cells_of (shown cells new)) k i ≡ rows_at (put_sample s (cells_of (shown cells old)) x) k i) (same_key q t) (at_key i ∙ put i)
-          | false ↦ λ t. at_other q i t ∙ sym (put_other_key s is x q i (cells_of (shown cells old)) kept (false_from_ne_true (pointwise nat_eq x.key q) (λ e. true≢false (sym (ap (is_at (bytes_cmp key)) (sym ((bytes_decides x.key q).0 e) ∙ of) ∙ tie_itself nat_list_cmp_total bytes_cmp-IsAntisymmetric key) ∙ t))))
+        elim (is_at (bytes_cmp key) q) as (λ b. is_at (bytes_cmp key) q ≡ b → rows_at (cells_of (held_series cells new)) q i ≡ rows_at (put_sample s (cells_of (held_series cells old)) x) q i) [
+          | true ↦ λ t. subst (λ k. rows_at (cells_of (held_series cells new)) k i ≡ rows_at (put_sample s (cells_of (held_series cells old)) x) k i) (same_key q t) (at_key i ∙ put i)
+          | false ↦ λ t. at_other q i t ∙ sym (put_other_key s is x q i (cells_of (held_series cells old)) kept (false_from_ne_true (pointwise nat_eq x.key q) (λ e. true≢false (sym (ap (is_at (bytes_cmp key)) (sym ((bytes_decides x.key q).0 e) ∙ of) ∙ tie_itself nat_list_cmp_total bytes_cmp-IsAntisymmetric key) ∙ t))))
         ] refl)
 
 -- archives with the same cells, and with a sample put

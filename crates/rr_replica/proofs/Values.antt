@@ -13,7 +13,7 @@ use Rattle.rr_join.specs.Maps.{greatest, greater}
 use Rattle.rr_join.proofs.Greater.{greater_swap, greatest_some, flip_args-IsAntisymmetric}
 use Rattle.rr_join.proofs.Inserting.{inserted, keys-insert, total-inserted}
 use Rattle.rr_join.proofs.Members.{is_in, head_in}
-use Rattle.rr_contrib.specs.Contributions.{SlotSample, added}
+use Rattle.rr_contrib.specs.Contributions.{SlotSample, contribution_with}
 use Rattle.rr_join.specs.Sums.{int_sum}
 use Rattle.rr_contrib.specs.Samples.{sample_cmp, last_of, mask_of, summary, contribution_of}
 use Rattle.rr_contrib.proofs.Orders.{sample_cmp_total, sample_cmp-IsAntisymmetric}
@@ -85,12 +85,12 @@ greatest_below s n m (y ∷ ms) below =
     subst (λ g. unwrap_or (greater nat_cmp (Some m.number) g) 0 < n) (sym (greatest_some nat_cmp y.number (map (λ x. x.number) (map (seen s) ms)) 0))
     (max_below m.number (unwrap_or (greatest nat_cmp (map (λ x. x.number) (map (seen s) (y ∷ ms)))) 0) n (below m (head_in mark_cmp_total mark_cmp-IsAntisymmetric m (y ∷ ms))) rest)
 
-value_with : (s : Layout) (m : Mark) (ms : List Mark) → ((y : Mark) → is_in mark_cmp ms y ≡ true → y.number < m.number) → value_of s (m ∷ ms) ≡ Some (added (value_of s ms) (seen s m))
+value_with : (s : Layout) (m : Mark) (ms : List Mark) → ((y : Mark) → is_in mark_cmp ms y ≡ true → y.number < m.number) → value_of s (m ∷ ms) ≡ Some (contribution_with (value_of s ms) (seen s m))
 unfolding summary
 value_with s m [] above = contribution_of-one (seen s m)
 value_with s m (x ∷ xs) above = contribution_of-more (seen s m) (map (seen s) (x ∷ xs)) (summary (map (seen s) (x ∷ xs))) refl (greatest_below s m.number x xs above)
 
-pub value-insert : (s : Layout) (c : Knowledge) (m : Mark) → knows c m ≡ false → ((y : Mark) → knows c y ≡ true → y.number < m.number) → value_of s (keys (insert c m tt)) ≡ Some (added (value_of s (keys c)) (seen s m))
+pub value-insert : (s : Layout) (c : Knowledge) (m : Mark) → knows c m ≡ false → ((y : Mark) → knows c y ≡ true → y.number < m.number) → value_of s (keys (insert c m tt)) ≡ Some (contribution_with (value_of s (keys c)) (seen s m))
 value-insert s c m new above =
     ap (value_of s) (keys-insert mark_cmp_total mark_cmp-IsAntisymmetric c m tt)
     ∙ value_inserted s m (keys c) (is_in-keys_of c m ∙ new)

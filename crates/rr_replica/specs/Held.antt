@@ -15,15 +15,16 @@ use Rattle.rr_model.specs.Samples as model
 use Rattle.rr_replica.specs.declared.sample.Sample.{Sample}
 use Rattle.rr_replica.specs.Cells.{IsTrimmed}
 use Rattle.rr_replica.specs.Holding.{Holding}
-use Rattle.rr_replica.specs.Series.{Series, bytes_cmp, cells_of}
+use Rattle.rr_base.specs.Bytes.{bytes_cmp}
+use Rattle.rr_replica.specs.Series.{Series, cells_of}
 use Rattle.rr_replica.specs.Archives.{AreSized}
 
 -- a next number is left or was the last, no cell is past the horizon, each contribution is valid in its cell,
 -- and those of the replica's own origin are of earlier numbers
 pub record IsHolding (h : Holding) : Type 0 where
   pub layout : IsLayout h.schema
-  pub some : 1 ≤ h.next
-  pub few : h.next ≤ MAX_NUMBER + 1
+  pub next_at_least : 1 ≤ h.next
+  pub next_at_most : h.next ≤ MAX_NUMBER + 1
   pub live : IsTrimmed h.schema h.cells
   pub valid : (n : CellName) (c : Contribution) → get h.cells n ≡ Some c → IsValid h.schema n.archive n.slot c
   pub own : (n : CellName) (c : Contribution) → get h.cells n ≡ Some c → n.origin ≡ h.origin → c.version < h.next
@@ -34,22 +35,22 @@ sample_of key x = record { time = x.time; origin = x.origin; number = x.number; 
 
 module _ {X : Type 0} where
   -- the archives of each key, each seen as a map
-  abbrev pub shown : (X → Rows) → List (List ℕ × Vec X) → Series
-  shown cells entries = map (λ e. (e.0, map cells e.1.items)) entries
+  abbrev pub held_series : (X → Rows) → List (List ℕ × Vec X) → Series
+  held_series cells entries = map (λ e. (e.0, map cells e.1.items)) entries
 
   -- the archives of a key, if it has any
   abbrev pub archives_of : List (List ℕ × Vec X) → List ℕ → Option (Vec X)
   archives_of entries key = lookup (is_at (bytes_cmp key)) entries
 
-  abbrev pub holding : (X → Rows) → Layout → ℕ → ℕ → List (List ℕ × Vec X) → Holding
-  holding cells schema origin next entries = record { schema = schema; origin = origin; next = next; cells = cells_of (shown cells entries) }
+  abbrev pub holding_of : (X → Rows) → Layout → ℕ → ℕ → List (List ℕ × Vec X) → Holding
+  holding_of cells schema origin next entries = record { schema = schema; origin = origin; next = next; cells = cells_of (held_series cells entries) }
 
   -- each key has an archive for each of the schema's, of its rows
   abbrev pub AreAllSized : (X → ℕ) → Layout → List (List ℕ × Vec X) → Type 0
   AreAllSized limit schema entries = (key : List ℕ) (archives : Vec X) → archives_of entries key ≡ Some archives → AreSized limit schema archives.items
 
-  -- so the replica keeps to both, its cells and its archives
+  -- what a replica keeps to, by what it has in memory: its cells, and an archive of the schema's rows for each
   pub record IsHeld (cells : X → Rows) (limit : X → ℕ) (schema : Layout) (origin next : ℕ) (entries : List (List ℕ × Vec X)) : Type 0 where
-    pub holds : IsHolding (holding cells schema origin next entries)
+    pub holds : IsHolding (holding_of cells schema origin next entries)
     pub sized : AreAllSized limit schema entries
     pub ordered : IsStrictlySortedBy bytes_cmp (keys_of entries)

@@ -43,7 +43,7 @@ DeadLeaveNoTrace =
 abbrev pub PutIsTrimmed : Type 0
 PutIsTrimmed = (s : Layout) (m : Cells) (x : Sample) → IsLayout s → IsTrimmed s m → IsTrimmed s (put_sample s m x)
 
--- live cells of so many origins are in each archive of each key at most so many as its rows times the origins
+-- in each archive of each key the live cells are at most as many as its rows times the origins
 abbrev pub CellsAreFew : Type 0
 CellsAreFew =
     (s : Layout) (m : Cells) (key : List ℕ) (archive origins : ℕ) → IsLayout s → IsTrimmed s m

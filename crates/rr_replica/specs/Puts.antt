@@ -3,7 +3,7 @@ use Rattle.std.specs.Prelude.{List, [], ◌∷◌}
 use Rattle.std.specs.FinMap.{get, insert}
 use Rattle.rr_base.specs.Schema.{Layout, place_of}
 use Rattle.rr_join.specs.Maps.{trimmed}
-use Rattle.rr_contrib.specs.Contributions.{SlotSample, slot_sample, added}
+use Rattle.rr_contrib.specs.Contributions.{SlotSample, slot_sample, contribution_with}
 use Rattle.rr_model.specs.CellNames.{is_live}
 use Rattle.rr_model.specs.Samples.{Sample, Mark, name_of, marks_of}
 use Rattle.rr_replica.specs.Cells.{Cells}
@@ -15,7 +15,7 @@ seen s m = slot_sample m.number (place_of s m.archive m.time) m.time m.value
 -- with a sample more in the cell of one archive, and then the live cells: a sample that is past the horizon
 -- there leaves no trace
 unfoldable pub put_mark : Layout → Cells → Mark → Cells
-put_mark s cells m = trimmed (is_live s) (insert cells (name_of s m) (added (get cells (name_of s m)) (seen s m)))
+put_mark s cells m = trimmed (is_live s) (insert cells (name_of s m) (contribution_with (get cells (name_of s m)) (seen s m)))
 
 -- so in each of these archives, in order
 abbrev pub put_marks : Layout → Cells → List Mark → Cells

@@ -7,9 +7,10 @@ ghost use Rattle.rr_base.specs.declared.limits.TheConstants.{MAX_NUMBER};
 ghost use Rattle.rr_replica.specs.Cells.{IsTrimmed};
 ghost use Rattle.rr_replica.specs.Joins.{join_cell};
 ghost use Rattle.rr_replica.specs.Joining.{IsCell, next_after};
-ghost use Rattle.rr_replica.specs.Held.{shown, AreAllSized};
+ghost use Rattle.rr_replica.specs.Held.{held_series, AreAllSized};
 ghost use Rattle.rr_replica.specs.Listing.{owned_cell};
-ghost use Rattle.rr_replica.specs.Series.{bytes_cmp, cells_of};
+ghost use Rattle.rr_base.specs.Bytes.{bytes_cmp};
+ghost use Rattle.rr_replica.specs.Series.{cells_of};
 
 use crate::archives::{empty_archives, join_into};
 use crate::cell::Cell;
@@ -28,12 +29,12 @@ pub(crate) fn join_in<A: Archive>(
 ) -> Result<(), AllocError>
     requires layout { IsLayout schema.now }
     requires cell { IsCell schema.now cell.now }
-    requires live { IsTrimmed schema.now (cells_of (shown A.cells series.old.entries)) }
+    requires live { IsTrimmed schema.now (cells_of (held_series A.cells series.old.entries)) }
     requires sized { AreAllSized A.row_limit schema.now series.old.entries }
     requires ordered { IsStrictlySortedBy bytes_cmp (keys_of series.old.entries) }
-    ensures joined { OnOk result (cells_of (shown A.cells series.new.entries)
-        ≡ join_cell schema.now (cells_of (shown A.cells series.old.entries)) (owned_cell cell.now).0 cell.now.contribution) }
-    ensures same { OnErr result (cells_of (shown A.cells series.new.entries) ≡ cells_of (shown A.cells series.old.entries)) }
+    ensures joined { OnOk result (cells_of (held_series A.cells series.new.entries)
+        ≡ join_cell schema.now (cells_of (held_series A.cells series.old.entries)) (owned_cell cell.now).0 cell.now.contribution) }
+    ensures same { OnErr result (cells_of (held_series A.cells series.new.entries) ≡ cells_of (held_series A.cells series.old.entries)) }
     ensures sized { AreAllSized A.row_limit schema.now series.new.entries }
     ensures ordered { IsStrictlySortedBy bytes_cmp (keys_of series.new.entries) }
 {

@@ -2,8 +2,9 @@
 ghost use Rattle.std.specs.Prelude.{◌≡◌, ◌+◌, ◌≤◌, length, map, Some, IfOk, IfErr, slice_get};
 ghost use Rattle.rr_archive.specs.CellSlots.{cell_slot};
 ghost use Rattle.rr_replica.specs.Cells.{name_at};
-ghost use Rattle.rr_replica.specs.Series.{bytes_cmp, cells_from, cells_of};
-ghost use Rattle.rr_replica.specs.Held.{shown};
+ghost use Rattle.rr_base.specs.Bytes.{bytes_cmp};
+ghost use Rattle.rr_replica.specs.Series.{cells_from, cells_of};
+ghost use Rattle.rr_replica.specs.Held.{held_series};
 ghost use Rattle.std.specs.List.{AllByRecursion};
 ghost use Rattle.std.specs.List.Sorted.{IsStrictlySortedBy};
 ghost use Rattle.std.specs.Map.{keys_of};
@@ -66,7 +67,7 @@ pub(crate) fn nth_in<'a, A: Archive>(
 /// How many cells all series hold, as `count_in` counts.
 pub(crate) fn count_cells<A: Archive>(series: &BTreeMap<SeriesKey, Vec<A>>) -> usize
     requires { IsStrictlySortedBy bytes_cmp (keys_of series.now.entries) }
-    ensures { result ≡ at_most_usize (fin.len (cells_of (shown A.cells series.now.entries))) }
+    ensures { result ≡ at_most_usize (fin.len (cells_of (held_series A.cells series.now.entries))) }
 {
     let mut count = 0;
     for (_, archives) in series {
@@ -81,8 +82,8 @@ pub(crate) fn nth_cell<A: Archive>(
     number: usize,
 ) -> Option<CellRef<'_>>
     requires ordered { IsStrictlySortedBy bytes_cmp (keys_of series.now.entries) }
-    requires few { AllByRecursion (λ e. length e.1.items ≤ MAX_ARCHIVES) series.now.entries }
-    ensures { option_map seen_cell result ≡ slice_get (fin.entries (cells_of (shown A.cells series.now.entries))) number }
+    requires few_archives { AllByRecursion (λ e. length e.1.items ≤ MAX_ARCHIVES) series.now.entries }
+    ensures { option_map seen_cell result ≡ slice_get (fin.entries (cells_of (held_series A.cells series.now.entries))) number }
 {
     let mut left = number;
     for (key, archives) in series {

@@ -13,7 +13,7 @@ ghost use Rattle.rr_replica.specs.Puts.{put_sample};
 ghost use Rattle.rr_replica.specs.Holding.{Holding, with_put};
 ghost use Rattle.rr_replica.specs.Series.{cells_of};
 ghost use Rattle.rr_replica.specs.Listing.{seen_cell, at_most_usize};
-ghost use Rattle.rr_replica.specs.Held.{shown, sample_of, IsHolding, IsHeld};
+ghost use Rattle.rr_replica.specs.Held.{held_series, sample_of, IsHolding, IsHeld};
 
 use crate::archives::{empty_archives, put_into};
 use crate::cell::{Cell, CellRef};
@@ -46,13 +46,13 @@ pub struct Replica<A: Archive> {
 
 impl<A: Archive> Model for Replica<A> {
     ghost use Rattle.rr_replica.specs.Holding.{Holding, coded_holding};
-    ghost use Rattle.rr_replica.specs.Held.{holding, IsHeld};
+    ghost use Rattle.rr_replica.specs.Held.{holding_of, IsHeld};
 
     ghost Value = { Holding };
 
     ghost coded = { coded_holding };
 
-    ghost view = { λ r. holding A.cells r.schema r.origin r.next r.series.entries };
+    ghost view = { λ r. holding_of A.cells r.schema r.origin r.next r.series.entries };
 
     ghost invariant = { λ r. IsHeld A.cells A.row_limit r.schema r.origin r.next r.series.entries };
 }
@@ -67,10 +67,10 @@ fn put_in<A: Archive>(
 ) -> Result<(), AllocError>
     requires kept { IsHeld A.cells A.row_limit schema.now sample.now.origin sample.now.number series.old.entries }
     requires known { sample.now.number ≤ MAX_NUMBER }
-    ensures put { OnOk result (cells_of (shown A.cells series.new.entries)
-        ≡ put_sample schema.now (cells_of (shown A.cells series.old.entries)) (sample_of key.now sample.now)) }
+    ensures put { OnOk result (cells_of (held_series A.cells series.new.entries)
+        ≡ put_sample schema.now (cells_of (held_series A.cells series.old.entries)) (sample_of key.now sample.now)) }
     ensures ok { OnOk result (IsHeld A.cells A.row_limit schema.now sample.now.origin (sample.now.number + 1) series.new.entries) }
-    ensures err { OnErr result (cells_of (shown A.cells series.new.entries) ≡ cells_of (shown A.cells series.old.entries)) }
+    ensures err { OnErr result (cells_of (held_series A.cells series.new.entries) ≡ cells_of (held_series A.cells series.old.entries)) }
     ensures kept { OnErr result (IsHeld A.cells A.row_limit schema.now sample.now.origin sample.now.number series.new.entries) }
 {
     match series.get_mut(key) {
@@ -241,8 +241,8 @@ impl<A: Archive> Replica<A> {
     /// Puts a sample of each field of a point.
     fn write_fields(&mut self, point: &Point<'_>, time: i64) -> Result<u32, WriteFault>
         requires keyed { HasKeys (point_view point.now) }
-        requires few { length point.now.fields.items ≤ MAX_FIELDS }
-        requires left { IsFalse (lacks_numbers self.old (length point.now.fields.items)) }
+        requires few_fields { length point.now.fields.items ≤ MAX_FIELDS }
+        requires numbers_left { IsFalse (lacks_numbers self.old (length point.now.fields.items)) }
         ensures count { IfOk result (λ count. count ≡ length point.now.fields.items) }
         ensures put { OnOk result (self.new ≡ with_fields self.old (point_view point.now) time (point_view point.now).fields) }
         ensures stopped { IfErr result (IsMemoryAfter self.old self.new (point_view point.now) time) }
@@ -266,7 +266,7 @@ impl<A: Archive> Replica<A> {
         field: &Field<'_>,
     ) -> Result<(), AllocError>
         requires keyed { making_fault (names_of (point_view point.now) field.now.key.now) ≡ None }
-        requires left { self.old.next ≤ MAX_NUMBER }
+        requires number_left { self.old.next ≤ MAX_NUMBER }
         ensures put { OnOk result (self.new ≡ with_put self.old (key_text (point_view point.now) field.now.key.now) time field.now.value) }
         ensures unchanged { OnErr result (self.new ≡ self.old) }
     {

@@ -1,7 +1,7 @@
 use Rattle.std.proofs.Common.{rules, ◌≡◌, ℕ, List, cond, Some, None, sym}
 use Rattle.std.specs.BTreeMap.{is_at}
 use Rattle.std.proofs.lemmas.Result.{on_ok_weaker, on_err_weaker}
-use Rattle.rr_replica.specs.Series.{bytes_cmp}
+use Rattle.rr_base.specs.Bytes.{bytes_cmp}
 use Rattle.rr_replica.specs.Held.{archives_of}
 use Rattle.rr_replica.proofs.Each.{sized_many}
 use Rattle.rr_replica.proofs.HeldLemmas.{before_found, before_fresh, can_take, cells_with, kept_with, cells_without, kept_without}

@@ -4,8 +4,8 @@ use Rattle.rr_replica.proofs.Each.{sized_many}
 use Rattle.rr_replica.proofs.Counted.{few_archives}
 use Rattle.rr_replica.proofs.replica.Replica.cell_at.Goals as goal
 
-pub nth_cell-requires-clause-few : goal.nth_cell-requires-clause-few
-nth_cell-requires-clause-few g c =
+pub nth_cell-requires-clause-few_archives : goal.nth_cell-requires-clause-few_archives
+nth_cell-requires-clause-few_archives g c =
     let r = c.self.inside in
     let kept = c.self.invariant in
     few_archives MAX_ARCHIVES r.series.entries kept.ordered (λ key archives at.
