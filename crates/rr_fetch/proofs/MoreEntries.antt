@@ -1,4 +1,4 @@
--- What entries come to, with one more behind them.
+-- What entries add up to, with one more at the end.
 use Rattle.std.proofs.Common.{◌≡◌, ℕ, ◌+◌, ◌<◌, ℤ, pos, ◌+ℤ◌, List, [], ◌∷◌, ◌++◌, map, length, take, get_or, refl, sym, ap, ◌∙◌, Ordering, Some, None, int_cmp, add_assoc, arith}
 use Rattle.std.specs.Prelude.{bit_or}
 use Rattle.std.specs.List.{sum}
