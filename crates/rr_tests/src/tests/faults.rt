@@ -236,7 +236,7 @@ fn write_faults_say_what_is_wrong(rt: HostRuntime) -> Result<(), Fail> {
 }
 
 const COMMAND_FAULTS: &str = "LineTooLong: the line is longer than 65,536 bytes\n\
-    BadCommand: there is no such command, or it takes another number of words\n\
+    BadCommand: there is no such command, or it takes a different number of words\n\
     NoSchema: no schema is set: begin with `schema STEP S:R:N/D ..`\n\
     SchemaSet: the schema is set already\n\
     BadName: the name is not valid: use 1 to 16 bytes of a to z and 0 to 9\n\
