@@ -8,8 +8,7 @@ use std::alloc::{AllocError, Global};
 use std::test::Fail;
 
 /// Adds a cell to a text: slot, origin, version, count and last value.
-fn push_cell(text: &mut String, cell: (i64, Entry)) -> Result<(), AllocError> {
-    let (slot, entry) = cell;
+fn push_cell(text: &mut String, slot: i64, entry: Entry) -> Result<(), AllocError> {
     let (origin, summary) = (entry.origin.get(), entry.contribution);
     write!(text, "{slot} {origin} {} ", summary.version)?;
     write!(text, "{} {}\n", summary.count, summary.last_value)
@@ -19,31 +18,25 @@ fn push_cell(text: &mut String, cell: (i64, Entry)) -> Result<(), AllocError> {
 fn cells_of<A: Archive>(alloc: Global, archive: &A) -> Result<String, AllocError> {
     let mut text = String::new(alloc);
     for i in 0..archive.cell_count() {
-        if let Some(cell) = archive.cell_at(i) {
-            push_cell(&mut text, cell)?;
+        if let Some((slot, entry)) = archive.cell_at(i) {
+            push_cell(&mut text, slot, entry)?;
         }
     }
     write!(text, "newest {:?}", archive.newest())?;
     Ok(text)
 }
 
-/// The cells of an archive after a slot and an origin, each after the one before it.
-fn cells_after<A: Archive>(
-    alloc: Global,
+/// Adds the first cell after a slot and an origin to a text.
+fn push_next<A: Archive>(
+    text: &mut String,
     archive: &A,
     slot: i64,
     origin: Origin,
-) -> Result<String, AllocError> {
-    let mut text = String::new(alloc);
-    let (mut slot, mut origin) = (slot, origin);
-    for _ in 0..1_000 {
-        let Some(cell) = archive.next_cell(slot, origin) else {
-            return Ok(text);
-        };
-        (slot, origin) = (cell.0, cell.1.origin);
-        push_cell(&mut text, cell)?;
+) -> Result<(), AllocError> {
+    match archive.next_cell(slot, origin) {
+        Some((slot, entry)) => push_cell(text, slot, entry),
+        None => text.push_str("none\n"),
     }
-    Ok(text)
 }
 
 /// An archive with -3 at time 0 and -4 at time 1 of one origin in slot 0.
@@ -88,8 +81,12 @@ fn cells_are_listed_by_slot_and_origin(rt: HostRuntime) -> Result<(), Fail> {
         listed.as_str(),
         "-1 2 1 1 9\n0 1 1 1 5\n0 2 1 1 9\nnewest Some(0)"
     );
-    let all = cells_after(rt.alloc(), &archive, -9_223_372_037, origins.0)?;
-    assert_eq!(rt; all.as_str(), "-1 2 1 1 9\n0 1 1 1 5\n0 2 1 1 9\n");
+    let mut text = String::new(rt.alloc());
+    push_next(&mut text, &archive, -9_223_372_037, origins.0)?;
+    push_next(&mut text, &archive, -1, origins.1)?;
+    push_next(&mut text, &archive, 0, origins.0)?;
+    push_next(&mut text, &archive, 0, origins.1)?;
+    assert_eq!(rt; text.as_str(), "-1 2 1 1 9\n0 1 1 1 5\n0 2 1 1 9\nnone\n");
     Ok(())
 }
 
