@@ -44,7 +44,7 @@ def crates_below(program):
     return found
 
 
-def jobs():
+def most_proofs():
     """How many crates are proved side by side."""
     memory = os.sysconf("SC_PAGE_SIZE") * os.sysconf("SC_PHYS_PAGES")
     return max(1, min(len(os.sched_getaffinity(0)), memory // CRATE_MEMORY))
@@ -53,11 +53,11 @@ def jobs():
 class Proof:
     """The proof of one crate, as it runs."""
 
-    def __init__(self, name):
+    def __init__(self, name, jobs):
         self.name = name
         self.log = tempfile.TemporaryFile()
         # To run the program on the empty script builds it, and prints nothing.
-        command = ["rt", "run"] if name == PROGRAM else ["rt", "lib", "--jobs", "1"]
+        command = ["rt", "run" if name == PROGRAM else "lib", "--jobs", str(jobs)]
         self.process = subprocess.Popen(
             command,
             cwd=TOP / "crates" / name,
@@ -93,12 +93,18 @@ def build(crates, running):
     """Proves all crates; `running` has the proofs that run. Returns the proof that failed, if any."""
     began = reported = time.monotonic()
     proved = []
-    most = jobs()
+    most = most_proofs()
     while len(proved) < len(crates):
-        for name, libraries in crates.items():
-            started = name in proved or any(proof.name == name for proof in running)
-            if not started and len(running) < most and all(it in proved for it in libraries):
-                running.append(Proof(name))
+        begun = proved + [proof.name for proof in running]
+        ready = [
+            name
+            for name, libraries in crates.items()
+            if name not in begun and all(it in proved for it in libraries)
+        ]
+        # Where few crates can be proved side by side, each gets a second job.
+        jobs = 2 if len(running) + len(ready) <= most // 2 else 1
+        for name in ready[: most - len(running)]:
+            running.append(Proof(name, jobs))
         time.sleep(0.2)
         for proof in [it for it in running if it.process.poll() is not None]:
             if proof.process.returncode != 0:
