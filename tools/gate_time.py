@@ -1,6 +1,8 @@
 #!/usr/bin/env python3
 """Says what the gate costs, crate by crate, in seconds of processor time: tools/gate_time.py [NAME..]
 
+With names, only those crates are measured; the crates below them are proved first.
+
 Measures the commit that is checked out, in a fresh clone, one job at a time: the proof of each
 crate from nothing, its tests or its program over that proof, and its must-fail edits, which begin
 with a proof of their own. Prints a table; the whole takes as long as the gate does on one core.
@@ -28,8 +30,23 @@ def seconds(folder, *command):
     return (after.children_user - before.children_user) + (after.children_system - before.children_system)
 
 
-def names_in(text):
-    return [line.split(":")[0].split()[0] for line in text.splitlines() if line.partition("#")[0].strip()]
+def listed_in(text):
+    """The crates of a crates.txt, lowest first, each with the libraries that it uses."""
+    crates = {}
+    for line in text.splitlines():
+        name, _, libraries = line.partition("#")[0].partition(":")
+        if name.strip():
+            crates[name.split()[0]] = libraries.split()
+    return crates
+
+
+def with_those_below(crates, names):
+    """The named crates, or all where none is named, and the crates that they stand on."""
+    needed = set(names or crates)
+    for name in reversed(list(crates)):
+        if name in needed:
+            needed.update(it for it in crates[name] if it in crates)
+    return [name for name in crates if name in needed]
 
 
 def row(cells):
@@ -45,7 +62,7 @@ def main():
         row(["Crate", "Proof", "Tests or runs", "Edits", "In all"])
         row(["---", "---:", "---:", "---:", "---:"])
         sums = [0.0, 0.0, 0.0]
-        for name in names_in((clone / "crates.txt").read_text()):
+        for name in with_those_below(listed_in((clone / "crates.txt").read_text()), wanted):
             crate = clone / "crates" / name
             program = (crate / "src" / "main.rt").exists()
             tested = any("#[test]" in it.read_text() for it in (crate / "src").rglob("*.rt"))
