@@ -1,22 +1,21 @@
 #!/usr/bin/env python3
-"""Proves and builds the program rr, crate by crate, and says on standard error how far it is.
+"""Proves all crates and builds the program rr, and says on standard error how far it is.
 
-A crate is proved once the crates below it are, several side by side. What an interrupted run has
-proved is kept, so a later run goes on from there. Ends with status 1 where a proof or the build
-fails, with what `rt` printed about it.
+Crates are proved side by side where none stands on another. What an interrupted run has proved is
+kept, so a later run goes on from there. Ends with status 1 where a proof or the build fails, with
+what `rt` printed about it.
 """
 
 import os
 import pathlib
-import re
 import signal
 import subprocess
 import sys
-import tempfile
+import threading
 import time
 
 TOP = pathlib.Path(__file__).resolve().parent.parent
-PROGRAM = "rr_tool"
+PROGRAM = TOP / "crates" / "rr_tool"
 
 # Memory that the proof of one crate may take, in bytes.
 CRATE_MEMORY = 4 * 1024**3
@@ -25,23 +24,9 @@ CRATE_MEMORY = 4 * 1024**3
 INTERVAL = 15
 
 
-def crates_below(program):
-    """The program and the crates it stands on, each with its direct dependencies, lowest first."""
-    listed = {}
-    for line in (TOP / "crates.txt").read_text().splitlines():
-        name, _, libraries = line.partition("#")[0].partition(":")
-        if name.strip():
-            listed[name.split()[0]] = libraries.split()
-    found = {}
-
-    def visit(name):
-        if name in listed and name not in found:
-            for library in listed[name]:
-                visit(library)
-            found[name] = [library for library in listed[name] if library in listed]
-
-    visit(program)
-    return found
+def crate_count():
+    lines = (line.partition("#")[0].strip() for line in (TOP / "crates.txt").read_text().splitlines())
+    return sum(1 for line in lines if line)
 
 
 def most_proofs():
@@ -50,86 +35,76 @@ def most_proofs():
     return max(1, min(len(os.sched_getaffinity(0)), memory // CRATE_MEMORY))
 
 
-class Proof:
-    """The proof of one crate, as it runs."""
+class Progress:
+    """What is reported, with the time since the beginning."""
 
-    def __init__(self, name, jobs):
-        self.name = name
-        self.log = tempfile.TemporaryFile()
-        # To run the program on the empty script builds it, and prints nothing.
-        command = ["rt", "run" if name == PROGRAM else "lib", "--jobs", str(jobs)]
-        self.process = subprocess.Popen(
-            command,
-            cwd=TOP / "crates" / name,
-            stdin=subprocess.DEVNULL,
-            stdout=self.log,
-            stderr=subprocess.STDOUT,
-            start_new_session=True,
-        )
+    def __init__(self, crates):
+        self.began = time.monotonic()
+        self.crates = crates
+        self.proved = 0
+        self.ended = threading.Event()
 
-    def text(self):
-        self.log.seek(0)
-        return self.log.read().decode(errors="replace")
+    def say(self, text):
+        minutes, seconds = divmod(int(time.monotonic() - self.began), 60)
+        print(f"rr: {minutes}:{seconds:02} {text}", file=sys.stderr, flush=True)
 
-    def progress(self):
-        """The crate's name, with how many of its functions are proved where that is known."""
-        steps = re.findall(r"(\d+) of (\d+)", self.text())
-        return f"{self.name} ({' of '.join(steps[-1])})" if steps else self.name
+    def read(self, line, name):
+        """Takes in a line of `rt all`, which comes after that of its crate's name."""
+        if line.startswith("== ") and line[3:].startswith("rr_"):
+            return line[3:].strip()
+        if name and line.startswith("logic=proved"):
+            self.proved += 1
+            self.say(f"proved {name}, {self.proved} of {self.crates}")
+            return None
+        return name
 
-    def stop(self):
-        try:
-            os.killpg(self.process.pid, signal.SIGTERM)
-        except ProcessLookupError:
-            pass
-        self.process.wait()
+    def remind(self):
+        """Says from time to time that the work goes on."""
+        while not self.ended.wait(INTERVAL):
+            self.say(f"proving, {self.proved} of {self.crates} crates are done")
 
 
-def say(began, text):
-    minutes, seconds = divmod(int(time.monotonic() - began), 60)
-    print(f"rr: {minutes}:{seconds:02} {text}", file=sys.stderr, flush=True)
-
-
-def build(crates, running):
-    """Proves all crates; `running` has the proofs that run. Returns the proof that failed, if any."""
-    began = reported = time.monotonic()
-    proved = []
-    most = most_proofs()
-    while len(proved) < len(crates):
-        begun = proved + [proof.name for proof in running]
-        ready = [
-            name
-            for name, libraries in crates.items()
-            if name not in begun and all(it in proved for it in libraries)
-        ]
-        # Where few crates can be proved side by side, each gets a second job.
-        jobs = 2 if len(running) + len(ready) <= most // 2 else 1
-        for name in ready[: most - len(running)]:
-            running.append(Proof(name, jobs))
-        time.sleep(0.2)
-        for proof in [it for it in running if it.process.poll() is not None]:
-            if proof.process.returncode != 0:
-                return proof
-            running.remove(proof)
-            proved.append(proof.name)
-            say(began, f"proved {proof.name}, {len(proved)} of {len(crates)}")
-        if running and time.monotonic() - reported > INTERVAL:
-            reported = time.monotonic()
-            say(began, f"proving {', '.join(proof.progress() for proof in running)}")
-    return None
+def run(command, folder, progress):
+    """Runs a command of `rt`; returns its status and what it printed."""
+    process = subprocess.Popen(
+        command,
+        cwd=folder,
+        stdin=subprocess.DEVNULL,
+        stdout=subprocess.PIPE,
+        stderr=subprocess.STDOUT,
+        text=True,
+        errors="replace",
+        start_new_session=True,
+    )
+    lines, name = [], None
+    try:
+        for line in process.stdout:
+            lines.append(line)
+            name = progress.read(line, name)
+        return process.wait(), lines
+    except KeyboardInterrupt:
+        os.killpg(process.pid, signal.SIGTERM)
+        process.wait()
+        raise
 
 
 def main():
-    running = []
+    progress = Progress(crate_count())
+    threading.Thread(target=progress.remind, daemon=True).start()
     try:
-        failed = build(crates_below(PROGRAM), running)
+        proofs = ["rt", "all", "check", "--jobs", str(most_proofs())]
+        status, lines = run(proofs, TOP, progress)
+        if status == 0:
+            progress.say("building the program")
+            # To run it on the empty script builds it, and prints nothing.
+            status, lines = run(["rt", "run"], PROGRAM, progress)
     except KeyboardInterrupt:
         print("rr: interrupted; what is proved is kept", file=sys.stderr)
         return 130
     finally:
-        for proof in running:
-            proof.stop()
-    if failed:
-        print(failed.text(), f"rr: {failed.name} isn't proved", sep="", file=sys.stderr)
+        progress.ended.set()
+    if status != 0:
+        print("".join(lines[-60:]), "rr: the program isn't built", sep="", file=sys.stderr)
         return 1
     return 0
 
