@@ -1,6 +1,7 @@
 pub mod Results
 pub mod Options
 pub mod Bytes
+pub mod Origin
 pub mod Schema
 pub mod Fault
 pub mod Check

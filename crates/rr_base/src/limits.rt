@@ -4,6 +4,9 @@
 /// The greatest number that a sample of one origin can have: 2^40.
 pub const MAX_NUMBER: u64 = 1_099_511_627_776;
 
+/// The greatest origin; 0 is none.
+pub const MAX_ORIGIN: u16 = 65_535;
+
 /// The greatest step of a schema, in seconds: one day.
 pub const MAX_STEP: u32 = 86_400;
 
@@ -32,6 +35,9 @@ pub const MAX_FIELDS: usize = 256;
 /// The most bytes of the text of a series key.
 pub const MAX_KEY_TEXT: usize = 1_024;
 
+/// The most cells of a page.
+pub const MAX_PAGE_CELLS: usize = 256;
+
 /// The most rows of one fetch.
 pub const MAX_FETCH_ROWS: u32 = 100_000;
 
@@ -46,6 +52,8 @@ pub const MAX_SECOND: u64 = 9_223_372_037;
 pub const NANOSECONDS: i64 = 1_000_000_000;
 
 const _: () = prove!(MAX_NUMBER == 1_099_511_627_776);
+
+const _: () = prove!(MAX_ORIGIN == 65_535);
 
 const _: () = prove!(MAX_STEP == 86_400);
 
@@ -64,6 +72,8 @@ const _: () = prove!(MAX_TAGS == 32);
 const _: () = prove!(MAX_FIELDS == 256);
 
 const _: () = prove!(MAX_KEY_TEXT == 1_024);
+
+const _: () = prove!(MAX_PAGE_CELLS == 256);
 
 const _: () = prove!(MAX_FETCH_ROWS == 100_000);
 

@@ -143,9 +143,11 @@ impl Schema {
         self.step
     }
 
-    /// The archives, from the finest on.
+    /// The archives, from the finest on. A caller learns here too that the schema is within its
+    /// limits.
     pub fn archives(&self) -> &[ArchiveSpec]
-        ensures { result.now ≡ self.now.archives }
+        ensures value { result.now ≡ self.now.archives }
+        ensures within { IsLayout self.now }
     {
         self.archives.as_slice()
     }

@@ -19,9 +19,10 @@ use Rattle.rr_line.specs.Time.{IsEnding}
 use Rattle.rr_line.specs.Value.{value_of, is_integer, kind_fault}
 use Rattle.rr_cluster.specs.declared.fault.CommandFault.{CommandFault}
 use Rattle.rr_cluster.specs.declared.fault.CommandFault.TheVariants.{BadNumber, Origin}
-use Rattle.rr_cluster.specs.declared.words.TheConstants.{MAX_ORIGIN}
+use Rattle.rr_base.specs.declared.limits.TheConstants.{MAX_ORIGIN}
 use Rattle.rr_cluster.specs.Commands.Write.{samples_of}
-use Rattle.rr_cluster.specs.Soundness.{IsOrigin, IsSoundSample}
+use Rattle.rr_base.specs.Origin.{IsOrigin}
+use Rattle.rr_cluster.specs.Soundness.{IsSoundSample}
 use Rattle.rr_cluster.specs.Words.{number_within, origin_of, moment_of}
 
 is_there : {A E : Type 0} (o : Option A) (fault : E) (x : A) → ok_or o fault ≡ Ok x → o ≡ Some x
@@ -45,7 +46,7 @@ number_is_within least most word number =
 pub origin_is : (word : List ℕ) (number : ℕ) → origin_of word ≡ Ok number → IsOrigin number
 origin_is word number e =
     let within = number_is_within 1 MAX_ORIGIN word number (by (is_digits word) (number_within 1 MAX_ORIGIN word) e) in
-    record { some = within.0; few = within.1 }
+    record { at_least = within.0; at_most = within.1 }
   where
     by : (digits : Bool) (o : Option ℕ) → cond (not digits) (Err BadNumber) (ok_or o (Origin BadOrigin)) ≡ Ok number → o ≡ Some number
     by true o h = is_there o (Origin BadOrigin) number h

@@ -10,7 +10,8 @@ use Rattle.rr_join.proofs.ValuesLemmas.{insert_cases}
 use Rattle.rr_model.specs.Knowledge.{Knowledge}
 use Rattle.rr_model.specs.Samples.{Sample}
 use Rattle.rr_model.specs.World.{World, IsWritten, IsClosed}
-use Rattle.rr_cluster.specs.Soundness.{IsOrigin, IsSoundSample, IsSound, IsSoundNode, IsUsed}
+use Rattle.rr_base.specs.Origin.{IsOrigin}
+use Rattle.rr_cluster.specs.Soundness.{IsSoundSample, IsSound, IsSoundNode, IsUsed}
 use Rattle.rr_cluster.specs.State.{Node, State}
 use Rattle.rr_cluster.proofs.StepLemmas.{names_apart}
 

@@ -4,6 +4,7 @@ use Rattle.std.specs.Prelude.{◌≡◌, ℕ, ◌+◌, ◌<◌, ◌≤◌, ◌==
 use Rattle.std.specs.List.{list_any}
 use Rattle.std.specs.FinMap.{get}
 use Rattle.rr_base.specs.declared.limits.TheConstants.{MAX_NUMBER}
+use Rattle.rr_base.specs.Origin.{IsOrigin}
 use Rattle.rr_base.specs.Schema.{Layout, IsLayout}
 use Rattle.rr_base.specs.Text.{fits_i64}
 use Rattle.rr_key.specs.Series.{IsKeyText}
@@ -11,18 +12,12 @@ use Rattle.rr_model.specs.Samples.{Sample}
 use Rattle.rr_model.specs.Knowledge.{Knowledge}
 use Rattle.rr_model.specs.World.{World, IsWritten, IsClosed, HoldsAllOf}
 use Rattle.rr_cluster.specs.declared.fault.CommandFault.{CommandFault}
-use Rattle.rr_cluster.specs.declared.words.TheConstants.{MAX_ORIGIN}
 use Rattle.rr_cluster.specs.Command.{Command, IsOneLine}
 use Rattle.rr_cluster.specs.Commands.{step}
 use Rattle.rr_cluster.specs.Model.{sample_model}
 use Rattle.rr_cluster.specs.Output.{obeyed}
 use Rattle.rr_cluster.specs.Script.{commands_of}
 use Rattle.rr_cluster.specs.State.{Node, State, first_state}
-
--- an origin has a number from 1 to 65,535
-pub record IsOrigin (number : ℕ) : Type 0 where
-  pub some : 1 ≤ number
-  pub few : number ≤ MAX_ORIGIN
 
 -- a sample within the limits, of a key text, with a time and a value of 64 bits
 pub record IsSoundSample (x : Sample) : Type 0 where

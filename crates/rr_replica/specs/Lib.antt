@@ -1,4 +1,5 @@
 pub mod Cells
+pub mod CellBounds
 pub mod Puts
 pub mod Holding
 pub mod Series

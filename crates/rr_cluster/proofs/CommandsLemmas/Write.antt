@@ -43,7 +43,8 @@ use Rattle.rr_cluster.specs.Command.{write, IsOneLine}
 use Rattle.rr_cluster.specs.Commands.Write.{write_command, line_of, samples_of, samples_at, samples_of_point, samples_of_view, samples_of_line, with_samples, with_written, with_all_written, after_write}
 use Rattle.rr_cluster.specs.Meaning.{node_of, replica_at, Represents, Leaves, Writes}
 use Rattle.rr_cluster.specs.Model.{Model, cell_model, sample_model}
-use Rattle.rr_cluster.specs.Soundness.{IsOrigin, IsSoundSample, IsSound, IsSoundNode, IsUsed}
+use Rattle.rr_base.specs.Origin.{IsOrigin}
+use Rattle.rr_cluster.specs.Soundness.{IsSoundSample, IsSound, IsSoundNode, IsUsed}
 use Rattle.rr_cluster.specs.State.{Node, State}
 use Rattle.rr_cluster.specs.Stop.{IsStopOf, IsStopOfWrite}
 use Rattle.rr_cluster.specs.Words.{text_of, words_of}

@@ -1,0 +1,27 @@
+-- The bounds that every cell of a schema keeps to.
+use Rattle.std.specs.Prelude.{◌<◌, length, FitsSigned}
+use Rattle.std.specs.Int.{w64, w128}
+use Rattle.rr_base.specs.Origin.{IsOrigin}
+use Rattle.rr_base.specs.Schema.{Layout}
+use Rattle.rr_contrib.specs.declared.contribution.Contribution.{Contribution}
+use Rattle.rr_contrib.specs.Validity.{IsValid}
+use Rattle.rr_key.specs.Series.{IsKeyText}
+use Rattle.rr_model.specs.CellNames.{CellName}
+
+-- a name, and what its cell contributes
+abbrev pub NamedCell : Type 0
+NamedCell = CellName × Contribution
+
+-- a cell of a schema: of a key text, one of the schema's archives and an origin, and valid in its slot; its numbers
+-- with a sign fit 64 bits, the sum 128
+pub record IsCellOf (s : Layout) (e : NamedCell) : Type 0 where
+  pub key : IsKeyText e.0.key
+  pub archive : e.0.archive < length s.archives
+  pub origin : IsOrigin e.0.origin
+  pub valid : IsValid s e.0.archive e.0.slot e.1
+  pub slot_fits : FitsSigned w64 e.0.slot
+  pub sum_fits : FitsSigned w128 e.1.sum
+  pub min_fits : FitsSigned w64 e.1.min
+  pub max_fits : FitsSigned w64 e.1.max
+  pub last_time_fits : FitsSigned w64 e.1.last_time
+  pub last_value_fits : FitsSigned w64 e.1.last_value
