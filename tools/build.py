@@ -1,21 +1,28 @@
 #!/usr/bin/env python3
-"""Proves all crates and builds the program rr, and says on standard error how far it is.
+"""Proves the crates of the program rr, builds it, and says on standard error how far it is.
 
-Crates are proved side by side where none stands on another. What an interrupted run has proved is
-kept, so a later run goes on from there. Ends with status 1 where a proof or the build fails, with
-what `rt` printed about it.
+While `rt` works on a crate, it lets no other run work on a crate below it. So that crates are proved
+side by side, each is proved in a tree of its own: its sources and the libraries below it are hard
+links, and what `rt` keeps in its folder out/ is moved there and back. What an interrupted run has
+proved is kept. Ends with status 1 where a proof or the build fails, with what `rt` printed about it.
 """
 
+import concurrent.futures
+import fcntl
 import os
-import pathlib
+import shutil
 import signal
 import subprocess
 import sys
 import threading
 import time
 
-TOP = pathlib.Path(__file__).resolve().parent.parent
-PROGRAM = TOP / "crates" / "rr_tool"
+from crates import TOP, listed, with_those_below
+
+PROGRAM = "rr_tool"
+
+# Where the trees are while crates are proved.
+TREES = TOP / ".build"
 
 # Memory that the proof of one crate may take, in bytes.
 CRATE_MEMORY = 4 * 1024**3
@@ -23,10 +30,12 @@ CRATE_MEMORY = 4 * 1024**3
 # Seconds between two lines of progress.
 INTERVAL = 15
 
+# What a proof reads of a crate.
+SOURCES = ("src", "specs", "proofs")
 
-def crate_count():
-    lines = (line.partition("#")[0].strip() for line in (TOP / "crates.txt").read_text().splitlines())
-    return sum(1 for line in lines if line)
+
+class Failed(Exception):
+    """A command of `rt` failed; has what it printed."""
 
 
 def most_proofs():
@@ -35,77 +44,156 @@ def most_proofs():
     return max(1, min(len(os.sched_getaffinity(0)), memory // CRATE_MEMORY))
 
 
-class Progress:
-    """What is reported, with the time since the beginning."""
+def link(source, target):
+    """A file once more, without a copy where the file system has hard links."""
+    try:
+        os.link(source, target)
+    except OSError:
+        shutil.copy2(source, target)
 
-    def __init__(self, crates):
+
+class Build:
+    """The crates that are proved, those that are being proved, and the commands that run."""
+
+    def __init__(self):
         self.began = time.monotonic()
-        self.crates = crates
-        self.proved = 0
+        listing = listed()
+        self.uses = {name: listing[name] for name in with_those_below(listing, [PROGRAM])}
+        self.libraries = [name for name in self.uses if name != PROGRAM]
+        self.proved = []
+        self.running = {}
+        self.commands = set()
         self.ended = threading.Event()
 
     def say(self, text):
         minutes, seconds = divmod(int(time.monotonic() - self.began), 60)
         print(f"rr: {minutes}:{seconds:02} {text}", file=sys.stderr, flush=True)
 
-    def read(self, line, name):
-        """Takes in a line of `rt all`, which comes after that of its crate's name."""
-        if line.startswith("== ") and line[3:].startswith("rr_"):
-            return line[3:].strip()
-        if name and line.startswith("logic=proved"):
-            self.proved += 1
-            self.say(f"proved {name}, {self.proved} of {self.crates}")
-            return None
-        return name
-
     def remind(self):
-        """Says from time to time that the work goes on."""
+        """Says from time to time what is being proved."""
         while not self.ended.wait(INTERVAL):
-            self.say(f"proving, {self.proved} of {self.crates} crates are done")
+            names = ", ".join(sorted(self.running.values()))
+            if names:
+                self.say(f"proving {names}")
+
+    def run(self, folder, *command):
+        """Runs a command of `rt`, which ends with this run."""
+        process = subprocess.Popen(
+            command,
+            cwd=folder,
+            stdin=subprocess.DEVNULL,
+            stdout=subprocess.PIPE,
+            stderr=subprocess.STDOUT,
+            text=True,
+            errors="replace",
+            start_new_session=True,
+        )
+        self.commands.add(process)
+        try:
+            said, _ = process.communicate()
+        finally:
+            self.commands.discard(process)
+        if process.returncode != 0:
+            raise Failed(said)
+
+    def stop(self):
+        """Ends all commands that run."""
+        for process in list(self.commands):
+            os.killpg(process.pid, signal.SIGTERM)
+
+    def give_back(self, name):
+        """Moves what `rt` keeps of a crate back from its tree, and removes the tree."""
+        found, kept = TREES / name / "crates" / name / "out", TOP / "crates" / name / "out"
+        if found.exists() and not kept.exists():
+            found.rename(kept)
+        shutil.rmtree(TREES / name)
+
+    def plant(self, name, tree):
+        """Makes the tree in which a crate is proved, and returns the crate's folder there."""
+        (tree / "crates").mkdir(parents=True)
+        shutil.copy2(TOP / "crates.txt", tree)
+        for it in with_those_below(self.uses, [name]):
+            parts = SOURCES if it == name else (*SOURCES, "out/rlib")
+            for part in parts:
+                source = TOP / "crates" / it / part
+                if source.is_dir():
+                    shutil.copytree(source, tree / "crates" / it / part, copy_function=link)
+        return tree / "crates" / name
+
+    def prove(self, name, jobs):
+        """Proves a library over those below it, which are proved."""
+        folder, kept = self.plant(name, TREES / name), TOP / "crates" / name / "out"
+        if kept.exists():
+            kept.rename(folder / "out")
+        try:
+            self.run(folder, "rt", "lib", "--jobs", str(jobs))
+        finally:
+            self.give_back(name)
+
+    def next_crates(self):
+        """The crates whose proof can begin, first those that the longest chain of others waits for."""
+        waiting = {}
+        for name in reversed(self.uses):
+            above = [waiting[it] for it in waiting if name in self.uses[it]]
+            waiting[name] = 1 + max(above, default=0)
+        begun = {*self.proved, *self.running.values()}
+        ready = [it for it in self.libraries if it not in begun and {*self.uses[it]} <= {*self.proved}]
+        return sorted(ready, key=waiting.get, reverse=True)
+
+    def prove_all(self):
+        most = most_proofs()
+        with concurrent.futures.ThreadPoolExecutor(most) as pool:
+            try:
+                while len(self.proved) < len(self.libraries):
+                    begins = self.next_crates()[: most - len(self.running)]
+                    jobs = max(1, min(2, most // max(1, len(begins) + len(self.running))))
+                    for name in begins:
+                        self.running[pool.submit(self.prove, name, jobs)] = name
+                    finished, _ = concurrent.futures.wait(
+                        self.running, return_when=concurrent.futures.FIRST_COMPLETED
+                    )
+                    for it in finished:
+                        name = self.running.pop(it)
+                        it.result()
+                        self.proved.append(name)
+                        self.say(f"proved {name}, {len(self.proved)} of {len(self.uses)}")
+            except BaseException:
+                self.stop()
+                raise
+
+    def build(self):
+        """Proves and builds the program, over the libraries."""
+        self.say("proving and building the program")
+        # To run it on the empty script builds it, and prints nothing.
+        self.run(TOP / "crates" / PROGRAM, "rt", "run", "--jobs", str(min(2, most_proofs())))
 
 
-def run(command, folder, progress):
-    """Runs a command of `rt`; returns its status and what it printed."""
-    process = subprocess.Popen(
-        command,
-        cwd=folder,
-        stdin=subprocess.DEVNULL,
-        stdout=subprocess.PIPE,
-        stderr=subprocess.STDOUT,
-        text=True,
-        errors="replace",
-        start_new_session=True,
-    )
-    lines, name = [], None
-    try:
-        for line in process.stdout:
-            lines.append(line)
-            name = progress.read(line, name)
-        return process.wait(), lines
-    except KeyboardInterrupt:
-        os.killpg(process.pid, signal.SIGTERM)
-        process.wait()
-        raise
+def wait_for_others():
+    """Lets no other run build until this one ends."""
+    fcntl.flock(os.open(TOP, os.O_RDONLY), fcntl.LOCK_EX)
 
 
 def main():
-    progress = Progress(crate_count())
-    threading.Thread(target=progress.remind, daemon=True).start()
+    wait_for_others()
+    build = Build()
+    threading.Thread(target=build.remind, daemon=True).start()
     try:
-        proofs = ["rt", "all", "check", "--jobs", str(most_proofs())]
-        status, lines = run(proofs, TOP, progress)
-        if status == 0:
-            progress.say("building the program")
-            # To run it on the empty script builds it, and prints nothing.
-            status, lines = run(["rt", "run"], PROGRAM, progress)
+        TREES.mkdir(exist_ok=True)
+        for left in TREES.iterdir():
+            build.give_back(left.name)
+        build.prove_all()
+        TREES.rmdir()
+        build.build()
     except KeyboardInterrupt:
+        build.stop()
         print("rr: interrupted; what is proved is kept", file=sys.stderr)
         return 130
-    finally:
-        progress.ended.set()
-    if status != 0:
+    except Failed as failed:
+        lines = str(failed).splitlines(keepends=True)
         print("".join(lines[-60:]), "rr: the program isn't built", sep="", file=sys.stderr)
         return 1
+    finally:
+        build.ended.set()
     return 0
 
 

@@ -1,84 +1,97 @@
 #!/usr/bin/env python3
-"""Says what the gate costs, crate by crate, in seconds of processor time: tools/gate_time.py [NAME..]
+"""Runs the gate and says what it cost, crate by crate, in seconds of processor time.
 
-With names, only those crates are measured; the crates below them are proved first.
-
-Measures the commit that is checked out, in a fresh clone, one job at a time: the proof of each
-crate from nothing, its tests or its program over that proof, and its must-fail edits, which begin
-with a proof of their own. Prints a table; the whole takes as long as the gate does on one core.
+Takes the commit that is checked out, in a fresh clone, and prints a table, the time of the whole and
+the gate's last line; what the gate printed goes to the file that is named, if one is. Times are read
+from /proc twice a second, so up to half a second of each command is missed.
 """
 
+import collections
 import os
 import pathlib
 import subprocess
 import sys
 import tempfile
+import time
 
-TOP = pathlib.Path(__file__).resolve().parent.parent
+from crates import TOP, listed
 
+PARTS = ("proof", "tests", "edits")
 
-def seconds(folder, *command):
-    """The processor time of a command, whose output is shown where it fails."""
-    before = os.times()
-    ran = subprocess.run(
-        command, cwd=folder, stdin=subprocess.DEVNULL, stdout=subprocess.PIPE, stderr=subprocess.STDOUT
-    )
-    after = os.times()
-    if ran.returncode != 0:
-        sys.stderr.write(ran.stdout.decode(errors="replace")[-4000:])
-        sys.exit(f"{' '.join(command)} failed in {folder}")
-    return (after.children_user - before.children_user) + (after.children_system - before.children_system)
+TICKS = os.sysconf("SC_CLK_TCK")
 
 
-def listed_in(text):
-    """The crates of a crates.txt, lowest first, each with the libraries that it uses."""
-    crates = {}
-    for line in text.splitlines():
-        name, _, libraries = line.partition("#")[0].partition(":")
-        if name.strip():
-            crates[name.split()[0]] = libraries.split()
-    return crates
+def part_of(process):
+    """What a process works on: a crate, and its proof, its tests or its must-fail edits."""
+    words = (process / "cmdline").read_text(errors="replace").split("\0")
+    if "--crate-name" not in words:
+        return "others", "proof"
+    name = words[words.index("--crate-name") + 1]
+    if "rt-edit-" in os.readlink(process / "cwd"):
+        return name, "edits"
+    return name, "tests" if "--test" in words else "proof"
 
 
-def with_those_below(crates, names):
-    """The named crates, or all where none is named, and the crates that they stand on."""
-    needed = set(names or crates)
-    for name in reversed(list(crates)):
-        if name in needed:
-            needed.update(it for it in crates[name] if it in crates)
-    return [name for name in crates if name in needed]
+class Times:
+    """The processor time of each process of a session, and what it worked on."""
+
+    def __init__(self, session):
+        self.session = session
+        self.parts = {}
+        self.ticks = {}
+
+    def read(self):
+        for process in pathlib.Path("/proc").glob("[0-9]*"):
+            try:
+                # After the name, which may have spaces: state, parent, group, session, ..
+                fields = (process / "stat").read_text().rpartition(")")[2].split()
+                if int(fields[3]) == self.session:
+                    self.ticks[process.name] = int(fields[11]) + int(fields[12])
+                    if process.name not in self.parts:
+                        self.parts[process.name] = part_of(process)
+            except (OSError, IndexError):
+                # It has ended.
+                continue
+
+    def seconds(self):
+        sums = collections.Counter()
+        for process, ticks in self.ticks.items():
+            sums[self.parts.get(process, ("others", "proof"))] += ticks / TICKS
+        return sums
 
 
 def row(cells):
-    print("| " + " | ".join(cells) + " |", flush=True)
+    print("| " + " | ".join(cells) + " |")
+
+
+def print_table(names, sums):
+    row(["Crate", "Proof", "Tests", "Edits", "In all"])
+    row(["---", "---:", "---:", "---:", "---:"])
+    for name in [*names, "others"]:
+        times = [sums[name, part] for part in PARTS]
+        row([f"`{name}`" if name != "others" else name] + [f"{it:.0f}" for it in [*times, sum(times)]])
+    times = [sum(sums[name, part] for name in [*names, "others"]) for part in PARTS]
+    row(["all"] + [f"{it:.0f}" for it in [*times, sum(times)]])
 
 
 def main():
-    os.environ["RT_JOBS"] = "1"
     with tempfile.TemporaryDirectory(prefix="rr-gate-") as room:
         clone = pathlib.Path(room) / "rr"
         subprocess.run(["git", "clone", "-q", str(TOP), str(clone)], check=True)
-        wanted = sys.argv[1:]
-        row(["Crate", "Proof", "Tests or runs", "Edits", "In all"])
-        row(["---", "---:", "---:", "---:", "---:"])
-        sums = [0.0, 0.0, 0.0]
-        for name in with_those_below(listed_in((clone / "crates.txt").read_text()), wanted):
-            crate = clone / "crates" / name
-            program = (crate / "src" / "main.rt").exists()
-            tested = any("#[test]" in it.read_text() for it in (crate / "src").rglob("*.rt"))
-            times = [seconds(crate, "rt", "check" if program else "lib", "--jobs", "1"), 0.0, 0.0]
-            if wanted and name not in wanted:
-                continue
-            if program:
-                times[1] += seconds(crate, "rt", "run", "--jobs", "1")
-            if tested:
-                times[1] += seconds(crate, "rt", "test", "--jobs", "1")
-            if list(crate.glob("must-fail/*.edit")):
-                times[2] = seconds(clone, "rt", "must-fail", name)
-            sums = [a + b for a, b in zip(sums, times)]
-            row([f"`{name}`"] + [f"{it:.0f}" for it in times] + [f"{sum(times):.0f}"])
-        row(["all"] + [f"{it:.0f}" for it in sums] + [f"{sum(sums):.0f}"])
+        said = pathlib.Path(sys.argv[1] if len(sys.argv) > 1 else f"{room}/said").resolve()
+        began = time.monotonic()
+        with said.open("w") as output:
+            gate = subprocess.Popen(
+                [".ci/run"], cwd=clone, stdout=output, stderr=subprocess.STDOUT, start_new_session=True
+            )
+            times = Times(gate.pid)
+            while gate.poll() is None:
+                times.read()
+                time.sleep(0.5)
+        print_table(listed(clone), times.seconds())
+        print(f"\n{(time.monotonic() - began) / 60:.0f} minutes; {said.read_text().splitlines()[-1]}")
+    return gate.returncode
 
 
 if __name__ == "__main__":
-    main()
+    sys.exit(main())

@@ -45,8 +45,8 @@ too_long_is_handed left ended none long = record {
 }
 
 pub last_is_handed : (left : List ℕ) (ended : Bool) → HasNoLineFeed left → ltb MAX_LINE (length left) ≡ false → (ended && not (eqb (length left) 0)) ≡ true → HandsOut (state left false ended) (Some (Line left)) (state [] false ended)
-last_is_handed left ended none short told =
-    let parts = and_parts ended (not (eqb (length left) 0)) told in
+last_is_handed left ended none short decided =
+    let parts = and_parts ended (not (eqb (length left) 0)) decided in
     let some : length left ≡ 0 → ⊥ = eqb-false (length left) 0 (not-true _ parts.1) in record {
       first = λ more end may.
           let nothing = may parts.0 in
@@ -60,9 +60,9 @@ last_is_handed left ended none short told =
     }
 
 pub nothing_is_handed : (left : List ℕ) (ended : Bool) → HasNoLineFeed left → ltb MAX_LINE (length left) ≡ false → (ended && not (eqb (length left) 0)) ≡ false → HandsOut (state left false ended) None (state left false ended)
-nothing_is_handed left ended none short untold = record {
+nothing_is_handed left ended none short undecided = record {
   first = λ more end may. refl;
-  none = λ e. rw (pieces_last left none) (last_items_none ended left short untold);
+  none = λ e. rw (pieces_last left none) (last_items_none ended left short undecided);
   line = tt;
   ended = refl;
   fewer = omega arith;

@@ -56,11 +56,11 @@ items_of_long ended first (next ∷ rest) long =
 
 -- a last piece that is a line
 pub last_items_line : (ended : Bool) (last : List ℕ) → ltb MAX_LINE (length last) ≡ false → (ended && not (eqb (length last) 0)) ≡ true → last_items ended last ≡ Line last ∷ []
-last_items_line ended last short told = rw (short, told) refl
+last_items_line ended last short decided = rw (short, decided) refl
 
 -- a last piece that isn't one yet
 pub last_items_none : (ended : Bool) (last : List ℕ) → ltb MAX_LINE (length last) ≡ false → (ended && not (eqb (length last) 0)) ≡ false → last_items ended last ≡ []
-last_items_none ended last short untold = rw (short, untold) refl
+last_items_none ended last short undecided = rw (short, undecided) refl
 
 -- what a line feed ends, if it isn't too long, is a line
 pub IsLine-item_of : (piece : List ℕ) → HasNoLineFeed piece → IsLine (item_of piece)

@@ -4,17 +4,17 @@ use Rattle.std.proofs.lemmas.Bool.{cases_Bool}
 use Rattle.rr_key.specs.declared.fault.KeyFault.{KeyFault}
 use Rattle.rr_key.specs.Reading.{is_key_text}
 use Rattle.rr_key.specs.Series.{IsKeyText}
-use Rattle.rr_key.proofs.ToldLemmas.{key_text_told}
+use Rattle.rr_key.proofs.DecisionLemmas.{Decides-is_key_text}
 use Rattle.rr_fetch.specs.declared.fault.RequestFault.TheVariants.{BadKey}
 use Rattle.rr_fetch.specs.Requests.{key_of}
 
 is_key : (text : List ℕ) → IsKeyText text → is_key_text text ≡ true
-is_key text is = (key_text_told text).1 is
+is_key text is = (Decides-is_key_text text).1 is
 
 is_no_key : (text : List ℕ) → (IsKeyText text → ⊥) → is_key_text text ≡ false
 is_no_key text none =
     elim (cases_Bool (is_key_text text)) [
-      | inl is ↦ absurd (none ((key_text_told text).0 is))
+      | inl is ↦ absurd (none ((Decides-is_key_text text).0 is))
       | inr other ↦ other
     ]
 

@@ -8,5 +8,5 @@ pub mod TailLemmas
 pub mod KeyTextLemmas
 pub mod OrderLemmas
 pub mod MakingLemmas
-pub mod ToldLemmas
+pub mod DecisionLemmas
 pub mod LawLemmas

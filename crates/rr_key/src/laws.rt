@@ -33,7 +33,7 @@ pub fn tags_stand_in_any_order()
 {}
 
 /// Whether a text is a key text is decided by one pass over it.
-pub fn a_key_text_can_be_told()
+pub fn key_texts_are_decidable()
     ensures { (text : List ℕ) → (is_key_text text ≡ true) ↔ IsKeyText text }
 {}
 

@@ -11,7 +11,7 @@ use Rattle.rr_contrib.specs.Validity.{IsValid, is_valid}
 use Rattle.rr_contrib.proofs.ValidityLemmas.{Decides-is_valid}
 use Rattle.rr_key.specs.Reading.{is_key_text}
 use Rattle.rr_key.specs.Series.{IsKeyText}
-use Rattle.rr_key.proofs.ToldLemmas.{key_text_told}
+use Rattle.rr_key.proofs.DecisionLemmas.{Decides-is_key_text}
 use Rattle.rr_model.specs.CellNames.{CellName}
 use Rattle.rr_page.specs.declared.fault.PageFault.{PageFault}
 use Rattle.rr_page.specs.declared.fault.PageFault.TheVariants.{BadKey, BadContribution}
@@ -29,10 +29,10 @@ module _ (bytes : List ℕ) (len : ℕ) (rest text after : List ℕ) (l : number
       ∙ ap (λ r. r >>= keyed) f
 
   pub key_read : IsKeyText text → key_at bytes ≡ Ok (text, after)
-  key_read k = key_parts ∙ ap (λ b. unless BadKey (not b) (Ok (text, after))) ((key_text_told text).1 k)
+  key_read k = key_parts ∙ ap (λ b. unless BadKey (not b) (Ok (text, after))) ((Decides-is_key_text text).1 k)
 
   pub key_refused : (IsKeyText text → ⊥) → key_at bytes ≡ Err BadKey
-  key_refused n = key_parts ∙ ap (λ b. unless BadKey (not b) (Ok (text, after))) (false_from_ne_true (is_key_text text) (λ e. n ((key_text_told text).0 e)))
+  key_refused n = key_parts ∙ ap (λ b. unless BadKey (not b) (Ok (text, after))) (false_from_ne_true (is_key_text text) (λ e. n ((Decides-is_key_text text).0 e)))
 
 abbrev judged : Layout → List ℕ → ℕ → ℤ → ℕ → Contribution → List ℕ → Result ((CellName × Contribution) × List ℕ) PageFault
 judged s key archive slot origin c after =
