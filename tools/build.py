@@ -17,7 +17,7 @@ import sys
 import threading
 import time
 
-from crates import TOP, listed, with_those_below
+from crates import TOP, lines_of, listed, with_those_below
 
 PROGRAM = "rr_tool"
 
@@ -110,9 +110,10 @@ class Build:
 
     def plant(self, name, tree):
         """Makes the tree in which a crate is proved, and returns the crate's folder there."""
+        names = with_those_below(self.uses, [name])
         (tree / "crates").mkdir(parents=True)
-        shutil.copy2(TOP / "crates.txt", tree)
-        for it in with_those_below(self.uses, [name]):
+        (tree / "crates.txt").write_text(lines_of(names))
+        for it in names:
             parts = SOURCES if it == name else (*SOURCES, "out/rlib")
             for part in parts:
                 source = TOP / "crates" / it / part

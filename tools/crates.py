@@ -5,14 +5,26 @@ import pathlib
 TOP = pathlib.Path(__file__).resolve().parent.parent
 
 
-def listed(top=TOP):
-    """The crates, lowest first, each with the crates of the repository that it uses."""
+def lines(top=TOP):
+    """The line of each crate, lowest first."""
     crates = {}
     for line in (top / "crates.txt").read_text().splitlines():
-        name, _, libraries = line.partition("#")[0].partition(":")
-        if name.strip():
-            crates[name.split()[0]] = libraries.split()
-    return {name: [it for it in uses if it in crates] for name, uses in crates.items()}
+        name = line.partition("#")[0].partition(":")[0].split()
+        if name:
+            crates[name[0]] = line
+    return crates
+
+
+def lines_of(names):
+    """A crates.txt of these crates."""
+    return "".join(f"{line}\n" for name, line in lines().items() if name in names)
+
+
+def listed(top=TOP):
+    """The crates, lowest first, each with the crates of the repository that it uses."""
+    crates = lines(top)
+    uses = {name: line.partition("#")[0].partition(":")[2].split() for name, line in crates.items()}
+    return {name: [it for it in used if it in crates] for name, used in uses.items()}
 
 
 def with_those_below(crates, names):

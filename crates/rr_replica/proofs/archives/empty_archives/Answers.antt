@@ -13,7 +13,7 @@ loop-archive-preserved g c =
     let empty : g.A.Archive.cells c.new.result ≡ fin.empty = search rules in
     let within : c.loop-archive.archive-index < length specs = search rules in
     let none : ArchiveSpec = record { steps = 0; rows = 0; num = 0; den = 0 } in
-    let limit : g.A.Archive.row_limit c.new.result ≡ (get_or specs c.loop-archive.archive-index none).rows = c.new.ensures.limit ∙ ap (λ l. (get_or l c.loop-archive.archive-index none).rows) c.archives-archive-items.ensures in (
+    let limit : g.A.Archive.row_limit c.new.result ≡ (get_or specs c.loop-archive.archive-index none).rows = c.new.ensures.limit ∙ ap (λ l. (get_or l c.loop-archive.archive-index none).rows) c.archives-archive-items.ensures.value in (
       ap (map g.A.Archive.row_limit) items ∙ map_more g.A.Archive.row_limit old c.new.result
           ∙ (λ i. c.loop-archive.invariant.0 i ++ limit i ∷ [])
           ∙ sym (take_more (λ (a : ArchiveSpec). a.rows) specs c.loop-archive.archive-index none within),
