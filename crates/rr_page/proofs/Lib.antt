@@ -1,2 +1,10 @@
 pub mod ReadLemmas
 pub mod WriteLemmas
+pub mod NumberLemmas
+pub mod FieldLemmas
+pub mod CellLemmas
+pub mod OrderLemmas
+pub mod CellsLemmas
+pub mod LoopLemmas
+pub mod HeadLemmas
+pub mod PageLemmas

@@ -7,9 +7,11 @@ use Rattle.rr_base.specs.Schema.{Layout}
 use Rattle.rr_contrib.specs.declared.contribution.Contribution.{Contribution}
 use Rattle.rr_contrib.specs.Validity.{is_valid}
 use Rattle.rr_key.specs.Reading.{is_key_text}
-use Rattle.rr_model.specs.CellNames.{CellName}
+use Rattle.rr_replica.specs.CellBounds.{NamedCell}
 use Rattle.rr_page.specs.declared.fault.PageFault.{PageFault}
 use Rattle.rr_page.specs.declared.fault.PageFault.TheVariants.{Short, BadKey, BadArchive, BadContribution}
+use Rattle.rr_page.specs.declared.version.Version.{Version}
+use Rattle.rr_page.specs.Version.{mask_width}
 
 -- `len` bytes at the front, and what follows them
 abbrev pub front_at : ℕ → List ℕ → Result (List ℕ × List ℕ) PageFault
@@ -37,8 +39,8 @@ archive_at s bytes = do
   unless BadArchive (not (nat_lt archive.0 (length s.archives))) (Ok archive)
 
 -- the fields of a contribution, and what follows them
-unfoldable pub contribution_at : List ℕ → Result (Contribution × List ℕ) PageFault
-contribution_at bytes = do
+unfoldable pub contribution_at : Version → List ℕ → Result (Contribution × List ℕ) PageFault
+contribution_at v bytes = do
   version ← number_at w64 bytes
   count ← number_at w64 version.1
   sum ← signed_at w128 count.1
@@ -46,7 +48,7 @@ contribution_at bytes = do
   max ← signed_at w64 min.1
   last_time ← signed_at w64 max.1
   last_value ← signed_at w64 last_time.1
-  mask ← number_at w64 last_value.1
+  mask ← number_at (mask_width v) last_value.1
   Ok (
     record {
       version = version.0;
@@ -62,16 +64,12 @@ contribution_at bytes = do
   )
 
 -- a cell, and what follows it
-unfoldable pub cell_at : Layout → List ℕ → Result ((CellName × Contribution) × List ℕ) PageFault
-cell_at s bytes = do
+unfoldable pub cell_at : Version → Layout → List ℕ → Result (NamedCell × List ℕ) PageFault
+cell_at v s bytes = do
   key ← key_at bytes
   archive ← archive_at s key.1
   slot ← signed_at w64 archive.1
   origin ← number_at w16 slot.1
-  contribution ← contribution_at origin.1
+  contribution ← contribution_at v origin.1
   unless BadContribution ((origin.0 == 0) || not (is_valid s archive.0 slot.0 contribution.0))
       (Ok ((record { key = key.0; archive = archive.0; slot = slot.0; origin = origin.0 }, contribution.0), contribution.1))
-
--- what is read, without what follows it
-abbrev pub first_of : {A : Type 0} → Result (A × List ℕ) PageFault → Result A PageFault
-first_of read = read >>= λ x. Ok x.0

@@ -1,18 +1,20 @@
 //! A cell from its bytes.
-ghost use Rattle.std.specs.Prelude.{◌≡◌, ◌<◌, length, drop, IfOk};
+ghost use Rattle.std.specs.Prelude.{◌≡◌, ◌++◌, ◌<◌, length, drop, IfOk};
 ghost use Rattle.rr_base.specs.Schema.{IsLayout};
-ghost use Rattle.rr_base.specs.Results.{Gives, GivesUnless};
+ghost use Rattle.rr_base.specs.Results.{Gives, GivesUnless, NeedsMemoryAfter};
 ghost use Rattle.rr_page.specs.CellText.{cell_text};
-ghost use Rattle.rr_page.specs.Reading.{key_at, archive_at, contribution_at, cell_at, first_of};
+ghost use Rattle.rr_page.specs.Reading.{number_at, key_at, archive_at, contribution_at, cell_at};
+ghost use Rattle.rr_page.specs.Version.{latest, mask_width};
+ghost use Rattle.rr_replica.specs.CellBounds.{IsCellOf};
 ghost use Rattle.rr_replica.specs.Joining.{IsCell};
 ghost use Rattle.rr_replica.specs.Listing.{owned_cell};
 
 use crate::fault::PageFault;
 use crate::fields::{bytes_at, i64_at, i128_at, u8_at, u16_at, u64_at};
-use crate::writing::FIELDS_LEN;
+use crate::version::{LATEST, Version};
 use rr_base::limits::MAX_KEY_TEXT;
 use rr_base::{Origin, Schema};
-use rr_contrib::Contribution;
+use rr_contrib::{Contribution, Mask};
 use rr_key::{KeyFault, SeriesKey};
 use rr_replica::Cell;
 use std::alloc::Global;
@@ -20,7 +22,8 @@ use std::alloc::Global;
 /// The key that the bytes begin with, as a length and a text, and what follows it.
 #[tactic(auto, unfolding(crate::specs::Reading::key_at))]
 fn key_of(alloc: Global, bytes: &[u8]) -> Result<(SeriesKey, &[u8]), PageFault>
-    ensures { GivesUnless PageFault.Memory (λ x. (x.0, x.1.now)) result (key_at bytes.now) }
+    ensures read { GivesUnless PageFault.Memory (λ x. (x.0, x.1.now)) result (key_at bytes.now) }
+    ensures memory { NeedsMemoryAfter PageFault.Memory (key_at bytes.now) result }
 {
     let (len, rest) = u16_at(bytes)?;
     let len = len as usize;
@@ -30,8 +33,10 @@ fn key_of(alloc: Global, bytes: &[u8]) -> Result<(SeriesKey, &[u8]), PageFault>
     let (text, rest) = bytes_at(rest, len)?;
     match SeriesKey::parse_text(alloc, text) {
         Ok(key) => Ok((key, rest)),
-        Err(KeyFault::BadKey) => Err(PageFault::BadKey),
-        Err(_) => Err(PageFault::Memory),
+        Err(fault) => match fault {
+            KeyFault::BadKey => Err(PageFault::BadKey),
+            _ => Err(PageFault::Memory),
+        },
     }
 }
 
@@ -48,10 +53,19 @@ fn archive_of<'a>(bytes: &'a [u8], schema: &Schema) -> Result<(u8, &'a [u8]), Pa
     Ok((archive, rest))
 }
 
+/// A mask, and what follows it.
+fn mask_of(bytes: &[u8], version: Version) -> Result<(Mask, &[u8]), PageFault>
+    ensures { Gives (λ x. (x.0, x.1.now)) result (number_at (mask_width version) bytes.now) }
+{
+    match version {
+        Version::One => u64_at(bytes),
+    }
+}
+
 /// The fields of a contribution, and what follows them.
 #[tactic(auto, unfolding(crate::specs::Reading::contribution_at))]
-fn contribution_of(bytes: &[u8]) -> Result<(Contribution, &[u8]), PageFault>
-    ensures { Gives (λ x. (x.0, x.1.now)) result (contribution_at bytes.now) }
+fn contribution_of(bytes: &[u8], layout: Version) -> Result<(Contribution, &[u8]), PageFault>
+    ensures { Gives (λ x. (x.0, x.1.now)) result (contribution_at layout bytes.now) }
 {
     let (version, rest) = u64_at(bytes)?;
     let (count, rest) = u64_at(rest)?;
@@ -60,7 +74,7 @@ fn contribution_of(bytes: &[u8]) -> Result<(Contribution, &[u8]), PageFault>
     let (max, rest) = i64_at(rest)?;
     let (last_time, rest) = i64_at(rest)?;
     let (last_value, rest) = i64_at(rest)?;
-    let (mask, rest) = u64_at(rest)?;
+    let (mask, rest) = mask_of(rest, layout)?;
     let contribution = Contribution {
         version,
         count,
@@ -80,15 +94,17 @@ pub(crate) fn cell_of<'a>(
     alloc: Global,
     bytes: &'a [u8],
     schema: &Schema,
+    version: Version,
 ) -> Result<(Cell, &'a [u8]), PageFault>
-    ensures read { GivesUnless PageFault.Memory (λ x. (owned_cell x.0, x.1.now)) result (cell_at schema.now bytes.now) }
+    ensures read { GivesUnless PageFault.Memory (λ x. (owned_cell x.0, x.1.now)) result (cell_at version schema.now bytes.now) }
+    ensures memory { NeedsMemoryAfter PageFault.Memory (key_at bytes.now) result }
     ensures valid { IfOk result (λ x. IsCell schema.now x.0) }
 {
     let (key, rest) = key_of(alloc, bytes)?;
     let (archive, rest) = archive_of(rest, schema)?;
     let (slot, rest) = i64_at(rest)?;
     let (origin, rest) = u16_at(rest)?;
-    let (contribution, rest) = contribution_of(rest)?;
+    let (contribution, rest) = contribution_of(rest, version)?;
     let origin = match Origin::new(origin) {
         Ok(origin) => origin,
         Err(_) => return Err(PageFault::BadContribution),
@@ -106,19 +122,23 @@ pub(crate) fn cell_of<'a>(
     Ok((cell, rest))
 }
 
-/// The cell at the front of the bytes, one of the schema's and valid there, and how many bytes it
-/// has. Bytes may follow it.
+/// The cell at the front of the bytes, in the latest version, one of the schema's and valid there,
+/// and how many bytes it takes. Bytes may follow it.
 ///
 /// Refusals are those of the first bad field: `Short` where fewer bytes are left than a field has;
 /// `BadKey` where the length of the key is 0 or above 1,024, before its text is read, or the text is
 /// not a key text; `BadArchive`; and after the last field `BadContribution`, for the origin 0 too.
-/// `Memory` may stand in place of what follows the key. The cost is linear in the key text.
+/// `Memory` comes only where the key is good. The cost is linear in the key text.
 pub fn read_cell(alloc: Global, bytes: &[u8], schema: &Schema) -> Result<(Cell, usize), PageFault>
-    ensures read { GivesUnless PageFault.Memory (λ x. owned_cell x.0) result (first_of (cell_at schema.now bytes.now)) }
+    ensures read { GivesUnless PageFault.Memory (λ x. (owned_cell x.0, drop x.1 bytes.now)) result
+        (cell_at latest schema.now bytes.now) }
+    ensures memory { NeedsMemoryAfter PageFault.Memory (key_at bytes.now) result }
+    ensures text { IfOk result (λ x. bytes.now ≡ cell_text latest (owned_cell x.0) ++ drop x.1 bytes.now) }
+    ensures len { IfOk result (λ x. x.1 ≡ length (cell_text latest (owned_cell x.0))) }
+    ensures cell { IfOk result (λ x. IsCellOf schema.now (owned_cell x.0)) }
     ensures valid { IfOk result (λ x. IsCell schema.now x.0) }
-    ensures len { IfOk result (λ x. x.1 ≡ length (cell_text (owned_cell x.0))) }
 {
-    let (cell, _) = cell_of(alloc, bytes, schema)?;
-    let len = FIELDS_LEN + cell.key.text().len();
+    let (cell, rest) = cell_of(alloc, bytes, schema, LATEST)?;
+    let len = bytes.len() - rest.len();
     Ok((cell, len))
 }

@@ -1,6 +1,7 @@
 //! A cell as bytes.
 ghost use Rattle.std.specs.Prelude.{◌≡◌, ◌++◌, IfOk, OnOk};
 ghost use Rattle.rr_page.specs.CellText.{sums_text, values_text, name_text, cell_text};
+ghost use Rattle.rr_page.specs.Version.{latest};
 ghost use Rattle.rr_archive.specs.CellSlots.{cell_slot};
 ghost use Rattle.rr_replica.specs.Cells.{name_at};
 ghost use Rattle.rr_replica.specs.Listing.{seen_cell};
@@ -12,7 +13,7 @@ use rr_replica::CellRef;
 use std::alloc::{AllocError, Global};
 
 /// How many bytes a cell has besides its key text.
-pub(crate) const FIELDS_LEN: usize = 85;
+const FIELDS_LEN: usize = 85;
 
 /// Adds how many samples a contribution has.
 #[tactic(auto, unfolding(crate::specs::CellText::sums_text))]
@@ -28,7 +29,7 @@ fn push_sums(bytes: &mut Vec<u8>, contribution: &Contribution) -> Result<(), All
 /// Adds which values a contribution has, and at which places.
 #[tactic(auto, unfolding(crate::specs::CellText::values_text))]
 fn push_values(bytes: &mut Vec<u8>, contribution: &Contribution) -> Result<(), AllocError>
-    ensures { OnOk result (bytes.new.items ≡ bytes.old.items ++ values_text contribution.now) }
+    ensures { OnOk result (bytes.new.items ≡ bytes.old.items ++ values_text latest contribution.now) }
 {
     bytes.extend_from_slice(&contribution.min.to_be_bytes())?;
     bytes.extend_from_slice(&contribution.max.to_be_bytes())?;
@@ -58,10 +59,28 @@ fn push_name(
     Ok(())
 }
 
-/// A cell as bytes: 85 bytes and the key text. The cost is linear in the key text.
+/// Adds a cell.
 #[tactic(auto, unfolding(crate::specs::CellText::cell_text))]
+pub(crate) fn push_cell(
+    bytes: &mut Vec<u8>,
+    key: &SeriesKey,
+    archive: u8,
+    slot: i64,
+    origin: Origin,
+    contribution: &Contribution,
+) -> Result<(), AllocError>
+    ensures { OnOk result (bytes.new.items ≡ bytes.old.items ++ cell_text latest (name_at key.now archive (cell_slot slot origin), contribution.now)) }
+{
+    push_name(bytes, key, archive, slot, origin)?;
+    push_sums(bytes, contribution)?;
+    push_values(bytes, contribution)?;
+    Ok(())
+}
+
+/// A cell as bytes in the latest version: 85 bytes and the key text. The cost is linear in the key
+/// text.
 pub fn cell_bytes(alloc: Global, cell: CellRef<'_>) -> Result<Vec<u8>, AllocError>
-    ensures { IfOk result (λ bytes. bytes.items ≡ cell_text (seen_cell cell.entry)) }
+    ensures { IfOk result (λ bytes. bytes.items ≡ cell_text latest (seen_cell cell.entry)) }
 {
     let CellRef {
         key,
@@ -71,8 +90,6 @@ pub fn cell_bytes(alloc: Global, cell: CellRef<'_>) -> Result<Vec<u8>, AllocErro
         contribution,
     } = cell;
     let mut bytes = Vec::with_capacity(alloc, FIELDS_LEN + key.text().len())?;
-    push_name(&mut bytes, key, archive, slot, origin)?;
-    push_sums(&mut bytes, &contribution)?;
-    push_values(&mut bytes, &contribution)?;
+    push_cell(&mut bytes, key, archive, slot, origin, &contribution)?;
     Ok(bytes)
 }

@@ -1,0 +1,79 @@
+-- What a page has before its cells is read exactly where its text is.
+use Rattle.std.proofs.Common.{◌≡◌, ℕ, ◌≤◌, Bool, List, [], ◌∷◌, ◌++◌, length, Ok, refl, ap, subst, ◌∙◌, append_assoc, arith}
+use Rattle.std.specs.Prelude.{nat_lt, nat_eq, not, ◌==◌}
+use Rattle.std.specs.Cmp.Lexicographic.{pointwise, bytes_decides}
+use Rattle.std.specs.Int.{w8, w16, to_be_bytes}
+use Rattle.std.proofs.lemmas.Bool.{ltb-false, le-ltb, eqb-true}
+use Rattle.rr_base.specs.declared.limits.TheConstants.{MAX_PAGE_CELLS}
+use Rattle.rr_base.specs.Results.{◌>>=◌, unless}
+use Rattle.rr_base.specs.Schema.{Layout}
+use Rattle.rr_base.specs.SchemaBytes.{schema_bytes}
+use Rattle.rr_page.specs.declared.fault.PageFault.TheVariants.{BadMagic, BadVersion, SchemaDiffers, TooManyCells}
+use Rattle.rr_page.specs.declared.version.Version.{Version}
+use Rattle.rr_page.specs.declared.version.Version.TheVariants.{One}
+use Rattle.rr_page.specs.Laws.{AreBytes}
+use Rattle.rr_page.specs.Page.{magic, head_text}
+use Rattle.rr_page.specs.PageReading.{version_at, start_at, schema_at, head_at}
+use Rattle.rr_page.specs.Reading.{front_at, number_at}
+use Rattle.rr_page.specs.Version.{version_byte}
+use Rattle.rr_page.proofs.FieldLemmas.{not_false, and_then, unless_ok, ok_is, Takes, front_takes, front_again, number_takes, number_again, with_number, with_ok, step}
+use Rattle.rr_page.proofs.NumberLemmas.{wide8, wide16}
+
+version_takes : (bytes : List ℕ) (v : Version) (rest : List ℕ) → AreBytes bytes → version_at bytes ≡ Ok (v, rest) → Takes bytes (version_byte v ∷ []) rest
+unfolding version_at
+version_takes bytes v rest fits e =
+    with_number w8 wide8 bytes _ (v, rest) fits e (λ n r t lt e0.
+    let g = unless_ok BadVersion (not (n == 1)) (Ok (One, r)) (v, rest) e0 in
+    let one : n ≡ 1 = eqb-true n 1 (not_false (n == 1) g.0) in
+    subst (λ (p : Version × List ℕ). Takes bytes (version_byte p.0 ∷ []) p.1) (ok_is (One, r) (v, rest) g.1)
+    (subst (λ (m : ℕ). Takes bytes (to_be_bytes w8 m) r) one t))
+
+version_again : (v : Version) (rest : List ℕ) → version_at (version_byte v ∷ rest) ≡ Ok (v, rest)
+unfolding version_at
+version_again One rest = step _ (number_again w8 wide8 1 rest (omega arith))
+
+start_takes : (bytes : List ℕ) (v : Version) (rest : List ℕ) → AreBytes bytes → start_at bytes ≡ Ok (v, rest) → Takes bytes (magic ++ (version_byte v ∷ [])) rest
+unfolding start_at
+start_takes bytes v rest fits e =
+    with_ok (front_at 4 bytes) _ (v, rest) e (λ start i e0.
+    let t = front_takes 4 bytes start.0 start.1 fits i in
+    let g = unless_ok BadMagic (not (pointwise nat_eq start.0 magic)) (version_at start.1) (v, rest) e0 in
+    let same = (bytes_decides start.0 magic).0 (not_false (pointwise nat_eq start.0 magic) g.0) in
+    and_then (subst (λ (l : List ℕ). Takes bytes l start.1) same t.0) (version_takes start.1 v rest t.0.rest_fits g.1))
+
+pub start_again : (v : Version) (rest : List ℕ) → start_at (magic ++ (version_byte v ∷ rest)) ≡ Ok (v, rest)
+unfolding start_at
+start_again v rest = step _ (front_again 4 magic (version_byte v ∷ rest) refl) ∙ version_again v rest
+
+pub head_takes : (s : Layout) (bytes : List ℕ) (v : Version) (n : ℕ) (rest : List ℕ) → AreBytes bytes → head_at s bytes ≡ Ok ((v, n), rest) → Takes bytes (head_text v s n) rest × (n ≤ MAX_PAGE_CELLS)
+unfolding head_at schema_at head_text
+head_takes s bytes v n rest fits e =
+    with_ok (schema_at s bytes) _ ((v, n), rest) e (λ field i0 e0.
+    with_ok (start_at bytes) _ field i0 (λ version i1 e1.
+    with_ok (front_at (length (schema_bytes s)) version.1) _ field e1 (λ own i2 e2.
+    with_ok (unless SchemaDiffers (not (pointwise nat_eq field.0.1 (schema_bytes s))) (number_at w16 field.1)) _ ((v, n), rest) e0 (λ count i3 e3.
+    let is = ok_is ((version.0, own.0), own.1) field e2 in
+    let g = unless_ok SchemaDiffers (not (pointwise nat_eq field.0.1 (schema_bytes s))) (number_at w16 field.1) count i3 in
+    let h = unless_ok TooManyCells (nat_lt MAX_PAGE_CELLS count.0) (Ok ((field.0.0, count.0), count.1)) ((v, n), rest) e3 in
+    let t0 = start_takes bytes version.0 version.1 fits i1 in
+    let t1 = front_takes (length (schema_bytes s)) version.1 own.0 own.1 t0.rest_fits i2 in
+    let same : own.0 ≡ schema_bytes s = ap (λ (p : (Version × List ℕ) × List ℕ). p.0.1) is ∙ (bytes_decides field.0.1 (schema_bytes s)).0 (not_false (pointwise nat_eq field.0.1 (schema_bytes s)) g.0) in
+    let left : own.1 ≡ field.1 = ap (λ (p : (Version × List ℕ) × List ℕ). p.1) is in
+    let which : version.0 ≡ field.0.0 = ap (λ (p : (Version × List ℕ) × List ℕ). p.0.0) is in
+    let t2 = number_takes w16 wide16 own.1 count.0 count.1 t1.0.rest_fits (ap (number_at w16) left ∙ g.1) in
+    let t3 : Takes version.1 (schema_bytes s) own.1 = subst (λ (l : List ℕ). Takes version.1 l own.1) same t1.0 in
+    let whole : Takes bytes ((magic ++ (version_byte field.0.0 ∷ [])) ++ (schema_bytes s ++ to_be_bytes w16 count.0)) count.1 = subst (λ (u : Version). Takes bytes ((magic ++ (version_byte u ∷ [])) ++ (schema_bytes s ++ to_be_bytes w16 count.0)) count.1) which (and_then t0 (and_then t3 t2.0)) in
+    subst (λ (p : (Version × ℕ) × List ℕ). Takes bytes (magic ++ (version_byte p.0.0 ∷ (schema_bytes s ++ to_be_bytes w16 p.0.1))) p.1 × (p.0.1 ≤ MAX_PAGE_CELLS)) (ok_is ((field.0.0, count.0), count.1) ((v, n), rest) h.1)
+    (whole, ltb-false MAX_PAGE_CELLS count.0 h.0)))))
+
+pub head_again : (s : Layout) (v : Version) (n : ℕ) (rest : List ℕ) → n ≤ MAX_PAGE_CELLS → head_at s (head_text v s n ++ rest) ≡ Ok ((v, n), rest)
+unfolding head_at schema_at head_text
+head_again s v n rest few =
+    let after = to_be_bytes w16 n ++ rest in
+    let parted : head_text v s n ++ rest ≡ magic ++ (version_byte v ∷ (schema_bytes s ++ after)) = ap (λ (l : List ℕ). magic ++ (version_byte v ∷ l)) (append_assoc (schema_bytes s) (to_be_bytes w16 n) rest) in
+    let field : schema_at s (magic ++ (version_byte v ∷ (schema_bytes s ++ after))) ≡ Ok ((v, schema_bytes s), after) = step _ (start_again v (schema_bytes s ++ after)) ∙ step _ (front_again (length (schema_bytes s)) (schema_bytes s) after refl) in
+    ap (head_at s) parted
+    ∙ step _ field
+    ∙ ap (λ (b : Bool). unless SchemaDiffers (not b) (number_at w16 after) >>= λ (count : ℕ × List ℕ). unless TooManyCells (nat_lt MAX_PAGE_CELLS count.0) (Ok ((v, count.0), count.1))) ((bytes_decides (schema_bytes s) (schema_bytes s)).1 refl)
+    ∙ step _ (number_again w16 wide16 n rest (omega arith))
+    ∙ ap (λ (b : Bool). unless TooManyCells b (Ok ((v, n), rest))) (le-ltb MAX_PAGE_CELLS n few)

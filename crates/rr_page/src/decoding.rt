@@ -1,0 +1,107 @@
+//! The cells of a page, from its bytes.
+ghost use Rattle.std.specs.Prelude.{◌≡◌, List, All, IfOk, Ok, None, Some, map};
+ghost use Rattle.rr_base.specs.Schema.{IsLayout};
+ghost use Rattle.rr_base.specs.Results.{GivesUnless, NeedsMemoryAfter};
+ghost use Rattle.rr_page.specs.Page.{IsPage, IsPageText};
+ghost use Rattle.rr_page.specs.PageReading.{is_after, last_name, schema_at, cells_at, page_at};
+ghost use Rattle.rr_replica.specs.CellBounds.{NamedCell, IsCellOf};
+ghost use Rattle.rr_replica.specs.Joining.{IsCell};
+ghost use Rattle.rr_replica.specs.Listing.{owned_cell};
+
+use crate::fault::PageFault;
+use crate::heading::head_of;
+use crate::reading::cell_of;
+use crate::version::Version;
+use rr_base::Schema;
+use rr_replica::Cell;
+use std::alloc::Global;
+
+/// Whether the name of a cell is greater than that of another.
+fn follows(before: &Cell, cell: &Cell) -> bool
+    ensures { result ≡ is_after (Some (owned_cell before.now).0) (owned_cell cell.now).0 }
+{
+    let cell_slot = before
+        .slot
+        .cmp(&cell.slot)
+        .then(before.origin.cmp(&cell.origin));
+    let name = before
+        .key
+        .cmp(&cell.key)
+        .then(before.archive.cmp(&cell.archive).then(cell_slot));
+    name.is_lt()
+}
+
+/// Whether the name of a cell is greater than that of the last of the cells before it.
+fn is_next(cells: &[Cell], cell: &Cell) -> bool
+    ensures { result ≡ is_after (last_name (map owned_cell cells.now)) (owned_cell cell.now).0 }
+{
+    match cells.last() {
+        None => true,
+        Some(before) => follows(before, cell),
+    }
+}
+
+/// `count` cells, and what follows them.
+fn cells_of<'a>(
+    alloc: Global,
+    version: Version,
+    count: u16,
+    bytes: &'a [u8],
+    schema: &Schema,
+) -> Result<(Vec<Cell>, &'a [u8]), PageFault>
+    ensures { GivesUnless PageFault.Memory (λ x. (map owned_cell x.0.items, x.1.now)) result
+        (cells_at version schema.now None count bytes.now) }
+{
+    let mut cells = Vec::new(alloc);
+    let mut rest = bytes;
+    for _ in 0..count {
+        let (cell, after) = cell_of(alloc, rest, schema, version)?;
+        if !is_next(&cells, &cell) {
+            return Err(PageFault::OutOfOrder);
+        }
+        cells.push(cell)?;
+        rest = after;
+    }
+    Ok((cells, rest))
+}
+
+/// The cells of the page that all of the bytes are.
+#[tactic(auto, unfolding(crate::specs::PageReading::page_at, crate::specs::PageReading::front_page_at))]
+fn page_of(alloc: Global, bytes: &[u8], schema: &Schema) -> Result<Vec<Cell>, PageFault>
+    ensures read { GivesUnless PageFault.Memory (λ cells. map owned_cell cells.items) result
+        (page_at schema.now bytes.now) }
+    ensures memory { NeedsMemoryAfter PageFault.Memory (schema_at schema.now bytes.now) result }
+{
+    let (version, count, rest) = head_of(alloc, bytes, schema)?;
+    let (cells, rest) = cells_of(alloc, version, count, rest, schema)?;
+    if !rest.is_empty() {
+        return Err(PageFault::TrailingBytes);
+    }
+    Ok(cells)
+}
+
+/// The cells of the page that the bytes are, each one of the schema's and valid there, ascending by
+/// their names.
+///
+/// Refusals are those of the first bad field: `Short` where fewer bytes are left than a field has;
+/// `BadMagic`; `BadVersion`; `SchemaDiffers`, once as many bytes are read as the schema has;
+/// `TooManyCells` above 256; for each cell those of [`read_cell`](crate::read_cell), and then
+/// `OutOfOrder` where its name is not greater than the one before; and last `TrailingBytes`. `Memory`
+/// comes only once the bytes of the schema are read. The cost is linear in the bytes.
+pub fn decode(alloc: Global, bytes: &[u8], schema: &Schema) -> Result<Vec<Cell>, PageFault>
+    // What is found is a page of the schema, and the bytes are its text.
+    ensures found { IfOk result (λ cells. IsPage schema.now (map owned_cell cells.items)
+        × IsPageText schema.now (map owned_cell cells.items) bytes.now) }
+    // Where the bytes are the text of a page, its cells are found, unless memory ran out.
+    ensures only { (es : List NamedCell) → IsPage schema.now es → IsPageText schema.now es bytes.now
+        → GivesUnless PageFault.Memory (λ cells. map owned_cell cells.items) result (Ok es) }
+    // Which fault is answered.
+    ensures exact { GivesUnless PageFault.Memory (λ cells. map owned_cell cells.items) result
+        (page_at schema.now bytes.now) }
+    ensures memory { NeedsMemoryAfter PageFault.Memory (schema_at schema.now bytes.now) result }
+    ensures cells { IfOk result (λ cells. All (λ c. IsCellOf schema.now (owned_cell c)) cells.items) }
+    ensures valid { IfOk result (λ cells. All (IsCell schema.now) cells.items) }
+{
+    let _archives = schema.archives();
+    page_of(alloc, bytes, schema)
+}

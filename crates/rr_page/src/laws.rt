@@ -1,0 +1,18 @@
+//! The laws of the bytes of cells and pages, with no work to do: the functions have empty bodies.
+ghost use Rattle.rr_page.specs.Laws.{CellsAreTheirText, PagesAreTheirText, NoPageBeginsAnother};
+
+/// A cell is read exactly where the bytes begin with the text of a cell of the schema, and what
+/// follows it is left.
+pub fn cells_are_their_text()
+    ensures { CellsAreTheirText }
+{}
+
+/// A page is read exactly where the bytes are the text of a page of the schema.
+pub fn pages_are_their_text()
+    ensures { PagesAreTheirText }
+{}
+
+/// No page's bytes begin those of another page.
+pub fn no_page_begins_another()
+    ensures { NoPageBeginsAnother }
+{}
