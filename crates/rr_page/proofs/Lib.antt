@@ -8,3 +8,4 @@ pub mod CellsLemmas
 pub mod LoopLemmas
 pub mod HeadLemmas
 pub mod PageLemmas
+pub mod FrontLemmas

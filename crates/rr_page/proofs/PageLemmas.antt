@@ -51,7 +51,7 @@ front_page_takes s bytes x fits e =
       takes = and_then (subst (λ (n : ℕ). Takes bytes (head_text head.0.0 s n) head.1) (sym t1.many) t0.0) t1.takes;
     })
 
-front_page_again : (v : Version) (s : Layout) (es : List NamedCell) (rest : List ℕ) → IsLayout s → HasMasksFor v s → IsPage s es → front_page_at s (page_text v s es ++ rest) ≡ Ok (es, rest)
+pub front_page_again : (v : Version) (s : Layout) (es : List NamedCell) (rest : List ℕ) → IsLayout s → HasMasksFor v s → IsPage s es → front_page_at s (page_text v s es ++ rest) ≡ Ok (es, rest)
 unfolding front_page_at page_text
 front_page_again v s es rest layout wide page =
     ap (front_page_at s) (append_assoc (head_text v s (length es)) (flat_map (cell_text v) es) rest)

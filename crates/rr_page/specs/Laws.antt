@@ -1,7 +1,8 @@
 -- The laws of the bytes of cells and pages.
-use Rattle.std.specs.Prelude.{◌≡◌, ℕ, ◌<◌, ◌^◌, ◌↔◌, List, ◌++◌, Ok, All}
+use Rattle.std.specs.Prelude.{◌≡◌, ℕ, ◌<◌, ◌^◌, ◌↔◌, ◌≤◌, List, ◌++◌, length, Ok, Err, All}
 use Rattle.rr_base.specs.Schema.{Layout, IsLayout}
 use Rattle.rr_replica.specs.CellBounds.{NamedCell, IsCellOf}
+use Rattle.rr_page.specs.declared.fault.PageFault.TheVariants.{Short}
 use Rattle.rr_page.specs.declared.version.Version.{Version}
 use Rattle.rr_page.specs.CellText.{cell_text}
 use Rattle.rr_page.specs.Page.{IsPage, IsPageText, page_text}
@@ -33,3 +34,9 @@ NoPageBeginsAnother =
     (v w : Version) (s t : Layout) (es fs : List NamedCell) (x y : List ℕ) → IsLayout s → IsLayout t
     → HasMasksFor v s → HasMasksFor w t → IsPage s es → IsPage t fs → page_text v s es ++ x ≡ page_text w t fs ++ y
     → (v ≡ w) × (s ≡ t) × (es ≡ fs) × (x ≡ y)
+
+-- the bytes of a page without some at the end are Short
+abbrev pub FrontsAreShort : Type 0
+FrontsAreShort =
+    (v : Version) (s : Layout) (es : List NamedCell) (front rest : List ℕ) → IsLayout s → HasMasksFor v s → IsPage s es
+    → page_text v s es ≡ front ++ rest → 1 ≤ length rest → page_at s front ≡ Err Short

@@ -93,7 +93,8 @@ pub fn decode(alloc: Global, bytes: &[u8], schema: &Schema) -> Result<Vec<Cell>,
     ensures found { IfOk result (λ cells. IsPage schema.now (map owned_cell cells.items)
         × IsPageText schema.now (map owned_cell cells.items) bytes.now) }
     // Where the bytes are the text of a page, its cells are found, unless memory ran out.
-    ensures only { (es : List NamedCell) → IsPage schema.now es → IsPageText schema.now es bytes.now
+    ensures only { (es : List NamedCell)
+        → IsPage schema.now es → IsPageText schema.now es bytes.now
         → GivesUnless PageFault.Memory (λ cells. map owned_cell cells.items) result (Ok es) }
     // Which fault is answered.
     ensures exact { GivesUnless PageFault.Memory (λ cells. map owned_cell cells.items) result
@@ -102,6 +103,6 @@ pub fn decode(alloc: Global, bytes: &[u8], schema: &Schema) -> Result<Vec<Cell>,
     ensures cells { IfOk result (λ cells. All (λ c. IsCellOf schema.now (owned_cell c)) cells.items) }
     ensures valid { IfOk result (λ cells. All (IsCell schema.now) cells.items) }
 {
-    let _archives = schema.archives();
+    let _archives = schema.archives(); // their contract says that the schema is within its limits
     page_of(alloc, bytes, schema)
 }

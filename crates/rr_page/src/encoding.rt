@@ -13,7 +13,8 @@ use std::alloc::{AllocError, Global};
 
 /// Adds a cell.
 fn push_owned(bytes: &mut Vec<u8>, cell: &Cell) -> Result<(), AllocError>
-    ensures { OnOk result (bytes.new.items ≡ bytes.old.items ++ cell_text latest (owned_cell cell.now)) }
+    ensures { OnOk result
+        (bytes.new.items ≡ bytes.old.items ++ cell_text latest (owned_cell cell.now)) }
 {
     push_cell(
         bytes,
@@ -30,7 +31,8 @@ fn push_owned(bytes: &mut Vec<u8>, cell: &Cell) -> Result<(), AllocError>
 #[tactic(auto, unfolding(crate::specs::Page::page_text))]
 pub fn encode(alloc: Global, schema: &Schema, cells: &[Cell]) -> Result<Vec<u8>, AllocError>
     requires { IsPage schema.now (map owned_cell cells.now) }
-    ensures { IfOk result (λ bytes. bytes.items ≡ page_text latest schema.now (map owned_cell cells.now)) }
+    ensures { IfOk result (λ bytes.
+        bytes.items ≡ page_text latest schema.now (map owned_cell cells.now)) }
 {
     let mut bytes = Vec::new(alloc);
     push_head(alloc, &mut bytes, schema, cells.len() as u16)?;

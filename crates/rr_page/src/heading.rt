@@ -87,7 +87,8 @@ pub(crate) fn push_head(
     schema: &Schema,
     count: u16,
 ) -> Result<(), AllocError>
-    ensures { OnOk result (bytes.new.items ≡ bytes.old.items ++ head_text latest schema.now count) }
+    ensures { OnOk result
+        (bytes.new.items ≡ bytes.old.items ++ head_text latest schema.now count) }
 {
     let own = schema.bytes(alloc)?;
     bytes.extend_from_slice(&MAGIC)?;

@@ -1,5 +1,5 @@
 //! The laws of the bytes of cells and pages, with no work to do: the functions have empty bodies.
-ghost use Rattle.rr_page.specs.Laws.{CellsAreTheirText, PagesAreTheirText, NoPageBeginsAnother};
+ghost use Rattle.rr_page.specs.Laws.{CellsAreTheirText, PagesAreTheirText, NoPageBeginsAnother, FrontsAreShort};
 
 /// A cell is read exactly where the bytes begin with the text of a cell of the schema, and what
 /// follows it is left.
@@ -15,4 +15,9 @@ pub fn pages_are_their_text()
 /// No page's bytes begin those of another page.
 pub fn no_page_begins_another()
     ensures { NoPageBeginsAnother }
+{}
+
+/// The bytes of a page that is cut short are refused as `Short`, wherever it is cut.
+pub fn fronts_are_short()
+    ensures { FrontsAreShort }
 {}

@@ -96,7 +96,8 @@ pub(crate) fn cell_of<'a>(
     schema: &Schema,
     version: Version,
 ) -> Result<(Cell, &'a [u8]), PageFault>
-    ensures read { GivesUnless PageFault.Memory (λ x. (owned_cell x.0, x.1.now)) result (cell_at version schema.now bytes.now) }
+    ensures read { GivesUnless PageFault.Memory (λ x. (owned_cell x.0, x.1.now)) result
+        (cell_at version schema.now bytes.now) }
     ensures memory { NeedsMemoryAfter PageFault.Memory (key_at bytes.now) result }
     ensures valid { IfOk result (λ x. IsCell schema.now x.0) }
 {
@@ -133,7 +134,8 @@ pub fn read_cell(alloc: Global, bytes: &[u8], schema: &Schema) -> Result<(Cell, 
     ensures read { GivesUnless PageFault.Memory (λ x. (owned_cell x.0, drop x.1 bytes.now)) result
         (cell_at latest schema.now bytes.now) }
     ensures memory { NeedsMemoryAfter PageFault.Memory (key_at bytes.now) result }
-    ensures text { IfOk result (λ x. bytes.now ≡ cell_text latest (owned_cell x.0) ++ drop x.1 bytes.now) }
+    ensures text { IfOk result (λ x.
+        bytes.now ≡ cell_text latest (owned_cell x.0) ++ drop x.1 bytes.now) }
     ensures len { IfOk result (λ x. x.1 ≡ length (cell_text latest (owned_cell x.0))) }
     ensures cell { IfOk result (λ x. IsCellOf schema.now (owned_cell x.0)) }
     ensures valid { IfOk result (λ x. IsCell schema.now x.0) }

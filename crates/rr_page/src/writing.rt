@@ -29,7 +29,8 @@ fn push_sums(bytes: &mut Vec<u8>, contribution: &Contribution) -> Result<(), All
 /// Adds which values a contribution has, and at which places.
 #[tactic(auto, unfolding(crate::specs::CellText::values_text))]
 fn push_values(bytes: &mut Vec<u8>, contribution: &Contribution) -> Result<(), AllocError>
-    ensures { OnOk result (bytes.new.items ≡ bytes.old.items ++ values_text latest contribution.now) }
+    ensures { OnOk result
+        (bytes.new.items ≡ bytes.old.items ++ values_text latest contribution.now) }
 {
     bytes.extend_from_slice(&contribution.min.to_be_bytes())?;
     bytes.extend_from_slice(&contribution.max.to_be_bytes())?;
@@ -48,7 +49,9 @@ fn push_name(
     slot: i64,
     origin: Origin,
 ) -> Result<(), AllocError>
-    ensures { OnOk result (bytes.new.items ≡ bytes.old.items ++ name_text (name_at key.now archive (cell_slot slot origin))) }
+    ensures { OnOk result
+        (bytes.new.items
+        ≡ bytes.old.items ++ name_text (name_at key.now archive (cell_slot slot origin))) }
 {
     let text = key.text();
     bytes.extend_from_slice(&(text.len() as u16).to_be_bytes())?;
@@ -69,7 +72,9 @@ pub(crate) fn push_cell(
     origin: Origin,
     contribution: &Contribution,
 ) -> Result<(), AllocError>
-    ensures { OnOk result (bytes.new.items ≡ bytes.old.items ++ cell_text latest (name_at key.now archive (cell_slot slot origin), contribution.now)) }
+    ensures { OnOk result
+        (bytes.new.items ≡ bytes.old.items
+        ++ cell_text latest (name_at key.now archive (cell_slot slot origin), contribution.now)) }
 {
     push_name(bytes, key, archive, slot, origin)?;
     push_sums(bytes, contribution)?;
