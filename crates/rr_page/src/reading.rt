@@ -4,7 +4,7 @@ ghost use Rattle.rr_base.specs.Schema.{IsLayout};
 ghost use Rattle.rr_base.specs.Results.{Gives, GivesUnless};
 ghost use Rattle.rr_page.specs.CellText.{cell_text};
 ghost use Rattle.rr_page.specs.Reading.{key_at, archive_at, contribution_at, cell_at, first_of};
-ghost use Rattle.rr_replica.specs.Joining.{IsCell};
+ghost use Rattle.rr_replica.specs.CellBounds.{IsCellOf};
 ghost use Rattle.rr_replica.specs.Listing.{owned_cell};
 
 use crate::fault::PageFault;
@@ -82,7 +82,7 @@ pub(crate) fn cell_of<'a>(
     schema: &Schema,
 ) -> Result<(Cell, &'a [u8]), PageFault>
     ensures read { GivesUnless PageFault.Memory (λ x. (owned_cell x.0, x.1.now)) result (cell_at schema.now bytes.now) }
-    ensures valid { IfOk result (λ x. IsCell schema.now x.0) }
+    ensures valid { IfOk result (λ x. IsCellOf schema.now (owned_cell x.0)) }
 {
     let (key, rest) = key_of(alloc, bytes)?;
     let (archive, rest) = archive_of(rest, schema)?;
@@ -115,7 +115,7 @@ pub(crate) fn cell_of<'a>(
 /// `Memory` may stand in place of what follows the key. The cost is linear in the key text.
 pub fn read_cell(alloc: Global, bytes: &[u8], schema: &Schema) -> Result<(Cell, usize), PageFault>
     ensures read { GivesUnless PageFault.Memory (λ x. owned_cell x.0) result (first_of (cell_at schema.now bytes.now)) }
-    ensures valid { IfOk result (λ x. IsCell schema.now x.0) }
+    ensures valid { IfOk result (λ x. IsCellOf schema.now (owned_cell x.0)) }
     ensures len { IfOk result (λ x. x.1 ≡ length (cell_text (owned_cell x.0))) }
 {
     let (cell, _) = cell_of(alloc, bytes, schema)?;
