@@ -3,6 +3,7 @@ pub mod SeriesLemmas
 pub mod Putting
 pub mod Each
 pub mod Shown
+pub mod CellBoundsLemmas
 pub mod HoldingLemmas
 pub mod HeldLemmas
 pub mod InOrder

@@ -1,18 +1,17 @@
 -- Cells as they are read, and how many there are.
 use Rattle.std.specs.Prelude.{ℕ, ◌+◌, ◌-◌, ◌^◌, nat_le, List, [], ◌∷◌, if◌then◌else◌}
 use Rattle.std.specs.FinMap.{len}
-use Rattle.rr_contrib.specs.declared.contribution.Contribution.{Contribution}
 use Rattle.rr_archive.specs.Cells.{Rows}
-use Rattle.rr_model.specs.CellNames.{CellName}
+use Rattle.rr_replica.specs.CellBounds.{NamedCell}
 use Rattle.rr_replica.specs.declared.cell.CellRef.{CellRef}
 use Rattle.rr_replica.specs.declared.cell.Cell.{Cell}
 
 -- a cell with its key lent, as a name and what stands there
-abbrev pub seen_cell : CellRef → CellName × Contribution
+abbrev pub seen_cell : CellRef → NamedCell
 seen_cell c = (record { key = c.key.now; archive = c.archive; slot = c.slot; origin = c.origin }, c.contribution)
 
 -- and one that owns it
-abbrev pub owned_cell : Cell → CellName × Contribution
+abbrev pub owned_cell : Cell → NamedCell
 owned_cell c = (record { key = c.key; archive = c.archive; slot = c.slot; origin = c.origin }, c.contribution)
 
 -- how many cells archives hold
