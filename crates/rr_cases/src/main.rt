@@ -15,6 +15,7 @@ mod files;
 mod keys;
 mod kind;
 mod lines;
+mod replicas;
 
 use anyhow::Result;
 use std::process::ExitCode;

@@ -1,0 +1,190 @@
+//! Calls of a replica of origin 1, a line each. The first line says how many archives it has: one of
+//! three rows of one step, or another too of two rows of five steps. A step is a minute.
+//!
+//! | Call | Answer |
+//! |---|---|
+//! | `put TIME VALUE` | the number of the sample, which is of `m v` |
+//! | `write NOW LEAD LINE` | how many fields are put; the lead `-` is none |
+//! | `join ORIGIN NUMBER SLOT VALUE` | `joined`: a cell of one sample of `m v`, at the start of a slot of the first archive |
+//! | `next` | the number of the next sample |
+//! | `cells` | a line for each cell: key, archive, slot, origin, version, count, last value |
+
+ghost use Rattle.std.specs.Prelude.{IfOk};
+ghost use Rattle.rr_replica.specs.CellBounds.{IsCellOf};
+ghost use Rattle.rr_replica.specs.Listing.{owned_cell};
+
+use anyhow::{Context, Result, bail};
+use rr_archive::PlainArchive;
+use rr_base::limits::MAX_NUMBER;
+use rr_base::{ArchiveSpec, Origin, Schema};
+use rr_contrib::Contribution;
+use rr_key::SeriesKey;
+use rr_line::{LINE_FEED, Line, Precision, parse_line};
+use rr_page::{cell_bytes, read_cell};
+use rr_replica::{Cell, CellRef, Replica, WriteFault};
+use std::alloc::{AllocError, Global};
+
+/// The nanoseconds of a step.
+const MINUTE: i64 = 60_000_000_000;
+
+const ARCHIVES: [ArchiveSpec; 2] = [
+    ArchiveSpec {
+        steps: 1,
+        rows: 3,
+        num: 0,
+        den: 1,
+    },
+    ArchiveSpec {
+        steps: 5,
+        rows: 2,
+        num: 1,
+        den: 2,
+    },
+];
+
+/// What the calls answer.
+pub(crate) fn answers(alloc: Global, input: &[u8]) -> Result<Vec<u8>> {
+    let text = str::from_utf8(input)?;
+    let mut lines = text.lines();
+    let count = lines.next().context("an empty file")?.parse::<usize>()?;
+    let archives = ARCHIVES.get(..count).context("not so many archives")?;
+    let schema = Schema::new(alloc, 60, archives)?;
+    let mut replica = Replica::new(alloc, &schema, Origin::new(1)?)?;
+    let mut output = String::new(alloc);
+    for line in lines {
+        push_answer(alloc, &mut replica, line, &mut output)?;
+    }
+    Ok(output.into_bytes())
+}
+
+/// Makes the call of a line, and adds its answer.
+fn push_answer(
+    alloc: Global,
+    replica: &mut Replica<PlainArchive>,
+    line: &str,
+    output: &mut String,
+) -> Result<()> {
+    let (call, words) = first_word(line);
+    match call {
+        "put" => put(alloc, replica, words, output),
+        "write" => write_line(alloc, replica, words, output),
+        "join" => join(alloc, replica, words, output),
+        "next" => Ok(write!(output, "{}\n", replica.next_number())?),
+        "cells" => Ok(push_cells(replica, output)?),
+        _ => bail!("an unknown call"),
+    }
+}
+
+/// The first word, and the words after it.
+fn first_word(words: &str) -> (&str, &str) {
+    words.split_once(' ').unwrap_or((words, ""))
+}
+
+fn put(
+    alloc: Global,
+    replica: &mut Replica<PlainArchive>,
+    words: &str,
+    output: &mut String,
+) -> Result<()> {
+    let (time, value) = first_word(words);
+    let key = SeriesKey::parse_text(alloc, b"m v")?;
+    match replica.put(&key, time.parse()?, value.parse()?) {
+        Ok(number) => Ok(write!(output, "{number}\n")?),
+        Err(fault) => Ok(write!(output, "{}\n", fault.name())?),
+    }
+}
+
+fn write_line(
+    alloc: Global,
+    replica: &mut Replica<PlainArchive>,
+    words: &str,
+    output: &mut String,
+) -> Result<()> {
+    let (now, words) = first_word(words);
+    let (lead, line) = first_word(words);
+    let lead = match lead {
+        "-" => None,
+        number => Some(number.parse::<u64>()?),
+    };
+    let now = now.parse::<i64>()?;
+    match write_point(alloc, replica, line.as_bytes(), now, lead)? {
+        Ok(fields) => Ok(write!(output, "{fields}\n")?),
+        Err(fault) => Ok(write!(output, "{}\n", fault.name())?),
+    }
+}
+
+/// Writes the point of a line.
+fn write_point(
+    alloc: Global,
+    replica: &mut Replica<PlainArchive>,
+    line: &[u8],
+    now: i64,
+    lead: Option<u64>,
+) -> Result<Result<u32, WriteFault>> {
+    if line.contains(&LINE_FEED) {
+        bail!("more than a line");
+    }
+    match parse_line(alloc, line, Precision::Ns)? {
+        Line::Point(point) => Ok(replica.write(&point, now, lead)),
+        Line::Nothing => bail!("a line without a point"),
+    }
+}
+
+fn join(
+    alloc: Global,
+    replica: &mut Replica<PlainArchive>,
+    words: &str,
+    output: &mut String,
+) -> Result<()> {
+    let (origin, words) = first_word(words);
+    let (number, words) = first_word(words);
+    let (slot, value) = first_word(words);
+    let number = number.parse::<u64>()?.clamp(1, MAX_NUMBER);
+    let slot = slot.parse::<i64>()?.clamp(-9, 9);
+    let sample = Contribution::first(number, 0, slot * MINUTE, value.parse()?);
+    let cell = cell_of(alloc, replica.schema(), origin.parse()?, slot, sample)?;
+    replica.join_cell(&cell)?;
+    Ok(output.push_str("joined\n")?)
+}
+
+/// The cell of a contribution, as it is read from its bytes.
+fn cell_of(
+    alloc: Global,
+    schema: &Schema,
+    origin: u16,
+    slot: i64,
+    contribution: Contribution,
+) -> Result<Cell>
+    ensures { IfOk result (λ cell. IsCellOf schema.now (owned_cell cell)) }
+{
+    let key = SeriesKey::parse_text(alloc, b"m v")?;
+    let cell = CellRef {
+        key: &key,
+        archive: 0,
+        slot,
+        origin: Origin::new(origin)?,
+        contribution,
+    };
+    let bytes = cell_bytes(alloc, cell)?;
+    let (cell, _) = read_cell(alloc, &bytes, schema)?;
+    Ok(cell)
+}
+
+fn push_cells(replica: &Replica<PlainArchive>, output: &mut String) -> Result<(), AllocError> {
+    for i in 0..replica.cell_count() {
+        let Some(cell) = replica.cell_at(i) else {
+            return Ok(());
+        };
+        push_cell(output, cell)?;
+    }
+    Ok(())
+}
+
+fn push_cell(output: &mut String, cell: CellRef<'_>) -> Result<(), AllocError> {
+    let key = str::from_utf8(cell.key.text()).unwrap_or("");
+    let (archive, slot, origin) = (cell.archive, cell.slot, cell.origin.get());
+    write!(output, "{key} {archive} {slot} {origin} ")?;
+    let summary = cell.contribution;
+    let (version, count, value) = (summary.version, summary.count, summary.last_value);
+    write!(output, "{version} {count} {value}\n")
+}
