@@ -8,6 +8,8 @@ pub mod HoldingLemmas
 pub mod HeldLemmas
 pub mod InOrder
 pub mod Counted
+pub mod NextCell
+pub mod InTurn
 pub mod PutLaws
 pub mod Values
 pub mod States

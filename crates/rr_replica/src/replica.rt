@@ -1,5 +1,5 @@
 //! A replica of the store.
-ghost use Rattle.std.specs.Prelude.{◌≡◌, ℕ, ◌<◌, ◌≤◌, ◌+◌, ◌↔◌, length, None, Err, IfOk, IfErr, OnOk, OnErr, IsTrue, IsFalse, MatchOption, slice_get, unwrap_or};
+ghost use Rattle.std.specs.Prelude.{◌≡◌, ℕ, ◌<◌, ◌≤◌, ◌+◌, ◌↔◌, length, map, take, drop, None, Err, IfOk, IfErr, OnOk, OnErr, IsTrue, IsFalse, MatchOption, slice_get, unwrap_or};
 ghost use Rattle.std.specs.Option.{option_map};
 ghost use Rattle.std.specs.FinMap as fin;
 ghost use Rattle.rr_base.specs.Schema.{IsLayout};
@@ -12,7 +12,7 @@ ghost use Rattle.rr_replica.specs.Cells.{row_at, rows_at};
 ghost use Rattle.rr_replica.specs.Puts.{put_sample};
 ghost use Rattle.rr_replica.specs.Holding.{Holding, with_put};
 ghost use Rattle.rr_replica.specs.Series.{cells_of};
-ghost use Rattle.rr_replica.specs.Listing.{seen_cell, owned_cell, at_most_usize};
+ghost use Rattle.rr_replica.specs.Listing.{seen_cell, owned_cell, at_most_usize, cell_name, next_cell};
 ghost use Rattle.rr_replica.specs.Held.{held_series, sample_of, IsHolding, IsHeld};
 
 use crate::archives::{empty_archives, put_into};
@@ -20,6 +20,7 @@ use crate::cell::{Cell, CellRef};
 use crate::fault::{JoinFault, PutFault, WriteFault};
 use crate::joining::{join_in, next_after};
 use crate::listing::{count_cells, nth_cell};
+use crate::next::{NameRef, next_cell};
 use crate::sample::Sample;
 use rr_archive::{Archive, Entry};
 use rr_base::limits::MAX_NUMBER;
@@ -191,11 +192,54 @@ impl<A: Archive> Replica<A> {
     }
 
     /// The cell with a number, from 0, in order of key, archive, slot and origin. The cost is linear
-    /// in the series before it and in the rows of its archive.
+    /// in the series before it, each passed over by its count, and in the rows of its archive.
     pub fn cell_at(&self, i: usize) -> Option<CellRef<'_>>
         ensures { option_map seen_cell result ≡ slice_get (fin.entries self.now.cells) i }
     {
         nth_cell(&self.series, i)
+    }
+
+    /// The first cell after a name, in the same order, whether or not a cell is there. The cost is one
+    /// look-up of the key and that of the archives' `next_cell`: no series before the key is walked
+    /// over.
+    pub fn next_cell(
+        &self,
+        key: &SeriesKey,
+        archive: u8,
+        slot: i64,
+        origin: Origin,
+    ) -> Option<CellRef<'_>>
+        ensures { option_map seen_cell result ≡ next_cell self.now.cells (cell_name key.now archive slot origin) }
+    {
+        let name = NameRef {
+            key,
+            archive,
+            slot,
+            origin,
+        };
+        next_cell(&self.series, &name)
+    }
+
+    /// As many cells as `count` from a place on, in the same order; fewer where there are fewer. The
+    /// cost is that of `cell_at` for the first, and for each further cell that of `next_cell`.
+    pub fn cells_from(
+        &self,
+        alloc: Global,
+        from: usize,
+        count: usize,
+    ) -> Result<Vec<Cell>, AllocError>
+        ensures { IfOk result (λ cells. map owned_cell cells.items ≡ take count (drop from (fin.entries self.now.cells))) }
+    {
+        let mut cells = Vec::new(alloc);
+        let mut next = self.cell_at(from);
+        for _ in 0..count {
+            let Some(cell) = next else {
+                return Ok(cells);
+            };
+            cells.push(cell.to_cell()?)?;
+            next = self.next_cell(cell.key, cell.archive, cell.slot, cell.origin);
+        }
+        Ok(cells)
     }
 }
 

@@ -15,4 +15,5 @@ mod reports;
 mod schemas;
 mod scripts;
 mod streams;
+mod walks;
 mod words;
