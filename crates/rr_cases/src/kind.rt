@@ -1,6 +1,6 @@
 //! The kinds of cases.
 
-use crate::{cells, documents, keys, lines};
+use crate::{cells, documents, keys, lines, pages};
 use anyhow::Result;
 use std::alloc::Global;
 
@@ -17,6 +17,8 @@ pub(crate) enum Kind {
     Keys,
     /// A cell in hexadecimal and changes of its bytes, and what each is read as.
     Cell,
+    /// A page in hexadecimal and changes of its bytes, and what each is read as.
+    Page,
 }
 
 impl Kind {
@@ -28,6 +30,7 @@ impl Kind {
             "toml" => Some(Kind::Documents),
             "keys" => Some(Kind::Keys),
             "hex" => Some(Kind::Cell),
+            "page" => Some(Kind::Page),
             _ => None,
         }
     }
@@ -40,6 +43,7 @@ impl Kind {
             Kind::Documents => Ok(documents::answers(alloc, input)?),
             Kind::Keys => Ok(keys::answers(alloc, input)?),
             Kind::Cell => cells::answers(alloc, input),
+            Kind::Page => pages::answers(alloc, input),
         }
     }
 }
