@@ -1,18 +1,13 @@
 -- What is kept with the rows, when a cell is set.
-use Rattle.std.proofs.Common.{◌≡◌, ℕ, ◌+◌, ◌^◌, ◌<◌, ◌≤◌, ℤ, pos, negsuc, true, false, cond, List, [], ◌∷◌, map, length, refl, sym, ap, ◌∙◌, subst, Option, Some, None, is_some, int_cmp, arith, leb, ltb, suc, add-zero}
-use Rattle.std.specs.Prelude.{unsigned_abs, is_none}
+use Rattle.std.proofs.Common.{◌≡◌, ℕ, ◌+◌, ◌≤◌, ℤ, true, false, cond, List, [], ◌∷◌, map, length, refl, sym, ap, ◌∙◌, subst, Option, Some, None, is_some, int_cmp, arith, true≢false, add-zero}
+use Rattle.std.specs.Prelude.{is_none}
 use Rattle.std.specs.Global.{Vec}
-use Rattle.std.specs.List.{list_all}
 use Rattle.std.specs.List.Sorted.{IsStrictlySortedBy}
 use Rattle.std.specs.Map.{keys_of}
-use Rattle.std.specs.FinMap.{empty, get, insert, keys, len, len-insert, get-insert, get-empty, len-empty, len-entries, entries, same_map, contains_key, contains_key-keys, retain_keys}
-use Rattle.std.proofs.lemmas.Bool.{and_from}
-use Rattle.std.proofs.lemmas.Bool.Decides.{nat_tests}
-use Rattle.std.proofs.lemmas.Int.{ints}
-use Rattle.rr_base.specs.declared.limits.TheConstants.{MAX_SECOND}
+use Rattle.std.specs.FinMap.{empty, get, insert, keys, len, len-insert, get-insert, get-empty, len-empty, len-entries, entries, same_map, retain_keys}
 use Rattle.rr_join.specs.Maps as Maps
 use Rattle.rr_join.specs.Maps.{greater, map_of, trimmed}
-use Rattle.rr_join.proofs.Lookups.{is_in-keys, get-merged}
+use Rattle.rr_join.proofs.Lookups.{get-merged}
 use Rattle.rr_join.proofs.Greater.{greater-None}
 use Rattle.rr_join.proofs.Members.{same_from_tie}
 use Rattle.rr_contrib.specs.declared.contribution.Contribution.{Contribution}
@@ -20,28 +15,15 @@ use Rattle.rr_contrib.specs.Contributions.{contribution_cmp}
 use Rattle.std.specs.Ordering.{eq_by_cmp}
 use Rattle.rr_archive.specs.declared.entry.Entry.{Entry}
 use Rattle.rr_join.specs.Horizon.{is_above}
-use Rattle.rr_archive.specs.CellSlots.{CellSlot, cell_slot, cell_slot_cmp, newest_of, is_live_at, IsSlot}
+use Rattle.rr_archive.specs.CellSlots.{CellSlot, cell_slot_cmp, newest_of, is_live_at, IsInRange}
 use Rattle.rr_archive.specs.Changes.{greater_of}
-use Rattle.rr_archive.specs.Cells.{Rows, with_cell, join_cell, IsTrimmed}
-use Rattle.rr_archive.specs.Held.{cells_in, is_in_range, IsHeld, RowsAscend}
+use Rattle.rr_archive.specs.Cells.{Rows, AreInRange, with_cell, join_cell, IsTrimmed}
+use Rattle.rr_archive.specs.Held.{cells_in, IsHeld, RowsAscend}
 use Rattle.rr_archive.proofs.CellSlotOrder.{cell_slot_cmp_total, cell_slot_cmp-IsAntisymmetric}
 use Rattle.rr_join.proofs.Joining.{trimmed-trimmed}
 use Rattle.rr_archive.proofs.Horizon.{live_at_horizon}
-use Rattle.rr_archive.proofs.FewCells.{newest-insert, in_range-insert}
-use Rattle.rr_archive.proofs.Trimming.{trimmed_by_slots, trimmed_none, all_other-trimmed, newest-trimmed, trimmed_dead}
-
-pub in_range_from : (slot : ℤ) (origin : ℕ) → IsSlot slot → origin < 2 ^ 16 → is_in_range (cell_slot slot origin) ≡ true
-in_range_from slot origin is fits = and_from (leb (unsigned_abs slot) MAX_SECOND) _ (in_slots slot is) (lt_test origin fits)
-  where
-    le_test : (m n : ℕ) → m ≤ n → leb m n ≡ true
-    le_test m n h = grind (arith, nat_tests)
-
-    lt_test : (n : ℕ) → n < 2 ^ 16 → ltb n (2 ^ 16) ≡ true
-    lt_test n h = grind (arith, nat_tests)
-
-    in_slots : (z : ℤ) → IsSlot z → leb (unsigned_abs z) MAX_SECOND ≡ true
-    in_slots (pos n) is = le_test n MAX_SECOND (let high = is.1 in omega (arith, ints))
-    in_slots (negsuc n) is = le_test (suc n) MAX_SECOND (let low = is.0 in omega (arith, ints))
+use Rattle.rr_archive.proofs.FewCells.{newest-insert, in_range-insert, contains_key-get}
+use Rattle.rr_archive.proofs.Trimming.{trimmed_by_slots, trimmed_none, in_range-trimmed, newest-trimmed, trimmed_dead}
 
 -- one cell more, where none stood
 pub len_with : (m : Rows) (p : CellSlot) (c : Contribution) → len m + cond (is_none (get m p)) 1 0 ≡ len (insert m p c)
@@ -50,11 +32,8 @@ len_with m p c =
       | None ↦ λ _. refl
       | Some v ↦ λ _. add-zero (len m)
     ] refl
-    ∙ ap (λ b. cond b (len m) (len m + 1)) (sym (is_some-get m p))
+    ∙ ap (λ b. cond b (len m) (len m + 1)) (sym (contains_key-get m p))
     ∙ sym (len-insert cell_slot_cmp_total m p c)
-  where
-    is_some-get : (n : Rows) (q : CellSlot) → contains_key n q ≡ is_some (get n q)
-    is_some-get n q = contains_key-keys n q ∙ is_in-keys cell_slot_cmp_total cell_slot_cmp-IsAntisymmetric n q
 
 latest_is : (limit count : ℕ) (newest : Option ℤ) (latest : ℤ) (old : List (ℤ × Vec Entry)) (p : CellSlot) (c : Contribution) → IsHeld limit count newest old → Some latest ≡ greater int_cmp newest (Some p.slot) → Some latest ≡ newest_of (keys (insert (cells_in old) p c))
 latest_is limit count newest latest old p c h later = later ∙ ap (λ g. greater int_cmp g (Some p.slot)) h.latest ∙ sym (newest-insert (cells_in old) p c)
@@ -66,7 +45,7 @@ cells_kept limit count newest latest old set new p c h is kept later =
     ∙ sym (trimmed_by_slots limit (insert (cells_in old) p c) (Some latest) (sym (latest_is limit count newest latest old p c h later)))
 
 -- the rows that are left, once a cell is set and the dead rows have left
-pub held_kept : (limit count left : ℕ) (newest : Option ℤ) (latest : ℤ) (old set new : List (ℤ × Vec Entry)) (p : CellSlot) (c : Contribution) → IsHeld limit count newest old → RowsAscend new → IsStrictlySortedBy int_cmp (keys_of new) → is_in_range p ≡ true → cells_in set ≡ insert (cells_in old) p c → cells_in new ≡ retain_keys (cells_in set) (λ q. is_above limit (Some latest) q.slot) → left ≡ len (cells_in new) → Some latest ≡ greater int_cmp newest (Some p.slot) → IsHeld limit left (Some latest) new
+pub held_kept : (limit count left : ℕ) (newest : Option ℤ) (latest : ℤ) (old set new : List (ℤ × Vec Entry)) (p : CellSlot) (c : Contribution) → IsHeld limit count newest old → RowsAscend new → IsStrictlySortedBy int_cmp (keys_of new) → IsInRange p → cells_in set ≡ insert (cells_in old) p c → cells_in new ≡ retain_keys (cells_in set) (λ q. is_above limit (Some latest) q.slot) → left ≡ len (cells_in new) → Some latest ≡ greater int_cmp newest (Some p.slot) → IsHeld limit left (Some latest) new
 held_kept limit count left newest latest old set new p c h ascend ordered in_range is kept counted later =
     let cells = cells_kept limit count newest latest old set new p c h is kept later in
     let more : Rows = insert (cells_in old) p c in
@@ -77,7 +56,7 @@ held_kept limit count left newest latest old set new p c h ascend ordered in_ran
       counted = counted;
       latest = sym (ap (λ m. newest_of (keys m)) cells ∙ same);
       live = subst (IsTrimmed limit) (sym cells) (trimmed-trimmed cell_slot_cmp_total cell_slot_cmp-IsAntisymmetric (live_at_horizon limit h.some) more);
-      in_range = ap (λ m. list_all is_in_range (keys m)) cells ∙ all_other-trimmed limit more is_in_range (in_range-insert (cells_in old) p c in_range h.in_range);
+      in_range = subst AreInRange (sym cells) (in_range-trimmed limit more (in_range-insert (cells_in old) p c in_range h.in_range));
       ascend = ascend;
       ordered = ordered;
     }
@@ -93,7 +72,7 @@ held_same limit count newest old new h ascend ordered is = record {
   live = subst (IsTrimmed limit) (sym is) h.live;
   counted = h.counted ∙ ap len (sym is);
   latest = h.latest ∙ ap (λ m. newest_of (keys m)) (sym is);
-  in_range = ap (λ m. list_all is_in_range (keys m)) is ∙ h.in_range;
+  in_range = subst AreInRange (sym is) h.in_range;
   ascend = ascend;
   ordered = ordered;
 }
@@ -120,7 +99,7 @@ held_none limit rows some e = subst (IsHeld limit 0 None) (sym e) (record {
   live = subst (IsTrimmed limit) (sym cells_in-none) (trimmed_none limit);
   counted = sym (len-empty cell_slot_cmp Contribution) ∙ ap len (sym cells_in-none);
   latest = ap newest_of (sym keys-empty) ∙ ap (λ m. newest_of (keys m)) (sym cells_in-none);
-  in_range = ap (λ m. list_all is_in_range (keys m)) cells_in-none ∙ ap (list_all is_in_range) keys-empty;
+  in_range = subst AreInRange (sym cells_in-none) (λ q has. absurd (true≢false (sym has ∙ contains_key-get empty q ∙ ap is_some (get-empty cell_slot_cmp q))));
   ascend = λ slot. refl;
   ordered = tt;
 })

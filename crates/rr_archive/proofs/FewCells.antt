@@ -1,22 +1,23 @@
 -- What a cell more changes of the keys of a map, and how many cells there can be.
-use Rattle.std.proofs.Common.{◌≡◌, ℕ, ◌+◌, ◌*◌, ◌<◌, ◌≤◌, ℤ, pos, negsuc, ◌+ℤ◌, true, T, List, [], ◌∷◌, map, length, refl, sym, ap, ◌∙◌, subst, Some, Ordering, Less, Equal, Greater, int_cmp, nat_cmp, arith, leb, ⊎_elim, ◌⊎◌, inl, inr}
+use Rattle.std.proofs.Common.{◌≡◌, ℕ, ◌+◌, ◌*◌, ◌<◌, ◌≤◌, ℤ, pos, negsuc, ◌+ℤ◌, Bool, true, false, cond, T, List, [], ◌∷◌, map, length, refl, sym, ap, ◌∙◌, subst, Some, is_some, Ordering, Less, Equal, Greater, int_cmp, nat_cmp, arith, ⊎_elim, ◌⊎◌, inl, inr}
 use Rattle.std.specs.Prelude.{unsigned_abs, int_lt}
-use Rattle.std.specs.List.{list_all}
-use Rattle.std.specs.Ordering.{ordering_then, is_lt}
+use Rattle.std.specs.List.{AllByRecursion}
+use Rattle.std.specs.Ordering.{ordering_then, is_lt, eq_by_cmp}
 use Rattle.std.specs.Cmp.{int_cmp_total}
-use Rattle.std.specs.FinMap.{keys, entries, insert, len, len-entries, entries_sorted, entries-insert, is_sorted, int_cmp-IsAntisymmetric}
+use Rattle.std.specs.FinMap.{get, keys, entries, insert, len, len-entries, entries_sorted, entries-insert, get-insert, contains_key, contains_key-keys, is_sorted, int_cmp-IsAntisymmetric}
 use Rattle.std.specs.FinMap.Entries.{by_order, below_all, put}
-use Rattle.std.proofs.lemmas.Bool.{and_from, leb-true, ltb-true}
+use Rattle.std.proofs.lemmas.Bool.{ltb-true, or_right}
 use Rattle.std.proofs.lemmas.Bool.Decides.{nat_tests}
 use Rattle.std.proofs.lemmas.Int.{ints}
 use Rattle.rr_base.specs.declared.limits.TheConstants.{MAX_SECOND}
 use Rattle.rr_join.specs.Maps.{greater}
-use Rattle.rr_join.proofs.Booleans.{and_first, and_second, first_T, second_T, true_from_T}
+use Rattle.rr_join.proofs.Booleans.{first_T, second_T, true_from_T}
 use Rattle.rr_join.proofs.Greater.{greater_comm, greater_assoc, greater_itself, greater_swap}
 use Rattle.rr_contrib.specs.declared.contribution.Contribution.{Contribution}
-use Rattle.rr_archive.specs.CellSlots.{CellSlot, cell_slot_cmp, newest_of}
-use Rattle.rr_archive.specs.Cells.{Rows}
-use Rattle.rr_archive.specs.Held.{is_in_range}
+use Rattle.rr_join.proofs.Lookups.{is_in-keys}
+use Rattle.rr_join.proofs.Members.{is_in, same_from_tie, head_in}
+use Rattle.rr_archive.specs.CellSlots.{CellSlot, cell_slot_cmp, newest_of, IsSlot, IsInRange}
+use Rattle.rr_archive.specs.Cells.{Rows, AreInRange}
 use Rattle.rr_archive.proofs.CellSlotOrder.{cell_slot_cmp_total, cell_slot_cmp-IsAntisymmetric}
 
 -- ---- one key more
@@ -44,16 +45,16 @@ newest-insert m p c =
     ∙ newest_put p c (entries m)
     ∙ greater_comm int_cmp_total int_cmp-IsAntisymmetric (Some p.slot) (newest_of (keys m))
 
-placed_put : (p : CellSlot) (c : Contribution) (es : List (CellSlot × Contribution)) → is_in_range p ≡ true → list_all is_in_range (keys_of es) ≡ true → list_all is_in_range (keys_of (put cell_slot_cmp p c es)) ≡ true
-placed_put p c [] here all = and_from (is_in_range p) true here refl
-placed_put p c (e ∷ es) here all = elim (cell_slot_cmp p e.0) as (λ r. list_all is_in_range (keys_of (by_order r ((p, c) ∷ e ∷ es) ((e.0, c) ∷ es) (e ∷ put cell_slot_cmp p c es))) ≡ true) [
-  | Less ↦ and_from (is_in_range p) _ here all
-  | Equal ↦ all
-  | Greater ↦ and_from (is_in_range e.0) _ (and_first (is_in_range e.0) _ all) (placed_put p c es here (and_second (is_in_range e.0) _ all))
-]
+-- a map has a key exactly where it gives a value
+pub contains_key-get : (m : Rows) (q : CellSlot) → contains_key m q ≡ is_some (get m q)
+contains_key-get m q = contains_key-keys m q ∙ is_in-keys cell_slot_cmp_total cell_slot_cmp-IsAntisymmetric m q
 
-pub in_range-insert : (m : Rows) (p : CellSlot) (c : Contribution) → is_in_range p ≡ true → list_all is_in_range (keys m) ≡ true → list_all is_in_range (keys (insert m p c)) ≡ true
-in_range-insert m p c here all = ap (λ es. list_all is_in_range (keys_of es)) (entries-insert cell_slot_cmp_total m p c) ∙ placed_put p c (entries m) here all
+pub in_range-insert : (m : Rows) (p : CellSlot) (c : Contribution) → IsInRange p → AreInRange m → AreInRange (insert m p c)
+in_range-insert m p c here all = λ q has. by_tie q (eq_by_cmp cell_slot_cmp q p) refl (sym (contains_key-get (insert m p c) q ∙ ap is_some (get-insert cell_slot_cmp_total m p c q)) ∙ has)
+  where
+    by_tie : (q : CellSlot) (b : Bool) → eq_by_cmp cell_slot_cmp q p ≡ b → is_some (cond b (Some c) (get m q)) ≡ true → IsInRange q
+    by_tie q true t e = subst IsInRange (sym (same_from_tie cell_slot_cmp_total cell_slot_cmp-IsAntisymmetric q p t)) here
+    by_tie q false t e = all q (contains_key-get m q ∙ e)
 
 -- ---- how many there can be
 
@@ -75,17 +76,13 @@ slots_rise (pos a) (negsuc b) hx hy less = absurd cc
 slots_rise (negsuc a) (pos b) hx hy less = omega (arith, ints)
 slots_rise (negsuc a) (negsuc b) hx hy less = let below = ltb-true b a less in omega (arith, ints)
 
--- a cell slot within the limits
-record Fits (p : CellSlot) : Type 0 where
-  slot : unsigned_abs p.slot ≤ MAX_SECOND
-  origin : p.origin < 65_536
+within_second : (z : ℤ) → IsSlot z → unsigned_abs z ≤ MAX_SECOND
+within_second (pos n) is = let high = is.1 in omega (arith, ints)
+within_second (negsuc n) is = let low = is.0 in omega (arith, ints)
 
-fits : (p : CellSlot) → is_in_range p ≡ true → Fits p
-fits p h = record { slot = leb-true _ _ (and_first _ _ h); origin = ltb-true _ _ (and_second (leb (unsigned_abs p.slot) MAX_SECOND) _ h) }
-
-code_below : (p : CellSlot) → is_in_range p ≡ true → code p < most_cells
+code_below : (p : CellSlot) → IsInRange p → code p < most_cells
 unfolding code
-code_below p h = let f = fits p h in let slot = in_slots p.slot f.slot in let origin = f.origin in omega arith
+code_below p h = let slot = in_slots p.slot (within_second p.slot h.slot) in let origin = h.origin.at_most in omega arith
 
 -- of two cell slots in order the slot rises, or the origin in one slot
 less_tells : (p q : CellSlot) → is_lt (cell_slot_cmp p q) ≡ true → (int_lt p.slot q.slot ≡ true) ⊎ ((p.slot ≡ q.slot) × (p.origin < q.origin))
@@ -107,31 +104,32 @@ less_tells p q less = ⊎_elim
     less_parts Equal Greater e = absurd cc
     less_parts Greater b e = absurd cc
 
-code_rises : (p q : CellSlot) → is_in_range p ≡ true → is_in_range q ≡ true → is_lt (cell_slot_cmp p q) ≡ true → code p < code q
+code_rises : (p q : CellSlot) → IsInRange p → IsInRange q → is_lt (cell_slot_cmp p q) ≡ true → code p < code q
 unfolding code
 code_rises p q hp hq less =
-    let f = fits p hp in
-    let g = fits q hq in
-    let low = f.origin in
+    let low = hp.origin.at_most in
     ⊎_elim
-    (λ above. let rise = slots_rise p.slot q.slot f.slot g.slot above in omega arith)
+    (λ above. let rise = slots_rise p.slot q.slot (within_second p.slot hp.slot) (within_second q.slot hq.slot) above in omega arith)
     (λ same. let at = ap (λ z. unsigned_abs (z +ℤ pos MAX_SECOND)) same.0 in let rise = same.1 in omega arith)
     (less_tells p q less)
 
 -- after a cell slot there are no more than fit
-few_after : (es : List (CellSlot × Contribution)) (q : CellSlot) → T (is_sorted cell_slot_cmp es) → T (below_all cell_slot_cmp q es) → list_all is_in_range (keys_of es) ≡ true → is_in_range q ≡ true → code q + 1 + length es ≤ most_cells
+few_after : (es : List (CellSlot × Contribution)) (q : CellSlot) → T (is_sorted cell_slot_cmp es) → T (below_all cell_slot_cmp q es) → AllByRecursion IsInRange (keys_of es) → IsInRange q → code q + 1 + length es ≤ most_cells
 few_after [] q sorted below all h = let most = code_below q h in omega arith
 few_after (e ∷ es) q sorted below all h =
-    let here = and_first (is_in_range e.0) _ all in
-    let rest = few_after es e.0 (second_T (below_all cell_slot_cmp e.0 es) _ sorted) (first_T _ _ sorted) (and_second (is_in_range e.0) _ all) here in
-    let rise = code_rises q e.0 h here (true_from_T _ (first_T _ _ below)) in
+    let rest = few_after es e.0 (second_T (below_all cell_slot_cmp e.0 es) _ sorted) (first_T _ _ sorted) all.1 all.0 in
+    let rise = code_rises q e.0 h all.0 (true_from_T _ (first_T _ _ below)) in
     omega arith
 
-pub few_cells : (m : Rows) → list_all is_in_range (keys m) ≡ true → len m ≤ most_cells
-few_cells m all = subst (λ n. n ≤ most_cells) (sym (len-entries m)) (few (entries m) (entries_sorted m) all)
+pub few_cells : (m : Rows) → AreInRange m → len m ≤ most_cells
+few_cells m all = subst (λ n. n ≤ most_cells) (sym (len-entries m)) (few (entries m) (entries_sorted m) (each (keys m) (λ q e. all q (contains_key-keys m q ∙ e))))
   where
-    few : (es : List (CellSlot × Contribution)) → T (is_sorted cell_slot_cmp es) → list_all is_in_range (keys_of es) ≡ true → length es ≤ most_cells
+    each : (ps : List CellSlot) → ((q : CellSlot) → is_in cell_slot_cmp ps q ≡ true → IsInRange q) → AllByRecursion IsInRange ps
+    each [] f = tt
+    each (p ∷ ps) f = (f p (head_in cell_slot_cmp_total cell_slot_cmp-IsAntisymmetric p ps), each ps (λ q e. f q (or_right (eq_by_cmp cell_slot_cmp q p) (is_in cell_slot_cmp ps q) e)))
+
+    few : (es : List (CellSlot × Contribution)) → T (is_sorted cell_slot_cmp es) → AllByRecursion IsInRange (keys_of es) → length es ≤ most_cells
     few [] sorted all = omega arith
     few (e ∷ es) sorted all =
-        let most = few_after es e.0 (second_T (below_all cell_slot_cmp e.0 es) _ sorted) (first_T _ _ sorted) (and_second (is_in_range e.0) _ all) (and_first (is_in_range e.0) _ all) in
+        let most = few_after es e.0 (second_T (below_all cell_slot_cmp e.0 es) _ sorted) (first_T _ _ sorted) all.1 all.0 in
         omega arith

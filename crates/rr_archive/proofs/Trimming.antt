@@ -1,31 +1,20 @@
 -- Maps of live cell slots: what a cell more makes of them.
-use Rattle.std.proofs.Common.{◌≡◌, ℕ, ◌≤◌, ℤ, pos, ◌-ℤ◌, Bool, true, false, cond, List, [], ◌∷◌, refl, sym, ap, ◌∙◌, true≢false, Option, Some, None, int_cmp, arith}
+use Rattle.std.proofs.Common.{◌≡◌, ℕ, ◌≤◌, ℤ, pos, ◌-ℤ◌, Bool, true, false, cond, List, [], ◌∷◌, refl, sym, ap, ◌∙◌, true≢false, Option, Some, None, is_some, int_cmp, arith}
 use Rattle.std.specs.Prelude.{int_lt}
-use Rattle.std.specs.List.{filter, list_all}
+use Rattle.std.specs.List.{filter}
 use Rattle.std.specs.Ordering.{eq_by_cmp, ord_max}
 use Rattle.std.specs.FinMap.{empty, get-empty, get, insert, keys, same_map, get-insert, retain_keys}
-use Rattle.std.proofs.lemmas.Bool.{and_from}
 use Rattle.std.proofs.lemmas.Int.{ints}
 use Rattle.rr_join.specs.Maps.{greater, trimmed}
-use Rattle.rr_join.proofs.Booleans.{and_first, and_second}
 use Rattle.rr_join.proofs.Members.{same_from_tie}
 use Rattle.rr_join.proofs.Lookups.{get-trimmed}
 use Rattle.rr_join.proofs.Keys.{keys-retain}
 use Rattle.rr_contrib.specs.declared.contribution.Contribution.{Contribution}
 use Rattle.rr_join.specs.Horizon.{is_above}
-use Rattle.rr_archive.specs.CellSlots.{CellSlot, cell_slot_cmp, newest_of, is_live_at}
-use Rattle.rr_archive.specs.Cells.{Rows, IsTrimmed}
+use Rattle.rr_archive.specs.CellSlots.{CellSlot, cell_slot_cmp, newest_of, is_live_at, IsInRange}
+use Rattle.rr_archive.specs.Cells.{Rows, AreInRange, IsTrimmed}
 use Rattle.rr_archive.proofs.CellSlotOrder.{cell_slot_cmp_total, cell_slot_cmp-IsAntisymmetric}
-use Rattle.rr_archive.proofs.FewCells.{newest-insert}
-
--- ---- the elements that pass a test
-
-pub all_filter_other : {X : Type 0} (test other : X → Bool) (xs : List X) → list_all other xs ≡ true → list_all other (filter test xs) ≡ true
-all_filter_other test other [] h = refl
-all_filter_other test other (x ∷ xs) h = elim (test x) as (λ b. list_all other (cond b (x ∷ filter test xs) (filter test xs)) ≡ true) [
-  | true ↦ and_from (other x) _ (and_first (other x) _ h) (all_filter_other test other xs (and_second (other x) _ h))
-  | false ↦ all_filter_other test other xs (and_second (other x) _ h)
-]
+use Rattle.rr_archive.proofs.FewCells.{newest-insert, contains_key-get}
 
 -- ---- the greatest slot above a bound
 
@@ -95,8 +84,12 @@ module _ (limit : ℕ) where
   unfolding trimmed
   trimmed_by_slots m top is = ap (λ o. retain_keys m (λ p. is_above limit o p.slot)) is
 
-  pub all_other-trimmed : (m : Rows) (test : CellSlot → Bool) → list_all test (keys m) ≡ true → list_all test (keys (trimmed (is_live_at limit) m)) ≡ true
-  all_other-trimmed m test h = ap (list_all test) (keys-trimmed m) ∙ all_filter_other (is_live_at limit (keys m)) test (keys m) h
+  pub in_range-trimmed : (m : Rows) → AreInRange m → AreInRange (trimmed (is_live_at limit) m)
+  in_range-trimmed m all = λ q has. by_live q (is_live_at limit (keys m) q) (sym (contains_key-get (trimmed (is_live_at limit) m) q ∙ ap is_some (get-trimmed cell_slot_cmp_total cell_slot_cmp-IsAntisymmetric (is_live_at limit) m q)) ∙ has)
+    where
+      by_live : (q : CellSlot) (b : Bool) → is_some (cond b (get m q) None) ≡ true → IsInRange q
+      by_live q true e = all q (contains_key-get m q ∙ e)
+      by_live q false e = absurd (true≢false (sym e))
 
   -- the newest slot stays
   pub newest-trimmed : (m : Rows) → 1 ≤ limit → newest_of (keys (trimmed (is_live_at limit) m)) ≡ newest_of (keys m)

@@ -3,6 +3,7 @@ use Rattle.std.specs.Prelude.{ℕ, ℤ, pos, negsuc, ◌-◌, ◌≤ℤ◌, Bool
 use Rattle.std.specs.declared.cmp.Ordering.{Ordering}
 use Rattle.std.specs.Ordering.{ordering_then, nat_cmp, int_cmp}
 use Rattle.rr_base.specs.declared.limits.TheConstants.{MAX_SECOND}
+use Rattle.rr_base.specs.Origin.{IsOrigin}
 use Rattle.rr_join.specs.Maps.{greatest}
 use Rattle.rr_join.specs.Horizon.{is_above}
 
@@ -29,3 +30,8 @@ is_live_at rows ps p = is_above rows (newest_of ps) p.slot
 -- whether it can be the slot of a time: of a step of one second or more, from the least time to the greatest
 abbrev pub IsSlot : ℤ → Type 0
 IsSlot slot = (negsuc (MAX_SECOND - 1) ≤ℤ slot) × (slot ≤ℤ pos MAX_SECOND)
+
+-- the slot of a time, and an origin
+pub record IsInRange (p : CellSlot) : Type 0 where
+  pub slot : IsSlot p.slot
+  pub origin : IsOrigin p.origin

@@ -1,18 +1,22 @@
 -- The cells of one archive of one key: a finite map from cell slots to contributions.
-use Rattle.std.specs.Prelude.{◌≡◌, ℕ, ℤ, List, map, Option}
+use Rattle.std.specs.Prelude.{◌≡◌, ℕ, ℤ, List, map, Option, IsTrue}
 use Rattle.std.specs.List.{filter, find}
 use Rattle.std.specs.Ordering.{int_eq, is_lt}
-use Rattle.std.specs.FinMap.{FinMap, empty, get, insert, entries}
+use Rattle.std.specs.FinMap.{FinMap, empty, get, insert, entries, contains_key}
 use Rattle.rr_join.specs.Maps.{trimmed, merged, joined}
 use Rattle.rr_contrib.specs.declared.contribution.Contribution.{Contribution}
 use Rattle.rr_contrib.specs.Contributions.{contribution_cmp, SlotSample, contribution_with}
 use Rattle.rr_archive.specs.declared.entry.Entry.{Entry}
 use Rattle.rr_archive.specs.declared.change.Change.{Change}
 use Rattle.rr_archive.specs.Changes.{contribution_after}
-use Rattle.rr_archive.specs.CellSlots.{CellSlot, cell_slot_cmp, is_live_at}
+use Rattle.rr_archive.specs.CellSlots.{CellSlot, cell_slot_cmp, is_live_at, IsInRange}
 
 abbrev pub Rows : Type 0
 Rows = FinMap cell_slot_cmp Contribution
+
+-- each cell is of the slot of a time, and of an origin
+abbrev pub AreInRange : Rows → Type 0
+AreInRange m = (p : CellSlot) → IsTrue (contains_key m p) → IsInRange p
 
 -- ---- without a horizon
 

@@ -1,20 +1,18 @@
 -- What an ordered map from slots to rows holds; a row without entries counts for nothing.
-use Rattle.std.specs.Prelude.{◌≡◌, ℕ, ℤ, ◌^◌, nat_lt, nat_le, ◌≤◌, unsigned_abs, Bool, true, false, not, ◌&&◌, ◌||◌, List, [], ◌∷◌, ◌++◌, map, length, Option, Some, None, unwrap_or, vec_len, vec_capacity}
+use Rattle.std.specs.Prelude.{◌≡◌, ℕ, ℤ, nat_lt, ◌≤◌, Bool, true, false, not, ◌||◌, List, [], ◌∷◌, ◌++◌, map, length, Option, Some, None, unwrap_or, vec_len, vec_capacity}
 use Rattle.std.specs.Global.{Vec}
-use Rattle.std.specs.List.{list_all}
 use Rattle.std.specs.List.Sorted.{IsStrictlySortedBy}
 use Rattle.std.specs.Map.{lookup, keys_of}
 use Rattle.std.specs.BTreeMap.{is_at}
 use Rattle.std.specs.Option.{option_map, option_and_then}
 use Rattle.std.specs.Ordering.{int_cmp}
 use Rattle.std.specs.FinMap.{keys, len}
-use Rattle.rr_base.specs.declared.limits.TheConstants.{MAX_SECOND}
 use Rattle.rr_join.specs.Maps.{map_of}
 use Rattle.rr_contrib.specs.declared.contribution.Contribution.{Contribution}
 use Rattle.rr_archive.specs.declared.entry.Entry.{Entry}
 use Rattle.rr_join.specs.Horizon.{is_above}
 use Rattle.rr_archive.specs.CellSlots.{CellSlot, cell_slot, newest_of}
-use Rattle.rr_archive.specs.Cells.{Rows, IsTrimmed}
+use Rattle.rr_archive.specs.Cells.{Rows, AreInRange, IsTrimmed}
 use Rattle.rr_archive.specs.Row.{entry_at, ascends}
 
 -- the row of a slot, if there is one
@@ -47,10 +45,6 @@ row_ascends (Some row) = ascends row.items
 abbrev pub RowsAscend : List (ℤ × Vec Entry) → Type 0
 RowsAscend rows = (slot : ℤ) → row_ascends (row_in rows slot) ≡ true
 
--- whether a cell can stand at a cell slot
-abbrev pub is_in_range : CellSlot → Bool
-is_in_range p = nat_le (unsigned_abs p.slot) MAX_SECOND && nat_lt p.origin (2 ^ 16)
-
 -- whether a put or a join at a cell slot takes no memory: the cell slot is past the horizon, or its row has room
 abbrev pub is_ready_in : ℕ → Option ℤ → List (ℤ × Vec Entry) → CellSlot → Bool
 is_ready_in limit newest rows p = not (is_above limit newest p.slot) || has_room_in rows p
@@ -72,6 +66,6 @@ pub record IsHeld (limit count : ℕ) (newest : Option ℤ) (rows : List (ℤ ×
   pub counted : count ≡ len (cells_in rows)
   pub latest : newest ≡ newest_of (keys (cells_in rows))
   pub live : IsTrimmed limit (cells_in rows)
-  pub in_range : list_all is_in_range (keys (cells_in rows)) ≡ true
+  pub in_range : AreInRange (cells_in rows)
   pub ascend : RowsAscend rows
   pub ordered : IsStrictlySortedBy int_cmp (keys_of rows)

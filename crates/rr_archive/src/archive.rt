@@ -5,7 +5,7 @@ ghost use Rattle.std.specs.FinMap as fin;
 ghost use Rattle.rr_contrib.specs.Contributions.{slot_sample};
 ghost use Rattle.rr_contrib.specs.Validity.{CanAdd};
 ghost use Rattle.rr_archive.specs.CellSlots.{CellSlot, cell_slot, newest_of, is_live_at, IsSlot};
-ghost use Rattle.rr_archive.specs.Cells.{Rows, IsTrimmed, put_row, join_cell, row_of, cell_of, next_cell};
+ghost use Rattle.rr_archive.specs.Cells.{Rows, AreInRange, IsTrimmed, put_row, join_cell, row_of, cell_of, next_cell};
 
 use crate::entry::Entry;
 use rr_base::Origin;
@@ -27,6 +27,9 @@ pub trait Archive: Drop {
 
     /// No cell is past the horizon.
     ghost is_trimmed: { (a : Self) → IsTrimmed (row_limit a) (cells a) };
+
+    /// Each cell is of the slot of a time, and of an origin from 1 to 65,535.
+    ghost in_range: { (a : Self) → AreInRange (cells a) };
 
     ghost has_rows: { (a : Self) → 1 ≤ row_limit a };
 

@@ -90,6 +90,8 @@ impl Archive for PlainArchive {
 
     ghost is_trimmed = { λ a. a.held.live };
 
+    ghost in_range = { λ a. a.held.in_range };
+
     ghost has_rows = { λ a. a.held.some };
 
     fn new(alloc: Global, rows: u32) -> PlainArchive {

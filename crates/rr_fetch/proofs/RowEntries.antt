@@ -130,7 +130,7 @@ pub row_holds : (h : Holding) → IsHolding h → (key : List ℕ) (archive : �
 row_holds h is key archive slot = record {
   ascends = row_ascends (rows_at h.cells key archive) slot;
   summable = subst (All (λ e. IsSummable e.contribution)) (sym (row_by_places rows slot d)) (all_images cell_slot_cmp_total cell_slot_cmp-IsAntisymmetric (λ (e : Entry). IsSummable e.contribution) (entry_at rows d) (places_of rows slot) (λ p e.
-      let valid = is.valid (name_at key archive p) (unwrap_or (get rows p) d) (sym (get-rows_at key archive h.cells p) ∙ found_at rows slot d p e) in
+      let valid = (is.cells (name_at key archive p) (unwrap_or (get rows p) d) (sym (get-rows_at key archive h.cells p) ∙ found_at rows slot d p e)).valid in
       record {
         some = valid.some;
         few = omega (arith, valid.counted, valid.numbered);

@@ -6,7 +6,7 @@ use Rattle.std.specs.Int.{w16, to_be_bytes}
 use Rattle.std.specs.List.{flat_map, AllByRecursion}
 use Rattle.std.proofs.lemmas.Bool.{eqb-true}
 use Rattle.std.proofs.lemmas.List.{append-nil, nil_from_length}
-use Rattle.std.proofs.lemmas.List.Elements.{All-from_recursion, recursion_from_All, All-weaker}
+use Rattle.std.proofs.lemmas.List.Elements.{All-from_recursion, recursion_from_All}
 use Rattle.rr_base.specs.declared.limits.TheConstants.{MAX_PAGE_CELLS}
 use Rattle.rr_base.specs.Results.{GivesUnless}
 use Rattle.rr_base.specs.Schema.{Layout, IsLayout}
@@ -14,7 +14,6 @@ use Rattle.rr_base.specs.SchemaBytes.{schema_bytes}
 use Rattle.rr_base.proofs.SchemaBytesLemmas.{bytes_tell}
 use Rattle.rr_replica.specs.declared.cell.Cell.{Cell}
 use Rattle.rr_replica.specs.CellBounds.{NamedCell, IsCellOf}
-use Rattle.rr_replica.specs.Joining.{IsCell}
 use Rattle.rr_replica.specs.Listing.{owned_cell}
 use Rattle.rr_page.specs.declared.fault.PageFault.{PageFault}
 use Rattle.rr_page.specs.declared.fault.PageFault.TheVariants.{TrailingBytes, Memory}
@@ -113,8 +112,3 @@ module _ (s : Layout) (bytes : List ℕ) (fits : AreBytes bytes) where
       → IfOk r (λ cells. All (λ c. IsCellOf s (owned_cell c)) cells.items)
   cells_found (Ok cells) given = All-from_recursion (λ c. IsCellOf s (owned_cell c)) cells.items (each_owned s cells.items (recursion_from_All (IsCellOf s) (map owned_cell cells.items) (page_takes s bytes (map owned_cell cells.items) fits given).0.cells))
   cells_found (Err fault) given = tt
-
-  pub cells_valid : (r : Result (Vec Cell) PageFault) → GivesUnless Memory (λ cells. map owned_cell cells.items) r (page_at s bytes)
-      → IfOk r (λ cells. All (IsCell s) cells.items)
-  cells_valid (Ok cells) given = All-weaker (λ c. IsCellOf s (owned_cell c)) (IsCell s) (λ c is. record { within = is.archive; valid = is.valid }) cells.items (cells_found (Ok cells) given)
-  cells_valid (Err fault) given = tt

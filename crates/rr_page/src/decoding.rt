@@ -5,7 +5,6 @@ ghost use Rattle.rr_base.specs.Results.{GivesUnless, NeedsMemoryAfter};
 ghost use Rattle.rr_page.specs.Page.{IsPage, IsPageText};
 ghost use Rattle.rr_page.specs.PageReading.{is_after, last_name, schema_at, cells_at, page_at};
 ghost use Rattle.rr_replica.specs.CellBounds.{NamedCell, IsCellOf};
-ghost use Rattle.rr_replica.specs.Joining.{IsCell};
 ghost use Rattle.rr_replica.specs.Listing.{owned_cell};
 
 use crate::fault::PageFault;
@@ -101,7 +100,6 @@ pub fn decode(alloc: Global, bytes: &[u8], schema: &Schema) -> Result<Vec<Cell>,
         (page_at schema.now bytes.now) }
     ensures memory { NeedsMemoryAfter PageFault.Memory (schema_at schema.now bytes.now) result }
     ensures cells { IfOk result (λ cells. All (λ c. IsCellOf schema.now (owned_cell c)) cells.items) }
-    ensures valid { IfOk result (λ cells. All (IsCell schema.now) cells.items) }
 {
     let _archives = schema.archives(); // their contract says that the schema is within its limits
     page_of(alloc, bytes, schema)

@@ -128,7 +128,7 @@ module _ {X : Type 0} (cells : X → Rows) (key : List ℕ) (archives : List X) 
       length-named [] = refl
       length-named (e ∷ es) = ap suc (length-named es)
 
-past_end : {X : Type 0} (xs : List X) (i : ℕ) → slice_get xs i ≡ None → length xs ≤ i
+pub past_end : {X : Type 0} (xs : List X) (i : ℕ) → slice_get xs i ≡ None → length xs ≤ i
 past_end [] i e = omega arith
 past_end (x ∷ xs) zero e = absurd (true≢false (ap is_some e))
 past_end (x ∷ xs) (suc i) e = let h = past_end xs i e in omega arith

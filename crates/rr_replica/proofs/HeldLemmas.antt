@@ -10,6 +10,7 @@ use Rattle.std.specs.List.{filter}
 use Rattle.std.specs.Ordering.{int_eq}
 use Rattle.std.specs.FinMap.{get, keys, entries, empty, len-entries, len-empty, get-empty, same_map}
 use Rattle.rr_base.specs.declared.limits.TheConstants.{MAX_NUMBER}
+use Rattle.rr_base.specs.Origin.{IsOrigin}
 use Rattle.rr_base.specs.Schema.{Layout, IsLayout}
 use Rattle.rr_contrib.specs.Validity.{CanAdd}
 use Rattle.rr_archive.specs.CellSlots.{CellSlot, cell_slot_cmp}
@@ -27,7 +28,7 @@ use Rattle.rr_replica.specs.Archives.{cell_slot_for, Each, AreSized, CanTake, Ar
 use Rattle.rr_replica.specs.Held.{IsHolding, held_series, archives_of, sample_of, holding_of, IsHeld}
 use Rattle.rr_replica.proofs.Local.{get-rows_at}
 use Rattle.rr_replica.proofs.Shown.{held_at, items_of, rows_shown, cells_same, cells_put, held_same, held_put}
-use Rattle.rr_replica.proofs.HoldingLemmas.{holds_put, can_add}
+use Rattle.rr_replica.proofs.HoldingLemmas.{IsTyped, holds_put, can_add}
 
 module _ {X : Type 0} (cells : X → Rows) (limit : X → ℕ) (s : Layout) (key : List ℕ) (x : Sample) (old : List (List ℕ × Vec X)) (kept : IsHeld cells limit s x.origin x.number old) (known : x.number ≤ MAX_NUMBER) where
   abbrev all : Cells
@@ -64,9 +65,9 @@ module _ {X : Type 0} (cells : X → Rows) (limit : X → ℕ) (s : Layout) (key
     pub cells_with : length before ≡ length s.archives → HavePut cells s x before now.items → cells_of (held_series cells new) ≡ put_sample s all (sample_of key x)
     cells_with many h = cells_put cells old new key now sets kept.ordered sorted s kept.holds.layout (sample_of key x) refl kept.holds.live (λ i. held_put cells s kept.holds.layout key x all before now.items i kept.holds.live many h at)
 
-    pub kept_with : length before ≡ length s.archives → HavePut cells s x before now.items → IsHeld cells limit s x.origin (x.number + 1) new
-    kept_with many h = record {
-      holds = subst (λ (m : Cells). IsHolding (record { schema = s; origin = x.origin; next = x.number + 1; cells = m })) (sym (cells_with many h)) (holds_put (holding_of cells s x.origin x.number old) kept.holds (sample_of key x) refl refl known);
+    pub kept_with : IsTyped (sample_of key x) → length before ≡ length s.archives → HavePut cells s x before now.items → IsHeld cells limit s x.origin (x.number + 1) new
+    kept_with typed many h = record {
+      holds = subst (λ (m : Cells). IsHolding (record { schema = s; origin = x.origin; next = x.number + 1; cells = m })) (sym (cells_with many h)) (holds_put (holding_of cells s x.origin x.number old) kept.holds (sample_of key x) refl refl known typed);
       sized = sized_now;
       ordered = sorted;
     }
@@ -84,15 +85,16 @@ module _ {X : Type 0} (cells : X → Rows) (limit : X → ℕ) (s : Layout) (key
 -- ---- a replica that holds nothing
 
 -- no key has archives
-pub kept_none : {X : Type 0} (cells : X → Rows) (limit : X → ℕ) (s : Layout) (origin : ℕ) (entries : List (List ℕ × Vec X)) → IsLayout s → entries ≡ [] → IsHeld cells limit s origin 1 entries
+pub kept_none : {X : Type 0} (cells : X → Rows) (limit : X → ℕ) (s : Layout) (origin : ℕ) (entries : List (List ℕ × Vec X)) → IsLayout s → IsOrigin origin → entries ≡ [] → IsHeld cells limit s origin 1 entries
 unfolding IsStrictlySortedBy cells_of
-kept_none cells limit s origin entries is none = subst (IsHeld cells limit s origin 1) (sym none) (record {
+kept_none cells limit s origin entries is in_range none = subst (IsHeld cells limit s origin 1) (sym none) (record {
   holds = record {
     layout = is;
+    origin = in_range;
     next_at_least = omega arith;
     next_at_most = omega arith;
     live = trimmed_none s;
-    valid = λ n c e. absurd (true≢false (sym (ap is_some (sym (get-empty cell_name_cmp n) ∙ e))));
+    cells = λ n c e. absurd (true≢false (sym (ap is_some (sym (get-empty cell_name_cmp n) ∙ e))));
     own = λ n c e. absurd (true≢false (sym (ap is_some (sym (get-empty cell_name_cmp n) ∙ e))));
   };
   sized = λ key archives e. absurd (true≢false (sym (ap is_some e)));

@@ -1,11 +1,13 @@
 -- What a replica keeps to, with a sample put.
 use Rattle.std.proofs.Common.{◌≡◌, ℕ, ◌+◌, ◌<◌, ◌≤◌, Bool, true, false, cond, length, refl, sym, ap, ◌∙◌, subst, arith, true≢false, Option, Some, None, is_some, unwrap_or, ⊎_elim, ◌⊎◌, inl, inr}
-use Rattle.std.specs.Prelude.{nat_eq, IfSome}
+use Rattle.std.specs.Prelude.{nat_eq, IfSome, FitsSigned}
+use Rattle.std.specs.Int.{w64}
 use Rattle.std.specs.Ordering.{eq_by_cmp}
 use Rattle.std.specs.Cmp.Lexicographic.{pointwise, bytes_decides}
 use Rattle.std.specs.FinMap.{get, insert, keys, get-insert}
 use Rattle.std.proofs.lemmas.Bool.{cases_lt}
 use Rattle.rr_base.specs.declared.limits.TheConstants.{MAX_NUMBER}
+use Rattle.rr_base.specs.Origin.{IsOrigin}
 use Rattle.rr_base.specs.Schema.{Layout, IsLayout, archive_at}
 use Rattle.rr_join.proofs.Members.{same_from_tie}
 use Rattle.rr_join.proofs.Lookups.{get-trimmed}
@@ -13,18 +15,28 @@ use Rattle.rr_contrib.specs.declared.contribution.Contribution.{Contribution}
 use Rattle.rr_contrib.specs.Contributions.{SlotSample, contribution_with}
 use Rattle.rr_contrib.specs.Validity.{IsValid, CanAdd}
 use Rattle.rr_contrib.proofs.KeepsValidLemmas.{Falls, place_below, of_one_valid, with_sample_valid}
-use Rattle.rr_archive.specs.CellSlots.{CellSlot, cell_slot_cmp, is_live_at}
+use Rattle.rr_archive.specs.CellSlots.{CellSlot, cell_slot_cmp, is_live_at, IsSlot}
 use Rattle.rr_archive.specs.Cells.{Rows, put_row}
 use Rattle.rr_archive.proofs.CellSlotOrder.{cell_slot_cmp_total, cell_slot_cmp-IsAntisymmetric}
+use Rattle.rr_key.specs.Series.{IsKeyText}
 use Rattle.rr_model.specs.CellNames.{CellName}
 use Rattle.rr_model.specs.Samples.{Sample, name_of, marks_of}
 use Rattle.rr_model.proofs.Horizon.{archive_is}
+use Rattle.rr_replica.specs.CellBounds.{IsCellOf}
 use Rattle.rr_replica.specs.Cells.{Cells, IsTrimmed, cell_slot_of, rows_at}
 use Rattle.rr_replica.specs.Puts.{seen, put_sample}
 use Rattle.rr_replica.specs.Holding.{Holding}
 use Rattle.rr_replica.specs.Held.{IsHolding}
+use Rattle.rr_replica.proofs.CellBoundsLemmas.{KnownHasBounds, bounds_with, bounds_of, cell_from}
+use Rattle.rr_replica.proofs.Each.{slot_is}
 use Rattle.rr_replica.proofs.Local.{get-rows_at}
 use Rattle.rr_replica.proofs.Putting.{mark, with_mark, puts_trimmed, put_at, put_past, put_other_key}
+
+-- a sample of a key text, with a time and a value of 64 bits
+pub record IsTyped (x : Sample) : Type 0 where
+  pub key : IsKeyText x.key
+  pub time : FitsSigned w64 x.time
+  pub value : FitsSigned w64 x.value
 
 -- what stands at a cell slot once a sample is put: what stood there, or what it comes to
 put_row_cases : (limit : ℕ) (rows : Rows) (p : CellSlot) (z : SlotSample) (q : CellSlot) (c : Contribution) → get (put_row limit rows p z) q ≡ Some c → (get rows q ≡ Some c) ⊎ ((q ≡ p) × (contribution_with (get rows p) z ≡ c))
@@ -86,22 +98,38 @@ module _ (h : Holding) (holds : IsHolding h) (x : Sample) (number : x.number ≡
   added_valid : (n : CellName) → n ≡ name_of h.schema (mark x n.archive) → (o : Option Contribution) → get h.cells n ≡ o → IsValid h.schema n.archive n.slot (contribution_with o (seen h.schema (mark x n.archive)))
   added_valid n same None e = of_one_valid h.schema n.archive n.slot (seen h.schema (mark x n.archive)) (falls n same)
   added_valid n same (Some c) e =
-      with_sample_valid h.schema n.archive n.slot c (seen h.schema (mark x n.archive)) (holds.valid n c e) (falls n same)
+      with_sample_valid h.schema n.archive n.slot c (seen h.schema (mark x n.archive)) (holds.cells n c e).valid (falls n same)
       (let below = holds.own n c e (ap (λ (m : CellName). m.origin) same ∙ origin) in omega arith)
 
   added_version : (o : Option Contribution) (z : SlotSample) → (contribution_with o z).version ≡ z.number
   added_version None z = refl
   added_version (Some c) z = refl
 
-  pub holds_put : IsHolding (record { schema = h.schema; origin = h.origin; next = h.next + 1; cells = put_sample h.schema h.cells x })
-  holds_put = record {
+  -- what the cell of a name comes to with the sample is within bounds
+  added_cell : IsTyped x → (n : CellName) → n ≡ name_of h.schema (mark x n.archive) → n.archive < length h.schema.archives → (o : Option Contribution) → get h.cells n ≡ o → IsCellOf h.schema (n, contribution_with o (seen h.schema (mark x n.archive)))
+  added_cell typed n same within o e =
+      cell_from h.schema n (contribution_with o (seen h.schema (mark x n.archive)))
+      (subst IsKeyText (sym (ap (λ (m : CellName). m.key) same)) typed.key)
+      within
+      (subst IsOrigin (sym (ap (λ (m : CellName). m.origin) same ∙ origin)) holds.origin)
+      (subst IsSlot (sym (ap (λ (m : CellName). m.slot) same)) (slot_is h.schema holds.layout n.archive x.time typed.time))
+      (added_valid n same o e)
+      (bounds_with o (seen h.schema (mark x n.archive)) (known_bounds o e) typed.time typed.value)
+    where
+      known_bounds : (o : Option Contribution) → get h.cells n ≡ o → KnownHasBounds o
+      known_bounds None e = tt
+      known_bounds (Some c) e = bounds_of h.schema n c (holds.cells n c e)
+
+  pub holds_put : IsTyped x → IsHolding (record { schema = h.schema; origin = h.origin; next = h.next + 1; cells = put_sample h.schema h.cells x })
+  holds_put typed = record {
     layout = holds.layout;
+    origin = holds.origin;
     next_at_least = omega arith;
     next_at_most = omega arith;
     live = puts_trimmed h.schema holds.layout (marks_of h.schema x) h.cells holds.live;
-    valid = λ n c e. ⊎_elim
-        (λ was. holds.valid n c was)
-        (λ new. subst (IsValid h.schema n.archive n.slot) new.comes (added_valid n new.named (get h.cells n) refl))
+    cells = λ n c e. ⊎_elim
+        (λ was. holds.cells n c was)
+        (λ new. subst (λ d. IsCellOf h.schema (n, d)) new.comes (added_cell typed n new.named new.within (get h.cells n) refl))
         (put_cases h.schema holds.layout h.cells holds.live x n c e);
     own = λ n c e at. ⊎_elim
         (λ was. let below = holds.own n c was at in omega arith)
@@ -116,5 +144,5 @@ module _ (h : Holding) (holds : IsHolding h) (x : Sample) (number : x.number ≡
       each : (o : Option Contribution) → get h.cells n ≡ o → IfSome o (CanAdd x.number)
       each None e = tt
       each (Some c) e =
-          let valid = holds.valid n c e in
+          let valid = (holds.cells n c e).valid in
           record { newer = (let below = holds.own n c e at in omega arith); counted = valid.counted; low = valid.low; high = valid.high }

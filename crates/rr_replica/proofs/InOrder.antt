@@ -42,7 +42,7 @@ sorted_append (x ∷ xs) ys p q all = T_and _ _ (below_append x.0 xs ys (first_T
 abbrev pub named_as : List ℕ → ℕ → List (CellSlot × Contribution) → Listing
 named_as key archive es = map (λ e. (name_at key archive e.0, e.1)) es
 
-same_archive : (key : List ℕ) (archive : ℕ) (p q : CellSlot) → cell_name_cmp (name_at key archive p) (name_at key archive q) ≡ cell_slot_cmp p q
+pub same_archive : (key : List ℕ) (archive : ℕ) (p q : CellSlot) → cell_name_cmp (name_at key archive p) (name_at key archive q) ≡ cell_slot_cmp p q
 same_archive key archive p q =
     (λ i. ordering_then (tied_itself nat_list_cmp_total key i) (ordering_then (nat_cmp archive archive) (cell_slot_cmp p q)))
     ∙ ap (λ r. ordering_then r (cell_slot_cmp p q)) (tied_itself nat_cmp_total archive)
@@ -57,7 +57,7 @@ sorted_named key archive (e ∷ es) = λ i. below_named key archive e.0 es i && 
 
 -- ---- the archives of a key
 
-later_archive : (key : List ℕ) (a b : ℕ) (p q : CellSlot) → a < b → is_lt (cell_name_cmp (name_at key a p) (name_at key b q)) ≡ true
+pub later_archive : (key : List ℕ) (a b : ℕ) (p q : CellSlot) → a < b → is_lt (cell_name_cmp (name_at key a p) (name_at key b q)) ≡ true
 later_archive key a b p q less =
     (λ i. is_lt (ordering_then (tied_itself nat_list_cmp_total key i) (ordering_then (nat_cmp a b) (cell_slot_cmp p q))))
     ∙ ap (λ r. is_lt (ordering_then r (cell_slot_cmp p q))) (is_less a b less)
@@ -84,7 +84,7 @@ sorted_from key first (r ∷ rs) = sorted_append (named_as key first (entries r)
 
 -- ---- all keys
 
-later_key : (k l : List ℕ) (a b : ℕ) (p q : CellSlot) → bytes_cmp k l ≡ Less → is_lt (cell_name_cmp (name_at k a p) (name_at l b q)) ≡ true
+pub later_key : (k l : List ℕ) (a b : ℕ) (p q : CellSlot) → bytes_cmp k l ≡ Less → is_lt (cell_name_cmp (name_at k a p) (name_at l b q)) ≡ true
 later_key k l a b p q less = ap (λ r. is_lt (ordering_then r (ordering_then (nat_cmp a b) (cell_slot_cmp p q)))) less
 
 below_row_of : (k l : List ℕ) (a b : ℕ) (p : CellSlot) (es : List (CellSlot × Contribution)) → bytes_cmp k l ≡ Less → T (below_all cell_name_cmp (name_at k a p) (named_as l b es))

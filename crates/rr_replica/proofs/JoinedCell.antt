@@ -21,7 +21,6 @@ use Rattle.rr_join.proofs.Members.{same_from_tie, tie_itself}
 use Rattle.rr_contrib.specs.declared.contribution.Contribution.{Contribution}
 use Rattle.rr_contrib.specs.Contributions.{contribution_cmp}
 use Rattle.rr_contrib.specs.ContributionOrder.{contribution_cmp_total, contribution_cmp-IsAntisymmetric}
-use Rattle.rr_contrib.specs.Validity.{IsValid}
 use Rattle.rr_archive.specs.CellSlots.{cell_slot_cmp, cell_slot}
 use Rattle.rr_archive.specs.Cells.{Rows, join_rows}
 use Rattle.rr_archive.specs.Cells as held
@@ -31,9 +30,10 @@ use Rattle.rr_model.proofs.Horizon.{live_horizon}
 use Rattle.rr_model.proofs.Orders.{cell_name_cmp_total, cell_name_cmp-IsAntisymmetric}
 use Rattle.rr_replica.specs.declared.cell.Cell.{Cell}
 use Rattle.rr_replica.specs.Archives.{Each, AreSized, AreSame, HaveJoined}
+use Rattle.rr_replica.specs.CellBounds.{IsCellOf}
 use Rattle.rr_replica.specs.Cells.{Cells, IsTrimmed, cell_slot_of, rows_at}
 use Rattle.rr_replica.specs.Joins.{join_cell}
-use Rattle.rr_replica.specs.Joining.{IsCell, next_after, with_cell, with_cells}
+use Rattle.rr_replica.specs.Joining.{next_after, with_cell, with_cells}
 use Rattle.rr_replica.specs.Held.{IsHolding, AreAllSized, IsHeld, held_series, archives_of, holding_of}
 use Rattle.rr_replica.specs.Holding.{Holding}
 use Rattle.rr_replica.specs.Listing.{owned_cell}
@@ -148,7 +148,7 @@ join_cases s is m n c q d e = by_live (is_live s (keys m) q && is_live s (keys o
     by_live true e = of_either (get m q) (eq_by_cmp cell_name_cmp q n) refl (ap (greater contribution_cmp (get m q)) (sym (get-insert cell_name_cmp_total empty n c q ∙ ap (cond (eq_by_cmp cell_name_cmp q n) (Some c)) (get-empty cell_name_cmp q))) ∙ e)
     by_live false e = absurd (true≢false (sym (ap is_some e)))
 
-module _ (h : Holding) (holds : IsHolding h) (c : Cell) (cell : IsCell h.schema c) where
+module _ (h : Holding) (holds : IsHolding h) (c : Cell) (cell : IsCellOf h.schema (owned_cell c)) where
   abbrev next : ℕ
   next = next_after h.origin h.next (owned_cell c)
 
@@ -167,12 +167,13 @@ module _ (h : Holding) (holds : IsHolding h) (c : Cell) (cell : IsCell h.schema 
       let bounds = next_is (c.origin == h.origin) (nat_le h.next c.contribution.version) refl refl in
       record {
         layout = holds.layout;
+        origin = holds.origin;
         next_at_least = (let least = holds.next_at_least in let more = bounds.0 in omega arith);
         next_at_most = bounds.1;
         live = join_trims h.schema h.cells (insert empty (owned_cell c).0 c.contribution) holds.layout;
-        valid = λ n d e. ⊎_elim
-            (λ was. holds.valid n d was)
-            (λ new. subst (λ (m : CellName). IsValid h.schema m.archive m.slot d) (sym new.0) (subst (IsValid h.schema c.archive c.slot) new.1 cell.valid))
+        cells = λ n d e. ⊎_elim
+            (λ was. holds.cells n d was)
+            (λ new. subst (λ (m : CellName). IsCellOf h.schema (m, d)) (sym new.0) (subst (λ f. IsCellOf h.schema ((owned_cell c).0, f)) new.1 cell))
             (join_cases h.schema holds.layout h.cells (owned_cell c).0 c.contribution n d e);
         own = λ n d e at. ⊎_elim
             (λ was. let below = holds.own n d was at in let more = bounds.0 in omega arith)
@@ -181,7 +182,7 @@ module _ (h : Holding) (holds : IsHolding h) (c : Cell) (cell : IsCell h.schema 
       }
 
 -- with a cell joined in a replica keeps to the same
-pub kept_joined : {X : Type 0} (cells : X → Rows) (limit : X → ℕ) (s : Layout) (origin next : ℕ) (c : Cell) (old new : List (List ℕ × Vec X)) → IsHeld cells limit s origin next old → IsCell s c → cells_of (held_series cells new) ≡ join_cell s (cells_of (held_series cells old)) (owned_cell c).0 c.contribution → AreAllSized limit s new → IsStrictlySortedBy bytes_cmp (keys_of new) → IsHeld cells limit s origin (next_after origin next (owned_cell c)) new
+pub kept_joined : {X : Type 0} (cells : X → Rows) (limit : X → ℕ) (s : Layout) (origin next : ℕ) (c : Cell) (old new : List (List ℕ × Vec X)) → IsHeld cells limit s origin next old → IsCellOf s (owned_cell c) → cells_of (held_series cells new) ≡ join_cell s (cells_of (held_series cells old)) (owned_cell c).0 c.contribution → AreAllSized limit s new → IsStrictlySortedBy bytes_cmp (keys_of new) → IsHeld cells limit s origin (next_after origin next (owned_cell c)) new
 kept_joined cells limit s origin next c old new kept cell joined sized ordered = record {
   holds = subst (λ (m : Cells). IsHolding (record { schema = s; origin = origin; next = next_after origin next (owned_cell c); cells = m })) (sym joined) (holds_joined (holding_of cells s origin next old) kept.holds c cell);
   sized = sized;

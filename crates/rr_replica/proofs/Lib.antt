@@ -3,10 +3,13 @@ pub mod SeriesLemmas
 pub mod Putting
 pub mod Each
 pub mod Shown
+pub mod CellBoundsLemmas
 pub mod HoldingLemmas
 pub mod HeldLemmas
 pub mod InOrder
 pub mod Counted
+pub mod NextCell
+pub mod InTurn
 pub mod PutLaws
 pub mod Values
 pub mod States

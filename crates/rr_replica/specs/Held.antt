@@ -6,27 +6,29 @@ use Rattle.std.specs.Map.{lookup, keys_of}
 use Rattle.std.specs.BTreeMap.{is_at}
 use Rattle.std.specs.FinMap.{get}
 use Rattle.rr_base.specs.declared.limits.TheConstants.{MAX_NUMBER}
+use Rattle.rr_base.specs.Origin.{IsOrigin}
 use Rattle.rr_base.specs.Schema.{Layout, IsLayout}
 use Rattle.rr_contrib.specs.declared.contribution.Contribution.{Contribution}
-use Rattle.rr_contrib.specs.Validity.{IsValid}
 use Rattle.rr_archive.specs.Cells.{Rows}
 use Rattle.rr_model.specs.CellNames.{CellName}
 use Rattle.rr_model.specs.Samples as model
 use Rattle.rr_replica.specs.declared.sample.Sample.{Sample}
+use Rattle.rr_replica.specs.CellBounds.{IsCellOf}
 use Rattle.rr_replica.specs.Cells.{IsTrimmed}
 use Rattle.rr_replica.specs.Holding.{Holding}
 use Rattle.rr_base.specs.Bytes.{bytes_cmp}
 use Rattle.rr_replica.specs.Series.{Series, cells_of}
 use Rattle.rr_replica.specs.Archives.{AreSized}
 
--- a next number is left or was the last, no cell is past the horizon, each contribution is valid in its cell,
+-- a next number is left or was the last, no cell is past the horizon, each is one of the schema's and within bounds,
 -- and those of the replica's own origin are of earlier numbers
 pub record IsHolding (h : Holding) : Type 0 where
   pub layout : IsLayout h.schema
+  pub origin : IsOrigin h.origin
   pub next_at_least : 1 ≤ h.next
   pub next_at_most : h.next ≤ MAX_NUMBER + 1
   pub live : IsTrimmed h.schema h.cells
-  pub valid : (n : CellName) (c : Contribution) → get h.cells n ≡ Some c → IsValid h.schema n.archive n.slot c
+  pub cells : (n : CellName) (c : Contribution) → get h.cells n ≡ Some c → IsCellOf h.schema (n, c)
   pub own : (n : CellName) (c : Contribution) → get h.cells n ≡ Some c → n.origin ≡ h.origin → c.version < h.next
 
 -- what is written, as a sample of a key

@@ -1,27 +1,19 @@
 -- What cells from elsewhere make of a replica.
-use Rattle.std.specs.Prelude.{◌≡◌, ℕ, ◌+◌, ◌<◌, ◌==◌, ◌&&◌, nat_le, List, [], ◌∷◌, length, take, if◌then◌else◌}
-use Rattle.rr_base.specs.Schema.{Layout}
-use Rattle.rr_contrib.specs.declared.contribution.Contribution.{Contribution}
-use Rattle.rr_contrib.specs.Validity.{IsValid}
-use Rattle.rr_model.specs.CellNames.{CellName}
+use Rattle.std.specs.Prelude.{◌≡◌, ℕ, ◌+◌, ◌==◌, ◌&&◌, nat_le, List, [], ◌∷◌, take, if◌then◌else◌}
 use Rattle.rr_replica.specs.declared.cell.Cell.{Cell}
 use Rattle.rr_replica.specs.declared.fault.JoinFault.{JoinFault}
 use Rattle.rr_replica.specs.declared.fault.JoinFault.TheVariants as why
+use Rattle.rr_replica.specs.CellBounds.{NamedCell}
 use Rattle.rr_replica.specs.Holding.{Holding}
 use Rattle.rr_replica.specs.Joins.{join_cell}
 use Rattle.rr_replica.specs.Listing.{owned_cell}
 
--- a cell of one of the schema's archives, valid there
-pub record IsCell (s : Layout) (c : Cell) : Type 0 where
-  pub within : c.archive < length s.archives
-  pub valid : IsValid s c.archive c.slot c.contribution
-
 -- the next number, moved past the version of a cell of the replica's own origin
-abbrev pub next_after : ℕ → ℕ → CellName × Contribution → ℕ
+abbrev pub next_after : ℕ → ℕ → NamedCell → ℕ
 next_after origin next e = if (e.0.origin == origin && nat_le next e.1.version) then e.1.version + 1 else next
 
 -- with a cell joined in
-abbrev pub with_named : Holding → CellName × Contribution → Holding
+abbrev pub with_named : Holding → NamedCell → Holding
 with_named h e = record {
   schema = h.schema;
   origin = h.origin;

@@ -3,7 +3,8 @@ ghost use Rattle.std.specs.Prelude.{◌≡◌, ◌<◌, ◌≤◌, length, IsTru
 ghost use Rattle.std.specs.FinMap as fin;
 ghost use Rattle.rr_base.specs.Schema.{IsLayout};
 ghost use Rattle.rr_replica.specs.Archives.{cell_slot_for, Each, AreSized, CanTake, AreSame, HavePut, HaveJoined};
-ghost use Rattle.rr_replica.specs.Joining.{IsCell};
+ghost use Rattle.rr_replica.specs.CellBounds.{IsCellOf};
+ghost use Rattle.rr_replica.specs.Listing.{owned_cell};
 
 use crate::cell::Cell;
 use crate::sample::Sample;
@@ -105,7 +106,7 @@ pub(crate) fn join_into<A: Archive>(
 ) -> Result<(), AllocError>
     requires layout { IsLayout schema.now }
     requires sized { AreSized A.row_limit schema.now archives.old.items }
-    requires cell { IsCell schema.now cell.now }
+    requires cell { IsCellOf schema.now (owned_cell cell.now) }
     ensures joined { OnOk result (HaveJoined A.cells A.row_limit cell.now archives.old.items archives.new.items) }
     ensures same { OnErr result (AreSame A.cells archives.old.items archives.new.items) }
     ensures sized { AreSized A.row_limit schema.now archives.new.items }

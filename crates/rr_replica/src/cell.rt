@@ -3,6 +3,7 @@
 use rr_base::Origin;
 use rr_contrib::Contribution;
 use rr_key::SeriesKey;
+use std::alloc::AllocError;
 
 /// A cell: what an origin contributes to a slot of an archive of a key, which is lent.
 #[derive(Clone, Copy)]
@@ -32,4 +33,22 @@ pub struct Cell {
     pub origin: Origin,
     /// What they come to.
     pub contribution: Contribution,
+}
+
+impl CellRef<'_> {
+    ghost use Rattle.std.specs.Prelude.{◌≡◌, IfOk};
+    ghost use Rattle.rr_replica.specs.Listing.{seen_cell, owned_cell};
+
+    /// The same cell, with a key of its own. The key's bytes are shared, so that no memory is taken.
+    pub fn to_cell(&self) -> Result<Cell, AllocError>
+        ensures { IfOk result (λ cell. owned_cell cell ≡ seen_cell self.now) }
+    {
+        Ok(Cell {
+            key: self.key.copy()?,
+            archive: self.archive,
+            slot: self.slot,
+            origin: self.origin,
+            contribution: self.contribution,
+        })
+    }
 }

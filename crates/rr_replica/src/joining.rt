@@ -6,7 +6,8 @@ ghost use Rattle.rr_base.specs.Schema.{IsLayout};
 ghost use Rattle.rr_base.specs.declared.limits.TheConstants.{MAX_NUMBER};
 ghost use Rattle.rr_replica.specs.Cells.{IsTrimmed};
 ghost use Rattle.rr_replica.specs.Joins.{join_cell};
-ghost use Rattle.rr_replica.specs.Joining.{IsCell, next_after};
+ghost use Rattle.rr_replica.specs.CellBounds.{IsCellOf};
+ghost use Rattle.rr_replica.specs.Joining.{next_after};
 ghost use Rattle.rr_replica.specs.Held.{held_series, AreAllSized};
 ghost use Rattle.rr_replica.specs.Listing.{owned_cell};
 ghost use Rattle.rr_base.specs.Bytes.{bytes_cmp};
@@ -28,7 +29,7 @@ pub(crate) fn join_in<A: Archive>(
     cell: &Cell,
 ) -> Result<(), AllocError>
     requires layout { IsLayout schema.now }
-    requires cell { IsCell schema.now cell.now }
+    requires cell { IsCellOf schema.now (owned_cell cell.now) }
     requires live { IsTrimmed schema.now (cells_of (held_series A.cells series.old.entries)) }
     requires sized { AreAllSized A.row_limit schema.now series.old.entries }
     requires ordered { IsStrictlySortedBy bytes_cmp (keys_of series.old.entries) }

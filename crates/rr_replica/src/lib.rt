@@ -6,7 +6,8 @@
 //! is put gets the replica's next number, and in each archive it is added to the cell that its time
 //! falls in; then only the live cells are kept (`specs/Puts.antt`). Of a [`Cell`] from elsewhere and
 //! what stands at its name the greater is kept, and the next number moves past a cell of the
-//! replica's own origin (`specs/Joining.antt`).
+//! replica's own origin (`specs/Joining.antt`). Cells are listed in the order of their names, from a
+//! place on or after a name (`specs/Listing.antt`).
 #![tactic(auto)]
 
 mod archives;
@@ -15,6 +16,7 @@ mod fault;
 mod joining;
 pub mod laws;
 mod listing;
+mod next;
 mod replica;
 mod sample;
 

@@ -1,6 +1,7 @@
 //! The cells of archives, in order.
 ghost use Rattle.std.specs.Prelude.{◌≡◌, ◌+◌, ◌≤◌, length, map, Some, IfOk, IfErr, slice_get};
 ghost use Rattle.rr_archive.specs.CellSlots.{cell_slot};
+ghost use Rattle.rr_archive.specs.Cells.{cell_of};
 ghost use Rattle.rr_replica.specs.Cells.{name_at};
 ghost use Rattle.rr_base.specs.Bytes.{bytes_cmp};
 ghost use Rattle.rr_replica.specs.Series.{cells_from, cells_of};
@@ -31,7 +32,7 @@ pub(crate) fn count_in<A: Archive>(archives: &[A], others: usize) -> usize
 }
 
 /// A cell of an archive, with its key.
-fn named(key: &SeriesKey, archive: u8, cell: (i64, Entry)) -> CellRef<'_>
+pub(crate) fn named(key: &SeriesKey, archive: u8, cell: (i64, Entry)) -> CellRef<'_>
     ensures { seen_cell result ≡ (name_at key.now archive (cell_slot cell.0 cell.1.origin), cell.1.contribution) }
 {
     CellRef {
@@ -41,6 +42,16 @@ fn named(key: &SeriesKey, archive: u8, cell: (i64, Entry)) -> CellRef<'_>
         origin: cell.1.origin,
         contribution: cell.1.contribution,
     }
+}
+
+/// The cell of an archive with a number. An archive that holds fewer is passed over by its count.
+fn nth_of<A: Archive>(archive: &A, number: usize) -> Option<(i64, Entry)>
+    ensures { result ≡ option_map cell_of (slice_get (fin.entries (A.cells archive.now)) number) }
+{
+    if archive.cell_count() <= number {
+        return None;
+    }
+    archive.cell_at(number)
 }
 
 /// The cell with a number among those of a key's archives, or else what is left of the number after
@@ -56,7 +67,7 @@ pub(crate) fn nth_in<'a, A: Archive>(
 {
     let mut left = number;
     for i in 0..archives.len() {
-        match archives[i].cell_at(left) {
+        match nth_of(&archives[i], left) {
             Some(cell) => return Ok(named(key, i as u8, cell)),
             None => left -= archives[i].cell_count(),
         }

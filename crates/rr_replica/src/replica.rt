@@ -1,5 +1,5 @@
 //! A replica of the store.
-ghost use Rattle.std.specs.Prelude.{◌≡◌, ℕ, ◌<◌, ◌≤◌, ◌+◌, ◌↔◌, length, None, Err, IfOk, IfErr, OnOk, OnErr, IsTrue, IsFalse, MatchOption, slice_get, unwrap_or};
+ghost use Rattle.std.specs.Prelude.{◌≡◌, ℕ, ◌<◌, ◌≤◌, ◌+◌, ◌↔◌, length, map, take, drop, None, Err, IfOk, IfErr, OnOk, OnErr, IsTrue, IsFalse, MatchOption, slice_get, unwrap_or};
 ghost use Rattle.std.specs.Option.{option_map};
 ghost use Rattle.std.specs.FinMap as fin;
 ghost use Rattle.rr_base.specs.Schema.{IsLayout};
@@ -12,7 +12,7 @@ ghost use Rattle.rr_replica.specs.Cells.{row_at, rows_at};
 ghost use Rattle.rr_replica.specs.Puts.{put_sample};
 ghost use Rattle.rr_replica.specs.Holding.{Holding, with_put};
 ghost use Rattle.rr_replica.specs.Series.{cells_of};
-ghost use Rattle.rr_replica.specs.Listing.{seen_cell, at_most_usize};
+ghost use Rattle.rr_replica.specs.Listing.{seen_cell, owned_cell, at_most_usize, cell_name, next_cell};
 ghost use Rattle.rr_replica.specs.Held.{held_series, sample_of, IsHolding, IsHeld};
 
 use crate::archives::{empty_archives, put_into};
@@ -20,6 +20,7 @@ use crate::cell::{Cell, CellRef};
 use crate::fault::{JoinFault, PutFault, WriteFault};
 use crate::joining::{join_in, next_after};
 use crate::listing::{count_cells, nth_cell};
+use crate::next::{NameRef, next_cell};
 use crate::sample::Sample;
 use rr_archive::{Archive, Entry};
 use rr_base::limits::MAX_NUMBER;
@@ -63,21 +64,23 @@ fn put_in<A: Archive>(
     alloc: Global,
     schema: &Schema,
     key: &SeriesKey,
-    sample: &Sample,
+    sample: Sample,
 ) -> Result<(), AllocError>
-    requires kept { IsHeld A.cells A.row_limit schema.now sample.now.origin sample.now.number series.old.entries }
-    requires known { sample.now.number ≤ MAX_NUMBER }
+    requires kept { IsHeld A.cells A.row_limit schema.now sample.origin sample.number series.old.entries }
+    requires known { sample.number ≤ MAX_NUMBER }
     ensures put { OnOk result (cells_of (held_series A.cells series.new.entries)
-        ≡ put_sample schema.now (cells_of (held_series A.cells series.old.entries)) (sample_of key.now sample.now)) }
-    ensures ok { OnOk result (IsHeld A.cells A.row_limit schema.now sample.now.origin (sample.now.number + 1) series.new.entries) }
+        ≡ put_sample schema.now (cells_of (held_series A.cells series.old.entries)) (sample_of key.now sample)) }
+    ensures ok { OnOk result (IsHeld A.cells A.row_limit schema.now sample.origin (sample.number + 1) series.new.entries) }
     ensures err { OnErr result (cells_of (held_series A.cells series.new.entries) ≡ cells_of (held_series A.cells series.old.entries)) }
-    ensures kept { OnErr result (IsHeld A.cells A.row_limit schema.now sample.now.origin sample.now.number series.new.entries) }
+    ensures kept { OnErr result (IsHeld A.cells A.row_limit schema.now sample.origin sample.number series.new.entries) }
 {
+    // The proof needs that the text is a key text, which `text` ensures.
+    let _text = key.text();
     match series.get_mut(key) {
-        Some(archives) => put_into(archives, schema, sample),
+        Some(archives) => put_into(archives, schema, &sample),
         None => {
             let mut archives = empty_archives(alloc, schema)?;
-            put_into(&mut archives, schema, sample)?;
+            put_into(&mut archives, schema, &sample)?;
             series.insert(key.copy()?, archives)?;
             Ok(())
         }
@@ -89,6 +92,8 @@ impl<A: Archive> Replica<A> {
     pub fn new(alloc: Global, schema: &Schema, origin: Origin) -> Result<Replica<A>, AllocError>
         ensures { IfOk result (λ r. r ≡ record { schema = schema.now; origin = origin; next = 1; cells = fin.empty }) }
     {
+        // The proof needs that the origin is from 1 to 65,535, which `get` ensures.
+        let _number = origin.get();
         Ok(Replica {
             alloc,
             schema: schema.copy(alloc)?,
@@ -99,7 +104,7 @@ impl<A: Archive> Replica<A> {
     }
 
     /// The schema of all series. A caller learns here too what a replica keeps to: its cells are live
-    /// and valid under this schema, and those of its own origin are of numbers before the next.
+    /// and are cells of this schema, and those of its own origin are of numbers before the next.
     pub fn schema(&self) -> &Schema
         ensures value { result.now ≡ self.now.schema }
         ensures holds { IsHolding self.now }
@@ -146,7 +151,7 @@ impl<A: Archive> Replica<A> {
             time,
             value,
         };
-        put_in(&mut self.series, self.alloc, &self.schema, key, &sample)?;
+        put_in(&mut self.series, self.alloc, &self.schema, key, sample)?;
         let number = self.next;
         self.next += 1;
         Ok(number)
@@ -187,11 +192,54 @@ impl<A: Archive> Replica<A> {
     }
 
     /// The cell with a number, from 0, in order of key, archive, slot and origin. The cost is linear
-    /// in the series before it and in the rows of its archive.
+    /// in the series before it, each passed over by its count, and in the rows of its archive.
     pub fn cell_at(&self, i: usize) -> Option<CellRef<'_>>
         ensures { option_map seen_cell result ≡ slice_get (fin.entries self.now.cells) i }
     {
         nth_cell(&self.series, i)
+    }
+
+    /// The first cell after a name, in the same order, whether or not a cell is there. The cost is one
+    /// look-up of the key and that of the archives' `next_cell`: no series before the key is walked
+    /// over.
+    pub fn next_cell(
+        &self,
+        key: &SeriesKey,
+        archive: u8,
+        slot: i64,
+        origin: Origin,
+    ) -> Option<CellRef<'_>>
+        ensures { option_map seen_cell result ≡ next_cell self.now.cells (cell_name key.now archive slot origin) }
+    {
+        let name = NameRef {
+            key,
+            archive,
+            slot,
+            origin,
+        };
+        next_cell(&self.series, &name)
+    }
+
+    /// As many cells as `count` from a place on, in the same order; fewer where there are fewer. The
+    /// cost is that of `cell_at` for the first, and for each further cell that of `next_cell`.
+    pub fn cells_from(
+        &self,
+        alloc: Global,
+        from: usize,
+        count: usize,
+    ) -> Result<Vec<Cell>, AllocError>
+        ensures { IfOk result (λ cells. map owned_cell cells.items ≡ take count (drop from (fin.entries self.now.cells))) }
+    {
+        let mut cells = Vec::new(alloc);
+        let mut next = self.cell_at(from);
+        for _ in 0..count {
+            let Some(cell) = next else {
+                return Ok(cells);
+            };
+            cells.push(cell.to_cell()?)?;
+            next = self.next_cell(cell.key, cell.archive, cell.slot, cell.origin);
+        }
+        Ok(cells)
     }
 }
 
@@ -280,7 +328,8 @@ impl<A: Archive> Replica<A> {
 
 impl<A: Archive> Replica<A> {
     ghost use Rattle.std.specs.Prelude.{All};
-    ghost use Rattle.rr_replica.specs.Joining.{IsCell, with_cell, with_cells, IsAfterJoined};
+    ghost use Rattle.rr_replica.specs.CellBounds.{IsCellOf};
+    ghost use Rattle.rr_replica.specs.Joining.{with_cell, with_cells, IsAfterJoined};
 
     /// Joins a cell from elsewhere, which is valid under the schema: of it and what stands at its
     /// name the greater stays, and then only the live cells. A cell of the replica's own origin,
@@ -290,7 +339,7 @@ impl<A: Archive> Replica<A> {
     /// nothing has changed. The cost is one look-up of the key and, in the cell's archive, one of
     /// the slot, the entries of a row, and the rows that go.
     pub fn join_cell(&mut self, cell: &Cell) -> Result<(), AllocError>
-        requires { IsCell self.old.schema cell.now }
+        requires { IsCellOf self.old.schema (owned_cell cell.now) }
         ensures joined { OnOk result (self.new ≡ with_cell self.old cell.now) }
         ensures unchanged { OnErr result (self.new ≡ self.old) }
     {
@@ -302,7 +351,7 @@ impl<A: Archive> Replica<A> {
     /// Joins cells from elsewhere, in order, each as `join_cell` does. Where memory runs out,
     /// `Memory` says how many cells, from the first on, were joined.
     pub fn join_cells(&mut self, cells: &[Cell]) -> Result<(), JoinFault>
-        requires { All (IsCell self.old.schema) cells.now }
+        requires { All (λ c. IsCellOf self.old.schema (owned_cell c)) cells.now }
         ensures joined { OnOk result (self.new ≡ with_cells self.old cells.now) }
         ensures stopped { IfErr result (IsAfterJoined self.old self.new cells.now) }
         ensures cells_left { (joined : ℕ) → result ≡ Err (JoinFault.Memory joined) → joined < length cells.now }

@@ -16,4 +16,5 @@ mod reports;
 mod schemas;
 mod scripts;
 mod streams;
+mod walks;
 mod words;

@@ -1,6 +1,7 @@
 //! Replicas: samples put and written, numbers, and cells joined.
 
-ghost use Rattle.rr_replica.specs.Joining.{IsCell};
+ghost use Rattle.rr_replica.specs.CellBounds.{IsCellOf};
+ghost use Rattle.rr_replica.specs.Listing.{owned_cell};
 
 use rr_archive::{Archive, PlainArchive};
 use rr_base::{ArchiveSpec, Origin, Schema};
@@ -233,12 +234,14 @@ fn cell(alloc: Global, origin: u16, slot: i64, contribution: Contribution) -> Re
     })
 }
 
-/// Asserts that a cell is one of the schema's, and valid there.
+/// Asserts that a cell is one of the schema's, and within bounds.
 fn assert_valid(rt: &impl Abort, schema: &Schema, cell: &Cell)
-    ensures { IsCell schema.now cell.now }
+    ensures { IsCellOf schema.now (owned_cell cell.now) }
 {
     assert!(rt; (cell.archive as usize) < schema.archives().len());
     assert!(rt; cell.contribution.is_valid(schema, cell.archive, cell.slot));
+    // What holds of every key and origin.
+    let _known = (cell.key.text(), cell.origin.get());
 }
 
 /// The cell of one sample of `m v`: its origin and number, its slot, whose first nanosecond it is

@@ -3,7 +3,7 @@ use Rattle.rr_base.specs.Results.{GivesUnless}
 use Rattle.rr_replica.specs.Listing.{owned_cell}
 use Rattle.rr_page.specs.declared.fault.PageFault.TheVariants.{Memory}
 use Rattle.rr_page.proofs.FieldLemmas.{AreBytes-from_get_or}
-use Rattle.rr_page.proofs.PageLemmas.{page_found, page_again, cells_found, cells_valid}
+use Rattle.rr_page.proofs.PageLemmas.{page_found, page_again, cells_found}
 use Rattle.rr_page.proofs.decoding.decode.Goals as goal
 
 pub returns-clause-found : goal.returns-clause-found
@@ -17,7 +17,3 @@ returns-clause-only c = λ es page text.
 pub returns-clause-cells : goal.returns-clause-cells
 returns-clause-cells c =
     cells_found c.args.schema.now c.args.bytes.now (AreBytes-from_get_or c.args.bytes.now (λ i. omega (arith, c.type_inv.bytes i))) c.page_of.result c.page_of.ensures.read
-
-pub returns-clause-valid : goal.returns-clause-valid
-returns-clause-valid c =
-    cells_valid c.args.schema.now c.args.bytes.now (AreBytes-from_get_or c.args.bytes.now (λ i. omega (arith, c.type_inv.bytes i))) c.page_of.result c.page_of.ensures.read

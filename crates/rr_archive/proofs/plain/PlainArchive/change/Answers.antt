@@ -1,4 +1,4 @@
-use Rattle.std.proofs.Common.{rules, sym, ℕ, Bool, true, false, refl, ◌≡◌, ◌+◌, ◌^◌, ◌<◌, ◌≤◌, cond, arith, ap, ◌∙◌, Some, to_z, of_z, w64, int_cmp}
+use Rattle.std.proofs.Common.{rules, sym, ℕ, Bool, true, false, refl, ◌≡◌, ◌+◌, ◌≤◌, cond, arith, ap, ◌∙◌, Some, to_z, of_z, w64, int_cmp}
 use mir.Val.{bool_byte}
 use Rattle.std.specs.Prelude.{is_none}
 use Rattle.std.specs.FinMap as fin
@@ -6,9 +6,9 @@ use Rattle.rr_join.specs.Maps.{greater}
 use Rattle.rr_archive.specs.Changes.{contribution_after}
 use Rattle.rr_archive.specs.Cells.{with_change}
 use Rattle.rr_join.specs.Horizon.{is_above}
-use Rattle.rr_archive.specs.CellSlots.{cell_slot}
+use Rattle.rr_archive.specs.CellSlots.{cell_slot, IsInRange}
 use Rattle.rr_archive.specs.Held.{cells_in}
-use Rattle.rr_archive.proofs.Counting.{held_kept, cells_kept, len_with, in_range_from, set_dead}
+use Rattle.rr_archive.proofs.Counting.{held_kept, cells_kept, len_with, set_dead}
 use Rattle.rr_archive.proofs.FewCells.{few_cells}
 use Rattle.rr_archive.proofs.plain.PlainArchive.change.Goals as goal
 
@@ -75,5 +75,5 @@ invariant_of-self-2 c =
     let s = steps c in
     let e = c.drop_dead-self.ensures in
     let top : to_z w64 (of_z w64 c.later-newest.result) ≡ c.later-newest.result = search rules in
-    let fits : c.args.origin < 2 ^ 16 = omega arith in
-    record { held = rw top (held_kept a.rows a.count c.drop_dead-self.result a.newest c.later-newest.result a.slots.entries c.change_cell.new.slots.entries c.drop_dead-self.new.slots.entries p (contribution_after (fin.get (cells_in a.slots.entries) p) c.args.change.now) a.held e.ascend e.ordered (in_range_from c.args.slot c.args.origin c.requires.slot fits) s.changed s.live e.counted s.latest) }
+    let in_range : IsInRange p = record { slot = c.requires.slot; origin = record { at_least = omega arith; at_most = omega arith } } in
+    record { held = rw top (held_kept a.rows a.count c.drop_dead-self.result a.newest c.later-newest.result a.slots.entries c.change_cell.new.slots.entries c.drop_dead-self.new.slots.entries p (contribution_after (fin.get (cells_in a.slots.entries) p) c.args.change.now) a.held e.ascend e.ordered in_range s.changed s.live e.counted s.latest) }

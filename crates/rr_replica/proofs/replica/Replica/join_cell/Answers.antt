@@ -1,6 +1,7 @@
 use Rattle.std.proofs.Common.{◌≡◌, sym, subst}
+use Rattle.rr_replica.specs.CellBounds.{IsCellOf}
 use Rattle.rr_replica.specs.Holding.{Holding}
-use Rattle.rr_replica.specs.Joining.{IsCell, next_after}
+use Rattle.rr_replica.specs.Joining.{next_after}
 use Rattle.rr_replica.specs.Listing.{owned_cell}
 use Rattle.rr_replica.specs.Held.{IsHeld}
 use Rattle.rr_replica.proofs.JoinedCell.{kept_joined}
@@ -9,7 +10,7 @@ use Rattle.rr_replica.proofs.replica.Replica.join_cell.Goals as goal
 pub invariant_of-self-2 : goal.invariant_of-self-2
 invariant_of-self-2 g c =
     let r = c.self.inside in
-    let cell : IsCell r.schema c.args.cell.now = subst (λ (h : Holding). IsCell h.schema c.args.cell.now) (sym c.self.view_is) c.requires in
+    let cell : IsCellOf r.schema (owned_cell c.args.cell.now) = subst (λ (h : Holding). IsCellOf h.schema (owned_cell c.args.cell.now)) (sym c.self.view_is) c.requires in
     let next : c.next_after-self-inside.result ≡ next_after r.origin r.next (owned_cell c.args.cell.now) = c.next_after-self-inside.ensures in
     let e = c.in_ok-join_in.ensures in
     subst (λ n. IsHeld g.A.Archive.cells g.A.Archive.row_limit r.schema r.origin n c.join_in.new.series.entries) (sym next)

@@ -1,11 +1,22 @@
 -- The cells so far are joined, each to what the ones before left.
-use Rattle.std.proofs.Common.{rules, ◌≡◌, ◌∙◌, [], ◌∷◌, ◌++◌, take, get_or, sym, ap, arith}
+use Rattle.std.proofs.Common.{rules, ◌≡◌, ◌∙◌, [], ◌∷◌, ◌++◌, take, get_or, sym, ap, subst, arith}
 use Rattle.std.proofs.lemmas.List.{take_more}
 use Rattle.rr_replica.specs.Holding.{Holding}
+use Rattle.rr_replica.specs.CellBounds.{IsCellOf}
 use Rattle.rr_replica.specs.Joining.{with_cell, with_cells}
+use Rattle.rr_replica.specs.Listing.{owned_cell}
 use Rattle.rr_replica.proofs.FieldLemmas.{passed}
 use Rattle.rr_replica.proofs.JoinedCell.{with_cells-more}
 use Rattle.rr_replica.proofs.replica.Replica.join_cells.Goals as goal
+
+pub join_cell-requires : goal.join_cell-requires
+join_cell-requires g c =
+    let cells = c.args.cells.now in
+    let i = c.loop-cell.cell-index in
+    let cell = c.cell-item.result in
+    let item : get_or cells i cell ≡ cell = search rules in
+    let of_schema = c.requires i cell c.loop-cell-test.true in
+    subst (λ s. IsCellOf s (owned_cell cell)) (sym c.loop-cell.invariant.schema) (subst (λ d. IsCellOf c.args.self.now.schema (owned_cell d)) item of_schema)
 
 pub loop-cell-preserved : goal.loop-cell-preserved
 loop-cell-preserved g c =

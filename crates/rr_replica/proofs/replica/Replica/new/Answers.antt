@@ -1,4 +1,5 @@
-use Rattle.std.proofs.Common.{rules, ◌≡◌, []}
+use Rattle.std.proofs.Common.{rules, ◌≡◌, [], arith}
+use Rattle.rr_base.specs.Origin.{IsOrigin}
 use Rattle.rr_base.specs.Schema.{IsLayout}
 use Rattle.rr_replica.proofs.HeldLemmas.{kept_none, cells_none}
 use Rattle.rr_replica.proofs.replica.Replica.new.Goals as goal
@@ -7,7 +8,8 @@ pub invariant_of-result : goal.invariant_of-result
 invariant_of-result g c =
     let none : c.new.result.entries ≡ [] = search rules in
     let within : IsLayout c.in_ok-copy.field-0 = search rules in
-    kept_none g.A.Archive.cells g.A.Archive.row_limit c.in_ok-copy.field-0 c.args.origin c.new.result.entries within none
+    let in_range : IsOrigin c.args.origin = record { at_least = omega arith; at_most = omega arith } in
+    kept_none g.A.Archive.cells g.A.Archive.row_limit c.in_ok-copy.field-0 c.args.origin c.new.result.entries within in_range none
 
 pub returns : goal.returns
 returns g c =

@@ -1,0 +1,86 @@
+//! The first cell after a name.
+ghost use Rattle.std.specs.Prelude.{◌≡◌, ◌≤◌, length, map, drop, slice_get, IsTrue};
+ghost use Rattle.std.specs.List.{AllByRecursion};
+ghost use Rattle.std.specs.List.Sorted.{IsStrictlySortedBy};
+ghost use Rattle.std.specs.Map.{keys_of};
+ghost use Rattle.std.specs.Option.{option_map};
+ghost use Rattle.std.specs.Ordering.{is_le};
+ghost use Rattle.rr_base.specs.Bytes.{bytes_cmp};
+ghost use Rattle.rr_replica.specs.Held.{held_series};
+ghost use Rattle.rr_replica.specs.Listing.{seen_cell, seen_name, first_after, next_cell};
+ghost use Rattle.rr_replica.specs.Series.{cells_from, cells_of};
+
+use crate::cell::CellRef;
+use crate::listing::named;
+use rr_archive::Archive;
+use rr_base::Origin;
+use rr_base::limits::MAX_ARCHIVES;
+use rr_key::SeriesKey;
+use std::collections::BTreeMap;
+
+/// The name of a cell.
+#[derive(Clone, Copy)]
+pub(crate) struct NameRef<'a> {
+    pub(crate) key: &'a SeriesKey,
+    pub(crate) archive: u8,
+    pub(crate) slot: i64,
+    pub(crate) origin: Origin,
+}
+
+/// The first cell of a key's archives from the one with a number on.
+fn first_from<'a, A: Archive>(
+    key: &'a SeriesKey,
+    archives: &[A],
+    first: usize,
+) -> Option<CellRef<'a>>
+    requires { length archives.now ≤ MAX_ARCHIVES }
+    ensures { option_map seen_cell result ≡ slice_get (cells_from key.now first (drop first (map A.cells archives.now))) 0 }
+{
+    for i in first..archives.len() {
+        if let Some(cell) = archives[i].cell_at(0) {
+            return Some(named(key, i as u8, cell));
+        }
+    }
+    None
+}
+
+/// The first cell after a name among those of a key that is not before the name's.
+fn next_in<'a, A: Archive>(
+    key: &'a SeriesKey,
+    archives: &[A],
+    name: &NameRef<'_>,
+) -> Option<CellRef<'a>>
+    requires not_before { IsTrue (is_le (bytes_cmp name.now.key.now key.now)) }
+    requires few_archives { length archives.now ≤ MAX_ARCHIVES }
+    ensures { option_map seen_cell result ≡ first_after (seen_name name.now) (cells_from key.now 0 (map A.cells archives.now)) }
+{
+    if key != name.key {
+        return first_from(key, archives, 0);
+    }
+    let own = name.archive as usize;
+    if own >= archives.len() {
+        return None;
+    }
+    match archives[own].next_cell(name.slot, name.origin) {
+        Some(cell) => Some(named(key, name.archive, cell)),
+        None => first_from(key, archives, own + 1),
+    }
+}
+
+/// The first cell after a name among those of all series. No series before the name's key is walked
+/// over.
+pub(crate) fn next_cell<'a, A: Archive>(
+    series: &'a BTreeMap<SeriesKey, Vec<A>>,
+    name: &NameRef<'_>,
+) -> Option<CellRef<'a>>
+    requires ordered { IsStrictlySortedBy bytes_cmp (keys_of series.now.entries) }
+    requires few_archives { AllByRecursion (λ e. length e.1.items ≤ MAX_ARCHIVES) series.now.entries }
+    ensures { option_map seen_cell result ≡ next_cell (cells_of (held_series A.cells series.now.entries)) (seen_name name.now) }
+{
+    for (key, archives) in series.range(name.key..) {
+        if let Some(cell) = next_in(key, archives, name) {
+            return Some(cell);
+        }
+    }
+    None
+}
