@@ -1,8 +1,8 @@
-//! A cell as bytes in hexadecimal, and changes of them. The first line has the bytes; each further
-//! line a place from 0, a space, and the bytes that stand there instead.
+//! Cells as bytes in hexadecimal, and changes of them ([`crate::changes`]).
 
-use anyhow::{Context, Result};
-use rr_base::{ArchiveSpec, Schema};
+use crate::changes;
+use anyhow::Result;
+use rr_base::{ArchiveSpec, Schema, SchemaFault};
 use rr_page::{PageFault, read_cell};
 use rr_replica::Cell;
 use std::alloc::{AllocError, Global};
@@ -15,30 +15,19 @@ const THREE_ROWS: ArchiveSpec = ArchiveSpec {
     den: 1,
 };
 
-/// For each line what its bytes are read as, under a schema of three rows a minute.
-pub(crate) fn answers(alloc: Global, input: &[u8]) -> Result<Vec<u8>> {
-    let schema = Schema::new(alloc, 60, &[THREE_ROWS])?;
-    let text = str::from_utf8(input)?;
-    let mut lines = text.lines();
-    let bytes = hex::decode(alloc, lines.next().context("an empty file")?)?;
-    let mut output = String::new(alloc);
-    push_answer(&mut output, read_cell(alloc, &bytes, &schema))?;
-    for line in lines {
-        let (at, change) = line.split_once(' ').context("a line without a space")?;
-        let changed = with_change(alloc, &bytes, at.parse::<usize>()?, change)?;
-        push_answer(&mut output, read_cell(alloc, &changed, &schema))?;
-    }
-    Ok(output.into_bytes())
+/// The schema that the cells and pages are of: three rows a minute.
+pub(crate) fn minutes(alloc: Global) -> Result<Schema, SchemaFault> {
+    Schema::new(alloc, 60, &[THREE_ROWS])
 }
 
-/// The bytes with some changed from a place on.
-fn with_change(alloc: Global, bytes: &[u8], at: usize, change: &str) -> Result<Vec<u8>> {
-    let change = hex::decode(alloc, change)?;
-    let (front, back) = bytes.split_at_checked(at).context("a place past the end")?;
-    let mut changed = Vec::from_slice(alloc, front)?;
-    changed.extend_from_slice(&change)?;
-    changed.extend_from_slice(back.get(change.len()..).unwrap_or(&[]))?;
-    Ok(changed)
+/// What each variant of the bytes is read as.
+pub(crate) fn answers(alloc: Global, input: &[u8]) -> Result<Vec<u8>> {
+    let schema = minutes(alloc)?;
+    let mut output = String::new(alloc);
+    for bytes in &changes::variants(alloc, input)? {
+        push_answer(&mut output, read_cell(alloc, bytes, &schema))?;
+    }
+    Ok(output.into_bytes())
 }
 
 fn push_answer(
@@ -46,14 +35,17 @@ fn push_answer(
     read: Result<(Cell, usize), PageFault>,
 ) -> Result<(), AllocError> {
     match read {
-        Ok((cell, len)) => push_cell(output, &cell, len)?,
+        Ok((cell, len)) => {
+            push_fields(output, &cell)?;
+            write!(output, ": {len} bytes")?;
+        }
         Err(fault) => output.push_str(fault.name())?,
     }
     output.push('\n')
 }
 
-/// The fields of a cell in their order, and how many bytes it takes.
-fn push_cell(output: &mut String, cell: &Cell, len: usize) -> Result<(), AllocError> {
+/// The fields of a cell in their order.
+pub(crate) fn push_fields(output: &mut String, cell: &Cell) -> Result<(), AllocError> {
     let key = str::from_utf8(cell.key.text()).unwrap_or("");
     let (archive, slot, origin) = (cell.archive, cell.slot, cell.origin.get());
     write!(output, "{key} {archive} {slot} {origin} ")?;
@@ -62,5 +54,5 @@ fn push_cell(output: &mut String, cell: &Cell, len: usize) -> Result<(), AllocEr
     let (min, max) = (summary.min, summary.max);
     write!(output, "{version} {count} {sum} {min} {max} ")?;
     let (time, value, mask) = (summary.last_time, summary.last_value, summary.mask);
-    write!(output, "{time} {value} {mask}: {len} bytes")
+    write!(output, "{time} {value} {mask}")
 }

@@ -1,6 +1,6 @@
 //! The kinds of cases.
 
-use crate::{cells, documents, keys, lines, replicas};
+use crate::{cells, documents, keys, lines, pages, replicas};
 use anyhow::Result;
 use std::alloc::Global;
 
@@ -19,6 +19,8 @@ pub(crate) enum Kind {
     Cell,
     /// Calls of a replica, a line each, and what they answer.
     Replica,
+    /// A page in hexadecimal and changes of its bytes, and what each is read as.
+    Page,
 }
 
 impl Kind {
@@ -31,6 +33,7 @@ impl Kind {
             "keys" => Some(Kind::Keys),
             "hex" => Some(Kind::Cell),
             "calls" => Some(Kind::Replica),
+            "page" => Some(Kind::Page),
             _ => None,
         }
     }
@@ -44,6 +47,7 @@ impl Kind {
             Kind::Keys => Ok(keys::answers(alloc, input)?),
             Kind::Cell => cells::answers(alloc, input),
             Kind::Replica => replicas::answers(alloc, input),
+            Kind::Page => pages::answers(alloc, input),
         }
     }
 }

@@ -10,11 +10,13 @@
 
 mod case;
 mod cells;
+mod changes;
 mod documents;
 mod files;
 mod keys;
 mod kind;
 mod lines;
+mod pages;
 mod replicas;
 
 use anyhow::Result;

@@ -63,8 +63,8 @@ fn mask_of(bytes: &[u8], version: Version) -> Result<(Mask, &[u8]), PageFault>
 
 /// The fields of a contribution, and what follows them.
 #[tactic(auto, unfolding(crate::specs::Reading::contribution_at))]
-fn contribution_of(bytes: &[u8], layout: Version) -> Result<(Contribution, &[u8]), PageFault>
-    ensures { Gives (λ x. (x.0, x.1.now)) result (contribution_at layout bytes.now) }
+fn contribution_of(bytes: &[u8], format: Version) -> Result<(Contribution, &[u8]), PageFault>
+    ensures { Gives (λ x. (x.0, x.1.now)) result (contribution_at format bytes.now) }
 {
     let (version, rest) = u64_at(bytes)?;
     let (count, rest) = u64_at(rest)?;
@@ -73,7 +73,7 @@ fn contribution_of(bytes: &[u8], layout: Version) -> Result<(Contribution, &[u8]
     let (max, rest) = i64_at(rest)?;
     let (last_time, rest) = i64_at(rest)?;
     let (last_value, rest) = i64_at(rest)?;
-    let (mask, rest) = mask_of(rest, layout)?;
+    let (mask, rest) = mask_of(rest, format)?;
     let contribution = Contribution {
         version,
         count,
@@ -98,7 +98,6 @@ pub(crate) fn cell_of<'a>(
     ensures read { GivesUnless PageFault.Memory (λ x. (owned_cell x.0, x.1.now)) result
         (cell_at version schema.now bytes.now) }
     ensures memory { NeedsMemoryAfter PageFault.Memory (key_at bytes.now) result }
-    ensures cell { IfOk result (λ x. IsCellOf schema.now (owned_cell x.0)) }
 {
     let (key, rest) = key_of(alloc, bytes)?;
     let (archive, rest) = archive_of(rest, schema)?;

@@ -8,6 +8,7 @@ mod feeds;
 mod fetches;
 mod keys;
 mod lines;
+mod pages;
 mod process;
 mod records;
 mod replicas;
