@@ -10,6 +10,7 @@ ghost use Rattle.rr_fetch.specs.Consolidation.{consolidated, count_of, last_cmp,
 use crate::sum::sum_of;
 use rr_archive::Entry;
 use rr_base::{ConsolidationFunction, Schema};
+use rr_contrib::Mask;
 
 /// What a function makes of the entries of a row, or `None` where the row is unknown: where
 /// more than the fraction xff of its steps has no sample of any origin.
@@ -46,7 +47,7 @@ pub fn consolidate(
 fn known_places(row: &[Entry]) -> u32
     ensures { result ≡ count_ones (united row.now) }
 {
-    let mut mask = 0u64;
+    let mut mask: Mask = 0;
     for entry in row {
         mask |= entry.contribution.mask;
     }
