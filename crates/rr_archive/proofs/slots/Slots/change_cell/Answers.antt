@@ -7,8 +7,8 @@ use Rattle.std.specs.FinMap.{insert}
 use Rattle.rr_contrib.specs.declared.contribution.Contribution.{Contribution}
 use Rattle.rr_archive.specs.Changes.{Fits, contribution_after, entry_after}
 use Rattle.rr_archive.specs.CellSlots.{cell_slot}
-use Rattle.rr_archive.specs.Held.{row_in, row_ascends, cells_in}
-use Rattle.rr_archive.proofs.HeldLemmas.{Sets, items_of, set_found, set_fresh, set_alike, rows_ascend, room_is, no_room, cell_here, cell_nowhere}
+use Rattle.rr_archive.specs.Held.{row_in, cells_in}
+use Rattle.rr_archive.proofs.HeldLemmas.{Sets, items_of, set_found, set_fresh, set_alike, room_is, no_room, cell_here, cell_nowhere}
 use Rattle.rr_archive.proofs.slots.Slots.change_cell.Goals as goal
 
 -- ---- the slot has a row
