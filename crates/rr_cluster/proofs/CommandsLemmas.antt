@@ -3,4 +3,7 @@ pub mod Schema
 pub mod Node
 pub mod Now
 pub mod Write
+pub mod Page
+pub mod Deliver
+pub mod Bytes
 pub mod Fetch

@@ -4,5 +4,6 @@ pub mod ScriptLemmas
 pub mod MeaningLemmas
 pub mod StepLemmas
 pub mod SoundnessLemmas
+pub mod EntriesLemmas
 pub mod CommandsLemmas
 pub mod AgreementLemmas

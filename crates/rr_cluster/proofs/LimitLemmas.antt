@@ -1,5 +1,5 @@
 -- What words and lines say is within the limits: origins, times, values and keys.
-use Rattle.std.proofs.Common.{◌≡◌, ℕ, ◌+◌, ◌≤◌, ℤ, Bool, true, false, not, cond, ◌&&◌, List, [], ◌∷◌, ◌++◌, length, Option, Some, None, Result, Ok, Err, refl, subst, sym, arith}
+use Rattle.std.proofs.Common.{◌≡◌, ℕ, ◌+◌, ◌≤◌, ℤ, Bool, true, false, not, cond, ◌&&◌, List, [], ◌∷◌, ◌++◌, length, Option, Some, None, Ok, Err, refl, subst, sym, arith}
 use Rattle.std.specs.Prelude.{IsTrue, nat_le, ok_or, option_and_then, unwrap_or}
 use Rattle.std.specs.List.{AllByRecursion}
 use Rattle.std.specs.Str.Parse.{digits_value, signed_digits_value}
@@ -17,7 +17,6 @@ use Rattle.rr_line.specs.Line.{PointView}
 use Rattle.rr_line.specs.Part.{before_last}
 use Rattle.rr_line.specs.Time.{IsEnding}
 use Rattle.rr_line.specs.Value.{value_of, is_integer, kind_fault}
-use Rattle.rr_cluster.specs.declared.fault.CommandFault.{CommandFault}
 use Rattle.rr_cluster.specs.declared.fault.CommandFault.TheVariants.{BadNumber, Origin}
 use Rattle.rr_base.specs.declared.limits.TheConstants.{MAX_ORIGIN}
 use Rattle.rr_cluster.specs.Commands.Write.{samples_of}
@@ -31,7 +30,7 @@ is_there (Some y) fault x e = cc
 
 -- ---- words
 
-number_is_within : (least most : ℕ) (word : List ℕ) (number : ℕ) → number_within least most word ≡ Some number → (least ≤ number) × (number ≤ most)
+pub number_is_within : (least most : ℕ) (word : List ℕ) (number : ℕ) → number_within least most word ≡ Some number → (least ≤ number) × (number ≤ most)
 number_is_within least most word number =
     let value = digits_value 10 word in by value (is_digits word) (nat_le least value) (nat_le value most) refl refl
   where

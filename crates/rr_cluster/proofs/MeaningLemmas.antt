@@ -1,5 +1,5 @@
 -- Which state a cluster represents after a step, and the nodes of a state by the replicas of its cluster.
-use Rattle.std.proofs.Common.{◌≡◌, ℕ, pos, Bool, true, false, cond, List, [], Option, Some, None, refl, sym, ap, ◌∙◌}
+use Rattle.std.proofs.Common.{◌≡◌, ℕ, pos, Bool, true, false, cond, List, [], Option, Some, None, refl, sym, ap, subst, ◌∙◌}
 use Rattle.std.specs.Option.{is_some, option_map}
 use Rattle.std.specs.Ordering.{eq_by_cmp}
 use Rattle.std.specs.Cmp.Lexicographic.{nat_list_cmp_total}
@@ -15,7 +15,8 @@ use Rattle.rr_replica.specs.Cells.{Cells}
 use Rattle.rr_replica.specs.Holding.{Holding}
 use Rattle.rr_base.specs.Bytes.{bytes_cmp}
 use Rattle.rr_cluster.specs.declared.cluster.Cluster.{Cluster}
-use Rattle.rr_cluster.specs.Meaning.{node_of, replica_at, Represents}
+use Rattle.rr_cluster.specs.Commands.Bytes.{bytes_of_page}
+use Rattle.rr_cluster.specs.Meaning.{node_of, page_at, replica_at, HasPageText, OptionRepresents, Represents}
 use Rattle.rr_cluster.specs.State.{Node, State, first_state}
 use Rattle.rr_cluster.proofs.StepLemmas.{names_apart}
 
@@ -46,25 +47,43 @@ nodes_put old new before name h same put q =
     by true = refl
     by false = same q
 
+-- what holds of each replica before, and of the one that is put, holds of each
+pub each_put : (P : Holding → Type 0) (old new : Replicas) (name : List ℕ) (h : Holding) → HasPut old new name h → P h → ((q : List ℕ) (g : Holding) → replica_at old q ≡ Some g → P g)
+    → (q : List ℕ) (g : Holding) → replica_at new q ≡ Some g → P g
+each_put P old new name h put itself others q g e = by (eq_by_cmp bytes_cmp q name) (sym (put q) ∙ e)
+  where
+    by : (b : Bool) → cond b (Some h) (replica_at old q) ≡ Some g → P g
+    by true t = let same : h ≡ g = cc in subst P same itself
+    by false t = others q g t
+
 some_of_map : (o : Option Holding) → is_some o ≡ is_some (option_map node_of o)
 some_of_map None = refl
 some_of_map (Some h) = refl
 
 module _ {A : Type 0} {g : Ghosts A} where
-  pub represents_first : (c : Cluster A g) (s : Layout) → c.schema ≡ s → c.clock ≡ pos 0 → c.lead ≡ None → c.nodes.entries ≡ [] → c.origins.keys ≡ [] → Represents c (first_state s)
-  represents_first c s schema clock lead nodes origins = record {
+  pub represents_first : (c : Cluster A g) (s : Layout) → c.schema ≡ s → c.clock ≡ pos 0 → c.lead ≡ None → c.nodes.entries ≡ [] → c.pages.entries ≡ [] → c.origins.keys ≡ [] → Represents c (first_state s)
+  represents_first c s schema clock lead nodes pages origins = record {
     schema = schema;
     clock = clock;
     lead = lead;
     nodes = λ name. rw nodes (map.get-empty bytes_cmp name);
+    shared = λ name h. rw nodes (λ e. absurd cc);
+    pages = λ name. rw (pages, map.get-empty {X = Cells} bytes_cmp name) refl;
+    are_pages = λ name page e. let none = sym (map.get-empty bytes_cmp name) ∙ e in absurd cc;
     origins = λ origin. rw origins refl;
   }
+
+  -- a cluster that is there represents a state
+  pub some_represents : (c : Cluster A g) (m : Option (State Cells)) → OptionRepresents (Some c) m → (s : State Cells) × Represents c s
+  some_represents c None h = absurd h
+  some_represents c (Some m) h = (m, h)
 
   -- two clusters that differ in their nodes alone
   pub record SameBesidesNodes (old new : Cluster A g) : Type 0 where
     pub schema : new.schema ≡ old.schema
     pub clock : new.clock ≡ old.clock
     pub lead : new.lead ≡ old.lead
+    pub pages : new.pages ≡ old.pages
     pub origins : new.origins ≡ old.origins
 
   module _ (old new : Cluster A g) (m : State Cells) (same : SameBesidesNodes old new) (is : Represents old m) where
@@ -74,16 +93,22 @@ module _ {A : Type 0} {g : Ghosts A} where
       clock = same.clock ∙ is.clock;
       lead = same.lead ∙ is.lead;
       nodes = λ name. rw nodes (is.nodes name);
+      shared = λ name h. rw (nodes, same.schema) (is.shared name h);
+      pages = λ name. rw same.pages (is.pages name);
+      are_pages = is.are_pages;
       origins = λ origin. rw same.origins (is.origins origin);
     }
 
     -- with a replica changed, and more written
-    pub represents_put : (name : List ℕ) (h : Holding) (w : World) → HasPut old.nodes new.nodes name h → Represents new (record m { nodes = map.insert m.nodes name (node_of h); world = w })
-    represents_put name h w put = record {
+    pub represents_put : (name : List ℕ) (h : Holding) (w : World) → HasPut old.nodes new.nodes name h → h.schema ≡ old.schema → Represents new (record m { nodes = map.insert m.nodes name (node_of h); world = w })
+    represents_put name h w put has = record {
       schema = same.schema ∙ is.schema;
       clock = same.clock ∙ is.clock;
       lead = same.lead ∙ is.lead;
       nodes = nodes_put old.nodes new.nodes m.nodes name h is.nodes put;
+      shared = rw same.schema (each_put (λ g. g.schema ≡ old.schema) old.nodes new.nodes name h put has is.shared);
+      pages = λ q. rw same.pages (is.pages q);
+      are_pages = is.are_pages;
       origins = λ origin. rw same.origins (is.origins origin);
     }
 
@@ -95,3 +120,18 @@ module _ {A : Type 0} {g : Ghosts A} where
     -- the node of a name
     pub node_at : (name : List ℕ) (o : Option Holding) → replica_at c.nodes name ≡ o → map.get m.nodes name ≡ option_map node_of o
     node_at name o e = is.nodes name ∙ ap (option_map node_of) e
+
+    -- the page of a name is that of the bytes that are kept, if there are some
+    pub no_page_at : (name : List ℕ) → page_at c.pages name ≡ None → map.get m.pages name ≡ None
+    no_page_at name none = by (map.get m.pages name) (sym none ∙ is.pages name)
+      where
+        by : (o : Option Cells) → None ≡ option_map (bytes_of_page m.schema) o → o ≡ None
+        by None e = refl
+        by (Some page) e = absurd cc
+
+    pub page_there : (name bytes : List ℕ) → page_at c.pages name ≡ Some bytes → (page : Cells) × (map.get m.pages name ≡ Some page) × HasPageText m.schema page bytes
+    page_there name bytes there = by (map.get m.pages name) refl (sym there ∙ is.pages name)
+      where
+        by : (o : Option Cells) → map.get m.pages name ≡ o → Some bytes ≡ option_map (bytes_of_page m.schema) o → (page : Cells) × (map.get m.pages name ≡ Some page) × HasPageText m.schema page bytes
+        by None here e = absurd cc
+        by (Some page) here e = (page, here, record { page = is.are_pages name page here; text = cc })

@@ -1,4 +1,4 @@
--- States of the sample model that are sound: with a node more, and with another in its place.
+-- States of the sample model that are sound: with a node more, with another in its place, and with a page more.
 use Rattle.std.proofs.Common.{◌≡◌, ◌≢◌, ℕ, ◌||◌, Bool, true, false, IsTrue, refl, arith, ◌∷◌, List, Some, sym, ap, subst, ◌∙◌, true≢false}
 use Rattle.std.specs.Prelude.{◌==◌}
 use Rattle.std.specs.List.{list_any}
@@ -48,6 +48,7 @@ module _ (m : State Knowledge) (sound : IsSound m) (name : List ℕ) (n : Node K
     nodes = λ q o e. put_cases m name n q o e
         (λ at same. subst (IsSoundNode m.world) same is_sound)
         (λ other here. sound.nodes q o here);
+    pages = sound.pages;
     apart = λ a b p o e h same. put_cases m name n a p e
         (λ at is. put_cases m name n b o h
         (λ bt it. at ∙ sym bt)
@@ -89,8 +90,11 @@ module _ (m : State Knowledge) (sound : IsSound m) (name : List ℕ) (n o : Node
   abbrev OthersStaySound : Type 0
   OthersStaySound = (p : Node Knowledge) → p.origin ≢ n.origin → IsSoundNode m.world p → IsSoundNode w p
 
-  pub place_is_sound : IsSoundNode w o → OthersStaySound → ((x : Sample) → IsWritten w x → IsUsed m x.origin) → ((x : Sample) → IsWritten w x → IsSoundSample x) → IsSound with_node_in_place
-  place_is_sound itself others written samples = record {
+  abbrev PagesStayClosed : Type 0
+  PagesStayClosed = (k : Knowledge) → IsClosed m.schema m.world k → IsClosed m.schema w k
+
+  pub place_is_sound : IsSoundNode w o → OthersStaySound → PagesStayClosed → ((x : Sample) → IsWritten w x → IsUsed m x.origin) → ((x : Sample) → IsWritten w x → IsSoundSample x) → IsSound with_node_in_place
+  place_is_sound itself others pages written samples = record {
     layout = sound.layout;
     clock = sound.clock;
     shared = λ q p e. put_cases m name o q p e
@@ -99,6 +103,7 @@ module _ (m : State Knowledge) (sound : IsSound m) (name : List ℕ) (n o : Node
     nodes = λ q p e. put_cases m name o q p e
         (λ at same. subst (IsSoundNode w) same itself)
         (λ other there. others p (other_origin q p other there) (sound.nodes q p there));
+    pages = λ q k e. pages k (sound.pages q k e);
     apart = λ a b p q e h same. put_cases m name o a p e
         (λ at is. put_cases m name o b q h
         (λ bt it. at ∙ sym bt)
@@ -113,3 +118,21 @@ module _ (m : State Knowledge) (sound : IsSound m) (name : List ℕ) (n o : Node
     written = written;
     samples = samples;
   }
+
+-- ---- a page more
+
+pub with_page_is_sound : (m : State Knowledge) → IsSound m → (name : List ℕ) (k : Knowledge) → IsClosed m.schema m.world k → IsSound (record m { pages = insert m.pages name k })
+with_page_is_sound m sound name k closed = record {
+  layout = sound.layout;
+  clock = sound.clock;
+  shared = sound.shared;
+  nodes = sound.nodes;
+  pages = λ q l e. insert_cases nat_list_cmp_total names_apart m.pages name k q l e
+      (λ at same. subst (IsClosed m.schema m.world) same closed)
+      (λ other here. sound.pages q l here);
+  apart = sound.apart;
+  used = sound.used;
+  origins = sound.origins;
+  written = sound.written;
+  samples = sound.samples;
+}

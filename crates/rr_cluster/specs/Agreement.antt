@@ -17,13 +17,14 @@ use Rattle.rr_cluster.specs.State.{Node, State}
 abbrev pub node_in_cells : Node Knowledge → Node Cells
 node_in_cells n = record { schema = n.schema; origin = n.origin; next = n.next; contents = state n.schema n.contents }
 
--- a state, with each node in cells
+-- a state, with each node and each page in cells
 abbrev pub in_cells : State Knowledge → State Cells
 in_cells m = record {
   schema = m.schema;
   clock = m.clock;
   lead = m.lead;
   nodes = map_values node_in_cells m.nodes;
+  pages = map_values (state m.schema) m.pages;
   origins = m.origins;
   world = m.world;
 }

@@ -12,6 +12,9 @@ pub data Command : Type 0 where
   node : (name origin : List ℕ) → Command
   now : (time : List ℕ) (lead : Option (List ℕ)) → Command
   write : (node line : List ℕ) → Command
+  page : (name node from count : List ℕ) → Command
+  deliver : (name node : List ℕ) → Command
+  bytes : (name : List ℕ) → Command
   fetch : (node : List ℕ) (request : Parts) → Command
 
 -- the words of the archives, if there are any
@@ -35,6 +38,9 @@ view_of (event.Schema step archives) = schema step.now (archive_words archives)
 view_of (event.Node name origin) = node name.now origin.now
 view_of (event.Now time lead) = now time.now (word_of lead)
 view_of (event.Write name line) = write name.now line.now
+view_of (event.Page name at from count) = page name.now at.now from.now count.now
+view_of (event.Deliver name at) = deliver name.now at.now
+view_of (event.Bytes name) = bytes name.now
 view_of (event.Fetch name request) = fetch name.now (parts request)
 
 -- the line of a write is one line

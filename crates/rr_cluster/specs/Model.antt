@@ -1,24 +1,73 @@
 -- The two models of a script. They differ in what a node holds; all else is said once, for both.
-use Rattle.std.specs.Prelude.{ℕ, List}
-use Rattle.std.specs.FinMap.{empty}
+use Rattle.std.specs.Prelude.{ℕ, List, [], ◌∷◌, take, drop}
+use Rattle.std.specs.FinMap.{empty, entries, from_entries}
 use Rattle.rr_base.specs.Schema.{Layout}
+use Rattle.rr_contrib.specs.declared.contribution.Contribution.{Contribution}
+use Rattle.rr_model.specs.CellNames.{CellName}
 use Rattle.rr_model.specs.Samples.{Sample, marks_of}
-use Rattle.rr_model.specs.Knowledge.{Knowledge, with_marks}
+use Rattle.rr_model.specs.Knowledge.{Knowledge, union, with_marks, part}
 use Rattle.rr_model.specs.FetchText.{Request, fetch_text}
 use Rattle.rr_replica.specs.Cells.{Cells}
+use Rattle.rr_replica.specs.Joining.{next_after}
+use Rattle.rr_replica.specs.Joins.{join_cells}
 use Rattle.rr_replica.specs.Puts.{put_sample}
+use Rattle.rr_replica.specs.State.{state}
 use Rattle.rr_fetch.specs.Answers.{cells_text}
+use Rattle.rr_cluster.specs.State.{Node}
 
--- what commands do with what a node holds: it starts with nothing, takes in a sample, and answers a request
+-- what commands do with what a node holds: it starts with nothing, takes in a sample, and answers a request; a page is
+-- a part of it, from a place on and up to a count of cells; a node takes in what a page holds; and a page is written
+-- as cells
 pub record Model (K : Type 0) : Type 0 where
   pub nothing : K
   pub with_one : Layout → K → Sample → K
   pub answer : Layout → K → Request → List ℕ
+  pub part : Layout → K → ℕ → ℕ → K
+  pub with_page : Node K → K → Node K
+  pub cells : Layout → K → Cells
+
+-- ---- samples
+
+-- a node that takes in marks knows them too
+abbrev pub with_known : Node Knowledge → Knowledge → Node Knowledge
+with_known n k = record n { contents = union n.contents k }
 
 -- a node holds what it knows: marks of samples
 abbrev pub sample_model : Model Knowledge
-sample_model = record { nothing = empty; with_one = λ s k x. with_marks k (marks_of s x); answer = fetch_text }
+sample_model = record {
+  nothing = empty;
+  with_one = λ s k x. with_marks k (marks_of s x);
+  answer = fetch_text;
+  part = part;
+  with_page = with_known;
+  cells = state;
+}
+
+-- ---- cells
+
+-- the cells from a place on, as many as there are up to a count
+abbrev pub cells_from : Cells → ℕ → ℕ → Cells
+cells_from m from count = from_entries (take count (drop from (entries m)))
+
+-- the next number of an origin, past the versions of these cells that are its own
+abbrev pub next_past : ℕ → ℕ → List (CellName × Contribution) → ℕ
+next_past origin next [] = next
+next_past origin next (e ∷ es) = next_past origin (next_after origin next e) es
+
+-- a node that takes in cells joins them in their order
+abbrev pub with_joined : Node Cells → Cells → Node Cells
+with_joined n m = record n {
+  next = next_past n.origin n.next (entries m);
+  contents = join_cells n.schema n.contents (entries m);
+}
 
 -- a node holds cells, as a replica does
 abbrev pub cell_model : Model Cells
-cell_model = record { nothing = empty; with_one = put_sample; answer = cells_text }
+cell_model = record {
+  nothing = empty;
+  with_one = put_sample;
+  answer = cells_text;
+  part = λ s m from count. cells_from m from count;
+  with_page = with_joined;
+  cells = λ s m. m;
+}

@@ -19,6 +19,8 @@ pub(crate) struct Cluster<A: Archive> {
     pub(crate) lead: Option<u64>,
     /// The replicas, by the names of their nodes.
     pub(crate) nodes: BTreeMap<Vec<u8>, Replica<A>>,
+    /// The bytes of the pages, by their names.
+    pub(crate) pages: BTreeMap<Vec<u8>, Vec<u8>>,
     /// The origins that were used.
     pub(crate) origins: BTreeSet<u16>,
     ghost within: { IsLayout schema },
@@ -28,7 +30,7 @@ impl<A: Archive> Cluster<A> {
     ghost use Rattle.rr_cluster.specs.Meaning.{Represents};
     ghost use Rattle.rr_cluster.specs.State.{first_state};
 
-    /// A cluster without nodes.
+    /// A cluster without nodes and pages.
     pub(crate) fn new(alloc: Global, schema: Schema) -> Cluster<A>
         requires { IsLayout schema }
         ensures { Represents result (first_state schema) }
@@ -39,6 +41,7 @@ impl<A: Archive> Cluster<A> {
             clock: 0,
             lead: None,
             nodes: BTreeMap::new(alloc),
+            pages: BTreeMap::new(alloc),
             origins: BTreeSet::new(alloc),
         }
     }

@@ -9,9 +9,12 @@ ghost use Rattle.rr_cluster.specs.Model.{cell_model};
 ghost use Rattle.rr_cluster.specs.State.{State};
 ghost use Rattle.rr_cluster.specs.Words.{words_of};
 
+pub(crate) mod bytes;
+pub(crate) mod deliver;
 pub(crate) mod fetch;
 pub(crate) mod node;
 pub(crate) mod now;
+pub(crate) mod page;
 pub(crate) mod schema;
 pub(crate) mod write;
 
@@ -20,9 +23,12 @@ use crate::event::Event;
 use crate::fault::CommandFault;
 use crate::stop::Stop;
 use crate::words::first_word;
+use bytes::{bytes_command, hex_of_page};
+use deliver::{deliver, deliver_command};
 use fetch::{answer_to, fetch_command};
 use node::{add_node, node_command};
 use now::{now_command, set_clock};
+use page::{add_page, page_command};
 use rr_archive::Archive;
 use schema::{schema_command, schema_of};
 use std::alloc::Global;
@@ -41,6 +47,12 @@ pub(crate) fn command_of(line: &[u8]) -> Option<Event<'_>>
         now_command(words)
     } else if name == b"write".as_slice() {
         write_command(words)
+    } else if name == b"page".as_slice() {
+        page_command(words)
+    } else if name == b"deliver".as_slice() {
+        deliver_command(words)
+    } else if name == b"bytes".as_slice() {
+        bytes_command(words)
     } else if name == b"fetch".as_slice() {
         fetch_command(words)
     } else {
@@ -56,7 +68,8 @@ pub(crate) fn obey<A: Archive>(
     event: Event<'_>,
     text: &mut Vec<u8>,
 ) -> Result<(), Stop>
-    requires { IsOneLine (view_of event) }
+    requires line { IsOneLine (view_of event) }
+    requires state { (m : Option (State Cells)) × OptionRepresents cluster.old m }
     ensures { (m : Option (State Cells)) → OptionRepresents cluster.old m
         → Obeys cluster.new m text.old.items text.new.items result
         (step cell_model m (view_of event.entry)) }
@@ -89,7 +102,8 @@ fn obey_later<A: Archive>(
     event: Event<'_>,
     text: &mut Vec<u8>,
 ) -> Result<(), Stop>
-    requires { IsOneLine (view_of event) }
+    requires line { IsOneLine (view_of event) }
+    requires state { (m : State Cells) × Represents cluster.old m }
     ensures { (m : State Cells) → Represents cluster.old m
         → Obeys (Some cluster.new) (Some m) text.old.items text.new.items result
         (step cell_model (Some m) (view_of event.entry)) }
@@ -99,6 +113,18 @@ fn obey_later<A: Archive>(
         Event::Node { name, origin } => add_node(cluster, name, origin),
         Event::Now { time, lead } => set_clock(cluster, time, lead),
         Event::Write { node, line } => write_line(cluster, node, line),
+        Event::Page {
+            name,
+            node,
+            from,
+            count,
+        } => add_page(cluster, name, node, from, count),
+        Event::Deliver { name, node } => deliver(cluster, name, node),
+        Event::Bytes { name } => {
+            let line = hex_of_page(cluster, name)?;
+            text.extend_from_slice(line.as_slice())?;
+            Ok(())
+        }
         Event::Fetch { node, request } => {
             let answer = answer_to(cluster, node, &request)?;
             text.extend_from_slice(answer.as_slice())?;

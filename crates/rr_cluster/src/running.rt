@@ -50,7 +50,8 @@ fn obey_line<A: Archive>(
     line: &ScriptLine<'_>,
     text: &mut Vec<u8>,
 ) -> Result<(), RunFault>
-    requires { SaysOneLine (said_view line.now.said) }
+    requires line { SaysOneLine (said_view line.now.said) }
+    requires state { (m : Option (State Cells)) × OptionRepresents cluster.old m }
     ensures { OnOk result ((m : Option (State Cells)) → OptionRepresents cluster.old m
         → Prints cluster.new text.old.items text.new.items
         (obeyed cell_model m line.now.number (said_view line.now.said))) }

@@ -39,7 +39,7 @@ use Rattle.rr_cluster.specs.Soundness.{IsSound}
 use Rattle.rr_cluster.specs.State.{Node, State}
 use Rattle.rr_cluster.specs.Words.{words_of, is_name, origin_of}
 use Rattle.rr_cluster.proofs.LimitLemmas.{origin_is}
-use Rattle.rr_cluster.proofs.MeaningLemmas.{HasPut, nodes_put}
+use Rattle.rr_cluster.proofs.MeaningLemmas.{HasPut, nodes_put, each_put}
 use Rattle.rr_cluster.proofs.SoundnessLemmas.{with_node_is_sound, starting_is_sound}
 use Rattle.rr_cluster.proofs.StepLemmas.{names_apart, Agrees, then_agree, done_agrees, not_true}
 use Rattle.rr_cluster.proofs.WordsLemmas.{some_parts}
@@ -102,15 +102,18 @@ used_more number origin before has e =
 
 module _ {A : Type 0} {g : Ghosts A} where
   pub represents_with_node : (old new : Cluster A g) (m : State Cells) (name : List ℕ) (h : Holding) (number : ℕ) → Represents old m
-      → new.schema ≡ old.schema → new.clock ≡ old.clock → new.lead ≡ old.lead → HasPut old.nodes new.nodes name h
+      → new.schema ≡ old.schema → new.clock ≡ old.clock → new.lead ≡ old.lead → new.pages ≡ old.pages → HasPut old.nodes new.nodes name h
       → h ≡ record { schema = old.schema; origin = number; next = 1; cells = map.empty }
       → ((q : ℕ) → contains nat_cmp new.origins q ≡ cond (is_eq (nat_cmp number q)) true (contains nat_cmp old.origins q))
       → Represents new (record m { nodes = map.insert m.nodes name (new_node cell_model m.schema number); origins = number ∷ m.origins })
-  represents_with_node old new m name h number is schema clock lead nodes made origins = record {
+  represents_with_node old new m name h number is schema clock lead pages nodes made origins = record {
     schema = schema ∙ is.schema;
     clock = clock ∙ is.clock;
     lead = lead ∙ is.lead;
     nodes = nodes_put old.nodes new.nodes m.nodes name (record { schema = m.schema; origin = number; next = 1; cells = map.empty }) is.nodes (rw (made, is.schema) at nodes);
+    shared = rw schema (each_put (λ g. g.schema ≡ old.schema) old.nodes new.nodes name h nodes (ap (λ (x : Holding). x.schema) made) is.shared);
+    pages = λ q. rw pages (is.pages q);
+    are_pages = is.are_pages;
     origins = λ origin. origins origin ∙ used_more number origin m.origins (contains nat_cmp old.origins origin) (is.origins origin);
   }
 

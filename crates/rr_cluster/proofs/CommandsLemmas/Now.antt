@@ -50,13 +50,16 @@ module _ {A : Type 0} {g : Ghosts A} (old : Cluster A g) (m : State Cells) (is :
   pub lead_read : (word : Option (List ℕ)) (r : Result (Option ℕ) CommandFault) → r ≡ lead_of old.lead word → r ≡ lead_of m.lead word
   lead_read word r e = e ∙ ap (λ (before : Option ℕ). lead_of before word) is.lead
 
-  pub represents_with_clock : (new : Cluster A g) (clock : ℤ) (lead : Option ℕ) → new.schema ≡ old.schema → new.clock ≡ clock → new.lead ≡ lead → new.nodes ≡ old.nodes → new.origins ≡ old.origins
+  pub represents_with_clock : (new : Cluster A g) (clock : ℤ) (lead : Option ℕ) → new.schema ≡ old.schema → new.clock ≡ clock → new.lead ≡ lead → new.nodes ≡ old.nodes → new.pages ≡ old.pages → new.origins ≡ old.origins
       → Represents new (record m { clock = clock; lead = lead })
-  represents_with_clock new clock lead schema is_clock is_lead nodes origins = record {
+  represents_with_clock new clock lead schema is_clock is_lead nodes pages origins = record {
     schema = schema ∙ is.schema;
     clock = is_clock;
     lead = is_lead;
     nodes = λ name. rw nodes (is.nodes name);
+    shared = λ name h. rw (nodes, schema) (is.shared name h);
+    pages = λ name. rw pages (is.pages name);
+    are_pages = is.are_pages;
     origins = λ origin. rw origins (is.origins origin);
   }
 
@@ -71,6 +74,7 @@ now_agrees m sound time lead =
       clock = moment_fits time clock is;
       shared = sound.shared;
       nodes = sound.nodes;
+      pages = sound.pages;
       apart = sound.apart;
       used = sound.used;
       origins = sound.origins;

@@ -7,6 +7,7 @@ use Rattle.rr_base.specs.Check.{schema_fault}
 use Rattle.rr_base.specs.Schema.{Layout, IsLayout}
 use Rattle.rr_base.proofs.Checked.{checked_layout}
 use Rattle.rr_replica.specs.Cells.{Cells}
+use Rattle.rr_replica.specs.State.{state}
 use Rattle.rr_base.specs.Bytes.{bytes_cmp}
 use Rattle.rr_cluster.specs.declared.fault.CommandFault.TheVariants.{BadNumber}
 use Rattle.rr_cluster.specs.declared.words.TheConstants.{MAX_U32}
@@ -37,7 +38,10 @@ layout_is word archives = then_holds IsLayout (ok_or (number_within 0 MAX_U32 wo
     unless_faulty-ok (schema_fault seconds specs) (record { step = seconds; archives = specs }) (checked_layout seconds specs)))
 
 pub first_states_agree : (s : Layout) → ◌≡◌ {A = State Cells} (first_state s) (in_cells (first_state s))
-first_states_agree s = λ i. record (first_state s) { nodes = sym (map_values-empty nat_list_cmp_total names_apart node_in_cells) i }
+first_states_agree s = λ i. record (first_state s) {
+  nodes = sym (map_values-empty nat_list_cmp_total names_apart node_in_cells) i;
+  pages = sym (map_values-empty nat_list_cmp_total names_apart (state s)) i;
+}
 
 pub first_states_are_sound : FirstStatesAreSound
 first_states_are_sound s is = record {
@@ -45,6 +49,7 @@ first_states_are_sound s is = record {
   clock = refl;
   shared = λ name n e. let none = sym (get-empty bytes_cmp name) ∙ e in absurd cc;
   nodes = λ name n e. let none = sym (get-empty bytes_cmp name) ∙ e in absurd cc;
+  pages = λ name k e. let none = sym (get-empty bytes_cmp name) ∙ e in absurd cc;
   apart = λ a b n o e h same. let none = sym (get-empty bytes_cmp a) ∙ e in absurd cc;
   used = λ name n e. let none = sym (get-empty bytes_cmp name) ∙ e in absurd cc;
   origins = λ origin was. absurd cc;

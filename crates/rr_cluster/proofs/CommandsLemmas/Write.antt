@@ -129,6 +129,11 @@ stopped_line h clock lead text fault stop (inr other) (inr said) = rw (other.1, 
 
 -- ---- the cluster after a write
 
+-- a node keeps its schema
+schema_stays : (n : Node Cells) (xs : List Sample) → (with_all_written cell_model n xs).schema ≡ n.schema
+schema_stays n [] = refl
+schema_stays n (x ∷ xs) = schema_stays (with_written cell_model n x) xs
+
 module _ {A : Type 0} {g : Ghosts A} (old new : Cluster A g) (m : State Cells) (same : SameBesidesNodes old new) (is : Represents old m)
     (name : List ℕ) (was h : Holding) (here : replica_at old.nodes name ≡ Some was) (put : HasPut old.nodes new.nodes name h) where
   -- a replica that hasn't changed is a node in its own place
@@ -136,7 +141,7 @@ module _ {A : Type 0} {g : Ghosts A} (old new : Cluster A g) (m : State Cells) (
   represents_still unchanged =
       let there = node_at old m is name (Some was) here in
       let back = insert_there nat_list_cmp_total names_apart m.nodes name (node_of h) (there ∙ ap (λ (x : Holding). Some (node_of x)) (sym unchanged)) in
-      subst (Represents new) (λ i. record m { nodes = back i }) (represents_put old new m same is name h m.world put)
+      subst (Represents new) (λ i. record m { nodes = back i }) (represents_put old new m same is name h m.world put (ap (λ (x : Holding). x.schema) unchanged ∙ is.shared name was here))
 
   leaves : (result : Result (Unit {0}) Stop) (said : Result (List Sample) CommandFault) → Writes was h result said
       → Leaves new m result (said >>= λ xs. Ok (record m { nodes = map.insert m.nodes name (with_all_written cell_model (node_of was) xs); world = with_samples m.world xs }))
@@ -144,7 +149,9 @@ module _ {A : Type 0} {g : Ghosts A} (old new : Cluster A g) (m : State Cells) (
       let after : List Sample → Node Cells → State Cells = λ xs n. record m { nodes = map.insert m.nodes name n; world = with_samples m.world xs } in (
         after writes.0 (with_all_written cell_model (node_of was) writes.0),
         ap (λ (r : Result (List Sample) CommandFault). r >>= λ xs. Ok (after xs (with_all_written cell_model (node_of was) xs))) writes.1,
-        subst (λ (n : Node Cells). Represents new (after writes.0 n)) writes.2 (represents_put old new m same is name h (with_samples m.world writes.0) put),
+        subst (λ (n : Node Cells). Represents new (after writes.0 n)) writes.2
+            (represents_put old new m same is name h (with_samples m.world writes.0) put
+            (ap (λ (n : Node Cells). n.schema) writes.2 ∙ schema_stays (node_of was) writes.0 ∙ is.shared name was here)),
       )
   leaves (Err (Refused fault)) said writes = (
     ap (λ (r : Result (List Sample) CommandFault). r >>= λ xs. Ok (record m { nodes = map.insert m.nodes name (with_all_written cell_model (node_of was) xs); world = with_samples m.world xs })) writes.0,
@@ -248,6 +255,7 @@ module _ (m : State Knowledge) (sound : IsSound m) (name : List ℕ) (n : Node K
       place_is_sound m sound name n (with_written sample_model n x) here refl refl (with_sample m.world x)
       (writer_is_sound m.world n is n_is_sound x ours next is_sound.few_numbers)
       (other_is_sound m.world n is n_is_sound x ours next is_sound.few_numbers)
+      (λ k closed. others_stay_closed m.schema m.world k x closed (is_next m.world n is n_is_sound x ours next is_sound.few_numbers))
       (λ y e. ⊎_elim
       (λ it. subst (IsUsed m) (sym (ap (λ (z : Sample). z.origin) it ∙ ours)) (sound.used name n here))
       (λ before. sound.written y before)

@@ -242,6 +242,7 @@ const COMMAND_FAULTS: &str = "LineTooLong: the line is longer than 65,536 bytes\
     BadName: the name is not valid: use 1 to 16 bytes of a to z and 0 to 9\n\
     NameUsed: there is a node of this name already\n\
     NoNode: there is no node of this name\n\
+    NoPage: there is no page of this name\n\
     BadNumber: a word is not a number, or is out of its range\n\
     OriginUsed: the origin was used before: give each node its own\n\
     NoArchive: the schema must have an archive\n\
@@ -259,6 +260,7 @@ fn command_faults_say_what_is_wrong(rt: HostRuntime) -> Result<(), Fail> {
         CommandFault::BadName,
         CommandFault::NameUsed,
         CommandFault::NoNode,
+        CommandFault::NoPage,
         CommandFault::BadNumber,
         CommandFault::OriginUsed,
         CommandFault::Schema(SchemaFault::NoArchive),

@@ -17,10 +17,13 @@ loop-line-init g c =
     let views = c.in_ok-lines.ensures in
     (None, tt, rw (c.new-text.ensures.items, c.deref-line-items.ensures.value, views) refl)
 
-pub obey_line-requires : goal.obey_line-requires
-obey_line-requires g c =
+pub obey_line-requires-clause-line : goal.obey_line-requires-clause-line
+obey_line-requires-clause-line g c =
     let views = c.in_ok-lines.ensures in
     line_says_one_line c.deref-line-items.result.now c.args.script.now c.loop-line.line-index any (rw c.deref-line-items.ensures.value views) c.loop-line-test.true
+
+pub obey_line-requires-clause-state : goal.obey_line-requires-clause-state
+obey_line-requires-clause-state g c = (c.loop-line.invariant.0, c.loop-line.invariant.1)
 
 pub loop-line-preserved : goal.loop-line-preserved
 loop-line-preserved g c =

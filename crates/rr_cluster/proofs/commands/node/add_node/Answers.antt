@@ -36,5 +36,5 @@ returns g c = λ m is.
     let origins = rw c.get-number.ensures.same at c.in_ok-insert-2.ensures.updates.0 in (
       _,
       node_is_new cell_model m c.args.name.now c.args.origin.now (sym c.if-not-is_name.ensures) free number (sym c.in_ok-origin.ensures) unused,
-      represents_with_node old _ m c.args.name.now c.in_ok-replica.replica number is refl refl refl nodes c.in_ok-replica.ensures origins,
+      represents_with_node old _ m c.args.name.now c.in_ok-replica.replica number is refl refl refl refl nodes c.in_ok-replica.ensures origins,
     )

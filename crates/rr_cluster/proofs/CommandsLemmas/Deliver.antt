@@ -1,0 +1,188 @@
+-- deliver NAME NODE
+use Rattle.std.proofs.Common.{◌≡◌, ℕ, ◌+◌, ◌<◌, Bool, true, false, cond, ◌&&◌, List, [], ◌∷◌, map, Some, None, IfSome, Result, Ok, Err, refl, sym, ap, subst, ◌∙◌, arith}
+use Rattle.std.specs.Prelude.{◌==◌, nat_le}
+use Rattle.std.specs.FinMap as fin
+use Rattle.std.specs.List.{AllByRecursion}
+use Rattle.std.specs.Ordering.{eq_by_cmp}
+use Rattle.std.proofs.lemmas.Bool.{eqb-true, leb-true}
+use Rattle.rr_archive.specs.declared.archive.Archive.{Ghosts}
+use Rattle.rr_base.specs.declared.bytes.TheConstants.{SPACE}
+use Rattle.rr_base.specs.Schema.{Layout, IsLayout}
+use Rattle.rr_contrib.specs.declared.contribution.Contribution.{Contribution}
+use Rattle.rr_join.specs.Maps.{trimmed}
+use Rattle.rr_join.proofs.Booleans.{and_first, and_second}
+use Rattle.rr_join.proofs.Joining.{trimmed-trimmed}
+use Rattle.rr_model.specs.CellNames.{CellName, cell_name_cmp, is_live}
+use Rattle.rr_model.specs.Knowledge.{Knowledge, knows, is_live_in, cell}
+use Rattle.rr_model.specs.Samples.{name_of}
+use Rattle.rr_model.specs.World.{World, IsClosed}
+use Rattle.rr_model.proofs.Horizon.{live_horizon}
+use Rattle.rr_model.proofs.Knowing.{knows-cell, is_in-keys_of, name_from_tie}
+use Rattle.rr_model.proofs.Orders.{cell_name_cmp_total, cell_name_cmp-IsAntisymmetric}
+use Rattle.rr_model.proofs.Writes.{union_is_closed, union_holds_own}
+use Rattle.rr_page.specs.declared.fault.PageFault.{PageFault}
+use Rattle.rr_replica.specs.CellBounds.{NamedCell}
+use Rattle.rr_replica.specs.declared.cell.Cell.{Cell}
+use Rattle.rr_replica.specs.Holding.{Holding}
+use Rattle.rr_replica.specs.Joining.{with_cell, with_cells}
+use Rattle.rr_replica.specs.Joins.{join_cells}
+use Rattle.rr_replica.specs.Listing.{owned_cell}
+use Rattle.rr_replica.specs.Cells.{Cells, IsTrimmed}
+use Rattle.rr_replica.specs.State.{state}
+use Rattle.rr_replica.proofs.CellByCell.{join_goes_by_cells}
+use Rattle.rr_replica.proofs.JoinLaws.{join_unites}
+use Rattle.rr_replica.proofs.States.{get-state, full, state_is_trimmed_full}
+use Rattle.rr_replica.proofs.Uniting.{value_top}
+use Rattle.rr_cluster.specs.declared.cluster.Cluster.{Cluster}
+use Rattle.rr_cluster.specs.declared.fault.CommandFault.TheVariants.{NoNode, NoPage}
+use Rattle.rr_cluster.specs.declared.stop.Stop.{Stop}
+use Rattle.rr_cluster.specs.Agreement.{in_cells, node_in_cells}
+use Rattle.rr_cluster.specs.Command.{IsOneLine}
+use Rattle.rr_cluster.specs.Commands.Deliver.{deliver_command, after_deliver}
+use Rattle.rr_cluster.specs.Meaning.{node_of, page_at, replica_at, HasPageText, Joins, Leaves, Represents}
+use Rattle.rr_cluster.specs.Model.{Model, cell_model, sample_model, next_past, with_joined, with_known}
+use Rattle.rr_cluster.specs.Soundness.{IsSound, IsSoundNode}
+use Rattle.rr_cluster.specs.State.{Node, State}
+use Rattle.rr_cluster.specs.Words.{words_of}
+use Rattle.rr_cluster.proofs.CommandsLemmas.Node.{with_node_agrees}
+use Rattle.rr_cluster.proofs.CommandsLemmas.Write.{layout_at}
+use Rattle.rr_cluster.proofs.EntriesLemmas.{all_entries}
+use Rattle.rr_cluster.proofs.MeaningLemmas.{HasPut, SameBesidesNodes, represents_put, node_at, page_there}
+use Rattle.rr_cluster.proofs.SoundnessLemmas.{place_is_sound}
+use Rattle.rr_cluster.proofs.StepLemmas.{Agrees, found_agree, done_agrees}
+use Rattle.rr_cluster.proofs.WordsLemmas.{some_parts}
+
+-- ---- words
+
+-- three words are too many
+pub deliver_command-more : (name node rest : List ℕ) → deliver_command (name ∷ node ∷ words_of rest) ≡ None
+deliver_command-more name node rest = let some = some_parts SPACE rest in rw some.2 refl
+
+pub deliver_is_one_line : (words : List (List ℕ)) → IfSome (deliver_command words) IsOneLine
+deliver_is_one_line [] = tt
+deliver_is_one_line (name ∷ []) = tt
+deliver_is_one_line (name ∷ node ∷ []) = tt
+deliver_is_one_line (name ∷ node ∷ more ∷ rest) = tt
+
+-- ---- check by check
+
+module _ {K : Type 0} (model : Model K) (m : State K) (name node : List ℕ) where
+  pub no_page : fin.get m.pages name ≡ None → after_deliver model m name node ≡ Err NoPage
+  unfolding after_deliver
+  no_page e = rw e refl
+
+  module _ (page : K) (here : fin.get m.pages name ≡ Some page) where
+    pub no_node : fin.get m.nodes node ≡ None → after_deliver model m name node ≡ Err NoNode
+    unfolding after_deliver
+    no_node e = rw (here, e) refl
+
+    pub page_is_taken : (n : Node K) → fin.get m.nodes node ≡ Some n → after_deliver model m name node ≡ Ok (record m { nodes = fin.insert m.nodes node (model.with_page n page) })
+    unfolding after_deliver
+    page_is_taken n e = rw (here, e) refl
+
+-- ---- the replica with the cells of a page
+
+cells_joined : (h : Holding) (cells : List Cell)
+    → node_of (with_cells h cells) ≡ record { schema = h.schema; origin = h.origin; next = next_past h.origin h.next (map owned_cell cells); contents = join_cells h.schema h.cells (map owned_cell cells) }
+cells_joined h [] = refl
+cells_joined h (c ∷ cells) = cells_joined (with_cell h c) cells
+
+-- a replica that joins the cells that are read of a page is the node that joins the page
+pub page_joined : (h : Holding) (cells : List Cell) (page : Cells) → ◌≡◌ {A = Result (List NamedCell) PageFault} (Ok (fin.entries page)) (Ok (map owned_cell cells)) → node_of (with_cells h cells) ≡ with_joined (node_of h) page
+page_joined h cells page read =
+    let same : map owned_cell cells ≡ fin.entries page = cc in
+    cells_joined h cells ∙ (λ i. record { schema = h.schema; origin = h.origin; next = next_past h.origin h.next (same i); contents = join_cells h.schema h.cells (same i) })
+
+-- ---- the cluster after a delivery
+
+module _ {A : Type 0} {g : Ghosts A} (old : Cluster A g) (m : State Cells) (is : Represents old m) (name node bytes : List ℕ) (kept : page_at old.pages name ≡ Some bytes)
+    (was : Holding) (here : replica_at old.nodes node ≡ Some was) where
+  -- the bytes are those of a page of the replica's schema
+  pub page_of_replica : (page : Cells) × (fin.get m.pages name ≡ Some page) × HasPageText was.schema page bytes
+  page_of_replica =
+      let page = page_there old m is name bytes kept in
+      let schema : m.schema ≡ was.schema = sym (is.shared node was here ∙ is.schema) in
+      (page.0, page.1, subst (λ (s : Layout). HasPageText s page.0 bytes) schema page.2)
+
+  module _ (new : Cluster A g) (same : SameBesidesNodes old new) (h : Holding) (put : HasPut old.nodes new.nodes node h) where
+    pub leaves_joined : (result : Result (Unit {0}) Stop) → ((page : Cells) → HasPageText was.schema page bytes → Joins was h result page) → Leaves new m result (after_deliver cell_model m name node)
+    leaves_joined (Ok done) joins =
+        let page = page_of_replica in
+        let joined = joins page.0 page.2 in
+        let schema = ap (λ (n : Node Cells). n.schema) joined ∙ is.shared node was here in (
+          record m { nodes = fin.insert m.nodes node (with_joined (node_of was) page.0) },
+          page_is_taken cell_model m name node page.0 page.1 (node_of was) (node_at old m is node (Some was) here),
+          subst (λ (n : Node Cells). Represents new (record m { nodes = fin.insert m.nodes node n })) joined (represents_put old new m same is node h m.world put schema),
+        )
+    leaves_joined (Err stop) joins = rw (joins page_of_replica.0 page_of_replica.2) tt
+
+-- ---- a delivery never moves the next number of a node
+
+-- cells of earlier numbers leave it
+next_stays : (origin next : ℕ) (es : List NamedCell) → AllByRecursion (λ e. e.0.origin ≡ origin → e.1.version < next) es → next_past origin next es ≡ next
+next_stays origin next [] all = refl
+next_stays origin next (e ∷ es) all =
+    ap (λ (k : ℕ). next_past origin k es) (by (e.0.origin == origin) (nat_le next e.1.version) refl refl) ∙ next_stays origin next es all.1
+  where
+    by : (a b : Bool) → (e.0.origin == origin) ≡ a → nat_le next e.1.version ≡ b → cond (a && b) (e.1.version + 1) next ≡ next
+    by true true t u = let below = all.0 (eqb-true e.0.origin origin t) in let past = leb-true next e.1.version u in omega (arith, below, past)
+    by true false t u = refl
+    by false b t u = refl
+
+module _ (w : World) (n : Node Knowledge) (is : IsSoundNode w n) (k : Knowledge) (closed : IsClosed n.schema w k) where
+  abbrev s : Layout
+  s = n.schema
+
+  -- a version is the number of one of the cell's marks, and the next number of its origin is greater
+  versions_are_below : (c : CellName) (v : Contribution) → fin.get (state s k) c ≡ Some v → c.origin ≡ n.origin → v.version < n.next
+  versions_are_below c v at own =
+      let top = value_top s (cell s k c) v (sym (get-state s k c) ∙ at) in
+      let known_so = knows k top.mark && is_live_in s k (name_of s top.mark) in
+      let named_so = eq_by_cmp cell_name_cmp (name_of s top.mark) c in
+      let here = sym (knows-cell s k c top.mark) ∙ sym (is_in-keys_of (cell s k c) top.mark) ∙ top.known in
+      let known = and_first (knows k top.mark) (is_live_in s k (name_of s top.mark)) (and_first known_so named_so here) in
+      let name = name_from_tie s top.mark c (and_second known_so named_so here) in
+      subst (λ (number : ℕ). number < n.next) top.number (is.numbered top.mark.sample (closed.written top.mark known).0 (ap (λ (q : CellName). q.origin) name ∙ own))
+
+  next_is_same : next_past n.origin n.next (fin.entries (state s k)) ≡ n.next
+  next_is_same = next_stays n.origin n.next (fin.entries (state s k)) (all_entries (λ e. e.0.origin ≡ n.origin → e.1.version < n.next) (state s k) versions_are_below)
+
+-- ---- the models agree
+
+state_is_trimmed : (s : Layout) → IsLayout s → (k : Knowledge) → IsTrimmed s (state s k)
+state_is_trimmed s is k =
+    ap (trimmed (is_live s)) (state_is_trimmed_full s is k)
+    ∙ trimmed-trimmed cell_name_cmp_total cell_name_cmp-IsAntisymmetric (live_horizon s is) (full s k)
+    ∙ sym (state_is_trimmed_full s is k)
+
+-- to join the cells of a page is to know its marks too
+joined_agrees : (w : World) (n : Node Knowledge) → IsLayout n.schema → IsSoundNode w n → (k : Knowledge) → IsClosed n.schema w k
+    → with_joined (node_in_cells n) (state n.schema k) ≡ node_in_cells (with_known n k)
+joined_agrees w n is sound k closed =
+    let s = n.schema in
+    let cells = join_goes_by_cells s (state s n.contents) (state s k) is (state_is_trimmed s is n.contents) ∙ join_unites s w n.contents k is sound.closed closed in
+    let next = next_is_same w n sound k closed in
+    λ i. record { schema = s; origin = n.origin; next = next i; contents = cells i }
+
+-- a node that knows the marks of a page too is sound
+known_is_sound : (w : World) (n : Node Knowledge) → IsLayout n.schema → IsSoundNode w n → (k : Knowledge) → IsClosed n.schema w k → IsSoundNode w (with_known n k)
+known_is_sound w n is sound k closed = record {
+  closed = union_is_closed n.schema w n.contents k is sound.closed closed;
+  own = union_holds_own n.schema w n.contents k n.origin sound.own;
+  numbered = sound.numbered;
+  some_number = sound.some_number;
+  few_numbers = sound.few_numbers;
+}
+
+pub deliver_agrees : (m : State Knowledge) → IsSound m → (name node : List ℕ) → Agrees in_cells IsSound (after_deliver cell_model (in_cells m) name node) (after_deliver sample_model m name node)
+unfolding after_deliver
+deliver_agrees m sound name node =
+    found_agree in_cells IsSound (state m.schema) m.pages name NoPage _ _ (λ k found. found_agree in_cells IsSound node_in_cells m.nodes node NoNode _ _ (λ n here.
+    let one = sym (sound.shared node n here) in
+    let layout = layout_at m sound node n here in
+    let closed = subst (λ (s : Layout). IsClosed s m.world k) one (sound.pages name k found) in
+    done_agrees in_cells IsSound _ _ (with_node_agrees m node _ (with_known n k) m.origins m.world
+    (ap (λ (s : Layout). with_joined (node_in_cells n) (state s k)) one ∙ joined_agrees m.world n layout (sound.nodes node n here) k closed))
+    (place_is_sound m sound node n (with_known n k) here refl refl m.world
+    (known_is_sound m.world n layout (sound.nodes node n here) k closed)
+    (λ o apart is. is) (λ l is. is) sound.written sound.samples)))

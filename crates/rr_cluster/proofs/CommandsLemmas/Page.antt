@@ -1,0 +1,174 @@
+-- page NAME NODE FROM COUNT
+use Rattle.std.proofs.Common.{◌≡◌, ℕ, ◌≤◌, cond, option_map, Bool, take, drop, List, [], ◌∷◌, Some, None, IfSome, Ok, Err, true, false, refl, sym, ap, subst, ◌∙◌}
+use Rattle.std.specs.Prelude.{ok_or}
+use Rattle.std.specs.Cmp.Lexicographic.{nat_list_cmp_total}
+use Rattle.std.specs.BTreeMap.{BTreeMap, insert_entry}
+use Rattle.std.specs.FinMap as map
+use Rattle.std.specs.Global.{Vec}
+use Rattle.std.specs.Ordering.{eq_by_cmp}
+use Rattle.rr_archive.specs.declared.archive.Archive.{Ghosts}
+use Rattle.rr_base.specs.Bytes.{bytes_cmp}
+use Rattle.rr_base.specs.declared.bytes.TheConstants.{SPACE}
+use Rattle.rr_base.specs.declared.limits.TheConstants.{MAX_PAGE_CELLS}
+use Rattle.rr_base.specs.Results.{checked}
+use Rattle.rr_base.specs.Schema.{Layout}
+use Rattle.rr_join.specs.Values.{get_called, map_values}
+use Rattle.rr_join.proofs.ValuesLemmas.{get_called-insert, insert_cases, map_values-insert}
+use Rattle.rr_model.specs.Knowledge.{Knowledge, part}
+use Rattle.rr_model.specs.World.{IsClosed}
+use Rattle.rr_model.proofs.Orders.{cell_name_cmp_total, cell_name_cmp-IsAntisymmetric}
+use Rattle.rr_model.proofs.WholeCells.{whole_cells_are_closed}
+use Rattle.rr_page.specs.Page.{IsPage, page_text}
+use Rattle.rr_page.specs.Version.{latest}
+use Rattle.rr_replica.specs.Cells.{Cells}
+use Rattle.rr_replica.specs.Held.{IsHolding}
+use Rattle.rr_replica.specs.Holding.{Holding}
+use Rattle.rr_replica.specs.State.{state}
+use Rattle.rr_replica.proofs.Parting.{parts_are_cut}
+use Rattle.rr_cluster.specs.declared.cluster.Cluster.{Cluster}
+use Rattle.rr_cluster.specs.declared.fault.CommandFault.{CommandFault}
+use Rattle.rr_cluster.specs.declared.fault.CommandFault.TheVariants.{BadName, NoNode, BadNumber}
+use Rattle.rr_cluster.specs.declared.words.TheConstants.{MAX_U32}
+use Rattle.rr_cluster.specs.Agreement.{in_cells, node_in_cells}
+use Rattle.rr_cluster.specs.Command.{IsOneLine}
+use Rattle.rr_cluster.specs.Commands.Page.{page_command, after_page}
+use Rattle.rr_cluster.specs.Commands.Bytes.{bytes_of_page}
+use Rattle.rr_cluster.specs.Meaning.{page_at, replica_at, HasPageText, Represents}
+use Rattle.rr_cluster.specs.Model.{Model, cell_model, sample_model, cells_from}
+use Rattle.rr_cluster.specs.Soundness.{IsSound}
+use Rattle.rr_cluster.specs.State.{Node, State}
+use Rattle.rr_cluster.specs.Words.{words_of, is_name, number_within}
+use Rattle.rr_cluster.proofs.CommandsLemmas.Write.{layout_at}
+use Rattle.rr_cluster.proofs.EntriesLemmas.{entries-cells_from, part_is_page}
+use Rattle.rr_cluster.proofs.SoundnessLemmas.{with_page_is_sound}
+use Rattle.rr_cluster.proofs.StepLemmas.{names_apart, Agrees, then_agree, found_agree, done_agrees}
+use Rattle.rr_cluster.proofs.WordsLemmas.{some_parts}
+
+-- ---- words
+
+-- five words are too many
+pub page_command-more : (name node from count rest : List ℕ) → page_command (name ∷ node ∷ from ∷ count ∷ words_of rest) ≡ None
+page_command-more name node from count rest = let some = some_parts SPACE rest in rw some.2 refl
+
+pub page_is_one_line : (words : List (List ℕ)) → IfSome (page_command words) IsOneLine
+page_is_one_line [] = tt
+page_is_one_line (a ∷ []) = tt
+page_is_one_line (a ∷ b ∷ []) = tt
+page_is_one_line (a ∷ b ∷ c ∷ []) = tt
+page_is_one_line (a ∷ b ∷ c ∷ d ∷ []) = tt
+page_is_one_line (a ∷ b ∷ c ∷ d ∷ e ∷ rest) = tt
+
+-- ---- check by check
+
+module _ {K : Type 0} (model : Model K) (m : State K) (name node from count : List ℕ) where
+  pub bad_name : is_name name ≡ false → after_page model m name node from count ≡ Err BadName
+  unfolding after_page
+  bad_name e = rw e refl
+
+  module _ (named : is_name name ≡ true) where
+    pub no_node : map.get m.nodes node ≡ None → after_page model m name node from count ≡ Err NoNode
+    unfolding after_page
+    no_node e = rw (named, e) refl
+
+    module _ (n : Node K) (here : map.get m.nodes node ≡ Some n) where
+      pub bad_from : (fault : CommandFault) → ok_or (number_within 0 MAX_U32 from) BadNumber ≡ Err fault → after_page model m name node from count ≡ Err fault
+      unfolding after_page
+      bad_from fault e = rw (named, here, e) refl
+
+      module _ (first : ℕ) (is : ok_or (number_within 0 MAX_U32 from) BadNumber ≡ Ok first) where
+        pub bad_count : (fault : CommandFault) → ok_or (number_within 1 MAX_PAGE_CELLS count) BadNumber ≡ Err fault → after_page model m name node from count ≡ Err fault
+        unfolding after_page
+        bad_count fault e = rw (named, here, is, e) refl
+
+        pub page_is_made : (most : ℕ) → ok_or (number_within 1 MAX_PAGE_CELLS count) BadNumber ≡ Ok most
+            → after_page model m name node from count ≡ Ok (record m { pages = map.insert m.pages name (model.part n.schema n.contents first most) })
+        unfolding after_page
+        page_is_made most e = rw (named, here, is, e) refl
+
+-- ---- the bytes of a page
+
+module _ (h : Holding) (is : IsHolding h) (from count : ℕ) (fits : count ≤ MAX_PAGE_CELLS) where
+  pub cells_are_page : IsPage h.schema (take count (drop from (map.entries h.cells)))
+  cells_are_page = part_is_page h.schema h.cells from count is.cells fits
+
+  pub page_is_text : (bytes : List ℕ) → bytes ≡ page_text latest h.schema (take count (drop from (map.entries h.cells))) → HasPageText h.schema (cells_from h.cells from count) bytes
+  page_is_text bytes written =
+      let same = sym (entries-cells_from h.cells from count) in
+      record { page = subst (IsPage h.schema) same cells_are_page; text = written ∙ ap (page_text latest h.schema) same }
+
+-- ---- the cluster with the page
+
+abbrev Pages : Type 0
+Pages = BTreeMap (Vec ℕ) (Vec ℕ)
+
+-- the new map has the bytes at the name, and is the old one at all others
+abbrev HasPutPage : Pages → Pages → List ℕ → List ℕ → Type 0
+HasPutPage old new name bytes = (q : List ℕ) → page_at new q ≡ cond (eq_by_cmp bytes_cmp q name) (Some bytes) (page_at old q)
+
+pub page_inserted : (old new : Pages) (name bytes : Vec ℕ) → new.entries ≡ insert_entry (λ a b. bytes_cmp a.items b.items) old.entries name bytes → HasPutPage old new name.items bytes.items
+page_inserted old new name bytes entries q =
+    ap (option_map (λ (page : Vec ℕ). page.items)) (get_called-insert nat_list_cmp_total names_apart (λ (key : Vec ℕ). key.items) old new name bytes entries q)
+    ∙ by (eq_by_cmp bytes_cmp q name.items)
+  where
+    by : (b : Bool) → option_map (λ (page : Vec ℕ). page.items) (cond b (Some bytes) (get_called bytes_cmp (λ (key : Vec ℕ). key.items) old q)) ≡ cond b (Some bytes.items) (page_at old q)
+    by true = refl
+    by false = refl
+
+module _ {A : Type 0} {g : Ghosts A} (old new : Cluster A g) (m : State Cells) (name bytes : List ℕ) (page : Cells) (is : Represents old m)
+    (schema : new.schema ≡ old.schema) (clock : new.clock ≡ old.clock) (lead : new.lead ≡ old.lead) (nodes : new.nodes ≡ old.nodes) (origins : new.origins ≡ old.origins) where
+  pub represents_with_page : HasPutPage old.pages new.pages name bytes → HasPageText m.schema page bytes → Represents new (record m { pages = map.insert m.pages name page })
+  represents_with_page put has = record {
+    schema = schema ∙ is.schema;
+    clock = clock ∙ is.clock;
+    lead = lead ∙ is.lead;
+    nodes = λ q. rw nodes (is.nodes q);
+    shared = λ q h. rw (nodes, schema) (is.shared q h);
+    pages = λ q. put q ∙ by q (eq_by_cmp bytes_cmp q name) ∙ sym (ap (option_map (bytes_of_page m.schema)) (map.get-insert nat_list_cmp_total m.pages name page q));
+    are_pages = λ q other e. insert_cases nat_list_cmp_total names_apart m.pages name page q other e
+        (λ at same. subst (λ (p : Cells). IsPage m.schema (map.entries p)) same has.page)
+        (λ apart there. is.are_pages q other there);
+    origins = λ origin. rw origins (is.origins origin);
+  }
+    where
+      by : (q : List ℕ) (b : Bool) → cond b (Some bytes) (page_at old.pages q) ≡ option_map (bytes_of_page m.schema) (cond b (Some page) (map.get m.pages q))
+      by q true = ap (λ (t : List ℕ). Some t) has.text
+      by q false = is.pages q
+
+-- the page of a node of the cluster is one of the schema
+pub page_of_node : {A : Type 0} {g : Ghosts A} (c : Cluster A g) (m : State Cells) → Represents c m → (node : List ℕ) (h : Holding) → replica_at c.nodes node ≡ Some h
+    → (page : Cells) (bytes : List ℕ) → HasPageText h.schema page bytes → HasPageText m.schema page bytes
+page_of_node c m is node h here page bytes has = subst (λ (s : Layout). HasPageText s page bytes) (is.shared node h here ∙ is.schema) has
+
+-- ---- the models agree
+
+-- the map of the entries of a map is the map
+from_entries-entries : (m : Cells) → map.from_entries (map.entries m) ≡ m
+from_entries-entries m = map.same_map cell_name_cmp_total cell_name_cmp-IsAntisymmetric (map.from_entries (map.entries m)) m (λ q.
+    map.get-from_entries cell_name_cmp_total (map.entries m) q ∙ sym (map.get-entries m q))
+
+module _ (m : State Knowledge) (sound : IsSound m) (name : List ℕ) (n : Node Knowledge) (here : map.get m.nodes name ≡ Some n) (first most : ℕ) where
+  abbrev page : Knowledge
+  page = part n.schema n.contents first most
+
+  -- the cells of a part
+  part_agrees : cells_from (state n.schema n.contents) first most ≡ state m.schema page
+  part_agrees =
+      ap (λ es. map.from_entries es) (sym (parts_are_cut n.schema n.contents first most (layout_at m sound name n here)))
+      ∙ from_entries-entries (state n.schema page)
+      ∙ ap (λ (s : Layout). state s page) (sound.shared name n here)
+
+  part_is_closed : IsClosed m.schema m.world page
+  part_is_closed = subst (λ (s : Layout). IsClosed s m.world page) (sound.shared name n here) (whole_cells_are_closed n.schema m.world n.contents _ (sound.nodes name n here).closed)
+
+with_page_agrees : (m : State Knowledge) (name : List ℕ) (c : Cells) (k : Knowledge) → c ≡ state m.schema k
+    → ◌≡◌ {A = State Cells} (record (in_cells m) { pages = map.insert (map_values (state m.schema) m.pages) name c }) (in_cells (record m { pages = map.insert m.pages name k }))
+with_page_agrees m name c k e =
+    let pages = ap (map.insert (map_values (state m.schema) m.pages) name) e ∙ sym (map_values-insert nat_list_cmp_total names_apart (state m.schema) m.pages name k) in
+    λ i. record (in_cells m) { pages = pages i }
+
+pub page_agrees : (m : State Knowledge) → IsSound m → (name node from count : List ℕ) → Agrees in_cells IsSound (after_page cell_model (in_cells m) name node from count) (after_page sample_model m name node from count)
+unfolding after_page
+page_agrees m sound name node from count =
+    then_agree in_cells IsSound (checked (is_name name) BadName) _ _ (λ named is. found_agree in_cells IsSound node_in_cells m.nodes node NoNode _ _ (λ n here. then_agree in_cells IsSound (ok_or (number_within 0 MAX_U32 from) BadNumber) _ _ (λ first read. then_agree in_cells IsSound (ok_or (number_within 1 MAX_PAGE_CELLS count) BadNumber) _ _ (λ most also.
+    done_agrees in_cells IsSound _ _ (with_page_agrees m name _ (part n.schema n.contents first most) (part_agrees m sound node n here first most))
+    (with_page_is_sound m sound name (part n.schema n.contents first most) (part_is_closed m sound node n here first most))))))

@@ -1,0 +1,66 @@
+//! `deliver NAME NODE`: joins the cells of a page into a node.
+
+ghost use Rattle.std.specs.Prelude.{◌≡◌, option_map};
+ghost use Rattle.rr_replica.specs.Cells.{Cells};
+ghost use Rattle.rr_cluster.specs.Command.{view_of};
+ghost use Rattle.rr_cluster.specs.Commands.Deliver.{after_deliver, deliver_command};
+ghost use Rattle.rr_cluster.specs.Meaning.{HasPageText, Joins, Leaves, Represents};
+ghost use Rattle.rr_cluster.specs.Model.{cell_model};
+ghost use Rattle.rr_cluster.specs.State.{State};
+ghost use Rattle.rr_cluster.specs.Words.{words_of};
+
+use crate::cluster::Cluster;
+use crate::event::Event;
+use crate::fault::CommandFault;
+use crate::stop::Stop;
+use crate::words::first_word;
+use rr_archive::Archive;
+use rr_page::{PageFault, decode};
+use rr_replica::Replica;
+use std::alloc::Global;
+
+/// The command of the words after `deliver`.
+pub(crate) fn deliver_command(words: &[u8]) -> Option<Event<'_>>
+    ensures { option_map view_of result ≡ deliver_command (words_of words.now) }
+{
+    let (name, node) = first_word(words)?;
+    match first_word(node) {
+        Some(_) => None,
+        None => Some(Event::Deliver { name, node }),
+    }
+}
+
+/// Joins the cells of a page into a node.
+pub(crate) fn deliver<A: Archive>(
+    cluster: &mut Cluster<A>,
+    name: &[u8],
+    node: &[u8],
+) -> Result<(), Stop>
+    requires { (m : State Cells) × Represents cluster.old m }
+    ensures { (m : State Cells) → Represents cluster.old m
+        → Leaves cluster.new m result (after_deliver cell_model m name.now node.now) }
+{
+    let Some(page) = cluster.pages.get(name) else {
+        return Err(Stop::Refused(CommandFault::NoPage));
+    };
+    match cluster.nodes.get_mut(node) {
+        Some(replica) => join_page(cluster.alloc, replica, page),
+        None => Err(Stop::Refused(CommandFault::NoNode)),
+    }
+}
+
+/// Joins the cells of the page of these bytes into a replica. A script has only pages that its own
+/// nodes made, so that the bytes are those of a page of the replica's schema.
+fn join_page<A: Archive>(alloc: Global, replica: &mut Replica<A>, page: &[u8]) -> Result<(), Stop>
+    requires { (cells : Cells) × HasPageText replica.old.schema cells page.now }
+    ensures { (cells : Cells) → HasPageText replica.old.schema cells page.now
+        → Joins replica.old replica.new result cells }
+{
+    let cells = match decode(alloc, page, replica.schema()) {
+        Ok(cells) => cells,
+        Err(PageFault::Memory) => return Err(Stop::Memory),
+        Err(_) => unreachable!(),
+    };
+    replica.join_cells(&cells)?;
+    Ok(())
+}

@@ -1,0 +1,80 @@
+//! `page NAME NODE FROM COUNT`: makes a page of a node's cells.
+
+ghost use Rattle.std.specs.Prelude.{◌≡◌, ◌≤◌, option_map, IfOk};
+ghost use Rattle.rr_base.specs.declared.limits.TheConstants.{MAX_PAGE_CELLS};
+ghost use Rattle.rr_replica.specs.Cells.{Cells};
+ghost use Rattle.rr_cluster.specs.Command.{view_of};
+ghost use Rattle.rr_cluster.specs.Commands.Page.{after_page, page_command};
+ghost use Rattle.rr_cluster.specs.Meaning.{HasPageText, Leaves, Represents};
+ghost use Rattle.rr_cluster.specs.Model.{cell_model, cells_from};
+ghost use Rattle.rr_cluster.specs.State.{State};
+ghost use Rattle.rr_cluster.specs.Words.{words_of};
+
+use crate::cluster::Cluster;
+use crate::event::Event;
+use crate::fault::CommandFault;
+use crate::stop::Stop;
+use crate::words::{cell_count, first_word, is_name, number_u32};
+use rr_archive::Archive;
+use rr_page::encode;
+use rr_replica::Replica;
+use std::alloc::{AllocError, Global};
+
+/// The command of the words after `page`.
+pub(crate) fn page_command(words: &[u8]) -> Option<Event<'_>>
+    ensures { option_map view_of result ≡ page_command (words_of words.now) }
+{
+    let (name, rest) = first_word(words)?;
+    let (node, rest) = first_word(rest)?;
+    let (from, count) = first_word(rest)?;
+    match first_word(count) {
+        Some(_) => None,
+        None => Some(Event::Page {
+            name,
+            node,
+            from,
+            count,
+        }),
+    }
+}
+
+/// Makes a page of a node's cells from a place on, as many as there are up to a count. A page of
+/// that name is replaced.
+pub(crate) fn add_page<A: Archive>(
+    cluster: &mut Cluster<A>,
+    name: &[u8],
+    node: &[u8],
+    from: &[u8],
+    count: &[u8],
+) -> Result<(), Stop>
+    ensures { (m : State Cells) → Represents cluster.old m
+        → Leaves cluster.new m result (after_page cell_model m name.now node.now from.now count.now) }
+{
+    if !is_name(name) {
+        return Err(Stop::Refused(CommandFault::BadName));
+    }
+    let Some(replica) = cluster.nodes.get(node) else {
+        return Err(Stop::Refused(CommandFault::NoNode));
+    };
+    let from = number_u32(from).ok_or(CommandFault::BadNumber)?;
+    let count = cell_count(count).ok_or(CommandFault::BadNumber)?;
+    let page = page_of(cluster.alloc, replica, from as usize, count)?;
+    let name = Vec::from_slice(cluster.alloc, name)?;
+    cluster.pages.insert(name, page)?;
+    Ok(())
+}
+
+/// The bytes of a page of a replica's cells from a place on, as many as there are up to a count.
+fn page_of<A: Archive>(
+    alloc: Global,
+    replica: &Replica<A>,
+    from: usize,
+    count: usize,
+) -> Result<Vec<u8>, AllocError>
+    requires { count ≤ MAX_PAGE_CELLS }
+    ensures { IfOk result (λ page.
+        HasPageText replica.now.schema (cells_from replica.now.cells from count) page.items) }
+{
+    let cells = replica.cells_from(alloc, from, count)?;
+    encode(alloc, replica.schema(), &cells)
+}
