@@ -203,45 +203,27 @@ fault_to precision text said fault (inr (measurement, name, inr (tags, has, inr 
     long_key (point_of measurement.0 tags.0 fields.0 time) (has_parts precision text said measurement name tags has fields_text gap fields has_fields time is_ending) h.0 h.1
 fault_to precision text said fault (inr (measurement, name, inr (tags, has, inr (fields_text, gap, inr (fields, has_fields, inr (time, is_ending, inr h)))))) = absurd h.1
 
+-- a fault of the fields, or after them, of a text that leads to them
+fault_in_fields : (precision : Precision) (text measurement : List ℕ) (tags : List Tag) (fields_text : List ℕ) (fault : LineFault) → LeadsToFields text measurement tags fields_text → FieldsOr precision measurement tags fields_text fault → Stops precision text fault
+fault_in_fields precision text measurement tags fields_text fault h bad =
+    inr (
+      (measurement, h.front.tags_text),
+      h.front.name,
+      inr ((tags, h.gap), tags_are text measurement tags h.gap h.front h.ended, inr (fields_text, gap_is h.gap fields_text h.skipped h.some, bad)),
+    )
+
 fault_from : (precision : Precision) (text : List ℕ) (fault : LineFault) → TextFault precision text fault → Stops precision text fault
 fault_from precision text fault (no_measurement said none is) = inl (none, is)
 fault_from precision text fault (at_tag measurement tags tag_text front bad) = inr ((measurement, front.tags_text), front.name, inl (tags, tag_text, front.are_tags, bad))
 fault_from precision text fault (no_fields measurement tags gap front ended left is) =
     inr ((measurement, front.tags_text), front.name, inr ((tags, gap), tags_are text measurement tags gap front ended, inl (inl (ap (λ (t : List ℕ). eqb (length t) 0) left, is))))
 fault_from precision text fault (at_field measurement tags fields_text fields field_text h leading bad) =
-    inr (
-      (measurement, h.front.tags_text),
-      h.front.name,
-      inr (
-        (tags, h.gap),
-        tags_are text measurement tags h.gap h.front h.ended,
-        inr (fields_text, gap_is h.gap fields_text h.skipped h.some, inl (fields, field_text, leading, bad)),
-      ),
-    )
+    fault_in_fields precision text measurement tags fields_text fault h (inl (fields, field_text, leading, bad))
 fault_from precision text fault (at_time measurement tags fields_text fields ending h are bad) =
-    inr (
-      (measurement, h.front.tags_text),
-      h.front.name,
-      inr (
-        (tags, h.gap),
-        tags_are text measurement tags h.gap h.front h.ended,
-        inr (fields_text, gap_is h.gap fields_text h.skipped h.some, inr ((fields, ending), fields_are fields_text fields ending are, inl bad)),
-      ),
-    )
+    fault_in_fields precision text measurement tags fields_text fault h (inr ((fields, ending), fields_are fields_text fields ending are, inl bad))
 fault_from precision text fault (long_key p h long is) =
-    inr (
-      (p.measurement, h.front.front.tags_text),
-      h.front.front.name,
-      inr (
-        (p.tags, h.front.gap),
-        tags_are text p.measurement p.tags h.front.gap h.front.front h.front.ended,
-        inr (
-          h.fields_text,
-          gap_is h.front.gap h.fields_text h.front.skipped h.front.some,
-          inr ((p.fields, h.ending), fields_are h.fields_text p.fields h.ending h.are_fields, inr (p.time, h.is_ending, inl (long, is))),
-        ),
-      ),
-    )
+    fault_in_fields precision text p.measurement p.tags h.fields_text fault h.front
+    (inr ((p.fields, h.ending), fields_are h.fields_text p.fields h.ending h.are_fields, inr (p.time, h.is_ending, inl (long, is))))
 
 -- what a text says
 abbrev pub IsTextOf : Precision → List ℕ → LineView → Type 0
