@@ -6,7 +6,7 @@ use Rattle.std.specs.Option.{option_map}
 use Rattle.std.specs.FinMap.{get}
 use Rattle.std.proofs.Math.Nat.{div-lt_iff_lt-mul}
 use Rattle.std.proofs.lemmas.Bool.Decides.{eqb_tells}
-use Rattle.std.proofs.lemmas.Option.{slice_get_within, get_or_from_slice_get}
+use Rattle.std.proofs.lemmas.Option.{slice_get_within, slice_get-get_or, get_or_from_slice_get}
 use Rattle.std.proofs.lemmas.Int.{ints}
 use Rattle.rr_base.specs.declared.archive.ArchiveSpec.{ArchiveSpec}
 use Rattle.rr_base.specs.Schema.{Layout, IsLayout, archive_at, slot_of, span}
@@ -16,6 +16,10 @@ use Rattle.rr_archive.specs.Cells.{Rows, put_row}
 use Rattle.rr_model.proofs.Horizon.{archive_is}
 use Rattle.rr_replica.specs.declared.sample.Sample.{Sample}
 use Rattle.rr_replica.specs.Archives.{cell_slot_for, sample_for, Each, AreSized, CanTake, AreSame, HavePut}
+
+-- what is read at a place, as the list has it
+pub found_at : {X : Type 0} (xs : List X) (i : ℕ) (d : X) → i < length xs → d ≡ get_or xs i d → slice_get xs i ≡ Some d
+found_at xs i d within is = slice_get-get_or xs i d within ∙ ap (λ x. Some x) (sym is)
 
 pub on_ok_from : {T E P : Type 0} (r : Result T E) → P → OnOk r P
 on_ok_from (Ok x) h = h

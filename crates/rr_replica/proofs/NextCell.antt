@@ -170,28 +170,31 @@ module _ (key : List ℕ) (a : ℕ) (p : CellSlot) where
     own_archive : (x : X) → a < length xs → x ≡ get_or xs a x → slice_get (map cells xs) a ≡ Some (cells x)
     own_archive x within item = slice_get-map cells xs a ∙ ap (option_map cells) (slice_get-get_or xs a x within ∙ ap (λ y. Some y) (sym item))
 
-    -- a cell of the name's archive
-    pub own_found : (x : X) (cell : ℤ × Entry) → a < length xs → x ≡ get_or xs a x → Some cell ≡ option_map cell_of (next_cell (cells x) p) → find (is_past (name_at key a p)) (cells_from key 0 (map cells xs)) ≡ Some (name_at key a (cell_slot cell.0 cell.1.origin), cell.1.contribution)
+    -- a cell of the name's archive; the name's key is the same text
+    pub own_found : (own : List ℕ) → key ≡ own → (x : X) (cell : ℤ × Entry) → a < length xs → x ≡ get_or xs a x → Some cell ≡ option_map cell_of (next_cell (cells x) p) → find (is_past (name_at own a p)) (cells_from key 0 (map cells xs)) ≡ Some (name_at key a (cell_slot cell.0 cell.1.origin), cell.1.contribution)
     unfolding next_here
-    own_found x cell within item e = own_key (map cells xs) ∙ ap next_here (own_archive x within item) ∙ ap (λ o. option_or o (first_of key cells xs (a + 1))) (named_cell (next_cell (cells x) p) e)
+    own_found own same x cell within item e = subst (λ k. find (is_past (name_at k a p)) (cells_from key 0 (map cells xs)) ≡ Some (name_at key a (cell_slot cell.0 cell.1.origin), cell.1.contribution)) same
+        (own_key (map cells xs) ∙ ap next_here (own_archive x within item) ∙ ap (λ o. option_or o (first_of key cells xs (a + 1))) (named_cell (next_cell (cells x) p) e))
       where
         named_cell : (o : Option (CellSlot × Contribution)) → Some cell ≡ option_map cell_of o → option_map {U = NamedCell} (λ f. (name_at key a f.0, f.1)) o ≡ Some (name_at key a (cell_slot cell.0 cell.1.origin), cell.1.contribution)
         named_cell None e = absurd cc
         named_cell (Some f) e = ap (λ o. Some (name_at key a (cell_slot (unwrap_or o cell).0 (unwrap_or o cell).1.origin), (unwrap_or o cell).1.contribution)) (sym e)
 
     -- none of its archive, and so the first of those after it
-    pub own_none : (x : X) → a < length xs → x ≡ get_or xs a x → None ≡ option_map cell_of (next_cell (cells x) p) → find (is_past (name_at key a p)) (cells_from key 0 (map cells xs)) ≡ first_of key cells xs (a + 1)
+    pub own_none : (own : List ℕ) → key ≡ own → (x : X) → a < length xs → x ≡ get_or xs a x → None ≡ option_map cell_of (next_cell (cells x) p) → find (is_past (name_at own a p)) (cells_from key 0 (map cells xs)) ≡ first_of key cells xs (a + 1)
     unfolding next_here
-    own_none x within item e = own_key (map cells xs) ∙ ap next_here (own_archive x within item) ∙ ap (λ o. option_or o (first_of key cells xs (a + 1))) (no_cell (next_cell (cells x) p) e)
+    own_none own same x within item e = subst (λ k. find (is_past (name_at k a p)) (cells_from key 0 (map cells xs)) ≡ first_of key cells xs (a + 1)) same
+        (own_key (map cells xs) ∙ ap next_here (own_archive x within item) ∙ ap (λ o. option_or o (first_of key cells xs (a + 1))) (no_cell (next_cell (cells x) p) e))
       where
         no_cell : (o : Option (CellSlot × Contribution)) → None ≡ option_map cell_of o → option_map {U = NamedCell} (λ f. (name_at key a f.0, f.1)) o ≡ None
         no_cell None e = refl
         no_cell (Some f) e = absurd cc
 
     -- an archive past the schema's last
-    pub own_past : length xs ≤ a → find (is_past (name_at key a p)) (cells_from key 0 (map cells xs)) ≡ None
+    pub own_past : (own : List ℕ) → key ≡ own → length xs ≤ a → find (is_past (name_at own a p)) (cells_from key 0 (map cells xs)) ≡ None
     unfolding next_here
-    own_past past = own_key (map cells xs) ∙ ap next_here (slice_get-map cells xs a ∙ ap (option_map cells) (slice_get_past xs a past)) ∙ first_none key (a + 1) cells xs (omega arith)
+    own_past own same past = subst (λ k. find (is_past (name_at k a p)) (cells_from key 0 (map cells xs)) ≡ None) same
+        (own_key (map cells xs) ∙ ap next_here (slice_get-map cells xs a ∙ ap (option_map cells) (slice_get_past xs a past)) ∙ first_none key (a + 1) cells xs (omega arith))
 
   -- ---- other keys
 

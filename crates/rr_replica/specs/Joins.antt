@@ -6,6 +6,7 @@ use Rattle.rr_join.specs.Maps.{joined}
 use Rattle.rr_contrib.specs.declared.contribution.Contribution.{Contribution}
 use Rattle.rr_contrib.specs.Contributions.{contribution_cmp}
 use Rattle.rr_model.specs.CellNames.{CellName, is_live}
+use Rattle.rr_replica.specs.CellBounds.{NamedCell}
 use Rattle.rr_replica.specs.Cells.{Cells}
 
 -- at each name of either map the greater contribution, and then the live cells
@@ -17,6 +18,6 @@ abbrev pub join_cell : Layout → Cells → CellName → Contribution → Cells
 join_cell s m n c = join s m (insert empty n c)
 
 -- with these cells joined in, in order
-abbrev pub join_cells : Layout → Cells → List (CellName × Contribution) → Cells
+abbrev pub join_cells : Layout → Cells → List NamedCell → Cells
 join_cells s m [] = m
 join_cells s m (e ∷ es) = join_cells s (join_cell s m e.0 e.1) es

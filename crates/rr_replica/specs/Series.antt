@@ -3,22 +3,21 @@ use Rattle.std.specs.Prelude.{ℕ, ◌+◌, ◌==◌, cond, List, [], ◌∷◌,
 use Rattle.std.specs.Map.{lookup}
 use Rattle.std.specs.BTreeMap.{is_at}
 use Rattle.std.specs.FinMap.{empty, entries, from_entries}
-use Rattle.rr_contrib.specs.declared.contribution.Contribution.{Contribution}
 use Rattle.rr_base.specs.Bytes.{bytes_cmp}
 use Rattle.rr_archive.specs.Cells.{Rows}
-use Rattle.rr_model.specs.CellNames.{CellName}
+use Rattle.rr_replica.specs.CellBounds.{NamedCell}
 use Rattle.rr_replica.specs.Cells.{Cells, name_at}
 
 abbrev pub Series : Type 0
 Series = List (List ℕ × List Rows)
 
 -- the cells of a key's archives, from this number on
-abbrev pub cells_from : List ℕ → ℕ → List Rows → List (CellName × Contribution)
+abbrev pub cells_from : List ℕ → ℕ → List Rows → List NamedCell
 cells_from key archive [] = []
 cells_from key archive (r ∷ rs) = map (λ e. (name_at key archive e.0, e.1)) (entries r) ++ cells_from key (archive + 1) rs
 
 -- the cells of all series, in order
-abbrev pub all_cells : Series → List (CellName × Contribution)
+abbrev pub all_cells : Series → List NamedCell
 all_cells [] = []
 all_cells (e ∷ es) = cells_from e.0 0 e.1 ++ all_cells es
 

@@ -1,7 +1,6 @@
 //! The archives of one key.
 ghost use Rattle.std.specs.Prelude.{◌≡◌, IsTrue, IsOk, OnOk, OnErr, IfOk};
 ghost use Rattle.std.specs.FinMap as fin;
-ghost use Rattle.rr_base.specs.Schema.{IsLayout};
 ghost use Rattle.rr_replica.specs.Archives.{cell_slot_for, Each, AreOf, CanTake, AreSame, HavePut, HaveJoined};
 ghost use Rattle.rr_replica.specs.CellBounds.{IsCellOf};
 ghost use Rattle.rr_replica.specs.Listing.{owned_cell};
@@ -17,7 +16,6 @@ pub(crate) fn empty_archives<A: Archive>(
     alloc: Global,
     schema: &Schema,
 ) -> Result<Vec<A>, AllocError>
-    requires { IsLayout schema.now }
     ensures of_schema { IfOk result (λ archives. AreOf A.row_limit schema.now archives.items) }
     ensures empty { IfOk result (λ archives. Each (λ i a. A.cells a ≡ fin.empty) archives.items) }
 {
@@ -55,7 +53,7 @@ fn put_ready<A: Archive>(
     requires of_schema { AreOf A.row_limit schema.now archives.old.items }
     requires newer { CanTake A.cells schema.now sample.now archives.old.items }
     requires ready { Each (λ i a. IsTrue (A.is_ready a (cell_slot_for schema.now sample.now i))) archives.old.items }
-    ensures put_into_each { IsOk result }
+    ensures succeeds { IsOk result }
     ensures put { HavePut A.cells schema.now sample.now archives.old.items archives.new.items }
     ensures of_schema { AreOf A.row_limit schema.now archives.new.items }
 {

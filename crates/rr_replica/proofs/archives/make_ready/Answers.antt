@@ -1,8 +1,8 @@
-use Rattle.std.proofs.Common.{rules, ◌≡◌, ◌<◌, true, length, Some, slice_get, ap, sym, ◌∙◌, arith, to_z, of_z, w64}
-use Rattle.std.proofs.lemmas.Option.{slice_get-get_or, slice_get_within}
+use Rattle.std.proofs.Common.{rules, ◌≡◌, true, length, arith, to_z, of_z, w64}
+use Rattle.std.proofs.lemmas.Option.{slice_get_within}
 use Rattle.rr_base.specs.Schema.{slot_of}
 use Rattle.rr_archive.specs.CellSlots.{cell_slot}
-use Rattle.rr_replica.proofs.Each.{slot_is, readied_none, readied_more, same_more}
+use Rattle.rr_replica.proofs.Each.{found_at, slot_is, readied_none, readied_more, same_more}
 use Rattle.rr_replica.proofs.archives.make_ready.Goals as goal
 
 pub loop-i-init : goal.loop-i-init
@@ -17,16 +17,14 @@ ready-requires g c =
 pub returns-in_err-ready-clause-unchanged : goal.returns-in_err-ready-clause-unchanged
 returns-in_err-ready-clause-unchanged g c =
     let items = c.loop-i.archives.items in
-    let within : c.loop-i.i < length items = search rules in
-    let at : slice_get items c.loop-i.i ≡ Some c.index_mut.result.now = slice_get-get_or items c.loop-i.i c.index_mut.result.now within ∙ ap (λ a. Some a) (sym c.index_mut.ensures.value) in
+    let at = found_at items c.loop-i.i c.index_mut.result.now (search rules) c.index_mut.ensures.value in
     let cells : g.A.Archive.cells c.ready.new.self ≡ g.A.Archive.cells c.index_mut.result.now = search rules in
     same_more g.A.Archive.cells g.A.Archive.row_limit g.A.Archive.is_ready c.args.schema.now c.args.sample.now c.loop-i.i c.args.archives.now.items items c.index_mut.result.now c.ready.new.self c.loop-i.invariant.same at cells
 
 pub loop-i-preserved : goal.loop-i-preserved
 loop-i-preserved g c =
     let items = c.loop-i.archives.items in
-    let within : c.loop-i.i < length items = search rules in
-    let at : slice_get items c.loop-i.i ≡ Some c.index_mut.result.now = slice_get-get_or items c.loop-i.i c.index_mut.result.now within ∙ ap (λ a. Some a) (sym c.index_mut.ensures.value) in
+    let at = found_at items c.loop-i.i c.index_mut.result.now (search rules) c.index_mut.ensures.value in
     let cells : g.A.Archive.cells c.ready.new.self ≡ g.A.Archive.cells c.index_mut.result.now = search rules in
     let limit : g.A.Archive.row_limit c.ready.new.self ≡ g.A.Archive.row_limit c.index_mut.result.now = c.ready.ensures.limit in
     let kept : to_z w64 (of_z w64 c.slot-slot.result) ≡ c.slot-slot.result = search rules in

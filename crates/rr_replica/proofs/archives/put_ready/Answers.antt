@@ -1,8 +1,7 @@
-use Rattle.std.proofs.Common.{rules, ◌≡◌, ◌<◌, true≢false, length, Some, slice_get, ap, sym, ◌∙◌, subst, arith, to_z, of_z, w64}
+use Rattle.std.proofs.Common.{rules, ◌≡◌, true≢false, length, Some, slice_get, sym, ◌∙◌, subst, arith, to_z, of_z, w64}
 use Rattle.std.specs.Prelude.{IsOk}
-use Rattle.std.proofs.lemmas.Option.{slice_get-get_or}
 use Rattle.rr_base.specs.Schema.{slot_of, place_of}
-use Rattle.rr_replica.proofs.Each.{slot_is, put_none, put_more, put_all}
+use Rattle.rr_replica.proofs.Each.{found_at, slot_is, put_none, put_more, put_all}
 use Rattle.rr_replica.proofs.archives.put_ready.Goals as goal
 
 pub loop-i-init : goal.loop-i-init
@@ -16,9 +15,7 @@ put-requires-clause-slot g c =
 
 pub put-requires-clause-newer : goal.put-requires-clause-newer
 put-requires-clause-newer g c =
-    let items = c.loop-i.archives.items in
-    let within : c.loop-i.i < length items = search rules in
-    let at : slice_get items c.loop-i.i ≡ Some c.index_mut.result.now = slice_get-get_or items c.loop-i.i c.index_mut.result.now within ∙ ap (λ a. Some a) (sym c.index_mut.ensures.value) in
+    let at = found_at c.loop-i.archives.items c.loop-i.i c.index_mut.result.now (search rules) c.index_mut.ensures.value in
     let was : slice_get c.args.archives.now.items c.loop-i.i ≡ Some c.index_mut.result.now = sym (c.loop-i.invariant.rest c.loop-i.i (omega arith)) ∙ at in
     let kept : to_z w64 (of_z w64 c.slot-slot.result) ≡ c.slot-slot.result = search rules in
     let slot : c.slot-slot.result ≡ slot_of c.args.schema.now c.loop-i.i c.args.sample.now.time = search rules in
@@ -26,9 +23,7 @@ put-requires-clause-newer g c =
 
 pub returns-in_err-put : goal.returns-in_err-put
 returns-in_err-put g c =
-    let items = c.loop-i.archives.items in
-    let within : c.loop-i.i < length items = search rules in
-    let at : slice_get items c.loop-i.i ≡ Some c.index_mut.result.now = slice_get-get_or items c.loop-i.i c.index_mut.result.now within ∙ ap (λ a. Some a) (sym c.index_mut.ensures.value) in
+    let at = found_at c.loop-i.archives.items c.loop-i.i c.index_mut.result.now (search rules) c.index_mut.ensures.value in
     let was : slice_get c.args.archives.now.items c.loop-i.i ≡ Some c.index_mut.result.now = sym (c.loop-i.invariant.rest c.loop-i.i (omega arith)) ∙ at in
     let kept : to_z w64 (of_z w64 c.slot-slot.result) ≡ c.slot-slot.result = search rules in
     let slot : c.slot-slot.result ≡ slot_of c.args.schema.now c.loop-i.i c.args.sample.now.time = search rules in
@@ -39,8 +34,7 @@ returns-in_err-put g c =
 pub loop-i-preserved : goal.loop-i-preserved
 loop-i-preserved g c =
     let items = c.loop-i.archives.items in
-    let within : c.loop-i.i < length items = search rules in
-    let at : slice_get items c.loop-i.i ≡ Some c.index_mut.result.now = slice_get-get_or items c.loop-i.i c.index_mut.result.now within ∙ ap (λ a. Some a) (sym c.index_mut.ensures.value) in
+    let at = found_at items c.loop-i.i c.index_mut.result.now (search rules) c.index_mut.ensures.value in
     let limit : g.A.Archive.row_limit c.put.new.self ≡ g.A.Archive.row_limit c.index_mut.result.now = c.put.ensures.limit in
     let kept : to_z w64 (of_z w64 c.slot-slot.result) ≡ c.slot-slot.result = search rules in
     let slot : c.slot-slot.result ≡ slot_of c.args.schema.now c.loop-i.i c.args.sample.now.time = search rules in

@@ -14,8 +14,7 @@ returns-in-Ok g c =
     let key = c.in-Some.key.now in
     let archives = c.in-Some.archives.now in
     let more : c.loop-key.key-iterator ≡ (key, archives) ∷ rest = search rules in
-    let items : c.deref.result.now ≡ archives.items = c.deref.ensures.value in
-    let found : slice_get (cells_from key 0 (map cells archives.items)) c.loop-key.left ≡ Some (seen_cell c.in-Ok.cell) = ap (λ l. slice_get (cells_from key 0 (map cells l)) c.loop-key.left) (sym items) ∙ c.in-Ok.ensures.found in
+    let found : slice_get (cells_from key 0 (map cells archives.items)) c.loop-key.left ≡ Some (seen_cell c.in-Ok.cell) = ap (λ l. slice_get (cells_from key 0 (map cells l)) c.loop-key.left) (sym c.deref.ensures.value) ∙ c.in-Ok.ensures.found in
     sym (get-all_first key (map cells archives.items) (held_series cells rest) c.loop-key.left (seen_cell c.in-Ok.cell) found)
     ∙ ap (λ es. slice_get (all_cells (held_series cells es)) c.loop-key.left) (sym more)
     ∙ c.loop-key.invariant.0
@@ -28,8 +27,7 @@ loop-key-preserved g c =
     let key = c.in-Some.key.now in
     let archives = c.in-Some.archives.now in
     let more : c.loop-key.key-iterator ≡ (key, archives) ∷ rest = search rules in
-    let items : c.deref.result.now ≡ archives.items = c.deref.ensures.value in
-    let past : c.loop-key.left ≡ count_of (map cells archives.items) + c.in-Err.rest = c.in-Err.ensures.past ∙ ap (λ l. count_of (map cells l) + c.in-Err.rest) items in (
+    let past : c.loop-key.left ≡ count_of (map cells archives.items) + c.in-Err.rest = c.in-Err.ensures.past ∙ ap (λ l. count_of (map cells l) + c.in-Err.rest) c.deref.ensures.value in (
       sym (get-all_later key (map cells archives.items) (held_series cells rest) c.loop-key.left c.in-Err.rest past)
           ∙ ap (λ es. slice_get (all_cells (held_series cells es)) c.loop-key.left) (sym more)
           ∙ c.loop-key.invariant.0,
