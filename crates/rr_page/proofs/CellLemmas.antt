@@ -1,4 +1,4 @@
--- A cell is read exactly where its text stands.
+-- A cell is read exactly where its text is.
 use Rattle.std.proofs.Common.{◌≡◌, ℕ, zero, suc, ◌-◌, ◌^◌, ◌<◌, ◌≤◌, Bool, true, false, ◌||◌, not, List, [], ◌∷◌, ◌++◌, length, drop, Result, Ok, refl, sym, ap, subst, ◌∙◌, append_assoc, arith}
 use Rattle.std.specs.Prelude.{FitsSigned, nat_lt, ◌==◌}
 use Rattle.std.specs.Int.{w8, w16, w64, w128, to_be_bytes}

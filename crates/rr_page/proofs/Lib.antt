@@ -1,5 +1,6 @@
 pub mod ReadLemmas
 pub mod WriteLemmas
+pub mod LengthLemmas
 pub mod NumberLemmas
 pub mod FieldLemmas
 pub mod CellLemmas

@@ -1,6 +1,6 @@
 -- The versions of the bytes of cells and pages, which differ in the width of a mask.
-use Rattle.std.specs.Prelude.{ℕ, ◌≤◌, All}
-use Rattle.std.specs.Int.{Width, w64}
+use Rattle.std.specs.Prelude.{ℕ, ◌+◌, ◌≤◌, All}
+use Rattle.std.specs.Int.{Width, w64, byte_len}
 use mir.Val.{bits}
 use Rattle.rr_base.specs.Schema.{Layout}
 use Rattle.rr_page.specs.declared.version.Version.{Version}
@@ -21,3 +21,7 @@ latest = One
 -- a mask is wide enough for each archive of a schema
 abbrev pub HasMasksFor : Version → Layout → Type 0
 HasMasksFor v s = All (λ a. a.steps ≤ bits (mask_width v)) s.archives
+
+-- how many bytes a cell has besides its key text
+abbrev pub fields_len : Version → ℕ
+fields_len v = 77 + byte_len (mask_width v)

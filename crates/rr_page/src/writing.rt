@@ -1,7 +1,7 @@
 //! A cell as bytes.
-ghost use Rattle.std.specs.Prelude.{◌≡◌, ◌++◌, IfOk, OnOk};
+ghost use Rattle.std.specs.Prelude.{◌≡◌, ◌+◌, ◌++◌, length, IfOk, OnOk};
 ghost use Rattle.rr_page.specs.CellText.{sums_text, values_text, name_text, cell_text};
-ghost use Rattle.rr_page.specs.Version.{latest};
+ghost use Rattle.rr_page.specs.Version.{fields_len, latest};
 ghost use Rattle.rr_archive.specs.CellSlots.{cell_slot};
 ghost use Rattle.rr_replica.specs.Cells.{name_at};
 ghost use Rattle.rr_replica.specs.Listing.{seen_cell};
@@ -85,7 +85,9 @@ pub(crate) fn push_cell(
 /// A cell as bytes in the latest version: 85 bytes and the key text. The cost is linear in the key
 /// text.
 pub fn cell_bytes(alloc: Global, cell: CellRef<'_>) -> Result<Vec<u8>, AllocError>
-    ensures { IfOk result (λ bytes. bytes.items ≡ cell_text latest (seen_cell cell.entry)) }
+    ensures text { IfOk result (λ bytes. bytes.items ≡ cell_text latest (seen_cell cell.entry)) }
+    ensures len { IfOk result (λ bytes.
+        length bytes.items ≡ fields_len latest + length (seen_cell cell.entry).0.key) }
 {
     let CellRef {
         key,
