@@ -26,21 +26,21 @@ use Rattle.rr_page.specs.Version.{mask_width}
 use Rattle.rr_page.proofs.FieldLemmas.{ok_is}
 use Rattle.rr_page.proofs.PageLemmas.{front_page_again}
 
-abbrev Reader : Type 0 → Type 0
+abbrev pub Reader : Type 0 → Type 0
 Reader A = List ℕ → Result (A × List ℕ) PageFault
 
 -- what is read, with more bytes left after it
-extended : {A : Type 0} → List ℕ → Result (A × List ℕ) PageFault → Result (A × List ℕ) PageFault
+unfoldable pub extended : {A : Type 0} → List ℕ → Result (A × List ℕ) PageFault → Result (A × List ℕ) PageFault
 extended more (Ok x) = Ok (x.0, x.1 ++ more)
 extended more (Err fault) = Err fault
 
 -- more bytes change no answer but Short
-record IsFront {A : Type 0} (r : Reader A) : Type 0 where
-  more : (bytes rest : List ℕ) → (r bytes ≡ Err Short) ⊎ (r (bytes ++ rest) ≡ extended rest (r bytes))
+pub record IsFront {A : Type 0} (r : Reader A) : Type 0 where
+  pub more : (bytes rest : List ℕ) → (r bytes ≡ Err Short) ⊎ (r (bytes ++ rest) ≡ extended rest (r bytes))
 
 -- ---- readers, and one after another
 
-IsFront-field : (len : ℕ) → IsFront (front_at len)
+pub IsFront-field : (len : ℕ) → IsFront (front_at len)
 unfolding extended
 IsFront-field len = record { more = λ bytes rest. by_test bytes rest (ltb (length bytes) len) refl }
   where
@@ -51,7 +51,7 @@ IsFront-field len = record { more = λ bytes rest. by_test bytes rest (ltb (leng
         let long : ltb (length (bytes ++ rest)) len ≡ false = le-ltb _ _ (omega (arith, length-append bytes rest)) in
         inr (rw (long, e, take-append-le len bytes rest fits, drop-append-le len bytes rest fits) refl)
 
-IsFront-then : {A B : Type 0} (r : Reader A) (f : A × List ℕ → Result (B × List ℕ) PageFault) → IsFront r → ((a : A) → IsFront (λ bytes. f (a, bytes))) → IsFront (λ bytes. r bytes >>= f)
+pub IsFront-then : {A B : Type 0} (r : Reader A) (f : A × List ℕ → Result (B × List ℕ) PageFault) → IsFront r → ((a : A) → IsFront (λ bytes. f (a, bytes))) → IsFront (λ bytes. r bytes >>= f)
 unfolding extended
 IsFront-then {A = A} {B = B} r f p q = record { more = λ bytes rest. then bytes rest (r bytes) refl (p.more bytes rest) }
   where
@@ -64,24 +64,24 @@ IsFront-then {A = A} {B = B} r f p q = record { more = λ bytes rest. then bytes
           | inr t ↦ inr (ap (λ y. y >>= f) (s ∙ ap (extended rest) e) ∙ t ∙ sym (ap (λ y. extended rest (y >>= f)) e))
         ]
 
-IsFront-unless : {A : Type 0} (fault : PageFault) (refused : Bool) (r : Reader A) → IsFront r → IsFront (λ bytes. unless fault refused (r bytes))
+pub IsFront-unless : {A : Type 0} (fault : PageFault) (refused : Bool) (r : Reader A) → IsFront r → IsFront (λ bytes. unless fault refused (r bytes))
 unfolding extended
 IsFront-unless fault true r p = record { more = λ bytes rest. inr refl }
 IsFront-unless fault false r p = p
 
-IsFront-done : {A : Type 0} (x : A) → IsFront (λ bytes. Ok (x, bytes))
+pub IsFront-done : {A : Type 0} (x : A) → IsFront (λ bytes. Ok (x, bytes))
 unfolding extended
 IsFront-done x = record { more = λ bytes rest. inr refl }
 
-IsFront-number : (w : Width) → IsFront (number_at w)
+pub IsFront-number : (w : Width) → IsFront (number_at w)
 IsFront-number w = IsFront-then (front_at (byte_len w)) _ (IsFront-field (byte_len w)) (λ a. IsFront-done (from_be_bytes w a))
 
-IsFront-signed : (w : Width) → IsFront (signed_at w)
+pub IsFront-signed : (w : Width) → IsFront (signed_at w)
 IsFront-signed w = IsFront-then (front_at (byte_len w)) _ (IsFront-field (byte_len w)) (λ a. IsFront-done (cast_signed w (from_be_bytes w a)))
 
 -- ---- a cell
 
-IsFront-key : IsFront key_at
+pub IsFront-key : IsFront key_at
 unfolding key_at
 IsFront-key =
     IsFront-then (number_at w16) _ (IsFront-number w16) (λ len.
@@ -89,11 +89,11 @@ IsFront-key =
     (IsFront-unless BadKey ((len == 0) || nat_lt MAX_KEY_TEXT len) (front_at len) (IsFront-field len))
     (λ text. IsFront-unless BadKey (not (is_key_text text)) (λ bytes. Ok (text, bytes)) (IsFront-done text)))
 
-IsFront-archive : (s : Layout) → IsFront (archive_at s)
+pub IsFront-archive : (s : Layout) → IsFront (archive_at s)
 unfolding archive_at
 IsFront-archive s = IsFront-then (number_at w8) _ (IsFront-number w8) (λ a. IsFront-unless BadArchive (not (nat_lt a (length s.archives))) (λ bytes. Ok (a, bytes)) (IsFront-done a))
 
-IsFront-contribution : (v : Version) → IsFront (contribution_at v)
+pub IsFront-contribution : (v : Version) → IsFront (contribution_at v)
 unfolding contribution_at
 IsFront-contribution v =
     IsFront-then (number_at w64) _ (IsFront-number w64) (λ version.
@@ -106,7 +106,7 @@ IsFront-contribution v =
     IsFront-then (number_at (mask_width v)) _ (IsFront-number (mask_width v)) (λ mask.
     IsFront-done (record { version = version; count = count; sum = sum; min = min; max = max; last_time = last_time; last_value = last_value; mask = mask })))))))))
 
-IsFront-cell : (v : Version) (s : Layout) → IsFront (cell_at v s)
+pub IsFront-cell : (v : Version) (s : Layout) → IsFront (cell_at v s)
 unfolding cell_at
 IsFront-cell v s =
     IsFront-then key_at _ IsFront-key (λ key.
@@ -117,7 +117,7 @@ IsFront-cell v s =
     let e : NamedCell = (record { key = key; archive = archive; slot = slot; origin = origin }, c) in
     IsFront-unless BadContribution ((origin == 0) || not (is_valid s archive slot c)) (λ bytes. Ok (e, bytes)) (IsFront-done e))))))
 
-IsFront-cells : (v : Version) (s : Layout) (before : Option CellName) (n : ℕ) → IsFront (cells_at v s before n)
+pub IsFront-cells : (v : Version) (s : Layout) (before : Option CellName) (n : ℕ) → IsFront (cells_at v s before n)
 unfolding cells_at
 IsFront-cells v s before zero = IsFront-done []
 IsFront-cells v s before (suc n) =
@@ -128,7 +128,7 @@ IsFront-cells v s before (suc n) =
 
 -- ---- a page
 
-IsFront-version : IsFront version_at
+pub IsFront-version : IsFront version_at
 unfolding version_at
 IsFront-version = IsFront-then (number_at w8) _ (IsFront-number w8) (λ n. IsFront-unless BadVersion (not (n == 1)) (λ bytes. Ok (One, bytes)) (IsFront-done One))
 

@@ -15,9 +15,10 @@ use std::alloc::{AllocError, Global};
 /// The bytes that every page begins with.
 const MAGIC: [u8; 4] = *b"RRPG";
 
-/// A version, and what follows it.
+/// The version that the first byte names, and what follows it. `Short` where there is none, and
+/// `BadVersion` for a byte that names no version.
 #[tactic(auto, unfolding(crate::specs::PageReading::version_at))]
-fn version_of(bytes: &[u8]) -> Result<(Version, &[u8]), PageFault>
+pub fn version_of(bytes: &[u8]) -> Result<(Version, &[u8]), PageFault>
     ensures read { Gives (λ x. (x.0, x.1.now)) result (version_at bytes.now) }
     ensures no_memory { result ≢ Err PageFault.Memory }
 {

@@ -87,9 +87,10 @@ fn contribution_of(bytes: &[u8], format: Version) -> Result<(Contribution, &[u8]
     Ok((contribution, rest))
 }
 
-/// A cell, and what follows it.
+/// The cell at the front of the bytes, in a version, and what follows it, for those who read cells
+/// one after the other. Refusals and the cost are those of [`read_cell`].
 #[tactic(auto, unfolding(crate::specs::Reading::cell_at))]
-pub(crate) fn cell_of<'a>(
+pub fn cell_of<'a>(
     alloc: Global,
     bytes: &'a [u8],
     schema: &Schema,
@@ -98,6 +99,7 @@ pub(crate) fn cell_of<'a>(
     ensures read { GivesUnless PageFault.Memory (λ x. (owned_cell x.0, x.1.now)) result
         (cell_at version schema.now bytes.now) }
     ensures memory { NeedsMemoryAfter PageFault.Memory (key_at bytes.now) result }
+    ensures cell { IfOk result (λ x. IsCellOf schema.now (owned_cell x.0)) }
 {
     let (key, rest) = key_of(alloc, bytes)?;
     let (archive, rest) = archive_of(rest, schema)?;
@@ -118,6 +120,23 @@ pub(crate) fn cell_of<'a>(
         origin,
         contribution,
     };
+    Ok((cell, rest))
+}
+
+/// The cell at the front of the bytes, in a version, one of the schema's and valid there, and what
+/// follows it. Refusals and the cost are those of [`read_cell`].
+pub fn read_cell_in<'a>(
+    alloc: Global,
+    bytes: &'a [u8],
+    schema: &Schema,
+    version: Version,
+) -> Result<(Cell, &'a [u8]), PageFault>
+    ensures read { GivesUnless PageFault.Memory (λ x. (owned_cell x.0, x.1.now)) result
+        (cell_at version schema.now bytes.now) }
+    ensures memory { NeedsMemoryAfter PageFault.Memory (key_at bytes.now) result }
+    ensures cell { IfOk result (λ x. IsCellOf schema.now (owned_cell x.0)) }
+{
+    let (cell, rest) = cell_of(alloc, bytes, schema, version)?;
     Ok((cell, rest))
 }
 

@@ -10,7 +10,7 @@ pub enum Version {
 }
 
 /// The version that is written.
-pub(crate) const LATEST: Version = Version::One;
+pub const LATEST: Version = Version::One;
 
 impl Version {
     /// The byte that a page has for it.

@@ -12,8 +12,8 @@ use rr_key::SeriesKey;
 use rr_replica::CellRef;
 use std::alloc::{AllocError, Global};
 
-/// How many bytes a cell has besides its key text.
-const FIELDS_LEN: usize = 85;
+/// How many bytes a cell of the latest version has besides its key text.
+pub const FIELDS_LEN: usize = 85;
 
 /// Adds how many samples a contribution has.
 #[tactic(auto, unfolding(crate::specs::CellText::sums_text))]

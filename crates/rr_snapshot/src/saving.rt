@@ -1,0 +1,141 @@
+//! A replica's cells, written as a snapshot.
+ghost use Rattle.std.specs.Prelude.{◌≡◌, ◌≢◌, ◌↔◌, ◌≤◌, ◌<◌, ◌++◌, Ok, Err, IfOk, OnOk, OnErr, List, ℕ};
+ghost use Rattle.std.specs.FinMap.{entries, len};
+ghost use Rattle.std.specs.Io.KnownBytes.{Appends};
+ghost use Rattle.std.specs.List.{flat_map};
+ghost use Rattle.sha2.specs.Hashers.{Holds256};
+ghost use Rattle.rr_base.specs.Counted.{inner_of, failures_of, HasRisen};
+ghost use Rattle.rr_base.specs.Stream.{AppendsPrefix};
+ghost use Rattle.rr_page.specs.CellText.{cell_text};
+ghost use Rattle.rr_page.specs.Version.{latest};
+ghost use Rattle.rr_replica.specs.Listing.{seen_cell};
+ghost use Rattle.rr_snapshot.specs.Snapshot.{snapshot_text};
+ghost use Rattle.rr_snapshot.specs.declared.heading.TheConstants.{MAX_SNAPSHOT_CELLS};
+
+use crate::fault::SaveFault;
+use crate::heading::{MAX_SNAPSHOT_CELLS, head_bytes};
+use rr_archive::Archive;
+use rr_base::Counted;
+use rr_base::stream::{WriteFailed, write_all};
+use rr_page::cell_bytes;
+use rr_replica::{CellRef, Replica};
+use sha2::{Digest, Sha256};
+use std::alloc::Global;
+use std::io::Write;
+
+/// Writes a piece, and adds it to what is digested.
+fn write_piece<W: Write>(
+    output: &mut Counted<W>,
+    hasher: &mut Sha256,
+    piece: &[u8],
+) -> Result<(), WriteFailed>
+    ensures whole { OnOk result (Appends (W.contents (inner_of output.old))
+        (W.contents (inner_of output.new)) piece.now) }
+    ensures front { AppendsPrefix (W.contents (inner_of output.old))
+        (W.contents (inner_of output.new)) piece.now }
+    ensures digest { (m : List ℕ) → Holds256 hasher.old m → Holds256 hasher.new (m ++ piece.now) }
+    ensures count { failures_of output.old ≤ failures_of output.new }
+    ensures failed { OnErr result (HasRisen (failures_of output.old) (failures_of output.new)) }
+{
+    hasher.update(piece);
+    write_all(output, piece)
+}
+
+/// Writes a cell, and adds its bytes to what is digested.
+fn write_cell<W: Write>(
+    alloc: Global,
+    cell: &CellRef<'_>,
+    output: &mut Counted<W>,
+    hasher: &mut Sha256,
+) -> Result<(), SaveFault>
+    ensures whole { OnOk result (Appends (W.contents (inner_of output.old))
+        (W.contents (inner_of output.new)) (cell_text latest (seen_cell cell.now))) }
+    ensures front { AppendsPrefix (W.contents (inner_of output.old))
+        (W.contents (inner_of output.new)) (cell_text latest (seen_cell cell.now)) }
+    ensures digest { OnOk result ((m : List ℕ) → Holds256 hasher.old m
+        → Holds256 hasher.new (m ++ cell_text latest (seen_cell cell.now))) }
+    ensures fits { result ≢ Err SaveFault.TooManyCells }
+    ensures count { failures_of output.old ≤ failures_of output.new }
+    ensures failed { result ≡ Err SaveFault.WriteFailed
+        → HasRisen (failures_of output.old) (failures_of output.new) }
+{
+    let cell = CellRef {
+        key: cell.key,
+        archive: cell.archive,
+        slot: cell.slot,
+        origin: cell.origin,
+        contribution: cell.contribution,
+    };
+    let bytes = cell_bytes(alloc, cell)?;
+    write_piece(output, hasher, &bytes)?;
+    Ok(())
+}
+
+/// Writes the cells of a replica, in order, and adds their bytes to what is digested.
+fn write_cells<A: Archive, W: Write>(
+    alloc: Global,
+    replica: &Replica<A>,
+    count: u32,
+    output: &mut Counted<W>,
+    hasher: &mut Sha256,
+) -> Result<(), SaveFault>
+    requires count_given { count ≡ len replica.now.cells }
+    ensures whole { OnOk result (Appends (W.contents (inner_of output.old))
+        (W.contents (inner_of output.new))
+        (flat_map (cell_text latest) (entries replica.now.cells))) }
+    ensures front { AppendsPrefix (W.contents (inner_of output.old))
+        (W.contents (inner_of output.new))
+        (flat_map (cell_text latest) (entries replica.now.cells)) }
+    ensures digest { OnOk result ((m : List ℕ) → Holds256 hasher.old m
+        → Holds256 hasher.new (m ++ flat_map (cell_text latest) (entries replica.now.cells))) }
+    ensures fits { result ≢ Err SaveFault.TooManyCells }
+    ensures count { failures_of output.old ≤ failures_of output.new }
+    ensures failed { result ≡ Err SaveFault.WriteFailed
+        → HasRisen (failures_of output.old) (failures_of output.new) }
+{
+    let mut next = replica.cell_at(0);
+    for _ in 0..count {
+        let Some(cell) = next else {
+            return Ok(());
+        };
+        write_cell(alloc, &cell, output, hasher)?;
+        next = replica.next_cell(cell.key, cell.archive, cell.slot, cell.origin);
+    }
+    Ok(())
+}
+
+/// Writes the cells of a replica as a snapshot in the latest version, one after the other. Besides
+/// the replica there is one cell's bytes in memory at a time.
+///
+/// Refused as `TooManyCells` where there are more than 4,294,967,295 cells, and then nothing is
+/// written; as `WriteFailed` where the writer fails; and as `Memory`. After a refusal a front of the
+/// snapshot was written. The cost is linear in the series and in the bytes.
+pub fn save<A: Archive, W: Write>(
+    alloc: Global,
+    replica: &Replica<A>,
+    output: &mut Counted<W>,
+) -> Result<(), SaveFault>
+    ensures whole { OnOk result (Appends (W.contents (inner_of output.old))
+        (W.contents (inner_of output.new))
+        (snapshot_text latest replica.now.schema replica.now.origin (entries replica.now.cells))) }
+    ensures front { AppendsPrefix (W.contents (inner_of output.old))
+        (W.contents (inner_of output.new))
+        (snapshot_text latest replica.now.schema replica.now.origin (entries replica.now.cells)) }
+    ensures too_many { (result ≡ Err SaveFault.TooManyCells)
+        ↔ (MAX_SNAPSHOT_CELLS < len replica.now.cells) }
+    ensures count { failures_of output.old ≤ failures_of output.new }
+    ensures failed { result ≡ Err SaveFault.WriteFailed
+        → HasRisen (failures_of output.old) (failures_of output.new) }
+{
+    let count = replica.cell_count();
+    if count > MAX_SNAPSHOT_CELLS as usize {
+        return Err(SaveFault::TooManyCells);
+    }
+    let count = count as u32;
+    let mut hasher = Sha256::new();
+    let head = head_bytes(alloc, replica.schema(), replica.origin(), count)?;
+    write_piece(output, &mut hasher, &head)?;
+    write_cells(alloc, replica, count, output, &mut hasher)?;
+    write_all(output, &hasher.finalize())?;
+    Ok(())
+}
