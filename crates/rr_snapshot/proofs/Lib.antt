@@ -1,2 +1,4 @@
 pub mod WriteLemmas
 pub mod SaveLemmas
+pub mod WidthLemmas
+pub mod StreamLemmas

@@ -1,2 +1,4 @@
 pub mod Fault
 pub mod Snapshot
+pub mod SnapshotReading
+pub mod Stream

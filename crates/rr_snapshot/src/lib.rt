@@ -8,7 +8,8 @@
 mod fault;
 mod heading;
 mod saving;
+mod stream;
 
-pub use fault::SaveFault;
+pub use fault::{LoadFault, SaveFault};
 pub use heading::MAX_SNAPSHOT_CELLS;
 pub use saving::save;
