@@ -2,3 +2,5 @@ pub mod WriteLemmas
 pub mod SaveLemmas
 pub mod WidthLemmas
 pub mod StreamLemmas
+pub mod PieceLemmas
+pub mod ChainLemmas

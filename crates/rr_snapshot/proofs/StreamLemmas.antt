@@ -48,45 +48,45 @@ both_nil a b e =
 
 module _ (v : Version) (s : Layout) (head after rest : List ℕ)
     (no_length : length head < 2 → after ++ rest ≡ []) (no_more : length (head ++ after) < whole_len v head → rest ≡ []) (few : length (head ++ after) ≤ whole_len v head) where
-  abbrev bytes : List ℕ
-  bytes = head ++ after
+  abbrev so_far : List ℕ
+  so_far = head ++ after
 
   whole : (n : ℕ) (hr : List ℕ) → is_bad_len v s head n ≡ false → len_by v head (Ok (n, hr)) ≡ fields_len v + n
   whole n hr w = rw w refl
 
-  by_cell : (n : ℕ) (hr : List ℕ) → number_at w16 head ≡ Ok (n, hr) → number_at w16 bytes ≡ Ok (n, hr ++ after) → is_bad_len v s head n ≡ false
-      → (cell_at v s bytes ≡ Err Short) ⊎ (cell_at v s (bytes ++ rest) ≡ extended rest (cell_at v s bytes)) → Decides v s bytes rest
+  by_cell : (n : ℕ) (hr : List ℕ) → number_at w16 head ≡ Ok (n, hr) → number_at w16 so_far ≡ Ok (n, hr ++ after) → is_bad_len v s head n ≡ false
+      → (cell_at v s so_far ≡ Err Short) ⊎ (cell_at v s (so_far ++ rest) ≡ extended rest (cell_at v s so_far)) → Decides v s so_far rest
   unfolding extended
   by_cell n hr e0 e1 good (inl short) =
       let len : whole_len v head ≡ fields_len v + n = ap (len_by v head) e0 ∙ whole n hr good in
-      let low = (HasWidth-cell v s n).short (hr ++ after) (sym (good_len v s bytes n (hr ++ after) e1 good) ∙ short) in
-      let all = (HasWidth-number w16).taken bytes (n, hr ++ after) e1 in
-      at_end v s bytes rest (no_more (omega (arith, len, low, all))) short
+      let low = (HasWidth-cell v s n).short (hr ++ after) (sym (good_len v s so_far n (hr ++ after) e1 good) ∙ short) in
+      let all = (HasWidth-number w16).taken so_far (n, hr ++ after) e1 in
+      at_end v s so_far rest (no_more (omega (arith, len, low, all))) short
   by_cell n hr e0 e1 good (inr same) =
       let len : whole_len v head ≡ fields_len v + n = ap (len_by v head) e0 ∙ whole n hr good in
-      let all = (HasWidth-number w16).taken bytes (n, hr ++ after) e1 in
+      let all = (HasWidth-number w16).taken so_far (n, hr ++ after) e1 in
       record {
         ok = λ e r is.
-            let took = (HasWidth-cell v s n).taken (hr ++ after) (e, r) (sym (good_len v s bytes n (hr ++ after) e1 good) ∙ is) in
+            let took = (HasWidth-cell v s n).taken (hr ++ after) (e, r) (sym (good_len v s so_far n (hr ++ after) e1 good) ∙ is) in
             let none : r ≡ [] = nil_from_length r (omega (arith, few, len, all, took)) in
             same ∙ ap (extended rest) is ∙ ap (λ (l : List ℕ). Ok (e, l ++ rest)) none;
         err = λ fault is. same ∙ ap (extended rest) is;
       }
 
-  by_bad_len : (n : ℕ) (r : List ℕ) → number_at w16 bytes ≡ Ok (n, r) → is_bad_len v s head n ≡ true
-      → (cell_at v s bytes ≡ Err Short) ⊎ (cell_at v s (bytes ++ rest) ≡ extended rest (cell_at v s bytes)) → Decides v s bytes rest
+  by_bad_len : (n : ℕ) (r : List ℕ) → number_at w16 so_far ≡ Ok (n, r) → is_bad_len v s head n ≡ true
+      → (cell_at v s so_far ≡ Err Short) ⊎ (cell_at v s (so_far ++ rest) ≡ extended rest (cell_at v s so_far)) → Decides v s so_far rest
   unfolding extended
-  by_bad_len n r e1 bad (inl short) = absurd (cc (sym short ∙ bad_len v s bytes n r e1 bad))
+  by_bad_len n r e1 bad (inl short) = absurd (cc (sym short ∙ bad_len v s so_far n r e1 bad))
   by_bad_len n r e1 bad (inr same) = record {
-    ok = λ e left is. absurd (cc (sym (bad_len v s bytes n r e1 bad) ∙ is));
+    ok = λ e left is. absurd (cc (sym (bad_len v s so_far n r e1 bad) ∙ is));
     err = λ fault is. same ∙ ap (extended rest) is;
   }
 
-  by_len : (n : ℕ) (hr : List ℕ) → number_at w16 head ≡ Ok (n, hr) → number_at w16 bytes ≡ Ok (n, hr ++ after) → (b : Bool) → is_bad_len v s head n ≡ b → Decides v s bytes rest
-  by_len n hr e0 e1 true bad = by_bad_len n (hr ++ after) e1 bad ((IsFront-cell v s).more bytes rest)
-  by_len n hr e0 e1 false good = by_cell n hr e0 e1 good ((IsFront-cell v s).more bytes rest)
+  by_len : (n : ℕ) (hr : List ℕ) → number_at w16 head ≡ Ok (n, hr) → number_at w16 so_far ≡ Ok (n, hr ++ after) → (b : Bool) → is_bad_len v s head n ≡ b → Decides v s so_far rest
+  by_len n hr e0 e1 true bad = by_bad_len n (hr ++ after) e1 bad ((IsFront-cell v s).more so_far rest)
+  by_len n hr e0 e1 false good = by_cell n hr e0 e1 good ((IsFront-cell v s).more so_far rest)
 
-  grown : (n : ℕ) (hr : List ℕ) → number_at w16 head ≡ Ok (n, hr) → number_at w16 bytes ≡ Ok (n, hr ++ after)
+  grown : (n : ℕ) (hr : List ℕ) → number_at w16 head ≡ Ok (n, hr) → number_at w16 so_far ≡ Ok (n, hr ++ after)
   unfolding extended
   grown n hr e =
       elim ((IsFront-number w16).more head after) [
@@ -94,11 +94,11 @@ module _ (v : Version) (s : Layout) (head after rest : List ℕ)
         | inr t ↦ t ∙ ap (extended after) e
       ]
 
-  by_length : (r : Result (ℕ × List ℕ) PageFault) → number_at w16 head ≡ r → Decides v s bytes rest
+  by_length : (r : Result (ℕ × List ℕ) PageFault) → number_at w16 head ≡ r → Decides v s so_far rest
   by_length (Err fault) e =
       let short = number_err w16 head fault e in
       let none = both_nil after rest (no_length ((HasWidth-number w16).short head short)) in
-      at_end v s bytes rest none.1 (ap (λ (l : List ℕ). cell_at v s (head ++ l)) none.0 ∙ ap (cell_at v s) (append-nil head) ∙ short_len v s head short)
+      at_end v s so_far rest none.1 (ap (λ (l : List ℕ). cell_at v s (head ++ l)) none.0 ∙ ap (cell_at v s) (append-nil head) ∙ short_len v s head short)
   by_length (Ok x) e = by_len x.0 x.1 e (grown x.0 x.1 e) (is_bad_len v s head x.0) refl
 
   pub decided : Decides v s (head ++ after) rest

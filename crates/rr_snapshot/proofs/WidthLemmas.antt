@@ -22,7 +22,7 @@ pub record HasWidth {A : Type 0} (k : ℕ) (r : Reader A) : Type 0 where
   pub taken : (bytes : List ℕ) (x : A × List ℕ) → r bytes ≡ Ok x → length x.1 + k ≡ length bytes
   pub short : (bytes : List ℕ) → r bytes ≡ Err Short → length bytes < k
 
-HasWidth-field : (len : ℕ) → HasWidth len (front_at len)
+pub HasWidth-field : (len : ℕ) → HasWidth len (front_at len)
 HasWidth-field len = record {
   taken = λ bytes x e. by_len bytes x (ltb (length bytes) len) refl e;
   short = λ bytes e. is_short bytes (ltb (length bytes) len) refl e;
@@ -41,7 +41,7 @@ HasWidth-field len = record {
     is_short bytes false e is = let h = sym (ap (λ (b : Bool). unless Short b (Ok (take len bytes, drop len bytes))) e) ∙ is in absurd (cc h)
 
 -- one reading after another
-HasWidth-then : {A B : Type 0} (k m : ℕ) (r : Reader A) (f : A × List ℕ → Result (B × List ℕ) PageFault) → HasWidth k r → ((a : A) → HasWidth m (λ bytes. f (a, bytes))) → HasWidth (k + m) (λ bytes. r bytes >>= f)
+pub HasWidth-then : {A B : Type 0} (k m : ℕ) (r : Reader A) (f : A × List ℕ → Result (B × List ℕ) PageFault) → HasWidth k r → ((a : A) → HasWidth m (λ bytes. f (a, bytes))) → HasWidth (k + m) (λ bytes. r bytes >>= f)
 HasWidth-then {A = A} {B = B} k m r f p q = record {
   taken = λ bytes x e. took bytes x (r bytes) refl e;
   short = λ bytes e. was_short bytes (r bytes) refl e;
@@ -64,11 +64,11 @@ HasWidth-then {A = A} {B = B} k m r f p q = record {
         omega (arith, one, two)
 
 -- an answer, unless a test refuses it
-HasWidth-last : {A : Type 0} (fault : PageFault) (refused : Bool) (x : A) → (fault ≡ Short → ⊥) → HasWidth 0 (λ bytes. unless fault refused (Ok (x, bytes)))
+pub HasWidth-last : {A : Type 0} (fault : PageFault) (refused : Bool) (x : A) → (fault ≡ Short → ⊥) → HasWidth 0 (λ bytes. unless fault refused (Ok (x, bytes)))
 HasWidth-last {A = A} fault true x other = record { taken = λ bytes y e. absurd (cc e); short = λ bytes e. absurd (other (cc e)) }
 HasWidth-last {A = A} fault false x other = record { taken = λ bytes y e. let same : (x, bytes) ≡ y = cc e in subst (λ (p : A × List ℕ). length p.1 + 0 ≡ length bytes) same (omega arith); short = λ bytes e. absurd (cc e) }
 
-HasWidth-done : {A : Type 0} (x : A) → HasWidth 0 (λ bytes. Ok (x, bytes))
+pub HasWidth-done : {A : Type 0} (x : A) → HasWidth 0 (λ bytes. Ok (x, bytes))
 HasWidth-done x = HasWidth-last BadKey false x (λ e. absurd (cc e))
 
 pub HasWidth-number : (w : Width) → HasWidth (byte_len w) (number_at w)

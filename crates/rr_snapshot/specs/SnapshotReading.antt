@@ -9,11 +9,12 @@ use Rattle.rr_base.specs.Schema.{Layout}
 use Rattle.rr_base.specs.SchemaBytes.{schema_bytes}
 use Rattle.rr_replica.specs.CellBounds.{NamedCell}
 use Rattle.rr_page.specs.declared.fault.PageFault.{PageFault}
+use Rattle.rr_page.specs.declared.fault.PageFault.TheVariants as page
 use Rattle.rr_page.specs.declared.version.Version.{Version}
 use Rattle.rr_page.specs.PageReading.{version_at, cells_at}
 use Rattle.rr_page.specs.Reading.{front_at, number_at}
 use Rattle.rr_snapshot.specs.declared.fault.LoadFault.{LoadFault}
-use Rattle.rr_snapshot.specs.declared.fault.LoadFault.TheVariants.{BadMagic, SchemaDiffers, BadOrigin, BadDigest, TrailingBytes, OriginUsed}
+use Rattle.rr_snapshot.specs.declared.fault.LoadFault.TheVariants.{BadOrigin, BadDigest, TrailingBytes, OriginUsed}
 use Rattle.rr_snapshot.specs.Fault.{load_fault}
 use Rattle.rr_snapshot.specs.Snapshot.{magic}
 
@@ -22,21 +23,31 @@ abbrev pub as_in_page : {A : Type 0} → Result A PageFault → Result A LoadFau
 as_in_page (Ok x) = Ok x
 as_in_page (Err fault) = Err (load_fault fault)
 
--- the version, the origin and the number of cells, and what follows them, where a schema has these bytes
+-- the version and the origin, and what follows them, where a schema has these bytes
+unfoldable pub start_at : List ℕ → List ℕ → Result ((Version × ℕ) × List ℕ) PageFault
+start_at schema bytes = do
+  start ← front_at (length magic) bytes
+  version ← unless page.BadMagic (not (pointwise nat_eq start.0 magic)) (version_at start.1)
+  field ← front_at (length schema) version.1
+  origin ← unless page.SchemaDiffers (not (pointwise nat_eq field.0 schema)) (number_at w16 field.1)
+  Ok ((version.0, origin.0), origin.1)
+
+-- these and the number of cells, and what follows them
 unfoldable pub head_at : List ℕ → List ℕ → Result ((Version × (ℕ × ℕ)) × List ℕ) LoadFault
 head_at schema bytes = do
-  start ← as_in_page (front_at (length magic) bytes)
-  version ← unless BadMagic (not (pointwise nat_eq start.0 magic)) (as_in_page (version_at start.1))
-  field ← as_in_page (front_at (length schema) version.1)
-  origin ← unless SchemaDiffers (not (pointwise nat_eq field.0 schema)) (as_in_page (number_at w16 field.1))
-  count ← unless BadOrigin (origin.0 == 0) (as_in_page (number_at w32 origin.1))
-  Ok ((version.0, (origin.0, count.0)), count.1)
+  start ← as_in_page (start_at schema bytes)
+  count ← unless BadOrigin (start.0.1 == 0) (as_in_page (number_at w32 start.1))
+  Ok ((start.0.0, (start.0.1, count.0)), count.1)
 
 -- a digest, and what follows it
 unfoldable pub digest_at : List ℕ → List ℕ → Result (Unit {0} × List ℕ) LoadFault
 digest_at digest bytes = do
   field ← as_in_page (front_at 32 bytes)
   unless BadDigest (not (pointwise nat_eq field.0 digest)) (Ok (tt, field.1))
+
+-- no more bytes
+unfoldable pub end_at : List ℕ → Result (Unit {0} × List ℕ) LoadFault
+end_at bytes = unless TrailingBytes (not (length bytes == 0)) (Ok (tt, bytes))
 
 -- the bytes before those that are left
 abbrev pub bytes_before : List ℕ → List ℕ → List ℕ
@@ -48,7 +59,8 @@ snapshot_at s bytes = do
   head ← head_at (schema_bytes s) bytes
   cells ← as_in_page (cells_at head.0.0 s None head.0.1.1 head.1)
   digest ← digest_at (sha256 (bytes_before cells.1 bytes)) cells.1
-  unless TrailingBytes (not (length digest.1 == 0)) (Ok (head.0.1.0, cells.0))
+  end ← end_at digest.1
+  Ok (head.0.1.0, cells.0)
 
 -- whether an origin is that of the snapshot or of one of its cells
 abbrev pub is_used : ℕ → ℕ × List NamedCell → Bool

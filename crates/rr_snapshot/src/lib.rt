@@ -5,6 +5,7 @@
 //! nothing of it but one cell is in memory.
 #![tactic(auto)]
 
+mod ending;
 mod fault;
 mod heading;
 mod saving;
