@@ -8,7 +8,7 @@ ghost use Rattle.rr_snapshot.specs.Stream.{Digests, StreamGives};
 ghost use Rattle.rr_page.specs.Version.{latest};
 ghost use Rattle.rr_base.specs.Results.{Gives};
 ghost use Rattle.rr_snapshot.specs.Snapshot.{head_text};
-ghost use Rattle.rr_snapshot.specs.SnapshotReading.{as_in_page, start_at};
+ghost use Rattle.rr_snapshot.specs.SnapshotReading.{as_in_page, start_at, head_at};
 
 use crate::fault::LoadFault;
 use rr_base::stream::fill;
@@ -127,4 +127,28 @@ fn count_from<R: Read>(input: &mut Counted<R>, hasher: &mut Sha256) -> Result<u3
     let (count, _) = u32_at(&buffer[..got])?;
     hasher.update(&buffer[..got]);
     Ok(count)
+}
+
+/// The version, the origin and the number of cells at the front of what the input has.
+pub(crate) fn head_from<R: Read>(
+    alloc: Global,
+    input: &mut Counted<R>,
+    schema: &Schema,
+    hasher: &mut Sha256,
+) -> Result<(Version, Origin, u32), LoadFault>
+    ensures read { StreamGives (λ x. (x.0, (x.1, x.2))) result (R.remaining (inner_of input.old))
+        (R.remaining (inner_of input.new)) (head_at (schema_bytes schema.now)) }
+    ensures digest { OnOk result (Digests (R.remaining (inner_of input.old))
+        (R.remaining (inner_of input.new)) hasher.old hasher.new) }
+    ensures count { failures_of input.old ≤ failures_of input.new }
+    ensures failed { result ≡ Err LoadFault.ReadFailed
+        → HasRisen (failures_of input.old) (failures_of input.new) }
+{
+    let (version, origin) = start_from(alloc, input, schema, hasher)?;
+    let origin = match Origin::new(origin) {
+        Ok(origin) => origin,
+        Err(_) => return Err(LoadFault::BadOrigin),
+    };
+    let count = count_from(input, hasher)?;
+    Ok((version, origin, count))
 }

@@ -1,4 +1,4 @@
-use Rattle.std.proofs.Common.{rules, ◌≡◌, ◌≤◌, take, length, arith, inr}
+use Rattle.std.proofs.Common.{rules, ◌≡◌, take, length, arith, inr}
 use Rattle.std.proofs.lemmas.List.{length-take}
 use Rattle.rr_base.specs.Counted.{inner_of}
 use Rattle.rr_snapshot.proofs.ChainLemmas.{bytes_left, none_left_over}

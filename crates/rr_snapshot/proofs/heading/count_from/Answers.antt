@@ -1,4 +1,4 @@
-use Rattle.std.proofs.Common.{rules, ◌≡◌, ◌≤◌, take, length, arith, inl, inr}
+use Rattle.std.proofs.Common.{rules, ◌≡◌, ◌≤◌, take, length, arith, inr}
 use Rattle.std.specs.Int.{w32}
 use Rattle.std.proofs.lemmas.List.{length-take}
 use Rattle.std.proofs.lemmas.Result.{err_from_is_err_and}
@@ -25,5 +25,5 @@ returns-in_err-count-clause-read g c =
     let p = err_from_is_err_and c.from_residual-in_err-count.result c.from_residual-in_err-count.ensures.1 in
     rw (p.1, p.2)
     (inr (inr (piece_err 4 (number_at w32) (IsFront-number w32) (HasWidth-number w32) (take c.in_ok-got.got buf) few (g.R.Read.remaining (inner_of c.args.input.now)) (g.R.Read.remaining (inner_of c.fill.new.input)) _ c.in_ok-got.ensures.bytes
-        (λ lt. c.in_ok-got.ensures.end (omega (arith, got_len, made, c.in_ok-got.ensures.bound, lt)))
-        c.in_err-count.ensures.read)))
+    (λ lt. c.in_ok-got.ensures.end (omega (arith, got_len, made, c.in_ok-got.ensures.bound, lt)))
+    c.in_err-count.ensures.read)))
