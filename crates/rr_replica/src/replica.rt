@@ -130,11 +130,12 @@ impl<A: Archive> Replica<A> {
     ///
     /// In each archive where its slot is past the horizon the sample leaves no trace; it has its
     /// number all the same. Refused as `NumbersSpent` where the next number is past 2^40. After a
-    /// refusal, `Memory` included, nothing has changed: room is made in all archives before a cell
-    /// changes.
+    /// refusal, `Memory` included, nothing has changed: before a cell changes, room is made in all
+    /// archives but the first, which is then written first.
     ///
-    /// The cost is one look-up of the key and, in each archive, two of the slot (one makes room, one
-    /// puts), one more where its row is new, and the entries of a row, however many series there are.
+    /// The cost is one look-up of the key and, in each archive, one of the slot, a second to make room
+    /// first in each but the first archive, one more where a row is new, and the entries of a row,
+    /// however many series there are.
     pub fn put(&mut self, key: &SeriesKey, time: i64, value: i64) -> Result<u64, PutFault>
         ensures number { IfOk result (λ number. number ≡ self.old.next) }
         ensures put { OnOk result (self.new ≡ with_put self.old key.now time value) }
