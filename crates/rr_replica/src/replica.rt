@@ -1,5 +1,5 @@
 //! A replica of the store.
-ghost use Rattle.std.specs.Prelude.{◌≡◌, ℕ, ◌<◌, ◌≤◌, ◌+◌, ◌↔◌, length, map, take, drop, None, Err, IfOk, IfErr, OnOk, OnErr, IsTrue, IsFalse, MatchOption, slice_get, unwrap_or};
+ghost use Rattle.std.specs.Prelude.{◌≡◌, ℕ, ◌<◌, ◌≤◌, ◌+◌, ◌↔◌, All, length, map, take, drop, None, Err, IfOk, IfErr, OnOk, OnErr, IsTrue, IsFalse, MatchOption, slice_get, unwrap_or};
 ghost use Rattle.std.specs.Option.{option_map};
 ghost use Rattle.std.specs.FinMap as fin;
 ghost use Rattle.rr_base.specs.Schema.{IsLayout};
@@ -8,6 +8,7 @@ ghost use Rattle.rr_base.specs.declared.limits.TheConstants.{MAX_FIELDS};
 ghost use Rattle.rr_line.specs.Key.{HasKeys, names_of, key_text};
 ghost use Rattle.rr_line.specs.Line.{point_view};
 ghost use Rattle.rr_replica.specs.Writing.{is_ahead};
+ghost use Rattle.rr_replica.specs.CellBounds.{IsCellOf};
 ghost use Rattle.rr_replica.specs.Cells.{row_at, rows_at};
 ghost use Rattle.rr_replica.specs.Puts.{put_sample};
 ghost use Rattle.rr_replica.specs.Holding.{Holding, with_put};
@@ -130,11 +131,12 @@ impl<A: Archive> Replica<A> {
     ///
     /// In each archive where its slot is past the horizon the sample leaves no trace; it has its
     /// number all the same. Refused as `NumbersSpent` where the next number is past 2^40. After a
-    /// refusal, `Memory` included, nothing has changed: room is made in all archives before a cell
-    /// changes.
+    /// refusal, `Memory` included, nothing has changed: before a cell changes, room is made in all
+    /// archives but the first, which is then written first.
     ///
-    /// The cost is one look-up of the key and, in each archive, two of the slot (one makes room, one
-    /// puts), one more where its row is new, and the entries of a row, however many series there are.
+    /// The cost is one look-up of the key and, in each archive, one of the slot, a second to make room
+    /// first in each but the first archive, one more where a row is new, and the entries of a row,
+    /// however many series there are.
     pub fn put(&mut self, key: &SeriesKey, time: i64, value: i64) -> Result<u64, PutFault>
         ensures number { IfOk result (λ number. number ≡ self.old.next) }
         ensures put { OnOk result (self.new ≡ with_put self.old key.now time value) }
@@ -227,8 +229,11 @@ impl<A: Archive> Replica<A> {
         from: usize,
         count: usize,
     ) -> Result<Vec<Cell>, AllocError>
-        ensures { IfOk result (λ cells. map owned_cell cells.items ≡ take count (drop from (fin.entries self.now.cells))) }
+        ensures listed { IfOk result (λ cells. map owned_cell cells.items ≡ take count (drop from (fin.entries self.now.cells))) }
+        ensures of_schema { IfOk result (λ cells. All (λ c. IsCellOf self.now.schema (owned_cell c)) cells.items) }
     {
+        // The proof needs what the replica keeps to, which `schema` ensures.
+        let _schema = self.schema();
         let mut cells = Vec::new(alloc);
         let mut next = self.cell_at(from);
         for _ in 0..count {
@@ -326,8 +331,6 @@ impl<A: Archive> Replica<A> {
 }
 
 impl<A: Archive> Replica<A> {
-    ghost use Rattle.std.specs.Prelude.{All};
-    ghost use Rattle.rr_replica.specs.CellBounds.{IsCellOf};
     ghost use Rattle.rr_replica.specs.Joining.{with_cell, with_cells, IsAfterJoined};
 
     /// Joins a cell from elsewhere, which is valid under the schema: of it and what stands at its
