@@ -1,5 +1,5 @@
 -- Rows that are copied one by one.
-use Rattle.std.proofs.Common.{◌≡◌, ℤ, true, false, cond, List, [], ◌∷◌, ℕ, subst, refl, sym, ap, ◌∙◌, Option, Some, None, int_cmp}
+use Rattle.std.proofs.Common.{◌≡◌, ℤ, Bool, true, false, cond, List, [], ◌∷◌, ℕ, subst, refl, sym, ap, ◌∙◌, Option, Some, None, int_cmp}
 use Rattle.std.specs.Global.{Vec}
 use Rattle.std.specs.List.Sorted.{IsStrictlySortedBy}
 use Rattle.std.specs.Map.{keys_of}
@@ -7,8 +7,8 @@ use Rattle.std.specs.Option.{option_map, option_or, option_and_then}
 use Rattle.std.specs.Ordering.{is_eq}
 use Rattle.std.specs.Cmp.{int_cmp_total, eq_by_cmp_equiv}
 use Rattle.rr_archive.specs.declared.entry.Entry.{Entry}
-use Rattle.rr_archive.specs.Row.{entry_at}
-use Rattle.rr_archive.specs.Held.{row_in, cells_in}
+use Rattle.rr_archive.specs.Row.{entry_at, ascends}
+use Rattle.rr_archive.specs.Held.{row_in, row_ascends, RowsAscend, cells_in}
 use Rattle.rr_archive.proofs.HeldLemmas.{Sets, cells_in-same, same_slot}
 use Rattle.rr_archive.proofs.Listing.{none_later}
 
@@ -41,6 +41,18 @@ copied_more rows left rest new more slot row copy c is sets same ordered =
 
 copied_items : (rows left new : List (ℤ × Vec Entry)) (q : ℤ) → Copied rows left new → left ≡ [] → items_in new q ≡ items_in rows q
 copied_items rows left new q c none = sym (c.alike q ∙ ap (λ l. option_or (items_in l q) (items_in new q)) none)
+
+-- whether the entries of a row, if there is one, ascend by origin
+abbrev items_ascend : Option (List Entry) → Bool
+items_ascend None = true
+items_ascend (Some es) = ascends es
+
+pub copied_ascend : (rows left new : List (ℤ × Vec Entry)) → Copied rows left new → left ≡ [] → RowsAscend rows → RowsAscend new
+copied_ascend rows left new c none ascend = λ slot. by_items (row_in new slot) ∙ ap items_ascend (copied_items rows left new slot c none) ∙ sym (by_items (row_in rows slot)) ∙ ascend slot
+  where
+    by_items : (row : Option (Vec Entry)) → row_ascends row ≡ items_ascend (option_map (λ (r : Vec Entry). r.items) row)
+    by_items None = refl
+    by_items (Some row) = refl
 
 pub copied_cells : (rows left new : List (ℤ × Vec Entry)) → Copied rows left new → left ≡ [] → cells_in new ≡ cells_in rows
 copied_cells rows left new c none = cells_in-same rows new (λ q. by_items (row_in new q.slot) (row_in rows q.slot) q.origin (copied_items rows left new q.slot c none))

@@ -2,8 +2,6 @@
 use Rattle.std.proofs.Common.{◌≡◌, ℕ, ◌+◌, ◌≤◌, ℤ, true, false, cond, List, [], ◌∷◌, map, length, refl, sym, ap, ◌∙◌, subst, Option, Some, None, is_some, int_cmp, arith, true≢false, add-zero}
 use Rattle.std.specs.Prelude.{is_none}
 use Rattle.std.specs.Global.{Vec}
-use Rattle.std.specs.List.Sorted.{IsStrictlySortedBy}
-use Rattle.std.specs.Map.{keys_of}
 use Rattle.std.specs.FinMap.{empty, get, insert, keys, len, len-insert, get-insert, get-empty, len-empty, len-entries, entries, same_map, retain_keys}
 use Rattle.rr_join.specs.Maps as Maps
 use Rattle.rr_join.specs.Maps.{greater, map_of, trimmed}
@@ -18,7 +16,7 @@ use Rattle.rr_join.specs.Horizon.{is_above}
 use Rattle.rr_archive.specs.CellSlots.{CellSlot, cell_slot_cmp, newest_of, is_live_at, IsInRange}
 use Rattle.rr_archive.specs.Changes.{greater_of}
 use Rattle.rr_archive.specs.Cells.{Rows, AreInRange, with_cell, join_cell, IsTrimmed}
-use Rattle.rr_archive.specs.Held.{cells_in, IsHeld, RowsAscend}
+use Rattle.rr_archive.specs.Held.{cells_in, IsHeld}
 use Rattle.rr_archive.proofs.CellSlotOrder.{cell_slot_cmp_total, cell_slot_cmp-IsAntisymmetric}
 use Rattle.rr_join.proofs.Joining.{trimmed-trimmed}
 use Rattle.rr_archive.proofs.Horizon.{live_at_horizon}
@@ -45,20 +43,18 @@ cells_kept limit count newest latest old set new p c h is kept later =
     ∙ sym (trimmed_by_slots limit (insert (cells_in old) p c) (Some latest) (sym (latest_is limit count newest latest old p c h later)))
 
 -- the rows that are left, once a cell is set and the dead rows have left
-pub held_kept : (limit count left : ℕ) (newest : Option ℤ) (latest : ℤ) (old set new : List (ℤ × Vec Entry)) (p : CellSlot) (c : Contribution) → IsHeld limit count newest old → RowsAscend new → IsStrictlySortedBy int_cmp (keys_of new) → IsInRange p → cells_in set ≡ insert (cells_in old) p c → cells_in new ≡ retain_keys (cells_in set) (λ q. is_above limit (Some latest) q.slot) → left ≡ len (cells_in new) → Some latest ≡ greater int_cmp newest (Some p.slot) → IsHeld limit left (Some latest) new
-held_kept limit count left newest latest old set new p c h ascend ordered in_range is kept counted later =
+pub held_kept : (limit count left : ℕ) (newest : Option ℤ) (latest : ℤ) (old set new : List (ℤ × Vec Entry)) (p : CellSlot) (c : Contribution) → IsHeld limit count newest old → IsInRange p → cells_in set ≡ insert (cells_in old) p c → cells_in new ≡ retain_keys (cells_in set) (λ q. is_above limit (Some latest) q.slot) → left ≡ len (cells_in new) → Some latest ≡ greater int_cmp newest (Some p.slot) → IsHeld limit left (Some latest) new
+held_kept limit count left newest latest old set new p c h in_range is kept counted later =
     let cells = cells_kept limit count newest latest old set new p c h is kept later in
     let more : Rows = insert (cells_in old) p c in
     let top = latest_is limit count newest latest old p c h later in
-    let same = newest-trimmed limit more h.some ∙ sym top in
+    let same = newest-trimmed limit more h.rows_at_least ∙ sym top in
     record {
-      some = h.some;
+      rows_at_least = h.rows_at_least;
       counted = counted;
       latest = sym (ap (λ m. newest_of (keys m)) cells ∙ same);
-      live = subst (IsTrimmed limit) (sym cells) (trimmed-trimmed cell_slot_cmp_total cell_slot_cmp-IsAntisymmetric (live_at_horizon limit h.some) more);
+      live = subst (IsTrimmed limit) (sym cells) (trimmed-trimmed cell_slot_cmp_total cell_slot_cmp-IsAntisymmetric (live_at_horizon limit h.rows_at_least) more);
       in_range = subst AreInRange (sym cells) (in_range-trimmed limit more (in_range-insert (cells_in old) p c in_range h.in_range));
-      ascend = ascend;
-      ordered = ordered;
     }
 
 -- a cell past the horizon leaves no trace
@@ -66,15 +62,13 @@ pub set_dead : (limit count : ℕ) (newest : Option ℤ) (rows : List (ℤ × Ve
 set_dead limit count newest rows p c h dead = sym (trimmed_dead limit (cells_in rows) p c h.live (ap (λ o. is_above limit o p.slot) (sym h.latest) ∙ dead))
 
 -- the same cells in other rows
-pub held_same : (limit count : ℕ) (newest : Option ℤ) (old new : List (ℤ × Vec Entry)) → IsHeld limit count newest old → RowsAscend new → IsStrictlySortedBy int_cmp (keys_of new) → cells_in new ≡ cells_in old → IsHeld limit count newest new
-held_same limit count newest old new h ascend ordered is = record {
-  some = h.some;
+pub held_same : (limit count : ℕ) (newest : Option ℤ) (old new : List (ℤ × Vec Entry)) → IsHeld limit count newest old → cells_in new ≡ cells_in old → IsHeld limit count newest new
+held_same limit count newest old new h is = record {
+  rows_at_least = h.rows_at_least;
   live = subst (IsTrimmed limit) (sym is) h.live;
   counted = h.counted ∙ ap len (sym is);
   latest = h.latest ∙ ap (λ m. newest_of (keys m)) (sym is);
   in_range = subst AreInRange (sym is) h.in_range;
-  ascend = ascend;
-  ordered = ordered;
 }
 
 -- nothing, in no rows
@@ -93,15 +87,12 @@ keys-empty = ap (map (λ e. e.0)) (nothing_from_length (entries nothing) (sym (l
     nothing_from_length (x ∷ es) e = absurd (omega arith)
 
 pub held_none : (limit : ℕ) (rows : List (ℤ × Vec Entry)) → 1 ≤ limit → rows ≡ [] → IsHeld limit 0 None rows
-unfolding IsStrictlySortedBy
 held_none limit rows some e = subst (IsHeld limit 0 None) (sym e) (record {
-  some = some;
+  rows_at_least = some;
   live = subst (IsTrimmed limit) (sym cells_in-none) (trimmed_none limit);
   counted = sym (len-empty cell_slot_cmp Contribution) ∙ ap len (sym cells_in-none);
   latest = ap newest_of (sym keys-empty) ∙ ap (λ m. newest_of (keys m)) (sym cells_in-none);
   in_range = subst AreInRange (sym cells_in-none) (λ q has. absurd (true≢false (sym has ∙ contains_key-get empty q ∙ ap is_some (get-empty cell_slot_cmp q))));
-  ascend = λ slot. refl;
-  ordered = tt;
 })
 
 -- ---- a cell joined in

@@ -1,8 +1,7 @@
 -- What an ordered map from slots to rows holds; a row without entries counts for nothing.
 use Rattle.std.specs.Prelude.{◌≡◌, ℕ, ℤ, nat_lt, ◌≤◌, Bool, true, false, not, ◌||◌, List, [], ◌∷◌, ◌++◌, map, length, Option, Some, None, unwrap_or, vec_len, vec_capacity}
 use Rattle.std.specs.Global.{Vec}
-use Rattle.std.specs.List.Sorted.{IsStrictlySortedBy}
-use Rattle.std.specs.Map.{lookup, keys_of}
+use Rattle.std.specs.Map.{lookup}
 use Rattle.std.specs.BTreeMap.{is_at}
 use Rattle.std.specs.Option.{option_map, option_and_then}
 use Rattle.std.specs.Ordering.{int_cmp}
@@ -60,12 +59,10 @@ first_len [] = 0
 first_len (r ∷ rs) = length r.1.items
 
 -- of an archive of `limit` rows: how many cells they hold, the newest slot of a cell, and what each cell
--- and row keeps to
+-- keeps to
 pub record IsHeld (limit count : ℕ) (newest : Option ℤ) (rows : List (ℤ × Vec Entry)) : Type 0 where
-  pub some : 1 ≤ limit
+  pub rows_at_least : 1 ≤ limit
   pub counted : count ≡ len (cells_in rows)
   pub latest : newest ≡ newest_of (keys (cells_in rows))
   pub live : IsTrimmed limit (cells_in rows)
   pub in_range : AreInRange (cells_in rows)
-  pub ascend : RowsAscend rows
-  pub ordered : IsStrictlySortedBy int_cmp (keys_of rows)

@@ -35,8 +35,8 @@ pub trait Archive: Drop {
 
     /// An archive of `rows` rows, from 1 to 100,000, that holds no cell. It takes no memory yet.
     fn new(alloc: Global, rows: u32) -> Self
-        requires some_row { 1 ≤ rows }
-        requires few_rows { rows ≤ MAX_ROWS }
+        requires rows_at_least { 1 ≤ rows }
+        requires rows_at_most { rows ≤ MAX_ROWS }
         ensures empty { cells result ≡ fin.empty }
         ensures limit { row_limit result ≡ rows };
 
@@ -64,15 +64,15 @@ pub trait Archive: Drop {
         value: i64,
     ) -> Result<(), AllocError>
         requires slot { IsSlot slot }
-        requires some_number { 1 ≤ number }
-        requires known_number { number ≤ MAX_NUMBER }
+        requires number_at_least { 1 ≤ number }
+        requires number_at_most { number ≤ MAX_NUMBER }
         requires place { place < MAX_STEPS }
         requires newer { IfSome (fin.get (cells self.old) (cell_slot slot origin)) (CanAdd number) }
-        ensures ok { OnOk result (cells self.new
+        ensures put { OnOk result (cells self.new
             ≡ put_row (row_limit self.old) (cells self.old) (cell_slot slot origin) (slot_sample number place time value)) }
         ensures dead { IsFalse (is_live_at (row_limit self.old) (fin.keys (cells self.old)) (cell_slot slot origin))
             → cells self.new ≡ cells self.old }
-        ensures err { OnErr result (cells self.new ≡ cells self.old) }
+        ensures unchanged { OnErr result (cells self.new ≡ cells self.old) }
         ensures limit { row_limit self.new ≡ row_limit self.old }
         ensures room { IsTrue (is_ready self.old (cell_slot slot origin)) → IsOk result };
 
@@ -87,11 +87,11 @@ pub trait Archive: Drop {
         contribution: &Contribution,
     ) -> Result<(), AllocError>
         requires { IsSlot slot }
-        ensures ok { OnOk result (cells self.new
+        ensures joined { OnOk result (cells self.new
             ≡ join_cell (row_limit self.old) (cells self.old) (cell_slot slot origin) contribution.now) }
         ensures dead { IsFalse (is_live_at (row_limit self.old) (fin.keys (cells self.old)) (cell_slot slot origin))
             → cells self.new ≡ cells self.old }
-        ensures err { OnErr result (cells self.new ≡ cells self.old) }
+        ensures unchanged { OnErr result (cells self.new ≡ cells self.old) }
         ensures limit { row_limit self.new ≡ row_limit self.old }
         ensures room { IsTrue (is_ready self.old (cell_slot slot origin)) → IsOk result };
 

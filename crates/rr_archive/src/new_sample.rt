@@ -9,7 +9,7 @@ pub(crate) struct NewSample {
     pub(crate) place: u32,
     pub(crate) time: i64,
     pub(crate) value: i64,
-    ghost some_number: { 1 ≤ number },
-    ghost known_number: { number ≤ MAX_NUMBER },
+    ghost number_at_least: { 1 ≤ number },
+    ghost number_at_most: { number ≤ MAX_NUMBER },
     ghost in_slot: { place < MAX_STEPS },
 }

@@ -14,13 +14,12 @@ ghost use Rattle.rr_archive.specs.Held.{IsHeld, cells_in, is_ready_in};
 use crate::archive::Archive;
 use crate::change::Change;
 use crate::entry::Entry;
-use crate::leaving_rows::{drop_dead, is_above};
+use crate::leaving_rows::is_above;
 use crate::new_sample::NewSample;
-use crate::slots::{Slots, cell_after, change_cell, copy_slots, make_room, nth_cell};
+use crate::slots::Slots;
 use rr_base::Origin;
 use rr_contrib::Contribution;
 use std::alloc::{AllocError, Global};
-use std::collections::BTreeMap;
 
 /// The cells of one archive of one series, as an ordered map from slots to rows of entries.
 #[derive(Drop)]
@@ -30,7 +29,7 @@ pub struct PlainArchive {
     count: usize,
     newest: Option<i64>,
     slots: Slots,
-    ghost held: { IsHeld rows count newest slots.entries } by { Prim.hlevel (props, coded_rows) },
+    ghost held: { IsHeld rows count newest slots.rows.entries } by { Prim.hlevel (props, coded_rows) },
 }
 
 /// The later of the newest slot so far, if there is one, and a slot.
@@ -58,41 +57,41 @@ impl PlainArchive {
     /// horizon. A change that is past it itself is passed over.
     fn change(&mut self, slot: i64, origin: Origin, change: &Change) -> Result<(), AllocError>
         requires slot { IsSlot slot }
-        requires fits { Fits (fin.get (cells_in self.old.slots.entries) (cell_slot slot origin)) change.now }
-        ensures ok { OnOk result (cells_in self.new.slots.entries
-            ≡ trimmed (is_live_at self.old.rows) (with_change (cells_in self.old.slots.entries) (cell_slot slot origin) change.now)) }
+        requires fits { Fits (fin.get (cells_in self.old.slots.rows.entries) (cell_slot slot origin)) change.now }
+        ensures changed { OnOk result (cells_in self.new.slots.rows.entries
+            ≡ trimmed (is_live_at self.old.rows) (with_change (cells_in self.old.slots.rows.entries) (cell_slot slot origin) change.now)) }
         ensures dead { IsFalse (is_above self.old.rows self.old.newest slot)
-            → cells_in self.new.slots.entries ≡ cells_in self.old.slots.entries }
-        ensures err { OnErr result (cells_in self.new.slots.entries ≡ cells_in self.old.slots.entries) }
+            → cells_in self.new.slots.rows.entries ≡ cells_in self.old.slots.rows.entries }
+        ensures unchanged { OnErr result (cells_in self.new.slots.rows.entries ≡ cells_in self.old.slots.rows.entries) }
         ensures limit { self.new.rows ≡ self.old.rows }
-        ensures room { IsTrue (is_ready_in self.old.rows self.old.newest self.old.slots.entries (cell_slot slot origin)) → IsOk result }
+        ensures room { IsTrue (is_ready_in self.old.rows self.old.newest self.old.slots.rows.entries (cell_slot slot origin)) → IsOk result }
     {
         if !self.is_live(slot) {
             return Ok(());
         }
         // Origins have 16 bits, so the cells can be counted.
         let _number = origin.get();
-        let is_new = change_cell(&mut self.slots, self.alloc, slot, origin, change)?;
+        let is_new = self.slots.change_cell(self.alloc, slot, origin, change)?;
         let cells = self.count + usize::from(is_new);
         let newest = later(self.newest, slot);
-        self.count = drop_dead(&mut self.slots, cells, self.rows, newest);
+        self.count = self.slots.drop_dead(cells, self.rows, newest);
         self.newest = Some(newest);
         Ok(())
     }
 }
 
 impl Archive for PlainArchive {
-    ghost cells = { λ a. cells_in a.slots.entries };
+    ghost cells = { λ a. cells_in a.slots.rows.entries };
 
     ghost row_limit = { λ a. a.rows };
 
-    ghost is_ready = { λ a p. is_ready_in a.rows a.newest a.slots.entries p };
+    ghost is_ready = { λ a p. is_ready_in a.rows a.newest a.slots.rows.entries p };
 
     ghost is_trimmed = { λ a. a.held.live };
 
     ghost in_range = { λ a. a.held.in_range };
 
-    ghost has_rows = { λ a. a.held.some };
+    ghost has_rows = { λ a. a.held.rows_at_least };
 
     fn new(alloc: Global, rows: u32) -> PlainArchive {
         PlainArchive {
@@ -100,7 +99,7 @@ impl Archive for PlainArchive {
             rows,
             count: 0,
             newest: None,
-            slots: BTreeMap::new(alloc),
+            slots: Slots::new(alloc),
         }
     }
 
@@ -108,7 +107,7 @@ impl Archive for PlainArchive {
         if !self.is_live(slot) {
             return Ok(());
         }
-        make_room(&mut self.slots, self.alloc, slot)
+        self.slots.make_room(self.alloc, slot)
     }
 
     fn put(
@@ -143,7 +142,7 @@ impl Archive for PlainArchive {
     }
 
     fn row(&self, slot: i64) -> &[Entry] {
-        match self.slots.get(&slot) {
+        match self.slots.rows.get(&slot) {
             Some(row) => row.as_slice(),
             None => &[],
         }
@@ -154,11 +153,11 @@ impl Archive for PlainArchive {
     }
 
     fn cell_at(&self, i: usize) -> Option<(i64, Entry)> {
-        nth_cell(&self.slots, i)
+        self.slots.nth_cell(i)
     }
 
     fn next_cell(&self, slot: i64, origin: Origin) -> Option<(i64, Entry)> {
-        cell_after(&self.slots, slot, origin)
+        self.slots.next_cell(slot, origin)
     }
 
     fn copy(&self, alloc: Global) -> Result<PlainArchive, AllocError> {
@@ -167,7 +166,7 @@ impl Archive for PlainArchive {
             rows: self.rows,
             count: self.count,
             newest: self.newest,
-            slots: copy_slots(&self.slots, alloc)?,
+            slots: self.slots.copy(alloc)?,
         })
     }
 }

@@ -43,8 +43,8 @@ pub(crate) fn first_after(row: &[Entry], is_later: bool, origin: Origin) -> Opti
 
 /// Sets the entry of an origin.
 fn set_entry(row: &mut Vec<Entry>, entry: Entry) -> Result<(), AllocError>
-    ensures ok { OnOk result (row.new.items ≡ with_entry row.old.items entry) }
-    ensures err { OnErr result (row.new.items ≡ row.old.items) }
+    ensures set { OnOk result (row.new.items ≡ with_entry row.old.items entry) }
+    ensures unchanged { OnErr result (row.new.items ≡ row.old.items) }
     ensures ascend { IsTrue (ascends row.old.items) → IsTrue (ascends row.new.items) }
     ensures room { vec_len row.old < vec_capacity row.old → IsOk result }
 {
@@ -64,9 +64,9 @@ pub(crate) fn change_entry(
     change: &Change,
 ) -> Result<bool, AllocError>
     requires { Fits (entry_at row.old.items origin) change.now }
-    ensures ok { OnOk result (row.new.items ≡ with_entry row.old.items (entry_after row.old.items origin change.now)) }
+    ensures changed { OnOk result (row.new.items ≡ with_entry row.old.items (entry_after row.old.items origin change.now)) }
     ensures is_new { IfOk result (λ is_new. is_new ≡ is_none (entry_at row.old.items origin)) }
-    ensures err { OnErr result (row.new.items ≡ row.old.items) }
+    ensures unchanged { OnErr result (row.new.items ≡ row.old.items) }
     ensures ascend { IsTrue (ascends row.old.items) → IsTrue (ascends row.new.items) }
     ensures room { vec_len row.old < vec_capacity row.old → IsOk result }
 {

@@ -13,9 +13,11 @@ use Rattle.rr_archive.specs.CellSlots.{CellSlot, cell_slot}
 use Rattle.rr_archive.specs.Cells.{Rows, cell_of}
 use Rattle.rr_model.specs.CellNames.{CellName}
 use Rattle.rr_replica.specs.Cells.{name_at}
+use Rattle.rr_base.specs.declared.limits.TheConstants.{MAX_ARCHIVES}
+use Rattle.rr_base.specs.Schema.{Layout}
 use Rattle.rr_base.specs.Bytes.{bytes_cmp}
 use Rattle.rr_replica.specs.Series.{Series, cells_from, all_cells, cells_of}
-use Rattle.rr_replica.specs.Held.{held_series, archives_of}
+use Rattle.rr_replica.specs.Held.{held_series, archives_of, IsHeld}
 use Rattle.rr_replica.specs.Listing.{count_of, at_most_usize}
 use Rattle.rr_replica.proofs.InOrder.{named_as, entries-cells_of}
 use Rattle.rr_replica.proofs.Shown.{keys_shown}
@@ -24,7 +26,7 @@ use Rattle.rr_join.proofs.Members.{same_from_tie, tie_itself}
 use Rattle.std.specs.List.{AllByRecursion}
 use Rattle.std.specs.Ordering.{is_eq}
 use Rattle.std.specs.Cmp.Lexicographic.{nat_list_cmp_total}
-use Rattle.rr_replica.proofs.Each.{take_more}
+use Rattle.rr_replica.proofs.Each.{take_more, sized_many}
 
 -- ---- counts that a usize holds
 
@@ -191,7 +193,7 @@ none_later : {X : Type 0} (key : List ℕ) (es : List (List ℕ × Vec X)) → A
 none_later key [] later = refl
 none_later key (e ∷ es) later = ap (λ r. cond (is_eq r) (Some e.1) (archives_of es key)) later.0 ∙ none_later key es later.1
 
-pub few_archives : {X : Type 0} (n : ℕ) (es : List (List ℕ × Vec X)) → IsStrictlySortedBy bytes_cmp (keys_of es) → ((key : List ℕ) (archives : Vec X) → archives_of es key ≡ Some archives → length archives.items ≤ n) → AllByRecursion (λ e. length e.1.items ≤ n) es
+few_archives : {X : Type 0} (n : ℕ) (es : List (List ℕ × Vec X)) → IsStrictlySortedBy bytes_cmp (keys_of es) → ((key : List ℕ) (archives : Vec X) → archives_of es key ≡ Some archives → length archives.items ≤ n) → AllByRecursion (λ e. length e.1.items ≤ n) es
 unfolding IsStrictlySortedBy
 few_archives n [] sorted few = tt
 few_archives n (e ∷ es) sorted few = (
@@ -201,3 +203,10 @@ few_archives n (e ∷ es) sorted few = (
     | false ↦ λ t. at
   ] refl)),
 )
+
+-- so has each key of a replica
+pub few_held : {X : Type 0} (cells : X → Rows) (limit : X → ℕ) (s : Layout) (origin next : ℕ) (es : List (List ℕ × Vec X)) → IsHeld cells limit s origin next es → AllByRecursion (λ e. length e.1.items ≤ MAX_ARCHIVES) es
+few_held cells limit s origin next es held = few_archives MAX_ARCHIVES es held.ordered (λ key archives at.
+    let many = sized_many limit s archives.items (held.sized key archives at) in
+    let few = held.holds.layout.few_archives in
+    omega arith)

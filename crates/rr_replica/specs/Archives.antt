@@ -1,7 +1,7 @@
 -- The archives of one key, each seen as a map by a function, and what a sample makes of each.
 use Rattle.std.specs.Prelude.{◌≡◌, ◌≢◌, ℕ, List, map, length, Some, slice_get}
 use Rattle.std.specs.FinMap.{get}
-use Rattle.rr_base.specs.Schema.{Layout, archive_at, slot_of, place_of}
+use Rattle.rr_base.specs.Schema.{Layout, IsLayout, archive_at, slot_of, place_of}
 use Rattle.rr_contrib.specs.Contributions.{SlotSample, slot_sample}
 use Rattle.rr_contrib.specs.Validity.{CanAdd}
 use Rattle.std.specs.Prelude.{IfSome}
@@ -29,6 +29,11 @@ module _ {X : Type 0} where
   -- each archive keeps the rows that the layout says
   abbrev pub AreSized : (X → ℕ) → Layout → List X → Type 0
   AreSized limit s archives = map limit archives ≡ map (λ a. a.rows) s.archives
+
+  -- archives of a layout, one for each of its archives
+  pub record AreOf (limit : X → ℕ) (s : Layout) (archives : List X) : Type 0 where
+    pub layout : IsLayout s
+    pub sized : AreSized limit s archives
 
   -- a sample of this number can be added to the cell where it falls
   abbrev pub CanTake : (X → Rows) → Layout → Sample → List X → Type 0

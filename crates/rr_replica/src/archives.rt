@@ -1,8 +1,8 @@
 //! The archives of one key.
-ghost use Rattle.std.specs.Prelude.{◌≡◌, ◌<◌, ◌≤◌, length, IsTrue, IsOk, OnOk, OnErr, IfOk};
+ghost use Rattle.std.specs.Prelude.{◌≡◌, IsTrue, IsOk, OnOk, OnErr, IfOk};
 ghost use Rattle.std.specs.FinMap as fin;
 ghost use Rattle.rr_base.specs.Schema.{IsLayout};
-ghost use Rattle.rr_replica.specs.Archives.{cell_slot_for, Each, AreSized, CanTake, AreSame, HavePut, HaveJoined};
+ghost use Rattle.rr_replica.specs.Archives.{cell_slot_for, Each, AreOf, CanTake, AreSame, HavePut, HaveJoined};
 ghost use Rattle.rr_replica.specs.CellBounds.{IsCellOf};
 ghost use Rattle.rr_replica.specs.Listing.{owned_cell};
 
@@ -10,7 +10,6 @@ use crate::cell::Cell;
 use crate::sample::Sample;
 use rr_archive::Archive;
 use rr_base::Schema;
-use rr_base::limits::MAX_NUMBER;
 use std::alloc::{AllocError, Global};
 
 /// An archive that holds no cell, for each of a schema's.
@@ -19,7 +18,7 @@ pub(crate) fn empty_archives<A: Archive>(
     schema: &Schema,
 ) -> Result<Vec<A>, AllocError>
     requires { IsLayout schema.now }
-    ensures sized { IfOk result (λ archives. AreSized A.row_limit schema.now archives.items) }
+    ensures of_schema { IfOk result (λ archives. AreOf A.row_limit schema.now archives.items) }
     ensures empty { IfOk result (λ archives. Each (λ i a. A.cells a ≡ fin.empty) archives.items) }
 {
     let mut archives = Vec::new(alloc);
@@ -35,10 +34,9 @@ fn make_ready<A: Archive>(
     schema: &Schema,
     sample: &Sample,
 ) -> Result<(), AllocError>
-    requires layout { IsLayout schema.now }
-    requires sized { AreSized A.row_limit schema.now archives.old.items }
-    ensures same { AreSame A.cells archives.old.items archives.new.items }
-    ensures sized { AreSized A.row_limit schema.now archives.new.items }
+    requires of_schema { AreOf A.row_limit schema.now archives.old.items }
+    ensures unchanged { AreSame A.cells archives.old.items archives.new.items }
+    ensures of_schema { AreOf A.row_limit schema.now archives.new.items }
     ensures ready { OnOk result (Each (λ i a. IsTrue (A.is_ready a (cell_slot_for schema.now sample.now i))) archives.new.items) }
 {
     for i in 0..archives.len() {
@@ -54,15 +52,12 @@ fn put_ready<A: Archive>(
     schema: &Schema,
     sample: &Sample,
 ) -> Result<(), AllocError>
-    requires layout { IsLayout schema.now }
-    requires sized { AreSized A.row_limit schema.now archives.old.items }
-    requires some_number { 1 ≤ sample.now.number }
-    requires known_number { sample.now.number ≤ MAX_NUMBER }
+    requires of_schema { AreOf A.row_limit schema.now archives.old.items }
     requires newer { CanTake A.cells schema.now sample.now archives.old.items }
     requires ready { Each (λ i a. IsTrue (A.is_ready a (cell_slot_for schema.now sample.now i))) archives.old.items }
-    ensures ok { IsOk result }
+    ensures put_into_each { IsOk result }
     ensures put { HavePut A.cells schema.now sample.now archives.old.items archives.new.items }
-    ensures sized { AreSized A.row_limit schema.now archives.new.items }
+    ensures of_schema { AreOf A.row_limit schema.now archives.new.items }
 {
     for i in 0..archives.len() {
         let slot = schema.slot(i as u8, sample.time);
@@ -85,14 +80,11 @@ pub(crate) fn put_into<A: Archive>(
     schema: &Schema,
     sample: &Sample,
 ) -> Result<(), AllocError>
-    requires layout { IsLayout schema.now }
-    requires sized { AreSized A.row_limit schema.now archives.old.items }
-    requires some_number { 1 ≤ sample.now.number }
-    requires known_number { sample.now.number ≤ MAX_NUMBER }
+    requires of_schema { AreOf A.row_limit schema.now archives.old.items }
     requires newer { CanTake A.cells schema.now sample.now archives.old.items }
     ensures put { OnOk result (HavePut A.cells schema.now sample.now archives.old.items archives.new.items) }
-    ensures same { OnErr result (AreSame A.cells archives.old.items archives.new.items) }
-    ensures sized { AreSized A.row_limit schema.now archives.new.items }
+    ensures unchanged { OnErr result (AreSame A.cells archives.old.items archives.new.items) }
+    ensures of_schema { AreOf A.row_limit schema.now archives.new.items }
 {
     make_ready(archives, schema, sample)?;
     put_ready(archives, schema, sample)
@@ -104,12 +96,11 @@ pub(crate) fn join_into<A: Archive>(
     schema: &Schema,
     cell: &Cell,
 ) -> Result<(), AllocError>
-    requires layout { IsLayout schema.now }
-    requires sized { AreSized A.row_limit schema.now archives.old.items }
+    requires of_schema { AreOf A.row_limit schema.now archives.old.items }
     requires cell { IsCellOf schema.now (owned_cell cell.now) }
     ensures joined { OnOk result (HaveJoined A.cells A.row_limit cell.now archives.old.items archives.new.items) }
-    ensures same { OnErr result (AreSame A.cells archives.old.items archives.new.items) }
-    ensures sized { AreSized A.row_limit schema.now archives.new.items }
+    ensures unchanged { OnErr result (AreSame A.cells archives.old.items archives.new.items) }
+    ensures of_schema { AreOf A.row_limit schema.now archives.new.items }
 {
     // It is the cell's own slot, since the cell is valid; as that of a time it is within bounds.
     let slot = schema.slot(cell.archive, cell.contribution.last_time);

@@ -66,13 +66,12 @@ fn put_in<A: Archive>(
     key: &SeriesKey,
     sample: Sample,
 ) -> Result<(), AllocError>
-    requires kept { IsHeld A.cells A.row_limit schema.now sample.origin sample.number series.old.entries }
-    requires known { sample.number ≤ MAX_NUMBER }
+    requires held { IsHeld A.cells A.row_limit schema.now sample.origin sample.number series.old.entries }
     ensures put { OnOk result (cells_of (held_series A.cells series.new.entries)
         ≡ put_sample schema.now (cells_of (held_series A.cells series.old.entries)) (sample_of key.now sample)) }
-    ensures ok { OnOk result (IsHeld A.cells A.row_limit schema.now sample.origin (sample.number + 1) series.new.entries) }
-    ensures err { OnErr result (cells_of (held_series A.cells series.new.entries) ≡ cells_of (held_series A.cells series.old.entries)) }
-    ensures kept { OnErr result (IsHeld A.cells A.row_limit schema.now sample.origin sample.number series.new.entries) }
+    ensures held_with { OnOk result (IsHeld A.cells A.row_limit schema.now sample.origin (sample.number + 1) series.new.entries) }
+    ensures unchanged { OnErr result (cells_of (held_series A.cells series.new.entries) ≡ cells_of (held_series A.cells series.old.entries)) }
+    ensures held { OnErr result (IsHeld A.cells A.row_limit schema.now sample.origin sample.number series.new.entries) }
 {
     // The proof needs that the text is a key text, which `text` ensures.
     let _text = key.text();
@@ -135,7 +134,7 @@ impl<A: Archive> Replica<A> {
     /// changes.
     ///
     /// The cost is one look-up of the key and, in each archive, two of the slot (one makes room, one
-    /// puts) and the entries of a row, however many series there are.
+    /// puts), one more where its row is new, and the entries of a row, however many series there are.
     pub fn put(&mut self, key: &SeriesKey, time: i64, value: i64) -> Result<u64, PutFault>
         ensures number { IfOk result (λ number. number ≡ self.old.next) }
         ensures put { OnOk result (self.new ≡ with_put self.old key.now time value) }

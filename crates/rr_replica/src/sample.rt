@@ -1,4 +1,6 @@
 //! A sample, as the archives of its key take it.
+ghost use Rattle.std.specs.Prelude.{◌≤◌};
+ghost use Rattle.rr_base.specs.declared.limits.TheConstants.{MAX_NUMBER};
 
 use rr_base::Origin;
 
@@ -9,4 +11,6 @@ pub(crate) struct Sample {
     pub(crate) number: u64,
     pub(crate) time: i64,
     pub(crate) value: i64,
+    ghost number_at_least: { 1 ≤ number },
+    ghost number_at_most: { number ≤ MAX_NUMBER },
 }

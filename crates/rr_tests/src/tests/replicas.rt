@@ -16,7 +16,7 @@ use std::test::Fail;
 const MINUTE: i64 = 60_000_000_000;
 
 /// Three rows of one step, and two of five.
-const ARCHIVES: [ArchiveSpec; 2] = [
+pub(super) const ARCHIVES: [ArchiveSpec; 2] = [
     ArchiveSpec {
         steps: 1,
         rows: 3,
@@ -238,10 +238,14 @@ fn cell(alloc: Global, origin: u16, slot: i64, contribution: Contribution) -> Re
 fn assert_valid(rt: &impl Abort, schema: &Schema, cell: &Cell)
     ensures { IsCellOf schema.now (owned_cell cell.now) }
 {
+    let summary = &cell.contribution;
     assert!(rt; (cell.archive as usize) < schema.archives().len());
-    assert!(rt; cell.contribution.is_valid(schema, cell.archive, cell.slot));
-    // What holds of every key and origin.
-    let _known = (cell.key.text(), cell.origin.get());
+    assert!(rt; summary.is_valid(schema, cell.archive, cell.slot));
+    // What holds of every key, origin and number of its type is known of those that are read.
+    let _text = cell.key.text();
+    let _values = (summary.sum, summary.min, summary.max, summary.last_value);
+    let _times = (cell.slot, summary.last_time);
+    let _number = cell.origin.get();
 }
 
 /// The cell of one sample of `m v`: its origin and number, its slot, whose first nanosecond it is

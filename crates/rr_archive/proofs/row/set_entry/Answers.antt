@@ -8,8 +8,8 @@ use Rattle.rr_archive.proofs.RowLemmas.{position_for, position_for-is, position_
 use Rattle.rr_archive.proofs.row.set_entry.Goals as goal
 use Rattle.rr_archive.proofs.row.set_entry.Goals.{else-at-len-via-then-at-len+else-eq, else-at-len-via-else-at-len}
 
-pub returns-then-eq-clause-ok : goal.returns-then-eq-clause-ok
-returns-then-eq-clause-ok c =
+pub returns-then-eq-clause-set : goal.returns-then-eq-clause-set
+returns-then-eq-clause-set c =
     let es : List Entry = c.args.row.now.items in
     let new : Entry = c.args.entry in
     let d : Entry = c.index.result.now in
@@ -27,8 +27,8 @@ insert-requires c =
     let most = position_for-le c.args.entry.origin es in
     omega arith
 
-pub returns-clause-ok : goal.returns-clause-ok
-returns-clause-ok c =
+pub returns-clause-set : goal.returns-clause-set
+returns-clause-set c =
     let es : List Entry = c.args.row.now.items in
     let new : Entry = c.args.entry in
     let found : c.unwrap_or-at.result ≡ unwrap_or (position_from (is_from new.origin) 0 es) (length es) = search rules in
@@ -44,7 +44,7 @@ returns-clause-ok c =
     ])
 
 pub returns-then-eq-clause-ascend : goal.returns-then-eq-clause-ascend
-returns-then-eq-clause-ascend c = λ a. subst (λ es. IsTrue (ascends es)) (sym (returns-then-eq-clause-ok c)) (ascends_with_entry c.args.row.now.items c.args.entry a)
+returns-then-eq-clause-ascend c = λ a. subst (λ es. IsTrue (ascends es)) (sym (returns-then-eq-clause-set c)) (ascends_with_entry c.args.row.now.items c.args.entry a)
 
 pub returns-clause-ascend : goal.returns-clause-ascend
-returns-clause-ascend c = λ a. subst (λ es. IsTrue (ascends es)) (sym (returns-clause-ok c)) (ascends_with_entry c.args.row.now.items c.args.entry a)
+returns-clause-ascend c = λ a. subst (λ es. IsTrue (ascends es)) (sym (returns-clause-set c)) (ascends_with_entry c.args.row.now.items c.args.entry a)

@@ -6,16 +6,16 @@ use Rattle.rr_replica.proofs.Each.{slot_is, readied_none, readied_more, same_mor
 use Rattle.rr_replica.proofs.archives.make_ready.Goals as goal
 
 pub loop-i-init : goal.loop-i-init
-loop-i-init g c = readied_none g.A.Archive.cells g.A.Archive.row_limit g.A.Archive.is_ready c.args.schema.now c.args.sample.now c.args.archives.now.items c.requires.sized
+loop-i-init g c = readied_none g.A.Archive.cells g.A.Archive.row_limit g.A.Archive.is_ready c.args.schema.now c.args.sample.now c.args.archives.now.items c.requires.of_schema.sized
 
 pub ready-requires : goal.ready-requires
 ready-requires g c =
     let kept : to_z w64 (of_z w64 c.slot-slot.result) ≡ c.slot-slot.result = search rules in
     let slot : c.slot-slot.result ≡ slot_of c.args.schema.now c.loop-i.i c.args.sample.now.time = search rules in
-    rw (kept, slot) (slot_is c.args.schema.now c.requires.layout c.loop-i.i c.args.sample.now.time (search rules))
+    rw (kept, slot) (slot_is c.args.schema.now c.requires.of_schema.layout c.loop-i.i c.args.sample.now.time (search rules))
 
-pub returns-in_err-ready-clause-same : goal.returns-in_err-ready-clause-same
-returns-in_err-ready-clause-same g c =
+pub returns-in_err-ready-clause-unchanged : goal.returns-in_err-ready-clause-unchanged
+returns-in_err-ready-clause-unchanged g c =
     let items = c.loop-i.archives.items in
     let within : c.loop-i.i < length items = search rules in
     let at : slice_get items c.loop-i.i ≡ Some c.index_mut.result.now = slice_get-get_or items c.loop-i.i c.index_mut.result.now within ∙ ap (λ a. Some a) (sym c.index_mut.ensures.value) in

@@ -6,13 +6,13 @@ use Rattle.rr_replica.proofs.Each.{slot_is, put_none, put_more, put_all}
 use Rattle.rr_replica.proofs.archives.put_ready.Goals as goal
 
 pub loop-i-init : goal.loop-i-init
-loop-i-init g c = put_none g.A.Archive.cells g.A.Archive.row_limit c.args.schema.now c.args.sample.now c.args.archives.now.items c.requires.sized
+loop-i-init g c = put_none g.A.Archive.cells g.A.Archive.row_limit c.args.schema.now c.args.sample.now c.args.archives.now.items c.requires.of_schema.sized
 
 pub put-requires-clause-slot : goal.put-requires-clause-slot
 put-requires-clause-slot g c =
     let kept : to_z w64 (of_z w64 c.slot-slot.result) ≡ c.slot-slot.result = search rules in
     let slot : c.slot-slot.result ≡ slot_of c.args.schema.now c.loop-i.i c.args.sample.now.time = search rules in
-    rw (kept, slot) (slot_is c.args.schema.now c.requires.layout c.loop-i.i c.args.sample.now.time (search rules))
+    rw (kept, slot) (slot_is c.args.schema.now c.requires.of_schema.layout c.loop-i.i c.args.sample.now.time (search rules))
 
 pub put-requires-clause-newer : goal.put-requires-clause-newer
 put-requires-clause-newer g c =
@@ -47,7 +47,7 @@ loop-i-preserved g c =
     let place : c.place-place.result ≡ place_of c.args.schema.now c.loop-i.i c.args.sample.now.time = search rules in
     let time : to_z w64 (of_z w64 c.args.sample.now.time) ≡ c.args.sample.now.time = search rules in
     let value : to_z w64 (of_z w64 c.args.sample.now.value) ≡ c.args.sample.now.value = search rules in
-    let cells = rw (kept, slot, place, time, value) at c.in_ok-put.ensures.ok in
+    let cells = rw (kept, slot, place, time, value) at c.in_ok-put.ensures.put in
     put_more g.A.Archive.cells g.A.Archive.row_limit c.args.schema.now c.args.sample.now c.loop-i.i c.args.archives.now.items items c.index_mut.result.now c.put.new.self c.loop-i.invariant at cells limit
 
 pub returns-clause-put : goal.returns-clause-put

@@ -26,7 +26,7 @@ returns-in-Some g c =
     let within : cell.archive < length was.items = omega arith in
     record {
       joined = on_ok_weaker c.join_into.result (cells_joined cells limit schema c.requires.layout cell old new c.join_into.new.archives updates.0 c.requires.ordered holds.4 c.requires.live was.items sized before within) c.join_into.ensures.joined;
-      same = on_err_weaker c.join_into.result (cells_unchanged cells limit schema c.requires.layout cell old new c.join_into.new.archives updates.0 c.requires.ordered holds.4 c.requires.live was.items before) c.join_into.ensures.same;
+      unchanged = on_err_weaker c.join_into.result (cells_unchanged cells limit schema c.requires.layout cell old new c.join_into.new.archives updates.0 c.requires.ordered holds.4 c.requires.live was.items before) c.join_into.ensures.unchanged;
       sized = search rules;
       ordered = holds.4;
     }
@@ -41,7 +41,7 @@ returns-in_ok-insert-in-None-clause-joined g c =
     let key : c.in_ok-copy-in-None.field-0 ≡ c.args.cell.now.key = search rules in
     let updates = rw (same, key) at c.in_ok-insert-in-None.ensures.updates in
     let sets : (q : List ℕ) → archives_of c.insert.new.self.entries q ≡ cond (is_at (bytes_cmp c.args.cell.now.key) q) (Some c.join_into-in-None.new.archives) (archives_of old q) = updates.0 in
-    let many = sized_many g.A.Archive.row_limit c.args.schema.now fresh.archives.items fresh.ensures.sized in
+    let many = sized_many g.A.Archive.row_limit c.args.schema.now fresh.archives.items fresh.ensures.of_schema.sized in
     let is_within = c.requires.cell.archive in
     let within : c.args.cell.now.archive < length fresh.archives.items = omega arith in
-    cells_joined g.A.Archive.cells g.A.Archive.row_limit c.args.schema.now c.requires.layout c.args.cell.now old c.insert.new.self.entries c.join_into-in-None.new.archives sets c.requires.ordered c.insert.ensures.ordered c.requires.live fresh.archives.items fresh.ensures.sized before within c.in_ok-join_into-in-None.ensures.joined
+    cells_joined g.A.Archive.cells g.A.Archive.row_limit c.args.schema.now c.requires.layout c.args.cell.now old c.insert.new.self.entries c.join_into-in-None.new.archives sets c.requires.ordered c.insert.ensures.ordered c.requires.live fresh.archives.items fresh.ensures.of_schema.sized before within c.in_ok-join_into-in-None.ensures.joined

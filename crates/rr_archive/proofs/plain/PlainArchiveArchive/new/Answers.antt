@@ -4,7 +4,7 @@ use Rattle.rr_archive.proofs.Counting.{cells_in-none, held_none}
 use Rattle.rr_archive.proofs.plain.PlainArchiveArchive.new.Goals as goal
 
 pub invariant_of-result : goal.invariant_of-result
-invariant_of-result c = let none : c.new.result.entries ≡ [] = search rules in record { held = held_none c.args.rows c.new.result.entries c.requires.some_row none }
+invariant_of-result c = let none : c.new.result.rows.entries ≡ [] = search rules in record { held = held_none c.args.rows c.new.result.rows.entries c.requires.rows_at_least none }
 
 pub returns-clause-empty : goal.returns-clause-empty
-returns-clause-empty c = let none : c.new.result.entries ≡ [] = search rules in ap cells_in none ∙ cells_in-none
+returns-clause-empty c = let none : c.new.result.rows.entries ≡ [] = search rules in ap cells_in none ∙ cells_in-none

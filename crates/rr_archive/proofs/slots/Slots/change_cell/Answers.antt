@@ -7,9 +7,9 @@ use Rattle.std.specs.FinMap.{insert}
 use Rattle.rr_contrib.specs.declared.contribution.Contribution.{Contribution}
 use Rattle.rr_archive.specs.Changes.{Fits, contribution_after, entry_after}
 use Rattle.rr_archive.specs.CellSlots.{cell_slot}
-use Rattle.rr_archive.specs.Held.{row_in, row_ascends, cells_in}
-use Rattle.rr_archive.proofs.HeldLemmas.{Sets, items_of, set_found, set_fresh, set_alike, rows_ascend, room_is, no_room, cell_here, cell_nowhere}
-use Rattle.rr_archive.proofs.slots.change_cell.Goals as goal
+use Rattle.rr_archive.specs.Held.{row_in, cells_in}
+use Rattle.rr_archive.proofs.HeldLemmas.{Sets, items_of, set_found, set_fresh, set_alike, room_is, no_room, cell_here, cell_nowhere}
+use Rattle.rr_archive.proofs.slots.Slots.change_cell.Goals as goal
 
 -- ---- the slot has a row
 
@@ -17,12 +17,12 @@ pub change_entry-requires : goal.change_entry-requires
 change_entry-requires c =
     let back = to_z-of_z {w = w64} {z = c.args.slot} (search rules) in
     let has = rw back at c.in-Some.ensures.value in
-    subst (λ (o : Option Contribution). Fits o c.args.change.now) (cell_here c.args.slots.now.entries (cell_slot c.args.slot c.args.origin) c.in-Some.row.now has) c.requires
+    subst (λ (o : Option Contribution). Fits o c.args.change.now) (cell_here c.args.self.now.rows.entries (cell_slot c.args.slot c.args.origin) c.in-Some.row.now has) c.requires
 
 pub returns-in-Some : goal.returns-in-Some
 returns-in-Some c =
     let back = to_z-of_z {w = w64} {z = c.args.slot} (search rules) in
-    let old = c.args.slots.now.entries in
+    let old = c.args.self.now.rows.entries in
     let p = cell_slot c.args.slot c.args.origin in
     let change = c.args.change.now in
     let was = c.in-Some.row.now in
@@ -34,13 +34,11 @@ returns-in-Some c =
     let sets : Sets old (c.get_mut.follows.lender row).entries c.args.slot row = record { at = λ q. grind (arith, updates.0 q) } in
     let step = c.change_entry.ensures in
     record {
-      ok = on_ok_weaker c.change_entry.result (λ e.
+      changed = on_ok_weaker c.change_entry.result (λ e.
           set_found _ _ c.args.slot row was (entry_after was.items c.args.origin change) sets has e
-          ∙ ap (λ (o : Option Contribution). insert (cells_in old) p (contribution_after o change)) (sym here)) step.ok;
+          ∙ ap (λ (o : Option Contribution). insert (cells_in old) p (contribution_after o change)) (sym here)) step.changed;
       is_new = subst (λ (o : Option Contribution). IfOk c.change_entry.result (λ is_new. is_new ≡ is_none o)) (sym here) step.is_new;
-      err = on_err_weaker c.change_entry.result (λ e. set_alike _ _ c.args.slot row sets (e ∙ ap items_of has)) step.err;
-      ascend = λ before. rows_ascend _ _ c.args.slot row sets before (step.ascend (ap row_ascends has ∙ before c.args.slot));
-      ordered = holds.4;
+      unchanged = on_err_weaker c.change_entry.result (λ e. set_alike _ _ c.args.slot row sets (e ∙ ap items_of has)) step.unchanged;
       room = λ room. step.room (room_is old p was has room);
     }
 
@@ -50,21 +48,21 @@ pub contribution_after-contribution-requires : goal.contribution_after-contribut
 contribution_after-contribution-requires c =
     let back = to_z-of_z {w = w64} {z = c.args.slot} (search rules) in
     let none = rw back at c.in-None.ensures.value in
-    subst (λ (o : Option Contribution). Fits o c.args.change.now) (cell_nowhere c.args.slots.now.entries (cell_slot c.args.slot c.args.origin) none) c.requires
+    subst (λ (o : Option Contribution). Fits o c.args.change.now) (cell_nowhere c.args.self.now.rows.entries (cell_slot c.args.slot c.args.origin) none) c.requires
 
 pub returns-in_err-push-in-None-clause-room : goal.returns-in_err-push-in-None-clause-room
 returns-in_err-push-in-None-clause-room c =
     let back = to_z-of_z {w = w64} {z = c.args.slot} (search rules) in
     let none = rw back at c.in-None.ensures.value in
-    λ room. absurd (no_room c.args.slots.now.entries (cell_slot c.args.slot c.args.origin) none room)
+    λ room. absurd (no_room c.args.self.now.rows.entries (cell_slot c.args.slot c.args.origin) none room)
 
-pub returns-in_ok-insert-in-None-clause-ok : goal.returns-in_ok-insert-in-None-clause-ok
-returns-in_ok-insert-in-None-clause-ok c =
+pub returns-in_ok-insert-in-None-clause-changed : goal.returns-in_ok-insert-in-None-clause-changed
+returns-in_ok-insert-in-None-clause-changed c =
     let back = to_z-of_z {w = w64} {z = c.args.slot} (search rules) in
     let none = rw back at c.in-None.ensures.value in
-    let old = c.args.slots.now.entries in
+    let old = c.args.self.now.rows.entries in
     let p = cell_slot c.args.slot c.args.origin in
-    let same : c.get_mut.follows.lender-at-none ≡ c.args.slots.now = c.get_mut.follows.holds-at-none in
+    let same : c.get_mut.follows.lender-at-none ≡ c.args.self.now.rows = c.get_mut.follows.holds-at-none in
     let updates = rw same at c.in_ok-insert-in-None.ensures.updates in
     let sets : Sets old c.insert.new.self.entries c.args.slot c.push.new.self = record { at = λ q. grind (arith, updates.0 q) } in
     let items : c.push.new.self.items ≡ entry_after [] c.args.origin c.args.change.now ∷ [] = search rules in
@@ -75,4 +73,4 @@ pub returns-in_ok-insert-in-None-clause-is_new : goal.returns-in_ok-insert-in-No
 returns-in_ok-insert-in-None-clause-is_new c =
     let back = to_z-of_z {w = w64} {z = c.args.slot} (search rules) in
     let none = rw back at c.in-None.ensures.value in
-    sym (ap is_none (cell_nowhere c.args.slots.now.entries (cell_slot c.args.slot c.args.origin) none))
+    sym (ap is_none (cell_nowhere c.args.self.now.rows.entries (cell_slot c.args.slot c.args.origin) none))

@@ -4,7 +4,7 @@ use Rattle.std.specs.Option.{option_map}
 use Rattle.rr_archive.specs.declared.entry.Entry.{Entry}
 use Rattle.rr_archive.specs.Cells.{cell_of}
 use Rattle.rr_archive.proofs.Listing.{cells_list, entries-cells_in, listed_from, cell_here, cell_later}
-use Rattle.rr_archive.proofs.slots.nth_cell.Goals as goal
+use Rattle.rr_archive.proofs.slots.Slots.nth_cell.Goals as goal
 
 pub returns-then-left-len : goal.returns-then-left-len
 returns-then-left-len c =
@@ -14,8 +14,8 @@ returns-then-left-len c =
     let more : c.loop-slot.slot-iterator ≡ (slot, c.in-Some.row.now) ∷ c.next.new.self = search rules in
     let within : c.loop-slot.left < length row = omega arith in
     let kept : to_z w64 (of_z w64 slot) ≡ slot = search rules in
-    let rows = c.args.slots.now.entries in
-    let cells = entries-cells_in rows (listed_from rows c.requires.ordered c.requires.ascend) in
+    let rows = c.args.self.now.rows.entries in
+    let cells = entries-cells_in rows (listed_from rows c.args.self.now.ordered c.args.self.now.ascend) in
     ap (λ z. Some (z, d)) kept
     ∙ ap (λ (e : Entry). Some (slot, e)) c.index.ensures
     ∙ sym (cell_here slot row (cells_list c.next.new.self) c.loop-slot.left d within)
@@ -37,7 +37,7 @@ loop-slot-preserved c =
 pub returns : goal.returns
 returns c =
     let none : c.loop-slot.slot-iterator ≡ [] = search rules in
-    let rows = c.args.slots.now.entries in
-    let cells = entries-cells_in rows (listed_from rows c.requires.ordered c.requires.ascend) in
+    let rows = c.args.self.now.rows.entries in
+    let cells = entries-cells_in rows (listed_from rows c.args.self.now.ordered c.args.self.now.ascend) in
     ap (λ it. option_map cell_of (slice_get (cells_list it) c.loop-slot.left)) (sym none)
     ∙ ap (option_map cell_of) (c.loop-slot.invariant ∙ sym (ap (λ es. slice_get es c.args.i) cells))

@@ -1,5 +1,0 @@
-use Rattle.rr_archive.proofs.NextCell.{LeftFrom}
-use Rattle.rr_archive.proofs.slots.cell_after.Given as goal
-
-abbrev pub invariant-loop-at : goal.invariant-loop-at
-invariant-loop-at l = LeftFrom l.fn.slot l.fn.origin l.slots.entries l.at-iterator
