@@ -9,6 +9,7 @@ use Rattle.std.specs.Global.{Vec}
 use Rattle.std.specs.FinMap as map
 use Rattle.rr_archive.specs.declared.archive.Archive.{Ghosts}
 use Rattle.rr_base.specs.Schema.{Layout}
+use Rattle.rr_join.specs.Values.{get_called}
 use Rattle.rr_join.proofs.ValuesLemmas.{get_called-insert, get_called-set}
 use Rattle.rr_model.specs.World.{World}
 use Rattle.rr_replica.specs.Cells.{Cells}
@@ -55,6 +56,10 @@ each_put P old new name h put itself others q g e = by (eq_by_cmp bytes_cmp q na
     by : (b : Bool) → cond b (Some h) (replica_at old q) ≡ Some g → P g
     by true t = let same : h ≡ g = cc in subst P same itself
     by false t = others q g t
+
+-- the bytes of the page that was found at a name
+pub page_found : (pages : BTreeMap (Vec ℕ) (Vec ℕ)) (name : List ℕ) (found : Option (Vec ℕ)) → found ≡ get_called bytes_cmp name_of pages name → page_at pages name ≡ option_map (λ page. page.items) found
+page_found pages name found e = sym (ap (option_map (λ (page : Vec ℕ). page.items)) e)
 
 some_of_map : (o : Option Holding) → is_some o ≡ is_some (option_map node_of o)
 some_of_map None = refl

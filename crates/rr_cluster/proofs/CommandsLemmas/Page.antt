@@ -34,12 +34,12 @@ use Rattle.rr_cluster.specs.Command.{IsOneLine}
 use Rattle.rr_cluster.specs.Commands.Page.{page_command, after_page}
 use Rattle.rr_cluster.specs.Commands.Bytes.{bytes_of_page}
 use Rattle.rr_cluster.specs.Meaning.{page_at, replica_at, HasPageText, Represents}
-use Rattle.rr_cluster.specs.Model.{Model, cell_model, sample_model, cells_from}
+use Rattle.rr_cluster.specs.Model.{Model, cell_model, sample_model, part_of}
 use Rattle.rr_cluster.specs.Soundness.{IsSound}
 use Rattle.rr_cluster.specs.State.{Node, State}
 use Rattle.rr_cluster.specs.Words.{words_of, is_name, number_within}
 use Rattle.rr_cluster.proofs.CommandsLemmas.Write.{layout_at}
-use Rattle.rr_cluster.proofs.EntriesLemmas.{entries-cells_from, part_is_page}
+use Rattle.rr_cluster.proofs.EntriesLemmas.{entries-part_of, part_is_page}
 use Rattle.rr_cluster.proofs.SoundnessLemmas.{with_page_is_sound}
 use Rattle.rr_cluster.proofs.StepLemmas.{names_apart, Agrees, then_agree, found_agree, done_agrees}
 use Rattle.rr_cluster.proofs.WordsLemmas.{some_parts}
@@ -91,9 +91,9 @@ module _ (h : Holding) (is : IsHolding h) (from count : ℕ) (fits : count ≤ M
   pub cells_are_page : IsPage h.schema (take count (drop from (map.entries h.cells)))
   cells_are_page = part_is_page h.schema h.cells from count is.cells fits
 
-  pub page_is_text : (bytes : List ℕ) → bytes ≡ page_text latest h.schema (take count (drop from (map.entries h.cells))) → HasPageText h.schema (cells_from h.cells from count) bytes
+  pub page_is_text : (bytes : List ℕ) → bytes ≡ page_text latest h.schema (take count (drop from (map.entries h.cells))) → HasPageText h.schema (part_of h.cells from count) bytes
   page_is_text bytes written =
-      let same = sym (entries-cells_from h.cells from count) in
+      let same = sym (entries-part_of h.cells from count) in
       record { page = subst (IsPage h.schema) same cells_are_page; text = written ∙ ap (page_text latest h.schema) same }
 
 -- ---- the cluster with the page
@@ -151,7 +151,7 @@ module _ (m : State Knowledge) (sound : IsSound m) (name : List ℕ) (n : Node K
   page = part n.schema n.contents first most
 
   -- the cells of a part
-  part_agrees : cells_from (state n.schema n.contents) first most ≡ state m.schema page
+  part_agrees : part_of (state n.schema n.contents) first most ≡ state m.schema page
   part_agrees =
       ap (λ es. map.from_entries es) (sym (parts_are_cut n.schema n.contents first most (layout_at m sound name n here)))
       ∙ from_entries-entries (state n.schema page)
