@@ -1,5 +1,5 @@
 //! A replica of the store.
-ghost use Rattle.std.specs.Prelude.{◌≡◌, ℕ, ◌<◌, ◌≤◌, ◌+◌, ◌↔◌, All, length, map, take, drop, None, Err, IfOk, IfErr, OnOk, OnErr, IsTrue, IsFalse, MatchOption, slice_get, unwrap_or};
+ghost use Rattle.std.specs.Prelude.{◌≡◌, ℕ, ◌<◌, ◌≤◌, ◌+◌, ◌↔◌, All, length, map, take, drop, None, Err, IfSome, IfOk, IfErr, OnOk, OnErr, IsTrue, IsFalse, MatchOption, slice_get, unwrap_or};
 ghost use Rattle.std.specs.Option.{option_map};
 ghost use Rattle.std.specs.FinMap as fin;
 ghost use Rattle.rr_base.specs.Schema.{IsLayout};
@@ -195,7 +195,8 @@ impl<A: Archive> Replica<A> {
     /// The cell with a number, from 0, in order of key, archive, slot and origin. The cost is linear
     /// in the series before it, each passed over by its count, and in the rows of its archive.
     pub fn cell_at(&self, i: usize) -> Option<CellRef<'_>>
-        ensures { option_map seen_cell result ≡ slice_get (fin.entries self.now.cells) i }
+        ensures listed { option_map seen_cell result ≡ slice_get (fin.entries self.now.cells) i }
+        ensures of_schema { IfSome result (λ c. IsCellOf self.now.schema (seen_cell c)) }
     {
         nth_cell(&self.series, i)
     }
@@ -210,7 +211,8 @@ impl<A: Archive> Replica<A> {
         slot: i64,
         origin: Origin,
     ) -> Option<CellRef<'_>>
-        ensures { option_map seen_cell result ≡ next_cell self.now.cells (cell_name key.now archive slot origin) }
+        ensures first { option_map seen_cell result ≡ next_cell self.now.cells (cell_name key.now archive slot origin) }
+        ensures of_schema { IfSome result (λ c. IsCellOf self.now.schema (seen_cell c)) }
     {
         let name = NameRef {
             key,
