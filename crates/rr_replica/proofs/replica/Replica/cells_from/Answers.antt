@@ -9,7 +9,7 @@ use Rattle.rr_replica.proofs.replica.Replica.cells_from.Goals as goal
 pub loop-init : goal.loop-init
 loop-init g c = record {
   taken = search rules;
-  next = c.cell_at-next.ensures ∙ ap (slice_get (fin.entries c.args.self.now.cells)) (omega arith);
+  next = c.cell_at-next.ensures.listed ∙ ap (slice_get (fin.entries c.args.self.now.cells)) (omega arith);
 }
 
 pub loop-preserved : goal.loop-preserved
@@ -28,7 +28,7 @@ loop-preserved g c =
           ∙ (λ k. c.loop.invariant.taken k ++ owned k ∷ [])
           ∙ sym (taken_more all c.args.from i (seen_cell cell) at);
       next =
-          rw slot at c.next_cell-next.ensures
+          rw slot at c.next_cell-next.ensures.first
           ∙ next_of_sorted all (c.args.from + i) (seen_cell cell) (fin.entries_sorted c.args.self.now.cells) at
           ∙ ap (slice_get all) (omega arith);
     }
