@@ -33,7 +33,7 @@ use Rattle.rr_cluster.specs.Agreement.{in_cells, node_in_cells}
 use Rattle.rr_cluster.specs.Command.{IsOneLine}
 use Rattle.rr_cluster.specs.Commands.Page.{page_command, after_page}
 use Rattle.rr_cluster.specs.Commands.Bytes.{bytes_of_page}
-use Rattle.rr_cluster.specs.Meaning.{page_at, replica_at, HasPageText, Represents}
+use Rattle.rr_cluster.specs.Meaning.{page_bytes_at, replica_at, HasPageText, Represents}
 use Rattle.rr_cluster.specs.Model.{Model, cell_model, sample_model, part_of}
 use Rattle.rr_cluster.specs.Soundness.{IsSound}
 use Rattle.rr_cluster.specs.State.{Node, State}
@@ -103,14 +103,14 @@ Pages = BTreeMap (Vec ℕ) (Vec ℕ)
 
 -- the new map has the bytes at the name, and is the old one at all others
 abbrev HasPutPage : Pages → Pages → List ℕ → List ℕ → Type 0
-HasPutPage old new name bytes = (q : List ℕ) → page_at new q ≡ cond (eq_by_cmp bytes_cmp q name) (Some bytes) (page_at old q)
+HasPutPage old new name bytes = (q : List ℕ) → page_bytes_at new q ≡ cond (eq_by_cmp bytes_cmp q name) (Some bytes) (page_bytes_at old q)
 
 pub page_inserted : (old new : Pages) (name bytes : Vec ℕ) → new.entries ≡ insert_entry (λ a b. bytes_cmp a.items b.items) old.entries name bytes → HasPutPage old new name.items bytes.items
 page_inserted old new name bytes entries q =
     ap (option_map (λ (page : Vec ℕ). page.items)) (get_called-insert nat_list_cmp_total names_apart (λ (key : Vec ℕ). key.items) old new name bytes entries q)
     ∙ by (eq_by_cmp bytes_cmp q name.items)
   where
-    by : (b : Bool) → option_map (λ (page : Vec ℕ). page.items) (cond b (Some bytes) (get_called bytes_cmp (λ (key : Vec ℕ). key.items) old q)) ≡ cond b (Some bytes.items) (page_at old q)
+    by : (b : Bool) → option_map (λ (page : Vec ℕ). page.items) (cond b (Some bytes) (get_called bytes_cmp (λ (key : Vec ℕ). key.items) old q)) ≡ cond b (Some bytes.items) (page_bytes_at old q)
     by true = refl
     by false = refl
 
@@ -130,7 +130,7 @@ module _ {A : Type 0} {g : Ghosts A} (old new : Cluster A g) (m : State Cells) (
     origins = λ origin. rw origins (is.origins origin);
   }
     where
-      by : (q : List ℕ) (b : Bool) → cond b (Some bytes) (page_at old.pages q) ≡ option_map (bytes_of_page m.schema) (cond b (Some page) (map.get m.pages q))
+      by : (q : List ℕ) (b : Bool) → cond b (Some bytes) (page_bytes_at old.pages q) ≡ option_map (bytes_of_page m.schema) (cond b (Some page) (map.get m.pages q))
       by q true = ap (λ (t : List ℕ). Some t) has.text
       by q false = is.pages q
 
