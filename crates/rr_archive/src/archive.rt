@@ -51,9 +51,9 @@ pub trait Archive: Drop {
     /// Puts a sample of an origin into a slot. Its number, place, time and value are those of
     /// `Contribution::first`, or where the cell is there, of `Contribution::add`.
     ///
-    /// Rows that are then past the horizon are let go; a sample that is past it itself changes
-    /// nothing. After an error nothing has changed. The cost is logarithmic in the rows (one look-up
-    /// of the slot) and linear in the entries of the row and of the rows that go.
+    /// Rows that are then past the horizon are no longer held; a sample that is past it itself
+    /// changes nothing. After an error nothing has changed. The cost is at most logarithmic in the
+    /// rows (one look-up of the slot), and linear in the entries of the row and of the rows that go.
     fn put(
         &mut self,
         slot: i64,
@@ -78,8 +78,8 @@ pub trait Archive: Drop {
 
     /// Joins a cell from elsewhere: the greater of the two contributions stays.
     ///
-    /// Rows that are then past the horizon are let go, and a cell that is past it itself changes
-    /// nothing, as in `put`. After an error nothing has changed. The cost is that of `put`.
+    /// Rows that are then past the horizon are no longer held, and a cell that is past it itself
+    /// changes nothing, as in `put`. After an error nothing has changed. The cost is that of `put`.
     fn join_cell(
         &mut self,
         slot: i64,
@@ -99,11 +99,11 @@ pub trait Archive: Drop {
     fn newest(&self) -> Option<i64>
         ensures { result ≡ newest_of (fin.keys (cells self.now)) };
 
-    /// The entries of a slot, ascending by origin. The cost is logarithmic in the rows.
+    /// The entries of a slot, ascending by origin. The cost is at most logarithmic in the rows.
     fn row(&self, slot: i64) -> &[Entry]
         ensures { result.now ≡ row_of (cells self.now) slot };
 
-    /// How many cells there are.
+    /// How many cells there are. The cost is at most linear in the rows.
     fn cell_count(&self) -> usize
         ensures { result ≡ fin.len (cells self.now) };
 
@@ -112,8 +112,9 @@ pub trait Archive: Drop {
     fn cell_at(&self, i: usize) -> Option<(i64, Entry)>
         ensures { result ≡ option_map cell_of (slice_get (fin.entries (cells self.now)) i) };
 
-    /// The first cell after a slot and an origin, in order. The cost is logarithmic in the rows,
-    /// and linear in the entries of the row that it is found in.
+    /// The first cell after a slot and an origin, in order. The cost is at most logarithmic in the
+    /// rows, and linear in those from the slot up to the one that it is found in, and in the entries
+    /// of that row.
     fn next_cell(&self, slot: i64, origin: Origin) -> Option<(i64, Entry)>
         ensures { result ≡ option_map cell_of (next_cell (cells self.now) (cell_slot slot origin)) };
 

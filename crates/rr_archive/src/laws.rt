@@ -1,8 +1,8 @@
 //! The laws of the cells of one archive, with no work to do: each function has an empty body.
 ghost use Rattle.rr_archive.specs.Laws.{MergeIsCommutative, MergeIsAssociative, MergeIsIdempotent, JoinIsCommutative, JoinIsAssociative, JoinIsIdempotent, JoinIsTrimmed, CellsAreFew};
 
-/// To keep at each cell slot the greater contribution of two maps: in any order, in any grouping, and
-/// any number of times.
+/// To keep at each cell slot the greater contribution of two maps: in any order, in any grouping,
+/// and any number of times.
 pub fn merge_keeps_the_greater()
     ensures commutative { MergeIsCommutative }
     ensures associative { MergeIsAssociative }

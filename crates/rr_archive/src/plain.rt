@@ -62,7 +62,8 @@ impl PlainArchive {
             ≡ trimmed (is_live_at self.old.rows) (with_change (cells_in self.old.slots.rows.entries) (cell_slot slot origin) change.now)) }
         ensures dead { IsFalse (is_above self.old.rows self.old.newest slot)
             → cells_in self.new.slots.rows.entries ≡ cells_in self.old.slots.rows.entries }
-        ensures unchanged { OnErr result (cells_in self.new.slots.rows.entries ≡ cells_in self.old.slots.rows.entries) }
+        ensures unchanged { OnErr result (cells_in self.new.slots.rows.entries
+            ≡ cells_in self.old.slots.rows.entries) }
         ensures limit { self.new.rows ≡ self.old.rows }
         ensures room { IsTrue (is_ready_in self.old.rows self.old.newest self.old.slots.rows.entries (cell_slot slot origin)) → IsOk result }
     {

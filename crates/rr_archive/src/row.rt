@@ -64,7 +64,8 @@ pub(crate) fn change_entry(
     change: &Change,
 ) -> Result<bool, AllocError>
     requires { Fits (entry_at row.old.items origin) change.now }
-    ensures changed { OnOk result (row.new.items ≡ with_entry row.old.items (entry_after row.old.items origin change.now)) }
+    ensures changed { OnOk result (row.new.items
+        ≡ with_entry row.old.items (entry_after row.old.items origin change.now)) }
     ensures is_new { IfOk result (λ is_new. is_new ≡ is_none (entry_at row.old.items origin)) }
     ensures unchanged { OnErr result (row.new.items ≡ row.old.items) }
     ensures ascend { IsTrue (ascends row.old.items) → IsTrue (ascends row.new.items) }

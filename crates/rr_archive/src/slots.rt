@@ -47,7 +47,8 @@ impl Slots {
         requires { Fits (fin.get (cells_in self.old.rows.entries) (cell_slot slot origin)) change.now }
         ensures changed { OnOk result (cells_in self.new.rows.entries
             ≡ with_change (cells_in self.old.rows.entries) (cell_slot slot origin) change.now) }
-        ensures is_new { IfOk result (λ is_new. is_new ≡ is_none (fin.get (cells_in self.old.rows.entries) (cell_slot slot origin))) }
+        ensures is_new { IfOk result (λ is_new. is_new
+            ≡ is_none (fin.get (cells_in self.old.rows.entries) (cell_slot slot origin))) }
         ensures unchanged { OnErr result (cells_in self.new.rows.entries ≡ cells_in self.old.rows.entries) }
         ensures room { IsTrue (has_room_in self.old.rows.entries (cell_slot slot origin)) → IsOk result }
     {
@@ -69,7 +70,8 @@ impl Slots {
     /// Makes room for one entry more in the row of a slot.
     pub(crate) fn make_room(&mut self, alloc: Global, slot: i64) -> Result<(), AllocError>
         ensures cells { cells_in self.new.rows.entries ≡ cells_in self.old.rows.entries }
-        ensures room { (origin : ℕ) → OnOk result (IsTrue (has_room_in self.new.rows.entries (cell_slot slot origin))) }
+        ensures room { (origin : ℕ)
+            → OnOk result (IsTrue (has_room_in self.new.rows.entries (cell_slot slot origin))) }
     {
         match self.rows.get_mut(&slot) {
             Some(row) => row.reserve(1),
@@ -98,7 +100,8 @@ impl Slots {
 
     /// The first cell after a slot and an origin, in order.
     pub(crate) fn next_cell(&self, slot: i64, origin: Origin) -> Option<(i64, Entry)>
-        ensures { result ≡ option_map cell_of (next_cell (cells_in self.now.rows.entries) (cell_slot slot origin)) }
+        ensures { result
+            ≡ option_map cell_of (next_cell (cells_in self.now.rows.entries) (cell_slot slot origin)) }
     {
         for (at, row) in self.rows.range(slot..) {
             if let Some(entry) = first_after(row, slot < *at, origin) {

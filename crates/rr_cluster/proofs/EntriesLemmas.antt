@@ -18,7 +18,7 @@ use Rattle.rr_model.proofs.Orders.{cell_name_cmp_total, cell_name_cmp-IsAntisymm
 use Rattle.rr_page.specs.Page.{IsPage}
 use Rattle.rr_replica.specs.CellBounds.{NamedCell, IsCellOf}
 use Rattle.rr_replica.specs.Cells.{Cells}
-use Rattle.rr_cluster.specs.Model.{cells_from}
+use Rattle.rr_cluster.specs.Model.{part_of}
 
 neither_left : (a b : Bool) → (a || b) ≡ false → a ≡ false
 neither_left true b e = e
@@ -77,8 +77,8 @@ sorted_part : (m : Cells) (from count : ℕ) → T (is_sorted cell_name_cmp (tak
 sorted_part m from count = sorted_take count (drop from (entries m)) (sorted_drop from (entries m) (entries_sorted m))
 
 -- the entries of a part are those from the place on
-pub entries-cells_from : (m : Cells) (from count : ℕ) → entries (cells_from m from count) ≡ take count (drop from (entries m))
-entries-cells_from m from count =
+pub entries-part_of : (m : Cells) (from count : ℕ) → entries (part_of m from count) ≡ take count (drop from (entries m))
+entries-part_of m from count =
     let es = take count (drop from (entries m)) in
     let sorted = sorted_part m from count in
     ap entries (same_map cell_name_cmp_total cell_name_cmp-IsAntisymmetric (from_entries es) (from_sorted es) (λ q.

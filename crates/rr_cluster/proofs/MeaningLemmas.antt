@@ -9,6 +9,7 @@ use Rattle.std.specs.Global.{Vec}
 use Rattle.std.specs.FinMap as map
 use Rattle.rr_archive.specs.declared.archive.Archive.{Ghosts}
 use Rattle.rr_base.specs.Schema.{Layout}
+use Rattle.rr_join.specs.Values.{get_called}
 use Rattle.rr_join.proofs.ValuesLemmas.{get_called-insert, get_called-set}
 use Rattle.rr_model.specs.World.{World}
 use Rattle.rr_replica.specs.Cells.{Cells}
@@ -16,7 +17,7 @@ use Rattle.rr_replica.specs.Holding.{Holding}
 use Rattle.rr_base.specs.Bytes.{bytes_cmp}
 use Rattle.rr_cluster.specs.declared.cluster.Cluster.{Cluster}
 use Rattle.rr_cluster.specs.Commands.Bytes.{bytes_of_page}
-use Rattle.rr_cluster.specs.Meaning.{node_of, page_at, replica_at, HasPageText, OptionRepresents, Represents}
+use Rattle.rr_cluster.specs.Meaning.{node_of, page_bytes_at, replica_at, HasPageText, OptionRepresents, Represents}
 use Rattle.rr_cluster.specs.State.{Node, State, first_state}
 use Rattle.rr_cluster.proofs.StepLemmas.{names_apart}
 
@@ -55,6 +56,10 @@ each_put P old new name h put itself others q g e = by (eq_by_cmp bytes_cmp q na
     by : (b : Bool) → cond b (Some h) (replica_at old q) ≡ Some g → P g
     by true t = let same : h ≡ g = cc in subst P same itself
     by false t = others q g t
+
+-- the bytes of the page that was found at a name
+pub page_found : (pages : BTreeMap (Vec ℕ) (Vec ℕ)) (name : List ℕ) (found : Option (Vec ℕ)) → found ≡ get_called bytes_cmp name_of pages name → page_bytes_at pages name ≡ option_map (λ page. page.items) found
+page_found pages name found e = sym (ap (option_map (λ (page : Vec ℕ). page.items)) e)
 
 some_of_map : (o : Option Holding) → is_some o ≡ is_some (option_map node_of o)
 some_of_map None = refl
@@ -122,14 +127,14 @@ module _ {A : Type 0} {g : Ghosts A} where
     node_at name o e = is.nodes name ∙ ap (option_map node_of) e
 
     -- the page of a name is that of the bytes that are kept, if there are some
-    pub no_page_at : (name : List ℕ) → page_at c.pages name ≡ None → map.get m.pages name ≡ None
+    pub no_page_at : (name : List ℕ) → page_bytes_at c.pages name ≡ None → map.get m.pages name ≡ None
     no_page_at name none = by (map.get m.pages name) (sym none ∙ is.pages name)
       where
         by : (o : Option Cells) → None ≡ option_map (bytes_of_page m.schema) o → o ≡ None
         by None e = refl
         by (Some page) e = absurd cc
 
-    pub page_there : (name bytes : List ℕ) → page_at c.pages name ≡ Some bytes → (page : Cells) × (map.get m.pages name ≡ Some page) × HasPageText m.schema page bytes
+    pub page_there : (name bytes : List ℕ) → page_bytes_at c.pages name ≡ Some bytes → (page : Cells) × (map.get m.pages name ≡ Some page) × HasPageText m.schema page bytes
     page_there name bytes there = by (map.get m.pages name) refl (sym there ∙ is.pages name)
       where
         by : (o : Option Cells) → map.get m.pages name ≡ o → Some bytes ≡ option_map (bytes_of_page m.schema) o → (page : Cells) × (map.get m.pages name ≡ Some page) × HasPageText m.schema page bytes

@@ -34,8 +34,8 @@ abbrev pub replica_at : BTreeMap (Vec ℕ) Holding → List ℕ → Option Holdi
 replica_at = get_called bytes_cmp (λ (key : Vec ℕ). key.items)
 
 -- the bytes of the page of a name, if there is one
-abbrev pub page_at : BTreeMap (Vec ℕ) (Vec ℕ) → List ℕ → Option (List ℕ)
-page_at pages name = option_map (λ page. page.items) (get_called bytes_cmp (λ (key : Vec ℕ). key.items) pages name)
+abbrev pub page_bytes_at : BTreeMap (Vec ℕ) (Vec ℕ) → List ℕ → Option (List ℕ)
+page_bytes_at pages name = option_map (λ page. page.items) (get_called bytes_cmp (λ (key : Vec ℕ). key.items) pages name)
 
 -- a replica wrote the samples that a node writes, or is refused as the node is and has not changed
 abbrev pub Writes : Holding → Holding → Result (Unit {0}) Stop → Result (List Sample) CommandFault → Type 0
@@ -60,7 +60,7 @@ module _ {A : Type 0} {g : Ghosts A} where
     pub lead : c.lead ≡ m.lead
     pub nodes : (name : List ℕ) → get m.nodes name ≡ option_map node_of (replica_at c.nodes name)
     pub shared : (name : List ℕ) (h : Holding) → replica_at c.nodes name ≡ Some h → h.schema ≡ c.schema
-    pub pages : (name : List ℕ) → page_at c.pages name ≡ option_map (bytes_of_page m.schema) (get m.pages name)
+    pub pages : (name : List ℕ) → page_bytes_at c.pages name ≡ option_map (bytes_of_page m.schema) (get m.pages name)
     pub are_pages : (name : List ℕ) (page : Cells) → get m.pages name ≡ Some page → IsPage m.schema (entries page)
     pub origins : (origin : ℕ) → contains nat_cmp c.origins origin ≡ list_any (λ used. used == origin) m.origins
 

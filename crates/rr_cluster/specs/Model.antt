@@ -2,11 +2,10 @@
 use Rattle.std.specs.Prelude.{ℕ, List, [], ◌∷◌, take, drop}
 use Rattle.std.specs.FinMap.{empty, entries, from_entries}
 use Rattle.rr_base.specs.Schema.{Layout}
-use Rattle.rr_contrib.specs.declared.contribution.Contribution.{Contribution}
-use Rattle.rr_model.specs.CellNames.{CellName}
 use Rattle.rr_model.specs.Samples.{Sample, marks_of}
 use Rattle.rr_model.specs.Knowledge.{Knowledge, union, with_marks, part}
 use Rattle.rr_model.specs.FetchText.{Request, fetch_text}
+use Rattle.rr_replica.specs.CellBounds.{NamedCell}
 use Rattle.rr_replica.specs.Cells.{Cells}
 use Rattle.rr_replica.specs.Joining.{next_after}
 use Rattle.rr_replica.specs.Joins.{join_cells}
@@ -46,11 +45,11 @@ sample_model = record {
 -- ---- cells
 
 -- the cells from a place on, as many as there are up to a count
-abbrev pub cells_from : Cells → ℕ → ℕ → Cells
-cells_from m from count = from_entries (take count (drop from (entries m)))
+abbrev pub part_of : Cells → ℕ → ℕ → Cells
+part_of m from count = from_entries (take count (drop from (entries m)))
 
 -- the next number of an origin, past the versions of these cells that are its own
-abbrev pub next_past : ℕ → ℕ → List (CellName × Contribution) → ℕ
+abbrev pub next_past : ℕ → ℕ → List NamedCell → ℕ
 next_past origin next [] = next
 next_past origin next (e ∷ es) = next_past origin (next_after origin next e) es
 
@@ -67,7 +66,7 @@ cell_model = record {
   nothing = empty;
   with_one = put_sample;
   answer = cells_text;
-  part = λ s m from count. cells_from m from count;
+  part = λ s. part_of;
   with_page = with_joined;
   cells = λ s m. m;
 }

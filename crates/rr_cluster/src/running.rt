@@ -22,7 +22,8 @@ use std::alloc::Global;
 /// refused, in the order of its lines.
 ///
 /// The cost of a line is that of its own command: a write looks up its node, its series and its
-/// slot; a fetch looks up its node and its series, and one slot for each row.
+/// slot; a page goes to its first cell, and on from cell to cell; a delivery looks up the series and
+/// the slot of each cell; a fetch looks up its node and its series, and one slot for each row.
 pub fn run(alloc: Global, script: &[u8]) -> Result<Vec<u8>, RunFault>
     ensures cells { IfOk result (λ text. text.items ≡ output_of cell_model script.now) }
     ensures samples { IfOk result (λ text. text.items ≡ output_of sample_model script.now) }

@@ -1,6 +1,6 @@
 -- Archives that are changed one after the other.
 use Rattle.std.proofs.Common.{◌≡◌, ◌≢◌, ℕ, zero, suc, ◌+◌, ◌<◌, ◌≤◌, Bool, ℤ, pos, negsuc, ◌*◌, ◌/◌, ◌^◌, true, List, [], ◌∷◌, ◌++◌, take, map, length, set, slice_get, refl, sym, ap, ◌∙◌, subst, arith, Option, Some, None, ⊎_elim, true≢false, is_some, unwrap_or, get_or}
-use Rattle.std.specs.Prelude.{FitsSigned, IfSome, OnOk, Result, Ok, Err}
+use Rattle.std.specs.Prelude.{FitsSigned, IfSome, OnErr, Result, Ok, Err}
 use Rattle.std.specs.Int.{w64, int_div_euclid}
 use Rattle.std.specs.Option.{option_map}
 use Rattle.std.specs.FinMap.{get}
@@ -17,13 +17,19 @@ use Rattle.rr_model.proofs.Horizon.{archive_is}
 use Rattle.rr_replica.specs.declared.sample.Sample.{Sample}
 use Rattle.rr_replica.specs.Archives.{cell_slot_for, sample_for, Each, AreSized, CanTake, AreSame, HavePut}
 
+-- within a list there is something
+pub reached : {X : Type 0} (xs : List X) (j : ℕ) → j < length xs → (x : X) × (slice_get xs j ≡ Some x)
+reached [] j h = absurd (omega arith)
+reached (x ∷ xs) zero h = (x, refl)
+reached (x ∷ xs) (suc j) h = reached xs j (omega arith)
+
 -- what is read at a place, as the list has it
 pub found_at : {X : Type 0} (xs : List X) (i : ℕ) (d : X) → i < length xs → d ≡ get_or xs i d → slice_get xs i ≡ Some d
 found_at xs i d within is = slice_get-get_or xs i d within ∙ ap (λ x. Some x) (sym is)
 
-pub on_ok_from : {T E P : Type 0} (r : Result T E) → P → OnOk r P
-on_ok_from (Ok x) h = h
-on_ok_from (Err e) h = tt
+pub on_err_from : {T E P : Type 0} (r : Result T E) → P → OnErr r P
+on_err_from (Ok x) h = tt
+on_err_from (Err e) h = h
 
 -- ---- lists
 
@@ -93,40 +99,41 @@ slot_is s is i time fits = slot_bound time (span s i) (some_span s.step (archive
 
 -- ---- room is made
 
+only_one : {X : Type 0} (a b : X) → Some a ≡ Some b → a ≡ b
+only_one a b e = ap (λ o. unwrap_or o a) e
+
+-- an archive more has the same cells
+pub same_more : {X : Type 0} (cells : X → Rows) (i : ℕ) (old new : List X) (a b : X) → AreSame cells old new → slice_get new i ≡ Some a → cells b ≡ cells a → AreSame cells old (set new i b)
+same_more cells i old new a b same at is = record {
+  many = length-set new i b ∙ same.many;
+  each = λ j c d was here. ⊎_elim
+      (λ h.
+      let d_is : d ≡ b = only_one d b (sym here ∙ ap (slice_get (set new i b)) h.1 ∙ slice_get-set_same new i b (slice_get_within new i a at)) in
+      ap cells d_is ∙ is ∙ same.each j c a was (ap (slice_get new) h.1 ∙ at))
+      (λ h. same.each j c d was (sym (slice_get-set_other new i j b h.1) ∙ here))
+      (eqb_tells j i);
+}
+
 pub record AreReadied {X : Type 0} (cells : X → Rows) (limit : X → ℕ) (is_ready : X → CellSlot → Bool) (s : Layout) (x : Sample) (i : ℕ) (old new : List X) : Type 0 where
   pub same : AreSame cells old new
   pub sized : AreSized limit s new
-  pub ready : (j : ℕ) (b : X) → j < i → slice_get new j ≡ Some b → is_ready b (cell_slot_for s x j) ≡ true
+  pub ready : (j : ℕ) (b : X) → 1 ≤ j → j < i → slice_get new j ≡ Some b → is_ready b (cell_slot_for s x j) ≡ true
 
 module _ {X : Type 0} (cells : X → Rows) (limit : X → ℕ) (is_ready : X → CellSlot → Bool) (s : Layout) (x : Sample) where
-  Some_inj : (a b : X) → Some a ≡ Some b → a ≡ b
-  Some_inj a b e = ap (λ o. unwrap_or o a) e
-
-  pub readied_none : (old : List X) → AreSized limit s old → AreReadied cells limit is_ready s x 0 old old
+  pub readied_none : (old : List X) → AreSized limit s old → AreReadied cells limit is_ready s x 1 old old
   readied_none old sized = record {
-    same = record { many = refl; each = λ j a b at here. ap cells (Some_inj b a (sym here ∙ at)) };
+    same = record { many = refl; each = λ j a b at here. ap cells (only_one b a (sym here ∙ at)) };
     sized = sized;
-    ready = λ j b h. absurd (omega arith);
-  }
-
-  pub same_more : (i : ℕ) (old new : List X) (a b : X) → AreSame cells old new → slice_get new i ≡ Some a → cells b ≡ cells a → AreSame cells old (set new i b)
-  same_more i old new a b same at is = record {
-    many = length-set new i b ∙ same.many;
-    each = λ j c d was here. ⊎_elim
-        (λ h.
-        let d_is : d ≡ b = Some_inj d b (sym here ∙ ap (slice_get (set new i b)) h.1 ∙ slice_get-set_same new i b (slice_get_within new i a at)) in
-        ap cells d_is ∙ is ∙ same.each j c a was (ap (slice_get new) h.1 ∙ at))
-        (λ h. same.each j c d was (sym (slice_get-set_other new i j b h.1) ∙ here))
-        (eqb_tells j i);
+    ready = λ j b some h. absurd (omega arith);
   }
 
   pub readied_more : (i : ℕ) (old new : List X) (a b : X) → AreReadied cells limit is_ready s x i old new → slice_get new i ≡ Some a → cells b ≡ cells a → limit b ≡ limit a → is_ready b (cell_slot_for s x i) ≡ true → AreReadied cells limit is_ready s x (i + 1) old (set new i b)
   readied_more i old new a b r at is size ready = record {
-    same = same_more i old new a b r.same at is;
+    same = same_more cells i old new a b r.same at is;
     sized = map-set_same limit new i a b at size ∙ r.sized;
-    ready = λ j d below here. ⊎_elim
-        (λ h. subst (λ k. is_ready d (cell_slot_for s x k) ≡ true) (sym h.1) (subst (λ e. is_ready e (cell_slot_for s x i) ≡ true) (sym (Some_inj d b (sym here ∙ ap (slice_get (set new i b)) h.1 ∙ slice_get-set_same new i b (slice_get_within new i a at)))) ready))
-        (λ h. r.ready j d (below_it j i below h.1) (sym (slice_get-set_other new i j b h.1) ∙ here))
+    ready = λ j d some below here. ⊎_elim
+        (λ h. subst (λ k. is_ready d (cell_slot_for s x k) ≡ true) (sym h.1) (subst (λ e. is_ready e (cell_slot_for s x i) ≡ true) (sym (only_one d b (sym here ∙ ap (slice_get (set new i b)) h.1 ∙ slice_get-set_same new i b (slice_get_within new i a at)))) ready))
+        (λ h. r.ready j d some (below_it j i below h.1) (sym (slice_get-set_other new i j b h.1) ∙ here))
         (eqb_tells j i);
   }
     where
@@ -174,36 +181,31 @@ module _ {X : Type 0} (cells : X → Rows) (limit : X → ℕ) (s : Layout) (x :
     each = λ j a b was here. r.put j a b (let within = slice_get_within new j b here in omega arith) was here;
   }
 
+  -- where the first archive can't take it, nothing has changed
+  pub put_failed : (i : ℕ) (old new : List X) (a b : X) → ArePut cells limit s x i old new → i < 1 → slice_get new i ≡ Some a → cells b ≡ cells a → AreSame cells old (set new i b)
+  put_failed i old new a b r first at is = same_more cells i old new a b (record { many = r.many; each = λ j c d was here. ap (λ o. cells (unwrap_or o d)) (sym here ∙ r.rest j (omega arith) ∙ was) }) at is
+
   -- a sample put into archives with the same cells
   pub put_after_same : (old mid new : List X) → AreSame cells old mid → HavePut cells s x mid new → HavePut cells s x old new
   put_after_same old mid new same h = record {
     many = h.many ∙ same.many;
-    each = λ j a b was here. through j a b was here (slice_get mid j) refl;
+    each = λ j a b was here.
+        let m = reached mid j (let within = slice_get_within new j b here in let many = h.many in omega arith) in
+        h.each j m.0 b m.1 here ∙ ap (λ r. put_row (archive_at s j).rows r (cell_slot_for s x j) (sample_for s x j)) (same.each j a m.0 was m.1);
   }
-    where
-      through : (j : ℕ) (a b : X) → slice_get old j ≡ Some a → slice_get new j ≡ Some b → (o : Option X) → slice_get mid j ≡ o → cells b ≡ put_row (archive_at s j).rows (cells a) (cell_slot_for s x j) (sample_for s x j)
-      through j a b was here None e = absurd (let within = slice_get_within old j a was in let past = past_end mid j e in let many = same.many in omega arith)
-        where
-          past_end : (xs : List X) (j : ℕ) → slice_get xs j ≡ None → length xs ≤ j
-          past_end [] j e = omega arith
-          past_end (y ∷ ys) zero e = absurd (some_none e)
-            where
-              some_none : {y : X} → ◌≡◌ {A = Option X} (Some y) None → ⊥
-              some_none e = true≢false (ap is_some e)
-          past_end (y ∷ ys) (suc j) e = let h = past_end ys j e in omega arith
-      through j a b was here (Some m) e = h.each j m b e here ∙ ap (λ r. put_row (archive_at s j).rows r (cell_slot_for s x j) (sample_for s x j)) (same.each j a m was e)
+
+  pub same_after_same : (old mid new : List X) → AreSame cells old mid → AreSame cells mid new → AreSame cells old new
+  same_after_same old mid new same h = record {
+    many = h.many ∙ same.many;
+    each = λ j a b was here.
+        let m = reached mid j (let within = slice_get_within new j b here in let many = h.many in omega arith) in
+        h.each j m.0 b m.1 here ∙ same.each j a m.0 was m.1;
+  }
 
   pub can_take_same : (old mid : List X) → AreSame cells old mid → CanTake cells s x old → CanTake cells s x mid
-  can_take_same old mid same can = λ j b here. through j b here (slice_get old j) refl
-    where
-      through : (j : ℕ) (b : X) → slice_get mid j ≡ Some b → (o : Option X) → slice_get old j ≡ o → IfSome (get (cells b) (cell_slot_for s x j)) (CanAdd x.number)
-      through j b here None e = absurd (let within = slice_get_within mid j b here in let past = past_end old j e in let many = same.many in omega arith)
-        where
-          past_end : (xs : List X) (j : ℕ) → slice_get xs j ≡ None → length xs ≤ j
-          past_end [] j e = omega arith
-          past_end (y ∷ ys) zero e = absurd (true≢false (ap is_some e))
-          past_end (y ∷ ys) (suc j) e = let h = past_end ys j e in omega arith
-      through j b here (Some a) e = subst (λ r. IfSome (get r (cell_slot_for s x j)) (CanAdd x.number)) (sym (same.each j a b e here)) (can j a e)
+  can_take_same old mid same can = λ j b here.
+      let a = reached old j (let within = slice_get_within mid j b here in let many = same.many in omega arith) in
+      subst (λ r. IfSome (get r (cell_slot_for s x j)) (CanAdd x.number)) (sym (same.each j a.0 b a.1 here)) (can j a.0 a.1)
 
 -- ---- archives that are made
 

@@ -10,6 +10,7 @@ pub mod InOrder
 pub mod Counted
 pub mod NextCell
 pub mod InTurn
+pub mod HeldCells
 pub mod PutLaws
 pub mod Values
 pub mod States

@@ -1,5 +1,5 @@
 -- The archives of one key, each seen as a map by a function, and what a sample makes of each.
-use Rattle.std.specs.Prelude.{◌≡◌, ◌≢◌, ℕ, List, map, length, Some, slice_get}
+use Rattle.std.specs.Prelude.{◌≡◌, ◌≢◌, ℕ, ◌≤◌, Bool, IsTrue, List, map, length, Some, slice_get}
 use Rattle.std.specs.FinMap.{get}
 use Rattle.rr_base.specs.Schema.{Layout, IsLayout, archive_at, slot_of, place_of}
 use Rattle.rr_contrib.specs.Contributions.{SlotSample, slot_sample}
@@ -38,6 +38,10 @@ module _ {X : Type 0} where
   -- a sample of this number can be added to the cell where it falls
   abbrev pub CanTake : (X → Rows) → Layout → Sample → List X → Type 0
   CanTake cells s x archives = Each (λ i a. IfSome (get (cells a) (cell_slot_for s x i)) (CanAdd x.number)) archives
+
+  -- each archive after the first has room for the sample
+  abbrev pub AreReady : (X → CellSlot → Bool) → Layout → Sample → List X → Type 0
+  AreReady is_ready s x archives = Each (λ i a. 1 ≤ i → IsTrue (is_ready a (cell_slot_for s x i))) archives
 
   -- as many archives, with the same cells
   pub record AreSame (cells : X → Rows) (old new : List X) : Type 0 where

@@ -1,7 +1,7 @@
 //! The archives of one key.
-ghost use Rattle.std.specs.Prelude.{◌≡◌, IsTrue, IsOk, OnOk, OnErr, IfOk};
+ghost use Rattle.std.specs.Prelude.{◌≡◌, OnOk, OnErr, IfOk};
 ghost use Rattle.std.specs.FinMap as fin;
-ghost use Rattle.rr_replica.specs.Archives.{cell_slot_for, Each, AreOf, CanTake, AreSame, HavePut, HaveJoined};
+ghost use Rattle.rr_replica.specs.Archives.{Each, AreOf, AreReady, CanTake, AreSame, HavePut, HaveJoined};
 ghost use Rattle.rr_replica.specs.CellBounds.{IsCellOf};
 ghost use Rattle.rr_replica.specs.Listing.{owned_cell};
 
@@ -26,7 +26,7 @@ pub(crate) fn empty_archives<A: Archive>(
     Ok(archives)
 }
 
-/// Makes room for a sample in each archive, and changes no cell.
+/// Makes room for a sample in each archive after the first, and changes no cell.
 fn make_ready<A: Archive>(
     archives: &mut Vec<A>,
     schema: &Schema,
@@ -35,16 +35,17 @@ fn make_ready<A: Archive>(
     requires of_schema { AreOf A.row_limit schema.now archives.old.items }
     ensures unchanged { AreSame A.cells archives.old.items archives.new.items }
     ensures of_schema { AreOf A.row_limit schema.now archives.new.items }
-    ensures ready { OnOk result (Each (λ i a. IsTrue (A.is_ready a (cell_slot_for schema.now sample.now i))) archives.new.items) }
+    ensures ready { OnOk result (AreReady A.is_ready schema.now sample.now archives.new.items) }
 {
-    for i in 0..archives.len() {
+    for i in 1..archives.len() {
         let slot = schema.slot(i as u8, sample.time);
         archives[i].ready(slot, sample.origin)?;
     }
     Ok(())
 }
 
-/// Puts a sample into each archive, which has room for it.
+/// Puts a sample into each archive, those after the first having room for it. Where the first can't
+/// take it, nothing has changed yet.
 fn put_ready<A: Archive>(
     archives: &mut Vec<A>,
     schema: &Schema,
@@ -52,9 +53,9 @@ fn put_ready<A: Archive>(
 ) -> Result<(), AllocError>
     requires of_schema { AreOf A.row_limit schema.now archives.old.items }
     requires newer { CanTake A.cells schema.now sample.now archives.old.items }
-    requires ready { Each (λ i a. IsTrue (A.is_ready a (cell_slot_for schema.now sample.now i))) archives.old.items }
-    ensures succeeds { IsOk result }
-    ensures put { HavePut A.cells schema.now sample.now archives.old.items archives.new.items }
+    requires ready { AreReady A.is_ready schema.now sample.now archives.old.items }
+    ensures put { OnOk result (HavePut A.cells schema.now sample.now archives.old.items archives.new.items) }
+    ensures unchanged { OnErr result (AreSame A.cells archives.old.items archives.new.items) }
     ensures of_schema { AreOf A.row_limit schema.now archives.new.items }
 {
     for i in 0..archives.len() {

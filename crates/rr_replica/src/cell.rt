@@ -39,7 +39,7 @@ impl CellRef<'_> {
     ghost use Rattle.std.specs.Prelude.{◌≡◌, IfOk};
     ghost use Rattle.rr_replica.specs.Listing.{seen_cell, owned_cell};
 
-    /// The same cell, with a key of its own. The key's bytes are shared, so that no memory is taken.
+    /// The same cell, with a key of its own. The key's bytes are shared, so no memory is taken.
     pub fn to_cell(&self) -> Result<Cell, AllocError>
         ensures { IfOk result (λ cell. owned_cell cell ≡ seen_cell self.now) }
     {

@@ -35,7 +35,8 @@ pub(crate) fn join_in<A: Archive>(
     requires ordered { IsStrictlySortedBy bytes_cmp (keys_of series.old.entries) }
     ensures joined { OnOk result (cells_of (held_series A.cells series.new.entries)
         ≡ join_cell schema.now (cells_of (held_series A.cells series.old.entries)) (owned_cell cell.now).0 cell.now.contribution) }
-    ensures unchanged { OnErr result (cells_of (held_series A.cells series.new.entries) ≡ cells_of (held_series A.cells series.old.entries)) }
+    ensures unchanged { OnErr result (cells_of (held_series A.cells series.new.entries)
+        ≡ cells_of (held_series A.cells series.old.entries)) }
     ensures sized { AreAllSized A.row_limit schema.now series.new.entries }
     ensures ordered { IsStrictlySortedBy bytes_cmp (keys_of series.new.entries) }
 {

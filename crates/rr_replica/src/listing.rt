@@ -19,8 +19,8 @@ use rr_base::limits::MAX_ARCHIVES;
 use rr_key::SeriesKey;
 use std::collections::BTreeMap;
 
-/// How many cells archives hold, added to others; the greatest value of the type, where it can't hold
-/// that many.
+/// How many cells archives hold, added to others; the greatest value of the type, where it can't
+/// hold that many.
 pub(crate) fn count_in<A: Archive>(archives: &[A], others: usize) -> usize
     ensures { result ≡ at_most_usize (others + count_of (map A.cells archives.now)) }
 {
@@ -33,7 +33,8 @@ pub(crate) fn count_in<A: Archive>(archives: &[A], others: usize) -> usize
 
 /// A cell of an archive, with its key.
 pub(crate) fn named(key: &SeriesKey, archive: u8, cell: (i64, Entry)) -> CellRef<'_>
-    ensures { seen_cell result ≡ (name_at key.now archive (cell_slot cell.0 cell.1.origin), cell.1.contribution) }
+    ensures { seen_cell result
+        ≡ (name_at key.now archive (cell_slot cell.0 cell.1.origin), cell.1.contribution) }
 {
     CellRef {
         key,
@@ -94,7 +95,8 @@ pub(crate) fn nth_cell<A: Archive>(
 ) -> Option<CellRef<'_>>
     requires ordered { IsStrictlySortedBy bytes_cmp (keys_of series.now.entries) }
     requires few_archives { AllByRecursion (λ e. length e.1.items ≤ MAX_ARCHIVES) series.now.entries }
-    ensures { option_map seen_cell result ≡ slice_get (fin.entries (cells_of (held_series A.cells series.now.entries))) number }
+    ensures { option_map seen_cell result
+        ≡ slice_get (fin.entries (cells_of (held_series A.cells series.now.entries))) number }
 {
     let mut left = number;
     for (key, archives) in series {

@@ -34,7 +34,8 @@ fn first_from<'a, A: Archive>(
     first: usize,
 ) -> Option<CellRef<'a>>
     requires { length archives.now ≤ MAX_ARCHIVES }
-    ensures { option_map seen_cell result ≡ slice_get (cells_from key.now first (drop first (map A.cells archives.now))) 0 }
+    ensures { option_map seen_cell result
+        ≡ slice_get (cells_from key.now first (drop first (map A.cells archives.now))) 0 }
 {
     for i in first..archives.len() {
         if let Some(cell) = archives[i].cell_at(0) {
@@ -52,7 +53,8 @@ fn next_in<'a, A: Archive>(
 ) -> Option<CellRef<'a>>
     requires not_before { IsTrue (is_le (bytes_cmp name.now.key.now key.now)) }
     requires few_archives { length archives.now ≤ MAX_ARCHIVES }
-    ensures { option_map seen_cell result ≡ first_after (seen_name name.now) (cells_from key.now 0 (map A.cells archives.now)) }
+    ensures { option_map seen_cell result
+        ≡ first_after (seen_name name.now) (cells_from key.now 0 (map A.cells archives.now)) }
 {
     if key != name.key {
         return first_from(key, archives, 0);
@@ -75,7 +77,8 @@ pub(crate) fn next_cell<'a, A: Archive>(
 ) -> Option<CellRef<'a>>
     requires ordered { IsStrictlySortedBy bytes_cmp (keys_of series.now.entries) }
     requires few_archives { AllByRecursion (λ e. length e.1.items ≤ MAX_ARCHIVES) series.now.entries }
-    ensures { option_map seen_cell result ≡ next_cell (cells_of (held_series A.cells series.now.entries)) (seen_name name.now) }
+    ensures { option_map seen_cell result
+        ≡ next_cell (cells_of (held_series A.cells series.now.entries)) (seen_name name.now) }
 {
     for (key, archives) in series.range(name.key..) {
         if let Some(cell) = next_in(key, archives, name) {

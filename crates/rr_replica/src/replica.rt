@@ -1,5 +1,5 @@
 //! A replica of the store.
-ghost use Rattle.std.specs.Prelude.{◌≡◌, ℕ, ◌<◌, ◌≤◌, ◌+◌, ◌↔◌, length, map, take, drop, None, Err, IfOk, IfErr, OnOk, OnErr, IsTrue, IsFalse, MatchOption, slice_get, unwrap_or};
+ghost use Rattle.std.specs.Prelude.{◌≡◌, ℕ, ◌<◌, ◌≤◌, ◌+◌, ◌↔◌, All, length, map, take, drop, None, Err, IfSome, IfOk, IfErr, OnOk, OnErr, IsTrue, IsFalse, MatchOption, slice_get, unwrap_or};
 ghost use Rattle.std.specs.Option.{option_map};
 ghost use Rattle.std.specs.FinMap as fin;
 ghost use Rattle.rr_base.specs.Schema.{IsLayout};
@@ -8,6 +8,7 @@ ghost use Rattle.rr_base.specs.declared.limits.TheConstants.{MAX_FIELDS};
 ghost use Rattle.rr_line.specs.Key.{HasKeys, names_of, key_text};
 ghost use Rattle.rr_line.specs.Line.{point_view};
 ghost use Rattle.rr_replica.specs.Writing.{is_ahead};
+ghost use Rattle.rr_replica.specs.CellBounds.{IsCellOf};
 ghost use Rattle.rr_replica.specs.Cells.{row_at, rows_at};
 ghost use Rattle.rr_replica.specs.Puts.{put_sample};
 ghost use Rattle.rr_replica.specs.Holding.{Holding, with_put};
@@ -70,7 +71,8 @@ fn put_in<A: Archive>(
     ensures put { OnOk result (cells_of (held_series A.cells series.new.entries)
         ≡ put_sample schema.now (cells_of (held_series A.cells series.old.entries)) (sample_of key.now sample)) }
     ensures held_with { OnOk result (IsHeld A.cells A.row_limit schema.now sample.origin (sample.number + 1) series.new.entries) }
-    ensures unchanged { OnErr result (cells_of (held_series A.cells series.new.entries) ≡ cells_of (held_series A.cells series.old.entries)) }
+    ensures unchanged { OnErr result (cells_of (held_series A.cells series.new.entries)
+        ≡ cells_of (held_series A.cells series.old.entries)) }
     ensures held { OnErr result (IsHeld A.cells A.row_limit schema.now sample.origin sample.number series.new.entries) }
 {
     // The proof needs that the text is a key text, which `text` ensures.
@@ -89,7 +91,8 @@ fn put_in<A: Archive>(
 impl<A: Archive> Replica<A> {
     /// A replica that holds no cell, and whose first sample has number 1.
     pub fn new(alloc: Global, schema: &Schema, origin: Origin) -> Result<Replica<A>, AllocError>
-        ensures { IfOk result (λ r. r ≡ record { schema = schema.now; origin = origin; next = 1; cells = fin.empty }) }
+        ensures { IfOk result (λ r.
+            r ≡ record { schema = schema.now; origin = origin; next = 1; cells = fin.empty }) }
     {
         // The proof needs that the origin is from 1 to 65,535, which `get` ensures.
         let _number = origin.get();
@@ -130,11 +133,12 @@ impl<A: Archive> Replica<A> {
     ///
     /// In each archive where its slot is past the horizon the sample leaves no trace; it has its
     /// number all the same. Refused as `NumbersSpent` where the next number is past 2^40. After a
-    /// refusal, `Memory` included, nothing has changed: room is made in all archives before a cell
-    /// changes.
+    /// refusal, `Memory` included, nothing has changed: before a cell changes, room is made in all
+    /// archives but the first, which is then written first.
     ///
-    /// The cost is one look-up of the key and, in each archive, two of the slot (one makes room, one
-    /// puts), one more where its row is new, and the entries of a row, however many series there are.
+    /// The cost is one look-up of the key and, in each archive, one of the slot, a second to make
+    /// room first in each but the first archive, one more where a row is new, and the entries of a
+    /// row, however many series there are.
     pub fn put(&mut self, key: &SeriesKey, time: i64, value: i64) -> Result<u64, PutFault>
         ensures number { IfOk result (λ number. number ≡ self.old.next) }
         ensures put { OnOk result (self.new ≡ with_put self.old key.now time value) }
@@ -190,17 +194,18 @@ impl<A: Archive> Replica<A> {
         count_cells(&self.series)
     }
 
-    /// The cell with a number, from 0, in order of key, archive, slot and origin. The cost is linear
-    /// in the series before it, each passed over by its count, and in the rows of its archive.
+    /// The cell with a number, from 0, in order of key, archive, slot and origin. The cost is
+    /// linear in the series before it, each passed over by its count, and in the rows of its archive.
     pub fn cell_at(&self, i: usize) -> Option<CellRef<'_>>
-        ensures { option_map seen_cell result ≡ slice_get (fin.entries self.now.cells) i }
+        ensures listed { option_map seen_cell result ≡ slice_get (fin.entries self.now.cells) i }
+        ensures of_schema { IfSome result (λ c. IsCellOf self.now.schema (seen_cell c)) }
     {
         nth_cell(&self.series, i)
     }
 
-    /// The first cell after a name, in the same order, whether or not a cell is there. The cost is one
-    /// look-up of the key and that of the archives' `next_cell`: no series before the key is walked
-    /// over.
+    /// The first cell after a name, in the same order, whether or not a cell is there. The cost is
+    /// one look-up of the key and that of the archives' `next_cell`: no series before the key is
+    /// walked over.
     pub fn next_cell(
         &self,
         key: &SeriesKey,
@@ -208,7 +213,9 @@ impl<A: Archive> Replica<A> {
         slot: i64,
         origin: Origin,
     ) -> Option<CellRef<'_>>
-        ensures { option_map seen_cell result ≡ next_cell self.now.cells (cell_name key.now archive slot origin) }
+        ensures first { option_map seen_cell result
+            ≡ next_cell self.now.cells (cell_name key.now archive slot origin) }
+        ensures of_schema { IfSome result (λ c. IsCellOf self.now.schema (seen_cell c)) }
     {
         let name = NameRef {
             key,
@@ -219,16 +226,20 @@ impl<A: Archive> Replica<A> {
         next_cell(&self.series, &name)
     }
 
-    /// As many cells as `count` from a place on, in the same order; fewer where there are fewer. The
-    /// cost is that of `cell_at` for the first, and for each further cell that of `next_cell`.
+    /// As many cells as `count` from a place on, in the same order; fewer where there are fewer.
+    /// The cost is that of `cell_at` for the first, and for each further cell that of `next_cell`.
     pub fn cells_from(
         &self,
         alloc: Global,
         from: usize,
         count: usize,
     ) -> Result<Vec<Cell>, AllocError>
-        ensures { IfOk result (λ cells. map owned_cell cells.items ≡ take count (drop from (fin.entries self.now.cells))) }
+        ensures listed { IfOk result (λ cells.
+            map owned_cell cells.items ≡ take count (drop from (fin.entries self.now.cells))) }
+        ensures of_schema { IfOk result (λ cells. All (λ c. IsCellOf self.now.schema (owned_cell c)) cells.items) }
     {
+        // The proof needs what the replica keeps to, which `schema` ensures.
+        let _schema = self.schema();
         let mut cells = Vec::new(alloc);
         let mut next = self.cell_at(from);
         for _ in 0..count {
@@ -267,7 +278,8 @@ impl<A: Archive> Replica<A> {
         ensures spent { (result ≡ Err WriteFault.NumbersSpent)
             ↔ (IsFalse (is_ahead point.now.time now lead) × IsTrue (lacks_numbers self.old (length point.now.fields.items))) }
         ensures refused { IfErr result (IsAfterRefusal self.old self.new (point_view point.now) (unwrap_or point.now.time now)) }
-        ensures fields_left { (put : ℕ) → result ≡ Err (WriteFault.Memory put) → put < length point.now.fields.items }
+        ensures fields_left { (put : ℕ) → result ≡ Err (WriteFault.Memory put)
+            → put < length point.now.fields.items }
     {
         if is_ahead(point.time, now, lead) {
             return Err(WriteFault::AheadOfClock);
@@ -291,9 +303,11 @@ impl<A: Archive> Replica<A> {
         requires few_fields { length point.now.fields.items ≤ MAX_FIELDS }
         requires numbers_left { IsFalse (lacks_numbers self.old (length point.now.fields.items)) }
         ensures count { IfOk result (λ count. count ≡ length point.now.fields.items) }
-        ensures put { OnOk result (self.new ≡ with_fields self.old (point_view point.now) time (point_view point.now).fields) }
+        ensures put { OnOk result (self.new
+            ≡ with_fields self.old (point_view point.now) time (point_view point.now).fields) }
         ensures stopped { IfErr result (IsMemoryAfter self.old self.new (point_view point.now) time) }
-        ensures fields_left { (put : ℕ) → result ≡ Err (WriteFault.Memory put) → put < length point.now.fields.items }
+        ensures fields_left { (put : ℕ) → result ≡ Err (WriteFault.Memory put)
+            → put < length point.now.fields.items }
     {
         let mut put = 0;
         for field in &point.fields {
@@ -314,7 +328,8 @@ impl<A: Archive> Replica<A> {
     ) -> Result<(), AllocError>
         requires keyed { making_fault (names_of (point_view point.now) field.now.key.now) ≡ None }
         requires number_left { self.old.next ≤ MAX_NUMBER }
-        ensures put { OnOk result (self.new ≡ with_put self.old (key_text (point_view point.now) field.now.key.now) time field.now.value) }
+        ensures put { OnOk result (self.new
+            ≡ with_put self.old (key_text (point_view point.now) field.now.key.now) time field.now.value) }
         ensures unchanged { OnErr result (self.new ≡ self.old) }
     {
         let key = point.series_key(self.alloc, field.key)?;
@@ -326,8 +341,6 @@ impl<A: Archive> Replica<A> {
 }
 
 impl<A: Archive> Replica<A> {
-    ghost use Rattle.std.specs.Prelude.{All};
-    ghost use Rattle.rr_replica.specs.CellBounds.{IsCellOf};
     ghost use Rattle.rr_replica.specs.Joining.{with_cell, with_cells, IsAfterJoined};
 
     /// Joins a cell from elsewhere, which is valid under the schema: of it and what stands at its

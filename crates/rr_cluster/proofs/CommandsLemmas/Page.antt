@@ -33,13 +33,13 @@ use Rattle.rr_cluster.specs.Agreement.{in_cells, node_in_cells}
 use Rattle.rr_cluster.specs.Command.{IsOneLine}
 use Rattle.rr_cluster.specs.Commands.Page.{page_command, after_page}
 use Rattle.rr_cluster.specs.Commands.Bytes.{bytes_of_page}
-use Rattle.rr_cluster.specs.Meaning.{page_at, replica_at, HasPageText, Represents}
-use Rattle.rr_cluster.specs.Model.{Model, cell_model, sample_model, cells_from}
+use Rattle.rr_cluster.specs.Meaning.{page_bytes_at, replica_at, HasPageText, Represents}
+use Rattle.rr_cluster.specs.Model.{Model, cell_model, sample_model, part_of}
 use Rattle.rr_cluster.specs.Soundness.{IsSound}
 use Rattle.rr_cluster.specs.State.{Node, State}
 use Rattle.rr_cluster.specs.Words.{words_of, is_name, number_within}
 use Rattle.rr_cluster.proofs.CommandsLemmas.Write.{layout_at}
-use Rattle.rr_cluster.proofs.EntriesLemmas.{entries-cells_from, part_is_page}
+use Rattle.rr_cluster.proofs.EntriesLemmas.{entries-part_of, part_is_page}
 use Rattle.rr_cluster.proofs.SoundnessLemmas.{with_page_is_sound}
 use Rattle.rr_cluster.proofs.StepLemmas.{names_apart, Agrees, then_agree, found_agree, done_agrees}
 use Rattle.rr_cluster.proofs.WordsLemmas.{some_parts}
@@ -91,9 +91,9 @@ module _ (h : Holding) (is : IsHolding h) (from count : ℕ) (fits : count ≤ M
   pub cells_are_page : IsPage h.schema (take count (drop from (map.entries h.cells)))
   cells_are_page = part_is_page h.schema h.cells from count is.cells fits
 
-  pub page_is_text : (bytes : List ℕ) → bytes ≡ page_text latest h.schema (take count (drop from (map.entries h.cells))) → HasPageText h.schema (cells_from h.cells from count) bytes
+  pub page_is_text : (bytes : List ℕ) → bytes ≡ page_text latest h.schema (take count (drop from (map.entries h.cells))) → HasPageText h.schema (part_of h.cells from count) bytes
   page_is_text bytes written =
-      let same = sym (entries-cells_from h.cells from count) in
+      let same = sym (entries-part_of h.cells from count) in
       record { page = subst (IsPage h.schema) same cells_are_page; text = written ∙ ap (page_text latest h.schema) same }
 
 -- ---- the cluster with the page
@@ -103,14 +103,14 @@ Pages = BTreeMap (Vec ℕ) (Vec ℕ)
 
 -- the new map has the bytes at the name, and is the old one at all others
 abbrev HasPutPage : Pages → Pages → List ℕ → List ℕ → Type 0
-HasPutPage old new name bytes = (q : List ℕ) → page_at new q ≡ cond (eq_by_cmp bytes_cmp q name) (Some bytes) (page_at old q)
+HasPutPage old new name bytes = (q : List ℕ) → page_bytes_at new q ≡ cond (eq_by_cmp bytes_cmp q name) (Some bytes) (page_bytes_at old q)
 
 pub page_inserted : (old new : Pages) (name bytes : Vec ℕ) → new.entries ≡ insert_entry (λ a b. bytes_cmp a.items b.items) old.entries name bytes → HasPutPage old new name.items bytes.items
 page_inserted old new name bytes entries q =
     ap (option_map (λ (page : Vec ℕ). page.items)) (get_called-insert nat_list_cmp_total names_apart (λ (key : Vec ℕ). key.items) old new name bytes entries q)
     ∙ by (eq_by_cmp bytes_cmp q name.items)
   where
-    by : (b : Bool) → option_map (λ (page : Vec ℕ). page.items) (cond b (Some bytes) (get_called bytes_cmp (λ (key : Vec ℕ). key.items) old q)) ≡ cond b (Some bytes.items) (page_at old q)
+    by : (b : Bool) → option_map (λ (page : Vec ℕ). page.items) (cond b (Some bytes) (get_called bytes_cmp (λ (key : Vec ℕ). key.items) old q)) ≡ cond b (Some bytes.items) (page_bytes_at old q)
     by true = refl
     by false = refl
 
@@ -130,7 +130,7 @@ module _ {A : Type 0} {g : Ghosts A} (old new : Cluster A g) (m : State Cells) (
     origins = λ origin. rw origins (is.origins origin);
   }
     where
-      by : (q : List ℕ) (b : Bool) → cond b (Some bytes) (page_at old.pages q) ≡ option_map (bytes_of_page m.schema) (cond b (Some page) (map.get m.pages q))
+      by : (q : List ℕ) (b : Bool) → cond b (Some bytes) (page_bytes_at old.pages q) ≡ option_map (bytes_of_page m.schema) (cond b (Some page) (map.get m.pages q))
       by q true = ap (λ (t : List ℕ). Some t) has.text
       by q false = is.pages q
 
@@ -151,7 +151,7 @@ module _ (m : State Knowledge) (sound : IsSound m) (name : List ℕ) (n : Node K
   page = part n.schema n.contents first most
 
   -- the cells of a part
-  part_agrees : cells_from (state n.schema n.contents) first most ≡ state m.schema page
+  part_agrees : part_of (state n.schema n.contents) first most ≡ state m.schema page
   part_agrees =
       ap (λ es. map.from_entries es) (sym (parts_are_cut n.schema n.contents first most (layout_at m sound name n here)))
       ∙ from_entries-entries (state n.schema page)

@@ -6,7 +6,7 @@ ghost use Rattle.rr_replica.specs.Cells.{Cells};
 ghost use Rattle.rr_cluster.specs.Command.{view_of};
 ghost use Rattle.rr_cluster.specs.Commands.Page.{after_page, page_command};
 ghost use Rattle.rr_cluster.specs.Meaning.{HasPageText, Leaves, Represents};
-ghost use Rattle.rr_cluster.specs.Model.{cell_model, cells_from};
+ghost use Rattle.rr_cluster.specs.Model.{cell_model, part_of};
 ghost use Rattle.rr_cluster.specs.State.{State};
 ghost use Rattle.rr_cluster.specs.Words.{words_of};
 
@@ -73,7 +73,7 @@ fn page_of<A: Archive>(
 ) -> Result<Vec<u8>, AllocError>
     requires { count ≤ MAX_PAGE_CELLS }
     ensures { IfOk result (λ page.
-        HasPageText replica.now.schema (cells_from replica.now.cells from count) page.items) }
+        HasPageText replica.now.schema (part_of replica.now.cells from count) page.items) }
 {
     let cells = replica.cells_from(alloc, from, count)?;
     encode(alloc, replica.schema(), &cells)

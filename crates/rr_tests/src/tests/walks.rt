@@ -1,14 +1,29 @@
 //! Cells in order: after a name, and from a place on.
 
-use super::replicas::ARCHIVES;
 use rr_archive::PlainArchive;
-use rr_base::{Origin, Schema};
+use rr_base::{ArchiveSpec, Origin, Schema};
 use rr_key::SeriesKey;
 use rr_replica::Replica;
 use std::alloc::{AllocError, Global};
 use std::test::Fail;
 
 const MINUTE: i64 = 60_000_000_000;
+
+/// Three rows of one step, and two of five.
+const ARCHIVES: [ArchiveSpec; 2] = [
+    ArchiveSpec {
+        steps: 1,
+        rows: 3,
+        num: 0,
+        den: 1,
+    },
+    ArchiveSpec {
+        steps: 5,
+        rows: 2,
+        num: 1,
+        den: 2,
+    },
+];
 
 /// A replica of two series, `k v` with one sample and `m v` with two, each in a slot of its own of
 /// the first archive.

@@ -19,7 +19,7 @@ returns-in_err-ready-clause-unchanged g c =
     let items = c.loop-i.archives.items in
     let at = found_at items c.loop-i.i c.index_mut.result.now (search rules) c.index_mut.ensures.value in
     let cells : g.A.Archive.cells c.ready.new.self ≡ g.A.Archive.cells c.index_mut.result.now = search rules in
-    same_more g.A.Archive.cells g.A.Archive.row_limit g.A.Archive.is_ready c.args.schema.now c.args.sample.now c.loop-i.i c.args.archives.now.items items c.index_mut.result.now c.ready.new.self c.loop-i.invariant.same at cells
+    same_more g.A.Archive.cells c.loop-i.i c.args.archives.now.items items c.index_mut.result.now c.ready.new.self c.loop-i.invariant.same at cells
 
 pub loop-i-preserved : goal.loop-i-preserved
 loop-i-preserved g c =
@@ -33,4 +33,4 @@ loop-i-preserved g c =
     readied_more g.A.Archive.cells g.A.Archive.row_limit g.A.Archive.is_ready c.args.schema.now c.args.sample.now c.loop-i.i c.args.archives.now.items items c.index_mut.result.now c.ready.new.self c.loop-i.invariant at cells limit (rw (kept, slot) at room)
 
 pub returns-clause-ready : goal.returns-clause-ready
-returns-clause-ready g c = λ i a at. c.loop-i.invariant.ready i a (let within = slice_get_within c.loop-i.archives.items i a at in let many = c.loop-i.invariant.same.many in let len : c.len-i-end.result ≡ length c.args.archives.now.items = search rules in omega arith) at
+returns-clause-ready g c = λ i a at some. c.loop-i.invariant.ready i a some (let within = slice_get_within c.loop-i.archives.items i a at in let many = c.loop-i.invariant.same.many in let len : c.len-i-end.result ≡ length c.args.archives.now.items = search rules in omega arith) at

@@ -1,7 +1,8 @@
-use Rattle.std.proofs.Common.{rules, ◌≡◌, true≢false, length, Some, slice_get, sym, ◌∙◌, subst, arith, to_z, of_z, w64}
+use Rattle.std.proofs.Common.{rules, ⊎_elim, ◌≡◌, true≢false, length, Some, slice_get, sym, ◌∙◌, subst, arith, to_z, of_z, w64}
 use Rattle.std.specs.Prelude.{IsOk}
+use Rattle.std.proofs.lemmas.Bool.{cases_lt}
 use Rattle.rr_base.specs.Schema.{slot_of, place_of}
-use Rattle.rr_replica.proofs.Each.{found_at, slot_is, put_none, put_more, put_all}
+use Rattle.rr_replica.proofs.Each.{on_err_from, found_at, map-set_same, slot_is, put_none, put_failed, put_more, put_all}
 use Rattle.rr_replica.proofs.archives.put_ready.Goals as goal
 
 pub loop-i-init : goal.loop-i-init
@@ -21,15 +22,30 @@ put-requires-clause-newer g c =
     let slot : c.slot-slot.result ≡ slot_of c.args.schema.now c.loop-i.i c.args.sample.now.time = search rules in
     rw (kept, slot) (c.requires.newer c.loop-i.i c.index_mut.result.now was)
 
-pub returns-in_err-put : goal.returns-in_err-put
-returns-in_err-put g c =
+-- all archives but the first have room
+pub returns-in_err-put-clause-unchanged : goal.returns-in_err-put-clause-unchanged
+returns-in_err-put-clause-unchanged g c =
+    let cells = g.A.Archive.cells in
     let at = found_at c.loop-i.archives.items c.loop-i.i c.index_mut.result.now (search rules) c.index_mut.ensures.value in
     let was : slice_get c.args.archives.now.items c.loop-i.i ≡ Some c.index_mut.result.now = sym (c.loop-i.invariant.rest c.loop-i.i (omega arith)) ∙ at in
     let kept : to_z w64 (of_z w64 c.slot-slot.result) ≡ c.slot-slot.result = search rules in
     let slot : c.slot-slot.result ≡ slot_of c.args.schema.now c.loop-i.i c.args.sample.now.time = search rules in
-    let ready = c.requires.ready c.loop-i.i c.index_mut.result.now was in
+    on_err_from c.from_residual.result (⊎_elim
+    (λ first. put_failed cells g.A.Archive.row_limit c.args.schema.now c.args.sample.now c.loop-i.i c.args.archives.now.items c.loop-i.archives.items c.index_mut.result.now c.put.new.self c.loop-i.invariant first at (search rules))
+    (λ later.
+    let ready = c.requires.ready c.loop-i.i c.index_mut.result.now was later in
     let ok : IsOk c.put.result = c.put.ensures.room (rw (kept, slot) ready) in
-    absurd (true≢false (sym (subst IsOk c.in_err-put.was ok)))
+    absurd (true≢false (sym (subst IsOk c.in_err-put.was ok))))
+    (cases_lt c.loop-i.i 1))
+
+pub returns-in_err-put-clause-of_schema : goal.returns-in_err-put-clause-of_schema
+returns-in_err-put-clause-of_schema g c =
+    let items = c.loop-i.archives.items in
+    let at = found_at items c.loop-i.i c.index_mut.result.now (search rules) c.index_mut.ensures.value in
+    record {
+      layout = c.requires.of_schema.layout;
+      sized = map-set_same g.A.Archive.row_limit items c.loop-i.i c.index_mut.result.now c.put.new.self at c.put.ensures.limit ∙ c.loop-i.invariant.sized;
+    }
 
 pub loop-i-preserved : goal.loop-i-preserved
 loop-i-preserved g c =
