@@ -15,6 +15,7 @@ mod replicas;
 mod reports;
 mod schemas;
 mod scripts;
+mod snapshots;
 mod streams;
 mod walks;
 mod words;
