@@ -21,6 +21,14 @@ fn replica(alloc: Global) -> Result<Replica<PlainArchive>, Fail> {
     Ok(Replica::new(alloc, &schema, Origin::new(1)?)?)
 }
 
+/// The slot of the cell with a number; -1 where there is none.
+fn slot_of<A: Archive>(replica: &Replica<A>, i: usize) -> i64 {
+    let Some(cell) = replica.cell_at(i) else {
+        return -1;
+    };
+    cell.slot
+}
+
 #[test]
 fn a_new_replica_holds_nothing(rt: HostRuntime) -> Result<(), Fail> {
     let replica = replica(rt.alloc())?;
@@ -46,9 +54,8 @@ fn a_million_samples_leave_ten_rows(rt: HostRuntime) -> Result<(), Fail> {
     for k in 0..1_000_000u32 {
         replica.put(&key, i64::from(k) * MINUTE, 7)?;
     }
-    let first = replica.cell_at(0).map_or(0, |cell| cell.slot);
-    let last = replica.cell_at(9).map_or(0, |cell| cell.slot);
-    assert_eq!(rt; (replica.cell_count(), first, last), (10, 999_990, 999_999));
+    let slots = (slot_of(&replica, 0), slot_of(&replica, 9));
+    assert_eq!(rt; (replica.cell_count(), slots), (10, (999_990, 999_999)));
     Ok(())
 }
 
