@@ -47,7 +47,9 @@ pub(crate) fn answers(alloc: Global, input: &[u8]) -> Result<Vec<u8>> {
     let text = str::from_utf8(input)?;
     let mut lines = text.lines();
     let count = lines.next().context("an empty file")?.parse::<usize>()?;
-    let archives = ARCHIVES.get(..count).context("a replica has one archive or two")?;
+    let archives = ARCHIVES
+        .get(..count)
+        .context("a replica has one archive or two")?;
     let schema = Schema::new(alloc, 60, archives)?;
     let mut replica = Replica::new(alloc, &schema, Origin::new(1)?)?;
     let mut output = String::new(alloc);
