@@ -19,7 +19,7 @@ use Rattle.rr_page.specs.Version.{version_byte}
 use Rattle.rr_page.proofs.FieldLemmas.{not_false, and_then, unless_ok, ok_is, Takes, front_takes, front_again, number_takes, number_again, with_number, with_ok, step}
 use Rattle.rr_page.proofs.NumberLemmas.{wide8, wide16}
 
-version_takes : (bytes : List ℕ) (v : Version) (rest : List ℕ) → AreBytes bytes → version_at bytes ≡ Ok (v, rest) → Takes bytes (version_byte v ∷ []) rest
+pub version_takes : (bytes : List ℕ) (v : Version) (rest : List ℕ) → AreBytes bytes → version_at bytes ≡ Ok (v, rest) → Takes bytes (version_byte v ∷ []) rest
 unfolding version_at
 version_takes bytes v rest fits e =
     with_number w8 wide8 bytes _ (v, rest) fits e (λ n r t lt e0.
@@ -28,7 +28,7 @@ version_takes bytes v rest fits e =
     subst (λ (p : Version × List ℕ). Takes bytes (version_byte p.0 ∷ []) p.1) (ok_is (One, r) (v, rest) g.1)
     (subst (λ (m : ℕ). Takes bytes (to_be_bytes w8 m) r) one t))
 
-version_again : (v : Version) (rest : List ℕ) → version_at (version_byte v ∷ rest) ≡ Ok (v, rest)
+pub version_again : (v : Version) (rest : List ℕ) → version_at (version_byte v ∷ rest) ≡ Ok (v, rest)
 unfolding version_at
 version_again One rest = step _ (number_again w8 wide8 1 rest (omega arith))
 

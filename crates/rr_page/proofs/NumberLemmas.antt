@@ -1,6 +1,6 @@
 -- Numbers as bytes, the highest byte first: what is written is read again, and what is read was written so.
 use Rattle.std.proofs.Common.{◌≡◌, ℕ, zero, suc, ◌+◌, ◌*◌, ◌/◌, ◌%◌, ◌^◌, ◌<◌, ◌≤◌, List, [], ◌∷◌, length, refl, sym, ap, ◌∙◌, arith}
-use Rattle.std.specs.Int.{Width, w8, w16, w64, w128, byte_len, byte_at, bytes_high_first, from_be_bytes, to_be_bytes}
+use Rattle.std.specs.Int.{Width, w8, w16, w32, w64, w128, byte_len, byte_at, bytes_high_first, from_be_bytes, to_be_bytes}
 use mir.Val.{bits}
 use Rattle.std.proofs.Math.Nat as nat
 use Rattle.std.proofs.Math.Arith.{mod-mul}
@@ -94,6 +94,14 @@ value_2 (a ∷ []) l = absurd (omega arith)
 value_2 (a ∷ b ∷ []) l = omega arith
 value_2 (a ∷ b ∷ c ∷ bytes) l = absurd (omega arith)
 
+value_4 : (bytes : List ℕ) → length bytes ≡ 4 → from_be_bytes w32 bytes ≡ value bytes
+value_4 [] l = absurd (omega arith)
+value_4 (a ∷ []) l = absurd (omega arith)
+value_4 (a ∷ b ∷ []) l = absurd (omega arith)
+value_4 (a ∷ b ∷ c ∷ []) l = absurd (omega arith)
+value_4 (a ∷ b ∷ c ∷ d ∷ []) l = omega arith
+value_4 (a ∷ b ∷ c ∷ d ∷ e ∷ bytes) l = absurd (omega arith)
+
 value_8 : (bytes : List ℕ) → length bytes ≡ 8 → from_be_bytes w64 bytes ≡ value bytes
 value_8 [] l = absurd (omega arith)
 value_8 (a ∷ []) l = absurd (omega arith)
@@ -140,6 +148,9 @@ wide8 = from_value w8 value_1 refl
 
 pub wide16 : IsWide w16
 wide16 = from_value w16 value_2 refl
+
+pub wide32 : IsWide w32
+wide32 = from_value w32 value_4 refl
 
 pub wide64 : IsWide w64
 wide64 = from_value w64 value_8 refl

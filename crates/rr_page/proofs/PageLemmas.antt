@@ -30,7 +30,7 @@ use Rattle.rr_page.proofs.HeadLemmas.{head_takes, head_again, start_again}
 use Rattle.rr_page.proofs.OrderLemmas.{rising_sorted, sorted_rising}
 
 -- the masks of every version are wide enough for every schema within the limits
-masks_wide : (v : Version) (s : Layout) → IsLayout s → HasMasksFor v s
+pub masks_wide : (v : Version) (s : Layout) → IsLayout s → HasMasksFor v s
 masks_wide One s is = λ k d h. (is.each k d h).few_steps
 
 pub record IsRead (s : Layout) (bytes : List ℕ) (es : List NamedCell) (rest : List ℕ) : Type 0 where

@@ -15,8 +15,8 @@ use rr_base::Schema;
 use rr_replica::Cell;
 use std::alloc::Global;
 
-/// Whether the name of a cell is greater than that of another.
-fn follows(before: &Cell, cell: &Cell) -> bool
+/// Whether the name of a cell is greater than that of another, so that it may follow it.
+pub fn follows(before: &Cell, cell: &Cell) -> bool
     ensures { result ≡ is_after (Some (owned_cell before.now).0) (owned_cell cell.now).0 }
 {
     let cell_slot = before

@@ -21,7 +21,7 @@ mod reading;
 mod version;
 mod writing;
 
-pub use decoding::decode;
+pub use decoding::{decode, follows};
 pub use encoding::encode;
 pub use fault::PageFault;
 pub use heading::version_of;

@@ -17,6 +17,7 @@ use Rattle.rr_model.proofs.Orders.{cell_name_cmp_total, cell_name_cmp-IsAntisymm
 use Rattle.rr_replica.specs.declared.cell.Cell.{Cell}
 use Rattle.rr_replica.specs.declared.cell.CellRef.{CellRef}
 use Rattle.rr_replica.specs.CellBounds.{NamedCell, IsCellOf}
+use Rattle.rr_replica.specs.Cells.{Cells}
 use Rattle.rr_replica.specs.Held.{IsHolding}
 use Rattle.rr_replica.specs.Holding.{Holding}
 use Rattle.rr_replica.specs.Listing.{owned_cell, seen_cell, first_after, next_cell}
@@ -28,11 +29,12 @@ all_images P f (n ∷ ns) each = (
   all_images P f ns (λ k e. each k (or_right (eq_by_cmp cell_name_cmp k n) (is_in cell_name_cmp ns k) e)),
 )
 
-all_held : (h : Holding) → IsHolding h → AllByRecursion (IsCellOf h.schema) (entries h.cells)
-all_held h holds =
-    subst (AllByRecursion (IsCellOf h.schema)) (sym (entries_by_keys cell_name_cmp_total cell_name_cmp-IsAntisymmetric h.cells nothing))
-    (all_images (IsCellOf h.schema) (λ n. (n, unwrap_or (get h.cells n) nothing)) (keys h.cells) (λ n e.
-    holds.cells n (unwrap_or (get h.cells n) nothing) (found (get h.cells n) (sym (is_in-keys cell_name_cmp_total cell_name_cmp-IsAntisymmetric h.cells n) ∙ e))))
+-- what holds of each cell of a map, by its name, holds of all its entries
+pub all_entries : (P : NamedCell → Type 0) (m : Cells) → ((n : CellName) (c : Contribution) → get m n ≡ Some c → P (n, c)) → AllByRecursion P (entries m)
+all_entries P m each =
+    subst (AllByRecursion P) (sym (entries_by_keys cell_name_cmp_total cell_name_cmp-IsAntisymmetric m nothing))
+    (all_images P (λ n. (n, unwrap_or (get m n) nothing)) (keys m) (λ n e.
+    each n (unwrap_or (get m n) nothing) (found (get m n) (sym (is_in-keys cell_name_cmp_total cell_name_cmp-IsAntisymmetric m n) ∙ e))))
   where
     nothing : Contribution
     nothing = of_one (slot_sample 0 0 (pos 0) (pos 0))
@@ -40,6 +42,9 @@ all_held h holds =
     found : (o : Option Contribution) → is_some o ≡ true → o ≡ Some (unwrap_or o nothing)
     found None e = absurd (true≢false (sym e))
     found (Some c) e = refl
+
+all_held : (h : Holding) → IsHolding h → AllByRecursion (IsCellOf h.schema) (entries h.cells)
+all_held h holds = all_entries (IsCellOf h.schema) h.cells holds.cells
 
 all_drop : (P : NamedCell → Type 0) (n : ℕ) (es : List NamedCell) → AllByRecursion P es → AllByRecursion P (drop n es)
 all_drop P zero es all = all

@@ -4,3 +4,5 @@ pub mod WidthLemmas
 pub mod StreamLemmas
 pub mod PieceLemmas
 pub mod ChainLemmas
+pub mod CellsLemmas
+pub mod LoadLemmas

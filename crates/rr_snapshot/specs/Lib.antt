@@ -2,3 +2,4 @@ pub mod Fault
 pub mod Snapshot
 pub mod SnapshotReading
 pub mod Stream
+pub mod Loading

@@ -1,5 +1,5 @@
 -- Snapshots: which cells make one, and its bytes.
-use Rattle.std.specs.Prelude.{ℕ, ◌≤◌, List, ◌∷◌, ◌++◌, length, codes, All, IsTrue}
+use Rattle.std.specs.Prelude.{◌≡◌, ℕ, ◌≤◌, List, ◌∷◌, ◌++◌, length, codes, All, IsTrue}
 use Rattle.std.specs.FinMap.{is_sorted}
 use Rattle.std.specs.Int.{w16, w32, to_be_bytes}
 use Rattle.std.specs.List.{flat_map}
@@ -37,3 +37,8 @@ body_text v s origin es = head_text v s origin (length es) ++ flat_map (cell_tex
 -- and the digest of all of this
 unfoldable pub snapshot_text : Version → Layout → ℕ → List NamedCell → List ℕ
 snapshot_text v s origin es = body_text v s origin es ++ sha256 (body_text v s origin es)
+
+-- the bytes are the text of these cells under an origin, in some version
+pub record IsSnapshotText (s : Layout) (origin : ℕ) (es : List NamedCell) (bytes : List ℕ) : Type 0 where
+  pub version : Version
+  pub text : bytes ≡ snapshot_text version s origin es

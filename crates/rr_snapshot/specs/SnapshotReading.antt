@@ -1,8 +1,7 @@
 -- The reading of a snapshot, as a function of the bytes: field by field, up to the first fault.
-use Rattle.std.specs.Prelude.{ℕ, ◌-◌, Bool, ◌||◌, not, ◌==◌, nat_eq, List, length, take, Result, Ok, Err, None}
+use Rattle.std.specs.Prelude.{ℕ, ◌-◌, not, ◌==◌, nat_eq, List, length, take, Result, Ok, Err, None}
 use Rattle.std.specs.Cmp.Lexicographic.{pointwise}
 use Rattle.std.specs.Int.{w16, w32}
-use Rattle.std.specs.List.{list_any}
 use Rattle.sha2.specs.Sha256.{sha256}
 use Rattle.rr_base.specs.Results.{◌>>=◌, unless}
 use Rattle.rr_base.specs.Schema.{Layout}
@@ -14,7 +13,7 @@ use Rattle.rr_page.specs.declared.version.Version.{Version}
 use Rattle.rr_page.specs.PageReading.{version_at, cells_at}
 use Rattle.rr_page.specs.Reading.{front_at, number_at}
 use Rattle.rr_snapshot.specs.declared.fault.LoadFault.{LoadFault}
-use Rattle.rr_snapshot.specs.declared.fault.LoadFault.TheVariants.{BadOrigin, BadDigest, TrailingBytes, OriginUsed}
+use Rattle.rr_snapshot.specs.declared.fault.LoadFault.TheVariants.{BadOrigin, BadDigest, TrailingBytes}
 use Rattle.rr_snapshot.specs.Fault.{load_fault}
 use Rattle.rr_snapshot.specs.Snapshot.{magic}
 
@@ -61,13 +60,3 @@ snapshot_at s bytes = do
   digest ← digest_at (sha256 (bytes_before cells.1 bytes)) cells.1
   end ← end_at digest.1
   Ok (head.0.1.0, cells.0)
-
--- whether an origin is that of the snapshot or of one of its cells
-abbrev pub is_used : ℕ → ℕ × List NamedCell → Bool
-is_used origin x = (x.0 == origin) || list_any (λ e. e.0.origin == origin) x.1
-
--- the same, for a replica of a new origin
-unfoldable pub loaded_at : Layout → ℕ → List ℕ → Result (ℕ × List NamedCell) LoadFault
-loaded_at s origin bytes = do
-  x ← snapshot_at s bytes
-  unless OriginUsed (is_used origin x) (Ok x)

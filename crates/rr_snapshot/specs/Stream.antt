@@ -9,6 +9,7 @@ use Rattle.rr_page.specs.declared.fault.PageFault.{PageFault}
 use Rattle.rr_page.specs.declared.version.Version.{Version}
 use Rattle.rr_page.specs.Reading.{number_at}
 use Rattle.rr_page.specs.Version.{fields_len}
+use Rattle.rr_replica.specs.CellBounds.{NamedCell}
 use Rattle.rr_snapshot.specs.declared.fault.LoadFault.{LoadFault}
 use Rattle.rr_snapshot.specs.declared.fault.LoadFault.TheVariants.{ReadFailed, Memory}
 
@@ -34,3 +35,9 @@ StreamGives view (Err fault) old new read = (fault ≡ ReadFailed) ⊎ (fault �
 -- the bytes that were taken from a reader were added to what is digested
 abbrev pub Digests : Option (List ℕ) → Option (List ℕ) → Sha256 → Sha256 → Type 0
 Digests old new before after = (taken : List ℕ) × Consumes old new taken × ((m : List ℕ) → Holds256 before m → Holds256 after (m ++ taken))
+
+-- the result of a call is made of some cells; where the bytes of a stream are known, these are what is read of them,
+-- and what follows them is left; or the reader failed, or memory ran out
+abbrev pub StreamMakes : {X : Type 0} → (X → List NamedCell → Type 0) → Result X LoadFault → Option (List ℕ) → Option (List ℕ) → (List ℕ → Result (List NamedCell × List ℕ) LoadFault) → Type 0
+StreamMakes made (Ok x) old new read = (es : List NamedCell) × made x es × IfSome old (λ all. (rest : List ℕ) × (new ≡ Some rest) × (read all ≡ Ok (es, rest)))
+StreamMakes made (Err fault) old new read = (fault ≡ ReadFailed) ⊎ (fault ≡ Memory) ⊎ IfSome old (λ all. read all ≡ Err fault)

@@ -2,15 +2,19 @@
 //!
 //! A snapshot (`specs/Snapshot.antt`) has a head, the cells of a replica, strictly ascending by their
 //! names, and the SHA-256 digest of all of this. [`save`] writes it, one cell after the other, so that
-//! nothing of it but one cell is in memory.
+//! nothing of it but one cell is in memory. [`load`] reads it field by field up to the first fault
+//! (`specs/SnapshotReading.antt`) and joins each cell into a replica of a new origin as it comes
+//! (`specs/Loading.antt`), so that of the bytes it too holds one cell's at a time.
 #![tactic(auto)]
 
 mod ending;
 mod fault;
 mod heading;
+mod loading;
 mod saving;
 mod stream;
 
 pub use fault::{LoadFault, SaveFault};
 pub use heading::MAX_SNAPSHOT_CELLS;
+pub use loading::load;
 pub use saving::save;

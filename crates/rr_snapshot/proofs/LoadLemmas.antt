@@ -1,0 +1,153 @@
+-- What a snapshot is loaded as, by what was read of it, part by part.
+use Rattle.std.proofs.Common.{◌≡◌, ◌⊎◌, ℕ, Bool, true, false, List, ◌++◌, length, take, Option, None, Some, IfSome, Result, Ok, Err, refl, sym, ap, subst, ◌∙◌, arith, inl, inr}
+use Rattle.std.specs.Io.KnownBytes.{Consumes}
+use Rattle.std.proofs.lemmas.List.{length-append, take_at}
+use Rattle.sha2.specs.Sha256.{sha256}
+use Rattle.rr_base.specs.Results.{◌>>=◌, unless}
+use Rattle.rr_base.specs.Schema.{Layout}
+use Rattle.rr_base.specs.SchemaBytes.{schema_bytes}
+use Rattle.rr_page.specs.declared.version.Version.{Version}
+use Rattle.rr_page.specs.PageReading.{cells_at}
+use Rattle.rr_replica.specs.CellBounds.{NamedCell}
+use Rattle.rr_replica.specs.Holding.{Holding}
+use Rattle.rr_snapshot.specs.declared.fault.LoadFault.{LoadFault}
+use Rattle.rr_snapshot.specs.declared.fault.LoadFault.TheVariants.{ReadFailed, OriginUsed, Memory}
+use Rattle.rr_snapshot.specs.Loading.{is_used, replica_of, loaded_at, GivesIfRead}
+use Rattle.rr_snapshot.specs.SnapshotReading.{as_in_page, head_at, digest_at, end_at, bytes_before, snapshot_at}
+use Rattle.rr_snapshot.proofs.ChainLemmas.{Gave}
+
+-- the bytes before those that are left, of bytes in two parts
+pub front_is : (front rest all : List ℕ) → all ≡ front ++ rest → bytes_before rest all ≡ front
+front_is front rest all e =
+    ap (bytes_before rest) e
+    ∙ ap (λ (n : ℕ). take n (front ++ rest)) (omega (arith, length-append front rest))
+    ∙ take_at front rest (length front) refl
+
+-- ---- where all bytes are known
+
+abbrev after_cells : List ℕ → ℕ → List NamedCell × List ℕ → Result (ℕ × List NamedCell) LoadFault
+after_cells all saver cells = digest_at (sha256 (bytes_before cells.1 all)) cells.1 >>= λ digest. end_at digest.1 >>= λ end. Ok (saver, cells.0)
+
+abbrev after_head : Layout → List ℕ → (Version × (ℕ × ℕ)) × List ℕ → Result (ℕ × List NamedCell) LoadFault
+after_head s all head = as_in_page (cells_at head.0.0 s None head.0.1.1 head.1) >>= after_cells all head.0.1.0
+
+abbrev judged : Layout → ℕ → ℕ × List NamedCell → Result Holding LoadFault
+judged s o x = unless OriginUsed (is_used o x) (Ok (replica_of s o x.1))
+
+module _ (s : Layout) (o : ℕ) (all : List ℕ) where
+  head_refused : (fault : LoadFault) → head_at (schema_bytes s) all ≡ Err fault → loaded_at s o all ≡ Err fault
+  unfolding loaded_at snapshot_at
+  head_refused fault is = ap (λ (r : Result ((Version × (ℕ × ℕ)) × List ℕ) LoadFault). (r >>= after_head s all) >>= judged s o) is
+
+  module _ (v : Version) (saver count : ℕ) (after : List ℕ) (head : head_at (schema_bytes s) all ≡ Ok ((v, (saver, count)), after)) where
+    with_head : loaded_at s o all ≡ ((as_in_page (cells_at v s None count after) >>= after_cells all saver) >>= judged s o)
+    unfolding loaded_at snapshot_at
+    with_head = ap (λ (r : Result ((Version × (ℕ × ℕ)) × List ℕ) LoadFault). (r >>= after_head s all) >>= judged s o) head
+
+    cells_refused : (fault : LoadFault) → as_in_page (cells_at v s None count after) ≡ Err fault → loaded_at s o all ≡ Err fault
+    cells_refused fault is = with_head ∙ ap (λ (r : Result (List NamedCell × List ℕ) LoadFault). (r >>= after_cells all saver) >>= judged s o) is
+
+    module _ (es : List NamedCell) (left : List ℕ) (cells : as_in_page (cells_at v s None count after) ≡ Ok (es, left)) (digest : List ℕ) (made : digest ≡ sha256 (bytes_before left all)) where
+      with_cells : loaded_at s o all ≡ ((digest_at digest left >>= λ d. end_at d.1 >>= λ end. Ok (saver, es)) >>= judged s o)
+      with_cells =
+          with_head
+          ∙ ap (λ (r : Result (List NamedCell × List ℕ) LoadFault). (r >>= after_cells all saver) >>= judged s o) cells
+          ∙ ap (λ (d : List ℕ). (digest_at d left >>= λ x. end_at x.1 >>= λ end. Ok (saver, es)) >>= judged s o) (sym made)
+
+      digest_refused : (fault : LoadFault) → digest_at digest left ≡ Err fault → loaded_at s o all ≡ Err fault
+      digest_refused fault is = with_cells ∙ ap (λ (r : Result (Unit {0} × List ℕ) LoadFault). (r >>= λ x. end_at x.1 >>= λ end. Ok (saver, es)) >>= judged s o) is
+
+      module _ (none : List ℕ) (same : digest_at digest left ≡ Ok (tt, none)) where
+        with_digest : loaded_at s o all ≡ ((end_at none >>= λ end. Ok (saver, es)) >>= judged s o)
+        with_digest = with_cells ∙ ap (λ (r : Result (Unit {0} × List ℕ) LoadFault). (r >>= λ x. end_at x.1 >>= λ end. Ok (saver, es)) >>= judged s o) same
+
+        end_refused : (fault : LoadFault) → end_at none ≡ Err fault → loaded_at s o all ≡ Err fault
+        end_refused fault is = with_digest ∙ ap (λ (r : Result (Unit {0} × List ℕ) LoadFault). (r >>= λ end. Ok (saver, es)) >>= judged s o) is
+
+        with_end : (last : List ℕ) → end_at none ≡ Ok (tt, last) → loaded_at s o all ≡ judged s o (saver, es)
+        with_end last is = with_digest ∙ ap (λ (r : Result (Unit {0} × List ℕ) LoadFault). (r >>= λ end. Ok (saver, es)) >>= judged s o) is
+
+-- ---- where they may be
+
+-- a fact of the bytes that are left, where they are these
+of_rest : (P : List ℕ → Type 0) (o : Option (List ℕ)) (rest : List ℕ) → o ≡ Some rest → IfSome o P → P rest
+of_rest P o rest is h = subst (λ (x : Option (List ℕ)). IfSome x P) is h
+
+-- a fault is the answer, unless the reader failed or memory ran out
+pub fails : {A : Type 0} (fault : LoadFault) (old : Option (List ℕ)) (answer : List ℕ → Result A LoadFault) → (fault ≡ ReadFailed) ⊎ (fault ≡ Memory) ⊎ IfSome old (λ all. answer all ≡ Err fault)
+    → IfSome old (λ all. GivesIfRead (Err fault) (answer all))
+fails fault None answer e = tt
+fails fault (Some all) answer e = e
+
+abbrev pub HeadRead : Layout → Version → ℕ → ℕ → Option (List ℕ) → Option (List ℕ) → Type 0
+HeadRead s v saver count old now = Gave (v, (saver, count)) old now (head_at (schema_bytes s))
+
+abbrev pub CellsRead : Layout → Version → ℕ → List NamedCell → Option (List ℕ) → Option (List ℕ) → Type 0
+CellsRead s v count es old now = Gave es old now (λ all. as_in_page (cells_at v s None count all))
+
+pub head_failed : (s : Layout) (o : ℕ) (fault : LoadFault) (old : Option (List ℕ)) → (fault ≡ ReadFailed) ⊎ (fault ≡ Memory) ⊎ IfSome old (λ all. head_at (schema_bytes s) all ≡ Err fault)
+    → IfSome old (λ all. GivesIfRead {A = Holding} (Err fault) (loaded_at s o all))
+head_failed s o fault None e = tt
+head_failed s o fault (Some all) (inl e) = inl e
+head_failed s o fault (Some all) (inr (inl e)) = inr (inl e)
+head_failed s o fault (Some all) (inr (inr e)) = inr (inr (head_refused s o all fault e))
+
+-- the digest of what was taken is that of the bytes before those that are left
+digest_of_taken : (all left : List ℕ) (old now : Option (List ℕ)) (taken digest : List ℕ) → old ≡ Some all → now ≡ Some left → Consumes old now taken → digest ≡ sha256 taken → digest ≡ sha256 (bytes_before left all)
+digest_of_taken all left old now taken digest eo en took made =
+    let parts : all ≡ taken ++ left = subst (λ (n : Option (List ℕ)). Consumes (Some all) n taken) en (subst (λ (x : Option (List ℕ)). Consumes x now taken) eo took) in
+    made ∙ ap sha256 (sym (front_is taken left all parts))
+
+module _ (s : Layout) (o : ℕ) (v : Version) (saver count : ℕ) where
+  pub cells_failed : (fault : LoadFault) (old now : Option (List ℕ)) → HeadRead s v saver count old now → (fault ≡ ReadFailed) ⊎ (fault ≡ Memory) ⊎ IfSome now (λ all. as_in_page (cells_at v s None count all) ≡ Err fault)
+      → IfSome old (λ all. GivesIfRead {A = Holding} (Err fault) (loaded_at s o all))
+  cells_failed fault None now head e = tt
+  cells_failed fault (Some all) now head (inl e) = inl e
+  cells_failed fault (Some all) now head (inr (inl e)) = inr (inl e)
+  cells_failed fault (Some all) now head (inr (inr e)) =
+      inr (inr (cells_refused s o all v saver count head.0 head.2 fault (of_rest (λ rest. as_in_page (cells_at v s None count rest) ≡ Err fault) now head.0 head.1 e)))
+
+  module _ (es : List NamedCell) (digest taken : List ℕ) (made : digest ≡ sha256 taken) where
+    pub digest_failed : (fault : LoadFault) (old now mid : Option (List ℕ)) → HeadRead s v saver count old now → CellsRead s v count es now mid → Consumes old mid taken
+        → (fault ≡ ReadFailed) ⊎ (fault ≡ Memory) ⊎ IfSome mid (λ all. digest_at digest all ≡ Err fault)
+        → IfSome old (λ all. GivesIfRead {A = Holding} (Err fault) (loaded_at s o all))
+    digest_failed fault None now mid head cells took e = tt
+    digest_failed fault (Some all) now mid head cells took (inl e) = inl e
+    digest_failed fault (Some all) now mid head cells took (inr (inl e)) = inr (inl e)
+    digest_failed fault (Some all) now mid head cells took (inr (inr e)) =
+        let read = of_rest (λ rest. (left : List ℕ) × (mid ≡ Some left) × (as_in_page (cells_at v s None count rest) ≡ Ok (es, left))) now head.0 head.1 cells in
+        let is = digest_of_taken all read.0 (Some all) mid taken digest refl read.1 took made in
+        inr (inr (digest_refused s o all v saver count head.0 head.2 es read.0 read.2 digest is fault (of_rest (λ rest. digest_at digest rest ≡ Err fault) mid read.0 read.1 e)))
+
+    pub end_failed : (fault : LoadFault) (old now mid new : Option (List ℕ)) → HeadRead s v saver count old now → CellsRead s v count es now mid → Consumes old mid taken → Gave {A = Unit {0}} tt mid new (digest_at digest)
+        → (fault ≡ ReadFailed) ⊎ (fault ≡ Memory) ⊎ IfSome new (λ all. end_at all ≡ Err fault)
+        → IfSome old (λ all. GivesIfRead {A = Holding} (Err fault) (loaded_at s o all))
+    end_failed fault None now mid new head cells took same e = tt
+    end_failed fault (Some all) now mid new head cells took same (inl e) = inl e
+    end_failed fault (Some all) now mid new head cells took same (inr (inl e)) = inr (inl e)
+    end_failed fault (Some all) now mid new head cells took same (inr (inr e)) =
+        let read = of_rest (λ rest. (left : List ℕ) × (mid ≡ Some left) × (as_in_page (cells_at v s None count rest) ≡ Ok (es, left))) now head.0 head.1 cells in
+        let is = digest_of_taken all read.0 (Some all) mid taken digest refl read.1 took made in
+        let last = of_rest (λ rest. (none : List ℕ) × (new ≡ Some none) × (digest_at digest rest ≡ Ok (tt, none))) mid read.0 read.1 same in
+        inr (inr (end_refused s o all v saver count head.0 head.2 es read.0 read.2 digest is last.0 last.2 fault (of_rest (λ rest. end_at rest ≡ Err fault) new last.0 last.1 e)))
+
+    -- all of it was read
+    pub all_read : (old now mid new end : Option (List ℕ)) → HeadRead s v saver count old now → CellsRead s v count es now mid → Consumes old mid taken → Gave {A = Unit {0}} tt mid new (digest_at digest) → Gave {A = Unit {0}} tt new end end_at
+        → IfSome old (λ all. loaded_at s o all ≡ judged s o (saver, es))
+    all_read None now mid new end head cells took same none = tt
+    all_read (Some all) now mid new end head cells took same none =
+        let read = of_rest (λ rest. (left : List ℕ) × (mid ≡ Some left) × (as_in_page (cells_at v s None count rest) ≡ Ok (es, left))) now head.0 head.1 cells in
+        let is = digest_of_taken all read.0 (Some all) mid taken digest refl read.1 took made in
+        let last = of_rest (λ rest. (none : List ℕ) × (new ≡ Some none) × (digest_at digest rest ≡ Ok (tt, none))) mid read.0 read.1 same in
+        let over = of_rest (λ rest. (left : List ℕ) × (end ≡ Some left) × (end_at rest ≡ Ok (tt, left))) new last.0 last.1 none in
+        with_end s o all v saver count head.0 head.2 es read.0 read.2 digest is last.0 last.2 over.0 over.2
+
+pub used_origin : (s : Layout) (o saver : ℕ) (es : List NamedCell) (old : Option (List ℕ)) → is_used o (saver, es) ≡ true → IfSome old (λ all. loaded_at s o all ≡ judged s o (saver, es))
+    → IfSome old (λ all. GivesIfRead {A = Holding} (Err OriginUsed) (loaded_at s o all))
+used_origin s o saver es None used read = tt
+used_origin s o saver es (Some all) used read = inr (inr (read ∙ ap (λ (b : Bool). unless OriginUsed b (Ok (replica_of s o es))) used))
+
+pub new_origin : (s : Layout) (o saver : ℕ) (es : List NamedCell) (h : Holding) (old : Option (List ℕ)) → is_used o (saver, es) ≡ false → h ≡ replica_of s o es → IfSome old (λ all. loaded_at s o all ≡ judged s o (saver, es))
+    → IfSome old (λ all. GivesIfRead (Ok h) (loaded_at s o all))
+new_origin s o saver es h None free is read = tt
+new_origin s o saver es h (Some all) free is read = read ∙ ap (λ (b : Bool). unless OriginUsed b (Ok (replica_of s o es))) free ∙ ap (λ (x : Holding). Ok x) (sym is)

@@ -1,0 +1,44 @@
+-- What is made of a snapshot that is read.
+use Rattle.std.specs.Prelude.{◌≡◌, ◌⊎◌, ℕ, Bool, false, ◌||◌, ◌==◌, List, Result, Ok, Err}
+use Rattle.std.specs.FinMap.{empty}
+use Rattle.std.specs.List.{list_any}
+use Rattle.rr_base.specs.Results.{◌>>=◌, unless}
+use Rattle.rr_base.specs.Schema.{Layout}
+use Rattle.rr_replica.specs.CellBounds.{NamedCell}
+use Rattle.rr_replica.specs.Holding.{Holding}
+use Rattle.rr_replica.specs.Joins.{join_cells}
+use Rattle.rr_snapshot.specs.declared.fault.LoadFault.{LoadFault}
+use Rattle.rr_snapshot.specs.declared.fault.LoadFault.TheVariants.{ReadFailed, OriginUsed, Memory}
+use Rattle.rr_snapshot.specs.SnapshotReading.{snapshot_at}
+
+-- whether an origin is that of one of these cells
+abbrev pub is_among : ℕ → List NamedCell → Bool
+is_among origin es = list_any (λ e. e.0.origin == origin) es
+
+-- whether it is that of a snapshot, which is an origin and cells, or of one of its cells
+abbrev pub is_used : ℕ → ℕ × List NamedCell → Bool
+is_used origin x = (x.0 == origin) || is_among origin x.1
+
+-- the replica of an origin that has written nothing, with these cells joined in
+abbrev pub replica_of : Layout → ℕ → List NamedCell → Holding
+replica_of s origin es = record { schema = s; origin = origin; next = 1; cells = join_cells s empty es }
+
+-- the replica of a new origin that is loaded from the snapshot that all of the bytes are
+unfoldable pub loaded_at : Layout → ℕ → List ℕ → Result Holding LoadFault
+loaded_at s origin bytes = do
+  x ← snapshot_at s bytes
+  unless OriginUsed (is_used origin x) (Ok (replica_of s origin x.1))
+
+-- the result is the definition's answer, unless the reader failed or memory ran out
+abbrev pub GivesIfRead : {A : Type 0} → Result A LoadFault → Result A LoadFault → Type 0
+GivesIfRead (Ok x) answer = answer ≡ Ok x
+GivesIfRead (Err fault) answer = (fault ≡ ReadFailed) ⊎ (fault ≡ Memory) ⊎ (answer ≡ Err fault)
+
+-- what a replica holds after these cells were joined into it, in order, and whether one is of its own origin: where
+-- none is, its next number stays
+pub record HasJoined (old new : Holding) (own : Bool) (es : List NamedCell) : Type 0 where
+  pub schema : new.schema ≡ old.schema
+  pub origin : new.origin ≡ old.origin
+  pub cells : new.cells ≡ join_cells old.schema old.cells es
+  pub any : own ≡ is_among old.origin es
+  pub next : own ≡ false → new.next ≡ old.next

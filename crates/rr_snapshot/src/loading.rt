@@ -1,0 +1,110 @@
+//! A replica from a snapshot, read cell by cell.
+ghost use Rattle.std.specs.Prelude.{◌≡◌, ◌≤◌, Err, None, IfSome, IfOk, OnOk};
+ghost use Rattle.std.specs.Io.KnownBytes.{IsAtEnd};
+ghost use Rattle.std.specs.Option.{option_map};
+ghost use Rattle.rr_base.specs.Counted.{inner_of, failures_of, HasRisen};
+ghost use Rattle.rr_page.specs.PageReading.{is_after, cells_at};
+ghost use Rattle.rr_replica.specs.Listing.{owned_cell};
+ghost use Rattle.rr_snapshot.specs.Loading.{HasJoined, GivesIfRead, loaded_at};
+ghost use Rattle.rr_snapshot.specs.SnapshotReading.{as_in_page};
+ghost use Rattle.rr_snapshot.specs.Stream.{Digests, StreamMakes};
+
+use crate::ending::{digest_from, end_from};
+use crate::fault::LoadFault;
+use crate::heading::head_from;
+use crate::stream::{MAX_CELL_LEN, cell_from};
+use rr_archive::Archive;
+use rr_base::{Counted, Origin, Schema};
+use rr_page::{Version, follows};
+use rr_replica::{Cell, Replica};
+use sha2::{Digest, Sha256};
+use std::alloc::Global;
+use std::io::Read;
+
+/// Whether the name of a cell is greater than that of the cell before it, if there is one.
+fn is_after(before: &Option<Cell>, cell: &Cell) -> bool
+    ensures { result
+        ≡ is_after (option_map (λ c. (owned_cell c).0) before.now) (owned_cell cell.now).0 }
+{
+    match before {
+        None => true,
+        Some(before) => follows(before, cell),
+    }
+}
+
+/// Joins `count` cells of the input into a replica, each after the one before it, and answers
+/// whether one of them is of the replica's own origin. No cell is kept but the last, for its name.
+fn join_cells_from<A: Archive, R: Read>(
+    alloc: Global,
+    input: &mut Counted<R>,
+    version: Version,
+    count: u32,
+    replica: &mut Replica<A>,
+    hasher: &mut Sha256,
+) -> Result<bool, LoadFault>
+    ensures read { StreamMakes (HasJoined replica.old replica.new) result
+        (R.remaining (inner_of input.old)) (R.remaining (inner_of input.new))
+        (λ all. as_in_page (cells_at version replica.old.schema None count all)) }
+    ensures digest { OnOk result (Digests (R.remaining (inner_of input.old))
+        (R.remaining (inner_of input.new)) hasher.old hasher.new) }
+    ensures count { failures_of input.old ≤ failures_of input.new }
+    ensures failed { result ≡ Err LoadFault.ReadFailed
+        → HasRisen (failures_of input.old) (failures_of input.new) }
+{
+    let origin = replica.origin();
+    let mut buffer = [0u8; MAX_CELL_LEN];
+    let mut before = None;
+    let mut has_own = false;
+    for _ in 0..count {
+        let (cell, len) = cell_from(alloc, input, &mut buffer, replica.schema(), version)?;
+        hasher.update(&buffer[..len]);
+        if !is_after(&before, &cell) {
+            return Err(LoadFault::OutOfOrder);
+        }
+        replica.join_cell(&cell)?;
+        has_own |= cell.origin == origin;
+        before = Some(cell);
+    }
+    Ok(has_own)
+}
+
+/// Reads the snapshot that all of the input is, of the reader's own schema, into a replica of a new
+/// origin, whose next number is 1. Of the snapshot one cell's bytes are in memory at a time.
+///
+/// Refusals are those of the first fault from left to right: `ReadFailed` where a read fails;
+/// `Short` where fewer bytes are left than a field has; `BadMagic`; `BadVersion`; `SchemaDiffers`,
+/// once as many bytes are read as the schema has; `BadOrigin`; for each cell those of
+/// [`read_cell`](rr_page::read_cell), and then `OutOfOrder` where its name is not greater than the
+/// one before; `BadDigest`; `TrailingBytes`; and last `OriginUsed` where the new origin is that of
+/// the snapshot or of one of its cells, those past the horizon too. A refused load gives no replica,
+/// and some bytes of the input may have been read. The cost is that of joining the cells, and linear
+/// in the bytes.
+pub fn load<A: Archive, R: Read>(
+    alloc: Global,
+    input: &mut Counted<R>,
+    schema: &Schema,
+    new_origin: Origin,
+) -> Result<Replica<A>, LoadFault>
+    // Where the bytes of the input are known, the answer is what they are loaded as.
+    ensures read { IfSome (R.remaining (inner_of input.old)) (λ bytes.
+        GivesIfRead result (loaded_at schema.now new_origin bytes)) }
+    // Whatever the input is, the replica has this schema and origin, and the first number.
+    ensures schema { IfOk result (λ replica. replica.schema ≡ schema.now) }
+    ensures origin { IfOk result (λ replica. replica.origin ≡ new_origin) }
+    ensures next { IfOk result (λ replica. replica.next ≡ 1) }
+    ensures end { OnOk result (IsAtEnd (R.remaining (inner_of input.new))) }
+    ensures count { failures_of input.old ≤ failures_of input.new }
+    ensures failed { result ≡ Err LoadFault.ReadFailed
+        → HasRisen (failures_of input.old) (failures_of input.new) }
+{
+    let mut hasher = Sha256::new();
+    let (version, saver, count) = head_from(alloc, input, schema, &mut hasher)?;
+    let mut replica = Replica::new(alloc, schema, new_origin)?;
+    let has_own = join_cells_from(alloc, input, version, count, &mut replica, &mut hasher)?;
+    digest_from(input, &hasher.finalize())?;
+    end_from(input)?;
+    if saver == new_origin || has_own {
+        return Err(LoadFault::OriginUsed);
+    }
+    Ok(replica)
+}
