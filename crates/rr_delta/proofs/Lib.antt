@@ -1,0 +1,5 @@
+pub mod Walks
+pub mod HeldLemmas
+pub mod SummaryLemmas
+pub mod DifferenceLemmas
+pub mod LawLemmas

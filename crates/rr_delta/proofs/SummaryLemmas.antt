@@ -1,0 +1,35 @@
+-- Names and versions of the cells of a walk.
+use Rattle.std.proofs.Common.{◌≡◌, ℕ, zero, suc, ◌+◌, ◌-◌, ◌<◌, ◌≤◌, List, [], ◌∷◌, ◌++◌, map, take, refl, ap, ◌∙◌, append_assoc, arith}
+use Rattle.std.proofs.Math.Seq.{take-nil}
+use Rattle.std.proofs.lemmas.List.{append-nil}
+use Rattle.rr_replica.specs.CellBounds.{NamedCell}
+use Rattle.rr_delta.specs.Names.{NamedVersion, named_version}
+
+-- what was listed, and what is still to be listed of what is left
+abbrev pub listed_so_far : List NamedVersion → ℕ → List NamedCell → List NamedVersion
+listed_so_far front n left = front ++ take n (map named_version left)
+
+pub one_listed : (front : List NamedVersion) (count i : ℕ) (e : NamedCell) (left : List NamedCell) → i < count → listed_so_far (front ++ named_version e ∷ []) (count - (i + 1)) left ≡ listed_so_far front (count - i) (e ∷ left)
+one_listed front count i e left lt =
+    append_assoc front (named_version e ∷ []) (take (count - (i + 1)) (map named_version left))
+    ∙ ap (λ n. front ++ take n (map named_version (e ∷ left))) (one_less count i lt)
+  where
+    one_less : (m k : ℕ) → k < m → suc (m - (k + 1)) ≡ m - k
+    one_less m k h = omega arith
+
+pub all_listed : (front : List NamedVersion) (count i : ℕ) (left : List NamedCell) → count ≤ i → listed_so_far front (count - i) left ≡ front
+all_listed front count i left le = ap (λ n. front ++ take n (map named_version left)) none ∙ ap (λ l. front ++ l) (nothing (map named_version left)) ∙ append-nil front
+  where
+    none : count - i ≡ 0
+    none = omega arith
+
+    nothing : (vs : List NamedVersion) → take 0 vs ≡ []
+    nothing [] = refl
+    nothing (v ∷ vs) = refl
+
+pub none_left : (front : List NamedVersion) (n : ℕ) → listed_so_far front n [] ≡ front
+none_left front zero = append-nil front
+none_left front (suc n) = append-nil front
+
+pub none_taken : {X : Type 0} (n : ℕ) (xs : List X) → xs ≡ [] → take n xs ≡ []
+none_taken n xs is = ap (take n) is ∙ take-nil n

@@ -1,0 +1,32 @@
+use Rattle.std.proofs.Common.{◌≡◌, [], map, take, drop, sym, ap, ◌∙◌, subst, Some, IfOk}
+use Rattle.std.specs.Option.{option_map}
+use Rattle.std.specs.FinMap.{entries, entries_sorted}
+use Rattle.std.specs.List.{drop-map}
+use Rattle.rr_replica.specs.Listing.{seen_cell}
+use Rattle.rr_delta.specs.Names.{IsNameOf, named_version, owned_name, versions_of}
+use Rattle.rr_delta.specs.Summaries.{cells_from}
+use Rattle.rr_delta.proofs.HeldLemmas.{all_held, all_taken, all_dropped, named_all, names_held}
+use Rattle.rr_delta.proofs.SummaryLemmas.{none_taken}
+use Rattle.rr_delta.proofs.Walks.{walked_to}
+use Rattle.rr_delta.proofs.listing.summary.Goals as goal
+
+pub returns-in-Some-clause-listed : goal.returns-in-Some-clause-listed
+returns-in-Some-clause-listed g c =
+    let m = c.args.replica.now.cells in
+    let at = ap (option_map seen_cell) (sym c.in-Some.is) ∙ c.cell_at.ensures.listed in
+    let from : map named_version (cells_from (Some (seen_cell c.in-Some.first)) (entries m)) ≡ drop c.args.from (versions_of m) = ap (λ o. map named_version (cells_from o (entries m))) at ∙ ap (map named_version) (walked_to c.args.from (entries m) (entries_sorted m)) ∙ sym (drop-map named_version c.args.from (entries m)) in
+    subst (λ vs. IfOk c.listed_from.result (λ names. map owned_name names.items ≡ take c.args.count vs)) from c.listed_from.ensures
+
+pub returns-in-Some-clause-of_schema : goal.returns-in-Some-clause-of_schema
+returns-in-Some-clause-of_schema g c =
+    let h = c.args.replica.now in
+    let vs = versions_of h.cells in
+    let all = named_all h.schema (entries h.cells) (all_held h c.schema-schema.ensures.holds) in
+    names_held h.schema c.listed_from.result (take c.args.count (drop c.args.from vs)) (all_taken (IsNameOf h.schema) c.args.count (drop c.args.from vs) (all_dropped (IsNameOf h.schema) c.args.from vs all)) (returns-in-Some-clause-listed g c)
+
+pub returns-in-None-clause-listed : goal.returns-in-None-clause-listed
+returns-in-None-clause-listed g c =
+    let m = c.args.replica.now.cells in
+    let at = ap (option_map seen_cell) (sym c.in-None.is) ∙ c.cell_at.ensures.listed in
+    let past : drop c.args.from (versions_of m) ≡ [] = drop-map named_version c.args.from (entries m) ∙ ap (map named_version) (sym (walked_to c.args.from (entries m) (entries_sorted m))) ∙ ap (λ o. map named_version (cells_from o (entries m))) (sym at) in
+    ap (map owned_name) c.new.ensures.items ∙ sym (none_taken c.args.count (drop c.args.from (versions_of m)) past)

@@ -1,0 +1,42 @@
+-- The laws of differences, each the contract of a function of `src/laws.rt`.
+use Rattle.std.specs.Prelude.{◌≡◌, ℕ, map, take, drop, Some}
+use Rattle.std.specs.FinMap.{get, entries}
+use Rattle.rr_base.specs.Schema.{Layout, IsLayout}
+use Rattle.rr_contrib.specs.declared.contribution.Contribution.{Contribution}
+use Rattle.rr_model.specs.CellNames.{CellName}
+use Rattle.rr_model.specs.Knowledge.{Knowledge, cells_named, difference}
+use Rattle.rr_model.specs.World.{World, IsClosed}
+use Rattle.rr_replica.specs.Cells.{Cells, IsTrimmed}
+use Rattle.rr_replica.specs.Joins.{join, join_cells}
+use Rattle.rr_replica.specs.State.{state}
+use Rattle.rr_replica.specs.Versions.{newer_names}
+use Rattle.rr_delta.specs.Names.{versions_of}
+use Rattle.rr_delta.specs.Difference.{newer_cells}
+
+-- against the versions of a whole map the difference is that by the versions of the two maps
+abbrev pub DifferenceIsByVersions : Type 0
+DifferenceIsByVersions = (m n : Cells) → map (λ e. e.0) (newer_cells (versions_of n) (entries m)) ≡ newer_names m n
+
+-- so of closed knowledges it is what the one has and the other lacks
+abbrev pub DifferenceIsOfKnowledges : Type 0
+DifferenceIsOfKnowledges =
+    (s : Layout) (w : World) (k l : Knowledge) → IsLayout s → IsClosed s w k → IsClosed s w l
+    → map (λ e. e.0) (newer_cells (versions_of (state s l)) (entries (state s k))) ≡ difference s k l
+
+-- equal versions at one name mean equal contents
+abbrev pub AgreeAtVersions : Cells → Cells → Type 0
+AgreeAtVersions m n = (q : CellName) (a b : Contribution) → get m q ≡ Some a → get n q ≡ Some b → a.version ≡ b.version → a ≡ b
+
+-- to join the difference is to join the whole map
+abbrev pub DifferenceBringsTheJoin : Type 0
+DifferenceBringsTheJoin =
+    (s : Layout) (m n : Cells) → IsLayout s → IsTrimmed s n → AgreeAtVersions m n
+    → join_cells s n (newer_cells (versions_of n) (entries m)) ≡ join s n m
+
+-- the cells of a part of the difference of closed knowledges are those from a place on, as many as there are up to a
+-- count
+abbrev pub DifferencesAreCutFromEntries : Type 0
+DifferencesAreCutFromEntries =
+    (s : Layout) (w : World) (k l : Knowledge) (from count : ℕ) → IsLayout s → IsClosed s w k → IsClosed s w l
+    → entries (state s (cells_named s k (take count (drop from (difference s k l)))))
+    ≡ take count (drop from (newer_cells (versions_of (state s l)) (entries (state s k))))

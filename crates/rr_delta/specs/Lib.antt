@@ -1,0 +1,4 @@
+pub mod Names
+pub mod Summaries
+pub mod Difference
+pub mod Laws

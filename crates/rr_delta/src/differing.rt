@@ -1,0 +1,107 @@
+//! What a summary lacks, and parts of a list.
+ghost use Rattle.std.specs.Prelude.{◌≡◌, ◌++◌, All, IfOk, OnOk, IsTrue, map, take, drop};
+ghost use Rattle.std.specs.FinMap.{entries, is_sorted};
+ghost use Rattle.rr_model.specs.CellNames.{cell_name_cmp};
+ghost use Rattle.rr_replica.specs.CellBounds.{IsCellOf};
+ghost use Rattle.rr_replica.specs.Listing.{seen_cell, owned_cell};
+ghost use Rattle.rr_delta.specs.Names.{owned_name};
+ghost use Rattle.rr_delta.specs.Difference.{IsSummary, is_newer_than, newer_cell, newer_cells, names_from, first_version};
+
+use crate::name::Name;
+use rr_archive::Archive;
+use rr_replica::{Cell, CellRef, Replica};
+use std::alloc::{AllocError, Global};
+
+/// The names without those at the front that are before a cell's.
+fn names_from<'a>(names: &'a [Name], cell: &CellRef<'_>) -> &'a [Name]
+    ensures { map owned_name result.now ≡ names_from (seen_cell cell.now).0 (map owned_name names.now) }
+{
+    let mut left = names;
+    while let [first, others @ ..] = left {
+        if !first.cmp_cell(cell).is_lt() {
+            return left;
+        }
+        left = others;
+    }
+    left
+}
+
+/// The version of the first of these names, if it is a cell's.
+fn first_version(names: &[Name], cell: &CellRef<'_>) -> Option<u64>
+    ensures { result ≡ first_version (seen_cell cell.now).0 (map owned_name names.now) }
+{
+    match names.first() {
+        Some(name) => {
+            if name.cmp_cell(cell).is_eq() {
+                Some(name.version)
+            } else {
+                None
+            }
+        }
+        None => None,
+    }
+}
+
+/// Whether a version is greater than this one, or there is none.
+fn is_newer_than(known: Option<u64>, version: u64) -> bool
+    ensures { result ≡ is_newer_than known version }
+{
+    match known {
+        Some(known) => known < version,
+        None => true,
+    }
+}
+
+/// Adds a cell, if its version is greater than the one that is known, or none is.
+fn push_newer(
+    cells: &mut Vec<Cell>,
+    cell: &CellRef<'_>,
+    known: Option<u64>,
+) -> Result<(), AllocError>
+    ensures { OnOk result (map owned_cell cells.new.items
+        ≡ map owned_cell cells.old.items ++ newer_cell known (seen_cell cell.now)) }
+{
+    if is_newer_than(known, cell.contribution.version) {
+        cells.push(cell.to_cell()?)?;
+    }
+    Ok(())
+}
+
+/// The cells of a replica whose name a summary lacks, or has with a smaller version, in the order of
+/// their names. The names of the summary strictly ascend.
+///
+/// The replica and the summary are walked along side by side: the cost is that of
+/// `Replica::next_cell` for each cell, and linear in the summary.
+pub fn difference<A: Archive>(
+    alloc: Global,
+    replica: &Replica<A>,
+    summary: &[Name],
+) -> Result<Vec<Cell>, AllocError>
+    requires { IsSummary (map owned_name summary.now) }
+    ensures newer { IfOk result (λ cells. map owned_cell cells.items
+        ≡ newer_cells (map owned_name summary.now) (entries replica.now.cells)) }
+    ensures ascending { IfOk result (λ cells. IsTrue (is_sorted cell_name_cmp (map owned_cell cells.items))) }
+    ensures of_schema { IfOk result (λ cells. All (λ c. IsCellOf replica.now.schema (owned_cell c)) cells.items) }
+{
+    // The proof needs what the replica keeps to, which `schema` ensures.
+    let _schema = replica.schema();
+    let mut cells = Vec::new(alloc);
+    let mut names = summary;
+    let mut next = replica.cell_at(0);
+    while let Some(cell) = next {
+        names = names_from(names, &cell);
+        push_newer(&mut cells, &cell, first_version(names, &cell))?;
+        next = replica.next_cell(cell.key, cell.archive, cell.slot, cell.origin);
+    }
+    Ok(cells)
+}
+
+/// As many cells of a list as `count` from a place on; fewer where there are fewer, and none past the
+/// end. The cost is constant.
+pub fn part(list: &[Cell], from: usize, count: usize) -> &[Cell]
+    ensures { result.now ≡ take count (drop from list.now) }
+{
+    let start = from.min(list.len());
+    let len = count.min(list.len() - start);
+    &list[start..start + len]
+}

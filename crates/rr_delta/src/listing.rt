@@ -1,0 +1,88 @@
+//! The names and versions of a replica's cells, in order.
+ghost use Rattle.std.specs.Prelude.{◌≡◌, All, IfOk, Some, map, take, drop};
+ghost use Rattle.std.specs.FinMap.{entries};
+ghost use Rattle.rr_replica.specs.Listing.{seen_cell};
+ghost use Rattle.rr_delta.specs.Names.{IsNameOf, name_in, named_version, owned_name, versions_of};
+ghost use Rattle.rr_delta.specs.Summaries.{cells_after, cells_from};
+
+use crate::name::Name;
+use rr_archive::Archive;
+use rr_replica::{CellRef, Replica};
+use std::alloc::{AllocError, Global};
+
+/// The names and versions of as many cells as `count` from one on; fewer where there are fewer.
+fn listed_from<'a, A: Archive>(
+    alloc: Global,
+    replica: &'a Replica<A>,
+    first: &CellRef<'a>,
+    count: usize,
+) -> Result<Vec<Name>, AllocError>
+    ensures { IfOk result (λ names. map owned_name names.items
+        ≡ take count (map named_version (cells_from (Some (seen_cell first.now)) (entries replica.now.cells)))) }
+{
+    let mut names = Vec::new(alloc);
+    let mut next = Some(CellRef {
+        key: first.key,
+        archive: first.archive,
+        slot: first.slot,
+        origin: first.origin,
+        contribution: first.contribution,
+    });
+    for _ in 0..count {
+        let Some(cell) = next else {
+            return Ok(names);
+        };
+        names.push(Name::of(&cell)?)?;
+        next = replica.next_cell(cell.key, cell.archive, cell.slot, cell.origin);
+    }
+    Ok(names)
+}
+
+/// The names and versions of as many cells as `count` from a place on, in the order of the names;
+/// fewer where there are fewer.
+///
+/// The cost is that of `Replica::cell_at` for the first, and for each further one that of
+/// `Replica::next_cell`.
+pub fn summary<A: Archive>(
+    alloc: Global,
+    replica: &Replica<A>,
+    from: usize,
+    count: usize,
+) -> Result<Vec<Name>, AllocError>
+    ensures listed { IfOk result (λ names.
+        map owned_name names.items ≡ take count (drop from (versions_of replica.now.cells))) }
+    ensures of_schema { IfOk result (λ names. All (λ n. IsNameOf replica.now.schema (owned_name n)) names.items) }
+{
+    // The proof needs what the replica keeps to, which `schema` ensures.
+    let _schema = replica.schema();
+    match replica.cell_at(from) {
+        Some(first) => listed_from(alloc, replica, &first, count),
+        None => Ok(Vec::new(alloc)),
+    }
+}
+
+/// The names and versions of the next cells after a name, or of the first ones where there is none:
+/// as many as `count`, in the order of the names; fewer where there are fewer. No cell needs to be at
+/// the name.
+///
+/// The cost is that of `Replica::next_cell` for each of them.
+pub fn summary_after<A: Archive>(
+    alloc: Global,
+    replica: &Replica<A>,
+    after: Option<&Name>,
+    count: usize,
+) -> Result<Vec<Name>, AllocError>
+    ensures listed { IfOk result (λ names. map owned_name names.items
+        ≡ take count (map named_version (cells_after (name_in after.entry) (entries replica.now.cells)))) }
+    ensures of_schema { IfOk result (λ names. All (λ n. IsNameOf replica.now.schema (owned_name n)) names.items) }
+{
+    // The proof needs what the replica keeps to, which `schema` ensures.
+    let _schema = replica.schema();
+    let Some(name) = after else {
+        return summary(alloc, replica, 0, count);
+    };
+    match replica.next_cell(&name.key, name.archive, name.slot, name.origin) {
+        Some(first) => listed_from(alloc, replica, &first, count),
+        None => Ok(Vec::new(alloc)),
+    }
+}

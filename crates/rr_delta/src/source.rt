@@ -1,0 +1,63 @@
+//! The side of a session that gives cells.
+ghost use Rattle.std.specs.Prelude.{◌≡◌, All, IfOk, IsTrue, map};
+ghost use Rattle.std.specs.FinMap.{entries, is_sorted};
+ghost use Rattle.rr_base.specs.Schema.{Layout, IsLayout};
+ghost use Rattle.rr_model.specs.CellNames.{cell_name_cmp};
+ghost use Rattle.rr_replica.specs.CellBounds.{IsCellOf};
+ghost use Rattle.rr_replica.specs.Cells.{Cells};
+ghost use Rattle.rr_replica.specs.Listing.{owned_cell};
+ghost use Rattle.rr_delta.specs.Names.{owned_name};
+ghost use Rattle.rr_delta.specs.Difference.{IsSummary, newer_cells};
+
+use crate::differing::difference;
+use crate::name::Name;
+use rr_archive::Archive;
+use rr_base::Schema;
+use rr_replica::{Cell, Replica};
+use std::alloc::{AllocError, Global};
+
+/// Whoever gives cells to others: it answers what a summary lacks.
+///
+/// It is seen as a map of cells of a schema, those that it answered from last.
+pub trait Source {
+    ghost layout: { Self → Layout };
+
+    ghost cells: { Self → Cells };
+
+    /// The schema of all cells. It never changes.
+    fn schema(&self) -> &Schema
+        ensures value { result.now ≡ layout self.now }
+        ensures within { IsLayout (layout self.now) };
+
+    /// The cells whose name a summary lacks, or has with a smaller version, in the order of their
+    /// names. The names of the summary strictly ascend. All of the answer is of one moment.
+    fn difference(&mut self, alloc: Global, summary: &[Name]) -> Result<Vec<Cell>, AllocError>
+        requires { IsSummary (map owned_name summary.now) }
+        ensures newer { IfOk result (λ found. map owned_cell found.items
+            ≡ newer_cells (map owned_name summary.now) (entries (cells self.new))) }
+        ensures ascending { IfOk result (λ found. IsTrue (is_sorted cell_name_cmp (map owned_cell found.items))) }
+        ensures of_schema { IfOk result (λ found. All (λ c. IsCellOf (layout self.new) (owned_cell c)) found.items) }
+        ensures schema { layout self.new ≡ layout self.old };
+}
+
+impl<A: Archive> Source for Replica<A> {
+    ghost layout = { λ r. r.schema };
+
+    ghost cells = { λ r. r.cells };
+
+    fn schema(&self) -> &Schema {
+        Replica::schema(self)
+    }
+
+    fn difference(&mut self, alloc: Global, summary: &[Name]) -> Result<Vec<Cell>, AllocError>
+        requires { IsSummary (map owned_name summary.now) }
+        ensures newer { IfOk result (λ found. map owned_cell found.items
+            ≡ newer_cells (map owned_name summary.now) (entries (self.new.cells))) }
+        ensures ascending { IfOk result (λ found. IsTrue (is_sorted cell_name_cmp (map owned_cell found.items))) }
+        ensures of_schema { IfOk result (λ found. All (λ c. IsCellOf (self.new.schema) (owned_cell c)) found.items) }
+        ensures schema { self.new.schema ≡ self.old.schema }
+        ensures unchanged { self.new ≡ self.old }
+    {
+        difference(alloc, self, summary)
+    }
+}

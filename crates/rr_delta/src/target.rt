@@ -1,0 +1,88 @@
+//! The side of a session that takes cells.
+ghost use Rattle.std.specs.Prelude.{◌≡◌, All, IfOk, OnOk, OnErr, map, take, drop};
+ghost use Rattle.std.specs.FinMap.{entries};
+ghost use Rattle.rr_base.specs.Schema.{Layout, IsLayout};
+ghost use Rattle.rr_replica.specs.CellBounds.{IsCellOf};
+ghost use Rattle.rr_replica.specs.Cells.{Cells, IsTrimmed};
+ghost use Rattle.rr_replica.specs.Joins.{join_cell};
+ghost use Rattle.rr_replica.specs.Listing.{owned_cell};
+ghost use Rattle.rr_delta.specs.Names.{IsNameOf, name_in, named_version, owned_name, versions_of};
+ghost use Rattle.rr_delta.specs.Summaries.{cells_after};
+
+use crate::listing::{summary, summary_after};
+use crate::name::Name;
+use rr_archive::Archive;
+use rr_base::Schema;
+use rr_replica::{Cell, Replica};
+use std::alloc::{AllocError, Global};
+
+/// Whoever takes cells from elsewhere: it says which it has, and joins those that it is given.
+///
+/// It is seen as a map of cells of a schema, none of them past the horizon.
+pub trait Target {
+    ghost layout: { Self → Layout };
+
+    ghost cells: { Self → Cells };
+
+    /// The schema of all cells. It never changes.
+    fn schema(&self) -> &Schema
+        ensures value { result.now ≡ layout self.now }
+        ensures within { IsLayout (layout self.now) }
+        ensures live { IsTrimmed (layout self.now) (cells self.now) };
+
+    /// The names and versions of as many cells as `count` from a place on, in the order of the names;
+    /// fewer where there are fewer.
+    fn names(&self, alloc: Global, from: usize, count: usize) -> Result<Vec<Name>, AllocError>
+        ensures listed { IfOk result (λ names.
+            map owned_name names.items ≡ take count (drop from (versions_of (cells self.now)))) }
+        ensures of_schema { IfOk result (λ names. All (λ n. IsNameOf (layout self.now) (owned_name n)) names.items) };
+
+    /// The names and versions of as many cells as `count` after a name, or of the first ones where
+    /// there is none, in the order of the names; fewer where there are fewer. A walk over all cells
+    /// goes on by it from the last name that it has, at a cost that does not grow with what is behind.
+    fn names_after(
+        &self,
+        alloc: Global,
+        after: Option<&Name>,
+        count: usize,
+    ) -> Result<Vec<Name>, AllocError>
+        ensures listed { IfOk result (λ names. map owned_name names.items
+            ≡ take count (map named_version (cells_after (name_in after.entry) (entries (cells self.now))))) }
+        ensures of_schema { IfOk result (λ names. All (λ n. IsNameOf (layout self.now) (owned_name n)) names.items) };
+
+    /// Joins a cell, which is valid under the schema: of it and what stands at its name the greater
+    /// stays, and then only the live cells. After an error nothing has changed.
+    fn join_cell(&mut self, cell: &Cell) -> Result<(), AllocError>
+        requires { IsCellOf (layout self.old) (owned_cell cell.now) }
+        ensures joined { OnOk result (cells self.new
+            ≡ join_cell (layout self.old) (cells self.old) (owned_cell cell.now).0 cell.now.contribution) }
+        ensures unchanged { OnErr result (cells self.new ≡ cells self.old) }
+        ensures schema { layout self.new ≡ layout self.old };
+}
+
+impl<A: Archive> Target for Replica<A> {
+    ghost layout = { λ r. r.schema };
+
+    ghost cells = { λ r. r.cells };
+
+    fn schema(&self) -> &Schema {
+        Replica::schema(self)
+    }
+
+    fn names(&self, alloc: Global, from: usize, count: usize) -> Result<Vec<Name>, AllocError> {
+        summary(alloc, self, from, count)
+    }
+
+    fn names_after(
+        &self,
+        alloc: Global,
+        after: Option<&Name>,
+        count: usize,
+    ) -> Result<Vec<Name>, AllocError> {
+        summary_after(alloc, self, after, count)
+    }
+
+    fn join_cell(&mut self, cell: &Cell) -> Result<(), AllocError> {
+        Replica::join_cell(self, cell)
+    }
+}
