@@ -43,7 +43,7 @@ all_entries P m each =
     found None e = absurd (true≢false (sym e))
     found (Some c) e = refl
 
-all_held : (h : Holding) → IsHolding h → AllByRecursion (IsCellOf h.schema) (entries h.cells)
+pub all_held : (h : Holding) → IsHolding h → AllByRecursion (IsCellOf h.schema) (entries h.cells)
 all_held h holds = all_entries (IsCellOf h.schema) h.cells holds.cells
 
 all_drop : (P : NamedCell → Type 0) (n : ℕ) (es : List NamedCell) → AllByRecursion P es → AllByRecursion P (drop n es)

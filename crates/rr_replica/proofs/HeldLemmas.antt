@@ -84,6 +84,21 @@ module _ {X : Type 0} (cells : X → Rows) (limit : X → ℕ) (s : Layout) (key
 
 -- ---- a replica that holds nothing
 
+-- no cell is past the horizon where there is none
+pub trimmed_none : (s : Layout) → IsTrimmed s empty
+trimmed_none s = same_map cell_name_cmp_total cell_name_cmp-IsAntisymmetric _ _ (λ q.
+    get-trimmed cell_name_cmp_total cell_name_cmp-IsAntisymmetric (is_live s) empty q
+    ∙ ap (λ o. cond (is_live s (keys nothing) q) o None) (get-empty cell_name_cmp q)
+    ∙ none_either_way (is_live s (keys nothing) q)
+    ∙ sym (get-empty cell_name_cmp q))
+  where
+    nothing : Cells
+    nothing = empty
+
+    none_either_way : (b : Bool) → ◌≡◌ {A = Option Contribution} (cond b None None) None
+    none_either_way true = refl
+    none_either_way false = refl
+
 -- no key has archives
 pub kept_none : {X : Type 0} (cells : X → Rows) (limit : X → ℕ) (s : Layout) (origin : ℕ) (entries : List (List ℕ × Vec X)) → IsLayout s → IsOrigin origin → entries ≡ [] → IsHeld cells limit s origin 1 entries
 unfolding IsStrictlySortedBy cells_of
@@ -100,20 +115,6 @@ kept_none cells limit s origin entries is in_range none = subst (IsHeld cells li
   sized = λ key archives e. absurd (true≢false (sym (ap is_some e)));
   ordered = tt;
 })
-  where
-    nothing : Cells
-    nothing = empty
-
-    none_either_way : (b : Bool) → ◌≡◌ {A = Option Contribution} (cond b None None) None
-    none_either_way true = refl
-    none_either_way false = refl
-
-    trimmed_none : (s : Layout) → IsTrimmed s empty
-    trimmed_none s = same_map cell_name_cmp_total cell_name_cmp-IsAntisymmetric _ _ (λ q.
-        get-trimmed cell_name_cmp_total cell_name_cmp-IsAntisymmetric (is_live s) empty q
-        ∙ ap (λ o. cond (is_live s (keys nothing) q) o None) (get-empty cell_name_cmp q)
-        ∙ none_either_way (is_live s (keys nothing) q)
-        ∙ sym (get-empty cell_name_cmp q))
 
 pub cells_none : {X : Type 0} (cells : X → Rows) (entries : List (List ℕ × Vec X)) → entries ≡ [] → cells_of (held_series cells entries) ≡ empty
 unfolding cells_of

@@ -6,3 +6,6 @@ pub mod PieceLemmas
 pub mod ChainLemmas
 pub mod CellsLemmas
 pub mod LoadLemmas
+pub mod SnapshotLemmas
+pub mod SavedLemmas
+pub mod CutLemmas

@@ -25,10 +25,10 @@ front_is front rest all e =
 
 -- ---- where all bytes are known
 
-abbrev after_cells : List ℕ → ℕ → List NamedCell × List ℕ → Result (ℕ × List NamedCell) LoadFault
+abbrev pub after_cells : List ℕ → ℕ → List NamedCell × List ℕ → Result (ℕ × List NamedCell) LoadFault
 after_cells all saver cells = digest_at (sha256 (bytes_before cells.1 all)) cells.1 >>= λ digest. end_at digest.1 >>= λ end. Ok (saver, cells.0)
 
-abbrev after_head : Layout → List ℕ → (Version × (ℕ × ℕ)) × List ℕ → Result (ℕ × List NamedCell) LoadFault
+abbrev pub after_head : Layout → List ℕ → (Version × (ℕ × ℕ)) × List ℕ → Result (ℕ × List NamedCell) LoadFault
 after_head s all head = as_in_page (cells_at head.0.0 s None head.0.1.1 head.1) >>= after_cells all head.0.1.0
 
 abbrev judged : Layout → ℕ → ℕ × List NamedCell → Result Holding LoadFault

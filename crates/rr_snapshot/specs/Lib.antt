@@ -3,3 +3,4 @@ pub mod Snapshot
 pub mod SnapshotReading
 pub mod Stream
 pub mod Loading
+pub mod Laws

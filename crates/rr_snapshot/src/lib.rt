@@ -4,12 +4,15 @@
 //! names, and the SHA-256 digest of all of this. [`save`] writes it, one cell after the other, so that
 //! nothing of it but one cell is in memory. [`load`] reads it field by field up to the first fault
 //! (`specs/SnapshotReading.antt`) and joins each cell into a replica of a new origin as it comes
-//! (`specs/Loading.antt`), so that of the bytes it too holds one cell's at a time.
+//! (`specs/Loading.antt`), so that of the bytes it too holds one cell's at a time. [`laws`] says that
+//! what is read is what was written, that a replica that was saved is loaded with the same cells, and
+//! that no snapshot begins another.
 #![tactic(auto)]
 
 mod ending;
 mod fault;
 mod heading;
+pub mod laws;
 mod loading;
 mod saving;
 mod stream;
