@@ -1,9 +1,15 @@
 -- Names and versions of the cells of a walk.
-use Rattle.std.proofs.Common.{◌≡◌, ℕ, zero, suc, ◌+◌, ◌-◌, ◌<◌, ◌≤◌, List, [], ◌∷◌, ◌++◌, map, take, refl, ap, ◌∙◌, append_assoc, arith}
+use Rattle.std.proofs.Common.{◌≡◌, ℕ, zero, suc, ◌+◌, ◌-◌, ◌<◌, ◌≤◌, List, [], ◌∷◌, ◌++◌, map, take, refl, ap, ◌∙◌, append_assoc, arith, T, IfOk, Result, Ok, Err}
 use Rattle.std.proofs.Math.Seq.{take-nil}
 use Rattle.std.proofs.lemmas.List.{append-nil}
+use Rattle.std.specs.Global.{Vec}
+use Rattle.std.specs.FinMap.{is_sorted}
+use Rattle.rr_join.proofs.Booleans.{true_from_T}
+use Rattle.rr_model.specs.CellNames.{cell_name_cmp}
 use Rattle.rr_replica.specs.CellBounds.{NamedCell}
-use Rattle.rr_delta.specs.Names.{NamedVersion, named_version}
+use Rattle.rr_delta.specs.declared.name.Name.{Name}
+use Rattle.rr_delta.specs.Names.{NamedVersion, named_version, owned_name}
+use Rattle.rr_delta.specs.Difference.{IsSummary}
 
 -- what was listed, and what is still to be listed of what is left
 abbrev pub listed_so_far : List NamedVersion → ℕ → List NamedCell → List NamedVersion
@@ -33,3 +39,8 @@ none_left front (suc n) = append-nil front
 
 pub none_taken : {X : Type 0} (n : ℕ) (xs : List X) → xs ≡ [] → take n xs ≡ []
 none_taken n xs is = ap (take n) is ∙ take-nil n
+
+-- names that are listed in order are a summary
+pub names_ascend : {E : Type 0} (r : Result (Vec Name) E) (vs : List NamedVersion) → T (is_sorted cell_name_cmp vs) → IfOk r (λ names. map owned_name names.items ≡ vs) → IfOk r (λ names. IsSummary (map owned_name names.items))
+names_ascend (Ok names) vs h is = ap (is_sorted cell_name_cmp) is ∙ true_from_T (is_sorted cell_name_cmp vs) h
+names_ascend (Err fault) vs h is = tt

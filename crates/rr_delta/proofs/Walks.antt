@@ -1,5 +1,5 @@
 -- Walks along names that strictly ascend.
-use Rattle.std.proofs.Common.{◌≡◌, ℕ, zero, suc, Bool, true, false, cond, T, List, [], ◌∷◌, take, drop, slice_get, unwrap_or, refl, sym, ap, ◌∙◌, subst, Option, Some, None, Ordering, Less, Equal, Greater}
+use Rattle.std.proofs.Common.{◌≡◌, ℕ, zero, suc, Bool, true, false, cond, T, List, [], ◌∷◌, map, take, drop, slice_get, unwrap_or, refl, sym, ap, ◌∙◌, subst, Option, Some, None, Ordering, Less, Equal, Greater}
 use Rattle.std.specs.Cmp.{tied_itself}
 use Rattle.std.specs.List as List
 use Rattle.std.specs.List.{filter}
@@ -12,7 +12,8 @@ use Rattle.rr_model.proofs.Orders.{cell_name_cmp_total}
 use Rattle.rr_replica.specs.CellBounds.{NamedCell}
 use Rattle.rr_replica.specs.Listing.{first_after}
 use Rattle.rr_replica.proofs.NextCell.{is_past}
-use Rattle.rr_delta.specs.Summaries.{cells_from}
+use Rattle.rr_delta.specs.Summaries.{cells_after, cells_from}
+use Rattle.rr_delta.specs.Names.{named_version}
 
 pub less_from : (r : Ordering) → is_lt r ≡ true → r ≡ Less
 less_from Less h = refl
@@ -75,6 +76,18 @@ module _ {X : Type 0} where
   sorted_take zero (e ∷ es) h = tt
   sorted_take (suc n) [] h = tt
   sorted_take (suc n) (e ∷ es) h = T_and (below_all cell_name_cmp e.0 (take n es)) (is_sorted cell_name_cmp (take n es)) (below_take n e.0 es (first_T (below_all cell_name_cmp e.0 es) (is_sorted cell_name_cmp es) h)) (sorted_take n es (second_T (below_all cell_name_cmp e.0 es) (is_sorted cell_name_cmp es) h))
+
+below_versions : (n : CellName) (es : List NamedCell) → T (below_all cell_name_cmp n es) → T (below_all cell_name_cmp n (map named_version es))
+below_versions n [] h = tt
+below_versions n (e ∷ es) h = T_and (is_lt (cell_name_cmp n e.0)) (below_all cell_name_cmp n (map named_version es)) (first_T (is_lt (cell_name_cmp n e.0)) (below_all cell_name_cmp n es) h) (below_versions n es (second_T (is_lt (cell_name_cmp n e.0)) (below_all cell_name_cmp n es) h))
+
+pub sorted_versions : (es : List NamedCell) → T (is_sorted cell_name_cmp es) → T (is_sorted cell_name_cmp (map named_version es))
+sorted_versions [] h = tt
+sorted_versions (e ∷ es) h = T_and (below_all cell_name_cmp e.0 (map named_version es)) (is_sorted cell_name_cmp (map named_version es)) (below_versions e.0 es (first_T (below_all cell_name_cmp e.0 es) (is_sorted cell_name_cmp es) h)) (sorted_versions es (second_T (below_all cell_name_cmp e.0 es) (is_sorted cell_name_cmp es) h))
+
+pub sorted_after : (n : Option CellName) (es : List NamedCell) → T (is_sorted cell_name_cmp es) → T (is_sorted cell_name_cmp (cells_after n es))
+sorted_after None es h = h
+sorted_after (Some n) es h = sorted_filter (is_past n) es h
 
 -- ---- cells after one of them
 

@@ -3,6 +3,7 @@ ghost use Rattle.std.specs.Prelude.{◌≡◌, All, IfOk, Some, map, take, drop}
 ghost use Rattle.std.specs.FinMap.{entries};
 ghost use Rattle.rr_replica.specs.Listing.{seen_cell};
 ghost use Rattle.rr_delta.specs.Names.{IsNameOf, name_in, named_version, owned_name, versions_of};
+ghost use Rattle.rr_delta.specs.Difference.{IsSummary};
 ghost use Rattle.rr_delta.specs.Summaries.{cells_after, cells_from};
 
 use crate::name::Name;
@@ -51,6 +52,7 @@ pub fn summary<A: Archive>(
 ) -> Result<Vec<Name>, AllocError>
     ensures listed { IfOk result (λ names.
         map owned_name names.items ≡ take count (drop from (versions_of replica.now.cells))) }
+    ensures ascending { IfOk result (λ names. IsSummary (map owned_name names.items)) }
     ensures of_schema { IfOk result (λ names. All (λ n. IsNameOf replica.now.schema (owned_name n)) names.items) }
 {
     // The proof needs what the replica keeps to, which `schema` ensures.
@@ -74,6 +76,7 @@ pub fn summary_after<A: Archive>(
 ) -> Result<Vec<Name>, AllocError>
     ensures listed { IfOk result (λ names. map owned_name names.items
         ≡ take count (map named_version (cells_after (name_in after.entry) (entries replica.now.cells)))) }
+    ensures ascending { IfOk result (λ names. IsSummary (map owned_name names.items)) }
     ensures of_schema { IfOk result (λ names. All (λ n. IsNameOf replica.now.schema (owned_name n)) names.items) }
 {
     // The proof needs what the replica keeps to, which `schema` ensures.

@@ -7,6 +7,7 @@ ghost use Rattle.rr_replica.specs.Cells.{Cells, IsTrimmed};
 ghost use Rattle.rr_replica.specs.Joins.{join_cell};
 ghost use Rattle.rr_replica.specs.Listing.{owned_cell};
 ghost use Rattle.rr_delta.specs.Names.{IsNameOf, name_in, named_version, owned_name, versions_of};
+ghost use Rattle.rr_delta.specs.Difference.{IsSummary};
 ghost use Rattle.rr_delta.specs.Summaries.{cells_after};
 
 use crate::listing::{summary, summary_after};
@@ -35,6 +36,7 @@ pub trait Target {
     fn names(&self, alloc: Global, from: usize, count: usize) -> Result<Vec<Name>, AllocError>
         ensures listed { IfOk result (λ names.
             map owned_name names.items ≡ take count (drop from (versions_of (cells self.now)))) }
+        ensures ascending { IfOk result (λ names. IsSummary (map owned_name names.items)) }
         ensures of_schema { IfOk result (λ names. All (λ n. IsNameOf (layout self.now) (owned_name n)) names.items) };
 
     /// The names and versions of as many cells as `count` after a name, or of the first ones where
@@ -48,6 +50,7 @@ pub trait Target {
     ) -> Result<Vec<Name>, AllocError>
         ensures listed { IfOk result (λ names. map owned_name names.items
             ≡ take count (map named_version (cells_after (name_in after.entry) (entries (cells self.now))))) }
+        ensures ascending { IfOk result (λ names. IsSummary (map owned_name names.items)) }
         ensures of_schema { IfOk result (λ names. All (λ n. IsNameOf (layout self.now) (owned_name n)) names.items) };
 
     /// Joins a cell, which is valid under the schema: of it and what stands at its name the greater

@@ -1,6 +1,7 @@
 mod archives;
 mod cells;
 mod contributions;
+mod deltas;
 mod failing;
 mod fake_process;
 mod faults;

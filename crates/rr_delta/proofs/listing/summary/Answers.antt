@@ -6,8 +6,8 @@ use Rattle.rr_replica.specs.Listing.{seen_cell}
 use Rattle.rr_delta.specs.Names.{IsNameOf, named_version, owned_name, versions_of}
 use Rattle.rr_delta.specs.Summaries.{cells_from}
 use Rattle.rr_delta.proofs.HeldLemmas.{all_held, all_taken, all_dropped, named_all, names_held}
-use Rattle.rr_delta.proofs.SummaryLemmas.{none_taken}
-use Rattle.rr_delta.proofs.Walks.{walked_to}
+use Rattle.rr_delta.proofs.SummaryLemmas.{none_taken, names_ascend}
+use Rattle.rr_delta.proofs.Walks.{walked_to, sorted_drop, sorted_take, sorted_versions}
 use Rattle.rr_delta.proofs.listing.summary.Goals as goal
 
 pub returns-in-Some-clause-listed : goal.returns-in-Some-clause-listed
@@ -30,3 +30,8 @@ returns-in-None-clause-listed g c =
     let at = ap (option_map seen_cell) (sym c.in-None.is) ∙ c.cell_at.ensures.listed in
     let past : drop c.args.from (versions_of m) ≡ [] = drop-map named_version c.args.from (entries m) ∙ ap (map named_version) (sym (walked_to c.args.from (entries m) (entries_sorted m))) ∙ ap (λ o. map named_version (cells_from o (entries m))) (sym at) in
     ap (map owned_name) c.new.ensures.items ∙ sym (none_taken c.args.count (drop c.args.from (versions_of m)) past)
+
+pub returns-in-Some-clause-ascending : goal.returns-in-Some-clause-ascending
+returns-in-Some-clause-ascending g c =
+    let m = c.args.replica.now.cells in
+    names_ascend c.listed_from.result (take c.args.count (drop c.args.from (versions_of m))) (sorted_take c.args.count (drop c.args.from (versions_of m)) (sorted_drop c.args.from (versions_of m) (sorted_versions (entries m) (entries_sorted m)))) (returns-in-Some-clause-listed g c)

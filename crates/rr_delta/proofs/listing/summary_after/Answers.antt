@@ -5,8 +5,8 @@ use Rattle.rr_replica.specs.Listing.{seen_cell, first_after}
 use Rattle.rr_delta.specs.Names.{IsNameOf, name_in, named_version, owned_name}
 use Rattle.rr_delta.specs.Summaries.{cells_after, cells_from}
 use Rattle.rr_delta.proofs.HeldLemmas.{all_held, all_taken, after_held, named_all, names_held}
-use Rattle.rr_delta.proofs.SummaryLemmas.{none_taken}
-use Rattle.rr_delta.proofs.Walks.{walked_on}
+use Rattle.rr_delta.proofs.SummaryLemmas.{none_taken, names_ascend}
+use Rattle.rr_delta.proofs.Walks.{walked_on, sorted_after, sorted_take, sorted_versions}
 use Rattle.rr_delta.proofs.listing.summary_after.Goals as goal
 
 pub returns-in-Some-next_cell-clause-listed : goal.returns-in-Some-next_cell-clause-listed
@@ -39,3 +39,9 @@ returns-in-None-clause-listed g c =
     let none : cells_after (name_in c.args.after) (entries m) ≡ [] =
     ap (λ o. cells_after (name_in o) (entries m)) c.in-Some.is ∙ sym (walked_on n (entries m) (entries_sorted m)) ∙ ap (λ o. cells_from o (entries m)) (sym next ∙ ap (option_map seen_cell) c.in-None.is) in
     ap (map owned_name) c.new.ensures.items ∙ sym (none_taken c.args.count (map named_version (cells_after (name_in c.args.after) (entries m))) (ap (map named_version) none))
+
+pub returns-in-Some-next_cell-clause-ascending : goal.returns-in-Some-next_cell-clause-ascending
+returns-in-Some-next_cell-clause-ascending g c =
+    let m = c.args.replica.now.cells in
+    let es = cells_after (name_in c.args.after) (entries m) in
+    names_ascend c.listed_from.result (take c.args.count (map named_version es)) (sorted_take c.args.count (map named_version es) (sorted_versions es (sorted_after (name_in c.args.after) (entries m) (entries_sorted m)))) (returns-in-Some-next_cell-clause-listed g c)
