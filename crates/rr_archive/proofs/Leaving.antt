@@ -17,7 +17,8 @@ use Rattle.rr_archive.specs.CellSlots.{CellSlot, cell_slot, cell_slot_cmp}
 use Rattle.rr_archive.specs.Cells.{Rows}
 use Rattle.rr_archive.specs.Held.{cells_in, RowsAscend, starts_dead, first_len}
 use Rattle.rr_archive.proofs.CellSlotOrder.{cell_slot_cmp_total, cell_slot_cmp-IsAntisymmetric}
-use Rattle.rr_archive.proofs.Listing.{row_cells, cells_list, listed_from, entries-cells_in, rest_ascends}
+use Rattle.rr_archive.proofs.RowCells.{row_cells}
+use Rattle.rr_archive.proofs.Listing.{cells_list, listed_from, entries-cells_in, rest_ascends}
 
 abbrev is_kept : ℕ → ℤ → CellSlot × Contribution → Bool
 is_kept limit top e = is_above limit (Some top) e.0.slot

@@ -7,6 +7,7 @@ pub mod Trimming
 pub mod FewLive
 pub mod Putting
 pub mod Counting
+pub mod RowCells
 pub mod Listing
 pub mod Leaving
 pub mod Copying

@@ -1,75 +1,31 @@
 -- The first cell after a cell slot, row by row.
-use Rattle.std.proofs.Common.{◌≡◌, ℕ, ℤ, Bool, true, false, cond, ◌&&◌, ◌||◌, List, [], ◌∷◌, ◌++◌, refl, sym, ap, ◌∙◌, Option, Some, None, Less, Equal, Greater, int_cmp, nat_cmp, arith, ltb, subst}
+use Rattle.std.proofs.Common.{◌≡◌, ℕ, ℤ, Bool, true, false, cond, ◌&&◌, List, [], ◌∷◌, ◌++◌, refl, sym, ap, ◌∙◌, Option, Some, None, int_cmp, arith, subst}
 use Rattle.std.specs.Global.{Vec}
 use Rattle.std.specs.List.{filter, find}
 use Rattle.std.specs.Option.{option_map, option_or}
-use Rattle.std.specs.Ordering.{is_lt, is_le, ordering_then}
+use Rattle.std.specs.Ordering.{is_le}
 use Rattle.std.proofs.lemmas.List.Folds.{find-append}
-use Rattle.std.proofs.lemmas.Bool.Decides.{nat_tests}
 use Rattle.std.proofs.lemmas.Int.{ints}
 use Rattle.std.specs.Prelude.{int_lt}
 use Rattle.std.specs.BTreeMap.Range.{entries_between}
 use Rattle.std.specs.declared.ops.Bound.TheVariants.{Included, Unbounded}
-use Rattle.rr_contrib.specs.declared.contribution.Contribution.{Contribution}
 use Rattle.rr_archive.specs.declared.entry.Entry.{Entry}
-use Rattle.rr_archive.specs.CellSlots.{CellSlot, cell_slot, cell_slot_cmp}
+use Rattle.rr_archive.specs.CellSlots.{CellSlot, cell_slot}
 use Rattle.rr_archive.specs.Cells.{cell_of, next_cell}
 use Rattle.rr_archive.specs.Row.{is_after}
 use Rattle.rr_archive.specs.Held.{cells_in}
-use Rattle.rr_archive.proofs.Listing.{Listed, cells_list, row_cells, entries-cells_in}
-
--- whether a cell is after a cell slot
-abbrev pub is_past : CellSlot → CellSlot × Contribution → Bool
-is_past p e = is_lt (cell_slot_cmp p e.0)
+use Rattle.rr_archive.proofs.RowCells.{row_cells, is_past, none_in_row, first_past}
+use Rattle.rr_archive.proofs.Listing.{Listed, cells_list, entries-cells_in}
 
 -- the first cell of rows after a cell slot
 abbrev pub first_in : CellSlot → List (ℤ × Vec Entry) → Option (ℤ × Entry)
 first_in p rows = option_map cell_of (find (is_past p) (cells_list rows))
 
-after_is : (slot at : ℤ) (o n : ℕ) → int_lt at slot ≡ false → is_lt (cell_slot_cmp (cell_slot slot o) (cell_slot at n)) ≡ (int_lt slot at || ltb o n)
-after_is slot at o n h = elim (int_lt slot at) as (λ b. is_lt (ordering_then (cond b Less (cond (int_lt at slot) Greater Equal)) (nat_cmp o n)) ≡ (b || ltb o n)) [
-  | true ↦ refl
-  | false ↦ ap (λ c. is_lt (ordering_then (cond c Greater Equal) (nat_cmp o n))) h ∙ less_is o n
-]
-  where
-    less_is : (a b : ℕ) → is_lt (nat_cmp a b) ≡ ltb a b
-    less_is a b = grind (arith, nat_tests)
-
-not_after : (slot at : ℤ) (o n : ℕ) → int_lt at slot ≡ true → is_lt (cell_slot_cmp (cell_slot slot o) (cell_slot at n)) ≡ false
-not_after slot at o n h = ap (λ r. is_lt (ordering_then r (nat_cmp o n))) (above slot at h)
-  where
-    above : (x y : ℤ) → int_lt y x ≡ true → int_cmp x y ≡ Greater
-    above x y h = grind (arith, ints)
-
 -- ---- one row
-
-none_in_row : (slot at : ℤ) (o : ℕ) (es : List Entry) → int_lt at slot ≡ true → find (is_past (cell_slot slot o)) (row_cells at es) ≡ None
-none_in_row slot at o [] h = refl
-none_in_row slot at o (e ∷ es) h =
-    ap (λ b. cond b (Some (cell_slot at e.origin, e.contribution)) (find (is_past (cell_slot slot o)) (row_cells at es))) (not_after slot at o e.origin h)
-    ∙ none_in_row slot at o es h
-
-in_row : (slot at : ℤ) (o : ℕ) (es : List Entry) → int_lt at slot ≡ false → option_map cell_of (find (is_past (cell_slot slot o)) (row_cells at es)) ≡ option_map (λ e. (at, e)) (find (is_after (int_lt slot at) o) es)
-in_row slot at o [] h = refl
-in_row slot at o (e ∷ es) h =
-    let rest = find (is_past (cell_slot slot o)) (row_cells at es) in
-    ap (λ b. option_map cell_of (cond b (Some (cell_slot at e.origin, e.contribution)) rest)) (after_is slot at o e.origin h)
-    ∙ elim (is_after (int_lt slot at) o e) as (λ b. option_map cell_of (cond b (Some (cell_slot at e.origin, e.contribution)) rest) ≡ option_map (λ x. (at, x)) (cond b (Some e) (find (is_after (int_lt slot at) o) es))) [
-      | true ↦ refl
-      | false ↦ in_row slot at o es h
-    ]
-
-map_or : {X Y : Type 0} (f : X → Y) (a b : Option X) → option_map f (option_or a b) ≡ option_or (option_map f a) (option_map f b)
-map_or f None b = refl
-map_or f (Some x) b = refl
 
 -- the first of a row's, or else of those after it
 pub first_in-row : (slot at : ℤ) (o : ℕ) (row : Vec Entry) (rest : List (ℤ × Vec Entry)) → int_lt at slot ≡ false → first_in (cell_slot slot o) ((at, row) ∷ rest) ≡ option_or (option_map (λ e. (at, e)) (find (is_after (int_lt slot at) o) row.items)) (first_in (cell_slot slot o) rest)
-first_in-row slot at o row rest h =
-    let p = cell_slot slot o in
-    ap (option_map cell_of) (find-append (is_past p) (row_cells at row.items) (cells_list rest))
-    ∙ map_or cell_of (find (is_past p) (row_cells at row.items)) (find (is_past p) (cells_list rest))
-    ∙ ap (λ a. option_or a (first_in p rest)) (in_row slot at o row.items h)
+first_in-row slot at o row rest h = first_past slot at o row.items (cells_list rest) h
 
 -- ---- the rows from a slot on
 

@@ -11,7 +11,7 @@ use rr_join::Join;
 
 /// What comes to a cell: a sample, or a contribution from elsewhere.
 #[derive(Clone, Copy)]
-pub(crate) enum Change {
+pub enum Change {
     Put(NewSample),
     Join(Contribution),
 }
@@ -44,7 +44,7 @@ fn with_joined(known: Option<Contribution>, other: &Contribution) -> Contributio
 }
 
 /// What a cell contributes after a change.
-pub(crate) fn contribution_after(known: Option<Contribution>, change: &Change) -> Contribution
+pub fn contribution_after(known: Option<Contribution>, change: &Change) -> Contribution
     requires { Fits known change.now }
     ensures { result ≡ contribution_after known change.now }
 {

@@ -4,14 +4,8 @@ ghost use Rattle.std.specs.FinMap as fin;
 ghost use Rattle.rr_join.specs.Horizon.{is_above};
 ghost use Rattle.rr_archive.specs.Held.{cells_in, starts_dead, first_len};
 
+use crate::live_slots::is_above;
 use crate::slots::Slots;
-
-/// Whether a slot is one of the last rows up to the newest, or after it.
-pub(crate) fn is_above(rows: u32, newest: i64, slot: i64) -> bool
-    ensures { result ≡ is_above rows (Some newest) slot }
-{
-    i128::from(newest) - i128::from(rows) < i128::from(slot)
-}
 
 impl Slots {
     /// Whether the first row is past the horizon.

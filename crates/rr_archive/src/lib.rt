@@ -6,18 +6,24 @@
 //! cells are kept, those whose slot is above the newest slot less the rows of the archive
 //! (`specs/CellSlots.antt`), so an archive never has more cells than its rows times the origins.
 //! Joined so, maps are the same in any order, in any grouping and any number of times (`laws`).
+//!
+//! [`PlainArchive`] keeps its rows in an ordered map. What it shares with other kinds of archive is
+//! public: which slots are live ([`live_slots`]), what a cell contributes after a sample or a join
+//! ([`change`]), and the entries of one row ([`row`]).
 #![tactic(auto)]
 
 mod archive;
-mod change;
+pub mod change;
 mod entry;
 pub mod laws;
 mod leaving_rows;
+pub mod live_slots;
 mod new_sample;
 mod plain;
-mod row;
+pub mod row;
 mod slots;
 
 pub use archive::Archive;
 pub use entry::Entry;
+pub use new_sample::NewSample;
 pub use plain::PlainArchive;

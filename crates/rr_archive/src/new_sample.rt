@@ -4,11 +4,11 @@ ghost use Rattle.rr_base.specs.declared.limits.TheConstants.{MAX_NUMBER, MAX_STE
 
 /// A sample as its slot sees it.
 #[derive(Clone, Copy)]
-pub(crate) struct NewSample {
-    pub(crate) number: u64,
-    pub(crate) place: u32,
-    pub(crate) time: i64,
-    pub(crate) value: i64,
+pub struct NewSample {
+    pub number: u64,
+    pub place: u32,
+    pub time: i64,
+    pub value: i64,
     ghost number_at_least: { 1 ≤ number },
     ghost number_at_most: { number ≤ MAX_NUMBER },
     ghost in_slot: { place < MAX_STEPS },

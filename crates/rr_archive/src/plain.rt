@@ -1,9 +1,8 @@
 //! An archive as an ordered map from slots to rows.
 ghost use Rattle.std.specs.Prelude.{◌≡◌, IsTrue, IsFalse, IsOk, OnOk, OnErr, Some};
 ghost use Rattle.std.proofs.Props.{props};
-ghost use Rattle.std.specs.Ordering.{int_cmp};
 ghost use Rattle.std.specs.FinMap as fin;
-ghost use Rattle.rr_join.specs.Maps.{greater, trimmed};
+ghost use Rattle.rr_join.specs.Maps.{trimmed};
 ghost use Rattle.rr_join.specs.Horizon.{is_above};
 ghost use Rattle.rr_archive.specs.CellSlots.{cell_slot, IsSlot, is_live_at};
 ghost use Rattle.rr_archive.specs.Changes.{Fits};
@@ -14,7 +13,7 @@ ghost use Rattle.rr_archive.specs.Held.{IsHeld, cells_in, is_ready_in};
 use crate::archive::Archive;
 use crate::change::Change;
 use crate::entry::Entry;
-use crate::leaving_rows::is_above;
+use crate::live_slots::{is_live, later};
 use crate::new_sample::NewSample;
 use crate::slots::Slots;
 use rr_base::Origin;
@@ -32,27 +31,7 @@ pub struct PlainArchive {
     ghost held: { IsHeld rows count newest slots.rows.entries } by { Prim.hlevel (props, coded_rows) },
 }
 
-/// The later of the newest slot so far, if there is one, and a slot.
-fn later(newest: Option<i64>, slot: i64) -> i64
-    ensures { Some result ≡ greater int_cmp newest (Some slot) }
-{
-    match newest {
-        Some(newest) => newest.max(slot),
-        None => slot,
-    }
-}
-
 impl PlainArchive {
-    /// Whether a slot is not past the horizon.
-    fn is_live(&self, slot: i64) -> bool
-        ensures { result ≡ is_above self.now.rows self.now.newest slot }
-    {
-        match self.newest {
-            Some(newest) => is_above(self.rows, newest, slot),
-            None => true,
-        }
-    }
-
     /// Changes the cell of a slot and an origin, and lets go of the rows that are then past the
     /// horizon. A change that is past it itself is passed over.
     fn change(&mut self, slot: i64, origin: Origin, change: &Change) -> Result<(), AllocError>
@@ -67,7 +46,7 @@ impl PlainArchive {
         ensures limit { self.new.rows ≡ self.old.rows }
         ensures room { IsTrue (is_ready_in self.old.rows self.old.newest self.old.slots.rows.entries (cell_slot slot origin)) → IsOk result }
     {
-        if !self.is_live(slot) {
+        if !is_live(self.rows, self.newest, slot) {
             return Ok(());
         }
         // Origins have 16 bits, so the cells can be counted.
@@ -105,7 +84,7 @@ impl Archive for PlainArchive {
     }
 
     fn ready(&mut self, slot: i64, _origin: Origin) -> Result<(), AllocError> {
-        if !self.is_live(slot) {
+        if !is_live(self.rows, self.newest, slot) {
             return Ok(());
         }
         self.slots.make_room(self.alloc, slot)

@@ -33,7 +33,7 @@ fn is_after(entry: &Entry, is_later: bool, origin: Origin) -> bool
 }
 
 /// The first entry of a later slot than an origin's, or the first after it in its own.
-pub(crate) fn first_after(row: &[Entry], is_later: bool, origin: Origin) -> Option<Entry>
+pub fn first_after(row: &[Entry], is_later: bool, origin: Origin) -> Option<Entry>
     ensures { result ≡ find (is_after is_later origin) row.now }
 {
     row.iter()
@@ -58,7 +58,7 @@ fn set_entry(row: &mut Vec<Entry>, entry: Entry) -> Result<(), AllocError>
 }
 
 /// Changes the entry of an origin, and says whether it is a new one.
-pub(crate) fn change_entry(
+pub fn change_entry(
     row: &mut Vec<Entry>,
     origin: Origin,
     change: &Change,

@@ -14,8 +14,9 @@ use crate::event::ScriptLine;
 use crate::fault::RunFault;
 use crate::script::parse_script;
 use crate::stop::Stop;
-use rr_archive::{Archive, PlainArchive};
+use rr_archive::Archive;
 use rr_records::push_refusal;
+use rr_ring::RingArchive;
 use std::alloc::Global;
 
 /// What a script prints: the answers of its fetches, and `line N: NAME` for each command that is
@@ -28,12 +29,13 @@ pub fn run(alloc: Global, script: &[u8]) -> Result<Vec<u8>, RunFault>
     ensures cells { IfOk result (λ text. text.items ≡ output_of cell_model script.now) }
     ensures samples { IfOk result (λ text. text.items ≡ output_of sample_model script.now) }
 {
-    run_on::<PlainArchive>(alloc, script)
+    run_on::<RingArchive>(alloc, script)
 }
 
-/// What a script prints, with the series of all nodes in archives of this kind.
-fn run_on<A: Archive>(alloc: Global, script: &[u8]) -> Result<Vec<u8>, RunFault>
-    ensures { IfOk result (λ text. text.items ≡ output_of cell_model script.now) }
+/// What a script prints, as [`run`] says, with the series of all nodes in archives of this kind.
+pub fn run_on<A: Archive>(alloc: Global, script: &[u8]) -> Result<Vec<u8>, RunFault>
+    ensures cells { IfOk result (λ text. text.items ≡ output_of cell_model script.now) }
+    ensures samples { IfOk result (λ text. text.items ≡ output_of sample_model script.now) }
 {
     let lines = parse_script(alloc, script)?;
     let mut cluster: Option<Cluster<A>> = None;

@@ -6,6 +6,7 @@ use Rattle.rr_cluster.specs.declared.event.ScriptLine.{ScriptLine}
 use Rattle.rr_cluster.specs.Model.{cell_model}
 use Rattle.rr_cluster.specs.Output.{obeyed, output_from}
 use Rattle.rr_cluster.specs.Script.{line_view, said_view}
+use Rattle.rr_cluster.proofs.AgreementLemmas.{scripts_agree}
 use Rattle.rr_cluster.proofs.ScriptLemmas.{line_says_one_line}
 use Rattle.rr_cluster.proofs.running.run_on.Goals as goal
 
@@ -38,10 +39,13 @@ loop-line-preserved g c =
     let more = at_drop_more (λ (ls : List ScriptLine). output_from cell_model m (map line_view ls)) lines i any c.loop-line-test.true in
     (done.0, printed.1, ap (λ (text : List ℕ). text ++ rest) printed.0 ∙ append_assoc c.loop-line.text.items done.1 rest ∙ ap (λ (text : List ℕ). c.loop-line.text.items ++ text) (sym more) ∙ before.2)
 
-pub returns : goal.returns
-returns g c =
+pub returns-clause-cells : goal.returns-clause-cells
+returns-clause-cells g c =
     let lines = c.deref-line-items.result.now in
     let before = c.loop-line.invariant in
     let last : c.loop-line.line-index ≡ length lines = omega (arith, c.loop-line-test.false, c.loop-line.auto.line-index-end) in
     let none = ap (λ (k : ℕ). output_from cell_model before.0 (map line_view (drop k lines))) last ∙ ap (λ (ls : List ScriptLine). output_from cell_model before.0 (map line_view ls)) (drop-length lines) in
     sym (append-nil c.loop-line.text.items) ∙ ap (λ (text : List ℕ). c.loop-line.text.items ++ text) (sym none) ∙ before.2
+
+pub returns-clause-samples : goal.returns-clause-samples
+returns-clause-samples g c = returns-clause-cells g c ∙ scripts_agree c.args.script.now

@@ -1,5 +1,4 @@
-use Rattle.std.proofs.Common.{rules, ◌≡◌, [], ◌∷◌, arith, to_z, of_z, w64}
-use Rattle.rr_archive.proofs.HeldLemmas.{Sets}
+use Rattle.std.proofs.Common.{rules, ◌≡◌, [], arith, to_z, of_z, w64}
 use Rattle.rr_archive.proofs.Copying.{copied_more, copied_cells, copied_ascend}
 use Rattle.rr_archive.proofs.slots.Slots.copy.Goals as goal
 

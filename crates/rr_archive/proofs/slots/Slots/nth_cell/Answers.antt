@@ -3,7 +3,8 @@ use Rattle.std.specs.List.{slice_get}
 use Rattle.std.specs.Option.{option_map}
 use Rattle.rr_archive.specs.declared.entry.Entry.{Entry}
 use Rattle.rr_archive.specs.Cells.{cell_of}
-use Rattle.rr_archive.proofs.Listing.{cells_list, entries-cells_in, listed_from, cell_here, cell_later}
+use Rattle.rr_archive.proofs.RowCells.{cell_here, cell_later}
+use Rattle.rr_archive.proofs.Listing.{cells_list, entries-cells_in, listed_from}
 use Rattle.rr_archive.proofs.slots.Slots.nth_cell.Goals as goal
 
 pub returns-then-left-len : goal.returns-then-left-len

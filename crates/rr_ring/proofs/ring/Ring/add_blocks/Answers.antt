@@ -1,0 +1,10 @@
+use Rattle.std.proofs.Common.{rules, ◌≡◌, [], ◌∷◌, ◌++◌, ap, ◌∙◌}
+use Rattle.rr_ring.specs.Blocks.{items_by_position}
+use Rattle.rr_ring.proofs.RingLemmas.{blocks_grown}
+use Rattle.rr_ring.proofs.ring.Ring.add_blocks.Goals as goal
+
+pub loop-self-preserved : goal.loop-self-preserved
+loop-self-preserved c =
+    let was = c.loop-self.self.blocks.items in
+    let more : c.push.new.self.items ≡ was ++ (c.new.result ∷ []) = search rules in
+    (ap items_by_position more ∙ blocks_grown was c.new.result c.new.ensures ∙ c.loop-self.invariant.0, c.loop-self.invariant.1)

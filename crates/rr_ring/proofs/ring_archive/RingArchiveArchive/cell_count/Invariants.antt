@@ -1,0 +1,9 @@
+use Rattle.std.proofs.Common.{◌≡◌, ◌+◌, length}
+use Rattle.std.specs.FinMap.{len}
+use Rattle.rr_ring.specs.Ring.{row_at}
+use Rattle.rr_ring.specs.RingCells.{cells_by}
+use Rattle.rr_ring.proofs.WalkLemmas.{cells_left}
+use Rattle.rr_ring.proofs.ring_archive.RingArchiveArchive.cell_count.Given as goal
+
+abbrev pub invariant-loop-k : goal.invariant-loop-k
+invariant-loop-k l = l.count + length (cells_left (row_at l.self.ring) l.first l.self.ring.rows l.k) ≡ len (cells_by l.self.ring.rows l.self.newest (row_at l.self.ring))

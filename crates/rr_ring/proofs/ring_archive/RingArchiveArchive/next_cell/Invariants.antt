@@ -1,0 +1,14 @@
+use Rattle.std.proofs.Common.{◌≡◌}
+use Rattle.std.specs.List.{find}
+use Rattle.std.specs.Option.{option_map}
+use Rattle.std.specs.FinMap.{entries}
+use Rattle.rr_archive.specs.CellSlots.{cell_slot}
+use Rattle.rr_archive.specs.Cells.{cell_of}
+use Rattle.rr_ring.specs.Ring.{row_at}
+use Rattle.rr_ring.specs.RingCells.{cells_by}
+use Rattle.rr_archive.proofs.RowCells.{is_past}
+use Rattle.rr_ring.proofs.WalkLemmas.{cells_left}
+use Rattle.rr_ring.proofs.ring_archive.RingArchiveArchive.next_cell.Given as goal
+
+abbrev pub invariant-loop-k : goal.invariant-loop-k
+invariant-loop-k l = option_map cell_of (find (is_past (cell_slot l.fn.slot l.fn.origin)) (cells_left (row_at l.self.ring) l.first l.self.ring.rows l.k)) ≡ option_map cell_of (find (is_past (cell_slot l.fn.slot l.fn.origin)) (entries (cells_by l.self.ring.rows l.self.newest (row_at l.self.ring))))

@@ -1,0 +1,5 @@
+pub mod StoredRows
+pub mod Blocks
+pub mod Positions
+pub mod Ring
+pub mod RingCells

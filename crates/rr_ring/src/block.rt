@@ -1,0 +1,106 @@
+//! A block of stored rows, whose positions follow one another.
+ghost use Rattle.std.specs.Prelude.{◌≡◌, ◌<◌, [], length, map, IsTrue, IsOk, OnOk, OnErr, IfOk};
+ghost use Rattle.rr_archive.specs.Row.{entry_at};
+ghost use Rattle.rr_archive.specs.Changes.{Fits, entry_after};
+ghost use Rattle.rr_ring.specs.StoredRows.{stored};
+ghost use Rattle.rr_ring.specs.Blocks.{items_in, has_room_in, IsChanged};
+
+use crate::stored_row::StoredRow;
+use rr_archive::Entry;
+use rr_archive::change::Change;
+use rr_base::Origin;
+use std::alloc::{AllocError, Global};
+
+/// The rows of a block; the last block of a ring may have fewer.
+pub(crate) const BLOCK_ROWS: usize = 64;
+
+/// The stored rows of a block, by their number in it. Those at its end may not be made yet.
+#[derive(Drop)]
+pub(crate) struct Block {
+    alloc: Global,
+    rows: Vec<StoredRow>,
+}
+
+impl Block {
+    /// A block with no row made. It takes no memory yet.
+    pub(crate) fn new(alloc: Global) -> Block
+        ensures { result.rows.items ≡ [] }
+    {
+        Block {
+            alloc,
+            rows: Vec::new(alloc),
+        }
+    }
+
+    /// The entries of a slot in the row of a number.
+    pub(crate) fn entries(&self, number: usize, slot: i64) -> &[Entry]
+        ensures { result.now ≡ items_in self.now number slot }
+    {
+        match self.rows.get(number) {
+            Some(row) => row.entries(slot),
+            None => &[],
+        }
+    }
+
+    /// Makes the rows up to a number, in a block that is to have `len` rows.
+    fn make_rows(&mut self, number: usize, len: usize) -> Result<(), AllocError>
+        ensures same { items_in self.new ≡ items_in self.old }
+        ensures made { OnOk result (number < length self.new.rows.items) }
+        ensures kept { number < length self.old.rows.items → self.new.rows.items ≡ self.old.rows.items }
+        ensures room { number < length self.old.rows.items → IsOk result }
+    {
+        if number < self.rows.len() {
+            return Ok(());
+        }
+        self.rows.reserve(len.saturating_sub(self.rows.len()))?;
+        while self.rows.len() <= number {
+            self.rows.push(StoredRow::blank())?;
+        }
+        Ok(())
+    }
+
+    /// Makes room for an entry of an origin in a slot, in the row of a number.
+    pub(crate) fn make_room(
+        &mut self,
+        len: usize,
+        number: usize,
+        slot: i64,
+        origin: Origin,
+    ) -> Result<(), AllocError>
+        ensures same { items_in self.new ≡ items_in self.old }
+        ensures room { OnOk result (IsTrue (has_room_in self.new number slot origin)) }
+    {
+        self.make_rows(number, len)?;
+        self.rows[number].make_room(self.alloc, slot, origin)
+    }
+
+    /// Changes the entry of an origin in a slot, in the row of a number.
+    pub(crate) fn change(
+        &mut self,
+        len: usize,
+        number: usize,
+        slot: i64,
+        origin: Origin,
+        change: &Change,
+    ) -> Result<(), AllocError>
+        requires { Fits (entry_at (items_in self.old number slot) origin) change.now }
+        ensures changed { OnOk result (IsChanged number slot
+            (entry_after (items_in self.old number slot) origin change.now)
+            (items_in self.old) (items_in self.new)) }
+        ensures unchanged { OnErr result (items_in self.new ≡ items_in self.old) }
+        ensures room { IsTrue (has_room_in self.old number slot origin) → IsOk result }
+    {
+        self.make_rows(number, len)?;
+        self.rows[number].change(self.alloc, slot, origin, change)
+    }
+
+    pub(crate) fn copy(&self, alloc: Global) -> Result<Block, AllocError>
+        ensures { IfOk result (λ new. map stored new.rows.items ≡ map stored self.now.rows.items) }
+    {
+        let mut rows = Vec::with_capacity(alloc, self.rows.len())?;
+        for row in &self.rows {
+            rows.push(row.copy(alloc)?)?;
+        }
+        Ok(Block { alloc, rows })
+    }
+}

@@ -1,0 +1,202 @@
+//! An archive as a ring of rows.
+ghost use Rattle.std.specs.Prelude.{◌≡◌, ◌≤◌, ◌<◌, ◌+ℤ◌, ◌-ℤ◌, ◌<ℤ◌, ◌≤ℤ◌, pos, IsTrue, IsFalse, IsOk, OnOk, OnErr, Some};
+ghost use Rattle.std.proofs.Props.{props};
+ghost use Rattle.std.specs.FinMap as fin;
+ghost use Rattle.rr_join.specs.Maps.{trimmed};
+ghost use Rattle.rr_join.specs.Horizon.{is_above};
+ghost use Rattle.rr_archive.specs.CellSlots.{cell_slot, IsSlot, is_live_at};
+ghost use Rattle.rr_archive.specs.Changes.{Fits};
+ghost use Rattle.rr_archive.specs.Cells.{with_change};
+ghost use Rattle.rr_archive.specs.Codes.{coded_rows};
+ghost use Rattle.rr_ring.specs.RingCells.{IsHeld, cells_in, is_ready_in};
+
+use crate::ring::Ring;
+use rr_archive::change::Change;
+use rr_archive::live_slots::{is_live, later};
+use rr_archive::row::first_after;
+use rr_archive::{Archive, Entry, NewSample};
+use rr_base::Origin;
+use rr_contrib::Contribution;
+use std::alloc::{AllocError, Global};
+
+/// The cells of one archive of one series, as a ring of rows.
+///
+/// `row` takes constant time. So do `ready`, `put` and `join_cell` in a row of one origin, and they
+/// take no memory where the block of the row is made; in a row of more they are linear in its
+/// entries. `cell_count` is linear in the rows, `cell_at` in those before the cell, and `next_cell`
+/// in those up to the cell.
+#[derive(Drop)]
+pub struct RingArchive {
+    newest: Option<i64>,
+    ring: Ring,
+    ghost held: { IsHeld newest ring } by { Prim.hlevel (props, coded_rows) },
+}
+
+/// How many of `rows` rows from a first one on are before a slot.
+fn rows_before(slot: i64, first: i64, rows: u32) -> u32
+    requires { slot <ℤ (first +ℤ pos rows) }
+    ensures at_most { result ≤ rows }
+    ensures before { 0 < result → (first +ℤ pos result) ≤ℤ slot }
+    ensures from { slot ≤ℤ (first +ℤ pos result) }
+{
+    if slot < first {
+        return 0;
+    }
+    (slot - first) as u32
+}
+
+impl RingArchive {
+    /// The first slot of the live rows up to the newest.
+    fn first_slot(&self, newest: i64) -> i64
+        requires { Some newest ≡ self.now.newest }
+        ensures { result ≡ (newest -ℤ pos self.now.ring.rows) +ℤ pos 1 }
+    {
+        newest - i64::from(self.ring.rows) + 1
+    }
+
+    /// Changes the cell of a slot and an origin. A change that is past the horizon is passed over.
+    fn change(&mut self, slot: i64, origin: Origin, change: &Change) -> Result<(), AllocError>
+        requires slot { IsSlot slot }
+        requires fits { Fits
+            (fin.get (cells_in self.old.newest self.old.ring) (cell_slot slot origin)) change.now }
+        ensures changed { OnOk result (cells_in self.new.newest self.new.ring
+            ≡ trimmed (is_live_at self.old.ring.rows)
+            (with_change (cells_in self.old.newest self.old.ring) (cell_slot slot origin) change.now)) }
+        ensures dead { IsFalse (is_above self.old.ring.rows self.old.newest slot)
+            → cells_in self.new.newest self.new.ring ≡ cells_in self.old.newest self.old.ring }
+        ensures unchanged { OnErr result (cells_in self.new.newest self.new.ring
+            ≡ cells_in self.old.newest self.old.ring) }
+        ensures limit { self.new.ring.rows ≡ self.old.ring.rows }
+        ensures room { IsTrue (is_ready_in self.old.newest self.old.ring (cell_slot slot origin))
+            → IsOk result }
+    {
+        if !is_live(self.ring.rows, self.newest, slot) {
+            return Ok(());
+        }
+        // Origins have 16 bits, so the cells can be counted.
+        let _number = origin.get();
+        self.ring.change(slot, origin, change)?;
+        self.newest = Some(later(self.newest, slot));
+        Ok(())
+    }
+}
+
+impl Archive for RingArchive {
+    ghost cells = { λ a. cells_in a.newest a.ring };
+
+    ghost row_limit = { λ a. a.ring.rows };
+
+    ghost is_ready = { λ a p. is_ready_in a.newest a.ring p };
+
+    ghost is_trimmed = { λ a. a.held.live };
+
+    ghost in_range = { λ a. a.held.in_range };
+
+    ghost has_rows = { λ a. a.ring.rows_at_least };
+
+    fn new(alloc: Global, rows: u32) -> RingArchive {
+        RingArchive {
+            newest: None,
+            ring: Ring::new(alloc, rows),
+        }
+    }
+
+    fn ready(&mut self, slot: i64, origin: Origin) -> Result<(), AllocError> {
+        if !is_live(self.ring.rows, self.newest, slot) {
+            return Ok(());
+        }
+        self.ring.make_room(slot, origin)
+    }
+
+    fn put(
+        &mut self,
+        slot: i64,
+        origin: Origin,
+        number: u64,
+        place: u32,
+        time: i64,
+        value: i64,
+    ) -> Result<(), AllocError> {
+        let sample = NewSample {
+            number,
+            place,
+            time,
+            value,
+        };
+        self.change(slot, origin, &Change::Put(sample))
+    }
+
+    fn join_cell(
+        &mut self,
+        slot: i64,
+        origin: Origin,
+        contribution: &Contribution,
+    ) -> Result<(), AllocError> {
+        self.change(slot, origin, &Change::Join(*contribution))
+    }
+
+    fn newest(&self) -> Option<i64> {
+        self.newest
+    }
+
+    fn row(&self, slot: i64) -> &[Entry] {
+        if is_live(self.ring.rows, self.newest, slot) {
+            self.ring.row(slot)
+        } else {
+            &[]
+        }
+    }
+
+    fn cell_count(&self) -> usize {
+        let Some(newest) = self.newest else {
+            return 0;
+        };
+        let first = self.first_slot(newest);
+        let mut count = 0;
+        for k in 0..self.ring.rows {
+            count += self.ring.row(first + i64::from(k)).len();
+        }
+        count
+    }
+
+    fn cell_at(&self, i: usize) -> Option<(i64, Entry)> {
+        let Some(newest) = self.newest else {
+            return None;
+        };
+        let first = self.first_slot(newest);
+        let mut left = i;
+        for k in 0..self.ring.rows {
+            let slot = first + i64::from(k);
+            let row = self.ring.row(slot);
+            if left < row.len() {
+                return Some((slot, row[left]));
+            }
+            left -= row.len();
+        }
+        None
+    }
+
+    fn next_cell(&self, slot: i64, origin: Origin) -> Option<(i64, Entry)> {
+        let Some(newest) = self.newest else {
+            return None;
+        };
+        let first = self.first_slot(newest);
+        if newest < slot {
+            return None;
+        }
+        for k in rows_before(slot, first, self.ring.rows)..self.ring.rows {
+            let at = first + i64::from(k);
+            if let Some(entry) = first_after(self.ring.row(at), slot < at, origin) {
+                return Some((at, entry));
+            }
+        }
+        None
+    }
+
+    fn copy(&self, alloc: Global) -> Result<RingArchive, AllocError> {
+        Ok(RingArchive {
+            newest: self.newest,
+            ring: self.ring.copy(alloc)?,
+        })
+    }
+}

@@ -1,0 +1,105 @@
+//! What is stored in a ring: read, changed and copied.
+ghost use Rattle.std.specs.Prelude.{◌≡◌, ◌<◌, ◌≤◌, ℤ, [], length, IsTrue, IsOk, OnOk, OnErr, IfOk};
+ghost use Rattle.rr_archive.specs.Row.{entry_at};
+ghost use Rattle.rr_archive.specs.Changes.{Fits, entry_after};
+ghost use Rattle.rr_ring.specs.Blocks.{items_by_position};
+ghost use Rattle.rr_ring.specs.Ring.{row_at, has_room, IsRowChanged};
+
+use crate::block::{BLOCK_ROWS, Block};
+use crate::ring::Ring;
+use rr_archive::Entry;
+use rr_archive::change::Change;
+use rr_base::Origin;
+use std::alloc::{AllocError, Global};
+
+impl Ring {
+    /// A ring of `rows` rows, none of them made. It takes no memory yet.
+    pub(crate) fn new(alloc: Global, rows: u32) -> Ring
+        requires { 1 ≤ rows }
+        ensures rows { result.rows ≡ rows }
+        ensures empty { (slot : ℤ) → row_at result slot ≡ [] }
+    {
+        Ring {
+            alloc,
+            rows,
+            blocks: Vec::new(alloc),
+        }
+    }
+
+    /// The entries that are stored of a slot.
+    pub(crate) fn row(&self, slot: i64) -> &[Entry]
+        ensures { result.now ≡ row_at self.now slot }
+    {
+        let position = self.position(slot);
+        match self.blocks.get(position / BLOCK_ROWS) {
+            Some(block) => block.entries(position % BLOCK_ROWS, slot),
+            None => &[],
+        }
+    }
+
+    /// Adds blocks up to a number; none of them takes memory for rows yet.
+    fn add_blocks(&mut self, number: usize) -> Result<(), AllocError>
+        ensures same { items_by_position self.new.blocks.items ≡ items_by_position self.old.blocks.items }
+        ensures added { OnOk result (number < length self.new.blocks.items) }
+        ensures kept { number < length self.old.blocks.items → self.new.blocks.items ≡ self.old.blocks.items }
+        ensures room { number < length self.old.blocks.items → IsOk result }
+        ensures rows { self.new.rows ≡ self.old.rows }
+    {
+        if number < self.blocks.len() {
+            return Ok(());
+        }
+        while self.blocks.len() <= number {
+            self.blocks.push(Block::new(self.alloc))?;
+        }
+        Ok(())
+    }
+
+    /// Makes room for an entry of an origin in a slot.
+    pub(crate) fn make_room(&mut self, slot: i64, origin: Origin) -> Result<(), AllocError>
+        ensures same { row_at self.new ≡ row_at self.old }
+        ensures room { OnOk result (IsTrue (has_room self.new slot origin)) }
+        ensures rows { self.new.rows ≡ self.old.rows }
+    {
+        let position = self.position(slot);
+        let len = self.block_len(position);
+        self.add_blocks(position / BLOCK_ROWS)?;
+        self.blocks[position / BLOCK_ROWS].make_room(len, position % BLOCK_ROWS, slot, origin)
+    }
+
+    /// Changes the entry of an origin in a slot. What is stored of another slot with the same
+    /// position is written over.
+    pub(crate) fn change(
+        &mut self,
+        slot: i64,
+        origin: Origin,
+        change: &Change,
+    ) -> Result<(), AllocError>
+        requires { Fits (entry_at (row_at self.old slot) origin) change.now }
+        ensures changed { OnOk result (IsRowChanged self.old.rows slot
+            (entry_after (row_at self.old slot) origin change.now) (row_at self.old) (row_at self.new)) }
+        ensures unchanged { OnErr result (row_at self.new ≡ row_at self.old) }
+        ensures room { IsTrue (has_room self.old slot origin) → IsOk result }
+        ensures rows { self.new.rows ≡ self.old.rows }
+    {
+        let position = self.position(slot);
+        let len = self.block_len(position);
+        self.add_blocks(position / BLOCK_ROWS)?;
+        self.blocks[position / BLOCK_ROWS].change(len, position % BLOCK_ROWS, slot, origin, change)
+    }
+
+    /// The same rows.
+    pub(crate) fn copy(&self, alloc: Global) -> Result<Ring, AllocError>
+        ensures row { IfOk result (λ new. row_at new ≡ row_at self.now) }
+        ensures rows { IfOk result (λ new. new.rows ≡ self.now.rows) }
+    {
+        let mut blocks = Vec::with_capacity(alloc, self.blocks.len())?;
+        for block in &self.blocks {
+            blocks.push(block.copy(alloc)?)?;
+        }
+        Ok(Ring {
+            alloc,
+            rows: self.rows,
+            blocks,
+        })
+    }
+}

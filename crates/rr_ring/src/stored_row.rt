@@ -1,0 +1,91 @@
+//! One stored row: a slot and its entries.
+ghost use Rattle.std.specs.Prelude.{◌≡◌, IsTrue, IsOk, OnOk, OnErr, IfOk, Some};
+ghost use Rattle.rr_archive.specs.Row.{entry_at, with_entry};
+ghost use Rattle.rr_archive.specs.Changes.{Fits, entry_after};
+ghost use Rattle.rr_ring.specs.StoredRows.{items_at, has_room_at, is_blank, stored};
+
+use crate::entries::Entries;
+use rr_archive::Entry;
+use rr_archive::change::Change;
+use rr_base::Origin;
+use std::alloc::{AllocError, Global};
+
+/// A slot and its entries, until another slot of the same position is written.
+#[derive(Drop)]
+pub(crate) struct StoredRow {
+    slot: i64,
+    entries: Entries,
+}
+
+impl StoredRow {
+    /// A row that holds no entry. It takes no memory.
+    pub(crate) fn blank() -> StoredRow
+        ensures { IsTrue (is_blank result) }
+    {
+        StoredRow {
+            slot: 0,
+            entries: Entries::Empty,
+        }
+    }
+
+    /// The entries of a slot; none, where the row is that of another.
+    pub(crate) fn entries(&self, slot: i64) -> &[Entry]
+        ensures { result.now ≡ items_at (Some self.now) slot }
+    {
+        if self.slot == slot {
+            self.entries.as_slice()
+        } else {
+            &[]
+        }
+    }
+
+    /// Changes the entry of an origin in a slot. The row of another slot is written over.
+    pub(crate) fn change(
+        &mut self,
+        alloc: Global,
+        slot: i64,
+        origin: Origin,
+        change: &Change,
+    ) -> Result<(), AllocError>
+        requires { Fits (entry_at (items_at (Some self.old) slot) origin) change.now }
+        ensures changed { OnOk result (stored self.new ≡ (
+          slot,
+          with_entry (items_at (Some self.old) slot) (entry_after (items_at (Some self.old) slot) origin change.now),
+        )) }
+        ensures unchanged { OnErr result (stored self.new ≡ stored self.old) }
+        ensures room { IsTrue (has_room_at (Some self.old) slot origin) → IsOk result }
+    {
+        if self.slot == slot {
+            return self.entries.change(alloc, origin, change);
+        }
+        self.slot = slot;
+        self.entries.restart(origin, change);
+        Ok(())
+    }
+
+    /// Makes room for an entry of an origin in a slot. Another slot's row is room enough.
+    pub(crate) fn make_room(
+        &mut self,
+        alloc: Global,
+        slot: i64,
+        origin: Origin,
+    ) -> Result<(), AllocError>
+        ensures same { stored self.new ≡ stored self.old }
+        ensures room { OnOk result (IsTrue (has_room_at (Some self.new) slot origin)) }
+    {
+        if self.slot == slot {
+            self.entries.make_room(alloc, origin)
+        } else {
+            Ok(())
+        }
+    }
+
+    pub(crate) fn copy(&self, alloc: Global) -> Result<StoredRow, AllocError>
+        ensures { IfOk result (λ new. stored new ≡ stored self.now) }
+    {
+        Ok(StoredRow {
+            slot: self.slot,
+            entries: self.entries.copy(alloc)?,
+        })
+    }
+}
