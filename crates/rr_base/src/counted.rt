@@ -49,6 +49,13 @@ impl<S> Counted<S> {
         self.reads
     }
 
+    /// The stream inside.
+    pub fn into_inner(self) -> S
+        ensures { result ≡ inner_of self }
+    {
+        self.inner
+    }
+
     fn count_failure(&mut self)
         ensures inner { inner_of self.new ≡ inner_of self.old }
         ensures reads { reads_of self.new ≡ reads_of self.old }

@@ -10,7 +10,7 @@ use Rattle.rr_model.specs.Knowledge.{Knowledge}
 use Rattle.rr_replica.specs.Cells.{Cells}
 use Rattle.rr_cluster.specs.declared.fault.CommandFault.{CommandFault}
 use Rattle.rr_cluster.specs.Agreement.{in_cells, step_in_cells, CommandsAgree, ScriptsAgree}
-use Rattle.rr_cluster.specs.Command.{IsOneLine, Command, schema, node, now, write, page, deliver, bytes, fetch}
+use Rattle.rr_cluster.specs.Command.{IsOneLine, Command, schema, node, now, write, page, delta, deliver, bytes, save, load, fetch}
 use Rattle.rr_cluster.specs.Commands.{on_ok, step, silently, beginning, printing}
 use Rattle.rr_cluster.specs.Commands.Schema.{layout_of}
 use Rattle.rr_cluster.specs.Model.{cell_model, sample_model}
@@ -23,8 +23,11 @@ use Rattle.rr_cluster.proofs.CommandsLemmas.Node.{node_agrees}
 use Rattle.rr_cluster.proofs.CommandsLemmas.Now.{now_agrees}
 use Rattle.rr_cluster.proofs.CommandsLemmas.Write.{write_agrees}
 use Rattle.rr_cluster.proofs.CommandsLemmas.Page.{page_agrees}
+use Rattle.rr_cluster.proofs.CommandsLemmas.Delta.{delta_agrees}
 use Rattle.rr_cluster.proofs.CommandsLemmas.Deliver.{deliver_agrees}
 use Rattle.rr_cluster.proofs.CommandsLemmas.Bytes.{bytes_agree}
+use Rattle.rr_cluster.proofs.CommandsLemmas.Save.{save_agrees}
+use Rattle.rr_cluster.proofs.CommandsLemmas.Load.{load_agrees}
 use Rattle.rr_cluster.proofs.CommandsLemmas.Fetch.{fetch_agrees}
 use Rattle.rr_cluster.proofs.ScriptLemmas.{commands_are_one_line}
 use Rattle.rr_cluster.proofs.StepLemmas.{OfAnswer, Agrees, on_ok-agrees, same_answer, holds_after}
@@ -61,16 +64,22 @@ step_agrees None (node name origin) sound = refusal_agrees (node name origin) _
 step_agrees None (now time lead) sound = refusal_agrees (now time lead) _
 step_agrees None (write name line) sound = refusal_agrees (write name line) _
 step_agrees None (page name at from count) sound = refusal_agrees (page name at from count) _
+step_agrees None (delta name giver taker from count) sound = refusal_agrees (delta name giver taker from count) _
 step_agrees None (deliver name at) sound = refusal_agrees (deliver name at) _
 step_agrees None (bytes name) sound = refusal_agrees (bytes name) _
+step_agrees None (save name at) sound = refusal_agrees (save name at) _
+step_agrees None (load name at origin) sound = refusal_agrees (load name at origin) _
 step_agrees None (fetch name request) sound = refusal_agrees (fetch name request) _
 step_agrees (Some m) (schema word archives) sound = refusal_agrees (schema word archives) _
 step_agrees (Some m) (node name origin) sound = silently_agrees (node name origin) IsSound (λ after is one. is) _ _ (node_agrees m sound name origin)
 step_agrees (Some m) (now time lead) sound = silently_agrees (now time lead) IsSound (λ after is one. is) _ _ (now_agrees m sound time lead)
 step_agrees (Some m) (write name line) sound = silently_agrees (write name line) (λ after. HasNoLineFeed line → IsSound after) (λ after is one. is one) _ _ (write_agrees m sound name line)
 step_agrees (Some m) (page name at from count) sound = silently_agrees (page name at from count) IsSound (λ after is one. is) _ _ (page_agrees m sound name at from count)
+step_agrees (Some m) (delta name giver taker from count) sound = silently_agrees (delta name giver taker from count) IsSound (λ after is one. is) _ _ (delta_agrees m sound name giver taker from count)
 step_agrees (Some m) (deliver name at) sound = silently_agrees (deliver name at) IsSound (λ after is one. is) _ _ (deliver_agrees m sound name at)
 step_agrees (Some m) (bytes name) sound = printing_agrees (bytes name) m sound _ _ (bytes_agree m sound name)
+step_agrees (Some m) (save name at) sound = silently_agrees (save name at) IsSound (λ after is one. is) _ _ (save_agrees m sound name at)
+step_agrees (Some m) (load name at origin) sound = silently_agrees (load name at origin) IsSound (λ after is one. is) _ _ (load_agrees m sound name at origin)
 step_agrees (Some m) (fetch name request) sound = printing_agrees (fetch name request) m sound _ _ (fetch_agrees m sound name request)
 
 pub commands_agree : CommandsAgree

@@ -4,6 +4,9 @@ pub mod Node
 pub mod Now
 pub mod Write
 pub mod Page
+pub mod Delta
 pub mod Deliver
 pub mod Bytes
+pub mod Save
+pub mod Load
 pub mod Fetch

@@ -2,7 +2,7 @@
 use Rattle.std.proofs.Common.{◌≡◌, ℕ, zero, suc, ◌≤◌, Bool, true, false, cond, ◌||◌, T, List, [], ◌∷◌, map, take, drop, length, Some, None, refl, sym, ap, ◌∙◌, arith}
 use Rattle.std.specs.FinMap.{find, get, entries, entries_sorted, is_sorted, from_entries, from_sorted, get-entries, get-from_entries, get-from_sorted, entries-from_sorted, same_map}
 use Rattle.std.specs.FinMap.Entries.{below_all}
-use Rattle.std.specs.List.{AllByRecursion}
+use Rattle.std.specs.List.{All, AllByRecursion}
 use Rattle.std.specs.Ordering.{eq_by_cmp, is_lt}
 use Rattle.std.proofs.lemmas.List.{length-take}
 use Rattle.std.proofs.lemmas.List.Elements.{All-from_recursion, All-take, All-drop}
@@ -73,27 +73,39 @@ sorted_take (suc count) [] h = tt
 sorted_take (suc count) (e ∷ es) h =
     T_and _ _ (below_take e.0 count es (first_T (below_all cell_name_cmp e.0 es) _ h)) (sorted_take count es (second_T (below_all cell_name_cmp e.0 es) _ h))
 
-sorted_part : (m : Cells) (from count : ℕ) → T (is_sorted cell_name_cmp (take count (drop from (entries m))))
-sorted_part m from count = sorted_take count (drop from (entries m)) (sorted_drop from (entries m) (entries_sorted m))
+sorted_part : (es : List NamedCell) (from count : ℕ) → T (is_sorted cell_name_cmp es) → T (is_sorted cell_name_cmp (take count (drop from es)))
+sorted_part es from count sorted = sorted_take count (drop from es) (sorted_drop from es sorted)
 
--- the entries of a part are those from the place on
-pub entries-part_of : (m : Cells) (from count : ℕ) → entries (part_of m from count) ≡ take count (drop from (entries m))
-entries-part_of m from count =
-    let es = take count (drop from (entries m)) in
-    let sorted = sorted_part m from count in
+-- the entries of the map of a part of sorted cells are those from the place on
+pub entries-of_part : (es : List NamedCell) (from count : ℕ) → T (is_sorted cell_name_cmp es) → entries (from_entries {R = cell_name_cmp} (take count (drop from es))) ≡ take count (drop from es)
+entries-of_part all from count sorted =
+    let es = take count (drop from all) in
+    let part = sorted_part all from count sorted in
     ap entries (same_map cell_name_cmp_total cell_name_cmp-IsAntisymmetric (from_entries es) (from_sorted es) (λ q.
-    get-from_entries cell_name_cmp_total es q ∙ sym (get-from_sorted cell_name_cmp es q sorted)))
-    ∙ entries-from_sorted cell_name_cmp es sorted
+    get-from_entries cell_name_cmp_total es q ∙ sym (get-from_sorted cell_name_cmp es q part)))
+    ∙ entries-from_sorted cell_name_cmp es part
+
+pub entries-part_of : (m : Cells) (from count : ℕ) → entries (part_of m from count) ≡ take count (drop from (entries m))
+entries-part_of m from count = entries-of_part (entries m) from count (entries_sorted m)
+
+-- the map of the entries of a map is the map
+pub from_entries-entries : (m : Cells) → from_entries (entries m) ≡ m
+from_entries-entries m = same_map cell_name_cmp_total cell_name_cmp-IsAntisymmetric (from_entries (entries m)) m (λ q.
+    get-from_entries cell_name_cmp_total (entries m) q ∙ sym (get-entries m q))
 
 -- ---- pages
 
--- a part of cells of the schema is a page, if it has at most as many cells as a page may have
-pub part_is_page : (s : Layout) (m : Cells) (from count : ℕ) → ((n : CellName) (c : Contribution) → get m n ≡ Some c → IsCellOf s (n, c)) → count ≤ MAX_PAGE_CELLS → IsPage s (take count (drop from (entries m)))
-part_is_page s m from count cells fits =
-    let all = All-from_recursion (IsCellOf s) (entries m) (all_entries (IsCellOf s) m cells) in
-    let few : length (take count (drop from (entries m))) ≤ count = rw (length-take count (drop from (entries m))) (omega arith) in
+-- a part of sorted cells of the schema is a page, if it has at most as many cells as a page may have
+pub part_is_page : (s : Layout) (es : List NamedCell) (from count : ℕ) → All (IsCellOf s) es → T (is_sorted cell_name_cmp es) → count ≤ MAX_PAGE_CELLS → IsPage s (take count (drop from es))
+part_is_page s es from count all sorted fits =
+    let few : length (take count (drop from es)) ≤ count = rw (length-take count (drop from es)) (omega arith) in
     record {
       count_fits = omega (arith, few, fits);
-      cells = All-take (IsCellOf s) count (drop from (entries m)) (All-drop (IsCellOf s) from (entries m) all);
-      names_ascend = true_from_T _ (sorted_part m from count);
+      cells = All-take (IsCellOf s) count (drop from es) (All-drop (IsCellOf s) from es all);
+      names_ascend = true_from_T _ (sorted_part es from count sorted);
     }
+
+-- and so is one of the entries of a map
+pub part_of_is_page : (s : Layout) (m : Cells) (from count : ℕ) → ((n : CellName) (c : Contribution) → get m n ≡ Some c → IsCellOf s (n, c)) → count ≤ MAX_PAGE_CELLS → IsPage s (take count (drop from (entries m)))
+part_of_is_page s m from count cells fits =
+    part_is_page s (entries m) from count (All-from_recursion (IsCellOf s) (entries m) (all_entries (IsCellOf s) m cells)) (entries_sorted m) fits

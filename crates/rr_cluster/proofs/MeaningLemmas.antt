@@ -17,8 +17,8 @@ use Rattle.rr_replica.specs.Holding.{Holding}
 use Rattle.rr_base.specs.Bytes.{bytes_cmp}
 use Rattle.rr_cluster.specs.declared.cluster.Cluster.{Cluster}
 use Rattle.rr_cluster.specs.Commands.Bytes.{bytes_of_page}
-use Rattle.rr_cluster.specs.Meaning.{node_of, page_bytes_at, replica_at, HasPageText, OptionRepresents, Represents}
-use Rattle.rr_cluster.specs.State.{Node, State, first_state}
+use Rattle.rr_cluster.specs.Meaning.{node_of, bytes_at, bytes_of_snapshot, replica_at, HasPageText, HasSnapshotText, OptionRepresents, Represents}
+use Rattle.rr_cluster.specs.State.{Node, Snapshot, State, first_state}
 use Rattle.rr_cluster.proofs.StepLemmas.{names_apart}
 
 abbrev pub Replicas : Type 0
@@ -57,17 +57,55 @@ each_put P old new name h put itself others q g e = by (eq_by_cmp bytes_cmp q na
     by true t = let same : h ≡ g = cc in subst P same itself
     by false t = others q g t
 
--- the bytes of the page that was found at a name
-pub page_found : (pages : BTreeMap (Vec ℕ) (Vec ℕ)) (name : List ℕ) (found : Option (Vec ℕ)) → found ≡ get_called bytes_cmp name_of pages name → page_bytes_at pages name ≡ option_map (λ page. page.items) found
-page_found pages name found e = sym (ap (option_map (λ (page : Vec ℕ). page.items)) e)
+-- ---- the bytes of pages and snapshots
+
+abbrev Texts : Type 0
+Texts = BTreeMap (Vec ℕ) (Vec ℕ)
+
+-- the bytes that were found at a name
+pub bytes_found : (texts : Texts) (name : List ℕ) (found : Option (Vec ℕ)) → found ≡ get_called bytes_cmp name_of texts name → bytes_at texts name ≡ option_map (λ text. text.items) found
+bytes_found texts name found e = sym (ap (option_map (λ (text : Vec ℕ). text.items)) e)
+
+-- the new map has the bytes at the name, and is the old one at all others
+abbrev pub HasPutBytes : Texts → Texts → List ℕ → List ℕ → Type 0
+HasPutBytes old new name bytes = (q : List ℕ) → bytes_at new q ≡ cond (eq_by_cmp bytes_cmp q name) (Some bytes) (bytes_at old q)
+
+pub bytes_inserted : (old new : Texts) (name bytes : Vec ℕ) → new.entries ≡ insert_entry (λ a b. bytes_cmp a.items b.items) old.entries name bytes → HasPutBytes old new name.items bytes.items
+bytes_inserted old new name bytes entries q =
+    ap (option_map (λ (text : Vec ℕ). text.items)) (get_called-insert nat_list_cmp_total names_apart name_of old new name bytes entries q)
+    ∙ by (eq_by_cmp bytes_cmp q name.items)
+  where
+    by : (b : Bool) → option_map (λ (text : Vec ℕ). text.items) (cond b (Some bytes) (get_called bytes_cmp name_of old q)) ≡ cond b (Some bytes.items) (bytes_at old q)
+    by true = refl
+    by false = refl
+
+-- what is put at a name as its bytes, on both sides
+pub texts_put : {X : Type 0} (view : X → List ℕ) (old new : Texts) (before : map.FinMap bytes_cmp X) (name bytes : List ℕ) (x : X)
+    → ((q : List ℕ) → bytes_at old q ≡ option_map view (map.get before q)) → HasPutBytes old new name bytes → bytes ≡ view x
+    → (q : List ℕ) → bytes_at new q ≡ option_map view (map.get (map.insert before name x) q)
+texts_put view old new before name bytes x same put text q =
+    put q ∙ by (eq_by_cmp bytes_cmp q name) ∙ sym (ap (option_map view) (map.get-insert nat_list_cmp_total before name x q))
+  where
+    by : (b : Bool) → cond b (Some bytes) (bytes_at old q) ≡ option_map view (cond b (Some x) (map.get before q))
+    by true = ap (λ (t : List ℕ). Some t) text
+    by false = same q
+
+-- what stands at a name where there are no bytes, and where there are some
+none_there : {X : Type 0} (view : X → List ℕ) (o : Option X) → None ≡ option_map view o → o ≡ None
+none_there view None e = refl
+none_there view (Some x) e = absurd cc
+
+some_there : {X : Type 0} (view : X → List ℕ) (o : Option X) (bytes : List ℕ) → Some bytes ≡ option_map view o → (x : X) × (o ≡ Some x) × (bytes ≡ view x)
+some_there view None bytes e = absurd cc
+some_there view (Some x) bytes e = (x, refl, cc)
 
 some_of_map : (o : Option Holding) → is_some o ≡ is_some (option_map node_of o)
 some_of_map None = refl
 some_of_map (Some h) = refl
 
 module _ {A : Type 0} {g : Ghosts A} where
-  pub represents_first : (c : Cluster A g) (s : Layout) → c.schema ≡ s → c.clock ≡ pos 0 → c.lead ≡ None → c.nodes.entries ≡ [] → c.pages.entries ≡ [] → c.origins.keys ≡ [] → Represents c (first_state s)
-  represents_first c s schema clock lead nodes pages origins = record {
+  pub represents_first : (c : Cluster A g) (s : Layout) → c.schema ≡ s → c.clock ≡ pos 0 → c.lead ≡ None → c.nodes.entries ≡ [] → c.pages.entries ≡ [] → c.snapshots.entries ≡ [] → c.origins.keys ≡ [] → Represents c (first_state s)
+  represents_first c s schema clock lead nodes pages snapshots origins = record {
     schema = schema;
     clock = clock;
     lead = lead;
@@ -75,6 +113,8 @@ module _ {A : Type 0} {g : Ghosts A} where
     shared = λ name h. rw nodes (λ e. absurd cc);
     pages = λ name. rw (pages, map.get-empty {X = Cells} bytes_cmp name) refl;
     are_pages = λ name page e. let none = sym (map.get-empty bytes_cmp name) ∙ e in absurd cc;
+    snapshots = λ name. rw (snapshots, map.get-empty {X = Snapshot Cells} bytes_cmp name) refl;
+    are_kept = λ name x e. let none = sym (map.get-empty bytes_cmp name) ∙ e in absurd cc;
     origins = λ origin. rw origins refl;
   }
 
@@ -89,6 +129,7 @@ module _ {A : Type 0} {g : Ghosts A} where
     pub clock : new.clock ≡ old.clock
     pub lead : new.lead ≡ old.lead
     pub pages : new.pages ≡ old.pages
+    pub snapshots : new.snapshots ≡ old.snapshots
     pub origins : new.origins ≡ old.origins
 
   module _ (old new : Cluster A g) (m : State Cells) (same : SameBesidesNodes old new) (is : Represents old m) where
@@ -101,6 +142,8 @@ module _ {A : Type 0} {g : Ghosts A} where
       shared = λ name h. rw (nodes, same.schema) (is.shared name h);
       pages = λ name. rw same.pages (is.pages name);
       are_pages = is.are_pages;
+      snapshots = λ name. rw same.snapshots (is.snapshots name);
+      are_kept = is.are_kept;
       origins = λ origin. rw same.origins (is.origins origin);
     }
 
@@ -114,6 +157,8 @@ module _ {A : Type 0} {g : Ghosts A} where
       shared = rw same.schema (each_put (λ g. g.schema ≡ old.schema) old.nodes new.nodes name h put has is.shared);
       pages = λ q. rw same.pages (is.pages q);
       are_pages = is.are_pages;
+      snapshots = λ name. rw same.snapshots (is.snapshots name);
+      are_kept = is.are_kept;
       origins = λ origin. rw same.origins (is.origins origin);
     }
 
@@ -127,16 +172,19 @@ module _ {A : Type 0} {g : Ghosts A} where
     node_at name o e = is.nodes name ∙ ap (option_map node_of) e
 
     -- the page of a name is that of the bytes that are kept, if there are some
-    pub no_page_at : (name : List ℕ) → page_bytes_at c.pages name ≡ None → map.get m.pages name ≡ None
-    no_page_at name none = by (map.get m.pages name) (sym none ∙ is.pages name)
-      where
-        by : (o : Option Cells) → None ≡ option_map (bytes_of_page m.schema) o → o ≡ None
-        by None e = refl
-        by (Some page) e = absurd cc
+    pub no_page_at : (name : List ℕ) → bytes_at c.pages name ≡ None → map.get m.pages name ≡ None
+    no_page_at name none = none_there (bytes_of_page m.schema) (map.get m.pages name) (sym none ∙ is.pages name)
 
-    pub page_there : (name bytes : List ℕ) → page_bytes_at c.pages name ≡ Some bytes → (page : Cells) × (map.get m.pages name ≡ Some page) × HasPageText m.schema page bytes
-    page_there name bytes there = by (map.get m.pages name) refl (sym there ∙ is.pages name)
-      where
-        by : (o : Option Cells) → map.get m.pages name ≡ o → Some bytes ≡ option_map (bytes_of_page m.schema) o → (page : Cells) × (map.get m.pages name ≡ Some page) × HasPageText m.schema page bytes
-        by None here e = absurd cc
-        by (Some page) here e = (page, here, record { page = is.are_pages name page here; text = cc })
+    pub page_there : (name bytes : List ℕ) → bytes_at c.pages name ≡ Some bytes → (page : Cells) × (map.get m.pages name ≡ Some page) × HasPageText m.schema page bytes
+    page_there name bytes there =
+        let page = some_there (bytes_of_page m.schema) (map.get m.pages name) bytes (sym there ∙ is.pages name) in
+        (page.0, page.1, record { page = is.are_pages name page.0 page.1; text = page.2 })
+
+    -- and so is the snapshot of a name
+    pub no_snapshot_at : (name : List ℕ) → bytes_at c.snapshots name ≡ None → map.get m.snapshots name ≡ None
+    no_snapshot_at name none = none_there bytes_of_snapshot (map.get m.snapshots name) (sym none ∙ is.snapshots name)
+
+    pub snapshot_there : (name bytes : List ℕ) → bytes_at c.snapshots name ≡ Some bytes → (x : Snapshot Cells) × (map.get m.snapshots name ≡ Some x) × HasSnapshotText m.schema x bytes
+    snapshot_there name bytes there =
+        let x = some_there bytes_of_snapshot (map.get m.snapshots name) bytes (sym there ∙ is.snapshots name) in
+        (x.0, x.1, record { kept = is.are_kept name x.0 x.1; text = x.2 })

@@ -20,8 +20,11 @@ use Rattle.rr_cluster.specs.Commands.Node.{node_command}
 use Rattle.rr_cluster.specs.Commands.Now.{now_command}
 use Rattle.rr_cluster.specs.Commands.Write.{write_command}
 use Rattle.rr_cluster.specs.Commands.Page.{page_command}
+use Rattle.rr_cluster.specs.Commands.Delta.{delta_command}
 use Rattle.rr_cluster.specs.Commands.Deliver.{deliver_command}
 use Rattle.rr_cluster.specs.Commands.Bytes.{bytes_command}
+use Rattle.rr_cluster.specs.Commands.Save.{save_command}
+use Rattle.rr_cluster.specs.Commands.Load.{load_command}
 use Rattle.rr_cluster.specs.Commands.Fetch.{fetch_command}
 use Rattle.rr_cluster.specs.Script.{line_view, said_view, said_by, is_skipped, numbered, commands_of, SaysOneLine}
 use Rattle.rr_cluster.specs.Words.{parts_of, words_of, text_of}
@@ -31,8 +34,11 @@ use Rattle.rr_cluster.proofs.CommandsLemmas.Node.{node_is_one_line}
 use Rattle.rr_cluster.proofs.CommandsLemmas.Now.{now_is_one_line}
 use Rattle.rr_cluster.proofs.CommandsLemmas.Write.{write_is_one_line}
 use Rattle.rr_cluster.proofs.CommandsLemmas.Page.{page_is_one_line}
+use Rattle.rr_cluster.proofs.CommandsLemmas.Delta.{delta_is_one_line}
 use Rattle.rr_cluster.proofs.CommandsLemmas.Deliver.{deliver_is_one_line}
 use Rattle.rr_cluster.proofs.CommandsLemmas.Bytes.{bytes_is_one_line}
+use Rattle.rr_cluster.proofs.CommandsLemmas.Save.{save_is_one_line}
+use Rattle.rr_cluster.proofs.CommandsLemmas.Load.{load_is_one_line}
 use Rattle.rr_cluster.proofs.CommandsLemmas.Fetch.{fetch_is_one_line}
 
 -- the first line, and then the others
@@ -71,23 +77,25 @@ lines_have_none (b ∷ text) =
           rw (other, some.2) (All-cons HasNoLineFeed (b ∷ some.0) some.1 (rw other (All-head HasNoLineFeed some.0 some.1 all)) (All-tail HasNoLineFeed some.0 some.1 all))
     ]
 
+-- one of two commands, each of one line
+one_of : (here : Bool) (o rest : Option Command) → IfSome o IsOneLine → IfSome rest IsOneLine → IfSome (cond here o rest) IsOneLine
+one_of true o rest is others = is
+one_of false o rest is others = others
+
 command_is_one_line : (words : List (List ℕ)) → HasNoLineFeed (text_of words) → IfSome (command_of words) IsOneLine
 command_is_one_line [] none = tt
 command_is_one_line (name ∷ words) none =
-    by (pointwise nat_eq name (codes "schema")) (pointwise nat_eq name (codes "node")) (pointwise nat_eq name (codes "now")) (pointwise nat_eq name (codes "write"))
-    (pointwise nat_eq name (codes "page")) (pointwise nat_eq name (codes "deliver")) (pointwise nat_eq name (codes "bytes")) (pointwise nat_eq name (codes "fetch"))
-  where
-    by : (a b c d e f g h : Bool) → IfSome (cond a (schema_command words) (cond b (node_command words) (cond c (now_command words) (cond d (write_command words)
-        (cond e (page_command words) (cond f (deliver_command words) (cond g (bytes_command words) (cond h (fetch_command words) None)))))))) IsOneLine
-    by true b c d e f g h = schema_is_one_line words
-    by false true c d e f g h = node_is_one_line words
-    by false false true d e f g h = now_is_one_line words
-    by false false false true e f g h = write_is_one_line name words none
-    by false false false false true f g h = page_is_one_line words
-    by false false false false false true g h = deliver_is_one_line words
-    by false false false false false false true h = bytes_is_one_line words
-    by false false false false false false false true = fetch_is_one_line words
-    by false false false false false false false false = tt
+    one_of (pointwise nat_eq name (codes "schema")) (schema_command words) _ (schema_is_one_line words)
+    (one_of (pointwise nat_eq name (codes "node")) (node_command words) _ (node_is_one_line words)
+    (one_of (pointwise nat_eq name (codes "now")) (now_command words) _ (now_is_one_line words)
+    (one_of (pointwise nat_eq name (codes "write")) (write_command words) _ (write_is_one_line name words none)
+    (one_of (pointwise nat_eq name (codes "page")) (page_command words) _ (page_is_one_line words)
+    (one_of (pointwise nat_eq name (codes "delta")) (delta_command words) _ (delta_is_one_line words)
+    (one_of (pointwise nat_eq name (codes "deliver")) (deliver_command words) _ (deliver_is_one_line words)
+    (one_of (pointwise nat_eq name (codes "bytes")) (bytes_command words) _ (bytes_is_one_line words)
+    (one_of (pointwise nat_eq name (codes "save")) (save_command words) _ (save_is_one_line words)
+    (one_of (pointwise nat_eq name (codes "load")) (load_command words) _ (load_is_one_line words)
+    (one_of (pointwise nat_eq name (codes "fetch")) (fetch_command words) None (fetch_is_one_line words) tt))))))))))
 
 said_is_one_line : (line : List ℕ) → HasNoLineFeed line → SaysOneLine (said_by line)
 said_is_one_line line none =

@@ -1,4 +1,5 @@
--- States of the sample model that are sound: with a node more, with another in its place, and with a page more.
+-- States of the sample model that are sound: with a node more, with another in its place, with a page more, and with a
+-- snapshot more.
 use Rattle.std.proofs.Common.{◌≡◌, ◌≢◌, ℕ, ◌||◌, Bool, true, false, IsTrue, refl, arith, ◌∷◌, List, Some, sym, ap, subst, ◌∙◌, true≢false}
 use Rattle.std.specs.Prelude.{◌==◌}
 use Rattle.std.specs.List.{list_any}
@@ -11,8 +12,8 @@ use Rattle.rr_model.specs.Knowledge.{Knowledge}
 use Rattle.rr_model.specs.Samples.{Sample}
 use Rattle.rr_model.specs.World.{World, IsWritten, IsClosed}
 use Rattle.rr_base.specs.Origin.{IsOrigin}
-use Rattle.rr_cluster.specs.Soundness.{IsSoundSample, IsSound, IsSoundNode, IsUsed}
-use Rattle.rr_cluster.specs.State.{Node, State}
+use Rattle.rr_cluster.specs.Soundness.{IsSoundSample, IsSound, IsSoundNode, IsSoundSnapshot, IsUsed}
+use Rattle.rr_cluster.specs.State.{Node, Snapshot, State}
 use Rattle.rr_cluster.proofs.StepLemmas.{names_apart}
 
 put_cases : {P : Type 0} (m : State Knowledge) (name : List ℕ) (n : Node Knowledge) (q : List ℕ) (o : Node Knowledge) → get (insert m.nodes name n) q ≡ Some o
@@ -49,6 +50,7 @@ module _ (m : State Knowledge) (sound : IsSound m) (name : List ℕ) (n : Node K
         (λ at same. subst (IsSoundNode m.world) same is_sound)
         (λ other here. sound.nodes q o here);
     pages = sound.pages;
+    snapshots = sound.snapshots;
     apart = λ a b p o e h same. put_cases m name n a p e
         (λ at is. put_cases m name n b o h
         (λ bt it. at ∙ sym bt)
@@ -90,11 +92,11 @@ module _ (m : State Knowledge) (sound : IsSound m) (name : List ℕ) (n o : Node
   abbrev OthersStaySound : Type 0
   OthersStaySound = (p : Node Knowledge) → p.origin ≢ n.origin → IsSoundNode m.world p → IsSoundNode w p
 
-  abbrev PagesStayClosed : Type 0
-  PagesStayClosed = (k : Knowledge) → IsClosed m.schema m.world k → IsClosed m.schema w k
+  abbrev AllStayClosed : Type 0
+  AllStayClosed = (k : Knowledge) → IsClosed m.schema m.world k → IsClosed m.schema w k
 
-  pub place_is_sound : IsSoundNode w o → OthersStaySound → PagesStayClosed → ((x : Sample) → IsWritten w x → IsUsed m x.origin) → ((x : Sample) → IsWritten w x → IsSoundSample x) → IsSound with_node_in_place
-  place_is_sound itself others pages written samples = record {
+  pub place_is_sound : IsSoundNode w o → OthersStaySound → AllStayClosed → ((x : Sample) → IsWritten w x → IsUsed m x.origin) → ((x : Sample) → IsWritten w x → IsSoundSample x) → IsSound with_node_in_place
+  place_is_sound itself others closed written samples = record {
     layout = sound.layout;
     clock = sound.clock;
     shared = λ q p e. put_cases m name o q p e
@@ -103,7 +105,8 @@ module _ (m : State Knowledge) (sound : IsSound m) (name : List ℕ) (n o : Node
     nodes = λ q p e. put_cases m name o q p e
         (λ at same. subst (IsSoundNode w) same itself)
         (λ other there. others p (other_origin q p other there) (sound.nodes q p there));
-    pages = λ q k e. pages k (sound.pages q k e);
+    pages = λ q k e. closed k (sound.pages q k e);
+    snapshots = λ q x e. let before = sound.snapshots q x e in record { shared = before.shared; closed = closed x.contents before.closed };
     apart = λ a b p q e h same. put_cases m name o a p e
         (λ at is. put_cases m name o b q h
         (λ bt it. at ∙ sym bt)
@@ -130,6 +133,26 @@ with_page_is_sound m sound name k closed = record {
   pages = λ q l e. insert_cases nat_list_cmp_total names_apart m.pages name k q l e
       (λ at same. subst (IsClosed m.schema m.world) same closed)
       (λ other here. sound.pages q l here);
+  snapshots = sound.snapshots;
+  apart = sound.apart;
+  used = sound.used;
+  origins = sound.origins;
+  written = sound.written;
+  samples = sound.samples;
+}
+
+-- ---- a snapshot more
+
+pub with_snapshot_is_sound : (m : State Knowledge) → IsSound m → (name : List ℕ) (x : Snapshot Knowledge) → IsSoundSnapshot m.schema m.world x → IsSound (record m { snapshots = insert m.snapshots name x })
+with_snapshot_is_sound m sound name x is = record {
+  layout = sound.layout;
+  clock = sound.clock;
+  shared = sound.shared;
+  nodes = sound.nodes;
+  pages = sound.pages;
+  snapshots = λ q y e. insert_cases nat_list_cmp_total names_apart m.snapshots name x q y e
+      (λ at same. subst (IsSoundSnapshot m.schema m.world) same is)
+      (λ other here. sound.snapshots q y here);
   apart = sound.apart;
   used = sound.used;
   origins = sound.origins;

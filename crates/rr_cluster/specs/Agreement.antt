@@ -11,13 +11,17 @@ use Rattle.rr_cluster.specs.Commands.{on_ok, step}
 use Rattle.rr_cluster.specs.Model.{cell_model, sample_model}
 use Rattle.rr_cluster.specs.Output.{output_of}
 use Rattle.rr_cluster.specs.Soundness.{IsSound}
-use Rattle.rr_cluster.specs.State.{Node, State}
+use Rattle.rr_cluster.specs.State.{Node, Snapshot, State}
 
 -- a node, with the cells of the samples that it knows
 abbrev pub node_in_cells : Node Knowledge → Node Cells
 node_in_cells n = record { schema = n.schema; origin = n.origin; next = n.next; contents = state n.schema n.contents }
 
--- a state, with each node and each page in cells
+-- a snapshot, with the cells of the samples that it keeps
+abbrev pub snapshot_in_cells : Snapshot Knowledge → Snapshot Cells
+snapshot_in_cells x = record { schema = x.schema; origin = x.origin; contents = state x.schema x.contents }
+
+-- a state, with each node, each page and each snapshot in cells
 abbrev pub in_cells : State Knowledge → State Cells
 in_cells m = record {
   schema = m.schema;
@@ -25,6 +29,7 @@ in_cells m = record {
   lead = m.lead;
   nodes = map_values node_in_cells m.nodes;
   pages = map_values (state m.schema) m.pages;
+  snapshots = map_values snapshot_in_cells m.snapshots;
   origins = m.origins;
   world = m.world;
 }

@@ -13,8 +13,11 @@ pub data Command : Type 0 where
   now : (time : List ℕ) (lead : Option (List ℕ)) → Command
   write : (node line : List ℕ) → Command
   page : (name node from count : List ℕ) → Command
+  delta : (name giver taker from count : List ℕ) → Command
   deliver : (name node : List ℕ) → Command
   bytes : (name : List ℕ) → Command
+  save : (name node : List ℕ) → Command
+  load : (name node origin : List ℕ) → Command
   fetch : (node : List ℕ) (request : Parts) → Command
 
 -- the words of the archives, if there are any
@@ -39,8 +42,11 @@ view_of (event.Node name origin) = node name.now origin.now
 view_of (event.Now time lead) = now time.now (word_of lead)
 view_of (event.Write name line) = write name.now line.now
 view_of (event.Page name at from count) = page name.now at.now from.now count.now
+view_of (event.Delta name giver taker from count) = delta name.now giver.now taker.now from.now count.now
 view_of (event.Deliver name at) = deliver name.now at.now
 view_of (event.Bytes name) = bytes name.now
+view_of (event.Save name at) = save name.now at.now
+view_of (event.Load name at origin) = load name.now at.now origin.now
 view_of (event.Fetch name request) = fetch name.now (parts request)
 
 -- the line of a write is one line

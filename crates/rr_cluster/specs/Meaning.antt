@@ -1,5 +1,5 @@
 -- Which state of the cell model a cluster in memory represents.
-use Rattle.std.specs.Prelude.{◌≡◌, ℕ, ◌==◌, List, [], Option, None, Some, Result, Ok, Err, ◌++◌}
+use Rattle.std.specs.Prelude.{◌≡◌, ◌⊎◌, ℕ, ◌<◌, true, false, ◌==◌, List, [], length, Option, None, Some, Result, Ok, Err, ◌++◌}
 use Rattle.std.specs.List.{list_any}
 use Rattle.std.specs.Option.{option_map}
 use Rattle.std.specs.Ordering.{nat_cmp}
@@ -10,19 +10,26 @@ use Rattle.std.specs.FinMap.{get, entries}
 use Rattle.rr_archive.specs.declared.archive.Archive.{Ghosts}
 use Rattle.rr_join.specs.Values.{get_called}
 use Rattle.rr_model.specs.Samples.{Sample}
-use Rattle.rr_replica.specs.Cells.{Cells}
+use Rattle.rr_replica.specs.Cells.{Cells, IsTrimmed}
 use Rattle.rr_replica.specs.Holding.{Holding}
 use Rattle.rr_base.specs.Bytes.{bytes_cmp}
-use Rattle.rr_base.specs.Schema.{Layout}
+use Rattle.rr_base.specs.Schema.{Layout, IsLayout}
 use Rattle.rr_cluster.specs.declared.fault.CommandFault.{CommandFault}
+use Rattle.rr_cluster.specs.declared.fault.CommandFault.TheVariants.{OriginUsed, Save}
 use Rattle.rr_cluster.specs.declared.cluster.Cluster.{Cluster}
 use Rattle.rr_cluster.specs.declared.stop.Stop.{Stop}
-use Rattle.rr_cluster.specs.declared.stop.Stop.TheVariants.{Memory}
+use Rattle.rr_cluster.specs.declared.stop.Stop.TheVariants.{Refused, Memory}
 use Rattle.rr_page.specs.Page.{IsPage}
+use Rattle.rr_page.specs.Version.{latest}
+use Rattle.rr_snapshot.specs.declared.fault.SaveFault.TheVariants.{TooManyCells}
+use Rattle.rr_snapshot.specs.declared.heading.TheConstants.{MAX_SNAPSHOT_CELLS}
+use Rattle.rr_snapshot.specs.Snapshot.{IsSnapshot, snapshot_text}
 use Rattle.rr_cluster.specs.Commands.Bytes.{bytes_of_page}
+use Rattle.rr_cluster.specs.Commands.Load.{has_origin, loaded_node}
+use Rattle.rr_cluster.specs.Commands.Save.{snapshot_of}
 use Rattle.rr_cluster.specs.Commands.Write.{with_all_written}
 use Rattle.rr_cluster.specs.Model.{cell_model, with_joined}
-use Rattle.rr_cluster.specs.State.{Node, State}
+use Rattle.rr_cluster.specs.State.{Node, Snapshot, State}
 use Rattle.rr_cluster.specs.Stop.{Matches}
 
 -- a replica, as a node
@@ -33,9 +40,9 @@ node_of h = record { schema = h.schema; origin = h.origin; next = h.next; conten
 abbrev pub replica_at : BTreeMap (Vec ℕ) Holding → List ℕ → Option Holding
 replica_at = get_called bytes_cmp (λ (key : Vec ℕ). key.items)
 
--- the bytes of the page of a name, if there is one
-abbrev pub page_bytes_at : BTreeMap (Vec ℕ) (Vec ℕ) → List ℕ → Option (List ℕ)
-page_bytes_at pages name = option_map (λ page. page.items) (get_called bytes_cmp (λ (key : Vec ℕ). key.items) pages name)
+-- the bytes of the page or the snapshot of a name, if there is one
+abbrev pub bytes_at : BTreeMap (Vec ℕ) (Vec ℕ) → List ℕ → Option (List ℕ)
+bytes_at texts name = option_map (λ text. text.items) (get_called bytes_cmp (λ (key : Vec ℕ). key.items) texts name)
 
 -- a replica wrote the samples that a node writes, or is refused as the node is and has not changed
 abbrev pub Writes : Holding → Holding → Result (Unit {0}) Stop → Result (List Sample) CommandFault → Type 0
@@ -46,22 +53,51 @@ pub record HasPageText (s : Layout) (cells : Cells) (bytes : List ℕ) : Type 0 
   pub page : IsPage s (entries cells)
   pub text : bytes ≡ bytes_of_page s cells
 
+-- the bytes of a snapshot
+abbrev pub bytes_of_snapshot : Snapshot Cells → List ℕ
+bytes_of_snapshot x = snapshot_text latest x.schema x.origin (entries x.contents)
+
+-- a snapshot of this schema that a replica made: no cell of it is past the horizon
+pub record IsKept (s : Layout) (x : Snapshot Cells) : Type 0 where
+  pub shared : x.schema ≡ s
+  pub layout : IsLayout x.schema
+  pub snapshot : IsSnapshot x.schema x.origin (entries x.contents)
+  pub trimmed : IsTrimmed x.schema x.contents
+
+-- the bytes are those of a snapshot of this schema
+pub record HasSnapshotText (s : Layout) (x : Snapshot Cells) (bytes : List ℕ) : Type 0 where
+  pub kept : IsKept s x
+  pub text : bytes ≡ bytes_of_snapshot x
+
+-- a replica was saved as the bytes of a snapshot, or has too many cells for one, unless memory ran out
+abbrev pub Saves : Holding → Result (Vec ℕ) Stop → Type 0
+Saves h (Ok bytes) = HasSnapshotText h.schema (snapshot_of cell_model (node_of h)) bytes.items
+Saves h (Err stop) = (stop ≡ Memory) ⊎ ((stop ≡ Refused (Save TooManyCells)) × (MAX_SNAPSHOT_CELLS < length (entries h.cells)))
+
+-- a replica was loaded from a snapshot, or its origin is that of the snapshot or of one of its cells, unless memory
+-- ran out
+abbrev pub Loads : Result Holding Stop → Snapshot Cells → ℕ → Type 0
+Loads (Ok h) x number = (has_origin cell_model x number ≡ false) × (node_of h ≡ loaded_node x number)
+Loads (Err stop) x number = (stop ≡ Memory) ⊎ ((stop ≡ Refused OriginUsed) × (has_origin cell_model x number ≡ true))
+
 -- a replica joined the cells of a page, as a node does, unless memory ran out
 abbrev pub Joins : Holding → Holding → Result (Unit {0}) Stop → Cells → Type 0
 Joins old new (Ok done) cells = node_of new ≡ with_joined (node_of old) cells
 Joins old new (Err stop) cells = stop ≡ Memory
 
 module _ {A : Type 0} {g : Ghosts A} where
-  -- a cluster has the schema, clock, nodes, pages and origins of a state; the nodes have the schema of all, and each page
-  -- is kept as its bytes
+  -- a cluster has the schema, clock, nodes, pages, snapshots and origins of a state; the nodes have the schema of all, and
+  -- each page and each snapshot is kept as its bytes
   pub record Represents (c : Cluster A g) (m : State Cells) : Type 0 where
     pub schema : c.schema ≡ m.schema
     pub clock : c.clock ≡ m.clock
     pub lead : c.lead ≡ m.lead
     pub nodes : (name : List ℕ) → get m.nodes name ≡ option_map node_of (replica_at c.nodes name)
     pub shared : (name : List ℕ) (h : Holding) → replica_at c.nodes name ≡ Some h → h.schema ≡ c.schema
-    pub pages : (name : List ℕ) → page_bytes_at c.pages name ≡ option_map (bytes_of_page m.schema) (get m.pages name)
+    pub pages : (name : List ℕ) → bytes_at c.pages name ≡ option_map (bytes_of_page m.schema) (get m.pages name)
     pub are_pages : (name : List ℕ) (page : Cells) → get m.pages name ≡ Some page → IsPage m.schema (entries page)
+    pub snapshots : (name : List ℕ) → bytes_at c.snapshots name ≡ option_map bytes_of_snapshot (get m.snapshots name)
+    pub are_kept : (name : List ℕ) (x : Snapshot Cells) → get m.snapshots name ≡ Some x → IsKept m.schema x
     pub origins : (origin : ℕ) → contains nat_cmp c.origins origin ≡ list_any (λ used. used == origin) m.origins
 
   -- there is a cluster once there is a state

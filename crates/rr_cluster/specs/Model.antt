@@ -3,7 +3,7 @@ use Rattle.std.specs.Prelude.{ℕ, List, [], ◌∷◌, take, drop}
 use Rattle.std.specs.FinMap.{empty, entries, from_entries}
 use Rattle.rr_base.specs.Schema.{Layout}
 use Rattle.rr_model.specs.Samples.{Sample, marks_of}
-use Rattle.rr_model.specs.Knowledge.{Knowledge, union, with_marks, part}
+use Rattle.rr_model.specs.Knowledge.{Knowledge, union, with_marks, live, part, cells_named, difference}
 use Rattle.rr_model.specs.FetchText.{Request, fetch_text}
 use Rattle.rr_replica.specs.CellBounds.{NamedCell}
 use Rattle.rr_replica.specs.Cells.{Cells}
@@ -11,21 +11,30 @@ use Rattle.rr_replica.specs.Joining.{next_after}
 use Rattle.rr_replica.specs.Joins.{join_cells}
 use Rattle.rr_replica.specs.Puts.{put_sample}
 use Rattle.rr_replica.specs.State.{state}
+use Rattle.rr_delta.specs.Difference.{newer_cells}
+use Rattle.rr_delta.specs.Names.{versions_of}
 use Rattle.rr_fetch.specs.Answers.{cells_text}
 use Rattle.rr_cluster.specs.State.{Node}
 
 -- what commands do with what a node holds: it starts with nothing, takes in a sample, and answers a request; a page is
--- a part of it, from a place on and up to a count of cells; a node takes in what a page holds; and a page is written
--- as cells
+-- a part of it, or of what it has and another lacks, from a place on and up to a count of cells; a node takes in what a
+-- page holds; a snapshot keeps what
+-- counts; and pages and snapshots are written as cells
 pub record Model (K : Type 0) : Type 0 where
   pub nothing : K
   pub with_one : Layout → K → Sample → K
   pub answer : Layout → K → Request → List ℕ
   pub part : Layout → K → ℕ → ℕ → K
+  pub part_of_newer : Layout → K → K → ℕ → ℕ → K
   pub with_page : Node K → K → Node K
+  pub kept : Layout → K → K
   pub cells : Layout → K → Cells
 
 -- ---- samples
+
+-- a part of what the first knows and the second lacks: the whole cells of so many names from a place on
+abbrev pub part_of_difference : Layout → Knowledge → Knowledge → ℕ → ℕ → Knowledge
+part_of_difference s k l from count = cells_named s k (take count (drop from (difference s k l)))
 
 -- a node that takes in marks knows them too
 abbrev pub with_known : Node Knowledge → Knowledge → Node Knowledge
@@ -38,7 +47,9 @@ sample_model = record {
   with_one = λ s k x. with_marks k (marks_of s x);
   answer = fetch_text;
   part = part;
+  part_of_newer = part_of_difference;
   with_page = with_known;
+  kept = live;
   cells = state;
 }
 
@@ -47,6 +58,10 @@ sample_model = record {
 -- the cells from a place on, as many as there are up to a count
 abbrev pub part_of : Cells → ℕ → ℕ → Cells
 part_of m from count = from_entries (take count (drop from (entries m)))
+
+-- those of them that are newer than the cells of another, by their versions
+abbrev pub newer_part_of : Cells → Cells → ℕ → ℕ → Cells
+newer_part_of m n from count = from_entries (take count (drop from (newer_cells (versions_of n) (entries m))))
 
 -- the next number of an origin, past the versions of these cells that are its own
 abbrev pub next_past : ℕ → ℕ → List NamedCell → ℕ
@@ -67,6 +82,8 @@ cell_model = record {
   with_one = put_sample;
   answer = cells_text;
   part = λ s. part_of;
+  part_of_newer = λ s. newer_part_of;
   with_page = with_joined;
+  kept = λ s m. m;
   cells = λ s m. m;
 }

@@ -1,5 +1,5 @@
 -- What scripts keep true of the sample model: what was written is within the limits, each node knows all that its origin
--- wrote, and what nodes and pages hold has no gaps.
+-- wrote, and what nodes, pages and snapshots hold has no gaps.
 use Rattle.std.specs.Prelude.{◌≡◌, ℕ, ◌+◌, ◌<◌, ◌≤◌, ◌==◌, List, [], ◌∷◌, take, Option, None, Some, Result, IfOk, IfSome, IsTrue}
 use Rattle.std.specs.List.{list_any}
 use Rattle.std.specs.FinMap.{get}
@@ -17,7 +17,7 @@ use Rattle.rr_cluster.specs.Commands.{step}
 use Rattle.rr_cluster.specs.Model.{sample_model}
 use Rattle.rr_cluster.specs.Output.{obeyed}
 use Rattle.rr_cluster.specs.Script.{commands_of}
-use Rattle.rr_cluster.specs.State.{Node, State, first_state}
+use Rattle.rr_cluster.specs.State.{Node, Snapshot, State, first_state}
 
 -- a sample within the limits, of a key text, with a time and a value of 64 bits
 pub record IsSoundSample (x : Sample) : Type 0 where
@@ -41,14 +41,20 @@ pub record IsSoundNode (w : World) (n : Node Knowledge) : Type 0 where
 abbrev pub IsUsed : State Knowledge → ℕ → Type 0
 IsUsed m origin = IsTrue (list_any (λ used. used == origin) m.origins)
 
+-- a snapshot is of the schema, and what it holds has no gaps
+pub record IsSoundSnapshot (s : Layout) (w : World) (x : Snapshot Knowledge) : Type 0 where
+  pub shared : x.schema ≡ s
+  pub closed : IsClosed s w x.contents
+
 -- the schema is within its limits, the nodes have it and are sound, and each has an origin of its own that the script
--- used; what a page holds has no gaps; each sample that was written is sound, and of an origin that the script used
+-- used; what a page or a snapshot holds has no gaps; each sample that was written is sound, and of an origin that the script used
 pub record IsSound (m : State Knowledge) : Type 0 where
   pub layout : IsLayout m.schema
   pub clock : IsTrue (fits_i64 m.clock)
   pub shared : (name : List ℕ) (n : Node Knowledge) → get m.nodes name ≡ Some n → n.schema ≡ m.schema
   pub nodes : (name : List ℕ) (n : Node Knowledge) → get m.nodes name ≡ Some n → IsSoundNode m.world n
   pub pages : (name : List ℕ) (k : Knowledge) → get m.pages name ≡ Some k → IsClosed m.schema m.world k
+  pub snapshots : (name : List ℕ) (x : Snapshot Knowledge) → get m.snapshots name ≡ Some x → IsSoundSnapshot m.schema m.world x
   pub apart : (a b : List ℕ) (n o : Node Knowledge) → get m.nodes a ≡ Some n → get m.nodes b ≡ Some o → n.origin ≡ o.origin → a ≡ b
   pub used : (name : List ℕ) (n : Node Knowledge) → get m.nodes name ≡ Some n → IsUsed m n.origin
   pub origins : (origin : ℕ) → IsUsed m origin → IsOrigin origin

@@ -12,17 +12,24 @@ pub record Node (K : Type 0) : Type 0 where
   pub next : ℕ
   pub contents : K
 
--- the schema, the clock and the lead, the nodes and the pages by their names, the origins that were used, and all that
--- was written; a page holds what a node can hold
+-- a snapshot: the schema and the origin of the node that was saved, and what it held
+pub record Snapshot (K : Type 0) : Type 0 where
+  pub schema : Layout
+  pub origin : ℕ
+  pub contents : K
+
+-- the schema, the clock and the lead, the nodes, the pages and the snapshots by their names, the origins that were used,
+-- and all that was written; a page holds what a node can hold
 pub record State (K : Type 0) : Type 0 where
   pub schema : Layout
   pub clock : ℤ
   pub lead : Option ℕ
   pub nodes : FinMap bytes_cmp (Node K)
   pub pages : FinMap bytes_cmp K
+  pub snapshots : FinMap bytes_cmp (Snapshot K)
   pub origins : List ℕ
   pub world : World
 
 -- once the schema is set
 abbrev pub first_state : {K : Type 0} → Layout → State K
-first_state s = record { schema = s; clock = pos 0; lead = None; nodes = empty; pages = empty; origins = []; world = empty }
+first_state s = record { schema = s; clock = pos 0; lead = None; nodes = empty; pages = empty; snapshots = empty; origins = []; world = empty }

@@ -21,6 +21,8 @@ pub(crate) struct Cluster<A: Archive> {
     pub(crate) nodes: BTreeMap<Vec<u8>, Replica<A>>,
     /// The bytes of the pages, by their names.
     pub(crate) pages: BTreeMap<Vec<u8>, Vec<u8>>,
+    /// The bytes of the snapshots, by their names.
+    pub(crate) snapshots: BTreeMap<Vec<u8>, Vec<u8>>,
     /// The origins that were used.
     pub(crate) origins: BTreeSet<u16>,
     ghost within: { IsLayout schema },
@@ -30,7 +32,7 @@ impl<A: Archive> Cluster<A> {
     ghost use Rattle.rr_cluster.specs.Meaning.{Represents};
     ghost use Rattle.rr_cluster.specs.State.{first_state};
 
-    /// A cluster without nodes and pages.
+    /// A cluster without nodes, pages and snapshots.
     pub(crate) fn new(alloc: Global, schema: Schema) -> Cluster<A>
         requires { IsLayout schema }
         ensures { Represents result (first_state schema) }
@@ -42,6 +44,7 @@ impl<A: Archive> Cluster<A> {
             lead: None,
             nodes: BTreeMap::new(alloc),
             pages: BTreeMap::new(alloc),
+            snapshots: BTreeMap::new(alloc),
             origins: BTreeSet::new(alloc),
         }
     }

@@ -11,10 +11,13 @@ ghost use Rattle.rr_cluster.specs.Words.{words_of};
 
 pub(crate) mod bytes;
 pub(crate) mod deliver;
+pub(crate) mod delta;
 pub(crate) mod fetch;
+pub(crate) mod load;
 pub(crate) mod node;
 pub(crate) mod now;
 pub(crate) mod page;
+pub(crate) mod save;
 pub(crate) mod schema;
 pub(crate) mod write;
 
@@ -25,11 +28,14 @@ use crate::stop::Stop;
 use crate::words::first_word;
 use bytes::{bytes_command, hex_of_page};
 use deliver::{deliver, deliver_command};
+use delta::{add_delta, delta_command};
 use fetch::{answer_to, fetch_command};
+use load::{load_command, load_node};
 use node::{add_node, node_command};
 use now::{now_command, set_clock};
 use page::{add_page, page_command};
 use rr_archive::Archive;
+use save::{save_command, save_node};
 use schema::{schema_command, schema_of};
 use std::alloc::Global;
 use write::{write_command, write_line};
@@ -49,10 +55,16 @@ pub(crate) fn command_of(line: &[u8]) -> Option<Event<'_>>
         write_command(words)
     } else if name == b"page".as_slice() {
         page_command(words)
+    } else if name == b"delta".as_slice() {
+        delta_command(words)
     } else if name == b"deliver".as_slice() {
         deliver_command(words)
     } else if name == b"bytes".as_slice() {
         bytes_command(words)
+    } else if name == b"save".as_slice() {
+        save_command(words)
+    } else if name == b"load".as_slice() {
+        load_command(words)
     } else if name == b"fetch".as_slice() {
         fetch_command(words)
     } else {
@@ -119,12 +131,21 @@ fn obey_later<A: Archive>(
             from,
             count,
         } => add_page(cluster, name, node, from, count),
+        Event::Delta {
+            name,
+            giver,
+            taker,
+            from,
+            count,
+        } => add_delta(cluster, name, giver, taker, from, count),
         Event::Deliver { name, node } => deliver(cluster, name, node),
         Event::Bytes { name } => {
             let line = hex_of_page(cluster, name)?;
             text.extend_from_slice(line.as_slice())?;
             Ok(())
         }
+        Event::Save { name, node } => save_node(cluster, name, node),
+        Event::Load { name, node, origin } => load_node(cluster, name, node, origin),
         Event::Fetch { node, request } => {
             let answer = answer_to(cluster, node, &request)?;
             text.extend_from_slice(answer.as_slice())?;

@@ -26,7 +26,7 @@ use Rattle.rr_snapshot.specs.declared.fault.LoadFault.TheVariants.{OriginUsed}
 use Rattle.rr_snapshot.specs.declared.heading.TheConstants.{MAX_SNAPSHOT_CELLS}
 use Rattle.rr_snapshot.specs.Laws.{SavedIsLoaded}
 use Rattle.rr_snapshot.specs.Loading.{is_among, is_used, replica_of, loaded_at}
-use Rattle.rr_snapshot.specs.Snapshot.{IsSnapshot}
+use Rattle.rr_snapshot.specs.Snapshot.{IsSnapshot, snapshot_text}
 use Rattle.rr_snapshot.proofs.SnapshotLemmas.{snapshot_read}
 
 -- to join all cells of a map into none is to have that map
@@ -41,7 +41,7 @@ not_among m origin none =
     (all_entries (λ (e : NamedCell). (e.0.origin == origin) ≡ false) m (λ n c at. ne_eqb n.origin origin (none n c at))))
 
 -- what a replica holds makes a snapshot, if it is not too much
-holding_is_snapshot : (h : Holding) → IsHolding h → len h.cells ≤ MAX_SNAPSHOT_CELLS → IsSnapshot h.schema h.origin (entries h.cells)
+pub holding_is_snapshot : (h : Holding) → IsHolding h → len h.cells ≤ MAX_SNAPSHOT_CELLS → IsSnapshot h.schema h.origin (entries h.cells)
 holding_is_snapshot h holds few = record {
   origin_fits = holds.origin;
   count_fits = omega (arith, few, len-entries h.cells);
@@ -49,12 +49,16 @@ holding_is_snapshot h holds few = record {
   names_ascend = true_from_T (is_sorted cell_name_cmp (entries h.cells)) (entries_sorted h.cells);
 }
 
-pub saved_is_loaded : SavedIsLoaded
+-- the text of a snapshot, none of whose cells is past the horizon, is loaded as its cells
+pub snapshot_is_loaded : (s : Layout) (o : ℕ) (m : Cells) (origin : ℕ) → IsLayout s → IsSnapshot s o (entries m) → IsTrimmed s m
+    → loaded_at s origin (snapshot_text latest s o (entries m)) ≡ unless OriginUsed (is_used origin (o, entries m)) (Ok (record { schema = s; origin = origin; next = 1; cells = m }))
 unfolding loaded_at
+snapshot_is_loaded s o m origin layout is kept =
+    ap (λ (r : Result (ℕ × List NamedCell) LoadFault). r >>= λ (x : ℕ × List NamedCell). unless OriginUsed (is_used origin x) (Ok (replica_of s origin x.1))) (snapshot_read latest s o (entries m) layout (masks_wide latest s layout) is)
+    ∙ ap (λ (l : Cells). unless OriginUsed (is_used origin (o, entries m)) (Ok (record { schema = s; origin = origin; next = 1; cells = l }))) (cells_again s m layout kept)
+
+pub saved_is_loaded : SavedIsLoaded
 saved_is_loaded h origin holds few other none =
-    let s = h.schema in
-    let es : List NamedCell = entries h.cells in
-    let free : is_used origin (h.origin, es) ≡ false = or_from (h.origin == origin) (is_among origin es) (ne_eqb h.origin origin (λ e. other (sym e))) (not_among h.cells origin none) in
-    ap (λ (r : Result (ℕ × List NamedCell) LoadFault). r >>= λ (x : ℕ × List NamedCell). unless OriginUsed (is_used origin x) (Ok (replica_of s origin x.1))) (snapshot_read latest s h.origin es holds.layout (masks_wide latest s holds.layout) (holding_is_snapshot h holds few))
-    ∙ ap (λ (b : Bool). unless OriginUsed b (Ok (replica_of s origin es))) free
-    ∙ ap (λ (m : Cells). Ok (record { schema = s; origin = origin; next = 1; cells = m })) (cells_again s h.cells holds.layout holds.live)
+    let free : is_used origin (h.origin, entries h.cells) ≡ false = or_from (h.origin == origin) (is_among origin (entries h.cells)) (ne_eqb h.origin origin (λ e. other (sym e))) (not_among h.cells origin none) in
+    snapshot_is_loaded h.schema h.origin h.cells origin holds.layout (holding_is_snapshot h holds few) holds.live
+    ∙ ap (λ (b : Bool). unless OriginUsed b (Ok (record { schema = h.schema; origin = origin; next = 1; cells = h.cells }))) free

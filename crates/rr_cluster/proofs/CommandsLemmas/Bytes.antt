@@ -12,7 +12,7 @@ use Rattle.rr_cluster.specs.declared.fault.CommandFault.TheVariants.{NoPage}
 use Rattle.rr_cluster.specs.Agreement.{in_cells}
 use Rattle.rr_cluster.specs.Command.{IsOneLine}
 use Rattle.rr_cluster.specs.Commands.Bytes.{bytes_command, bytes_of_page, hex_of_page}
-use Rattle.rr_cluster.specs.Meaning.{page_bytes_at, Represents}
+use Rattle.rr_cluster.specs.Meaning.{bytes_at, Represents}
 use Rattle.rr_cluster.specs.Model.{Model, cell_model, sample_model}
 use Rattle.rr_cluster.specs.Soundness.{IsSound}
 use Rattle.rr_cluster.specs.State.{State}
@@ -46,7 +46,7 @@ module _ {K : Type 0} (model : Model K) (m : State K) (name : List ℕ) where
 -- ---- the line that a cluster prints
 
 pub line_printed : {A : Type 0} {g : Ghosts A} (c : Cluster A g) (m : State Cells) → Represents c m → (name bytes text line : List ℕ)
-    → page_bytes_at c.pages name ≡ Some bytes → text ≡ encode_lower bytes → line ≡ text ++ LINE_FEED ∷ [] → hex_of_page cell_model m name ≡ Ok line
+    → bytes_at c.pages name ≡ Some bytes → text ≡ encode_lower bytes → line ≡ text ++ LINE_FEED ∷ [] → hex_of_page cell_model m name ≡ Ok line
 line_printed c m is name bytes text line kept digits ended =
     let page = page_there c m is name bytes kept in
     page_is_written cell_model m name page.0 page.1

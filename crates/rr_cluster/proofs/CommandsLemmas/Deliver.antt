@@ -39,7 +39,7 @@ use Rattle.rr_cluster.specs.declared.stop.Stop.{Stop}
 use Rattle.rr_cluster.specs.Agreement.{in_cells, node_in_cells}
 use Rattle.rr_cluster.specs.Command.{IsOneLine}
 use Rattle.rr_cluster.specs.Commands.Deliver.{deliver_command, after_deliver}
-use Rattle.rr_cluster.specs.Meaning.{node_of, page_bytes_at, replica_at, HasPageText, Joins, Leaves, Represents}
+use Rattle.rr_cluster.specs.Meaning.{node_of, bytes_at, replica_at, HasPageText, Joins, Leaves, Represents}
 use Rattle.rr_cluster.specs.Model.{Model, cell_model, sample_model, next_past, with_joined, with_known}
 use Rattle.rr_cluster.specs.Soundness.{IsSound, IsSoundNode}
 use Rattle.rr_cluster.specs.State.{Node, State}
@@ -95,7 +95,7 @@ page_joined h cells page read =
 
 -- ---- the cluster after a delivery
 
-module _ {A : Type 0} {g : Ghosts A} (old : Cluster A g) (m : State Cells) (is : Represents old m) (name node bytes : List ℕ) (kept : page_bytes_at old.pages name ≡ Some bytes)
+module _ {A : Type 0} {g : Ghosts A} (old : Cluster A g) (m : State Cells) (is : Represents old m) (name node bytes : List ℕ) (kept : bytes_at old.pages name ≡ Some bytes)
     (was : Holding) (here : replica_at old.nodes node ≡ Some was) where
   -- the bytes are those of a page of the replica's schema
   pub page_of_replica : (page : Cells) × (fin.get m.pages name ≡ Some page) × HasPageText was.schema page bytes

@@ -1,5 +1,5 @@
 -- node NAME ORIGIN
-use Rattle.std.proofs.Common.{◌≡◌, ℕ, Bool, true, false, not, cond, ◌&&◌, ◌||◌, List, [], ◌∷◌, None, IfSome, Ok, Err, refl, sym, ap, ◌∙◌, eq-eqb}
+use Rattle.std.proofs.Common.{◌≡◌, ℕ, Bool, true, false, not, cond, option_map, subst, ◌&&◌, ◌||◌, List, [], ◌∷◌, None, IfSome, Ok, Err, refl, sym, ap, ◌∙◌, eq-eqb}
 use Rattle.std.specs.Prelude.{◌==◌}
 use Rattle.std.specs.List.{list_any}
 use Rattle.std.proofs.lemmas.Bool.{eqb-true}
@@ -33,7 +33,7 @@ use Rattle.rr_cluster.specs.Agreement.{in_cells, node_in_cells}
 use Rattle.rr_base.specs.Results.{checked}
 use Rattle.rr_cluster.specs.Command.{IsOneLine}
 use Rattle.rr_cluster.specs.Commands.Node.{node_command, new_node, after_node}
-use Rattle.rr_cluster.specs.Meaning.{Represents}
+use Rattle.rr_cluster.specs.Meaning.{node_of, replica_at, Represents}
 use Rattle.rr_cluster.specs.Model.{Model, cell_model, sample_model}
 use Rattle.rr_cluster.specs.Soundness.{IsSound}
 use Rattle.rr_cluster.specs.State.{Node, State}
@@ -101,21 +101,28 @@ used_more number origin before has e =
     ap (λ (b : Bool). cond b true has) (same_number number origin) ∙ either_one (number == origin) has (list_any (λ used. used == origin) before) e
 
 module _ {A : Type 0} {g : Ghosts A} where
-  pub represents_with_node : (old new : Cluster A g) (m : State Cells) (name : List ℕ) (h : Holding) (number : ℕ) → Represents old m
-      → new.schema ≡ old.schema → new.clock ≡ old.clock → new.lead ≡ old.lead → new.pages ≡ old.pages → HasPut old.nodes new.nodes name h
-      → h ≡ record { schema = old.schema; origin = number; next = 1; cells = map.empty }
+  pub represents_with_node : (old new : Cluster A g) (m : State Cells) (name : List ℕ) (h : Holding) (n : Node Cells) (number : ℕ) → Represents old m
+      → new.schema ≡ old.schema → new.clock ≡ old.clock → new.lead ≡ old.lead → new.pages ≡ old.pages → new.snapshots ≡ old.snapshots → HasPut old.nodes new.nodes name h
+      → node_of h ≡ n → h.schema ≡ old.schema
       → ((q : ℕ) → contains nat_cmp new.origins q ≡ cond (is_eq (nat_cmp number q)) true (contains nat_cmp old.origins q))
-      → Represents new (record m { nodes = map.insert m.nodes name (new_node cell_model m.schema number); origins = number ∷ m.origins })
-  represents_with_node old new m name h number is schema clock lead pages nodes made origins = record {
+      → Represents new (record m { nodes = map.insert m.nodes name n; origins = number ∷ m.origins })
+  represents_with_node old new m name h n number is schema clock lead pages snapshots put same shared origins = record {
     schema = schema ∙ is.schema;
     clock = clock ∙ is.clock;
     lead = lead ∙ is.lead;
-    nodes = nodes_put old.nodes new.nodes m.nodes name (record { schema = m.schema; origin = number; next = 1; cells = map.empty }) is.nodes (rw (made, is.schema) at nodes);
-    shared = rw schema (each_put (λ g. g.schema ≡ old.schema) old.nodes new.nodes name h nodes (ap (λ (x : Holding). x.schema) made) is.shared);
+    nodes = subst (λ (x : Node Cells). (q : List ℕ) → map.get (map.insert m.nodes name x) q ≡ option_map node_of (replica_at new.nodes q)) same (nodes_put old.nodes new.nodes m.nodes name h is.nodes put);
+    shared = rw schema (each_put (λ g. g.schema ≡ old.schema) old.nodes new.nodes name h put shared is.shared);
     pages = λ q. rw pages (is.pages q);
     are_pages = is.are_pages;
+    snapshots = λ q. rw snapshots (is.snapshots q);
+    are_kept = is.are_kept;
     origins = λ origin. origins origin ∙ used_more number origin m.origins (contains nat_cmp old.origins origin) (is.origins origin);
   }
+
+module _ {A : Type 0} {g : Ghosts A} where
+  -- the node of a replica that holds nothing
+  pub new_replica : (c : Cluster A g) (m : State Cells) → Represents c m → (h : Holding) (number : ℕ) → h ≡ record { schema = c.schema; origin = number; next = 1; cells = map.empty } → node_of h ≡ new_node cell_model m.schema number
+  new_replica c m is h number made = ap node_of made ∙ ap (λ (s : Layout). new_node cell_model s number) is.schema
 
 -- ---- the models agree
 

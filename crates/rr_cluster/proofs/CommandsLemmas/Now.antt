@@ -50,9 +50,9 @@ module _ {A : Type 0} {g : Ghosts A} (old : Cluster A g) (m : State Cells) (is :
   pub lead_read : (word : Option (List ℕ)) (r : Result (Option ℕ) CommandFault) → r ≡ lead_of old.lead word → r ≡ lead_of m.lead word
   lead_read word r e = e ∙ ap (λ (before : Option ℕ). lead_of before word) is.lead
 
-  pub represents_with_clock : (new : Cluster A g) (clock : ℤ) (lead : Option ℕ) → new.schema ≡ old.schema → new.clock ≡ clock → new.lead ≡ lead → new.nodes ≡ old.nodes → new.pages ≡ old.pages → new.origins ≡ old.origins
+  pub represents_with_clock : (new : Cluster A g) (clock : ℤ) (lead : Option ℕ) → new.schema ≡ old.schema → new.clock ≡ clock → new.lead ≡ lead → new.nodes ≡ old.nodes → new.pages ≡ old.pages → new.snapshots ≡ old.snapshots → new.origins ≡ old.origins
       → Represents new (record m { clock = clock; lead = lead })
-  represents_with_clock new clock lead schema is_clock is_lead nodes pages origins = record {
+  represents_with_clock new clock lead schema is_clock is_lead nodes pages snapshots origins = record {
     schema = schema ∙ is.schema;
     clock = is_clock;
     lead = is_lead;
@@ -60,6 +60,8 @@ module _ {A : Type 0} {g : Ghosts A} (old : Cluster A g) (m : State Cells) (is :
     shared = λ name h. rw (nodes, schema) (is.shared name h);
     pages = λ name. rw pages (is.pages name);
     are_pages = is.are_pages;
+    snapshots = λ name. rw snapshots (is.snapshots name);
+    are_kept = is.are_kept;
     origins = λ origin. rw origins (is.origins origin);
   }
 
@@ -75,6 +77,7 @@ now_agrees m sound time lead =
       shared = sound.shared;
       nodes = sound.nodes;
       pages = sound.pages;
+      snapshots = sound.snapshots;
       apart = sound.apart;
       used = sound.used;
       origins = sound.origins;

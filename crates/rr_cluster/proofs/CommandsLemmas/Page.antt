@@ -16,7 +16,6 @@ use Rattle.rr_join.specs.Values.{get_called, map_values}
 use Rattle.rr_join.proofs.ValuesLemmas.{get_called-insert, insert_cases, map_values-insert}
 use Rattle.rr_model.specs.Knowledge.{Knowledge, part}
 use Rattle.rr_model.specs.World.{IsClosed}
-use Rattle.rr_model.proofs.Orders.{cell_name_cmp_total, cell_name_cmp-IsAntisymmetric}
 use Rattle.rr_model.proofs.WholeCells.{whole_cells_are_closed}
 use Rattle.rr_page.specs.Page.{IsPage, page_text}
 use Rattle.rr_page.specs.Version.{latest}
@@ -33,13 +32,14 @@ use Rattle.rr_cluster.specs.Agreement.{in_cells, node_in_cells}
 use Rattle.rr_cluster.specs.Command.{IsOneLine}
 use Rattle.rr_cluster.specs.Commands.Page.{page_command, after_page}
 use Rattle.rr_cluster.specs.Commands.Bytes.{bytes_of_page}
-use Rattle.rr_cluster.specs.Meaning.{page_bytes_at, replica_at, HasPageText, Represents}
+use Rattle.rr_cluster.specs.Meaning.{bytes_at, replica_at, HasPageText, Represents}
 use Rattle.rr_cluster.specs.Model.{Model, cell_model, sample_model, part_of}
 use Rattle.rr_cluster.specs.Soundness.{IsSound}
 use Rattle.rr_cluster.specs.State.{Node, State}
 use Rattle.rr_cluster.specs.Words.{words_of, is_name, number_within}
 use Rattle.rr_cluster.proofs.CommandsLemmas.Write.{layout_at}
-use Rattle.rr_cluster.proofs.EntriesLemmas.{entries-part_of, part_is_page}
+use Rattle.rr_cluster.proofs.EntriesLemmas.{entries-part_of, from_entries-entries, part_of_is_page}
+use Rattle.rr_cluster.proofs.MeaningLemmas.{HasPutBytes, texts_put}
 use Rattle.rr_cluster.proofs.SoundnessLemmas.{with_page_is_sound}
 use Rattle.rr_cluster.proofs.StepLemmas.{names_apart, Agrees, then_agree, found_agree, done_agrees}
 use Rattle.rr_cluster.proofs.WordsLemmas.{some_parts}
@@ -89,7 +89,7 @@ module _ {K : Type 0} (model : Model K) (m : State K) (name node from count : Li
 
 module _ (h : Holding) (is : IsHolding h) (from count : ℕ) (fits : count ≤ MAX_PAGE_CELLS) where
   pub cells_are_page : IsPage h.schema (take count (drop from (map.entries h.cells)))
-  cells_are_page = part_is_page h.schema h.cells from count is.cells fits
+  cells_are_page = part_of_is_page h.schema h.cells from count is.cells fits
 
   pub page_is_text : (bytes : List ℕ) → bytes ≡ page_text latest h.schema (take count (drop from (map.entries h.cells))) → HasPageText h.schema (part_of h.cells from count) bytes
   page_is_text bytes written =
@@ -98,41 +98,23 @@ module _ (h : Holding) (is : IsHolding h) (from count : ℕ) (fits : count ≤ M
 
 -- ---- the cluster with the page
 
-abbrev Pages : Type 0
-Pages = BTreeMap (Vec ℕ) (Vec ℕ)
-
--- the new map has the bytes at the name, and is the old one at all others
-abbrev HasPutPage : Pages → Pages → List ℕ → List ℕ → Type 0
-HasPutPage old new name bytes = (q : List ℕ) → page_bytes_at new q ≡ cond (eq_by_cmp bytes_cmp q name) (Some bytes) (page_bytes_at old q)
-
-pub page_inserted : (old new : Pages) (name bytes : Vec ℕ) → new.entries ≡ insert_entry (λ a b. bytes_cmp a.items b.items) old.entries name bytes → HasPutPage old new name.items bytes.items
-page_inserted old new name bytes entries q =
-    ap (option_map (λ (page : Vec ℕ). page.items)) (get_called-insert nat_list_cmp_total names_apart (λ (key : Vec ℕ). key.items) old new name bytes entries q)
-    ∙ by (eq_by_cmp bytes_cmp q name.items)
-  where
-    by : (b : Bool) → option_map (λ (page : Vec ℕ). page.items) (cond b (Some bytes) (get_called bytes_cmp (λ (key : Vec ℕ). key.items) old q)) ≡ cond b (Some bytes.items) (page_bytes_at old q)
-    by true = refl
-    by false = refl
-
 module _ {A : Type 0} {g : Ghosts A} (old new : Cluster A g) (m : State Cells) (name bytes : List ℕ) (page : Cells) (is : Represents old m)
-    (schema : new.schema ≡ old.schema) (clock : new.clock ≡ old.clock) (lead : new.lead ≡ old.lead) (nodes : new.nodes ≡ old.nodes) (origins : new.origins ≡ old.origins) where
-  pub represents_with_page : HasPutPage old.pages new.pages name bytes → HasPageText m.schema page bytes → Represents new (record m { pages = map.insert m.pages name page })
+    (schema : new.schema ≡ old.schema) (clock : new.clock ≡ old.clock) (lead : new.lead ≡ old.lead) (nodes : new.nodes ≡ old.nodes) (snapshots : new.snapshots ≡ old.snapshots) (origins : new.origins ≡ old.origins) where
+  pub represents_with_page : HasPutBytes old.pages new.pages name bytes → HasPageText m.schema page bytes → Represents new (record m { pages = map.insert m.pages name page })
   represents_with_page put has = record {
     schema = schema ∙ is.schema;
     clock = clock ∙ is.clock;
     lead = lead ∙ is.lead;
     nodes = λ q. rw nodes (is.nodes q);
     shared = λ q h. rw (nodes, schema) (is.shared q h);
-    pages = λ q. put q ∙ by q (eq_by_cmp bytes_cmp q name) ∙ sym (ap (option_map (bytes_of_page m.schema)) (map.get-insert nat_list_cmp_total m.pages name page q));
+    pages = texts_put (bytes_of_page m.schema) old.pages new.pages m.pages name bytes page is.pages put has.text;
     are_pages = λ q other e. insert_cases nat_list_cmp_total names_apart m.pages name page q other e
         (λ at same. subst (λ (p : Cells). IsPage m.schema (map.entries p)) same has.page)
         (λ apart there. is.are_pages q other there);
+    snapshots = λ q. rw snapshots (is.snapshots q);
+    are_kept = is.are_kept;
     origins = λ origin. rw origins (is.origins origin);
   }
-    where
-      by : (q : List ℕ) (b : Bool) → cond b (Some bytes) (page_bytes_at old.pages q) ≡ option_map (bytes_of_page m.schema) (cond b (Some page) (map.get m.pages q))
-      by q true = ap (λ (t : List ℕ). Some t) has.text
-      by q false = is.pages q
 
 -- the page of a node of the cluster is one of the schema
 pub page_of_node : {A : Type 0} {g : Ghosts A} (c : Cluster A g) (m : State Cells) → Represents c m → (node : List ℕ) (h : Holding) → replica_at c.nodes node ≡ Some h
@@ -140,11 +122,6 @@ pub page_of_node : {A : Type 0} {g : Ghosts A} (c : Cluster A g) (m : State Cell
 page_of_node c m is node h here page bytes has = subst (λ (s : Layout). HasPageText s page bytes) (is.shared node h here ∙ is.schema) has
 
 -- ---- the models agree
-
--- the map of the entries of a map is the map
-from_entries-entries : (m : Cells) → map.from_entries (map.entries m) ≡ m
-from_entries-entries m = map.same_map cell_name_cmp_total cell_name_cmp-IsAntisymmetric (map.from_entries (map.entries m)) m (λ q.
-    map.get-from_entries cell_name_cmp_total (map.entries m) q ∙ sym (map.get-entries m q))
 
 module _ (m : State Knowledge) (sound : IsSound m) (name : List ℕ) (n : Node Knowledge) (here : map.get m.nodes name ≡ Some n) (first most : ℕ) where
   abbrev page : Knowledge
@@ -160,7 +137,7 @@ module _ (m : State Knowledge) (sound : IsSound m) (name : List ℕ) (n : Node K
   part_is_closed : IsClosed m.schema m.world page
   part_is_closed = subst (λ (s : Layout). IsClosed s m.world page) (sound.shared name n here) (whole_cells_are_closed n.schema m.world n.contents _ (sound.nodes name n here).closed)
 
-with_page_agrees : (m : State Knowledge) (name : List ℕ) (c : Cells) (k : Knowledge) → c ≡ state m.schema k
+pub with_page_agrees : (m : State Knowledge) (name : List ℕ) (c : Cells) (k : Knowledge) → c ≡ state m.schema k
     → ◌≡◌ {A = State Cells} (record (in_cells m) { pages = map.insert (map_values (state m.schema) m.pages) name c }) (in_cells (record m { pages = map.insert m.pages name k }))
 with_page_agrees m name c k e =
     let pages = ap (map.insert (map_values (state m.schema) m.pages) name) e ∙ sym (map_values-insert nat_list_cmp_total names_apart (state m.schema) m.pages name k) in

@@ -11,7 +11,7 @@ use Rattle.rr_replica.specs.State.{state}
 use Rattle.rr_base.specs.Bytes.{bytes_cmp}
 use Rattle.rr_cluster.specs.declared.fault.CommandFault.TheVariants.{BadNumber}
 use Rattle.rr_cluster.specs.declared.words.TheConstants.{MAX_U32}
-use Rattle.rr_cluster.specs.Agreement.{in_cells, node_in_cells}
+use Rattle.rr_cluster.specs.Agreement.{in_cells, node_in_cells, snapshot_in_cells}
 use Rattle.rr_cluster.specs.Command.{IsOneLine}
 use Rattle.rr_cluster.specs.Commands.Schema.{schema_command, layout_of, unless_faulty}
 use Rattle.rr_cluster.specs.Soundness.{FirstStatesAreSound}
@@ -41,6 +41,7 @@ pub first_states_agree : (s : Layout) → ◌≡◌ {A = State Cells} (first_sta
 first_states_agree s = λ i. record (first_state s) {
   nodes = sym (map_values-empty nat_list_cmp_total names_apart node_in_cells) i;
   pages = sym (map_values-empty nat_list_cmp_total names_apart (state s)) i;
+  snapshots = sym (map_values-empty nat_list_cmp_total names_apart snapshot_in_cells) i;
 }
 
 pub first_states_are_sound : FirstStatesAreSound
@@ -50,6 +51,7 @@ first_states_are_sound s is = record {
   shared = λ name n e. let none = sym (get-empty bytes_cmp name) ∙ e in absurd cc;
   nodes = λ name n e. let none = sym (get-empty bytes_cmp name) ∙ e in absurd cc;
   pages = λ name k e. let none = sym (get-empty bytes_cmp name) ∙ e in absurd cc;
+  snapshots = λ name x e. let none = sym (get-empty bytes_cmp name) ∙ e in absurd cc;
   apart = λ a b n o e h same. let none = sym (get-empty bytes_cmp a) ∙ e in absurd cc;
   used = λ name n e. let none = sym (get-empty bytes_cmp name) ∙ e in absurd cc;
   origins = λ origin was. absurd cc;

@@ -23,5 +23,5 @@ returns g c = λ m is.
     let back = to_z-of_z {w = w64} {z = c.in_ok-clock.clock} (search rules) in (
       record m { clock = c.in_ok-clock.clock; lead = c.in_ok-lead.lead },
       clock_is_set m c.args.time.now (word_of c.args.lead) c.in_ok-clock.clock c.in_ok-clock.ensures c.in_ok-lead.lead lead,
-      represents_with_clock c.args.cluster.now m is _ c.in_ok-clock.clock c.in_ok-lead.lead refl back refl refl refl refl,
+      represents_with_clock c.args.cluster.now m is _ c.in_ok-clock.clock c.in_ok-lead.lead refl back refl refl refl refl refl,
     )

@@ -2,8 +2,8 @@ use Rattle.std.proofs.Common.{None, Some, refl, sym}
 use Rattle.std.proofs.lemmas.Result.{err_from_is_err_and}
 use Rattle.rr_cluster.specs.Meaning.{node_of}
 use Rattle.rr_cluster.specs.Model.{cell_model, part_of}
-use Rattle.rr_cluster.proofs.CommandsLemmas.Page.{bad_name, no_node, bad_from, bad_count, page_is_made, page_inserted, page_of_node, represents_with_page}
-use Rattle.rr_cluster.proofs.MeaningLemmas.{node_at}
+use Rattle.rr_cluster.proofs.CommandsLemmas.Page.{bad_name, no_node, bad_from, bad_count, page_is_made, page_of_node, represents_with_page}
+use Rattle.rr_cluster.proofs.MeaningLemmas.{bytes_inserted, node_at}
 use Rattle.rr_cluster.proofs.commands.page.add_page.Goals as goal
 
 pub returns-then-not-is_name : goal.returns-then-not-is_name
@@ -42,9 +42,9 @@ returns g c = λ m is.
     let first = sym (rw c.number_u32.ensures at c.in_ok-from.ensures.value) in
     let most = sym (rw c.cell_count.ensures at c.in_ok-count.ensures.value) in
     let page = part_of h.cells c.in_ok-from.from c.in_ok-count.count in
-    let put = rw c.in_ok-name.ensures.items at (page_inserted old.pages c.insert.new.self c.in_ok-name.name c.in_ok-page.page c.in_ok-insert.ensures.entries) in
+    let put = rw c.in_ok-name.ensures.items at (bytes_inserted old.pages c.insert.new.self c.in_ok-name.name c.in_ok-page.page c.in_ok-insert.ensures.entries) in
     let has = page_of_node old m is node h replica page c.in_ok-page.page.items c.in_ok-page.ensures in (
       _,
       page_is_made cell_model m name node c.args.from.now c.args.count.now (sym c.if-not-is_name.ensures) (node_of h) (node_at old m is node (Some h) replica) c.in_ok-from.from first c.in_ok-count.count most,
-      represents_with_page old _ m name c.in_ok-page.page.items page is refl refl refl refl refl put has,
+      represents_with_page old _ m name c.in_ok-page.page.items page is refl refl refl refl refl refl put has,
     )

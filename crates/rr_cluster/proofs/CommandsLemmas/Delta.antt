@@ -1,0 +1,165 @@
+-- delta NAME GIVER TAKER FROM COUNT
+use Rattle.std.proofs.Common.{◌≡◌, ℕ, ◌<◌, ◌≤◌, Bool, true, false, T, take, drop, length, List, [], ◌∷◌, map as each, Some, None, IfSome, Ok, Err, refl, sym, ap, subst, ◌∙◌, arith}
+use Rattle.std.specs.Prelude.{IsTrue, ok_or}
+use Rattle.std.specs.FinMap as map
+use Rattle.std.specs.FinMap.Entries.{below_all}
+use Rattle.std.specs.List.{All}
+use Rattle.std.specs.Ordering.{is_lt}
+use Rattle.std.proofs.lemmas.List.Elements.{All-map}
+use Rattle.std.proofs.lemmas.List.{drop-map, length-map, length-take, take-map, take_all}
+use Rattle.rr_base.specs.declared.bytes.TheConstants.{SPACE}
+use Rattle.rr_base.specs.declared.limits.TheConstants.{MAX_PAGE_CELLS}
+use Rattle.rr_base.specs.Results.{checked}
+use Rattle.rr_base.specs.Schema.{Layout, IsLayout}
+use Rattle.rr_delta.specs.Difference.{IsSummary, newer_cells}
+use Rattle.rr_delta.specs.declared.name.Name.{Name}
+use Rattle.rr_delta.specs.Names.{named_version, owned_name, versions_of}
+use Rattle.rr_delta.proofs.LawLemmas.{differences_are_cut}
+use Rattle.rr_join.proofs.Booleans.{T_and, T_from_true, first_T, second_T, true_from_T}
+use Rattle.rr_model.specs.CellNames.{CellName, cell_name_cmp}
+use Rattle.rr_model.specs.Knowledge.{Knowledge}
+use Rattle.rr_model.specs.World.{IsClosed}
+use Rattle.rr_model.proofs.WholeCells.{whole_cells_are_closed}
+use Rattle.rr_page.specs.Page.{IsPage, page_text}
+use Rattle.rr_page.specs.Version.{latest}
+use Rattle.rr_replica.specs.CellBounds.{NamedCell, IsCellOf}
+use Rattle.rr_replica.specs.Cells.{Cells}
+use Rattle.rr_replica.specs.declared.cell.Cell.{Cell}
+use Rattle.rr_replica.specs.Listing.{owned_cell}
+use Rattle.rr_replica.specs.State.{state}
+use Rattle.rr_cluster.specs.declared.fault.CommandFault.{CommandFault}
+use Rattle.rr_cluster.specs.declared.fault.CommandFault.TheVariants.{BadName, NoNode, BadNumber}
+use Rattle.rr_cluster.specs.declared.words.TheConstants.{MAX_U32}
+use Rattle.rr_cluster.specs.Agreement.{in_cells, node_in_cells}
+use Rattle.rr_cluster.specs.Command.{IsOneLine}
+use Rattle.rr_cluster.specs.Commands.Delta.{delta_command, after_delta}
+use Rattle.rr_cluster.specs.Meaning.{HasPageText}
+use Rattle.rr_cluster.specs.Model.{Model, cell_model, sample_model, part_of_difference, newer_part_of}
+use Rattle.rr_cluster.specs.Soundness.{IsSound}
+use Rattle.rr_cluster.specs.State.{Node, State}
+use Rattle.rr_cluster.specs.Words.{words_of, is_name, number_within}
+use Rattle.rr_cluster.proofs.CommandsLemmas.Page.{with_page_agrees}
+use Rattle.rr_cluster.proofs.EntriesLemmas.{entries-of_part, from_entries-entries, part_is_page}
+use Rattle.rr_cluster.proofs.SoundnessLemmas.{with_page_is_sound}
+use Rattle.rr_cluster.proofs.StepLemmas.{Agrees, then_agree, found_agree, done_agrees}
+use Rattle.rr_cluster.proofs.WordsLemmas.{some_parts}
+
+-- ---- words
+
+-- six words are too many
+pub delta_command-more : (name giver taker from count rest : List ℕ) → delta_command (name ∷ giver ∷ taker ∷ from ∷ count ∷ words_of rest) ≡ None
+delta_command-more name giver taker from count rest = let some = some_parts SPACE rest in rw some.2 refl
+
+pub delta_is_one_line : (words : List (List ℕ)) → IfSome (delta_command words) IsOneLine
+delta_is_one_line [] = tt
+delta_is_one_line (a ∷ []) = tt
+delta_is_one_line (a ∷ b ∷ []) = tt
+delta_is_one_line (a ∷ b ∷ c ∷ []) = tt
+delta_is_one_line (a ∷ b ∷ c ∷ d ∷ []) = tt
+delta_is_one_line (a ∷ b ∷ c ∷ d ∷ e ∷ []) = tt
+delta_is_one_line (a ∷ b ∷ c ∷ d ∷ e ∷ f ∷ rest) = tt
+
+-- ---- check by check
+
+module _ {K : Type 0} (model : Model K) (m : State K) (name giver taker from count : List ℕ) where
+  pub bad_name : is_name name ≡ false → after_delta model m name giver taker from count ≡ Err BadName
+  unfolding after_delta
+  bad_name e = rw e refl
+
+  module _ (named : is_name name ≡ true) where
+    pub no_giver : map.get m.nodes giver ≡ None → after_delta model m name giver taker from count ≡ Err NoNode
+    unfolding after_delta
+    no_giver e = rw (named, e) refl
+
+    module _ (g : Node K) (here : map.get m.nodes giver ≡ Some g) where
+      pub no_taker : map.get m.nodes taker ≡ None → after_delta model m name giver taker from count ≡ Err NoNode
+      unfolding after_delta
+      no_taker e = rw (named, here, e) refl
+
+      module _ (t : Node K) (there : map.get m.nodes taker ≡ Some t) where
+        pub bad_from : (fault : CommandFault) → ok_or (number_within 0 MAX_U32 from) BadNumber ≡ Err fault → after_delta model m name giver taker from count ≡ Err fault
+        unfolding after_delta
+        bad_from fault e = rw (named, here, there, e) refl
+
+        module _ (first : ℕ) (is : ok_or (number_within 0 MAX_U32 from) BadNumber ≡ Ok first) where
+          pub bad_count : (fault : CommandFault) → ok_or (number_within 1 MAX_PAGE_CELLS count) BadNumber ≡ Err fault → after_delta model m name giver taker from count ≡ Err fault
+          unfolding after_delta
+          bad_count fault e = rw (named, here, there, is, e) refl
+
+          pub delta_is_made : (most : ℕ) → ok_or (number_within 1 MAX_PAGE_CELLS count) BadNumber ≡ Ok most
+              → after_delta model m name giver taker from count ≡ Ok (record m { pages = map.insert m.pages name (model.part_of_newer g.schema g.contents t.contents first most) })
+          unfolding after_delta
+          delta_is_made most e = rw (named, here, there, is, e) refl
+
+-- ---- the summary of all cells
+
+-- the names of a summary that are asked for without end are all, since memory holds no more
+pub summary_is_whole : (names : List Name) (m : Cells) → each owned_name names ≡ take 18446744073709551615 (drop 0 (versions_of m)) → length names < 18446744073709551615 → each owned_name names ≡ versions_of m
+summary_is_whole names m e few =
+    let len = ap length e ∙ length-take 18446744073709551615 (versions_of m) in
+    let same = length-map names owned_name in
+    e ∙ take_all 18446744073709551615 (versions_of m) (omega (arith, len, few, same))
+
+-- so what is newer than they are is newer than all
+pub newer_than_all : (names : List Name) (cells : List Cell) (m n : Cells) → each owned_name names ≡ take 18446744073709551615 (drop 0 (versions_of n)) → length names < 18446744073709551615
+    → each owned_cell cells ≡ newer_cells (each owned_name names) (map.entries m) → each owned_cell cells ≡ newer_cells (versions_of n) (map.entries m)
+newer_than_all names cells m n e few newer = newer ∙ ap (λ known. newer_cells known (map.entries m)) (summary_is_whole names n e few)
+
+below_named : (n : CellName) (es : List NamedCell) → T (below_all cell_name_cmp n es) → T (below_all cell_name_cmp n (each named_version es))
+below_named n [] h = tt
+below_named n (e ∷ es) h = T_and _ _ (first_T (is_lt (cell_name_cmp n e.0)) _ h) (below_named n es (second_T (is_lt (cell_name_cmp n e.0)) _ h))
+
+sorted_named : (es : List NamedCell) → T (map.is_sorted cell_name_cmp es) → T (map.is_sorted cell_name_cmp (each named_version es))
+sorted_named [] h = tt
+sorted_named (e ∷ es) h = T_and _ _ (below_named e.0 es (first_T (below_all cell_name_cmp e.0 es) _ h)) (sorted_named es (second_T (below_all cell_name_cmp e.0 es) _ h))
+
+pub versions_are_summary : (m : Cells) → IsSummary (versions_of m)
+versions_are_summary m = true_from_T _ (sorted_named (map.entries m) (map.entries_sorted m))
+
+-- ---- the bytes of a page
+
+-- a part of the cells that are newer is a page, and its bytes are those of the map of them
+module _ (s : Layout) (m n : Cells) (cells : List Cell) (newer : each owned_cell cells ≡ newer_cells (versions_of n) (map.entries m)) (ascending : IsTrue (map.is_sorted cell_name_cmp (each owned_cell cells))) (of_schema : All (λ c. IsCellOf s (owned_cell c)) cells)
+    (from count : ℕ) (fits : count ≤ MAX_PAGE_CELLS) where
+  sorted : T (map.is_sorted cell_name_cmp (newer_cells (versions_of n) (map.entries m)))
+  sorted = T_from_true _ (subst (λ es. IsTrue (map.is_sorted cell_name_cmp es)) newer ascending)
+
+  part_is : each owned_cell (take count (drop from cells)) ≡ take count (drop from (newer_cells (versions_of n) (map.entries m)))
+  part_is = sym (take-map owned_cell count (drop from cells)) ∙ ap (take count) (sym (drop-map owned_cell from cells)) ∙ ap (λ es. take count (drop from es)) newer
+
+  pub newer_is_page : IsPage s (each owned_cell (take count (drop from cells)))
+  newer_is_page = subst (IsPage s) (sym part_is) (part_is_page s _ from count (subst (All (IsCellOf s)) newer (All-map (IsCellOf s) owned_cell cells of_schema)) sorted fits)
+
+  pub newer_page_is_text : (bytes : List ℕ) → bytes ≡ page_text latest s (each owned_cell (take count (drop from cells))) → HasPageText s (newer_part_of m n from count) bytes
+  newer_page_is_text bytes written =
+      let same = part_is ∙ sym (entries-of_part _ from count sorted) in
+      record { page = subst (IsPage s) same newer_is_page; text = written ∙ ap (page_text latest s) same }
+
+-- ---- the models agree
+
+module _ (m : State Knowledge) (sound : IsSound m) (giver taker : List ℕ) (g t : Node Knowledge) (here : map.get m.nodes giver ≡ Some g) (there : map.get m.nodes taker ≡ Some t) (first most : ℕ) where
+  abbrev page : Knowledge
+  page = part_of_difference g.schema g.contents t.contents first most
+
+  abbrev IsClosedIn : Layout → Knowledge → Type 0
+  IsClosedIn s k = IsClosed s m.world k
+
+  -- the cells of a part of the difference
+  newer_agrees : newer_part_of (state g.schema g.contents) (state t.schema t.contents) first most ≡ state m.schema page
+  newer_agrees =
+      let one = sound.shared giver g here in
+      let other = sound.shared taker t there ∙ sym one in
+      ap (λ (s : Layout). newer_part_of (state g.schema g.contents) (state s t.contents) first most) other
+      ∙ ap (λ es. map.from_entries es) (sym (differences_are_cut g.schema m.world g.contents t.contents first most (subst IsLayout (sym one) sound.layout) (sound.nodes giver g here).closed (subst (λ (s : Layout). IsClosedIn s t.contents) other (sound.nodes taker t there).closed)))
+      ∙ from_entries-entries (state g.schema page)
+      ∙ ap (λ (s : Layout). state s page) one
+
+  newer_is_closed : IsClosed m.schema m.world page
+  newer_is_closed = subst (λ (s : Layout). IsClosedIn s page) (sound.shared giver g here) (whole_cells_are_closed g.schema m.world g.contents _ (sound.nodes giver g here).closed)
+
+pub delta_agrees : (m : State Knowledge) → IsSound m → (name giver taker from count : List ℕ) → Agrees in_cells IsSound (after_delta cell_model (in_cells m) name giver taker from count) (after_delta sample_model m name giver taker from count)
+unfolding after_delta
+delta_agrees m sound name giver taker from count =
+    then_agree in_cells IsSound (checked (is_name name) BadName) _ _ (λ named is. found_agree in_cells IsSound node_in_cells m.nodes giver NoNode _ _ (λ g here. found_agree in_cells IsSound node_in_cells m.nodes taker NoNode _ _ (λ t there. then_agree in_cells IsSound (ok_or (number_within 0 MAX_U32 from) BadNumber) _ _ (λ first read. then_agree in_cells IsSound (ok_or (number_within 1 MAX_PAGE_CELLS count) BadNumber) _ _ (λ most also.
+    done_agrees in_cells IsSound _ _ (with_page_agrees m name _ (part_of_difference g.schema g.contents t.contents first most) (newer_agrees m sound giver taker g t here there first most))
+    (with_page_is_sound m sound name (part_of_difference g.schema g.contents t.contents first most) (newer_is_closed m sound giver taker g t here there first most)))))))

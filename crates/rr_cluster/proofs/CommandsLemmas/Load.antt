@@ -1,0 +1,183 @@
+-- load NAME NODE ORIGIN
+use Rattle.std.proofs.Common.{◌≡◌, ◌⊎◌, ℕ, Bool, true, false, not, cond, inl, inr, List, [], ◌∷◌, Some, None, IfSome, Result, Ok, Err, refl, sym, ap, subst, ◌∙◌}
+use Rattle.std.specs.Prelude.{◌==◌, ok_or}
+use Rattle.std.specs.List.{list_any}
+use Rattle.std.specs.Ordering.{nat_cmp, is_eq}
+use Rattle.std.specs.BTreeSet.{contains}
+use Rattle.std.specs.FinMap as map
+use Rattle.rr_archive.specs.declared.archive.Archive.{Ghosts}
+use Rattle.rr_base.specs.declared.bytes.TheConstants.{SPACE}
+use Rattle.rr_base.specs.Results.{checked, unless}
+use Rattle.rr_base.specs.Schema.{Layout}
+use Rattle.rr_model.specs.Knowledge.{Knowledge}
+use Rattle.rr_model.specs.World.{IsClosed}
+use Rattle.rr_replica.specs.Cells.{Cells}
+use Rattle.rr_replica.specs.Holding.{Holding}
+use Rattle.rr_snapshot.specs.declared.fault.LoadFault.{LoadFault}
+use Rattle.rr_snapshot.specs.declared.fault.LoadFault.TheVariants as load
+use Rattle.rr_snapshot.specs.Loading.{loaded_at}
+use Rattle.rr_snapshot.proofs.SavedLemmas.{snapshot_is_loaded}
+use Rattle.rr_cluster.specs.declared.cluster.Cluster.{Cluster}
+use Rattle.rr_cluster.specs.declared.fault.CommandFault.{CommandFault}
+use Rattle.rr_cluster.specs.declared.fault.CommandFault.TheVariants.{NoSnapshot, BadName, OriginUsed}
+use Rattle.rr_cluster.specs.declared.stop.Stop.{Stop}
+use Rattle.rr_cluster.specs.declared.stop.Stop.TheVariants.{Refused}
+use Rattle.rr_cluster.specs.Agreement.{in_cells, node_in_cells, snapshot_in_cells}
+use Rattle.rr_cluster.specs.Command.{IsOneLine}
+use Rattle.rr_cluster.specs.Commands.Load.{load_command, loaded_node, has_origin, after_load}
+use Rattle.rr_cluster.specs.Meaning.{node_of, bytes_at, HasSnapshotText, Leaves, Loads, Represents}
+use Rattle.rr_cluster.specs.Model.{Model, cell_model, sample_model}
+use Rattle.rr_cluster.specs.Soundness.{IsSound}
+use Rattle.rr_cluster.specs.State.{Node, Snapshot, State}
+use Rattle.rr_cluster.specs.Words.{words_of, is_name, origin_of}
+use Rattle.rr_cluster.proofs.CommandsLemmas.Node.{represents_with_node, with_node_agrees}
+use Rattle.rr_cluster.proofs.MeaningLemmas.{HasPut, snapshot_there}
+use Rattle.rr_cluster.proofs.LimitLemmas.{origin_is}
+use Rattle.rr_cluster.proofs.SoundnessLemmas.{with_node_is_sound, starting_is_sound}
+use Rattle.rr_cluster.proofs.StepLemmas.{Agrees, then_agree, found_agree, done_agrees, not_true}
+use Rattle.rr_cluster.proofs.WordsLemmas.{some_parts}
+
+-- ---- words
+
+-- four words are too many
+pub load_command-more : (name node origin rest : List ℕ) → load_command (name ∷ node ∷ origin ∷ words_of rest) ≡ None
+load_command-more name node origin rest = let some = some_parts SPACE rest in rw some.2 refl
+
+pub load_is_one_line : (words : List (List ℕ)) → IfSome (load_command words) IsOneLine
+load_is_one_line [] = tt
+load_is_one_line (name ∷ []) = tt
+load_is_one_line (name ∷ node ∷ []) = tt
+load_is_one_line (name ∷ node ∷ origin ∷ []) = tt
+load_is_one_line (name ∷ node ∷ origin ∷ more ∷ rest) = tt
+
+-- ---- check by check
+
+module _ {K : Type 0} (model : Model K) (m : State K) (name node origin : List ℕ) where
+  pub no_snapshot : map.get m.snapshots name ≡ None → after_load model m name node origin ≡ Err NoSnapshot
+  unfolding after_load
+  no_snapshot e = rw e refl
+
+  module _ (x : Snapshot K) (here : map.get m.snapshots name ≡ Some x) where
+    pub bad_name : is_name node ≡ false → after_load model m name node origin ≡ Err BadName
+    unfolding after_load
+    bad_name e = rw (here, e) refl
+
+    module _ (named : is_name node ≡ true) where
+      pub bad_origin : (fault : CommandFault) → origin_of origin ≡ Err fault → after_load model m name node origin ≡ Err fault
+      unfolding after_load
+      bad_origin fault e = rw (here, named, e) refl
+
+      module _ (number : ℕ) (is : origin_of origin ≡ Ok number) where
+        pub used_origin : list_any (λ used. used == number) m.origins ≡ true → after_load model m name node origin ≡ Err OriginUsed
+        unfolding after_load
+        used_origin e = rw (here, named, is, e) refl
+
+        module _ (unused : list_any (λ used. used == number) m.origins ≡ false) where
+          pub held_origin : has_origin model x number ≡ true → after_load model m name node origin ≡ Err OriginUsed
+          unfolding after_load
+          held_origin e = rw (here, named, is, unused, e) refl
+
+          pub node_is_loaded : has_origin model x number ≡ false
+              → after_load model m name node origin ≡ Ok (record m { nodes = map.insert m.nodes node (loaded_node x number); origins = number ∷ m.origins })
+          unfolding after_load
+          node_is_loaded e = rw (here, named, is, unused, e) refl
+
+-- ---- the replica of a snapshot
+
+module _ (s : Layout) (x : Snapshot Cells) (bytes : List ℕ) (has : HasSnapshotText s x bytes) (number : ℕ) where
+  -- the bytes of a snapshot are loaded as its cells, unless the origin is that of the snapshot or of one of them
+  abbrev due : Bool → Result Holding LoadFault
+  due used = unless load.OriginUsed used (Ok (record { schema = x.schema; origin = number; next = 1; cells = x.contents }))
+
+  loaded_text : loaded_at s number bytes ≡ due (has_origin cell_model x number)
+  loaded_text =
+      let same = has.kept.shared in
+      ap (λ (t : Layout). loaded_at t number bytes) (sym same)
+      ∙ ap (loaded_at x.schema number) has.text
+      ∙ snapshot_is_loaded x.schema x.origin x.contents number has.kept.layout has.kept.snapshot has.kept.trimmed
+
+  pub loaded : (h : Holding) → loaded_at s number bytes ≡ Ok h → Loads (Ok h) x number
+  loaded h e = by (has_origin cell_model x number) refl (sym loaded_text ∙ e)
+    where
+      by : (used : Bool) → has_origin cell_model x number ≡ used → due used ≡ Ok h → Loads (Ok h) x number
+      by true t is = absurd cc
+      by false t is = let same : h ≡ record { schema = x.schema; origin = number; next = 1; cells = x.contents } = cc in (t, ap node_of same)
+
+  -- the one refusal of a snapshot that the script made
+  held : (fault : LoadFault) → loaded_at s number bytes ≡ Err fault → (fault ≡ load.OriginUsed) × (has_origin cell_model x number ≡ true)
+  held fault e = by (has_origin cell_model x number) refl (sym loaded_text ∙ e)
+    where
+      by : (used : Bool) → has_origin cell_model x number ≡ used → due used ≡ Err fault → (fault ≡ load.OriginUsed) × (has_origin cell_model x number ≡ true)
+      by true t is = (cc, t)
+      by false t is = absurd cc
+
+  -- the faults that a load of its bytes can have
+  pub faults : (fault : LoadFault) → (fault ≡ load.ReadFailed) ⊎ (fault ≡ load.Memory) ⊎ (loaded_at s number bytes ≡ Err fault) → (fault ≡ load.ReadFailed) ⊎ (fault ≡ load.Memory) ⊎ (fault ≡ load.OriginUsed)
+  faults fault (inl e) = inl e
+  faults fault (inr (inl e)) = inr (inl e)
+  faults fault (inr (inr e)) = inr (inr (held fault e).0)
+
+  pub refused : (fault : LoadFault) → fault ≡ load.OriginUsed → (fault ≡ load.ReadFailed) ⊎ (fault ≡ load.Memory) ⊎ (loaded_at s number bytes ≡ Err fault) → Loads (Err (Refused OriginUsed)) x number
+  refused fault is (inl e) = absurd cc
+  refused fault is (inr (inl e)) = absurd cc
+  refused fault is (inr (inr e)) = inr (refl, (held fault e).1)
+
+-- ---- the cluster with the node that was loaded
+
+module _ {A : Type 0} {g : Ghosts A} (c : Cluster A g) (m : State Cells) (is : Represents c m) (name node origin bytes : List ℕ) (kept : bytes_at c.snapshots name ≡ Some bytes) where
+  abbrev x : Snapshot Cells
+  x = (snapshot_there c m is name bytes kept).0
+
+  here : map.get m.snapshots name ≡ Some x
+  here = (snapshot_there c m is name bytes kept).1
+
+  -- the bytes are those of a snapshot of the cluster's schema
+  text : HasSnapshotText c.schema x bytes
+  text = subst (λ (s : Layout). HasSnapshotText s x bytes) (sym is.schema) (snapshot_there c m is name bytes kept).2
+
+  pub snapshot_of_schema : (x : Snapshot Cells) × HasSnapshotText c.schema x bytes
+  snapshot_of_schema = (x, text)
+
+  pub bad_name_here : is_name node ≡ false → after_load cell_model m name node origin ≡ Err BadName
+  bad_name_here = bad_name cell_model m name node origin x here
+
+  module _ (named : is_name node ≡ true) where
+    pub bad_origin_here : (fault : CommandFault) → origin_of origin ≡ Err fault → after_load cell_model m name node origin ≡ Err fault
+    bad_origin_here = bad_origin cell_model m name node origin x here named
+
+    module _ (number : ℕ) (read : origin_of origin ≡ Ok number) where
+      pub used_origin_here : list_any (λ used. used == number) m.origins ≡ true → after_load cell_model m name node origin ≡ Err OriginUsed
+      used_origin_here = used_origin cell_model m name node origin x here named number read
+
+      module _ (unused : list_any (λ used. used == number) m.origins ≡ false) where
+        -- an origin that the snapshot has is refused
+        pub load_is_refused : (stop : Stop) → ((y : Snapshot Cells) → HasSnapshotText c.schema y bytes → Loads (Err stop) y number) → (new : Cluster A g) → Represents new m → Leaves new m (Err stop) (after_load cell_model m name node origin)
+        load_is_refused stop loads new same = by (loads x text)
+          where
+            by : Loads (Err stop) x number → Leaves new m (Err stop) (after_load cell_model m name node origin)
+            by (inl e) = rw e tt
+            by (inr (e, held)) = rw e (held_origin cell_model m name node origin x here named number read unused held, same)
+
+        module _ (new : Cluster A g) (h : Holding) (loads : (y : Snapshot Cells) → HasSnapshotText c.schema y bytes → Loads (Ok h) y number) where
+          pub leaves_loaded : new.schema ≡ c.schema → new.clock ≡ c.clock → new.lead ≡ c.lead → new.pages ≡ c.pages → new.snapshots ≡ c.snapshots → HasPut c.nodes new.nodes node h
+              → ((q : ℕ) → contains nat_cmp new.origins q ≡ cond (is_eq (nat_cmp number q)) true (contains nat_cmp c.origins q))
+              → Leaves new m (Ok tt) (after_load cell_model m name node origin)
+          leaves_loaded schema clock lead pages snapshots put origins =
+              let shared = (is.are_kept name x here).shared ∙ sym is.schema in
+              let loaded = loads x text in (
+                _,
+                node_is_loaded cell_model m name node origin x here named number read unused loaded.0,
+                represents_with_node c new m node h (loaded_node x number) number is schema clock lead pages snapshots put loaded.1 (ap (λ (n : Node Cells). n.schema) loaded.1 ∙ shared) origins,
+              )
+
+-- ---- the models agree
+
+pub load_agrees : (m : State Knowledge) → IsSound m → (name node origin : List ℕ) → Agrees in_cells IsSound (after_load cell_model (in_cells m) name node origin) (after_load sample_model m name node origin)
+unfolding after_load
+load_agrees m sound name node origin =
+    found_agree in_cells IsSound snapshot_in_cells m.snapshots name NoSnapshot _ _ (λ x here. then_agree in_cells IsSound (checked (is_name node) BadName) _ _ (λ named is. then_agree in_cells IsSound (origin_of origin) _ _ (λ number read. then_agree in_cells IsSound (checked (not (list_any (λ used. used == number) m.origins)) OriginUsed) _ _ (λ unused yes. then_agree in_cells IsSound (checked (not (has_origin sample_model x number)) OriginUsed) _ _ (λ absent so.
+    let none = not_true _ _ unused yes in
+    let before = sound.snapshots name x here in
+    let closed = subst (λ (s : Layout). IsClosed s m.world x.contents) (sym before.shared) before.closed in
+    done_agrees in_cells IsSound _ _ (with_node_agrees m node (loaded_node (snapshot_in_cells x) number) (loaded_node x number) (number ∷ m.origins) m.world refl)
+    (with_node_is_sound m sound node (loaded_node x number) before.shared (starting_is_sound m sound x.schema number x.contents closed none) (origin_is origin number read) none))))))

@@ -1,0 +1,15 @@
+use Rattle.std.proofs.Common.{rules}
+use Rattle.rr_cluster.proofs.CommandsLemmas.Load.{loaded, faults, refused}
+use Rattle.rr_cluster.proofs.commands.load.loaded.Goals as goal
+
+pub unreachable-requires : goal.unreachable-requires
+unreachable-requires g c =
+    let one = faults c.args.schema.now c.requires.0 c.args.snapshot.now c.requires.1 c.args.origin c.in-Err.field-0 (rw c.new.ensures.inner at c.in-Err.ensures.read) in
+    search rules
+
+pub returns-in-Ok : goal.returns-in-Ok
+returns-in-Ok g c = λ x has. loaded c.args.schema.now x c.args.snapshot.now has c.args.origin c.in-Ok.replica (rw c.new.ensures.inner at c.in-Ok.ensures.read)
+
+pub returns-in-Err-OriginUsed : goal.returns-in-Err-OriginUsed
+returns-in-Err-OriginUsed g c = λ x has.
+    refused c.args.schema.now x c.args.snapshot.now has c.args.origin c.in-Err-OriginUsed.field-0 c.in-Err-OriginUsed.field-0-is (rw c.new.ensures.inner at c.in-Err-OriginUsed.ensures.read)

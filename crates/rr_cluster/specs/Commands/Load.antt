@@ -1,0 +1,36 @@
+-- load NAME NODE ORIGIN
+use Rattle.std.specs.Prelude.{ℕ, Bool, not, ◌==◌, List, [], ◌∷◌, Option, None, Some, Result, Ok, ok_or}
+use Rattle.std.specs.List.{list_any}
+use Rattle.std.specs.FinMap.{get, insert, entries}
+use Rattle.rr_snapshot.specs.Loading.{is_used}
+use Rattle.rr_cluster.specs.declared.fault.CommandFault.{CommandFault}
+use Rattle.rr_cluster.specs.declared.fault.CommandFault.TheVariants.{NoSnapshot, BadName, OriginUsed}
+use Rattle.rr_base.specs.Results.{◌>>=◌, checked}
+use Rattle.rr_cluster.specs.Command.{Command, load}
+use Rattle.rr_cluster.specs.Model.{Model}
+use Rattle.rr_cluster.specs.State.{Node, Snapshot, State}
+use Rattle.rr_cluster.specs.Words.{is_name, origin_of}
+
+-- the command of the words after its name
+abbrev pub load_command : List (List ℕ) → Option Command
+load_command (name ∷ node ∷ origin ∷ []) = Some (load name node origin)
+load_command _ = None
+
+-- the node that a snapshot is loaded as, under a new origin
+abbrev pub loaded_node : {K : Type 0} → Snapshot K → ℕ → Node K
+loaded_node x number = record { schema = x.schema; origin = number; next = 1; contents = x.contents }
+
+module _ {K : Type 0} (model : Model K) where
+  -- whether an origin is that of a snapshot or of one of its cells
+  abbrev pub has_origin : Snapshot K → ℕ → Bool
+  has_origin x number = is_used number (x.origin, entries (model.cells x.schema x.contents))
+
+  -- the node may be new, and a node of that name is replaced; the origin of that one stays used
+  unfoldable pub after_load : State K → List ℕ → List ℕ → List ℕ → Result (State K) CommandFault
+  after_load m name node origin = do
+    x ← ok_or (get m.snapshots name) NoSnapshot
+    named ← checked (is_name node) BadName
+    number ← origin_of origin
+    unused ← checked (not (list_any (λ used. used == number) m.origins)) OriginUsed
+    absent ← checked (not (has_origin x number)) OriginUsed
+    Ok (record m { nodes = insert m.nodes node (loaded_node x number); origins = number ∷ m.origins })

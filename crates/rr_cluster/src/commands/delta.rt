@@ -1,0 +1,90 @@
+//! `delta NAME GIVER TAKER FROM COUNT`: makes a page of what one node has and another lacks.
+
+ghost use Rattle.std.specs.Prelude.{◌≡◌, ◌≤◌, option_map, IfOk};
+ghost use Rattle.rr_base.specs.declared.limits.TheConstants.{MAX_PAGE_CELLS};
+ghost use Rattle.rr_replica.specs.Cells.{Cells};
+ghost use Rattle.rr_cluster.specs.Command.{view_of};
+ghost use Rattle.rr_cluster.specs.Commands.Delta.{after_delta, delta_command};
+ghost use Rattle.rr_cluster.specs.Meaning.{HasPageText, Leaves, Represents};
+ghost use Rattle.rr_cluster.specs.Model.{cell_model, newer_part_of};
+ghost use Rattle.rr_cluster.specs.State.{State};
+ghost use Rattle.rr_cluster.specs.Words.{words_of};
+
+use crate::cluster::Cluster;
+use crate::event::Event;
+use crate::fault::CommandFault;
+use crate::stop::Stop;
+use crate::words::{cell_count, first_word, is_name, number_u32};
+use rr_archive::Archive;
+use rr_delta::{difference, part, summary};
+use rr_page::encode;
+use rr_replica::Replica;
+use std::alloc::{AllocError, Global};
+
+/// The command of the words after `delta`.
+pub(crate) fn delta_command(words: &[u8]) -> Option<Event<'_>>
+    ensures { option_map view_of result ≡ delta_command (words_of words.now) }
+{
+    let (name, rest) = first_word(words)?;
+    let (giver, rest) = first_word(rest)?;
+    let (taker, rest) = first_word(rest)?;
+    let (from, count) = first_word(rest)?;
+    match first_word(count) {
+        Some(_) => None,
+        None => Some(Event::Delta {
+            name,
+            giver,
+            taker,
+            from,
+            count,
+        }),
+    }
+}
+
+/// Makes a page of the cells that one node has and another lacks or has with a smaller version, from
+/// a place on, as many as there are up to a count. A page of that name is replaced.
+pub(crate) fn add_delta<A: Archive>(
+    cluster: &mut Cluster<A>,
+    name: &[u8],
+    giver: &[u8],
+    taker: &[u8],
+    from: &[u8],
+    count: &[u8],
+) -> Result<(), Stop>
+    ensures { (m : State Cells) → Represents cluster.old m → Leaves cluster.new m result
+        (after_delta cell_model m name.now giver.now taker.now from.now count.now) }
+{
+    if !is_name(name) {
+        return Err(Stop::Refused(CommandFault::BadName));
+    }
+    let Some(giver) = cluster.nodes.get(giver) else {
+        return Err(Stop::Refused(CommandFault::NoNode));
+    };
+    let Some(taker) = cluster.nodes.get(taker) else {
+        return Err(Stop::Refused(CommandFault::NoNode));
+    };
+    let from = number_u32(from).ok_or(CommandFault::BadNumber)?;
+    let count = cell_count(count).ok_or(CommandFault::BadNumber)?;
+    let page = newer_page(cluster.alloc, giver, taker, from as usize, count)?;
+    let name = Vec::from_slice(cluster.alloc, name)?;
+    cluster.pages.insert(name, page)?;
+    Ok(())
+}
+
+/// The bytes of a page of the cells that one replica has and another lacks or has with a smaller
+/// version, from a place on, as many as there are up to a count.
+fn newer_page<A: Archive>(
+    alloc: Global,
+    giver: &Replica<A>,
+    taker: &Replica<A>,
+    from: usize,
+    count: usize,
+) -> Result<Vec<u8>, AllocError>
+    requires { count ≤ MAX_PAGE_CELLS }
+    ensures { IfOk result (λ page. HasPageText giver.now.schema
+        (newer_part_of giver.now.cells taker.now.cells from count) page.items) }
+{
+    let known = summary(alloc, taker, 0, usize::MAX)?;
+    let newer = difference(alloc, giver, &known)?;
+    encode(alloc, giver.schema(), part(&newer, from, count))
+}

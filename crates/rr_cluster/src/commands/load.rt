@@ -1,0 +1,84 @@
+//! `load NAME NODE ORIGIN`: makes a snapshot a node, under a new origin.
+
+ghost use Rattle.std.specs.Prelude.{◌≡◌, option_map};
+ghost use Rattle.rr_replica.specs.Cells.{Cells};
+ghost use Rattle.rr_cluster.specs.Command.{view_of};
+ghost use Rattle.rr_cluster.specs.Commands.Load.{after_load, load_command};
+ghost use Rattle.rr_cluster.specs.Meaning.{HasSnapshotText, Leaves, Loads, Represents};
+ghost use Rattle.rr_cluster.specs.Model.{cell_model};
+ghost use Rattle.rr_cluster.specs.State.{Snapshot, State};
+ghost use Rattle.rr_cluster.specs.Words.{words_of};
+
+use crate::cluster::Cluster;
+use crate::event::Event;
+use crate::fault::CommandFault;
+use crate::stop::Stop;
+use crate::words::{first_word, is_name, origin_of};
+use rr_archive::Archive;
+use rr_base::{Counted, Origin, Schema};
+use rr_replica::Replica;
+use rr_snapshot::{LoadFault, load};
+use std::alloc::Global;
+
+/// The command of the words after `load`.
+pub(crate) fn load_command(words: &[u8]) -> Option<Event<'_>>
+    ensures { option_map view_of result ≡ load_command (words_of words.now) }
+{
+    let (name, rest) = first_word(words)?;
+    let (node, origin) = first_word(rest)?;
+    match first_word(origin) {
+        Some(_) => None,
+        None => Some(Event::Load { name, node, origin }),
+    }
+}
+
+/// Makes a snapshot a node, under an origin that was not used. A node of that name is replaced, and
+/// its origin stays used.
+pub(crate) fn load_node<A: Archive>(
+    cluster: &mut Cluster<A>,
+    name: &[u8],
+    node: &[u8],
+    origin: &[u8],
+) -> Result<(), Stop>
+    requires { (m : State Cells) × Represents cluster.old m }
+    ensures { (m : State Cells) → Represents cluster.old m
+        → Leaves cluster.new m result (after_load cell_model m name.now node.now origin.now) }
+{
+    let Some(snapshot) = cluster.snapshots.get(name) else {
+        return Err(Stop::Refused(CommandFault::NoSnapshot));
+    };
+    if !is_name(node) {
+        return Err(Stop::Refused(CommandFault::BadName));
+    }
+    let origin = origin_of(origin)?;
+    let number = origin.get();
+    if cluster.origins.contains(&number) {
+        return Err(Stop::Refused(CommandFault::OriginUsed));
+    }
+    let replica = loaded(cluster.alloc, snapshot, &cluster.schema, origin)?;
+    let node = Vec::from_slice(cluster.alloc, node)?;
+    cluster.nodes.insert(node, replica)?;
+    cluster.origins.insert(number)?;
+    Ok(())
+}
+
+/// The replica of the snapshot of these bytes, under a new origin. A script has only snapshots that
+/// its own nodes made, so that the bytes are those of a snapshot of its schema.
+fn loaded<A: Archive>(
+    alloc: Global,
+    snapshot: &[u8],
+    schema: &Schema,
+    origin: Origin,
+) -> Result<Replica<A>, Stop>
+    requires { (x : Snapshot Cells) × HasSnapshotText schema.now x snapshot.now }
+    ensures { (x : Snapshot Cells) → HasSnapshotText schema.now x snapshot.now
+        → Loads result x origin }
+{
+    // Bytes in memory are always read, and so no reader fails here.
+    match load(alloc, &mut Counted::new(snapshot), schema, origin) {
+        Ok(replica) => Ok(replica),
+        Err(LoadFault::OriginUsed) => Err(Stop::Refused(CommandFault::OriginUsed)),
+        Err(LoadFault::ReadFailed | LoadFault::Memory) => Err(Stop::Memory),
+        Err(_) => unreachable!(),
+    }
+}

@@ -1,0 +1,62 @@
+//! `save NAME NODE`: makes a snapshot of a node.
+
+ghost use Rattle.std.specs.Prelude.{◌≡◌, option_map};
+ghost use Rattle.rr_replica.specs.Cells.{Cells};
+ghost use Rattle.rr_cluster.specs.Command.{view_of};
+ghost use Rattle.rr_cluster.specs.Commands.Save.{after_save, save_command};
+ghost use Rattle.rr_cluster.specs.Meaning.{Leaves, Represents, Saves};
+ghost use Rattle.rr_cluster.specs.Model.{cell_model};
+ghost use Rattle.rr_cluster.specs.State.{State};
+ghost use Rattle.rr_cluster.specs.Words.{words_of};
+
+use crate::cluster::Cluster;
+use crate::event::Event;
+use crate::fault::CommandFault;
+use crate::stop::Stop;
+use crate::words::{first_word, is_name};
+use rr_archive::Archive;
+use rr_base::Counted;
+use rr_replica::Replica;
+use rr_snapshot::save;
+use std::alloc::Global;
+
+/// The command of the words after `save`.
+pub(crate) fn save_command(words: &[u8]) -> Option<Event<'_>>
+    ensures { option_map view_of result ≡ save_command (words_of words.now) }
+{
+    let (name, node) = first_word(words)?;
+    match first_word(node) {
+        Some(_) => None,
+        None => Some(Event::Save { name, node }),
+    }
+}
+
+/// Makes a snapshot of a node. A snapshot of that name is replaced.
+pub(crate) fn save_node<A: Archive>(
+    cluster: &mut Cluster<A>,
+    name: &[u8],
+    node: &[u8],
+) -> Result<(), Stop>
+    ensures { (m : State Cells) → Represents cluster.old m
+        → Leaves cluster.new m result (after_save cell_model m name.now node.now) }
+{
+    if !is_name(name) {
+        return Err(Stop::Refused(CommandFault::BadName));
+    }
+    let Some(replica) = cluster.nodes.get(node) else {
+        return Err(Stop::Refused(CommandFault::NoNode));
+    };
+    let snapshot = snapshot_of(cluster.alloc, replica)?;
+    let name = Vec::from_slice(cluster.alloc, name)?;
+    cluster.snapshots.insert(name, snapshot)?;
+    Ok(())
+}
+
+/// The bytes of a snapshot of a replica.
+fn snapshot_of<A: Archive>(alloc: Global, replica: &Replica<A>) -> Result<Vec<u8>, Stop>
+    ensures { Saves replica.now result }
+{
+    let mut output = Counted::new(Vec::new(alloc));
+    save(alloc, replica, &mut output)?;
+    Ok(output.into_inner())
+}
