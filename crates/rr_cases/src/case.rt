@@ -3,6 +3,8 @@
 use crate::files::EXPECTED;
 use crate::kind::Kind;
 use anyhow::{Context, Result};
+use rr_archive::PlainArchive;
+use rr_ring::RingArchive;
 use std::rt::Files;
 use std::{fs, io};
 
@@ -19,16 +21,17 @@ fn difference<'a>(expected: &'a [u8], got: &'a [u8]) -> Option<(usize, &'a [u8],
     None
 }
 
-/// Prints where what a file gives first differs from what is expected of it.
+/// Prints where what a file gives over a kind of archive first differs from what is expected of it.
 fn report(
     rt: &(impl AllocGlobal + Print),
     file: &str,
+    archive: &str,
     expected: &[u8],
     got: &[u8],
 ) -> io::Result<()> {
     let Some((number, wanted, found)) = difference(expected, got) else {
         return println!(rt;
-            "{file}: expected {} bytes, got {}",
+            "{file} over {archive}: expected {} bytes, got {}",
             expected.len(),
             got.len()
         );
@@ -36,10 +39,11 @@ fn report(
     let wanted = String::from_utf8_lossy(rt.alloc(), wanted)?;
     let found = String::from_utf8_lossy(rt.alloc(), found)?;
     let (wanted, found) = (wanted.as_str(), found.as_str());
-    println!(rt; "{file}: expected in line {number} '{wanted}', got '{found}'")
+    println!(rt; "{file} over {archive}: expected in line {number} '{wanted}', got '{found}'")
 }
 
-/// Whether the case of a file of input holds; where it doesn't, the first difference is printed.
+/// Whether the case of a file of input holds over both kinds of archive; where it doesn't, the first
+/// difference is printed.
 pub(crate) fn holds(rt: &(impl Files + AllocGlobal + Print), file: &str) -> Result<bool> {
     let alloc = rt.alloc();
     let (stem, ending) = file.rsplit_once('.').context("a file without an ending")?;
@@ -47,10 +51,13 @@ pub(crate) fn holds(rt: &(impl Files + AllocGlobal + Print), file: &str) -> Resu
     let input = fs::read(rt, file).context(file)?;
     let expected_file = format!(in alloc; "{stem}{EXPECTED}")?;
     let expected = fs::read(rt, expected_file.as_str()).context("no expected output")?;
-    let got = kind.output(alloc, &input)?;
-    if got.as_slice() == expected.as_slice() {
-        return Ok(true);
+    let rings = kind.output::<RingArchive>(alloc, &input)?;
+    let maps = kind.output::<PlainArchive>(alloc, &input)?;
+    for (archive, got) in [("rings", &rings), ("ordered maps", &maps)] {
+        if got.as_slice() != expected.as_slice() {
+            report(rt, file, archive, &expected, got)?;
+            return Ok(false);
+        }
     }
-    report(rt, file, &expected, &got)?;
-    Ok(false)
+    Ok(true)
 }

@@ -2,6 +2,7 @@
 
 use crate::{cells, documents, keys, lines, pages, replicas};
 use anyhow::Result;
+use rr_archive::Archive;
 use std::alloc::Global;
 
 /// What a file of input is.
@@ -38,15 +39,15 @@ impl Kind {
         }
     }
 
-    /// What the libraries answer to a file's bytes.
-    pub(crate) fn output(self, alloc: Global, input: &[u8]) -> Result<Vec<u8>> {
+    /// What the libraries answer to a file's bytes, with archives of a kind where it speaks of any.
+    pub(crate) fn output<A: Archive>(self, alloc: Global, input: &[u8]) -> Result<Vec<u8>> {
         match self {
-            Kind::Script => Ok(rr_cluster::run(alloc, input)?),
+            Kind::Script => Ok(rr_cluster::run_on::<A>(alloc, input)?),
             Kind::Lines => lines::answers(alloc, input),
             Kind::Documents => Ok(documents::answers(alloc, input)?),
             Kind::Keys => Ok(keys::answers(alloc, input)?),
             Kind::Cell => cells::answers(alloc, input),
-            Kind::Replica => replicas::answers(alloc, input),
+            Kind::Replica => replicas::answers::<A>(alloc, input),
             Kind::Page => pages::answers(alloc, input),
         }
     }

@@ -14,7 +14,7 @@ ghost use Rattle.rr_replica.specs.CellBounds.{IsCellOf};
 ghost use Rattle.rr_replica.specs.Listing.{owned_cell};
 
 use anyhow::{Context, Result, bail};
-use rr_archive::PlainArchive;
+use rr_archive::Archive;
 use rr_base::limits::MAX_NUMBER;
 use rr_base::{ArchiveSpec, Origin, Schema};
 use rr_contrib::Contribution;
@@ -43,7 +43,7 @@ const ARCHIVES: [ArchiveSpec; 2] = [
 ];
 
 /// What the calls answer.
-pub(crate) fn answers(alloc: Global, input: &[u8]) -> Result<Vec<u8>> {
+pub(crate) fn answers<A: Archive>(alloc: Global, input: &[u8]) -> Result<Vec<u8>> {
     let text = str::from_utf8(input)?;
     let mut lines = text.lines();
     let count = lines.next().context("an empty file")?.parse::<usize>()?;
@@ -51,7 +51,7 @@ pub(crate) fn answers(alloc: Global, input: &[u8]) -> Result<Vec<u8>> {
         .get(..count)
         .context("a replica has one archive or two")?;
     let schema = Schema::new(alloc, 60, archives)?;
-    let mut replica = Replica::new(alloc, &schema, Origin::new(1)?)?;
+    let mut replica: Replica<A> = Replica::new(alloc, &schema, Origin::new(1)?)?;
     let mut output = String::new(alloc);
     for line in lines {
         push_answer(alloc, &mut replica, line, &mut output)?;
@@ -60,9 +60,9 @@ pub(crate) fn answers(alloc: Global, input: &[u8]) -> Result<Vec<u8>> {
 }
 
 /// Makes the call of a line, and adds its answer.
-fn push_answer(
+fn push_answer<A: Archive>(
     alloc: Global,
-    replica: &mut Replica<PlainArchive>,
+    replica: &mut Replica<A>,
     line: &str,
     output: &mut String,
 ) -> Result<()> {
@@ -82,9 +82,9 @@ fn first_word(words: &str) -> (&str, &str) {
     words.split_once(' ').unwrap_or((words, ""))
 }
 
-fn put(
+fn put<A: Archive>(
     alloc: Global,
-    replica: &mut Replica<PlainArchive>,
+    replica: &mut Replica<A>,
     words: &str,
     output: &mut String,
 ) -> Result<()> {
@@ -96,9 +96,9 @@ fn put(
     }
 }
 
-fn write_line(
+fn write_line<A: Archive>(
     alloc: Global,
-    replica: &mut Replica<PlainArchive>,
+    replica: &mut Replica<A>,
     words: &str,
     output: &mut String,
 ) -> Result<()> {
@@ -116,9 +116,9 @@ fn write_line(
 }
 
 /// Writes the point of a line.
-fn write_point(
+fn write_point<A: Archive>(
     alloc: Global,
-    replica: &mut Replica<PlainArchive>,
+    replica: &mut Replica<A>,
     line: &[u8],
     now: i64,
     lead: Option<u64>,
@@ -132,9 +132,9 @@ fn write_point(
     }
 }
 
-fn join(
+fn join<A: Archive>(
     alloc: Global,
-    replica: &mut Replica<PlainArchive>,
+    replica: &mut Replica<A>,
     words: &str,
     output: &mut String,
 ) -> Result<()> {
@@ -172,7 +172,7 @@ fn cell_of(
     Ok(cell)
 }
 
-fn push_cells(replica: &Replica<PlainArchive>, output: &mut String) -> Result<(), AllocError> {
+fn push_cells<A: Archive>(replica: &Replica<A>, output: &mut String) -> Result<(), AllocError> {
     for i in 0..replica.cell_count() {
         let Some(cell) = replica.cell_at(i) else {
             return Ok(());

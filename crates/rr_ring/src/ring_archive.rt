@@ -102,10 +102,11 @@ impl Archive for RingArchive {
     }
 
     fn ready(&mut self, slot: i64, origin: Origin) -> Result<(), AllocError> {
-        if !is_live(self.ring.rows, self.newest, slot) {
-            return Ok(());
+        if is_live(self.ring.rows, self.newest, slot) {
+            self.ring.make_room(slot, origin)
+        } else {
+            Ok(())
         }
-        self.ring.make_room(slot, origin)
     }
 
     fn put(
