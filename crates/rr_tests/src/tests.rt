@@ -14,6 +14,7 @@ mod process;
 mod records;
 mod replicas;
 mod reports;
+mod rings;
 mod schemas;
 mod scripts;
 mod snapshots;

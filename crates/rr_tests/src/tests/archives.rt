@@ -15,7 +15,7 @@ fn push_cell(text: &mut String, slot: i64, entry: Entry) -> Result<(), AllocErro
 }
 
 /// All cells of an archive by their numbers, and its newest slot.
-fn cells_of<A: Archive>(alloc: Global, archive: &A) -> Result<String, AllocError> {
+pub(crate) fn cells_of<A: Archive>(alloc: Global, archive: &A) -> Result<String, AllocError> {
     let mut text = String::new(alloc);
     for i in 0..archive.cell_count() {
         if let Some((slot, entry)) = archive.cell_at(i) {
@@ -40,7 +40,7 @@ fn push_next<A: Archive>(
 }
 
 /// An archive with -3 at time 0 and -4 at time 1 of one origin in slot 0.
-fn two_samples<A: Archive>(alloc: Global, origin: Origin) -> Result<A, AllocError> {
+pub(crate) fn two_samples<A: Archive>(alloc: Global, origin: Origin) -> Result<A, AllocError> {
     let mut archive = A::new(alloc, 3);
     archive.ready(0, origin)?;
     archive.put(0, origin, 1, 0, 0, -3)?;
@@ -160,9 +160,9 @@ fn samples_past_the_horizon_leave_no_trace(rt: HostRuntime) -> Result<(), Fail> 
 }
 
 /// The cells of an archive of three rows with a cell joined in each of these slots.
-fn after_slots(alloc: Global, slots: &[i64]) -> Result<String, Fail> {
+pub(crate) fn after_slots<A: Archive>(alloc: Global, slots: &[i64]) -> Result<String, Fail> {
     let origin = Origin::new(1)?;
-    let mut archive: PlainArchive = Archive::new(alloc, 3);
+    let mut archive = A::new(alloc, 3);
     for slot in slots {
         if (-9_223_372_037..=9_223_372_037).contains(slot) {
             archive.join_cell(*slot, origin, &Contribution::first(1, 0, 0, *slot))?;
@@ -173,12 +173,12 @@ fn after_slots(alloc: Global, slots: &[i64]) -> Result<String, Fail> {
 
 #[test]
 fn rows_leave_as_the_newest_moves_on(rt: HostRuntime) -> Result<(), Fail> {
-    let three = after_slots(rt.alloc(), &[0, 2, 1, -1, -9_223_372_037])?;
+    let three = after_slots::<PlainArchive>(rt.alloc(), &[0, 2, 1, -1, -9_223_372_037])?;
     assert_eq!(rt;
         three.as_str(),
         "0 1 1 1 0\n1 1 1 1 1\n2 1 1 1 2\nnewest Some(2)"
     );
-    let one = after_slots(rt.alloc(), &[0, 2, 1, 3, 9_223_372_037, 3])?;
+    let one = after_slots::<PlainArchive>(rt.alloc(), &[0, 2, 1, 3, 9_223_372_037, 3])?;
     assert_eq!(rt;
         one.as_str(),
         "9223372037 1 1 1 9223372037\nnewest Some(9223372037)"
