@@ -1,8 +1,10 @@
 -- What a snapshot is loaded as, by what was read of it, part by part.
-use Rattle.std.proofs.Common.{◌≡◌, ◌⊎◌, ℕ, Bool, true, false, List, ◌++◌, length, take, Option, None, Some, IfSome, Result, Ok, Err, refl, sym, ap, subst, ◌∙◌, arith, inl, inr}
+use Rattle.std.proofs.Common.{◌≡◌, ◌⊎◌, ℕ, Bool, true, false, List, ◌++◌, length, take, Option, None, Some, IfSome, Result, Ok, Err, refl, sym, ap, subst, ◌∙◌, arith, inl, inr, []}
 use Rattle.std.specs.Io.KnownBytes.{Consumes}
 use Rattle.std.proofs.lemmas.List.{length-append, take_at}
+use Rattle.sha2.specs.Hashers.{Holds256}
 use Rattle.sha2.specs.Sha256.{sha256}
+use Rattle.sha2.specs.declared.Sha256.{Sha256}
 use Rattle.rr_base.specs.Results.{◌>>=◌, unless}
 use Rattle.rr_base.specs.Schema.{Layout}
 use Rattle.rr_base.specs.SchemaBytes.{schema_bytes}
@@ -14,7 +16,8 @@ use Rattle.rr_snapshot.specs.declared.fault.LoadFault.{LoadFault}
 use Rattle.rr_snapshot.specs.declared.fault.LoadFault.TheVariants.{ReadFailed, OriginUsed, Memory}
 use Rattle.rr_snapshot.specs.Loading.{is_used, replica_of, loaded_at, GivesIfRead}
 use Rattle.rr_snapshot.specs.SnapshotReading.{as_in_page, head_at, digest_at, end_at, bytes_before, snapshot_at}
-use Rattle.rr_snapshot.proofs.ChainLemmas.{Gave}
+use Rattle.rr_snapshot.specs.Stream.{Digests}
+use Rattle.rr_snapshot.proofs.ChainLemmas.{Gave, Digests-then}
 
 -- the bytes before those that are left, of bytes in two parts
 pub front_is : (front rest all : List ℕ) → all ≡ front ++ rest → bytes_before rest all ≡ front
@@ -61,23 +64,11 @@ module _ (s : Layout) (o : ℕ) (all : List ℕ) where
         with_digest : loaded_at s o all ≡ ((end_at none >>= λ end. Ok (saver, es)) >>= judged s o)
         with_digest = with_cells ∙ ap (λ (r : Result (Unit {0} × List ℕ) LoadFault). (r >>= λ x. end_at x.1 >>= λ end. Ok (saver, es)) >>= judged s o) same
 
-        end_refused : (fault : LoadFault) → end_at none ≡ Err fault → loaded_at s o all ≡ Err fault
-        end_refused fault is = with_digest ∙ ap (λ (r : Result (Unit {0} × List ℕ) LoadFault). (r >>= λ end. Ok (saver, es)) >>= judged s o) is
-
-        with_end : (last : List ℕ) → end_at none ≡ Ok (tt, last) → loaded_at s o all ≡ judged s o (saver, es)
-        with_end last is = with_digest ∙ ap (λ (r : Result (Unit {0} × List ℕ) LoadFault). (r >>= λ end. Ok (saver, es)) >>= judged s o) is
-
 -- ---- where they may be
 
 -- a fact of the bytes that are left, where they are these
 of_rest : (P : List ℕ → Type 0) (o : Option (List ℕ)) (rest : List ℕ) → o ≡ Some rest → IfSome o P → P rest
 of_rest P o rest is h = subst (λ (x : Option (List ℕ)). IfSome x P) is h
-
--- a fault is the answer, unless the reader failed or memory ran out
-pub fails : {A : Type 0} (fault : LoadFault) (old : Option (List ℕ)) (answer : List ℕ → Result A LoadFault) → (fault ≡ ReadFailed) ⊎ (fault ≡ Memory) ⊎ IfSome old (λ all. answer all ≡ Err fault)
-    → IfSome old (λ all. GivesIfRead (Err fault) (answer all))
-fails fault None answer e = tt
-fails fault (Some all) answer e = e
 
 abbrev pub HeadRead : Layout → Version → ℕ → ℕ → Option (List ℕ) → Option (List ℕ) → Type 0
 HeadRead s v saver count old now = Gave (v, (saver, count)) old now (head_at (schema_bytes s))
@@ -93,10 +84,31 @@ head_failed s o fault (Some all) (inr (inl e)) = inr (inl e)
 head_failed s o fault (Some all) (inr (inr e)) = inr (inr (head_refused s o all fault e))
 
 -- the digest of what was taken is that of the bytes before those that are left
-digest_of_taken : (all left : List ℕ) (old now : Option (List ℕ)) (taken digest : List ℕ) → old ≡ Some all → now ≡ Some left → Consumes old now taken → digest ≡ sha256 taken → digest ≡ sha256 (bytes_before left all)
-digest_of_taken all left old now taken digest eo en took made =
-    let parts : all ≡ taken ++ left = subst (λ (n : Option (List ℕ)). Consumes (Some all) n taken) en (subst (λ (x : Option (List ℕ)). Consumes x now taken) eo took) in
+digest_of_taken : (all left : List ℕ) (now : Option (List ℕ)) (taken digest : List ℕ) → now ≡ Some left → Consumes (Some all) now taken → digest ≡ sha256 taken → digest ≡ sha256 (bytes_before left all)
+digest_of_taken all left now taken digest en took made =
+    let parts : all ≡ taken ++ left = subst (λ (n : Option (List ℕ)). Consumes (Some all) n taken) en took in
     made ∙ ap sha256 (sym (front_is taken left all parts))
+
+-- the head and the cells were read, and the bytes of both have this digest
+pub record IsBodyRead (s : Layout) (v : Version) (saver count : ℕ) (es : List NamedCell) (digest : List ℕ) (old now mid : Option (List ℕ)) : Type 0 where
+  pub head : HeadRead s v saver count old now
+  pub cells : CellsRead s v count es now mid
+  pub taken : List ℕ
+  pub took : Consumes old mid taken
+  pub made : digest ≡ sha256 taken
+
+-- the cells were read under a schema that is the reader's, and all of it was digested as it came
+pub body_read : (s t : Layout) (v : Version) (saver count : ℕ) (es : List NamedCell) (digest : List ℕ) (old now mid : Option (List ℕ)) (none head all : Sha256) → HeadRead s v saver count old now → t ≡ s → CellsRead t v count es now mid
+    → Holds256 none [] → Digests old now none head → Digests now mid head all → ((m : List ℕ) → Holds256 all m → digest ≡ sha256 m) → IsBodyRead s v saver count es digest old now mid
+body_read s t v saver count es digest old now mid none head all first is cells empty one two made =
+    let taken = Digests-then old now mid none head all one two in
+    record {
+      head = first;
+      cells = subst (λ (u : Layout). CellsRead u v count es now mid) is cells;
+      taken = taken.0;
+      took = taken.1;
+      made = made taken.0 (taken.2 [] empty);
+    }
 
 module _ (s : Layout) (o : ℕ) (v : Version) (saver count : ℕ) where
   pub cells_failed : (fault : LoadFault) (old now : Option (List ℕ)) → HeadRead s v saver count old now → (fault ≡ ReadFailed) ⊎ (fault ≡ Memory) ⊎ IfSome now (λ all. as_in_page (cells_at v s None count all) ≡ Err fault)
@@ -107,40 +119,52 @@ module _ (s : Layout) (o : ℕ) (v : Version) (saver count : ℕ) where
   cells_failed fault (Some all) now head (inr (inr e)) =
       inr (inr (cells_refused s o all v saver count head.0 head.2 fault (of_rest (λ rest. as_in_page (cells_at v s None count rest) ≡ Err fault) now head.0 head.1 e)))
 
-  module _ (es : List NamedCell) (digest taken : List ℕ) (made : digest ≡ sha256 taken) where
-    pub digest_failed : (fault : LoadFault) (old now mid : Option (List ℕ)) → HeadRead s v saver count old now → CellsRead s v count es now mid → Consumes old mid taken
-        → (fault ≡ ReadFailed) ⊎ (fault ≡ Memory) ⊎ IfSome mid (λ all. digest_at digest all ≡ Err fault)
-        → IfSome old (λ all. GivesIfRead {A = Holding} (Err fault) (loaded_at s o all))
-    digest_failed fault None now mid head cells took e = tt
-    digest_failed fault (Some all) now mid head cells took (inl e) = inl e
-    digest_failed fault (Some all) now mid head cells took (inr (inl e)) = inr (inl e)
-    digest_failed fault (Some all) now mid head cells took (inr (inr e)) =
-        let read = of_rest (λ rest. (left : List ℕ) × (mid ≡ Some left) × (as_in_page (cells_at v s None count rest) ≡ Ok (es, left))) now head.0 head.1 cells in
-        let is = digest_of_taken all read.0 (Some all) mid taken digest refl read.1 took made in
-        inr (inr (digest_refused s o all v saver count head.0 head.2 es read.0 read.2 digest is fault (of_rest (λ rest. digest_at digest rest ≡ Err fault) mid read.0 read.1 e)))
+  module _ (es : List NamedCell) (digest : List ℕ) where
+    -- the cells, and the digest that must follow them, where all bytes are known
+    after_body : (all : List ℕ) (now mid : Option (List ℕ)) → IsBodyRead s v saver count es digest (Some all) now mid
+        → (left : List ℕ) × (mid ≡ Some left) × ((fault : LoadFault) → digest_at digest left ≡ Err fault → loaded_at s o all ≡ Err fault)
+        × ((none : List ℕ) → digest_at digest left ≡ Ok (tt, none) → loaded_at s o all ≡ ((end_at none >>= λ end. Ok (saver, es)) >>= judged s o))
+    after_body all now mid body =
+        let read = of_rest (λ rest. (left : List ℕ) × (mid ≡ Some left) × (as_in_page (cells_at v s None count rest) ≡ Ok (es, left))) now body.head.0 body.head.1 body.cells in
+        let is = digest_of_taken all read.0 mid body.taken digest read.1 body.took body.made in
+        (read.0, read.1, digest_refused s o all v saver count body.head.0 body.head.2 es read.0 read.2 digest is, with_digest s o all v saver count body.head.0 body.head.2 es read.0 read.2 digest is)
 
-    pub end_failed : (fault : LoadFault) (old now mid new : Option (List ℕ)) → HeadRead s v saver count old now → CellsRead s v count es now mid → Consumes old mid taken → Gave {A = Unit {0}} tt mid new (digest_at digest)
+    pub digest_failed : (fault : LoadFault) (old now mid : Option (List ℕ)) → IsBodyRead s v saver count es digest old now mid → (fault ≡ ReadFailed) ⊎ (fault ≡ Memory) ⊎ IfSome mid (λ all. digest_at digest all ≡ Err fault)
+        → IfSome old (λ all. GivesIfRead {A = Holding} (Err fault) (loaded_at s o all))
+    digest_failed fault None now mid body e = tt
+    digest_failed fault (Some all) now mid body (inl e) = inl e
+    digest_failed fault (Some all) now mid body (inr (inl e)) = inr (inl e)
+    digest_failed fault (Some all) now mid body (inr (inr e)) =
+        let after = after_body all now mid body in
+        inr (inr (after.2 fault (of_rest (λ rest. digest_at digest rest ≡ Err fault) mid after.0 after.1 e)))
+
+    -- what follows the digest decides
+    with_digest_read : (all : List ℕ) (now mid new : Option (List ℕ)) → IsBodyRead s v saver count es digest (Some all) now mid → Gave {A = Unit {0}} tt mid new (digest_at digest)
+        → (none : List ℕ) × (new ≡ Some none) × (loaded_at s o all ≡ ((end_at none >>= λ end. Ok (saver, es)) >>= judged s o))
+    with_digest_read all now mid new body same =
+        let after = after_body all now mid body in
+        let last = of_rest (λ rest. (none : List ℕ) × (new ≡ Some none) × (digest_at digest rest ≡ Ok (tt, none))) mid after.0 after.1 same in
+        (last.0, last.1, after.3 last.0 last.2)
+
+    pub end_failed : (fault : LoadFault) (old now mid new : Option (List ℕ)) → IsBodyRead s v saver count es digest old now mid → Gave {A = Unit {0}} tt mid new (digest_at digest)
         → (fault ≡ ReadFailed) ⊎ (fault ≡ Memory) ⊎ IfSome new (λ all. end_at all ≡ Err fault)
         → IfSome old (λ all. GivesIfRead {A = Holding} (Err fault) (loaded_at s o all))
-    end_failed fault None now mid new head cells took same e = tt
-    end_failed fault (Some all) now mid new head cells took same (inl e) = inl e
-    end_failed fault (Some all) now mid new head cells took same (inr (inl e)) = inr (inl e)
-    end_failed fault (Some all) now mid new head cells took same (inr (inr e)) =
-        let read = of_rest (λ rest. (left : List ℕ) × (mid ≡ Some left) × (as_in_page (cells_at v s None count rest) ≡ Ok (es, left))) now head.0 head.1 cells in
-        let is = digest_of_taken all read.0 (Some all) mid taken digest refl read.1 took made in
-        let last = of_rest (λ rest. (none : List ℕ) × (new ≡ Some none) × (digest_at digest rest ≡ Ok (tt, none))) mid read.0 read.1 same in
-        inr (inr (end_refused s o all v saver count head.0 head.2 es read.0 read.2 digest is last.0 last.2 fault (of_rest (λ rest. end_at rest ≡ Err fault) new last.0 last.1 e)))
+    end_failed fault None now mid new body same e = tt
+    end_failed fault (Some all) now mid new body same (inl e) = inl e
+    end_failed fault (Some all) now mid new body same (inr (inl e)) = inr (inl e)
+    end_failed fault (Some all) now mid new body same (inr (inr e)) =
+        let last = with_digest_read all now mid new body same in
+        let is = of_rest (λ rest. end_at rest ≡ Err fault) new last.0 last.1 e in
+        inr (inr (last.2 ∙ ap (λ (r : Result (Unit {0} × List ℕ) LoadFault). (r >>= λ end. Ok (saver, es)) >>= judged s o) is))
 
     -- all of it was read
-    pub all_read : (old now mid new end : Option (List ℕ)) → HeadRead s v saver count old now → CellsRead s v count es now mid → Consumes old mid taken → Gave {A = Unit {0}} tt mid new (digest_at digest) → Gave {A = Unit {0}} tt new end end_at
+    pub all_read : (old now mid new end : Option (List ℕ)) → IsBodyRead s v saver count es digest old now mid → Gave {A = Unit {0}} tt mid new (digest_at digest) → Gave {A = Unit {0}} tt new end end_at
         → IfSome old (λ all. loaded_at s o all ≡ judged s o (saver, es))
-    all_read None now mid new end head cells took same none = tt
-    all_read (Some all) now mid new end head cells took same none =
-        let read = of_rest (λ rest. (left : List ℕ) × (mid ≡ Some left) × (as_in_page (cells_at v s None count rest) ≡ Ok (es, left))) now head.0 head.1 cells in
-        let is = digest_of_taken all read.0 (Some all) mid taken digest refl read.1 took made in
-        let last = of_rest (λ rest. (none : List ℕ) × (new ≡ Some none) × (digest_at digest rest ≡ Ok (tt, none))) mid read.0 read.1 same in
+    all_read None now mid new end body same none = tt
+    all_read (Some all) now mid new end body same none =
+        let last = with_digest_read all now mid new body same in
         let over = of_rest (λ rest. (left : List ℕ) × (end ≡ Some left) × (end_at rest ≡ Ok (tt, left))) new last.0 last.1 none in
-        with_end s o all v saver count head.0 head.2 es read.0 read.2 digest is last.0 last.2 over.0 over.2
+        last.2 ∙ ap (λ (r : Result (Unit {0} × List ℕ) LoadFault). (r >>= λ end. Ok (saver, es)) >>= judged s o) over.2
 
 pub used_origin : (s : Layout) (o saver : ℕ) (es : List NamedCell) (old : Option (List ℕ)) → is_used o (saver, es) ≡ true → IfSome old (λ all. loaded_at s o all ≡ judged s o (saver, es))
     → IfSome old (λ all. GivesIfRead {A = Holding} (Err OriginUsed) (loaded_at s o all))

@@ -1,8 +1,7 @@
-use Rattle.std.proofs.Common.{ℕ, ◌≡◌, ◌⊎◌, ◌∙◌, ◌||◌, Bool, true, false, [], Err, None, IfSome, ap, sym, subst, inl, inr}
+use Rattle.std.proofs.Common.{ℕ, ◌≡◌, ◌⊎◌, ◌∙◌, ◌||◌, Bool, true, false, Err, None, IfSome, ap, sym, subst, inl, inr}
 use Rattle.std.specs.Prelude.{◌==◌}
 use Rattle.std.proofs.lemmas.Bool.{or_left, or_right, or_from}
 use Rattle.std.proofs.lemmas.Result.{err_from_is_err_and}
-use Rattle.sha2.specs.Sha256.{sha256}
 use Rattle.rr_base.specs.Counted.{inner_of}
 use Rattle.rr_base.specs.Schema.{Layout}
 use Rattle.rr_page.specs.PageReading.{cells_at}
@@ -11,8 +10,7 @@ use Rattle.rr_snapshot.specs.Loading.{is_among}
 use Rattle.rr_snapshot.specs.SnapshotReading.{as_in_page}
 use Rattle.rr_snapshot.specs.declared.fault.LoadFault.TheVariants.{ReadFailed, Memory}
 use Rattle.rr_snapshot.proofs.CellsLemmas.{joined_replica}
-use Rattle.rr_snapshot.proofs.ChainLemmas.{Digests-then}
-use Rattle.rr_snapshot.proofs.LoadLemmas.{CellsRead, head_failed, cells_failed, digest_failed, end_failed, all_read, used_origin, new_origin}
+use Rattle.rr_snapshot.proofs.LoadLemmas.{body_read, head_failed, cells_failed, digest_failed, end_failed, all_read, used_origin, new_origin}
 use Rattle.rr_snapshot.proofs.loading.load.Goals as goal
 
 pub returns-in_err-version-clause-read : goal.returns-in_err-version-clause-read
@@ -39,12 +37,9 @@ returns-in_err-digest_from-clause-read g c =
     let mid = g.R.Read.remaining (inner_of c.join_cells_from.new.input) in
     let h = c.in_ok-version in
     let joined = c.in_ok-has_own.ensures.read in
-    let schema : c.in_ok-replica.replica.schema ≡ c.args.schema.now = ap (λ (r : Holding). r.schema) c.in_ok-replica.ensures in
-    let cells = subst (λ (s : Layout). CellsRead s h.version h.count joined.0 now mid) schema joined.2 in
-    let taken = Digests-then old now mid c.new-hasher.result c.head_from.new.hasher c.join_cells_from.new.hasher h.ensures.digest c.in_ok-has_own.ensures.digest in
-    let made : c.finalize.result ≡ sha256 taken.0 = c.finalize.ensures taken.0 (taken.2 [] c.new-hasher.ensures) in
+    let body = body_read c.args.schema.now c.in_ok-replica.replica.schema h.version h.saver h.count joined.0 c.finalize.result old now mid c.new-hasher.result c.head_from.new.hasher c.join_cells_from.new.hasher h.ensures.read (ap (λ (r : Holding). r.schema) c.in_ok-replica.ensures) joined.2 c.new-hasher.ensures h.ensures.digest c.in_ok-has_own.ensures.digest c.finalize.ensures in
     let p = err_from_is_err_and c.from_residual-in_err-digest_from.result c.from_residual-in_err-digest_from.ensures.1 in
-    rw (p.1, p.2) (digest_failed c.args.schema.now c.args.new_origin h.version h.saver h.count joined.0 c.finalize.result taken.0 made c.in_err-digest_from.field-0.0 old now mid h.ensures.read cells taken.1 c.in_err-digest_from.ensures.read)
+    rw (p.1, p.2) (digest_failed c.args.schema.now c.args.new_origin h.version h.saver h.count joined.0 c.finalize.result c.in_err-digest_from.field-0.0 old now mid body c.in_err-digest_from.ensures.read)
 
 pub returns-in_err-end_from-clause-read : goal.returns-in_err-end_from-clause-read
 returns-in_err-end_from-clause-read g c =
@@ -54,12 +49,9 @@ returns-in_err-end_from-clause-read g c =
     let new = g.R.Read.remaining (inner_of c.digest_from.new.input) in
     let h = c.in_ok-version in
     let joined = c.in_ok-has_own.ensures.read in
-    let schema : c.in_ok-replica.replica.schema ≡ c.args.schema.now = ap (λ (r : Holding). r.schema) c.in_ok-replica.ensures in
-    let cells = subst (λ (s : Layout). CellsRead s h.version h.count joined.0 now mid) schema joined.2 in
-    let taken = Digests-then old now mid c.new-hasher.result c.head_from.new.hasher c.join_cells_from.new.hasher h.ensures.digest c.in_ok-has_own.ensures.digest in
-    let made : c.finalize.result ≡ sha256 taken.0 = c.finalize.ensures taken.0 (taken.2 [] c.new-hasher.ensures) in
+    let body = body_read c.args.schema.now c.in_ok-replica.replica.schema h.version h.saver h.count joined.0 c.finalize.result old now mid c.new-hasher.result c.head_from.new.hasher c.join_cells_from.new.hasher h.ensures.read (ap (λ (r : Holding). r.schema) c.in_ok-replica.ensures) joined.2 c.new-hasher.ensures h.ensures.digest c.in_ok-has_own.ensures.digest c.finalize.ensures in
     let p = err_from_is_err_and c.from_residual-in_err-end_from.result c.from_residual-in_err-end_from.ensures.1 in
-    rw (p.1, p.2) (end_failed c.args.schema.now c.args.new_origin h.version h.saver h.count joined.0 c.finalize.result taken.0 made c.in_err-end_from.field-0.0 old now mid new h.ensures.read cells taken.1 c.in_ok-digest_from.ensures.read c.in_err-end_from.ensures.read)
+    rw (p.1, p.2) (end_failed c.args.schema.now c.args.new_origin h.version h.saver h.count joined.0 c.finalize.result c.in_err-end_from.field-0.0 old now mid new body c.in_ok-digest_from.ensures.read c.in_err-end_from.ensures.read)
 
 either_used : (a b : Bool) → (a ≡ true) ⊎ ((a ≡ false) × (b ≡ true)) → a || b ≡ true
 either_used a b (inl e) = or_left a b e
@@ -75,12 +67,9 @@ returns-then-eq-clause-read g c =
     let end = g.R.Read.remaining (inner_of c.end_from.new.input) in
     let h = c.in_ok-version in
     let joined = c.in_ok-has_own.ensures.read in
-    let schema : c.in_ok-replica.replica.schema ≡ c.args.schema.now = ap (λ (r : Holding). r.schema) c.in_ok-replica.ensures in
     let origin : c.in_ok-replica.replica.origin ≡ o = ap (λ (r : Holding). r.origin) c.in_ok-replica.ensures in
-    let cells = subst (λ (s : Layout). CellsRead s h.version h.count joined.0 now mid) schema joined.2 in
-    let taken = Digests-then old now mid c.new-hasher.result c.head_from.new.hasher c.join_cells_from.new.hasher h.ensures.digest c.in_ok-has_own.ensures.digest in
-    let made : c.finalize.result ≡ sha256 taken.0 = c.finalize.ensures taken.0 (taken.2 [] c.new-hasher.ensures) in
-    let read = all_read c.args.schema.now o h.version h.saver h.count joined.0 c.finalize.result taken.0 made old now mid new end h.ensures.read cells taken.1 c.in_ok-digest_from.ensures.read c.in_ok-end_from.ensures.read in
+    let body = body_read c.args.schema.now c.in_ok-replica.replica.schema h.version h.saver h.count joined.0 c.finalize.result old now mid c.new-hasher.result c.head_from.new.hasher c.join_cells_from.new.hasher h.ensures.read (ap (λ (r : Holding). r.schema) c.in_ok-replica.ensures) joined.2 c.new-hasher.ensures h.ensures.digest c.in_ok-has_own.ensures.digest c.finalize.ensures in
+    let read = all_read c.args.schema.now o h.version h.saver h.count joined.0 c.finalize.result old now mid new end body c.in_ok-digest_from.ensures.read c.in_ok-end_from.ensures.read in
     let own : c.in_ok-has_own.has_own ≡ is_among o joined.0 = joined.1.any ∙ ap (λ (n : ℕ). is_among n joined.0) origin in
     let used : (h.saver == o) || is_among o joined.0 ≡ true = (λ i. sym c.eq.ensures i || sym own i) ∙ either_used c.eq.result c.in_ok-has_own.has_own c.then-eq.either in
     used_origin c.args.schema.now o h.saver joined.0 old used read
@@ -95,12 +84,9 @@ returns-clause-read g c =
     let end = g.R.Read.remaining (inner_of c.end_from.new.input) in
     let h = c.in_ok-version in
     let joined = c.in_ok-has_own.ensures.read in
-    let schema : c.in_ok-replica.replica.schema ≡ c.args.schema.now = ap (λ (r : Holding). r.schema) c.in_ok-replica.ensures in
     let origin : c.in_ok-replica.replica.origin ≡ o = ap (λ (r : Holding). r.origin) c.in_ok-replica.ensures in
-    let cells = subst (λ (s : Layout). CellsRead s h.version h.count joined.0 now mid) schema joined.2 in
-    let taken = Digests-then old now mid c.new-hasher.result c.head_from.new.hasher c.join_cells_from.new.hasher h.ensures.digest c.in_ok-has_own.ensures.digest in
-    let made : c.finalize.result ≡ sha256 taken.0 = c.finalize.ensures taken.0 (taken.2 [] c.new-hasher.ensures) in
-    let read = all_read c.args.schema.now o h.version h.saver h.count joined.0 c.finalize.result taken.0 made old now mid new end h.ensures.read cells taken.1 c.in_ok-digest_from.ensures.read c.in_ok-end_from.ensures.read in
+    let body = body_read c.args.schema.now c.in_ok-replica.replica.schema h.version h.saver h.count joined.0 c.finalize.result old now mid c.new-hasher.result c.head_from.new.hasher c.join_cells_from.new.hasher h.ensures.read (ap (λ (r : Holding). r.schema) c.in_ok-replica.ensures) joined.2 c.new-hasher.ensures h.ensures.digest c.in_ok-has_own.ensures.digest c.finalize.ensures in
+    let read = all_read c.args.schema.now o h.version h.saver h.count joined.0 c.finalize.result old now mid new end body c.in_ok-digest_from.ensures.read c.in_ok-end_from.ensures.read in
     let own : c.in_ok-has_own.has_own ≡ is_among o joined.0 = joined.1.any ∙ ap (λ (n : ℕ). is_among n joined.0) origin in
     let free : (h.saver == o) || is_among o joined.0 ≡ false = (λ i. sym c.eq.ensures i || sym own i) ∙ or_from c.eq.result c.in_ok-has_own.has_own c.if-eq.false c.if-has_own.false in
     let is = joined_replica c.args.schema.now o c.in_ok-replica.replica c.join_cells_from.new.replica c.in_ok-has_own.has_own joined.0 c.in_ok-replica.ensures joined.1 c.if-has_own.false in
