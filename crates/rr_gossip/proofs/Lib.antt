@@ -1,0 +1,4 @@
+pub mod EntryLemmas
+pub mod LoopLemmas
+pub mod SummaryLemmas
+pub mod FrameLemmas

@@ -1,0 +1,5 @@
+pub mod Fault
+pub mod Frame
+pub mod Summary
+pub mod SummaryReading
+pub mod Laws
