@@ -2,3 +2,5 @@ pub mod EntryLemmas
 pub mod LoopLemmas
 pub mod SummaryLemmas
 pub mod FrameLemmas
+pub mod LengthLemmas
+pub mod PagesLemmas

@@ -1,5 +1,5 @@
 -- The body of a Summary frame is read exactly where its text is.
-use Rattle.std.proofs.Common.{◌≡◌, ℕ, zero, suc, ◌≤◌, Bool, true, false, not, ◌||◌, ◌&&◌, List, [], ◌∷◌, ◌++◌, length, map, Option, Some, Ok, refl, sym, ap, subst, ◌∙◌, append_assoc, arith}
+use Rattle.std.proofs.Common.{◌≡◌, ℕ, zero, suc, ◌≤◌, Bool, true, false, not, ◌||◌, ◌&&◌, List, [], ◌∷◌, ◌++◌, length, map, T, true≢false, Option, Some, Result, Ok, Err, refl, sym, ap, subst, ◌∙◌, append_assoc, arith}
 use Rattle.std.specs.Prelude.{nat_lt, ◌==◌}
 use Rattle.std.specs.Int.{w16, to_be_bytes}
 use Rattle.std.specs.List.{flat_map, AllByRecursion, last_or}
@@ -7,16 +7,24 @@ use Rattle.std.proofs.lemmas.Bool.{eqb-true, ltb-false, le-ltb, ne_eqb}
 use Rattle.std.proofs.lemmas.List.{append-nil, nil_from_length}
 use Rattle.std.proofs.lemmas.List.Concat.{flat_map-cons}
 use Rattle.std.proofs.lemmas.List.Elements.{All-from_recursion, recursion_from_All}
-use Rattle.rr_base.specs.Results.{◌>>=◌, unless}
+use Rattle.rr_base.specs.Results.{◌>>=◌, unless, GivesUnless}
 use Rattle.rr_base.specs.Schema.{Layout, IsLayout}
-use Rattle.rr_join.proofs.Booleans.{and_first, and_second}
-use Rattle.rr_model.specs.CellNames.{CellName}
-use Rattle.rr_page.specs.declared.fault.PageFault.TheVariants.{OutOfOrder, TooManyCells, TrailingBytes}
+use Rattle.rr_join.proofs.Booleans.{and_first, and_second, first_T, second_T, T_and, T_from_true, true_from_T}
+use Rattle.rr_model.specs.CellNames.{CellName, cell_name_cmp}
+use Rattle.rr_page.specs.declared.fault.PageFault.{PageFault}
+use Rattle.rr_page.specs.declared.fault.PageFault.TheVariants.{OutOfOrder, TooManyCells, TrailingBytes, Memory}
 use Rattle.rr_page.specs.Laws.{AreBytes}
 use Rattle.rr_page.specs.PageReading.{is_after}
+use Rattle.rr_page.specs.Reading.{number_at}
 use Rattle.rr_page.proofs.CellLemmas.{either_false}
 use Rattle.rr_page.proofs.FieldLemmas.{not_false, and_then, unless_ok, ok_is, Takes, number_again, with_number, with_ok, step}
 use Rattle.rr_page.proofs.NumberLemmas.{wide16}
+use Rattle.std.specs.Ordering.{is_lt}
+use Rattle.std.specs.Result.{is_err}
+use Rattle.std.specs.FinMap.{is_sorted}
+use Rattle.std.specs.FinMap.Entries.{below_all}
+use Rattle.rr_delta.specs.Difference.{IsSummary}
+use Rattle.rr_delta.proofs.Walks.{lower}
 use Rattle.rr_delta.specs.Names.{NamedVersion, IsNameOf}
 use Rattle.rr_gossip.specs.declared.summary.TheConstants.{MAX_ENTRIES}
 use Rattle.rr_gossip.specs.Laws.{AddsPiece, SummariesAreTheirText}
@@ -118,3 +126,35 @@ summaries_are_their_text s bytes old new layout fits = (
   λ e. summary_takes s bytes old new fits e,
   λ p. ap (summary_at s old) p.text ∙ summary_again s old p.names layout p.piece ∙ ap (λ (l : List NamedVersion). Ok l) (sym p.added),
 )
+
+-- ---- names that were taken ascend
+
+sorted_push : (vs : List NamedVersion) (v : NamedVersion) → T (is_sorted cell_name_cmp vs) → is_after (last_name vs) v.0 ≡ true → T (is_sorted cell_name_cmp (vs ++ v ∷ []))
+sorted_push [] v h after = tt
+sorted_push (x ∷ []) v h after = T_and (is_lt (cell_name_cmp x.0 v.0) && true) true (T_and (is_lt (cell_name_cmp x.0 v.0)) true (T_from_true _ after) tt) tt
+sorted_push (x ∷ y ∷ vs) v h after =
+    let rest = sorted_push (y ∷ vs) v (second_T (below_all cell_name_cmp x.0 (y ∷ vs)) (is_sorted cell_name_cmp (y ∷ vs)) h) after in
+    let first = first_T (is_lt (cell_name_cmp x.0 y.0)) (below_all cell_name_cmp x.0 vs) (first_T (below_all cell_name_cmp x.0 (y ∷ vs)) (is_sorted cell_name_cmp (y ∷ vs)) h) in
+    let below = lower x.0 y.0 (vs ++ v ∷ []) (true_from_T _ first) (first_T (below_all cell_name_cmp y.0 (vs ++ v ∷ [])) (is_sorted cell_name_cmp (vs ++ v ∷ [])) rest) in
+    T_and (below_all cell_name_cmp x.0 (y ∷ vs ++ v ∷ [])) (is_sorted cell_name_cmp (y ∷ vs ++ v ∷ [])) (T_and (is_lt (cell_name_cmp x.0 y.0)) (below_all cell_name_cmp x.0 (vs ++ v ∷ [])) first below) rest
+
+entries_sorted_on : (s : Layout) (old : List NamedVersion) (n : ℕ) (bytes : List ℕ) (x : List NamedVersion × List ℕ) → entries_at s old n bytes ≡ Ok x → T (is_sorted cell_name_cmp old) → T (is_sorted cell_name_cmp x.0)
+unfolding entries_at
+entries_sorted_on s old zero bytes x e h = subst (λ (y : List NamedVersion × List ℕ). T (is_sorted cell_name_cmp y.0)) (ok_is (old, bytes) x e) h
+entries_sorted_on s old (suc n) bytes x e h =
+    with_ok (entry_at s bytes) _ x e (λ entry i0 e0.
+    let g = unless_ok OutOfOrder (not (is_after (last_name old) entry.0.0)) (entries_at s (old ++ entry.0 ∷ []) n entry.1) x e0 in
+    entries_sorted_on s (old ++ entry.0 ∷ []) n entry.1 x g.1 (sorted_push old entry.0 h (not_false (is_after (last_name old) entry.0.0) g.0)))
+
+summary_sorted : (s : Layout) (old new : List NamedVersion) (bytes : List ℕ) → summary_at s old bytes ≡ Ok new → T (is_sorted cell_name_cmp old) → T (is_sorted cell_name_cmp new)
+unfolding summary_at
+summary_sorted s old new bytes e h =
+    with_ok (number_at w16 bytes) _ new e (λ count i0 e0.
+    with_ok (unless TooManyCells ((count.0 == 0) || nat_lt MAX_ENTRIES count.0) (entries_at s old count.0 count.1)) _ new e0 (λ entries i1 e1.
+    let g = unless_ok TooManyCells ((count.0 == 0) || nat_lt MAX_ENTRIES count.0) (entries_at s old count.0 count.1) entries i1 in
+    let k = unless_ok TrailingBytes (not (length entries.1 == 0)) (Ok entries.0) new e1 in
+    subst (λ (vs : List NamedVersion). T (is_sorted cell_name_cmp vs)) (ok_is entries.0 new k.1) (entries_sorted_on s old count.0 count.1 entries g.1 h)))
+
+pub taken_ascend : (s : Layout) (old new : List NamedVersion) (bytes : List ℕ) (r : Result (Unit {0}) PageFault) → GivesUnless Memory (λ _. new) r (summary_at s old bytes) → is_err r ≡ false → IsSummary old → IsSummary new
+taken_ascend s old new bytes (Ok u) given ok h = true_from_T (is_sorted cell_name_cmp new) (summary_sorted s old new bytes given (T_from_true (is_sorted cell_name_cmp old) h))
+taken_ascend s old new bytes (Err fault) given ok h = absurd (true≢false ok)

@@ -12,6 +12,11 @@ pub const MAX_FRAME_LEN: usize = 300_000;
 
 const _: () = prove!(MAX_FRAME_LEN == 300_000);
 
+/// How many frames a session may have, each way.
+pub const MAX_FRAMES: u32 = 16_777_216;
+
+const _: () = prove!(MAX_FRAMES == 16_777_216);
+
 /// What a frame is.
 #[derive(Clone, Copy, Debug, PartialEq, Eq)]
 pub enum Kind {

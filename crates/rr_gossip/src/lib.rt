@@ -7,9 +7,13 @@
 
 mod fault;
 mod frame;
+mod giver;
 pub mod laws;
+mod names;
+mod pages;
 mod summary;
 
 pub use fault::GossipFault;
 pub use frame::{Kind, MAX_FRAME_LEN, content_of, frame_bytes};
+pub use giver::Giver;
 pub use summary::{MAX_ENTRIES, read_summary, summary_bytes};

@@ -56,7 +56,7 @@ key_takes bytes key rest fits e =
     subst (λ (p : List ℕ × List ℕ). Takes bytes (key_field p.0) p.1 × IsKeyText p.0) (ok_is b.0 (key, rest) h.1) (whole, told)
 
 -- a key text has a space
-some_text : (key : List ℕ) → IsKeyText key → (1 ≤ length key) × (length key ≤ MAX_KEY_TEXT)
+pub some_text : (key : List ℕ) → IsKeyText key → (1 ≤ length key) × (length key ≤ MAX_KEY_TEXT)
 some_text key k =
     let tags = flat_map tag_text (entries k.series.tags) in
     let name = escape Measurement k.series.measurement in
