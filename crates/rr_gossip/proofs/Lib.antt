@@ -4,3 +4,5 @@ pub mod SummaryLemmas
 pub mod FrameLemmas
 pub mod LengthLemmas
 pub mod PagesLemmas
+pub mod JoinLemmas
+pub mod ListedLemmas

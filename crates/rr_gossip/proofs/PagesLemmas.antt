@@ -1,5 +1,5 @@
 -- Pages that are cut from a list of cells.
-use Rattle.std.proofs.Common.{◌≡◌, ℕ, zero, suc, ◌+◌, ◌≤◌, List, [], ◌∷◌, map, take, drop, length, refl, sym, ap, ◌∙◌, subst, arith, Some, Bool, true, false, true≢false, All}
+use Rattle.std.proofs.Common.{◌≡◌, ℕ, zero, suc, ◌+◌, ◌≤◌, List, [], ◌∷◌, map, take, drop, length, refl, sym, ap, ◌∙◌, arith, Some, Bool, false, true≢false, All}
 use Rattle.std.specs.List.{take-map, drop-map}
 use Rattle.std.proofs.lemmas.List.{length-take}
 use Rattle.rr_replica.proofs.Each.{length-map}
@@ -17,7 +17,7 @@ use Rattle.rr_replica.specs.Listing.{owned_cell}
 use Rattle.std.specs.Prelude.{◌==◌, IsTrue}
 use Rattle.rr_delta.proofs.HeldLemmas.{all_mapped}
 use Rattle.rr_delta.proofs.Walks.{sorted_take, sorted_drop}
-use Rattle.rr_gossip.specs.Pages.{CellsLeft, AreLeft, next_cells, next_page, after_page}
+use Rattle.rr_gossip.specs.Pages.{AreLeft, next_cells, next_page, after_page}
 
 -- what is left makes a page of its first cells
 pub left_page : (s : Layout) (es : List NamedCell) → AreLeft (s, es) → IsPage s (next_cells es)

@@ -32,7 +32,7 @@ use Rattle.rr_gossip.specs.Summary.{entry_text, summary_text, is_rising, last_na
 use Rattle.rr_gossip.specs.SummaryReading.{entry_at, entries_at, summary_at}
 use Rattle.rr_gossip.proofs.EntryLemmas.{entry_takes, entry_again}
 
-last_push : {A : Type 0} (o : Option A) (xs : List A) (x : A) → last_or o (xs ++ x ∷ []) ≡ Some x
+pub last_push : {A : Type 0} (o : Option A) (xs : List A) (x : A) → last_or o (xs ++ x ∷ []) ≡ Some x
 last_push o [] x = refl
 last_push o (y ∷ xs) x = last_push (Some y) xs x
 

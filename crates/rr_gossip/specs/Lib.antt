@@ -5,4 +5,5 @@ pub mod SummaryReading
 pub mod Codes
 pub mod Pages
 pub mod Giver
+pub mod Puller
 pub mod Laws

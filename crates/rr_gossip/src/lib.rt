@@ -8,12 +8,15 @@
 mod fault;
 mod frame;
 mod giver;
+mod joining;
 pub mod laws;
 mod names;
 mod pages;
+mod puller;
 mod summary;
 
 pub use fault::GossipFault;
 pub use frame::{Kind, MAX_FRAME_LEN, content_of, frame_bytes};
 pub use giver::Giver;
+pub use puller::Puller;
 pub use summary::{MAX_ENTRIES, read_summary, summary_bytes};
