@@ -6,3 +6,5 @@ pub mod LengthLemmas
 pub mod PagesLemmas
 pub mod JoinLemmas
 pub mod ListedLemmas
+pub mod ReplyLemmas
+pub mod SentLemmas

@@ -34,7 +34,7 @@ left_after s es left = record {
   names_ascend = true_from_T (is_sorted cell_name_cmp (drop MAX_PAGE_CELLS es)) (sorted_drop MAX_PAGE_CELLS es (T_from_true (is_sorted cell_name_cmp es) left.names_ascend));
 }
 
-drop_taken : {X : Type 0} (n : ℕ) (xs : List X) → drop (length (take n xs)) xs ≡ drop n xs
+pub drop_taken : {X : Type 0} (n : ℕ) (xs : List X) → drop (length (take n xs)) xs ≡ drop n xs
 drop_taken zero [] = refl
 drop_taken zero (x ∷ xs) = refl
 drop_taken (suc n) [] = refl
@@ -44,7 +44,7 @@ drop_nothing : {X : Type 0} (n : ℕ) → ◌≡◌ {A = List X} (drop n []) []
 drop_nothing zero = refl
 drop_nothing (suc n) = refl
 
-drop_twice : {X : Type 0} (m n : ℕ) (xs : List X) → drop (m + n) xs ≡ drop n (drop m xs)
+pub drop_twice : {X : Type 0} (m n : ℕ) (xs : List X) → drop (m + n) xs ≡ drop n (drop m xs)
 drop_twice zero n xs = ap (λ k. drop k xs) (nothing n)
   where
     nothing : (k : ℕ) → zero + k ≡ k

@@ -6,4 +6,5 @@ pub mod Codes
 pub mod Pages
 pub mod Giver
 pub mod Puller
+pub mod Transcript
 pub mod Laws

@@ -16,6 +16,7 @@ mod replicas;
 mod reports;
 mod schemas;
 mod scripts;
+mod sessions;
 mod snapshots;
 mod streams;
 mod walks;
