@@ -38,10 +38,10 @@ mask_wide One = wide64
 
 -- ---- the key
 
-abbrev key_field : List ℕ → List ℕ
+abbrev pub key_field : List ℕ → List ℕ
 key_field key = to_be_bytes w16 (length key) ++ key
 
-key_takes : (bytes key rest : List ℕ) → AreBytes bytes → key_at bytes ≡ Ok (key, rest) → Takes bytes (key_field key) rest × IsKeyText key
+pub key_takes : (bytes key rest : List ℕ) → AreBytes bytes → key_at bytes ≡ Ok (key, rest) → Takes bytes (key_field key) rest × IsKeyText key
 unfolding key_at
 key_takes bytes key rest fits e =
     let a = bind_ok (number_at w16 bytes) (λ len. unless BadKey ((len.0 == 0) || nat_lt MAX_KEY_TEXT len.0) (front_at len.0 len.1) >>= λ text. unless BadKey (not (is_key_text text.0)) (Ok text)) (key, rest) e in
@@ -56,7 +56,7 @@ key_takes bytes key rest fits e =
     subst (λ (p : List ℕ × List ℕ). Takes bytes (key_field p.0) p.1 × IsKeyText p.0) (ok_is b.0 (key, rest) h.1) (whole, told)
 
 -- a key text has a space
-some_text : (key : List ℕ) → IsKeyText key → (1 ≤ length key) × (length key ≤ MAX_KEY_TEXT)
+pub some_text : (key : List ℕ) → IsKeyText key → (1 ≤ length key) × (length key ≤ MAX_KEY_TEXT)
 some_text key k =
     let tags = flat_map tag_text (entries k.series.tags) in
     let name = escape Measurement k.series.measurement in
@@ -66,7 +66,7 @@ some_text key k =
     let short = k.named.short in
     (omega arith, omega arith)
 
-key_again : (key rest : List ℕ) → IsKeyText key → key_at (key_field key ++ rest) ≡ Ok (key, rest)
+pub key_again : (key rest : List ℕ) → IsKeyText key → key_at (key_field key ++ rest) ≡ Ok (key, rest)
 unfolding key_at
 key_again key rest k =
     let len = some_text key k in
@@ -79,7 +79,7 @@ key_again key rest k =
 
 -- ---- the archive
 
-archive_takes : (s : Layout) (bytes : List ℕ) (a : ℕ) (rest : List ℕ) → AreBytes bytes → archive_at s bytes ≡ Ok (a, rest) → Takes bytes (a ∷ []) rest × (a < length s.archives)
+pub archive_takes : (s : Layout) (bytes : List ℕ) (a : ℕ) (rest : List ℕ) → AreBytes bytes → archive_at s bytes ≡ Ok (a, rest) → Takes bytes (a ∷ []) rest × (a < length s.archives)
 unfolding archive_at
 archive_takes s bytes a rest fits e =
     let b = bind_ok (number_at w8 bytes) (λ archive. unless BadArchive (not (nat_lt archive.0 (length s.archives))) (Ok archive)) (a, rest) e in
@@ -89,7 +89,7 @@ archive_takes s bytes a rest fits e =
     subst (λ (p : ℕ × List ℕ). Takes bytes (p.0 ∷ []) p.1 × (p.0 < length s.archives)) (ok_is b.0 (a, rest) g.1)
     (subst (λ (x : List ℕ). Takes bytes x b.0.1) one t.0, ltb-true _ _ (not_false (nat_lt b.0.0 (length s.archives)) g.0))
 
-archive_again : (s : Layout) (a : ℕ) (rest : List ℕ) → a < length s.archives → a < 256 → archive_at s (a ∷ rest) ≡ Ok (a, rest)
+pub archive_again : (s : Layout) (a : ℕ) (rest : List ℕ) → a < length s.archives → a < 256 → archive_at s (a ∷ rest) ≡ Ok (a, rest)
 unfolding archive_at
 archive_again s a rest within low =
     ap (λ (n : ℕ). archive_at s (n ∷ rest)) (sym (nat.mod-eq_of_lt low))
@@ -145,7 +145,7 @@ contribution_again v c rest fits =
 
 -- ---- the cell
 
-either_false : (a b : Bool) → (a || b) ≡ false → (a ≡ false) × (b ≡ false)
+pub either_false : (a b : Bool) → (a || b) ≡ false → (a ≡ false) × (b ≡ false)
 either_false true b e = absurd cc
 either_false false b e = (refl, e)
 

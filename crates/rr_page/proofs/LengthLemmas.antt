@@ -10,7 +10,7 @@ use Rattle.rr_page.specs.declared.version.Version.TheVariants.{One}
 use Rattle.rr_page.specs.CellText.{signed_bytes, sums_text, values_text, name_text, cell_text}
 use Rattle.rr_page.specs.Version.{fields_len}
 
-name_len : (n : CellName) → length (name_text n) ≡ 13 + length n.key
+pub name_len : (n : CellName) → length (name_text n) ≡ 13 + length n.key
 unfolding name_text
 name_len n =
     let text = to_be_bytes w16 (length n.key) ++ n.key in

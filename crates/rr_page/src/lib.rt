@@ -25,6 +25,6 @@ pub use decoding::{decode, follows};
 pub use encoding::encode;
 pub use fault::PageFault;
 pub use heading::version_of;
-pub use reading::{read_cell, read_cell_in};
+pub use reading::{archive_of, key_of, read_cell, read_cell_in};
 pub use version::{LATEST, Version};
-pub use writing::{FIELDS_LEN, cell_bytes};
+pub use writing::{FIELDS_LEN, cell_bytes, push_name};

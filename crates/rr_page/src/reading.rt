@@ -20,7 +20,7 @@ use std::alloc::Global;
 
 /// The key that the bytes begin with, as a length and a text, and what follows it.
 #[tactic(auto, unfolding(crate::specs::Reading::key_at))]
-fn key_of(alloc: Global, bytes: &[u8]) -> Result<(SeriesKey, &[u8]), PageFault>
+pub fn key_of(alloc: Global, bytes: &[u8]) -> Result<(SeriesKey, &[u8]), PageFault>
     ensures read { GivesUnless PageFault.Memory (λ x. (x.0, x.1.now)) result (key_at bytes.now) }
     ensures memory { NeedsMemoryAfter PageFault.Memory (key_at bytes.now) result }
 {
@@ -41,7 +41,7 @@ fn key_of(alloc: Global, bytes: &[u8]) -> Result<(SeriesKey, &[u8]), PageFault>
 
 /// The number of one of the schema's archives, and what follows it.
 #[tactic(auto, unfolding(crate::specs::Reading::archive_at))]
-fn archive_of<'a>(bytes: &'a [u8], schema: &Schema) -> Result<(u8, &'a [u8]), PageFault>
+pub fn archive_of<'a>(bytes: &'a [u8], schema: &Schema) -> Result<(u8, &'a [u8]), PageFault>
     ensures read { Gives (λ x. (x.0, x.1.now)) result (archive_at schema.now bytes.now) }
     ensures within { IfOk result (λ x. x.0 < length schema.now.archives) }
 {

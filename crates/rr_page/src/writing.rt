@@ -42,7 +42,7 @@ fn push_values(bytes: &mut Vec<u8>, contribution: &Contribution) -> Result<(), A
 
 /// Adds the name of a cell.
 #[tactic(auto, unfolding(crate::specs::CellText::name_text))]
-fn push_name(
+pub fn push_name(
     bytes: &mut Vec<u8>,
     key: &SeriesKey,
     archive: u8,

@@ -17,6 +17,7 @@ mod reports;
 mod rings;
 mod schemas;
 mod scripts;
+mod sessions;
 mod snapshots;
 mod streams;
 mod walks;

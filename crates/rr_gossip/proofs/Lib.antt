@@ -1,0 +1,10 @@
+pub mod EntryLemmas
+pub mod LoopLemmas
+pub mod SummaryLemmas
+pub mod FrameLemmas
+pub mod LengthLemmas
+pub mod PagesLemmas
+pub mod JoinLemmas
+pub mod ListedLemmas
+pub mod ReplyLemmas
+pub mod SentLemmas

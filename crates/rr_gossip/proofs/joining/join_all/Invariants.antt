@@ -1,0 +1,11 @@
+use Rattle.std.proofs.Common.{◌≡◌, map, take}
+use Rattle.rr_replica.specs.Joins.{join_cells}
+use Rattle.rr_replica.specs.Listing.{owned_cell}
+use Rattle.rr_gossip.proofs.joining.join_all.Given as goal
+
+-- the cells so far are joined
+abbrev pub invariant-loop-cell : goal.invariant-loop-cell
+invariant-loop-cell g l = record {
+  schema : g.T.Target.layout l.target ≡ g.T.Target.layout l.initial.target;
+  joined : g.T.Target.cells l.target ≡ join_cells (g.T.Target.layout l.initial.target) (g.T.Target.cells l.initial.target) (map owned_cell (take l.cell-index l.cells));
+}

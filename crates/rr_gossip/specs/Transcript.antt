@@ -1,0 +1,72 @@
+-- The frames of a whole session, one way and the other.
+use Rattle.std.specs.Prelude.{◌≡◌, ℕ, zero, suc, ◌+◌, ◌≤◌, List, [], ◌∷◌, ◌++◌, length, map, take, drop, Option, None, Some, Result, Ok}
+use Rattle.rr_base.specs.declared.limits.TheConstants.{MAX_PAGE_CELLS}
+use Rattle.rr_base.specs.Results.{◌>>=◌}
+use Rattle.rr_base.specs.Schema.{Layout}
+use Rattle.rr_base.specs.SchemaBytes.{schema_bytes}
+use Rattle.rr_delta.specs.Names.{NamedVersion, versions_of}
+use Rattle.rr_page.specs.Page.{page_text}
+use Rattle.rr_page.specs.Version.{latest}
+use Rattle.rr_replica.specs.CellBounds.{NamedCell}
+use Rattle.rr_replica.specs.Cells.{Cells}
+use Rattle.rr_gossip.specs.declared.fault.GossipFault.{GossipFault}
+use Rattle.rr_gossip.specs.declared.frame.Kind.TheVariants as kind
+use Rattle.rr_gossip.specs.declared.giver.Giver.{Giver}
+use Rattle.rr_gossip.specs.declared.giver.Stage.TheVariants as giver
+use Rattle.rr_gossip.specs.declared.puller.Puller.{Puller}
+use Rattle.rr_gossip.specs.declared.summary.TheConstants.{MAX_ENTRIES}
+use Rattle.rr_gossip.specs.Frame.{frame_text}
+use Rattle.rr_gossip.specs.Giver.{giver_sends}
+use Rattle.rr_gossip.specs.Puller.{first_puller, puller_sends}
+use Rattle.rr_gossip.specs.Summary.{summary_text}
+
+-- ---- what is to be sent
+
+-- a list in pieces of n, the last of as many as are left; at most so many pieces
+unfoldable pub pieces : {X : Type 0} → ℕ → ℕ → List X → List (List X)
+pieces zero n xs = []
+pieces (suc most) n [] = []
+pieces (suc most) n (x ∷ xs) = take n (x ∷ xs) ∷ pieces most n (drop n (x ∷ xs))
+
+-- all of a list in pieces
+abbrev pub cut : {X : Type 0} → ℕ → List X → List (List X)
+cut n xs = pieces (length xs) n xs
+
+-- the schema, then names and versions, 256 in a frame, and the end
+abbrev pub sent : Layout → List NamedVersion → List (List ℕ)
+sent s vs = frame_text kind.Hello (schema_bytes s) ∷ (map (λ piece. frame_text kind.Summary (summary_text piece)) (cut MAX_ENTRIES vs) ++ frame_text kind.SummaryEnd [] ∷ [])
+
+-- pages of cells, 256 in each, and the end
+abbrev pub reply : Layout → List NamedCell → List (List ℕ)
+reply s es = map (λ piece. frame_text kind.Page (page_text latest s piece)) (cut MAX_PAGE_CELLS es) ++ frame_text kind.PageEnd [] ∷ []
+
+-- ---- what is sent
+
+-- a frame, and those after it; none after the last
+abbrev pub and_frames : Option (List ℕ) → Result (List (List ℕ)) GossipFault → Result (List (List ℕ)) GossipFault
+and_frames None later = Ok []
+and_frames (Some frame) later = later >>= λ frames. Ok (frame ∷ frames)
+
+-- the frames that a giver sends in a row, at most so many
+unfoldable pub giver_frames : ℕ → Giver → Result (List (List ℕ)) GossipFault
+giver_frames zero g = Ok []
+giver_frames (suc most) g = giver_sends g >>= λ next. and_frames next.1 (giver_frames most next.0)
+
+-- and those of a puller whose cells are m all the while
+unfoldable pub puller_frames : ℕ → Cells → Layout → Puller → Result (List (List ℕ)) GossipFault
+puller_frames zero m s p = Ok []
+puller_frames (suc most) m s p = puller_sends m s p >>= λ next. and_frames next.1 (puller_frames most m s next.0)
+
+-- ---- laws
+
+-- a giver that has made a difference sends its pages and the end, if it may send as many frames
+abbrev pub GiversReply : Type 0
+GiversReply =
+    (s : Layout) (es : List NamedCell) (before taken limit most : ℕ) → before + length (reply s es) ≤ limit → length (reply s es) ≤ most
+    → giver_frames most (record { stage = giver.Giving (s, es); sent = before; taken = taken; limit = limit }) ≡ Ok (reply s es)
+
+-- a puller sends its schema, the names and versions of all cells, and the end, if it may send as many frames
+abbrev pub PullersSend : Type 0
+PullersSend =
+    (s : Layout) (m : Cells) (limit most : ℕ) → length (sent s (versions_of m)) ≤ limit → length (sent s (versions_of m)) ≤ most
+    → puller_frames most m s (first_puller limit) ≡ Ok (sent s (versions_of m))

@@ -1,0 +1,273 @@
+//! The side of a session that gives cells.
+ghost use Rattle.std.specs.Prelude.{◌≡◌, ◌≤◌, IfOk, OnErr, IsTrue};
+ghost use Rattle.std.specs.Option.{option_map};
+ghost use Rattle.rr_base.specs.Results.{GivesUnless};
+ghost use Rattle.rr_gossip.specs.declared.frame.TheConstants.{MAX_FRAMES};
+ghost use Rattle.rr_gossip.specs.Giver.{HasFailed, first_giver, has_failed, is_due, is_listing, names_in, hello_taken, summary_taken, end_taken, body_taken, giver_takes, stage_sends, giver_sends};
+
+use crate::fault::GossipFault;
+use crate::frame::{Kind, MAX_FRAMES, content_of, frame_bytes};
+use crate::names::Names;
+use crate::pages::Pages;
+use rr_base::Schema;
+use rr_delta::Source;
+use std::alloc::Global;
+
+/// Where a session is.
+#[derive(Drop)]
+pub(crate) enum Stage {
+    /// Before the Hello.
+    Opening,
+    /// Among the Summary frames, with the names so far.
+    Listing(Names),
+    /// Among the pages, with what is still to be sent.
+    Giving(Pages),
+    /// After the last frame.
+    Done,
+    /// After a fault.
+    Failed,
+}
+
+/// The stage after the Hello, whose body has to be the bytes of the schema.
+#[tactic(auto, unfolding(crate::specs::Giver::hello_taken))]
+fn after_hello(alloc: Global, body: &[u8], schema: &Schema) -> Result<Stage, GossipFault>
+    ensures { GivesUnless GossipFault.Memory (λ stage. stage) result (hello_taken schema.now body.now) }
+{
+    let own = schema.bytes(alloc)?;
+    if body != own.as_slice() {
+        return Err(GossipFault::SchemaDiffers);
+    }
+    Ok(Stage::Listing(Names::new(alloc)))
+}
+
+impl Stage {
+    /// Whether a frame of a kind is due.
+    fn is_due(&self, kind: Kind) -> bool
+        ensures { result ≡ is_due self.now kind }
+    {
+        match kind {
+            Kind::Hello => matches!(self, Stage::Opening),
+            Kind::Summary | Kind::SummaryEnd => matches!(self, Stage::Listing(_)),
+            Kind::Page | Kind::PageEnd => false,
+        }
+    }
+
+    /// Adds the names of a Summary frame.
+    #[tactic(auto, unfolding(crate::specs::Giver::summary_taken))]
+    fn take_summary(
+        &mut self,
+        alloc: Global,
+        body: &[u8],
+        schema: &Schema,
+    ) -> Result<(), GossipFault>
+        requires { IsTrue (is_listing self.old) }
+        ensures { GivesUnless GossipFault.Memory (λ _. self.new) result
+            (summary_taken schema.now (names_in self.old) body.now) }
+    {
+        match self {
+            Stage::Listing(names) => {
+                names.add(alloc, body, schema)?;
+                Ok(())
+            }
+            _ => Err(GossipFault::UnexpectedFrame),
+        }
+    }
+
+    /// Has the difference made against all names, after the last of them.
+    #[tactic(auto, unfolding(crate::specs::Giver::end_taken))]
+    fn take_end<S: Source>(
+        &mut self,
+        alloc: Global,
+        body: &[u8],
+        source: &mut S,
+    ) -> Result<(), GossipFault>
+        requires { IsTrue (is_listing self.old) }
+        ensures taken { GivesUnless GossipFault.Memory (λ _. self.new) result
+            (end_taken (S.cells source.new) (S.layout source.old) (names_in self.old) body.now) }
+        ensures schema { S.layout source.new ≡ S.layout source.old }
+    {
+        let Stage::Listing(names) = self else {
+            return Err(GossipFault::UnexpectedFrame);
+        };
+        if !body.is_empty() {
+            return Err(GossipFault::BadFrame);
+        }
+        let cells = source.difference(alloc, names.as_slice())?;
+        let schema = source.schema().copy(alloc)?;
+        *self = Stage::Giving(Pages::new(schema, cells));
+        Ok(())
+    }
+
+    /// Takes the body of a frame of a kind that is due, and answers whether it was the last.
+    fn take_body<S: Source>(
+        &mut self,
+        alloc: Global,
+        kind: Kind,
+        body: &[u8],
+        source: &mut S,
+    ) -> Result<bool, GossipFault>
+        requires { IsTrue (is_due self.old kind) }
+        ensures taken { GivesUnless GossipFault.Memory (λ last. (self.new, last)) result
+            (body_taken (S.cells source.new) (S.layout source.old) self.old kind body.now) }
+        ensures schema { S.layout source.new ≡ S.layout source.old }
+    {
+        match kind {
+            Kind::Hello => {
+                *self = after_hello(alloc, body, source.schema())?;
+                Ok(false)
+            }
+            Kind::Summary => {
+                self.take_summary(alloc, body, source.schema())?;
+                Ok(false)
+            }
+            Kind::SummaryEnd => {
+                self.take_end(alloc, body, source)?;
+                Ok(true)
+            }
+            Kind::Page | Kind::PageEnd => Err(GossipFault::UnexpectedFrame),
+        }
+    }
+
+    /// The next frame, if one is due.
+    fn next_frame(&mut self, alloc: Global) -> Result<Option<Vec<u8>>, GossipFault>
+        ensures { GivesUnless GossipFault.Memory (λ frame. (self.new, option_map (λ bytes. bytes.items) frame)) result
+            (stage_sends self.old) }
+    {
+        match self {
+            Stage::Opening | Stage::Listing(_) | Stage::Done => Ok(None),
+            Stage::Failed => Err(GossipFault::Failed),
+            Stage::Giving(pages) => {
+                let Some(page) = pages.next_page(alloc)? else {
+                    *self = Stage::Done;
+                    return Ok(Some(frame_bytes(alloc, Kind::PageEnd, &[])?));
+                };
+                Ok(Some(frame_bytes(alloc, Kind::Page, &page)?))
+            }
+        }
+    }
+}
+
+/// The side of a session that gives cells.
+///
+/// It takes the frames of the other side one after the other, and has the difference made at the last
+/// of them; then it answers one page after the other, all of the state that the source had then. After
+/// a fault it answers `Failed` from then on.
+#[derive(Drop)]
+pub struct Giver {
+    stage: Stage,
+    sent: u32,
+    taken: u32,
+    limit: u32,
+}
+
+impl Giver {
+    /// A session before its first frame, of at most 16,777,216 frames each way.
+    pub fn new() -> Giver
+        ensures { result ≡ first_giver MAX_FRAMES }
+    {
+        Giver::with_limit(MAX_FRAMES)
+    }
+
+    /// A session before its first frame, of at most `limit` frames each way.
+    pub fn with_limit(limit: u32) -> Giver
+        requires { limit ≤ MAX_FRAMES }
+        ensures { result ≡ first_giver limit }
+    {
+        Giver {
+            stage: Stage::Opening,
+            sent: 0,
+            taken: 0,
+            limit,
+        }
+    }
+
+    /// Takes what follows the length of a frame, and answers whether it was the other side's last.
+    ///
+    /// Refused, in this order, as `Failed` after a fault; as `FrameTooLong` above 300,000 bytes; as
+    /// `BadFrame` where it is of no kind; as `UnexpectedFrame` where that kind is not due; as
+    /// `TooManyFrames`; and by its body, as `SchemaDiffers` for a Hello of another schema and as
+    /// `BadFrame` for any other. After a refusal the session has failed, after `Memory` too. The cost
+    /// is linear in the frame, and at the last one that of `Source::difference`.
+    pub fn take<S: Source>(
+        &mut self,
+        alloc: Global,
+        frame: &[u8],
+        source: &mut S,
+    ) -> Result<bool, GossipFault>
+        ensures taken { GivesUnless GossipFault.Memory (λ last. (self.new, last)) result
+            (giver_takes (S.cells source.new) (S.layout source.old) self.old frame.now) }
+        ensures failed { OnErr result (HasFailed self.new) }
+        ensures schema { S.layout source.new ≡ S.layout source.old }
+    {
+        let result = self.take_frame(alloc, frame, source);
+        if result.is_err() {
+            self.stage = Stage::Failed;
+        }
+        result
+    }
+
+    /// Takes a frame; after a refusal the session is anywhere.
+    #[tactic(auto, unfolding(crate::specs::Giver::giver_takes))]
+    fn take_frame<S: Source>(
+        &mut self,
+        alloc: Global,
+        frame: &[u8],
+        source: &mut S,
+    ) -> Result<bool, GossipFault>
+        ensures taken { GivesUnless GossipFault.Memory (λ last. (self.new, last)) result
+            (giver_takes (S.cells source.new) (S.layout source.old) self.old frame.now) }
+        ensures schema { S.layout source.new ≡ S.layout source.old }
+    {
+        if matches!(&self.stage, Stage::Failed) {
+            return Err(GossipFault::Failed);
+        }
+        let (kind, body) = content_of(frame)?;
+        if !self.stage.is_due(kind) {
+            return Err(GossipFault::UnexpectedFrame);
+        }
+        if self.taken >= self.limit {
+            return Err(GossipFault::TooManyFrames);
+        }
+        let last = self.stage.take_body(alloc, kind, body, source)?;
+        self.taken += 1;
+        Ok(last)
+    }
+
+    /// The next frame, whole, if one is due: none before the other side's last frame, and none after
+    /// the end of the pages.
+    ///
+    /// Refused as `Failed` after a fault, as `TooManyFrames`, and as `Memory`. After a refusal the
+    /// session has failed. The cost is linear in the frame.
+    pub fn next_frame<S: Source>(
+        &mut self,
+        alloc: Global,
+        _source: &mut S,
+    ) -> Result<Option<Vec<u8>>, GossipFault>
+        ensures sent { GivesUnless GossipFault.Memory (λ frame. (self.new, option_map (λ bytes. bytes.items) frame)) result
+            (giver_sends self.old) }
+        ensures failed { OnErr result (HasFailed self.new) }
+        ensures unchanged { _source.new ≡ _source.old }
+    {
+        let result = self.send_frame(alloc);
+        if result.is_err() {
+            self.stage = Stage::Failed;
+        }
+        result
+    }
+
+    /// The next frame; after a refusal the session is anywhere.
+    #[tactic(auto, unfolding(crate::specs::Giver::giver_sends))]
+    fn send_frame(&mut self, alloc: Global) -> Result<Option<Vec<u8>>, GossipFault>
+        ensures { GivesUnless GossipFault.Memory (λ frame. (self.new, option_map (λ bytes. bytes.items) frame)) result
+            (giver_sends self.old) }
+    {
+        let Some(frame) = self.stage.next_frame(alloc)? else {
+            return Ok(None);
+        };
+        if self.sent >= self.limit {
+            return Err(GossipFault::TooManyFrames);
+        }
+        self.sent += 1;
+        Ok(Some(frame))
+    }
+}

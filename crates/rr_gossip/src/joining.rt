@@ -1,0 +1,44 @@
+//! The cells of a page, joined into a target.
+ghost use Rattle.std.specs.Prelude.{◌≡◌, ℕ, All, OnOk, OnErr, map, take};
+ghost use Rattle.rr_replica.specs.CellBounds.{IsCellOf};
+ghost use Rattle.rr_replica.specs.Joins.{join_cells};
+ghost use Rattle.rr_replica.specs.Listing.{owned_cell};
+ghost use Rattle.rr_gossip.specs.Puller.{Takes, page_taken};
+
+use crate::fault::GossipFault;
+use crate::puller::Stage;
+use rr_delta::Target;
+use rr_page::decode;
+use rr_replica::Cell;
+use std::alloc::{AllocError, Global};
+
+/// Joins cells, in order. Where memory runs out, some of them from the first on are joined.
+fn join_all<T: Target>(cells: &[Cell], target: &mut T) -> Result<(), AllocError>
+    requires { All (λ c. IsCellOf (T.layout target.old) (owned_cell c)) cells.now }
+    ensures joined { OnOk result (T.cells target.new
+        ≡ join_cells (T.layout target.old) (T.cells target.old) (map owned_cell cells.now)) }
+    ensures front { OnErr result ((n : ℕ) × (T.cells target.new
+        ≡ join_cells (T.layout target.old) (T.cells target.old) (take n (map owned_cell cells.now)))) }
+    ensures schema { T.layout target.new ≡ T.layout target.old }
+{
+    for cell in cells {
+        target.join_cell(cell)?;
+    }
+    Ok(())
+}
+
+/// Joins the cells of a page into a target, after the last of which another frame comes.
+#[tactic(auto, unfolding(crate::specs::Puller::page_taken))]
+pub(crate) fn take_page<T: Target>(
+    alloc: Global,
+    body: &[u8],
+    target: &mut T,
+) -> Result<bool, GossipFault>
+    ensures taken { Takes (T.layout target.old) (T.cells target.old) (T.cells target.new) Stage.Waiting result
+        (page_taken (T.layout target.old) body.now) }
+    ensures schema { T.layout target.new ≡ T.layout target.old }
+{
+    let cells = decode(alloc, body, target.schema())?;
+    join_all(&cells, target)?;
+    Ok(false)
+}

@@ -1,0 +1,26 @@
+//! The laws of the bytes of frames, with no work to do: the functions have empty bodies.
+ghost use Rattle.rr_gossip.specs.Laws.{FramesAreTheirText, SummariesAreTheirText};
+ghost use Rattle.rr_gossip.specs.Transcript.{GiversReply, PullersSend};
+
+/// A frame is read exactly where it is the text of a kind and a body, and not too long.
+pub fn frames_are_their_text()
+    ensures { FramesAreTheirText }
+{}
+
+/// The body of a Summary frame is read exactly where it is the text of from 1 to 256 names of the
+/// schema that ascend, after those before them.
+pub fn summaries_are_their_text()
+    ensures { SummariesAreTheirText }
+{}
+
+/// Frame by frame, from `Puller::new` on, a puller sends its schema, the names and versions of all its
+/// cells, and the end, where its session may have as many frames.
+pub fn pullers_send()
+    ensures { PullersSend }
+{}
+
+/// Frame by frame, from the other side's last frame on, a giver sends the pages of the difference, and
+/// the end, where its session may have as many frames.
+pub fn givers_reply()
+    ensures { GiversReply }
+{}

@@ -1,0 +1,27 @@
+//! Sessions in which one side pulls cells from another, frame by frame.
+//!
+//! A frame (`specs/Frame.antt`) is a length, a [`Kind`] and a body. The side that pulls sends the schema
+//! that it has, the names and versions of its cells in Summary frames (`specs/Summary.antt`), and an
+//! end; the side that gives answers with pages of the cells that these lack, and an end.
+//!
+//! Each side is a machine without a stream: [`Puller`] stands over a target (`specs/Puller.antt`),
+//! [`Giver`] over a source (`specs/Giver.antt`). `next_frame` answers the next frame that it sends,
+//! `take` is handed each frame of the other side, and both are held to one function of the machine, the
+//! frame and the cells. Bytes that are no frame of the session are refused by name ([`GossipFault`]).
+#![tactic(auto)]
+
+mod fault;
+mod frame;
+mod giver;
+mod joining;
+pub mod laws;
+mod names;
+mod pages;
+mod puller;
+mod summary;
+
+pub use fault::GossipFault;
+pub use frame::{Kind, MAX_FRAME_LEN, content_of, frame_bytes};
+pub use giver::Giver;
+pub use puller::Puller;
+pub use summary::{MAX_ENTRIES, read_summary, summary_bytes};
