@@ -53,7 +53,8 @@ pub trait Archive: Drop {
     ///
     /// Rows that are then past the horizon are no longer held; a sample that is past it itself
     /// changes nothing. After an error nothing has changed. The cost is at most logarithmic in the
-    /// rows (one look-up of the slot), and linear in the entries of the row and of the rows that go.
+    /// rows (one look-up of the slot), and linear in the entries of the row, and in the rows that go,
+    /// empty ones too, and their entries.
     fn put(
         &mut self,
         slot: i64,

@@ -1,14 +1,15 @@
 -- What a change of one row changes of the map of the live cells.
-use Rattle.std.proofs.Common.{◌≡◌, ℕ, ◌≤◌, ℤ, pos, ◌-ℤ◌, true, false, cond, ◌&&◌, List, [], refl, sym, ap, ◌∙◌, subst, Option, Some, None, is_some, int_cmp, arith, eqb, true≢false, map}
-use Rattle.std.specs.Prelude.{int_lt}
+use Rattle.std.proofs.Common.{◌≡◌, ℕ, ◌≤◌, ℤ, pos, ◌-ℤ◌, Bool, true, false, cond, ◌&&◌, List, [], refl, sym, ap, ◌∙◌, subst, Option, Some, None, is_some, Equal, int_cmp, arith, eqb, true≢false, map}
+use Rattle.std.specs.Prelude.{int_lt, is_none, ◌+◌}
 use Rattle.std.specs.Ordering.{eq_by_cmp, ord_max, int_eq, is_eq, is_lt}
-use Rattle.std.specs.FinMap.{empty, get, insert, keys, same_map, get-insert, get-empty}
+use Rattle.std.specs.FinMap.{empty, get, insert, keys, len, retain_keys, same_map, get-insert, get-empty, get-retain_keys, len-empty}
 use Rattle.std.proofs.lemmas.Bool.{eqb-true}
 use Rattle.std.proofs.lemmas.Bool.Decides.{nat_tests}
 use Rattle.std.proofs.lemmas.Int.{ints}
 use Rattle.rr_join.specs.Maps.{greater, trimmed}
 use Rattle.rr_join.specs.Horizon.{is_above}
 use Rattle.rr_join.proofs.Lookups.{get-trimmed}
+use Rattle.rr_join.proofs.Members.{same_from_tie}
 use Rattle.rr_join.proofs.Joining.{trimmed-trimmed}
 use Rattle.rr_contrib.specs.declared.contribution.Contribution.{Contribution}
 use Rattle.rr_archive.specs.declared.entry.Entry.{Entry}
@@ -20,7 +21,8 @@ use Rattle.rr_archive.proofs.Horizon.{live_at_horizon}
 use Rattle.rr_archive.proofs.HeldLemmas.{cell_slots_tie}
 use Rattle.rr_archive.proofs.RowLemmas.{entry_at-with_entry, ascends_with_entry}
 use Rattle.rr_archive.proofs.FewCells.{newest-insert, in_range-insert, contains_key-get}
-use Rattle.rr_archive.proofs.Trimming.{in_range-trimmed, newest-trimmed, trimmed_dead, trimmed_none}
+use Rattle.rr_archive.proofs.Counting.{len_with}
+use Rattle.rr_archive.proofs.Trimming.{in_range-trimmed, newest-trimmed, trimmed_by_slots, trimmed_dead, trimmed_none}
 use Rattle.rr_ring.specs.StoredRows.{is_empty}
 use Rattle.rr_ring.specs.Positions.{position_of}
 use Rattle.rr_ring.specs.Ring.{IsRowChanged}
@@ -55,7 +57,7 @@ top_is (Some old) slot top is =
     above : (old slot top : ℤ) → top ≡ ord_max int_cmp old slot → (limit : ℕ) (s : ℤ) → int_lt (top -ℤ pos limit) s ≡ true → int_lt (old -ℤ pos limit) s ≡ true
     above old slot top is limit s h = grind (arith, ints)
 
-module _ (limit : ℕ) (newest : Option ℤ) (top slot : ℤ) (e : Entry) (f g : ℤ → List Entry) (some : 1 ≤ limit) (h : IsHeldBy limit newest f) (changed : IsRowChanged limit slot e f g) (later : Some top ≡ greater int_cmp newest (Some slot)) (live : is_above limit newest slot ≡ true) where
+module _ (limit : ℕ) (newest : Option ℤ) (count : ℕ) (top slot : ℤ) (e : Entry) (f g : ℤ → List Entry) (some : 1 ≤ limit) (h : IsHeldBy limit newest count f) (changed : IsRowChanged limit slot e f g) (later : Some top ≡ greater int_cmp newest (Some slot)) (live : is_above limit newest slot ≡ true) where
   -- the entries of each slot then, by whether it is the slot that was changed
   entries_then : (s : ℤ) → g s ≡ cond (int_eq slot s) (with_entry (f slot) e) (cond (eqb (position_of limit slot) (position_of limit s)) [] (f s))
   entries_then s = changed s ∙ elim (int_eq slot s) as (λ b. int_eq slot s ≡ b → cond (eqb (position_of limit s) (position_of limit slot)) (cond b (with_entry (f slot) e) []) (f s) ≡ cond b (with_entry (f slot) e) (cond (eqb (position_of limit slot) (position_of limit s)) [] (f s))) [
@@ -151,7 +153,7 @@ module _ (limit : ℕ) (newest : Option ℤ) (top slot : ℤ) (e : Entry) (f g :
       ∙ ap (λ o. cond (is_above limit o q.slot) (get (insert old_cells set_at e.contribution) q) None) (sym newest_is)
       ∙ sym (get-trimmed cell_slot_cmp_total cell_slot_cmp-IsAntisymmetric (is_live_at limit) (insert old_cells set_at e.contribution) q))
 
-  slot_is : IsSlot slot → (t : ℤ) → Some top ≡ Some t → IsSlot t
+  pub slot_is : IsSlot slot → (t : ℤ) → Some top ≡ Some t → IsSlot t
   slot_is here t same = elim newest as (λ o. Some top ≡ greater int_cmp o (Some slot) → ((old : ℤ) → o ≡ Some old → IsSlot old) → IsSlot t) [
     | None ↦ λ is _. subst IsSlot (alone is) here
     | Some old ↦ λ is was. either_one old is (was old refl)
@@ -165,11 +167,32 @@ module _ (limit : ℕ) (newest : Option ℤ) (top slot : ℤ) (e : Entry) (f g :
           let max : t ≡ ord_max int_cmp old slot = cc in
           subst IsSlot (sym max) (elim (is_lt (int_cmp slot old)) as (λ b. IsSlot (cond b old slot)) [ true ↦ was | false ↦ here ])
 
-  pub change_held : IsInRange set_at → IsHeldBy limit (Some top) g
-  change_held in_range =
+  -- how many cells there are then: what is left of those before, and the new one
+  pub change_len : len (cells_by limit (Some top) g) ≡ len (retain_keys old_cells (λ p. is_above limit (Some top) p.slot)) + cond (is_none (get old_cells set_at)) 1 0
+  change_len =
+      let left : Rows = retain_keys old_cells (λ p. is_above limit (Some top) p.slot) in
+      ap len (change_cells ∙ trimmed_by_slots limit (insert old_cells set_at e.contribution) (Some top) newest_is ∙ same_map cell_slot_cmp_total cell_slot_cmp-IsAntisymmetric _ _ (λ q.
+      get-retain_keys (insert old_cells set_at e.contribution) _ q (alike q)
+      ∙ ap (λ o. cond (is_above limit (Some top) q.slot) o None) (get-insert cell_slot_cmp_total old_cells set_at e.contribution q)
+      ∙ by_tie q (eq_by_cmp cell_slot_cmp q set_at) refl
+      ∙ ap (λ o. cond (eq_by_cmp cell_slot_cmp q set_at) (Some e.contribution) o) (sym (get-retain_keys old_cells _ q (alike q)))
+      ∙ sym (get-insert cell_slot_cmp_total left set_at e.contribution q)))
+      ∙ sym (len_with left set_at e.contribution)
+      ∙ ap (λ o. len left + cond (is_none o) 1 0) (get-retain_keys old_cells _ set_at (alike set_at) ∙ ap (λ b. cond b (get old_cells set_at) None) still_live)
+    where
+      alike : (q x : CellSlot) → cell_slot_cmp q x ≡ Equal → is_above limit (Some top) x.slot ≡ is_above limit (Some top) q.slot
+      alike q x same = ap (λ (p : CellSlot). is_above limit (Some top) p.slot) (sym (cell_slot_cmp-IsAntisymmetric q x same))
+
+      by_tie : (q : CellSlot) (b : Bool) → eq_by_cmp cell_slot_cmp q set_at ≡ b → cond (is_above limit (Some top) q.slot) (cond b (Some e.contribution) (get old_cells q)) None ≡ cond b (Some e.contribution) (cond (is_above limit (Some top) q.slot) (get old_cells q) None)
+      by_tie q true t = ap (λ c. cond c (Some e.contribution) None) (ap (λ (p : CellSlot). is_above limit (Some top) p.slot) (same_from_tie cell_slot_cmp_total cell_slot_cmp-IsAntisymmetric q set_at t) ∙ still_live)
+      by_tie q false t = refl
+
+  pub change_held : (after : ℕ) → after ≡ len (cells_by limit (Some top) g) → IsInRange set_at → IsHeldBy limit (Some top) after g
+  change_held after counted in_range =
       let more : Rows = insert old_cells set_at e.contribution in
       let cells = change_cells in
       record {
+        counted = counted;
         latest = sym (ap (λ m. newest_of (keys m)) cells ∙ newest-trimmed limit more some ∙ newest_is);
         live = subst (IsTrimmed limit) (sym cells) (trimmed-trimmed cell_slot_cmp_total cell_slot_cmp-IsAntisymmetric (live_at_horizon limit some) more);
         in_range = subst AreInRange (sym cells) (in_range-trimmed limit more (in_range-insert old_cells set_at e.contribution in_range h.in_range));
@@ -179,8 +202,8 @@ module _ (limit : ℕ) (newest : Option ℤ) (top slot : ℤ) (e : Entry) (f g :
       }
 
 -- a cell past the horizon leaves no trace
-pub change_dead : (limit : ℕ) (newest : Option ℤ) (f : ℤ → List Entry) (p : CellSlot) (c : Contribution) → IsHeldBy limit newest f → is_above limit newest p.slot ≡ false → cells_by limit newest f ≡ trimmed (is_live_at limit) (insert (cells_by limit newest f) p c)
-change_dead limit newest f p c h dead = sym (trimmed_dead limit (cells_by limit newest f) p c h.live (ap (λ o. is_above limit o p.slot) (sym h.latest) ∙ dead))
+pub change_dead : (limit : ℕ) (newest : Option ℤ) (count : ℕ) (f : ℤ → List Entry) (p : CellSlot) (c : Contribution) → IsHeldBy limit newest count f → is_above limit newest p.slot ≡ false → cells_by limit newest f ≡ trimmed (is_live_at limit) (insert (cells_by limit newest f) p c)
+change_dead limit newest count f p c h dead = sym (trimmed_dead limit (cells_by limit newest f) p c h.live (ap (λ o. is_above limit o p.slot) (sym h.latest) ∙ dead))
 
 -- ---- no cells
 
@@ -190,10 +213,11 @@ cells_none limit f none = same_map cell_slot_cmp_total cell_slot_cmp-IsAntisymme
     ∙ ap (λ es. entry_at es q.origin) (none q.slot)
     ∙ sym (get-empty cell_slot_cmp q))
 
-pub held_none : (limit : ℕ) (f : ℤ → List Entry) → ((s : ℤ) → f s ≡ []) → IsHeldBy limit None f
+pub held_none : (limit : ℕ) (f : ℤ → List Entry) → ((s : ℤ) → f s ≡ []) → IsHeldBy limit None 0 f
 held_none limit f none =
     let cells = cells_none limit f none in
     record {
+      counted = sym (ap len cells ∙ len-empty cell_slot_cmp Contribution);
       latest = ap (λ es. newest_of (map (λ e. e.0) es)) (sym (entries-cells_by f limit None (λ s. ap ascends (none s))));
       live = subst (IsTrimmed limit) (sym cells) (trimmed_none limit);
       in_range = subst AreInRange (sym cells) (λ q has. absurd (true≢false (sym has ∙ contains_key-get empty q ∙ ap is_some (get-empty cell_slot_cmp q))));

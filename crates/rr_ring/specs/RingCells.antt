@@ -1,6 +1,6 @@
 -- The cells that a ring holds: the entries of its live slots.
 use Rattle.std.specs.Prelude.{◌≡◌, ℕ, ℤ, pos, ◌+ℤ◌, ◌-ℤ◌, zero, suc, int_lt, Bool, true, not, ◌||◌, List, [], ◌++◌, map, Option, Some, None, IsTrue}
-use Rattle.std.specs.FinMap.{keys, from_sorted}
+use Rattle.std.specs.FinMap.{keys, len, from_sorted}
 use Rattle.rr_join.specs.Horizon.{is_above}
 use Rattle.rr_contrib.specs.declared.contribution.Contribution.{Contribution}
 use Rattle.rr_archive.specs.declared.entry.Entry.{Entry}
@@ -33,8 +33,10 @@ abbrev pub is_later : Option ℤ → ℤ → Bool
 is_later None slot = true
 is_later (Some newest) slot = int_lt newest slot
 
--- the newest slot of a cell, what each cell keeps to, and that nothing is stored of later slots
-pub record IsHeldBy (rows : ℕ) (newest : Option ℤ) (row : ℤ → List Entry) : Type 0 where
+-- how many cells there are, the newest slot of one, what each keeps to, and that nothing is stored of
+-- later slots
+pub record IsHeldBy (rows : ℕ) (newest : Option ℤ) (count : ℕ) (row : ℤ → List Entry) : Type 0 where
+  pub counted : count ≡ len (cells_by rows newest row)
   pub latest : newest ≡ newest_of (keys (cells_by rows newest row))
   pub live : IsTrimmed rows (cells_by rows newest row)
   pub in_range : AreInRange (cells_by rows newest row)
@@ -47,8 +49,8 @@ pub record IsHeldBy (rows : ℕ) (newest : Option ℤ) (row : ℤ → List Entry
 abbrev pub cells_in : Option ℤ → Ring → Rows
 cells_in newest ring = cells_by ring.rows newest (row_at ring)
 
-abbrev pub IsHeld : Option ℤ → Ring → Type 0
-IsHeld newest ring = IsHeldBy ring.rows newest (row_at ring)
+abbrev pub IsHeld : Option ℤ → ℕ → Ring → Type 0
+IsHeld newest count ring = IsHeldBy ring.rows newest count (row_at ring)
 
 -- whether a put or a join at a cell slot takes no memory: the cell slot is past the horizon, or there is room
 abbrev pub is_ready_in : Option ℤ → Ring → CellSlot → Bool

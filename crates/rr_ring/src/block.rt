@@ -1,5 +1,5 @@
 //! A block of stored rows, whose positions follow one another.
-ghost use Rattle.std.specs.Prelude.{◌≡◌, ◌<◌, [], length, map, IsTrue, IsOk, OnOk, OnErr, IfOk};
+ghost use Rattle.std.specs.Prelude.{◌≡◌, ◌<◌, [], length, map, is_none, IsTrue, IsOk, OnOk, OnErr, IfOk};
 ghost use Rattle.rr_archive.specs.Row.{entry_at};
 ghost use Rattle.rr_archive.specs.Changes.{Fits, entry_after};
 ghost use Rattle.rr_ring.specs.StoredRows.{stored};
@@ -74,7 +74,8 @@ impl Block {
         self.rows[number].make_room(self.alloc, slot, origin)
     }
 
-    /// Changes the entry of an origin in a slot, in the row of a number.
+    /// Changes the entry of an origin in a slot, in the row of a number, and says whether it is a new
+    /// one.
     pub(crate) fn change(
         &mut self,
         len: usize,
@@ -82,11 +83,13 @@ impl Block {
         slot: i64,
         origin: Origin,
         change: &Change,
-    ) -> Result<(), AllocError>
+    ) -> Result<bool, AllocError>
         requires { Fits (entry_at (items_in self.old number slot) origin) change.now }
         ensures changed { OnOk result (IsChanged number slot
             (entry_after (items_in self.old number slot) origin change.now)
             (items_in self.old) (items_in self.new)) }
+        ensures is_new { IfOk result (λ is_new. is_new
+            ≡ is_none (entry_at (items_in self.old number slot) origin)) }
         ensures unchanged { OnErr result (items_in self.new ≡ items_in self.old) }
         ensures room { IsTrue (has_room_in self.old number slot origin) → IsOk result }
     {

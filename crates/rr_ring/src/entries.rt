@@ -1,5 +1,5 @@
 //! The entries of one row. Most rows are of one origin, and take no memory of their own.
-ghost use Rattle.std.specs.Prelude.{◌≡◌, [], ◌∷◌, IsTrue, IsOk, OnOk, OnErr, IfOk};
+ghost use Rattle.std.specs.Prelude.{◌≡◌, [], ◌∷◌, is_none, IsTrue, IsOk, OnOk, OnErr, IfOk};
 ghost use Rattle.rr_archive.specs.Row.{entry_at, with_entry};
 ghost use Rattle.rr_archive.specs.Changes.{Fits, entry_after};
 ghost use Rattle.rr_ring.specs.StoredRows.{items_of, has_room};
@@ -58,37 +58,35 @@ impl Entries {
         }
     }
 
-    /// Changes the entry of an origin.
+    /// Changes the entry of an origin, and says whether it is a new one.
     pub(crate) fn change(
         &mut self,
         alloc: Global,
         origin: Origin,
         change: &Change,
-    ) -> Result<(), AllocError>
+    ) -> Result<bool, AllocError>
         requires { Fits (entry_at (items_of self.old) origin) change.now }
         ensures changed { OnOk result (items_of self.new
             ≡ with_entry (items_of self.old) (entry_after (items_of self.old) origin change.now)) }
+        ensures is_new { IfOk result (λ is_new. is_new ≡ is_none (entry_at (items_of self.old) origin)) }
         ensures unchanged { OnErr result (items_of self.new ≡ items_of self.old) }
         ensures room { IsTrue (has_room self.old origin) → IsOk result }
     {
         match self {
             Entries::Empty => {
                 *self = Entries::One(first_entry(origin, change));
-                Ok(())
+                Ok(true)
             }
             Entries::One(old) => {
                 if old.origin == origin {
                     old.contribution = contribution_after(Some(old.contribution), change);
-                    return Ok(());
+                    return Ok(false);
                 }
                 let two = two_entries(alloc, *old, origin, change)?;
                 *self = Entries::Many(two);
-                Ok(())
+                Ok(true)
             }
-            Entries::Many(entries) => {
-                change_entry(entries, origin, change)?;
-                Ok(())
-            }
+            Entries::Many(entries) => change_entry(entries, origin, change),
         }
     }
 

@@ -1,5 +1,5 @@
 //! An archive as a ring of rows.
-ghost use Rattle.std.specs.Prelude.{◌≡◌, ◌≤◌, ◌<◌, ◌+ℤ◌, ◌-ℤ◌, ◌<ℤ◌, ◌≤ℤ◌, pos, IsTrue, IsFalse, IsOk, OnOk, OnErr, Some};
+ghost use Rattle.std.specs.Prelude.{◌≡◌, ◌≤◌, ◌<◌, ◌+◌, ◌+ℤ◌, ◌-ℤ◌, ◌<ℤ◌, ◌≤ℤ◌, ℤ, pos, IsTrue, IsFalse, IsOk, OnOk, OnErr, Some};
 ghost use Rattle.std.proofs.Props.{props};
 ghost use Rattle.std.specs.FinMap as fin;
 ghost use Rattle.rr_join.specs.Maps.{trimmed};
@@ -21,15 +21,17 @@ use std::alloc::{AllocError, Global};
 
 /// The cells of one archive of one series, as a ring of rows.
 ///
-/// `row` takes constant time. So do `ready`, `put` and `join_cell` in a row of one origin, and they
-/// take no memory where the block of the row is made; in a row of more they are linear in its
-/// entries. `cell_count` is linear in the rows, `cell_at` in those before the cell, and `next_cell`
-/// in those up to the cell.
+/// `row` and `cell_count` take constant time. So do `ready`, `put` and `join_cell` in a row of one
+/// origin that is not after the newest slot, and they take no memory where the block of the row is
+/// made; in a row of more origins they are linear in its entries, and after the newest slot in the
+/// slots that are passed, at most the rows. `cell_at` is linear in the rows before the cell, and
+/// `next_cell` in those up to the cell.
 #[derive(Drop)]
 pub struct RingArchive {
     newest: Option<i64>,
+    count: usize,
     ring: Ring,
-    ghost held: { IsHeld newest ring } by { Prim.hlevel (props, coded_rows) },
+    ghost held: { IsHeld newest count ring } by { Prim.hlevel (props, coded_rows) },
 }
 
 /// How many of `rows` rows from a first one on are before a slot.
@@ -45,6 +47,22 @@ fn rows_before(slot: i64, first: i64, rows: u32) -> u32
     (slot - first) as u32
 }
 
+/// How many of `rows` rows are past the horizon as the newest slot moves on to a later one.
+fn rows_passed(newest: i64, top: i64, rows: u32) -> u32
+    requires newest { IsSlot newest }
+    requires top { IsSlot top }
+    requires later { newest ≤ℤ top }
+    ensures at_most { result ≤ rows }
+    ensures before { (newest +ℤ pos result) ≤ℤ top }
+    ensures all { result < rows → newest +ℤ pos result ≡ top }
+{
+    if i64::from(rows) <= top - newest {
+        rows
+    } else {
+        (top - newest) as u32
+    }
+}
+
 impl RingArchive {
     /// The first slot of the live rows up to the newest.
     fn first_slot(&self, newest: i64) -> i64
@@ -52,6 +70,25 @@ impl RingArchive {
         ensures { result ≡ (newest -ℤ pos self.now.ring.rows) +ℤ pos 1 }
     {
         newest - i64::from(self.ring.rows) + 1
+    }
+
+    /// How many cells are past the horizon once the newest slot is this one.
+    fn dead_cells(&self, top: i64) -> usize
+        requires slot { IsSlot top }
+        requires later { (newest : ℤ) → self.now.newest ≡ Some newest → newest ≤ℤ top }
+        ensures { result + fin.len (fin.retain_keys (cells_in self.now.newest self.now.ring)
+            (λ p. is_above self.now.ring.rows (Some top) p.slot))
+            ≡ fin.len (cells_in self.now.newest self.now.ring) }
+    {
+        let Some(newest) = self.newest else {
+            return 0;
+        };
+        let first = self.first_slot(newest);
+        let mut dead = 0;
+        for k in 0..rows_passed(newest, top, self.ring.rows) {
+            dead += self.ring.row(first + i64::from(k)).len();
+        }
+        dead
     }
 
     /// Changes the cell of a slot and an origin. A change that is past the horizon is passed over.
@@ -75,8 +112,11 @@ impl RingArchive {
         }
         // Origins have 16 bits, so the cells can be counted.
         let _number = origin.get();
-        self.ring.change(slot, origin, change)?;
-        self.newest = Some(later(self.newest, slot));
+        let newest = later(self.newest, slot);
+        let dead = self.dead_cells(newest);
+        let is_new = self.ring.change(slot, origin, change)?;
+        self.count = self.count - dead + usize::from(is_new);
+        self.newest = Some(newest);
         Ok(())
     }
 }
@@ -97,6 +137,7 @@ impl Archive for RingArchive {
     fn new(alloc: Global, rows: u32) -> RingArchive {
         RingArchive {
             newest: None,
+            count: 0,
             ring: Ring::new(alloc, rows),
         }
     }
@@ -149,15 +190,7 @@ impl Archive for RingArchive {
     }
 
     fn cell_count(&self) -> usize {
-        let Some(newest) = self.newest else {
-            return 0;
-        };
-        let first = self.first_slot(newest);
-        let mut count = 0;
-        for k in 0..self.ring.rows {
-            count += self.ring.row(first + i64::from(k)).len();
-        }
-        count
+        self.count
     }
 
     fn cell_at(&self, i: usize) -> Option<(i64, Entry)> {
@@ -197,6 +230,7 @@ impl Archive for RingArchive {
     fn copy(&self, alloc: Global) -> Result<RingArchive, AllocError> {
         Ok(RingArchive {
             newest: self.newest,
+            count: self.count,
             ring: self.ring.copy(alloc)?,
         })
     }

@@ -1,5 +1,5 @@
 //! What is stored in a ring: read, changed and copied.
-ghost use Rattle.std.specs.Prelude.{◌≡◌, ◌<◌, ◌≤◌, ℤ, [], length, IsTrue, IsOk, OnOk, OnErr, IfOk};
+ghost use Rattle.std.specs.Prelude.{◌≡◌, ◌<◌, ◌≤◌, ℤ, [], length, is_none, IsTrue, IsOk, OnOk, OnErr, IfOk};
 ghost use Rattle.rr_archive.specs.Row.{entry_at};
 ghost use Rattle.rr_archive.specs.Changes.{Fits, entry_after};
 ghost use Rattle.rr_ring.specs.Blocks.{items_by_position};
@@ -68,17 +68,18 @@ impl Ring {
         self.blocks[position / BLOCK_ROWS].make_room(len, position % BLOCK_ROWS, slot, origin)
     }
 
-    /// Changes the entry of an origin in a slot. What is stored of another slot with the same
-    /// position is written over.
+    /// Changes the entry of an origin in a slot, and says whether it is a new one. What is stored of
+    /// another slot with the same position is written over.
     pub(crate) fn change(
         &mut self,
         slot: i64,
         origin: Origin,
         change: &Change,
-    ) -> Result<(), AllocError>
+    ) -> Result<bool, AllocError>
         requires { Fits (entry_at (row_at self.old slot) origin) change.now }
         ensures changed { OnOk result (IsRowChanged self.old.rows slot
             (entry_after (row_at self.old slot) origin change.now) (row_at self.old) (row_at self.new)) }
+        ensures is_new { IfOk result (λ is_new. is_new ≡ is_none (entry_at (row_at self.old slot) origin)) }
         ensures unchanged { OnErr result (row_at self.new ≡ row_at self.old) }
         ensures room { IsTrue (has_room self.old slot origin) → IsOk result }
         ensures rows { self.new.rows ≡ self.old.rows }

@@ -1,5 +1,5 @@
 //! One stored row: a slot and its entries.
-ghost use Rattle.std.specs.Prelude.{◌≡◌, IsTrue, IsOk, OnOk, OnErr, IfOk, Some};
+ghost use Rattle.std.specs.Prelude.{◌≡◌, is_none, IsTrue, IsOk, OnOk, OnErr, IfOk, Some};
 ghost use Rattle.rr_archive.specs.Row.{entry_at, with_entry};
 ghost use Rattle.rr_archive.specs.Changes.{Fits, entry_after};
 ghost use Rattle.rr_ring.specs.StoredRows.{items_at, has_room_at, is_blank, stored};
@@ -39,19 +39,22 @@ impl StoredRow {
         }
     }
 
-    /// Changes the entry of an origin in a slot. The row of another slot is written over.
+    /// Changes the entry of an origin in a slot, and says whether it is a new one. The row of another
+    /// slot is written over.
     pub(crate) fn change(
         &mut self,
         alloc: Global,
         slot: i64,
         origin: Origin,
         change: &Change,
-    ) -> Result<(), AllocError>
+    ) -> Result<bool, AllocError>
         requires { Fits (entry_at (items_at (Some self.old) slot) origin) change.now }
         ensures changed { OnOk result (stored self.new ≡ (
           slot,
           with_entry (items_at (Some self.old) slot) (entry_after (items_at (Some self.old) slot) origin change.now),
         )) }
+        ensures is_new { IfOk result (λ is_new. is_new
+            ≡ is_none (entry_at (items_at (Some self.old) slot) origin)) }
         ensures unchanged { OnErr result (stored self.new ≡ stored self.old) }
         ensures room { IsTrue (has_room_at (Some self.old) slot origin) → IsOk result }
     {
@@ -60,7 +63,7 @@ impl StoredRow {
         }
         self.slot = slot;
         self.entries.restart(origin, change);
-        Ok(())
+        Ok(true)
     }
 
     /// Makes room for an entry of an origin in a slot. Another slot's row is room enough.

@@ -124,7 +124,7 @@ fn copies_are_independent(rt: HostRuntime) -> Result<(), Fail> {
 fn a_ring_without_cells_is_small(rt: HostRuntime) -> Result<(), Fail> {
     assert_eq!(rt;
         (mem::size_of::<RingArchive>(), mem::size_of::<Entry>()),
-        (48, 96)
+        (56, 96)
     );
     Ok(())
 }

@@ -1,7 +1,7 @@
 use Rattle.std.proofs.Common.{rules, ◌≡◌, ◌<◌, length, sym, ap, ◌∙◌, subst, refl, true≢false, Some, to_z, of_z, w64}
-use Rattle.std.specs.Prelude.{slice_get, IsTrue, IsOk}
+use Rattle.std.specs.Prelude.{slice_get, is_none, IsTrue, IsOk}
 use Rattle.std.proofs.lemmas.Option.{slice_get-get_or}
-use Rattle.std.proofs.lemmas.Result.{on_ok_weaker, on_err_weaker}
+use Rattle.std.proofs.lemmas.Result.{on_ok_weaker, on_err_weaker, IfOk-weaker}
 use Rattle.rr_archive.specs.Row.{entry_at}
 use Rattle.rr_archive.specs.Changes.{Fits}
 use Rattle.rr_ring.specs.declared.stored_row.StoredRow.{StoredRow}
@@ -50,3 +50,13 @@ returns-clause-room c = λ room.
     let within : c.args.number < length made.rows.items = search rules in
     let has : slice_get made.rows.items c.args.number ≡ Some was = slice_get-get_or made.rows.items c.args.number was within ∙ ap (λ x. Some x) (sym c.index_mut.ensures.value) in
     c.change.ensures.room (subst (λ z. IsTrue (has_room_at (Some was) z c.args.origin)) (sym slot) (block_room c.args.self.now made c.args.number was c.args.slot c.args.origin c.make_rows.ensures.kept has room))
+
+pub returns-clause-is_new : goal.returns-clause-is_new
+returns-clause-is_new c =
+    let made = c.make_rows.new.self in
+    let was : StoredRow = c.index_mut.result.now in
+    let slot : to_z w64 (of_z w64 c.args.slot) ≡ c.args.slot = search rules in
+    let within : c.args.number < length made.rows.items = search rules in
+    let has : slice_get made.rows.items c.args.number ≡ Some was = slice_get-get_or made.rows.items c.args.number was within ∙ ap (λ x. Some x) (sym c.index_mut.ensures.value) in
+    let here = block_read made c.args.number was c.args.slot has ∙ ap (λ f. f c.args.number c.args.slot) c.make_rows.ensures.same in
+    IfOk-weaker c.change.result _ _ (λ _ is. is ∙ ap (λ es. is_none (entry_at es c.args.origin)) here) (rw slot at c.change.ensures.is_new)

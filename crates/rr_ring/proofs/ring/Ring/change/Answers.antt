@@ -1,7 +1,7 @@
 use Rattle.std.proofs.Common.{rules, ◌≡◌, ◌<◌, ◌/◌, ◌%◌, length, sym, ap, ◌∙◌, subst, refl, true≢false, Some, to_z, of_z, w64}
-use Rattle.std.specs.Prelude.{slice_get, IsTrue, IsOk}
+use Rattle.std.specs.Prelude.{slice_get, is_none, IsTrue, IsOk}
 use Rattle.std.proofs.lemmas.Option.{slice_get-get_or}
-use Rattle.std.proofs.lemmas.Result.{on_ok_weaker, on_err_weaker}
+use Rattle.std.proofs.lemmas.Result.{on_ok_weaker, on_err_weaker, IfOk-weaker}
 use Rattle.rr_archive.specs.Row.{entry_at}
 use Rattle.rr_archive.specs.Changes.{Fits}
 use Rattle.rr_ring.specs.declared.block.TheConstants.{BLOCK_ROWS}
@@ -68,3 +68,10 @@ returns-clause-room c = λ room.
     let at = c.position-position.result in
     let here = subst (λ k. IsTrue (has_room_by_position ring.blocks.items k c.args.slot c.args.origin)) (sym f.at) room in
     c.change.ensures.room (subst (λ z. IsTrue (has_room_in c.index_mut.result.now (at % BLOCK_ROWS) z c.args.origin)) (sym f.slot) (blocks_room ring.blocks.items c.add_blocks.new.self.blocks.items at c.index_mut.result.now c.args.slot c.args.origin c.add_blocks.ensures.kept f.has here))
+
+pub returns-clause-is_new : goal.returns-clause-is_new
+returns-clause-is_new c =
+    let f = found c.before.before.before in
+    let slot = f.slot in
+    let here = row_read c.args.self.now c.add_blocks.new.self.blocks.items c.position-position.result c.index_mut.result.now c.args.slot f.at f.has c.add_blocks.ensures.same in
+    IfOk-weaker c.change.result _ _ (λ _ is. is ∙ ap (λ es. is_none (entry_at es c.args.origin)) here) (rw slot at c.change.ensures.is_new)

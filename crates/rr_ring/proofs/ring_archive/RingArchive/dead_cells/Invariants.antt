@@ -3,7 +3,7 @@ use Rattle.std.specs.FinMap.{len}
 use Rattle.rr_ring.specs.Ring.{row_at}
 use Rattle.rr_ring.specs.RingCells.{cells_by}
 use Rattle.rr_ring.proofs.WalkLemmas.{cells_left}
-use Rattle.rr_ring.proofs.ring_archive.RingArchiveArchive.cell_count.Given as goal
+use Rattle.rr_ring.proofs.ring_archive.RingArchive.dead_cells.Given as goal
 
 abbrev pub invariant-loop-k : goal.invariant-loop-k
-invariant-loop-k l = l.count + length (cells_left (row_at l.self.ring) l.first l.self.ring.rows l.k) ≡ len (cells_by l.self.ring.rows l.self.newest (row_at l.self.ring))
+invariant-loop-k l = l.dead + length (cells_left (row_at l.self.ring) l.first l.self.ring.rows l.k) ≡ len (cells_by l.self.ring.rows l.self.newest (row_at l.self.ring))
