@@ -58,10 +58,19 @@ unfoldable pub giver_frames : ℕ → Giver → Result (List (List ℕ)) GossipF
 giver_frames zero g = Ok []
 giver_frames (suc most) g = giver_sends g >>= λ next. and_frames next.1 (giver_frames most next.0)
 
--- and those of a puller whose cells are m all the while
-unfoldable pub puller_frames : ℕ → Cells → Layout → Puller → Result (List (List ℕ)) GossipFault
-puller_frames zero m s p = Ok []
-puller_frames (suc most) m s p = puller_sends m s p >>= λ next. and_frames next.1 (puller_frames most m s next.0)
+-- the same, with the puller after them
+abbrev pub and_later : Puller → Option (List ℕ) → Result (Puller × List (List ℕ)) GossipFault → Result (Puller × List (List ℕ)) GossipFault
+and_later p None later = Ok (p, [])
+and_later p (Some frame) later = later >>= λ x. Ok (x.0, frame ∷ x.1)
+
+-- a puller whose cells are m all the while, after the frames that it sends in a row, at most so many, and these frames
+unfoldable pub puller_frames : ℕ → Cells → Layout → Puller → Result (Puller × List (List ℕ)) GossipFault
+puller_frames zero m s p = Ok (p, [])
+puller_frames (suc most) m s p = puller_sends m s p >>= λ next. and_later next.0 next.1 (puller_frames most m s next.0)
+
+-- a puller that has sent so many frames, the last among them, and taken so many
+abbrev pub waiting : ℕ → ℕ → ℕ → Puller
+waiting sent taken limit = record { stage = puller.Waiting; sent = sent; taken = taken; limit = limit }
 
 -- ---- laws
 
@@ -75,7 +84,7 @@ GiversReply =
 abbrev pub PullersSend : Type 0
 PullersSend =
     (s : Layout) (m : Cells) (limit most : ℕ) → length (sent s (versions_of m)) ≤ limit → length (sent s (versions_of m)) ≤ most
-    → puller_frames most m s (first_puller limit) ≡ Ok (sent s (versions_of m))
+    → puller_frames most m s (first_puller limit) ≡ Ok (waiting (length (sent s (versions_of m))) 0 limit, sent s (versions_of m))
 
 -- ---- what is taken
 
@@ -104,13 +113,25 @@ GiversTake =
 abbrev pub PullersTake : Type 0
 PullersTake =
     (s : Layout) (m : Cells) (es : List NamedCell) (sent taken limit : ℕ) → IsLayout s → AreLeft (s, es) → taken + length (reply s es) ≤ limit
-    → puller_after s (record { stage = puller.Waiting; sent = sent; taken = taken; limit = limit }) m (contents (reply s es))
+    → puller_after s (waiting sent taken limit) m (contents (reply s es))
     ≡ Ok (record { stage = puller.Done; sent = sent; taken = taken + length (reply s es); limit = limit }, join_cells s m es)
 
--- so a pull that completes leaves the join of both sides' cells, where equal versions of one cell mean equal contents
-abbrev pub PullsBringTheJoin : Type 0
-PullsBringTheJoin =
-    (s : Layout) (m given : Cells) (sent limit : ℕ) → IsLayout s → IsTrimmed s m → All (IsCellOf s) (entries given) → AgreeAtVersions given m
-    → length (reply s (newer_cells (versions_of m) (entries given))) ≤ limit
-    → puller_after s (record { stage = puller.Waiting; sent = sent; taken = 0; limit = limit }) m (contents (reply s (newer_cells (versions_of m) (entries given))))
-    ≡ Ok (record { stage = puller.Done; sent = sent; taken = length (reply s (newer_cells (versions_of m) (entries given))); limit = limit }, join s m given)
+-- a whole session of at most so many frames each way: a puller of the cells m sends its frames, a giver of the cells
+-- `given` takes them and replies, and the puller takes the reply
+pub record IsSession (s : Layout) (m given : Cells) (limit : ℕ) (after : Cells) : Type 0 where
+  pub puller : Puller
+  pub frames : List (List ℕ)
+  pub is_sent : puller_frames limit m s (first_puller limit) ≡ Ok (puller, frames)
+  pub giver : Giver
+  pub is_heard : giver_after given s (first_giver limit) (contents frames) ≡ Ok giver
+  pub pages : List (List ℕ)
+  pub is_replied : giver_frames limit giver ≡ Ok pages
+  pub last : Puller
+  pub is_joined : puller_after s puller m (contents pages) ≡ Ok (last, after)
+
+-- it leaves the join of both sides' cells, where equal versions of one cell mean equal contents
+abbrev pub SessionsBringTheJoin : Type 0
+SessionsBringTheJoin =
+    (s : Layout) (m given : Cells) (limit : ℕ) → IsLayout s → IsTrimmed s m → All (IsCellOf s) (entries m) → All (IsCellOf s) (entries given) → AgreeAtVersions given m
+    → length (sent s (versions_of m)) ≤ limit → length (reply s (newer_cells (versions_of m) (entries given))) ≤ limit
+    → IsSession s m given limit (join s m given)
