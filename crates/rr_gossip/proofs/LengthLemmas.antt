@@ -59,8 +59,10 @@ entries_len s (v ∷ vs) all =
     omega (arith, ap length (flat_map-cons entry_text v vs), length-append (entry_text v) (flat_map entry_text vs), entry_len v, key, entries_len s vs all.1)
 
 -- and fit into a frame
-pub summary_fits : (s : Layout) (names : List Name) → length names ≤ MAX_ENTRIES → All (λ n. IsNameOf s (owned_name n)) names → length (summary_text (map owned_name names)) < MAX_FRAME_LEN
+pub summary_len : (s : Layout) (vs : List NamedVersion) → length vs ≤ MAX_ENTRIES → AllByRecursion (IsNameOf s) vs → length (summary_text vs) < MAX_FRAME_LEN
 unfolding summary_text
+summary_len s vs few all = omega (arith, length-append (to_be_bytes w16 (length vs)) (flat_map entry_text vs), entries_len s vs all, few)
+
+pub summary_fits : (s : Layout) (names : List Name) → length names ≤ MAX_ENTRIES → All (λ n. IsNameOf s (owned_name n)) names → length (summary_text (map owned_name names)) < MAX_FRAME_LEN
 summary_fits s names few all =
-    let vs = map owned_name names in
-    omega (arith, length-append (to_be_bytes w16 (length vs)) (flat_map entry_text vs), length-map owned_name names, entries_len s vs (all_mapped (IsNameOf s) owned_name names (recursion_from_All (λ n. IsNameOf s (owned_name n)) names all)), few)
+    summary_len s (map owned_name names) (omega (arith, length-map owned_name names, few)) (all_mapped (IsNameOf s) owned_name names (recursion_from_All (λ n. IsNameOf s (owned_name n)) names all))

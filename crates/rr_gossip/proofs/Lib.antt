@@ -8,3 +8,5 @@ pub mod JoinLemmas
 pub mod ListedLemmas
 pub mod ReplyLemmas
 pub mod SentLemmas
+pub mod TakenLemmas
+pub mod JoinedLemmas

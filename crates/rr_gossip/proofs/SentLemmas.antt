@@ -26,7 +26,7 @@ use Rattle.rr_gossip.specs.Frame.{frame_text}
 use Rattle.rr_gossip.specs.Giver.{counted}
 use Rattle.rr_gossip.specs.Puller.{as_name, last_listed, names_sent, some_sent, stage_sends, puller_sends}
 use Rattle.rr_gossip.specs.Summary.{summary_text}
-use Rattle.rr_gossip.specs.Transcript.{pieces, and_frames, puller_frames, PullersSend}
+use Rattle.rr_gossip.specs.Transcript.{pieces, and_later, puller_frames, PullersSend}
 use Rattle.rr_gossip.proofs.PagesLemmas.{drop_taken, drop_twice}
 use Rattle.rr_gossip.proofs.ReplyLemmas.{under}
 
@@ -131,26 +131,26 @@ module _ (m : Cells) (s : Layout) (limit : ℕ) where
       ap (λ r. r >>= λ (x : Stage × Option (List ℕ)). unless why.TooManyFrames (is_some x.1 && nat_le limit before) (Ok (record { stage = x.0; sent = counted before x.1; taken = 0; limit = limit }, x.1))) sends
       ∙ ap (λ b. unless why.TooManyFrames (true && b) (Ok (record { stage = next; sent = before + 1; taken = 0; limit = limit }, Some frame))) (under before limit lt)
 
-  none_after : (most before : ℕ) → puller_frames most m s (at Waiting before) ≡ Ok []
+  none_after : (most before : ℕ) → puller_frames most m s (at Waiting before) ≡ Ok (at Waiting before, [])
   unfolding puller_frames puller_sends at
   none_after zero before = refl
   none_after (suc most) before = refl
 
-  frames_from : (stage next : Stage) (frame : List ℕ) (before most : ℕ) (later : List (List ℕ)) → before < limit → stage_sends m s stage ≡ Ok (next, Some frame) → puller_frames most m s (at next (before + 1)) ≡ Ok later → puller_frames (suc most) m s (at stage before) ≡ Ok (frame ∷ later)
+  frames_from : (stage next : Stage) (frame : List ℕ) (before most : ℕ) (end : Puller) (later : List (List ℕ)) → before < limit → stage_sends m s stage ≡ Ok (next, Some frame) → puller_frames most m s (at next (before + 1)) ≡ Ok (end, later) → puller_frames (suc most) m s (at stage before) ≡ Ok (end, frame ∷ later)
   unfolding puller_frames
-  frames_from stage next frame before most later lt sends rest =
-      ap (λ r. r >>= λ (x : Puller × Option (List ℕ)). and_frames x.1 (puller_frames most m s x.0)) (one_sent stage next frame before lt sends)
-      ∙ ap (λ r. r >>= λ (frames : List (List ℕ)). Ok (frame ∷ frames)) rest
+  frames_from stage next frame before most end later lt sends rest =
+      ap (λ r. r >>= λ (x : Puller × Option (List ℕ)). and_later x.0 x.1 (puller_frames most m s x.0)) (one_sent stage next frame before lt sends)
+      ∙ ap (λ r. r >>= λ (x : Puller × List (List ℕ)). Ok (x.0, frame ∷ x.1)) rest
 
   abbrev names : ℕ → List NamedVersion → List (List ℕ)
   names k vs = map (λ piece. frame_text kind.Summary (summary_text piece)) (pieces k MAX_ENTRIES vs) ++ frame_text kind.SummaryEnd [] ∷ []
 
-  end_alone : (after : Option Name) (before most : ℕ) → [] ≡ map named_version (cells_after (name_in after) (entries m)) → before + 1 ≤ limit → 1 ≤ most → puller_frames most m s (at (Listing after) before) ≡ Ok (frame_text kind.SummaryEnd [] ∷ [])
+  end_alone : (after : Option Name) (before most : ℕ) → [] ≡ map named_version (cells_after (name_in after) (entries m)) → before + 1 ≤ limit → 1 ≤ most → puller_frames most m s (at (Listing after) before) ≡ Ok (at Waiting (before + 1), frame_text kind.SummaryEnd [] ∷ [])
   end_alone after before zero is room more = absurd (omega arith)
   end_alone after before (suc most) is room more =
-      frames_from (Listing after) Waiting (frame_text kind.SummaryEnd []) before most [] (omega arith) (ap (λ ws. some_sent (names_sent (take MAX_ENTRIES ws))) (sym is)) (none_after most (before + 1))
+      frames_from (Listing after) Waiting (frame_text kind.SummaryEnd []) before most (at Waiting (before + 1)) [] (omega arith) (ap (λ ws. some_sent (names_sent (take MAX_ENTRIES ws))) (sym is)) (none_after most (before + 1))
 
-  sends : (k : ℕ) (after : Option Name) (vs : List NamedVersion) (before most : ℕ) → vs ≡ map named_version (cells_after (name_in after) (entries m)) → length vs ≤ k → before + length (names k vs) ≤ limit → length (names k vs) ≤ most → puller_frames most m s (at (Listing after) before) ≡ Ok (names k vs)
+  sends : (k : ℕ) (after : Option Name) (vs : List NamedVersion) (before most : ℕ) → vs ≡ map named_version (cells_after (name_in after) (entries m)) → length vs ≤ k → before + length (names k vs) ≤ limit → length (names k vs) ≤ most → puller_frames most m s (at (Listing after) before) ≡ Ok (at Waiting (before + length (names k vs)), names k vs)
   unfolding pieces
   sends zero after [] before most is few room more = end_alone after before most is room more
   sends zero after (v ∷ vs) before most is few room more = absurd (omega arith)
@@ -160,13 +160,21 @@ module _ (m : Cells) (s : Layout) (limit : ℕ) where
       let piece = take MAX_ENTRIES (v ∷ vs) in
       let left = drop MAX_ENTRIES (v ∷ vs) in
       let less = length-drop MAX_ENTRIES (v ∷ vs) in
-      frames_from (Listing after) (Listing (last_listed piece)) (frame_text kind.Summary (summary_text piece)) before most (names k left) (omega arith) (ap (λ ws. some_sent (names_sent (take MAX_ENTRIES ws))) (sym is))
-      (sends k (last_listed piece) left (before + 1) most (sym (next_left m after 255 v vs is)) (omega arith) (omega arith) (omega arith))
+      frames_from (Listing after) (Listing (last_listed piece)) (frame_text kind.Summary (summary_text piece)) before most _ (names k left) (omega arith) (ap (λ ws. some_sent (names_sent (take MAX_ENTRIES ws))) (sym is))
+      (sends k (last_listed piece) left (before + 1) most (sym (next_left m after 255 v vs is)) (omega arith) (omega arith) (omega arith)
+      ∙ ap (λ n. Ok (at Waiting n, names k left)) (one_later before (length (names k left))))
+    where
+      one_later : (a b : ℕ) → a + 1 + b ≡ a + suc b
+      one_later a b = omega arith
 
 pub pullers_send : PullersSend
 unfolding at
 pullers_send s m limit zero room more = absurd (omega arith)
 pullers_send s m limit (suc most) room more =
     let vs = versions_of m in
-    frames_from m s limit Opening (Listing None) (frame_text kind.Hello (schema_bytes s)) 0 most (names m s limit (length vs) vs) (omega arith) refl
-    (sends m s limit (length vs) None vs 1 most refl (omega arith) (omega arith) (omega arith))
+    frames_from m s limit Opening (Listing None) (frame_text kind.Hello (schema_bytes s)) 0 most _ (names m s limit (length vs) vs) (omega arith) refl
+    (sends m s limit (length vs) None vs 1 most refl (omega arith) (omega arith) (omega arith)
+    ∙ ap (λ n. Ok (at m s limit Waiting n, names m s limit (length vs) vs)) (one_first (length (names m s limit (length vs) vs))))
+  where
+    one_first : (n : ℕ) → 1 + n ≡ suc n
+    one_first n = omega arith

@@ -40,7 +40,7 @@ names_push : (front : List NamedVersion) (v : NamedVersion) → map (λ (w : Nam
 names_push [] v = refl
 names_push (x ∷ front) v = ap (λ (l : List CellName). x.0 ∷ l) (names_push front v)
 
-last_name_push : (front : List NamedVersion) (v : NamedVersion) → last_name (front ++ v ∷ []) ≡ Some v.0
+pub last_name_push : (front : List NamedVersion) (v : NamedVersion) → last_name (front ++ v ∷ []) ≡ Some v.0
 last_name_push front v = ap (last_or _) (names_push front v) ∙ last_push _ (map (λ (w : NamedVersion). w.0) front) v.0
 
 pub record AreRead (s : Layout) (old : List NamedVersion) (n : ℕ) (bytes : List ℕ) (new : List NamedVersion) (rest : List ℕ) : Type 0 where

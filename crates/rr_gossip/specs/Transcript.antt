@@ -1,23 +1,29 @@
 -- The frames of a whole session, one way and the other.
-use Rattle.std.specs.Prelude.{◌≡◌, ℕ, zero, suc, ◌+◌, ◌≤◌, List, [], ◌∷◌, ◌++◌, length, map, take, drop, Option, None, Some, Result, Ok}
+use Rattle.std.specs.Prelude.{◌≡◌, ℕ, zero, suc, ◌+◌, ◌≤◌, List, [], ◌∷◌, ◌++◌, length, map, take, drop, Option, None, Some, Result, Ok, All}
 use Rattle.rr_base.specs.declared.limits.TheConstants.{MAX_PAGE_CELLS}
 use Rattle.rr_base.specs.Results.{◌>>=◌}
-use Rattle.rr_base.specs.Schema.{Layout}
+use Rattle.rr_base.specs.Schema.{Layout, IsLayout}
+use Rattle.std.specs.FinMap.{entries}
+use Rattle.rr_delta.specs.Difference.{IsSummary, newer_cells}
+use Rattle.rr_delta.specs.Laws.{AgreeAtVersions}
+use Rattle.rr_gossip.specs.Pages.{AreLeft}
+use Rattle.rr_replica.specs.Joins.{join, join_cells}
 use Rattle.rr_base.specs.SchemaBytes.{schema_bytes}
-use Rattle.rr_delta.specs.Names.{NamedVersion, versions_of}
+use Rattle.rr_delta.specs.Names.{NamedVersion, IsNameOf, versions_of}
 use Rattle.rr_page.specs.Page.{page_text}
 use Rattle.rr_page.specs.Version.{latest}
-use Rattle.rr_replica.specs.CellBounds.{NamedCell}
-use Rattle.rr_replica.specs.Cells.{Cells}
+use Rattle.rr_replica.specs.CellBounds.{NamedCell, IsCellOf}
+use Rattle.rr_replica.specs.Cells.{Cells, IsTrimmed}
 use Rattle.rr_gossip.specs.declared.fault.GossipFault.{GossipFault}
 use Rattle.rr_gossip.specs.declared.frame.Kind.TheVariants as kind
 use Rattle.rr_gossip.specs.declared.giver.Giver.{Giver}
 use Rattle.rr_gossip.specs.declared.giver.Stage.TheVariants as giver
 use Rattle.rr_gossip.specs.declared.puller.Puller.{Puller}
+use Rattle.rr_gossip.specs.declared.puller.Stage.TheVariants as puller
 use Rattle.rr_gossip.specs.declared.summary.TheConstants.{MAX_ENTRIES}
 use Rattle.rr_gossip.specs.Frame.{frame_text}
-use Rattle.rr_gossip.specs.Giver.{giver_sends}
-use Rattle.rr_gossip.specs.Puller.{first_puller, puller_sends}
+use Rattle.rr_gossip.specs.Giver.{first_giver, giver_sends, giver_takes}
+use Rattle.rr_gossip.specs.Puller.{first_puller, puller_sends, puller_takes}
 use Rattle.rr_gossip.specs.Summary.{summary_text}
 
 -- ---- what is to be sent
@@ -52,10 +58,19 @@ unfoldable pub giver_frames : ℕ → Giver → Result (List (List ℕ)) GossipF
 giver_frames zero g = Ok []
 giver_frames (suc most) g = giver_sends g >>= λ next. and_frames next.1 (giver_frames most next.0)
 
--- and those of a puller whose cells are m all the while
-unfoldable pub puller_frames : ℕ → Cells → Layout → Puller → Result (List (List ℕ)) GossipFault
-puller_frames zero m s p = Ok []
-puller_frames (suc most) m s p = puller_sends m s p >>= λ next. and_frames next.1 (puller_frames most m s next.0)
+-- the same, with the puller after them
+abbrev pub and_later : Puller → Option (List ℕ) → Result (Puller × List (List ℕ)) GossipFault → Result (Puller × List (List ℕ)) GossipFault
+and_later p None later = Ok (p, [])
+and_later p (Some frame) later = later >>= λ x. Ok (x.0, frame ∷ x.1)
+
+-- a puller whose cells are m all the while, after the frames that it sends in a row, at most so many, and these frames
+unfoldable pub puller_frames : ℕ → Cells → Layout → Puller → Result (Puller × List (List ℕ)) GossipFault
+puller_frames zero m s p = Ok (p, [])
+puller_frames (suc most) m s p = puller_sends m s p >>= λ next. and_later next.0 next.1 (puller_frames most m s next.0)
+
+-- a puller that has sent so many frames, the last among them, and taken so many
+abbrev pub waiting : ℕ → ℕ → ℕ → Puller
+waiting sent taken limit = record { stage = puller.Waiting; sent = sent; taken = taken; limit = limit }
 
 -- ---- laws
 
@@ -69,4 +84,54 @@ GiversReply =
 abbrev pub PullersSend : Type 0
 PullersSend =
     (s : Layout) (m : Cells) (limit most : ℕ) → length (sent s (versions_of m)) ≤ limit → length (sent s (versions_of m)) ≤ most
-    → puller_frames most m s (first_puller limit) ≡ Ok (sent s (versions_of m))
+    → puller_frames most m s (first_puller limit) ≡ Ok (waiting (length (sent s (versions_of m))) 0 limit, sent s (versions_of m))
+
+-- ---- what is taken
+
+-- what follows the length of each frame
+abbrev pub contents : List (List ℕ) → List (List ℕ)
+contents frames = map (λ frame. drop 4 frame) frames
+
+-- a giver after frames, whose source has the cells m
+unfoldable pub giver_after : Cells → Layout → Giver → List (List ℕ) → Result Giver GossipFault
+giver_after m s g [] = Ok g
+giver_after m s g (c ∷ cs) = giver_takes m s g c >>= λ next. giver_after m s next.0 cs
+
+-- a puller after frames, and the cells of its target, which were m
+unfoldable pub puller_after : Layout → Puller → Cells → List (List ℕ) → Result (Puller × Cells) GossipFault
+puller_after s p m [] = Ok (p, m)
+puller_after s p m (c ∷ cs) = puller_takes s p c >>= λ next. puller_after s next.0.0 (join_cells s m next.0.1) cs
+
+-- a giver that takes what a puller sends then has the difference against it to send
+abbrev pub GiversTake : Type 0
+GiversTake =
+    (s : Layout) (m : Cells) (vs : List NamedVersion) (limit : ℕ) → IsLayout s → All (IsNameOf s) vs → IsSummary vs → length (sent s vs) ≤ limit
+    → giver_after m s (first_giver limit) (contents (sent s vs))
+    ≡ Ok (record { stage = giver.Giving (s, newer_cells vs (entries m)); sent = 0; taken = length (sent s vs); limit = limit })
+
+-- a puller that takes what a giver replies joins all of it, in order, and is done
+abbrev pub PullersTake : Type 0
+PullersTake =
+    (s : Layout) (m : Cells) (es : List NamedCell) (sent taken limit : ℕ) → IsLayout s → AreLeft (s, es) → taken + length (reply s es) ≤ limit
+    → puller_after s (waiting sent taken limit) m (contents (reply s es))
+    ≡ Ok (record { stage = puller.Done; sent = sent; taken = taken + length (reply s es); limit = limit }, join_cells s m es)
+
+-- a whole session of at most so many frames each way: a puller of the cells m sends its frames, a giver of the cells
+-- `given` takes them and replies, and the puller takes the reply
+pub record IsSession (s : Layout) (m given : Cells) (limit : ℕ) (after : Cells) : Type 0 where
+  pub puller : Puller
+  pub frames : List (List ℕ)
+  pub is_sent : puller_frames limit m s (first_puller limit) ≡ Ok (puller, frames)
+  pub giver : Giver
+  pub is_heard : giver_after given s (first_giver limit) (contents frames) ≡ Ok giver
+  pub pages : List (List ℕ)
+  pub is_replied : giver_frames limit giver ≡ Ok pages
+  pub last : Puller
+  pub is_joined : puller_after s puller m (contents pages) ≡ Ok (last, after)
+
+-- it leaves the join of both sides' cells, where equal versions of one cell mean equal contents
+abbrev pub SessionsBringTheJoin : Type 0
+SessionsBringTheJoin =
+    (s : Layout) (m given : Cells) (limit : ℕ) → IsLayout s → IsTrimmed s m → All (IsCellOf s) (entries m) → All (IsCellOf s) (entries given) → AgreeAtVersions given m
+    → length (sent s (versions_of m)) ≤ limit → length (reply s (newer_cells (versions_of m) (entries given))) ≤ limit
+    → IsSession s m given limit (join s m given)

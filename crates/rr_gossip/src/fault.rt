@@ -22,7 +22,7 @@ pub enum GossipFault {
     UnexpectedFrame,
     /// There are more frames than the session may have.
     TooManyFrames,
-    /// The two sides have other schemas.
+    /// The other side has another schema.
     SchemaDiffers,
     /// The writer failed.
     WriteFailed,

@@ -1,6 +1,6 @@
 //! The laws of the bytes of frames, with no work to do: the functions have empty bodies.
 ghost use Rattle.rr_gossip.specs.Laws.{FramesAreTheirText, SummariesAreTheirText};
-ghost use Rattle.rr_gossip.specs.Transcript.{GiversReply, PullersSend};
+ghost use Rattle.rr_gossip.specs.Transcript.{GiversReply, GiversTake, PullersSend, PullersTake, SessionsBringTheJoin};
 
 /// A frame is read exactly where it is the text of a kind and a body, and not too long.
 pub fn frames_are_their_text()
@@ -23,4 +23,22 @@ pub fn pullers_send()
 /// the end, where its session may have as many frames.
 pub fn givers_reply()
     ensures { GiversReply }
+{}
+
+/// Frame by frame, from `Giver::new` on, a giver that takes what a puller sends has the difference
+/// against all names and versions to send.
+pub fn givers_take()
+    ensures { GiversTake }
+{}
+
+/// Frame by frame, from the end of the names on, a puller that takes what a giver replies joins all of
+/// it, in order.
+pub fn pullers_take()
+    ensures { PullersTake }
+{}
+
+/// A whole session leaves the join of the cells of both sides, where equal versions of one cell mean
+/// equal contents, and the session may have as many frames.
+pub fn sessions_bring_the_join()
+    ensures { SessionsBringTheJoin }
 {}

@@ -8,6 +8,8 @@
 //! [`Giver`] over a source (`specs/Giver.antt`). `next_frame` answers the next frame that it sends,
 //! `take` is handed each frame of the other side, and both are held to one function of the machine, the
 //! frame and the cells. Bytes that are no frame of the session are refused by name ([`GossipFault`]).
+//! [`laws`] says which frames they send in a row (`specs/Transcript.antt`), and that a pull that
+//! completes leaves the join of the cells of both sides.
 #![tactic(auto)]
 
 mod fault;
@@ -24,4 +26,5 @@ pub use fault::GossipFault;
 pub use frame::{Kind, MAX_FRAME_LEN, content_of, frame_bytes};
 pub use giver::Giver;
 pub use puller::Puller;
+pub use rr_delta::{Source, Target};
 pub use summary::{MAX_ENTRIES, read_summary, summary_bytes};

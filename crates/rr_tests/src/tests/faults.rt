@@ -5,6 +5,7 @@ use rr_base::{OriginFault, SchemaFault};
 use rr_cluster::{CommandFault, RunFault};
 use rr_feed::FeedFault;
 use rr_fetch::{AnswerFault, RequestFault};
+use rr_gossip::GossipFault;
 use rr_key::KeyFault;
 use rr_line::LineFault;
 use rr_page::PageFault;
@@ -188,6 +189,38 @@ fn page_faults_say_what_is_wrong(rt: HostRuntime) -> Result<(), Fail> {
         push_line(rt.alloc(), &mut text, fault.name(), fault)?;
     }
     assert_eq!(rt; text.as_str(), PAGE_FAULTS);
+    Ok(())
+}
+
+const GOSSIP_FAULTS: &str = "ReadFailed: the input could not be read\n\
+    Ended: the input ended inside the session\n\
+    FrameTooLong: a frame may have at most 300,000 bytes\n\
+    BadFrame: the frame is not one of a session\n\
+    UnexpectedFrame: the frame is not due here\n\
+    TooManyFrames: the session has too many frames\n\
+    SchemaDiffers: the other side has another schema\n\
+    WriteFailed: the output could not be written\n\
+    Memory: out of memory\n\
+    Failed: the session failed before\n";
+
+#[test]
+fn gossip_faults_say_what_is_wrong(rt: HostRuntime) -> Result<(), Fail> {
+    let mut text = String::new(rt.alloc());
+    for fault in [
+        GossipFault::ReadFailed,
+        GossipFault::Ended,
+        GossipFault::FrameTooLong,
+        GossipFault::BadFrame,
+        GossipFault::UnexpectedFrame,
+        GossipFault::TooManyFrames,
+        GossipFault::SchemaDiffers,
+        GossipFault::WriteFailed,
+        GossipFault::Memory,
+        GossipFault::Failed,
+    ] {
+        push_line(rt.alloc(), &mut text, fault.name(), fault)?;
+    }
+    assert_eq!(rt; text.as_str(), GOSSIP_FAULTS);
     Ok(())
 }
 
