@@ -1,3 +1,4 @@
+pub mod FrontLemmas
 pub mod WriteLemmas
 pub mod SaveLemmas
 pub mod WidthLemmas

@@ -2,6 +2,7 @@
 ghost use Rattle.std.specs.Prelude.{◌≡◌, ◌≤◌, Err, OnOk};
 ghost use Rattle.std.specs.Io.KnownBytes.{IsAtEnd};
 ghost use Rattle.rr_base.specs.Counted.{inner_of, failures_of, HasRisen};
+ghost use Rattle.rr_base.specs.Stream.{ConsumesSome};
 ghost use Rattle.rr_snapshot.specs.SnapshotReading.{digest_at, end_at};
 ghost use Rattle.rr_snapshot.specs.Stream.{StreamGives};
 
@@ -21,6 +22,8 @@ pub(crate) fn digest_from<R: Read>(
 ) -> Result<(), LoadFault>
     ensures read { StreamGives (λ x. x) result (R.remaining (inner_of input.old))
         (R.remaining (inner_of input.new)) (digest_at digest.now) }
+    ensures front { ConsumesSome (R.remaining (inner_of input.old))
+        (R.remaining (inner_of input.new)) }
     ensures count { failures_of input.old ≤ failures_of input.new }
     ensures failed { result ≡ Err LoadFault.ReadFailed
         → HasRisen (failures_of input.old) (failures_of input.new) }
@@ -39,6 +42,8 @@ pub(crate) fn end_from<R: Read>(input: &mut Counted<R>) -> Result<(), LoadFault>
     ensures read { StreamGives (λ x. x) result (R.remaining (inner_of input.old))
         (R.remaining (inner_of input.new)) end_at }
     ensures end { OnOk result (IsAtEnd (R.remaining (inner_of input.new))) }
+    ensures front { ConsumesSome (R.remaining (inner_of input.old))
+        (R.remaining (inner_of input.new)) }
     ensures count { failures_of input.old ≤ failures_of input.new }
     ensures failed { result ≡ Err LoadFault.ReadFailed
         → HasRisen (failures_of input.old) (failures_of input.new) }

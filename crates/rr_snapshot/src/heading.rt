@@ -2,6 +2,7 @@
 ghost use Rattle.std.specs.Prelude.{◌≡◌, ◌≢◌, ◌≤◌, ◌+◌, IfOk, OnOk, Err, length};
 ghost use Rattle.std.specs.Int.{w32};
 ghost use Rattle.rr_base.specs.Counted.{inner_of, failures_of, HasRisen};
+ghost use Rattle.rr_base.specs.Stream.{ConsumesSome};
 ghost use Rattle.rr_base.specs.SchemaBytes.{schema_bytes};
 ghost use Rattle.rr_page.specs.Reading.{number_at};
 ghost use Rattle.rr_snapshot.specs.Stream.{Digests, StreamGives};
@@ -82,6 +83,8 @@ fn start_into<R: Read>(
         (R.remaining (inner_of input.new)) (λ all. as_in_page (start_at own.now all)) }
     ensures digest { OnOk result (Digests (R.remaining (inner_of input.old))
         (R.remaining (inner_of input.new)) hasher.old hasher.new) }
+    ensures front { ConsumesSome (R.remaining (inner_of input.old))
+        (R.remaining (inner_of input.new)) }
     ensures count { failures_of input.old ≤ failures_of input.new }
     ensures failed { result ≡ Err LoadFault.ReadFailed
         → HasRisen (failures_of input.old) (failures_of input.new) }
@@ -103,6 +106,8 @@ fn start_from<R: Read>(
         (R.remaining (inner_of input.new)) (λ all. as_in_page (start_at (schema_bytes schema.now) all)) }
     ensures digest { OnOk result (Digests (R.remaining (inner_of input.old))
         (R.remaining (inner_of input.new)) hasher.old hasher.new) }
+    ensures front { ConsumesSome (R.remaining (inner_of input.old))
+        (R.remaining (inner_of input.new)) }
     ensures count { failures_of input.old ≤ failures_of input.new }
     ensures failed { result ≡ Err LoadFault.ReadFailed
         → HasRisen (failures_of input.old) (failures_of input.new) }
@@ -118,6 +123,8 @@ fn count_from<R: Read>(input: &mut Counted<R>, hasher: &mut Sha256) -> Result<u3
         (R.remaining (inner_of input.new)) (λ all. as_in_page (number_at w32 all)) }
     ensures digest { OnOk result (Digests (R.remaining (inner_of input.old))
         (R.remaining (inner_of input.new)) hasher.old hasher.new) }
+    ensures front { ConsumesSome (R.remaining (inner_of input.old))
+        (R.remaining (inner_of input.new)) }
     ensures count { failures_of input.old ≤ failures_of input.new }
     ensures failed { result ≡ Err LoadFault.ReadFailed
         → HasRisen (failures_of input.old) (failures_of input.new) }
@@ -140,6 +147,8 @@ pub(crate) fn head_from<R: Read>(
         (R.remaining (inner_of input.new)) (head_at (schema_bytes schema.now)) }
     ensures digest { OnOk result (Digests (R.remaining (inner_of input.old))
         (R.remaining (inner_of input.new)) hasher.old hasher.new) }
+    ensures front { ConsumesSome (R.remaining (inner_of input.old))
+        (R.remaining (inner_of input.new)) }
     ensures count { failures_of input.old ≤ failures_of input.new }
     ensures failed { result ≡ Err LoadFault.ReadFailed
         → HasRisen (failures_of input.old) (failures_of input.new) }

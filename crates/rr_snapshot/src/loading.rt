@@ -3,6 +3,7 @@ ghost use Rattle.std.specs.Prelude.{◌≡◌, ◌≤◌, Err, None, IfSome, IfO
 ghost use Rattle.std.specs.Io.KnownBytes.{IsAtEnd};
 ghost use Rattle.std.specs.Option.{option_map};
 ghost use Rattle.rr_base.specs.Counted.{inner_of, failures_of, HasRisen};
+ghost use Rattle.rr_base.specs.Stream.{ConsumesSome};
 ghost use Rattle.rr_page.specs.PageReading.{is_after, cells_at};
 ghost use Rattle.rr_replica.specs.Listing.{owned_cell};
 ghost use Rattle.rr_snapshot.specs.Loading.{HasJoined, GivesIfRead, loaded_at};
@@ -47,6 +48,8 @@ fn join_cells_from<A: Archive, R: Read>(
         (λ all. as_in_page (cells_at version replica.old.schema None count all)) }
     ensures digest { OnOk result (Digests (R.remaining (inner_of input.old))
         (R.remaining (inner_of input.new)) hasher.old hasher.new) }
+    ensures front { ConsumesSome (R.remaining (inner_of input.old))
+        (R.remaining (inner_of input.new)) }
     ensures count { failures_of input.old ≤ failures_of input.new }
     ensures failed { result ≡ Err LoadFault.ReadFailed
         → HasRisen (failures_of input.old) (failures_of input.new) }
@@ -77,7 +80,7 @@ fn join_cells_from<A: Archive, R: Read>(
 /// [`read_cell`](rr_page::read_cell), and then `OutOfOrder` where its name is not greater than the
 /// one before; `BadDigest`; `TrailingBytes`; and last `OriginUsed` where the new origin is that of
 /// the snapshot or of one of its cells, those past the horizon too. A refused load gives no replica,
-/// and some bytes of the input may have been read. The cost is that of joining the cells, and linear
+/// and a front of the input has been read. The cost is that of joining the cells, and linear
 /// in the bytes.
 pub fn load<A: Archive, R: Read>(
     alloc: Global,
@@ -93,6 +96,8 @@ pub fn load<A: Archive, R: Read>(
     ensures origin { IfOk result (λ replica. replica.origin ≡ new_origin) }
     ensures next { IfOk result (λ replica. replica.next ≡ 1) }
     ensures end { OnOk result (IsAtEnd (R.remaining (inner_of input.new))) }
+    ensures front { ConsumesSome (R.remaining (inner_of input.old))
+        (R.remaining (inner_of input.new)) }
     ensures count { failures_of input.old ≤ failures_of input.new }
     ensures failed { result ≡ Err LoadFault.ReadFailed
         → HasRisen (failures_of input.old) (failures_of input.new) }

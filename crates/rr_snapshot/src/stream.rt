@@ -2,6 +2,7 @@
 ghost use Rattle.std.specs.Prelude.{◌≡◌, ◌++◌, ◌<◌, ◌≤◌, List, ℕ, IfOk, OnErr, Err, length, take};
 ghost use Rattle.std.specs.Io.KnownBytes.{Consumes, IsAtEnd};
 ghost use Rattle.rr_base.specs.Counted.{inner_of, failures_of, HasRisen};
+ghost use Rattle.rr_base.specs.Stream.{ConsumesSome};
 ghost use Rattle.rr_page.specs.Reading.{cell_at};
 ghost use Rattle.rr_page.specs.Version.{fields_len};
 ghost use Rattle.rr_page.specs.declared.writing.TheConstants.{FIELDS_LEN};
@@ -67,6 +68,8 @@ pub(crate) fn fill_up_to<R: Read>(
         (R.remaining (inner_of input.new)) (take filled buffer.old) (take now buffer.new)) }
     ensures end { IfOk result (λ now. now < len → IsAtEnd (R.remaining (inner_of input.new))) }
     ensures buffer_len { length buffer.new ≡ length buffer.old }
+    ensures front { ConsumesSome (R.remaining (inner_of input.old))
+        (R.remaining (inner_of input.new)) }
     ensures count { failures_of input.old ≤ failures_of input.new }
     ensures failed { OnErr result (HasRisen (failures_of input.old) (failures_of input.new)) }
 {
@@ -91,6 +94,8 @@ pub(crate) fn cell_from<R: Read>(
     ensures fits { IfOk result (λ x. x.1 ≤ MAX_CELL_LEN) }
     ensures cell { IfOk result (λ x. IsCellOf schema.now (owned_cell x.0)) }
     ensures buffer_len { length buffer.new ≡ length buffer.old }
+    ensures front { ConsumesSome (R.remaining (inner_of input.old))
+        (R.remaining (inner_of input.new)) }
     ensures count { failures_of input.old ≤ failures_of input.new }
     ensures failed { result ≡ Err LoadFault.ReadFailed
         → HasRisen (failures_of input.old) (failures_of input.new) }

@@ -11,6 +11,7 @@ use Rattle.rr_page.specs.Reading.{number_at}
 use Rattle.rr_snapshot.specs.declared.fault.LoadFault.{LoadFault}
 use Rattle.rr_snapshot.specs.declared.fault.LoadFault.TheVariants.{BadOrigin}
 use Rattle.rr_snapshot.specs.SnapshotReading.{as_in_page, start_at, head_at}
+use Rattle.rr_snapshot.proofs.FrontLemmas.{read_then}
 use Rattle.rr_snapshot.proofs.ChainLemmas.{Gave, passes, refuses, then_gave, then_refused, fails_then, then_fails, Digests-then}
 use Rattle.rr_snapshot.proofs.heading.head_from.Goals as goal
 
@@ -74,3 +75,11 @@ returns-clause-read g c =
 pub returns-clause-digest : goal.returns-clause-digest
 returns-clause-digest g c =
     Digests-then (g.R.Read.remaining (inner_of c.args.input.now)) (g.R.Read.remaining (inner_of c.start_from.new.input)) (g.R.Read.remaining (inner_of c.count_from.new.input)) c.args.hasher.now c.start_from.new.hasher c.count_from.new.hasher c.in_ok-version.ensures.digest c.in_ok-count.ensures.digest
+
+pub returns-in_err-count-clause-front : goal.returns-in_err-count-clause-front
+returns-in_err-count-clause-front g c =
+    read_then (g.R.Read.remaining (inner_of c.args.input.now)) (g.R.Read.remaining (inner_of c.start_from.new.input)) (g.R.Read.remaining (inner_of c.count_from.new.input)) c.start_from.ensures.front c.count_from.ensures.front
+
+pub returns-clause-front : goal.returns-clause-front
+returns-clause-front g c =
+    read_then (g.R.Read.remaining (inner_of c.args.input.now)) (g.R.Read.remaining (inner_of c.start_from.new.input)) (g.R.Read.remaining (inner_of c.count_from.new.input)) c.start_from.ensures.front c.count_from.ensures.front

@@ -9,6 +9,7 @@ use Rattle.rr_page.specs.PageReading.{is_after, last_name}
 use Rattle.rr_page.proofs.LoopLemmas.{last_name_push}
 use Rattle.rr_replica.specs.Listing.{owned_cell}
 use Rattle.rr_snapshot.specs.Loading.{HasJoined}
+use Rattle.rr_snapshot.proofs.FrontLemmas.{none_read, read_then}
 use Rattle.rr_snapshot.proofs.CellsLemmas.{nothing_yet, goes_on_stream, falls_stream, passed_made, done_stream, HasJoined-none, HasJoined-more, same_schema, same_schema_read}
 use Rattle.rr_snapshot.proofs.loading.join_cells_from.Goals as goal
 
@@ -17,6 +18,7 @@ loop-init g c =
     let old = g.R.Read.remaining (inner_of c.args.input.now) in
     record {
       cells = ([], nothing_yet c.args.version c.args.replica.now.schema c.args.count old, refl, HasJoined-none c.args.replica.now);
+      front = none_read old;
       digest = ([], Consumes-nil old, λ m h. subst (Holds256 c.args.hasher.now) (sym (append-nil m)) h);
       count = search rules;
     }
@@ -63,6 +65,7 @@ loop-preserved g c =
         last_name_push so_far.0 e,
         HasJoined-more c.args.replica.now c.loop.replica c.join_cell.new.self c.loop.has_own c.eq-has_own.result _ so_far.0 e so_far.3 c.in_ok-join_cell.ensures.joined (c.eq-has_own.ensures ∙ ap (λ (o : ℕ). e.0.origin == o) c.origin-origin.ensures) refl,
       );
+      front = read_then old now new c.loop.invariant.front c.cell_from.ensures.front;
       digest = (digest.0 ++ piece, Consumes-trans old now new digest.0 piece digest.1 c.in_ok-cell.ensures.bytes, λ m h. subst (Holds256 c.update.new.self) (append_assoc m digest.0 piece) (c.update.ensures (m ++ digest.0) (digest.2 m h)));
       count = search rules;
     }
@@ -71,3 +74,15 @@ pub returns-clause-read : goal.returns-clause-read
 returns-clause-read g c =
     let so_far = c.loop.invariant.cells in
     (so_far.0, so_far.3, done_stream c.args.version c.args.replica.now.schema so_far.0 c.args.count c.loop.counter (g.R.Read.remaining (inner_of c.args.input.now)) (g.R.Read.remaining (inner_of c.loop.input)) c.loop-test.false so_far.1)
+
+pub returns-in_err-cell-clause-front : goal.returns-in_err-cell-clause-front
+returns-in_err-cell-clause-front g c =
+    read_then (g.R.Read.remaining (inner_of c.args.input.now)) (g.R.Read.remaining (inner_of c.loop.input)) (g.R.Read.remaining (inner_of c.cell_from.new.input)) c.loop.invariant.front c.cell_from.ensures.front
+
+pub returns-then-not-is_after-clause-front : goal.returns-then-not-is_after-clause-front
+returns-then-not-is_after-clause-front g c =
+    read_then (g.R.Read.remaining (inner_of c.args.input.now)) (g.R.Read.remaining (inner_of c.loop.input)) (g.R.Read.remaining (inner_of c.cell_from.new.input)) c.loop.invariant.front c.cell_from.ensures.front
+
+pub returns-in_err-join_cell-clause-front : goal.returns-in_err-join_cell-clause-front
+returns-in_err-join_cell-clause-front g c =
+    read_then (g.R.Read.remaining (inner_of c.args.input.now)) (g.R.Read.remaining (inner_of c.loop.input)) (g.R.Read.remaining (inner_of c.cell_from.new.input)) c.loop.invariant.front c.cell_from.ensures.front

@@ -1,6 +1,7 @@
 use Rattle.std.proofs.Common.{◌≡◌, ◌≤◌, List}
 use Rattle.std.specs.Option.{option_map}
 use Rattle.rr_base.specs.Counted.{inner_of, failures_of}
+use Rattle.rr_base.specs.Stream.{ConsumesSome}
 use Rattle.rr_page.specs.PageReading.{last_name}
 use Rattle.rr_replica.specs.CellBounds.{NamedCell}
 use Rattle.rr_replica.specs.Listing.{owned_cell}
@@ -14,5 +15,6 @@ abbrev pub invariant-loop : goal.invariant-loop
 invariant-loop g l = record {
   cells : (es : List NamedCell) × IsSoFar l.version l.initial.replica.schema es l.count l.counter (g.R.Read.remaining (inner_of l.initial.input)) (g.R.Read.remaining (inner_of l.input)) × (last_name es ≡ option_map (λ c. (owned_cell c).0) l.before) × HasJoined l.initial.replica l.replica l.has_own es;
   digest : Digests (g.R.Read.remaining (inner_of l.initial.input)) (g.R.Read.remaining (inner_of l.input)) l.initial.hasher l.hasher;
+  front : ConsumesSome (g.R.Read.remaining (inner_of l.initial.input)) (g.R.Read.remaining (inner_of l.input));
   count : failures_of l.initial.input ≤ failures_of l.input;
 }

@@ -9,6 +9,7 @@ use Rattle.rr_replica.specs.Holding.{Holding}
 use Rattle.rr_snapshot.specs.Loading.{is_among}
 use Rattle.rr_snapshot.specs.SnapshotReading.{as_in_page}
 use Rattle.rr_snapshot.specs.declared.fault.LoadFault.TheVariants.{ReadFailed, Memory}
+use Rattle.rr_snapshot.proofs.FrontLemmas.{read_then}
 use Rattle.rr_snapshot.proofs.CellsLemmas.{joined_replica}
 use Rattle.rr_snapshot.proofs.LoadLemmas.{body_read, head_failed, cells_failed, digest_failed, end_failed, all_read, used_origin, new_origin}
 use Rattle.rr_snapshot.proofs.loading.load.Goals as goal
@@ -91,3 +92,23 @@ returns-clause-read g c =
     let free : (h.saver == o) || is_among o joined.0 ≡ false = (λ i. sym c.eq.ensures i || sym own i) ∙ or_from c.eq.result c.in_ok-has_own.has_own c.if-eq.false c.if-has_own.false in
     let is = joined_replica c.args.schema.now o c.in_ok-replica.replica c.join_cells_from.new.replica c.in_ok-has_own.has_own joined.0 c.in_ok-replica.ensures joined.1 c.if-has_own.false in
     new_origin c.args.schema.now o h.saver joined.0 c.join_cells_from.new.replica old free is read
+
+pub returns-in_err-has_own-clause-front : goal.returns-in_err-has_own-clause-front
+returns-in_err-has_own-clause-front g c =
+    read_then (g.R.Read.remaining (inner_of c.args.input.now)) (g.R.Read.remaining (inner_of c.head_from.new.input)) (g.R.Read.remaining (inner_of c.join_cells_from.new.input)) c.head_from.ensures.front c.join_cells_from.ensures.front
+
+pub returns-in_err-digest_from-clause-front : goal.returns-in_err-digest_from-clause-front
+returns-in_err-digest_from-clause-front g c =
+    read_then (g.R.Read.remaining (inner_of c.args.input.now)) (g.R.Read.remaining (inner_of c.join_cells_from.new.input)) (g.R.Read.remaining (inner_of c.digest_from.new.input)) (read_then (g.R.Read.remaining (inner_of c.args.input.now)) (g.R.Read.remaining (inner_of c.head_from.new.input)) (g.R.Read.remaining (inner_of c.join_cells_from.new.input)) c.head_from.ensures.front c.join_cells_from.ensures.front) c.digest_from.ensures.front
+
+pub returns-in_err-end_from-clause-front : goal.returns-in_err-end_from-clause-front
+returns-in_err-end_from-clause-front g c =
+    read_then (g.R.Read.remaining (inner_of c.args.input.now)) (g.R.Read.remaining (inner_of c.digest_from.new.input)) (g.R.Read.remaining (inner_of c.end_from.new.input)) (read_then (g.R.Read.remaining (inner_of c.args.input.now)) (g.R.Read.remaining (inner_of c.join_cells_from.new.input)) (g.R.Read.remaining (inner_of c.digest_from.new.input)) (read_then (g.R.Read.remaining (inner_of c.args.input.now)) (g.R.Read.remaining (inner_of c.head_from.new.input)) (g.R.Read.remaining (inner_of c.join_cells_from.new.input)) c.head_from.ensures.front c.join_cells_from.ensures.front) c.digest_from.ensures.front) c.end_from.ensures.front
+
+pub returns-then-eq-clause-front : goal.returns-then-eq-clause-front
+returns-then-eq-clause-front g c =
+    read_then (g.R.Read.remaining (inner_of c.args.input.now)) (g.R.Read.remaining (inner_of c.digest_from.new.input)) (g.R.Read.remaining (inner_of c.end_from.new.input)) (read_then (g.R.Read.remaining (inner_of c.args.input.now)) (g.R.Read.remaining (inner_of c.join_cells_from.new.input)) (g.R.Read.remaining (inner_of c.digest_from.new.input)) (read_then (g.R.Read.remaining (inner_of c.args.input.now)) (g.R.Read.remaining (inner_of c.head_from.new.input)) (g.R.Read.remaining (inner_of c.join_cells_from.new.input)) c.head_from.ensures.front c.join_cells_from.ensures.front) c.digest_from.ensures.front) c.end_from.ensures.front
+
+pub returns-clause-front : goal.returns-clause-front
+returns-clause-front g c =
+    read_then (g.R.Read.remaining (inner_of c.args.input.now)) (g.R.Read.remaining (inner_of c.digest_from.new.input)) (g.R.Read.remaining (inner_of c.end_from.new.input)) (read_then (g.R.Read.remaining (inner_of c.args.input.now)) (g.R.Read.remaining (inner_of c.join_cells_from.new.input)) (g.R.Read.remaining (inner_of c.digest_from.new.input)) (read_then (g.R.Read.remaining (inner_of c.args.input.now)) (g.R.Read.remaining (inner_of c.head_from.new.input)) (g.R.Read.remaining (inner_of c.join_cells_from.new.input)) c.head_from.ensures.front c.join_cells_from.ensures.front) c.digest_from.ensures.front) c.end_from.ensures.front

@@ -4,6 +4,7 @@ use Rattle.std.proofs.lemmas.List.{length-take}
 use Rattle.std.proofs.lemmas.Result.{err_from_is_err_and}
 use Rattle.rr_base.specs.Counted.{inner_of}
 use Rattle.rr_replica.specs.Listing.{owned_cell}
+use Rattle.rr_snapshot.proofs.FrontLemmas.{read_then}
 use Rattle.rr_snapshot.proofs.StreamLemmas.{stream_ok, stream_err}
 use Rattle.rr_snapshot.proofs.stream.cell_from.Goals as goal
 
@@ -49,3 +50,15 @@ returns-in_err-cell-clause-read g c =
           c.in_ok-head.ensures.bytes c.in_ok-got.ensures.bytes (λ lt. c.in_ok-head.ensures.end (omega (arith, head_len, lt))) (λ lt. c.in_ok-got.ensures.end (omega (arith, got_len, whole, lt))) (omega (arith, got_len, whole, most))
           _ e))
     ])
+
+pub returns-in_err-got-clause-front : goal.returns-in_err-got-clause-front
+returns-in_err-got-clause-front g c =
+    read_then (g.R.Read.remaining (inner_of c.args.input.now)) (g.R.Read.remaining (inner_of c.fill_up_to.new.input)) (g.R.Read.remaining (inner_of c.fill_up_to-2.new.input)) c.fill_up_to.ensures.front c.fill_up_to-2.ensures.front
+
+pub returns-in_err-cell-clause-front : goal.returns-in_err-cell-clause-front
+returns-in_err-cell-clause-front g c =
+    read_then (g.R.Read.remaining (inner_of c.args.input.now)) (g.R.Read.remaining (inner_of c.fill_up_to.new.input)) (g.R.Read.remaining (inner_of c.fill_up_to-2.new.input)) c.fill_up_to.ensures.front c.fill_up_to-2.ensures.front
+
+pub returns-clause-front : goal.returns-clause-front
+returns-clause-front g c =
+    read_then (g.R.Read.remaining (inner_of c.args.input.now)) (g.R.Read.remaining (inner_of c.fill_up_to.new.input)) (g.R.Read.remaining (inner_of c.fill_up_to-2.new.input)) c.fill_up_to.ensures.front c.fill_up_to-2.ensures.front
