@@ -4,13 +4,14 @@ use rr_archive::{Archive, PlainArchive};
 use rr_base::{ArchiveSpec, Origin, Schema};
 use rr_key::SeriesKey;
 use rr_replica::Replica;
+use rr_ring::RingArchive;
 use std::alloc::Global;
 use std::test::Fail;
 
 const MINUTE: i64 = 60_000_000_000;
 
 /// An empty replica of origin 1 with one archive of ten rows of a minute.
-fn replica(alloc: Global) -> Result<Replica<PlainArchive>, Fail> {
+fn replica<A: Archive>(alloc: Global) -> Result<Replica<A>, Fail> {
     let ten = ArchiveSpec {
         steps: 1,
         rows: 10,
@@ -31,7 +32,7 @@ fn slot_of<A: Archive>(replica: &Replica<A>, i: usize) -> i64 {
 
 #[test]
 fn a_new_replica_holds_nothing(rt: HostRuntime) -> Result<(), Fail> {
-    let replica = replica(rt.alloc())?;
+    let replica = replica::<PlainArchive>(rt.alloc())?;
     let key = SeriesKey::parse_text(rt.alloc(), b"m v")?;
     let rows = (replica.row(&key, 0, 0).len(), replica.row(&key, 1, 0).len());
     let head = (
@@ -47,21 +48,37 @@ fn a_new_replica_holds_nothing(rt: HostRuntime) -> Result<(), Fail> {
     Ok(())
 }
 
-#[test]
-fn a_million_samples_leave_ten_rows(rt: HostRuntime) -> Result<(), Fail> {
-    let mut replica = replica(rt.alloc())?;
-    let key = SeriesKey::parse_text(rt.alloc(), b"m v")?;
+/// How many cells a million samples leave, a minute apart, and the slots of the first and the tenth.
+fn left_of_a_million<A: Archive>(alloc: Global) -> Result<(usize, i64, i64), Fail> {
+    let mut replica = replica::<A>(alloc)?;
+    let key = SeriesKey::parse_text(alloc, b"m v")?;
     for k in 0..1_000_000u32 {
         replica.put(&key, i64::from(k) * MINUTE, 7)?;
     }
-    let slots = (slot_of(&replica, 0), slot_of(&replica, 9));
-    assert_eq!(rt; (replica.cell_count(), slots), (10, (999_990, 999_999)));
+    Ok((
+        replica.cell_count(),
+        slot_of(&replica, 0),
+        slot_of(&replica, 9),
+    ))
+}
+
+#[test]
+fn a_million_samples_leave_ten_rows(rt: HostRuntime) -> Result<(), Fail> {
+    let left = left_of_a_million::<PlainArchive>(rt.alloc())?;
+    assert_eq!(rt; left, (10, 999_990, 999_999));
+    Ok(())
+}
+
+#[test]
+fn a_million_samples_leave_ten_rows_of_a_ring(rt: HostRuntime) -> Result<(), Fail> {
+    let left = left_of_a_million::<RingArchive>(rt.alloc())?;
+    assert_eq!(rt; left, (10, 999_990, 999_999));
     Ok(())
 }
 
 #[test]
 fn a_replica_lends_the_archives_of_a_series(rt: HostRuntime) -> Result<(), Fail> {
-    let mut replica = replica(rt.alloc())?;
+    let mut replica = replica::<PlainArchive>(rt.alloc())?;
     let key = SeriesKey::parse_text(rt.alloc(), b"m v")?;
     let other = SeriesKey::parse_text(rt.alloc(), b"m w")?;
     replica.put(&key, 0, 5)?;
