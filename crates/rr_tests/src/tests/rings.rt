@@ -35,13 +35,19 @@ fn the_ends_of_time_are_slots(rt: HostRuntime) -> Result<(), Fail> {
     Ok(())
 }
 
+/// Joins a cell of an origin into a slot, in room that is made for it.
+fn join_one(archive: &mut RingArchive, slot: u8, origin: Origin) -> Result<(), AllocError> {
+    let slot = i64::from(slot);
+    archive.ready(slot, origin)?;
+    archive.join_cell(slot, origin, &Contribution::first(1, 0, 0, 9))
+}
+
 /// Two rows, with cells of three origins in each of the slots 0 to 4.
 fn three_origins(alloc: Global, origins: [Origin; 3]) -> Result<RingArchive, AllocError> {
     let mut archive: RingArchive = Archive::new(alloc, 2);
-    for slot in 0..5i64 {
+    for slot in 0..5u8 {
         for origin in origins {
-            archive.ready(slot, origin)?;
-            archive.join_cell(slot, origin, &Contribution::first(1, 0, 0, 9))?;
+            join_one(&mut archive, slot, origin)?;
         }
     }
     Ok(archive)
@@ -49,15 +55,20 @@ fn three_origins(alloc: Global, origins: [Origin; 3]) -> Result<RingArchive, All
 
 /// How many cells `cell_at` and a walk by `next_cell` from before all of them give alike.
 fn alike(archive: &RingArchive, origin: Origin) -> usize {
-    let mut last = (-9, origin);
+    let mut slot_before = -9i64;
+    let mut origin_before = origin;
     for i in 0..archive.cell_count() {
         let Some((slot, entry)) = archive.cell_at(i) else {
             return i;
         };
-        if archive.next_cell(last.0, last.1) != Some((slot, entry)) {
+        let Some((next, found)) = archive.next_cell(slot_before, origin_before) else {
+            return i;
+        };
+        if next != slot || found != entry {
             return i;
         }
-        last = (slot, entry.origin);
+        slot_before = slot;
+        origin_before = entry.origin;
     }
     archive.cell_count()
 }
