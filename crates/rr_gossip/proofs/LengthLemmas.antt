@@ -44,7 +44,7 @@ page_fits s es layout page =
 pub schema_fits : (s : Layout) → IsLayout s → length (schema_bytes s) < MAX_FRAME_LEN
 schema_fits s layout = let few = layout.few_archives in omega (arith, schema_len s, few)
 
--- names that are listed of a number are no more than that
+-- where at most so many names are listed, there are no more of them
 pub few_listed : (names : List Name) (n : ℕ) (vs : List NamedVersion) → map owned_name names ≡ take n vs → length names ≤ n
 few_listed names n vs is = omega (arith, length-map owned_name names, ap length is, length-take n vs)
 

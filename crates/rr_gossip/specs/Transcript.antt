@@ -28,7 +28,7 @@ use Rattle.rr_gossip.specs.Summary.{summary_text}
 
 -- ---- what is to be sent
 
--- a list in pieces of n, the last of as many as are left; at most so many pieces
+-- a list cut into pieces of n, the last of as many as are left, up to a number of pieces
 unfoldable pub pieces : {X : Type 0} → ℕ → ℕ → List X → List (List X)
 pieces zero n xs = []
 pieces (suc most) n [] = []
