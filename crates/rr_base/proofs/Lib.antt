@@ -4,7 +4,7 @@ pub mod ChoiceLemmas
 pub mod PlaceLemmas
 pub mod Checked
 pub mod CutLemmas
-pub mod IntegerLemmas
+pub mod DigitsLemmas
 pub mod StreamLemmas
 pub mod DocumentLemmas
 pub mod SchemaBytesLemmas

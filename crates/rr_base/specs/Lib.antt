@@ -7,6 +7,7 @@ pub mod Fault
 pub mod Check
 pub mod Choice
 pub mod Text
+pub mod Digits
 pub mod Counted
 pub mod Stream
 pub mod Document

@@ -4,10 +4,10 @@ ghost use Rattle.std.specs.Prelude.{◌≡◌, option_map};
 ghost use Rattle.std.specs.Char.{is_ascii_digit};
 ghost use Rattle.std.specs.List.{list_all};
 ghost use Rattle.rr_base.specs.Text.{cut_at, is_digits, unsigned, number_at, integer_at};
+ghost use Rattle.rr_base.specs.Digits.{with_digit};
 
-use crate::bytes::MINUS;
+use crate::bytes::{MINUS, begins};
 use memchr::memchr;
-use std::str;
 
 /// The bytes before the first `delimiter`, and those after it. The cost is linear in the former.
 pub fn cut(delimiter: u8, text: &[u8]) -> Option<(&[u8], &[u8])>
@@ -32,30 +32,41 @@ fn has_only_digits(text: &[u8]) -> bool
     text.iter().all(|byte| byte.is_ascii_digit())
 }
 
-/// The number that decimal digits write, leading zeros allowed, if it is in `u64`.
+/// The number that decimal digits write, leading zeros allowed, if it is in `u64`. One pass.
 pub fn number(text: &[u8]) -> Option<u64>
     ensures { result ≡ number_at text.now }
 {
-    // `parse` would take a plus too.
-    if !is_digits(text) {
+    if text.is_empty() {
         return None;
     }
-    match str::from_utf8(text) {
-        Ok(text) => text.parse::<u64>().ok(),
-        Err(_) => None,
+    let mut number = 0;
+    let mut left = text;
+    while let [digit, rest @ ..] = left {
+        number = with_digit(number, *digit)?;
+        left = rest;
     }
+    Some(number)
 }
 
-/// The number that decimal digits after an optional minus write, if it is in `i64`.
+/// The number with one more digit, if the byte is a digit and the number is in `u64`.
+fn with_digit(number: u64, digit: u8) -> Option<u64>
+    ensures { result ≡ with_digit number digit }
+{
+    if !digit.is_ascii_digit() {
+        return None;
+    }
+    number.checked_mul(10)?.checked_add(u64::from(digit - b'0'))
+}
+
+/// The number that decimal digits after an optional minus write, if it is in `i64`. One pass.
 pub fn integer(text: &[u8]) -> Option<i64>
     ensures { result ≡ integer_at text.now }
 {
-    if !is_digits(unsigned(text)) {
-        return None;
-    }
-    match str::from_utf8(text) {
-        Ok(text) => text.parse::<i64>().ok(),
-        Err(_) => None,
+    let size = number(unsigned(text))?;
+    if begins(MINUS, text) {
+        0i64.checked_sub_unsigned(size)
+    } else {
+        i64::try_from(size).ok()
     }
 }
 

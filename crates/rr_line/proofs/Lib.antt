@@ -6,6 +6,7 @@ pub mod ScanLemmas
 pub mod ValueLemmas
 pub mod FieldLemmas
 pub mod FieldsLemmas
+pub mod IntegerLemmas
 pub mod TimeLemmas
 pub mod PointLemmas
 pub mod RepeatLemmas

@@ -1,5 +1,5 @@
 -- The time of a line, and its end.
-use Rattle.std.specs.Prelude.{◌≡◌, ℕ, ◌<◌, ℤ, pos, ◌*ℤ◌, ◌==◌, Bool, true, false, List, [], ◌++◌, length, Option, None, Some, ◌⊎◌}
+use Rattle.std.specs.Prelude.{◌≡◌, ℕ, ◌<◌, ℤ, pos, ◌*ℤ◌, ◌==◌, Bool, true, false, ◌&&◌, if◌then◌else◌, List, [], ◌++◌, length, Option, None, Some, ◌⊎◌}
 use Rattle.std.specs.List.{list_any, position_or_len}
 use Rattle.std.specs.Str.Parse.{signed_digits_value}
 use Rattle.rr_base.specs.Text.{is_digits, unsigned, fits_i64}
@@ -20,6 +20,11 @@ unit S = 1_000_000_000
 -- the nanoseconds that digits after an optional "-" write
 abbrev pub nanoseconds : Precision → List ℕ → ℤ
 nanoseconds precision digits = signed_digits_value 10 digits *ℤ pos (unit precision)
+
+-- the same, if the text is such digits and the nanoseconds are in i64
+abbrev pub time_of : Precision → List ℕ → Option ℤ
+time_of precision text =
+    if is_digits (unsigned text) && fits_i64 (nanoseconds precision text) then Some (nanoseconds precision text) else None
 
 -- whether a byte ends a word
 abbrev pub ends_word : ℕ → Bool

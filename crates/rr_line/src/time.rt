@@ -1,11 +1,9 @@
 //! The time of a line, and its end.
 
-ghost use Rattle.std.specs.Prelude.{◌≡◌, ◌≤◌, length, true, ok_or};
-ghost use Rattle.rr_base.specs.Text.{is_digits};
-ghost use Rattle.rr_base.specs.Text as text;
+ghost use Rattle.std.specs.Prelude.{◌≡◌, ◌≤◌, length};
 ghost use Rattle.rr_line.specs.Part.{skip_spaces};
-ghost use Rattle.rr_line.specs.Reading.{time_at, word_time, ending_at};
-ghost use Rattle.rr_line.specs.Time.{word_len};
+ghost use Rattle.rr_line.specs.Reading.{word_time, ending_at};
+ghost use Rattle.rr_line.specs.Time.{time_of, word_len};
 
 use crate::fault::LineFault;
 use crate::part::skip_spaces;
@@ -42,16 +40,19 @@ fn word_len(text: &[u8]) -> usize
 fn read_time(precision: Precision, word: &[u8], rest: &[u8]) -> Result<i64, LineFault>
     ensures { result ≡ word_time precision word.now rest.now }
 {
-    if !is_digits(unsigned(word)) || !skip_spaces(rest).is_empty() {
+    if !skip_spaces(rest).is_empty() {
         return Err(LineFault::BadTime);
     }
-    nanoseconds(precision, word).ok_or(LineFault::TimeRange)
+    match nanoseconds(precision, word) {
+        Some(time) => Ok(time),
+        None if is_digits(unsigned(word)) => Err(LineFault::TimeRange),
+        None => Err(LineFault::BadTime),
+    }
 }
 
 /// The nanoseconds that an integer writes, if they are in `i64`.
 fn nanoseconds(precision: Precision, word: &[u8]) -> Option<i64>
-    requires { is_digits (text.unsigned word.now) ≡ true }
-    ensures { ok_or result LineFault.TimeRange ≡ time_at precision word.now }
+    ensures { result ≡ time_of precision word.now }
 {
     let number = integer(word)?;
     number.checked_mul(precision.nanoseconds())

@@ -42,11 +42,13 @@ fn value_len(text: &[u8]) -> usize
 fn value_of(text: &[u8]) -> Result<i64, LineFault>
     ensures { result ≡ value_of text.now }
 {
-    match before_last(INTEGER_MARK, text) {
-        Some(digits) if is_digits(unsigned(digits)) => integer(digits).ok_or(
-            LineFault::IntegerRange,
-        ),
-        _ => Err(kind_fault(text)),
+    let Some(digits) = before_last(INTEGER_MARK, text) else {
+        return Err(kind_fault(text));
+    };
+    match integer(digits) {
+        Some(number) => Ok(number),
+        None if is_digits(unsigned(digits)) => Err(LineFault::IntegerRange),
+        None => Err(kind_fault(text)),
     }
 }
 

@@ -1,17 +1,16 @@
--- A text of digits is UTF-8, and `parse` reads its number.
-use Rattle.std.proofs.Common.{◌≡◌, true, ◌∙◌}
-use Rattle.rr_base.specs.Text.{is_digits}
-use Rattle.rr_base.proofs.IntegerLemmas.{number_read, text_of_number}
+-- Digits are taken one by one, from 0 on.
+use Rattle.std.proofs.Common.{rules, arith, ◌≡◌, ◌==◌, not, true, length, ◌∙◌, sym}
+use Rattle.rr_base.proofs.DigitsLemmas.{with_digits-none, with_digits-whole, with_digits-number}
 use Rattle.rr_base.proofs.text.number.Goals as goal
 
-pub returns-in-Ok : goal.returns-in-Ok
-returns-in-Ok c =
-    let digits : is_digits c.args.text.now ≡ true = cc in
-    let same = c.in-Ok.ensures.cases.0 in
-    let parsed = rw same at c.parse.ensures.value.0 in
-    c.ok.ensures.value ∙ number_read c.args.text.now c.parse.result parsed digits
+pub returns-in_err-number : goal.returns-in_err-number
+returns-in_err-number c =
+    let some : not (length c.args.text.now == 0) ≡ true = search rules in
+    let none = with_digits-none c.loop-left.number c.loop-left.left.now (omega arith) (search rules) in
+    c.from_residual.ensures ∙ sym none ∙ c.loop-left.invariant.0 ∙ with_digits-number c.args.text.now some
 
-pub returns-in-Err : goal.returns-in-Err
-returns-in-Err c =
-    let digits : is_digits c.args.text.now ≡ true = cc in
-    absurd (c.in-Err.ensures.cases.0 (text_of_number c.args.text.now digits))
+pub returns : goal.returns
+returns c =
+    let some : not (length c.args.text.now == 0) ≡ true = search rules in
+    let whole = with_digits-whole c.loop-left.number c.loop-left.left.now (omega arith) c.loop-left.invariant.1 in
+    sym whole ∙ c.loop-left.invariant.0 ∙ with_digits-number c.args.text.now some
