@@ -123,6 +123,17 @@ impl SeriesKey {
         Ok(SeriesKey { text })
     }
 
+    /// The key of a text that is known to be a key text, so that it isn't read again.
+    ///
+    /// The cost is a copy of the bytes.
+    pub fn of_text(alloc: Global, text: &[u8]) -> Result<SeriesKey, AllocError>
+        requires { IsKeyText text.now }
+        ensures { IfOk result (λ key. key ≡ text.now) }
+    {
+        let text = ArcSlice::from_slice(alloc, text)?;
+        Ok(SeriesKey { text })
+    }
+
     /// The key text.
     pub fn text(&self) -> &[u8]
         ensures value { result.now ≡ self.now }

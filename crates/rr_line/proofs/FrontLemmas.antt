@@ -1,5 +1,5 @@
 -- What the steps before the fields say of the length of keys.
-use Rattle.std.proofs.Common.{◌≡◌, ℕ, ◌+◌, ◌-◌, ◌≤◌, ℤ, false, ltb, eqb, List, [], length, Option, Result, Ok, refl, subst, arith}
+use Rattle.std.proofs.Common.{◌≡◌, ℕ, ◌+◌, ◌-◌, ◌≤◌, ℤ, false, ltb, eqb, List, [], length, take, Option, Result, Ok, refl, subst, arith}
 use Rattle.std.specs.List.{list_any}
 use Rattle.rr_base.specs.Bytes.{HasNoLineFeed}
 use Rattle.rr_base.specs.declared.limits.TheConstants.{MAX_KEY_TEXT, MAX_TAGS, MAX_FIELDS}
@@ -7,6 +7,7 @@ use Rattle.rr_key.specs.declared.class.Class.TheVariants.{Measurement}
 use Rattle.rr_line.specs.declared.fault.LineFault.{LineFault}
 use Rattle.rr_line.specs.declared.fault.LineFault.TheVariants.{NoMeasurement, NoFields}
 use Rattle.rr_line.specs.Field.{Field}
+use Rattle.rr_line.specs.Front.{front_text, IsPlain}
 use Rattle.rr_line.specs.Grammar.{is_nothing, LeadsToTags}
 use Rattle.rr_line.specs.Key.{has_long_key}
 use Rattle.rr_line.specs.Part.{skip_spaces}
@@ -14,7 +15,8 @@ use Rattle.rr_line.specs.Reading.{name_at, all_tags_at, fields_text_of, all_fiel
 use Rattle.rr_line.specs.Tag.{Tag}
 use Rattle.rr_line.proofs.AgreeLemmas.{Agrees, Holds, Agrees-ok, Agrees-unless}
 use Rattle.rr_line.proofs.FieldsLemmas.{HasFields, HasBadField, fields_agree}
-use Rattle.rr_line.proofs.KeyLemmas.{names_of_parts, front_size, tags_len, fields_good, long_by_size}
+use Rattle.rr_line.proofs.KeyFrontLemmas.{front_is}
+use Rattle.rr_line.proofs.KeyLemmas.{HasGoodNames, names_of_parts, front_size, tags_len, fields_good, long_by_size}
 use Rattle.rr_line.proofs.PartLemmas.{name_agrees}
 use Rattle.rr_line.proofs.PointLemmas.{leads_to_tags, leads_to_fields, are_fields}
 use Rattle.rr_line.proofs.TagLemmas.{HasTags, HasBadTag, tags_agree}
@@ -40,16 +42,28 @@ pub gap_within : (text : List ℕ) (measurement : List ℕ × List ℕ) (tags : 
 gap_within text measurement tags said name are =
     let size = front_size text measurement.0 tags.0 tags.1 (front_of_steps text measurement tags said name are) in omega (arith, size)
 
+-- the names before the fields are good
+names_of_steps : (text : List ℕ) (measurement : List ℕ × List ℕ) (tags : List Tag × List ℕ) (fields_text : List ℕ) → HasNoLineFeed text → is_nothing text ≡ false
+    → name_at Measurement NoMeasurement text ≡ Ok measurement → all_tags_at measurement.1 ≡ Ok tags → fields_text_of tags.1 ≡ Ok fields_text → HasGoodNames measurement.0 tags.0 × HasNoLineFeed fields_text
+names_of_steps text measurement tags fields_text none said name are gap =
+    let name_is = good_of (name_at Measurement NoMeasurement text) _ _ measurement (name_agrees Measurement NoMeasurement text) name in
+    let gap_is = good_of (fields_text_of tags.1) (λ t. (eqb (length (skip_spaces tags.1)) 0 ≡ false) × (skip_spaces tags.1 ≡ t)) _ fields_text (Agrees-unless NoFields (eqb (length (skip_spaces tags.1)) 0) (Ok (skip_spaces tags.1)) (λ t. skip_spaces tags.1 ≡ t) (λ fault. ⊥) (λ some. Agrees-ok (skip_spaces tags.1))) gap in
+    names_of_parts text measurement.0 tags.0 fields_text none (leads_to_fields text said measurement name_is tags (tags_of_step measurement.1 tags are) fields_text gap_is)
+
+-- what precedes the fields is so in key texts, where it is plain
+pub front_text_of_steps : (text : List ℕ) (measurement : List ℕ × List ℕ) (tags : List Tag × List ℕ) (fields_text : List ℕ) → HasNoLineFeed text → is_nothing text ≡ false
+    → name_at Measurement NoMeasurement text ≡ Ok measurement → all_tags_at measurement.1 ≡ Ok tags → fields_text_of tags.1 ≡ Ok fields_text
+    → IsPlain (take (length text - length tags.1) text) tags.0 → take (length text - length tags.1) text ≡ front_text measurement.0 tags.0
+front_text_of_steps text measurement tags fields_text none said name are gap plain =
+    front_is text measurement.0 tags.0 tags.1 (front_of_steps text measurement tags said name are) (names_of_steps text measurement tags fields_text none said name are gap).0 plain
+
 -- a key of the point is too long where one is by the length of what precedes the fields
 pub long_of_steps : (text : List ℕ) (measurement : List ℕ × List ℕ) (tags : List Tag × List ℕ) (fields_text : List ℕ) (fields : List Field × List ℕ) (time : Option ℤ) (front : ℕ) → HasNoLineFeed text → is_nothing text ≡ false
     → name_at Measurement NoMeasurement text ≡ Ok measurement → all_tags_at measurement.1 ≡ Ok tags → fields_text_of tags.1 ≡ Ok fields_text → all_fields_at fields_text ≡ Ok fields → front ≡ length text - length tags.1
     → has_long_key (record { measurement = measurement.0; tags = tags.0; fields = fields.0; time = time }) ≡ list_any (λ field. ltb MAX_KEY_TEXT (front + 1 + length field.0)) fields.0
 long_of_steps text measurement tags fields_text fields time front none said name are gap have is =
-    let leads = front_of_steps text measurement tags said name are in
-    let size = front_size text measurement.0 tags.0 tags.1 leads in
-    let name_is = good_of (name_at Measurement NoMeasurement text) _ _ measurement (name_agrees Measurement NoMeasurement text) name in
-    let gap_is = good_of (fields_text_of tags.1) (λ t. (eqb (length (skip_spaces tags.1)) 0 ≡ false) × (skip_spaces tags.1 ≡ t)) _ fields_text (Agrees-unless NoFields (eqb (length (skip_spaces tags.1)) 0) (Ok (skip_spaces tags.1)) (λ t. skip_spaces tags.1 ≡ t) (λ fault. ⊥) (λ some. Agrees-ok (skip_spaces tags.1))) gap in
-    let names = names_of_parts text measurement.0 tags.0 fields_text none (leads_to_fields text said measurement name_is tags (tags_of_step measurement.1 tags are) fields_text gap_is) in
+    let size = front_size text measurement.0 tags.0 tags.1 (front_of_steps text measurement tags said name are) in
+    let names = names_of_steps text measurement tags fields_text none said name are gap in
     let front_is : front ≡ length measurement.0 + tags_len tags.0 = omega (arith, is, size) in
     long_by_size (record { measurement = measurement.0; tags = tags.0; fields = fields.0; time = time }) front fields.0 names.0 front_is
     (fields_good fields_text fields.0 fields.1 names.1 (are_fields fields_text fields (fields_of_step fields_text fields have)))

@@ -15,6 +15,7 @@ pub mod GatheredLemmas
 pub mod NameLemmas
 pub mod SizeLemmas
 pub mod KeyLemmas
+pub mod KeyFrontLemmas
 pub mod FrontLemmas
 pub mod ReadPointLemmas
 pub mod LineLemmas

@@ -8,11 +8,8 @@ use Rattle.rr_key.specs.declared.class.Class.TheVariants.{Measurement, Other}
 use Rattle.rr_key.specs.Making.{Names, series_of, making_fault}
 use Rattle.rr_key.specs.Series as key
 use Rattle.rr_key.specs.Unit.{unescape}
+pub use Rattle.rr_line.specs.Front.{tags_unescaped}
 use Rattle.rr_line.specs.Line.{PointView, LineView, nothing, point}
-
--- the names of tags, unescaped
-abbrev pub tags_unescaped : List (List ℕ × List ℕ) → List (List ℕ × List ℕ)
-tags_unescaped tags = map (λ tag. (unescape Other tag.0, unescape Other tag.1)) tags
 
 -- names that are held, by their bytes
 abbrev pub tag_names : List (Vec ℕ Global × Vec ℕ Global) → List (List ℕ × List ℕ)

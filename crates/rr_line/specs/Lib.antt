@@ -1,3 +1,4 @@
+pub mod Front
 pub mod Line
 pub mod Part
 pub mod Tag

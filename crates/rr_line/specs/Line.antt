@@ -5,7 +5,7 @@ use Rattle.rr_line.specs.declared.line.Field.{Field}
 use Rattle.rr_line.specs.declared.line.Line.{Line}
 use Rattle.rr_line.specs.declared.line.Line.TheVariants as line
 use Rattle.rr_line.specs.declared.line.Point.{Point}
-use Rattle.rr_line.specs.declared.line.Tag.{Tag}
+pub use Rattle.rr_line.specs.Front.{tag_view, tags_view}
 
 -- the samples of one moment: the time is in nanoseconds
 pub record PointView : Type 0 where
@@ -18,13 +18,6 @@ pub record PointView : Type 0 where
 pub data LineView : Type 0 where
   nothing : LineView
   point : PointView → LineView
-
--- a tag, by its bytes
-abbrev pub tag_view : Tag → List ℕ × List ℕ
-tag_view tag = (tag.key.now, tag.value.now)
-
-abbrev pub tags_view : List Tag → List (List ℕ × List ℕ)
-tags_view tags = map tag_view tags
 
 -- a field, its key by its bytes
 abbrev pub field_view : Field → List ℕ × ℤ

@@ -1,22 +1,62 @@
 //! The series of a point's fields.
 
-ghost use Rattle.std.specs.Prelude.{◌≡◌, None, IfOk, map};
+ghost use Rattle.std.specs.Prelude.{◌≡◌, ◌++◌, ◌∷◌, None, IfOk, OnOk, map};
+ghost use Rattle.rr_base.specs.declared.bytes.TheConstants.{SPACE};
 ghost use Rattle.rr_key.specs.declared.class.Class.TheVariants.{Other};
 ghost use Rattle.rr_key.specs.Making.{making_fault, tags_of};
+ghost use Rattle.rr_key.specs.Series.{IsKeyText};
 ghost use Rattle.rr_key.specs.Unit.{unescape};
 ghost use Rattle.rr_line.specs.Key.{names_of, key_text, tags_unescaped, tag_names};
 ghost use Rattle.rr_line.specs.Line.{point_view, tags_view};
 
 use crate::line::{Point, Tag};
-use rr_key::{Class, SeriesKey, unescape};
+use rr_base::bytes::SPACE;
+use rr_key::{Class, SeriesKey, name_len, unescape};
 use std::alloc::{AllocError, Global};
 
 impl<'a> Point<'a> {
     /// The key of the series of one of the point's fields: its names, unescaped, as
     /// [`SeriesKey::new`] writes them.
     ///
-    /// The cost is that of one pass over the names and of sorting the tags; each name is copied.
+    /// The cost is that of [`write_key`](Point::write_key) and of a copy of the text.
     pub fn series_key(&self, alloc: Global, field: &[u8]) -> Result<SeriesKey, AllocError>
+        requires { making_fault (names_of (point_view self.now) field.now) ≡ None }
+        ensures { IfOk result (λ key. key ≡ key_text (point_view self.now) field.now) }
+    {
+        let mut text = Vec::new(alloc);
+        self.write_key(alloc, &mut text, field)?;
+        SeriesKey::of_text(alloc, &text)
+    }
+
+    /// Writes the key text of one of the point's fields over `text`, whose memory is used again.
+    ///
+    /// Where the line has the measurement and the tags as a key text has them, the cost is that of
+    /// copying them and of one pass over the field's key. Otherwise it is that of one pass over the
+    /// names, of a copy of each and of sorting the tags.
+    pub fn write_key(
+        &self,
+        alloc: Global,
+        text: &mut Vec<u8>,
+        field: &[u8],
+    ) -> Result<(), AllocError>
+        requires { making_fault (names_of (point_view self.now) field.now) ≡ None }
+        ensures written { OnOk result (text.new.items ≡ key_text (point_view self.now) field.now) }
+        ensures grammar { OnOk result (IsKeyText text.new.items) }
+    {
+        match self.front {
+            Some(front) if name_len(Class::Other, field) == field.len() => {
+                write_parts(text, front, field)
+            }
+            _ => {
+                let key = self.key_of_names(alloc, field)?;
+                text.clear();
+                text.extend_from_slice(key.text())
+            }
+        }
+    }
+
+    /// The key of the series of one of the point's fields, from its names one by one.
+    fn key_of_names(&self, alloc: Global, field: &[u8]) -> Result<SeriesKey, AllocError>
         requires { making_fault (names_of (point_view self.now) field.now) ≡ None }
         ensures { IfOk result (λ key. key ≡ key_text (point_view self.now) field.now) }
     {
@@ -29,6 +69,16 @@ impl<'a> Point<'a> {
             Err(_) => Err(AllocError),
         }
     }
+}
+
+/// Writes what precedes a field, a space and the field over a text.
+fn write_parts(text: &mut Vec<u8>, front: &[u8], field: &[u8]) -> Result<(), AllocError>
+    ensures { OnOk result (text.new.items ≡ front.now ++ SPACE ∷ field.now) }
+{
+    text.clear();
+    text.extend_from_slice(front)?;
+    text.push(SPACE)?;
+    text.extend_from_slice(field)
 }
 
 /// The names of tags, unescaped.

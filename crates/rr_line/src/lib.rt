@@ -31,6 +31,7 @@
 
 mod fault;
 mod fields;
+mod front;
 mod key;
 pub mod laws;
 mod line;

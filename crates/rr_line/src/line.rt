@@ -1,6 +1,8 @@
 //! What a line says.
 
 ghost use Rattle.std.specs.Prelude.{◌≡◌};
+ghost use Rattle.std.specs.Option.{ForSome};
+ghost use Rattle.rr_line.specs.Front.{front_text, tags_view};
 
 use rr_base::bytes::Keyed;
 
@@ -25,6 +27,10 @@ pub struct Point<'a> {
     pub fields: Vec<Field<'a>>,
     /// Nanoseconds since the Unix epoch, if the line says when.
     pub time: Option<i64>,
+    /// What precedes the field in each key text, if the line has it as it stands.
+    pub(crate) front: Option<&'a [u8]>,
+
+    ghost front_of: { ForSome front (λ f. f.now ≡ front_text measurement.now (tags_view tags.items)) },
 }
 
 /// A tag of a point. Its key and its value are names of the class [`Other`](rr_key::Class::Other),

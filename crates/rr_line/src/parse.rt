@@ -15,6 +15,7 @@ ghost use Rattle.rr_line.specs.declared.fault.LineFault.TheVariants.{NoMeasureme
 
 use crate::fault::LineFault;
 use crate::fields::read_fields;
+use crate::front::key_front;
 use crate::line::{Field, Line, Point};
 use crate::part::{content, read_name, skip_spaces};
 use crate::precision::Precision;
@@ -97,11 +98,13 @@ fn read_point<'a>(
     if has_long_key(front, &fields) {
         return Err(LineFault::KeyTooLong);
     }
+    let front = key_front(front, &tags);
     Ok(Point {
         measurement,
         tags,
         fields,
         time,
+        front,
     })
 }
 

@@ -50,7 +50,7 @@ impl Records {
     {
         // Over a vector, with records of any number of fields, csv refuses nothing but memory.
         let Ok(()) = self.writer.write_fields(fields) else {
-            self.writer = record_writer(self.alloc);
+            start_again(self.alloc, &mut self.writer);
             return Err(AllocError);
         };
         Ok(())
@@ -64,7 +64,7 @@ impl Records {
     {
         let mut reason = Vec::new(self.alloc);
         let Ok(()) = push_reason(&mut reason, number, name) else {
-            self.writer = record_writer(self.alloc);
+            start_again(self.alloc, &mut self.writer);
             return Err(AllocError);
         };
         self.push(&[reason.as_slice()])
@@ -79,6 +79,17 @@ impl Records {
             Err(_) => Err(AllocError),
         }
     }
+}
+
+/// Gives the records of a writer up. It stays out of line: a new writer has a large buffer, which a
+/// caller would otherwise fill each time, whether or not it needs one.
+#[cold]
+#[inline(never)]
+fn start_again(alloc: Global, writer: &mut Writer<Vec<u8>>)
+    ensures between { IsBetweenRecords writer.new }
+    ensures empty { text_of writer.new ≡ [] }
+{
+    *writer = record_writer(alloc);
 }
 
 /// csv's writer of records of any number of fields, over an empty text.

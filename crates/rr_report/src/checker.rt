@@ -76,10 +76,12 @@ impl Checker {
         ensures reported { OnOk result ((text : List ℕ) × (records.new ≡ records.old ++ text) × Reports self.old self.new text) }
         ensures all { OnOk result (items_left self.new.feed ≡ []) }
     {
+        let mut key = Vec::new(self.alloc);
         while let Some(item) = self.feed.next_line() {
             let refused = push_item(
                 self.alloc,
                 records,
+                &mut key,
                 item,
                 self.lines + 1,
                 self.precision,

@@ -28,10 +28,11 @@ fn push_sample(records: &mut Records, key: &[u8], value: i64, time: i64) -> Resu
     records.push(&[key, value, time])
 }
 
-/// Adds the sample of a field.
+/// Adds the sample of a field. Its key text is written over `key`, whose memory is used again.
 fn push_field(
     alloc: Global,
     records: &mut Records,
+    key: &mut Vec<u8>,
     point: &Point<'_>,
     time: i64,
     field: &Field<'_>,
@@ -40,14 +41,15 @@ fn push_field(
     ensures { OnOk result (records.new
         ≡ records.old ++ sample_text (key_text (point_view point.now) field.now.key.now) field.now.value time) }
 {
-    let key = point.series_key(alloc, field.key)?;
-    push_sample(records, key.text(), field.value, time)
+    point.write_key(alloc, key, field.key)?;
+    push_sample(records, key, field.value, time)
 }
 
 /// Adds the samples of a point; one without a time is of the time `now`.
 fn push_point(
     alloc: Global,
     records: &mut Records,
+    key: &mut Vec<u8>,
     point: &Point<'_>,
     now: i64,
 ) -> Result<(), AllocError>
@@ -56,7 +58,7 @@ fn push_point(
 {
     let time = point.time.unwrap_or(now);
     for field in &point.fields {
-        push_field(alloc, records, point, time, field)?;
+        push_field(alloc, records, key, point, time, field)?;
     }
     Ok(())
 }
@@ -76,6 +78,7 @@ fn push_fault(records: &mut Records, number: u64, fault: LineFault) -> Result<()
 fn push_line(
     alloc: Global,
     records: &mut Records,
+    key: &mut Vec<u8>,
     line: &[u8],
     number: u64,
     precision: Precision,
@@ -88,7 +91,7 @@ fn push_line(
     match parse_line(alloc, line, precision) {
         Ok(Line::Nothing) => Ok(false),
         Ok(Line::Point(point)) => {
-            push_point(alloc, records, &point, now)?;
+            push_point(alloc, records, key, &point, now)?;
             Ok(false)
         }
         Err(fault) => {
@@ -102,6 +105,7 @@ fn push_line(
 pub(crate) fn push_item(
     alloc: Global,
     records: &mut Records,
+    key: &mut Vec<u8>,
     item: FeedLine<'_>,
     number: u64,
     precision: Precision,
@@ -112,7 +116,7 @@ pub(crate) fn push_item(
     ensures refused { IfOk result (λ refused. refused ≡ is_refused precision (item_view item.entry)) }
 {
     match item {
-        FeedLine::Line(line) => push_line(alloc, records, line, number, precision, now),
+        FeedLine::Line(line) => push_line(alloc, records, key, line, number, precision, now),
         FeedLine::TooLong => {
             records.push_refusal(number, LINE_TOO_LONG)?;
             Ok(true)

@@ -1,0 +1,109 @@
+-- Where a line has no backslash before its fields and its tags are in order, key texts begin as the line does.
+use Rattle.std.proofs.Common.{◌≡◌, ℕ, ◌-◌, false, List, [], ◌∷◌, ◌++◌, ◌==◌, length, length-append, take, refl, sym, ap, ap₂, subst, ◌∙◌, arith}
+use Rattle.std.proofs.Math.Seq.{take-append_seam, take-length}
+use Rattle.std.proofs.lemmas.Bool.{or_parts}
+use Rattle.std.proofs.lemmas.List.{append_assoc}
+use Rattle.std.proofs.lemmas.List.Folds.{list_any-append}
+use Rattle.std.proofs.lemmas.List.Sorted.{IsPermutation-refl}
+use Rattle.std.specs.FinMap.{entries, from_entries}
+use Rattle.std.specs.List.{flat_map}
+use Rattle.std.specs.Map.{keys_of}
+use Rattle.rr_base.specs.Bytes.{bytes_cmp, has_repeat}
+use Rattle.rr_base.specs.declared.bytes.TheConstants.{COMMA, EQUALS, SPACE, BACKSLASH}
+use Rattle.rr_key.specs.declared.class.Class.{Class}
+use Rattle.rr_key.specs.declared.class.Class.TheVariants.{Measurement, Other}
+use Rattle.rr_key.specs.Series.{tag_text}
+use Rattle.rr_key.specs.Unit.{escape, unescape, name_len}
+use Rattle.rr_key.proofs.EscapeLemmas.{escape-unescape}
+use Rattle.rr_key.proofs.OrderLemmas.{entries_rise}
+use Rattle.rr_key.proofs.PlainLemmas.{unescape_plain}
+use Rattle.rr_line.specs.Front.{front_text, has_backslash, tags_unescaped, IsPlain}
+use Rattle.rr_line.specs.Grammar.{LeadsToTags}
+use Rattle.rr_line.specs.Key.{key_text}
+use Rattle.rr_line.specs.Line.{PointView}
+use Rattle.rr_line.specs.Tag.{Tag, AreTags}
+use Rattle.rr_line.proofs.KeyLemmas.{AreGood, HasGoodNames}
+use Rattle.rr_line.proofs.NameLemmas.{IsGood}
+
+-- a tag as a line has it
+abbrev raw_tag : Tag → List ℕ
+raw_tag tag = COMMA ∷ (tag.0 ++ EQUALS ∷ tag.1)
+
+abbrev raw_tags : List Tag → List ℕ
+raw_tags tags = flat_map raw_tag tags
+
+-- tags are written one after the other
+tags_written : (before : List Tag) (text : List ℕ) (tags : List Tag) (rest : List ℕ) → AreTags before text tags rest → text ≡ raw_tags tags ++ rest
+tags_written before text [] rest are = are
+tags_written before text (tag ∷ tags) rest (inner, next, whole, is, may, later) =
+    let others = tags_written (before ++ tag ∷ []) next tags rest later in
+    let value : is.value_text ≡ tag.1 ++ (raw_tags tags ++ rest) = is.value.whole ∙ ap (λ (t : List ℕ). tag.1 ++ t) others in
+    let key : inner ≡ tag.0 ++ EQUALS ∷ (tag.1 ++ (raw_tags tags ++ rest)) = is.key.whole ∙ ap (λ (t : List ℕ). tag.0 ++ EQUALS ∷ t) value in
+    whole ∙ ap (λ (t : List ℕ). COMMA ∷ t) (
+    key ∙ ap (λ (t : List ℕ). tag.0 ++ EQUALS ∷ t) (sym (append_assoc tag.1 (raw_tags tags) rest))
+    ∙ sym (append_assoc tag.0 (EQUALS ∷ (tag.1 ++ raw_tags tags)) rest)
+    ∙ ap (λ (t : List ℕ). t ++ rest) (sym (append_assoc tag.0 (EQUALS ∷ tag.1) (raw_tags tags)))
+    )
+
+-- a name without a backslash is spelled as it is unescaped
+plain_name : (class : Class) (name : List ℕ) → IsGood class name → has_backslash name ≡ false → escape class name ≡ name
+plain_name class name good plain = ap (escape class) (sym (unescape_plain class name plain)) ∙ good.written
+
+-- of a text without a backslash, its parts have none
+parts_plain : (front rest : List ℕ) → has_backslash (front ++ rest) ≡ false → (has_backslash front ≡ false) × (has_backslash rest ≡ false)
+parts_plain front rest plain =
+    or_parts (has_backslash front) (has_backslash rest) (sym (list_any-append (λ byte. byte == BACKSLASH) front rest) ∙ plain)
+
+record IsTagPlain (tag : Tag) (tags : List Tag) : Type 0 where
+  pub key : has_backslash tag.0 ≡ false
+  pub value : has_backslash tag.1 ≡ false
+  pub others : has_backslash (raw_tags tags) ≡ false
+
+tag_plain : (tag : Tag) (tags : List Tag) → has_backslash (raw_tags (tag ∷ tags)) ≡ false → IsTagPlain tag tags
+tag_plain tag tags plain =
+    let both = parts_plain (raw_tag tag) (raw_tags tags) plain in
+    let names = parts_plain tag.0 (EQUALS ∷ tag.1) both.0 in
+    record { key = names.0; value = names.1; others = both.1 }
+
+tags_plain : (tags : List Tag) → has_backslash (raw_tags tags) ≡ false → tags_unescaped tags ≡ tags
+tags_plain [] plain = refl
+tags_plain (tag ∷ tags) plain =
+    let is = tag_plain tag tags plain in
+    ap₂ (λ (t : Tag) (ts : List Tag). t ∷ ts) (ap₂ (λ (k v : List ℕ). (k, v)) (unescape_plain Other tag.0 is.key) (unescape_plain Other tag.1 is.value)) (tags_plain tags is.others)
+
+tags_spelled : (tags : List Tag) → AreGood tags → has_backslash (raw_tags tags) ≡ false → flat_map tag_text tags ≡ raw_tags tags
+tags_spelled [] good plain = refl
+tags_spelled (tag ∷ tags) good plain =
+    let is = tag_plain tag tags plain in
+    ap₂ (λ (t ts : List ℕ). t ++ ts)
+    (ap₂ (λ (k v : List ℕ). COMMA ∷ (k ++ EQUALS ∷ v)) (plain_name Other tag.0 good.0.0 is.key) (plain_name Other tag.1 good.0.1 is.value))
+    (tags_spelled tags good.1 is.others)
+
+-- what precedes the rest
+front_taken : (text front rest : List ℕ) → text ≡ front ++ rest → take (length text - length rest) text ≡ front
+front_taken text front rest whole =
+    let len : length text - length rest ≡ length front = omega (arith, ap length whole, length-append front rest) in
+    ap₂ (λ (n : ℕ) (t : List ℕ). take n t) len whole ∙ take-append_seam front rest
+
+pub front_is : (text measurement : List ℕ) (tags : List Tag) (rest : List ℕ) → LeadsToTags text measurement tags rest → HasGoodNames measurement tags → IsPlain (take (length text - length rest) text) tags → take (length text - length rest) text ≡ front_text measurement tags
+front_is text measurement tags rest leads names plain =
+    let written = tags_written [] leads.tags_text tags rest leads.are_tags in
+    let whole : text ≡ (measurement ++ raw_tags tags) ++ rest =
+    leads.name.whole ∙ ap (λ (t : List ℕ). measurement ++ t) written ∙ sym (append_assoc measurement (raw_tags tags) rest) in
+    let taken = front_taken text (measurement ++ raw_tags tags) rest whole in
+    let parts = parts_plain measurement (raw_tags tags) (ap has_backslash (sym taken) ∙ plain.unescaped) in
+    let same = tags_plain tags parts.1 in
+    let once : has_repeat (keys_of tags) ≡ false = subst (λ (ts : List Tag). has_repeat (keys_of ts) ≡ false) same names.once in
+    let sorted : entries (from_entries {R = bytes_cmp} (tags_unescaped tags)) ≡ tags =
+    ap (λ (ts : List Tag). entries (from_entries {R = bytes_cmp} ts)) same ∙ sym (entries_rise tags tags (IsPermutation-refl tags) once plain.rising) in
+    let front = names.measurement_good.written in
+    let back = ap (flat_map tag_text) sorted ∙ tags_spelled tags names.tags_are_good parts.1 in
+    taken ∙ sym (ap₂ (λ (m ts : List ℕ). m ++ ts) front back)
+
+-- a field's key that is spelled as it is unescaped comes after it
+pub key_after_front : (p : PointView) (front field : List ℕ) → front ≡ front_text p.measurement p.tags → name_len Other field ≡ length field → front ++ SPACE ∷ field ≡ key_text p field
+key_after_front p front field is spelled =
+    let whole : take (name_len Other field) field ≡ field = ap (λ (n : ℕ). take n field) spelled ∙ take-length field in
+    let written : escape Other (unescape Other field) ≡ field = ap (λ (t : List ℕ). escape Other (unescape Other t)) (sym whole) ∙ escape-unescape Other field ∙ whole in
+    let tags = flat_map tag_text (entries (from_entries {R = bytes_cmp} (tags_unescaped p.tags))) in
+    ap₂ (λ (t f : List ℕ). t ++ SPACE ∷ f) is (sym written) ∙ append_assoc (escape Measurement (unescape Measurement p.measurement)) tags (SPACE ∷ escape Other (unescape Other field))
