@@ -14,7 +14,7 @@ use Rattle.rr_contrib.specs.Validity.{CanAdd}
 use Rattle.rr_archive.specs.CellSlots.{CellSlot, IsSlot}
 use Rattle.rr_archive.specs.Cells.{Rows, put_row}
 use Rattle.rr_model.proofs.Horizon.{archive_is}
-use Rattle.rr_replica.specs.declared.sample.Sample.{Sample}
+use Rattle.rr_replica.specs.declared.reading.Reading.{Reading}
 use Rattle.rr_replica.specs.Archives.{cell_slot_for, sample_for, Each, AreSized, CanTake, AreSame, HavePut}
 
 -- within a list there is something
@@ -114,12 +114,12 @@ same_more cells i old new a b same at is = record {
       (eqb_tells j i);
 }
 
-pub record AreReadied {X : Type 0} (cells : X → Rows) (limit : X → ℕ) (is_ready : X → CellSlot → Bool) (s : Layout) (x : Sample) (i : ℕ) (old new : List X) : Type 0 where
+pub record AreReadied {X : Type 0} (cells : X → Rows) (limit : X → ℕ) (is_ready : X → CellSlot → Bool) (s : Layout) (x : Reading) (i : ℕ) (old new : List X) : Type 0 where
   pub same : AreSame cells old new
   pub sized : AreSized limit s new
   pub ready : (j : ℕ) (b : X) → 1 ≤ j → j < i → slice_get new j ≡ Some b → is_ready b (cell_slot_for s x j) ≡ true
 
-module _ {X : Type 0} (cells : X → Rows) (limit : X → ℕ) (is_ready : X → CellSlot → Bool) (s : Layout) (x : Sample) where
+module _ {X : Type 0} (cells : X → Rows) (limit : X → ℕ) (is_ready : X → CellSlot → Bool) (s : Layout) (x : Reading) where
   pub readied_none : (old : List X) → AreSized limit s old → AreReadied cells limit is_ready s x 1 old old
   readied_none old sized = record {
     same = record { many = refl; each = λ j a b at here. ap cells (only_one b a (sym here ∙ at)) };
@@ -142,13 +142,13 @@ module _ {X : Type 0} (cells : X → Rows) (limit : X → ℕ) (is_ready : X →
 
 -- ---- samples are put
 
-pub record ArePut {X : Type 0} (cells : X → Rows) (limit : X → ℕ) (s : Layout) (x : Sample) (i : ℕ) (old new : List X) : Type 0 where
+pub record ArePut {X : Type 0} (cells : X → Rows) (limit : X → ℕ) (s : Layout) (x : Reading) (i : ℕ) (old new : List X) : Type 0 where
   pub many : length new ≡ length old
   pub sized : AreSized limit s new
   pub put : (j : ℕ) (a b : X) → j < i → slice_get old j ≡ Some a → slice_get new j ≡ Some b → cells b ≡ put_row (archive_at s j).rows (cells a) (cell_slot_for s x j) (sample_for s x j)
   pub rest : (j : ℕ) → i ≤ j → slice_get new j ≡ slice_get old j
 
-module _ {X : Type 0} (cells : X → Rows) (limit : X → ℕ) (s : Layout) (x : Sample) where
+module _ {X : Type 0} (cells : X → Rows) (limit : X → ℕ) (s : Layout) (x : Reading) where
   pub put_none : (old : List X) → AreSized limit s old → ArePut cells limit s x 0 old old
   put_none old sized = record {
     many = refl;

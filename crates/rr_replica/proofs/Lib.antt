@@ -25,3 +25,5 @@ pub mod FieldLemmas
 pub mod OneArchive
 pub mod JoinedCell
 pub mod Lending
+pub mod OperationsLemmas
+pub mod CopyingLemmas

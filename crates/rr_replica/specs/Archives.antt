@@ -7,15 +7,15 @@ use Rattle.rr_contrib.specs.Validity.{CanAdd}
 use Rattle.std.specs.Prelude.{IfSome}
 use Rattle.rr_archive.specs.CellSlots.{CellSlot, cell_slot}
 use Rattle.rr_archive.specs.Cells.{Rows, put_row, join_cell}
-use Rattle.rr_replica.specs.declared.sample.Sample.{Sample}
+use Rattle.rr_replica.specs.declared.reading.Reading.{Reading}
 use Rattle.rr_replica.specs.declared.cell.Cell.{Cell}
 
 -- where the sample falls in an archive
-abbrev pub cell_slot_for : Layout → Sample → ℕ → CellSlot
+abbrev pub cell_slot_for : Layout → Reading → ℕ → CellSlot
 cell_slot_for s x archive = cell_slot (slot_of s archive x.time) x.origin
 
 -- the sample, as the slot of an archive sees it
-abbrev pub sample_for : Layout → Sample → ℕ → SlotSample
+abbrev pub sample_for : Layout → Reading → ℕ → SlotSample
 sample_for s x archive = slot_sample x.number (place_of s archive x.time) x.time x.value
 
 module _ {X : Type 0} where
@@ -36,11 +36,11 @@ module _ {X : Type 0} where
     pub sized : AreSized limit s archives
 
   -- a sample of this number can be added to the cell where it falls
-  abbrev pub CanTake : (X → Rows) → Layout → Sample → List X → Type 0
+  abbrev pub CanTake : (X → Rows) → Layout → Reading → List X → Type 0
   CanTake cells s x archives = Each (λ i a. IfSome (get (cells a) (cell_slot_for s x i)) (CanAdd x.number)) archives
 
   -- each archive after the first has room for the sample
-  abbrev pub AreReady : (X → CellSlot → Bool) → Layout → Sample → List X → Type 0
+  abbrev pub AreReady : (X → CellSlot → Bool) → Layout → Reading → List X → Type 0
   AreReady is_ready s x archives = Each (λ i a. 1 ≤ i → IsTrue (is_ready a (cell_slot_for s x i))) archives
 
   -- as many archives, with the same cells
@@ -49,7 +49,7 @@ module _ {X : Type 0} where
     pub each : EachPair (λ i a b. cells b ≡ cells a) old new
 
   -- as many archives, each with the sample put
-  pub record HavePut (cells : X → Rows) (s : Layout) (x : Sample) (old new : List X) : Type 0 where
+  pub record HavePut (cells : X → Rows) (s : Layout) (x : Reading) (old new : List X) : Type 0 where
     pub many : length new ≡ length old
     pub each : EachPair (λ i a b. cells b ≡ put_row (archive_at s i).rows (cells a) (cell_slot_for s x i) (sample_for s x i)) old new
 

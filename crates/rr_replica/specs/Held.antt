@@ -4,6 +4,7 @@ use Rattle.std.specs.Global.{Vec}
 use Rattle.std.specs.List.Sorted.{IsStrictlySortedBy}
 use Rattle.std.specs.Map.{lookup, keys_of}
 use Rattle.std.specs.BTreeMap.{is_at}
+use Rattle.std.specs.Option.{option_map}
 use Rattle.std.specs.FinMap.{get}
 use Rattle.rr_base.specs.declared.limits.TheConstants.{MAX_NUMBER}
 use Rattle.rr_base.specs.Origin.{IsOrigin}
@@ -12,7 +13,7 @@ use Rattle.rr_contrib.specs.declared.contribution.Contribution.{Contribution}
 use Rattle.rr_archive.specs.Cells.{Rows}
 use Rattle.rr_model.specs.CellNames.{CellName}
 use Rattle.rr_model.specs.Samples as model
-use Rattle.rr_replica.specs.declared.sample.Sample.{Sample}
+use Rattle.rr_replica.specs.declared.reading.Reading.{Reading}
 use Rattle.rr_replica.specs.CellBounds.{IsCellOf}
 use Rattle.rr_replica.specs.Cells.{IsTrimmed}
 use Rattle.rr_replica.specs.Holding.{Holding}
@@ -32,8 +33,8 @@ pub record IsHolding (h : Holding) : Type 0 where
   pub own : (n : CellName) (c : Contribution) → get h.cells n ≡ Some c → n.origin ≡ h.origin → c.version < h.next
 
 -- what is written, as a sample of a key
-abbrev pub sample_of : List ℕ → Sample → model.Sample
-sample_of key x = record { time = x.time; origin = x.origin; number = x.number; key = key; value = x.value }
+abbrev pub keyed_sample : List ℕ → Reading → model.Sample
+keyed_sample key x = record { time = x.time; origin = x.origin; number = x.number; key = key; value = x.value }
 
 module _ {X : Type 0} where
   -- the archives of each key, each seen as a map
@@ -43,6 +44,14 @@ module _ {X : Type 0} where
   -- the archives of a key, if it has any
   abbrev pub archives_of : List (List ℕ × Vec X) → List ℕ → Option (Vec X)
   archives_of entries key = lookup (is_at (bytes_cmp key)) entries
+
+  -- what an archive holds, and how many rows it keeps
+  abbrev pub seen_archive : (X → Rows) → (X → ℕ) → X → Rows × ℕ
+  seen_archive cells limit a = (cells a, limit a)
+
+  -- this of each archive of a key, if it has any
+  abbrev pub seen_at : (X → Rows) → (X → ℕ) → List (List ℕ × Vec X) → List ℕ → Option (List (Rows × ℕ))
+  seen_at cells limit entries key = option_map (λ (v : Vec X). map (seen_archive cells limit) v.items) (archives_of entries key)
 
   abbrev pub holding_of : (X → Rows) → Layout → ℕ → ℕ → List (List ℕ × Vec X) → Holding
   holding_of cells schema origin next entries = record { schema = schema; origin = origin; next = next; cells = cells_of (held_series cells entries) }

@@ -8,6 +8,7 @@ pub mod Held
 pub mod Listing
 pub mod Joins
 pub mod Joining
+pub mod Operations
 pub mod State
 pub mod Versions
 pub mod Laws

@@ -6,7 +6,7 @@ ghost use Rattle.rr_replica.specs.CellBounds.{IsCellOf};
 ghost use Rattle.rr_replica.specs.Listing.{owned_cell};
 
 use crate::cell::Cell;
-use crate::sample::Sample;
+use crate::reading::Reading;
 use rr_archive::Archive;
 use rr_base::Schema;
 use std::alloc::{AllocError, Global};
@@ -30,7 +30,7 @@ pub(crate) fn empty_archives<A: Archive>(
 fn make_ready<A: Archive>(
     archives: &mut Vec<A>,
     schema: &Schema,
-    sample: &Sample,
+    sample: &Reading,
 ) -> Result<(), AllocError>
     requires of_schema { AreOf A.row_limit schema.now archives.old.items }
     ensures unchanged { AreSame A.cells archives.old.items archives.new.items }
@@ -49,7 +49,7 @@ fn make_ready<A: Archive>(
 fn put_ready<A: Archive>(
     archives: &mut Vec<A>,
     schema: &Schema,
-    sample: &Sample,
+    sample: &Reading,
 ) -> Result<(), AllocError>
     requires of_schema { AreOf A.row_limit schema.now archives.old.items }
     requires newer { CanTake A.cells schema.now sample.now archives.old.items }
@@ -77,7 +77,7 @@ fn put_ready<A: Archive>(
 pub(crate) fn put_into<A: Archive>(
     archives: &mut Vec<A>,
     schema: &Schema,
-    sample: &Sample,
+    sample: &Reading,
 ) -> Result<(), AllocError>
     requires of_schema { AreOf A.row_limit schema.now archives.old.items }
     requires newer { CanTake A.cells schema.now sample.now archives.old.items }

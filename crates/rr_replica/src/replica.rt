@@ -14,15 +14,16 @@ ghost use Rattle.rr_replica.specs.Puts.{put_sample};
 ghost use Rattle.rr_replica.specs.Holding.{Holding, with_put};
 ghost use Rattle.rr_replica.specs.Series.{cells_of};
 ghost use Rattle.rr_replica.specs.Listing.{seen_cell, owned_cell, at_most_usize, cell_name, next_cell};
-ghost use Rattle.rr_replica.specs.Held.{held_series, sample_of, IsHolding, IsHeld};
+ghost use Rattle.rr_replica.specs.Held.{held_series, keyed_sample, IsHolding, IsHeld};
 
 use crate::archives::{empty_archives, put_into};
 use crate::cell::{Cell, CellRef};
+use crate::copying::copy_series;
 use crate::fault::{JoinFault, PutFault, WriteFault};
 use crate::joining::{join_in, next_after};
 use crate::listing::{count_cells, nth_cell};
 use crate::next::{NameRef, next_cell};
-use crate::sample::Sample;
+use crate::reading::Reading;
 use rr_archive::{Archive, Entry};
 use rr_base::limits::MAX_NUMBER;
 use rr_base::{Origin, Schema};
@@ -65,11 +66,11 @@ fn put_in<A: Archive>(
     alloc: Global,
     schema: &Schema,
     key: &SeriesKey,
-    sample: Sample,
+    sample: Reading,
 ) -> Result<(), AllocError>
     requires held { IsHeld A.cells A.row_limit schema.now sample.origin sample.number series.old.entries }
     ensures put { OnOk result (cells_of (held_series A.cells series.new.entries)
-        ≡ put_sample schema.now (cells_of (held_series A.cells series.old.entries)) (sample_of key.now sample)) }
+        ≡ put_sample schema.now (cells_of (held_series A.cells series.old.entries)) (keyed_sample key.now sample)) }
     ensures held_with { OnOk result (IsHeld A.cells A.row_limit schema.now sample.origin (sample.number + 1) series.new.entries) }
     ensures unchanged { OnErr result (cells_of (held_series A.cells series.new.entries)
         ≡ cells_of (held_series A.cells series.old.entries)) }
@@ -102,6 +103,20 @@ impl<A: Archive> Replica<A> {
             origin,
             next: 1,
             series: BTreeMap::new(alloc),
+        })
+    }
+
+    /// A replica that holds the same, under the same origin and next number; the keys' texts are
+    /// shared. The cost is linear in the cells, and in the series times their logarithm.
+    pub fn copy(&self, alloc: Global) -> Result<Replica<A>, AllocError>
+        ensures { IfOk result (λ r. r ≡ self.now) }
+    {
+        Ok(Replica {
+            alloc,
+            schema: self.schema.copy(alloc)?,
+            origin: self.origin,
+            next: self.next,
+            series: copy_series(alloc, &self.series)?,
         })
     }
 
@@ -148,7 +163,7 @@ impl<A: Archive> Replica<A> {
         if self.next > MAX_NUMBER {
             return Err(PutFault::NumbersSpent);
         }
-        let sample = Sample {
+        let sample = Reading {
             origin: self.origin,
             number: self.next,
             time,
