@@ -24,7 +24,7 @@ use Rattle.rr_replica.specs.Archives.{cell_slot_for, sample_for, AreSame, HavePu
 use Rattle.rr_replica.specs.Held.{held_series, archives_of, keyed_sample}
 use Rattle.rr_replica.proofs.Local.{same_cells}
 use Rattle.rr_replica.proofs.SeriesLemmas.{bytes_cmp-IsAntisymmetric, rows_of_series}
-use Rattle.rr_replica.proofs.Putting.{put_at, put_past, put_other_key}
+use Rattle.rr_replica.proofs.PutsLemmas.{put_at, put_past, put_other_key}
 use Rattle.rr_replica.proofs.Each.{slice_get-map}
 
 rows_from-is : (first : ℕ) (rs : List Rows) (i : ℕ) → rows_from first rs (first + i) ≡ unwrap_or (slice_get rs i) empty

@@ -1,5 +1,5 @@
 -- What a replica keeps to.
-use Rattle.std.specs.Prelude.{◌≡◌, ℕ, ◌+◌, ◌<◌, ◌≤◌, List, map, Option, Some}
+use Rattle.std.specs.Prelude.{◌≡◌, ℕ, ◌+◌, ◌<◌, ◌≤◌, Bool, List, map, Option, Some}
 use Rattle.std.specs.Global.{Vec}
 use Rattle.std.specs.List.Sorted.{IsStrictlySortedBy}
 use Rattle.std.specs.Map.{lookup, keys_of}
@@ -10,16 +10,20 @@ use Rattle.rr_base.specs.declared.limits.TheConstants.{MAX_NUMBER}
 use Rattle.rr_base.specs.Origin.{IsOrigin}
 use Rattle.rr_base.specs.Schema.{Layout, IsLayout}
 use Rattle.rr_contrib.specs.declared.contribution.Contribution.{Contribution}
+use Rattle.rr_archive.specs.CellSlots.{CellSlot}
 use Rattle.rr_archive.specs.Cells.{Rows}
 use Rattle.rr_model.specs.CellNames.{CellName}
 use Rattle.rr_model.specs.Samples as model
 use Rattle.rr_replica.specs.declared.reading.Reading.{Reading}
+use Rattle.rr_replica.specs.declared.sample.Sample.{Sample}
+use Rattle.rr_replica.specs.declared.op.Op.{Op}
+use Rattle.rr_replica.specs.Operations.{sample_of, key_of}
 use Rattle.rr_replica.specs.CellBounds.{IsCellOf}
 use Rattle.rr_replica.specs.Cells.{IsTrimmed}
 use Rattle.rr_replica.specs.Holding.{Holding}
 use Rattle.rr_base.specs.Bytes.{bytes_cmp}
 use Rattle.rr_replica.specs.Series.{Series, cells_of}
-use Rattle.rr_replica.specs.Archives.{AreSized}
+use Rattle.rr_replica.specs.Archives.{AreSized, HaveRoomFor}
 
 -- a next number is left or was the last, no cell is past the horizon, each is one of the schema's and within bounds,
 -- and those of the replica's own origin are of earlier numbers
@@ -32,9 +36,13 @@ pub record IsHolding (h : Holding) : Type 0 where
   pub cells : (n : CellName) (c : Contribution) → get h.cells n ≡ Some c → IsCellOf h.schema (n, c)
   pub own : (n : CellName) (c : Contribution) → get h.cells n ≡ Some c → n.origin ≡ h.origin → c.version < h.next
 
--- what is written, as a sample of a key
+-- a reading, as a sample of a key
+abbrev pub keyed : List ℕ → Reading → Sample
+keyed key x = record { origin = x.origin; number = x.number; key = key; time = x.time; value = x.value }
+
+-- and as the model has it
 abbrev pub keyed_sample : List ℕ → Reading → model.Sample
-keyed_sample key x = record { time = x.time; origin = x.origin; number = x.number; key = key; value = x.value }
+keyed_sample key x = sample_of (keyed key x)
 
 module _ {X : Type 0} where
   -- the archives of each key, each seen as a map
@@ -55,6 +63,10 @@ module _ {X : Type 0} where
 
   abbrev pub holding_of : (X → Rows) → Layout → ℕ → ℕ → List (List ℕ × Vec X) → Holding
   holding_of cells schema origin next entries = record { schema = schema; origin = origin; next = next; cells = cells_of (held_series cells entries) }
+
+  -- the key of an operation has archives, and these have room for it
+  abbrev pub HasRoom : (X → CellSlot → Bool) → Layout → Op → List (List ℕ × Vec X) → Type 0
+  HasRoom is_ready s op entries = (archives : Vec X) × (archives_of entries (key_of op) ≡ Some archives) × HaveRoomFor is_ready s op archives.items
 
   -- each key has an archive for each of the schema's, of its rows
   abbrev pub AreAllSized : (X → ℕ) → Layout → List (List ℕ × Vec X) → Type 0

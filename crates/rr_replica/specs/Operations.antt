@@ -1,5 +1,5 @@
 -- Operations, and what they make of a replica and of cells alone.
-use Rattle.std.specs.Prelude.{◌≡◌, nat_le, Bool, true, ◌==◌, ◌&&◌, if◌then◌else◌, List, [], ◌∷◌, map, fold}
+use Rattle.std.specs.Prelude.{◌≡◌, ℕ, nat_le, Bool, true, ◌==◌, ◌&&◌, if◌then◌else◌, List, [], ◌∷◌, map, fold}
 use Rattle.std.specs.FinMap.{empty, entries}
 use Rattle.rr_base.specs.declared.limits.TheConstants.{MAX_NUMBER}
 use Rattle.rr_base.specs.Schema.{Layout}
@@ -19,6 +19,10 @@ use Rattle.rr_replica.specs.Joining.{with_cell}
 -- the sample of an operation, as the model has it
 abbrev pub sample_of : Sample → model.Sample
 sample_of x = record { time = x.time; origin = x.origin; number = x.number; key = x.key; value = x.value }
+
+abbrev pub key_of : Op → List ℕ
+key_of (Put x) = x.key
+key_of (Join c) = c.key
 
 -- ---- a replica
 

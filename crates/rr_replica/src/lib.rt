@@ -10,9 +10,11 @@
 //! place on or after a name (`specs/Listing.antt`).
 //!
 //! An [`Op`] is either of the two steps, a [`Sample`] put or a cell joined, as a value: a list of
-//! them makes the same cells of each replica of the schema (`specs/Operations.antt`).
+//! them makes the same cells of each replica of the schema (`specs/Operations.antt`). Room for an
+//! operation is made before it is applied, which then can't fail (`specs/Standing.antt`).
 #![tactic(auto)]
 
+mod applying;
 mod archives;
 mod cell;
 mod copying;
@@ -22,9 +24,12 @@ pub mod laws;
 mod listing;
 mod next;
 mod op;
+mod putting;
 mod reading;
 mod replica;
+mod room;
 mod sample;
+mod writing;
 
 pub use cell::{Cell, CellRef};
 pub use fault::{JoinFault, PutFault, WriteFault};

@@ -2,6 +2,7 @@
 
 use crate::cell::Cell;
 use crate::sample::Sample;
+use rr_key::SeriesKey;
 use std::alloc::AllocError;
 
 /// A step in the life of a replica: one sample more, or a cell from elsewhere.
@@ -15,6 +16,17 @@ pub enum Op {
 
 impl Op {
     ghost use Rattle.std.specs.Prelude.{◌≡◌, IfOk};
+    ghost use Rattle.rr_replica.specs.Operations.{key_of};
+
+    /// The key of the series that it is of.
+    pub fn key(&self) -> &SeriesKey
+        ensures { result.now ≡ key_of self.now }
+    {
+        match self {
+            Op::Put(sample) => &sample.key,
+            Op::Join(cell) => &cell.key,
+        }
+    }
 
     /// The same operation. The key's bytes are shared, so no memory is taken.
     pub fn copy(&self) -> Result<Op, AllocError>

@@ -1,6 +1,7 @@
-use Rattle.std.proofs.Common.{subst, sym, ◌∙◌}
+use Rattle.std.proofs.Common.{subst, sym, ap, ◌∙◌}
 use Rattle.rr_base.specs.Schema.{Layout}
 use Rattle.rr_replica.specs.Held.{IsHeld}
+use Rattle.rr_replica.specs.Standing.{held}
 use Rattle.rr_replica.proofs.CopyingLemmas.{same_cells_copied, held_copied}
 use Rattle.rr_replica.proofs.replica.Replica.copy.Goals as goal
 
@@ -22,4 +23,4 @@ returns g c =
     let copied = c.in_ok-copy_series.field-0.entries in
     let same = c.in_ok-copy_series.ensures in
     let all = same_cells_copied cells limit r.series.entries copied same.same c.self.invariant.ordered same.ordered in
-    (λ i. record { schema = c.in_ok-copy.ensures.same i; origin = r.origin; next = r.next; cells = all i }) ∙ c.self.view_is
+    (λ i. record { schema = c.in_ok-copy.ensures.same i; origin = r.origin; next = r.next; cells = all i }) ∙ ap held c.self.view_is

@@ -1,12 +1,14 @@
-use Rattle.std.proofs.Common.{rules, ◌≡◌, ℕ, List, cond, Some, None, sym}
+use Rattle.std.proofs.Common.{rules, ◌≡◌, ℕ, true, List, cond, Some, None, sym}
 use Rattle.std.specs.BTreeMap.{is_at}
 use Rattle.std.proofs.lemmas.Result.{on_ok_weaker, on_err_weaker}
 use Rattle.rr_base.specs.Bytes.{bytes_cmp}
-use Rattle.rr_replica.specs.Held.{archives_of, keyed_sample}
+use Rattle.rr_replica.specs.declared.op.Op.TheVariants.{Put}
+use Rattle.rr_replica.specs.Held.{archives_of, keyed, keyed_sample}
 use Rattle.rr_replica.proofs.Each.{sized_many}
 use Rattle.rr_replica.proofs.HoldingLemmas.{IsTyped}
 use Rattle.rr_replica.proofs.HeldLemmas.{before_found, before_fresh, can_take, cells_with, kept_with, cells_without, kept_without}
-use Rattle.rr_replica.proofs.replica.put_in.Goals as goal
+use Rattle.rr_replica.proofs.RoomLemmas.{room_found}
+use Rattle.rr_replica.proofs.putting.put_in.Goals as goal
 
 pub put_into-requires-clause-newer : goal.put_into-requires-clause-newer
 put_into-requires-clause-newer g c =
@@ -40,6 +42,7 @@ returns-in-Some g c =
       held_with = on_ok_weaker c.put_into.result (kept_with cells limit schema c.args.key.now c.args.sample old c.requires.held c.args.sample.number_at_most new c.put_into.new.archives updates.0 holds.4 was.items before step.of_schema.sized typed many) step.put;
       unchanged = on_err_weaker c.put_into.result (cells_without cells limit schema c.args.key.now c.args.sample old c.requires.held c.args.sample.number_at_most new c.put_into.new.archives updates.0 holds.4 was.items before step.of_schema.sized) step.unchanged;
       held = on_err_weaker c.put_into.result (kept_without cells limit schema c.args.key.now c.args.sample old c.requires.held c.args.sample.number_at_most new c.put_into.new.archives updates.0 holds.4 was.items before step.of_schema.sized) step.unchanged;
+      room = λ h. step.room (room_found g.A.Archive.is_ready schema (Put (keyed c.args.key.now c.args.sample)) old was found h);
     }
 
 pub returns-in_ok-insert-in-None : goal.returns-in_ok-insert-in-None
@@ -62,4 +65,5 @@ returns-in_ok-insert-in-None g c =
       held_with = kept_with cells limit schema c.args.key.now c.args.sample old c.requires.held c.args.sample.number_at_most c.insert.new.self.entries c.put_into-in-None.new.archives sets c.insert.ensures.ordered fresh.archives.items before c.put_into-in-None.ensures.of_schema.sized typed many c.in_ok-put_into-in-None.ensures.put;
       unchanged = tt;
       held = tt;
+      room = λ h i. true;
     }
