@@ -41,12 +41,14 @@ pub trait Archive: Drop {
         ensures limit { row_limit result ≡ rows };
 
     /// Makes room for a cell, so that the next `put` or `join_cell` at this slot and origin can't
-    /// fail. It changes no cell. Past the horizon no room is needed, and none is made.
+    /// fail. It changes no cell. Past the horizon no room is needed, and none is made; where there is
+    /// room already, it can't fail.
     fn ready(&mut self, slot: i64, origin: Origin) -> Result<(), AllocError>
         requires { IsSlot slot }
         ensures cells { cells self.new ≡ cells self.old }
         ensures limit { row_limit self.new ≡ row_limit self.old }
-        ensures room { OnOk result (IsTrue (is_ready self.new (cell_slot slot origin))) };
+        ensures room { OnOk result (IsTrue (is_ready self.new (cell_slot slot origin))) }
+        ensures kept { IsTrue (is_ready self.old (cell_slot slot origin)) → IsOk result };
 
     /// Puts a sample of an origin into a slot. Its number, place, time and value are those of
     /// `Contribution::first`, or where the cell is there, of `Contribution::add`.

@@ -1,21 +1,22 @@
 -- Archives that are changed one after the other.
 use Rattle.std.proofs.Common.{◌≡◌, ◌≢◌, ℕ, zero, suc, ◌+◌, ◌<◌, ◌≤◌, Bool, ℤ, pos, negsuc, ◌*◌, ◌/◌, ◌^◌, true, List, [], ◌∷◌, ◌++◌, take, map, length, set, slice_get, refl, sym, ap, ◌∙◌, subst, arith, Option, Some, None, ⊎_elim, true≢false, is_some, unwrap_or, get_or}
-use Rattle.std.specs.Prelude.{FitsSigned, IfSome, OnErr, Result, Ok, Err}
+use Rattle.std.specs.Prelude.{FitsSigned, IsTrue, IfSome, OnErr, Result, Ok, Err}
 use Rattle.std.specs.Int.{w64, int_div_euclid}
 use Rattle.std.specs.Option.{option_map}
 use Rattle.std.specs.FinMap.{get}
 use Rattle.std.proofs.Math.Nat.{div-lt_iff_lt-mul}
+use Rattle.std.proofs.lemmas.Bool.{cases_lt}
 use Rattle.std.proofs.lemmas.Bool.Decides.{eqb_tells}
 use Rattle.std.proofs.lemmas.Option.{slice_get_within, slice_get-get_or, get_or_from_slice_get}
 use Rattle.std.proofs.lemmas.Int.{ints}
 use Rattle.rr_base.specs.declared.archive.ArchiveSpec.{ArchiveSpec}
 use Rattle.rr_base.specs.Schema.{Layout, IsLayout, archive_at, slot_of, span}
 use Rattle.rr_contrib.specs.Validity.{CanAdd}
-use Rattle.rr_archive.specs.CellSlots.{CellSlot, IsSlot}
+use Rattle.rr_archive.specs.CellSlots.{CellSlot, cell_slot, IsSlot}
 use Rattle.rr_archive.specs.Cells.{Rows, put_row}
 use Rattle.rr_model.proofs.Horizon.{archive_is}
-use Rattle.rr_replica.specs.declared.sample.Sample.{Sample}
-use Rattle.rr_replica.specs.Archives.{cell_slot_for, sample_for, Each, AreSized, CanTake, AreSame, HavePut}
+use Rattle.rr_replica.specs.declared.reading.Reading.{Reading}
+use Rattle.rr_replica.specs.Archives.{cell_slot_for, sample_for, Each, AreSized, AreReadyFrom, CanTake, AreSame, HavePut}
 
 -- within a list there is something
 pub reached : {X : Type 0} (xs : List X) (j : ℕ) → j < length xs → (x : X) × (slice_get xs j ≡ Some x)
@@ -114,41 +115,65 @@ same_more cells i old new a b same at is = record {
       (eqb_tells j i);
 }
 
-pub record AreReadied {X : Type 0} (cells : X → Rows) (limit : X → ℕ) (is_ready : X → CellSlot → Bool) (s : Layout) (x : Sample) (i : ℕ) (old new : List X) : Type 0 where
+pub same_itself : {X : Type 0} (cells : X → Rows) (xs : List X) → AreSame cells xs xs
+same_itself cells xs = record { many = refl; each = λ j a b at here. ap cells (only_one b a (sym here ∙ at)) }
+
+-- what is set in its place has the room that it has
+pub ready_set : {X : Type 0} (is_ready : X → CellSlot → Bool) {p : CellSlot} (xs : List X) (i : ℕ) (b : X) → i < length xs → IsTrue (is_ready b p) → (a : X) → slice_get (set xs i b) i ≡ Some a → IsTrue (is_ready a p)
+ready_set is_ready {p} xs i b within ready a at = subst (λ x. IsTrue (is_ready x p)) (only_one b a (sym (slice_get-set_same xs i b within) ∙ at)) ready
+
+pub record AreReadied {X : Type 0} (cells : X → Rows) (limit : X → ℕ) (is_ready : X → CellSlot → Bool) (s : Layout) (time : ℤ) (origin first i : ℕ) (old new : List X) : Type 0 where
   pub same : AreSame cells old new
   pub sized : AreSized limit s new
-  pub ready : (j : ℕ) (b : X) → 1 ≤ j → j < i → slice_get new j ≡ Some b → is_ready b (cell_slot_for s x j) ≡ true
+  pub ready : (j : ℕ) (b : X) → first ≤ j → j < i → slice_get new j ≡ Some b → is_ready b (cell_slot (slot_of s j time) origin) ≡ true
+  pub before : (j : ℕ) → j < first → slice_get new j ≡ slice_get old j
+  pub rest : (j : ℕ) → i ≤ j → slice_get new j ≡ slice_get old j
 
-module _ {X : Type 0} (cells : X → Rows) (limit : X → ℕ) (is_ready : X → CellSlot → Bool) (s : Layout) (x : Sample) where
-  pub readied_none : (old : List X) → AreSized limit s old → AreReadied cells limit is_ready s x 1 old old
+module _ {X : Type 0} (cells : X → Rows) (limit : X → ℕ) (is_ready : X → CellSlot → Bool) (s : Layout) (time : ℤ) (origin first : ℕ) where
+  pub readied_none : (old : List X) → AreSized limit s old → AreReadied cells limit is_ready s time origin first first old old
   readied_none old sized = record {
     same = record { many = refl; each = λ j a b at here. ap cells (only_one b a (sym here ∙ at)) };
     sized = sized;
     ready = λ j b some h. absurd (omega arith);
+    before = λ j h. refl;
+    rest = λ j h. refl;
   }
 
-  pub readied_more : (i : ℕ) (old new : List X) (a b : X) → AreReadied cells limit is_ready s x i old new → slice_get new i ≡ Some a → cells b ≡ cells a → limit b ≡ limit a → is_ready b (cell_slot_for s x i) ≡ true → AreReadied cells limit is_ready s x (i + 1) old (set new i b)
-  readied_more i old new a b r at is size ready = record {
+  pub readied_more : (i : ℕ) (old new : List X) (a b : X) → first ≤ i → AreReadied cells limit is_ready s time origin first i old new → slice_get new i ≡ Some a → cells b ≡ cells a → limit b ≡ limit a → is_ready b (cell_slot (slot_of s i time) origin) ≡ true → AreReadied cells limit is_ready s time origin first (i + 1) old (set new i b)
+  readied_more i old new a b from r at is size ready = record {
     same = same_more cells i old new a b r.same at is;
     sized = map-set_same limit new i a b at size ∙ r.sized;
     ready = λ j d some below here. ⊎_elim
-        (λ h. subst (λ k. is_ready d (cell_slot_for s x k) ≡ true) (sym h.1) (subst (λ e. is_ready e (cell_slot_for s x i) ≡ true) (sym (only_one d b (sym here ∙ ap (slice_get (set new i b)) h.1 ∙ slice_get-set_same new i b (slice_get_within new i a at)))) ready))
+        (λ h. subst (λ k. is_ready d (cell_slot (slot_of s k time) origin) ≡ true) (sym h.1) (subst (λ e. is_ready e (cell_slot (slot_of s i time) origin) ≡ true) (sym (only_one d b (sym here ∙ ap (slice_get (set new i b)) h.1 ∙ slice_get-set_same new i b (slice_get_within new i a at)))) ready))
         (λ h. r.ready j d some (below_it j i below h.1) (sym (slice_get-set_other new i j b h.1) ∙ here))
         (eqb_tells j i);
+    before = λ j below. slice_get-set_other new i j b (λ e. absurd (omega (arith, e))) ∙ r.before j below;
+    rest = λ j above. slice_get-set_other new i j b (λ e. absurd (omega (arith, e))) ∙ r.rest j (omega arith);
   }
     where
       below_it : (j i : ℕ) → j < i + 1 → j ≢ i → j < i
       below_it j i h apart = ⊎_elim (λ e. absurd (apart e.1)) (λ e. omega arith) (eqb_tells j i)
 
+  -- where all had room, and those from the first on have it again, all have it
+  pub ready_all : (old new : List X) → ((j : ℕ) → j < first → slice_get new j ≡ slice_get old j) → AreReadyFrom first is_ready s time origin new → AreReadyFrom 0 is_ready s time origin old → AreReadyFrom 0 is_ready s time origin new
+  ready_all old new before from all i a at some = ⊎_elim
+      (λ below. all i a (sym (before i below) ∙ at) some)
+      (λ past. from i a at past)
+      (cases_lt i first)
+
+  -- those before the first are as they were
+  pub before_set : (i : ℕ) (old new : List X) (b : X) → first ≤ i → AreReadied cells limit is_ready s time origin first i old new → (j : ℕ) → j < first → slice_get (set new i b) j ≡ slice_get old j
+  before_set i old new b from r j below = slice_get-set_other new i j b (λ e. absurd (omega (arith, e))) ∙ r.before j below
+
 -- ---- samples are put
 
-pub record ArePut {X : Type 0} (cells : X → Rows) (limit : X → ℕ) (s : Layout) (x : Sample) (i : ℕ) (old new : List X) : Type 0 where
+pub record ArePut {X : Type 0} (cells : X → Rows) (limit : X → ℕ) (s : Layout) (x : Reading) (i : ℕ) (old new : List X) : Type 0 where
   pub many : length new ≡ length old
   pub sized : AreSized limit s new
   pub put : (j : ℕ) (a b : X) → j < i → slice_get old j ≡ Some a → slice_get new j ≡ Some b → cells b ≡ put_row (archive_at s j).rows (cells a) (cell_slot_for s x j) (sample_for s x j)
   pub rest : (j : ℕ) → i ≤ j → slice_get new j ≡ slice_get old j
 
-module _ {X : Type 0} (cells : X → Rows) (limit : X → ℕ) (s : Layout) (x : Sample) where
+module _ {X : Type 0} (cells : X → Rows) (limit : X → ℕ) (s : Layout) (x : Reading) where
   pub put_none : (old : List X) → AreSized limit s old → ArePut cells limit s x 0 old old
   put_none old sized = record {
     many = refl;

@@ -15,7 +15,7 @@ use Rattle.rr_base.specs.Schema.{Layout, IsLayout}
 use Rattle.rr_contrib.specs.Validity.{CanAdd}
 use Rattle.rr_archive.specs.CellSlots.{CellSlot, cell_slot_cmp}
 use Rattle.rr_archive.specs.Cells.{Rows, entry_of, row_of}
-use Rattle.rr_replica.specs.declared.sample.Sample.{Sample}
+use Rattle.rr_replica.specs.declared.reading.Reading.{Reading}
 use Rattle.rr_replica.specs.Cells.{Cells, IsTrimmed, name_at, rows_at, row_at}
 use Rattle.rr_contrib.specs.declared.contribution.Contribution.{Contribution}
 use Rattle.rr_join.proofs.Lookups.{get-trimmed}
@@ -25,12 +25,12 @@ use Rattle.rr_replica.specs.Puts.{put_sample}
 use Rattle.rr_base.specs.Bytes.{bytes_cmp}
 use Rattle.rr_replica.specs.Series.{cells_of}
 use Rattle.rr_replica.specs.Archives.{cell_slot_for, Each, AreSized, CanTake, AreSame, HavePut}
-use Rattle.rr_replica.specs.Held.{IsHolding, held_series, archives_of, sample_of, holding_of, IsHeld}
+use Rattle.rr_replica.specs.Held.{IsHolding, held_series, archives_of, keyed_sample, holding_of, IsHeld}
 use Rattle.rr_replica.proofs.Local.{get-rows_at}
 use Rattle.rr_replica.proofs.Shown.{held_at, items_of, rows_shown, cells_same, cells_put, held_same, held_put}
 use Rattle.rr_replica.proofs.HoldingLemmas.{IsTyped, holds_put, can_add}
 
-module _ {X : Type 0} (cells : X → Rows) (limit : X → ℕ) (s : Layout) (key : List ℕ) (x : Sample) (old : List (List ℕ × Vec X)) (kept : IsHeld cells limit s x.origin x.number old) (known : x.number ≤ MAX_NUMBER) where
+module _ {X : Type 0} (cells : X → Rows) (limit : X → ℕ) (s : Layout) (key : List ℕ) (x : Reading) (old : List (List ℕ × Vec X)) (kept : IsHeld cells limit s x.origin x.number old) (known : x.number ≤ MAX_NUMBER) where
   abbrev all : Cells
   all = cells_of (held_series cells old)
 
@@ -52,7 +52,7 @@ module _ {X : Type 0} (cells : X → Rows) (limit : X → ℕ) (s : Layout) (key
   can_take before at i a here =
       let p = cell_slot_for s x i in
       let is : get (cells a) p ≡ get all (name_at key i p) = sym (ap (λ o. get (unwrap_or (option_map cells o) empty) p) here) ∙ ap (λ r. get r p) (sym (at i)) ∙ get-rows_at key i all p in
-      subst (λ o. IfSome o (CanAdd x.number)) (sym is) (can_add (holding_of cells s x.origin x.number old) kept.holds (sample_of key x) refl refl known (name_at key i p) refl)
+      subst (λ o. IfSome o (CanAdd x.number)) (sym is) (can_add (holding_of cells s x.origin x.number old) kept.holds (keyed_sample key x) refl refl known (name_at key i p) refl)
 
   module _ (new : List (List ℕ × Vec X)) (now : Vec X) (sets : (q : List ℕ) → archives_of new q ≡ cond (is_at (bytes_cmp key) q) (Some now) (archives_of old q)) (sorted : IsStrictlySortedBy bytes_cmp (keys_of new)) (before : List X) (at : (i : ℕ) → rows_at all key i ≡ held_at cells before i) (size : AreSized limit s now.items) where
     sized_now : (q : List ℕ) (archives : Vec X) → archives_of new q ≡ Some archives → AreSized limit s archives.items
@@ -62,12 +62,12 @@ module _ {X : Type 0} (cells : X → Rows) (limit : X → ℕ) (s : Layout) (key
         by_key true e = subst (λ (v : Vec X). AreSized limit s v.items) (ap (λ o. unwrap_or o now) e) size
         by_key false e = kept.sized q archives e
 
-    pub cells_with : length before ≡ length s.archives → HavePut cells s x before now.items → cells_of (held_series cells new) ≡ put_sample s all (sample_of key x)
-    cells_with many h = cells_put cells old new key now sets kept.ordered sorted s kept.holds.layout (sample_of key x) refl kept.holds.live (λ i. held_put cells s kept.holds.layout key x all before now.items i kept.holds.live many h at)
+    pub cells_with : length before ≡ length s.archives → HavePut cells s x before now.items → cells_of (held_series cells new) ≡ put_sample s all (keyed_sample key x)
+    cells_with many h = cells_put cells old new key now sets kept.ordered sorted s kept.holds.layout (keyed_sample key x) refl kept.holds.live (λ i. held_put cells s kept.holds.layout key x all before now.items i kept.holds.live many h at)
 
-    pub kept_with : IsTyped (sample_of key x) → length before ≡ length s.archives → HavePut cells s x before now.items → IsHeld cells limit s x.origin (x.number + 1) new
+    pub kept_with : IsTyped (keyed_sample key x) → length before ≡ length s.archives → HavePut cells s x before now.items → IsHeld cells limit s x.origin (x.number + 1) new
     kept_with typed many h = record {
-      holds = subst (λ (m : Cells). IsHolding (record { schema = s; origin = x.origin; next = x.number + 1; cells = m })) (sym (cells_with many h)) (holds_put (holding_of cells s x.origin x.number old) kept.holds (sample_of key x) refl refl known typed);
+      holds = subst (λ (m : Cells). IsHolding (record { schema = s; origin = x.origin; next = x.number + 1; cells = m })) (sym (cells_with many h)) (holds_put (holding_of cells s x.origin x.number old) kept.holds (keyed_sample key x) refl refl known typed);
       sized = sized_now;
       ordered = sorted;
     }

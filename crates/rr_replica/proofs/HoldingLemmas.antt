@@ -30,7 +30,7 @@ use Rattle.rr_replica.specs.Held.{IsHolding}
 use Rattle.rr_replica.proofs.CellBoundsLemmas.{KnownHasBounds, bounds_with, bounds_of, cell_from}
 use Rattle.rr_replica.proofs.Each.{slot_is}
 use Rattle.rr_replica.proofs.Local.{get-rows_at}
-use Rattle.rr_replica.proofs.Putting.{mark, with_mark, puts_trimmed, put_at, put_past, put_other_key}
+use Rattle.rr_replica.proofs.PutsLemmas.{mark, with_mark, puts_trimmed, put_at, put_past, put_other_key}
 
 -- a sample of a key text, with a time and a value of 64 bits
 pub record IsTyped (x : Sample) : Type 0 where

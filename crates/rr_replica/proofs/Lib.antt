@@ -1,6 +1,6 @@
 pub mod Local
 pub mod SeriesLemmas
-pub mod Putting
+pub mod PutsLemmas
 pub mod Each
 pub mod Shown
 pub mod CellBoundsLemmas
@@ -25,3 +25,6 @@ pub mod FieldLemmas
 pub mod OneArchive
 pub mod JoinedCell
 pub mod Lending
+pub mod OperationsLemmas
+pub mod CopyingLemmas
+pub mod RoomLemmas

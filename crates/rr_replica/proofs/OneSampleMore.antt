@@ -20,7 +20,7 @@ use Rattle.rr_model.proofs.Horizon.{live_horizon}
 use Rattle.rr_model.proofs.Knowing.{same_knowledge, is_in-keys_of, knows-set_of, knows-with_marks, with_marks-nil, with_marks-cons, is_in-names_of, name_from_tie, live_in-union}
 use Rattle.rr_replica.specs.Puts.{seen, put_mark, put_marks}
 use Rattle.rr_replica.specs.State.{state, PutIsOneSampleMore}
-use Rattle.rr_replica.proofs.Putting.{mark, marks_from}
+use Rattle.rr_replica.proofs.PutsLemmas.{mark, marks_from}
 use Rattle.rr_replica.proofs.Values.{value-insert}
 use Rattle.rr_replica.proofs.States.{value, tie_of, marks_at, knows-marks_at, known_at, get-state, value_cell, live_state}
 

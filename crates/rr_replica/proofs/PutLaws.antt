@@ -15,7 +15,7 @@ use Rattle.rr_replica.specs.Cells.{name_at, cell_slot_of, rows_at}
 use Rattle.rr_replica.specs.Puts.{seen}
 use Rattle.rr_replica.specs.Laws.{PutGoesByArchives, PutLeavesOtherKeys, PutIsTrimmed, DeadLeaveNoTrace, CellsAreFew, mark_in}
 use Rattle.rr_replica.proofs.Local.{get-rows_at, live_local, trimmed_local}
-use Rattle.rr_replica.proofs.Putting.{puts_trimmed, put_at, put_other_key}
+use Rattle.rr_replica.proofs.PutsLemmas.{puts_trimmed, put_at, put_other_key}
 
 pub put_goes_by_archives : PutGoesByArchives
 put_goes_by_archives s m x archive is kept there = put_at s is x archive m kept there

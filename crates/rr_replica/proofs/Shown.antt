@@ -15,16 +15,16 @@ use Rattle.rr_base.specs.Schema.{Layout, IsLayout, archive_at}
 use Rattle.rr_join.proofs.Members.{same_from_tie, tie_itself}
 use Rattle.rr_archive.specs.Cells.{Rows, put_row}
 use Rattle.rr_model.specs.Samples as model
-use Rattle.rr_replica.specs.declared.sample.Sample.{Sample}
+use Rattle.rr_replica.specs.declared.reading.Reading.{Reading}
 use Rattle.rr_replica.specs.Cells.{Cells, IsTrimmed, rows_at}
 use Rattle.rr_replica.specs.Puts.{put_sample}
 use Rattle.rr_base.specs.Bytes.{bytes_cmp}
 use Rattle.rr_replica.specs.Series.{cells_of, rows_from}
 use Rattle.rr_replica.specs.Archives.{cell_slot_for, sample_for, AreSame, HavePut}
-use Rattle.rr_replica.specs.Held.{held_series, archives_of, sample_of}
+use Rattle.rr_replica.specs.Held.{held_series, archives_of, keyed_sample}
 use Rattle.rr_replica.proofs.Local.{same_cells}
 use Rattle.rr_replica.proofs.SeriesLemmas.{bytes_cmp-IsAntisymmetric, rows_of_series}
-use Rattle.rr_replica.proofs.Putting.{put_at, put_past, put_other_key}
+use Rattle.rr_replica.proofs.PutsLemmas.{put_at, put_past, put_other_key}
 use Rattle.rr_replica.proofs.Each.{slice_get-map}
 
 rows_from-is : (first : ℕ) (rs : List Rows) (i : ℕ) → rows_from first rs (first + i) ≡ unwrap_or (slice_get rs i) empty
@@ -117,13 +117,13 @@ module _ {X : Type 0} (cells : X → Rows) where
       (λ past. (λ j. unwrap_or (option_map cells (slice_get_past new i (let many = same.many in omega arith) j)) empty) ∙ sym (λ j. unwrap_or (option_map cells (slice_get_past old i past j)) empty))
       (cases_lt i (length old))
 
-  pub held_put : (s : Layout) → IsLayout s → (key : List ℕ) (x : Sample) (all : Cells) (old new : List X) (i : ℕ) → IsTrimmed s all → length old ≡ length s.archives → HavePut cells s x old new → ((j : ℕ) → rows_at all key j ≡ held_at cells old j) → held_at cells new i ≡ rows_at (put_sample s all (sample_of key x)) key i
+  pub held_put : (s : Layout) → IsLayout s → (key : List ℕ) (x : Reading) (all : Cells) (old new : List X) (i : ℕ) → IsTrimmed s all → length old ≡ length s.archives → HavePut cells s x old new → ((j : ℕ) → rows_at all key j ≡ held_at cells old j) → held_at cells new i ≡ rows_at (put_sample s all (keyed_sample key x)) key i
   held_put s is key x all old new i kept many h before = ⊎_elim
       (λ within.
       let a = there old i within in
       let b = there new i (let more = h.many in omega arith) in
       ap (λ o. unwrap_or (option_map cells o) empty) b.1 ∙ h.each i a.0 b.0 a.1 b.1
       ∙ ap (λ r. put_row (archive_at s i).rows r (cell_slot_for s x i) (sample_for s x i)) (sym (ap (λ o. unwrap_or (option_map cells o) empty) a.1) ∙ sym (before i))
-      ∙ sym (put_at s is (sample_of key x) i all kept (let more = many in omega arith)))
-      (λ past. (λ j. unwrap_or (option_map cells (slice_get_past new i (let more = h.many in omega arith) j)) empty) ∙ sym (put_past s is (sample_of key x) key i all kept (let more = many in omega arith) ∙ before i ∙ (λ j. unwrap_or (option_map cells (slice_get_past old i past j)) empty)))
+      ∙ sym (put_at s is (keyed_sample key x) i all kept (let more = many in omega arith)))
+      (λ past. (λ j. unwrap_or (option_map cells (slice_get_past new i (let more = h.many in omega arith) j)) empty) ∙ sym (put_past s is (keyed_sample key x) key i all kept (let more = many in omega arith) ∙ before i ∙ (λ j. unwrap_or (option_map cells (slice_get_past old i past j)) empty)))
       (cases_lt i (length old))

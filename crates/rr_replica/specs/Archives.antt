@@ -1,22 +1,34 @@
 -- The archives of one key, each seen as a map by a function, and what a sample makes of each.
-use Rattle.std.specs.Prelude.{◌≡◌, ◌≢◌, ℕ, ◌≤◌, Bool, IsTrue, List, map, length, Some, slice_get}
+use Rattle.std.specs.Prelude.{◌≡◌, ◌≢◌, ℕ, ℤ, ◌≤◌, Bool, IsTrue, List, map, length, Some, slice_get, FitsSigned}
 use Rattle.std.specs.FinMap.{get}
+use Rattle.std.specs.Int.{w64}
+use Rattle.rr_base.specs.declared.limits.TheConstants.{MAX_NUMBER}
 use Rattle.rr_base.specs.Schema.{Layout, IsLayout, archive_at, slot_of, place_of}
 use Rattle.rr_contrib.specs.Contributions.{SlotSample, slot_sample}
 use Rattle.rr_contrib.specs.Validity.{CanAdd}
 use Rattle.std.specs.Prelude.{IfSome}
 use Rattle.rr_archive.specs.CellSlots.{CellSlot, cell_slot}
 use Rattle.rr_archive.specs.Cells.{Rows, put_row, join_cell}
-use Rattle.rr_replica.specs.declared.sample.Sample.{Sample}
+use Rattle.rr_replica.specs.declared.reading.Reading.{Reading}
 use Rattle.rr_replica.specs.declared.cell.Cell.{Cell}
+use Rattle.rr_replica.specs.declared.op.Op.{Op}
+use Rattle.rr_replica.specs.declared.op.Op.TheVariants.{Put, Join}
+use Rattle.rr_replica.specs.CellBounds.{IsCellOf}
+use Rattle.rr_replica.specs.Listing.{owned_cell}
 
 -- where the sample falls in an archive
-abbrev pub cell_slot_for : Layout → Sample → ℕ → CellSlot
+abbrev pub cell_slot_for : Layout → Reading → ℕ → CellSlot
 cell_slot_for s x archive = cell_slot (slot_of s archive x.time) x.origin
 
 -- the sample, as the slot of an archive sees it
-abbrev pub sample_for : Layout → Sample → ℕ → SlotSample
+abbrev pub sample_for : Layout → Reading → ℕ → SlotSample
 sample_for s x archive = slot_sample x.number (place_of s archive x.time) x.time x.value
+
+-- a sample that is put has a time of 64 bits and a number from 1 to 2^40, and a cell that is joined is one of the
+-- schema's
+abbrev pub IsOpOf : Layout → Op → Type 0
+IsOpOf s (Put x) = FitsSigned w64 x.time × (1 ≤ x.number) × (x.number ≤ MAX_NUMBER)
+IsOpOf s (Join c) = IsCellOf s (owned_cell c)
 
 module _ {X : Type 0} where
   -- both lists have an archive with this number, and the two are so related
@@ -36,12 +48,17 @@ module _ {X : Type 0} where
     pub sized : AreSized limit s archives
 
   -- a sample of this number can be added to the cell where it falls
-  abbrev pub CanTake : (X → Rows) → Layout → Sample → List X → Type 0
+  abbrev pub CanTake : (X → Rows) → Layout → Reading → List X → Type 0
   CanTake cells s x archives = Each (λ i a. IfSome (get (cells a) (cell_slot_for s x i)) (CanAdd x.number)) archives
 
-  -- each archive after the first has room for the sample
-  abbrev pub AreReady : (X → CellSlot → Bool) → Layout → Sample → List X → Type 0
-  AreReady is_ready s x archives = Each (λ i a. 1 ≤ i → IsTrue (is_ready a (cell_slot_for s x i))) archives
+  -- each archive from the one with a number on has room for a sample of a time and an origin
+  abbrev pub AreReadyFrom : ℕ → (X → CellSlot → Bool) → Layout → ℤ → ℕ → List X → Type 0
+  AreReadyFrom first is_ready s time origin archives = Each (λ i a. first ≤ i → IsTrue (is_ready a (cell_slot (slot_of s i time) origin))) archives
+
+  -- the archives of its key have room for an operation
+  abbrev pub HaveRoomFor : (X → CellSlot → Bool) → Layout → Op → List X → Type 0
+  HaveRoomFor is_ready s (Put x) archives = AreReadyFrom 0 is_ready s x.time x.origin archives
+  HaveRoomFor is_ready s (Join c) archives = (a : X) → slice_get archives c.archive ≡ Some a → IsTrue (is_ready a (cell_slot c.slot c.origin))
 
   -- as many archives, with the same cells
   pub record AreSame (cells : X → Rows) (old new : List X) : Type 0 where
@@ -49,7 +66,7 @@ module _ {X : Type 0} where
     pub each : EachPair (λ i a b. cells b ≡ cells a) old new
 
   -- as many archives, each with the sample put
-  pub record HavePut (cells : X → Rows) (s : Layout) (x : Sample) (old new : List X) : Type 0 where
+  pub record HavePut (cells : X → Rows) (s : Layout) (x : Reading) (old new : List X) : Type 0 where
     pub many : length new ≡ length old
     pub each : EachPair (λ i a b. cells b ≡ put_row (archive_at s i).rows (cells a) (cell_slot_for s x i) (sample_for s x i)) old new
 

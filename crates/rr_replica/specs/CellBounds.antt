@@ -1,10 +1,10 @@
 -- The bounds that every cell of a schema keeps to.
-use Rattle.std.specs.Prelude.{◌<◌, length, FitsSigned}
+use Rattle.std.specs.Prelude.{◌<◌, nat_lt, Bool, ◌&&◌, length, FitsSigned}
 use Rattle.std.specs.Int.{w64, w128}
 use Rattle.rr_base.specs.Origin.{IsOrigin}
 use Rattle.rr_base.specs.Schema.{Layout}
 use Rattle.rr_contrib.specs.declared.contribution.Contribution.{Contribution}
-use Rattle.rr_contrib.specs.Validity.{IsValid}
+use Rattle.rr_contrib.specs.Validity.{IsValid, is_valid}
 use Rattle.rr_key.specs.Series.{IsKeyText}
 use Rattle.rr_model.specs.CellNames.{CellName}
 
@@ -25,3 +25,8 @@ pub record IsCellOf (s : Layout) (e : NamedCell) : Type 0 where
   pub max_fits : FitsSigned w64 e.1.max
   pub last_time_fits : FitsSigned w64 e.1.last_time
   pub last_value_fits : FitsSigned w64 e.1.last_value
+
+-- whether a cell is of one of the schema's archives and valid in its slot; a cell of the program keeps to all other
+-- bounds by its types
+abbrev pub is_cell_of : Layout → NamedCell → Bool
+is_cell_of s e = nat_lt e.0.archive (length s.archives) && is_valid s e.0.archive e.0.slot e.1

@@ -1,24 +1,29 @@
 -- What a replica keeps to.
-use Rattle.std.specs.Prelude.{◌≡◌, ℕ, ◌+◌, ◌<◌, ◌≤◌, List, map, Option, Some}
+use Rattle.std.specs.Prelude.{◌≡◌, ℕ, ◌+◌, ◌<◌, ◌≤◌, Bool, List, map, Option, Some}
 use Rattle.std.specs.Global.{Vec}
 use Rattle.std.specs.List.Sorted.{IsStrictlySortedBy}
 use Rattle.std.specs.Map.{lookup, keys_of}
 use Rattle.std.specs.BTreeMap.{is_at}
+use Rattle.std.specs.Option.{option_map}
 use Rattle.std.specs.FinMap.{get}
 use Rattle.rr_base.specs.declared.limits.TheConstants.{MAX_NUMBER}
 use Rattle.rr_base.specs.Origin.{IsOrigin}
 use Rattle.rr_base.specs.Schema.{Layout, IsLayout}
 use Rattle.rr_contrib.specs.declared.contribution.Contribution.{Contribution}
+use Rattle.rr_archive.specs.CellSlots.{CellSlot}
 use Rattle.rr_archive.specs.Cells.{Rows}
 use Rattle.rr_model.specs.CellNames.{CellName}
 use Rattle.rr_model.specs.Samples as model
+use Rattle.rr_replica.specs.declared.reading.Reading.{Reading}
 use Rattle.rr_replica.specs.declared.sample.Sample.{Sample}
+use Rattle.rr_replica.specs.declared.op.Op.{Op}
+use Rattle.rr_replica.specs.Operations.{sample_of, key_of}
 use Rattle.rr_replica.specs.CellBounds.{IsCellOf}
 use Rattle.rr_replica.specs.Cells.{IsTrimmed}
 use Rattle.rr_replica.specs.Holding.{Holding}
 use Rattle.rr_base.specs.Bytes.{bytes_cmp}
 use Rattle.rr_replica.specs.Series.{Series, cells_of}
-use Rattle.rr_replica.specs.Archives.{AreSized}
+use Rattle.rr_replica.specs.Archives.{AreSized, HaveRoomFor}
 
 -- a next number is left or was the last, no cell is past the horizon, each is one of the schema's and within bounds,
 -- and those of the replica's own origin are of earlier numbers
@@ -31,9 +36,13 @@ pub record IsHolding (h : Holding) : Type 0 where
   pub cells : (n : CellName) (c : Contribution) → get h.cells n ≡ Some c → IsCellOf h.schema (n, c)
   pub own : (n : CellName) (c : Contribution) → get h.cells n ≡ Some c → n.origin ≡ h.origin → c.version < h.next
 
--- what is written, as a sample of a key
-abbrev pub sample_of : List ℕ → Sample → model.Sample
-sample_of key x = record { time = x.time; origin = x.origin; number = x.number; key = key; value = x.value }
+-- a reading, as a sample of a key
+abbrev pub keyed : List ℕ → Reading → Sample
+keyed key x = record { origin = x.origin; number = x.number; key = key; time = x.time; value = x.value }
+
+-- and as the model has it
+abbrev pub keyed_sample : List ℕ → Reading → model.Sample
+keyed_sample key x = sample_of (keyed key x)
 
 module _ {X : Type 0} where
   -- the archives of each key, each seen as a map
@@ -44,8 +53,20 @@ module _ {X : Type 0} where
   abbrev pub archives_of : List (List ℕ × Vec X) → List ℕ → Option (Vec X)
   archives_of entries key = lookup (is_at (bytes_cmp key)) entries
 
+  -- what an archive holds, and how many rows it keeps
+  abbrev pub seen_archive : (X → Rows) → (X → ℕ) → X → Rows × ℕ
+  seen_archive cells limit a = (cells a, limit a)
+
+  -- this of each archive of a key, if it has any
+  abbrev pub seen_at : (X → Rows) → (X → ℕ) → List (List ℕ × Vec X) → List ℕ → Option (List (Rows × ℕ))
+  seen_at cells limit entries key = option_map (λ (v : Vec X). map (seen_archive cells limit) v.items) (archives_of entries key)
+
   abbrev pub holding_of : (X → Rows) → Layout → ℕ → ℕ → List (List ℕ × Vec X) → Holding
   holding_of cells schema origin next entries = record { schema = schema; origin = origin; next = next; cells = cells_of (held_series cells entries) }
+
+  -- the key of an operation has archives, and these have room for it
+  abbrev pub HasRoom : (X → CellSlot → Bool) → Layout → Op → List (List ℕ × Vec X) → Type 0
+  HasRoom is_ready s op entries = (archives : Vec X) × (archives_of entries (key_of op) ≡ Some archives) × HaveRoomFor is_ready s op archives.items
 
   -- each key has an archive for each of the schema's, of its rows
   abbrev pub AreAllSized : (X → ℕ) → Layout → List (List ℕ × Vec X) → Type 0

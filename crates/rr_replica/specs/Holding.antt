@@ -21,14 +21,18 @@ pub record Holding : Type 0 where
 abbrev pub next_sample : Holding → List ℕ → ℤ → ℤ → Sample
 next_sample h key time value = record { time = time; origin = h.origin; number = h.next; key = key; value = value }
 
--- with this sample put
-abbrev pub with_put : Holding → List ℕ → ℤ → ℤ → Holding
-with_put h key time value = record {
+-- with a sample put; the next one takes the number after its
+abbrev pub with_sample : Holding → Sample → Holding
+with_sample h x = record {
   schema = h.schema;
   origin = h.origin;
-  next = h.next + 1;
-  cells = put_sample h.schema h.cells (next_sample h key time value);
+  next = x.number + 1;
+  cells = put_sample h.schema h.cells x;
 }
+
+-- with the next sample put
+abbrev pub with_put : Holding → List ℕ → ℤ → ℤ → Holding
+with_put h key time value = with_sample h (next_sample h key time value)
 
 -- ---- codes, which show that holdings are a set
 

@@ -3,11 +3,13 @@ pub mod CellBounds
 pub mod Puts
 pub mod Holding
 pub mod Series
-pub mod Archives
-pub mod Held
 pub mod Listing
 pub mod Joins
 pub mod Joining
+pub mod Operations
+pub mod Archives
+pub mod Held
+pub mod Standing
 pub mod State
 pub mod Versions
 pub mod Laws

@@ -1,14 +1,15 @@
 //! The archives of one key.
-ghost use Rattle.std.specs.Prelude.{◌≡◌, OnOk, OnErr, IfOk};
+ghost use Rattle.std.specs.Prelude.{◌≡◌, ℕ, ◌<◌, slice_get, IsOk, OnOk, OnErr, IfOk};
 ghost use Rattle.std.specs.FinMap as fin;
-ghost use Rattle.rr_replica.specs.Archives.{Each, AreOf, AreReady, CanTake, AreSame, HavePut, HaveJoined};
+ghost use Rattle.rr_replica.specs.Archives.{Each, AreOf, AreReadyFrom, CanTake, AreSame, HavePut, HaveJoined, HaveRoomFor, IsOpOf};
 ghost use Rattle.rr_replica.specs.CellBounds.{IsCellOf};
 ghost use Rattle.rr_replica.specs.Listing.{owned_cell};
 
 use crate::cell::Cell;
-use crate::sample::Sample;
+use crate::op::Op;
+use crate::reading::Reading;
 use rr_archive::Archive;
-use rr_base::Schema;
+use rr_base::{Origin, Schema};
 use std::alloc::{AllocError, Global};
 
 /// An archive that holds no cell, for each of a schema's.
@@ -26,20 +27,25 @@ pub(crate) fn empty_archives<A: Archive>(
     Ok(archives)
 }
 
-/// Makes room for a sample in each archive after the first, and changes no cell.
+/// Makes room for a sample of a time and an origin in each archive from the one with a number on,
+/// and changes no cell.
 fn make_ready<A: Archive>(
     archives: &mut Vec<A>,
     schema: &Schema,
-    sample: &Sample,
+    time: i64,
+    origin: Origin,
+    first: usize,
 ) -> Result<(), AllocError>
     requires of_schema { AreOf A.row_limit schema.now archives.old.items }
     ensures unchanged { AreSame A.cells archives.old.items archives.new.items }
+    ensures before { (i : ℕ) → i < first → slice_get archives.new.items i ≡ slice_get archives.old.items i }
     ensures of_schema { AreOf A.row_limit schema.now archives.new.items }
-    ensures ready { OnOk result (AreReady A.is_ready schema.now sample.now archives.new.items) }
+    ensures ready { OnOk result (AreReadyFrom first A.is_ready schema.now time origin archives.new.items) }
+    ensures kept { AreReadyFrom first A.is_ready schema.now time origin archives.old.items → IsOk result }
 {
-    for i in 1..archives.len() {
-        let slot = schema.slot(i as u8, sample.time);
-        archives[i].ready(slot, sample.origin)?;
+    for i in first..archives.len() {
+        let slot = schema.slot(i as u8, time);
+        archives[i].ready(slot, origin)?;
     }
     Ok(())
 }
@@ -49,14 +55,15 @@ fn make_ready<A: Archive>(
 fn put_ready<A: Archive>(
     archives: &mut Vec<A>,
     schema: &Schema,
-    sample: &Sample,
+    sample: &Reading,
 ) -> Result<(), AllocError>
     requires of_schema { AreOf A.row_limit schema.now archives.old.items }
     requires newer { CanTake A.cells schema.now sample.now archives.old.items }
-    requires ready { AreReady A.is_ready schema.now sample.now archives.old.items }
+    requires ready { AreReadyFrom 1 A.is_ready schema.now sample.now.time sample.now.origin archives.old.items }
     ensures put { OnOk result (HavePut A.cells schema.now sample.now archives.old.items archives.new.items) }
     ensures unchanged { OnErr result (AreSame A.cells archives.old.items archives.new.items) }
     ensures of_schema { AreOf A.row_limit schema.now archives.new.items }
+    ensures room { AreReadyFrom 0 A.is_ready schema.now sample.now.time sample.now.origin archives.old.items → IsOk result }
 {
     for i in 0..archives.len() {
         let slot = schema.slot(i as u8, sample.time);
@@ -77,15 +84,16 @@ fn put_ready<A: Archive>(
 pub(crate) fn put_into<A: Archive>(
     archives: &mut Vec<A>,
     schema: &Schema,
-    sample: &Sample,
+    sample: &Reading,
 ) -> Result<(), AllocError>
     requires of_schema { AreOf A.row_limit schema.now archives.old.items }
     requires newer { CanTake A.cells schema.now sample.now archives.old.items }
     ensures put { OnOk result (HavePut A.cells schema.now sample.now archives.old.items archives.new.items) }
     ensures unchanged { OnErr result (AreSame A.cells archives.old.items archives.new.items) }
     ensures of_schema { AreOf A.row_limit schema.now archives.new.items }
+    ensures room { AreReadyFrom 0 A.is_ready schema.now sample.now.time sample.now.origin archives.old.items → IsOk result }
 {
-    make_ready(archives, schema, sample)?;
+    make_ready(archives, schema, sample.time, sample.origin, 1)?;
     put_ready(archives, schema, sample)
 }
 
@@ -100,9 +108,45 @@ pub(crate) fn join_into<A: Archive>(
     ensures joined { OnOk result (HaveJoined A.cells A.row_limit cell.now archives.old.items archives.new.items) }
     ensures unchanged { OnErr result (AreSame A.cells archives.old.items archives.new.items) }
     ensures of_schema { AreOf A.row_limit schema.now archives.new.items }
+    ensures room { HaveRoomFor A.is_ready schema.now (Op.Join cell.now) archives.old.items → IsOk result }
 {
     // It is the cell's own slot, since the cell is valid; as that of a time it is within bounds.
     let slot = schema.slot(cell.archive, cell.contribution.last_time);
     let archive = &mut archives[cell.archive as usize];
     archive.join_cell(slot, cell.origin, &cell.contribution)
+}
+
+/// Makes room for a cell in the archive that it is of, and changes no cell.
+fn make_cell_ready<A: Archive>(
+    archives: &mut Vec<A>,
+    schema: &Schema,
+    cell: &Cell,
+) -> Result<(), AllocError>
+    requires of_schema { AreOf A.row_limit schema.now archives.old.items }
+    requires cell { IsCellOf schema.now (owned_cell cell.now) }
+    ensures unchanged { AreSame A.cells archives.old.items archives.new.items }
+    ensures of_schema { AreOf A.row_limit schema.now archives.new.items }
+    ensures room { OnOk result (HaveRoomFor A.is_ready schema.now (Op.Join cell.now) archives.new.items) }
+{
+    let slot = schema.slot(cell.archive, cell.contribution.last_time);
+    let archive = &mut archives[cell.archive as usize];
+    archive.ready(slot, cell.origin)
+}
+
+/// Makes room for an operation, and changes no cell.
+pub(crate) fn make_room<A: Archive>(
+    archives: &mut Vec<A>,
+    schema: &Schema,
+    op: &Op,
+) -> Result<(), AllocError>
+    requires of_schema { AreOf A.row_limit schema.now archives.old.items }
+    requires op { IsOpOf schema.now op.now }
+    ensures unchanged { AreSame A.cells archives.old.items archives.new.items }
+    ensures of_schema { AreOf A.row_limit schema.now archives.new.items }
+    ensures room { OnOk result (HaveRoomFor A.is_ready schema.now op.now archives.new.items) }
+{
+    match op {
+        Op::Put(sample) => make_ready(archives, schema, sample.time, sample.origin, 0),
+        Op::Join(cell) => make_cell_ready(archives, schema, cell),
+    }
 }

@@ -1,6 +1,11 @@
 //! Cells by their names.
+ghost use Rattle.std.specs.Prelude.{◌≡◌, ◌↔◌, ℕ, List, IsTrue};
+ghost use Rattle.rr_base.specs.Origin.{IsOrigin};
+ghost use Rattle.rr_key.specs.Series.{IsKeyText};
+ghost use Rattle.rr_replica.specs.CellBounds.{IsCellOf, is_cell_of};
+ghost use Rattle.rr_replica.specs.Listing.{cell_name};
 
-use rr_base::Origin;
+use rr_base::{Origin, Schema};
 use rr_contrib::Contribution;
 use rr_key::SeriesKey;
 use std::alloc::AllocError;
@@ -51,4 +56,44 @@ impl CellRef<'_> {
             contribution: self.contribution,
         })
     }
+}
+
+impl Cell {
+    ghost use Rattle.std.specs.Prelude.{◌≡◌, ◌↔◌, IsTrue, IfOk};
+    ghost use Rattle.rr_replica.specs.CellBounds.{IsCellOf, is_cell_of};
+    ghost use Rattle.rr_replica.specs.Listing.{owned_cell};
+
+    /// Whether it is a cell of a schema: of one of the schema's archives, and valid in its slot.
+    pub fn is_of(&self, schema: &Schema) -> bool
+        ensures tested { result ≡ is_cell_of schema.now (owned_cell self.now) }
+        ensures cell { IsTrue result ↔ IsCellOf schema.now (owned_cell self.now) }
+    {
+        // The proof needs what the key and the origin keep to, which these ensure.
+        let _text = self.key.text();
+        let _number = self.origin.get();
+        is_cell_of(schema, self.archive, self.slot, self.contribution)
+    }
+
+    /// The same cell. The key's bytes are shared, so no memory is taken.
+    pub fn copy(&self) -> Result<Cell, AllocError>
+        ensures { IfOk result (λ cell. cell ≡ self.now) }
+    {
+        Ok(Cell {
+            key: self.key.copy()?,
+            archive: self.archive,
+            slot: self.slot,
+            origin: self.origin,
+            contribution: self.contribution,
+        })
+    }
+}
+
+/// Whether a contribution makes a cell of a slot of an archive, of any key and origin.
+fn is_cell_of(schema: &Schema, archive: u8, slot: i64, contribution: Contribution) -> bool
+    ensures tested { (key : List ℕ) (origin : ℕ)
+        → result ≡ is_cell_of schema.now (cell_name key archive slot origin, contribution) }
+    ensures cell { (key : List ℕ) (origin : ℕ) → IsKeyText key → IsOrigin origin
+        → IsTrue result ↔ IsCellOf schema.now (cell_name key archive slot origin, contribution) }
+{
+    (archive as usize) < schema.archives().len() && contribution.is_valid(schema, archive, slot)
 }

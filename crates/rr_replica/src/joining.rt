@@ -1,5 +1,5 @@
 //! Cells from elsewhere, joined into the archives of their keys.
-ghost use Rattle.std.specs.Prelude.{◌≡◌, ◌≤◌, OnOk, OnErr};
+ghost use Rattle.std.specs.Prelude.{◌≡◌, ◌≤◌, IsOk, OnOk, OnErr};
 ghost use Rattle.std.specs.List.Sorted.{IsStrictlySortedBy};
 ghost use Rattle.std.specs.Map.{keys_of};
 ghost use Rattle.rr_base.specs.Schema.{IsLayout};
@@ -8,13 +8,14 @@ ghost use Rattle.rr_replica.specs.Cells.{IsTrimmed};
 ghost use Rattle.rr_replica.specs.Joins.{join_cell};
 ghost use Rattle.rr_replica.specs.CellBounds.{IsCellOf};
 ghost use Rattle.rr_replica.specs.Joining.{next_after};
-ghost use Rattle.rr_replica.specs.Held.{held_series, AreAllSized};
+ghost use Rattle.rr_replica.specs.Held.{held_series, HasRoom, AreAllSized};
 ghost use Rattle.rr_replica.specs.Listing.{owned_cell};
 ghost use Rattle.rr_base.specs.Bytes.{bytes_cmp};
 ghost use Rattle.rr_replica.specs.Series.{cells_of};
 
 use crate::archives::{empty_archives, join_into};
 use crate::cell::Cell;
+use crate::op::Op;
 use rr_archive::Archive;
 use rr_base::{Origin, Schema};
 use rr_key::SeriesKey;
@@ -38,6 +39,7 @@ pub(crate) fn join_in<A: Archive>(
     ensures unchanged { OnErr result (cells_of (held_series A.cells series.new.entries)
         ≡ cells_of (held_series A.cells series.old.entries)) }
     ensures sized { AreAllSized A.row_limit schema.now series.new.entries }
+    ensures room { HasRoom A.is_ready schema.now (Op.Join cell.now) series.old.entries → IsOk result }
     ensures ordered { IsStrictlySortedBy bytes_cmp (keys_of series.new.entries) }
 {
     match series.get_mut(&cell.key) {

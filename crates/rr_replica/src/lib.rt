@@ -8,18 +8,31 @@
 //! what stands at its name the greater is kept, and the next number moves past a cell of the
 //! replica's own origin (`specs/Joining.antt`). Cells are listed in the order of their names, from a
 //! place on or after a name (`specs/Listing.antt`).
+//!
+//! An [`Op`] is either of the two steps, a [`Sample`] put or a cell joined, as a value: a list of
+//! them makes the same cells of each replica of the schema (`specs/Operations.antt`). Room for an
+//! operation is made before it is applied, which then can't fail (`specs/Standing.antt`).
 #![tactic(auto)]
 
+mod applying;
 mod archives;
 mod cell;
+mod copying;
 mod fault;
 mod joining;
 pub mod laws;
 mod listing;
 mod next;
+mod op;
+mod putting;
+mod reading;
 mod replica;
+mod room;
 mod sample;
+mod writing;
 
 pub use cell::{Cell, CellRef};
 pub use fault::{JoinFault, PutFault, WriteFault};
+pub use op::Op;
 pub use replica::Replica;
+pub use sample::Sample;

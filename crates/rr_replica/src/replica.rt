@@ -1,28 +1,28 @@
 //! A replica of the store.
-ghost use Rattle.std.specs.Prelude.{◌≡◌, ℕ, ◌<◌, ◌≤◌, ◌+◌, ◌↔◌, All, length, map, take, drop, None, Err, IfSome, IfOk, IfErr, OnOk, OnErr, IsTrue, IsFalse, MatchOption, slice_get, unwrap_or};
+ghost use Rattle.std.specs.Prelude.{◌≡◌, ℕ, ◌<◌, ◌≤◌, ◌↔◌, All, length, map, take, drop, None, Err, IfSome, IfOk, IfErr, IsOk, OnOk, OnErr, MatchOption, slice_get};
 ghost use Rattle.std.specs.Option.{option_map};
 ghost use Rattle.std.specs.FinMap as fin;
-ghost use Rattle.rr_base.specs.Schema.{IsLayout};
 ghost use Rattle.rr_key.specs.Making.{making_fault};
-ghost use Rattle.rr_base.specs.declared.limits.TheConstants.{MAX_FIELDS};
-ghost use Rattle.rr_line.specs.Key.{HasKeys, names_of, key_text};
+ghost use Rattle.rr_line.specs.Key.{names_of, key_text};
 ghost use Rattle.rr_line.specs.Line.{point_view};
-ghost use Rattle.rr_replica.specs.Writing.{is_ahead};
 ghost use Rattle.rr_replica.specs.CellBounds.{IsCellOf};
 ghost use Rattle.rr_replica.specs.Cells.{row_at, rows_at};
-ghost use Rattle.rr_replica.specs.Puts.{put_sample};
-ghost use Rattle.rr_replica.specs.Holding.{Holding, with_put};
-ghost use Rattle.rr_replica.specs.Series.{cells_of};
+ghost use Rattle.rr_replica.specs.Holding.{with_sample, with_put};
+ghost use Rattle.rr_replica.specs.Held.{keyed, keyed_sample, IsHolding};
 ghost use Rattle.rr_replica.specs.Listing.{seen_cell, owned_cell, at_most_usize, cell_name, next_cell};
-ghost use Rattle.rr_replica.specs.Held.{held_series, sample_of, IsHolding, IsHeld};
+ghost use Rattle.rr_replica.specs.Standing.{held, HasRoomFor, IsReadyFor};
+ghost use Rattle.rr_replica.specs.Writing.{lacks_numbers};
 
-use crate::archives::{empty_archives, put_into};
 use crate::cell::{Cell, CellRef};
-use crate::fault::{JoinFault, PutFault, WriteFault};
+use crate::copying::copy_series;
+use crate::fault::{JoinFault, PutFault};
 use crate::joining::{join_in, next_after};
 use crate::listing::{count_cells, nth_cell};
 use crate::next::{NameRef, next_cell};
-use crate::sample::Sample;
+use crate::op::Op;
+use crate::putting::put_in;
+use crate::reading::Reading;
+use crate::room::make_room_in;
 use rr_archive::{Archive, Entry};
 use rr_base::limits::MAX_NUMBER;
 use rr_base::{Origin, Schema};
@@ -47,52 +47,23 @@ pub struct Replica<A: Archive> {
 }
 
 impl<A: Archive> Model for Replica<A> {
-    ghost use Rattle.rr_replica.specs.Holding.{Holding, coded_holding};
-    ghost use Rattle.rr_replica.specs.Held.{holding_of, IsHeld};
+    ghost use Rattle.rr_replica.specs.Standing.{Standing, coded_standing, standing_of};
+    ghost use Rattle.rr_replica.specs.Held.{IsHeld};
 
-    ghost Value = { Holding };
+    ghost Value = { Standing };
 
-    ghost coded = { coded_holding };
+    ghost coded = { coded_standing };
 
-    ghost view = { λ r. holding_of A.cells r.schema r.origin r.next r.series.entries };
+    ghost view = { λ r. standing_of A.cells A.is_ready r.schema r.origin r.next r.series.entries };
 
     ghost invariant = { λ r. IsHeld A.cells A.row_limit r.schema r.origin r.next r.series.entries };
-}
-
-/// Puts a sample of a key into each of its archives, or into none.
-fn put_in<A: Archive>(
-    series: &mut BTreeMap<SeriesKey, Vec<A>>,
-    alloc: Global,
-    schema: &Schema,
-    key: &SeriesKey,
-    sample: Sample,
-) -> Result<(), AllocError>
-    requires held { IsHeld A.cells A.row_limit schema.now sample.origin sample.number series.old.entries }
-    ensures put { OnOk result (cells_of (held_series A.cells series.new.entries)
-        ≡ put_sample schema.now (cells_of (held_series A.cells series.old.entries)) (sample_of key.now sample)) }
-    ensures held_with { OnOk result (IsHeld A.cells A.row_limit schema.now sample.origin (sample.number + 1) series.new.entries) }
-    ensures unchanged { OnErr result (cells_of (held_series A.cells series.new.entries)
-        ≡ cells_of (held_series A.cells series.old.entries)) }
-    ensures held { OnErr result (IsHeld A.cells A.row_limit schema.now sample.origin sample.number series.new.entries) }
-{
-    // The proof needs that the text is a key text, which `text` ensures.
-    let _text = key.text();
-    match series.get_mut(key) {
-        Some(archives) => put_into(archives, schema, &sample),
-        None => {
-            let mut archives = empty_archives(alloc, schema)?;
-            put_into(&mut archives, schema, &sample)?;
-            series.insert(key.copy()?, archives)?;
-            Ok(())
-        }
-    }
 }
 
 impl<A: Archive> Replica<A> {
     /// A replica that holds no cell, and whose first sample has number 1.
     pub fn new(alloc: Global, schema: &Schema, origin: Origin) -> Result<Replica<A>, AllocError>
         ensures { IfOk result (λ r.
-            r ≡ record { schema = schema.now; origin = origin; next = 1; cells = fin.empty }) }
+            held r ≡ record { schema = schema.now; origin = origin; next = 1; cells = fin.empty }) }
     {
         // The proof needs that the origin is from 1 to 65,535, which `get` ensures.
         let _number = origin.get();
@@ -105,11 +76,25 @@ impl<A: Archive> Replica<A> {
         })
     }
 
+    /// A replica that holds the same, under the same origin and next number; the keys' texts are
+    /// shared. The cost is linear in the cells, and in the series times their logarithm.
+    pub fn copy(&self, alloc: Global) -> Result<Replica<A>, AllocError>
+        ensures { IfOk result (λ r. held r ≡ held self.now) }
+    {
+        Ok(Replica {
+            alloc,
+            schema: self.schema.copy(alloc)?,
+            origin: self.origin,
+            next: self.next,
+            series: copy_series(alloc, &self.series)?,
+        })
+    }
+
     /// The schema of all series. A caller learns here too what a replica keeps to: its cells are live
     /// and are cells of this schema, and those of its own origin are of numbers before the next.
     pub fn schema(&self) -> &Schema
         ensures value { result.now ≡ self.now.schema }
-        ensures holds { IsHolding self.now }
+        ensures holds { IsHolding (held self.now) }
     {
         &self.schema
     }
@@ -141,23 +126,51 @@ impl<A: Archive> Replica<A> {
     /// row, however many series there are.
     pub fn put(&mut self, key: &SeriesKey, time: i64, value: i64) -> Result<u64, PutFault>
         ensures number { IfOk result (λ number. number ≡ self.old.next) }
-        ensures put { OnOk result (self.new ≡ with_put self.old key.now time value) }
-        ensures unchanged { OnErr result (self.new ≡ self.old) }
+        ensures put { OnOk result (held self.new ≡ with_put (held self.old) key.now time value) }
+        ensures unchanged { OnErr result (held self.new ≡ held self.old) }
         ensures spent { (result ≡ Err PutFault.NumbersSpent) ↔ (MAX_NUMBER < self.old.next) }
     {
         if self.next > MAX_NUMBER {
             return Err(PutFault::NumbersSpent);
         }
-        let sample = Sample {
+        let number = self.next;
+        let sample = Reading {
             origin: self.origin,
-            number: self.next,
+            number,
             time,
             value,
         };
-        put_in(&mut self.series, self.alloc, &self.schema, key, sample)?;
-        let number = self.next;
-        self.next += 1;
+        self.put_reading(key, sample)?;
         Ok(number)
+    }
+
+    /// Puts a sample of a key under its own number, after which the next one comes.
+    pub(crate) fn put_reading(&mut self, key: &SeriesKey, sample: Reading) -> Result<(), AllocError>
+        requires origin { sample.origin ≡ self.old.origin }
+        requires number { self.old.next ≤ sample.number }
+        ensures put { OnOk result (held self.new ≡ with_sample (held self.old) (keyed_sample key.now sample)) }
+        ensures unchanged { OnErr result (held self.new ≡ held self.old) }
+        ensures room { HasRoomFor self.old (Op.Put (keyed key.now sample)) → IsOk result }
+    {
+        let number = sample.number;
+        put_in(&mut self.series, self.alloc, &self.schema, key, sample)?;
+        self.next = number + 1;
+        Ok(())
+    }
+
+    /// Makes room for an operation, so that the next [`Replica::apply`] of it can't fail. It changes
+    /// no cell. For an operation that isn't taken no room is needed, and none is made.
+    ///
+    /// The archives of a key that has none are added for it, without a cell. The cost is one look-up
+    /// of the key and one of the slot in each archive, or in the cell's.
+    pub fn ready(&mut self, op: &Op) -> Result<(), AllocError>
+        ensures unchanged { held self.new ≡ held self.old }
+        ensures room { OnOk result (IsReadyFor self.new op.now) }
+    {
+        if !self.accepts(op) {
+            return Ok(());
+        }
+        make_room_in(&mut self.series, self.alloc, &self.schema, op)
     }
 
     /// The archive of a key with a number, from 0. There is none where the key is unknown, nor past
@@ -254,73 +267,15 @@ impl<A: Archive> Replica<A> {
 }
 
 impl<A: Archive> Replica<A> {
-    ghost use Rattle.rr_replica.specs.Writing.{IsOfALine, IsAfterRefusal, IsMemoryAfter, with_fields, is_ahead, lacks_numbers};
-
-    /// Puts a sample of each field of a point, in the line's order, under as many numbers, and
-    /// answers how many. A point without a time takes `now`. Times are in nanoseconds since the Unix
-    /// epoch, the lead too.
-    ///
-    /// Refused as `AheadOfClock` where the point's own time is greater than `now + lead`, and as
-    /// `NumbersSpent` where fewer numbers are left than the point has fields; nothing has then
-    /// changed. Where memory runs out, `Memory` says how many fields, from the first on, were put.
-    /// The cost is that of making the keys and of the puts.
-    pub fn write(
-        &mut self,
-        point: &Point<'_>,
-        now: i64,
-        lead: Option<u64>,
-    ) -> Result<u32, WriteFault>
-        requires { IsOfALine (point_view point.now) }
-        ensures count { IfOk result (λ count. count ≡ length point.now.fields.items) }
-        ensures put { OnOk result (self.new
-            ≡ with_fields self.old (point_view point.now) (unwrap_or point.now.time now) (point_view point.now).fields) }
-        ensures ahead { (result ≡ Err WriteFault.AheadOfClock) ↔ IsTrue (is_ahead point.now.time now lead) }
-        ensures spent { (result ≡ Err WriteFault.NumbersSpent)
-            ↔ (IsFalse (is_ahead point.now.time now lead) × IsTrue (lacks_numbers self.old (length point.now.fields.items))) }
-        ensures refused { IfErr result (IsAfterRefusal self.old self.new (point_view point.now) (unwrap_or point.now.time now)) }
-        ensures fields_left { (put : ℕ) → result ≡ Err (WriteFault.Memory put)
-            → put < length point.now.fields.items }
-    {
-        if is_ahead(point.time, now, lead) {
-            return Err(WriteFault::AheadOfClock);
-        }
-        if self.lacks_numbers(point.fields.len()) {
-            return Err(WriteFault::NumbersSpent);
-        }
-        self.write_fields(point, point.time.unwrap_or(now))
-    }
-
     /// Whether fewer numbers are left than these.
-    fn lacks_numbers(&self, count: usize) -> bool
-        ensures { result ≡ lacks_numbers self.now count }
+    pub(crate) fn lacks_numbers(&self, count: usize) -> bool
+        ensures { result ≡ lacks_numbers (held self.now) count }
     {
         MAX_NUMBER + 1 - self.next < count as u64
     }
 
-    /// Puts a sample of each field of a point.
-    fn write_fields(&mut self, point: &Point<'_>, time: i64) -> Result<u32, WriteFault>
-        requires keyed { HasKeys (point_view point.now) }
-        requires few_fields { length point.now.fields.items ≤ MAX_FIELDS }
-        requires numbers_left { IsFalse (lacks_numbers self.old (length point.now.fields.items)) }
-        ensures count { IfOk result (λ count. count ≡ length point.now.fields.items) }
-        ensures put { OnOk result (self.new
-            ≡ with_fields self.old (point_view point.now) time (point_view point.now).fields) }
-        ensures stopped { IfErr result (IsMemoryAfter self.old self.new (point_view point.now) time) }
-        ensures fields_left { (put : ℕ) → result ≡ Err (WriteFault.Memory put)
-            → put < length point.now.fields.items }
-    {
-        let mut put = 0;
-        for field in &point.fields {
-            if self.write_field(point, time, field).is_err() {
-                return Err(WriteFault::Memory { put });
-            }
-            put += 1;
-        }
-        Ok(put)
-    }
-
     /// Puts the sample of a field of a point.
-    fn write_field(
+    pub(crate) fn write_field(
         &mut self,
         point: &Point<'_>,
         time: i64,
@@ -328,9 +283,9 @@ impl<A: Archive> Replica<A> {
     ) -> Result<(), AllocError>
         requires keyed { making_fault (names_of (point_view point.now) field.now.key.now) ≡ None }
         requires number_left { self.old.next ≤ MAX_NUMBER }
-        ensures put { OnOk result (self.new
-            ≡ with_put self.old (key_text (point_view point.now) field.now.key.now) time field.now.value) }
-        ensures unchanged { OnErr result (self.new ≡ self.old) }
+        ensures put { OnOk result (held self.new
+            ≡ with_put (held self.old) (key_text (point_view point.now) field.now.key.now) time field.now.value) }
+        ensures unchanged { OnErr result (held self.new ≡ held self.old) }
     {
         let key = point.series_key(self.alloc, field.key)?;
         match self.put(&key, time, field.value) {
@@ -352,8 +307,9 @@ impl<A: Archive> Replica<A> {
     /// the slot, the entries of a row, and the rows that go.
     pub fn join_cell(&mut self, cell: &Cell) -> Result<(), AllocError>
         requires { IsCellOf self.old.schema (owned_cell cell.now) }
-        ensures joined { OnOk result (self.new ≡ with_cell self.old cell.now) }
-        ensures unchanged { OnErr result (self.new ≡ self.old) }
+        ensures joined { OnOk result (held self.new ≡ with_cell (held self.old) cell.now) }
+        ensures unchanged { OnErr result (held self.new ≡ held self.old) }
+        ensures room { HasRoomFor self.old (Op.Join cell.now) → IsOk result }
     {
         join_in(&mut self.series, self.alloc, &self.schema, cell)?;
         self.next = next_after(self.origin, self.next, cell);
@@ -364,8 +320,8 @@ impl<A: Archive> Replica<A> {
     /// `Memory` says how many cells, from the first on, were joined.
     pub fn join_cells(&mut self, cells: &[Cell]) -> Result<(), JoinFault>
         requires { All (λ c. IsCellOf self.old.schema (owned_cell c)) cells.now }
-        ensures joined { OnOk result (self.new ≡ with_cells self.old cells.now) }
-        ensures stopped { IfErr result (IsAfterJoined self.old self.new cells.now) }
+        ensures joined { OnOk result (held self.new ≡ with_cells (held self.old) cells.now) }
+        ensures stopped { IfErr result (IsAfterJoined (held self.old) (held self.new) cells.now) }
         ensures cells_left { (joined : ℕ) → result ≡ Err (JoinFault.Memory joined) → joined < length cells.now }
     {
         let mut joined = 0;
@@ -376,15 +332,5 @@ impl<A: Archive> Replica<A> {
             joined += 1;
         }
         Ok(())
-    }
-}
-
-/// Whether a point's own time is later than the clock's by more than the lead.
-fn is_ahead(time: Option<i64>, now: i64, lead: Option<u64>) -> bool
-    ensures { result ≡ is_ahead time now lead }
-{
-    match (time, lead) {
-        (Some(time), Some(lead)) => i128::from(now) + i128::from(lead) < i128::from(time),
-        _ => false,
     }
 }

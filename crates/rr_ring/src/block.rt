@@ -69,6 +69,7 @@ impl Block {
     ) -> Result<(), AllocError>
         ensures same { items_in self.new ≡ items_in self.old }
         ensures room { OnOk result (IsTrue (has_room_in self.new number slot origin)) }
+        ensures kept { IsTrue (has_room_in self.old number slot origin) → IsOk result }
     {
         self.make_rows(number, len)?;
         self.rows[number].make_room(self.alloc, slot, origin)

@@ -111,6 +111,7 @@ impl Entries {
     pub(crate) fn make_room(&mut self, alloc: Global, origin: Origin) -> Result<(), AllocError>
         ensures items { items_of self.new ≡ items_of self.old }
         ensures room { OnOk result (IsTrue (has_room self.new origin)) }
+        ensures kept { IsTrue (has_room self.old origin) → IsOk result }
     {
         match self {
             Entries::Empty => Ok(()),

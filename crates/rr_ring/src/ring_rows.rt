@@ -60,6 +60,7 @@ impl Ring {
     pub(crate) fn make_room(&mut self, slot: i64, origin: Origin) -> Result<(), AllocError>
         ensures same { row_at self.new ≡ row_at self.old }
         ensures room { OnOk result (IsTrue (has_room self.new slot origin)) }
+        ensures kept { IsTrue (has_room self.old slot origin) → IsOk result }
         ensures rows { self.new.rows ≡ self.old.rows }
     {
         let position = self.position(slot);

@@ -75,6 +75,7 @@ impl StoredRow {
     ) -> Result<(), AllocError>
         ensures same { stored self.new ≡ stored self.old }
         ensures room { OnOk result (IsTrue (has_room_at (Some self.new) slot origin)) }
+        ensures kept { IsTrue (has_room_at (Some self.old) slot origin) → IsOk result }
     {
         if self.slot == slot {
             self.entries.make_room(alloc, origin)

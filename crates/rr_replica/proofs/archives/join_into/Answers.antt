@@ -31,4 +31,5 @@ returns g c =
       joined = on_ok_weaker c.join_cell.result (joined_at cells limit cell items was new at) (rw (kept, slot) at c.join_cell.ensures.joined);
       unchanged = on_err_weaker c.join_cell.result (same_at cells cell items was new at) c.join_cell.ensures.unchanged;
       of_schema = record { layout = c.requires.of_schema.layout; sized = map-set_same limit items cell.archive was new at c.join_cell.ensures.limit ∙ c.requires.of_schema.sized };
+      room = λ ready. c.join_cell.ensures.room (rw (kept, slot) (ready was at));
     }

@@ -1,5 +1,7 @@
+use Rattle.std.proofs.Common.{rules, ◌≡◌, true≢false, sym, subst, to_z, of_z, w64, arith}
+use Rattle.std.specs.Prelude.{IsOk}
 use Rattle.std.proofs.lemmas.Result.{on_ok_weaker, on_err_weaker}
-use Rattle.rr_replica.proofs.Each.{can_take_same, put_after_same, same_after_same}
+use Rattle.rr_replica.proofs.Each.{can_take_same, put_after_same, same_after_same, ready_all}
 use Rattle.rr_replica.proofs.archives.put_into.Goals as goal
 
 pub put_ready-requires-clause-newer : goal.put_ready-requires-clause-newer
@@ -10,3 +12,21 @@ returns-clause-put g c = on_ok_weaker c.put_ready.result (put_after_same g.A.Arc
 
 pub returns-clause-unchanged : goal.returns-clause-unchanged
 returns-clause-unchanged g c = on_err_weaker c.put_ready.result (same_after_same g.A.Archive.cells g.A.Archive.row_limit c.args.schema.now c.args.sample.now c.args.archives.now.items c.make_ready.new.archives.items c.put_ready.new.archives.items c.make_ready.ensures.unchanged) c.put_ready.ensures.unchanged
+
+pub put_ready-requires-clause-ready : goal.put_ready-requires-clause-ready
+put_ready-requires-clause-ready g c =
+    let back : to_z w64 (of_z w64 c.args.sample.now.time) ≡ c.args.sample.now.time = search rules in
+    rw back at c.in_ok-make_ready.ensures.ready
+
+pub returns-in_err-make_ready-clause-room : goal.returns-in_err-make_ready-clause-room
+returns-in_err-make_ready-clause-room g c = λ room.
+    let back : to_z w64 (of_z w64 c.args.sample.now.time) ≡ c.args.sample.now.time = search rules in
+    let kept = rw back at c.make_ready.ensures.kept in
+    let ok : IsOk c.make_ready.result = kept (λ i a at _. room i a at (omega arith)) in
+    absurd (true≢false (sym (subst IsOk c.in_err-make_ready.was ok)))
+
+pub returns-clause-room : goal.returns-clause-room
+returns-clause-room g c = λ room.
+    let back : to_z w64 (of_z w64 c.args.sample.now.time) ≡ c.args.sample.now.time = search rules in
+    let ready = rw back at c.in_ok-make_ready.ensures.ready in
+    c.put_ready.ensures.room (ready_all g.A.Archive.cells g.A.Archive.row_limit g.A.Archive.is_ready c.args.schema.now c.args.sample.now.time c.args.sample.now.origin 1 c.args.archives.now.items c.make_ready.new.archives.items c.make_ready.ensures.before ready room)

@@ -64,3 +64,13 @@ pub returns-clause-put : goal.returns-clause-put
 returns-clause-put g c =
     put_all g.A.Archive.cells g.A.Archive.row_limit c.args.schema.now c.args.sample.now c.loop-i.i c.args.archives.now.items c.loop-i.archives.items c.loop-i.invariant
     (let many = c.loop-i.invariant.many in let len : c.len-i-end.result ≡ length c.args.archives.now.items = search rules in omega arith)
+
+pub returns-in_err-put-clause-room : goal.returns-in_err-put-clause-room
+returns-in_err-put-clause-room g c = λ room.
+    let at = found_at c.loop-i.archives.items c.loop-i.i c.index_mut.result.now (search rules) c.index_mut.ensures.value in
+    let was : slice_get c.args.archives.now.items c.loop-i.i ≡ Some c.index_mut.result.now = sym (c.loop-i.invariant.rest c.loop-i.i (omega arith)) ∙ at in
+    let kept : to_z w64 (of_z w64 c.slot-slot.result) ≡ c.slot-slot.result = search rules in
+    let slot : c.slot-slot.result ≡ slot_of c.args.schema.now c.loop-i.i c.args.sample.now.time = search rules in
+    let ready = room c.loop-i.i c.index_mut.result.now was (omega arith) in
+    let ok : IsOk c.put.result = c.put.ensures.room (rw (kept, slot) ready) in
+    absurd (true≢false (sym (subst IsOk c.in_err-put.was ok)))

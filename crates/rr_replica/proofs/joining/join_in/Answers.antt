@@ -2,9 +2,11 @@ use Rattle.std.proofs.Common.{rules, ◌≡◌, ◌<◌, ℕ, List, cond, length
 use Rattle.std.specs.BTreeMap.{is_at}
 use Rattle.std.proofs.lemmas.Result.{on_ok_weaker, on_err_weaker}
 use Rattle.rr_base.specs.Bytes.{bytes_cmp}
+use Rattle.rr_replica.specs.declared.op.Op.TheVariants.{Join}
 use Rattle.rr_replica.specs.Held.{archives_of}
 use Rattle.rr_replica.proofs.Each.{sized_many}
 use Rattle.rr_replica.proofs.JoinedCell.{cells_joined, cells_unchanged, before_found, before_fresh}
+use Rattle.rr_replica.proofs.RoomLemmas.{room_found}
 use Rattle.rr_replica.proofs.joining.join_in.Goals as goal
 
 pub returns-in-Some : goal.returns-in-Some
@@ -29,6 +31,7 @@ returns-in-Some g c =
       unchanged = on_err_weaker c.join_into.result (cells_unchanged cells limit schema c.requires.layout cell old new c.join_into.new.archives updates.0 c.requires.ordered holds.4 c.requires.live was.items before) c.join_into.ensures.unchanged;
       sized = search rules;
       ordered = holds.4;
+      room = λ h. c.join_into.ensures.room (room_found g.A.Archive.is_ready schema (Join cell) old was found h);
     }
 
 pub returns-in_ok-insert-in-None-clause-joined : goal.returns-in_ok-insert-in-None-clause-joined

@@ -9,3 +9,9 @@ pub returns-clause-room : goal.returns-clause-room
 returns-clause-room c =
     let back = to_z-of_z {w = w64} {z = c.args.slot} (search rules) in
     on_ok_weaker c.make_room.result (λ room. or_right _ _ room) (rw back at (c.make_room.ensures.room c.args._origin))
+
+pub returns-clause-kept : goal.returns-clause-kept
+returns-clause-kept c =
+    let back = to_z-of_z {w = w64} {z = c.args.slot} (search rules) in
+    let kept = rw back at (c.make_room.ensures.kept c.args._origin) in
+    λ ready. kept (search (c.if-not-is_live.ensures, rules))

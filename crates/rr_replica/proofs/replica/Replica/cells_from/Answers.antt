@@ -2,6 +2,7 @@ use Rattle.std.proofs.Common.{rules, ◌≡◌, ◌+◌, [], ◌∷◌, ◌++◌
 use Rattle.std.specs.Option.{option_map}
 use Rattle.std.specs.FinMap as fin
 use Rattle.rr_replica.specs.Listing.{seen_cell, owned_cell}
+use Rattle.rr_replica.specs.Standing.{held}
 use Rattle.rr_replica.proofs.HeldCells.{listed_held}
 use Rattle.rr_replica.proofs.InTurn.{next_of_sorted, taken_more, taken_all, map-last}
 use Rattle.rr_replica.proofs.replica.Replica.cells_from.Goals as goal
@@ -40,7 +41,7 @@ returns-in_default-clause-listed g c =
     c.loop.invariant.taken ∙ taken_all all c.args.from c.loop.counter c.args.count past c.loop.auto.counter-end
 
 pub returns-in_default-clause-of_schema : goal.returns-in_default-clause-of_schema
-returns-in_default-clause-of_schema g c = listed_held c.args.self.now c.args.from c.loop.counter c.loop.cells.items c.schema-schema.ensures.holds c.loop.invariant.taken
+returns-in_default-clause-of_schema g c = listed_held (held c.args.self.now) c.args.from c.loop.counter c.loop.cells.items c.schema-schema.ensures.holds c.loop.invariant.taken
 
 pub returns-clause-listed : goal.returns-clause-listed
 returns-clause-listed g c =
@@ -49,4 +50,4 @@ returns-clause-listed g c =
     c.loop.invariant.taken ∙ ap (λ n. take n (drop c.args.from (fin.entries c.args.self.now.cells))) (omega arith)
 
 pub returns-clause-of_schema : goal.returns-clause-of_schema
-returns-clause-of_schema g c = listed_held c.args.self.now c.args.from c.loop.counter c.loop.cells.items c.schema-schema.ensures.holds c.loop.invariant.taken
+returns-clause-of_schema g c = listed_held (held c.args.self.now) c.args.from c.loop.counter c.loop.cells.items c.schema-schema.ensures.holds c.loop.invariant.taken

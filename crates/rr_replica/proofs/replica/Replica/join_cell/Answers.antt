@@ -1,17 +1,29 @@
-use Rattle.std.proofs.Common.{◌≡◌, sym, subst}
+use Rattle.std.proofs.Common.{◌≡◌, true≢false, sym, subst}
+use Rattle.std.specs.Prelude.{IsOk}
 use Rattle.rr_replica.specs.CellBounds.{IsCellOf}
-use Rattle.rr_replica.specs.Holding.{Holding}
+use Rattle.rr_replica.specs.declared.op.Op.TheVariants.{Join}
+use Rattle.rr_replica.specs.Standing.{Standing, HasRoomFor}
 use Rattle.rr_replica.specs.Joining.{next_after}
 use Rattle.rr_replica.specs.Listing.{owned_cell}
 use Rattle.rr_replica.specs.Held.{IsHeld}
 use Rattle.rr_replica.proofs.JoinedCell.{kept_joined}
+use Rattle.rr_replica.proofs.RoomLemmas.{room_there}
 use Rattle.rr_replica.proofs.replica.Replica.join_cell.Goals as goal
 
 pub invariant_of-self-2 : goal.invariant_of-self-2
 invariant_of-self-2 g c =
     let r = c.self.inside in
-    let cell : IsCellOf r.schema (owned_cell c.args.cell.now) = subst (λ (h : Holding). IsCellOf h.schema (owned_cell c.args.cell.now)) (sym c.self.view_is) c.requires in
+    let cell : IsCellOf r.schema (owned_cell c.args.cell.now) = subst (λ (h : Standing). IsCellOf h.schema (owned_cell c.args.cell.now)) (sym c.self.view_is) c.requires in
     let next : c.next_after-self-inside.result ≡ next_after r.origin r.next (owned_cell c.args.cell.now) = c.next_after-self-inside.ensures in
     let e = c.in_ok-join_in.ensures in
     subst (λ n. IsHeld g.A.Archive.cells g.A.Archive.row_limit r.schema r.origin n c.join_in.new.series.entries) (sym next)
     (kept_joined g.A.Archive.cells g.A.Archive.row_limit r.schema r.origin r.next c.args.cell.now r.series.entries c.join_in.new.series.entries c.self.invariant cell e.joined e.sized e.ordered)
+
+pub returns-in_err-join_in-clause-room : goal.returns-in_err-join_in-clause-room
+returns-in_err-join_in-clause-room g c = λ h.
+    let r = c.self.inside in
+    let op = Join c.args.cell.now in
+    let told = subst (λ (st : Standing). HasRoomFor st op) (sym c.self.view_is) h in
+    let there = room_there g.A.Archive.is_ready g.A.Archive.cells g.A.Archive.row_limit r.schema c.self.invariant.holds.layout r.origin r.next r.series.entries c.self.invariant.sized op told in
+    let ok : IsOk c.join_in.result = c.join_in.ensures.room there in
+    absurd (true≢false (sym (subst IsOk c.in_err-join_in.was ok)))

@@ -5,6 +5,7 @@ use Rattle.rr_replica.specs.Holding.{Holding}
 use Rattle.rr_replica.specs.CellBounds.{IsCellOf}
 use Rattle.rr_replica.specs.Joining.{with_cell, with_cells}
 use Rattle.rr_replica.specs.Listing.{owned_cell}
+use Rattle.rr_replica.specs.Standing.{held}
 use Rattle.rr_replica.proofs.FieldLemmas.{passed}
 use Rattle.rr_replica.proofs.JoinedCell.{with_cells-more}
 use Rattle.rr_replica.proofs.replica.Replica.join_cells.Goals as goal
@@ -29,5 +30,5 @@ loop-cell-preserved g c =
     record {
       counted = omega (arith, c.loop-cell.invariant.counted);
       schema = ap (λ (h : Holding). h.schema) written ∙ c.loop-cell.invariant.schema;
-      joined = written ∙ ap (λ h. with_cell h cell) c.loop-cell.invariant.joined ∙ sym (with_cells-more c.args.self.now (take i cells) cell) ∙ ap (with_cells c.args.self.now) (sym more);
+      joined = written ∙ ap (λ h. with_cell h cell) c.loop-cell.invariant.joined ∙ sym (with_cells-more (held c.args.self.now) (take i cells) cell) ∙ ap (with_cells (held c.args.self.now)) (sym more);
     }

@@ -2,7 +2,7 @@ use Rattle.std.proofs.Common.{subst}
 use Rattle.std.specs.Prelude.{IfSome}
 use Rattle.rr_replica.specs.CellBounds.{IsCellOf}
 use Rattle.rr_replica.specs.Held.{holding_of}
-use Rattle.rr_replica.specs.Holding.{Holding}
+use Rattle.rr_replica.specs.Standing.{Standing}
 use Rattle.rr_replica.specs.Listing.{seen_cell}
 use Rattle.rr_replica.proofs.Counted.{few_held}
 use Rattle.rr_replica.proofs.HeldCells.{next_held}
@@ -15,4 +15,4 @@ pub returns-clause-of_schema : goal.returns-clause-of_schema
 returns-clause-of_schema g c =
     let r = c.self.inside in
     let h = holding_of g.A.Archive.cells r.schema r.origin r.next r.series.entries in
-    subst (λ (k : Holding). IfSome c.next_cell.result (λ x. IsCellOf k.schema (seen_cell x))) c.self.view_is (next_held h c.self.invariant.holds c.next_cell.result _ c.next_cell.ensures)
+    subst (λ (k : Standing). IfSome c.next_cell.result (λ x. IsCellOf k.schema (seen_cell x))) c.self.view_is (next_held h c.self.invariant.holds c.next_cell.result _ c.next_cell.ensures)

@@ -10,6 +10,7 @@ use Rattle.rr_line.specs.Line.{field_view, point_view}
 use Rattle.rr_line.specs.declared.line.Field.{Field}
 use Rattle.rr_replica.specs.Holding.{Holding, with_put}
 use Rattle.rr_replica.specs.Writing.{with_fields}
+use Rattle.rr_replica.specs.Standing.{held}
 use Rattle.rr_replica.proofs.FieldLemmas.{with_fields-more, field_at, take-view, failed, passed}
 use Rattle.rr_replica.proofs.replica.Replica.write_fields.Goals as goal
 
@@ -31,7 +32,7 @@ returns-then-is_err-clause-stopped g c =
     take-view field_view c.loop-field.field-index c.deref-field-items.result.now
     ∙ ap (λ (items : List Field). take c.loop-field.field-index (map field_view items)) c.deref-field-items.ensures.value
     ∙ ap (λ (k : ℕ). take k (map field_view c.args.point.now.fields.items)) (sym c.loop-field.invariant.counted) in
-    (c.loop-field.put, refl, same ∙ state ∙ ap (with_fields c.args.self.now p c.args.time) first)
+    (c.loop-field.put, refl, same ∙ state ∙ ap (with_fields (held c.args.self.now) p c.args.time) first)
 
 pub loop-field-preserved : goal.loop-field-preserved
 loop-field-preserved g c =
@@ -48,5 +49,5 @@ loop-field-preserved g c =
     record {
       counted = omega (arith, c.loop-field.invariant.counted);
       numbered = omega (arith, next, c.loop-field.invariant.numbered);
-      put = rw back (written ∙ ap (λ (h : Holding). with_put h (key_text p field.0) c.args.time field.1) state ∙ sym (with_fields-more c.args.self.now p c.args.time before field) ∙ ap (with_fields c.args.self.now p c.args.time) (sym more));
+      put = rw back (written ∙ ap (λ (h : Holding). with_put h (key_text p field.0) c.args.time field.1) state ∙ sym (with_fields-more (held c.args.self.now) p c.args.time before field) ∙ ap (with_fields (held c.args.self.now) p c.args.time) (sym more));
     }

@@ -1,12 +1,14 @@
-use Rattle.std.proofs.Common.{rules, ◌≡◌, ℕ, List, cond, Some, None, sym}
+use Rattle.std.proofs.Common.{rules, ◌≡◌, ℕ, true, List, cond, Some, None, sym}
 use Rattle.std.specs.BTreeMap.{is_at}
 use Rattle.std.proofs.lemmas.Result.{on_ok_weaker, on_err_weaker}
 use Rattle.rr_base.specs.Bytes.{bytes_cmp}
-use Rattle.rr_replica.specs.Held.{archives_of, sample_of}
+use Rattle.rr_replica.specs.declared.op.Op.TheVariants.{Put}
+use Rattle.rr_replica.specs.Held.{archives_of, keyed, keyed_sample}
 use Rattle.rr_replica.proofs.Each.{sized_many}
 use Rattle.rr_replica.proofs.HoldingLemmas.{IsTyped}
 use Rattle.rr_replica.proofs.HeldLemmas.{before_found, before_fresh, can_take, cells_with, kept_with, cells_without, kept_without}
-use Rattle.rr_replica.proofs.replica.put_in.Goals as goal
+use Rattle.rr_replica.proofs.RoomLemmas.{room_found}
+use Rattle.rr_replica.proofs.putting.put_in.Goals as goal
 
 pub put_into-requires-clause-newer : goal.put_into-requires-clause-newer
 put_into-requires-clause-newer g c =
@@ -32,7 +34,7 @@ returns-in-Some g c =
     let new = (c.get_mut.follows.lender c.put_into.new.archives).entries in
     let holds = c.get_mut.follows.holds c.put_into.new.archives in
     let updates = holds.3 (search rules) in
-    let typed : IsTyped (sample_of c.args.key.now c.args.sample) = record { key = search rules; time = search rules; value = search rules } in
+    let typed : IsTyped (keyed_sample c.args.key.now c.args.sample) = record { key = search rules; time = search rules; value = search rules } in
     let many = sized_many limit schema was.items (c.requires.held.sized c.args.key.now was (sym found)) in
     let step = c.put_into.ensures in
     record {
@@ -40,6 +42,7 @@ returns-in-Some g c =
       held_with = on_ok_weaker c.put_into.result (kept_with cells limit schema c.args.key.now c.args.sample old c.requires.held c.args.sample.number_at_most new c.put_into.new.archives updates.0 holds.4 was.items before step.of_schema.sized typed many) step.put;
       unchanged = on_err_weaker c.put_into.result (cells_without cells limit schema c.args.key.now c.args.sample old c.requires.held c.args.sample.number_at_most new c.put_into.new.archives updates.0 holds.4 was.items before step.of_schema.sized) step.unchanged;
       held = on_err_weaker c.put_into.result (kept_without cells limit schema c.args.key.now c.args.sample old c.requires.held c.args.sample.number_at_most new c.put_into.new.archives updates.0 holds.4 was.items before step.of_schema.sized) step.unchanged;
+      room = λ h. step.room (room_found g.A.Archive.is_ready schema (Put (keyed c.args.key.now c.args.sample)) old was found h);
     }
 
 pub returns-in_ok-insert-in-None : goal.returns-in_ok-insert-in-None
@@ -55,11 +58,12 @@ returns-in_ok-insert-in-None g c =
     let key : c.in_ok-copy-in-None.field-0 ≡ c.args.key.now = search rules in
     let updates = rw (same, key) at c.in_ok-insert-in-None.ensures.updates in
     let sets : (q : List ℕ) → archives_of c.insert.new.self.entries q ≡ cond (is_at (bytes_cmp c.args.key.now) q) (Some c.put_into-in-None.new.archives) (archives_of old q) = updates.0 in
-    let typed : IsTyped (sample_of c.args.key.now c.args.sample) = record { key = search rules; time = search rules; value = search rules } in
+    let typed : IsTyped (keyed_sample c.args.key.now c.args.sample) = record { key = search rules; time = search rules; value = search rules } in
     let many = sized_many limit schema fresh.archives.items fresh.ensures.of_schema.sized in
     record {
       put = cells_with cells limit schema c.args.key.now c.args.sample old c.requires.held c.args.sample.number_at_most c.insert.new.self.entries c.put_into-in-None.new.archives sets c.insert.ensures.ordered fresh.archives.items before c.put_into-in-None.ensures.of_schema.sized many c.in_ok-put_into-in-None.ensures.put;
       held_with = kept_with cells limit schema c.args.key.now c.args.sample old c.requires.held c.args.sample.number_at_most c.insert.new.self.entries c.put_into-in-None.new.archives sets c.insert.ensures.ordered fresh.archives.items before c.put_into-in-None.ensures.of_schema.sized typed many c.in_ok-put_into-in-None.ensures.put;
       unchanged = tt;
       held = tt;
+      room = λ h i. true;
     }

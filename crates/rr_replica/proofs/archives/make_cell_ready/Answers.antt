@@ -1,0 +1,33 @@
+use Rattle.std.proofs.Common.{rules, ◌≡◌, ◌<◌, sym, ap, ◌∙◌, Some, slice_get, length, to_z, of_z, w64, arith}
+use Rattle.std.proofs.lemmas.Option.{slice_get-get_or}
+use Rattle.std.proofs.lemmas.Result.{on_ok_weaker}
+use Rattle.rr_base.specs.Schema.{slot_of}
+use Rattle.rr_replica.proofs.Each.{map-set_same, sized_many, slot_is, same_more, same_itself, ready_set}
+use Rattle.rr_replica.proofs.archives.make_cell_ready.Goals as goal
+
+pub ready-requires : goal.ready-requires
+ready-requires g c =
+    let kept : to_z w64 (of_z w64 c.slot-slot.result) ≡ c.slot-slot.result = search rules in
+    let slot : c.slot-slot.result ≡ slot_of c.args.schema.now c.args.cell.now.archive c.args.cell.now.contribution.last_time = search rules in
+    rw (kept, slot) (slot_is c.args.schema.now c.requires.of_schema.layout c.args.cell.now.archive c.args.cell.now.contribution.last_time (search rules))
+
+pub returns : goal.returns
+returns g c =
+    let cells = g.A.Archive.cells in
+    let limit = g.A.Archive.row_limit in
+    let items = c.args.archives.now.items in
+    let cell = c.args.cell.now in
+    let was = c.index_mut-archive.result.now in
+    let new = c.ready.new.self in
+    let many = sized_many limit c.args.schema.now items c.requires.of_schema.sized in
+    let of_schema = c.requires.cell.archive in
+    let within : cell.archive < length items = omega arith in
+    let at : slice_get items cell.archive ≡ Some was = slice_get-get_or items cell.archive was within ∙ ap (λ a. Some a) (sym c.index_mut-archive.ensures.value) in
+    let kept : to_z w64 (of_z w64 c.slot-slot.result) ≡ c.slot-slot.result = search rules in
+    let found : c.slot-slot.result ≡ slot_of c.args.schema.now cell.archive cell.contribution.last_time = search rules in
+    let slot : c.slot-slot.result ≡ cell.slot = found ∙ c.requires.cell.valid.in_slot in
+    record {
+      unchanged = same_more cells cell.archive items items was new (same_itself cells items) at c.ready.ensures.cells;
+      of_schema = record { layout = c.requires.of_schema.layout; sized = map-set_same limit items cell.archive was new at c.ready.ensures.limit ∙ c.requires.of_schema.sized };
+      room = on_ok_weaker c.ready.result (λ ready. ready_set g.A.Archive.is_ready items cell.archive new within ready) (rw (kept, slot) at c.ready.ensures.room);
+    }

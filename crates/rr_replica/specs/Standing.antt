@@ -1,0 +1,101 @@
+-- What a replica holds, and where it has room.
+use Rattle.std.specs.Prelude.{◌≡◌, ℕ, zero, suc, ◌<◌, ℤ, pos, negsuc, Bool, true, List, [], ◌∷◌, ◌++◌, map, length, get_or, unwrap_or, IsTrue, refl}
+use Rattle.std.specs.Global.{Vec}
+use Rattle.std.specs.List.{filter, list_any}
+use Rattle.std.specs.Map.{lookup}
+use Rattle.std.specs.BTreeMap.{is_at}
+use Rattle.std.specs.Ordering.{eq_by_cmp}
+use Rattle.std.specs.Coded.{Coded, code_by, coded×, coded_ℕ, coded_list}
+use Rattle.std.specs.FinMap as fin
+use Rattle.rr_base.specs.Bytes.{bytes_cmp}
+use Rattle.rr_base.specs.Schema.{Layout, slot_of}
+use Rattle.rr_base.specs.declared.limits.TheConstants.{MAX_ORIGIN, MAX_SECOND}
+use Rattle.rr_archive.specs.CellSlots.{CellSlot, cell_slot, cell_slot_cmp}
+use Rattle.rr_archive.specs.Cells.{Rows}
+use Rattle.rr_archive.specs.Codes.{coded_cell_slot, coded_contribution}
+use Rattle.rr_replica.specs.declared.op.Op.{Op}
+use Rattle.rr_replica.specs.declared.op.Op.TheVariants.{Put, Join}
+use Rattle.rr_replica.specs.Cells.{Cells}
+use Rattle.rr_replica.specs.Series.{cells_of}
+use Rattle.rr_replica.specs.Held.{held_series}
+use Rattle.rr_replica.specs.Holding.{Holding, coded_layout, coded_name}
+use Rattle.rr_replica.specs.Operations.{accepts}
+
+-- ---- room
+
+-- of each key, and of each of its archives, the cell slots that it has room for
+abbrev pub Room : Type 0
+Room = List (List ℕ × List (List CellSlot))
+
+-- those of an archive of a key
+abbrev pub room_at : Room → List ℕ → ℕ → List CellSlot
+room_at room key i = get_or (unwrap_or (lookup (is_at (bytes_cmp key)) room) []) i []
+
+-- whether a cell slot is one of these
+abbrev pub is_one_of : List CellSlot → CellSlot → Bool
+is_one_of ps p = list_any (eq_by_cmp cell_slot_cmp p) ps
+
+-- the cell slots of a slot, of the origins from 1 on
+unfoldable pub cell_slots_of : ℤ → ℕ → List CellSlot
+cell_slots_of slot zero = []
+cell_slots_of slot (suc n) = cell_slot slot (suc n) ∷ cell_slots_of slot n
+
+-- those of the slots that are at most so far from 0
+unfoldable pub cell_slots_within : ℕ → ℕ → List CellSlot
+cell_slots_within zero origins = cell_slots_of (pos 0) origins
+cell_slots_within (suc n) origins =
+    cell_slots_of (pos (suc n)) origins ++ (cell_slots_of (negsuc n) origins ++ cell_slots_within n origins)
+
+-- those of all slots of times, of all origins
+unfoldable pub all_cell_slots : List CellSlot
+all_cell_slots = cell_slots_within MAX_SECOND MAX_ORIGIN
+
+-- ---- standings
+
+-- a holding, and its room
+pub record Standing : Type 0 where
+  pub schema : Layout
+  pub origin : ℕ
+  pub next : ℕ
+  pub cells : Cells
+  pub room : Room
+
+-- what is held, whatever the room
+abbrev pub held : Standing → Holding
+held r = record { schema = r.schema; origin = r.origin; next = r.next; cells = r.cells }
+
+-- room for a cell in an archive of a key
+abbrev pub HasRoomAt : Standing → List ℕ → ℕ → CellSlot → Type 0
+HasRoomAt r key i p = IsTrue (is_one_of (room_at r.room key i) p)
+
+-- room for an operation: for a sample in each archive, for a cell in its own
+abbrev pub HasRoomFor : Standing → Op → Type 0
+HasRoomFor r (Put x) = (i : ℕ) → i < length r.schema.archives → HasRoomAt r x.key i (cell_slot (slot_of r.schema i x.time) x.origin)
+HasRoomFor r (Join c) = HasRoomAt r c.key c.archive (cell_slot c.slot c.origin)
+
+-- room for an operation, if it is one that the replica takes
+abbrev pub IsReadyFor : Standing → Op → Type 0
+IsReadyFor r op = accepts (held r) op ≡ true → HasRoomFor r op
+
+-- ---- by what a replica has in memory
+
+module _ {X : Type 0} where
+  abbrev pub room_in : (X → CellSlot → Bool) → List (List ℕ × Vec X) → Room
+  room_in is_ready entries = map (λ e. (e.0, map (λ a. filter (is_ready a) all_cell_slots) e.1.items)) entries
+
+  abbrev pub standing_of : (X → Rows) → (X → CellSlot → Bool) → Layout → ℕ → ℕ → List (List ℕ × Vec X) → Standing
+  standing_of cells is_ready schema origin next entries = record {
+    schema = schema;
+    origin = origin;
+    next = next;
+    cells = cells_of (held_series cells entries);
+    room = room_in is_ready entries;
+  }
+
+-- ---- a code, which shows that standings are a set
+
+abbrev pub coded_room : Coded Room
+coded_room = coded_list (coded× (coded_list coded_ℕ) (coded_list (coded_list coded_cell_slot)))
+
+abbrev pub coded_standing : Coded Standing
+coded_standing = code_by (Layout × (ℕ × (ℕ × (Cells × Room)))) (coded× coded_layout (coded× coded_ℕ (coded× coded_ℕ (coded× (fin.code coded_name coded_contribution) coded_room)))) (λ r. (r.schema, (r.origin, (r.next, (r.cells, r.room))))) (λ p. record { schema = p.0; origin = p.1.0; next = p.1.1.0; cells = p.1.1.1.0; room = p.1.1.1.1 }) (λ _. refl)

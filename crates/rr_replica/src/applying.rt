@@ -1,0 +1,63 @@
+//! Operations, applied to a replica.
+ghost use Rattle.std.specs.Prelude.{◌≡◌, IsTrue, IfOk, IsOk, OnOk, OnErr};
+ghost use Rattle.rr_replica.specs.Archives.{IsOpOf};
+ghost use Rattle.rr_replica.specs.Operations.{accepts, step};
+ghost use Rattle.rr_replica.specs.Standing.{held, IsReadyFor};
+
+use crate::op::Op;
+use crate::reading::Reading;
+use crate::replica::Replica;
+use rr_archive::Archive;
+use rr_base::limits::MAX_NUMBER;
+use std::alloc::AllocError;
+
+impl<A: Archive> Replica<A> {
+    /// Whether the replica takes an operation.
+    pub(crate) fn accepts(&self, op: &Op) -> bool
+        ensures accepted { result ≡ accepts (held self.now) op.now }
+        ensures op { IsTrue result → IsOpOf self.now.schema op.now }
+    {
+        let schema = self.schema();
+        match op {
+            Op::Put(sample) => {
+                // The proof needs that the time is one of 64 bits.
+                let _time = sample.time;
+                sample.origin == self.origin()
+                    && self.next_number() <= sample.number
+                    && sample.number <= MAX_NUMBER
+            }
+            Op::Join(cell) => cell.is_of(schema),
+        }
+    }
+
+    /// Takes an operation whole: a sample is put under its number, and the next one comes after it;
+    /// a cell is joined as [`Replica::join_cell`] does. The answer is whether it is taken.
+    ///
+    /// It isn't, and nothing changes, where a sample is of another origin, or its number is below the
+    /// next one or above 2^40, or where a cell is none of the schema's or not valid. After an error
+    /// nothing has changed; after [`Replica::ready`] of the same operation there is none. The cost is
+    /// that of [`Replica::put`] or [`Replica::join_cell`].
+    pub fn apply(&mut self, op: &Op) -> Result<bool, AllocError>
+        ensures accepted { IfOk result (λ done. done ≡ accepts (held self.old) op.now) }
+        ensures applied { OnOk result (held self.new ≡ step (held self.old) op.now) }
+        ensures unchanged { OnErr result (held self.new ≡ held self.old) }
+        ensures room { IsReadyFor self.old op.now → IsOk result }
+    {
+        if !self.accepts(op) {
+            return Ok(false);
+        }
+        match op {
+            Op::Put(sample) => {
+                let reading = Reading {
+                    origin: sample.origin,
+                    number: sample.number,
+                    time: sample.time,
+                    value: sample.value,
+                };
+                self.put_reading(&sample.key, reading)?;
+            }
+            Op::Join(cell) => self.join_cell(cell)?,
+        }
+        Ok(true)
+    }
+}

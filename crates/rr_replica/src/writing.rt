@@ -1,0 +1,82 @@
+//! The fields of a point, put one after the other.
+ghost use Rattle.std.specs.Prelude.{◌≡◌, ℕ, ◌<◌, ◌≤◌, ◌↔◌, length, Err, IfOk, IfErr, OnOk, IsTrue, IsFalse, unwrap_or};
+ghost use Rattle.rr_base.specs.declared.limits.TheConstants.{MAX_FIELDS};
+ghost use Rattle.rr_line.specs.Key.{HasKeys};
+ghost use Rattle.rr_line.specs.Line.{point_view};
+ghost use Rattle.rr_replica.specs.Standing.{held};
+ghost use Rattle.rr_replica.specs.Writing.{is_ahead};
+
+use crate::fault::WriteFault;
+use crate::replica::Replica;
+use rr_archive::Archive;
+use rr_line::Point;
+
+impl<A: Archive> Replica<A> {
+    ghost use Rattle.rr_replica.specs.Writing.{IsOfALine, IsAfterRefusal, IsMemoryAfter, with_fields, is_ahead, lacks_numbers};
+
+    /// Puts a sample of each field of a point, in the line's order, under as many numbers, and
+    /// answers how many. A point without a time takes `now`. Times are in nanoseconds since the Unix
+    /// epoch, the lead too.
+    ///
+    /// Refused as `AheadOfClock` where the point's own time is greater than `now + lead`, and as
+    /// `NumbersSpent` where fewer numbers are left than the point has fields; nothing has then
+    /// changed. Where memory runs out, `Memory` says how many fields, from the first on, were put.
+    /// The cost is that of making the keys and of the puts.
+    pub fn write(
+        &mut self,
+        point: &Point<'_>,
+        now: i64,
+        lead: Option<u64>,
+    ) -> Result<u32, WriteFault>
+        requires { IsOfALine (point_view point.now) }
+        ensures count { IfOk result (λ count. count ≡ length point.now.fields.items) }
+        ensures put { OnOk result (held self.new
+            ≡ with_fields (held self.old) (point_view point.now) (unwrap_or point.now.time now) (point_view point.now).fields) }
+        ensures ahead { (result ≡ Err WriteFault.AheadOfClock) ↔ IsTrue (is_ahead point.now.time now lead) }
+        ensures spent { (result ≡ Err WriteFault.NumbersSpent)
+            ↔ (IsFalse (is_ahead point.now.time now lead) × IsTrue (lacks_numbers (held self.old) (length point.now.fields.items))) }
+        ensures refused { IfErr result (IsAfterRefusal (held self.old) (held self.new) (point_view point.now) (unwrap_or point.now.time now)) }
+        ensures fields_left { (put : ℕ) → result ≡ Err (WriteFault.Memory put)
+            → put < length point.now.fields.items }
+    {
+        if is_ahead(point.time, now, lead) {
+            return Err(WriteFault::AheadOfClock);
+        }
+        if self.lacks_numbers(point.fields.len()) {
+            return Err(WriteFault::NumbersSpent);
+        }
+        self.write_fields(point, point.time.unwrap_or(now))
+    }
+
+    /// Puts a sample of each field of a point.
+    fn write_fields(&mut self, point: &Point<'_>, time: i64) -> Result<u32, WriteFault>
+        requires keyed { HasKeys (point_view point.now) }
+        requires few_fields { length point.now.fields.items ≤ MAX_FIELDS }
+        requires numbers_left { IsFalse (lacks_numbers (held self.old) (length point.now.fields.items)) }
+        ensures count { IfOk result (λ count. count ≡ length point.now.fields.items) }
+        ensures put { OnOk result (held self.new
+            ≡ with_fields (held self.old) (point_view point.now) time (point_view point.now).fields) }
+        ensures stopped { IfErr result (IsMemoryAfter (held self.old) (held self.new) (point_view point.now) time) }
+        ensures fields_left { (put : ℕ) → result ≡ Err (WriteFault.Memory put)
+            → put < length point.now.fields.items }
+    {
+        let mut put = 0;
+        for field in &point.fields {
+            if self.write_field(point, time, field).is_err() {
+                return Err(WriteFault::Memory { put });
+            }
+            put += 1;
+        }
+        Ok(put)
+    }
+}
+
+/// Whether a point's own time is later than the clock's by more than the lead.
+fn is_ahead(time: Option<i64>, now: i64, lead: Option<u64>) -> bool
+    ensures { result ≡ is_ahead time now lead }
+{
+    match (time, lead) {
+        (Some(time), Some(lead)) => i128::from(now) + i128::from(lead) < i128::from(time),
+        _ => false,
+    }
+}
