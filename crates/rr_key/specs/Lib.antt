@@ -2,6 +2,7 @@ pub mod Class
 pub mod Unit
 pub mod Name
 pub mod Series
+pub mod Text
 pub mod Making
 pub mod Fault
 pub mod Reading

@@ -10,6 +10,7 @@ ghost use Rattle.std.specs.Ordering.{nat_cmp, as_partial_cmp};
 use crate::fault::KeyFault;
 use crate::making::make_text;
 use crate::reading::is_key_text;
+use rr_base::bytes::compare;
 use std::alloc::{AllocError, Global};
 use std::cmp::Ordering;
 use std::marker::Model;
@@ -18,23 +19,33 @@ use std::sync::ArcSlice;
 /// The key of a series: its text, which is spelled in one way.
 ///
 /// Keys are equal where their texts are, and are ordered by the bytes of their texts; either takes
-/// one pass over the bytes. The text is held by reference and shared by the copies of a key, which
-/// may be in several threads.
+/// one pass over the bytes. The text is shared by the copies of a key, which may be in several
+/// threads.
 #[derive(Debug, Drop)]
 pub struct SeriesKey {
-    text: ArcSlice<u8>,
+    alloc: Global,
+    text: Text,
+}
+
+/// Where the text of a key is.
+#[derive(Debug, Drop)]
+enum Text {
+    /// In a vector of the key's own, which can be written over for the next key.
+    Own(Vec<u8>),
+    /// Where the copies of the key have it too.
+    Shared(ArcSlice<u8>),
 }
 
 impl Model for SeriesKey {
     ghost use Rattle.std.specs.Prelude.{List, ℕ};
-    ghost use Rattle.std.specs.Arc.{arc_slice_items};
     ghost use Rattle.rr_key.specs.Series.{IsKeyText};
+    ghost use Rattle.rr_key.specs.Text.{bytes_of};
 
     ghost Value = { List ℕ };
 
-    ghost view = { λ k. arc_slice_items k.text };
+    ghost view = { λ k. bytes_of k.text };
 
-    ghost invariant = { λ k. IsKeyText (arc_slice_items k.text) };
+    ghost invariant = { λ k. IsKeyText (bytes_of k.text) };
 }
 
 impl PartialEq for SeriesKey {
@@ -61,7 +72,7 @@ impl Ord for SeriesKey {
     ghost matches_eq = { Prim.search (comparing, rules) };
 
     fn cmp(&self, other: &SeriesKey) -> Ordering {
-        self.text().cmp(other.text())
+        compare(self.text(), other.text())
     }
 }
 
@@ -101,8 +112,8 @@ impl SeriesKey {
         ensures grammar { IfOk result IsKeyText }
     {
         let text = make_text(alloc, measurement, tags, field)?;
-        let text = ArcSlice::from_slice(alloc, &text)?;
-        Ok(SeriesKey { text })
+        let key = SeriesKey::of_text(alloc, &text)?;
+        Ok(key)
     }
 
     /// The key whose text the bytes are. Other bytes are refused as `BadKey`, before any memory is
@@ -119,8 +130,8 @@ impl SeriesKey {
         if !is_key_text(bytes) {
             return Err(KeyFault::BadKey);
         }
-        let text = ArcSlice::from_slice(alloc, bytes)?;
-        Ok(SeriesKey { text })
+        let key = SeriesKey::of_text(alloc, bytes)?;
+        Ok(key)
     }
 
     /// The key of a text that is known to be a key text, so that it isn't read again.
@@ -130,8 +141,29 @@ impl SeriesKey {
         requires { IsKeyText text.now }
         ensures { IfOk result (λ key. key ≡ text.now) }
     {
-        let text = ArcSlice::from_slice(alloc, text)?;
-        Ok(SeriesKey { text })
+        let text = Text::Shared(ArcSlice::from_slice(alloc, text)?);
+        Ok(SeriesKey { alloc, text })
+    }
+
+    /// The key of a text that is known to be a key text, in the vector that has it. No byte is
+    /// copied, and [`into_vec`](SeriesKey::into_vec) gives the vector back.
+    pub fn from_vec(alloc: Global, text: Vec<u8>) -> SeriesKey
+        requires { IsKeyText text.items }
+        ensures { result ≡ text.items }
+    {
+        SeriesKey {
+            alloc,
+            text: Text::Own(text),
+        }
+    }
+
+    /// The vector that the key was made from, to be written over for another; of any other key an
+    /// empty one.
+    pub fn into_vec(self) -> Vec<u8> {
+        match self.text {
+            Text::Own(text) => text,
+            Text::Shared(_) => Vec::new(self.alloc),
+        }
     }
 
     /// The key text.
@@ -139,16 +171,23 @@ impl SeriesKey {
         ensures value { result.now ≡ self.now }
         ensures grammar { IsKeyText result.now }
     {
-        self.text.as_slice()
+        match &self.text {
+            Text::Own(text) => text.as_slice(),
+            Text::Shared(text) => text.as_slice(),
+        }
     }
 
-    /// A further owner of the same text, which fails only where the owners can no longer be counted.
-    ///
-    /// The cost is that of counting one owner more: no byte is copied, and no memory is taken.
+    /// A further owner of the same text: no byte is copied and no memory is taken. A text in a vector
+    /// of the key's own is copied once, to be shared from then on.
     pub fn copy(&self) -> Result<SeriesKey, AllocError>
         ensures { IfOk result (λ key. key ≡ self.now) }
     {
-        let text = self.text.clone()?;
-        Ok(SeriesKey { text })
+        match &self.text {
+            Text::Own(text) => SeriesKey::of_text(self.alloc, text),
+            Text::Shared(text) => Ok(SeriesKey {
+                alloc: self.alloc,
+                text: Text::Shared(text.clone()?),
+            }),
+        }
     }
 }

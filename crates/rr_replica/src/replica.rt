@@ -31,6 +31,7 @@ use rr_line::{Field, Point};
 use std::alloc::{AllocError, Global};
 use std::collections::BTreeMap;
 use std::marker::Model;
+use std::mem::replace;
 
 /// All series of one host, seen as one map of cells: what each origin contributes to each slot of
 /// each archive of each key.
@@ -44,6 +45,8 @@ pub struct Replica<A: Archive> {
     origin: Origin,
     next: u64,
     series: BTreeMap<SeriesKey, Vec<A>>,
+    /// Where key texts of points are written, one over the other.
+    text: Vec<u8>,
 }
 
 impl<A: Archive> Model for Replica<A> {
@@ -73,6 +76,7 @@ impl<A: Archive> Replica<A> {
             origin,
             next: 1,
             series: BTreeMap::new(alloc),
+            text: Vec::new(alloc),
         })
     }
 
@@ -87,6 +91,7 @@ impl<A: Archive> Replica<A> {
             origin: self.origin,
             next: self.next,
             series: copy_series(alloc, &self.series)?,
+            text: Vec::new(alloc),
         })
     }
 
@@ -287,8 +292,12 @@ impl<A: Archive> Replica<A> {
             ≡ with_put (held self.old) (key_text (point_view point.now) field.now.key.now) time field.now.value) }
         ensures unchanged { OnErr result (held self.new ≡ held self.old) }
     {
-        let key = point.series_key(self.alloc, field.key)?;
-        match self.put(&key, time, field.value) {
+        let mut text = replace(&mut self.text, Vec::new(self.alloc));
+        point.write_key(self.alloc, &mut text, field.key)?;
+        let key = SeriesKey::from_vec(self.alloc, text);
+        let put = self.put(&key, time, field.value);
+        self.text = key.into_vec();
+        match put {
             Ok(_) => Ok(()),
             Err(_) => Err(AllocError),
         }
