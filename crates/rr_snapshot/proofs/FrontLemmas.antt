@@ -1,6 +1,5 @@
 -- What was read is a front of what a reader had.
 use Rattle.std.proofs.Common.{List, [], ◌++◌, ℕ, Option}
-use Rattle.std.specs.Io.KnownBytes.{Consumes}
 use Rattle.std.proofs.KnownBytes.{Consumes-nil, Consumes-trans}
 use Rattle.rr_base.specs.Stream.{ConsumesSome}
 

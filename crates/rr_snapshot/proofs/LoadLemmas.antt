@@ -12,6 +12,7 @@ use Rattle.rr_page.specs.declared.version.Version.{Version}
 use Rattle.rr_page.specs.PageReading.{cells_at}
 use Rattle.rr_replica.specs.CellBounds.{NamedCell}
 use Rattle.rr_replica.specs.Holding.{Holding}
+use Rattle.rr_replica.specs.Standing.{Standing, held}
 use Rattle.rr_snapshot.specs.declared.fault.LoadFault.{LoadFault}
 use Rattle.rr_snapshot.specs.declared.fault.LoadFault.TheVariants.{ReadFailed, OriginUsed, Memory}
 use Rattle.rr_snapshot.specs.Loading.{is_used, replica_of, loaded_at, GivesIfRead}
@@ -77,7 +78,7 @@ abbrev pub CellsRead : Layout → Version → ℕ → List NamedCell → Option 
 CellsRead s v count es old now = Gave es old now (λ all. as_in_page (cells_at v s None count all))
 
 pub head_failed : (s : Layout) (o : ℕ) (fault : LoadFault) (old : Option (List ℕ)) → (fault ≡ ReadFailed) ⊎ (fault ≡ Memory) ⊎ IfSome old (λ all. head_at (schema_bytes s) all ≡ Err fault)
-    → IfSome old (λ all. GivesIfRead {A = Holding} (Err fault) (loaded_at s o all))
+    → IfSome old (λ all. GivesIfRead held (Err fault) (loaded_at s o all))
 head_failed s o fault None e = tt
 head_failed s o fault (Some all) (inl e) = inl e
 head_failed s o fault (Some all) (inr (inl e)) = inr (inl e)
@@ -112,7 +113,7 @@ body_read s t v saver count es digest old now mid none head all first is cells e
 
 module _ (s : Layout) (o : ℕ) (v : Version) (saver count : ℕ) where
   pub cells_failed : (fault : LoadFault) (old now : Option (List ℕ)) → HeadRead s v saver count old now → (fault ≡ ReadFailed) ⊎ (fault ≡ Memory) ⊎ IfSome now (λ all. as_in_page (cells_at v s None count all) ≡ Err fault)
-      → IfSome old (λ all. GivesIfRead {A = Holding} (Err fault) (loaded_at s o all))
+      → IfSome old (λ all. GivesIfRead held (Err fault) (loaded_at s o all))
   cells_failed fault None now head e = tt
   cells_failed fault (Some all) now head (inl e) = inl e
   cells_failed fault (Some all) now head (inr (inl e)) = inr (inl e)
@@ -130,7 +131,7 @@ module _ (s : Layout) (o : ℕ) (v : Version) (saver count : ℕ) where
         (read.0, read.1, digest_refused s o all v saver count body.head.0 body.head.2 es read.0 read.2 digest is, with_digest s o all v saver count body.head.0 body.head.2 es read.0 read.2 digest is)
 
     pub digest_failed : (fault : LoadFault) (old now mid : Option (List ℕ)) → IsBodyRead s v saver count es digest old now mid → (fault ≡ ReadFailed) ⊎ (fault ≡ Memory) ⊎ IfSome mid (λ all. digest_at digest all ≡ Err fault)
-        → IfSome old (λ all. GivesIfRead {A = Holding} (Err fault) (loaded_at s o all))
+        → IfSome old (λ all. GivesIfRead held (Err fault) (loaded_at s o all))
     digest_failed fault None now mid body e = tt
     digest_failed fault (Some all) now mid body (inl e) = inl e
     digest_failed fault (Some all) now mid body (inr (inl e)) = inr (inl e)
@@ -148,7 +149,7 @@ module _ (s : Layout) (o : ℕ) (v : Version) (saver count : ℕ) where
 
     pub end_failed : (fault : LoadFault) (old now mid new : Option (List ℕ)) → IsBodyRead s v saver count es digest old now mid → Gave {A = Unit {0}} tt mid new (digest_at digest)
         → (fault ≡ ReadFailed) ⊎ (fault ≡ Memory) ⊎ IfSome new (λ all. end_at all ≡ Err fault)
-        → IfSome old (λ all. GivesIfRead {A = Holding} (Err fault) (loaded_at s o all))
+        → IfSome old (λ all. GivesIfRead held (Err fault) (loaded_at s o all))
     end_failed fault None now mid new body same e = tt
     end_failed fault (Some all) now mid new body same (inl e) = inl e
     end_failed fault (Some all) now mid new body same (inr (inl e)) = inr (inl e)
@@ -167,11 +168,11 @@ module _ (s : Layout) (o : ℕ) (v : Version) (saver count : ℕ) where
         last.2 ∙ ap (λ (r : Result (Unit {0} × List ℕ) LoadFault). (r >>= λ end. Ok (saver, es)) >>= judged s o) over.2
 
 pub used_origin : (s : Layout) (o saver : ℕ) (es : List NamedCell) (old : Option (List ℕ)) → is_used o (saver, es) ≡ true → IfSome old (λ all. loaded_at s o all ≡ judged s o (saver, es))
-    → IfSome old (λ all. GivesIfRead {A = Holding} (Err OriginUsed) (loaded_at s o all))
+    → IfSome old (λ all. GivesIfRead held (Err OriginUsed) (loaded_at s o all))
 used_origin s o saver es None used read = tt
 used_origin s o saver es (Some all) used read = inr (inr (read ∙ ap (λ (b : Bool). unless OriginUsed b (Ok (replica_of s o es))) used))
 
-pub new_origin : (s : Layout) (o saver : ℕ) (es : List NamedCell) (h : Holding) (old : Option (List ℕ)) → is_used o (saver, es) ≡ false → h ≡ replica_of s o es → IfSome old (λ all. loaded_at s o all ≡ judged s o (saver, es))
-    → IfSome old (λ all. GivesIfRead (Ok h) (loaded_at s o all))
+pub new_origin : (s : Layout) (o saver : ℕ) (es : List NamedCell) (h : Standing) (old : Option (List ℕ)) → is_used o (saver, es) ≡ false → held h ≡ replica_of s o es → IfSome old (λ all. loaded_at s o all ≡ judged s o (saver, es))
+    → IfSome old (λ all. GivesIfRead held (Ok h) (loaded_at s o all))
 new_origin s o saver es h None free is read = tt
 new_origin s o saver es h (Some all) free is read = read ∙ ap (λ (b : Bool). unless OriginUsed b (Ok (replica_of s o es))) free ∙ ap (λ (x : Holding). Ok x) (sym is)

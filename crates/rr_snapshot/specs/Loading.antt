@@ -30,9 +30,9 @@ loaded_at s origin bytes = do
   unless OriginUsed (is_used origin x) (Ok (replica_of s origin x.1))
 
 -- the result is the definition's answer, unless the reader failed or memory ran out
-abbrev pub GivesIfRead : {A : Type 0} → Result A LoadFault → Result A LoadFault → Type 0
-GivesIfRead (Ok x) answer = answer ≡ Ok x
-GivesIfRead (Err fault) answer = (fault ≡ ReadFailed) ⊎ (fault ≡ Memory) ⊎ (answer ≡ Err fault)
+abbrev pub GivesIfRead : {A B : Type 0} → (A → B) → Result A LoadFault → Result B LoadFault → Type 0
+GivesIfRead view (Ok x) answer = answer ≡ Ok (view x)
+GivesIfRead view (Err fault) answer = (fault ≡ ReadFailed) ⊎ (fault ≡ Memory) ⊎ (answer ≡ Err fault)
 
 -- what a replica holds after these cells were joined into it, in order, and whether one is of its own origin: where
 -- none is, its next number stays

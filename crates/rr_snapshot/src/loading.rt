@@ -6,6 +6,7 @@ ghost use Rattle.rr_base.specs.Counted.{inner_of, failures_of, HasRisen};
 ghost use Rattle.rr_base.specs.Stream.{ConsumesSome};
 ghost use Rattle.rr_page.specs.PageReading.{is_after, cells_at};
 ghost use Rattle.rr_replica.specs.Listing.{owned_cell};
+ghost use Rattle.rr_replica.specs.Standing.{held};
 ghost use Rattle.rr_snapshot.specs.Loading.{HasJoined, GivesIfRead, loaded_at};
 ghost use Rattle.rr_snapshot.specs.SnapshotReading.{as_in_page};
 ghost use Rattle.rr_snapshot.specs.Stream.{Digests, StreamMakes};
@@ -43,7 +44,7 @@ fn join_cells_from<A: Archive, R: Read>(
     replica: &mut Replica<A>,
     hasher: &mut Sha256,
 ) -> Result<bool, LoadFault>
-    ensures read { StreamMakes (HasJoined replica.old replica.new) result
+    ensures read { StreamMakes (HasJoined (held replica.old) (held replica.new)) result
         (R.remaining (inner_of input.old)) (R.remaining (inner_of input.new))
         (λ all. as_in_page (cells_at version replica.old.schema None count all)) }
     ensures digest { OnOk result (Digests (R.remaining (inner_of input.old))
@@ -90,7 +91,7 @@ pub fn load<A: Archive, R: Read>(
 ) -> Result<Replica<A>, LoadFault>
     // Where the bytes of the input are known, the answer is what they are loaded as.
     ensures read { IfSome (R.remaining (inner_of input.old)) (λ bytes.
-        GivesIfRead result (loaded_at schema.now new_origin bytes)) }
+        GivesIfRead held result (loaded_at schema.now new_origin bytes)) }
     // Whatever the input is, the replica has this schema and origin, and the first number.
     ensures schema { IfOk result (λ replica. replica.schema ≡ schema.now) }
     ensures origin { IfOk result (λ replica. replica.origin ≡ new_origin) }

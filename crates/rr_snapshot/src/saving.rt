@@ -9,6 +9,7 @@ ghost use Rattle.rr_base.specs.Stream.{AppendsPrefix};
 ghost use Rattle.rr_page.specs.CellText.{cell_text};
 ghost use Rattle.rr_page.specs.Version.{latest};
 ghost use Rattle.rr_replica.specs.Held.{IsHolding};
+ghost use Rattle.rr_replica.specs.Standing.{held};
 ghost use Rattle.rr_replica.specs.Listing.{seen_cell};
 ghost use Rattle.rr_snapshot.specs.Snapshot.{snapshot_text};
 ghost use Rattle.rr_snapshot.specs.declared.heading.TheConstants.{MAX_SNAPSHOT_CELLS};
@@ -124,7 +125,7 @@ pub fn save<A: Archive, W: Write>(
         (snapshot_text latest replica.now.schema replica.now.origin (entries replica.now.cells)) }
     ensures too_many { (result ≡ Err SaveFault.TooManyCells)
         ↔ (MAX_SNAPSHOT_CELLS < len replica.now.cells) }
-    ensures holds { OnOk result (IsHolding replica.now) }
+    ensures holds { OnOk result (IsHolding (held replica.now)) }
     ensures count { failures_of output.old ≤ failures_of output.new }
     ensures failed { result ≡ Err SaveFault.WriteFailed
         → HasRisen (failures_of output.old) (failures_of output.new) }

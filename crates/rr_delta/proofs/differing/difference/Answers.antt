@@ -10,6 +10,7 @@ use Rattle.rr_replica.proofs.NextCell.{is_past}
 use Rattle.rr_delta.specs.Names.{owned_name}
 use Rattle.rr_delta.specs.Summaries.{cells_from}
 use Rattle.rr_delta.specs.Difference.{newer_cell, newer_cells, names_from}
+use Rattle.rr_replica.specs.Standing.{held}
 use Rattle.rr_delta.proofs.DifferenceLemmas.{AreLeft, left_at_start, left_here, left_later, goes_on, newer_none, newer_sorted, newer_held}
 use Rattle.rr_delta.proofs.HeldLemmas.{all_held, cells_held}
 use Rattle.rr_delta.proofs.Walks.{walked_on, walked_to}
@@ -75,6 +76,6 @@ returns-clause-ascending g c =
 
 pub returns-clause-of_schema : goal.returns-clause-of_schema
 returns-clause-of_schema g c =
-    let h = c.args.replica.now in
+    let h = held c.args.replica.now in
     let summary = map owned_name c.args.summary.now in
     cells_held h.schema c.loop-next.cells.items (newer_cells summary (entries h.cells)) (newer_held h.schema summary (entries h.cells) (all_held h c.schema-schema.ensures.holds)) (returns-clause-newer g c)

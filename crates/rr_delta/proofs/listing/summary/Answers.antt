@@ -5,6 +5,7 @@ use Rattle.std.specs.List.{drop-map}
 use Rattle.rr_replica.specs.Listing.{seen_cell}
 use Rattle.rr_delta.specs.Names.{IsNameOf, named_version, owned_name, versions_of}
 use Rattle.rr_delta.specs.Summaries.{cells_from}
+use Rattle.rr_replica.specs.Standing.{held}
 use Rattle.rr_delta.proofs.HeldLemmas.{all_held, all_taken, all_dropped, named_all, names_held}
 use Rattle.rr_delta.proofs.SummaryLemmas.{none_taken, names_ascend}
 use Rattle.rr_delta.proofs.Walks.{walked_to, sorted_drop, sorted_take, sorted_versions}
@@ -19,7 +20,7 @@ returns-in-Some-clause-listed g c =
 
 pub returns-in-Some-clause-of_schema : goal.returns-in-Some-clause-of_schema
 returns-in-Some-clause-of_schema g c =
-    let h = c.args.replica.now in
+    let h = held c.args.replica.now in
     let vs = versions_of h.cells in
     let all = named_all h.schema (entries h.cells) (all_held h c.schema-schema.ensures.holds) in
     names_held h.schema c.listed_from.result (take c.args.count (drop c.args.from vs)) (all_taken (IsNameOf h.schema) c.args.count (drop c.args.from vs) (all_dropped (IsNameOf h.schema) c.args.from vs all)) (returns-in-Some-clause-listed g c)

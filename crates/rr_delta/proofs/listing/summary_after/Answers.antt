@@ -4,6 +4,7 @@ use Rattle.std.specs.FinMap.{entries, entries_sorted}
 use Rattle.rr_replica.specs.Listing.{seen_cell, first_after}
 use Rattle.rr_delta.specs.Names.{IsNameOf, name_in, named_version, owned_name}
 use Rattle.rr_delta.specs.Summaries.{cells_after, cells_from}
+use Rattle.rr_replica.specs.Standing.{held}
 use Rattle.rr_delta.proofs.HeldLemmas.{all_held, all_taken, after_held, named_all, names_held}
 use Rattle.rr_delta.proofs.SummaryLemmas.{none_taken, names_ascend}
 use Rattle.rr_delta.proofs.Walks.{walked_on, sorted_after, sorted_take, sorted_versions}
@@ -23,7 +24,7 @@ returns-in-Some-next_cell-clause-listed g c =
 
 pub returns-in-Some-next_cell-clause-of_schema : goal.returns-in-Some-next_cell-clause-of_schema
 returns-in-Some-next_cell-clause-of_schema g c =
-    let h = c.args.replica.now in
+    let h = held c.args.replica.now in
     let es = cells_after (name_in c.args.after) (entries h.cells) in
     names_held h.schema c.listed_from.result (take c.args.count (map named_version es))
     (all_taken (IsNameOf h.schema) c.args.count (map named_version es) (named_all h.schema es (after_held h.schema (name_in c.args.after) (entries h.cells) (all_held h c.schema-schema.ensures.holds))))

@@ -7,6 +7,7 @@ use Rattle.rr_replica.specs.Cells.{row_at, rows_at}
 use Rattle.rr_fetch.specs.Answers.{value_of_cells}
 use Rattle.rr_fetch.specs.Consolidation.{consolidated, IsRow}
 use Rattle.rr_fetch.specs.Requests.{request_view}
+use Rattle.rr_replica.specs.Standing.{held}
 use Rattle.rr_fetch.proofs.AnswerLemmas.{answer_none, answer_more}
 use Rattle.rr_fetch.proofs.RowEntries.{row_holds}
 use Rattle.rr_fetch.proofs.answering.answer_text.Goals as goal
@@ -21,7 +22,7 @@ pub consolidate-value-requires-clause-row : goal.consolidate-value-requires-clau
 consolidate-value-requires-clause-row g c =
     let h = c.args.replica.now in
     let q = request_view c.args.request.now in
-    subst IsRow (sym (c.entries_at-entries.ensures (rows_at h.cells q.key q.archive) c.archive-archive.ensures)) (row_holds h c.schema-schema.ensures.holds q.key q.archive _)
+    subst IsRow (sym (c.entries_at-entries.ensures (rows_at h.cells q.key q.archive) c.archive-archive.ensures)) (row_holds (held h) c.schema-schema.ensures.holds q.key q.archive _)
 
 pub loop-row-preserved : goal.loop-row-preserved
 loop-row-preserved g c =

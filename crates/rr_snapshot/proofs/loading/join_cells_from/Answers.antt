@@ -8,6 +8,7 @@ use Rattle.rr_model.specs.CellNames.{CellName}
 use Rattle.rr_page.specs.PageReading.{is_after, last_name}
 use Rattle.rr_page.proofs.LoopLemmas.{last_name_push}
 use Rattle.rr_replica.specs.Listing.{owned_cell}
+use Rattle.rr_replica.specs.Standing.{held}
 use Rattle.rr_snapshot.specs.Loading.{HasJoined}
 use Rattle.rr_snapshot.proofs.FrontLemmas.{none_read, read_then}
 use Rattle.rr_snapshot.proofs.CellsLemmas.{nothing_yet, goes_on_stream, falls_stream, passed_made, done_stream, HasJoined-none, HasJoined-more, same_schema, same_schema_read}
@@ -17,7 +18,7 @@ pub loop-init : goal.loop-init
 loop-init g c =
     let old = g.R.Read.remaining (inner_of c.args.input.now) in
     record {
-      cells = ([], nothing_yet c.args.version c.args.replica.now.schema c.args.count old, refl, HasJoined-none c.args.replica.now);
+      cells = ([], nothing_yet c.args.version c.args.replica.now.schema c.args.count old, refl, HasJoined-none (held c.args.replica.now));
       front = none_read old;
       digest = ([], Consumes-nil old, λ m h. subst (Holds256 c.args.hasher.now) (sym (append-nil m)) h);
       count = search rules;
@@ -32,7 +33,7 @@ returns-in_err-cell-clause-read g c =
     let new = g.R.Read.remaining (inner_of c.cell_from.new.input) in
     let p = err_from_is_err_and c.from_residual.result c.from_residual.ensures.1 in
     let e = same_schema c.args.version c.schema.result.now s c.in_err-cell.field-0.0 now new (c.schema.ensures.value ∙ so_far.3.schema) c.in_err-cell.ensures.read in
-    rw (p.1, p.2) (passed_made c.args.version s so_far.0 c.args.count c.loop.counter c.loop-test.true (HasJoined c.args.replica.now c.loop.replica) old now new c.in_err-cell.field-0.0 so_far.1 e)
+    rw (p.1, p.2) (passed_made c.args.version s so_far.0 c.args.count c.loop.counter c.loop-test.true (HasJoined (held c.args.replica.now) (held c.loop.replica)) old now new c.in_err-cell.field-0.0 so_far.1 e)
 
 pub returns-then-not-is_after-clause-read : goal.returns-then-not-is_after-clause-read
 returns-then-not-is_after-clause-read g c =
@@ -63,7 +64,7 @@ loop-preserved g c =
         so_far.0 ++ e ∷ [],
         goes_on_stream c.args.version s so_far.0 c.args.count c.loop.counter c.loop-test.true old now new e so_far.1 read rising,
         last_name_push so_far.0 e,
-        HasJoined-more c.args.replica.now c.loop.replica c.join_cell.new.self c.loop.has_own c.eq-has_own.result _ so_far.0 e so_far.3 c.in_ok-join_cell.ensures.joined (c.eq-has_own.ensures ∙ ap (λ (o : ℕ). e.0.origin == o) c.origin-origin.ensures) refl,
+        HasJoined-more (held c.args.replica.now) (held c.loop.replica) (held c.join_cell.new.self) c.loop.has_own c.eq-has_own.result _ so_far.0 e so_far.3 c.in_ok-join_cell.ensures.joined (c.eq-has_own.ensures ∙ ap (λ (o : ℕ). e.0.origin == o) c.origin-origin.ensures) refl,
       );
       front = read_then old now new c.loop.invariant.front c.cell_from.ensures.front;
       digest = (digest.0 ++ piece, Consumes-trans old now new digest.0 piece digest.1 c.in_ok-cell.ensures.bytes, λ m h. subst (Holds256 c.update.new.self) (append_assoc m digest.0 piece) (c.update.ensures (m ++ digest.0) (digest.2 m h)));

@@ -5,6 +5,7 @@ use Rattle.rr_base.specs.Stream.{ConsumesSome}
 use Rattle.rr_page.specs.PageReading.{last_name}
 use Rattle.rr_replica.specs.CellBounds.{NamedCell}
 use Rattle.rr_replica.specs.Listing.{owned_cell}
+use Rattle.rr_replica.specs.Standing.{held}
 use Rattle.rr_snapshot.specs.Loading.{HasJoined}
 use Rattle.rr_snapshot.specs.Stream.{Digests}
 use Rattle.rr_snapshot.proofs.CellsLemmas.{IsSoFar}
@@ -13,7 +14,7 @@ use Rattle.rr_snapshot.proofs.loading.join_cells_from.Given as goal
 -- the cells so far are read, digested and joined, and the last is kept
 abbrev pub invariant-loop : goal.invariant-loop
 invariant-loop g l = record {
-  cells : (es : List NamedCell) × IsSoFar l.version l.initial.replica.schema es l.count l.counter (g.R.Read.remaining (inner_of l.initial.input)) (g.R.Read.remaining (inner_of l.input)) × (last_name es ≡ option_map (λ c. (owned_cell c).0) l.before) × HasJoined l.initial.replica l.replica l.has_own es;
+  cells : (es : List NamedCell) × IsSoFar l.version l.initial.replica.schema es l.count l.counter (g.R.Read.remaining (inner_of l.initial.input)) (g.R.Read.remaining (inner_of l.input)) × (last_name es ≡ option_map (λ c. (owned_cell c).0) l.before) × HasJoined (held l.initial.replica) (held l.replica) l.has_own es;
   digest : Digests (g.R.Read.remaining (inner_of l.initial.input)) (g.R.Read.remaining (inner_of l.input)) l.initial.hasher l.hasher;
   front : ConsumesSome (g.R.Read.remaining (inner_of l.initial.input)) (g.R.Read.remaining (inner_of l.input));
   count : failures_of l.initial.input ≤ failures_of l.input;

@@ -6,6 +6,7 @@ use Rattle.rr_base.specs.Counted.{inner_of}
 use Rattle.rr_base.specs.Schema.{Layout}
 use Rattle.rr_page.specs.PageReading.{cells_at}
 use Rattle.rr_replica.specs.Holding.{Holding}
+use Rattle.rr_replica.specs.Standing.{held}
 use Rattle.rr_snapshot.specs.Loading.{is_among}
 use Rattle.rr_snapshot.specs.SnapshotReading.{as_in_page}
 use Rattle.rr_snapshot.specs.declared.fault.LoadFault.TheVariants.{ReadFailed, Memory}
@@ -90,7 +91,7 @@ returns-clause-read g c =
     let read = all_read c.args.schema.now o h.version h.saver h.count joined.0 c.finalize.result old now mid new end body c.in_ok-digest_from.ensures.read c.in_ok-end_from.ensures.read in
     let own : c.in_ok-has_own.has_own ≡ is_among o joined.0 = joined.1.any ∙ ap (λ (n : ℕ). is_among n joined.0) origin in
     let free : (h.saver == o) || is_among o joined.0 ≡ false = (λ i. sym c.eq.ensures i || sym own i) ∙ or_from c.eq.result c.in_ok-has_own.has_own c.if-eq.false c.if-has_own.false in
-    let is = joined_replica c.args.schema.now o c.in_ok-replica.replica c.join_cells_from.new.replica c.in_ok-has_own.has_own joined.0 c.in_ok-replica.ensures joined.1 c.if-has_own.false in
+    let is = joined_replica c.args.schema.now o (held c.in_ok-replica.replica) (held c.join_cells_from.new.replica) c.in_ok-has_own.has_own joined.0 c.in_ok-replica.ensures joined.1 c.if-has_own.false in
     new_origin c.args.schema.now o h.saver joined.0 c.join_cells_from.new.replica old free is read
 
 pub returns-in_err-has_own-clause-front : goal.returns-in_err-has_own-clause-front
