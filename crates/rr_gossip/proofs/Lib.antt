@@ -10,3 +10,8 @@ pub mod ReplyLemmas
 pub mod SentLemmas
 pub mod TakenLemmas
 pub mod JoinedLemmas
+pub mod StreamLemmas
+pub mod StepLemmas
+pub mod ReadLemmas
+pub mod SendLemmas
+pub mod GivingLemmas

@@ -32,7 +32,7 @@ use Rattle.rr_gossip.proofs.ReplyLemmas.{under}
 
 -- ---- the cells after the last of a piece
 
-abbrev name_in : Option Name → Option CellName
+abbrev pub name_in : Option Name → Option CellName
 name_in after = option_map (λ n. (owned_name n).0) after
 
 filter_twice : (p q : NamedCell → Bool) (es : List NamedCell) → ((e : NamedCell) → p e ≡ true → q e ≡ true) → filter p (filter q es) ≡ filter p es
@@ -106,7 +106,7 @@ cells_left n all k e es sorted is =
     one_more n = omega arith
 
 -- so are the names
-next_left : (m : Cells) (after : Option Name) (k : ℕ) (v : NamedVersion) (vs : List NamedVersion) → v ∷ vs ≡ map named_version (cells_after (name_in after) (entries m))
+pub next_left : (m : Cells) (after : Option Name) (k : ℕ) (v : NamedVersion) (vs : List NamedVersion) → v ∷ vs ≡ map named_version (cells_after (name_in after) (entries m))
     → map named_version (cells_after (name_in (last_listed (take (suc k) (v ∷ vs)))) (entries m)) ≡ drop (suc k) (v ∷ vs)
 next_left m after k v vs is = by_cells (cells_after (name_in after) (entries m)) refl is
   where

@@ -7,4 +7,6 @@ pub mod Pages
 pub mod Giver
 pub mod Puller
 pub mod Transcript
+pub mod Stream
+pub mod Session
 pub mod Laws

@@ -1,4 +1,4 @@
-//! Sessions in which one side pulls cells from another, frame by frame.
+//! Sessions in which one side pulls cells from another.
 //!
 //! A frame (`specs/Frame.antt`) is a length, a [`Kind`] and a body. The side that pulls sends the schema
 //! that it has, the names and versions of its cells in Summary frames (`specs/Summary.antt`), and an
@@ -8,23 +8,31 @@
 //! [`Giver`] over a source (`specs/Giver.antt`). `next_frame` answers the next frame that it sends,
 //! `take` is handed each frame of the other side, and both are held to one function of the machine, the
 //! frame and the cells. Bytes that are no frame of the session are refused by name ([`GossipFault`]).
-//! [`laws`] says which frames they send in a row (`specs/Transcript.antt`), and that a pull that
-//! completes leaves the join of the cells of both sides.
+//!
+//! [`pull`] and [`give`] run a machine over a reader and a writer, a frame at a time: frames are read by
+//! their length alone (`specs/Stream.antt`), and each call is held to the frames that it read and wrote
+//! (`specs/Session.antt`). [`laws`] says which frames a side sends in a row (`specs/Transcript.antt`),
+//! and that a pull that completes leaves the join of the cells of both sides.
 #![tactic(auto)]
 
 mod fault;
 mod frame;
 mod giver;
+mod giving;
 mod joining;
 pub mod laws;
 mod names;
 mod pages;
 mod puller;
+mod pulling;
+mod stream;
 mod summary;
 
 pub use fault::GossipFault;
 pub use frame::{Kind, MAX_FRAME_LEN, content_of, frame_bytes};
 pub use giver::Giver;
+pub use giving::{give, give_after, give_after_within, give_within};
 pub use puller::Puller;
+pub use pulling::{pull, pull_within};
 pub use rr_delta::{Source, Target};
 pub use summary::{MAX_ENTRIES, read_summary, summary_bytes};

@@ -1,0 +1,132 @@
+use Rattle.std.proofs.Common.{◌++◌, ◌∷◌, [], drop, refl, sym, ap, subst, ◌∙◌, inl, inr, arith}
+use Rattle.std.proofs.lemmas.Result.{err_from_is_err_and}
+use Rattle.rr_base.specs.Counted.{inner_of}
+use Rattle.rr_gossip.specs.Stream.{WasRead}
+use Rattle.rr_gossip.specs.declared.fault.GossipFault.TheVariants.{Ended, Memory, ReadFailed}
+use Rattle.rr_gossip.proofs.GivingLemmas.{none_heard, frame_heard, giver_moves, giver_stops, hears_of_frame}
+use Rattle.rr_gossip.proofs.ReadLemmas.{nothing_read, piece_more, frame_more, not_of_frame}
+use Rattle.rr_gossip.proofs.StepLemmas.{is_of_frame}
+use Rattle.rr_gossip.proofs.StreamLemmas.{breaks_off_length}
+use Rattle.rr_gossip.proofs.giving.take_names.Goals as goal
+
+pub loop-frame-init : goal.loop-frame-init
+loop-frame-init g c =
+    let before = c.args.before.now in
+    let had = g.R.Read.remaining (inner_of c.args.input.now) in
+    let same = c.in_ok-frame.ensures.items in
+    record {
+      frames = [];
+      read = subst (WasRead before had had []) (sym same) (nothing_read before had);
+      few = rw same c.requires;
+      taken = λ m. none_heard m (g.S.Source.layout c.args.source.now) c.args.giver.now;
+      schema = refl;
+      sent = refl;
+      limit = refl;
+      count = omega arith;
+    }
+
+pub returns-in_err-frame-clause-stopped : goal.returns-in_err-frame-clause-stopped
+returns-in_err-frame-clause-stopped g c =
+    let before = c.args.before.now in
+    let p = err_from_is_err_and c.from_residual.result c.from_residual.ensures.1 in
+    rw (p.1, p.2)
+    (record {
+      frames = [];
+      piece = before;
+      read = nothing_read before (g.R.Read.remaining (inner_of c.args.input.now));
+      last = c.args.giver.now;
+      taken = none_heard (g.S.Source.cells c.args.source.now) (g.S.Source.layout c.args.source.now) c.args.giver.now;
+      stopped = inl (breaks_off_length before Memory c.requires (inl refl));
+    })
+
+pub returns-in_err-read_frame-clause-stopped : goal.returns-in_err-read_frame-clause-stopped
+returns-in_err-read_frame-clause-stopped g c =
+    let so_far = c.loop-frame.invariant in
+    let p = err_from_is_err_and c.from_residual-in_err-read_frame.result c.from_residual-in_err-read_frame.ensures.1 in
+    let off = c.in_err-read_frame.ensures.stopped in
+    rw (p.1, p.2)
+    (record {
+      frames = so_far.frames;
+      piece = off.0;
+      read = piece_more c.args.before.now _ _ _ so_far.frames c.loop-frame.frame.items off.0 so_far.read off.1;
+      last = c.loop-frame.giver;
+      taken = so_far.taken (g.S.Source.cells c.loop-frame.source);
+      stopped = inl off.2;
+    })
+
+pub returns-in_err-take-clause-stopped : goal.returns-in_err-take-clause-stopped
+returns-in_err-take-clause-stopped g c =
+    let so_far = c.loop-frame.invariant in
+    let p = err_from_is_err_and c.from_residual-in_err-take.result c.from_residual-in_err-take.ensures.1 in
+    let frame = c.read_frame.new.frame.items in
+    let m = g.S.Source.cells c.take.new.source in
+    let takes = rw (c.content.ensures, c.deref.ensures.value, so_far.schema) at c.in_err-take.ensures.taken in
+    rw (p.1, p.2)
+    (record {
+      frames = so_far.frames;
+      piece = frame;
+      read = piece_more c.args.before.now _ _ _ so_far.frames c.loop-frame.frame.items frame so_far.read c.in_ok-read_frame.ensures.read;
+      last = c.loop-frame.giver;
+      taken = so_far.taken m;
+      stopped = inr (giver_stops m (g.S.Source.layout c.args.source.now) c.loop-frame.giver frame _ c.in_ok-read_frame.ensures.whole takes);
+    })
+
+pub returns-in_err-take-clause-ended : goal.returns-in_err-take-clause-ended
+returns-in_err-take-clause-ended g c = λ e.
+    let p = err_from_is_err_and c.from_residual-in_err-take.result c.from_residual-in_err-take.ensures.1 in
+    not_of_frame c.from_residual-in_err-take.result p.0 Ended (ap is_of_frame p.2 ∙ hears_of_frame _ _ c.loop-frame.giver _ _ c.in_err-take.ensures.taken) refl p.1 e
+
+pub returns-in_err-take-clause-failed : goal.returns-in_err-take-clause-failed
+returns-in_err-take-clause-failed g c = λ e.
+    let p = err_from_is_err_and c.from_residual-in_err-take.result c.from_residual-in_err-take.ensures.1 in
+    not_of_frame c.from_residual-in_err-take.result p.0 ReadFailed (ap is_of_frame p.2 ∙ hears_of_frame _ _ c.loop-frame.giver _ _ c.in_err-take.ensures.taken) refl p.1 e
+
+pub returns-then-branch-clause-heard : goal.returns-then-branch-clause-heard
+returns-then-branch-clause-heard g c =
+    let so_far = c.loop-frame.invariant in
+    let s = g.S.Source.layout c.args.source.now in
+    let m = g.S.Source.cells c.take.new.source in
+    let frame = c.read_frame.new.frame.items in
+    let takes = rw (c.content.ensures, c.deref.ensures.value, so_far.schema) at c.in_ok-take.ensures.taken in
+    let moves = giver_moves m s c.loop-frame.giver c.take.new.self (drop 4 frame) c.in_ok-take.field-0 takes in
+    let done = moves.done c.if-branch.true in
+    record {
+      frames = so_far.frames ++ frame ∷ [];
+      read = frame_more c.args.before.now _ _ _ so_far.frames c.loop-frame.frame.items frame so_far.read c.in_ok-read_frame.ensures.read c.in_ok-read_frame.ensures.whole;
+      taken = frame_heard m s c.args.giver.now c.loop-frame.giver c.take.new.self so_far.frames frame c.in_ok-take.field-0 (so_far.taken m) takes;
+      names = done.0;
+      giving = done.1;
+    }
+
+pub returns-then-branch-clause-sent : goal.returns-then-branch-clause-sent
+returns-then-branch-clause-sent g c =
+    (giver_moves _ _ c.loop-frame.giver c.take.new.self _ c.in_ok-take.field-0 c.in_ok-take.ensures.taken).sent ∙ c.loop-frame.invariant.sent
+
+pub returns-then-branch-clause-limit : goal.returns-then-branch-clause-limit
+returns-then-branch-clause-limit g c =
+    (giver_moves _ _ c.loop-frame.giver c.take.new.self _ c.in_ok-take.field-0 c.in_ok-take.ensures.taken).limit ∙ c.loop-frame.invariant.limit
+
+pub loop-frame-smaller : goal.loop-frame-smaller
+loop-frame-smaller g c =
+    let moves = giver_moves _ _ c.loop-frame.giver c.take.new.self _ c.in_ok-take.field-0 c.in_ok-take.ensures.taken in
+    omega (arith, moves.room, moves.taken, moves.limit)
+
+pub loop-frame-preserved : goal.loop-frame-preserved
+loop-frame-preserved g c =
+    let so_far = c.loop-frame.invariant in
+    let s = g.S.Source.layout c.args.source.now in
+    let m = g.S.Source.cells c.take.new.source in
+    let frame = c.read_frame.new.frame.items in
+    let takes = rw (c.content.ensures, c.deref.ensures.value, so_far.schema) at c.in_ok-take.ensures.taken in
+    let moves = giver_moves m s c.loop-frame.giver c.take.new.self (drop 4 frame) c.in_ok-take.field-0 takes in
+    let none = c.clear.ensures.items in
+    record {
+      frames = so_far.frames ++ frame ∷ [];
+      read = subst (WasRead c.args.before.now _ _ (so_far.frames ++ frame ∷ [])) (sym none) (frame_more c.args.before.now _ _ _ so_far.frames c.loop-frame.frame.items frame so_far.read c.in_ok-read_frame.ensures.read c.in_ok-read_frame.ensures.whole);
+      few = rw none (omega arith);
+      taken = λ n. frame_heard n s c.args.giver.now c.loop-frame.giver c.take.new.self so_far.frames frame _ (so_far.taken n) (moves.going c.if-branch.false n);
+      schema = c.in_ok-take.ensures.schema ∙ so_far.schema;
+      sent = moves.sent ∙ so_far.sent;
+      limit = moves.limit ∙ so_far.limit;
+      count = omega (arith, so_far.count, c.in_ok-read_frame.ensures.count);
+    }

@@ -1,0 +1,12 @@
+use Rattle.std.proofs.Common.{refl}
+use Rattle.rr_gossip.specs.declared.fault.GossipFault.TheVariants.{WriteFailed}
+use Rattle.rr_gossip.specs.Puller.{puller_takes}
+use Rattle.rr_gossip.proofs.ReadLemmas.{stops_unwritten}
+use Rattle.rr_gossip.proofs.StepLemmas.{puller_fault}
+use Rattle.rr_gossip.proofs.pulling.pull_within.Goals as goal
+
+pub returns-clause-write_failed : goal.returns-clause-write_failed
+returns-clause-write_failed g c = λ e.
+    let s = g.T.Target.layout c.args.target.now in
+    let stopped = rw e at c.take_pages.ensures.stopped in
+    absurd (stops_unwritten (puller_takes s stopped.last) stopped.piece WriteFailed (λ content. puller_fault s stopped.last content WriteFailed) stopped.stopped refl)

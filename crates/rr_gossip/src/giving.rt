@@ -1,0 +1,237 @@
+//! The answer to a pull, over streams.
+ghost use Rattle.std.specs.Prelude.{◌≡◌, ◌≤◌, [], ◌∷◌, Err, IfErr, IsTrue, OnOk, length};
+ghost use Rattle.std.specs.Io.KnownBytes.{Appends, IsAtEnd};
+ghost use Rattle.std.specs.List.{concat};
+ghost use Rattle.rr_base.specs.Counted.{inner_of, failures_of, HasRisen};
+ghost use Rattle.rr_base.specs.Stream.{AppendsPrefix};
+ghost use Rattle.rr_gossip.specs.declared.frame.TheConstants.{MAX_FRAMES};
+ghost use Rattle.rr_gossip.specs.Session.{CannotSend, HasFailedToGive, HasGiven, HasHeard, HasStoppedHearing, is_giving, reply_left};
+
+use crate::fault::GossipFault;
+use crate::frame::MAX_FRAMES;
+use crate::giver::Giver;
+use crate::stream::{content, read_frame};
+use rr_base::Counted;
+use rr_base::stream::{flush, write_all};
+use rr_delta::Source;
+use std::alloc::Global;
+use std::io::{Read, Write};
+
+/// Takes the frames of the other side to its last one, after the bytes of the first frame's length that
+/// are read already. One frame is in memory at a time.
+fn take_names<S: Source, R: Read>(
+    alloc: Global,
+    giver: &mut Giver,
+    before: &[u8],
+    input: &mut Counted<R>,
+    source: &mut S,
+) -> Result<(), GossipFault>
+    requires { length before.now ≤ 4 }
+    ensures heard { OnOk result (HasHeard (S.layout source.old) (S.cells source.new)
+        giver.old giver.new before.now
+        (R.remaining (inner_of input.old)) (R.remaining (inner_of input.new))) }
+    ensures stopped { IfErr result (HasStoppedHearing (S.layout source.old) (S.cells source.new)
+        giver.old before.now
+        (R.remaining (inner_of input.old)) (R.remaining (inner_of input.new))) }
+    ensures schema { S.layout source.new ≡ S.layout source.old }
+    ensures sent { OnOk result (giver.new.sent ≡ giver.old.sent) }
+    ensures limit { OnOk result (giver.new.limit ≡ giver.old.limit) }
+    ensures ended { result ≡ Err GossipFault.Ended → IsAtEnd (R.remaining (inner_of input.new)) }
+    ensures count { failures_of input.old ≤ failures_of input.new }
+    ensures failed { result ≡ Err GossipFault.ReadFailed
+        → HasRisen (failures_of input.old) (failures_of input.new) }
+{
+    let mut frame = Vec::from_slice(alloc, before)?;
+    loop {
+        read_frame(input, &mut frame)?;
+        if giver.take(alloc, content(&frame), source)? {
+            return Ok(());
+        }
+        frame.clear();
+    }
+}
+
+/// Writes the frames that a giver still sends, each before the next is made, and passes them on.
+fn send_pages<S: Source, W: Write>(
+    alloc: Global,
+    giver: &mut Giver,
+    output: &mut Counted<W>,
+    source: &mut S,
+) -> Result<(), GossipFault>
+    requires giving { IsTrue (is_giving giver.old.stage) }
+    requires fresh { giver.old.sent ≡ 0 }
+    ensures sent { OnOk result (Appends (W.contents (inner_of output.old))
+        (W.contents (inner_of output.new)) (concat (reply_left giver.old.stage))) }
+    ensures front { AppendsPrefix (W.contents (inner_of output.old))
+        (W.contents (inner_of output.new)) (concat (reply_left giver.old.stage)) }
+    ensures refused { IfErr result (CannotSend giver.old.limit (reply_left giver.old.stage)) }
+    ensures unchanged { source.new ≡ source.old }
+    ensures count { failures_of output.old ≤ failures_of output.new }
+    ensures failed { result ≡ Err GossipFault.WriteFailed
+        → HasRisen (failures_of output.old) (failures_of output.new) }
+{
+    while let Some(frame) = giver.next_frame(alloc, source)? {
+        write_all(output, &frame)?;
+    }
+    flush(output)?;
+    Ok(())
+}
+
+/// Gives after the bytes of the first frame's length that are read already.
+fn give_from<S: Source, R: Read, W: Write>(
+    alloc: Global,
+    before: &[u8],
+    input: &mut Counted<R>,
+    output: &mut Counted<W>,
+    source: &mut S,
+    frames: u32,
+) -> Result<(), GossipFault>
+    requires few { length before.now ≤ 4 }
+    requires frames_fit { frames ≤ MAX_FRAMES }
+    ensures given { OnOk result (HasGiven frames (S.layout source.old) (S.cells source.new) before.now
+        (R.remaining (inner_of input.old)) (R.remaining (inner_of input.new))
+        (W.contents (inner_of output.old)) (W.contents (inner_of output.new))) }
+    ensures stopped { IfErr result (HasFailedToGive frames (S.layout source.old) (S.cells source.new) before.now
+        (R.remaining (inner_of input.old)) (R.remaining (inner_of input.new))
+        (W.contents (inner_of output.old)) (W.contents (inner_of output.new))) }
+    ensures schema { S.layout source.new ≡ S.layout source.old }
+
+    // When a stream is to blame.
+    ensures ended { result ≡ Err GossipFault.Ended → IsAtEnd (R.remaining (inner_of input.new)) }
+    ensures read_failed { result ≡ Err GossipFault.ReadFailed
+        → HasRisen (failures_of input.old) (failures_of input.new) }
+    ensures write_failed { result ≡ Err GossipFault.WriteFailed
+        → HasRisen (failures_of output.old) (failures_of output.new) }
+    ensures read_count { failures_of input.old ≤ failures_of input.new }
+    ensures write_count { failures_of output.old ≤ failures_of output.new }
+{
+    let mut giver = Giver::with_limit(frames);
+    take_names(alloc, &mut giver, before, input, source)?;
+    send_pages(alloc, &mut giver, output, source)
+}
+
+/// Answers a pull by the other side of a stream: takes its schema and the names and versions of its
+/// cells, and sends the cells of a source that these lack, 256 in a page.
+///
+/// All of the answer is of one state of the source, that of the last frame, and is in memory as one list;
+/// each page is written before the next is made. No byte after the end of the names is read.
+///
+/// Refused as `ReadFailed`; as `Ended` where the input ends before the end of the names; by a frame as
+/// [`Giver::take`] refuses it, and as `FrameTooLong` on its length alone, before more is read; as
+/// `TooManyFrames` where a frame would be one above 16,777,216, either way; as `WriteFailed`; and as
+/// `Memory`. Nothing is written before the end of the names is taken, and a front of the answer wherever
+/// the call ends.
+///
+/// The cost is that of `Source::difference`, and linear in the bytes.
+pub fn give<S: Source, R: Read, W: Write>(
+    alloc: Global,
+    input: &mut Counted<R>,
+    output: &mut Counted<W>,
+    source: &mut S,
+) -> Result<(), GossipFault>
+    ensures given { OnOk result (HasGiven MAX_FRAMES (S.layout source.old) (S.cells source.new) []
+        (R.remaining (inner_of input.old)) (R.remaining (inner_of input.new))
+        (W.contents (inner_of output.old)) (W.contents (inner_of output.new))) }
+    ensures stopped { IfErr result (HasFailedToGive MAX_FRAMES (S.layout source.old) (S.cells source.new) []
+        (R.remaining (inner_of input.old)) (R.remaining (inner_of input.new))
+        (W.contents (inner_of output.old)) (W.contents (inner_of output.new))) }
+    ensures schema { S.layout source.new ≡ S.layout source.old }
+
+    // When a stream is to blame.
+    ensures ended { result ≡ Err GossipFault.Ended → IsAtEnd (R.remaining (inner_of input.new)) }
+    ensures read_failed { result ≡ Err GossipFault.ReadFailed
+        → HasRisen (failures_of input.old) (failures_of input.new) }
+    ensures write_failed { result ≡ Err GossipFault.WriteFailed
+        → HasRisen (failures_of output.old) (failures_of output.new) }
+    ensures read_count { failures_of input.old ≤ failures_of input.new }
+    ensures write_count { failures_of output.old ≤ failures_of output.new }
+{
+    give_from(alloc, &[], input, output, source, MAX_FRAMES)
+}
+
+/// Gives as [`give`] does, in a session of at most `frames` frames each way.
+pub fn give_within<S: Source, R: Read, W: Write>(
+    alloc: Global,
+    input: &mut Counted<R>,
+    output: &mut Counted<W>,
+    source: &mut S,
+    frames: u32,
+) -> Result<(), GossipFault>
+    requires { frames ≤ MAX_FRAMES }
+    ensures given { OnOk result (HasGiven frames (S.layout source.old) (S.cells source.new) []
+        (R.remaining (inner_of input.old)) (R.remaining (inner_of input.new))
+        (W.contents (inner_of output.old)) (W.contents (inner_of output.new))) }
+    ensures stopped { IfErr result (HasFailedToGive frames (S.layout source.old) (S.cells source.new) []
+        (R.remaining (inner_of input.old)) (R.remaining (inner_of input.new))
+        (W.contents (inner_of output.old)) (W.contents (inner_of output.new))) }
+    ensures schema { S.layout source.new ≡ S.layout source.old }
+
+    // When a stream is to blame.
+    ensures ended { result ≡ Err GossipFault.Ended → IsAtEnd (R.remaining (inner_of input.new)) }
+    ensures read_failed { result ≡ Err GossipFault.ReadFailed
+        → HasRisen (failures_of input.old) (failures_of input.new) }
+    ensures write_failed { result ≡ Err GossipFault.WriteFailed
+        → HasRisen (failures_of output.old) (failures_of output.new) }
+    ensures read_count { failures_of input.old ≤ failures_of input.new }
+    ensures write_count { failures_of output.old ≤ failures_of output.new }
+{
+    give_from(alloc, &[], input, output, source, frames)
+}
+
+/// Gives as [`give`] does, where the first byte of the session is read already.
+pub fn give_after<S: Source, R: Read, W: Write>(
+    alloc: Global,
+    first: u8,
+    input: &mut Counted<R>,
+    output: &mut Counted<W>,
+    source: &mut S,
+) -> Result<(), GossipFault>
+    ensures given { OnOk result (HasGiven MAX_FRAMES (S.layout source.old) (S.cells source.new) (first ∷ [])
+        (R.remaining (inner_of input.old)) (R.remaining (inner_of input.new))
+        (W.contents (inner_of output.old)) (W.contents (inner_of output.new))) }
+    ensures stopped { IfErr result (HasFailedToGive MAX_FRAMES (S.layout source.old) (S.cells source.new) (first ∷ [])
+        (R.remaining (inner_of input.old)) (R.remaining (inner_of input.new))
+        (W.contents (inner_of output.old)) (W.contents (inner_of output.new))) }
+    ensures schema { S.layout source.new ≡ S.layout source.old }
+
+    // When a stream is to blame.
+    ensures ended { result ≡ Err GossipFault.Ended → IsAtEnd (R.remaining (inner_of input.new)) }
+    ensures read_failed { result ≡ Err GossipFault.ReadFailed
+        → HasRisen (failures_of input.old) (failures_of input.new) }
+    ensures write_failed { result ≡ Err GossipFault.WriteFailed
+        → HasRisen (failures_of output.old) (failures_of output.new) }
+    ensures read_count { failures_of input.old ≤ failures_of input.new }
+    ensures write_count { failures_of output.old ≤ failures_of output.new }
+{
+    give_from(alloc, &[first], input, output, source, MAX_FRAMES)
+}
+
+/// Gives as [`give_after`] does, in a session of at most `frames` frames each way.
+pub fn give_after_within<S: Source, R: Read, W: Write>(
+    alloc: Global,
+    first: u8,
+    input: &mut Counted<R>,
+    output: &mut Counted<W>,
+    source: &mut S,
+    frames: u32,
+) -> Result<(), GossipFault>
+    requires { frames ≤ MAX_FRAMES }
+    ensures given { OnOk result (HasGiven frames (S.layout source.old) (S.cells source.new) (first ∷ [])
+        (R.remaining (inner_of input.old)) (R.remaining (inner_of input.new))
+        (W.contents (inner_of output.old)) (W.contents (inner_of output.new))) }
+    ensures stopped { IfErr result (HasFailedToGive frames (S.layout source.old) (S.cells source.new) (first ∷ [])
+        (R.remaining (inner_of input.old)) (R.remaining (inner_of input.new))
+        (W.contents (inner_of output.old)) (W.contents (inner_of output.new))) }
+    ensures schema { S.layout source.new ≡ S.layout source.old }
+
+    // When a stream is to blame.
+    ensures ended { result ≡ Err GossipFault.Ended → IsAtEnd (R.remaining (inner_of input.new)) }
+    ensures read_failed { result ≡ Err GossipFault.ReadFailed
+        → HasRisen (failures_of input.old) (failures_of input.new) }
+    ensures write_failed { result ≡ Err GossipFault.WriteFailed
+        → HasRisen (failures_of output.old) (failures_of output.new) }
+    ensures read_count { failures_of input.old ≤ failures_of input.new }
+    ensures write_count { failures_of output.old ≤ failures_of output.new }
+{
+    give_from(alloc, &[first], input, output, source, frames)
+}

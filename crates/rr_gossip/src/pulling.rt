@@ -1,0 +1,171 @@
+//! A pull over streams.
+ghost use Rattle.std.specs.Prelude.{◌≡◌, ◌≤◌, Err, IfErr, OnOk, length};
+ghost use Rattle.std.specs.Io.KnownBytes.{Appends, IsAtEnd};
+ghost use Rattle.std.specs.List.{concat};
+ghost use Rattle.rr_base.specs.Counted.{inner_of, failures_of, HasRisen};
+ghost use Rattle.rr_base.specs.Stream.{AppendsPrefix};
+ghost use Rattle.rr_gossip.specs.declared.frame.TheConstants.{MAX_FRAMES};
+ghost use Rattle.rr_gossip.specs.Puller.{first_puller};
+ghost use Rattle.rr_gossip.specs.Session.{CannotSend, HasFailedToPull, HasPulled, HasStoppedPulling, sent_by};
+ghost use Rattle.rr_gossip.specs.Transcript.{waiting};
+
+use crate::fault::GossipFault;
+use crate::frame::MAX_FRAMES;
+use crate::puller::Puller;
+use crate::stream::{content, read_frame};
+use rr_base::Counted;
+use rr_base::stream::{flush, write_all};
+use rr_delta::Target;
+use std::alloc::Global;
+use std::io::{Read, Write};
+
+/// Writes the frames of a puller, each before the next is made, and passes them on.
+fn send_names<T: Target, W: Write>(
+    alloc: Global,
+    puller: &mut Puller,
+    output: &mut Counted<W>,
+    target: &T,
+) -> Result<(), GossipFault>
+    requires { puller.old ≡ first_puller puller.old.limit }
+    ensures sent { OnOk result (Appends (W.contents (inner_of output.old))
+        (W.contents (inner_of output.new))
+        (concat (sent_by (T.layout target.now) (T.cells target.now)))) }
+    ensures front { AppendsPrefix (W.contents (inner_of output.old))
+        (W.contents (inner_of output.new))
+        (concat (sent_by (T.layout target.now) (T.cells target.now))) }
+    ensures waits { OnOk result (puller.new
+        ≡ waiting (length (sent_by (T.layout target.now) (T.cells target.now))) 0 puller.old.limit) }
+    ensures refused { IfErr result (CannotSend puller.old.limit
+        (sent_by (T.layout target.now) (T.cells target.now))) }
+    ensures count { failures_of output.old ≤ failures_of output.new }
+    ensures failed { result ≡ Err GossipFault.WriteFailed
+        → HasRisen (failures_of output.old) (failures_of output.new) }
+{
+    while let Some(frame) = puller.next_frame(alloc, target)? {
+        write_all(output, &frame)?;
+    }
+    flush(output)?;
+    Ok(())
+}
+
+/// Takes the frames of the other side to its last one, and joins each page as it comes. One frame is in
+/// memory at a time.
+fn take_pages<T: Target, R: Read>(
+    alloc: Global,
+    puller: &mut Puller,
+    input: &mut Counted<R>,
+    target: &mut T,
+) -> Result<(), GossipFault>
+    ensures pulled { OnOk result (HasPulled (T.layout target.old) puller.old
+        (T.cells target.old) (T.cells target.new)
+        (R.remaining (inner_of input.old)) (R.remaining (inner_of input.new))) }
+    ensures stopped { IfErr result (HasStoppedPulling (T.layout target.old) puller.old
+        (T.cells target.old) (T.cells target.new)
+        (R.remaining (inner_of input.old)) (R.remaining (inner_of input.new))) }
+    ensures schema { T.layout target.new ≡ T.layout target.old }
+    ensures ended { result ≡ Err GossipFault.Ended → IsAtEnd (R.remaining (inner_of input.new)) }
+    ensures count { failures_of input.old ≤ failures_of input.new }
+    ensures failed { result ≡ Err GossipFault.ReadFailed
+        → HasRisen (failures_of input.old) (failures_of input.new) }
+{
+    let mut frame = Vec::new(alloc);
+    loop {
+        read_frame(input, &mut frame)?;
+        if puller.take(alloc, content(&frame), target)? {
+            return Ok(());
+        }
+        frame.clear();
+    }
+}
+
+/// Pulls cells from the other side of a stream: sends the schema of a target and the names and versions
+/// of all its cells, and joins the cells that the other side answers, page by page.
+///
+/// Names are asked of the target 256 at a time, and each frame is written before the next is made; of
+/// the answer one frame is in memory at a time. No byte after the end of the pages is read.
+///
+/// Refused as `WriteFailed`; as `ReadFailed`; as `Ended` where the input ends before the end of the
+/// pages; by a frame as [`Puller::take`] refuses it, and as `FrameTooLong` on its length alone, before
+/// more is read; as `TooManyFrames` where a frame would be one above 16,777,216, either way; and as
+/// `Memory`. The pages before the refused frame are then joined, and where memory ran out perhaps some
+/// cells of its page, from the first on. A front of the frames is written wherever the call ends.
+///
+/// The cost is that of `Target::names_after` and `Target::join_cell`, and linear in the bytes.
+pub fn pull<T: Target, R: Read, W: Write>(
+    alloc: Global,
+    input: &mut Counted<R>,
+    output: &mut Counted<W>,
+    target: &mut T,
+) -> Result<(), GossipFault>
+    // What is sent.
+    ensures sent { OnOk result (Appends (W.contents (inner_of output.old))
+        (W.contents (inner_of output.new))
+        (concat (sent_by (T.layout target.old) (T.cells target.old)))) }
+    ensures front { AppendsPrefix (W.contents (inner_of output.old))
+        (W.contents (inner_of output.new))
+        (concat (sent_by (T.layout target.old) (T.cells target.old))) }
+
+    // What is read and joined.
+    ensures pulled { OnOk result (HasPulled (T.layout target.old)
+        (waiting (length (sent_by (T.layout target.old) (T.cells target.old))) 0 MAX_FRAMES)
+        (T.cells target.old) (T.cells target.new)
+        (R.remaining (inner_of input.old)) (R.remaining (inner_of input.new))) }
+    ensures stopped { IfErr result (HasFailedToPull MAX_FRAMES (T.layout target.old)
+        (T.cells target.old) (T.cells target.new)
+        (R.remaining (inner_of input.old)) (R.remaining (inner_of input.new))
+        (W.contents (inner_of output.old)) (W.contents (inner_of output.new))) }
+    ensures schema { T.layout target.new ≡ T.layout target.old }
+
+    // When a stream is to blame.
+    ensures ended { result ≡ Err GossipFault.Ended → IsAtEnd (R.remaining (inner_of input.new)) }
+    ensures read_failed { result ≡ Err GossipFault.ReadFailed
+        → HasRisen (failures_of input.old) (failures_of input.new) }
+    ensures write_failed { result ≡ Err GossipFault.WriteFailed
+        → HasRisen (failures_of output.old) (failures_of output.new) }
+    ensures read_count { failures_of input.old ≤ failures_of input.new }
+    ensures write_count { failures_of output.old ≤ failures_of output.new }
+{
+    pull_within(alloc, input, output, target, MAX_FRAMES)
+}
+
+/// Pulls as [`pull`] does, in a session of at most `frames` frames each way.
+pub fn pull_within<T: Target, R: Read, W: Write>(
+    alloc: Global,
+    input: &mut Counted<R>,
+    output: &mut Counted<W>,
+    target: &mut T,
+    frames: u32,
+) -> Result<(), GossipFault>
+    requires { frames ≤ MAX_FRAMES }
+    // What is sent.
+    ensures sent { OnOk result (Appends (W.contents (inner_of output.old))
+        (W.contents (inner_of output.new))
+        (concat (sent_by (T.layout target.old) (T.cells target.old)))) }
+    ensures front { AppendsPrefix (W.contents (inner_of output.old))
+        (W.contents (inner_of output.new))
+        (concat (sent_by (T.layout target.old) (T.cells target.old))) }
+
+    // What is read and joined.
+    ensures pulled { OnOk result (HasPulled (T.layout target.old)
+        (waiting (length (sent_by (T.layout target.old) (T.cells target.old))) 0 frames)
+        (T.cells target.old) (T.cells target.new)
+        (R.remaining (inner_of input.old)) (R.remaining (inner_of input.new))) }
+    ensures stopped { IfErr result (HasFailedToPull frames (T.layout target.old)
+        (T.cells target.old) (T.cells target.new)
+        (R.remaining (inner_of input.old)) (R.remaining (inner_of input.new))
+        (W.contents (inner_of output.old)) (W.contents (inner_of output.new))) }
+    ensures schema { T.layout target.new ≡ T.layout target.old }
+
+    // When a stream is to blame.
+    ensures ended { result ≡ Err GossipFault.Ended → IsAtEnd (R.remaining (inner_of input.new)) }
+    ensures read_failed { result ≡ Err GossipFault.ReadFailed
+        → HasRisen (failures_of input.old) (failures_of input.new) }
+    ensures write_failed { result ≡ Err GossipFault.WriteFailed
+        → HasRisen (failures_of output.old) (failures_of output.new) }
+    ensures read_count { failures_of input.old ≤ failures_of input.new }
+    ensures write_count { failures_of output.old ≤ failures_of output.new }
+{
+    let mut puller = Puller::with_limit(frames);
+    send_names(alloc, &mut puller, output, target)?;
+    take_pages(alloc, &mut puller, input, target)
+}

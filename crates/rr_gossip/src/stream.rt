@@ -1,0 +1,102 @@
+//! Frames from a reader.
+ghost use Rattle.std.specs.Prelude.{◌≡◌, ◌⊎◌, ◌<◌, ◌≤◌, Ok, Err, IfErr, OnOk, List, ℕ, [], drop, length};
+ghost use Rattle.std.specs.Int.{w32};
+ghost use Rattle.std.specs.Io.KnownBytes.{IsAtEnd};
+ghost use Rattle.rr_base.specs.Counted.{inner_of, failures_of, HasRisen};
+ghost use Rattle.rr_page.specs.Reading.{number_at};
+ghost use Rattle.rr_gossip.specs.Stream.{BreaksOff, Grows, IsFrame};
+
+use crate::fault::GossipFault;
+use crate::frame::MAX_FRAME_LEN;
+use rr_base::Counted;
+use rr_base::stream::read_some;
+use rr_page::fields::u32_at;
+use std::io::Read;
+
+/// How many bytes the length of a frame has.
+const LENGTH_LEN: usize = 4;
+
+/// How many bytes a read asks for.
+const PIECE: usize = 4_096;
+
+/// Reads until there are `len` bytes. Memory is taken for those that have come, and not for those that
+/// are to come.
+fn read_until<R: Read>(
+    input: &mut Counted<R>,
+    bytes: &mut Vec<u8>,
+    len: usize,
+) -> Result<(), GossipFault>
+    requires { length bytes.old.items ≤ len }
+    ensures read { OnOk result (Grows (R.remaining (inner_of input.old))
+        (R.remaining (inner_of input.new)) bytes.old.items bytes.new.items) }
+    ensures whole { OnOk result (length bytes.new.items ≡ len) }
+    ensures stopped { IfErr result (λ fault. (read : List ℕ)
+        × Grows (R.remaining (inner_of input.old)) (R.remaining (inner_of input.new)) bytes.old.items read
+        × (length read ≤ len)
+        × ((fault ≡ GossipFault.Memory) ⊎ (((fault ≡ GossipFault.ReadFailed) ⊎ (fault ≡ GossipFault.Ended)) × (length read < len)))) }
+    ensures ended { result ≡ Err GossipFault.Ended → IsAtEnd (R.remaining (inner_of input.new)) }
+    ensures count { failures_of input.old ≤ failures_of input.new }
+    ensures failed { result ≡ Err GossipFault.ReadFailed
+        → HasRisen (failures_of input.old) (failures_of input.new) }
+{
+    let mut piece = [0u8; PIECE];
+    while bytes.len() < len {
+        let most = PIECE.min(len - bytes.len());
+        let given = read_some(input, &mut piece[..most])?;
+        if given == 0 {
+            return Err(GossipFault::Ended);
+        }
+        bytes.extend_from_slice(&piece[..given])?;
+    }
+    Ok(())
+}
+
+/// How many bytes follow the length of a frame.
+fn content_len(frame: &[u8]) -> usize
+    requires { length frame.now ≡ LENGTH_LEN }
+    ensures { number_at w32 frame.now ≡ Ok (result, []) }
+{
+    match u32_at(frame) {
+        Ok((len, _)) => len as usize,
+        Err(_) => 0,
+    }
+}
+
+/// Reads the next frame whole, by its length alone, after the bytes of the length that are there: no
+/// byte after it is taken.
+///
+/// Refused as `ReadFailed`; as `Ended` where the input ends inside the frame; as `FrameTooLong` where
+/// the length is above 300,000, and then nothing after it is read; and as `Memory`. Memory is taken for
+/// the bytes that have come.
+pub(crate) fn read_frame<R: Read>(
+    input: &mut Counted<R>,
+    frame: &mut Vec<u8>,
+) -> Result<(), GossipFault>
+    requires { length frame.old.items ≤ LENGTH_LEN }
+    ensures read { OnOk result (Grows (R.remaining (inner_of input.old))
+        (R.remaining (inner_of input.new)) frame.old.items frame.new.items) }
+    ensures whole { OnOk result (IsFrame frame.new.items) }
+    ensures long { OnOk result (LENGTH_LEN ≤ length frame.new.items) }
+    ensures stopped { IfErr result (λ fault. (read : List ℕ)
+        × Grows (R.remaining (inner_of input.old)) (R.remaining (inner_of input.new)) frame.old.items read
+        × BreaksOff read fault) }
+    ensures ended { result ≡ Err GossipFault.Ended → IsAtEnd (R.remaining (inner_of input.new)) }
+    ensures count { failures_of input.old ≤ failures_of input.new }
+    ensures failed { result ≡ Err GossipFault.ReadFailed
+        → HasRisen (failures_of input.old) (failures_of input.new) }
+{
+    read_until(input, frame, LENGTH_LEN)?;
+    let len = content_len(frame);
+    if len > MAX_FRAME_LEN {
+        return Err(GossipFault::FrameTooLong);
+    }
+    read_until(input, frame, LENGTH_LEN + len)
+}
+
+/// What follows the length of a frame.
+pub(crate) fn content(frame: &[u8]) -> &[u8]
+    requires { LENGTH_LEN ≤ length frame.now }
+    ensures { result.now ≡ drop LENGTH_LEN frame.now }
+{
+    &frame[LENGTH_LEN..]
+}
