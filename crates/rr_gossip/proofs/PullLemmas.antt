@@ -8,7 +8,7 @@ use Rattle.std.proofs.lemmas.List.Elements.{All-from_recursion, recursion_from_A
 use Rattle.rr_base.specs.Results.{◌>>=◌, unless}
 use Rattle.rr_base.specs.Schema.{Layout}
 use Rattle.rr_delta.specs.Difference.{IsSummary, newer_cells}
-use Rattle.rr_delta.specs.Names.{IsNameOf, versions_of}
+use Rattle.rr_delta.specs.Names.{IsNameOf, NamedVersion, versions_of}
 use Rattle.rr_delta.proofs.DifferenceLemmas.{newer_held, newer_sorted}
 use Rattle.rr_delta.proofs.HeldLemmas.{named_all}
 use Rattle.rr_delta.proofs.LawLemmas.{difference_brings_the_join}
@@ -36,8 +36,10 @@ use Rattle.rr_gossip.specs.Puller.{puller_takes}
 use Rattle.rr_gossip.specs.Session.{GivesAnswer, HasPulled, PullsBringTheJoin, PullsJoin, is_giving, replied_by, sent_by}
 use Rattle.rr_gossip.specs.Stream.{IsFrame, WasRead}
 use Rattle.rr_gossip.specs.Transcript.{contents, giver_after, puller_after, reply, sent, waiting}
+use Rattle.rr_gossip.proofs.GivingLemmas as giver
 use Rattle.rr_gossip.proofs.JoinedLemmas.{pullers_take}
 use Rattle.rr_gossip.proofs.OnceLemmas.{GoesOn, cut_once, reply_are, sent_are}
+use Rattle.rr_gossip.proofs.StepLemmas as step
 use Rattle.rr_gossip.proofs.StepLemmas.{bind_ok, ok_is, unless_ok}
 use Rattle.rr_gossip.proofs.TakenLemmas.{givers_take}
 
@@ -160,6 +162,10 @@ left_behind all left frames gs more r same is =
 
 -- ---- the laws
 
+answer_text : (s : Layout) (names : List NamedVersion) (m : Cells) → concat (replied_by s names m) ≡ concat (reply s (newer_cells names (entries m)))
+unfolding replied_by
+answer_text s names m = refl
+
 cells_given : Stage → List NamedCell
 cells_given stage.Opening = []
 cells_given (stage.Listing names) = []
@@ -169,28 +175,32 @@ cells_given stage.Failed = []
 
 pub gives_answer : GivesAnswer
 unfolding replied_by cells_given
-gives_answer s m names limit answer more left is all ascend room given =
+gives_answer s m names limit answer more left is all ascend given =
     let heard = given.heard in
     let frames = sent s names in
+    let n = limit + length frames in
     let r = read_of (concat frames ++ more) left heard.frames heard.read in
-    let expected : giver_after m s (first_giver limit) (contents frames) ≡ Ok (record { stage = stage.Giving (s, newer_cells names (entries m)); sent = 0; taken = length frames; limit = limit }) = givers_take s m names limit is all ascend room in
-    let once = giver_once m s (first_giver limit) given.last (record { stage = stage.Giving (s, newer_cells names (entries m)); sent = 0; taken = length frames; limit = limit }) heard.frames frames heard.taken (ap is_giving heard.giving) expected refl
+    let expected : giver_after m s (first_giver n) (contents frames) ≡ Ok (record { stage = stage.Giving (s, newer_cells names (entries m)); sent = 0; taken = length frames; limit = n }) = givers_take s m names n is all ascend (omega arith) in
+    let once = giver_once m s (first_giver n) (giver.raised n given.last) (record { stage = stage.Giving (s, newer_cells names (entries m)); sent = 0; taken = length frames; limit = n }) heard.frames frames
+    (giver.after_raised n m s (first_giver limit) given.last (contents heard.frames) (omega arith) heard.taken) (ap is_giving heard.giving) expected refl
     (cut_once heard.frames frames r.rest more (recursion_from_All IsFrame heard.frames heard.read.each) (sent_are s is names all) (sym r.parts)) in
     let same : newer_cells heard.names (entries m) ≡ newer_cells names (entries m) = ap cells_given (sym heard.giving ∙ ap (λ (g : Giver). g.stage) once.1) in
     (given.replied ∙ ap (λ es. concat (reply s es)) same, left_behind (concat frames ++ more) left heard.frames frames more r once.0 refl)
 
 pub pulls_join : PullsJoin
-pulls_join s m after es n limit more left is fits room pulled =
+pulls_join s m after es sent_before limit more left is fits pulled =
     let frames = reply s es in
+    let n = limit + length frames in
     let r = read_of (concat frames ++ more) left pulled.frames pulled.read in
-    let expected = pullers_take s m es n 0 limit is fits (omega (arith, room)) in
-    let once = puller_once s (waiting n 0 limit) m (pulled.last, after) (record { stage = puller.Done; sent = n; taken = 0 + length frames; limit = limit }, join_cells s m es) pulled.frames frames pulled.taken pulled.done expected refl
+    let expected = pullers_take s m es sent_before 0 n is fits (omega arith) in
+    let once = puller_once s (waiting sent_before 0 n) m (step.raised n pulled.last, after) (record { stage = puller.Done; sent = sent_before; taken = 0 + length frames; limit = n }, join_cells s m es) pulled.frames frames
+    (step.after_raised n s (waiting sent_before 0 limit) m (pulled.last, after) (contents pulled.frames) (omega arith) pulled.taken) pulled.done expected refl
     (cut_once pulled.frames frames r.rest more (recursion_from_All IsFrame pulled.frames pulled.read.each) (reply_are s is es fits) (sym r.parts)) in
     (ap (λ (x : Puller × Cells). x.1) once.1, left_behind (concat frames ++ more) left pulled.frames frames more r once.0 refl)
 
 pub pulls_bring_the_join : PullsBringTheJoin
-unfolding sent_by replied_by
-pulls_bring_the_join s m given after limit limit_given answer more more_given left left_given is trimmed each each_given agree room room_back gave pulled =
+unfolding sent_by
+pulls_bring_the_join s m given after limit limit_given answer more more_given left left_given is trimmed each each_given agree gave pulled =
     let vs = versions_of m in
     let es = newer_cells vs (entries given) in
     let all : AllByRecursion (IsNameOf s) vs = named_all s (entries m) (recursion_from_All (IsCellOf s) (entries m) each) in
@@ -199,6 +209,7 @@ pulls_bring_the_join s m given after limit limit_given answer more more_given le
       cells = All-from_recursion (IsCellOf s) es (newer_held s vs (entries given) (recursion_from_All (IsCellOf s) (entries given) each_given));
       names_ascend = true_from_T (is_sorted cell_name_cmp es) (newer_sorted vs (entries given) (entries_sorted given));
     } in
-    let answered = gives_answer s given vs limit_given answer more_given left_given is (All-from_recursion (IsNameOf s) vs all) ascend room gave in
-    let joined = pulls_join s m after es (length (sent s vs)) limit more left is fits room_back (subst (λ (text : List ℕ). HasPulled s (waiting (length (sent s vs)) 0 limit) m after (Some (text ++ more)) left) answered.0 pulled) in
+    let answered = gives_answer s given vs limit_given answer more_given left_given is (All-from_recursion (IsNameOf s) vs all) ascend gave in
+    let text : answer ≡ concat (reply s es) = answered.0 ∙ answer_text s vs given in
+    let joined = pulls_join s m after es (length (sent s vs)) limit more left is fits (subst (λ (t : List ℕ). HasPulled s (waiting (length (sent s vs)) 0 limit) m after (Some (t ++ more)) left) text pulled) in
     joined.0 ∙ difference_brings_the_join s given m is trimmed agree

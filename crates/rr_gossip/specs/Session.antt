@@ -1,5 +1,5 @@
 -- What a side of a session over streams has done once its call returns.
-use Rattle.std.specs.Prelude.{◌≡◌, ◌⊎◌, ℕ, ◌<◌, ◌≤◌, Bool, true, false, List, [], ◌++◌, length, drop, Option, Some, Ok, All}
+use Rattle.std.specs.Prelude.{◌≡◌, ◌⊎◌, ℕ, ◌<◌, Bool, true, false, List, [], ◌++◌, length, drop, Option, Some, Ok, All}
 use Rattle.std.specs.FinMap.{entries}
 use Rattle.std.specs.Io.KnownBytes.{Appends}
 use Rattle.std.specs.List.{concat}
@@ -131,7 +131,7 @@ HasFailedToGive limit s m before had left wrote written fault =
 abbrev pub GivesAnswer : Type 0
 GivesAnswer =
     (s : Layout) (m : Cells) (names : List NamedVersion) (limit : ℕ) (answer more : List ℕ) (left : Option (List ℕ))
-    → IsLayout s → All (IsNameOf s) names → IsSummary names → length (sent s names) ≤ limit
+    → IsLayout s → All (IsNameOf s) names → IsSummary names
     → HasGiven limit s m [] (Some (concat (sent s names) ++ more)) left (Some []) (Some answer)
     → (answer ≡ concat (replied_by s names m)) × (left ≡ Some more)
 
@@ -140,7 +140,7 @@ GivesAnswer =
 abbrev pub PullsJoin : Type 0
 PullsJoin =
     (s : Layout) (m after : Cells) (es : List NamedCell) (n limit : ℕ) (more : List ℕ) (left : Option (List ℕ))
-    → IsLayout s → AreLeft (s, es) → length (reply s es) ≤ limit
+    → IsLayout s → AreLeft (s, es)
     → HasPulled s (waiting n 0 limit) m after (Some (concat (reply s es) ++ more)) left
     → (after ≡ join_cells s m es) × (left ≡ Some more)
 
@@ -150,7 +150,6 @@ abbrev pub PullsBringTheJoin : Type 0
 PullsBringTheJoin =
     (s : Layout) (m given after : Cells) (limit limit_given : ℕ) (answer more more_given : List ℕ) (left left_given : Option (List ℕ))
     → IsLayout s → IsTrimmed s m → All (IsCellOf s) (entries m) → All (IsCellOf s) (entries given) → AgreeAtVersions given m
-    → length (sent_by s m) ≤ limit_given → length (replied_by s (versions_of m) given) ≤ limit
     → HasGiven limit_given s given [] (Some (concat (sent_by s m) ++ more_given)) left_given (Some []) (Some answer)
     → HasPulled s (waiting (length (sent_by s m)) 0 limit) m after (Some (answer ++ more)) left
     → after ≡ join s m given

@@ -45,20 +45,19 @@ pub fn sessions_bring_the_join()
 {}
 
 /// A `give` that heard what a side sends for some names and versions wrote the pages of the difference
-/// against them, and left unread what is behind, where the session may have as many frames.
+/// against them, and left unread what is behind.
 pub fn gives_answer()
     ensures { GivesAnswer }
 {}
 
 /// A `pull` that read what a side replies of some cells joined them, in order, and left unread what is
-/// behind, where the session may have as many frames.
+/// behind.
 pub fn pulls_join()
     ensures { PullsJoin }
 {}
 
 /// Where a `give` heard what a `pull` sent, and that `pull` read its answer, the target has the join of
-/// the cells of both sides, where equal versions of one cell mean equal contents, and the sessions may
-/// have as many frames.
+/// the cells of both sides, where equal versions of one cell mean equal contents.
 pub fn pulls_bring_the_join()
     ensures { PullsBringTheJoin }
 {}
