@@ -1,10 +1,10 @@
 -- The side that gives, over streams: the frames that it takes, and those that it sends.
-use Rattle.std.proofs.Common.{◌≡◌, ◌⊎◌, inl, inr, ℕ, ◌+◌, ◌<◌, Bool, true, false, not, List, [], ◌∷◌, ◌++◌, length, map, take, drop, Option, None, Some, Result, Ok, Err, refl, sym, ap, subst, ◌∙◌, append_assoc, arith}
+use Rattle.std.proofs.Common.{◌≡◌, ◌⊎◌, inl, inr, ℕ, ◌+◌, ◌<◌, ◌≤◌, Bool, true, false, not, List, [], ◌∷◌, ◌++◌, length, map, take, drop, Option, None, Some, Result, Ok, Err, refl, sym, ap, subst, ◌∙◌, append_assoc, arith}
 use Rattle.std.specs.Prelude.{nat_le, ◌&&◌, ◌==◌, is_some, OnOk, IfErr}
 use Rattle.std.specs.FinMap.{entries}
 use Rattle.std.specs.Io.KnownBytes.{Appends}
 use Rattle.std.specs.List.{concat}
-use Rattle.std.proofs.lemmas.Bool.{leb-false, leb-true}
+use Rattle.std.proofs.lemmas.Bool.{leb-false, leb-true, lt-leb}
 use Rattle.std.proofs.lemmas.List.{append-nil, length-append, length-drop}
 use Rattle.rr_base.specs.Results.{◌>>=◌, unless}
 use Rattle.rr_base.specs.Schema.{Layout}
@@ -116,9 +116,20 @@ rebuilt n s g content frame x read due room takes =
     ∙ ap (λ b. unless why.TooManyFrames b (body_taken n s g.stage frame.0 frame.1) >>= next_giver g) room
     ∙ ap (λ r. r >>= next_giver g) takes
 
-pub giver_moves : (m : Cells) (s : Layout) (g q : Giver) (content : List ℕ) (is_last : Bool) → giver_takes m s g content ≡ Ok (q, is_last) → GiverMoves m s g q content is_last
+-- the steps of a frame that is taken
+record GiverTakes (m : Cells) (s : Layout) (g q : Giver) (content : List ℕ) (is_last : Bool) : Type 0 where
+  frame : Kind × List ℕ
+  next : Stage × Bool
+  read : unless why.Failed (has_failed g.stage) (content_at content) ≡ Ok frame
+  due : not (is_due g.stage frame.0) ≡ false
+  room : nat_le g.limit g.taken ≡ false
+  takes : body_taken m s g.stage frame.0 frame.1 ≡ Ok next
+  giver : q ≡ record { stage = next.0; sent = g.sent; taken = g.taken + 1; limit = g.limit }
+  end : next.1 ≡ is_last
+
+giver_parts : (m : Cells) (s : Layout) (g q : Giver) (content : List ℕ) (is_last : Bool) → giver_takes m s g content ≡ Ok (q, is_last) → GiverTakes m s g q content is_last
 unfolding giver_takes
-giver_moves m s g q content is_last e =
+giver_parts m s g q content is_last e =
     let a = bind_ok (unless why.Failed (has_failed g.stage) (content_at content)) (after_content m s g) (q, is_last) e in
     let k = a.0.0 in
     let body = a.0.1 in
@@ -126,17 +137,50 @@ giver_moves m s g q content is_last e =
     let due = unless_ok why.UnexpectedFrame (not (is_due g.stage k)) (unless why.TooManyFrames (nat_le g.limit g.taken) (body_taken m s g.stage k body)) b.0 b.1 in
     let room = unless_ok why.TooManyFrames (nat_le g.limit g.taken) (body_taken m s g.stage k body) b.0 due.1 in
     let is = ok_is {E = GossipFault} (record { stage = b.0.0; sent = g.sent; taken = g.taken + 1; limit = g.limit }, b.0.1) (q, is_last) b.2 in
-    let moves = body_moves m s g.stage k body b.0 room.1 in
-    let at : q ≡ record { stage = b.0.0; sent = g.sent; taken = g.taken + 1; limit = g.limit } = ap (λ (y : Giver × Bool). y.0) (sym is) in
-    let same : b.0.1 ≡ is_last = ap (λ (y : Giver × Bool). y.1) is in
     record {
-      room = leb-false g.limit g.taken room.0;
-      taken = ap (λ (y : Giver). y.taken) at;
-      limit = ap (λ (y : Giver). y.limit) at;
-      sent = ap (λ (y : Giver). y.sent) at;
-      done = λ t. let d = moves.0 (same ∙ t) in (d.0, ap (λ (y : Giver). y.stage) at ∙ d.1);
-      going = λ f n. rebuilt n s g content a.0 b.0 a.1 due.0 room.0 (moves.1 (same ∙ f) n) ∙ b.2 ∙ ap (λ l. Ok (q, l)) f;
+      frame = a.0;
+      next = b.0;
+      read = a.1;
+      due = due.0;
+      room = room.0;
+      takes = room.1;
+      giver = ap (λ (y : Giver × Bool). y.0) (sym is);
+      end = ap (λ (y : Giver × Bool). y.1) is;
     }
+
+pub giver_moves : (m : Cells) (s : Layout) (g q : Giver) (content : List ℕ) (is_last : Bool) → giver_takes m s g content ≡ Ok (q, is_last) → GiverMoves m s g q content is_last
+giver_moves m s g q content is_last e =
+    let t = giver_parts m s g q content is_last e in
+    let moves = body_moves m s g.stage t.frame.0 t.frame.1 t.next t.takes in
+    record {
+      room = leb-false g.limit g.taken t.room;
+      taken = ap (λ (y : Giver). y.taken) t.giver;
+      limit = ap (λ (y : Giver). y.limit) t.giver;
+      sent = ap (λ (y : Giver). y.sent) t.giver;
+      done = λ l. let d = moves.0 (t.end ∙ l) in (d.0, ap (λ (y : Giver). y.stage) t.giver ∙ d.1);
+      going = λ l n. rebuilt n s g content t.frame t.next t.read t.due t.room (moves.1 (t.end ∙ l) n) ∙ (λ i. Ok (sym t.giver i, (t.end ∙ l) i));
+    }
+
+-- ---- with room for more frames
+
+abbrev pub raised : ℕ → Giver → Giver
+raised n g = record { stage = g.stage; sent = g.sent; taken = g.taken; limit = n }
+
+takes_raised : (n : ℕ) (m : Cells) (s : Layout) (g q : Giver) (content : List ℕ) (is_last : Bool) → g.limit ≤ n → giver_takes m s g content ≡ Ok (q, is_last) → giver_takes m s (raised n g) content ≡ Ok (raised n q, is_last)
+takes_raised n m s g q content is_last more e =
+    let t = giver_parts m s g q content is_last e in
+    let room = leb-false g.limit g.taken t.room in
+    rebuilt m s (raised n g) content t.frame t.next t.read t.due (lt-leb n g.taken (omega (arith, room, more))) t.takes
+    ∙ (λ i. Ok (raised n (sym t.giver i), t.end i))
+
+pub after_raised : (n : ℕ) (m : Cells) (s : Layout) (g q : Giver) (cs : List (List ℕ)) → g.limit ≤ n → giver_after m s g cs ≡ Ok q → giver_after m s (raised n g) cs ≡ Ok (raised n q)
+unfolding giver_after
+after_raised n m s g q [] more e = ap (λ x. Ok (raised n x)) (ok_is {E = GossipFault} g q e)
+after_raised n m s g q (c ∷ cs) more e =
+    let one = bind_ok (giver_takes m s g c) (λ (next : Giver × Bool). giver_after m s next.0 cs) q e in
+    let same = (giver_moves m s g one.0.0 c one.0.1 one.1).limit in
+    ap (λ x. x >>= λ (next : Giver × Bool). giver_after m s next.0 cs) (takes_raised n m s g one.0.0 c one.0.1 more one.1)
+    ∙ after_raised n m s one.0.0 q cs (omega (arith, same, more)) one.2
 
 -- ---- frames in a row
 

@@ -15,3 +15,5 @@ pub mod StepLemmas
 pub mod ReadLemmas
 pub mod SendLemmas
 pub mod GivingLemmas
+pub mod OnceLemmas
+pub mod PullLemmas

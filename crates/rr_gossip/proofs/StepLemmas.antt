@@ -1,13 +1,15 @@
 -- What one frame does to a side of a session: the faults that it can have, and the count of frames.
-use Rattle.std.proofs.Common.{◌≡◌, ℕ, ◌+◌, ◌<◌, Bool, true, false, not, List, [], ◌∷◌, length, Option, None, Some, Result, Ok, Err, refl, sym, ap, ◌∙◌}
+use Rattle.std.proofs.Common.{◌≡◌, ℕ, ◌+◌, ◌<◌, ◌≤◌, arith, Bool, true, false, not, List, [], ◌∷◌, length, Option, None, Some, Result, Ok, Err, refl, sym, ap, ◌∙◌}
 use Rattle.std.specs.Prelude.{nat_le, ◌==◌}
-use Rattle.std.proofs.lemmas.Bool.{leb-false}
+use Rattle.std.proofs.lemmas.Bool.{leb-false, lt-leb}
 use Rattle.rr_base.specs.Results.{◌>>=◌, unless}
 use Rattle.rr_base.specs.Schema.{Layout}
 use Rattle.rr_page.specs.declared.fault.PageFault.{PageFault}
 use Rattle.rr_page.specs.declared.fault.PageFault.TheVariants as page
 use Rattle.rr_page.specs.PageReading.{page_at}
 use Rattle.rr_replica.specs.CellBounds.{NamedCell}
+use Rattle.rr_replica.specs.Cells.{Cells}
+use Rattle.rr_replica.specs.Joins.{join_cells}
 use Rattle.rr_gossip.specs.declared.fault.GossipFault.{GossipFault}
 use Rattle.rr_gossip.specs.declared.fault.GossipFault.TheVariants.{ReadFailed, Ended, FrameTooLong, BadFrame, UnexpectedFrame, TooManyFrames, SchemaDiffers, WriteFailed, Memory, Failed}
 use Rattle.rr_gossip.specs.declared.frame.Kind.{Kind}
@@ -16,6 +18,7 @@ use Rattle.rr_gossip.specs.declared.puller.Puller.{Puller}
 use Rattle.rr_gossip.specs.declared.puller.Stage.TheVariants.{Waiting, Done}
 use Rattle.rr_gossip.specs.Fault.{as_body}
 use Rattle.rr_gossip.specs.Frame.{kind_at, known_kind, kind_of, content_at}
+use Rattle.rr_gossip.specs.Transcript.{puller_after}
 use Rattle.rr_gossip.specs.Puller.{Taken, has_failed, is_due, page_taken, end_taken, body_taken, puller_takes}
 
 -- ---- steps that may fail
@@ -166,24 +169,85 @@ stage_moves s kind.PageEnd body x e =
     let is = end_moves body x e in
     (λ t. (ap (λ (y : Taken). y.0.0) is, ap (λ (y : Taken). y.0.1) is), λ f. true_false x.1 (ap (λ (y : Taken). y.1) is) f)
 
-pub puller_moves : (s : Layout) (p q : Puller) (content : List ℕ) (es : List NamedCell) (last : Bool) → puller_takes s p content ≡ Ok ((q, es), last) → PullerMoves p q es last
+abbrev next_puller : Puller → Taken → Result ((Puller × List NamedCell) × Bool) GossipFault
+next_puller p next = Ok ((record { stage = next.0.0; sent = p.sent; taken = p.taken + 1; limit = p.limit }, next.0.1), next.1)
+
+abbrev after_content : Layout → Puller → Kind × List ℕ → Result ((Puller × List NamedCell) × Bool) GossipFault
+after_content s p frame = unless UnexpectedFrame (not (is_due p.stage frame.0)) (unless TooManyFrames (nat_le p.limit p.taken) (body_taken s frame.0 frame.1)) >>= next_puller p
+
+-- the steps of a frame that is taken
+record PullerTakes (s : Layout) (p q : Puller) (content : List ℕ) (es : List NamedCell) (last : Bool) : Type 0 where
+  frame : Kind × List ℕ
+  next : Taken
+  read : unless Failed (has_failed p.stage) (content_at content) ≡ Ok frame
+  due : not (is_due p.stage frame.0) ≡ false
+  room : nat_le p.limit p.taken ≡ false
+  takes : body_taken s frame.0 frame.1 ≡ Ok next
+  puller : q ≡ record { stage = next.0.0; sent = p.sent; taken = p.taken + 1; limit = p.limit }
+  cells : next.0.1 ≡ es
+  end : next.1 ≡ last
+
+puller_parts : (s : Layout) (p q : Puller) (content : List ℕ) (es : List NamedCell) (last : Bool) → puller_takes s p content ≡ Ok ((q, es), last) → PullerTakes s p q content es last
 unfolding puller_takes
-puller_moves s p q content es last e =
-    let a = bind_ok (unless Failed (has_failed p.stage) (content_at content)) (λ (frame : Kind × List ℕ). unless UnexpectedFrame (not (is_due p.stage frame.0)) (unless TooManyFrames (nat_le p.limit p.taken) (body_taken s frame.0 frame.1)) >>= λ (next : Taken). Ok ((record { stage = next.0.0; sent = p.sent; taken = p.taken + 1; limit = p.limit }, next.0.1), next.1)) ((q, es), last) e in
+puller_parts s p q content es last e =
+    let a = bind_ok (unless Failed (has_failed p.stage) (content_at content)) (after_content s p) ((q, es), last) e in
     let k = a.0.0 in
     let body = a.0.1 in
-    let b = bind_ok (unless UnexpectedFrame (not (is_due p.stage k)) (unless TooManyFrames (nat_le p.limit p.taken) (body_taken s k body))) (λ (next : Taken). Ok ((record { stage = next.0.0; sent = p.sent; taken = p.taken + 1; limit = p.limit }, next.0.1), next.1)) ((q, es), last) a.2 in
+    let b = bind_ok (unless UnexpectedFrame (not (is_due p.stage k)) (unless TooManyFrames (nat_le p.limit p.taken) (body_taken s k body))) (next_puller p) ((q, es), last) a.2 in
     let due = unless_ok UnexpectedFrame (not (is_due p.stage k)) (unless TooManyFrames (nat_le p.limit p.taken) (body_taken s k body)) b.0 b.1 in
     let room = unless_ok TooManyFrames (nat_le p.limit p.taken) (body_taken s k body) b.0 due.1 in
     let is = ok_is {E = GossipFault} ((record { stage = b.0.0.0; sent = p.sent; taken = p.taken + 1; limit = p.limit }, b.0.0.1), b.0.1) ((q, es), last) b.2 in
-    let stage = stage_moves s k body b.0 room.1 in
-    let at : q ≡ record { stage = b.0.0.0; sent = p.sent; taken = p.taken + 1; limit = p.limit } = ap (λ (y : (Puller × List NamedCell) × Bool). y.0.0) (sym is) in
-    let last_is : b.0.1 ≡ last = ap (λ (y : (Puller × List NamedCell) × Bool). y.1) is in
     record {
-      room = leb-false p.limit p.taken room.0;
-      taken = ap (λ (y : Puller). y.taken) at;
-      limit = ap (λ (y : Puller). y.limit) at;
-      sent = ap (λ (y : Puller). y.sent) at;
-      done = λ t. let d = stage.0 (last_is ∙ t) in (ap (λ (y : Puller). y.stage) at ∙ d.0, ap (λ (y : (Puller × List NamedCell) × Bool). y.0.1) (sym is) ∙ d.1);
-      going = λ f. ap (λ (y : Puller). y.stage) at ∙ stage.1 (last_is ∙ f);
+      frame = a.0;
+      next = b.0;
+      read = a.1;
+      due = due.0;
+      room = room.0;
+      takes = room.1;
+      puller = ap (λ (y : (Puller × List NamedCell) × Bool). y.0.0) (sym is);
+      cells = ap (λ (y : (Puller × List NamedCell) × Bool). y.0.1) is;
+      end = ap (λ (y : (Puller × List NamedCell) × Bool). y.1) is;
     }
+
+pub puller_moves : (s : Layout) (p q : Puller) (content : List ℕ) (es : List NamedCell) (last : Bool) → puller_takes s p content ≡ Ok ((q, es), last) → PullerMoves p q es last
+puller_moves s p q content es last e =
+    let t = puller_parts s p q content es last e in
+    let stage = stage_moves s t.frame.0 t.frame.1 t.next t.takes in
+    record {
+      room = leb-false p.limit p.taken t.room;
+      taken = ap (λ (y : Puller). y.taken) t.puller;
+      limit = ap (λ (y : Puller). y.limit) t.puller;
+      sent = ap (λ (y : Puller). y.sent) t.puller;
+      done = λ l. let d = stage.0 (t.end ∙ l) in (ap (λ (y : Puller). y.stage) t.puller ∙ d.0, sym t.cells ∙ d.1);
+      going = λ l. ap (λ (y : Puller). y.stage) t.puller ∙ stage.1 (t.end ∙ l);
+    }
+
+-- ---- with room for more frames
+
+abbrev pub raised : ℕ → Puller → Puller
+raised n p = record { stage = p.stage; sent = p.sent; taken = p.taken; limit = n }
+
+rebuilt : (s : Layout) (p : Puller) (content : List ℕ) (frame : Kind × List ℕ) (x : Taken) → unless Failed (has_failed p.stage) (content_at content) ≡ Ok frame → not (is_due p.stage frame.0) ≡ false → nat_le p.limit p.taken ≡ false
+    → body_taken s frame.0 frame.1 ≡ Ok x → puller_takes s p content ≡ next_puller p x
+unfolding puller_takes
+rebuilt s p content frame x read due room takes =
+    ap (λ r. r >>= after_content s p) read
+    ∙ ap (λ b. unless UnexpectedFrame b (unless TooManyFrames (nat_le p.limit p.taken) (body_taken s frame.0 frame.1)) >>= next_puller p) due
+    ∙ ap (λ b. unless TooManyFrames b (body_taken s frame.0 frame.1) >>= next_puller p) room
+    ∙ ap (λ r. r >>= next_puller p) takes
+
+takes_raised : (n : ℕ) (s : Layout) (p q : Puller) (content : List ℕ) (es : List NamedCell) (last : Bool) → p.limit ≤ n → puller_takes s p content ≡ Ok ((q, es), last) → puller_takes s (raised n p) content ≡ Ok ((raised n q, es), last)
+takes_raised n s p q content es last more e =
+    let t = puller_parts s p q content es last e in
+    let room = leb-false p.limit p.taken t.room in
+    rebuilt s (raised n p) content t.frame t.next t.read t.due (lt-leb n p.taken (omega (arith, room, more))) t.takes
+    ∙ (λ i. Ok ((raised n (sym t.puller i), t.cells i), t.end i))
+
+pub after_raised : (n : ℕ) (s : Layout) (p : Puller) (m : Cells) (x : Puller × Cells) (cs : List (List ℕ)) → p.limit ≤ n → puller_after s p m cs ≡ Ok x → puller_after s (raised n p) m cs ≡ Ok (raised n x.0, x.1)
+unfolding puller_after
+after_raised n s p m x [] more e = ap (λ (y : Puller × Cells). Ok (raised n y.0, y.1)) (ok_is {E = GossipFault} (p, m) x e)
+after_raised n s p m x (c ∷ cs) more e =
+    let one = bind_ok (puller_takes s p c) (λ (next : (Puller × List NamedCell) × Bool). puller_after s next.0.0 (join_cells s m next.0.1) cs) x e in
+    let same = (puller_moves s p one.0.0.0 c one.0.0.1 one.0.1 one.1).limit in
+    ap (λ y. y >>= λ (next : (Puller × List NamedCell) × Bool). puller_after s next.0.0 (join_cells s m next.0.1) cs) (takes_raised n s p one.0.0.0 c one.0.0.1 one.0.1 more one.1)
+    ∙ after_raised n s one.0.0.0 (join_cells s m one.0.0.1) x cs (omega (arith, same, more)) one.2

@@ -41,19 +41,19 @@ number_grown word more n four is =
 
 -- ---- frames
 
-drop_past : (n : ℕ) (xs : List ℕ) → length xs ≤ n → drop n xs ≡ []
+pub drop_past : (n : ℕ) (xs : List ℕ) → length xs ≤ n → drop n xs ≡ []
 drop_past n xs few = nil_from_length (drop n xs) (omega (arith, length-drop n xs))
 
-frame_short : (bytes : List ℕ) → length bytes < 4 → frame_at bytes ≡ (Err Ended, [])
+pub frame_short : (bytes : List ℕ) → length bytes < 4 → frame_at bytes ≡ (Err Ended, [])
 unfolding frame_at
 frame_short bytes few = ap content_from (number_short bytes few)
 
-frame_long : (bytes : List ℕ) (n : ℕ) (rest : List ℕ) → number_at w32 bytes ≡ Ok (n, rest) → MAX_FRAME_LEN < n → frame_at bytes ≡ (Err FrameTooLong, rest)
+pub frame_long : (bytes : List ℕ) (n : ℕ) (rest : List ℕ) → number_at w32 bytes ≡ Ok (n, rest) → MAX_FRAME_LEN < n → frame_at bytes ≡ (Err FrameTooLong, rest)
 unfolding frame_at
 frame_long bytes n rest is long =
     ap content_from is ∙ ap (λ b. if b then (Err FrameTooLong, rest) else if nat_lt (length rest) n then (Err Ended, []) else (Ok (take n rest), drop n rest)) (lt-ltb MAX_FRAME_LEN n long)
 
-frame_fits : (bytes : List ℕ) (n : ℕ) (rest : List ℕ) → number_at w32 bytes ≡ Ok (n, rest) → n ≤ MAX_FRAME_LEN → frame_at bytes ≡ (if nat_lt (length rest) n then (Err Ended, []) else (Ok (take n rest), drop n rest))
+pub frame_fits : (bytes : List ℕ) (n : ℕ) (rest : List ℕ) → number_at w32 bytes ≡ Ok (n, rest) → n ≤ MAX_FRAME_LEN → frame_at bytes ≡ (if nat_lt (length rest) n then (Err Ended, []) else (Ok (take n rest), drop n rest))
 unfolding frame_at
 frame_fits bytes n rest is fits =
     ap content_from is ∙ ap (λ b. if b then (Err FrameTooLong, rest) else if nat_lt (length rest) n then (Err Ended, []) else (Ok (take n rest), drop n rest)) (le-ltb MAX_FRAME_LEN n fits)

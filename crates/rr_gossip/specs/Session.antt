@@ -1,13 +1,16 @@
 -- What a side of a session over streams has done once its call returns.
-use Rattle.std.specs.Prelude.{◌≡◌, ◌⊎◌, ℕ, ◌<◌, Bool, true, false, List, [], length, drop, Option, Ok}
+use Rattle.std.specs.Prelude.{◌≡◌, ◌⊎◌, ℕ, ◌<◌, Bool, true, false, List, [], ◌++◌, length, drop, Option, Some, Ok, All}
 use Rattle.std.specs.FinMap.{entries}
 use Rattle.std.specs.Io.KnownBytes.{Appends}
 use Rattle.std.specs.List.{concat}
-use Rattle.rr_base.specs.Schema.{Layout}
+use Rattle.rr_base.specs.Schema.{Layout, IsLayout}
 use Rattle.rr_base.specs.Stream.{AppendsPrefix}
-use Rattle.rr_delta.specs.Difference.{newer_cells}
-use Rattle.rr_delta.specs.Names.{NamedVersion, versions_of}
-use Rattle.rr_replica.specs.Cells.{Cells}
+use Rattle.rr_delta.specs.Difference.{IsSummary, newer_cells}
+use Rattle.rr_delta.specs.Laws.{AgreeAtVersions}
+use Rattle.rr_delta.specs.Names.{NamedVersion, IsNameOf, versions_of}
+use Rattle.rr_replica.specs.CellBounds.{NamedCell, IsCellOf}
+use Rattle.rr_replica.specs.Cells.{Cells, IsTrimmed}
+use Rattle.rr_replica.specs.Joins.{join, join_cells}
 use Rattle.rr_gossip.specs.declared.fault.GossipFault.{GossipFault}
 use Rattle.rr_gossip.specs.declared.fault.GossipFault.TheVariants.{TooManyFrames, WriteFailed, Memory}
 use Rattle.rr_gossip.specs.declared.giver.Giver.{Giver}
@@ -16,6 +19,7 @@ use Rattle.rr_gossip.specs.declared.giver.Stage.TheVariants as stage
 use Rattle.rr_gossip.specs.declared.puller.Puller.{Puller}
 use Rattle.rr_gossip.specs.declared.puller.Stage.TheVariants as puller
 use Rattle.rr_gossip.specs.Giver.{first_giver, giver_takes}
+use Rattle.rr_gossip.specs.Pages.{AreLeft}
 use Rattle.rr_gossip.specs.Puller.{IsFrontJoined, puller_takes}
 use Rattle.rr_gossip.specs.Stream.{Stops, WasRead}
 use Rattle.rr_gossip.specs.Transcript.{contents, giver_after, puller_after, reply, sent, waiting}
@@ -119,3 +123,33 @@ abbrev pub HasFailedToGive : ℕ → Layout → Cells → List ℕ → Option (L
 HasFailedToGive limit s m before had left wrote written fault =
     (HasStoppedHearing s m (first_giver limit) before had left fault × (written ≡ wrote))
     ⊎ HasNotReplied limit s m before had left wrote written fault
+
+-- ---- laws
+
+-- a give that heard what a side sends for some names, and perhaps more behind it, wrote the answer to those names, and
+-- left what is behind
+abbrev pub GivesAnswer : Type 0
+GivesAnswer =
+    (s : Layout) (m : Cells) (names : List NamedVersion) (limit : ℕ) (answer more : List ℕ) (left : Option (List ℕ))
+    → IsLayout s → All (IsNameOf s) names → IsSummary names
+    → HasGiven limit s m [] (Some (concat (sent s names) ++ more)) left (Some []) (Some answer)
+    → (answer ≡ concat (replied_by s names m)) × (left ≡ Some more)
+
+-- a pull that read what a side replies of some cells, and perhaps more behind it, joined these cells, and left what is
+-- behind
+abbrev pub PullsJoin : Type 0
+PullsJoin =
+    (s : Layout) (m after : Cells) (es : List NamedCell) (n limit : ℕ) (more : List ℕ) (left : Option (List ℕ))
+    → IsLayout s → AreLeft (s, es)
+    → HasPulled s (waiting n 0 limit) m after (Some (concat (reply s es) ++ more)) left
+    → (after ≡ join_cells s m es) × (left ≡ Some more)
+
+-- where a give heard what a pull sent, and that pull read its answer, the target has the join of the cells of both
+-- sides, where equal versions of one cell mean equal contents
+abbrev pub PullsBringTheJoin : Type 0
+PullsBringTheJoin =
+    (s : Layout) (m given after : Cells) (limit limit_given : ℕ) (answer more more_given : List ℕ) (left left_given : Option (List ℕ))
+    → IsLayout s → IsTrimmed s m → All (IsCellOf s) (entries m) → All (IsCellOf s) (entries given) → AgreeAtVersions given m
+    → HasGiven limit_given s given [] (Some (concat (sent_by s m) ++ more_given)) left_given (Some []) (Some answer)
+    → HasPulled s (waiting (length (sent_by s m)) 0 limit) m after (Some (answer ++ more)) left
+    → after ≡ join s m given

@@ -1,5 +1,6 @@
 //! The laws of the bytes of frames, with no work to do: the functions have empty bodies.
 ghost use Rattle.rr_gossip.specs.Laws.{FramesAreTheirText, SummariesAreTheirText};
+ghost use Rattle.rr_gossip.specs.Session.{GivesAnswer, PullsBringTheJoin, PullsJoin};
 ghost use Rattle.rr_gossip.specs.Transcript.{GiversReply, GiversTake, PullersSend, PullersTake, SessionsBringTheJoin};
 
 /// A frame is read exactly where it is the text of a kind and a body, and not too long.
@@ -41,4 +42,22 @@ pub fn pullers_take()
 /// equal contents, and the session may have as many frames.
 pub fn sessions_bring_the_join()
     ensures { SessionsBringTheJoin }
+{}
+
+/// A `give` that heard what a side sends for some names and versions wrote the pages of the difference
+/// against them, and left unread what is behind.
+pub fn gives_answer()
+    ensures { GivesAnswer }
+{}
+
+/// A `pull` that read what a side replies of some cells joined them, in order, and left unread what is
+/// behind.
+pub fn pulls_join()
+    ensures { PullsJoin }
+{}
+
+/// Where a `give` heard what a `pull` sent, and that `pull` read its answer, the target has the join of
+/// the cells of both sides, where equal versions of one cell mean equal contents.
+pub fn pulls_bring_the_join()
+    ensures { PullsBringTheJoin }
 {}

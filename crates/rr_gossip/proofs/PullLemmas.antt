@@ -1,0 +1,215 @@
+-- A pull and the give that answers it.
+use Rattle.std.proofs.Common.{◌≡◌, inl, inr, ℕ, ◌+◌, Bool, true, false, not, List, [], ◌∷◌, ◌++◌, length, drop, Option, None, Some, Result, Ok, Err, refl, sym, ap, subst, ◌∙◌, arith, drop_at}
+use Rattle.std.specs.Prelude.{nat_le}
+use Rattle.std.specs.FinMap.{entries, entries_sorted, is_sorted}
+use Rattle.std.specs.List.{concat, AllByRecursion}
+use Rattle.std.proofs.lemmas.List.{append-nil, map-append}
+use Rattle.std.proofs.lemmas.List.Elements.{All-from_recursion, recursion_from_All}
+use Rattle.rr_base.specs.Results.{◌>>=◌, unless}
+use Rattle.rr_base.specs.Schema.{Layout}
+use Rattle.rr_delta.specs.Difference.{IsSummary, newer_cells}
+use Rattle.rr_delta.specs.Names.{IsNameOf, NamedVersion, versions_of}
+use Rattle.rr_delta.proofs.DifferenceLemmas.{newer_held, newer_sorted}
+use Rattle.rr_delta.proofs.HeldLemmas.{named_all}
+use Rattle.rr_delta.proofs.LawLemmas.{difference_brings_the_join}
+use Rattle.rr_delta.proofs.Walks.{sorted_versions}
+use Rattle.rr_join.proofs.Booleans.{true_from_T}
+use Rattle.rr_model.specs.CellNames.{cell_name_cmp}
+use Rattle.rr_replica.specs.CellBounds.{NamedCell, IsCellOf}
+use Rattle.rr_replica.specs.Cells.{Cells}
+use Rattle.rr_replica.specs.Joins.{join_cells}
+use Rattle.rr_gossip.specs.declared.fault.GossipFault.{GossipFault}
+use Rattle.rr_gossip.specs.declared.fault.GossipFault.TheVariants as why
+use Rattle.rr_gossip.specs.declared.frame.Kind.{Kind}
+use Rattle.rr_gossip.specs.declared.frame.Kind.TheVariants as kind
+use Rattle.rr_gossip.specs.declared.giver.Giver.{Giver}
+use Rattle.rr_gossip.specs.declared.giver.Stage.{Stage}
+use Rattle.rr_gossip.specs.declared.giver.Stage.TheVariants as stage
+use Rattle.rr_gossip.specs.declared.puller.Puller.{Puller}
+use Rattle.rr_gossip.specs.declared.puller.Stage.TheVariants as puller
+use Rattle.rr_gossip.specs.Frame.{content_at}
+use Rattle.rr_gossip.specs.Giver as giving
+use Rattle.rr_gossip.specs.Giver.{first_giver, giver_takes}
+use Rattle.rr_gossip.specs.Pages.{AreLeft}
+use Rattle.rr_gossip.specs.Puller as pulling
+use Rattle.rr_gossip.specs.Puller.{puller_takes}
+use Rattle.rr_gossip.specs.Session.{GivesAnswer, HasPulled, PullsBringTheJoin, PullsJoin, is_giving, replied_by, sent_by}
+use Rattle.rr_gossip.specs.Stream.{IsFrame, WasRead}
+use Rattle.rr_gossip.specs.Transcript.{contents, giver_after, puller_after, reply, sent, waiting}
+use Rattle.rr_gossip.proofs.GivingLemmas as giver
+use Rattle.rr_gossip.proofs.JoinedLemmas.{pullers_take}
+use Rattle.rr_gossip.proofs.OnceLemmas.{GoesOn, cut_once, reply_are, sent_are}
+use Rattle.rr_gossip.proofs.StepLemmas as step
+use Rattle.rr_gossip.proofs.StepLemmas.{bind_ok, ok_is, unless_ok}
+use Rattle.rr_gossip.proofs.TakenLemmas.{givers_take}
+
+not_false : (b : Bool) → not b ≡ false → b ≡ true
+not_false true e = refl
+not_false false e = absurd cc
+
+true_is_false : {P : Type 0} → true ≡ false → P
+true_is_false e = absurd cc
+
+-- ---- nothing is taken after the last frame
+
+none_due_to_giver : (st : Stage) (k : Kind) → is_giving st ≡ true → giving.is_due st k ≡ false
+none_due_to_giver (stage.Giving left) kind.Hello e = refl
+none_due_to_giver (stage.Giving left) kind.Summary e = refl
+none_due_to_giver (stage.Giving left) kind.SummaryEnd e = refl
+none_due_to_giver (stage.Giving left) kind.Page e = refl
+none_due_to_giver (stage.Giving left) kind.PageEnd e = refl
+none_due_to_giver stage.Opening k e = absurd cc
+none_due_to_giver (stage.Listing names) k e = absurd cc
+none_due_to_giver stage.Done k e = absurd cc
+none_due_to_giver stage.Failed k e = absurd cc
+
+giver_is_over : (m : Cells) (s : Layout) (g : Giver) (content : List ℕ) (x : Giver × Bool) → is_giving g.stage ≡ true → giver_takes m s g content ≡ Ok x → ⊥
+unfolding giver_takes
+giver_is_over m s g content x over e =
+    let a = bind_ok (unless why.Failed (giving.has_failed g.stage) (content_at content)) _ x e in
+    let b = bind_ok (unless why.UnexpectedFrame (not (giving.is_due g.stage a.0.0)) (unless why.TooManyFrames (nat_le g.limit g.taken) (giving.body_taken m s g.stage a.0.0 a.0.1))) _ x a.2 in
+    let due = unless_ok why.UnexpectedFrame (not (giving.is_due g.stage a.0.0)) (unless why.TooManyFrames (nat_le g.limit g.taken) (giving.body_taken m s g.stage a.0.0 a.0.1)) b.0 b.1 in
+    true_is_false (sym (not_false (giving.is_due g.stage a.0.0) due.0) ∙ none_due_to_giver g.stage a.0.0 over)
+
+none_due_to_puller : (k : Kind) → pulling.is_due puller.Done k ≡ false
+none_due_to_puller kind.Hello = refl
+none_due_to_puller kind.Summary = refl
+none_due_to_puller kind.SummaryEnd = refl
+none_due_to_puller kind.Page = refl
+none_due_to_puller kind.PageEnd = refl
+
+puller_is_over : (s : Layout) (p : Puller) (content : List ℕ) (x : (Puller × List NamedCell) × Bool) → p.stage ≡ puller.Done → puller_takes s p content ≡ Ok x → ⊥
+unfolding puller_takes
+puller_is_over s p content x over e =
+    let a = bind_ok (unless why.Failed (pulling.has_failed p.stage) (content_at content)) _ x e in
+    let b = bind_ok (unless why.UnexpectedFrame (not (pulling.is_due p.stage a.0.0)) (unless why.TooManyFrames (nat_le p.limit p.taken) (pulling.body_taken s a.0.0 a.0.1))) _ x a.2 in
+    let due = unless_ok why.UnexpectedFrame (not (pulling.is_due p.stage a.0.0)) (unless why.TooManyFrames (nat_le p.limit p.taken) (pulling.body_taken s a.0.0 a.0.1)) b.0 b.1 in
+    true_is_false (sym (not_false (pulling.is_due p.stage a.0.0) due.0) ∙ ap (λ st. pulling.is_due st a.0.0) over ∙ none_due_to_puller a.0.0)
+
+-- ---- some frames, and then others
+
+giver_append : (m : Cells) (s : Layout) (g : Giver) (cs ds : List (List ℕ)) → giver_after m s g (cs ++ ds) ≡ (giver_after m s g cs >>= λ (q : Giver). giver_after m s q ds)
+unfolding giver_after
+giver_append m s g [] ds = refl
+giver_append m s g (c ∷ cs) ds = by_first (giver_takes m s g c) (λ next. giver_append m s next.0 cs ds)
+  where
+    by_first : (x : Result (Giver × Bool) GossipFault) → ((next : Giver × Bool) → giver_after m s next.0 (cs ++ ds) ≡ (giver_after m s next.0 cs >>= λ (q : Giver). giver_after m s q ds))
+        → (x >>= λ (next : Giver × Bool). giver_after m s next.0 (cs ++ ds)) ≡ ((x >>= λ (next : Giver × Bool). giver_after m s next.0 cs) >>= λ (q : Giver). giver_after m s q ds)
+    by_first (Ok next) later = later next
+    by_first (Err fault) later = refl
+
+puller_append : (s : Layout) (p : Puller) (m : Cells) (cs ds : List (List ℕ)) → puller_after s p m (cs ++ ds) ≡ (puller_after s p m cs >>= λ (x : Puller × Cells). puller_after s x.0 x.1 ds)
+unfolding puller_after
+puller_append s p m [] ds = refl
+puller_append s p m (c ∷ cs) ds = by_first (puller_takes s p c) (λ next. puller_append s next.0.0 (join_cells s m next.0.1) cs ds)
+  where
+    by_first : (x : Result ((Puller × List NamedCell) × Bool) GossipFault) → ((next : (Puller × List NamedCell) × Bool) → puller_after s next.0.0 (join_cells s m next.0.1) (cs ++ ds) ≡ (puller_after s next.0.0 (join_cells s m next.0.1) cs >>= λ (y : Puller × Cells). puller_after s y.0 y.1 ds))
+        → (x >>= λ (next : (Puller × List NamedCell) × Bool). puller_after s next.0.0 (join_cells s m next.0.1) (cs ++ ds)) ≡ ((x >>= λ (next : (Puller × List NamedCell) × Bool). puller_after s next.0.0 (join_cells s m next.0.1) cs) >>= λ (y : Puller × Cells). puller_after s y.0 y.1 ds)
+    by_first (Ok next) later = later next
+    by_first (Err fault) later = refl
+
+-- after its last frame a side takes no other
+giver_alone : (m : Cells) (s : Layout) (g q r : Giver) (fs ds : List (List ℕ)) → giver_after m s g (contents fs) ≡ Ok q → is_giving q.stage ≡ true → giver_after m s g (contents (fs ++ ds)) ≡ Ok r → (ds ≡ []) × (q ≡ r)
+unfolding giver_after
+giver_alone m s g q r fs ds first over all = by_more ds (sym (ap (λ x. x >>= λ (y : Giver). giver_after m s y (contents ds)) first) ∙ sym (giver_append m s g (contents fs) (contents ds)) ∙ ap (giver_after m s g) (sym (map-append (drop 4) fs ds)) ∙ all)
+  where
+    by_more : (es : List (List ℕ)) → giver_after m s q (contents es) ≡ Ok r → (es ≡ []) × (q ≡ r)
+    by_more [] e = (refl, ok_is {E = GossipFault} q r e)
+    by_more (c ∷ cs) e = let one = bind_ok (giver_takes m s q (drop 4 c)) (λ (next : Giver × Bool). giver_after m s next.0 (contents cs)) r e in absurd (giver_is_over m s q (drop 4 c) one.0 over one.1)
+
+puller_alone : (s : Layout) (p : Puller) (m : Cells) (q r : Puller × Cells) (fs ds : List (List ℕ)) → puller_after s p m (contents fs) ≡ Ok q → q.0.stage ≡ puller.Done → puller_after s p m (contents (fs ++ ds)) ≡ Ok r → (ds ≡ []) × (q ≡ r)
+unfolding puller_after
+puller_alone s p m q r fs ds first over all = by_more ds (sym (ap (λ x. x >>= λ (y : Puller × Cells). puller_after s y.0 y.1 (contents ds)) first) ∙ sym (puller_append s p m (contents fs) (contents ds)) ∙ ap (puller_after s p m) (sym (map-append (drop 4) fs ds)) ∙ all)
+  where
+    by_more : (es : List (List ℕ)) → puller_after s q.0 q.1 (contents es) ≡ Ok r → (es ≡ []) × (q ≡ r)
+    by_more [] e = (refl, ok_is {E = GossipFault} q r e)
+    by_more (c ∷ cs) e = let one = bind_ok (puller_takes s q.0 (drop 4 c)) (λ (next : (Puller × List NamedCell) × Bool). puller_after s next.0.0 (join_cells s q.1 next.0.1) (contents cs)) r e in absurd (puller_is_over s q.0 (drop 4 c) one.0 over one.1)
+
+-- so of two lists, of which one goes on where the other ends, both are the same
+giver_once : (m : Cells) (s : Layout) (g q r : Giver) (fs gs : List (List ℕ)) → giver_after m s g (contents fs) ≡ Ok q → is_giving q.stage ≡ true → giver_after m s g (contents gs) ≡ Ok r → is_giving r.stage ≡ true → GoesOn fs gs → (fs ≡ gs) × (q ≡ r)
+giver_once m s g q r fs gs e e_over f f_over (inl more) =
+    let a = giver_alone m s g r q gs more.0 f f_over (ap (λ l. giver_after m s g (contents l)) (sym more.1) ∙ e) in
+    (more.1 ∙ ap (λ l. gs ++ l) a.0 ∙ append-nil gs, sym a.1)
+giver_once m s g q r fs gs e e_over f f_over (inr more) =
+    let a = giver_alone m s g q r fs more.0 e e_over (ap (λ l. giver_after m s g (contents l)) (sym more.1) ∙ f) in
+    (sym (more.1 ∙ ap (λ l. fs ++ l) a.0 ∙ append-nil fs), a.1)
+
+puller_once : (s : Layout) (p : Puller) (m : Cells) (q r : Puller × Cells) (fs gs : List (List ℕ)) → puller_after s p m (contents fs) ≡ Ok q → q.0.stage ≡ puller.Done → puller_after s p m (contents gs) ≡ Ok r → r.0.stage ≡ puller.Done → GoesOn fs gs → (fs ≡ gs) × (q ≡ r)
+puller_once s p m q r fs gs e e_over f f_over (inl more) =
+    let a = puller_alone s p m r q gs more.0 f f_over (ap (λ l. puller_after s p m (contents l)) (sym more.1) ∙ e) in
+    (more.1 ∙ ap (λ l. gs ++ l) a.0 ∙ append-nil gs, sym a.1)
+puller_once s p m q r fs gs e e_over f f_over (inr more) =
+    let a = puller_alone s p m q r fs more.0 e e_over (ap (λ l. puller_after s p m (contents l)) (sym more.1) ∙ f) in
+    (sym (more.1 ∙ ap (λ l. fs ++ l) a.0 ∙ append-nil fs), a.1)
+
+-- ---- what was read of known bytes
+
+-- frames were read of a stream, whose rest is left
+record ReadOf (all : List ℕ) (left : Option (List ℕ)) (frames : List (List ℕ)) : Type 0 where
+  rest : List ℕ
+  left_is : left ≡ Some rest
+  parts : all ≡ concat frames ++ rest
+
+read_of : (all : List ℕ) (left : Option (List ℕ)) (frames : List (List ℕ)) → WasRead [] (Some all) left frames [] → ReadOf all left frames
+read_of all None frames r = absurd r.consumed
+read_of all (Some rest) frames r = record { rest = rest; left_is = refl; parts = r.consumed ∙ ap (λ l. l ++ rest) (r.cut ∙ append-nil (concat frames)) }
+
+-- the same frames leave the same rest
+left_behind : (all : List ℕ) (left : Option (List ℕ)) (frames gs : List (List ℕ)) (more : List ℕ) (r : ReadOf all left frames) → frames ≡ gs → all ≡ concat gs ++ more → left ≡ Some more
+left_behind all left frames gs more r same is =
+    let e : concat gs ++ r.rest ≡ concat gs ++ more = ap (λ l. concat l ++ r.rest) (sym same) ∙ sym r.parts ∙ is in
+    r.left_is ∙ ap (λ l. Some l) (sym (drop_at (concat gs) r.rest (length (concat gs)) refl) ∙ ap (drop (length (concat gs))) e ∙ drop_at (concat gs) more (length (concat gs)) refl)
+
+-- ---- the laws
+
+answer_text : (s : Layout) (names : List NamedVersion) (m : Cells) → concat (replied_by s names m) ≡ concat (reply s (newer_cells names (entries m)))
+unfolding replied_by
+answer_text s names m = refl
+
+cells_given : Stage → List NamedCell
+cells_given stage.Opening = []
+cells_given (stage.Listing names) = []
+cells_given (stage.Giving left) = left.1
+cells_given stage.Done = []
+cells_given stage.Failed = []
+
+pub gives_answer : GivesAnswer
+unfolding replied_by cells_given
+gives_answer s m names limit answer more left is all ascend given =
+    let heard = given.heard in
+    let frames = sent s names in
+    let n = limit + length frames in
+    let r = read_of (concat frames ++ more) left heard.frames heard.read in
+    let expected : giver_after m s (first_giver n) (contents frames) ≡ Ok (record { stage = stage.Giving (s, newer_cells names (entries m)); sent = 0; taken = length frames; limit = n }) = givers_take s m names n is all ascend (omega arith) in
+    let once = giver_once m s (first_giver n) (giver.raised n given.last) (record { stage = stage.Giving (s, newer_cells names (entries m)); sent = 0; taken = length frames; limit = n }) heard.frames frames
+    (giver.after_raised n m s (first_giver limit) given.last (contents heard.frames) (omega arith) heard.taken) (ap is_giving heard.giving) expected refl
+    (cut_once heard.frames frames r.rest more (recursion_from_All IsFrame heard.frames heard.read.each) (sent_are s is names all) (sym r.parts)) in
+    let same : newer_cells heard.names (entries m) ≡ newer_cells names (entries m) = ap cells_given (sym heard.giving ∙ ap (λ (g : Giver). g.stage) once.1) in
+    (given.replied ∙ ap (λ es. concat (reply s es)) same, left_behind (concat frames ++ more) left heard.frames frames more r once.0 refl)
+
+pub pulls_join : PullsJoin
+pulls_join s m after es sent_before limit more left is fits pulled =
+    let frames = reply s es in
+    let n = limit + length frames in
+    let r = read_of (concat frames ++ more) left pulled.frames pulled.read in
+    let expected = pullers_take s m es sent_before 0 n is fits (omega arith) in
+    let once = puller_once s (waiting sent_before 0 n) m (step.raised n pulled.last, after) (record { stage = puller.Done; sent = sent_before; taken = 0 + length frames; limit = n }, join_cells s m es) pulled.frames frames
+    (step.after_raised n s (waiting sent_before 0 limit) m (pulled.last, after) (contents pulled.frames) (omega arith) pulled.taken) pulled.done expected refl
+    (cut_once pulled.frames frames r.rest more (recursion_from_All IsFrame pulled.frames pulled.read.each) (reply_are s is es fits) (sym r.parts)) in
+    (ap (λ (x : Puller × Cells). x.1) once.1, left_behind (concat frames ++ more) left pulled.frames frames more r once.0 refl)
+
+pub pulls_bring_the_join : PullsBringTheJoin
+unfolding sent_by
+pulls_bring_the_join s m given after limit limit_given answer more more_given left left_given is trimmed each each_given agree gave pulled =
+    let vs = versions_of m in
+    let es = newer_cells vs (entries given) in
+    let all : AllByRecursion (IsNameOf s) vs = named_all s (entries m) (recursion_from_All (IsCellOf s) (entries m) each) in
+    let ascend : IsSummary vs = true_from_T (is_sorted cell_name_cmp vs) (sorted_versions (entries m) (entries_sorted m)) in
+    let fits : AreLeft (s, es) = record {
+      cells = All-from_recursion (IsCellOf s) es (newer_held s vs (entries given) (recursion_from_All (IsCellOf s) (entries given) each_given));
+      names_ascend = true_from_T (is_sorted cell_name_cmp es) (newer_sorted vs (entries given) (entries_sorted given));
+    } in
+    let answered = gives_answer s given vs limit_given answer more_given left_given is (All-from_recursion (IsNameOf s) vs all) ascend gave in
+    let text : answer ≡ concat (reply s es) = answered.0 ∙ answer_text s vs given in
+    let joined = pulls_join s m after es (length (sent s vs)) limit more left is fits (subst (λ (t : List ℕ). HasPulled s (waiting (length (sent s vs)) 0 limit) m after (Some (t ++ more)) left) text pulled) in
+    joined.0 ∙ difference_brings_the_join s given m is trimmed agree

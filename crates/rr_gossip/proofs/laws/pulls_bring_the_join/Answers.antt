@@ -1,0 +1,5 @@
+use Rattle.rr_gossip.proofs.PullLemmas.{pulls_bring_the_join}
+use Rattle.rr_gossip.proofs.laws.pulls_bring_the_join.Goals as goal
+
+pub returns : goal.returns
+returns c = pulls_bring_the_join
