@@ -1,5 +1,5 @@
 -- What a keeper's operations are about.
-use Rattle.std.proofs.Common.{◌≡◌, ◌≢◌, ℕ, ◌+◌, ◌<◌, ◌≤◌, ◌==◌, ◌&&◌, nat_le, Bool, true, false, ⊎_elim, List, [], ◌∷◌, ◌++◌, fold, append_assoc, refl, sym, ap, ◌∙◌, subst, arith, Some, if◌then◌else◌}
+use Rattle.std.proofs.Common.{◌≡◌, ◌≢◌, ℕ, ◌+◌, ◌<◌, ◌≤◌, ◌==◌, ◌&&◌, nat_le, true, false, ⊎_elim, List, [], ◌∷◌, ◌++◌, fold, append_assoc, refl, sym, ap, ◌∙◌, subst, arith, if◌then◌else◌}
 use Rattle.std.proofs.lemmas.Bool.Decides.{nat_tests}
 use Rattle.std.proofs.lemmas.List.{append_cancel_left}
 use Rattle.std.proofs.lemmas.List.Elements.{All-from_recursion}
@@ -7,14 +7,12 @@ use Rattle.std.specs.FinMap.{get, entries}
 use Rattle.std.specs.List.{All, AllByRecursion}
 use Rattle.std.specs.Ordering.{eq_by_cmp}
 use mathlib.Core.List.{IsPrefix}
-use Rattle.rr_base.specs.declared.limits.TheConstants.{MAX_NUMBER}
-use Rattle.rr_base.specs.Schema.{Layout, IsLayout}
-use Rattle.rr_contrib.specs.declared.contribution.Contribution.{Contribution}
-use Rattle.rr_model.specs.CellNames.{CellName, cell_name_cmp}
+use Rattle.rr_base.specs.Schema.{Layout}
+use Rattle.rr_model.specs.CellNames.{cell_name_cmp}
 use Rattle.rr_model.specs.Samples as model
 use Rattle.rr_model.specs.Samples.{Mark}
 use Rattle.rr_model.specs.FetchText.{Request, fetch_text}
-use Rattle.rr_model.specs.World.{World, IsWritten, IsNext, IsClosed, HoldsAllOf, with_sample}
+use Rattle.rr_model.specs.World.{IsWritten, IsNext, IsClosed, HoldsAllOf}
 use Rattle.rr_model.specs.Knowledge.{Knowledge, IsAheadOf}
 use Rattle.rr_model.proofs.Writes.{others_stay_closed, others_hold_own, writer_stays_closed, writer_holds_own, union_is_closed, union_holds_own, written_now}
 use Rattle.rr_model.proofs.WholeCells.{whole_cells_are_closed}
@@ -40,7 +38,7 @@ use Rattle.rr_delta.specs.Names.{NamedVersion}
 use Rattle.rr_delta.proofs.HeldLemmas.{all_filtered}
 use Rattle.rr_fetch.specs.Answers.{cells_text}
 use Rattle.rr_fetch.proofs.RowLaws.{answer_of_state}
-use Rattle.rr_desk.specs.Histories.{Turn, elsewhere, put, joined, Scene, Knows, IsHistory, IsHonest, IsWhole, AreHonest, list_of, marks_in, next_scene, ops_of, scene_after}
+use Rattle.rr_desk.specs.Histories.{Turn, elsewhere, put, joined, Scene, Knows, IsHistory, IsWhole, AreHonest, list_of, marks_in, next_scene, ops_of, scene_after}
 use Rattle.rr_desk.proofs.PrefixLemmas.{prefix_nil}
 
 -- ---- one turn

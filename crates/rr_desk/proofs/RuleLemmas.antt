@@ -17,7 +17,7 @@ use Rattle.rr_desk.specs.declared.shown.Change.TheVariants.{Mark}
 use Rattle.rr_desk.specs.declared.shown.CopyState.{CopyState}
 use Rattle.rr_desk.specs.Changes.{changed, mark_in, ops_in}
 use Rattle.rr_desk.specs.Editions.{Sighting, flat}
-use Rattle.rr_desk.specs.Rule.{newcomer, IsShown, IsWriter, IsOutcome, IsSameSeat, Fits, Keeps, Sees, keeper_of, extended, telling_of, informed}
+use Rattle.rr_desk.specs.Rule.{newcomer, IsShown, Fits, Keeps, Sees, keeper_of, extended, telling_of, informed}
 use Rattle.rr_desk.proofs.PrefixLemmas.{prefix_refl, prefix_append, prefix_trans, prefix_nil, prefix_of_nil}
 use Rattle.rr_desk.proofs.ChangesLemmas.{changes-front, changes-held, changes-started}
 

@@ -1,7 +1,6 @@
 -- What a keeper keeps to: the published copy, its own replica and the book beside each other.
 use Rattle.std.proofs.Common.{◌≡◌, Bool, true, false, List, [], ◌∷◌, ◌++◌, fold, append_assoc, append-nil, refl, sym, ap, ◌∙◌, subst}
 use Rattle.std.proofs.lemmas.List.Sums.{fold-append}
-use mathlib.Core.List.{IsPrefix}
 use Rattle.logbook.specs.Pages.{Book}
 use Rattle.rr_base.specs.Schema.{Layout}
 use Rattle.rr_replica.specs.declared.op.Op.{Op}
@@ -9,15 +8,15 @@ use Rattle.rr_replica.specs.Cells.{Cells}
 use Rattle.rr_replica.specs.Held.{IsHolding}
 use Rattle.rr_replica.specs.Holding.{Holding}
 use Rattle.rr_replica.specs.Operations.{accepts, applied, cell_step, outcome_of, step, joins_of, AllAccepted}
-use Rattle.rr_replica.proofs.OperationsLemmas.{accepted-append, outcome_of-append, outcome_of-joins, outcome_of-more, step_accepted, step-origin, step-schema, steps-cells, steps-schema}
+use Rattle.rr_replica.proofs.OperationsLemmas.{accepted-append, outcome_of-append, outcome_of-joins, step_accepted, step-origin, step-schema, steps-cells, steps-schema}
 use Rattle.rr_desk.specs.declared.rule.View.{View}
 use Rattle.rr_desk.specs.declared.shown.Change.{Change}
 use Rattle.rr_desk.specs.declared.shown.Change.TheVariants.{Apply, Mark}
 use Rattle.rr_desk.specs.Changes.{mark_in, ops_in}
-use Rattle.rr_desk.specs.Editions.{Sighting, flat, after, Begins}
+use Rattle.rr_desk.specs.Editions.{Sighting, flat, Begins}
 use Rattle.rr_desk.specs.Rule.{extended, keeper_of}
 use Rattle.rr_desk.specs.Standing.{KeeperState, cells_of, holding_of, with_pending, IsKeeper, IsTied, IsBooked, IsReady}
-use Rattle.rr_desk.proofs.EditionsLemmas.{begins-refl, begins-more, flat-reached}
+use Rattle.rr_desk.proofs.EditionsLemmas.{begins-refl, begins-more}
 use Rattle.rr_desk.proofs.ChangesLemmas.{mark_in-mark, ops_in-apply, ops_in-mark}
 
 -- ---- the keeper's own replica

@@ -2,7 +2,6 @@
 use Rattle.std.specs.Prelude.{ℕ, ℤ, List, [], ◌∷◌}
 use Rattle.rr_line.specs.Key.{key_text}
 use Rattle.rr_line.specs.Line.{PointView}
-use Rattle.rr_replica.specs.declared.op.Op.{Op}
 use Rattle.rr_replica.specs.declared.op.Op.TheVariants.{Put}
 use Rattle.rr_replica.specs.declared.fault.WriteFault.{WriteFault}
 use Rattle.rr_replica.specs.declared.fault.WriteFault.TheVariants as why

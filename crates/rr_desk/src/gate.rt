@@ -13,7 +13,7 @@ pub enum GateCall {
 ///
 /// It is seen as the last call that it had.
 pub trait Gate {
-    ghost use Rattle.std.specs.Prelude.{◌≡◌, Option, Some};
+    ghost use Rattle.std.specs.Prelude.{◌≡◌, true, Option, Some};
     ghost use Rattle.rr_desk.specs.declared.gate.GateCall.{GateCall};
     ghost use Rattle.rr_desk.specs.declared.gate.GateCall.TheVariants.{After, Before};
 
@@ -23,7 +23,8 @@ pub trait Gate {
     fn before(&mut self) -> bool
         ensures { last self.new ≡ Some (Before result) };
 
-    /// Called when the answer is made.
+    /// Called when the answer is made, which it is only where `before` answered true.
     fn after(&mut self)
+        requires { last self.old ≡ Some (Before true) }
         ensures { last self.new ≡ Some After };
 }

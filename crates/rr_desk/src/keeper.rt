@@ -1,5 +1,5 @@
 //! The keeper of a desk, which alone writes.
-ghost use Rattle.std.specs.Prelude.{◌≡◌, ◌++◌, ◌<◌, ◌≤◌, ◌↔◌, ◌≢◌, All, Err, IfOk, OnErr, OnOk, map, take, drop, true};
+ghost use Rattle.std.specs.Prelude.{◌≡◌, ◌<◌, ◌≤◌, ◌↔◌, All, Err, IfOk, OnErr, OnOk, map, take, drop, true};
 ghost use Rattle.std.specs.FinMap.{entries, len};
 ghost use Rattle.std.specs.Io.KnownBytes.{Appends};
 ghost use Rattle.rr_base.specs.declared.limits.TheConstants.{MAX_NUMBER};

@@ -7,7 +7,7 @@ use Rattle.rr_desk.specs.declared.rule.View.{View}
 use Rattle.rr_desk.specs.declared.shown.Change.TheVariants.{Apply}
 use Rattle.rr_desk.specs.Changes.{ops_in}
 use Rattle.rr_desk.specs.Editions.{Sighting}
-use Rattle.rr_desk.specs.Standing.{KeeperState, holding_of, IsKeeper}
+use Rattle.rr_desk.specs.Standing.{KeeperState, IsKeeper}
 use Rattle.rr_desk.specs.Writers.{changes}
 use Rattle.rr_desk.proofs.ChangesLemmas.{ops_in-apply}
 use Rattle.rr_desk.proofs.StandingLemmas.{keeper-push, own-state, push-state}
