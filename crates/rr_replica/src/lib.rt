@@ -36,3 +36,4 @@ pub use fault::{JoinFault, PutFault, WriteFault};
 pub use op::Op;
 pub use replica::Replica;
 pub use sample::Sample;
+pub use writing::is_ahead;

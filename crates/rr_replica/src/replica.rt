@@ -273,7 +273,7 @@ impl<A: Archive> Replica<A> {
 
 impl<A: Archive> Replica<A> {
     /// Whether fewer numbers are left than these.
-    pub(crate) fn lacks_numbers(&self, count: usize) -> bool
+    pub fn lacks_numbers(&self, count: usize) -> bool
         ensures { result ≡ lacks_numbers (held self.now) count }
     {
         MAX_NUMBER + 1 - self.next < count as u64

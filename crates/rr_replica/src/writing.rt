@@ -72,7 +72,7 @@ impl<A: Archive> Replica<A> {
 }
 
 /// Whether a point's own time is later than the clock's by more than the lead.
-fn is_ahead(time: Option<i64>, now: i64, lead: Option<u64>) -> bool
+pub fn is_ahead(time: Option<i64>, now: i64, lead: Option<u64>) -> bool
     ensures { result ≡ is_ahead time now lead }
 {
     match (time, lead) {

@@ -1,0 +1,41 @@
+use Rattle.std.proofs.Common.{rules, true, false, ◌≡◌, [], ◌∷◌, ◌++◌, sym, ap, ◌∙◌, subst}
+use Rattle.left_right.specs.Sides.{view}
+use Rattle.rr_replica.specs.Holding.{Holding}
+use Rattle.rr_replica.specs.Operations.{accepts, step}
+use Rattle.rr_replica.specs.Standing.{held}
+use Rattle.rr_desk.specs.declared.rule.View.{View}
+use Rattle.rr_desk.specs.declared.shown.Change.TheVariants.{Apply}
+use Rattle.rr_desk.specs.Changes.{ops_in}
+use Rattle.rr_desk.specs.Editions.{Sighting}
+use Rattle.rr_desk.specs.Standing.{KeeperState, IsKeeper}
+use Rattle.rr_desk.specs.Writers.{changes}
+use Rattle.rr_desk.proofs.ChangesLemmas.{ops_in-apply}
+use Rattle.rr_desk.proofs.StandingLemmas.{keeper-push, own-state, push-state}
+use Rattle.rr_desk.proofs.keeper.Keeper.push.Goals as goal
+
+pub invariant_of-self-2 : goal.invariant_of-self-2
+invariant_of-self-2 g c =
+    let o = c.self.inside.writer in
+    let n = c.append.new.self in
+    let op = c.args.op in
+    let desk = sym {a = n.desk} c.append.ensures.desk in
+    let longer : changes n ≡ changes o ++ Apply op ∷ [] = search rules in
+    let is : held c.apply.new.self ≡ step (held c.self.inside.own) op = search rules in
+    let may : accepts (held c.self.inside.own) op ≡ true = ap (λ (h : Holding). accepts h op) (own-state _ _ _ _ _ _ _ _ _ c.self.invariant c.self.view_is) ∙ c.requires in
+    subst (λ (z : View × Holding × Sighting). IsKeeper z.0 z.1 (held c.apply.new.self) z.2 c.self.inside.book (changes n) false) (λ i. (view (desk i).place, held (desk i).shown.value.replica, (desk i).shown.value.front))
+    (keeper-push _ _ _ _ _ _ _ _ _ op c.self.invariant may is longer)
+
+pub returns-clause-pending : goal.returns-clause-pending
+returns-clause-pending g c =
+    let o = c.self.inside.writer in
+    let n = c.append.new.self in
+    let op = c.args.op in
+    let k = c.args.self.now in
+    let desk = c.append.ensures.desk in
+    let longer : changes n ≡ changes o ++ Apply op ∷ [] = search rules in
+    let is : held c.apply.new.self ≡ step (held c.self.inside.own) op = search rules in
+    let own = own-state _ _ _ _ _ _ _ _ _ c.self.invariant c.self.view_is in
+    let seen : (view n.desk.place).seen ≡ k.published = (λ i. (view (desk i).place).seen) ∙ ap (λ (s : KeeperState). s.published) c.self.view_is in
+    let same : (view n.desk.place).desk ≡ k.desk = (λ i. (view (desk i).place).desk) ∙ ap (λ (s : KeeperState). s.desk) c.self.view_is in
+    let more : ops_in (changes n) ≡ k.pending ++ op ∷ [] = ap ops_in longer ∙ (ops_in-apply (changes o) op ∙ ap (λ (s : KeeperState). s.pending ++ op ∷ []) c.self.view_is) in
+    push-state k (held c.apply.new.self) op _ _ _ c.requires (is ∙ ap (λ (h : Holding). step h op) own) same seen more

@@ -1,0 +1,53 @@
+-- The fields so far are put, each one under the next number.
+use Rattle.std.proofs.Common.{◌≡◌, ℕ, ℤ, pos, List, [], map, take, get_or, None, refl, sym, ap, subst, ◌∙◌, arith, rules}
+use Rattle.std.proofs.Math.Facts.{to_z-of_z}
+use Rattle.std.proofs.lemmas.List.{map_more}
+use Rattle.std.specs.Int.{w64}
+use Rattle.std.specs.List.{AllByRecursion}
+use Rattle.rr_key.specs.Making.{making_fault}
+use Rattle.rr_line.specs.Key.{names_of, key_text}
+use Rattle.rr_line.specs.Line.{field_view, point_view}
+use Rattle.rr_line.specs.declared.line.Field.{Field}
+use Rattle.rr_replica.proofs.FieldLemmas.{field_at, take-view, failed, passed}
+use Rattle.rr_desk.specs.Points.{with_put, with_puts}
+use Rattle.rr_desk.specs.Standing.{KeeperState}
+use Rattle.rr_desk.proofs.PointsLemmas.{with_puts-more}
+use Rattle.rr_desk.proofs.keeper.Keeper.put_fields.Goals as goal
+
+pub put_field-requires-clause-keyed : goal.put_field-requires-clause-keyed
+put_field-requires-clause-keyed g c =
+    let p = point_view c.args.point.now in
+    let any : Field = record { key = record { ref_ptr = (0, 0); now = [] }; value = pos 0 } in
+    let Keyed : List ℕ × ℤ → Type 0 = λ field. making_fault (names_of p field.0) ≡ None in
+    let keyed : AllByRecursion Keyed (map field_view c.deref-field-items.result.now) = subst (λ (items : List Field). AllByRecursion Keyed (map field_view items)) (sym c.deref-field-items.ensures.value) c.requires.keyed in
+    field_at Keyed field_view c.deref-field-items.result.now c.loop-field.field-index any keyed c.loop-field-test.true
+
+pub returns-then-is_err-clause-refused : goal.returns-then-is_err-clause-refused
+returns-then-is_err-clause-refused g c =
+    let p = point_view c.args.point.now in
+    let back = to_z-of_z {w = w64} {z = c.args.time} (search rules) in
+    let same = failed c.put_field.result c.put_field.ensures.unchanged c.if-is_err.ensures.value in
+    let state = rw back at c.loop-field.invariant.put in
+    let first : map field_view (take c.loop-field.field-index c.deref-field-items.result.now) ≡ take c.loop-field.put (map field_view c.args.point.now.fields.items) =
+    take-view field_view c.loop-field.field-index c.deref-field-items.result.now
+    ∙ ap (λ (items : List Field). take c.loop-field.field-index (map field_view items)) c.deref-field-items.ensures.value
+    ∙ ap (λ (k : ℕ). take k (map field_view c.args.point.now.fields.items)) (sym c.loop-field.invariant.counted) in
+    (c.loop-field.put, refl, same ∙ state ∙ ap (with_puts c.args.self.now p c.args.time) first)
+
+pub loop-field-preserved : goal.loop-field-preserved
+loop-field-preserved g c =
+    let any : Field = record { key = record { ref_ptr = (0, 0); now = [] }; value = pos 0 } in
+    let p = point_view c.args.point.now in
+    let items = c.deref-field-items.result.now in
+    let back = to_z-of_z {w = w64} {z = c.args.time} (search rules) in
+    let written = rw back at (passed c.put_field.result c.put_field.ensures.put c.if-is_err.ensures.value) in
+    let state = rw back at c.loop-field.invariant.put in
+    let before = map field_view (take c.loop-field.field-index items) in
+    let field = field_view (get_or items c.loop-field.field-index any) in
+    let more = map_more field_view items c.loop-field.field-index any c.loop-field-test.true in
+    let next = ap (λ (k : KeeperState). k.next) written in
+    record {
+      counted = omega (arith, c.loop-field.invariant.counted);
+      numbered = omega (arith, next, c.loop-field.invariant.numbered);
+      put = rw back (written ∙ ap (λ (k : KeeperState). with_put k (key_text p field.0) c.args.time field.1) state ∙ sym (with_puts-more c.args.self.now p c.args.time before field) ∙ ap (with_puts c.args.self.now p c.args.time) (sym more));
+    }

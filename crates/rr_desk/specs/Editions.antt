@@ -1,0 +1,35 @@
+-- The book of a desk: for each edition the operations that it adds. It exists in proofs alone, but for the number of
+-- editions.
+use Rattle.std.specs.Prelude.{ℕ, ◌≡◌, ◌==◌, true, List, [], ◌∷◌, ◌++◌, length, drop, MatchBool}
+use Rattle.logbook.specs.Pages.{Cell, Step, View, Book, Named}
+use Rattle.rr_replica.specs.declared.op.Op.{Op}
+
+-- the editions of a desk's book, as far as they were seen
+pub record Sighting : Type 0 where
+  pub desk : Book
+  pub editions : List (List Op)
+
+-- the operations of these editions, in order
+abbrev pub flat : List (List Op) → List Op
+flat [] = []
+flat (e ∷ es) = e ++ flat es
+
+-- the first of the book's words is the number of editions. A book has two words, of which the second stays 0
+abbrev pub IsCounted : List Cell → List (List Op) → Type 0
+IsCounted words editions = words ≡ (length editions, true) ∷ (0, true) ∷ []
+
+-- the word that counts the editions of this book
+abbrev pub head_of : Book → Named
+head_of b = record { tracked = true; key = 0; book = b }
+
+-- an edition of this batch was added to all that had been seen, where the number found is the one expected
+abbrev pub Adds : List Op → Step (List Op) → View (List Op) ℕ → ℕ → View (List Op) ℕ → Type 0
+Adds batch s v found w = MatchBool (found == s.old) (w.0 ≡ v.0 ++ batch ∷ []) (Unit {0})
+
+-- what a list has after a beginning as long as this one
+abbrev pub after : List Op → List Op → List Op
+after xs ys = drop (length xs) ys
+
+-- the list ys begins with xs
+abbrev pub Begins : List Op → List Op → Type 0
+Begins xs ys = xs ++ after xs ys ≡ ys

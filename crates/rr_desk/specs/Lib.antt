@@ -1,0 +1,9 @@
+pub mod Editions
+pub mod Changes
+pub mod Rule
+pub mod Standing
+pub mod Points
+pub mod Writers
+pub mod Fault
+pub mod Histories
+pub mod Laws

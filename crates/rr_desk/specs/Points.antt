@@ -1,0 +1,23 @@
+-- What samples and points make of a keeper.
+use Rattle.std.specs.Prelude.{ℕ, ℤ, List, [], ◌∷◌}
+use Rattle.rr_line.specs.Key.{key_text}
+use Rattle.rr_line.specs.Line.{PointView}
+use Rattle.rr_replica.specs.declared.op.Op.TheVariants.{Put}
+use Rattle.rr_replica.specs.declared.fault.WriteFault.{WriteFault}
+use Rattle.rr_replica.specs.declared.fault.WriteFault.TheVariants as why
+use Rattle.rr_desk.specs.Standing.{KeeperState, with_pending}
+
+-- with a put of the next sample pending
+abbrev pub with_put : KeeperState → List ℕ → ℤ → ℤ → KeeperState
+with_put k key time value = with_pending k (Put (record { origin = k.origin; number = k.next; key = key; time = time; value = value }))
+
+-- with a put of a sample of each of these fields pending, in order
+abbrev pub with_puts : KeeperState → PointView → ℤ → List (List ℕ × ℤ) → KeeperState
+with_puts k p time [] = k
+with_puts k p time (field ∷ fields) = with_puts (with_put k (key_text p field.0) time field.1) p time fields
+
+-- how many fields were put before a point was refused
+abbrev pub put_before : WriteFault → ℕ
+put_before why.AheadOfClock = 0
+put_before why.NumbersSpent = 0
+put_before (why.Memory put) = put

@@ -1,0 +1,228 @@
+//! The keeper of a desk, which alone writes.
+ghost use Rattle.std.specs.Prelude.{◌≡◌, ◌<◌, ◌≤◌, ◌↔◌, All, Err, IfOk, OnErr, OnOk, map, take, drop, true};
+ghost use Rattle.std.specs.FinMap.{entries, len};
+ghost use Rattle.std.specs.Io.KnownBytes.{Appends};
+ghost use Rattle.rr_base.specs.declared.limits.TheConstants.{MAX_NUMBER};
+ghost use Rattle.rr_base.specs.Counted.{inner_of, failures_of, HasRisen};
+ghost use Rattle.rr_base.specs.Stream.{AppendsPrefix};
+ghost use Rattle.rr_replica.specs.CellBounds.{IsCellOf};
+ghost use Rattle.rr_replica.specs.Held.{IsHolding};
+ghost use Rattle.rr_replica.specs.Listing.{owned_cell};
+ghost use Rattle.rr_replica.specs.Operations.{accepts};
+ghost use Rattle.rr_replica.specs.declared.op.Op.TheVariants.{Join};
+ghost use Rattle.rr_replica.specs.Standing.{held};
+ghost use Rattle.rr_delta.specs.Difference.{IsSummary};
+ghost use Rattle.rr_delta.specs.Names.{IsNameOf, name_in, named_version, owned_name, versions_of};
+ghost use Rattle.rr_delta.specs.Summaries.{cells_after};
+ghost use Rattle.rr_page.specs.Version.{latest};
+ghost use Rattle.rr_snapshot.specs.Snapshot.{snapshot_text};
+ghost use Rattle.rr_snapshot.specs.declared.heading.TheConstants.{MAX_SNAPSHOT_CELLS};
+ghost use Rattle.rr_desk.specs.Points.{with_put};
+ghost use Rattle.rr_desk.specs.Standing.{cells_of, holding_of, with_all_published, with_pending};
+
+use crate::book::Editions;
+use crate::note::Note;
+use crate::shown::{Change, CopyState, Shown};
+use crate::writing::{DeskWriter, mark, publish};
+use core::mem::replace_with;
+use left_right::Absorb;
+use rr_archive::Archive;
+use rr_base::limits::MAX_NUMBER;
+use rr_base::{Counted, Schema};
+use rr_delta::{Name, summary, summary_after};
+use rr_key::SeriesKey;
+use rr_replica::{Cell, Op, PutFault, Replica, Sample};
+use rr_snapshot::SaveFault;
+use std::alloc::{AllocError, Global};
+use std::io::Write;
+use std::marker::Model;
+use std::sync::Wait;
+
+/// The keeper of a desk. It has a replica of its own, with all operations, published or pending.
+///
+/// It is not `Drop`: it ends by [`Keeper::close`].
+pub struct Keeper<A: Archive>
+where
+    Shown<A>: Absorb<Change, State = CopyState>,
+{
+    pub(crate) alloc: Global,
+    pub(crate) writer: DeskWriter<A>,
+    pub(crate) own: Replica<A>,
+    pub(crate) book: Editions,
+    /// Whether the last pending change is a mark of the whole book.
+    pub(crate) marked: bool,
+}
+
+impl<A: Archive> Model for Keeper<A>
+where
+    Shown<A>: Absorb<Change, State = CopyState>,
+{
+    ghost use Rattle.rr_desk.specs.Standing.{KeeperState, IsKeeper};
+
+    ghost Value = { KeeperState };
+
+    ghost use Rattle.left_right.specs.Sides.{view as seat_view};
+    ghost use Rattle.rr_replica.specs.Standing.{held};
+    ghost use Rattle.rr_desk.specs.Changes.{ops_in};
+    ghost use Rattle.rr_desk.specs.Writers.{changes};
+
+    ghost view = { λ k. record {
+      desk = (seat_view k.writer.desk.place).desk;
+      schema = k.own.schema;
+      origin = k.own.origin;
+      next = k.own.next;
+      published = (seat_view k.writer.desk.place).seen;
+      pending = ops_in (changes k.writer);
+    } };
+
+    ghost invariant = { λ k. IsKeeper (seat_view k.writer.desk.place) (held k.writer.desk.shown.value.replica) (held k.own)
+        k.writer.desk.shown.value.front k.book (changes k.writer) k.marked };
+}
+
+impl<A: Archive> Keeper<A> {
+    /// Makes an operation pending that the keeper's own replica takes, and applies it there. Room is
+    /// made first, so that it is taken whole or not at all.
+    fn push(&mut self, op: Op) -> Result<(), AllocError>
+        requires { accepts (holding_of self.old) op ≡ true }
+        ensures pending { OnOk result (self.new ≡ with_pending self.old op) }
+        ensures unchanged { OnErr result (self.new ≡ self.old) }
+    {
+        let shown = op.copy()?;
+        self.own.ready(&op)?;
+        if self.writer.append(Change::Apply(shown)).is_err() {
+            return Err(AllocError);
+        }
+        self.own.apply(&op)?;
+        self.marked = false;
+        Ok(())
+    }
+
+    /// The schema of all cells.
+    pub fn schema(&self) -> &Schema
+        ensures value { result.now ≡ self.now.schema }
+        ensures holds { IsHolding (holding_of self.now) }
+    {
+        self.own.schema()
+    }
+
+    /// Puts a sample of a key under the next number, which is the answer. The time is in nanoseconds
+    /// since the Unix epoch. Readers don't see the sample before it is published.
+    ///
+    /// Refused as `NumbersSpent` where the next number is past 2^40. After a refusal nothing has
+    /// changed. The cost is that of `Replica::put`, once here and once in each copy when it is
+    /// published; where the row is in memory only the list of pending operations grows.
+    pub fn put(&mut self, key: &SeriesKey, time: i64, value: i64) -> Result<u64, PutFault>
+        ensures number { IfOk result (λ number. number ≡ self.old.next) }
+        ensures pending { OnOk result (self.new ≡ with_put self.old key.now time value) }
+        ensures unchanged { OnErr result (self.new ≡ self.old) }
+        ensures spent { (result ≡ Err PutFault.NumbersSpent) ↔ (MAX_NUMBER < self.old.next) }
+    {
+        let number = self.own.next_number();
+        if number > MAX_NUMBER {
+            return Err(PutFault::NumbersSpent);
+        }
+        let sample = Sample {
+            origin: self.own.origin(),
+            number,
+            key: key.copy()?,
+            time,
+            value,
+        };
+        self.push(Op::Put(sample))?;
+        Ok(number)
+    }
+
+    /// Joins a cell from elsewhere, which is valid under the schema, as `Replica::join_cell` does.
+    /// Readers don't see it before it is published. After an error nothing has changed.
+    pub fn join_cell(&mut self, cell: &Cell) -> Result<(), AllocError>
+        requires { IsCellOf self.old.schema (owned_cell cell.now) }
+        ensures pending { OnOk result (self.new ≡ with_pending self.old (Join cell.now)) }
+        ensures unchanged { OnErr result (self.new ≡ self.old) }
+    {
+        self.push(Op::Join(cell.copy()?))
+    }
+
+    /// The names and versions of as many cells as `count` from a place on, in the order of the names;
+    /// fewer where there are fewer. They are those of all operations, pending ones too.
+    pub fn names(&self, alloc: Global, from: usize, count: usize) -> Result<Vec<Name>, AllocError>
+        ensures listed { IfOk result (λ names.
+            map owned_name names.items ≡ take count (drop from (versions_of (cells_of self.now)))) }
+        ensures ascending { IfOk result (λ names. IsSummary (map owned_name names.items)) }
+        ensures of_schema { IfOk result (λ names. All (λ n. IsNameOf self.now.schema (owned_name n)) names.items) }
+    {
+        summary(alloc, &self.own, from, count)
+    }
+
+    /// The names and versions of as many cells as `count` after a name, or of the first ones where
+    /// there is none, in the order of the names; fewer where there are fewer.
+    pub fn names_after(
+        &self,
+        alloc: Global,
+        after: Option<&Name>,
+        count: usize,
+    ) -> Result<Vec<Name>, AllocError>
+        ensures listed { IfOk result (λ names. map owned_name names.items
+            ≡ take count (map named_version (cells_after (name_in after.entry) (entries (cells_of self.now))))) }
+        ensures ascending { IfOk result (λ names. IsSummary (map owned_name names.items)) }
+        ensures of_schema { IfOk result (λ names. All (λ n. IsNameOf self.now.schema (owned_name n)) names.items) }
+    {
+        summary_after(alloc, &self.own, after, count)
+    }
+
+    /// Writes the cells of all operations, pending ones too, as a snapshot: see `rr_snapshot::save`.
+    pub fn save<W: Write>(&self, alloc: Global, output: &mut Counted<W>) -> Result<(), SaveFault>
+        ensures whole { OnOk result (Appends (W.contents (inner_of output.old))
+            (W.contents (inner_of output.new))
+            (snapshot_text latest self.now.schema self.now.origin (entries (cells_of self.now)))) }
+        ensures front { AppendsPrefix (W.contents (inner_of output.old))
+            (W.contents (inner_of output.new))
+            (snapshot_text latest self.now.schema self.now.origin (entries (cells_of self.now))) }
+        ensures too_many { (result ≡ Err SaveFault.TooManyCells)
+            ↔ (MAX_SNAPSHOT_CELLS < len (cells_of self.now)) }
+        ensures count { failures_of output.old ≤ failures_of output.new }
+        ensures failed { result ≡ Err SaveFault.WriteFailed
+            → HasRisen (failures_of output.old) (failures_of output.new) }
+    {
+        rr_snapshot::save(alloc, &self.own, output)
+    }
+
+    /// Shows readers all pending operations, at one step. It waits for readers that are still in the
+    /// copy that is not shown. Where it is refused, nothing has changed, and readers see what they saw.
+    ///
+    /// The cost is that of applying the operations to each copy once, however large the replica is.
+    pub fn publish<R: Wait>(&mut self, rt: &R) -> Result<(), AllocError>
+        ensures published { OnOk result (self.new ≡ with_all_published self.old) }
+        ensures unchanged { OnErr result (self.new ≡ self.old) }
+    {
+        mark(&mut self.book, &mut self.writer, self.marked)?;
+        self.marked = true;
+        replace_with(&mut self.writer, rt, |writer, rt| publish(rt, writer))?;
+        self.marked = false;
+        Ok(())
+    }
+
+    /// A note of what is published.
+    pub fn tell(&self) -> Note
+        ensures { result ≡ record { desk = self.now.desk; list = self.now.published } }
+    {
+        Note {
+            front: self.writer.published().front.again(),
+        }
+    }
+
+    /// Gives the keeper's own replica. It waits for readers that are in a copy; after it no reader
+    /// enters, and each of its calls answers `Memory`.
+    pub fn close<R: Wait>(self, rt: &R) -> Replica<A>
+        ensures { held result ≡ holding_of self }
+    {
+        let Keeper {
+            alloc: _,
+            writer,
+            own,
+            book: _,
+            marked: _,
+        } = self;
+        drop(writer.take(rt));
+        own
+    }
+}

@@ -1,0 +1,21 @@
+//! The laws of a desk, with no work to do: the functions have empty bodies.
+ghost use Rattle.rr_desk.specs.Laws.{OperationsAreKnown, ListsAreKnown, BeginningsAreHistories, AnswersAreOfSamples, CellsGivenAreWhole, CellsSavedAreWhole};
+
+/// A desk is opened with a replica whose cells are those of a knowledge without gaps that has all marks of
+/// its own origin. Its keeper puts samples of its own, and joins whole live cells of such knowledges; others
+/// write theirs meanwhile. Then what each list of its operations makes are the cells of such a knowledge
+/// again.
+pub fn operations_are_known()
+    ensures step { OperationsAreKnown }
+    ensures whole { ListsAreKnown }
+    ensures beginnings { BeginningsAreHistories }
+{}
+
+/// So a reader answers by exactly the samples that reached what it has seen, and the cells that a desk gives
+/// or saves are whole live cells of a knowledge without gaps: a node that pulls and loads from such nodes
+/// alone is such a node again.
+pub fn readers_answer_from_samples()
+    ensures answers { AnswersAreOfSamples }
+    ensures given { CellsGivenAreWhole }
+    ensures saved { CellsSavedAreWhole }
+{}

@@ -1,0 +1,193 @@
+//! Opening a desk.
+ghost use Rattle.std.specs.Prelude.{◌≡◌, ◌≤◌, ◌↔◌, All, [], true, false, length, IfErr, IfOk, OnOk};
+ghost use Rattle.left_right.specs.Sides.{view};
+ghost use Rattle.rr_replica.specs.Held.{IsHolding};
+ghost use Rattle.rr_replica.specs.Operations.{joins_of};
+ghost use Rattle.rr_replica.specs.Standing.{held};
+ghost use Rattle.rr_desk.specs.Editions.{flat};
+ghost use Rattle.rr_desk.specs.Rule.{keeper_of};
+ghost use Rattle.rr_desk.specs.Standing.{opened, HasSeen};
+ghost use Rattle.rr_desk.specs.Writers.{changes};
+ghost use Rattle.rr_desk.specs.declared.fault.OpenFault.TheVariants.{BadCount};
+
+use crate::book::{Batch, Editions};
+use crate::fault::OpenFault;
+use crate::keeper::Keeper;
+use crate::reader::Reader;
+use crate::reading::look;
+use crate::shown::{Change, Shown};
+use crate::writing::{DeskWriter, introduce, start};
+use rr_archive::Archive;
+use rr_base::Schema;
+use rr_replica::Replica;
+use std::alloc::{AllocError, Global};
+use std::marker::Brand;
+use std::sync::Wait;
+
+/// How many readers a desk may have.
+pub const MAX_READERS: usize = 16;
+
+/// A reader that has seen what is published.
+fn seat<A: Archive>(
+    writer: &mut DeskWriter<A>,
+    alloc: Global,
+    schema: &Schema,
+) -> Result<Reader<A>, AllocError>
+    requires joined { (view writer.old.desk.place).joined ≡ true }
+    requires schema { (view writer.old.desk.place).schema ≡ schema.now }
+    ensures view { view writer.new.desk.place ≡ view writer.old.desk.place }
+    ensures shown { writer.new.desk.shown ≡ writer.old.desk.shown }
+    ensures pending { changes writer.new ≡ changes writer.old }
+    ensures seen { IfOk result (HasSeen (view writer.old.desk.place).desk schema.now (view writer.old.desk.place).seen) }
+{
+    let schema = schema.copy(alloc)?;
+    let mut seat = writer.factory().reader()?;
+    introduce(writer, &mut seat);
+    match look(seat) {
+        Ok(seat) => Ok(Reader {
+            schema,
+            seat: Some(seat),
+        }),
+        Err(_) => Err(AllocError),
+    }
+}
+
+/// As many readers.
+fn seats<A: Archive>(
+    writer: &mut DeskWriter<A>,
+    alloc: Global,
+    schema: &Schema,
+    readers: usize,
+) -> Result<Vec<Reader<A>>, AllocError>
+    requires joined { (view writer.old.desk.place).joined ≡ true }
+    requires schema { (view writer.old.desk.place).schema ≡ schema.now }
+    ensures view { view writer.new.desk.place ≡ view writer.old.desk.place }
+    ensures shown { writer.new.desk.shown ≡ writer.old.desk.shown }
+    ensures pending { changes writer.new ≡ changes writer.old }
+    ensures count { IfOk result (λ all. length all.items ≡ readers) }
+    ensures seen { IfOk result (λ all. All (HasSeen (view writer.old.desk.place).desk schema.now (view writer.old.desk.place).seen) all.items) }
+{
+    let mut all = Vec::new(alloc);
+    for n in 0..readers {
+        all.push(seat(writer, alloc, schema)?)?;
+    }
+    Ok(all)
+}
+
+/// `first_edition`, of the operations that are picked.
+fn first_batch<A: Archive, K: Batch>(
+    book: &mut Editions,
+    replica: &Replica<A>,
+) -> Result<(), AllocError>
+    requires fresh { book.old.editions ≡ [] }
+    requires batch { K.batch ≡ joins_of replica.now.cells }
+    ensures desk { book.new.desk ≡ book.old.desk }
+    ensures added { OnOk result (flat book.new.editions ≡ joins_of replica.now.cells) }
+{
+    let _ = replica;
+    book.add::<K>()
+}
+
+/// Adds the first edition, of one join for each cell of a replica.
+fn first_edition<A: Archive>(book: &mut Editions, replica: &Replica<A>) -> Result<(), AllocError>
+    requires fresh { book.old.editions ≡ [] }
+    ensures desk { book.new.desk ≡ book.old.desk }
+    ensures added { OnOk result (flat book.new.editions ≡ joins_of replica.now.cells) }
+{
+    first_batch::<A, Brand>(book, replica)
+}
+
+/// A copy of a replica, which is not opened for readers yet.
+fn unopened<A: Archive>(
+    alloc: Global,
+    replica: &Replica<A>,
+    book: &Editions,
+) -> Result<Shown<A>, AllocError>
+    ensures replica { IfOk result (λ copy. held copy.replica ≡ held replica.now) }
+    ensures unopened { IfOk result (λ copy. copy.started ≡ false) }
+    ensures front { IfOk result (λ copy. copy.front ≡ book.now) }
+{
+    Ok(Shown {
+        replica: replica.copy(alloc)?,
+        started: false,
+        front: book.front(),
+    })
+}
+
+/// The two copies of a replica with all that a keeper needs besides, and their readers.
+fn begin<A: Archive, R: Wait>(
+    alloc: Global,
+    rt: &R,
+    replica: &Replica<A>,
+    readers: usize,
+) -> Result<(DeskWriter<A>, Editions, Vec<Reader<A>>), AllocError>
+    requires some_reader { 1 ≤ readers }
+    requires few_readers { readers ≤ MAX_READERS }
+    ensures holds { OnOk result (IsHolding (held replica.now)) }
+    ensures view { IfOk result (λ r. view r.0.desk.place ≡ keeper_of (held replica.now) r.1.desk) }
+    ensures copy { IfOk result (λ r. held r.0.desk.shown.value.replica ≡ held replica.now) }
+    ensures front { IfOk result (λ r. r.0.desk.shown.value.front ≡ r.1) }
+    ensures pending { IfOk result (λ r. changes r.0 ≡ []) }
+    ensures book { IfOk result (λ r. flat r.1.editions ≡ joins_of replica.now.cells) }
+    ensures count { IfOk result (λ r. length r.2.items ≡ readers) }
+    ensures seen { IfOk result (λ r. All (HasSeen r.1.desk replica.now.schema (joins_of replica.now.cells)) r.2.items) }
+{
+    let schema = replica.schema();
+    let mut book = Editions::open();
+    let first = unopened(alloc, replica, &book)?;
+    let second = unopened(alloc, replica, &book)?;
+    first_edition(&mut book, replica)?;
+    let mut writer = DeskWriter::new(alloc, first, second, readers)?;
+    if writer.append(Change::Mark(book.front())).is_err() {
+        drop(writer.take(rt));
+        return Err(AllocError);
+    }
+    let (mut writer, started) = start(rt, writer, &book);
+    if started.is_err() {
+        drop(writer.take(rt));
+        return Err(AllocError);
+    }
+    match seats(&mut writer, alloc, schema, readers) {
+        Ok(all) => Ok((writer, book, all)),
+        Err(_) => {
+            drop(writer.take(rt));
+            Err(AllocError)
+        }
+    }
+}
+
+/// Opens a desk of a replica, with from 1 to 16 readers. The keeper has the replica, and each reader
+/// has seen one join for each of its cells.
+///
+/// Refused as `BadCount` for another number of readers, and as `Memory`; a refusal hands the replica
+/// back unchanged. The cost is that of copying the replica twice.
+pub fn open<A: Archive, R: Wait>(
+    alloc: Global,
+    rt: &R,
+    replica: Replica<A>,
+    readers: usize,
+) -> Result<(Keeper<A>, Vec<Reader<A>>), (OpenFault, Replica<A>)>
+    ensures keeper { IfOk result (λ r. r.0 ≡ opened (held replica) r.0.desk) }
+    ensures count { IfOk result (λ r. length r.1.items ≡ readers) }
+    ensures seen { IfOk result (λ r. All (HasSeen r.0.desk replica.schema r.0.published) r.1.items) }
+    ensures accepted { OnOk result ((1 ≤ readers) × (readers ≤ MAX_READERS)) }
+    ensures refused { IfErr result (λ e. e.0 ≡ BadCount ↔ ¬ ((1 ≤ readers) × (readers ≤ MAX_READERS))) }
+    ensures unchanged { IfErr result (λ e. e.1 ≡ replica) }
+{
+    if readers == 0 || readers > MAX_READERS {
+        return Err((OpenFault::BadCount, replica));
+    }
+    match begin(alloc, rt, &replica, readers) {
+        Ok((writer, book, all)) => {
+            let keeper = Keeper {
+                alloc,
+                writer,
+                own: replica,
+                book,
+                marked: false,
+            };
+            Ok((keeper, all))
+        }
+        Err(_) => Err((OpenFault::Memory, replica)),
+    }
+}

@@ -1,0 +1,96 @@
+//! Points, put field by field.
+ghost use Rattle.std.specs.Prelude.{◌≡◌, ℕ, ◌<◌, ◌≤◌, ◌↔◌, length, take, None, Err, IfOk, IfErr, OnErr, OnOk, IsTrue, IsFalse, unwrap_or};
+ghost use Rattle.rr_base.specs.declared.limits.TheConstants.{MAX_FIELDS, MAX_NUMBER};
+ghost use Rattle.rr_key.specs.Making.{making_fault};
+ghost use Rattle.rr_line.specs.Key.{HasKeys, key_text, names_of};
+ghost use Rattle.rr_line.specs.Line.{point_view};
+ghost use Rattle.rr_desk.specs.Standing.{holding_of};
+
+use crate::keeper::Keeper;
+use rr_archive::Archive;
+use rr_line::{Field, Point};
+use rr_replica::{WriteFault, is_ahead};
+use std::alloc::AllocError;
+
+impl<A: Archive> Keeper<A> {
+    ghost use Rattle.rr_replica.specs.Writing.{IsOfALine, is_ahead, lacks_numbers};
+    ghost use Rattle.rr_desk.specs.Points.{put_before, with_put, with_puts};
+
+    /// Puts a sample of each field of a point, in the line's order, under as many numbers, and
+    /// answers how many. A point without a time takes `now`. Times are in nanoseconds since the Unix
+    /// epoch, the lead too. Readers don't see the samples before they are published.
+    ///
+    /// Refused as `AheadOfClock` where the point's own time is greater than `now + lead`, and as
+    /// `NumbersSpent` where fewer numbers are left than the point has fields; nothing has then
+    /// changed. Where memory runs out, `Memory` says how many fields, from the first on, were put.
+    /// The cost is that of making the keys and of the puts.
+    pub fn write(
+        &mut self,
+        point: &Point<'_>,
+        now: i64,
+        lead: Option<u64>,
+    ) -> Result<u32, WriteFault>
+        requires { IsOfALine (point_view point.now) }
+        ensures count { IfOk result (λ count. count ≡ length point.now.fields.items) }
+        ensures put { OnOk result (self.new
+            ≡ with_puts self.old (point_view point.now) (unwrap_or point.now.time now) (point_view point.now).fields) }
+        ensures ahead { (result ≡ Err WriteFault.AheadOfClock) ↔ IsTrue (is_ahead point.now.time now lead) }
+        ensures spent { (result ≡ Err WriteFault.NumbersSpent) ↔ (IsFalse (is_ahead point.now.time now lead)
+            × IsTrue (lacks_numbers (holding_of self.old) (length point.now.fields.items))) }
+        ensures refused { IfErr result (λ fault. self.new ≡ with_puts self.old (point_view point.now)
+            (unwrap_or point.now.time now) (take (put_before fault) (point_view point.now).fields)) }
+        ensures fields_left { (put : ℕ) → result ≡ Err (WriteFault.Memory put)
+            → put < length point.now.fields.items }
+    {
+        if is_ahead(point.time, now, lead) {
+            return Err(WriteFault::AheadOfClock);
+        }
+        if self.own.lacks_numbers(point.fields.len()) {
+            return Err(WriteFault::NumbersSpent);
+        }
+        self.put_fields(point, point.time.unwrap_or(now))
+    }
+
+    /// Puts a sample of each field of a point.
+    fn put_fields(&mut self, point: &Point<'_>, time: i64) -> Result<u32, WriteFault>
+        requires keyed { HasKeys (point_view point.now) }
+        requires few_fields { length point.now.fields.items ≤ MAX_FIELDS }
+        requires numbers_left { IsFalse (lacks_numbers (holding_of self.old) (length point.now.fields.items)) }
+        ensures count { IfOk result (λ count. count ≡ length point.now.fields.items) }
+        ensures put { OnOk result (self.new
+            ≡ with_puts self.old (point_view point.now) time (point_view point.now).fields) }
+        ensures refused { IfErr result (λ fault. (put : ℕ) × (fault ≡ WriteFault.Memory put)
+            × (self.new ≡ with_puts self.old (point_view point.now) time (take put (point_view point.now).fields))) }
+        ensures fields_left { (put : ℕ) → result ≡ Err (WriteFault.Memory put)
+            → put < length point.now.fields.items }
+    {
+        let mut put = 0;
+        for field in &point.fields {
+            if self.put_field(point, time, field).is_err() {
+                return Err(WriteFault::Memory { put });
+            }
+            put += 1;
+        }
+        Ok(put)
+    }
+
+    /// Puts the sample of a field of a point.
+    fn put_field(
+        &mut self,
+        point: &Point<'_>,
+        time: i64,
+        field: &Field<'_>,
+    ) -> Result<(), AllocError>
+        requires keyed { making_fault (names_of (point_view point.now) field.now.key.now) ≡ None }
+        requires number_left { self.old.next ≤ MAX_NUMBER }
+        ensures put { OnOk result (self.new
+            ≡ with_put self.old (key_text (point_view point.now) field.now.key.now) time field.now.value) }
+        ensures unchanged { OnErr result (self.new ≡ self.old) }
+    {
+        let key = point.series_key(self.alloc, field.key)?;
+        match self.put(&key, time, field.value) {
+            Ok(_) => Ok(()),
+            Err(_) => Err(AllocError),
+        }
+    }
+}

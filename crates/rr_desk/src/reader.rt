@@ -1,0 +1,155 @@
+//! The readers of a desk, which never wait.
+ghost use Rattle.std.specs.Prelude.{◌≡◌, All, Some, false, IfOk, IsTrue, MatchResult, map};
+ghost use Rattle.std.specs.FinMap.{entries, is_sorted};
+ghost use mathlib.Core.List.{IsPrefix};
+ghost use Rattle.rr_base.specs.Schema.{IsLayout};
+ghost use Rattle.rr_model.specs.CellNames.{cell_name_cmp};
+ghost use Rattle.rr_replica.specs.CellBounds.{IsCellOf};
+ghost use Rattle.rr_replica.specs.Listing.{owned_cell};
+ghost use Rattle.rr_delta.specs.Names.{owned_name};
+ghost use Rattle.rr_delta.specs.Difference.{IsSummary, newer_cells};
+ghost use Rattle.rr_fetch.specs.Answers.{cells_text};
+ghost use Rattle.rr_fetch.specs.Requests.{request_view, IsFetchable};
+ghost use Rattle.rr_desk.specs.Standing.{cells_seen, HasSeenMore};
+ghost use Rattle.rr_desk.specs.declared.fault.FetchFault.TheVariants.{GateShut};
+ghost use Rattle.rr_desk.specs.declared.gate.GateCall.TheVariants.{After, Before};
+
+use crate::fault::FetchFault;
+use crate::gate::{Gate, GateCall};
+use crate::note::Note;
+use crate::reading::{Seat, answer, lacking, look_for};
+use rr_archive::Archive;
+use rr_base::Schema;
+use rr_delta::Name;
+use rr_fetch::Request;
+use rr_replica::Cell;
+use std::alloc::{AllocError, Global};
+use std::marker::Model;
+
+/// A reader of a desk. It answers from what the keeper has published, on any thread, and waits for
+/// nobody.
+#[derive(Drop)]
+pub struct Reader<A: Archive> {
+    pub(crate) schema: Schema,
+    pub(crate) seat: Option<Seat<A>>,
+}
+
+impl<A: Archive> Model for Reader<A> {
+    ghost use Rattle.rr_desk.specs.Standing.{ReaderState, IsSeated, view_in};
+
+    ghost Value = { ReaderState };
+
+    ghost use Rattle.left_right.specs.Sides.{view as seat_view};
+
+    ghost view = { λ r. record {
+      desk = (view_in (λ s. seat_view s.place) r.seat).desk;
+      schema = r.schema;
+      list = (view_in (λ s. seat_view s.place) r.seat).seen;
+    } };
+
+    ghost invariant = { λ r. IsSeated (view_in (λ s. seat_view s.place) r.seat) r.schema };
+}
+
+/// A gate that is always open.
+#[derive(Drop)]
+struct Open {
+    last: Option<GateCall>,
+}
+
+impl Gate for Open {
+    ghost last = { λ g. g.last };
+
+    fn before(&mut self) -> bool {
+        self.last = Some(GateCall::Before(true));
+        true
+    }
+
+    fn after(&mut self) {
+        self.last = Some(GateCall::After);
+    }
+}
+
+impl<A: Archive> Reader<A> {
+    /// The schema of all cells.
+    pub fn schema(&self) -> &Schema
+        ensures value { result.now ≡ self.now.schema }
+        ensures within { IsLayout self.now.schema }
+    {
+        // The proof needs that the schema is within its limits, which `archives` ensures.
+        let _archives = self.schema.archives();
+        &self.schema
+    }
+
+    /// Takes in a note of the same desk. What the reader has seen then begins with what the note is
+    /// of, and with what it had seen before.
+    pub fn learn(&mut self, note: Note) -> Result<(), AllocError>
+        requires { note.desk ≡ self.old.desk }
+        ensures seen { HasSeenMore self.old self.new }
+        ensures told { IfOk result (λ _. IsPrefix note.list self.new.list) }
+    {
+        let Some(seat) = self.seat.take() else {
+            unreachable!();
+        };
+        let (seat, learned) = look_for(seat, &note.front);
+        self.seat = Some(seat);
+        learned
+    }
+
+    /// The answer to a request after the operations that the reader has seen when the call returns.
+    /// They begin with those that it had seen before, also where no answer is made.
+    pub fn fetch(&mut self, alloc: Global, request: &Request) -> Result<Vec<u8>, AllocError>
+        requires { IsFetchable self.old.schema (request_view request.now) }
+        ensures seen { HasSeenMore self.old self.new }
+        ensures answer { IfOk result (λ text. text.items
+            ≡ cells_text self.new.schema (cells_seen self.new) (request_view request.now)) }
+    {
+        let mut gate = Open { last: None };
+        match self.fetch_through(alloc, request, &mut gate) {
+            Ok(text) => Ok(text),
+            Err(_) => Err(AllocError),
+        }
+    }
+
+    /// The same through a gate, which is asked while the copy is held. The answer is made where
+    /// `before` is true, and then `after` is called; where it is false, the answer is `GateShut`.
+    pub fn fetch_through<G: Gate>(
+        &mut self,
+        alloc: Global,
+        request: &Request,
+        gate: &mut G,
+    ) -> Result<Vec<u8>, FetchFault>
+        requires { IsFetchable self.old.schema (request_view request.now) }
+        ensures seen { HasSeenMore self.old self.new }
+        ensures answer { IfOk result (λ text. text.items
+            ≡ cells_text self.new.schema (cells_seen self.new) (request_view request.now)) }
+        ensures gate { MatchResult result
+            (λ _. G.last gate.new ≡ Some After)
+            (λ fault. fault ≡ GateShut → G.last gate.new ≡ Some (Before false)) }
+    {
+        let Some(seat) = self.seat.take() else {
+            unreachable!();
+        };
+        let (seat, text) = answer(seat, alloc, request, gate);
+        self.seat = Some(seat);
+        text
+    }
+
+    /// The cells whose name a summary lacks, or has with a smaller version, in the order of their
+    /// names, after the operations that the reader has seen when the call returns. The names of the
+    /// summary strictly ascend.
+    pub fn difference(&mut self, alloc: Global, summary: &[Name]) -> Result<Vec<Cell>, AllocError>
+        requires { IsSummary (map owned_name summary.now) }
+        ensures seen { HasSeenMore self.old self.new }
+        ensures newer { IfOk result (λ cells. map owned_cell cells.items
+            ≡ newer_cells (map owned_name summary.now) (entries (cells_seen self.new))) }
+        ensures ascending { IfOk result (λ cells. IsTrue (is_sorted cell_name_cmp (map owned_cell cells.items))) }
+        ensures of_schema { IfOk result (λ cells. All (λ c. IsCellOf self.new.schema (owned_cell c)) cells.items) }
+    {
+        let Some(seat) = self.seat.take() else {
+            unreachable!();
+        };
+        let (seat, cells) = lacking(seat, alloc, summary);
+        self.seat = Some(seat);
+        cells
+    }
+}
