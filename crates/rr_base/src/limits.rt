@@ -44,6 +44,9 @@ pub const MAX_FETCH_ROWS: u32 = 100_000;
 /// The most reads of one connection or input.
 pub const MAX_READS: u32 = 4_294_967_295;
 
+/// The readers of a node, each with an address of its own.
+pub const MAX_READERS: usize = 16;
+
 /// The last second, either side of the Unix epoch, that a fetch may name: the first one past every
 /// time of a sample.
 pub const MAX_SECOND: u64 = 9_223_372_037;
@@ -82,3 +85,5 @@ const _: () = prove!(MAX_READS == 4_294_967_295);
 const _: () = prove!(MAX_SECOND == 9_223_372_037);
 
 const _: () = prove!(NANOSECONDS == 1_000_000_000);
+
+const _: () = prove!(MAX_READERS == 16);
