@@ -48,6 +48,9 @@ pub fn number(text: &[u8]) -> Option<u64>
     Some(number)
 }
 
+/// A number below this one and any digit after it are in `u64`.
+const FITS_A_DIGIT: u64 = u64::MAX / 10;
+
 /// The number with one more digit, if the byte is a digit and the number is in `u64`.
 fn with_digit(number: u64, digit: u8) -> Option<u64>
     ensures { result ≡ with_digit number digit }
@@ -55,7 +58,11 @@ fn with_digit(number: u64, digit: u8) -> Option<u64>
     if !digit.is_ascii_digit() {
         return None;
     }
-    number.checked_mul(10)?.checked_add(u64::from(digit - b'0'))
+    let value = u64::from(digit - b'0');
+    if number < FITS_A_DIGIT {
+        return Some(number * 10 + value);
+    }
+    number.checked_mul(10)?.checked_add(value)
 }
 
 /// The number that decimal digits after an optional minus write, if it is in `i64`. One pass.

@@ -1,6 +1,6 @@
 //! The kinds of cases.
 
-use crate::{cells, documents, keys, lines, pages, replicas};
+use crate::{cells, configs, documents, keys, lines, pages, replicas};
 use anyhow::Result;
 use rr_archive::Archive;
 use std::alloc::Global;
@@ -14,6 +14,8 @@ pub(crate) enum Kind {
     Lines,
     /// Schemas as TOML texts, and what each is read as.
     Documents,
+    /// Configurations of a node as TOML texts, and what each is read as.
+    Configs,
     /// Key texts, a line each, and which of them are.
     Keys,
     /// A cell in hexadecimal and changes of its bytes, and what each is read as.
@@ -31,6 +33,7 @@ impl Kind {
             "rr" => Some(Kind::Script),
             "lines" => Some(Kind::Lines),
             "toml" => Some(Kind::Documents),
+            "config" => Some(Kind::Configs),
             "keys" => Some(Kind::Keys),
             "hex" => Some(Kind::Cell),
             "calls" => Some(Kind::Replica),
@@ -45,6 +48,7 @@ impl Kind {
             Kind::Script => Ok(rr_cluster::run_on::<A>(alloc, input)?),
             Kind::Lines => lines::answers(alloc, input),
             Kind::Documents => Ok(documents::answers(alloc, input)?),
+            Kind::Configs => Ok(configs::answers(alloc, input)?),
             Kind::Keys => Ok(keys::answers(alloc, input)?),
             Kind::Cell => cells::answers(alloc, input),
             Kind::Replica => replicas::answers::<A>(alloc, input),

@@ -11,6 +11,7 @@
 mod case;
 mod cells;
 mod changes;
+mod configs;
 mod documents;
 mod files;
 mod keys;

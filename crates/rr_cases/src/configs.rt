@@ -1,0 +1,50 @@
+//! Configurations of a node as TOML texts. A line `---` stands between two of them.
+
+use crate::documents::{push_schema, texts};
+use rr_line::Precision;
+use rr_node::Config;
+use std::alloc::{AllocError, Global};
+
+/// For each text its configuration, the schema first, or why it is refused.
+pub(crate) fn answers(alloc: Global, input: &[u8]) -> Result<Vec<u8>, AllocError> {
+    let mut output = String::new(alloc);
+    for text in &texts(alloc, input)? {
+        match Config::from_toml(alloc, text) {
+            Ok(config) => push_config(&mut output, &config)?,
+            Err(fault) => output.push_str(fault.name())?,
+        }
+        output.push('\n')?;
+    }
+    Ok(output.into_bytes())
+}
+
+fn push_config(output: &mut String, config: &Config) -> Result<(), AllocError> {
+    push_schema(output, &config.schema)?;
+    write!(output, "; lines {}", config.lines.as_str())?;
+    push_texts(output, "fetch", &config.fetch)?;
+    push_texts(output, "peers", &config.peers)?;
+    let (rounds, visits) = (config.rounds, config.visits);
+    write!(output, "; rounds {rounds}; visits {visits}")?;
+    if let Some(lead) = config.lead {
+        write!(output, "; lead {lead}")?;
+    }
+    output.push_str("; precision ")?;
+    output.push_str(name_of(config.precision))
+}
+
+fn push_texts(output: &mut String, key: &str, texts: &[String]) -> Result<(), AllocError> {
+    write!(output, "; {key}")?;
+    for text in texts {
+        write!(output, " {}", text.as_str())?;
+    }
+    Ok(())
+}
+
+fn name_of(precision: Precision) -> &'static str {
+    match precision {
+        Precision::Ns => "ns",
+        Precision::Us => "us",
+        Precision::Ms => "ms",
+        Precision::S => "s",
+    }
+}
