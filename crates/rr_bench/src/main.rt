@@ -1,18 +1,23 @@
-//! Work over one kind of archive, for `bench/archives.py` to time.
+//! Work over one kind of archive, for `bench/archives.py` and `bench/pulls.py` to time.
 //!
 //! | Words | Work |
 //! |---|---|
 //! | `KIND join ARCHIVES ROWS ORIGINS SLOTS` | joins a cell of each origin in each slot into each of some archives of so many rows, slot by slot |
+//! | `KIND pull SERIES MINUTES STEPS` | fills a replica, and lets an empty one pull from it, in steps |
 //! | `KIND run SCRIPT` | runs the script of a file |
 //!
 //! KIND is `ring` or `map`. The program prints how many cells the archives hold then, or how many
-//! bytes the script prints.
+//! bytes the script prints. A pull takes three steps: the target writes its names to one that is gone,
+//! the source answers them, and the target pulls from that answer; the program prints how many bytes or,
+//! after the third, cells the last step made. More steps are further pulls, in which nothing is new.
 #![tactic(auto)]
 
 mod joining;
+mod pulling;
 
 use anyhow::{Context, Result, bail};
 use joining::{Work, count_joined};
+use pulling::{Pulls, count_pulled};
 use rr_archive::{Archive, PlainArchive};
 use rr_ring::RingArchive;
 use std::rt::Files;
@@ -39,11 +44,19 @@ fn count<A: Archive>(rt: &(impl Files + AllocGlobal), words: &[&str]) -> Result<
             };
             count_joined::<A>(alloc, &work)
         }
+        "pull" => {
+            let work = Pulls {
+                series: number(words, 2)?,
+                minutes: number(words, 3)?,
+                steps: number(words, 4)?,
+            };
+            count_pulled::<A>(alloc, &work)
+        }
         "run" => {
             let script = fs::read(rt, word(words, 2)?)?;
             Ok(rr_cluster::run_on::<A>(alloc, &script)?.len())
         }
-        _ => bail!("neither join nor run"),
+        _ => bail!("neither join, pull nor run"),
     }
 }
 

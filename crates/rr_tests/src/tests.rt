@@ -11,6 +11,7 @@ mod keys;
 mod lines;
 mod pages;
 mod process;
+mod pulls;
 mod records;
 mod replicas;
 mod reports;

@@ -10,13 +10,13 @@ use std::test::Fail;
 
 /// What a replica sends that holds nothing, with three rows of a minute: its schema, and the end of no
 /// names.
-const SENT: [u8; 24] = [
+pub(crate) const SENT: [u8; 24] = [
     0, 0, 0, 0x0f, 1, 0, 0, 0, 0x3c, 1, 1, 0, 0, 0, 3, 0, 0, 0, 1, 0, 0, 0, 1, 3,
 ];
 
 /// The answer of one that holds one sample, 7 at a minute after the epoch, of the key `m v` and origin
 /// 1: a page, and the end.
-const REPLY: [u8; 119] = [
+pub(crate) const REPLY: [u8; 119] = [
     0, 0, 0, 0x6e, 4, 0x52, 0x52, 0x50, 0x47, 1, 0, 0, 0, 0x3c, 1, 1, 0, 0, 0, 3, 0, 0, 0, 1, 0, 1,
     0, 3, 0x6d, 0x20, 0x76, 0, 0, 0, 0, 0, 0, 0, 0, 1, 0, 1, 0, 0, 0, 0, 0, 0, 0, 1, 0, 0, 0, 0, 0,
     0, 0, 1, 0, 0, 0, 0, 0, 0, 0, 0, 0, 0, 0, 0, 0, 0, 0, 7, 0, 0, 0, 0, 0, 0, 0, 7, 0, 0, 0, 0, 0,
@@ -25,7 +25,7 @@ const REPLY: [u8; 119] = [
 ];
 
 /// A replica of an origin that holds nothing.
-fn replica(alloc: Global, origin: u16) -> Result<Replica<PlainArchive>, Fail> {
+pub(crate) fn replica(alloc: Global, origin: u16) -> Result<Replica<PlainArchive>, Fail> {
     let rows = ArchiveSpec {
         steps: 1,
         rows: 3,
@@ -37,7 +37,7 @@ fn replica(alloc: Global, origin: u16) -> Result<Replica<PlainArchive>, Fail> {
 }
 
 /// One that holds the sample of the page.
-fn one_sample(alloc: Global) -> Result<Replica<PlainArchive>, Fail> {
+pub(crate) fn one_sample(alloc: Global) -> Result<Replica<PlainArchive>, Fail> {
     let mut replica = replica(alloc, 1)?;
     let key = SeriesKey::parse_text(alloc, b"m v")?;
     replica.put(&key, 60_000_000_000, 7)?;
