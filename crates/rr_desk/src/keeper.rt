@@ -75,7 +75,8 @@ where
       pending = ops_in (changes k.writer);
     } };
 
-    ghost invariant = { λ k. IsKeeper (seat_view k.writer.desk.place) (held k.writer.desk.shown.value.replica) (held k.own)
+    ghost invariant = { λ k. IsKeeper (seat_view k.writer.desk.place)
+        (held k.writer.desk.shown.value.replica) (held k.own)
         k.writer.desk.shown.value.front k.book (changes k.writer) k.marked };
 }
 

@@ -38,7 +38,8 @@ fn seat<A: Archive>(
     ensures view { view writer.new.desk.place ≡ view writer.old.desk.place }
     ensures shown { writer.new.desk.shown ≡ writer.old.desk.shown }
     ensures pending { changes writer.new ≡ changes writer.old }
-    ensures seen { IfOk result (HasSeen (view writer.old.desk.place).desk schema.now (view writer.old.desk.place).seen) }
+    ensures seen { IfOk result (HasSeen (view writer.old.desk.place).desk schema.now
+        (view writer.old.desk.place).seen) }
 {
     let schema = schema.copy(alloc)?;
     let mut seat = writer.factory().reader()?;
@@ -65,7 +66,8 @@ fn seats<A: Archive>(
     ensures shown { writer.new.desk.shown ≡ writer.old.desk.shown }
     ensures pending { changes writer.new ≡ changes writer.old }
     ensures count { IfOk result (λ all. length all.items ≡ readers) }
-    ensures seen { IfOk result (λ all. All (HasSeen (view writer.old.desk.place).desk schema.now (view writer.old.desk.place).seen) all.items) }
+    ensures seen { IfOk result (λ all. All (HasSeen (view writer.old.desk.place).desk schema.now
+        (view writer.old.desk.place).seen) all.items) }
 {
     let mut all = Vec::new(alloc);
     for n in 0..readers {
@@ -130,7 +132,8 @@ fn begin<A: Archive, R: Wait>(
     ensures pending { IfOk result (λ r. changes r.0 ≡ []) }
     ensures book { IfOk result (λ r. flat r.1.editions ≡ joins_of replica.now.cells) }
     ensures count { IfOk result (λ r. length r.2.items ≡ readers) }
-    ensures seen { IfOk result (λ r. All (HasSeen r.1.desk replica.now.schema (joins_of replica.now.cells)) r.2.items) }
+    ensures seen { IfOk result (λ r.
+        All (HasSeen r.1.desk replica.now.schema (joins_of replica.now.cells)) r.2.items) }
 {
     let schema = replica.schema();
     let mut book = Editions::open();

@@ -33,7 +33,8 @@ impl<A: Archive> Keeper<A> {
         requires { IsOfALine (point_view point.now) }
         ensures count { IfOk result (λ count. count ≡ length point.now.fields.items) }
         ensures put { OnOk result (self.new
-            ≡ with_puts self.old (point_view point.now) (unwrap_or point.now.time now) (point_view point.now).fields) }
+            ≡ with_puts self.old (point_view point.now) (unwrap_or point.now.time now)
+            (point_view point.now).fields) }
         ensures ahead { (result ≡ Err WriteFault.AheadOfClock) ↔ IsTrue (is_ahead point.now.time now lead) }
         ensures spent { (result ≡ Err WriteFault.NumbersSpent) ↔ (IsFalse (is_ahead point.now.time now lead)
             × IsTrue (lacks_numbers (holding_of self.old) (length point.now.fields.items))) }

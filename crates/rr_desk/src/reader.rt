@@ -142,8 +142,10 @@ impl<A: Archive> Reader<A> {
         ensures seen { HasSeenMore self.old self.new }
         ensures newer { IfOk result (λ cells. map owned_cell cells.items
             ≡ newer_cells (map owned_name summary.now) (entries (cells_seen self.new))) }
-        ensures ascending { IfOk result (λ cells. IsTrue (is_sorted cell_name_cmp (map owned_cell cells.items))) }
-        ensures of_schema { IfOk result (λ cells. All (λ c. IsCellOf self.new.schema (owned_cell c)) cells.items) }
+        ensures ascending { IfOk result (λ cells.
+            IsTrue (is_sorted cell_name_cmp (map owned_cell cells.items))) }
+        ensures of_schema { IfOk result (λ cells.
+            All (λ c. IsCellOf self.new.schema (owned_cell c)) cells.items) }
     {
         let Some(seat) = self.seat.take() else {
             unreachable!();

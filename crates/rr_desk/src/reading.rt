@@ -75,8 +75,10 @@ pub fn lacking<A: Archive>(
     ensures newer { IfOk result.1 (λ cells. map owned_cell cells.items
         ≡ newer_cells (map owned_name summary.now)
         (entries (outcome_of (view seat.place).schema (view result.0.place).seen))) }
-    ensures ascending { IfOk result.1 (λ cells. IsTrue (is_sorted cell_name_cmp (map owned_cell cells.items))) }
-    ensures of_schema { IfOk result.1 (λ cells. All (λ c. IsCellOf (view seat.place).schema (owned_cell c)) cells.items) }
+    ensures ascending { IfOk result.1 (λ cells.
+        IsTrue (is_sorted cell_name_cmp (map owned_cell cells.items))) }
+    ensures of_schema { IfOk result.1 (λ cells.
+        All (λ c. IsCellOf (view seat.place).schema (owned_cell c)) cells.items) }
 {
     match seat.enter_as::<Enters>() {
         Ok(reading) => {

@@ -54,11 +54,13 @@ fn publish_batch<A: Archive, K: Batch, R: Wait>(
     writer: DeskWriter<A>,
 ) -> (DeskWriter<A>, Result<(), AllocError>)
     requires batch { K.batch ≡ ops_in (changes writer) }
-    requires ready { IsReady (view writer.desk.place) (held writer.desk.shown.value.replica) writer.desk.shown.value.front (changes writer) }
+    requires ready { IsReady (view writer.desk.place) (held writer.desk.shown.value.replica)
+        writer.desk.shown.value.front (changes writer) }
     ensures { MatchResult result.1
         (λ _. (view result.0.desk.place ≡ extended (view writer.desk.place) (ops_in (changes writer)))
         × (changes result.0 ≡ [])
-        × (held result.0.desk.shown.value.replica ≡ fold step (held writer.desk.shown.value.replica) (ops_in (changes writer)))
+        × (held result.0.desk.shown.value.replica
+        ≡ fold step (held writer.desk.shown.value.replica) (ops_in (changes writer)))
         × (result.0.desk.shown.value.front ≡ mark_in writer.desk.shown.value.front (changes writer)))
         (λ _. (view result.0.desk.place ≡ view writer.desk.place)
         × (result.0.desk.shown.value ≡ writer.desk.shown.value)
@@ -72,11 +74,13 @@ pub fn publish<A: Archive, R: Wait>(
     rt: &R,
     writer: DeskWriter<A>,
 ) -> (DeskWriter<A>, Result<(), AllocError>)
-    requires ready { IsReady (view writer.desk.place) (held writer.desk.shown.value.replica) writer.desk.shown.value.front (changes writer) }
+    requires ready { IsReady (view writer.desk.place) (held writer.desk.shown.value.replica)
+        writer.desk.shown.value.front (changes writer) }
     ensures { MatchResult result.1
         (λ _. (view result.0.desk.place ≡ extended (view writer.desk.place) (ops_in (changes writer)))
         × (changes result.0 ≡ [])
-        × (held result.0.desk.shown.value.replica ≡ fold step (held writer.desk.shown.value.replica) (ops_in (changes writer)))
+        × (held result.0.desk.shown.value.replica
+        ≡ fold step (held writer.desk.shown.value.replica) (ops_in (changes writer)))
         × (result.0.desk.shown.value.front ≡ mark_in writer.desk.shown.value.front (changes writer)))
         (λ _. (view result.0.desk.place ≡ view writer.desk.place)
         × (result.0.desk.shown.value ≡ writer.desk.shown.value)
@@ -90,9 +94,12 @@ fn reach_batch<A: Archive, K: Batch>(
     book: &mut Editions,
     writer: &DeskWriter<A>,
 ) -> Result<(), AllocError>
-    requires batch { K.batch ≡ after (flat book.old.editions) ((view writer.now.desk.place).seen ++ ops_in (changes writer.now)) }
-    requires begins { Begins (flat book.old.editions) ((view writer.now.desk.place).seen ++ ops_in (changes writer.now)) }
-    ensures reached { OnOk result (flat book.new.editions ≡ (view writer.now.desk.place).seen ++ ops_in (changes writer.now)) }
+    requires batch { K.batch ≡ after (flat book.old.editions)
+        ((view writer.now.desk.place).seen ++ ops_in (changes writer.now)) }
+    requires begins { Begins (flat book.old.editions)
+        ((view writer.now.desk.place).seen ++ ops_in (changes writer.now)) }
+    ensures reached { OnOk result (flat book.new.editions
+        ≡ (view writer.now.desk.place).seen ++ ops_in (changes writer.now)) }
     ensures desk { book.new.desk ≡ book.old.desk }
     ensures unchanged { OnErr result (book.new ≡ book.old) }
 {
@@ -103,8 +110,10 @@ fn reach_batch<A: Archive, K: Batch>(
 /// Adds an edition to the book of all that it lacks: it has what is published, and then all that is
 /// pending.
 fn reach<A: Archive>(book: &mut Editions, writer: &DeskWriter<A>) -> Result<(), AllocError>
-    requires begins { Begins (flat book.old.editions) ((view writer.now.desk.place).seen ++ ops_in (changes writer.now)) }
-    ensures reached { OnOk result (flat book.new.editions ≡ (view writer.now.desk.place).seen ++ ops_in (changes writer.now)) }
+    requires begins { Begins (flat book.old.editions)
+        ((view writer.now.desk.place).seen ++ ops_in (changes writer.now)) }
+    ensures reached { OnOk result (flat book.new.editions
+        ≡ (view writer.now.desk.place).seen ++ ops_in (changes writer.now)) }
     ensures desk { book.new.desk ≡ book.old.desk }
     ensures unchanged { OnErr result (book.new ≡ book.old) }
 {
@@ -122,14 +131,16 @@ pub fn mark<A: Archive>(
     requires joined { (view writer.old.desk.place).joined ≡ true }
     requires desk { book.old.desk ≡ (view writer.old.desk.place).desk }
     requires accepted { AllAccepted (held writer.old.desk.shown.value.replica) (ops_in (changes writer.old)) }
-    requires begins { Begins (flat book.old.editions) ((view writer.old.desk.place).seen ++ ops_in (changes writer.old)) }
+    requires begins { Begins (flat book.old.editions)
+        ((view writer.old.desk.place).seen ++ ops_in (changes writer.old)) }
     requires marked { marked ≡ true → IsReady (view writer.old.desk.place) (held writer.old.desk.shown.value.replica)
         writer.old.desk.shown.value.front (changes writer.old) }
     ensures same_copy { writer.new.desk ≡ writer.old.desk }
     ensures same_desk { book.new.desk ≡ book.old.desk }
     ensures pending { ops_in (changes writer.new) ≡ ops_in (changes writer.old) }
     ensures unmarked { OnErr result (changes writer.new ≡ changes writer.old) }
-    ensures begins { Begins (flat book.new.editions) ((view writer.old.desk.place).seen ++ ops_in (changes writer.old)) }
+    ensures begins { Begins (flat book.new.editions)
+        ((view writer.old.desk.place).seen ++ ops_in (changes writer.old)) }
     ensures ready { OnOk result (IsReady (view writer.new.desk.place) (held writer.new.desk.shown.value.replica)
         writer.new.desk.shown.value.front (changes writer.new)) }
 {

@@ -1,0 +1,213 @@
+//! Readers on threads of their own.
+
+use super::{AVERAGES, MINUTE, NOTHING, SEVEN, answers, fetched, key, replica};
+use rr_archive::PlainArchive;
+use rr_desk::{FetchFault, Gate, GateCall, Keeper, Reader, open};
+use rr_fetch::parse_request;
+use std::alloc::Global;
+use std::sync::Wait;
+use std::sync::atomic::{AtomicU64, Ordering};
+use std::test::Fail;
+use std::thread::{Threads, join, sleep};
+use std::time::{Clock, Duration};
+
+/// A gate that answers false.
+#[derive(Drop)]
+struct Shut {
+    last: Option<GateCall>,
+}
+
+impl Gate for Shut {
+    ghost last = { λ g. g.last };
+
+    fn before(&mut self) -> bool {
+        self.last = Some(GateCall::Before(false));
+        false
+    }
+
+    fn after(&mut self) {
+        self.last = Some(GateCall::After);
+    }
+}
+
+/// A gate that looks until a flag is set, and answers false if it never was.
+#[derive(Drop)]
+struct Waits<'a, R: Clock> {
+    rt: &'a R,
+    flag: &'a AtomicU64,
+    last: Option<GateCall>,
+}
+
+impl<'a, R: Clock> Gate for Waits<'a, R> {
+    ghost last = { λ g. g.last };
+
+    fn before(&mut self) -> bool {
+        let mut is_set = false;
+        for _ in 0..100_000 {
+            if self.flag.load(Ordering::SeqCst) > 0 {
+                is_set = true;
+                break;
+            }
+            sleep(self.rt, Duration::from_micros(1));
+        }
+        self.last = Some(GateCall::Before(is_set));
+        is_set
+    }
+
+    fn after(&mut self) {
+        self.last = Some(GateCall::After);
+    }
+}
+
+/// A gate that is open, and sets a flag when the answer is made.
+#[derive(Drop)]
+struct Sets<'a> {
+    flag: &'a AtomicU64,
+    last: Option<GateCall>,
+}
+
+impl<'a> Gate for Sets<'a> {
+    ghost last = { λ g. g.last };
+
+    fn before(&mut self) -> bool {
+        self.last = Some(GateCall::Before(true));
+        true
+    }
+
+    fn after(&mut self) {
+        self.flag.store(1, Ordering::SeqCst);
+        self.last = Some(GateCall::After);
+    }
+}
+
+/// What two minutes are asked for, of which nothing is known.
+const LAST: &[u8] = b"LAST 60 0 120 m v";
+
+/// What a reader answers through a gate.
+fn fetched_through<G: Gate>(
+    alloc: Global,
+    reader: &mut Reader<PlainArchive>,
+    gate: &mut G,
+) -> Option<Result<Vec<u8>, FetchFault>> {
+    let request = parse_request(alloc, LAST, reader.schema()).ok()?;
+    Some(reader.fetch_through(alloc, &request, gate))
+}
+
+/// Whether the answer through a gate is made, and is the one that is due.
+fn passes<G: Gate>(alloc: Global, reader: &mut Reader<PlainArchive>, gate: &mut G) -> bool {
+    match fetched_through(alloc, reader, gate) {
+        Some(Ok(text)) => text.as_slice() == b"m v,0,U\nm v,60,U\n".as_slice(),
+        _ => false,
+    }
+}
+
+#[test]
+fn a_shut_gate_shuts_one_fetch(rt: HostRuntime) -> Result<(), Fail> {
+    let replica = replica::<PlainArchive>(rt.alloc())?;
+    let Ok((keeper, mut readers)) = open(rt.alloc(), &rt, replica, 1) else {
+        panic!(&rt; "no desk");
+    };
+    let mut gate = Shut { last: None };
+    let is_shut = matches!(
+        fetched_through(rt.alloc(), &mut readers[0], &mut gate),
+        Some(Err(FetchFault::GateShut))
+    );
+    let is_answered = answers(rt.alloc(), &mut readers[0], NOTHING);
+    keeper.close(&rt);
+    assert_eq!(rt; (is_shut, is_answered), (true, true));
+    Ok(())
+}
+
+/// Two readers fetch, each on a thread of its own. The first holds its copy until the second has
+/// answered.
+fn fetch_both<R: Threads + Clock + Sync>(
+    rt: &R,
+    alloc: Global,
+    mut one: Reader<PlainArchive>,
+    mut two: Reader<PlainArchive>,
+) -> (bool, bool) {
+    let flag = AtomicU64::new(0);
+    let shared = &flag;
+    join(
+        rt,
+        move || {
+            let mut gate = Waits {
+                rt,
+                flag: shared,
+                last: None,
+            };
+            passes(alloc, &mut one, &mut gate)
+        },
+        move || {
+            let mut gate = Sets {
+                flag: shared,
+                last: None,
+            };
+            passes(alloc, &mut two, &mut gate)
+        },
+    )
+}
+
+#[test]
+fn a_reader_answers_while_another_holds_its_copy(rt: HostRuntime) -> Result<(), Fail> {
+    let replica = replica::<PlainArchive>(rt.alloc())?;
+    let Ok((keeper, mut readers)) = open(rt.alloc(), &rt, replica, 2) else {
+        panic!(&rt; "no desk");
+    };
+    let both = match (readers.pop(), readers.pop()) {
+        (Some(one), Some(two)) => fetch_both(&rt, rt.alloc(), one, two),
+        _ => (false, false),
+    };
+    keeper.close(&rt);
+    assert_eq!(rt; both, (true, true));
+    Ok(())
+}
+
+/// Whether a text is one of the answers before and after the sample.
+fn is_possible(text: &[u8]) -> bool {
+    text == NOTHING || text == SEVEN
+}
+
+/// Whether each of 200 fetches answers what is possible.
+fn fetch_often(alloc: Global, reader: &mut Reader<PlainArchive>) -> bool {
+    let mut are_possible = true;
+    for _ in 0..200 {
+        are_possible &= match fetched(alloc, reader, AVERAGES) {
+            Some(text) => is_possible(&text),
+            None => false,
+        };
+    }
+    are_possible
+}
+
+/// A reader fetches on a thread of its own, while the keeper puts a sample and publishes it.
+fn fetch_beside<R: Threads + Wait + Sync>(
+    rt: &R,
+    alloc: Global,
+    keeper: &mut Keeper<PlainArchive>,
+    reader: &mut Reader<PlainArchive>,
+) -> (bool, bool) {
+    join(
+        rt,
+        move || fetch_often(alloc, reader),
+        move || {
+            let Some(key) = key(alloc) else {
+                return false;
+            };
+            keeper.put(&key, MINUTE, 7) == Ok(1) && keeper.publish(rt).is_ok()
+        },
+    )
+}
+
+#[test]
+fn a_reader_answers_while_the_keeper_publishes(rt: HostRuntime) -> Result<(), Fail> {
+    let replica = replica::<PlainArchive>(rt.alloc())?;
+    let Ok((mut keeper, mut readers)) = open(rt.alloc(), &rt, replica, 1) else {
+        panic!(&rt; "no desk");
+    };
+    let (possible, published) = fetch_beside(&rt, rt.alloc(), &mut keeper, &mut readers[0]);
+    let after = answers(rt.alloc(), &mut readers[0], SEVEN);
+    keeper.close(&rt);
+    assert_eq!(rt; (possible, published, after), (true, true, true));
+    Ok(())
+}
