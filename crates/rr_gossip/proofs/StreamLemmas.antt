@@ -1,6 +1,6 @@
 -- Frames at the front of bytes.
 use Rattle.std.proofs.Common.{◌≡◌, ℕ, ◌+◌, ◌<◌, ◌≤◌, Bool, true, false, List, [], ◌++◌, length, take, drop, Ok, Err, refl, sym, ap, ◌∙◌, inl, inr, arith, take_at, drop_at, append_assoc, subst, Option}
-use Rattle.std.specs.Prelude.{◌⊎◌, nat_lt, Result, if◌then◌else◌, OnOk, IfErr}
+use Rattle.std.specs.Prelude.{nat_lt, Result, if◌then◌else◌, OnOk, IfErr}
 use Rattle.std.proofs.KnownBytes.{Consumes-trans}
 use Rattle.std.proofs.Math.Seq.{take-length}
 use Rattle.std.specs.Int.{w32, from_be_bytes}
@@ -11,9 +11,9 @@ use Rattle.rr_page.specs.declared.fault.PageFault.{PageFault}
 use Rattle.rr_page.specs.declared.fault.PageFault.TheVariants.{Short}
 use Rattle.rr_page.specs.Reading.{number_at}
 use Rattle.rr_gossip.specs.declared.fault.GossipFault.{GossipFault}
-use Rattle.rr_gossip.specs.declared.fault.GossipFault.TheVariants.{ReadFailed, Ended, FrameTooLong, Memory}
+use Rattle.rr_gossip.specs.declared.fault.GossipFault.TheVariants.{Ended, FrameTooLong}
 use Rattle.rr_gossip.specs.declared.frame.TheConstants.{MAX_FRAME_LEN}
-use Rattle.rr_gossip.specs.Stream.{content_from, frame_at, BreaksOff, Grows, IsFrame}
+use Rattle.rr_gossip.specs.Stream.{content_from, frame_at, BreaksOff, Grows, IsFrame, ReadsFewer}
 
 -- ---- lengths
 
@@ -91,10 +91,6 @@ nothing_behind_content bytes n rest is fits few =
     ∙ (elim (nat_lt (length rest) n) as (λ b. (choice b (take n rest) (drop n rest)).1 ≡ []) [ true ↦ refl | false ↦ drop_past n rest few ])
 
 -- ---- a read that stops
-
--- why fewer bytes were read than asked for
-abbrev pub ReadsFewer : GossipFault → ℕ → ℕ → Type 0
-ReadsFewer fault got asked = (fault ≡ Memory) ⊎ (((fault ≡ ReadFailed) ⊎ (fault ≡ Ended)) × (got < asked))
 
 breaks_off : (bytes : List ℕ) (fault : GossipFault) (got asked : ℕ) → (frame_at bytes).1 ≡ [] → (got < asked → frame_at bytes ≡ (Err Ended, [])) → ReadsFewer fault got asked → BreaksOff bytes fault
 breaks_off bytes fault got asked none cut (inl memory) = record { nothing_behind = none; why = inl memory }

@@ -1,5 +1,5 @@
 -- Frames in a stream: the one at the front of bytes, and those that a side of a session has read.
-use Rattle.std.specs.Prelude.{◌≡◌, ◌⊎◌, ℕ, nat_lt, List, [], ◌++◌, length, take, drop, All, Option, Result, Ok, Err, if◌then◌else◌}
+use Rattle.std.specs.Prelude.{◌≡◌, ◌⊎◌, ℕ, nat_lt, ◌<◌, List, [], ◌++◌, length, take, drop, All, Option, Result, Ok, Err, if◌then◌else◌}
 use Rattle.std.specs.Int.{w32}
 use Rattle.std.specs.Io.KnownBytes.{Consumes}
 use Rattle.std.specs.List.{concat}
@@ -33,6 +33,10 @@ IsFrame bytes = frame_at bytes ≡ (Ok (drop 4 bytes), [])
 -- bytes were taken from the front of what a reader had, where that is known, and stand after those that were there
 abbrev pub Grows : Option (List ℕ) → Option (List ℕ) → List ℕ → List ℕ → Type 0
 Grows had left before bytes = (front : List ℕ) × (bytes ≡ before ++ front) × Consumes had left front
+
+-- why fewer bytes were read than asked for: the reader failed or its input ended; or memory ran out
+abbrev pub ReadsFewer : GossipFault → ℕ → ℕ → Type 0
+ReadsFewer fault got asked = (fault ≡ Memory) ⊎ (((fault ≡ ReadFailed) ⊎ (fault ≡ Ended)) × (got < asked))
 
 -- no whole frame was read, and nothing behind what was looked at: the bytes are too few for one, at the end or where
 -- the reader failed, or the length is too great, or memory ran out

@@ -88,10 +88,12 @@ fn give_from<S: Source, R: Read, W: Write>(
 ) -> Result<(), GossipFault>
     requires few { length before.now ≤ 4 }
     requires frames_fit { frames ≤ MAX_FRAMES }
-    ensures given { OnOk result (HasGiven frames (S.layout source.old) (S.cells source.new) before.now
+    ensures given { OnOk result (HasGiven frames
+        (S.layout source.old) (S.cells source.new) before.now
         (R.remaining (inner_of input.old)) (R.remaining (inner_of input.new))
         (W.contents (inner_of output.old)) (W.contents (inner_of output.new))) }
-    ensures stopped { IfErr result (HasFailedToGive frames (S.layout source.old) (S.cells source.new) before.now
+    ensures stopped { IfErr result (HasFailedToGive frames
+        (S.layout source.old) (S.cells source.new) before.now
         (R.remaining (inner_of input.old)) (R.remaining (inner_of input.new))
         (W.contents (inner_of output.old)) (W.contents (inner_of output.new))) }
     ensures schema { S.layout source.new ≡ S.layout source.old }
@@ -129,10 +131,12 @@ pub fn give<S: Source, R: Read, W: Write>(
     output: &mut Counted<W>,
     source: &mut S,
 ) -> Result<(), GossipFault>
-    ensures given { OnOk result (HasGiven MAX_FRAMES (S.layout source.old) (S.cells source.new) []
+    ensures given { OnOk result (HasGiven MAX_FRAMES
+        (S.layout source.old) (S.cells source.new) []
         (R.remaining (inner_of input.old)) (R.remaining (inner_of input.new))
         (W.contents (inner_of output.old)) (W.contents (inner_of output.new))) }
-    ensures stopped { IfErr result (HasFailedToGive MAX_FRAMES (S.layout source.old) (S.cells source.new) []
+    ensures stopped { IfErr result (HasFailedToGive MAX_FRAMES
+        (S.layout source.old) (S.cells source.new) []
         (R.remaining (inner_of input.old)) (R.remaining (inner_of input.new))
         (W.contents (inner_of output.old)) (W.contents (inner_of output.new))) }
     ensures schema { S.layout source.new ≡ S.layout source.old }
@@ -158,10 +162,12 @@ pub fn give_within<S: Source, R: Read, W: Write>(
     frames: u32,
 ) -> Result<(), GossipFault>
     requires { frames ≤ MAX_FRAMES }
-    ensures given { OnOk result (HasGiven frames (S.layout source.old) (S.cells source.new) []
+    ensures given { OnOk result (HasGiven frames
+        (S.layout source.old) (S.cells source.new) []
         (R.remaining (inner_of input.old)) (R.remaining (inner_of input.new))
         (W.contents (inner_of output.old)) (W.contents (inner_of output.new))) }
-    ensures stopped { IfErr result (HasFailedToGive frames (S.layout source.old) (S.cells source.new) []
+    ensures stopped { IfErr result (HasFailedToGive frames
+        (S.layout source.old) (S.cells source.new) []
         (R.remaining (inner_of input.old)) (R.remaining (inner_of input.new))
         (W.contents (inner_of output.old)) (W.contents (inner_of output.new))) }
     ensures schema { S.layout source.new ≡ S.layout source.old }
@@ -186,10 +192,12 @@ pub fn give_after<S: Source, R: Read, W: Write>(
     output: &mut Counted<W>,
     source: &mut S,
 ) -> Result<(), GossipFault>
-    ensures given { OnOk result (HasGiven MAX_FRAMES (S.layout source.old) (S.cells source.new) (first ∷ [])
+    ensures given { OnOk result (HasGiven MAX_FRAMES
+        (S.layout source.old) (S.cells source.new) (first ∷ [])
         (R.remaining (inner_of input.old)) (R.remaining (inner_of input.new))
         (W.contents (inner_of output.old)) (W.contents (inner_of output.new))) }
-    ensures stopped { IfErr result (HasFailedToGive MAX_FRAMES (S.layout source.old) (S.cells source.new) (first ∷ [])
+    ensures stopped { IfErr result (HasFailedToGive MAX_FRAMES
+        (S.layout source.old) (S.cells source.new) (first ∷ [])
         (R.remaining (inner_of input.old)) (R.remaining (inner_of input.new))
         (W.contents (inner_of output.old)) (W.contents (inner_of output.new))) }
     ensures schema { S.layout source.new ≡ S.layout source.old }
@@ -216,10 +224,12 @@ pub fn give_after_within<S: Source, R: Read, W: Write>(
     frames: u32,
 ) -> Result<(), GossipFault>
     requires { frames ≤ MAX_FRAMES }
-    ensures given { OnOk result (HasGiven frames (S.layout source.old) (S.cells source.new) (first ∷ [])
+    ensures given { OnOk result (HasGiven frames
+        (S.layout source.old) (S.cells source.new) (first ∷ [])
         (R.remaining (inner_of input.old)) (R.remaining (inner_of input.new))
         (W.contents (inner_of output.old)) (W.contents (inner_of output.new))) }
-    ensures stopped { IfErr result (HasFailedToGive frames (S.layout source.old) (S.cells source.new) (first ∷ [])
+    ensures stopped { IfErr result (HasFailedToGive frames
+        (S.layout source.old) (S.cells source.new) (first ∷ [])
         (R.remaining (inner_of input.old)) (R.remaining (inner_of input.new))
         (W.contents (inner_of output.old)) (W.contents (inner_of output.new))) }
     ensures schema { S.layout source.new ≡ S.layout source.old }

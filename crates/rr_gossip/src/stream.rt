@@ -1,10 +1,10 @@
 //! Frames from a reader.
-ghost use Rattle.std.specs.Prelude.{◌≡◌, ◌⊎◌, ◌<◌, ◌≤◌, Ok, Err, IfErr, OnOk, List, ℕ, [], drop, length};
+ghost use Rattle.std.specs.Prelude.{◌≡◌, ◌≤◌, Ok, Err, IfErr, OnOk, List, ℕ, [], drop, length};
 ghost use Rattle.std.specs.Int.{w32};
 ghost use Rattle.std.specs.Io.KnownBytes.{IsAtEnd};
 ghost use Rattle.rr_base.specs.Counted.{inner_of, failures_of, HasRisen};
 ghost use Rattle.rr_page.specs.Reading.{number_at};
-ghost use Rattle.rr_gossip.specs.Stream.{BreaksOff, Grows, IsFrame};
+ghost use Rattle.rr_gossip.specs.Stream.{BreaksOff, Grows, IsFrame, ReadsFewer};
 
 use crate::fault::GossipFault;
 use crate::frame::MAX_FRAME_LEN;
@@ -31,9 +31,10 @@ fn read_until<R: Read>(
         (R.remaining (inner_of input.new)) bytes.old.items bytes.new.items) }
     ensures whole { OnOk result (length bytes.new.items ≡ len) }
     ensures stopped { IfErr result (λ fault. (read : List ℕ)
-        × Grows (R.remaining (inner_of input.old)) (R.remaining (inner_of input.new)) bytes.old.items read
+        × Grows (R.remaining (inner_of input.old)) (R.remaining (inner_of input.new))
+        bytes.old.items read
         × (length read ≤ len)
-        × ((fault ≡ GossipFault.Memory) ⊎ (((fault ≡ GossipFault.ReadFailed) ⊎ (fault ≡ GossipFault.Ended)) × (length read < len)))) }
+        × ReadsFewer fault (length read) len) }
     ensures ended { result ≡ Err GossipFault.Ended → IsAtEnd (R.remaining (inner_of input.new)) }
     ensures count { failures_of input.old ≤ failures_of input.new }
     ensures failed { result ≡ Err GossipFault.ReadFailed
@@ -78,7 +79,8 @@ pub(crate) fn read_frame<R: Read>(
     ensures whole { OnOk result (IsFrame frame.new.items) }
     ensures long { OnOk result (LENGTH_LEN ≤ length frame.new.items) }
     ensures stopped { IfErr result (λ fault. (read : List ℕ)
-        × Grows (R.remaining (inner_of input.old)) (R.remaining (inner_of input.new)) frame.old.items read
+        × Grows (R.remaining (inner_of input.old)) (R.remaining (inner_of input.new))
+        frame.old.items read
         × BreaksOff read fault) }
     ensures ended { result ≡ Err GossipFault.Ended → IsAtEnd (R.remaining (inner_of input.new)) }
     ensures count { failures_of input.old ≤ failures_of input.new }
