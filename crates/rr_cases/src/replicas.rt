@@ -6,8 +6,11 @@
 //! | `put TIME VALUE` | the number of the sample, which is of `m v` |
 //! | `write NOW LEAD LINE` | how many fields are put; the lead `-` is none |
 //! | `join ORIGIN NUMBER SLOT VALUE` | `joined`: a cell of one sample of `m v`, at the start of a slot of the first archive |
+//! | `apply ORIGIN NUMBER TIME VALUE` | `taken` or `not taken`: a sample of `m v`, after room was made for it |
+//! | `apply-cell ARCHIVE ORIGIN NUMBER SLOT TIME VALUE` | the same of a cell of one sample at a time, whatever its slot |
 //! | `next` | the number of the next sample |
 //! | `cells` | a line for each cell: key, archive, slot, origin, version, count, last value |
+//! | `copy CALL` | what the call of a copy answers, and then a line for each cell of the copy |
 
 ghost use Rattle.std.specs.Prelude.{IfOk};
 ghost use Rattle.rr_replica.specs.CellBounds.{IsCellOf};
@@ -21,7 +24,7 @@ use rr_contrib::Contribution;
 use rr_key::SeriesKey;
 use rr_line::{LINE_FEED, Line, Precision, parse_line};
 use rr_page::{cell_bytes, read_cell};
-use rr_replica::{Cell, CellRef, Replica, WriteFault};
+use rr_replica::{Cell, CellRef, Op, Replica, Sample, WriteFault};
 use std::alloc::{AllocError, Global};
 
 /// The nanoseconds of a step.
@@ -66,11 +69,30 @@ fn push_answer<A: Archive>(
     line: &str,
     output: &mut String,
 ) -> Result<()> {
+    match line.strip_prefix("copy ") {
+        Some(call) => {
+            let mut copy = replica.copy(alloc)?;
+            push_call(alloc, &mut copy, call, output)?;
+            Ok(push_cells(&copy, output)?)
+        }
+        None => push_call(alloc, replica, line, output),
+    }
+}
+
+/// Makes a call other than `copy`, and adds its answer.
+fn push_call<A: Archive>(
+    alloc: Global,
+    replica: &mut Replica<A>,
+    line: &str,
+    output: &mut String,
+) -> Result<()> {
     let (call, words) = first_word(line);
     match call {
         "put" => put(alloc, replica, words, output),
         "write" => write_line(alloc, replica, words, output),
         "join" => join(alloc, replica, words, output),
+        "apply" => apply_sample(alloc, replica, words, output),
+        "apply-cell" => apply_cell(alloc, replica, words, output),
         "next" => Ok(write!(output, "{}\n", replica.next_number())?),
         "cells" => Ok(push_cells(replica, output)?),
         _ => bail!("an unknown call"),
@@ -170,6 +192,54 @@ fn cell_of(
     let bytes = cell_bytes(alloc, cell)?;
     let (cell, _) = read_cell(alloc, &bytes, schema)?;
     Ok(cell)
+}
+
+fn apply_sample<A: Archive>(
+    alloc: Global,
+    replica: &mut Replica<A>,
+    words: &str,
+    output: &mut String,
+) -> Result<()> {
+    let (origin, words) = first_word(words);
+    let (number, words) = first_word(words);
+    let (time, value) = first_word(words);
+    let sample = Sample {
+        origin: Origin::new(origin.parse()?)?,
+        number: number.parse()?,
+        key: SeriesKey::parse_text(alloc, b"m v")?,
+        time: time.parse()?,
+        value: value.parse()?,
+    };
+    push_taken(replica, &Op::Put(sample), output)
+}
+
+fn apply_cell<A: Archive>(
+    alloc: Global,
+    replica: &mut Replica<A>,
+    words: &str,
+    output: &mut String,
+) -> Result<()> {
+    let (archive, words) = first_word(words);
+    let (origin, words) = first_word(words);
+    let (number, words) = first_word(words);
+    let (slot, words) = first_word(words);
+    let (time, value) = first_word(words);
+    let number = number.parse::<u64>()?.clamp(1, MAX_NUMBER);
+    let cell = Cell {
+        key: SeriesKey::parse_text(alloc, b"m v")?,
+        archive: archive.parse()?,
+        slot: slot.parse()?,
+        origin: Origin::new(origin.parse()?)?,
+        contribution: Contribution::first(number, 0, time.parse()?, value.parse()?),
+    };
+    push_taken(replica, &Op::Join(cell), output)
+}
+
+/// Makes room for an operation and applies it, and adds whether it was taken.
+fn push_taken<A: Archive>(replica: &mut Replica<A>, op: &Op, output: &mut String) -> Result<()> {
+    replica.ready(op)?;
+    let taken = replica.apply(op)?;
+    Ok(output.push_str(if taken { "taken\n" } else { "not taken\n" })?)
 }
 
 fn push_cells<A: Archive>(replica: &Replica<A>, output: &mut String) -> Result<(), AllocError> {

@@ -13,44 +13,44 @@ use Rattle.rr_join.specs.Values.{get_called}
 use Rattle.rr_join.proofs.ValuesLemmas.{get_called-insert, get_called-set}
 use Rattle.rr_model.specs.World.{World}
 use Rattle.rr_replica.specs.Cells.{Cells}
-use Rattle.rr_replica.specs.Holding.{Holding}
+use Rattle.rr_replica.specs.Standing.{Standing}
 use Rattle.rr_base.specs.Bytes.{bytes_cmp}
 use Rattle.rr_cluster.specs.declared.cluster.Cluster.{Cluster}
 use Rattle.rr_cluster.specs.Commands.Bytes.{bytes_of_page}
-use Rattle.rr_cluster.specs.Meaning.{node_of, bytes_at, bytes_of_snapshot, replica_at, HasPageText, HasSnapshotText, OptionRepresents, Represents}
+use Rattle.rr_cluster.specs.Meaning.{node_in, bytes_at, bytes_of_snapshot, replica_at, HasPageText, HasSnapshotText, OptionRepresents, Represents}
 use Rattle.rr_cluster.specs.State.{Node, Snapshot, State, first_state}
 use Rattle.rr_cluster.proofs.StepLemmas.{names_apart}
 
 abbrev pub Replicas : Type 0
-Replicas = BTreeMap (Vec ℕ) Holding
+Replicas = BTreeMap (Vec ℕ) Standing
 
 abbrev name_of : Vec ℕ → List ℕ
 name_of key = key.items
 
 -- the new map has the replica at the name, and is the old one at all others
-abbrev pub HasPut : Replicas → Replicas → List ℕ → Holding → Type 0
+abbrev pub HasPut : Replicas → Replicas → List ℕ → Standing → Type 0
 HasPut old new name h = (q : List ℕ) → replica_at new q ≡ cond (eq_by_cmp bytes_cmp q name) (Some h) (replica_at old q)
 
-pub inserted : (old new : Replicas) (key : Vec ℕ) (h : Holding) → new.entries ≡ insert_entry (λ a b. bytes_cmp a.items b.items) old.entries key h → HasPut old new key.items h
+pub inserted : (old new : Replicas) (key : Vec ℕ) (h : Standing) → new.entries ≡ insert_entry (λ a b. bytes_cmp a.items b.items) old.entries key h → HasPut old new key.items h
 inserted = get_called-insert nat_list_cmp_total names_apart name_of
 
-pub changed : (old new : Replicas) (name : List ℕ) (h : Holding) → new.entries ≡ set_value (λ key. eq_by_cmp bytes_cmp name key.items) old.entries h → is_some (replica_at old name) ≡ true → HasPut old new name h
+pub changed : (old new : Replicas) (name : List ℕ) (h : Standing) → new.entries ≡ set_value (λ key. eq_by_cmp bytes_cmp name key.items) old.entries h → is_some (replica_at old name) ≡ true → HasPut old new name h
 changed = get_called-set nat_list_cmp_total names_apart name_of
 
 -- a replica put under a name, on both sides
-pub nodes_put : (old new : Replicas) (before : map.FinMap bytes_cmp (Node Cells)) (name : List ℕ) (h : Holding)
-    → ((q : List ℕ) → map.get before q ≡ option_map node_of (replica_at old q)) → HasPut old new name h
-    → (q : List ℕ) → map.get (map.insert before name (node_of h)) q ≡ option_map node_of (replica_at new q)
+pub nodes_put : (old new : Replicas) (before : map.FinMap bytes_cmp (Node Cells)) (name : List ℕ) (h : Standing)
+    → ((q : List ℕ) → map.get before q ≡ option_map node_in (replica_at old q)) → HasPut old new name h
+    → (q : List ℕ) → map.get (map.insert before name (node_in h)) q ≡ option_map node_in (replica_at new q)
 nodes_put old new before name h same put q =
-    map.get-insert nat_list_cmp_total before name (node_of h) q ∙ by (eq_by_cmp bytes_cmp q name) ∙ sym (ap (option_map node_of) (put q))
+    map.get-insert nat_list_cmp_total before name (node_in h) q ∙ by (eq_by_cmp bytes_cmp q name) ∙ sym (ap (option_map node_in) (put q))
   where
-    by : (b : Bool) → cond b (Some (node_of h)) (map.get before q) ≡ option_map node_of (cond b (Some h) (replica_at old q))
+    by : (b : Bool) → cond b (Some (node_in h)) (map.get before q) ≡ option_map node_in (cond b (Some h) (replica_at old q))
     by true = refl
     by false = same q
 
 -- what holds of each replica before, and of the one that is put, holds of each
-pub each_put : (P : Holding → Type 0) (old new : Replicas) (name : List ℕ) (h : Holding) → HasPut old new name h → P h → ((q : List ℕ) (g : Holding) → replica_at old q ≡ Some g → P g)
-    → (q : List ℕ) (g : Holding) → replica_at new q ≡ Some g → P g
+pub each_put : (P : Standing → Type 0) (old new : Replicas) (name : List ℕ) (h : Standing) → HasPut old new name h → P h → ((q : List ℕ) (g : Standing) → replica_at old q ≡ Some g → P g)
+    → (q : List ℕ) (g : Standing) → replica_at new q ≡ Some g → P g
 each_put P old new name h put itself others q g e = by (eq_by_cmp bytes_cmp q name) (sym (put q) ∙ e)
   where
     by : (b : Bool) → cond b (Some h) (replica_at old q) ≡ Some g → P g
@@ -99,7 +99,7 @@ some_there : {X : Type 0} (view : X → List ℕ) (o : Option X) (bytes : List �
 some_there view None bytes e = absurd cc
 some_there view (Some x) bytes e = (x, refl, cc)
 
-some_of_map : (o : Option Holding) → is_some o ≡ is_some (option_map node_of o)
+some_of_map : (o : Option Standing) → is_some o ≡ is_some (option_map node_in o)
 some_of_map None = refl
 some_of_map (Some h) = refl
 
@@ -148,7 +148,7 @@ module _ {A : Type 0} {g : Ghosts A} where
     }
 
     -- with a replica changed, and more written
-    pub represents_put : (name : List ℕ) (h : Holding) (w : World) → HasPut old.nodes new.nodes name h → h.schema ≡ old.schema → Represents new (record m { nodes = map.insert m.nodes name (node_of h); world = w })
+    pub represents_put : (name : List ℕ) (h : Standing) (w : World) → HasPut old.nodes new.nodes name h → h.schema ≡ old.schema → Represents new (record m { nodes = map.insert m.nodes name (node_in h); world = w })
     represents_put name h w put has = record {
       schema = same.schema ∙ is.schema;
       clock = same.clock ∙ is.clock;
@@ -168,8 +168,8 @@ module _ {A : Type 0} {g : Ghosts A} where
     node_there name = some_of_map (replica_at c.nodes name) ∙ ap is_some (sym (is.nodes name))
 
     -- the node of a name
-    pub node_at : (name : List ℕ) (o : Option Holding) → replica_at c.nodes name ≡ o → map.get m.nodes name ≡ option_map node_of o
-    node_at name o e = is.nodes name ∙ ap (option_map node_of) e
+    pub node_at : (name : List ℕ) (o : Option Standing) → replica_at c.nodes name ≡ o → map.get m.nodes name ≡ option_map node_in o
+    node_at name o e = is.nodes name ∙ ap (option_map node_in) e
 
     -- the page of a name is that of the bytes that are kept, if there are some
     pub no_page_at : (name : List ℕ) → bytes_at c.pages name ≡ None → map.get m.pages name ≡ None

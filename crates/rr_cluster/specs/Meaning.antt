@@ -12,6 +12,7 @@ use Rattle.rr_join.specs.Values.{get_called}
 use Rattle.rr_model.specs.Samples.{Sample}
 use Rattle.rr_replica.specs.Cells.{Cells, IsTrimmed}
 use Rattle.rr_replica.specs.Holding.{Holding}
+use Rattle.rr_replica.specs.Standing.{Standing, held}
 use Rattle.rr_base.specs.Bytes.{bytes_cmp}
 use Rattle.rr_base.specs.Schema.{Layout, IsLayout}
 use Rattle.rr_cluster.specs.declared.fault.CommandFault.{CommandFault}
@@ -32,12 +33,16 @@ use Rattle.rr_cluster.specs.Model.{cell_model, with_joined}
 use Rattle.rr_cluster.specs.State.{Node, Snapshot, State}
 use Rattle.rr_cluster.specs.Stop.{Matches}
 
--- a replica, as a node
+-- what a replica holds, as a node
 abbrev pub node_of : Holding → Node Cells
 node_of h = record { schema = h.schema; origin = h.origin; next = h.next; contents = h.cells }
 
+-- a replica, as a node: where it has room is its own affair
+abbrev pub node_in : Standing → Node Cells
+node_in r = node_of (held r)
+
 -- the replica of a name, if there is one
-abbrev pub replica_at : BTreeMap (Vec ℕ) Holding → List ℕ → Option Holding
+abbrev pub replica_at : BTreeMap (Vec ℕ) Standing → List ℕ → Option Standing
 replica_at = get_called bytes_cmp (λ (key : Vec ℕ). key.items)
 
 -- the bytes of the page or the snapshot of a name, if there is one
@@ -76,8 +81,8 @@ Saves h (Err stop) = (stop ≡ Memory) ⊎ ((stop ≡ Refused (Save TooManyCells
 
 -- a replica was loaded from a snapshot, or its origin is that of the snapshot or of one of its cells, unless memory
 -- ran out
-abbrev pub Loads : Result Holding Stop → Snapshot Cells → ℕ → Type 0
-Loads (Ok h) x number = (has_origin cell_model x number ≡ false) × (node_of h ≡ loaded_node x number)
+abbrev pub Loads : Result Standing Stop → Snapshot Cells → ℕ → Type 0
+Loads (Ok r) x number = (has_origin cell_model x number ≡ false) × (node_in r ≡ loaded_node x number)
 Loads (Err stop) x number = (stop ≡ Memory) ⊎ ((stop ≡ Refused OriginUsed) × (has_origin cell_model x number ≡ true))
 
 -- a replica joined the cells of a page, as a node does, unless memory ran out
@@ -92,8 +97,8 @@ module _ {A : Type 0} {g : Ghosts A} where
     pub schema : c.schema ≡ m.schema
     pub clock : c.clock ≡ m.clock
     pub lead : c.lead ≡ m.lead
-    pub nodes : (name : List ℕ) → get m.nodes name ≡ option_map node_of (replica_at c.nodes name)
-    pub shared : (name : List ℕ) (h : Holding) → replica_at c.nodes name ≡ Some h → h.schema ≡ c.schema
+    pub nodes : (name : List ℕ) → get m.nodes name ≡ option_map node_in (replica_at c.nodes name)
+    pub shared : (name : List ℕ) (r : Standing) → replica_at c.nodes name ≡ Some r → r.schema ≡ c.schema
     pub pages : (name : List ℕ) → bytes_at c.pages name ≡ option_map (bytes_of_page m.schema) (get m.pages name)
     pub are_pages : (name : List ℕ) (page : Cells) → get m.pages name ≡ Some page → IsPage m.schema (entries page)
     pub snapshots : (name : List ℕ) → bytes_at c.snapshots name ≡ option_map bytes_of_snapshot (get m.snapshots name)

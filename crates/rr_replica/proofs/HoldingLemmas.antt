@@ -30,6 +30,7 @@ use Rattle.rr_replica.specs.Held.{IsHolding}
 use Rattle.rr_replica.proofs.CellBoundsLemmas.{KnownHasBounds, bounds_with, bounds_of, cell_from}
 use Rattle.rr_replica.proofs.Each.{slot_is}
 use Rattle.rr_replica.proofs.Local.{get-rows_at}
+use Rattle.rr_replica.proofs.PutLaws.{few_held}
 use Rattle.rr_replica.proofs.PutsLemmas.{mark, with_mark, puts_trimmed, put_at, put_past, put_other_key}
 
 -- a sample of a key text, with a time and a value of 64 bits
@@ -121,21 +122,25 @@ module _ (h : Holding) (holds : IsHolding h) (x : Sample) (number : x.number ≡
       known_bounds (Some c) e = bounds_of h.schema n c (holds.cells n c e)
 
   pub holds_put : IsTyped x → IsHolding (record { schema = h.schema; origin = h.origin; next = h.next + 1; cells = put_sample h.schema h.cells x })
-  holds_put typed = record {
-    layout = holds.layout;
-    origin = holds.origin;
-    next_at_least = omega arith;
-    next_at_most = omega arith;
-    live = puts_trimmed h.schema holds.layout (marks_of h.schema x) h.cells holds.live;
-    cells = λ n c e. ⊎_elim
-        (λ was. holds.cells n c was)
-        (λ new. subst (λ d. IsCellOf h.schema (n, d)) new.comes (added_cell typed n new.named new.within (get h.cells n) refl))
-        (put_cases h.schema holds.layout h.cells holds.live x n c e);
-    own = λ n c e at. ⊎_elim
-        (λ was. let below = holds.own n c was at in omega arith)
-        (λ new. let version = ap (λ (d : Contribution). d.version) (sym new.comes) ∙ added_version (get h.cells n) (seen h.schema (mark x n.archive)) in omega arith)
-        (put_cases h.schema holds.layout h.cells holds.live x n c e);
-  }
+  holds_put typed =
+      let live = puts_trimmed h.schema holds.layout (marks_of h.schema x) h.cells holds.live in
+      let cells : (n : CellName) (c : Contribution) → get (put_sample h.schema h.cells x) n ≡ Some c → IsCellOf h.schema (n, c) = λ n c e. ⊎_elim
+      (λ was. holds.cells n c was)
+      (λ new. subst (λ d. IsCellOf h.schema (n, d)) new.comes (added_cell typed n new.named new.within (get h.cells n) refl))
+      (put_cases h.schema holds.layout h.cells holds.live x n c e) in
+      record {
+        layout = holds.layout;
+        origin = holds.origin;
+        next_at_least = omega arith;
+        next_at_most = omega arith;
+        live = live;
+        cells = cells;
+        own = λ n c e at. ⊎_elim
+            (λ was. let below = holds.own n c was at in omega arith)
+            (λ new. let version = ap (λ (d : Contribution). d.version) (sym new.comes) ∙ added_version (get h.cells n) (seen h.schema (mark x n.archive)) in omega arith)
+            (put_cases h.schema holds.layout h.cells holds.live x n c e);
+        few = few_held h.schema (put_sample h.schema h.cells x) holds.layout live cells;
+      }
 
   -- the sample can be added where it falls
   pub can_add : (n : CellName) → n.origin ≡ h.origin → IfSome (get h.cells n) (CanAdd x.number)

@@ -42,6 +42,7 @@ use Rattle.rr_replica.specs.Series.{cells_of}
 use Rattle.rr_replica.proofs.CellByCell.{join_nothing}
 use Rattle.rr_replica.proofs.Each.{sized_at}
 use Rattle.rr_replica.proofs.JoinLaws.{join_trims, join_goes_by_archives}
+use Rattle.rr_replica.proofs.PutLaws.{few_held}
 use Rattle.rr_replica.proofs.Local.{get-rows_at, insert_here, insert_elsewhere, same_cells}
 use Rattle.rr_replica.proofs.SeriesLemmas.{bytes_cmp-IsAntisymmetric}
 use Rattle.rr_replica.proofs.Shown.{there, held_at, items_of, rows_shown, at_key, at_other, same_key, cells_same, held_same}
@@ -165,20 +166,23 @@ module _ (h : Holding) (holds : IsHolding h) (c : Cell) (cell : IsCellOf h.schem
   pub holds_joined : IsHolding (record { schema = h.schema; origin = h.origin; next = next; cells = join_cell h.schema h.cells (owned_cell c).0 c.contribution })
   holds_joined =
       let bounds = next_is (c.origin == h.origin) (nat_le h.next c.contribution.version) refl refl in
+      let live = join_trims h.schema h.cells (insert empty (owned_cell c).0 c.contribution) holds.layout in
+      let cells : (n : CellName) (d : Contribution) → get (join_cell h.schema h.cells (owned_cell c).0 c.contribution) n ≡ Some d → IsCellOf h.schema (n, d) = λ n d e. ⊎_elim
+      (λ was. holds.cells n d was)
+      (λ new. subst (λ (m : CellName). IsCellOf h.schema (m, d)) (sym new.0) (subst (λ f. IsCellOf h.schema ((owned_cell c).0, f)) new.1 cell))
+      (join_cases h.schema holds.layout h.cells (owned_cell c).0 c.contribution n d e) in
       record {
         layout = holds.layout;
         origin = holds.origin;
         next_at_least = (let least = holds.next_at_least in let more = bounds.0 in omega arith);
         next_at_most = bounds.1;
-        live = join_trims h.schema h.cells (insert empty (owned_cell c).0 c.contribution) holds.layout;
-        cells = λ n d e. ⊎_elim
-            (λ was. holds.cells n d was)
-            (λ new. subst (λ (m : CellName). IsCellOf h.schema (m, d)) (sym new.0) (subst (λ f. IsCellOf h.schema ((owned_cell c).0, f)) new.1 cell))
-            (join_cases h.schema holds.layout h.cells (owned_cell c).0 c.contribution n d e);
+        live = live;
+        cells = cells;
         own = λ n d e at. ⊎_elim
             (λ was. let below = holds.own n d was at in let more = bounds.0 in omega arith)
             (λ new. subst (λ (x : Contribution). x.version < next) new.1 (own_is (c.origin == h.origin) (nat_le h.next c.contribution.version) refl refl (sym (ap (λ (m : CellName). m.origin) new.0) ∙ at)))
             (join_cases h.schema holds.layout h.cells (owned_cell c).0 c.contribution n d e);
+        few = few_held h.schema (join_cell h.schema h.cells (owned_cell c).0 c.contribution) holds.layout live cells;
       }
 
 -- with a cell joined in a replica keeps to the same

@@ -24,6 +24,7 @@ use Rattle.rr_page.specs.declared.fault.PageFault.{PageFault}
 use Rattle.rr_replica.specs.CellBounds.{NamedCell}
 use Rattle.rr_replica.specs.declared.cell.Cell.{Cell}
 use Rattle.rr_replica.specs.Holding.{Holding}
+use Rattle.rr_replica.specs.Standing.{Standing, held}
 use Rattle.rr_replica.specs.Joining.{with_cell, with_cells}
 use Rattle.rr_replica.specs.Joins.{join_cells}
 use Rattle.rr_replica.specs.Listing.{owned_cell}
@@ -39,7 +40,7 @@ use Rattle.rr_cluster.specs.declared.stop.Stop.{Stop}
 use Rattle.rr_cluster.specs.Agreement.{in_cells, node_in_cells}
 use Rattle.rr_cluster.specs.Command.{IsOneLine}
 use Rattle.rr_cluster.specs.Commands.Deliver.{deliver_command, after_deliver}
-use Rattle.rr_cluster.specs.Meaning.{node_of, bytes_at, replica_at, HasPageText, Joins, Leaves, Represents}
+use Rattle.rr_cluster.specs.Meaning.{node_of, bytes_at, replica_at, HasPageText, Joins, Leaves, Represents, node_in}
 use Rattle.rr_cluster.specs.Model.{Model, cell_model, sample_model, next_past, with_joined, with_known}
 use Rattle.rr_cluster.specs.Soundness.{IsSound, IsSoundNode}
 use Rattle.rr_cluster.specs.State.{Node, State}
@@ -96,7 +97,7 @@ page_joined h cells page read =
 -- ---- the cluster after a delivery
 
 module _ {A : Type 0} {g : Ghosts A} (old : Cluster A g) (m : State Cells) (is : Represents old m) (name node bytes : List ℕ) (kept : bytes_at old.pages name ≡ Some bytes)
-    (was : Holding) (here : replica_at old.nodes node ≡ Some was) where
+    (was : Standing) (here : replica_at old.nodes node ≡ Some was) where
   -- the bytes are those of a page of the replica's schema
   pub page_of_replica : (page : Cells) × (fin.get m.pages name ≡ Some page) × HasPageText was.schema page bytes
   page_of_replica =
@@ -104,14 +105,14 @@ module _ {A : Type 0} {g : Ghosts A} (old : Cluster A g) (m : State Cells) (is :
       let schema : m.schema ≡ was.schema = sym (is.shared node was here ∙ is.schema) in
       (page.0, page.1, subst (λ (s : Layout). HasPageText s page.0 bytes) schema page.2)
 
-  module _ (new : Cluster A g) (same : SameBesidesNodes old new) (h : Holding) (put : HasPut old.nodes new.nodes node h) where
-    pub leaves_joined : (result : Result (Unit {0}) Stop) → ((page : Cells) → HasPageText was.schema page bytes → Joins was h result page) → Leaves new m result (after_deliver cell_model m name node)
+  module _ (new : Cluster A g) (same : SameBesidesNodes old new) (h : Standing) (put : HasPut old.nodes new.nodes node h) where
+    pub leaves_joined : (result : Result (Unit {0}) Stop) → ((page : Cells) → HasPageText was.schema page bytes → Joins (held was) (held h) result page) → Leaves new m result (after_deliver cell_model m name node)
     leaves_joined (Ok done) joins =
         let page = page_of_replica in
         let joined = joins page.0 page.2 in
         let schema = ap (λ (n : Node Cells). n.schema) joined ∙ is.shared node was here in (
-          record m { nodes = fin.insert m.nodes node (with_joined (node_of was) page.0) },
-          page_is_taken cell_model m name node page.0 page.1 (node_of was) (node_at old m is node (Some was) here),
+          record m { nodes = fin.insert m.nodes node (with_joined (node_in was) page.0) },
+          page_is_taken cell_model m name node page.0 page.1 (node_in was) (node_at old m is node (Some was) here),
           subst (λ (n : Node Cells). Represents new (record m { nodes = fin.insert m.nodes node n })) joined (represents_put old new m same is node h m.world put schema),
         )
     leaves_joined (Err stop) joins = rw (joins page_of_replica.0 page_of_replica.2) tt

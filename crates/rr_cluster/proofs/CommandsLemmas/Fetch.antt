@@ -12,7 +12,7 @@ use Rattle.rr_fetch.proofs.RowLaws.{answer_of_state}
 use Rattle.rr_model.specs.FetchText.{Request}
 use Rattle.rr_model.specs.Knowledge.{Knowledge}
 use Rattle.rr_replica.specs.Cells.{Cells}
-use Rattle.rr_replica.specs.Holding.{Holding}
+use Rattle.rr_replica.specs.Standing.{Standing}
 use Rattle.rr_cluster.specs.declared.cluster.Cluster.{Cluster}
 use Rattle.rr_base.specs.declared.bytes.TheConstants.{SPACE}
 use Rattle.rr_cluster.specs.declared.fault.CommandFault.{CommandFault}
@@ -22,7 +22,7 @@ use Rattle.rr_cluster.specs.Agreement.{in_cells, node_in_cells}
 use Rattle.rr_base.specs.Results.{◌>>=◌, GivesUnless}
 use Rattle.rr_cluster.specs.Command.{fetch, IsOneLine}
 use Rattle.rr_cluster.specs.Commands.Fetch.{fetch_command, request_of, answer_to}
-use Rattle.rr_cluster.specs.Meaning.{node_of, replica_at, Represents}
+use Rattle.rr_cluster.specs.Meaning.{node_in, replica_at, Represents}
 use Rattle.rr_cluster.specs.Model.{Model, cell_model, sample_model}
 use Rattle.rr_cluster.specs.Soundness.{IsSound}
 use Rattle.rr_cluster.specs.State.{Node, State}
@@ -85,18 +85,18 @@ module _ {K : Type 0} (model : Model K) (m : State K) (name : List ℕ) (words :
 -- ---- what a replica answers
 
 -- what follows a request that is read, or refused
-abbrev answered : Holding → Result Request RequestFault → Result (List ℕ) CommandFault
+abbrev answered : Standing → Result Request RequestFault → Result (List ℕ) CommandFault
 answered h said = request_of said >>= λ q. Ok (cells_text h.schema h.cells q)
 
-refused : {X : Type 0} (view : X → Request) (h : Holding) (fault : RequestFault) (stop : Stop) (said : Result Request RequestFault)
+refused : {X : Type 0} (view : X → Request) (h : Standing) (fault : RequestFault) (stop : Stop) (said : Result Request RequestFault)
     → GivesUnless Memory view (Err fault) said → IsStopOf Memory Fetch fault stop → Gives {A = List ℕ} (λ text. text) (Err stop) (answered h said)
 refused view h fault stop said due (inl memory) = rw memory.1 tt
 refused view h fault stop said (inl memory) (inr other) = absurd (other.0 memory)
 refused view h fault stop said (inr due) (inr other) = rw (other.1, due) refl
 
-module _ {A : Type 0} {g : Ghosts A} (c : Cluster A g) (m : State Cells) (is : Represents c m) (name : List ℕ) (words : Parts) (h : Holding) (here : Some h ≡ replica_at c.nodes name) where
+module _ {A : Type 0} {g : Ghosts A} (c : Cluster A g) (m : State Cells) (is : Represents c m) (name : List ℕ) (words : Parts) (h : Standing) (here : Some h ≡ replica_at c.nodes name) where
   answer : answer_to cell_model m name words ≡ answered h (read h.schema words)
-  answer = answer_of_node cell_model m name words (node_of h) (node_at c m is name (Some h) (sym here))
+  answer = answer_of_node cell_model m name words (node_in h) (node_at c m is name (Some h) (sym here))
 
   pub fetch_refused : {X : Type 0} (view : X → Request) (fault : RequestFault) (stop : Stop) → GivesUnless Memory view (Err fault) (read h.schema words) → IsStopOf Memory Fetch fault stop
       → Gives {A = List ℕ} (λ text. text) (Err stop) (answer_to cell_model m name words)

@@ -1,6 +1,6 @@
 -- load NAME NODE ORIGIN
 use Rattle.std.proofs.Common.{◌≡◌, ◌⊎◌, ℕ, Bool, true, false, not, cond, inl, inr, List, [], ◌∷◌, Some, None, IfSome, Result, Ok, Err, refl, sym, ap, subst, ◌∙◌}
-use Rattle.std.specs.Prelude.{◌==◌, ok_or}
+use Rattle.std.specs.Prelude.{◌==◌}
 use Rattle.std.specs.List.{list_any}
 use Rattle.std.specs.Ordering.{nat_cmp, is_eq}
 use Rattle.std.specs.BTreeSet.{contains}
@@ -13,6 +13,7 @@ use Rattle.rr_model.specs.Knowledge.{Knowledge}
 use Rattle.rr_model.specs.World.{IsClosed}
 use Rattle.rr_replica.specs.Cells.{Cells}
 use Rattle.rr_replica.specs.Holding.{Holding}
+use Rattle.rr_replica.specs.Standing.{Standing, held}
 use Rattle.rr_snapshot.specs.declared.fault.LoadFault.{LoadFault}
 use Rattle.rr_snapshot.specs.declared.fault.LoadFault.TheVariants as load
 use Rattle.rr_snapshot.specs.Loading.{loaded_at}
@@ -22,7 +23,7 @@ use Rattle.rr_cluster.specs.declared.fault.CommandFault.{CommandFault}
 use Rattle.rr_cluster.specs.declared.fault.CommandFault.TheVariants.{NoSnapshot, BadName, OriginUsed}
 use Rattle.rr_cluster.specs.declared.stop.Stop.{Stop}
 use Rattle.rr_cluster.specs.declared.stop.Stop.TheVariants.{Refused}
-use Rattle.rr_cluster.specs.Agreement.{in_cells, node_in_cells, snapshot_in_cells}
+use Rattle.rr_cluster.specs.Agreement.{in_cells, snapshot_in_cells}
 use Rattle.rr_cluster.specs.Command.{IsOneLine}
 use Rattle.rr_cluster.specs.Commands.Load.{load_command, loaded_node, has_origin, after_load}
 use Rattle.rr_cluster.specs.Meaning.{node_of, bytes_at, HasSnapshotText, Leaves, Loads, Represents}
@@ -96,16 +97,16 @@ module _ (s : Layout) (x : Snapshot Cells) (bytes : List ℕ) (has : HasSnapshot
       ∙ ap (loaded_at x.schema number) has.text
       ∙ snapshot_is_loaded x.schema x.origin x.contents number has.kept.layout has.kept.snapshot has.kept.trimmed
 
-  pub loaded : (h : Holding) → loaded_at s number bytes ≡ Ok h → Loads (Ok h) x number
+  pub loaded : (h : Standing) → loaded_at s number bytes ≡ Ok (held h) → Loads (Ok h) x number
   loaded h e = by (has_origin cell_model x number) refl (sym loaded_text ∙ e)
     where
-      by : (used : Bool) → has_origin cell_model x number ≡ used → due used ≡ Ok h → Loads (Ok h) x number
+      by : (used : Bool) → has_origin cell_model x number ≡ used → due used ≡ Ok (held h) → Loads (Ok h) x number
       by true t is = absurd cc
-      by false t is = let same : h ≡ record { schema = x.schema; origin = number; next = 1; cells = x.contents } = cc in (t, ap node_of same)
+      by false t is = let same : held h ≡ record { schema = x.schema; origin = number; next = 1; cells = x.contents } = cc in (t, ap node_of same)
 
   -- the one refusal of a snapshot that the script made
-  held : (fault : LoadFault) → loaded_at s number bytes ≡ Err fault → (fault ≡ load.OriginUsed) × (has_origin cell_model x number ≡ true)
-  held fault e = by (has_origin cell_model x number) refl (sym loaded_text ∙ e)
+  was_used : (fault : LoadFault) → loaded_at s number bytes ≡ Err fault → (fault ≡ load.OriginUsed) × (has_origin cell_model x number ≡ true)
+  was_used fault e = by (has_origin cell_model x number) refl (sym loaded_text ∙ e)
     where
       by : (used : Bool) → has_origin cell_model x number ≡ used → due used ≡ Err fault → (fault ≡ load.OriginUsed) × (has_origin cell_model x number ≡ true)
       by true t is = (cc, t)
@@ -115,12 +116,12 @@ module _ (s : Layout) (x : Snapshot Cells) (bytes : List ℕ) (has : HasSnapshot
   pub faults : (fault : LoadFault) → (fault ≡ load.ReadFailed) ⊎ (fault ≡ load.Memory) ⊎ (loaded_at s number bytes ≡ Err fault) → (fault ≡ load.ReadFailed) ⊎ (fault ≡ load.Memory) ⊎ (fault ≡ load.OriginUsed)
   faults fault (inl e) = inl e
   faults fault (inr (inl e)) = inr (inl e)
-  faults fault (inr (inr e)) = inr (inr (held fault e).0)
+  faults fault (inr (inr e)) = inr (inr (was_used fault e).0)
 
   pub refused : (fault : LoadFault) → fault ≡ load.OriginUsed → (fault ≡ load.ReadFailed) ⊎ (fault ≡ load.Memory) ⊎ (loaded_at s number bytes ≡ Err fault) → Loads (Err (Refused OriginUsed)) x number
   refused fault is (inl e) = absurd cc
   refused fault is (inr (inl e)) = absurd cc
-  refused fault is (inr (inr e)) = inr (refl, (held fault e).1)
+  refused fault is (inr (inr e)) = inr (refl, (was_used fault e).1)
 
 -- ---- the cluster with the node that was loaded
 
@@ -156,9 +157,9 @@ module _ {A : Type 0} {g : Ghosts A} (c : Cluster A g) (m : State Cells) (is : R
           where
             by : Loads (Err stop) x number → Leaves new m (Err stop) (after_load cell_model m name node origin)
             by (inl e) = rw e tt
-            by (inr (e, held)) = rw e (held_origin cell_model m name node origin x here named number read unused held, same)
+            by (inr (e, has)) = rw e (held_origin cell_model m name node origin x here named number read unused has, same)
 
-        module _ (new : Cluster A g) (h : Holding) (loads : (y : Snapshot Cells) → HasSnapshotText c.schema y bytes → Loads (Ok h) y number) where
+        module _ (new : Cluster A g) (h : Standing) (loads : (y : Snapshot Cells) → HasSnapshotText c.schema y bytes → Loads (Ok h) y number) where
           pub leaves_loaded : new.schema ≡ c.schema → new.clock ≡ c.clock → new.lead ≡ c.lead → new.pages ≡ c.pages → new.snapshots ≡ c.snapshots → HasPut c.nodes new.nodes node h
               → ((q : ℕ) → contains nat_cmp new.origins q ≡ cond (is_eq (nat_cmp number q)) true (contains nat_cmp c.origins q))
               → Leaves new m (Ok tt) (after_load cell_model m name node origin)

@@ -23,7 +23,7 @@ use Rattle.rr_model.proofs.Knowing.{knows-empty, knows-cell}
 use Rattle.rr_model.proofs.Orders.{cell_name_cmp_total, cell_name_cmp-IsAntisymmetric}
 use Rattle.rr_model.proofs.Writes.{nothing_is_closed}
 use Rattle.rr_replica.specs.Cells.{Cells}
-use Rattle.rr_replica.specs.Holding.{Holding}
+use Rattle.rr_replica.specs.Standing.{Standing, held}
 use Rattle.rr_replica.specs.State.{state}
 use Rattle.rr_replica.proofs.States.{get-state, no_value}
 use Rattle.rr_cluster.specs.declared.cluster.Cluster.{Cluster}
@@ -33,7 +33,7 @@ use Rattle.rr_cluster.specs.Agreement.{in_cells, node_in_cells}
 use Rattle.rr_base.specs.Results.{checked}
 use Rattle.rr_cluster.specs.Command.{IsOneLine}
 use Rattle.rr_cluster.specs.Commands.Node.{node_command, new_node, after_node}
-use Rattle.rr_cluster.specs.Meaning.{node_of, replica_at, Represents}
+use Rattle.rr_cluster.specs.Meaning.{node_of, node_in, replica_at, Represents}
 use Rattle.rr_cluster.specs.Model.{Model, cell_model, sample_model}
 use Rattle.rr_cluster.specs.Soundness.{IsSound}
 use Rattle.rr_cluster.specs.State.{Node, State}
@@ -101,16 +101,16 @@ used_more number origin before has e =
     ap (λ (b : Bool). cond b true has) (same_number number origin) ∙ either_one (number == origin) has (list_any (λ used. used == origin) before) e
 
 module _ {A : Type 0} {g : Ghosts A} where
-  pub represents_with_node : (old new : Cluster A g) (m : State Cells) (name : List ℕ) (h : Holding) (n : Node Cells) (number : ℕ) → Represents old m
+  pub represents_with_node : (old new : Cluster A g) (m : State Cells) (name : List ℕ) (h : Standing) (n : Node Cells) (number : ℕ) → Represents old m
       → new.schema ≡ old.schema → new.clock ≡ old.clock → new.lead ≡ old.lead → new.pages ≡ old.pages → new.snapshots ≡ old.snapshots → HasPut old.nodes new.nodes name h
-      → node_of h ≡ n → h.schema ≡ old.schema
+      → node_in h ≡ n → h.schema ≡ old.schema
       → ((q : ℕ) → contains nat_cmp new.origins q ≡ cond (is_eq (nat_cmp number q)) true (contains nat_cmp old.origins q))
       → Represents new (record m { nodes = map.insert m.nodes name n; origins = number ∷ m.origins })
   represents_with_node old new m name h n number is schema clock lead pages snapshots put same shared origins = record {
     schema = schema ∙ is.schema;
     clock = clock ∙ is.clock;
     lead = lead ∙ is.lead;
-    nodes = subst (λ (x : Node Cells). (q : List ℕ) → map.get (map.insert m.nodes name x) q ≡ option_map node_of (replica_at new.nodes q)) same (nodes_put old.nodes new.nodes m.nodes name h is.nodes put);
+    nodes = subst (λ (x : Node Cells). (q : List ℕ) → map.get (map.insert m.nodes name x) q ≡ option_map node_in (replica_at new.nodes q)) same (nodes_put old.nodes new.nodes m.nodes name h is.nodes put);
     shared = rw schema (each_put (λ g. g.schema ≡ old.schema) old.nodes new.nodes name h put shared is.shared);
     pages = λ q. rw pages (is.pages q);
     are_pages = is.are_pages;
@@ -121,7 +121,7 @@ module _ {A : Type 0} {g : Ghosts A} where
 
 module _ {A : Type 0} {g : Ghosts A} where
   -- the node of a replica that holds nothing
-  pub new_replica : (c : Cluster A g) (m : State Cells) → Represents c m → (h : Holding) (number : ℕ) → h ≡ record { schema = c.schema; origin = number; next = 1; cells = map.empty } → node_of h ≡ new_node cell_model m.schema number
+  pub new_replica : (c : Cluster A g) (m : State Cells) → Represents c m → (h : Standing) (number : ℕ) → held h ≡ record { schema = c.schema; origin = number; next = 1; cells = map.empty } → node_in h ≡ new_node cell_model m.schema number
   new_replica c m is h number made = ap node_of made ∙ ap (λ (s : Layout). new_node cell_model s number) is.schema
 
 -- ---- the models agree

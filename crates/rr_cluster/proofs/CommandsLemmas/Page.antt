@@ -1,19 +1,15 @@
 -- page NAME NODE FROM COUNT
-use Rattle.std.proofs.Common.{◌≡◌, ℕ, ◌≤◌, cond, option_map, Bool, take, drop, List, [], ◌∷◌, Some, None, IfSome, Ok, Err, true, false, refl, sym, ap, subst, ◌∙◌}
+use Rattle.std.proofs.Common.{◌≡◌, ℕ, ◌≤◌, take, drop, List, [], ◌∷◌, Some, None, IfSome, Ok, Err, true, false, refl, sym, ap, subst, ◌∙◌}
 use Rattle.std.specs.Prelude.{ok_or}
 use Rattle.std.specs.Cmp.Lexicographic.{nat_list_cmp_total}
-use Rattle.std.specs.BTreeMap.{BTreeMap, insert_entry}
 use Rattle.std.specs.FinMap as map
-use Rattle.std.specs.Global.{Vec}
-use Rattle.std.specs.Ordering.{eq_by_cmp}
 use Rattle.rr_archive.specs.declared.archive.Archive.{Ghosts}
-use Rattle.rr_base.specs.Bytes.{bytes_cmp}
 use Rattle.rr_base.specs.declared.bytes.TheConstants.{SPACE}
 use Rattle.rr_base.specs.declared.limits.TheConstants.{MAX_PAGE_CELLS}
 use Rattle.rr_base.specs.Results.{checked}
 use Rattle.rr_base.specs.Schema.{Layout}
-use Rattle.rr_join.specs.Values.{get_called, map_values}
-use Rattle.rr_join.proofs.ValuesLemmas.{get_called-insert, insert_cases, map_values-insert}
+use Rattle.rr_join.specs.Values.{map_values}
+use Rattle.rr_join.proofs.ValuesLemmas.{insert_cases, map_values-insert}
 use Rattle.rr_model.specs.Knowledge.{Knowledge, part}
 use Rattle.rr_model.specs.World.{IsClosed}
 use Rattle.rr_model.proofs.WholeCells.{whole_cells_are_closed}
@@ -22,6 +18,7 @@ use Rattle.rr_page.specs.Version.{latest}
 use Rattle.rr_replica.specs.Cells.{Cells}
 use Rattle.rr_replica.specs.Held.{IsHolding}
 use Rattle.rr_replica.specs.Holding.{Holding}
+use Rattle.rr_replica.specs.Standing.{Standing}
 use Rattle.rr_replica.specs.State.{state}
 use Rattle.rr_replica.proofs.Parting.{parts_are_cut}
 use Rattle.rr_cluster.specs.declared.cluster.Cluster.{Cluster}
@@ -32,7 +29,7 @@ use Rattle.rr_cluster.specs.Agreement.{in_cells, node_in_cells}
 use Rattle.rr_cluster.specs.Command.{IsOneLine}
 use Rattle.rr_cluster.specs.Commands.Page.{page_command, after_page}
 use Rattle.rr_cluster.specs.Commands.Bytes.{bytes_of_page}
-use Rattle.rr_cluster.specs.Meaning.{bytes_at, replica_at, HasPageText, Represents}
+use Rattle.rr_cluster.specs.Meaning.{replica_at, HasPageText, Represents}
 use Rattle.rr_cluster.specs.Model.{Model, cell_model, sample_model, part_of}
 use Rattle.rr_cluster.specs.Soundness.{IsSound}
 use Rattle.rr_cluster.specs.State.{Node, State}
@@ -117,7 +114,7 @@ module _ {A : Type 0} {g : Ghosts A} (old new : Cluster A g) (m : State Cells) (
   }
 
 -- the page of a node of the cluster is one of the schema
-pub page_of_node : {A : Type 0} {g : Ghosts A} (c : Cluster A g) (m : State Cells) → Represents c m → (node : List ℕ) (h : Holding) → replica_at c.nodes node ≡ Some h
+pub page_of_node : {A : Type 0} {g : Ghosts A} (c : Cluster A g) (m : State Cells) → Represents c m → (node : List ℕ) (h : Standing) → replica_at c.nodes node ≡ Some h
     → (page : Cells) (bytes : List ℕ) → HasPageText h.schema page bytes → HasPageText m.schema page bytes
 page_of_node c m is node h here page bytes has = subst (λ (s : Layout). HasPageText s page bytes) (is.shared node h here ∙ is.schema) has
 

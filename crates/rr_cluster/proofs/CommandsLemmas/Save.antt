@@ -1,6 +1,6 @@
 -- save NAME NODE
 use Rattle.std.proofs.Common.{◌≡◌, ℕ, ◌<◌, ◌≤◌, Bool, true, false, inl, inr, List, [], ◌∷◌, length, Some, None, IfSome, Ok, Err, refl, sym, ap, subst, ◌∙◌, arith}
-use Rattle.std.specs.Prelude.{ok_or, nat_le}
+use Rattle.std.specs.Prelude.{nat_le}
 use Rattle.std.specs.Cmp.Lexicographic.{nat_list_cmp_total}
 use Rattle.std.specs.Global.{Vec}
 use Rattle.std.specs.FinMap as map
@@ -18,6 +18,7 @@ use Rattle.rr_page.specs.Version.{latest}
 use Rattle.rr_replica.specs.Cells.{Cells}
 use Rattle.rr_replica.specs.Held.{IsHolding}
 use Rattle.rr_replica.specs.Holding.{Holding}
+use Rattle.rr_replica.specs.Standing.{Standing, held}
 use Rattle.rr_replica.specs.State.{state}
 use Rattle.rr_replica.proofs.WholeCells.{live_makes_the_same}
 use Rattle.rr_snapshot.specs.declared.fault.SaveFault.{SaveFault}
@@ -31,7 +32,7 @@ use Rattle.rr_cluster.specs.declared.stop.Stop.{Stop}
 use Rattle.rr_cluster.specs.Agreement.{in_cells, node_in_cells, snapshot_in_cells}
 use Rattle.rr_cluster.specs.Command.{IsOneLine}
 use Rattle.rr_cluster.specs.Commands.Save.{save_command, snapshot_of, after_save}
-use Rattle.rr_cluster.specs.Meaning.{node_of, replica_at, HasSnapshotText, IsKept, Leaves, Represents, Saves}
+use Rattle.rr_cluster.specs.Meaning.{node_of, replica_at, HasSnapshotText, IsKept, Leaves, Represents, Saves, node_in}
 use Rattle.rr_cluster.specs.Model.{Model, cell_model, sample_model}
 use Rattle.rr_cluster.specs.Soundness.{IsSound, IsSoundSnapshot}
 use Rattle.rr_cluster.specs.State.{Node, Snapshot, State}
@@ -122,23 +123,23 @@ module _ {A : Type 0} {g : Ghosts A} (old new : Cluster A g) (m : State Cells) (
   }
 
 -- the snapshot of a node of the cluster is one of the schema
-pub snapshot_of_node : {A : Type 0} {g : Ghosts A} (c : Cluster A g) (m : State Cells) → Represents c m → (node : List ℕ) (h : Holding) → replica_at c.nodes node ≡ Some h
+pub snapshot_of_node : {A : Type 0} {g : Ghosts A} (c : Cluster A g) (m : State Cells) → Represents c m → (node : List ℕ) (h : Standing) → replica_at c.nodes node ≡ Some h
     → (x : Snapshot Cells) (bytes : List ℕ) → HasSnapshotText h.schema x bytes → HasSnapshotText m.schema x bytes
 snapshot_of_node c m is node h here x bytes has = subst (λ (s : Layout). HasSnapshotText s x bytes) (is.shared node h here ∙ is.schema) has
 
 -- ---- the cluster after a save
 
-module _ {A : Type 0} {g : Ghosts A} (c : Cluster A g) (m : State Cells) (is : Represents c m) (name node : List ℕ) (named : is_name name ≡ true) (h : Holding) (here : replica_at c.nodes node ≡ Some h) where
-  there : map.get m.nodes node ≡ Some (node_of h)
+module _ {A : Type 0} {g : Ghosts A} (c : Cluster A g) (m : State Cells) (is : Represents c m) (name node : List ℕ) (named : is_name name ≡ true) (h : Standing) (here : replica_at c.nodes node ≡ Some h) where
+  there : map.get m.nodes node ≡ Some (node_in h)
   there = node_at c m is node (Some h) here
 
   -- a node with too many cells is refused
-  pub save_is_refused : (stop : Stop) → Saves h (Err stop) → Leaves c m (Err stop) (after_save cell_model m name node)
+  pub save_is_refused : (stop : Stop) → Saves (held h) (Err stop) → Leaves c m (Err stop) (after_save cell_model m name node)
   save_is_refused stop (inl e) = rw e tt
-  save_is_refused stop (inr (e, many)) = rw e (too_many cell_model m name node named (node_of h) there (lt-leb _ _ many), is)
+  save_is_refused stop (inr (e, many)) = rw e (too_many cell_model m name node named (node_in h) there (lt-leb _ _ many), is)
 
-  pub node_is_saved : (bytes : Vec ℕ) → Saves h (Ok bytes) → after_save cell_model m name node ≡ Ok (record m { snapshots = map.insert m.snapshots name (snapshot_of cell_model (node_of h)) })
-  node_is_saved bytes saved = snapshot_is_made cell_model m name node named (node_of h) there (le-leb _ _ saved.kept.snapshot.count_fits)
+  pub node_is_saved : (bytes : Vec ℕ) → Saves (held h) (Ok bytes) → after_save cell_model m name node ≡ Ok (record m { snapshots = map.insert m.snapshots name (snapshot_of cell_model (node_in h)) })
+  node_is_saved bytes saved = snapshot_is_made cell_model m name node named (node_in h) there (le-leb _ _ saved.kept.snapshot.count_fits)
 
 -- ---- the models agree
 

@@ -29,6 +29,7 @@ use Rattle.rr_replica.specs.declared.fault.WriteFault.TheVariants as why
 use Rattle.rr_replica.specs.declared.fault.WriteFault.TheVariants.{AheadOfClock, NumbersSpent}
 use Rattle.rr_replica.specs.Cells.{Cells}
 use Rattle.rr_replica.specs.Holding.{Holding, with_put}
+use Rattle.rr_replica.specs.Standing.{Standing, held}
 use Rattle.rr_replica.specs.Writing.{with_fields, is_ahead, lacks_numbers, IsAfterRefusal}
 use Rattle.rr_replica.proofs.OneSampleMore.{put_is_one_sample_more}
 use Rattle.rr_cluster.specs.declared.cluster.Cluster.{Cluster}
@@ -41,7 +42,7 @@ use Rattle.rr_cluster.specs.Agreement.{in_cells, node_in_cells}
 use Rattle.rr_base.specs.Results.{◌>>=◌, checked}
 use Rattle.rr_cluster.specs.Command.{write, IsOneLine}
 use Rattle.rr_cluster.specs.Commands.Write.{write_command, line_of, samples_of, samples_at, samples_of_point, samples_of_view, samples_of_line, with_samples, with_written, with_all_written, after_write}
-use Rattle.rr_cluster.specs.Meaning.{node_of, replica_at, Represents, Leaves, Writes}
+use Rattle.rr_cluster.specs.Meaning.{node_of, replica_at, Represents, Leaves, Writes, node_in}
 use Rattle.rr_cluster.specs.Model.{Model, cell_model, sample_model}
 use Rattle.rr_base.specs.Origin.{IsOrigin}
 use Rattle.rr_cluster.specs.Soundness.{IsSoundSample, IsSound, IsSoundNode, IsUsed}
@@ -135,36 +136,36 @@ schema_stays n [] = refl
 schema_stays n (x ∷ xs) = schema_stays (with_written cell_model n x) xs
 
 module _ {A : Type 0} {g : Ghosts A} (old new : Cluster A g) (m : State Cells) (same : SameBesidesNodes old new) (is : Represents old m)
-    (name : List ℕ) (was h : Holding) (here : replica_at old.nodes name ≡ Some was) (put : HasPut old.nodes new.nodes name h) where
+    (name : List ℕ) (was h : Standing) (here : replica_at old.nodes name ≡ Some was) (put : HasPut old.nodes new.nodes name h) where
   -- a replica that hasn't changed is a node in its own place
-  represents_still : h ≡ was → Represents new m
+  represents_still : held h ≡ held was → Represents new m
   represents_still unchanged =
       let there = node_at old m is name (Some was) here in
-      let back = insert_there nat_list_cmp_total names_apart m.nodes name (node_of h) (there ∙ ap (λ (x : Holding). Some (node_of x)) (sym unchanged)) in
+      let back = insert_there nat_list_cmp_total names_apart m.nodes name (node_in h) (there ∙ ap (λ (x : Holding). Some (node_of x)) (sym unchanged)) in
       subst (Represents new) (λ i. record m { nodes = back i }) (represents_put old new m same is name h m.world put (ap (λ (x : Holding). x.schema) unchanged ∙ is.shared name was here))
 
-  leaves : (result : Result (Unit {0}) Stop) (said : Result (List Sample) CommandFault) → Writes was h result said
-      → Leaves new m result (said >>= λ xs. Ok (record m { nodes = map.insert m.nodes name (with_all_written cell_model (node_of was) xs); world = with_samples m.world xs }))
+  leaves : (result : Result (Unit {0}) Stop) (said : Result (List Sample) CommandFault) → Writes (held was) (held h) result said
+      → Leaves new m result (said >>= λ xs. Ok (record m { nodes = map.insert m.nodes name (with_all_written cell_model (node_in was) xs); world = with_samples m.world xs }))
   leaves (Ok done) said writes =
       let after : List Sample → Node Cells → State Cells = λ xs n. record m { nodes = map.insert m.nodes name n; world = with_samples m.world xs } in (
-        after writes.0 (with_all_written cell_model (node_of was) writes.0),
-        ap (λ (r : Result (List Sample) CommandFault). r >>= λ xs. Ok (after xs (with_all_written cell_model (node_of was) xs))) writes.1,
+        after writes.0 (with_all_written cell_model (node_in was) writes.0),
+        ap (λ (r : Result (List Sample) CommandFault). r >>= λ xs. Ok (after xs (with_all_written cell_model (node_in was) xs))) writes.1,
         subst (λ (n : Node Cells). Represents new (after writes.0 n)) writes.2
             (represents_put old new m same is name h (with_samples m.world writes.0) put
-            (ap (λ (n : Node Cells). n.schema) writes.2 ∙ schema_stays (node_of was) writes.0 ∙ is.shared name was here)),
+            (ap (λ (n : Node Cells). n.schema) writes.2 ∙ schema_stays (node_in was) writes.0 ∙ is.shared name was here)),
       )
   leaves (Err (Refused fault)) said writes = (
-    ap (λ (r : Result (List Sample) CommandFault). r >>= λ xs. Ok (record m { nodes = map.insert m.nodes name (with_all_written cell_model (node_of was) xs); world = with_samples m.world xs })) writes.0,
+    ap (λ (r : Result (List Sample) CommandFault). r >>= λ xs. Ok (record m { nodes = map.insert m.nodes name (with_all_written cell_model (node_in was) xs); world = with_samples m.world xs })) writes.0,
     represents_still writes.1,
   )
   leaves (Err Memory) said writes = tt
 
-  pub leaves_written : (line : List ℕ) (result : Result (Unit {0}) Stop) → Writes was h result (samples_of_line (node_of was) old.clock old.lead line)
+  pub leaves_written : (line : List ℕ) (result : Result (Unit {0}) Stop) → Writes (held was) (held h) result (samples_of_line (node_in was) old.clock old.lead line)
       → Leaves new m result (after_write cell_model m name line)
   leaves_written line result writes =
-      let said : samples_of_line (node_of was) old.clock old.lead line ≡ samples_of_line (node_of was) m.clock m.lead line = λ i. samples_of_line (node_of was) (is.clock i) (is.lead i) line in
-      subst (λ (r : Result (State Cells) CommandFault). Leaves new m result r) (sym (write_to_node cell_model m name line (node_of was) (node_at old m is name (Some was) here)))
-      (leaves result (samples_of_line (node_of was) m.clock m.lead line) (subst (Writes was h result) said writes))
+      let said : samples_of_line (node_in was) old.clock old.lead line ≡ samples_of_line (node_in was) m.clock m.lead line = λ i. samples_of_line (node_in was) (is.clock i) (is.lead i) line in
+      subst (λ (r : Result (State Cells) CommandFault). Leaves new m result r) (sym (write_to_node cell_model m name line (node_in was) (node_at old m is name (Some was) here)))
+      (leaves result (samples_of_line (node_in was) m.clock m.lead line) (subst (Writes (held was) (held h) result) said writes))
 
 -- ---- samples that a node writes next
 

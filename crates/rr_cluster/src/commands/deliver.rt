@@ -4,6 +4,7 @@ ghost use Rattle.std.specs.Prelude.{◌≡◌, option_map};
 ghost use Rattle.rr_replica.specs.Cells.{Cells};
 ghost use Rattle.rr_cluster.specs.Command.{view_of};
 ghost use Rattle.rr_cluster.specs.Commands.Deliver.{after_deliver, deliver_command};
+ghost use Rattle.rr_replica.specs.Standing.{held};
 ghost use Rattle.rr_cluster.specs.Meaning.{HasPageText, Joins, Leaves, Represents};
 ghost use Rattle.rr_cluster.specs.Model.{cell_model};
 ghost use Rattle.rr_cluster.specs.State.{State};
@@ -54,7 +55,7 @@ pub(crate) fn deliver<A: Archive>(
 fn join_page<A: Archive>(alloc: Global, replica: &mut Replica<A>, page: &[u8]) -> Result<(), Stop>
     requires { (cells : Cells) × HasPageText replica.old.schema cells page.now }
     ensures { (cells : Cells) → HasPageText replica.old.schema cells page.now
-        → Joins replica.old replica.new result cells }
+        → Joins (held replica.old) (held replica.new) result cells }
 {
     let cells = match decode(alloc, page, replica.schema()) {
         Ok(cells) => cells,

@@ -4,6 +4,7 @@ ghost use Rattle.std.specs.Prelude.{◌≡◌, option_map};
 ghost use Rattle.rr_replica.specs.Cells.{Cells};
 ghost use Rattle.rr_cluster.specs.Command.{view_of};
 ghost use Rattle.rr_cluster.specs.Commands.Save.{after_save, save_command};
+ghost use Rattle.rr_replica.specs.Standing.{held};
 ghost use Rattle.rr_cluster.specs.Meaning.{Leaves, Represents, Saves};
 ghost use Rattle.rr_cluster.specs.Model.{cell_model};
 ghost use Rattle.rr_cluster.specs.State.{State};
@@ -54,7 +55,7 @@ pub(crate) fn save_node<A: Archive>(
 
 /// The bytes of a snapshot of a replica.
 fn snapshot_of<A: Archive>(alloc: Global, replica: &Replica<A>) -> Result<Vec<u8>, Stop>
-    ensures { Saves replica.now result }
+    ensures { Saves (held replica.now) result }
 {
     let mut output = Counted::new(Vec::new(alloc));
     save(alloc, replica, &mut output)?;

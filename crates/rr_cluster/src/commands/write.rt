@@ -7,7 +7,8 @@ ghost use Rattle.rr_replica.specs.Cells.{Cells};
 ghost use Rattle.rr_replica.specs.Writing.{IsOfALine};
 ghost use Rattle.rr_cluster.specs.Command.{view_of};
 ghost use Rattle.rr_cluster.specs.Commands.Write.{after_write, samples_of_line, samples_of_point, write_command};
-ghost use Rattle.rr_cluster.specs.Meaning.{node_of, Leaves, Represents, Writes};
+ghost use Rattle.rr_replica.specs.Standing.{held};
+ghost use Rattle.rr_cluster.specs.Meaning.{node_in, Leaves, Represents, Writes};
 ghost use Rattle.rr_cluster.specs.Model.{cell_model};
 ghost use Rattle.rr_cluster.specs.State.{State};
 ghost use Rattle.rr_cluster.specs.Words.{words_of};
@@ -55,8 +56,8 @@ fn write_to<A: Archive>(
     line: &[u8],
 ) -> Result<(), Stop>
     requires { HasNoLineFeed line.now }
-    ensures { Writes replica.old replica.new result
-        (samples_of_line (node_of replica.old) clock lead line.now) }
+    ensures { Writes (held replica.old) (held replica.new) result
+        (samples_of_line (node_in replica.old) clock lead line.now) }
 {
     match parse_line(alloc, line, Precision::Ns)? {
         Line::Nothing => Ok(()),
@@ -72,8 +73,8 @@ fn write_point<A: Archive>(
     lead: Option<u64>,
 ) -> Result<(), Stop>
     requires { IsOfALine (point_view point.now) }
-    ensures { Writes replica.old replica.new result
-        (samples_of_point (node_of replica.old) clock lead (point_view point.now)) }
+    ensures { Writes (held replica.old) (held replica.new) result
+        (samples_of_point (node_in replica.old) clock lead (point_view point.now)) }
 {
     replica.write(point, clock, lead)?;
     Ok(())

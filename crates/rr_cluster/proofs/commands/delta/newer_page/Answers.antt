@@ -1,4 +1,4 @@
-use Rattle.std.proofs.Common.{◌<◌, length, sym, arith, subst}
+use Rattle.std.proofs.Common.{sym, arith, subst}
 use Rattle.std.proofs.lemmas.Result.{IfOk-weaker}
 use Rattle.rr_delta.specs.Difference.{IsSummary}
 use Rattle.rr_cluster.proofs.CommandsLemmas.Delta.{summary_is_whole, newer_than_all, versions_are_summary, newer_is_page, newer_page_is_text}

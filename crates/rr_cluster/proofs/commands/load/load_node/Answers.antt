@@ -1,4 +1,4 @@
-use Rattle.std.proofs.Common.{None, Some, ap, refl, sym, ◌∙◌}
+use Rattle.std.proofs.Common.{None, Some, refl, sym, ◌∙◌}
 use Rattle.std.proofs.lemmas.Result.{err_from_is_err_and}
 use Rattle.rr_cluster.specs.Model.{cell_model}
 use Rattle.rr_cluster.proofs.CommandsLemmas.Load.{no_snapshot, bad_name_here, bad_origin_here, used_origin_here, load_is_refused, snapshot_of_schema, leaves_loaded}

@@ -1,7 +1,7 @@
-use Rattle.std.proofs.Common.{None, Some, refl, sym}
+use Rattle.std.proofs.Common.{None, refl, sym}
 use Rattle.std.proofs.lemmas.Result.{err_from_is_err_and}
 use Rattle.rr_cluster.specs.Commands.Save.{snapshot_of}
-use Rattle.rr_cluster.specs.Meaning.{node_of}
+use Rattle.rr_cluster.specs.Meaning.{node_in}
 use Rattle.rr_cluster.specs.Model.{cell_model}
 use Rattle.rr_cluster.proofs.CommandsLemmas.Save.{bad_name, no_node, node_is_saved, save_is_refused, snapshot_of_node, represents_with_snapshot}
 use Rattle.rr_cluster.proofs.MeaningLemmas.{bytes_inserted, node_at}
@@ -29,7 +29,7 @@ returns g c = λ m is.
     let h = c.in-Some.replica.now in
     let here = sym c.in-Some.ensures.value in
     let named = sym c.if-not-is_name.ensures in
-    let x = snapshot_of cell_model (node_of h) in
+    let x = snapshot_of cell_model (node_in h) in
     let bytes = c.in_ok-snapshot.snapshot in
     let put = rw c.in_ok-name.ensures.items at (bytes_inserted old.snapshots c.insert.new.self c.in_ok-name.name bytes c.in_ok-insert.ensures.entries) in
     let has = snapshot_of_node old m is node h here x bytes.items c.in_ok-snapshot.ensures in (
