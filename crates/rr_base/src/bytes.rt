@@ -1,9 +1,7 @@
 //! The bytes that divide lines, keys, scripts and requests, and texts that occur twice.
 
 ghost use Rattle.std.specs.Prelude.{◌≡◌, ℕ, List, map, option_map};
-ghost use Rattle.rr_base.specs.Bytes.{begins, strip, bytes_cmp, is_among, has_repeat};
-
-use std::cmp::Ordering;
+ghost use Rattle.rr_base.specs.Bytes.{begins, strip, is_among, has_repeat};
 
 /// Ends a line.
 pub const LINE_FEED: u8 = b'\n';
@@ -88,31 +86,4 @@ pub fn has_repeat<T: Keyed>(entries: &[T]) -> bool
         left = others;
     }
     false
-}
-
-/// The order of two texts by their bytes. Words of eight bytes are compared as long as they are
-/// equal, so the cost is that of a pass over these words and over the bytes of the first others.
-pub fn compare(left: &[u8], right: &[u8]) -> Ordering
-    ensures { result ≡ bytes_cmp left.now right.now }
-{
-    let (left, right) = skip_equal_words(left, right);
-    left.cmp(right)
-}
-
-/// Two texts without the equal words at their fronts.
-fn skip_equal_words<'a, 'b>(left: &'a [u8], right: &'b [u8]) -> (&'a [u8], &'b [u8])
-    ensures { bytes_cmp result.0.now result.1.now ≡ bytes_cmp left.now right.now }
-{
-    let mut left = left;
-    let mut right = right;
-    while let Some((word, left_rest)) = left.split_first_chunk::<8>() {
-        match right.split_first_chunk::<8>() {
-            Some((other, right_rest)) if word == other => {
-                left = left_rest;
-                right = right_rest;
-            }
-            _ => return (left, right),
-        }
-    }
-    (left, right)
 }

@@ -10,7 +10,6 @@ ghost use Rattle.std.specs.Ordering.{nat_cmp, as_partial_cmp};
 use crate::fault::KeyFault;
 use crate::making::make_text;
 use crate::reading::is_key_text;
-use rr_base::bytes::compare;
 use std::alloc::{AllocError, Global};
 use std::cmp::Ordering;
 use std::marker::Model;
@@ -72,7 +71,7 @@ impl Ord for SeriesKey {
     ghost matches_eq = { Prim.search (comparing, rules) };
 
     fn cmp(&self, other: &SeriesKey) -> Ordering {
-        compare(self.text(), other.text())
+        self.text().cmp(other.text())
     }
 }
 
