@@ -39,3 +39,13 @@ returns-clause-pending g c =
     let same : (view n.desk.place).desk ≡ k.desk = (λ i. (view (desk i).place).desk) ∙ ap (λ (s : KeeperState). s.desk) c.self.view_is in
     let more : ops_in (changes n) ≡ k.pending ++ op ∷ [] = ap ops_in longer ∙ (ops_in-apply (changes o) op ∙ ap (λ (s : KeeperState). s.pending ++ op ∷ []) c.self.view_is) in
     push-state k (held c.apply.new.self) op _ _ _ c.requires (is ∙ ap (λ (h : Holding). step h op) own) same seen more
+
+-- where nothing could be appended, all is as before
+pub invariant_of-self-then-is_err : goal.invariant_of-self-then-is_err
+invariant_of-self-then-is_err g c =
+    let o = c.self.inside.writer in
+    let n = c.append.new.self in
+    let desk = sym {a = n.desk} c.append.ensures.desk in
+    let same : changes n ≡ changes o = search rules in
+    let own : held c.ready.new.self ≡ held c.self.inside.own = c.ready.ensures.unchanged in
+    rw (own, same) (subst (λ (z : View × Holding × Sighting). IsKeeper z.0 z.1 (held c.self.inside.own) z.2 c.self.inside.book (changes o) c.self.inside.marked) (λ i. (view (desk i).place, held (desk i).shown.value.replica, (desk i).shown.value.front)) c.self.invariant)
