@@ -1,6 +1,6 @@
 //! Readers on threads of their own.
 
-use super::{AVERAGES, MINUTE, NOTHING, SEVEN, answers, fetched, key, replica};
+use super::{MINUTE, NOTHING, answers, fetched, key, replica};
 use rr_archive::PlainArchive;
 use rr_desk::{FetchFault, Gate, GateCall, Keeper, Reader, open};
 use rr_fetch::parse_request;
@@ -163,24 +163,46 @@ fn a_reader_answers_while_another_holds_its_copy(rt: HostRuntime) -> Result<(), 
     Ok(())
 }
 
-/// Whether a text is one of the answers before and after the sample.
-fn is_possible(text: &[u8]) -> bool {
-    text == NOTHING || text == SEVEN
-}
-
-/// Whether each of 200 fetches answers what is possible.
-fn fetch_often(alloc: Global, reader: &mut Reader<PlainArchive>) -> bool {
-    let mut are_possible = true;
-    for _ in 0..200 {
-        are_possible &= match fetched(alloc, reader, AVERAGES) {
-            Some(text) => is_possible(&text),
-            None => false,
-        };
+/// The last value of the minute after the epoch that a reader answers: 0 where nothing is known, and
+/// none where the answer is neither that nor a number from 1 to 1,000.
+fn last_value(alloc: Global, reader: &mut Reader<PlainArchive>) -> Option<u64> {
+    let text = fetched(alloc, reader, b"LAST 60 60 120 m v")?;
+    let value = text.strip_prefix(b"m v,60,")?.strip_suffix(b"\n")?;
+    if value == b"U".as_slice() {
+        return Some(0);
     }
-    are_possible
+    let value = str::from_utf8(value).ok()?.parse().ok()?;
+    (1 <= value && value <= 1_000).then_some(value)
 }
 
-/// A reader fetches on a thread of its own, while the keeper puts a sample and publishes it.
+/// Whether each of 10,000 fetches answers what is possible, and none less than the one before it.
+fn fetch_often(alloc: Global, reader: &mut Reader<PlainArchive>) -> bool {
+    let mut last = 0;
+    for _ in 0..10_000 {
+        match last_value(alloc, reader) {
+            Some(value) if value >= last => last = value,
+            _ => return false,
+        }
+    }
+    true
+}
+
+/// Whether the keeper puts the values from 1 to 1,000 into that minute, each later than the one
+/// before it, and publishes after each.
+fn put_often<R: Wait>(rt: &R, alloc: Global, keeper: &mut Keeper<PlainArchive>) -> bool {
+    let Some(key) = key(alloc) else {
+        return false;
+    };
+    for value in 1..1_001i64 {
+        let time = MINUTE.saturating_add(value);
+        if keeper.put(&key, time, value).is_err() || keeper.publish(rt).is_err() {
+            return false;
+        }
+    }
+    true
+}
+
+/// A reader fetches on a thread of its own, while the keeper puts and publishes.
 fn fetch_beside<R: Threads + Wait + Sync>(
     rt: &R,
     alloc: Global,
@@ -190,24 +212,19 @@ fn fetch_beside<R: Threads + Wait + Sync>(
     join(
         rt,
         move || fetch_often(alloc, reader),
-        move || {
-            let Some(key) = key(alloc) else {
-                return false;
-            };
-            keeper.put(&key, MINUTE, 7) == Ok(1) && keeper.publish(rt).is_ok()
-        },
+        move || put_often(rt, alloc, keeper),
     )
 }
 
 #[test]
-fn a_reader_answers_while_the_keeper_publishes(rt: HostRuntime) -> Result<(), Fail> {
+fn a_reader_never_goes_back_while_the_keeper_publishes(rt: HostRuntime) -> Result<(), Fail> {
     let replica = replica::<PlainArchive>(rt.alloc())?;
     let Ok((mut keeper, mut readers)) = open(rt.alloc(), &rt, replica, 1) else {
         panic!(&rt; "no desk");
     };
-    let (possible, published) = fetch_beside(&rt, rt.alloc(), &mut keeper, &mut readers[0]);
-    let after = answers(rt.alloc(), &mut readers[0], SEVEN);
+    let (climbs, published) = fetch_beside(&rt, rt.alloc(), &mut keeper, &mut readers[0]);
+    let is_last = last_value(rt.alloc(), &mut readers[0]) == Some(1_000);
     keeper.close(&rt);
-    assert_eq!(rt; (possible, published, after), (true, true, true));
+    assert_eq!(rt; (climbs, published, is_last), (true, true, true));
     Ok(())
 }
