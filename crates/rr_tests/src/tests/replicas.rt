@@ -3,7 +3,7 @@
 use rr_archive::{Archive, PlainArchive};
 use rr_base::{ArchiveSpec, Origin, Schema};
 use rr_key::SeriesKey;
-use rr_replica::Replica;
+use rr_replica::{Op, Replica, Sample};
 use rr_ring::RingArchive;
 use std::alloc::Global;
 use std::test::Fail;
@@ -86,5 +86,38 @@ fn a_replica_lends_the_archives_of_a_series(rt: HostRuntime) -> Result<(), Fail>
     let past = replica.archive(&key, 1).is_none();
     let unknown = replica.archive(&other, 0).is_none();
     assert_eq!(rt; (count, past, unknown), (1, true, true));
+    Ok(())
+}
+
+/// The sample of a value at time 0 under a number of origin 1.
+fn sample(alloc: Global, number: u64, value: i64) -> Result<Op, Fail> {
+    Ok(Op::Put(Sample {
+        origin: Origin::new(1)?,
+        number,
+        key: SeriesKey::parse_text(alloc, b"m v")?,
+        time: 0,
+        value,
+    }))
+}
+
+/// Whether each of a copied sample and a copied cell is taken by a replica that holds nothing, with
+/// the next number after both, and how many cells there are then.
+fn taken_copies<A: Archive>(alloc: Global) -> Result<(bool, bool, u64, usize), Fail> {
+    let mut first = replica::<A>(alloc)?;
+    let put = first.apply(&sample(alloc, 7, 5)?.copy()?)?;
+    let mut second = replica::<A>(alloc)?;
+    let Some(cell) = first.cell_at(0) else {
+        return Ok((put, false, 0, 0));
+    };
+    let join = Op::Join(cell.to_cell()?).copy()?;
+    second.ready(&join)?;
+    let joined = second.apply(&join)?;
+    Ok((put, joined, second.next_number(), second.cell_count()))
+}
+
+#[test]
+fn copied_operations_are_taken(rt: HostRuntime) -> Result<(), Fail> {
+    let taken = taken_copies::<PlainArchive>(rt.alloc())?;
+    assert_eq!(rt; taken, (true, true, 8, 1));
     Ok(())
 }
