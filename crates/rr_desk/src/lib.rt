@@ -33,5 +33,6 @@ pub use fault::{FetchFault, OpenFault};
 pub use gate::{Gate, GateCall};
 pub use keeper::Keeper;
 pub use note::Note;
-pub use opening::{MAX_READERS, open};
+pub use opening::open;
 pub use reader::Reader;
+pub use rr_base::limits::MAX_READERS;

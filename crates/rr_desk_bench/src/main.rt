@@ -3,7 +3,7 @@
 //! | Words | Work | Lines that are printed |
 //! |---|---|---|
 //! | `replica SERIES MINUTES` | fills a replica | `cells COUNT` |
-//! | `desk SERIES MINUTES READERS` | fills a desk through its keeper, while so many readers fetch | `puts NANOSECONDS`, and for each reader `fetches COUNT longest NANOSECONDS` |
+//! | `desk SERIES MINUTES READERS` | fills a desk through its keeper, while READERS readers fetch | `puts NANOSECONDS`, and for each reader `fetches COUNT longest NANOSECONDS` |
 //!
 //! Each series takes a sample in each minute. The keeper publishes after each minute. Each reader is on
 //! a thread of its own and fetches 100 rows of one series, over and over, until the keeper is done.

@@ -14,7 +14,7 @@ use std::time::{Clock, Duration, Instant};
 /// The nanoseconds of a minute.
 const MINUTE: i64 = 60_000_000_000;
 
-/// The keys of so many series.
+/// The keys of the first series, as many as asked for.
 pub(crate) fn keys(alloc: Global, series: u32) -> Result<Vec<SeriesKey>> {
     let mut keys = Vec::new(alloc);
     for one in 0..series {

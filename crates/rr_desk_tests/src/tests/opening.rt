@@ -8,8 +8,8 @@ use std::alloc::Global;
 use std::sync::Wait;
 use std::test::Fail;
 
-/// How many readers a desk has that is opened for so many; where it is refused, the fault, and how many
-/// cells the replica has that comes back.
+/// The number of readers of a desk that is opened for `readers` of them; where that is refused, the
+/// fault, and the number of cells of the replica that comes back.
 fn opened_for<R: Wait>(
     alloc: Global,
     rt: &R,
