@@ -7,7 +7,7 @@ ghost use Rattle.rr_key.specs.Unit.{name_len};
 ghost use Rattle.rr_key.specs.Name.{ends_in_backslash, is_bad, is_name};
 ghost use Rattle.rr_key.specs.Reading.{name_at};
 
-use crate::class::Class;
+use crate::class::{Class, is_special};
 use memchr::{memchr2, memchr3};
 use rr_base::bytes::{BACKSLASH, COMMA, EQUALS, LINE_FEED, SPACE};
 
@@ -32,8 +32,28 @@ pub fn name_len(class: Class, text: &[u8]) -> usize
     text.len()
 }
 
+/// How many bytes are read one by one before the rest is searched: most names are shorter, and a
+/// search costs more to begin than to read them.
+const NEAR: usize = 8;
+
 /// The first special byte of the class.
 fn find_special(class: Class, text: &[u8]) -> Option<usize>
+    ensures { IsFirstByte (is_special class) text.now result }
+{
+    let near = text.len().min(NEAR);
+    for i in 0..near {
+        if is_special(class, text[i]) {
+            return Some(i);
+        }
+    }
+    match search_special(class, &text[near..]) {
+        Some(at) => Some(near + at),
+        None => None,
+    }
+}
+
+/// The first special byte of the class, by a search of many bytes at once.
+fn search_special(class: Class, text: &[u8]) -> Option<usize>
     ensures { IsFirstByte (is_special class) text.now result }
 {
     match class {

@@ -61,7 +61,7 @@ impl<'a> Point<'a> {
         ensures { IfOk result (λ key. key ≡ key_text (point_view self.now) field.now) }
     {
         let measurement = unescape(alloc, Class::Measurement, self.measurement)?;
-        let tags = unescape_tags(alloc, &self.tags)?;
+        let tags = unescape_tags(alloc, self.tags.as_slice())?;
         let field = unescape(alloc, Class::Other, field)?;
         let slices = slices_of(alloc, &tags)?;
         match SeriesKey::new(alloc, &measurement, &slices, &field) {

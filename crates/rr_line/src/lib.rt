@@ -45,7 +45,7 @@ mod time;
 mod value;
 
 pub use fault::LineFault;
-pub use line::{Field, Line, Point, Tag};
+pub use line::{Field, Line, Point, Tag, Tags};
 pub use parse::parse_line;
 pub use precision::Precision;
 pub use rr_base::bytes::LINE_FEED;

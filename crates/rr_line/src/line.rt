@@ -5,6 +5,7 @@ ghost use Rattle.std.specs.Option.{ForSome};
 ghost use Rattle.rr_line.specs.Front.{front_text, tags_view};
 
 use rr_base::bytes::Keyed;
+use smallvec::SmallVec;
 
 /// What a line says.
 #[derive(Debug, Drop)]
@@ -22,7 +23,7 @@ pub struct Point<'a> {
     /// What was measured, a name of the class [`Measurement`](rr_key::Class::Measurement).
     pub measurement: &'a [u8],
     /// What tells series of one measurement apart, in the line's order.
-    pub tags: Vec<Tag<'a>>,
+    pub tags: Tags<'a>,
     /// What was sampled, in the line's order.
     pub fields: Vec<Field<'a>>,
     /// Nanoseconds since the Unix epoch, if the line says when.
@@ -33,9 +34,12 @@ pub struct Point<'a> {
     ghost front_of: { ForSome front (λ f. f.now ≡ front_text measurement.now (tags_view tags.items)) },
 }
 
+/// The tags of a point: a few are kept in place, and only more of them take memory.
+pub type Tags<'a> = SmallVec<Tag<'a>, 4>;
+
 /// A tag of a point. Its key and its value are names of the class [`Other`](rr_key::Class::Other),
 /// slices of the line, still escaped.
-#[derive(Clone, Copy, Debug, PartialEq, Eq)]
+#[derive(Clone, Copy, Debug, Default, PartialEq, Eq)]
 pub struct Tag<'a> {
     /// Its key.
     pub key: &'a [u8],

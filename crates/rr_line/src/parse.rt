@@ -34,7 +34,7 @@ use std::alloc::Global;
 ///
 /// The cost is that of a few passes over the line, and of comparing the keys of its tags, and those
 /// of its fields, pair by pair; where there are more than 16 they are sorted. Memory is taken for
-/// the lists of tags and fields alone.
+/// the fields, and for the tags where they are more than four.
 pub fn parse_line<'a>(
     alloc: Global,
     line: &'a [u8],
@@ -98,7 +98,7 @@ fn read_point<'a>(
     if has_long_key(front, &fields) {
         return Err(LineFault::KeyTooLong);
     }
-    let front = key_front(front, &tags);
+    let front = key_front(front, tags.as_slice());
     Ok(Point {
         measurement,
         tags,

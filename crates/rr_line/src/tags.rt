@@ -9,23 +9,24 @@ ghost use Rattle.rr_line.specs.Line.{tag_view, tags_view};
 ghost use Rattle.rr_line.specs.Reading.{tag_at, all_tags_at};
 
 use crate::fault::LineFault;
-use crate::line::Tag;
+use crate::line::{Tag, Tags};
 use crate::part::read_name;
 use crate::repeat::has_repeat;
 use rr_base::bytes::{COMMA, EQUALS, begins, strip};
 use rr_key::{Class, MAX_TAGS};
+use smallvec::SmallVec;
 use std::alloc::{AllocError, Global};
 
 /// The tags after a measurement, and what follows them.
 pub(crate) fn read_tags<'a>(
     alloc: Global,
     text: &'a [u8],
-) -> Result<(Vec<Tag<'a>>, &'a [u8]), LineFault>
+) -> Result<(Tags<'a>, &'a [u8]), LineFault>
     ensures { GivesUnless LineFault.Memory (λ tags. (tags_view tags.0.items, tags.1.now))
         result (all_tags_at text.now) }
 {
     let (tags, rest) = gather_tags(alloc, text)?;
-    if has_repeat(&tags) {
+    if has_repeat(tags.as_slice()) {
         return Err(LineFault::DuplicateTag);
     }
     let rest = rest?;
@@ -36,12 +37,12 @@ pub(crate) fn read_tags<'a>(
 fn gather_tags<'a>(
     alloc: Global,
     text: &'a [u8],
-) -> Result<(Vec<Tag<'a>>, Result<&'a [u8], LineFault>), AllocError>
+) -> Result<(Tags<'a>, Result<&'a [u8], LineFault>), AllocError>
     ensures gathered { IfOk result (λ tags. (tags_view tags.0.items, rest_view tags.1)
         ≡ all_gathered_tags text.now) }
     ensures tags_fit { IfOk result (λ tags. length tags.0.items ≤ MAX_TAGS) }
 {
-    let mut tags = Vec::new(alloc);
+    let mut tags = SmallVec::new(alloc);
     let mut left = text;
     while let Some(text) = strip(COMMA, left) {
         let (tag, rest) = match read_tag(text) {

@@ -48,6 +48,6 @@ invariant_of-result c =
     record {
       front_of = λ f is.
           let same : f.now ≡ front = subst (λ r. IfSome r (λ (f : Bor (List ℕ)). f.now ≡ front)) is c.key_front-front.ensures.same in
-          let plain : IsPlain front (tags_view c.deref-2.result.now) = subst (λ r. IfSome r (λ (f : Bor (List ℕ)). IsPlain front (tags_view c.deref-2.result.now))) is c.key_front-front.ensures.plain in
-          same ∙ front_text_of_steps text measurement tags c.in_ok-fields_text.fields_text.now c.requires.one_line c.requires.said c.in_ok-measurement.ensures c.in_ok-tags.ensures c.in_ok-fields_text.ensures (subst (λ ts. IsPlain front (tags_view ts)) c.deref-2.ensures.value plain);
+          let plain : IsPlain front (tags_view c.as_slice.result.now) = subst (λ r. IfSome r (λ (f : Bor (List ℕ)). IsPlain front (tags_view c.as_slice.result.now))) is c.key_front-front.ensures.plain in
+          same ∙ front_text_of_steps text measurement tags c.in_ok-fields_text.fields_text.now c.requires.one_line c.requires.said c.in_ok-measurement.ensures c.in_ok-tags.ensures c.in_ok-fields_text.ensures (subst (λ ts. IsPlain front (tags_view ts)) c.as_slice.ensures plain);
     }
