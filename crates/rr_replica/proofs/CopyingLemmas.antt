@@ -1,58 +1,64 @@
 -- The archives of keys that are copied one after the other.
-use Rattle.std.proofs.Common.{◌≡◌, ℕ, true, false, cond, List, [], ◌∷◌, map, subst, refl, sym, zero, suc, ap, ◌∙◌, Less, Option, Some, None, unwrap_or, true≢false, is_some}
+use Rattle.std.proofs.Common.{◌≡◌, ℕ, List, [], ◌∷◌, map, take, slice_get, arith, subst, refl, sym, zero, suc, ap, ◌∙◌, Option, Some, None, unwrap_or, true≢false, is_some}
 use Rattle.std.specs.Global.{Vec}
-use Rattle.std.specs.List.{AllByRecursion}
 use Rattle.std.specs.List.Sorted.{IsStrictlySortedBy}
 use Rattle.std.specs.Map.{keys_of}
-use Rattle.std.specs.BTreeMap.{is_at}
-use Rattle.std.specs.Option.{option_map, option_or}
-use Rattle.std.specs.Ordering.{is_eq}
-use Rattle.std.specs.Cmp.{eq_by_cmp_equiv}
-use Rattle.std.specs.Cmp.Lexicographic.{nat_list_cmp_total}
+use Rattle.std.specs.Option.{option_map}
 use Rattle.rr_base.specs.Bytes.{bytes_cmp}
 use Rattle.rr_base.specs.Schema.{Layout}
-use Rattle.rr_join.proofs.Members.{same_from_tie}
 use Rattle.rr_archive.specs.Cells.{Rows}
 use Rattle.rr_replica.specs.Archives.{AreSized}
 use Rattle.rr_replica.specs.Held.{archives_of, seen_archive, seen_at, held_series, AreAllSized, IsHolding, IsHeld}
 use Rattle.rr_replica.specs.Series.{cells_of}
 use Rattle.rr_replica.proofs.Local.{same_cells}
-use Rattle.rr_replica.proofs.SeriesLemmas.{bytes_cmp-IsAntisymmetric}
 use Rattle.rr_replica.proofs.Shown.{rows_shown, items_of, held_at}
+use Rattle.rr_replica.specs.Indexed.{index_of, entries_at, IsIndexed}
+use Rattle.rr_replica.proofs.Each.{slice_get-map}
+use Rattle.rr_replica.proofs.IndexedLemmas.{key_at, archives_found, archives_nowhere, slice_get-take}
+
+pub take_none : {Y : Type 0} (xs : List Y) → take 0 xs ≡ []
+take_none [] = refl
+take_none (x ∷ xs) = refl
 
 module _ {X : Type 0} (cells : X → Rows) (limit : X → ℕ) where
-  abbrev seen : Vec X → List (Rows × ℕ)
+  abbrev pub seen : Vec X → List (Rows × ℕ)
   seen v = map (seen_archive cells limit) v.items
 
-  -- what is still to be copied and what has been are the archives
-  pub record Copied (entries left new : List (List ℕ × Vec X)) : Type 0 where
-    pub sorted : IsStrictlySortedBy bytes_cmp (keys_of left)
-    pub alike : (key : List ℕ) → seen_at cells limit entries key ≡ option_or (seen_at cells limit left key) (seen_at cells limit new key)
-    pub ordered : IsStrictlySortedBy bytes_cmp (keys_of new)
+  -- so many of the keys have copies of their archives, and no others are known
+  pub record AreCopied (keys : List (List ℕ)) (archives : List (Vec X)) (copied : List (List ℕ)) (indices : List (List ℕ × ℕ)) (copies : List (Vec X)) (i : ℕ) : Type 0 where
+    pub keys_so_far : copied ≡ take i keys
+    pub seen_so_far : map seen copies ≡ map seen (take i archives)
+    pub indexed : IsIndexed copied indices copies
 
-  none_later : (k q : List ℕ) (es : List (List ℕ × Vec X)) → k ≡ q → AllByRecursion (λ t. bytes_cmp k t ≡ Less) (keys_of es) → archives_of es q ≡ None
-  none_later k q [] e h = refl
-  none_later k q (r ∷ es) e h = ap (λ b. cond b (Some r.1) (archives_of es q)) (ap (λ z. is_eq (bytes_cmp z r.0)) (sym e) ∙ ap is_eq h.0) ∙ none_later k q es e h.1
+  -- the next key isn't known yet
+  pub not_yet : (keys : List (List ℕ)) (indices : List (List ℕ × ℕ)) (archives : List (Vec X)) (copied : List (List ℕ)) (more : List (List ℕ × ℕ)) (copies : List (Vec X)) (i : ℕ) (key : List ℕ) → IsIndexed keys indices archives → AreCopied keys archives copied more copies i → slice_get keys i ≡ Some key → index_of more key ≡ None
+  not_yet keys indices archives copied more copies i key is c at = none (index_of more key) refl
+    where
+      none : (o : Option ℕ) → index_of more key ≡ o → o ≡ None
+      none None e = refl
+      none (Some j) e =
+          let there = ap (λ l. slice_get l j) (sym c.keys_so_far) ∙ key_at copied more c.indexed.there key j e in
+          let below = slice_get-take keys i j key there in
+          let same : Some i ≡ Some j = sym (is.found i key at) ∙ is.found j key below.0 in
+          let equal : i ≡ j = ap (λ p. unwrap_or p i) same in
+          absurd (let less = below.1 in omega (arith, equal, less))
 
-  pub copied_more : (entries left rest new more : List (List ℕ × Vec X)) (key : List ℕ) (archives copy : Vec X) → Copied entries left new → left ≡ (key, archives) ∷ rest → ((q : List ℕ) → archives_of more q ≡ cond (is_at (bytes_cmp key) q) (Some copy) (archives_of new q)) → seen copy ≡ seen archives → IsStrictlySortedBy bytes_cmp (keys_of more) → Copied entries rest more
-  unfolding IsStrictlySortedBy
-  copied_more entries left rest new more key archives copy c is sets same ordered =
-      let sorted = subst (λ l. IsStrictlySortedBy bytes_cmp (keys_of l)) is c.sorted in
-      record {
-        sorted = sorted.1;
-        alike = λ q.
-            c.alike q ∙ ap (λ l. option_or (seen_at cells limit l q) (seen_at cells limit new q)) is
-            ∙ elim (is_eq (bytes_cmp q key)) as (λ b. is_eq (bytes_cmp q key) ≡ b → option_or (option_map seen (cond b (Some archives) (archives_of rest q))) (seen_at cells limit new q) ≡ option_or (seen_at cells limit rest q) (option_map seen (cond b (Some copy) (archives_of new q)))) [
-              | true ↦ λ t. ap (λ s. Some s) (sym same) ∙ ap (λ r. option_or (option_map seen r) (Some (seen copy))) (sym (none_later key q rest (sym (same_from_tie nat_list_cmp_total bytes_cmp-IsAntisymmetric q key t)) sorted.0))
-              | false ↦ λ t. refl
-            ] refl
-            ∙ ap (λ b. option_or (seen_at cells limit rest q) (option_map seen (cond b (Some copy) (archives_of new q)))) ((eq_by_cmp_equiv nat_list_cmp_total).symm q key)
-            ∙ ap (λ r. option_or (seen_at cells limit rest q) (option_map seen r)) (sym (sets q));
-        ordered = ordered;
-      }
+  -- copies of all archives are seen at each key
+  pub copies_seen : (keys : List (List ℕ)) (indices : List (List ℕ × ℕ)) (archives : List (Vec X)) (more : List (List ℕ × ℕ)) (copies : List (Vec X)) → IsIndexed keys indices archives → IsIndexed keys more copies → map seen copies ≡ map seen archives → (key : List ℕ) → seen_at cells limit (entries_at more copies) key ≡ seen_at cells limit (entries_at indices archives) key
+  copies_seen keys indices archives more copies is now same key = by_index (index_of indices key) refl
+    where
+      other : index_of indices key ≡ None → (o : Option ℕ) → index_of more key ≡ o → o ≡ None
+      other none None e = refl
+      other none (Some j) e = absurd (true≢false (ap is_some (sym (is.found j key (key_at keys more now.there key j e)) ∙ none)))
 
-  pub copied_all : (entries left new : List (List ℕ × Vec X)) → Copied entries left new → left ≡ [] → (key : List ℕ) → seen_at cells limit new key ≡ seen_at cells limit entries key
-  copied_all entries left new c none key = sym (c.alike key ∙ ap (λ l. option_or (seen_at cells limit l key) (seen_at cells limit new key)) none)
+      by_index : (o : Option ℕ) → index_of indices key ≡ o → seen_at cells limit (entries_at more copies) key ≡ seen_at cells limit (entries_at indices archives) key
+      by_index None e =
+          ap (option_map seen) (archives_nowhere keys more copies now key (sym (other e (index_of more key) refl)))
+          ∙ sym (ap (option_map seen) (archives_nowhere keys indices archives is key (sym e)))
+      by_index (Some i) e =
+          ap (option_map seen) (archives_found keys more copies now key i (sym (now.found i key (key_at keys indices is.there key i e))))
+          ∙ sym (slice_get-map seen copies i) ∙ ap (λ l. slice_get l i) same ∙ slice_get-map seen archives i
+          ∙ sym (ap (option_map seen) (archives_found keys indices archives is key i (sym e)))
 
   -- ---- the replica over them
 

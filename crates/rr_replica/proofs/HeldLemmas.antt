@@ -25,7 +25,7 @@ use Rattle.rr_replica.specs.Puts.{put_sample}
 use Rattle.rr_base.specs.Bytes.{bytes_cmp}
 use Rattle.rr_replica.specs.Series.{cells_of}
 use Rattle.rr_replica.specs.Archives.{cell_slot_for, Each, AreSized, CanTake, AreSame, HavePut}
-use Rattle.rr_replica.specs.Held.{IsHolding, held_series, archives_of, keyed_sample, holding_of, IsHeld}
+use Rattle.rr_replica.specs.Held.{IsHolding, AreAllSized, held_series, archives_of, keyed_sample, holding_of, IsHeld}
 use Rattle.rr_replica.proofs.PutLaws.{few_held}
 use Rattle.rr_replica.proofs.Local.{get-rows_at}
 use Rattle.rr_replica.proofs.Shown.{held_at, items_of, rows_shown, cells_same, cells_put, held_same, held_put}
@@ -82,6 +82,15 @@ module _ {X : Type 0} (cells : X → Rows) (limit : X → ℕ) (s : Layout) (key
       sized = sized_now;
       ordered = sorted;
     }
+
+-- ---- the same cells
+
+pub kept_same : {X : Type 0} (cells : X → Rows) (limit : X → ℕ) (s : Layout) (origin next : ℕ) (old new : List (List ℕ × Vec X)) → IsHeld cells limit s origin next old → cells_of (held_series cells new) ≡ cells_of (held_series cells old) → AreAllSized limit s new → IsStrictlySortedBy bytes_cmp (keys_of new) → IsHeld cells limit s origin next new
+kept_same cells limit s origin next old new kept same sized ordered = record {
+  holds = subst (λ (m : Cells). IsHolding (record { schema = s; origin = origin; next = next; cells = m })) (sym same) kept.holds;
+  sized = sized;
+  ordered = ordered;
+}
 
 -- ---- a replica that holds nothing
 

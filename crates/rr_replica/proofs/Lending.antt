@@ -13,7 +13,7 @@ use Rattle.rr_replica.specs.Series.{cells_of}
 use Rattle.rr_replica.proofs.Shown.{held_at, items_of, rows_shown}
 
 -- what a slice lends at an index is what stands there
-lent_at : {X : Type 0} (items : List X) (i : ℕ) (lent : Option (Bor X)) → IfSome lent (λ x. x.now ≡ get_or items i x.now) → is_some lent ≡ ltb i (length items) → slice_get items i ≡ option_map (λ x. x.now) lent
+pub lent_at : {X : Type 0} (items : List X) (i : ℕ) (lent : Option (Bor X)) → IfSome lent (λ x. x.now ≡ get_or items i x.now) → is_some lent ≡ ltb i (length items) → slice_get items i ≡ option_map (λ x. x.now) lent
 lent_at items i None same within = slice_get_past items i (ltb-false i (length items) (sym within))
 lent_at items i (Some x) same within = slice_get-get_or items i x.now (ltb-true i (length items) (sym within)) ∙ ap (λ a. Some a) (sym same)
 

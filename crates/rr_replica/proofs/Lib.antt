@@ -26,5 +26,7 @@ pub mod OneArchive
 pub mod JoinedCell
 pub mod Lending
 pub mod OperationsLemmas
+pub mod IndexedLemmas
+pub mod WalkLemmas
 pub mod CopyingLemmas
 pub mod RoomLemmas

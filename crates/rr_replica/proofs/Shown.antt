@@ -1,5 +1,5 @@
 -- The cells of the archives of all keys, as they are kept.
-use Rattle.std.proofs.Common.{◌≡◌, ℕ, zero, suc, ◌+◌, ◌<◌, true, false, cond, List, [], ◌∷◌, map, length, slice_get, refl, sym, ap, ◌∙◌, subst, arith, true≢false, Option, Some, None, unwrap_or, ⊎_elim}
+use Rattle.std.proofs.Common.{◌≡◌, ℕ, zero, suc, ◌+◌, ◌<◌, true, false, cond, List, [], ◌∷◌, map, length, slice_get, refl, sym, ap, ◌∙◌, subst, arith, true≢false, Some, unwrap_or, ⊎_elim}
 use Rattle.std.specs.Prelude.{nat_eq}
 use Rattle.std.specs.Global.{Vec}
 use Rattle.std.specs.List.Sorted.{IsStrictlySortedBy}
@@ -21,6 +21,7 @@ use Rattle.rr_replica.specs.Puts.{put_sample}
 use Rattle.rr_base.specs.Bytes.{bytes_cmp}
 use Rattle.rr_replica.specs.Series.{cells_of, rows_from}
 use Rattle.rr_replica.specs.Archives.{cell_slot_for, sample_for, AreSame, HavePut}
+pub use Rattle.rr_replica.specs.Indexed.{items_of}
 use Rattle.rr_replica.specs.Held.{held_series, archives_of, keyed_sample}
 use Rattle.rr_replica.proofs.Local.{same_cells}
 use Rattle.rr_replica.proofs.SeriesLemmas.{bytes_cmp-IsAntisymmetric, rows_of_series}
@@ -47,10 +48,6 @@ there (x ∷ xs) (suc i) h = there xs i (omega arith)
 -- what stands with a number among archives, and nothing past the last
 abbrev pub held_at : {X : Type 0} → (X → Rows) → List X → ℕ → Rows
 held_at cells archives i = unwrap_or (option_map cells (slice_get archives i)) empty
-
-abbrev pub items_of : {X : Type 0} → Option (Vec X) → List X
-items_of None = []
-items_of (Some archives) = archives.items
 
 module _ {X : Type 0} (cells : X → Rows) where
   pub keys_shown : (entries : List (List ℕ × Vec X)) → keys_of (held_series cells entries) ≡ keys_of entries

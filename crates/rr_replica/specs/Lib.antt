@@ -8,6 +8,8 @@ pub mod Joins
 pub mod Joining
 pub mod Operations
 pub mod Archives
+pub mod Indexed
+pub mod SeriesMap
 pub mod Held
 pub mod Standing
 pub mod State

@@ -1,14 +1,11 @@
 //! Copies of the archives of all keys.
 ghost use Rattle.std.specs.Prelude.{◌≡◌, ℕ, List, map, IfOk};
-ghost use Rattle.std.specs.List.Sorted.{IsStrictlySortedBy};
-ghost use Rattle.std.specs.Map.{keys_of};
-ghost use Rattle.rr_base.specs.Bytes.{bytes_cmp};
 ghost use Rattle.rr_replica.specs.Held.{seen_archive, seen_at};
+ghost use Rattle.rr_replica.specs.SeriesMap.{entries_of, IsIndexed};
 
+use crate::series::SeriesMap;
 use rr_archive::Archive;
-use rr_key::SeriesKey;
 use std::alloc::{AllocError, Global};
-use std::collections::BTreeMap;
 
 /// Archives with the same cells and rows, in the same order.
 fn copy_archives<A: Archive>(alloc: Global, archives: &[A]) -> Result<Vec<A>, AllocError>
@@ -25,16 +22,16 @@ fn copy_archives<A: Archive>(alloc: Global, archives: &[A]) -> Result<Vec<A>, Al
 /// The same archives for each key. The keys' texts are shared.
 pub(crate) fn copy_series<A: Archive>(
     alloc: Global,
-    series: &BTreeMap<SeriesKey, Vec<A>>,
-) -> Result<BTreeMap<SeriesKey, Vec<A>>, AllocError>
-    requires { IsStrictlySortedBy bytes_cmp (keys_of series.now.entries) }
+    series: &SeriesMap<A>,
+) -> Result<SeriesMap<A>, AllocError>
+    requires { IsIndexed series.now }
     ensures same { IfOk result (λ new. (key : List ℕ)
-        → seen_at A.cells A.row_limit new.entries key ≡ seen_at A.cells A.row_limit series.now.entries key) }
-    ensures ordered { IfOk result (λ new. IsStrictlySortedBy bytes_cmp (keys_of new.entries)) }
+        → seen_at A.cells A.row_limit (entries_of new) key ≡ seen_at A.cells A.row_limit (entries_of series.now) key) }
+    ensures indexed { IfOk result IsIndexed }
 {
-    let mut copies = BTreeMap::new(alloc);
-    for (key, archives) in series {
-        copies.insert(key.copy()?, copy_archives(alloc, archives)?)?;
+    let mut copies = SeriesMap::new(alloc);
+    for i in 0..series.keys.len() {
+        copies.insert(&series.keys[i], copy_archives(alloc, &series.archives[i])?)?;
     }
     Ok(copies)
 }

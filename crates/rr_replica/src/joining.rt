@@ -1,7 +1,5 @@
 //! Cells from elsewhere, joined into the archives of their keys.
 ghost use Rattle.std.specs.Prelude.{◌≡◌, ◌≤◌, IsOk, OnOk, OnErr};
-ghost use Rattle.std.specs.List.Sorted.{IsStrictlySortedBy};
-ghost use Rattle.std.specs.Map.{keys_of};
 ghost use Rattle.rr_base.specs.Schema.{IsLayout};
 ghost use Rattle.rr_base.specs.declared.limits.TheConstants.{MAX_NUMBER};
 ghost use Rattle.rr_replica.specs.Cells.{IsTrimmed};
@@ -10,44 +8,43 @@ ghost use Rattle.rr_replica.specs.CellBounds.{IsCellOf};
 ghost use Rattle.rr_replica.specs.Joining.{next_after};
 ghost use Rattle.rr_replica.specs.Held.{held_series, HasRoom, AreAllSized};
 ghost use Rattle.rr_replica.specs.Listing.{owned_cell};
-ghost use Rattle.rr_base.specs.Bytes.{bytes_cmp};
 ghost use Rattle.rr_replica.specs.Series.{cells_of};
+ghost use Rattle.rr_replica.specs.SeriesMap.{entries_of, IsIndexed};
 
 use crate::archives::{empty_archives, join_into};
 use crate::cell::Cell;
 use crate::op::Op;
+use crate::series::SeriesMap;
 use rr_archive::Archive;
 use rr_base::{Origin, Schema};
-use rr_key::SeriesKey;
 use std::alloc::{AllocError, Global};
-use std::collections::BTreeMap;
 
 /// Joins a cell into the archives of its key, or into none.
 pub(crate) fn join_in<A: Archive>(
-    series: &mut BTreeMap<SeriesKey, Vec<A>>,
+    series: &mut SeriesMap<A>,
     alloc: Global,
     schema: &Schema,
     cell: &Cell,
 ) -> Result<(), AllocError>
     requires layout { IsLayout schema.now }
     requires cell { IsCellOf schema.now (owned_cell cell.now) }
-    requires live { IsTrimmed schema.now (cells_of (held_series A.cells series.old.entries)) }
-    requires sized { AreAllSized A.row_limit schema.now series.old.entries }
-    requires ordered { IsStrictlySortedBy bytes_cmp (keys_of series.old.entries) }
-    ensures joined { OnOk result (cells_of (held_series A.cells series.new.entries)
-        ≡ join_cell schema.now (cells_of (held_series A.cells series.old.entries)) (owned_cell cell.now).0 cell.now.contribution) }
-    ensures unchanged { OnErr result (cells_of (held_series A.cells series.new.entries)
-        ≡ cells_of (held_series A.cells series.old.entries)) }
-    ensures sized { AreAllSized A.row_limit schema.now series.new.entries }
-    ensures room { HasRoom A.is_ready schema.now (Op.Join cell.now) series.old.entries → IsOk result }
-    ensures ordered { IsStrictlySortedBy bytes_cmp (keys_of series.new.entries) }
+    requires live { IsTrimmed schema.now (cells_of (held_series A.cells (entries_of series.old))) }
+    requires sized { AreAllSized A.row_limit schema.now (entries_of series.old) }
+    requires indexed { IsIndexed series.old }
+    ensures joined { OnOk result (cells_of (held_series A.cells (entries_of series.new))
+        ≡ join_cell schema.now (cells_of (held_series A.cells (entries_of series.old))) (owned_cell cell.now).0 cell.now.contribution) }
+    ensures unchanged { OnErr result (cells_of (held_series A.cells (entries_of series.new))
+        ≡ cells_of (held_series A.cells (entries_of series.old))) }
+    ensures sized { AreAllSized A.row_limit schema.now (entries_of series.new) }
+    ensures room { HasRoom A.is_ready schema.now (Op.Join cell.now) (entries_of series.old) → IsOk result }
+    ensures indexed { IsIndexed series.new }
 {
-    match series.get_mut(&cell.key) {
-        Some(archives) => join_into(archives, schema, cell),
+    match series.find(&cell.key) {
+        Some(index) => join_into(&mut series.archives[index], schema, cell),
         None => {
             let mut archives = empty_archives(alloc, schema)?;
             join_into(&mut archives, schema, cell)?;
-            series.insert(cell.key.copy()?, archives)?;
+            series.insert(&cell.key, archives)?;
             Ok(())
         }
     }

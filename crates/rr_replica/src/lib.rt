@@ -19,6 +19,7 @@ mod archives;
 mod cell;
 mod copying;
 mod fault;
+mod hints;
 mod joining;
 pub mod laws;
 mod listing;
@@ -29,6 +30,7 @@ mod reading;
 mod replica;
 mod room;
 mod sample;
+mod series;
 mod writing;
 
 pub use cell::{Cell, CellRef};

@@ -6,6 +6,7 @@ ghost use Rattle.rr_replica.specs.Cells.{name_at};
 ghost use Rattle.rr_base.specs.Bytes.{bytes_cmp};
 ghost use Rattle.rr_replica.specs.Series.{cells_from, cells_of};
 ghost use Rattle.rr_replica.specs.Held.{held_series};
+ghost use Rattle.rr_replica.specs.SeriesMap.{entries_of};
 ghost use Rattle.std.specs.List.{AllByRecursion};
 ghost use Rattle.std.specs.List.Sorted.{IsStrictlySortedBy};
 ghost use Rattle.std.specs.Map.{keys_of};
@@ -14,10 +15,10 @@ ghost use Rattle.std.specs.FinMap as fin;
 ghost use Rattle.rr_replica.specs.Listing.{seen_cell, count_of, at_most_usize};
 
 use crate::cell::CellRef;
+use crate::series::SeriesMap;
 use rr_archive::{Archive, Entry};
 use rr_base::limits::MAX_ARCHIVES;
 use rr_key::SeriesKey;
-use std::collections::BTreeMap;
 
 /// How many cells archives hold, added to others; the greatest value of the type, where it can't
 /// hold that many.
@@ -77,30 +78,27 @@ pub(crate) fn nth_in<'a, A: Archive>(
 }
 
 /// How many cells all series hold, as `count_in` counts.
-pub(crate) fn count_cells<A: Archive>(series: &BTreeMap<SeriesKey, Vec<A>>) -> usize
-    requires { IsStrictlySortedBy bytes_cmp (keys_of series.now.entries) }
-    ensures { result ≡ at_most_usize (fin.len (cells_of (held_series A.cells series.now.entries))) }
+pub(crate) fn count_cells<A: Archive>(series: &SeriesMap<A>) -> usize
+    requires { IsStrictlySortedBy bytes_cmp (keys_of (entries_of series.now)) }
+    ensures { result ≡ at_most_usize (fin.len (cells_of (held_series A.cells (entries_of series.now)))) }
 {
     let mut count = 0;
-    for (_, archives) in series {
-        count = count_in(archives, count);
+    for (_, index) in &series.indices {
+        count = count_in(series.at(*index), count);
     }
     count
 }
 
 /// The cell with a number among those of all series.
-pub(crate) fn nth_cell<A: Archive>(
-    series: &BTreeMap<SeriesKey, Vec<A>>,
-    number: usize,
-) -> Option<CellRef<'_>>
-    requires ordered { IsStrictlySortedBy bytes_cmp (keys_of series.now.entries) }
-    requires few_archives { AllByRecursion (λ e. length e.1.items ≤ MAX_ARCHIVES) series.now.entries }
+pub(crate) fn nth_cell<A: Archive>(series: &SeriesMap<A>, number: usize) -> Option<CellRef<'_>>
+    requires ordered { IsStrictlySortedBy bytes_cmp (keys_of (entries_of series.now)) }
+    requires few_archives { AllByRecursion (λ e. length e.1.items ≤ MAX_ARCHIVES) (entries_of series.now) }
     ensures { option_map seen_cell result
-        ≡ slice_get (fin.entries (cells_of (held_series A.cells series.now.entries))) number }
+        ≡ slice_get (fin.entries (cells_of (held_series A.cells (entries_of series.now)))) number }
 {
     let mut left = number;
-    for (key, archives) in series {
-        match nth_in(key, archives, left) {
+    for (key, index) in &series.indices {
+        match nth_in(key, series.at(*index), left) {
             Ok(cell) => return Some(cell),
             Err(rest) => left = rest,
         }

@@ -7,16 +7,17 @@ ghost use Rattle.std.specs.Option.{option_map};
 ghost use Rattle.std.specs.Ordering.{is_le};
 ghost use Rattle.rr_base.specs.Bytes.{bytes_cmp};
 ghost use Rattle.rr_replica.specs.Held.{held_series};
+ghost use Rattle.rr_replica.specs.SeriesMap.{entries_of};
 ghost use Rattle.rr_replica.specs.Listing.{seen_cell, seen_name, first_after, next_cell};
 ghost use Rattle.rr_replica.specs.Series.{cells_from, cells_of};
 
 use crate::cell::CellRef;
 use crate::listing::named;
+use crate::series::SeriesMap;
 use rr_archive::Archive;
 use rr_base::Origin;
 use rr_base::limits::MAX_ARCHIVES;
 use rr_key::SeriesKey;
-use std::collections::BTreeMap;
 
 /// The name of a cell.
 #[derive(Clone, Copy)]
@@ -72,16 +73,16 @@ fn next_in<'a, A: Archive>(
 /// The first cell after a name among those of all series. No series before the name's key is walked
 /// over.
 pub(crate) fn next_cell<'a, A: Archive>(
-    series: &'a BTreeMap<SeriesKey, Vec<A>>,
+    series: &'a SeriesMap<A>,
     name: &NameRef<'_>,
 ) -> Option<CellRef<'a>>
-    requires ordered { IsStrictlySortedBy bytes_cmp (keys_of series.now.entries) }
-    requires few_archives { AllByRecursion (λ e. length e.1.items ≤ MAX_ARCHIVES) series.now.entries }
+    requires ordered { IsStrictlySortedBy bytes_cmp (keys_of (entries_of series.now)) }
+    requires few_archives { AllByRecursion (λ e. length e.1.items ≤ MAX_ARCHIVES) (entries_of series.now) }
     ensures { option_map seen_cell result
-        ≡ next_cell (cells_of (held_series A.cells series.now.entries)) (seen_name name.now) }
+        ≡ next_cell (cells_of (held_series A.cells (entries_of series.now))) (seen_name name.now) }
 {
-    for (key, archives) in series.range(name.key..) {
-        if let Some(cell) = next_in(key, archives, name) {
+    for (key, index) in series.indices.range(name.key..) {
+        if let Some(cell) = next_in(key, series.at(*index), name) {
             return Some(cell);
         }
     }

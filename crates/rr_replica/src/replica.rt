@@ -23,13 +23,13 @@ use crate::op::Op;
 use crate::putting::put_in;
 use crate::reading::Reading;
 use crate::room::make_room_in;
+use crate::series::SeriesMap;
 use rr_archive::{Archive, Entry};
 use rr_base::limits::MAX_NUMBER;
 use rr_base::{Origin, Schema};
 use rr_key::SeriesKey;
 use rr_line::{Field, Point};
 use std::alloc::{AllocError, Global};
-use std::collections::BTreeMap;
 use std::marker::Model;
 use std::mem::replace;
 
@@ -44,7 +44,7 @@ pub struct Replica<A: Archive> {
     schema: Schema,
     origin: Origin,
     next: u64,
-    series: BTreeMap<SeriesKey, Vec<A>>,
+    series: SeriesMap<A>,
     /// Where key texts of points are written, one over the other.
     text: Vec<u8>,
 }
@@ -52,14 +52,15 @@ pub struct Replica<A: Archive> {
 impl<A: Archive> Model for Replica<A> {
     ghost use Rattle.rr_replica.specs.Standing.{Standing, coded_standing, standing_of};
     ghost use Rattle.rr_replica.specs.Held.{IsHeld};
+    ghost use Rattle.rr_replica.specs.SeriesMap.{entries_of, IsIndexed};
 
     ghost Value = { Standing };
 
     ghost coded = { coded_standing };
 
-    ghost view = { λ r. standing_of A.cells A.is_ready r.schema r.origin r.next r.series.entries };
+    ghost view = { λ r. standing_of A.cells A.is_ready r.schema r.origin r.next (entries_of r.series) };
 
-    ghost invariant = { λ r. IsHeld A.cells A.row_limit r.schema r.origin r.next r.series.entries };
+    ghost invariant = { λ r. IsHeld A.cells A.row_limit r.schema r.origin r.next (entries_of r.series) × IsIndexed r.series };
 }
 
 impl<A: Archive> Replica<A> {
@@ -75,7 +76,7 @@ impl<A: Archive> Replica<A> {
             schema: schema.copy(alloc)?,
             origin,
             next: 1,
-            series: BTreeMap::new(alloc),
+            series: SeriesMap::new(alloc),
             text: Vec::new(alloc),
         })
     }

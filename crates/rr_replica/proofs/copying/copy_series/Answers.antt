@@ -1,29 +1,30 @@
-use Rattle.std.proofs.Common.{rules, ◌≡◌, ℕ, cond, List, [], map, ap, ◌∙◌, Some}
-use Rattle.std.specs.BTreeMap.{is_at}
-use Rattle.rr_base.specs.Bytes.{bytes_cmp}
-use Rattle.rr_replica.specs.Held.{archives_of, seen_archive}
-use Rattle.rr_replica.proofs.CopyingLemmas.{copied_more, copied_all}
+use Rattle.std.proofs.Common.{rules, ◌<◌, ◌≤◌, map, length, sym, ap, ◌∙◌, arith, subst}
+use Rattle.rr_replica.specs.Indexed.{IsIndexed}
+use Rattle.rr_replica.proofs.Counted.{take_all}
+use Rattle.rr_replica.proofs.Each.{found_at}
+use Rattle.rr_replica.proofs.CopyingLemmas.{take_none, seen, not_yet, copies_seen}
 use Rattle.rr_replica.proofs.copying.copy_series.Goals as goal
 
-pub loop-key-preserved-in_ok-insert : goal.loop-key-preserved-in_ok-insert
-loop-key-preserved-in_ok-insert g c =
-    let copied = c.in_ok-copy_archives.field-0 in
-    let key : c.in_ok-copy.field-0 ≡ c.in-Some.key.now = search rules in
-    let updates = rw key at c.in_ok-insert.ensures.updates in
-    let sets : (q : List ℕ) → archives_of c.insert-in-loop-key.new.self.entries q ≡ cond (is_at (bytes_cmp c.in-Some.key.now) q) (Some copied) (archives_of c.loop-key.copies.entries q) = updates.0 in
-    let same = c.in_ok-copy_archives.ensures ∙ ap (map (seen_archive g.A.Archive.cells g.A.Archive.row_limit)) c.deref.ensures.value in
-    copied_more g.A.Archive.cells g.A.Archive.row_limit c.args.series.now.entries c.loop-key.key-iterator c.next.new.self c.loop-key.copies.entries c.insert-in-loop-key.new.self.entries c.in-Some.key.now c.in-Some.archives.now copied c.loop-key.invariant (search rules) sets same c.insert-in-loop-key.ensures.ordered
+pub loop-i-init : goal.loop-i-init
+loop-i-init g c = record {
+  keys_so_far = c.new-copies.ensures.no_keys ∙ sym (take_none c.args.series.now.keys.items);
+  seen_so_far = ap (map (seen g.A.Archive.cells g.A.Archive.row_limit)) (c.new-copies.ensures.no_archives ∙ sym (take_none c.args.series.now.archives.items));
+  indexed = c.new-copies.ensures.indexed;
+}
 
-pub loop-key-preserved : goal.loop-key-preserved
-loop-key-preserved g c =
-    let copied = c.in_ok-copy_archives.field-0 in
-    let key : c.in_ok-copy.field-0 ≡ c.in-Some.key.now = search rules in
-    let updates = rw key at c.in_ok-insert.ensures.updates in
-    let sets : (q : List ℕ) → archives_of c.insert-in-loop-key.new.self.entries q ≡ cond (is_at (bytes_cmp c.in-Some.key.now) q) (Some copied) (archives_of c.loop-key.copies.entries q) = updates.0 in
-    let same = c.in_ok-copy_archives.ensures ∙ ap (map (seen_archive g.A.Archive.cells g.A.Archive.row_limit)) c.deref.ensures.value in
-    copied_more g.A.Archive.cells g.A.Archive.row_limit c.args.series.now.entries c.loop-key.key-iterator c.next.new.self c.loop-key.copies.entries c.insert-in-loop-key.new.self.entries c.in-Some.key.now c.in-Some.archives.now copied c.loop-key.invariant (search rules) sets same c.insert-in-loop-key.ensures.ordered
+pub insert-requires-clause-unknown : goal.insert-requires-clause-unknown
+insert-requires-clause-unknown g c =
+    let m = c.args.series.now in
+    let copies = c.loop-i.copies in
+    let within : c.loop-i.i < length m.keys.items = search rules in
+    not_yet g.A.Archive.cells g.A.Archive.row_limit m.keys.items m.indices.entries m.archives.items copies.keys.items copies.indices.entries copies.archives.items c.loop-i.i c.index.result.now c.requires c.loop-i.invariant (found_at m.keys.items c.loop-i.i c.index.result.now within (search rules))
 
 pub returns-clause-same : goal.returns-clause-same
 returns-clause-same g c =
-    let none : c.loop-key.key-iterator ≡ [] = search rules in
-    copied_all g.A.Archive.cells g.A.Archive.row_limit c.args.series.now.entries c.loop-key.key-iterator c.loop-key.copies.entries c.loop-key.invariant none
+    let m = c.args.series.now in
+    let copies = c.loop-i.copies in
+    let past : length m.keys.items ≤ c.loop-i.i = search rules in
+    let past_archives : length m.archives.items ≤ c.loop-i.i = (let many = c.requires.many in omega (arith, many, past)) in
+    let keys = c.loop-i.invariant.keys_so_far ∙ take_all m.keys.items c.loop-i.i past in
+    let archives = c.loop-i.invariant.seen_so_far ∙ ap (map (seen g.A.Archive.cells g.A.Archive.row_limit)) (take_all m.archives.items c.loop-i.i past_archives) in
+    copies_seen g.A.Archive.cells g.A.Archive.row_limit m.keys.items m.indices.entries m.archives.items copies.indices.entries copies.archives.items c.requires (subst (λ ks. IsIndexed ks copies.indices.entries copies.archives.items) keys c.loop-i.invariant.indexed) archives

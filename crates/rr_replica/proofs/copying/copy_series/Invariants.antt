@@ -1,5 +1,5 @@
-use Rattle.rr_replica.proofs.CopyingLemmas.{Copied}
+use Rattle.rr_replica.proofs.CopyingLemmas.{AreCopied}
 use Rattle.rr_replica.proofs.copying.copy_series.Given as goal
 
-abbrev pub invariant-loop-key : goal.invariant-loop-key
-invariant-loop-key g l = Copied g.A.Archive.cells g.A.Archive.row_limit l.series.entries l.key-iterator l.copies.entries
+abbrev pub invariant-loop-i : goal.invariant-loop-i
+invariant-loop-i g l = AreCopied g.A.Archive.cells g.A.Archive.row_limit l.series.keys.items l.series.archives.items l.copies.keys.items l.copies.indices.entries l.copies.archives.items l.i

@@ -1,8 +1,10 @@
 use Rattle.std.proofs.Common.{◌≡◌, ◌+◌, length}
+use Rattle.rr_replica.specs.Indexed.{entries_at}
 use Rattle.rr_replica.specs.Listing.{at_most_usize}
 use Rattle.rr_replica.specs.Series.{all_cells}
+use Rattle.rr_replica.specs.SeriesMap.{entries_of}
 use Rattle.rr_replica.specs.Held.{held_series}
 use Rattle.rr_replica.proofs.listing.count_cells.Given as goal
 
-abbrev pub invariant-loop-archives : goal.invariant-loop-archives
-invariant-loop-archives g l = (at_most_usize (l.count + length (all_cells (held_series g.A.Archive.cells l.archives-iterator))) ≡ at_most_usize (length (all_cells (held_series g.A.Archive.cells l.series.entries)))) × (l.count ≡ at_most_usize l.count)
+abbrev pub invariant-loop-index : goal.invariant-loop-index
+invariant-loop-index g l = (at_most_usize (l.count + length (all_cells (held_series g.A.Archive.cells (entries_at l.index-iterator l.series.archives.items)))) ≡ at_most_usize (length (all_cells (held_series g.A.Archive.cells (entries_of l.series))))) × (l.count ≡ at_most_usize l.count)

@@ -1,59 +1,105 @@
-use Rattle.std.proofs.Common.{rules, ◌≡◌, ℕ, List, cond, Some, None, sym, ◌∙◌}
-use Rattle.std.specs.BTreeMap.{is_at}
+use Rattle.std.proofs.Common.{◌≡◌, Some, None, set, sym, ◌∙◌, arith}
 use Rattle.std.proofs.lemmas.Result.{on_ok_weaker}
-use Rattle.rr_base.specs.Bytes.{bytes_cmp}
-use Rattle.rr_replica.specs.Held.{archives_of}
+use Rattle.rr_replica.specs.Indexed.{index_of, entries_at}
+use Rattle.rr_replica.specs.SeriesMap.{entries_of}
+use Rattle.rr_replica.proofs.IndexedLemmas.{index_within, element_found, archives_nowhere, entries_ordered, sets_at, still_indexed, sized_with}
 use Rattle.rr_replica.proofs.JoinedCell.{before_found, before_fresh}
 use Rattle.rr_replica.proofs.RoomLemmas.{room_set}
 use Rattle.rr_replica.proofs.Shown.{cells_same, held_same}
 use Rattle.rr_replica.proofs.room.make_room_in.Goals as goal
 
+pub index_mut-requires : goal.index_mut-requires
+index_mut-requires g c =
+    let m = c.args.series.now in
+    let at : Some c.in-Some.index ≡ index_of m.indices.entries c.key-key.result.now = c.in-Some.ensures in
+    let within = index_within m.keys.items m.indices.entries m.archives.items c.requires.indexed c.key-key.result.now c.in-Some.index at in
+    let len = m.archives.ok.0 in
+    omega (arith, within, len)
+
+pub make_room-requires-clause-of_schema : goal.make_room-requires-clause-of_schema
+make_room-requires-clause-of_schema g c =
+    let m = c.args.series.now in
+    let old = entries_of m in
+    let at : Some c.in-Some.index ≡ index_of m.indices.entries c.key-key.result.now = c.in-Some.ensures in
+    let was = c.index_mut.result.now in
+    let found = element_found m.keys.items m.indices.entries m.archives.items c.requires.indexed c.key-key.result.now c.in-Some.index was at c.index_mut.ensures.value in
+    record { layout = c.requires.layout; sized = c.requires.sized c.key-key.result.now was (sym found) }
+
 pub returns-in-Some-clause-unchanged : goal.returns-in-Some-clause-unchanged
 returns-in-Some-clause-unchanged g c =
     let cells = g.A.Archive.cells in
-    let key = c.key-key.result.now in
-    let old = c.args.series.now.entries in
-    let was = c.in-Some.archives.now in
-    let found : Some was ≡ archives_of old key = c.in-Some.ensures.value in
+    let m = c.args.series.now in
+    let old = entries_of m in
+    let at : Some c.in-Some.index ≡ index_of m.indices.entries c.key-key.result.now = c.in-Some.ensures in
+    let was = c.index_mut.result.now in
+    let found = element_found m.keys.items m.indices.entries m.archives.items c.requires.indexed c.key-key.result.now c.in-Some.index was at c.index_mut.ensures.value in
     let now = c.make_room.new.archives in
-    let new = (c.get_mut.follows.lender now).entries in
-    let holds = c.get_mut.follows.holds now in
-    let updates = holds.3 (search rules) in
-    cells_same cells old new key now updates.0 c.requires.ordered holds.4
-    (λ i. held_same cells was.items now.items i c.make_room.ensures.unchanged ∙ sym (before_found cells key old c.requires.ordered was found i))
+    let new = entries_at m.indices.entries (set m.archives.items c.in-Some.index now) in
+    let sets = sets_at m.keys.items m.indices.entries m.archives.items c.requires.indexed c.key-key.result.now c.in-Some.index now at in
+    let still = still_indexed m.keys.items m.indices.entries m.archives.items c.requires.indexed c.in-Some.index now in
+    let ordered_before = entries_ordered m.keys.items m.indices.entries m.archives.items c.requires.indexed in
+    let ordered = entries_ordered m.keys.items m.indices.entries (set m.archives.items c.in-Some.index now) still in
+    cells_same cells old new c.key-key.result.now now sets ordered_before ordered
+    (λ i. held_same cells was.items now.items i c.make_room.ensures.unchanged ∙ sym (before_found cells c.key-key.result.now old ordered_before was found i))
+
+pub returns-in-Some-clause-sized : goal.returns-in-Some-clause-sized
+returns-in-Some-clause-sized g c =
+    let m = c.args.series.now in
+    let old = entries_of m in
+    let at : Some c.in-Some.index ≡ index_of m.indices.entries c.key-key.result.now = c.in-Some.ensures in
+    let was = c.index_mut.result.now in
+    let found = element_found m.keys.items m.indices.entries m.archives.items c.requires.indexed c.key-key.result.now c.in-Some.index was at c.index_mut.ensures.value in
+    let now = c.make_room.new.archives in
+    let new = entries_at m.indices.entries (set m.archives.items c.in-Some.index now) in
+    let sets = sets_at m.keys.items m.indices.entries m.archives.items c.requires.indexed c.key-key.result.now c.in-Some.index now at in
+    let still = still_indexed m.keys.items m.indices.entries m.archives.items c.requires.indexed c.in-Some.index now in
+    let ordered_before = entries_ordered m.keys.items m.indices.entries m.archives.items c.requires.indexed in
+    let ordered = entries_ordered m.keys.items m.indices.entries (set m.archives.items c.in-Some.index now) still in
+    sized_with g.A.Archive.row_limit c.args.schema.now c.key-key.result.now old new now c.requires.sized sets c.make_room.ensures.of_schema.sized
 
 pub returns-in-Some-clause-room : goal.returns-in-Some-clause-room
 returns-in-Some-clause-room g c =
-    let key = c.key-key.result.now in
-    let old = c.args.series.now.entries in
+    let m = c.args.series.now in
+    let old = entries_of m in
+    let at : Some c.in-Some.index ≡ index_of m.indices.entries c.key-key.result.now = c.in-Some.ensures in
+    let was = c.index_mut.result.now in
+    let found = element_found m.keys.items m.indices.entries m.archives.items c.requires.indexed c.key-key.result.now c.in-Some.index was at c.index_mut.ensures.value in
     let now = c.make_room.new.archives in
-    let new = (c.get_mut.follows.lender now).entries in
-    let holds = c.get_mut.follows.holds now in
-    let updates = holds.3 (search rules) in
-    on_ok_weaker c.make_room.result (room_set g.A.Archive.is_ready c.args.schema.now c.args.op.now key c.key-key.ensures old new now updates.0) c.make_room.ensures.room
+    let new = entries_at m.indices.entries (set m.archives.items c.in-Some.index now) in
+    let sets = sets_at m.keys.items m.indices.entries m.archives.items c.requires.indexed c.key-key.result.now c.in-Some.index now at in
+    let still = still_indexed m.keys.items m.indices.entries m.archives.items c.requires.indexed c.in-Some.index now in
+    let ordered_before = entries_ordered m.keys.items m.indices.entries m.archives.items c.requires.indexed in
+    let ordered = entries_ordered m.keys.items m.indices.entries (set m.archives.items c.in-Some.index now) still in
+    on_ok_weaker c.make_room.result (room_set g.A.Archive.is_ready c.args.schema.now c.args.op.now c.key-key.result.now c.key-key.ensures old new now sets) c.make_room.ensures.room
 
 pub returns-in_ok-insert-in-None-clause-unchanged : goal.returns-in_ok-insert-in-None-clause-unchanged
 returns-in_ok-insert-in-None-clause-unchanged g c =
     let cells = g.A.Archive.cells in
-    let key = c.key-key.result.now in
-    let old = c.args.series.now.entries in
-    let none : None ≡ archives_of old key = c.in-None.ensures.value in
+    let m = c.args.series.now in
+    let old = entries_of m in
+    let unknown : None ≡ index_of m.indices.entries c.key-key.result.now = c.in-None.ensures in
+    let none = sym (archives_nowhere m.keys.items m.indices.entries m.archives.items c.requires.indexed c.key-key.result.now unknown) in
     let fresh = c.in_ok-archives-in-None in
+    let next = c.insert.new.self in
+    let new = entries_of next in
+    let sets = c.in_ok-insert-in-None.ensures.sets in
+    let ordered_before = entries_ordered m.keys.items m.indices.entries m.archives.items c.requires.indexed in
+    let ordered = entries_ordered next.keys.items next.indices.entries next.archives.items c.insert.ensures.indexed_now in
     let now = c.make_room-in-None.new.archives in
-    let same : c.get_mut.follows.lender-at-none ≡ c.args.series.now = c.get_mut.follows.holds-at-none in
-    let text : c.in_ok-copy-in-None.field-0 ≡ key = search rules in
-    let updates = rw (same, text) at c.in_ok-insert-in-None.ensures.updates in
-    let sets : (q : List ℕ) → archives_of c.insert.new.self.entries q ≡ cond (is_at (bytes_cmp key) q) (Some now) (archives_of old q) = updates.0 in
-    cells_same cells old c.insert.new.self.entries key now sets c.requires.ordered c.insert.ensures.ordered
-    (λ i. held_same cells fresh.archives.items now.items i c.make_room-in-None.ensures.unchanged ∙ sym (before_fresh cells key old c.requires.ordered fresh.archives.items none fresh.ensures.empty i))
+    cells_same cells old new c.key-key.result.now now sets ordered_before ordered
+    (λ i. held_same cells fresh.archives.items now.items i c.make_room-in-None.ensures.unchanged ∙ sym (before_fresh cells c.key-key.result.now old ordered_before fresh.archives.items none fresh.ensures.empty i))
 
 pub returns-in_ok-insert-in-None-clause-room : goal.returns-in_ok-insert-in-None-clause-room
 returns-in_ok-insert-in-None-clause-room g c =
-    let key = c.key-key.result.now in
-    let old = c.args.series.now.entries in
+    let m = c.args.series.now in
+    let old = entries_of m in
+    let unknown : None ≡ index_of m.indices.entries c.key-key.result.now = c.in-None.ensures in
+    let none = sym (archives_nowhere m.keys.items m.indices.entries m.archives.items c.requires.indexed c.key-key.result.now unknown) in
+    let fresh = c.in_ok-archives-in-None in
+    let next = c.insert.new.self in
+    let new = entries_of next in
+    let sets = c.in_ok-insert-in-None.ensures.sets in
+    let ordered_before = entries_ordered m.keys.items m.indices.entries m.archives.items c.requires.indexed in
+    let ordered = entries_ordered next.keys.items next.indices.entries next.archives.items c.insert.ensures.indexed_now in
     let now = c.make_room-in-None.new.archives in
-    let same : c.get_mut.follows.lender-at-none ≡ c.args.series.now = c.get_mut.follows.holds-at-none in
-    let text : c.in_ok-copy-in-None.field-0 ≡ key = search rules in
-    let updates = rw (same, text) at c.in_ok-insert-in-None.ensures.updates in
-    let sets : (q : List ℕ) → archives_of c.insert.new.self.entries q ≡ cond (is_at (bytes_cmp key) q) (Some now) (archives_of old q) = updates.0 in
-    room_set g.A.Archive.is_ready c.args.schema.now c.args.op.now key c.key-key.ensures old c.insert.new.self.entries now sets c.in_ok-make_room-in-None.ensures.room
+    room_set g.A.Archive.is_ready c.args.schema.now c.args.op.now c.key-key.result.now c.key-key.ensures old new now sets c.in_ok-make_room-in-None.ensures.room

@@ -1,7 +1,9 @@
 use Rattle.std.proofs.Common.{subst, sym, ap, ◌∙◌}
 use Rattle.rr_base.specs.Schema.{Layout}
+use Rattle.rr_replica.specs.SeriesMap.{entries_of}
 use Rattle.rr_replica.specs.Held.{IsHeld}
 use Rattle.rr_replica.specs.Standing.{held}
+use Rattle.rr_replica.proofs.IndexedLemmas.{entries_ordered}
 use Rattle.rr_replica.proofs.CopyingLemmas.{same_cells_copied, held_copied}
 use Rattle.rr_replica.proofs.replica.Replica.copy.Goals as goal
 
@@ -10,17 +12,23 @@ invariant_of-result g c =
     let r = c.self.inside in
     let cells = g.A.Archive.cells in
     let limit = g.A.Archive.row_limit in
-    let copied = c.in_ok-copy_series.field-0.entries in
+    let new = c.in_ok-copy_series.field-0 in
+    let copied = entries_of new in
     let same = c.in_ok-copy_series.ensures in
-    subst (λ (s : Layout). IsHeld cells limit s r.origin r.next copied) (sym c.in_ok-copy.ensures.same)
-    (held_copied cells limit r.series.entries copied same.same c.self.invariant.ordered same.ordered r.schema r.origin r.next c.self.invariant)
+    let ordered = entries_ordered new.keys.items new.indices.entries new.archives.items same.indexed in (
+      subst (λ (s : Layout). IsHeld cells limit s r.origin r.next copied) (sym c.in_ok-copy.ensures.same)
+          (held_copied cells limit (entries_of r.series) copied same.same c.self.invariant.0.ordered ordered r.schema r.origin r.next c.self.invariant.0),
+      same.indexed,
+    )
 
 pub returns : goal.returns
 returns g c =
     let r = c.self.inside in
     let cells = g.A.Archive.cells in
     let limit = g.A.Archive.row_limit in
-    let copied = c.in_ok-copy_series.field-0.entries in
+    let new = c.in_ok-copy_series.field-0 in
+    let copied = entries_of new in
     let same = c.in_ok-copy_series.ensures in
-    let all = same_cells_copied cells limit r.series.entries copied same.same c.self.invariant.ordered same.ordered in
+    let ordered = entries_ordered new.keys.items new.indices.entries new.archives.items same.indexed in
+    let all = same_cells_copied cells limit (entries_of r.series) copied same.same c.self.invariant.0.ordered ordered in
     (λ i. record { schema = c.in_ok-copy.ensures.same i; origin = r.origin; next = r.next; cells = all i }) ∙ ap held c.self.view_is
