@@ -14,7 +14,6 @@ use rr_base::Counted;
 use rr_base::stream::{flush, write_all};
 use rr_feed::Feed;
 use rr_line::Precision;
-use rr_records::Records;
 use std::alloc::{AllocError, Global};
 use std::io::Write;
 
@@ -72,15 +71,15 @@ impl Checker {
     }
 
     /// Reports and counts the items that can be handed out.
-    fn push_items(&mut self, records: &mut Records) -> Result<(), AllocError>
-        ensures reported { OnOk result ((text : List ℕ) × (records.new ≡ records.old ++ text) × Reports self.old self.new text) }
+    fn push_items(&mut self, report: &mut Vec<u8>) -> Result<(), AllocError>
+        ensures reported { OnOk result ((text : List ℕ) × (report.new.items ≡ report.old.items ++ text) × Reports self.old self.new text) }
         ensures all { OnOk result (items_left self.new.feed ≡ []) }
     {
         let mut key = Vec::new(self.alloc);
         while let Some(item) = self.feed.next_line() {
             let refused = push_item(
                 self.alloc,
-                records,
+                report,
                 &mut key,
                 item,
                 self.lines + 1,
@@ -98,9 +97,9 @@ impl Checker {
         ensures reported { IfOk result (λ text. Reports self.old self.new text.items) }
         ensures all { OnOk result (items_left self.new.feed ≡ []) }
     {
-        let mut records = Records::new(self.alloc);
-        self.push_items(&mut records)?;
-        records.into_text()
+        let mut report = Vec::new(self.alloc);
+        self.push_items(&mut report)?;
+        Ok(report)
     }
 
     /// Writes the report of the items that can be handed out.

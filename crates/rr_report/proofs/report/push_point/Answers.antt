@@ -7,6 +7,9 @@ use Rattle.rr_key.specs.Making.{making_fault}
 use Rattle.rr_line.specs.Key.{names_of, key_text}
 use Rattle.rr_line.specs.Line.{PointView, field_view, point_view}
 use Rattle.rr_line.specs.declared.line.Field.{Field}
+use Rattle.std.specs.Fmt.{signed_decimal}
+use Rattle.rr_records.specs.Records.{IsPlain}
+use Rattle.rr_records.proofs.CsvLemmas.{plain_signed}
 use Rattle.rr_report.specs.Report.{sample_text}
 use Rattle.rr_report.proofs.PointLemmas.{field_at, texts_more}
 use Rattle.rr_report.proofs.report.push_point.Goals as goal
@@ -24,10 +27,11 @@ loop-field-preserved c =
     let p = point_view c.args.point.now in
     let back = to_z-of_z {w = w64} {z = c.unwrap_or-time.result} (search rules) in
     let field = get_or items i any in
-    let start = c.args.records.now in
+    let start = c.args.report.now.items in
     let before = flat_map (text_at p c.unwrap_or-time.result) (map field_view (take i items)) in
     let so_far = rw back at c.loop-field.invariant in
-    let added = rw back at c.in_ok-push_field.ensures in
+    let digits : c.as_bytes-digits.result.now ≡ signed_decimal c.unwrap_or-time.result = search rules in
+    let added = rw digits at c.in_ok-push_field.ensures in
     let more = texts_more (text_at p c.unwrap_or-time.result) field_view items i any c.loop-field-test.true in
     rw back (added ∙ ap (λ (t : List ℕ). t ++ text_at p c.unwrap_or-time.result (field_view field)) so_far
     ∙ append_assoc start before (text_at p c.unwrap_or-time.result (field_view field))
@@ -38,7 +42,11 @@ push_field-requires c =
     let p = point_view c.args.point.now in
     let Keyed : List ℕ × ℤ → Type 0 = λ field. making_fault (names_of p field.0) ≡ None in
     let keyed : AllByRecursion Keyed (map field_view c.deref-field-items.result.now) = subst (λ (items : List Field). AllByRecursion Keyed (map field_view items)) (sym c.deref-field-items.ensures.value) c.requires in
-    field_at Keyed field_view c.deref-field-items.result.now c.loop-field.field-index any keyed c.loop-field-test.true
+    let digits : c.as_bytes-digits.result.now ≡ signed_decimal c.unwrap_or-time.result = search rules in
+    record {
+      keyed = field_at Keyed field_view c.deref-field-items.result.now c.loop-field.field-index any keyed c.loop-field-test.true;
+      time = subst IsPlain (sym digits) (plain_signed c.unwrap_or-time.result (search rules));
+    }
 
 pub returns : goal.returns
 returns c =

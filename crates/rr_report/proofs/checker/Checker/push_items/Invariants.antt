@@ -5,7 +5,7 @@ use Rattle.rr_report.proofs.checker.Checker.push_items.Given as goal
 -- what was handed out is reported and counted
 abbrev pub invariant-loop-item : goal.invariant-loop-item
 invariant-loop-item l =
-    (text : List ℕ) × (l.records ≡ l.initial.records ++ text) × Reports l.initial.self l.self text
+    (text : List ℕ) × (l.report.items ≡ l.initial.report.items ++ text) × Reports l.initial.self l.self text
 
 abbrev pub decreases-loop-item : goal.decreases-loop-item
 decreases-loop-item l = length l.self.feed.left

@@ -1,0 +1,66 @@
+//! Records of CSV, added to a text of one's own.
+
+ghost use Rattle.std.specs.Prelude.{◌≡◌, ◌++◌, ◌∷◌, [], OnOk};
+ghost use Rattle.std.specs.List.{list_any, flat_map};
+ghost use Rattle.rr_model.specs.FetchText.{doubled, field_text, is_special};
+ghost use Rattle.rr_records.specs.Records.{record_text, IsPlain};
+
+use rr_base::bytes::{COMMA, LINE_FEED, RETURN};
+use rr_base::text::cut;
+use std::alloc::AllocError;
+
+const DOUBLE_QUOTE: u8 = b'"';
+
+/// Adds the record of a name and of two texts that CSV writes as they are, as numbers are. After an
+/// `Err` some of it may be there. The cost is linear in their bytes.
+pub fn push_plain(
+    text: &mut Vec<u8>,
+    name: &[u8],
+    first: &[u8],
+    second: &[u8],
+) -> Result<(), AllocError>
+    requires first { IsPlain first.now }
+    requires second { IsPlain second.now }
+    ensures { OnOk result (text.new.items
+        ≡ text.old.items ++ record_text (name.now ∷ first.now ∷ second.now ∷ [])) }
+{
+    push_field(text, name)?;
+    text.extend_from_slice(b",")?;
+    text.extend_from_slice(first)?;
+    text.extend_from_slice(b",")?;
+    text.extend_from_slice(second)?;
+    text.extend_from_slice(b"\n")
+}
+
+/// Adds a field, in double quotes where CSV wants them.
+fn push_field(text: &mut Vec<u8>, field: &[u8]) -> Result<(), AllocError>
+    ensures { OnOk result (text.new.items ≡ text.old.items ++ field_text field.now) }
+{
+    if !needs_quotes(field) {
+        return text.extend_from_slice(field);
+    }
+    text.extend_from_slice(b"\"")?;
+    push_doubled(text, field)?;
+    text.extend_from_slice(b"\"")
+}
+
+/// Whether a field has a comma, a double quote, CR or LF.
+fn needs_quotes(field: &[u8]) -> bool
+    ensures { result ≡ list_any is_special field.now }
+{
+    field.iter().any(|byte| matches!(*byte, COMMA | DOUBLE_QUOTE | RETURN | LINE_FEED))
+}
+
+/// Adds a field with each double quote doubled.
+fn push_doubled(text: &mut Vec<u8>, field: &[u8]) -> Result<(), AllocError>
+    ensures { OnOk result (text.new.items ≡ text.old.items ++ flat_map doubled field.now) }
+{
+    let mut rest = field;
+    while let Some((before, after)) = cut(DOUBLE_QUOTE, rest) {
+        text.extend_from_slice(before)?;
+        text.extend_from_slice(b"\"\"")?;
+        rest = after;
+    }
+    text.extend_from_slice(rest)?;
+    Ok(())
+}
