@@ -1,5 +1,6 @@
 //! The side of a session that gives cells.
-ghost use Rattle.std.specs.Prelude.{◌≡◌, All, IfOk, IsTrue, map};
+ghost use Rattle.std.specs.Prelude.{◌≡◌, All, IfOk, IsTrue, map, refl};
+ghost use Rattle.std.proofs.Common.{◌∙◌};
 ghost use Rattle.std.specs.FinMap.{entries, is_sorted};
 ghost use Rattle.rr_base.specs.Schema.{Layout, IsLayout};
 ghost use Rattle.rr_model.specs.CellNames.{cell_name_cmp};
@@ -18,11 +19,14 @@ use std::alloc::{AllocError, Global};
 
 /// Whoever gives cells to others: it answers what a summary lacks.
 ///
-/// It is seen as a map of cells of a schema, those that it answered from last.
+/// It is seen as a map of cells of a schema, those that it answered from last, and by what it may
+/// become: a relation, of its own choice, between what stands before calls and after them.
 pub trait Source {
     ghost layout: { Self → Layout };
 
     ghost cells: { Self → Cells };
+
+    ghost may_become: { Self → Self → Type 0 };
 
     /// The schema of all cells. It never changes.
     fn schema(&self) -> &Schema
@@ -37,13 +41,24 @@ pub trait Source {
             ≡ newer_cells (map owned_name summary.now) (entries (cells self.new))) }
         ensures ascending { IfOk result (λ found. IsTrue (is_sorted cell_name_cmp (map owned_cell found.items))) }
         ensures of_schema { IfOk result (λ found. All (λ c. IsCellOf (layout self.new) (owned_cell c)) found.items) }
-        ensures schema { layout self.new ≡ layout self.old };
+        ensures schema { layout self.new ≡ layout self.old }
+        ensures kept { may_become self.old self.new };
+
+    ghost may_stay: { (x : Self) → may_become x x };
+
+    ghost may_go_on: { (x y z : Self) → may_become x y → may_become y z → may_become x z };
 }
 
 impl<A: Archive> Source for Replica<A> {
     ghost layout = { λ r. r.schema };
 
     ghost cells = { λ r. r.cells };
+
+    ghost may_become = { λ r s. s ≡ r };
+
+    ghost may_stay = { λ r. refl };
+
+    ghost may_go_on = { λ r s t p q. q ∙ p };
 
     fn schema(&self) -> &Schema {
         Replica::schema(self)
@@ -56,7 +71,7 @@ impl<A: Archive> Source for Replica<A> {
         ensures ascending { IfOk result (λ found. IsTrue (is_sorted cell_name_cmp (map owned_cell found.items))) }
         ensures of_schema { IfOk result (λ found. All (λ c. IsCellOf (self.new.schema) (owned_cell c)) found.items) }
         ensures schema { self.new.schema ≡ self.old.schema }
-        ensures unchanged { self.new ≡ self.old }
+        ensures kept { self.new ≡ self.old }
     {
         difference(alloc, self, summary)
     }

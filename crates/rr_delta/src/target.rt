@@ -1,5 +1,6 @@
 //! The side of a session that takes cells.
-ghost use Rattle.std.specs.Prelude.{◌≡◌, All, IfOk, OnOk, OnErr, map, take, drop};
+ghost use Rattle.std.specs.Prelude.{◌≡◌, All, IfOk, OnOk, OnErr, map, take, drop, refl};
+ghost use Rattle.std.proofs.Common.{◌∙◌};
 ghost use Rattle.std.specs.FinMap.{entries};
 ghost use Rattle.rr_base.specs.Schema.{Layout, IsLayout};
 ghost use Rattle.rr_replica.specs.CellBounds.{IsCellOf};
@@ -19,11 +20,14 @@ use std::alloc::{AllocError, Global};
 
 /// Whoever takes cells from elsewhere: it says which it has, and joins those that it is given.
 ///
-/// It is seen as a map of cells of a schema, none of them past the horizon.
+/// It is seen as a map of cells of a schema, none of them past the horizon, and by what it may become:
+/// a relation, of its own choice, between what stands before calls and after them.
 pub trait Target {
     ghost layout: { Self → Layout };
 
     ghost cells: { Self → Cells };
+
+    ghost may_become: { Self → Self → Type 0 };
 
     /// The schema of all cells. It never changes.
     fn schema(&self) -> &Schema
@@ -60,13 +64,24 @@ pub trait Target {
         ensures joined { OnOk result (cells self.new
             ≡ join_cell (layout self.old) (cells self.old) (owned_cell cell.now).0 cell.now.contribution) }
         ensures unchanged { OnErr result (cells self.new ≡ cells self.old) }
-        ensures schema { layout self.new ≡ layout self.old };
+        ensures schema { layout self.new ≡ layout self.old }
+        ensures kept { may_become self.old self.new };
+
+    ghost may_stay: { (x : Self) → may_become x x };
+
+    ghost may_go_on: { (x y z : Self) → may_become x y → may_become y z → may_become x z };
 }
 
 impl<A: Archive> Target for Replica<A> {
     ghost layout = { λ r. r.schema };
 
     ghost cells = { λ r. r.cells };
+
+    ghost may_become = { λ r s. (s.schema ≡ r.schema) × (s.origin ≡ r.origin) };
+
+    ghost may_stay = { λ r. (refl, refl) };
+
+    ghost may_go_on = { λ r s t p q. (q.0 ∙ p.0, q.1 ∙ p.1) };
 
     fn schema(&self) -> &Schema {
         Replica::schema(self)

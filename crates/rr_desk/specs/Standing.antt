@@ -3,7 +3,9 @@ use Rattle.std.specs.Prelude.{◌≡◌, ℕ, Bool, true, Option, Some, None, Li
 use mathlib.Core.List.{IsPrefix}
 use Rattle.logbook.specs.Pages.{Book}
 use Rattle.rr_base.specs.Schema.{Layout}
+use Rattle.rr_replica.specs.declared.cell.Cell.{Cell}
 use Rattle.rr_replica.specs.declared.op.Op.{Op}
+use Rattle.rr_replica.specs.declared.op.Op.TheVariants.{Join}
 use Rattle.rr_replica.specs.Cells.{Cells}
 use Rattle.rr_replica.specs.Holding.{Holding}
 use Rattle.rr_replica.specs.Operations.{outcome_of, applied, step, joins_of, AllAccepted}
@@ -52,6 +54,14 @@ with_all_published k = record {
   published = k.published ++ k.pending;
   pending = [];
 }
+
+-- with these cells joined, which are pending, in order
+abbrev pub with_joined : KeeperState → List Cell → KeeperState
+with_joined k cells = fold (λ k c. with_pending k (Join c)) k cells
+
+-- a keeper that has joined cells, and is else as before
+abbrev pub HasJoined : KeeperState → KeeperState → Type 0
+HasJoined old new = (cells : List Cell) × (new ≡ with_joined old cells)
 
 -- a keeper that has opened a desk with what a replica holds
 abbrev pub opened : Holding → Book → KeeperState

@@ -9,11 +9,24 @@ use rr_replica::Cell;
 use std::alloc::{AllocError, Global};
 
 impl<A: Archive> Target for Keeper<A> {
-    ghost use Rattle.rr_desk.specs.Standing.{cells_of};
+    ghost use Rattle.std.specs.Prelude.{[], ◌∷◌, ◌++◌, fold, refl};
+    ghost use Rattle.std.proofs.Common.{◌∙◌, ap, sym};
+    ghost use Rattle.std.proofs.lemmas.List.Sums.{fold-append};
+    ghost use Rattle.rr_replica.specs.declared.op.Op.TheVariants.{Join};
+    ghost use Rattle.rr_desk.specs.Standing.{HasJoined, cells_of, with_joined, with_pending};
 
     ghost layout = { λ k. k.schema };
 
     ghost cells = { cells_of };
+
+    ghost may_become = { HasJoined };
+
+    ghost may_stay = { λ k. ([], refl) };
+
+    ghost may_go_on = { λ a b c p q. (
+      p.0 ++ q.0,
+      q.1 ∙ ap (λ k. with_joined k q.0) p.1 ∙ sym (fold-append (λ k c. with_pending k (Join c)) a p.0 q.0),
+    ) };
 
     fn schema(&self) -> &Schema {
         Keeper::schema(self)
@@ -38,11 +51,27 @@ impl<A: Archive> Target for Keeper<A> {
 }
 
 impl<A: Archive> Source for Reader<A> {
-    ghost use Rattle.rr_desk.specs.Standing.{cells_seen};
+    ghost use Rattle.std.specs.Prelude.{[], ◌++◌, refl};
+    ghost use Rattle.std.proofs.Common.{◌∙◌, append_assoc, ap, sym};
+    ghost use Rattle.std.proofs.lemmas.List.{append-nil};
+    ghost use Rattle.rr_desk.specs.Standing.{HasSeenMore, cells_seen};
 
     ghost layout = { λ r. r.schema };
 
     ghost cells = { cells_seen };
+
+    ghost may_become = { HasSeenMore };
+
+    ghost may_stay = { λ r. record { desk = refl; schema = refl; list = ([], append-nil r.list) } };
+
+    ghost may_go_on = { λ r s t p q. record {
+      desk = q.desk ∙ p.desk;
+      schema = q.schema ∙ p.schema;
+      list = (
+        p.list.0 ++ q.list.0,
+        sym (append_assoc r.list p.list.0 q.list.0) ∙ ap (λ l. l ++ q.list.0) p.list.1 ∙ q.list.1,
+      );
+    } };
 
     fn schema(&self) -> &Schema {
         Reader::schema(self)

@@ -85,6 +85,7 @@ impl Stage {
         ensures taken { GivesUnless GossipFault.Memory (λ _. self.new) result
             (end_taken (S.cells source.new) (S.layout source.old) (names_in self.old) body.now) }
         ensures schema { S.layout source.new ≡ S.layout source.old }
+        ensures kept { S.may_become source.old source.new }
     {
         let Stage::Listing(names) = self else {
             return Err(GossipFault::UnexpectedFrame);
@@ -110,6 +111,7 @@ impl Stage {
         ensures taken { GivesUnless GossipFault.Memory (λ last. (self.new, last)) result
             (body_taken (S.cells source.new) (S.layout source.old) self.old kind body.now) }
         ensures schema { S.layout source.new ≡ S.layout source.old }
+        ensures kept { S.may_become source.old source.new }
     {
         match kind {
             Kind::Hello => {
@@ -198,6 +200,7 @@ impl Giver {
             (giver_takes (S.cells source.new) (S.layout source.old) self.old frame.now) }
         ensures failed { OnErr result (HasFailed self.new) }
         ensures schema { S.layout source.new ≡ S.layout source.old }
+        ensures kept { S.may_become source.old source.new }
     {
         let result = self.take_frame(alloc, frame, source);
         if result.is_err() {
@@ -217,6 +220,7 @@ impl Giver {
         ensures taken { GivesUnless GossipFault.Memory (λ last. (self.new, last)) result
             (giver_takes (S.cells source.new) (S.layout source.old) self.old frame.now) }
         ensures schema { S.layout source.new ≡ S.layout source.old }
+        ensures kept { S.may_become source.old source.new }
     {
         if matches!(&self.stage, Stage::Failed) {
             return Err(GossipFault::Failed);

@@ -34,6 +34,7 @@ fn take_names<S: Source, R: Read>(
         giver.old before.now
         (R.remaining (inner_of input.old)) (R.remaining (inner_of input.new))) }
     ensures schema { S.layout source.new ≡ S.layout source.old }
+    ensures kept { S.may_become source.old source.new }
     ensures sent { OnOk result (giver.new.sent ≡ giver.old.sent) }
     ensures limit { OnOk result (giver.new.limit ≡ giver.old.limit) }
     ensures ended { result ≡ Err GossipFault.Ended → IsAtEnd (R.remaining (inner_of input.new)) }
@@ -97,6 +98,7 @@ fn give_from<S: Source, R: Read, W: Write>(
         (R.remaining (inner_of input.old)) (R.remaining (inner_of input.new))
         (W.contents (inner_of output.old)) (W.contents (inner_of output.new))) }
     ensures schema { S.layout source.new ≡ S.layout source.old }
+    ensures kept { S.may_become source.old source.new }
 
     // When a stream is to blame.
     ensures ended { result ≡ Err GossipFault.Ended → IsAtEnd (R.remaining (inner_of input.new)) }
@@ -140,6 +142,7 @@ pub fn give<S: Source, R: Read, W: Write>(
         (R.remaining (inner_of input.old)) (R.remaining (inner_of input.new))
         (W.contents (inner_of output.old)) (W.contents (inner_of output.new))) }
     ensures schema { S.layout source.new ≡ S.layout source.old }
+    ensures kept { S.may_become source.old source.new }
 
     // When a stream is to blame.
     ensures ended { result ≡ Err GossipFault.Ended → IsAtEnd (R.remaining (inner_of input.new)) }
@@ -171,6 +174,7 @@ pub fn give_within<S: Source, R: Read, W: Write>(
         (R.remaining (inner_of input.old)) (R.remaining (inner_of input.new))
         (W.contents (inner_of output.old)) (W.contents (inner_of output.new))) }
     ensures schema { S.layout source.new ≡ S.layout source.old }
+    ensures kept { S.may_become source.old source.new }
 
     // When a stream is to blame.
     ensures ended { result ≡ Err GossipFault.Ended → IsAtEnd (R.remaining (inner_of input.new)) }
@@ -201,6 +205,7 @@ pub fn give_after<S: Source, R: Read, W: Write>(
         (R.remaining (inner_of input.old)) (R.remaining (inner_of input.new))
         (W.contents (inner_of output.old)) (W.contents (inner_of output.new))) }
     ensures schema { S.layout source.new ≡ S.layout source.old }
+    ensures kept { S.may_become source.old source.new }
 
     // When a stream is to blame.
     ensures ended { result ≡ Err GossipFault.Ended → IsAtEnd (R.remaining (inner_of input.new)) }
@@ -233,6 +238,7 @@ pub fn give_after_within<S: Source, R: Read, W: Write>(
         (R.remaining (inner_of input.old)) (R.remaining (inner_of input.new))
         (W.contents (inner_of output.old)) (W.contents (inner_of output.new))) }
     ensures schema { S.layout source.new ≡ S.layout source.old }
+    ensures kept { S.may_become source.old source.new }
 
     // When a stream is to blame.
     ensures ended { result ≡ Err GossipFault.Ended → IsAtEnd (R.remaining (inner_of input.new)) }

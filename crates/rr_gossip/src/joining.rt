@@ -20,6 +20,7 @@ fn join_all<T: Target>(cells: &[Cell], target: &mut T) -> Result<(), AllocError>
     ensures front { OnErr result ((n : ℕ) × (T.cells target.new
         ≡ join_cells (T.layout target.old) (T.cells target.old) (take n (map owned_cell cells.now)))) }
     ensures schema { T.layout target.new ≡ T.layout target.old }
+    ensures kept { T.may_become target.old target.new }
 {
     for cell in cells {
         target.join_cell(cell)?;
@@ -37,6 +38,7 @@ pub(crate) fn take_page<T: Target>(
     ensures taken { Takes (T.layout target.old) (T.cells target.old) (T.cells target.new) Stage.Waiting result
         (page_taken (T.layout target.old) body.now) }
     ensures schema { T.layout target.new ≡ T.layout target.old }
+    ensures kept { T.may_become target.old target.new }
 {
     let cells = decode(alloc, body, target.schema())?;
     join_all(&cells, target)?;

@@ -98,6 +98,7 @@ impl Stage {
         ensures taken { Takes (T.layout target.old) (T.cells target.old) (T.cells target.new) self.new result
             (body_taken (T.layout target.old) kind body.now) }
         ensures schema { T.layout target.new ≡ T.layout target.old }
+        ensures kept { T.may_become target.old target.new }
     {
         match kind {
             Kind::Page => {
@@ -209,6 +210,7 @@ impl Puller {
             (puller_takes (T.layout target.old) self.old frame.now) }
         ensures failed { OnErr result (HasFailed self.new) }
         ensures schema { T.layout target.new ≡ T.layout target.old }
+        ensures kept { T.may_become target.old target.new }
     {
         let result = self.take_frame(alloc, frame, target);
         if result.is_err() {
@@ -228,6 +230,7 @@ impl Puller {
         ensures taken { Takes (T.layout target.old) (T.cells target.old) (T.cells target.new) self.new result
             (puller_takes (T.layout target.old) self.old frame.now) }
         ensures schema { T.layout target.new ≡ T.layout target.old }
+        ensures kept { T.may_become target.old target.new }
     {
         if matches!(&self.stage, Stage::Failed) {
             return Err(GossipFault::Failed);

@@ -63,6 +63,7 @@ fn take_pages<T: Target, R: Read>(
         (T.cells target.old) (T.cells target.new)
         (R.remaining (inner_of input.old)) (R.remaining (inner_of input.new))) }
     ensures schema { T.layout target.new ≡ T.layout target.old }
+    ensures kept { T.may_become target.old target.new }
     ensures ended { result ≡ Err GossipFault.Ended → IsAtEnd (R.remaining (inner_of input.new)) }
     ensures count { failures_of input.old ≤ failures_of input.new }
     ensures failed { result ≡ Err GossipFault.ReadFailed
@@ -115,6 +116,7 @@ pub fn pull<T: Target, R: Read, W: Write>(
         (R.remaining (inner_of input.old)) (R.remaining (inner_of input.new))
         (W.contents (inner_of output.old)) (W.contents (inner_of output.new))) }
     ensures schema { T.layout target.new ≡ T.layout target.old }
+    ensures kept { T.may_become target.old target.new }
 
     // When a stream is to blame.
     ensures ended { result ≡ Err GossipFault.Ended → IsAtEnd (R.remaining (inner_of input.new)) }
@@ -155,6 +157,7 @@ pub fn pull_within<T: Target, R: Read, W: Write>(
         (R.remaining (inner_of input.old)) (R.remaining (inner_of input.new))
         (W.contents (inner_of output.old)) (W.contents (inner_of output.new))) }
     ensures schema { T.layout target.new ≡ T.layout target.old }
+    ensures kept { T.may_become target.old target.new }
 
     // When a stream is to blame.
     ensures ended { result ≡ Err GossipFault.Ended → IsAtEnd (R.remaining (inner_of input.new)) }

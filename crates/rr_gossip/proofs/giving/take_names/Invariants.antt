@@ -13,6 +13,7 @@ invariant-loop-frame g l = record {
   few : length l.frame.items ≤ 4;
   taken : (m : Cells) → giver_after m (g.S.Source.layout l.initial.source) l.initial.giver (contents frames) ≡ Ok l.giver;
   schema : g.S.Source.layout l.source ≡ g.S.Source.layout l.initial.source;
+  kept : g.S.Source.may_become l.initial.source l.source;
   sent : l.giver.sent ≡ l.initial.giver.sent;
   limit : l.giver.limit ≡ l.initial.giver.limit;
   count : failures_of l.initial.input ≤ failures_of l.input;

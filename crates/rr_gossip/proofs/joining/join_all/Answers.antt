@@ -35,6 +35,7 @@ loop-cell-preserved g c =
     let more = ap (map owned_cell) (take_more cells i cell c.loop-cell-test.true ∙ ap (λ d. take i cells ++ d ∷ []) item) ∙ map_push owned_cell (take i cells) cell in
     record {
       schema = c.in_ok-join_cell.ensures.schema ∙ c.loop-cell.invariant.schema;
+      kept = g.met.T.Target.may_go_on _ _ _ c.loop-cell.invariant.kept c.in_ok-join_cell.ensures.kept;
       joined =
           c.in_ok-join_cell.ensures.joined
           ∙ (λ k. join_cell (c.loop-cell.invariant.schema k) (c.loop-cell.invariant.joined k) (owned_cell cell).0 cell.contribution)

@@ -18,6 +18,7 @@ loop-frame-init g c =
       few = rw none (omega arith);
       taken = none_taken s c.args.puller.now (g.T.Target.cells c.args.target.now);
       schema = refl;
+      kept = g.met.T.Target.may_stay c.args.target.now;
       count = omega arith;
     }
 
@@ -101,5 +102,6 @@ loop-frame-preserved g c =
       few = rw none (omega arith);
       taken = rw takes.2 (frame_taken s c.args.puller.now c.loop-frame.puller c.take.new.self _ _ so_far.frames frame takes.0 c.in_ok-take.field-0 so_far.taken takes.1);
       schema = c.in_ok-take.ensures.schema ∙ so_far.schema;
+      kept = g.met.T.Target.may_go_on _ _ _ so_far.kept c.in_ok-take.ensures.kept;
       count = omega (arith, so_far.count, c.in_ok-read_frame.ensures.count);
     }

@@ -12,6 +12,7 @@ invariant-loop-frame g l = record {
   few : length l.frame.items ≤ 4;
   taken : puller_after (g.T.Target.layout l.initial.target) l.initial.puller (g.T.Target.cells l.initial.target) (contents frames) ≡ Ok (l.puller, g.T.Target.cells l.target);
   schema : g.T.Target.layout l.target ≡ g.T.Target.layout l.initial.target;
+  kept : g.T.Target.may_become l.initial.target l.target;
   count : failures_of l.initial.input ≤ failures_of l.input;
 }
 
