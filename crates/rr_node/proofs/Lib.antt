@@ -1,1 +1,14 @@
 pub mod TextsLemmas
+pub mod CallsLemmas
+pub mod PeersLemmas
+pub mod FetchesLemmas
+pub mod ServingLemmas
+pub mod ServedLemmas
+pub mod VerdictLemmas
+pub mod ClockLemmas
+pub mod ConnectionLemmas
+pub mod StreamLemmas
+pub mod LinesLemmas
+pub mod SeatsLemmas
+pub mod RoundsLemmas
+pub mod PullsLemmas

@@ -1,10 +1,17 @@
--- The faults of a configuration, and their printed names.
-use Rattle.std.specs.Prelude.{ℕ, List, codes}
+-- The faults of a configuration and of connections, and their printed names.
+use Rattle.std.specs.Prelude.{◌≡◌, ◌⊎◌, ℕ, Bool, true, false, List, codes}
 use Rattle.rr_base.specs.declared.fault.SchemaFault.{SchemaFault}
 use Rattle.rr_base.specs.declared.fault.SchemaFault.TheVariants as schema
+use Rattle.rr_base.specs.declared.stream.ReadFault.{ReadFault}
+use Rattle.rr_base.specs.declared.stream.ReadFault.TheVariants as read
 use Rattle.rr_base.specs.Fault.{schema_fault_name}
+use Rattle.rr_gossip.specs.declared.fault.GossipFault.{GossipFault}
+use Rattle.rr_gossip.specs.declared.fault.GossipFault.TheVariants as session
+use Rattle.rr_gossip.specs.Fault.{gossip_fault_name}
 use Rattle.rr_node.specs.declared.fault.ConfigFault.{ConfigFault}
 use Rattle.rr_node.specs.declared.fault.ConfigFault.TheVariants as config
+use Rattle.rr_node.specs.declared.fault.NodeFault.{NodeFault}
+use Rattle.rr_node.specs.declared.fault.NodeFault.TheVariants as node
 
 -- each is its variant's, and that of a schema's fault is the schema's
 abbrev pub config_fault_name : ConfigFault → List ℕ
@@ -28,3 +35,44 @@ of_schema_fault schema.BadSteps = config.Schema schema.BadSteps
 of_schema_fault schema.BadRows = config.Schema schema.BadRows
 of_schema_fault schema.BadXff = config.Schema schema.BadXff
 of_schema_fault schema.StepsNotRising = config.Schema schema.StepsNotRising
+
+-- each is its variant's, and that of a session's fault is the session's
+abbrev pub node_fault_name : NodeFault → List ℕ
+node_fault_name node.ReadFailed = codes "ReadFailed"
+node_fault_name node.WriteFailed = codes "WriteFailed"
+node_fault_name node.TooManyReads = codes "TooManyReads"
+node_fault_name node.BadAddress = codes "BadAddress"
+node_fault_name (node.Session fault) = gossip_fault_name fault
+node_fault_name node.Memory = codes "Memory"
+
+-- whether a connection ended within a session
+abbrev pub is_of_session : NodeFault → Bool
+is_of_session node.ReadFailed = false
+is_of_session node.WriteFailed = false
+is_of_session node.TooManyReads = false
+is_of_session node.BadAddress = false
+is_of_session (node.Session fault) = true
+is_of_session node.Memory = false
+
+-- why an input isn't read to its end
+abbrev pub of_read_fault : ReadFault → NodeFault
+of_read_fault read.ReadFailed = node.ReadFailed
+of_read_fault read.TooManyReads = node.TooManyReads
+of_read_fault read.Memory = node.Memory
+
+-- a session's fault as one of its connection
+abbrev pub of_session_fault : GossipFault → NodeFault
+of_session_fault session.ReadFailed = node.Session session.ReadFailed
+of_session_fault session.Ended = node.Session session.Ended
+of_session_fault session.FrameTooLong = node.Session session.FrameTooLong
+of_session_fault session.BadFrame = node.Session session.BadFrame
+of_session_fault session.UnexpectedFrame = node.Session session.UnexpectedFrame
+of_session_fault session.TooManyFrames = node.Session session.TooManyFrames
+of_session_fault session.SchemaDiffers = node.Session session.SchemaDiffers
+of_session_fault session.WriteFailed = node.Session session.WriteFailed
+of_session_fault session.Memory = node.Memory
+of_session_fault session.Failed = node.Session session.Failed
+
+-- the faults of a call that writes
+abbrev pub IsOfWriting : NodeFault → Type 0
+IsOfWriting fault = (fault ≡ node.WriteFailed) ⊎ (fault ≡ node.Memory)

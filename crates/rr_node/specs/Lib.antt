@@ -1,3 +1,17 @@
 pub mod Fault
 pub mod Values
 pub mod Config
+pub mod Calls
+pub mod Pull
+pub mod Peers
+pub mod Saving
+pub mod Fetches
+pub mod Answering
+pub mod Clock
+pub mod Lines
+pub mod Connection
+pub mod Visits
+pub mod Prepared
+pub mod Seats
+pub mod Round
+pub mod Rounds

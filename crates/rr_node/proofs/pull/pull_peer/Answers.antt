@@ -1,0 +1,15 @@
+use Rattle.std.proofs.Common.{ap, ◌∙◌}
+use Rattle.rr_desk.specs.Standing.{KeeperState}
+use Rattle.rr_node.proofs.PullsLemmas.{desk_of_joined}
+use Rattle.rr_node.proofs.pull.pull_peer.Goals as goal
+
+pub returns-in_err-pull-clause-same_desk : goal.returns-in_err-pull-clause-same_desk
+returns-in_err-pull-clause-same_desk g c = desk_of_joined _ _ c.in_err-pull.ensures.kept
+
+pub returns-in_err-publish-clause-same_desk : goal.returns-in_err-publish-clause-same_desk
+returns-in_err-publish-clause-same_desk g c =
+    ap (λ (k : KeeperState). k.desk) c.in_err-publish.ensures.unchanged ∙ desk_of_joined _ _ c.in_ok-pull.ensures.kept
+
+pub returns-clause-same_desk : goal.returns-clause-same_desk
+returns-clause-same_desk g c =
+    ap (λ (k : KeeperState). k.desk) c.in_ok-publish.ensures.published ∙ desk_of_joined _ _ c.in_ok-pull.ensures.kept

@@ -1,0 +1,116 @@
+use Rattle.std.proofs.Common.{◌∷◌, ◌++◌, [], ap, ◌∙◌, arith, rules}
+use Rattle.std.proofs.lemmas.Result.{on_err_weaker}
+use Rattle.rr_base.proofs.CountLemmas.{no_call, HasRisenBy-more}
+use Rattle.rr_base.specs.Counted.{inner_of}
+use Rattle.rr_feed.specs.Feed.{FeedState}
+use Rattle.rr_node.specs.Fetches.{sight, HasAnswered, HasAnsweredSome}
+use Rattle.rr_node.proofs.FetchesLemmas.{on_either, on_err, on_ok_both, seen_more, seen_same}
+use Rattle.rr_node.proofs.ServingLemmas.{all_answered, front_of_some, front_so_far, none_answered, of_all_taken, of_each, seen_in_some, seen_in_written, seen_so_far, so_far_answered, so_far_first, so_far_pushed, so_far_same, some_answered}
+use Rattle.rr_node.proofs.reader.answer_lines.Goals as goal
+
+pub returns-in_err-push-clause-some : goal.returns-in_err-push-clause-some
+returns-in_err-push-clause-some g c =
+    on_err c.from_residual.result _ (of_each (g.R.Read.remaining (inner_of c.args.input.now)) _
+    (λ rest. none_answered (c.args.first ∷ rest) (sight c.args.reader.now (g.G.Gate.last c.args.gate.now)) _))
+
+pub loop-init : goal.loop-init
+loop-init g c =
+    let is = c.in_ok-push.ensures ∙ ap (λ (s : FeedState). record s { left = s.left ++ c.args.first ∷ [] }) c.new-feed.ensures in
+    record {
+      so_far = so_far_first c.args.first _ _ _ _ is;
+      going = ap (λ (s : FeedState). s.ended) is;
+      made = no_call _;
+      in_count = omega arith;
+      out_count = omega arith;
+    }
+
+pub returns-in_err-answer_items-clause-some : goal.returns-in_err-answer_items-clause-some
+returns-in_err-answer_items-clause-some g c =
+    on_err _ _ (front_of_some c.args.first _ _ _ _ _ _ _ _ _ _ c.loop.invariant.so_far c.loop.invariant.going c.in_err-answer_items.ensures.some)
+
+pub returns-in_err-answer_items-clause-seen : goal.returns-in_err-answer_items-clause-seen
+returns-in_err-answer_items-clause-seen g c =
+    seen_more _ _ _ (seen_so_far c.args.first _ _ _ _ _ _ _ c.loop.invariant.so_far) (seen_in_some _ _ _ _ _ _ c.in_err-answer_items.ensures.some)
+
+pub returns-in_err-given-clause-some : goal.returns-in_err-given-clause-some
+returns-in_err-given-clause-some g c =
+    let now = so_far_answered c.args.first _ _ _ _ _ _ _ _ _ _ c.loop.invariant.so_far c.in_ok-answer_items.ensures.answered in
+    on_err _ _ (front_so_far c.args.first _ _ _ _ _ _ _ _ now (c.in_ok-answer_items.ensures.answered.handed.ended ∙ c.loop.invariant.going) (seen_same _))
+
+pub returns-in_err-given-clause-seen : goal.returns-in_err-given-clause-seen
+returns-in_err-given-clause-seen g c =
+    seen_so_far c.args.first _ _ _ _ _ _ _ (so_far_answered c.args.first _ _ _ _ _ _ _ _ _ _ c.loop.invariant.so_far c.in_ok-answer_items.ensures.answered)
+
+pub loop-preserved-in_default : goal.loop-preserved-in_default
+loop-preserved-in_default g c =
+    let answered = c.in_ok-answer_items.ensures.answered in
+    let keeps = rw c.in_default.is at c.in_ok-given.ensures.bytes in
+    let now = so_far_answered c.args.first _ _ _ _ _ _ _ _ _ _ c.loop.invariant.so_far answered in
+    record {
+      so_far = so_far_same c.args.first _ _ _ _ _ _ _ _ now keeps;
+      going = answered.handed.ended ∙ c.loop.invariant.going;
+      made = HasRisenBy-more c.loop.counter _ _ _ c.loop.invariant.made c.in_ok-given.ensures.reads;
+      in_count = omega (arith, c.loop.invariant.in_count, c.in_ok-given.ensures.count);
+      out_count = omega (arith, c.loop.invariant.out_count, c.in_ok-answer_items.ensures.count);
+    }
+
+pub returns-then-given-eq0-clause-answered : goal.returns-then-given-eq0-clause-answered
+returns-then-given-eq0-clause-answered g c =
+    let last = c.answer_items-then-given-eq0 in
+    let old = sight c.args.reader.now (g.G.Gate.last c.args.gate.now) in
+    let new = sight last.new.reader (g.G.Gate.last last.new.gate) in
+    let before = g.W.Write.contents (inner_of c.args.output.now) in
+    let after = g.W.Write.contents (inner_of last.new.output) in
+    let read = rw c.in-Some.is at c.in_ok-given.ensures.bytes in
+    let now = so_far_answered c.args.first _ _ _ _ _ _ _ _ _ _ c.loop.invariant.so_far c.in_ok-answer_items.ensures.answered in
+    on_ok_both last.result _ _ _ (λ more nothing.
+    of_all_taken _ _ _ now.taken c.read_once.new.buf c.in-Some.given (λ rest. HasAnswered (c.args.first ∷ rest) old new before after)
+    now.consumed read.1 c.if-given-eq0.true (read.2 c.if-given-eq0.true (search rules))
+    (all_answered c.args.first _ _ _ _ _ _ _ _ _ _ _ now c.end.ensures more nothing)) last.ensures.answered last.ensures.all
+
+pub returns-then-given-eq0-clause-some : goal.returns-then-given-eq0-clause-some
+returns-then-given-eq0-clause-some g c =
+    let last = c.answer_items-then-given-eq0 in
+    let old = sight c.args.reader.now (g.G.Gate.last c.args.gate.now) in
+    let before = g.W.Write.contents (inner_of c.args.output.now) in
+    let after = g.W.Write.contents (inner_of last.new.output) in
+    let read = rw c.in-Some.is at c.in_ok-given.ensures.bytes in
+    let now = so_far_answered c.args.first _ _ _ _ _ _ _ _ _ _ c.loop.invariant.so_far c.in_ok-answer_items.ensures.answered in
+    on_err_weaker last.result (λ some.
+    of_all_taken _ _ _ now.taken c.read_once.new.buf c.in-Some.given (λ rest. HasAnsweredSome (c.args.first ∷ rest) old last.new.reader before after)
+    now.consumed read.1 c.if-given-eq0.true (read.2 c.if-given-eq0.true (search rules))
+    (some_answered c.args.first _ _ _ _ _ _ _ _ _ _ _ now c.end.ensures some)) last.ensures.some
+
+pub returns-then-given-eq0-clause-seen : goal.returns-then-given-eq0-clause-seen
+returns-then-given-eq0-clause-seen g c =
+    seen_more _ _ _ (seen_so_far c.args.first _ _ _ _ _ _ _ (so_far_answered c.args.first _ _ _ _ _ _ _ _ _ _ c.loop.invariant.so_far c.in_ok-answer_items.ensures.answered))
+    (on_either c.answer_items-then-given-eq0.result _ _ _ (seen_in_written _ _ _ _ _ _) (seen_in_some _ _ _ _ _ _) c.answer_items-then-given-eq0.ensures.answered c.answer_items-then-given-eq0.ensures.some)
+
+pub returns-in_err-push-2-clause-some : goal.returns-in_err-push-2-clause-some
+returns-in_err-push-2-clause-some g c =
+    let now = so_far_answered c.args.first _ _ _ _ _ _ _ _ _ _ c.loop.invariant.so_far c.in_ok-answer_items.ensures.answered in
+    on_err _ _ (front_so_far c.args.first _ _ _ _ _ _ _ _ now (c.in_ok-answer_items.ensures.answered.handed.ended ∙ c.loop.invariant.going) (seen_same _))
+
+pub returns-in_err-push-2-clause-seen : goal.returns-in_err-push-2-clause-seen
+returns-in_err-push-2-clause-seen g c =
+    seen_so_far c.args.first _ _ _ _ _ _ _ (so_far_answered c.args.first _ _ _ _ _ _ _ _ _ _ c.loop.invariant.so_far c.in_ok-answer_items.ensures.answered)
+
+pub loop-preserved : goal.loop-preserved
+loop-preserved g c =
+    let answered = c.in_ok-answer_items.ensures.answered in
+    let going = answered.handed.ended ∙ c.loop.invariant.going in
+    let read = rw c.in-Some.is at c.in_ok-given.ensures.bytes in
+    let now = so_far_answered c.args.first _ _ _ _ _ _ _ _ _ _ c.loop.invariant.so_far answered in
+    record {
+      so_far = so_far_pushed c.args.first _ _ _ _ _ _ _ _ _ _ now going read.1 c.in_ok-push-2.ensures;
+      going = ap (λ (s : FeedState). s.ended) c.in_ok-push-2.ensures ∙ going;
+      made = HasRisenBy-more c.loop.counter _ _ _ c.loop.invariant.made c.in_ok-given.ensures.reads;
+      in_count = omega (arith, c.loop.invariant.in_count, c.in_ok-given.ensures.count);
+      out_count = omega (arith, c.loop.invariant.out_count, c.in_ok-answer_items.ensures.count);
+    }
+
+pub returns-clause-some : goal.returns-clause-some
+returns-clause-some g c = front_so_far c.args.first _ _ _ _ _ _ _ _ c.loop.invariant.so_far c.loop.invariant.going (seen_same _)
+
+pub returns-clause-seen : goal.returns-clause-seen
+returns-clause-seen g c = seen_so_far c.args.first _ _ _ _ _ _ _ c.loop.invariant.so_far

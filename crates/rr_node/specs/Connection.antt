@@ -1,0 +1,149 @@
+-- How the code takes the lines of a connection.
+use Rattle.std.specs.Prelude.{◌≡◌, ◌⊎◌, ℕ, ◌+◌, ◌≤◌, ℤ, true, List, [], ◌++◌, length, count_by, Result, Ok, Err, Option, if◌then◌else◌}
+use Rattle.std.specs.declared.alloc.AllocError.{AllocError}
+use Rattle.std.specs.Io.KnownBytes.{Appends}
+use mathlib.Core.List.{IsPrefix}
+use Rattle.rr_feed.specs.Feed.{FeedState, state, MayCome}
+use Rattle.rr_feed.specs.Items.{Item, items}
+use Rattle.rr_feed.specs.Laws.{IsFed}
+use Rattle.rr_base.specs.Stream.{AppendsPrefix}
+use Rattle.rr_base.specs.declared.limits.TheConstants.{MAX_FIELDS}
+use Rattle.rr_records.specs.Records.{refusal_text}
+use Rattle.rr_desk.specs.Standing.{KeeperState, holding_of, with_all_published}
+use Rattle.rr_node.specs.declared.answer.Answer.{Answer}
+use Rattle.rr_node.specs.declared.answer.Answer.TheVariants as says
+use Rattle.rr_node.specs.declared.connection.Connection.{Connection}
+use Rattle.rr_node.specs.declared.report.Report.{Report}
+use Rattle.rr_node.specs.declared.rules.Rules.{Rules}
+use Rattle.rr_node.specs.Clock.{HasGiven}
+use Rattle.rr_node.specs.Lines.{Verdict, skipped, put, refused, Served, after, answer_of, asks_clock, first_of, keeper_with, keeper_with_some, keeper_within, verdict_of}
+
+-- the answer tells what came of a verdict
+abbrev pub IsAnswer : Verdict → Answer → Type 0
+IsAnswer skipped says.Nothing = Unit {0}
+IsAnswer (put p time) (says.Put count) = count ≡ length p.fields
+IsAnswer (refused name) (says.Refused text) = text.now ≡ name
+IsAnswer verdict answer = ⊥
+
+-- the lines that a line of these answers adds to the answers, and the report with it
+abbrev pub text_to : ℕ → Answer → List ℕ
+text_to number says.Nothing = []
+text_to number (says.Put count) = []
+text_to number (says.Refused text) = refusal_text number text.now
+
+abbrev pub counted_in : Report → Answer → Report
+counted_in r says.Nothing = r
+counted_in r (says.Put count) = record { points = r.points + 1; samples = r.samples + count; refused = r.refused }
+counted_in r (says.Refused text) = record { points = r.points; samples = r.samples; refused = r.refused + 1 }
+
+-- no more samples than a line has fields
+abbrev pub IsFew : Answer → Type 0
+IsFew says.Nothing = Unit {0}
+IsFew (says.Put count) = count ≤ MAX_FIELDS
+IsFew (says.Refused text) = Unit {0}
+
+-- a verdict's operations are pending, and this is the answer; or memory ran out, and some of them are
+abbrev pub IsTaken : Verdict → KeeperState → KeeperState → Result Answer AllocError → Type 0
+IsTaken verdict old new (Ok answer) = (new ≡ keeper_with old verdict) × IsAnswer verdict answer
+IsTaken verdict old new (Err e) = (count : ℕ) × (new ≡ keeper_with_some old verdict count)
+
+-- how many moments a line asks for
+abbrev pub moments_asked : Rules → Item → ℕ
+moments_asked rules item = if asks_clock rules item then 1 else 0
+
+-- a line is taken, with the moment that it asked for; or memory ran out before anything was done
+abbrev pub IsTakenAt : Rules → Item → List ℤ → KeeperState → KeeperState → Result Answer AllocError → Type 0
+IsTakenAt rules item asked old new result =
+    ((length asked ≡ moments_asked rules item) × IsTaken (verdict_of rules (first_of asked) (holding_of old) item) old new result)
+    ⊎ ((asked ≡ []) × (new ≡ old) × ((e : AllocError) × (result ≡ Err e)))
+
+-- a line is taken at a moment of the clock
+pub record TakesItem (rules : Rules) (item : Item) (old new : KeeperState) (given since : Option (List ℤ)) (result : Result Answer AllocError) : Type 0 where
+  pub asked : List ℤ
+  pub gave : HasGiven given since asked
+  pub taken : IsTakenAt rules item asked old new result
+
+-- a piece was taken in
+pub record Takes (old new : Connection) (piece : List ℕ) : Type 0 where
+  pub feed : new.feed ≡ state (old.feed.left ++ piece) old.feed.skipping old.feed.ended
+  pub pieces : new.pieces ≡ old.pieces + 1
+  pub lines : new.lines ≡ old.lines
+  pub report : new.report ≡ old.report
+  pub rules : new.rules ≡ old.rules
+
+-- a connection as it stands, with these moments to come
+abbrev pub standing : Connection → KeeperState → List ℕ → List ℤ → Served
+standing c keeper answers moments = record {
+  keeper = keeper;
+  moments = moments;
+  lines = c.lines;
+  answers = answers;
+  report = c.report;
+}
+
+-- of the bytes that were pushed, what was handed out was served with these moments, whatever the clock gives later
+pub record HasServed (c : Connection) (start : KeeperState) (pushed : List ℕ) (moments : List ℤ) (now : KeeperState) (answers : List ℕ) : Type 0 where
+  pub handed : List Item
+  pub fed : IsFed pushed handed c.feed
+  pub asked : length moments ≡ count_by (asks_clock c.rules) handed
+  pub served : (later : List ℤ) → after c.rules start (moments ++ later) handed ≡ standing c now answers later
+
+-- items were handed out and served with these moments and answers
+pub record Serves (old new : Connection) (before now : KeeperState) (moments : List ℤ) (answers : List ℕ) : Type 0 where
+  pub served : (start : KeeperState) (pushed : List ℕ) (given : List ℤ) (text : List ℕ) → HasServed old start pushed given before text
+      → HasServed new start pushed (given ++ moments) now (text ++ answers)
+  pub ended : new.feed.ended ≡ old.feed.ended
+  pub pieces : new.pieces ≡ old.pieces
+  pub rules : new.rules ≡ old.rules
+
+-- the inputs that begin with what was pushed
+abbrev pub ComesAfter : FeedState → List ℕ → List ℕ → Type 0
+ComesAfter feed pushed bytes = (more : List ℕ) × (bytes ≡ pushed ++ more) × MayCome feed more true
+
+-- these lines, which are a front of the items whatever comes, were served with these moments, and the first operations
+-- of one more; or they are all of them, and all was published
+pub record EndsWithin (rules : Rules) (start now : KeeperState) (Comes : List ℕ → Type 0) (moments : List ℤ) : Type 0 where
+  pub lines : List Item
+  pub last : List Item
+  pub count : ℕ
+  pub input : (bytes : List ℕ) → Comes bytes → IsPrefix (lines ++ last) (items true bytes)
+  pub asked : length moments ≡ count_by (asks_clock rules) (lines ++ last)
+  pub keeper : (now ≡ keeper_within rules (after rules start moments lines) last count)
+      ⊎ ((last ≡ []) × ((bytes : List ℕ) → Comes bytes → lines ≡ items true bytes)
+      × (now ≡ with_all_published (after rules start moments lines).keeper))
+
+-- a call ended within these lines, and a front of their answer was written, whatever the clock gives later
+pub record Stops (rules : Rules) (start now : KeeperState) (Comes : List ℕ → Type 0) (moments : List ℤ) (written since : Option (List ℕ)) : Type 0 where
+  pub ends : EndsWithin rules start now Comes moments
+  pub answered : (bytes : List ℕ) → Comes bytes → (later : List ℤ)
+      → AppendsPrefix written since (answer_of (after rules start (moments ++ later) (items true bytes)))
+
+-- memory ran out while items were served with these moments
+abbrev pub Ends : Connection → KeeperState → KeeperState → List ℤ → Type 0
+Ends old before now moments =
+    (start : KeeperState) (pushed : List ℕ) (given : List ℤ) (text : List ℕ) → HasServed old start pushed given before text
+    → EndsWithin old.rules start now (ComesAfter old.feed pushed) (given ++ moments)
+
+-- so it did, or a write failed; the writer had what was answered before
+abbrev pub EndsAnswered : Connection → KeeperState → KeeperState → List ℤ → Option (List ℕ) → Option (List ℕ) → Type 0
+EndsAnswered old before now moments written since =
+    (start : KeeperState) (pushed : List ℕ) (given : List ℤ) (text : List ℕ) (first : Option (List ℕ)) → HasServed old start pushed given before text
+    → Appends first written text → Stops old.rules start now (ComesAfter old.feed pushed) (given ++ moments) first since
+
+-- so it did at the end of the input, of which no more comes
+abbrev pub EndsAtLast : Connection → KeeperState → KeeperState → List ℤ → Option (List ℕ) → Option (List ℕ) → Type 0
+EndsAtLast old before now moments written since =
+    (start : KeeperState) (pushed : List ℕ) (given : List ℤ) (text : List ℕ) (first : Option (List ℕ)) → HasServed old start pushed given before text
+    → Appends first written text → Stops old.rules start now (λ bytes. bytes ≡ pushed) (given ++ moments) first since
+
+-- all lines of the input were served, which has no more than was pushed
+pub record IsWhole (rules : Rules) (start now : KeeperState) (counted : Report) (bytes : List ℕ) (moments : List ℤ) (written since : Option (List ℕ)) : Type 0 where
+  pub asked : length moments ≡ count_by (asks_clock rules) (items true bytes)
+  pub keeper : now ≡ with_all_published (after rules start moments (items true bytes)).keeper
+  pub report : counted ≡ (after rules start moments (items true bytes)).report
+  pub answered : Appends written since (answer_of (after rules start moments (items true bytes)))
+
+abbrev pub Finishes : Connection → KeeperState → KeeperState → Report → List ℤ → Option (List ℕ) → Option (List ℕ) → Type 0
+Finishes old before now counted moments written since =
+    (start : KeeperState) (pushed : List ℕ) (given : List ℤ) (text : List ℕ) (first : Option (List ℕ)) → HasServed old start pushed given before text
+    → Appends first written text → IsWhole old.rules start now counted pushed (given ++ moments) first since

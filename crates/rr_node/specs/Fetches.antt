@@ -1,0 +1,138 @@
+-- How the lines of a fetch connection are answered.
+use Rattle.std.specs.Prelude.{◌≡◌, ◌⊎◌, ℕ, ◌==◌, nat_eq, Bool, true, false, List, [], ◌∷◌, ◌++◌, codes, Option, None, Some, Result, Ok, Err, ok_or, drop, option_and_then, IfSome, IfErr, OnOk, OnErr, if◌then◌else◌}
+use Rattle.std.specs.Cmp.Lexicographic.{pointwise}
+use Rattle.std.specs.Io.KnownBytes.{Appends}
+use Rattle.rr_base.specs.declared.bytes.TheConstants.{LINE_FEED, SPACE}
+use Rattle.rr_base.specs.Results.{◌>>=◌}
+use Rattle.rr_base.specs.Schema.{Layout}
+use Rattle.rr_base.specs.Stream.{AppendsPrefix}
+use Rattle.rr_base.specs.Text.{cut_at}
+use Rattle.rr_feed.specs.Items.{Item, Line, TooLong, items}
+use Rattle.rr_model.specs.FetchText.{Request}
+use Rattle.rr_replica.specs.Cells.{Cells}
+use Rattle.rr_fetch.specs.declared.fault.RequestFault.{RequestFault}
+use Rattle.rr_fetch.specs.declared.fault.RequestFault.TheVariants.{BadCommand}
+use Rattle.rr_fetch.specs.Answers.{cells_text}
+use Rattle.rr_fetch.specs.Fault.{request_fault_name}
+use Rattle.rr_fetch.specs.Requests.{requested}
+use Rattle.rr_desk.specs.declared.gate.GateCall.{GateCall}
+use Rattle.rr_desk.specs.declared.gate.GateCall.TheVariants.{After, Before}
+use Rattle.rr_desk.specs.Standing.{ReaderState, HasSeenMore, cells_seen}
+use Rattle.rr_gossip.specs.declared.fault.GossipFault.{GossipFault}
+use Rattle.rr_gossip.specs.declared.frame.TheConstants.{MAX_FRAMES}
+use Rattle.rr_gossip.specs.Session.{HasGiven, HasFailedToGive}
+use Rattle.rr_node.specs.declared.fault.NodeFault.{NodeFault}
+use Rattle.rr_node.specs.declared.fault.NodeFault.TheVariants.{ReadFailed, TooManyReads}
+use Rattle.rr_node.specs.Fault.{of_session_fault}
+
+-- ---- one line
+
+-- what follows the word `fetch` and a space, where a line begins so
+abbrev pub after_fetch : List ℕ → Option (List ℕ)
+after_fetch line = option_and_then (λ cut. if pointwise nat_eq cut.0 (codes "fetch") then Some cut.1 else None) (cut_at SPACE line)
+
+-- the request of a line `fetch CF RESOLUTION START END KEY`
+unfoldable pub request_in : Layout → List ℕ → Result Request RequestFault
+request_in s line = ok_or (after_fetch line) BadCommand >>= requested s
+
+-- a fault by its name
+abbrev pub by_name : Result Request RequestFault → Result Request (List ℕ)
+by_name (Ok q) = Ok q
+by_name (Err fault) = Err (request_fault_name fault)
+
+-- what an item asks for, or the name of its refusal
+abbrev pub asked : Layout → Item → Result Request (List ℕ)
+asked s (Line bytes) = by_name (request_in s bytes)
+asked s TooLong = Err (codes "LineTooLong")
+
+-- a refusal
+abbrev pub error_text : List ℕ → List ℕ
+error_text name = codes "error " ++ name ++ LINE_FEED ∷ []
+
+-- the answer by the cells, and by whether the gate lets it pass where it is asked
+abbrev pub text_by : Layout → Cells → Bool → Result Request (List ℕ) → List ℕ
+text_by s m passes (Err name) = error_text name
+text_by s m true (Ok q) = cells_text s m q
+text_by s m false (Ok q) = error_text (codes "GateShut")
+
+-- the last call of the gate, which is asked before an answer is made from cells, and told after it
+abbrev pub call_by : Option GateCall → Bool → Result Request (List ℕ) → Option GateCall
+call_by call passes (Err name) = call
+call_by call true (Ok q) = Some After
+call_by call false (Ok q) = Some (Before false)
+
+-- ---- one line after the other
+
+-- a reader, and the last call of its gate
+pub record Sight : Type 0 where
+  pub reader : ReaderState
+  pub call : Option GateCall
+
+abbrev pub sight : ReaderState → Option GateCall → Sight
+sight reader call = record { reader = reader; call = call }
+
+-- what is asked is answered by this text, after the operations that the reader has then seen, which begin with those
+-- that it had seen before
+pub record IsAnswer (asked : Result Request (List ℕ)) (old new : Sight) (text : List ℕ) : Type 0 where
+  pub seen : HasSeenMore old.reader new.reader
+  pub passes : Bool
+  pub by_cells : text ≡ text_by new.reader.schema (cells_seen new.reader) passes asked
+  pub call : new.call ≡ call_by old.call passes asked
+
+-- an item is answered: its answer, and an empty line
+pub record IsAnswered (item : Item) (old new : Sight) (text : List ℕ) : Type 0 where
+  pub answer : List ℕ
+  pub made : IsAnswer (asked old.reader.schema item) old new answer
+  pub whole : text ≡ answer ++ LINE_FEED ∷ []
+
+-- items are answered in order
+abbrev pub AreAnswered : List Item → Sight → Sight → List ℕ → Type 0
+AreAnswered [] old new text = (new ≡ old) × (text ≡ [])
+AreAnswered (item ∷ later) old new text =
+    (mid : Sight) × (first rest : List ℕ) × IsAnswered item old mid first × AreAnswered later mid new rest × (text ≡ first ++ rest)
+
+-- ---- a whole connection
+
+-- whether these bytes begin a session in which the other side pulls
+abbrev pub is_pull : List ℕ → Bool
+is_pull [] = false
+is_pull (byte ∷ bytes) = byte == 0
+
+-- the answers to all lines of these bytes were written
+pub record HasAnswered (bytes : List ℕ) (old new : Sight) (before after : Option (List ℕ)) : Type 0 where
+  pub text : List ℕ
+  pub answered : AreAnswered (items true bytes) old new text
+  pub written : Appends before after text
+
+-- a front of the answers to the first lines of these bytes was written, after which the reader may have seen more
+pub record HasAnsweredSome (bytes : List ℕ) (old : Sight) (new : ReaderState) (before after : Option (List ℕ)) : Type 0 where
+  pub first : List Item
+  pub later : List Item
+  pub cut : items true bytes ≡ first ++ later
+  pub last : Sight
+  pub seen : HasSeenMore last.reader new
+  pub text : List ℕ
+  pub answered : AreAnswered first old last text
+  pub written : AppendsPrefix before after text
+
+-- giving failed in a session, after its first byte
+abbrev pub HasFailedSession : Layout → Cells → Option (List ℕ) → Option (List ℕ) → Option (List ℕ) → Option (List ℕ) → NodeFault → Type 0
+HasFailedSession s m had left before after fault =
+    (why : GossipFault) × (fault ≡ of_session_fault why) × HasFailedToGive MAX_FRAMES s m (0 ∷ []) had left before after why
+
+-- a session in which the other side pulls was not answered: its first byte was not read, or giving failed
+abbrev pub HasNotGiven : NodeFault → Layout → Cells → List ℕ → Option (List ℕ) → Option (List ℕ) → Option (List ℕ) → Type 0
+HasNotGiven fault s m bytes left before after =
+    (((fault ≡ ReadFailed) ⊎ (fault ≡ TooManyReads)) × (after ≡ before))
+    ⊎ HasFailedSession s m (Some (drop 1 bytes)) left before after fault
+
+-- What a call that serves a connection does, by what it answers. Of the input it was handed what it had, and what is
+-- left; of the output what was written before and after.
+pub record IsServed {X : Type 0} (result : Result X NodeFault) (had left before after : Option (List ℕ)) (old new : Sight) : Type 0 where
+  pub seen : HasSeenMore old.reader new.reader
+  pub answered : OnOk result (IfSome had (λ bytes. is_pull bytes ≡ false → HasAnswered bytes old new before after))
+  pub front : OnErr result (IfSome had (λ bytes. is_pull bytes ≡ false → HasAnsweredSome bytes old new.reader before after))
+  pub given : OnOk result (IfSome had (λ bytes. is_pull bytes ≡ true
+      → HasGiven MAX_FRAMES old.reader.schema (cells_seen new.reader) (0 ∷ []) (Some (drop 1 bytes)) left before after))
+  pub stopped : IfErr result (λ fault. IfSome had (λ bytes. is_pull bytes ≡ true
+      → HasNotGiven fault old.reader.schema (cells_seen new.reader) bytes left before after))

@@ -1,0 +1,198 @@
+-- What a keeper makes of the lines of a connection: samples that it puts, answers to refused lines, and a report.
+use Rattle.std.specs.Prelude.{◌≡◌, ◌⊎◌, ℕ, ◌+◌, ◌%◌, ◌==◌, ℤ, pos, Bool, true, false, List, [], ◌∷◌, ◌++◌, length, take, fold, count_by, codes, decimal, Option, IfSome, Result, Ok, Err, unwrap_or, if◌then◌else◌}
+use Rattle.std.specs.Io.KnownBytes.{Appends}
+use mathlib.Core.List.{IsPrefix}
+use Rattle.rr_base.specs.Stream.{AppendsPrefix}
+use Rattle.rr_feed.specs.Items.{Item, Line, TooLong, items}
+use Rattle.rr_line.specs.declared.fault.LineFault.{LineFault}
+use Rattle.rr_line.specs.declared.precision.Precision.{Precision}
+use Rattle.rr_line.specs.Fault.{line_fault_name}
+use Rattle.rr_line.specs.Line.{LineView, PointView, nothing, point}
+use Rattle.rr_line.specs.Reading.{reading}
+use Rattle.rr_records.specs.Records.{refusal_text}
+use Rattle.rr_replica.specs.Holding.{Holding}
+use Rattle.rr_replica.specs.Writing.{is_ahead, lacks_numbers}
+use Rattle.rr_desk.specs.Points.{with_puts}
+use Rattle.rr_desk.specs.Standing.{KeeperState, holding_of, with_all_published}
+use Rattle.rr_node.specs.declared.report.Report.{Report}
+use Rattle.rr_node.specs.declared.rules.Rules.{Rules}
+use Rattle.rr_node.specs.declared.rules.TheConstants.{LINES_TO_PUBLISH}
+use Rattle.rr_node.specs.Clock.{HasGiven}
+
+-- lines whose times have this precision, and that may be this much ahead of the clock
+abbrev pub rules_of : Precision → Option ℕ → Rules
+rules_of precision lead = record { precision = precision; lead = lead }
+
+-- ---- what a line means
+
+-- nothing; samples of a point, at a time; or a refusal by a name
+pub data Verdict : Type 0 where
+  skipped : Verdict
+  put : (p : PointView) (time : ℤ) → Verdict
+  refused : (name : List ℕ) → Verdict
+
+-- a point is refused where it is ahead of the clock, and where fewer numbers are left than it has fields
+abbrev pub verdict_by : (ahead lacking : Bool) → PointView → ℤ → Verdict
+verdict_by ahead lacking p time =
+    if ahead then refused (codes "AheadOfClock")
+    else (if lacking then refused (codes "NumbersSpent") else put p time)
+
+-- of a point, at a moment of the clock: one without a time is of that moment
+abbrev pub verdict_of_point : Option ℕ → ℤ → Holding → PointView → Verdict
+verdict_of_point lead now h p =
+    verdict_by (is_ahead p.time now lead) (lacks_numbers h (length p.fields)) p (unwrap_or p.time now)
+
+abbrev pub verdict_of_line : Option ℕ → ℤ → Holding → Result LineView LineFault → Verdict
+verdict_of_line lead now h (Ok nothing) = skipped
+verdict_of_line lead now h (Ok (point p)) = verdict_of_point lead now h p
+verdict_of_line lead now h (Err fault) = refused (line_fault_name fault)
+
+abbrev pub verdict_of : Rules → ℤ → Holding → Item → Verdict
+verdict_of rules now h (Line bytes) = verdict_of_line rules.lead now h (reading rules.precision bytes)
+verdict_of rules now h TooLong = refused (codes "LineTooLong")
+
+-- the clock is asked for a moment for each point, one with a time of its own too
+abbrev pub is_point : Result LineView LineFault → Bool
+is_point (Ok nothing) = false
+is_point (Ok (point p)) = true
+is_point (Err fault) = false
+
+abbrev pub asks_clock : Rules → Item → Bool
+asks_clock rules (Line bytes) = is_point (reading rules.precision bytes)
+asks_clock rules TooLong = false
+
+-- ---- one line after the other
+
+-- a connection after some lines: its keeper, the moments that come, how many lines there were, the answers to them, and
+-- the report so far
+pub record Served : Type 0 where
+  pub keeper : KeeperState
+  pub moments : List ℤ
+  pub lines : ℕ
+  pub answers : List ℕ
+  pub report : Report
+
+-- before the first line
+abbrev pub begun : KeeperState → List ℤ → Served
+begun keeper moments = record {
+  keeper = keeper;
+  moments = moments;
+  lines = 0;
+  answers = [];
+  report = record { points = 0; samples = 0; refused = 0 };
+}
+
+abbrev pub first_of : List ℤ → ℤ
+first_of [] = pos 0
+first_of (moment ∷ later) = moment
+
+abbrev pub later_than_first : List ℤ → List ℤ
+later_than_first [] = []
+later_than_first (moment ∷ later) = later
+
+-- the operations of a verdict are pending
+abbrev pub keeper_with : KeeperState → Verdict → KeeperState
+keeper_with k skipped = k
+keeper_with k (put p time) = with_puts k p time p.fields
+keeper_with k (refused name) = k
+
+-- a refusal is answered with the number of its line
+abbrev pub answer_to : ℕ → Verdict → List ℕ
+answer_to number skipped = []
+answer_to number (put p time) = []
+answer_to number (refused name) = refusal_text number name
+
+abbrev pub report_with : Report → Verdict → Report
+report_with r skipped = r
+report_with r (put p time) = record { points = r.points + 1; samples = r.samples + length p.fields; refused = r.refused }
+report_with r (refused name) = record { points = r.points; samples = r.samples; refused = r.refused + 1 }
+
+-- after so many lines all is published, and else nothing
+abbrev pub published_after : ℕ → KeeperState → KeeperState
+published_after lines k = if lines % LINES_TO_PUBLISH == 0 then with_all_published k else k
+
+abbrev pub with_verdict : Served → Verdict → List ℤ → Served
+with_verdict s verdict moments = record {
+  keeper = published_after (s.lines + 1) (keeper_with s.keeper verdict);
+  moments = moments;
+  lines = s.lines + 1;
+  answers = s.answers ++ answer_to (s.lines + 1) verdict;
+  report = report_with s.report verdict;
+}
+
+-- after one line more: a point takes the first of the moments that come
+abbrev pub with_item : Rules → Served → Item → Served
+with_item rules s item =
+    with_verdict s (verdict_of rules (first_of s.moments) (holding_of s.keeper) item)
+    (if asks_clock rules item then later_than_first s.moments else s.moments)
+
+-- after these lines, with a clock that gives these moments
+abbrev pub after : Rules → KeeperState → List ℤ → List Item → Served
+after rules keeper moments lines = fold (with_item rules) (begun keeper moments) lines
+
+-- ---- the whole connection
+
+abbrev pub count_text : List ℕ → ℕ → List ℕ
+count_text word count = word ++ decimal count
+
+-- points P samples S refused R
+abbrev pub report_text : Report → List ℕ
+report_text r =
+    count_text (codes "points ") r.points ++ count_text (codes " samples ") r.samples ++ count_text (codes " refused ") r.refused ++ codes "\n"
+
+-- all that is answered
+abbrev pub answer_of : Served → List ℕ
+answer_of s = s.answers ++ report_text s.report
+
+-- how a keeper, a clock, an input and an output were before a call, and how they are after it
+pub record Run : Type 0 where
+  pub old : KeeperState
+  pub new : KeeperState
+  pub given : Option (List ℤ)
+  pub given_since : Option (List ℤ)
+  pub input : Option (List ℕ)
+  pub written : Option (List ℕ)
+  pub written_since : Option (List ℕ)
+
+-- the lines of the input, where that is known, were served to the end, with the moments that the clock gave, one for
+-- each point; then all was published, and all was answered; readers may see what they saw, and more
+pub record IsServed (rules : Rules) (run : Run) (counted : Report) : Type 0 where
+  pub lines : List Item
+  pub moments : List ℤ
+  pub input : IfSome run.input (λ bytes. lines ≡ items true bytes)
+  pub given : HasGiven run.given run.given_since moments
+  pub asked : length moments ≡ count_by (asks_clock rules) lines
+  pub keeper : run.new ≡ with_all_published (after rules run.old moments lines).keeper
+  pub published : IsPrefix run.old.published run.new.published
+  pub report : counted ≡ (after rules run.old moments lines).report
+  pub answered : Appends run.written run.written_since (answer_of (after rules run.old moments lines))
+
+-- the first operations of a verdict are pending
+abbrev pub keeper_with_some : KeeperState → Verdict → ℕ → KeeperState
+keeper_with_some k skipped count = k
+keeper_with_some k (put p time) count = with_puts k p time (take count p.fields)
+keeper_with_some k (refused name) count = k
+
+-- within the first of these lines, or before it: of its operations the first ones are pending
+abbrev pub keeper_within : Rules → Served → List Item → ℕ → KeeperState
+keeper_within rules s [] count = s.keeper
+keeper_within rules s (item ∷ later) count =
+    keeper_with_some s.keeper (verdict_of rules (first_of s.moments) (holding_of s.keeper) item) count
+
+-- Some lines of the input were served, and perhaps the first operations of one more; or all of them were, and all was
+-- published. Readers may see what they saw, and perhaps more. What was answered is a front of the whole answer,
+-- whatever the clock gives later.
+pub record HasStopped (rules : Rules) (run : Run) : Type 0 where
+  pub lines : List Item
+  pub last : List Item
+  pub count : ℕ
+  pub moments : List ℤ
+  pub input : IfSome run.input (λ bytes. IsPrefix (lines ++ last) (items true bytes))
+  pub given : HasGiven run.given run.given_since moments
+  pub asked : length moments ≡ count_by (asks_clock rules) (lines ++ last)
+  pub keeper : (run.new ≡ keeper_within rules (after rules run.old moments lines) last count)
+      ⊎ ((last ≡ []) × IfSome run.input (λ bytes. lines ≡ items true bytes)
+      × (run.new ≡ with_all_published (after rules run.old moments lines).keeper))
+  pub published : IsPrefix run.old.published run.new.published
+  pub answered : (later : List ℤ) → IfSome run.input (λ bytes.
+      AppendsPrefix run.written run.written_since (answer_of (after rules run.old (moments ++ later) (items true bytes))))

@@ -1,0 +1,49 @@
+-- How the pulls of a round go, from one peer after the other.
+use Rattle.std.specs.Prelude.{◌≡◌, ◌≢◌, ◌⊎◌, ℕ, ◌+◌, Bool, true, false, List, [], ◌∷◌, ◌++◌, Option, None, Some, IfSome, Result, Ok, Err}
+use Rattle.rr_desk.specs.Standing.{KeeperState}
+use Rattle.rr_gossip.specs.declared.fault.GossipFault.{GossipFault}
+use Rattle.rr_node.specs.declared.fault.NodeFault.{NodeFault}
+use Rattle.rr_node.specs.declared.fault.NodeFault.TheVariants.{BadAddress, Memory}
+use Rattle.rr_node.specs.Calls.{DialCall, ShelfCall, Stream, handed_back, peer_failed, reached, unreached}
+use Rattle.rr_node.specs.Fault.{of_session_fault}
+use Rattle.rr_node.specs.Pull.{HasPulledAll, HasStoppedPulling}
+
+-- the fault that ended something, if one did
+abbrev pub fault_in : {A F : Type 0} → Result A F → Option F
+fault_in (Ok x) = None
+fault_in (Err fault) = Some fault
+
+-- over a stream all was pulled, or a fault ended the session
+abbrev pub EndsSession : KeeperState → KeeperState → Stream → Stream → Option NodeFault → Type 0
+EndsSession old new before after None =
+    HasPulledAll old new before.left after.left before.written after.written
+EndsSession old new before after (Some fault) =
+    (why : GossipFault) × (fault ≡ of_session_fault why)
+    × HasStoppedPulling old new before.left after.left before.written after.written why
+
+-- the peer at an address can't be reached; or it is, and its stream is handed back when the session is over
+abbrev pub EndsPull : List ℕ → KeeperState → KeeperState → List DialCall → Option NodeFault → Type 0
+EndsPull address old new dialed fault =
+    ((dialed ≡ unreached address ∷ []) × (new ≡ old) × (fault ≡ Some BadAddress))
+    ⊎ ((before after : Stream) × (dialed ≡ reached address before ∷ handed_back after ∷ []) × EndsSession old new before after fault)
+
+-- what is told of a peer's fault, if it had one
+abbrev pub told_of : ℕ → Option NodeFault → List ShelfCall
+told_of number None = []
+told_of number (Some fault) = peer_failed number fault ∷ []
+
+-- a peer is done with, and what ended it is told
+pub record IsPast (number : ℕ) (address : List ℕ) (old new : KeeperState) (dialed : List DialCall) (told : List ShelfCall) : Type 0 where
+  pub fault : Option NodeFault
+  pub skipped : IfSome fault (λ why. why ≢ Memory)
+  pub pulled : EndsPull address old new dialed fault
+  pub told_so : told ≡ told_of number fault
+
+-- the pulls from these peers, of which the first has this number, go on to the last, or until memory runs out in one
+abbrev pub EndsPulls : Bool → ℕ → List (List ℕ) → KeeperState → KeeperState → List DialCall → List ShelfCall → Type 0
+EndsPulls whole number [] old new dialed told = (whole ≡ true) × (new ≡ old) × (dialed ≡ []) × (told ≡ [])
+EndsPulls whole number (address ∷ later) old new dialed told =
+    ((whole ≡ false) × EndsPull address old new dialed (Some Memory) × (told ≡ []))
+    ⊎ ((mid : KeeperState) × (first next : List DialCall) × (told_first told_next : List ShelfCall)
+    × IsPast number address old mid first told_first × EndsPulls whole (number + 1) later mid new next told_next
+    × (dialed ≡ first ++ next) × (told ≡ told_first ++ told_next))

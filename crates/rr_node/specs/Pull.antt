@@ -1,0 +1,34 @@
+-- What a pull makes of a keeper.
+use Rattle.std.specs.Prelude.{◌≡◌, ◌⊎◌, ℕ, List, length, Option}
+use Rattle.std.specs.Io.KnownBytes.{Appends}
+use Rattle.std.specs.List.{concat}
+use Rattle.rr_base.specs.Stream.{AppendsPrefix}
+use Rattle.rr_desk.specs.Standing.{KeeperState, HasJoined, cells_of, with_all_published}
+use Rattle.rr_gossip.specs.declared.fault.GossipFault.{GossipFault}
+use Rattle.rr_gossip.specs.declared.fault.GossipFault.TheVariants.{Memory}
+use Rattle.rr_gossip.specs.declared.frame.TheConstants.{MAX_FRAMES}
+use Rattle.rr_gossip.specs.Session.{HasFailedToPull, HasPulled, sent_by}
+use Rattle.rr_gossip.specs.Transcript.{waiting}
+
+-- the frames that a keeper sends
+abbrev pub frames_of : KeeperState → List (List ℕ)
+frames_of k = sent_by k.schema (cells_of k)
+
+-- all of its frames were sent, and all that the peer answered is joined, as operations that are pending
+pub record IsJoined (old joined : KeeperState) (had left : Option (List ℕ)) : Type 0 where
+  pub kept : HasJoined old joined
+  pub pulled : HasPulled old.schema (waiting (length (frames_of old)) 0 MAX_FRAMES) (cells_of old) (cells_of joined) had left
+
+-- that was done, and then all that is pending was published
+pub record HasPulledAll (old new : KeeperState) (had left wrote written : Option (List ℕ)) : Type 0 where
+  pub sent : Appends wrote written (concat (frames_of old))
+  pub joined : KeeperState
+  pub pulled : IsJoined old joined had left
+  pub published : new ≡ with_all_published joined
+
+-- the session ended early, or memory ran out as all of it was to be published: what was joined is pending
+pub record HasStoppedPulling (old new : KeeperState) (had left wrote written : Option (List ℕ)) (fault : GossipFault) : Type 0 where
+  pub sent : AppendsPrefix wrote written (concat (frames_of old))
+  pub kept : HasJoined old new
+  pub stopped : HasFailedToPull MAX_FRAMES old.schema (cells_of old) (cells_of new) had left wrote written fault
+      ⊎ ((fault ≡ Memory) × IsJoined old new had left)

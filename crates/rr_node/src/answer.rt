@@ -1,0 +1,103 @@
+//! A line, handed to the keeper.
+
+ghost use Rattle.std.specs.Prelude.{◌≡◌, ◌≢◌, ℤ, [], ◌∷◌, IfOk, OnOk};
+ghost use Rattle.rr_base.specs.Bytes.{HasNoLineFeed};
+ghost use Rattle.rr_desk.specs.Standing.{holding_of};
+ghost use Rattle.rr_feed.specs.Items.{item_view, IsLine};
+ghost use Rattle.rr_feed.specs.Items as feed;
+ghost use Rattle.rr_line.specs.Fault.{line_fault_name};
+ghost use Rattle.rr_line.specs.Line.{point_view};
+ghost use Rattle.rr_node.specs.Clock.{HasGiven};
+ghost use Rattle.rr_node.specs.Connection.{IsAnswer, IsFew, IsTaken, TakesItem};
+ghost use Rattle.rr_node.specs.Lines.{refused, verdict_of_point};
+ghost use Rattle.rr_replica.specs.Writing.{IsOfALine};
+
+use crate::clock::Clock;
+use crate::rules::Rules;
+use rr_archive::Archive;
+use rr_desk::Keeper;
+use rr_feed::{FeedLine, LINE_TOO_LONG};
+use rr_line::{Line, LineFault, Point, parse_line};
+use rr_replica::WriteFault;
+use std::alloc::{AllocError, Global};
+
+/// What came of a line.
+#[derive(Clone, Copy)]
+pub(crate) enum Answer {
+    /// Nothing: it is empty or a comment.
+    Nothing,
+    /// As many samples were put as its point has fields.
+    Put(u32),
+    /// It is refused, by this name.
+    Refused(&'static str),
+}
+
+/// Writes a point at the moment that the clock gives.
+fn write_point<A: Archive, C: Clock>(
+    keeper: &mut Keeper<A>,
+    clock: &mut C,
+    point: &Point<'_>,
+    lead: Option<u64>,
+) -> Result<Answer, AllocError>
+    requires { IsOfALine (point_view point.now) }
+    ensures taken { (now : ℤ) × HasGiven (C.given clock.old) (C.given clock.new) (now ∷ [])
+        × IsTaken (verdict_of_point lead now (holding_of keeper.old) (point_view point.now)) keeper.old keeper.new result }
+    ensures few { IfOk result IsFew }
+{
+    let now = clock.now();
+    match keeper.write(point, now, lead) {
+        Ok(count) => Ok(Answer::Put(count)),
+        Err(WriteFault::Memory { .. }) => Err(AllocError),
+        Err(WriteFault::AheadOfClock) => Ok(Answer::Refused("AheadOfClock")),
+        Err(WriteFault::NumbersSpent) => Ok(Answer::Refused("NumbersSpent")),
+    }
+}
+
+/// Writes the point of a line, if it has one.
+fn write_line<A: Archive, C: Clock>(
+    alloc: Global,
+    keeper: &mut Keeper<A>,
+    clock: &mut C,
+    rules: Rules,
+    line: &[u8],
+) -> Result<Answer, AllocError>
+    requires { HasNoLineFeed line.now }
+    ensures taken { TakesItem rules (feed.Line line.now) keeper.old keeper.new (C.given clock.old) (C.given clock.new) result }
+    ensures few { IfOk result IsFew }
+{
+    match parse_line(alloc, line, rules.precision) {
+        Ok(Line::Nothing) => Ok(Answer::Nothing),
+        Ok(Line::Point(point)) => write_point(keeper, clock, &point, rules.lead),
+        Err(fault) => refusal(fault),
+    }
+}
+
+/// The refusal of a line, unless memory ran out.
+fn refusal(fault: LineFault) -> Result<Answer, AllocError>
+    ensures refused { IfOk result (IsAnswer (refused (line_fault_name fault))) }
+    ensures read { OnOk result (fault ≢ LineFault.Memory) }
+    ensures few { IfOk result IsFew }
+{
+    match fault {
+        LineFault::Memory => Err(AllocError),
+        _ => Ok(Answer::Refused(fault.name())),
+    }
+}
+
+/// Writes the point of an item, if it has one.
+pub(crate) fn write_item<A: Archive, C: Clock>(
+    alloc: Global,
+    keeper: &mut Keeper<A>,
+    clock: &mut C,
+    rules: Rules,
+    item: FeedLine<'_>,
+) -> Result<Answer, AllocError>
+    requires { IsLine (item_view item) }
+    ensures taken { TakesItem rules (item_view item.entry) keeper.old keeper.new (C.given clock.old) (C.given clock.new) result }
+    ensures few { IfOk result IsFew }
+{
+    match item {
+        FeedLine::Line(line) => write_line(alloc, keeper, clock, rules, line),
+        FeedLine::TooLong => Ok(Answer::Refused(LINE_TOO_LONG)),
+    }
+}

@@ -1,0 +1,120 @@
+//! The answer to a line of a fetch connection.
+
+ghost use Rattle.std.specs.Prelude.{◌≡◌, Option, Ok, IfOk, option_map};
+ghost use Rattle.rr_base.specs.Results.{GivesUnless};
+ghost use Rattle.rr_feed.specs.Feed.{HandsOut};
+ghost use Rattle.rr_feed.specs.Items.{Item, item_view};
+ghost use Rattle.rr_fetch.specs.Requests.{request_view, IsFetchable};
+ghost use Rattle.rr_desk.specs.Standing.{HasSeenMore};
+ghost use Rattle.rr_node.specs.Answering.{Next};
+ghost use Rattle.rr_node.specs.Fetches.{after_fetch, by_name, error_text, request_in, sight, IsAnswer, IsAnswered};
+
+use rr_archive::Archive;
+use rr_base::Schema;
+use rr_base::bytes::{LINE_FEED, SPACE};
+use rr_base::text::cut;
+use rr_desk::{FetchFault, Gate, Reader};
+use rr_feed::{Feed, FeedLine, LINE_TOO_LONG};
+use rr_fetch::{Request, RequestFault, parse_request};
+use std::alloc::{AllocError, Global};
+
+/// What follows the word `fetch` and a space, where a line begins so.
+fn after_fetch(line: &[u8]) -> Option<&[u8]>
+    ensures { option_map (λ words. words.now) result ≡ after_fetch line.now }
+{
+    let (word, rest) = cut(SPACE, line)?;
+    (word == b"fetch".as_slice()).then_some(rest)
+}
+
+/// The request of a line `fetch CF RESOLUTION START END KEY`.
+#[tactic(auto, unfolding(crate::specs::Fetches::request_in))]
+fn request_in(alloc: Global, line: &[u8], schema: &Schema) -> Result<Request, RequestFault>
+    ensures value { GivesUnless RequestFault.Memory request_view result (request_in schema.now line.now) }
+    ensures fetchable { IfOk result (λ q. IsFetchable schema.now (request_view q)) }
+{
+    let words = after_fetch(line).ok_or(RequestFault::BadCommand)?;
+    parse_request(alloc, words, schema)
+}
+
+/// The refusal of this name.
+fn error_text(alloc: Global, name: &str) -> Result<Vec<u8>, AllocError>
+    ensures { IfOk result (λ refusal. refusal.items ≡ error_text name.now) }
+{
+    let mut refusal = Vec::from_slice(alloc, b"error ")?;
+    refusal.extend_from_slice(name.as_bytes())?;
+    refusal.push(LINE_FEED)?;
+    Ok(refusal)
+}
+
+/// The answer to a request through a gate.
+fn answer_request<A: Archive, G: Gate>(
+    alloc: Global,
+    request: &Request,
+    reader: &mut Reader<A>,
+    gate: &mut G,
+) -> Result<Vec<u8>, AllocError>
+    requires { IsFetchable reader.old.schema (request_view request.now) }
+    ensures seen { HasSeenMore reader.old reader.new }
+    ensures answered { IfOk result (λ text. IsAnswer (Ok (request_view request.now))
+        (sight reader.old (G.last gate.old)) (sight reader.new (G.last gate.new)) text.items) }
+{
+    match reader.fetch_through(alloc, request, gate) {
+        Ok(text) => Ok(text),
+        Err(FetchFault::GateShut) => error_text(alloc, FetchFault::GateShut.name()),
+        Err(FetchFault::Memory) => Err(AllocError),
+    }
+}
+
+/// The answer to a line, or its refusal.
+fn answer_line<A: Archive, G: Gate>(
+    alloc: Global,
+    line: &[u8],
+    reader: &mut Reader<A>,
+    gate: &mut G,
+) -> Result<Vec<u8>, AllocError>
+    ensures seen { HasSeenMore reader.old reader.new }
+    ensures answered { IfOk result (λ text. IsAnswer (by_name (request_in reader.old.schema line.now))
+        (sight reader.old (G.last gate.old)) (sight reader.new (G.last gate.new)) text.items) }
+{
+    match request_in(alloc, line, reader.schema()) {
+        Ok(request) => answer_request(alloc, &request, reader, gate),
+        Err(RequestFault::Memory) => Err(AllocError),
+        Err(fault) => error_text(alloc, fault.name()),
+    }
+}
+
+/// The answer to an item, and an empty line.
+fn answer_item<A: Archive, G: Gate>(
+    alloc: Global,
+    item: FeedLine<'_>,
+    reader: &mut Reader<A>,
+    gate: &mut G,
+) -> Result<Vec<u8>, AllocError>
+    ensures seen { HasSeenMore reader.old reader.new }
+    ensures answered { IfOk result (λ text. IsAnswered (item_view item.entry)
+        (sight reader.old (G.last gate.old)) (sight reader.new (G.last gate.new)) text.items) }
+{
+    let mut text = match item {
+        FeedLine::Line(line) => answer_line(alloc, line, reader, gate)?,
+        FeedLine::TooLong => error_text(alloc, LINE_TOO_LONG)?,
+    };
+    text.push(LINE_FEED)?;
+    Ok(text)
+}
+
+/// The answer to the next item of a feed, if it can be handed out.
+pub(crate) fn next_answer<A: Archive, G: Gate>(
+    alloc: Global,
+    feed: &mut Feed,
+    reader: &mut Reader<A>,
+    gate: &mut G,
+) -> Result<Option<Vec<u8>>, AllocError>
+    ensures { (item : Option Item) × HandsOut feed.old item feed.new
+        × Next (λ text. text.items) item
+        (sight reader.old (G.last gate.old)) (sight reader.new (G.last gate.new)) result }
+{
+    match feed.next_line() {
+        Some(item) => Ok(Some(answer_item(alloc, item, reader, gate)?)),
+        None => Ok(None),
+    }
+}

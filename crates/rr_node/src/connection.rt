@@ -1,0 +1,232 @@
+//! Lines of a connection as they come in pieces, handed to the keeper.
+
+ghost use Rattle.std.specs.Prelude.{◌≡◌, ℕ, ◌+◌, ◌*◌, ◌<◌, ◌≤◌, ◌^◌, ℤ, List, Option, true, false, [], ◌++◌, length, Err, IfOk, IfErr, OnOk, OnErr};
+ghost use Rattle.std.specs.Io.KnownBytes.{Appends};
+ghost use Rattle.rr_base.specs.Counted.{inner_of, failures_of, HasRisen};
+ghost use Rattle.rr_base.specs.Stream.{AppendsPrefix};
+ghost use Rattle.rr_base.specs.declared.limits.TheConstants.{MAX_FIELDS};
+ghost use Rattle.rr_desk.specs.Standing.{KeeperState};
+ghost use Rattle.rr_feed.specs.Feed.{items_left, empty_feed};
+ghost use Rattle.rr_node.specs.declared.lines.TheConstants.{PIECE};
+ghost use Rattle.rr_node.specs.Clock.{HasGiven};
+ghost use Rattle.rr_node.specs.Fault.{IsOfWriting};
+ghost use Rattle.rr_node.specs.Lines.{published_after, report_text};
+
+use crate::answer::{Answer, write_item};
+use crate::clock::Clock;
+use crate::fault::NodeFault;
+use crate::report::{Report, push_report};
+use crate::rules::{LINES_TO_PUBLISH, Rules};
+use rr_archive::Archive;
+use rr_base::Counted;
+use rr_base::stream::{WriteFailed, flush, write_all};
+use rr_desk::Keeper;
+use rr_feed::Feed;
+use rr_records::push_refusal;
+use std::alloc::{AllocError, Global};
+use std::io::Write;
+use std::sync::Wait;
+
+/// A connection whose lines come in pieces.
+#[derive(Drop)]
+pub(crate) struct Connection {
+    alloc: Global,
+    feed: Feed,
+    rules: Rules,
+    /// How many pieces came. They bound the lines, whose number therefore fits.
+    pieces: u32,
+    lines: u64,
+    report: Report,
+
+    ghost few: { report.points + report.refused ≤ lines },
+    ghost few_samples: { report.samples ≤ lines * MAX_FIELDS },
+    ghost room: { lines + length feed.left ≤ pieces * PIECE },
+}
+
+impl Connection {
+    ghost use Rattle.rr_node.specs.Connection.{Ends, EndsAnswered, EndsAtLast, Finishes, HasServed, IsFew, Serves, Takes, counted_in, text_to};
+
+    /// No line came yet.
+    pub(crate) fn new(alloc: Global, rules: Rules) -> Connection
+        ensures feed { result.feed ≡ empty_feed }
+        ensures pieces { result.pieces ≡ 0 }
+        ensures rules { result.rules ≡ rules }
+        ensures nothing { (start : KeeperState) → HasServed result start [] [] start [] }
+    {
+        Connection {
+            alloc,
+            feed: Feed::new(alloc),
+            rules,
+            pieces: 0,
+            lines: 0,
+            report: Report {
+                points: 0,
+                samples: 0,
+                refused: 0,
+            },
+        }
+    }
+
+    /// Takes in a piece.
+    pub(crate) fn push(&mut self, piece: &[u8]) -> Result<(), AllocError>
+        requires going { self.old.feed.ended ≡ false }
+        requires few { self.old.pieces + 1 < 2 ^ 32 }
+        requires fits { length piece.now ≤ PIECE }
+        ensures taken { OnOk result (Takes self.old self.new piece.now) }
+    {
+        let Ok(()) = self.feed.push(piece) else {
+            return Err(AllocError);
+        };
+        self.pieces += 1;
+        Ok(())
+    }
+
+    /// Counts a line, and adds what is answered to it.
+    fn count(&mut self, answers: &mut Vec<u8>, answer: Answer) -> Result<(), AllocError>
+        requires room { self.old.lines + length self.old.feed.left < self.old.pieces * PIECE }
+        requires few { IsFew answer }
+        ensures lines { OnOk result (self.new.lines ≡ self.old.lines + 1) }
+        ensures report { OnOk result (self.new.report ≡ counted_in self.old.report answer) }
+        ensures answered { OnOk result (answers.new.items ≡ answers.old.items ++ text_to (self.old.lines + 1) answer) }
+        ensures feed { self.new.feed ≡ self.old.feed }
+        ensures pieces { self.new.pieces ≡ self.old.pieces }
+        ensures rules { self.new.rules ≡ self.old.rules }
+    {
+        self.lines += 1;
+        match answer {
+            Answer::Nothing => {}
+            Answer::Put(samples) => {
+                self.report.points += 1;
+                self.report.samples += u64::from(samples);
+            }
+            Answer::Refused(name) => {
+                self.report.refused += 1;
+                push_refusal(answers, self.lines, name)?;
+            }
+        }
+        Ok(())
+    }
+
+    /// Publishes what is pending after so many lines.
+    fn publish_in_turn<A: Archive, T: Wait>(
+        &self,
+        keeper: &mut Keeper<A>,
+        rt: &T,
+    ) -> Result<(), AllocError>
+        ensures published { OnOk result (keeper.new ≡ published_after self.now.lines keeper.old) }
+        ensures unchanged { OnErr result (keeper.new ≡ keeper.old) }
+    {
+        if self.lines % LINES_TO_PUBLISH == 0 {
+            return keeper.publish(rt);
+        }
+        Ok(())
+    }
+
+    /// Hands the lines that came to the keeper, and adds what is answered to them.
+    fn write_lines<A: Archive, C: Clock, T: Wait>(
+        &mut self,
+        answers: &mut Vec<u8>,
+        keeper: &mut Keeper<A>,
+        clock: &mut C,
+        rt: &T,
+    ) -> Result<(), AllocError>
+        ensures served { OnOk result ((moments : List ℤ) × (text : List ℕ)
+            × HasGiven (C.given clock.old) (C.given clock.new) moments
+            × (answers.new.items ≡ answers.old.items ++ text)
+            × Serves self.old self.new keeper.old keeper.new moments text) }
+        ensures all { OnOk result (items_left self.new.feed ≡ []) }
+        ensures ended { OnErr result ((moments : List ℤ)
+            × HasGiven (C.given clock.old) (C.given clock.new) moments
+            × Ends self.old keeper.old keeper.new moments) }
+    {
+        while let Some(item) = self.feed.next_line() {
+            let answer = write_item(self.alloc, keeper, clock, self.rules, item)?;
+            self.count(answers, answer)?;
+            self.publish_in_turn(keeper, rt)?;
+        }
+        Ok(())
+    }
+
+    /// Hands the lines that came to the keeper, and writes what is answered to them.
+    pub(crate) fn answer_lines<A: Archive, C: Clock, W: Write, T: Wait>(
+        &mut self,
+        output: &mut Counted<W>,
+        keeper: &mut Keeper<A>,
+        clock: &mut C,
+        rt: &T,
+    ) -> Result<(), NodeFault>
+        ensures served { OnOk result ((moments : List ℤ) × (text : List ℕ)
+            × HasGiven (C.given clock.old) (C.given clock.new) moments
+            × Appends (W.contents (inner_of output.old)) (W.contents (inner_of output.new)) text
+            × Serves self.old self.new keeper.old keeper.new moments text) }
+        ensures all { OnOk result (items_left self.new.feed ≡ []) }
+        ensures stopped { OnErr result ((moments : List ℤ)
+            × HasGiven (C.given clock.old) (C.given clock.new) moments
+            × EndsAnswered self.old keeper.old keeper.new moments (W.contents (inner_of output.old)) (W.contents (inner_of output.new))) }
+        ensures count { failures_of output.old ≤ failures_of output.new }
+        ensures failed { result ≡ Err NodeFault.WriteFailed → HasRisen (failures_of output.old) (failures_of output.new) }
+        ensures faults { IfErr result IsOfWriting }
+    {
+        let mut answers = Vec::new(self.alloc);
+        self.write_lines(&mut answers, keeper, clock, rt)?;
+        send(output, answers.as_slice())?;
+        Ok(())
+    }
+
+    /// Serves what is left once the input is at its end, publishes all, and writes the report.
+    pub(crate) fn finish<A: Archive, C: Clock, W: Write, T: Wait>(
+        &mut self,
+        output: &mut Counted<W>,
+        keeper: &mut Keeper<A>,
+        clock: &mut C,
+        rt: &T,
+    ) -> Result<Report, NodeFault>
+        ensures served { IfOk result (λ counted. (moments : List ℤ)
+            × HasGiven (C.given clock.old) (C.given clock.new) moments
+            × Finishes self.old keeper.old keeper.new counted moments (W.contents (inner_of output.old)) (W.contents (inner_of output.new))) }
+        ensures stopped { OnErr result ((moments : List ℤ)
+            × HasGiven (C.given clock.old) (C.given clock.new) moments
+            × EndsAtLast self.old keeper.old keeper.new moments (W.contents (inner_of output.old)) (W.contents (inner_of output.new))) }
+        ensures count { failures_of output.old ≤ failures_of output.new }
+        ensures failed { result ≡ Err NodeFault.WriteFailed → HasRisen (failures_of output.old) (failures_of output.new) }
+        ensures faults { IfErr result IsOfWriting }
+    {
+        self.feed.end();
+        self.answer_lines(output, keeper, clock, rt)?;
+        keeper.publish(rt)?;
+        send_report(self.alloc, output, &self.report)?;
+        Ok(self.report)
+    }
+}
+
+/// Writes a text and has the writer pass it on; nothing is done where it is empty.
+fn send<W: Write>(output: &mut Counted<W>, text: &[u8]) -> Result<(), WriteFailed>
+    ensures whole { OnOk result (Appends (W.contents (inner_of output.old)) (W.contents (inner_of output.new)) text.now) }
+    ensures front { AppendsPrefix (W.contents (inner_of output.old)) (W.contents (inner_of output.new)) text.now }
+    ensures count { failures_of output.old ≤ failures_of output.new }
+    ensures failed { OnErr result (HasRisen (failures_of output.old) (failures_of output.new)) }
+{
+    if text.is_empty() {
+        return Ok(());
+    }
+    write_all(output, text)?;
+    flush(output)
+}
+
+/// Writes the report.
+fn send_report<W: Write>(
+    alloc: Global,
+    output: &mut Counted<W>,
+    report: &Report,
+) -> Result<(), NodeFault>
+    ensures whole { OnOk result (Appends (W.contents (inner_of output.old)) (W.contents (inner_of output.new)) (report_text report.now)) }
+    ensures front { AppendsPrefix (W.contents (inner_of output.old)) (W.contents (inner_of output.new)) (report_text report.now) }
+    ensures count { failures_of output.old ≤ failures_of output.new }
+    ensures failed { result ≡ Err NodeFault.WriteFailed → HasRisen (failures_of output.old) (failures_of output.new) }
+    ensures faults { IfErr result IsOfWriting }
+{
+    let mut text = Vec::new(alloc);
+    push_report(&mut text, report)?;
+    send(output, text.as_slice())?;
+    Ok(())
+}

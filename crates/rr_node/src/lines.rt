@@ -1,0 +1,138 @@
+//! Lines from a reader, handed to the keeper of a desk.
+
+ghost use Rattle.std.specs.Prelude.{◌≡◌, ◌+◌, ◌≤◌, Err, IfOk, OnErr};
+ghost use Rattle.rr_base.specs.Counted.{inner_of, failures_of, reads_of, HasRisen, HasRisenBy};
+ghost use Rattle.rr_base.specs.declared.limits.TheConstants.{MAX_READS};
+ghost use Rattle.rr_node.specs.Lines.{rules_of, HasStopped, IsServed};
+
+use crate::clock::Clock;
+use crate::connection::Connection;
+use crate::fault::NodeFault;
+use crate::report::Report;
+use crate::rules::Rules;
+use rr_archive::Archive;
+use rr_base::Counted;
+use rr_base::limits::MAX_READS;
+use rr_base::stream::read_once;
+use rr_desk::Keeper;
+use rr_line::Precision;
+use std::alloc::Global;
+use std::io::{Read, Write};
+use std::sync::Wait;
+
+/// How many bytes a read asks for.
+pub(crate) const PIECE: usize = 65_536;
+
+/// Hands the lines that `input` still has to a keeper, answers to `output`, and reports what became
+/// of them.
+///
+/// Each line is one [`Keeper::write`], with a sample for each field of its point, at its own time, or
+/// else at the moment that the clock gives. The clock is asked once for each point, also for one with
+/// a time of its own. A refused line is answered at once by `line N: NAME`, where N counts all lines
+/// from 1: its fault, `LineTooLong`, `AheadOfClock` or `NumbersSpent`. After each 1,000 lines and at the
+/// end all is published; then `points P samples S refused R` is written.
+///
+/// However a call ends, what was put stays, published or pending, and what is written is a front of
+/// the whole answer. The cost is that of reading and writing each line; a piece of the input, one line
+/// and the answers to the lines of that piece are held.
+pub fn serve_lines<A: Archive, R: Read, W: Write, C: Clock, T: Wait>(
+    alloc: Global,
+    input: &mut Counted<R>,
+    output: &mut Counted<W>,
+    keeper: &mut Keeper<A>,
+    clock: &mut C,
+    precision: Precision,
+    lead: Option<u64>,
+    rt: &T,
+) -> Result<Report, NodeFault>
+    ensures served { IfOk result (IsServed (rules_of precision lead) (record {
+      old = keeper.old;
+      new = keeper.new;
+      given = C.given clock.old;
+      given_since = C.given clock.new;
+      input = R.remaining (inner_of input.old);
+      written = W.contents (inner_of output.old);
+      written_since = W.contents (inner_of output.new);
+    })) }
+
+    // What stands however the call ends.
+    ensures stopped { OnErr result (HasStopped (rules_of precision lead) (record {
+      old = keeper.old;
+      new = keeper.new;
+      given = C.given clock.old;
+      given_since = C.given clock.new;
+      input = R.remaining (inner_of input.old);
+      written = W.contents (inner_of output.old);
+      written_since = W.contents (inner_of output.new);
+    })) }
+
+    // When a stream is to blame.
+    ensures read_failed { result ≡ Err NodeFault.ReadFailed → HasRisen (failures_of input.old) (failures_of input.new) }
+    ensures limit { reads_of input.new ≤ reads_of input.old + MAX_READS }
+    ensures too_many { result ≡ Err NodeFault.TooManyReads
+        → HasRisenBy MAX_READS (reads_of input.old) (reads_of input.new) }
+    ensures write_failed { result ≡ Err NodeFault.WriteFailed → HasRisen (failures_of output.old) (failures_of output.new) }
+{
+    serve_lines_within(
+        alloc, input, output, keeper, clock, precision, lead, rt, MAX_READS,
+    )
+}
+
+/// Serves lines as [`serve_lines`] does, within a limit of reads.
+///
+/// Each call of the reader is a read: one that a signal interrupted, and the one that gives no byte
+/// and so tells the end. `TooManyReads` is answered after `reads` of them none of which told the
+/// end, and no further call is made.
+pub fn serve_lines_within<A: Archive, R: Read, W: Write, C: Clock, T: Wait>(
+    alloc: Global,
+    input: &mut Counted<R>,
+    output: &mut Counted<W>,
+    keeper: &mut Keeper<A>,
+    clock: &mut C,
+    precision: Precision,
+    lead: Option<u64>,
+    rt: &T,
+    reads: u32,
+) -> Result<Report, NodeFault>
+    ensures served { IfOk result (IsServed (rules_of precision lead) (record {
+      old = keeper.old;
+      new = keeper.new;
+      given = C.given clock.old;
+      given_since = C.given clock.new;
+      input = R.remaining (inner_of input.old);
+      written = W.contents (inner_of output.old);
+      written_since = W.contents (inner_of output.new);
+    })) }
+
+    // What stands however the call ends.
+    ensures stopped { OnErr result (HasStopped (rules_of precision lead) (record {
+      old = keeper.old;
+      new = keeper.new;
+      given = C.given clock.old;
+      given_since = C.given clock.new;
+      input = R.remaining (inner_of input.old);
+      written = W.contents (inner_of output.old);
+      written_since = W.contents (inner_of output.new);
+    })) }
+
+    // When a stream is to blame.
+    ensures read_failed { result ≡ Err NodeFault.ReadFailed → HasRisen (failures_of input.old) (failures_of input.new) }
+    ensures limit { reads_of input.new ≤ reads_of input.old + reads }
+    ensures too_many { result ≡ Err NodeFault.TooManyReads
+        → HasRisenBy reads (reads_of input.old) (reads_of input.new) }
+    ensures write_failed { result ≡ Err NodeFault.WriteFailed → HasRisen (failures_of output.old) (failures_of output.new) }
+{
+    let mut connection = Connection::new(alloc, Rules { precision, lead });
+    let mut piece = [0u8; PIECE];
+    for _ in 0..reads {
+        let Some(given) = read_once(input, &mut piece)? else {
+            continue;
+        };
+        if given == 0 {
+            return connection.finish(output, keeper, clock, rt);
+        }
+        connection.push(&piece[..given])?;
+        connection.answer_lines(output, keeper, clock, rt)?;
+    }
+    Err(NodeFault::TooManyReads)
+}

@@ -1,0 +1,74 @@
+//! A node: one keeper, and readers on threads of their own.
+
+ghost use Rattle.std.specs.Prelude.{◌≡◌, Bool, true, is_ok, IfErr, OnErr, OnOk};
+ghost use Rattle.rr_node.specs.Rounds.{HasKept, post};
+
+use crate::clock::Clock;
+use crate::config::Config;
+use crate::dial::Dial;
+use crate::fault::NodeFault;
+use crate::rounds::keep_rounds;
+use crate::shelf::Shelf;
+use crate::visits::Visits;
+use rr_archive::Archive;
+use rr_desk::Keeper;
+use std::alloc::Global;
+use std::sync::Wait;
+use std::thread::{Threads, join_mut};
+
+/// The seats of a node, each of which is served on a thread of its own.
+pub trait Seats {
+    ghost use Rattle.std.specs.Thread.{IsSync};
+
+    /// Serves each seat as [`crate::serve_seat`] does, for so many connections, and answers whether memory
+    /// sufficed in all of them. It ends when all seats have.
+    fn serve<T: Threads + Sync>(&mut self, rt: &T, alloc: Global, visits: u64) -> bool
+        requires { IsSync T.row };
+}
+
+/// Serves as a node. On the calling thread rounds are kept ([`crate::keep_round`]) until no line
+/// connection will come, or until there were as many as the configuration says; each seat is served on
+/// a thread of its own ([`serve_seat`]), for as many connections as it says. It ends when all threads
+/// have.
+///
+/// Refused as `Memory` alone, where it ran out on one of the threads, which then ended early.
+pub fn serve_node<
+    A: Archive,
+    V: Visits,
+    D: Dial,
+    S: Shelf,
+    Q: Seats + Send,
+    C: Clock,
+    T: Threads + Wait + Sync,
+>(
+    alloc: Global,
+    keeper: &mut Keeper<A>,
+    lines: &mut V,
+    dial: &mut D,
+    shelf: &mut S,
+    seats: &mut Q,
+    clock: &mut C,
+    config: &Config,
+    rt: &T,
+) -> Result<(), NodeFault>
+    ensures rounds { OnOk result (HasKept config.now true (V.calls lines.old) (V.calls lines.new)
+        (D.calls dial.old) (D.calls dial.new) (S.calls shelf.old) (S.calls shelf.new)
+        (post keeper.old (C.given clock.old)) (post keeper.new (C.given clock.new))) }
+    ensures some { OnErr result ((whole : Bool) × HasKept config.now whole (V.calls lines.old) (V.calls lines.new)
+        (D.calls dial.old) (D.calls dial.new) (S.calls shelf.old) (S.calls shelf.new)
+        (post keeper.old (C.given clock.old)) (post keeper.new (C.given clock.new))) }
+    ensures memory { IfErr result (λ fault. fault ≡ NodeFault.Memory) }
+{
+    let visits = config.visits;
+    let mut seating = || seats.serve(rt, alloc, visits);
+    let mut keeping = || -> Result<(), NodeFault>
+        ensures { HasKept config.entry.now (is_ok result) (V.calls lines.entry.now) (V.calls lines.exit.now)
+            (D.calls dial.entry.now) (D.calls dial.exit.now) (S.calls shelf.entry.now) (S.calls shelf.exit.now)
+            (post keeper.entry.now (C.given clock.entry.now)) (post keeper.exit.now (C.given clock.exit.now)) }
+    { keep_rounds(alloc, keeper, lines, dial, shelf, clock, config, rt) };
+    let (served, kept) = join_mut(rt, &mut seating, &mut keeping);
+    match kept {
+        Ok(()) if served => Ok(()),
+        _ => Err(NodeFault::Memory),
+    }
+}

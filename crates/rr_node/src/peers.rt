@@ -1,0 +1,70 @@
+//! The pulls of a round, from one peer after the other.
+
+ghost use Rattle.std.specs.Prelude.{◌≡◌, ◌≢◌, IfOk, IfSome, List, OnErr, Some, map, is_ok};
+ghost use Rattle.std.specs.String.{string_bytes};
+ghost use Rattle.rr_node.specs.Calls.{DialCall, Grows, ShelfCall};
+ghost use Rattle.rr_node.specs.Peers.{EndsPull, EndsPulls, fault_in};
+
+use crate::dial::Dial;
+use crate::fault::NodeFault;
+use crate::pull::pull_peer;
+use crate::shelf::Shelf;
+use rr_archive::Archive;
+use rr_desk::Keeper;
+use std::alloc::{AllocError, Global};
+use std::sync::Wait;
+
+/// Pulls from the peer at an address.
+fn pull_from<A: Archive, D: Dial, T: Wait>(
+    alloc: Global,
+    address: &str,
+    dial: &mut D,
+    keeper: &mut Keeper<A>,
+    rt: &T,
+) -> Result<(), NodeFault>
+    ensures { (dialed : List DialCall) × Grows (D.calls dial.old) (D.calls dial.new) dialed
+        × EndsPull address.now keeper.old keeper.new dialed (fault_in result) }
+{
+    let Some((mut input, mut output)) = dial.open(address) else {
+        return Err(NodeFault::BadAddress);
+    };
+    let pulled = pull_peer(alloc, &mut input, &mut output, keeper, rt);
+    dial.take_back(input, output);
+    Ok(pulled?)
+}
+
+/// The fault that ended a pull, if one did other than want of memory.
+fn skipped(pulled: Result<(), NodeFault>) -> Result<Option<NodeFault>, AllocError>
+    ensures skipped { IfOk result (λ fault. (fault ≡ fault_in pulled) × IfSome fault (λ why. why ≢ NodeFault.Memory)) }
+    ensures memory { OnErr result (fault_in pulled ≡ Some NodeFault.Memory) }
+{
+    match pulled {
+        Ok(()) => Ok(None),
+        Err(NodeFault::Memory) => Err(AllocError),
+        Err(fault) => Ok(Some(fault)),
+    }
+}
+
+/// Pulls from each peer, in their order. A fault other than `Memory` is told to the shelf, and ends no
+/// other pull.
+pub(crate) fn pull_peers<A: Archive, D: Dial, S: Shelf, T: Wait>(
+    alloc: Global,
+    peers: &[String],
+    dial: &mut D,
+    shelf: &mut S,
+    keeper: &mut Keeper<A>,
+    rt: &T,
+) -> Result<(), AllocError>
+    ensures { (dialed : List DialCall) × (told : List ShelfCall)
+        × Grows (D.calls dial.old) (D.calls dial.new) dialed
+        × Grows (S.calls shelf.old) (S.calls shelf.new) told
+        × EndsPulls (is_ok result) 1 (map string_bytes peers.now) keeper.old keeper.new dialed told }
+{
+    for (place, address) in peers.iter().enumerate() {
+        let pulled = pull_from(alloc, address, dial, keeper, rt);
+        if let Some(fault) = skipped(pulled)? {
+            shelf.peer_failed(place + 1, fault);
+        }
+    }
+    Ok(())
+}

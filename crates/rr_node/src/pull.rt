@@ -1,0 +1,46 @@
+//! A pull from a peer, published.
+
+ghost use Rattle.std.specs.Prelude.{◌≡◌, Err, IfErr, OnOk};
+ghost use Rattle.std.specs.Io.KnownBytes.{IsAtEnd};
+ghost use Rattle.rr_base.specs.Counted.{inner_of, failures_of, HasRisen};
+ghost use Rattle.rr_node.specs.Pull.{HasPulledAll, HasStoppedPulling};
+
+use rr_archive::Archive;
+use rr_base::Counted;
+use rr_desk::Keeper;
+use rr_gossip::{GossipFault, pull};
+use std::alloc::Global;
+use std::io::{Read, Write};
+use std::sync::Wait;
+
+/// Pulls cells from a peer and publishes them: see [`rr_gossip::pull`].
+///
+/// The faults are those of `pull`. After one of them the cells that were joined stay pending, to be
+/// published with what comes later; so they do where memory runs out for the publication, which is
+/// `Memory` too. It waits for readers as [`Keeper::publish`] does.
+pub fn pull_peer<A: Archive, R: Read, W: Write, T: Wait>(
+    alloc: Global,
+    input: &mut Counted<R>,
+    output: &mut Counted<W>,
+    keeper: &mut Keeper<A>,
+    rt: &T,
+) -> Result<(), GossipFault>
+    ensures pulled { OnOk result (HasPulledAll keeper.old keeper.new
+        (R.remaining (inner_of input.old)) (R.remaining (inner_of input.new))
+        (W.contents (inner_of output.old)) (W.contents (inner_of output.new))) }
+    ensures stopped { IfErr result (HasStoppedPulling keeper.old keeper.new
+        (R.remaining (inner_of input.old)) (R.remaining (inner_of input.new))
+        (W.contents (inner_of output.old)) (W.contents (inner_of output.new))) }
+    ensures same_desk { keeper.new.desk ≡ keeper.old.desk }
+
+    // When a stream is to blame.
+    ensures ended { result ≡ Err GossipFault.Ended → IsAtEnd (R.remaining (inner_of input.new)) }
+    ensures read_failed { result ≡ Err GossipFault.ReadFailed
+        → HasRisen (failures_of input.old) (failures_of input.new) }
+    ensures write_failed { result ≡ Err GossipFault.WriteFailed
+        → HasRisen (failures_of output.old) (failures_of output.new) }
+{
+    pull(alloc, input, output, keeper)?;
+    keeper.publish(rt)?;
+    Ok(())
+}

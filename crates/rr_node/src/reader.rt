@@ -1,0 +1,195 @@
+//! The connections of a reader: fetches, or one session in which a peer pulls.
+
+ghost use Rattle.std.specs.Prelude.{◌≡◌, ◌⊎◌, ◌≤◌, ◌∷◌, ◌++◌, [], false, true, Err, None, IfErr, IfOk, IfSome, OnErr, OnOk, option_to_list};
+ghost use Rattle.std.specs.Io.KnownBytes.{Consumes, IsAtEnd};
+ghost use Rattle.rr_base.specs.Counted.{inner_of, failures_of, reads_of, HasRisen, HasRisenBy};
+ghost use Rattle.rr_base.specs.declared.limits.TheConstants.{MAX_READS};
+ghost use Rattle.rr_feed.specs.Feed.{items_left};
+ghost use Rattle.rr_gossip.specs.declared.frame.TheConstants.{MAX_FRAMES};
+ghost use Rattle.rr_gossip.specs.Session.{HasGiven};
+ghost use Rattle.rr_desk.specs.Standing.{cells_seen, HasSeenMore};
+ghost use Rattle.rr_node.specs.Answering.{HasWritten, HasWrittenSome};
+ghost use Rattle.rr_node.specs.Fault.{is_of_session};
+ghost use Rattle.rr_node.specs.Fetches.{sight, HasAnswered, HasAnsweredSome, HasFailedSession, IsServed};
+
+use crate::answering::next_answer;
+use crate::fault::NodeFault;
+use rr_archive::Archive;
+use rr_base::Counted;
+use rr_base::limits::MAX_READS;
+use rr_base::stream::{flush, read_once, write_all};
+use rr_desk::{Gate, Reader};
+use rr_feed::{Feed, FeedFault};
+use rr_gossip::{GossipFault, give_after};
+use std::alloc::{AllocError, Global};
+use std::io::{Read, Write};
+
+/// How many bytes a read asks for.
+const PIECE: usize = 65_536;
+
+/// The first byte of an input, none at its end, and how many reads it took.
+fn read_first<R: Read>(input: &mut Counted<R>) -> Result<(Option<u8>, u32), NodeFault>
+    ensures bytes { IfOk result (λ first. Consumes (R.remaining (inner_of input.old))
+        (R.remaining (inner_of input.new)) (option_to_list first.0)) }
+    ensures end { IfOk result (λ first. first.0 ≡ None → IsAtEnd (R.remaining (inner_of input.new))) }
+    ensures reads { IfOk result (λ first. (first.1 ≤ MAX_READS)
+        × HasRisenBy first.1 (reads_of input.old) (reads_of input.new)) }
+    ensures faults { IfErr result (λ fault. (fault ≡ NodeFault.ReadFailed) ⊎ (fault ≡ NodeFault.TooManyReads)) }
+    ensures count { failures_of input.old ≤ failures_of input.new }
+    ensures failed { result ≡ Err NodeFault.ReadFailed → HasRisen (failures_of input.old) (failures_of input.new) }
+    ensures too_many { result ≡ Err NodeFault.TooManyReads
+        → HasRisenBy MAX_READS (reads_of input.old) (reads_of input.new) }
+{
+    let mut byte = [0u8; 1];
+    for used in 0..MAX_READS {
+        if let Some(given) = read_once(input, &mut byte)? {
+            let first = if given == 0 { None } else { Some(byte[0]) };
+            return Ok((first, used + 1));
+        }
+    }
+    Err(NodeFault::TooManyReads)
+}
+
+/// Takes a piece into a feed that is not at its end.
+fn push(feed: &mut Feed, piece: &[u8]) -> Result<(), AllocError>
+    requires { feed.old.ended ≡ false }
+    ensures { OnOk result (feed.new ≡ record feed.old { left = feed.old.left ++ piece.now }) }
+{
+    feed.push(piece).map_err(|_| AllocError)
+}
+
+/// Writes the answers to the items that can be handed out, each before the next is made, and passes
+/// them on.
+fn answer_items<A: Archive, W: Write, G: Gate>(
+    alloc: Global,
+    feed: &mut Feed,
+    output: &mut Counted<W>,
+    reader: &mut Reader<A>,
+    gate: &mut G,
+) -> Result<(), NodeFault>
+    ensures answered { OnOk result (HasWritten feed.old feed.new
+        (sight reader.old (G.last gate.old)) (sight reader.new (G.last gate.new))
+        (W.contents (inner_of output.old)) (W.contents (inner_of output.new))) }
+    ensures all { OnOk result (items_left feed.new ≡ []) }
+    ensures some { OnErr result (HasWrittenSome feed.old feed.new
+        (sight reader.old (G.last gate.old)) reader.new
+        (W.contents (inner_of output.old)) (W.contents (inner_of output.new))) }
+    ensures count { failures_of output.old ≤ failures_of output.new }
+    ensures failed { result ≡ Err NodeFault.WriteFailed → HasRisen (failures_of output.old) (failures_of output.new) }
+    ensures faults { IfErr result (λ fault. (fault ≡ NodeFault.WriteFailed) ⊎ (fault ≡ NodeFault.Memory)) }
+{
+    while let Some(text) = next_answer(alloc, feed, reader, gate)? {
+        write_all(output, &text)?;
+    }
+    flush(output)?;
+    Ok(())
+}
+
+/// Answers lines, of which the first byte is read already, within a number of reads.
+fn answer_lines<A: Archive, R: Read, W: Write, G: Gate>(
+    alloc: Global,
+    first: u8,
+    input: &mut Counted<R>,
+    output: &mut Counted<W>,
+    reader: &mut Reader<A>,
+    gate: &mut G,
+    reads: u32,
+) -> Result<(), NodeFault>
+    ensures answered { OnOk result (IfSome (R.remaining (inner_of input.old)) (λ rest.
+        HasAnswered (first ∷ rest) (sight reader.old (G.last gate.old)) (sight reader.new (G.last gate.new))
+        (W.contents (inner_of output.old)) (W.contents (inner_of output.new)))) }
+    ensures some { OnErr result (IfSome (R.remaining (inner_of input.old)) (λ rest.
+        HasAnsweredSome (first ∷ rest) (sight reader.old (G.last gate.old)) reader.new
+        (W.contents (inner_of output.old)) (W.contents (inner_of output.new)))) }
+    ensures seen { HasSeenMore reader.old reader.new }
+    ensures read_failed { result ≡ Err NodeFault.ReadFailed → HasRisen (failures_of input.old) (failures_of input.new) }
+    ensures too_many { result ≡ Err NodeFault.TooManyReads
+        → HasRisenBy reads (reads_of input.old) (reads_of input.new) }
+    ensures write_failed { result ≡ Err NodeFault.WriteFailed
+        → HasRisen (failures_of output.old) (failures_of output.new) }
+    ensures faults { IfErr result (λ fault. is_of_session fault ≡ false) }
+{
+    let mut feed = Feed::new(alloc);
+    push(&mut feed, &[first])?;
+    let mut piece = [0u8; PIECE];
+    for _ in 0..reads {
+        answer_items(alloc, &mut feed, output, reader, gate)?;
+        let Some(given) = read_once(input, &mut piece)? else {
+            continue;
+        };
+        if given == 0 {
+            feed.end();
+            return answer_items(alloc, &mut feed, output, reader, gate);
+        }
+        push(&mut feed, &piece[..given])?;
+    }
+    Err(NodeFault::TooManyReads)
+}
+
+/// Answers a session in which the other side pulls, after its first byte, which is 0.
+fn give_session<A: Archive, R: Read, W: Write>(
+    alloc: Global,
+    input: &mut Counted<R>,
+    output: &mut Counted<W>,
+    reader: &mut Reader<A>,
+) -> Result<(), NodeFault>
+    ensures given { OnOk result (HasGiven MAX_FRAMES reader.old.schema (cells_seen reader.new) (0 ∷ [])
+        (R.remaining (inner_of input.old)) (R.remaining (inner_of input.new))
+        (W.contents (inner_of output.old)) (W.contents (inner_of output.new))) }
+    ensures stopped { IfErr result (HasFailedSession reader.old.schema (cells_seen reader.new)
+        (R.remaining (inner_of input.old)) (R.remaining (inner_of input.new))
+        (W.contents (inner_of output.old)) (W.contents (inner_of output.new))) }
+    ensures seen { HasSeenMore reader.old reader.new }
+    ensures read_failed { result ≡ Err (NodeFault.Session GossipFault.ReadFailed)
+        → HasRisen (failures_of input.old) (failures_of input.new) }
+    ensures write_failed { result ≡ Err (NodeFault.Session GossipFault.WriteFailed)
+        → HasRisen (failures_of output.old) (failures_of output.new) }
+{
+    give_after(alloc, 0, input, output, reader)?;
+    Ok(())
+}
+
+/// Serves a connection: answers fetches, or one session in which a peer pulls.
+///
+/// Where the first byte is 0, it begins a session, which is answered as
+/// [`give_after`](rr_gossip::give_after) does; a fault of it is `Session`. Otherwise each line
+/// `fetch CF RESOLUTION START END KEY` is answered by records of CSV, and a line that is refused by
+/// `error NAME`; an empty line follows each answer. The names are those of
+/// [`parse_request`](rr_fetch::parse_request), and `LineTooLong`, `BadCommand` for a line that does
+/// not begin with `fetch` and a space, and `GateShut` where the gate lets no answer pass. A last line
+/// may lack its line feed. Each answer is written before the next is made, and all are passed on
+/// before more is read.
+///
+/// The connection ends as `ReadFailed`, as `WriteFailed`, as `TooManyReads` after 4,294,967,295 reads
+/// that did not reach the end, and as `Memory`; a front of the answers is then written. The cost is
+/// that of the fetches, and linear in the bytes; a line, a piece of the input and one answer are held.
+pub fn serve_reader<A: Archive, R: Read, W: Write, G: Gate>(
+    alloc: Global,
+    input: &mut Counted<R>,
+    output: &mut Counted<W>,
+    reader: &mut Reader<A>,
+    gate: &mut G,
+) -> Result<(), NodeFault>
+    ensures served { IsServed result
+        (R.remaining (inner_of input.old)) (R.remaining (inner_of input.new))
+        (W.contents (inner_of output.old)) (W.contents (inner_of output.new))
+        (sight reader.old (G.last gate.old)) (sight reader.new (G.last gate.new)) }
+
+    // When a stream is to blame.
+    ensures read_failed { result ≡ Err NodeFault.ReadFailed → HasRisen (failures_of input.old) (failures_of input.new) }
+    ensures too_many { result ≡ Err NodeFault.TooManyReads
+        → HasRisenBy MAX_READS (reads_of input.old) (reads_of input.new) }
+    ensures write_failed { result ≡ Err NodeFault.WriteFailed
+        → HasRisen (failures_of output.old) (failures_of output.new) }
+    ensures session_read_failed { result ≡ Err (NodeFault.Session GossipFault.ReadFailed)
+        → HasRisen (failures_of input.old) (failures_of input.new) }
+    ensures session_write_failed { result ≡ Err (NodeFault.Session GossipFault.WriteFailed)
+        → HasRisen (failures_of output.old) (failures_of output.new) }
+{
+    let (first, used) = read_first(input)?;
+    match first {
+        None => Ok(()),
+        Some(0) => give_session(alloc, input, output, reader),
+        Some(first) => answer_lines(alloc, first, input, output, reader, gate, MAX_READS - used),
+    }
+}

@@ -1,0 +1,87 @@
+//! A round of the keeper: the lines of a connection, the pulls from all peers, and a save.
+
+ghost use Rattle.std.specs.Prelude.{List};
+ghost use Rattle.rr_node.specs.Calls.{DialCall, Grows, ShelfCall};
+ghost use Rattle.rr_node.specs.Round.{EndsLines, EndsRound, came_in};
+ghost use Rattle.rr_node.specs.Visits.{Call, HasCalled};
+
+use crate::clock::Clock;
+use crate::config::Config;
+use crate::dial::Dial;
+use crate::fault::NodeFault;
+use crate::lines::serve_lines;
+use crate::peers::pull_peers;
+use crate::saving::save_to;
+use crate::shelf::Shelf;
+use crate::visits::{Visit, Visits};
+use rr_archive::Archive;
+use rr_desk::Keeper;
+use std::alloc::{AllocError, Global};
+use std::sync::Wait;
+
+/// Serves the lines of the next connection, and answers whether there was one: one that failed is.
+fn take_lines<A: Archive, V: Visits, C: Clock, T: Wait>(
+    alloc: Global,
+    keeper: &mut Keeper<A>,
+    lines: &mut V,
+    clock: &mut C,
+    config: &Config,
+    rt: &T,
+) -> Result<bool, AllocError>
+    ensures { (calls : List Call) × HasCalled (V.calls lines.old) (V.calls lines.new) calls
+        × EndsLines config.now (came_in result) keeper.old keeper.new (C.given clock.old) (C.given clock.new) calls }
+{
+    let (mut input, mut output) = match lines.next() {
+        Visit::Stream(input, output) => (input, output),
+        Visit::Failed => return Ok(true),
+        Visit::Over => return Ok(false),
+    };
+    let (precision, lead) = (config.precision, config.lead);
+    let served = serve_lines(
+        alloc,
+        &mut input,
+        &mut output,
+        keeper,
+        clock,
+        precision,
+        lead,
+        rt,
+    );
+    lines.take_back(input, output);
+    match served {
+        Err(NodeFault::Memory) => Err(AllocError),
+        _ => Ok(true),
+    }
+}
+
+/// One round of the keeper of a node: it serves the lines of the next connection, pulls from each peer
+/// of the configuration, in their order, and saves a snapshot where the shelf wants one. The answer is
+/// whether a connection came; where none will come any more, nothing else is done.
+///
+/// A fault of the connection ends the connection alone. A peer that can't be reached or whose pull fails
+/// is passed over, and a save that fails too; both are told to the shelf. `Memory` ends the round there;
+/// there is no other fault. Each stream that was given is handed back.
+pub fn keep_round<A: Archive, V: Visits, D: Dial, S: Shelf, C: Clock, T: Wait>(
+    alloc: Global,
+    keeper: &mut Keeper<A>,
+    lines: &mut V,
+    dial: &mut D,
+    shelf: &mut S,
+    clock: &mut C,
+    config: &Config,
+    rt: &T,
+) -> Result<bool, NodeFault>
+    ensures { (calls : List Call) × (dialed : List DialCall) × (shelved : List ShelfCall)
+        × HasCalled (V.calls lines.old) (V.calls lines.new) calls
+        × Grows (D.calls dial.old) (D.calls dial.new) dialed
+        × Grows (S.calls shelf.old) (S.calls shelf.new) shelved
+        × EndsRound config.now (came_in result) keeper.old keeper.new
+        (C.given clock.old) (C.given clock.new) calls dialed shelved }
+{
+    if !take_lines(alloc, keeper, lines, clock, config, rt)? {
+        return Ok(false);
+    }
+    pull_peers(alloc, &config.peers, dial, shelf, keeper, rt)?;
+    save_to(alloc, shelf, keeper)?;
+    Ok(true)
+}

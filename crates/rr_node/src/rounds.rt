@@ -1,0 +1,51 @@
+//! The rounds of a keeper, one after the other.
+
+ghost use Rattle.std.specs.Prelude.{◌≡◌, is_ok};
+ghost use Rattle.rr_node.specs.Rounds.{HasKept, post, rounds_of};
+
+use crate::clock::Clock;
+use crate::config::Config;
+use crate::dial::Dial;
+use crate::fault::NodeFault;
+use crate::round::keep_round;
+use crate::shelf::Shelf;
+use crate::visits::Visits;
+use rr_archive::Archive;
+use rr_desk::Keeper;
+use std::alloc::Global;
+use std::sync::Wait;
+
+/// How many rounds a configuration has.
+fn most_rounds(config: &Config) -> u64
+    ensures { result ≡ rounds_of config.now }
+{
+    if config.rounds == 0 {
+        u64::MAX
+    } else {
+        config.rounds
+    }
+}
+
+/// Keeps rounds, one after the other, until no connection will come, until memory runs out, or until
+/// there were as many as the configuration has.
+pub(crate) fn keep_rounds<A: Archive, V: Visits, D: Dial, S: Shelf, C: Clock, T: Wait>(
+    alloc: Global,
+    keeper: &mut Keeper<A>,
+    lines: &mut V,
+    dial: &mut D,
+    shelf: &mut S,
+    clock: &mut C,
+    config: &Config,
+    rt: &T,
+) -> Result<(), NodeFault>
+    ensures { HasKept config.now (is_ok result) (V.calls lines.old) (V.calls lines.new)
+        (D.calls dial.old) (D.calls dial.new) (S.calls shelf.old) (S.calls shelf.new)
+        (post keeper.old (C.given clock.old)) (post keeper.new (C.given clock.new)) }
+{
+    for _ in 0..most_rounds(config) {
+        if !keep_round(alloc, keeper, lines, dial, shelf, clock, config, rt)? {
+            return Ok(());
+        }
+    }
+    Ok(())
+}

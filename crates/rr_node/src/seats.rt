@@ -1,0 +1,39 @@
+//! Seats over TCP.
+
+use crate::gates::OpenGate;
+use crate::listening::Listening;
+use crate::node::Seats;
+use crate::seat::{Seat, serve_seat};
+use rr_ring::RingArchive;
+use std::alloc::Global;
+use std::sync::atomic::{AtomicBool, Ordering};
+use std::thread::{Threads, for_each_mut};
+
+/// The seats of a node over TCP.
+#[derive(Drop)]
+pub struct TcpSeats {
+    /// Each a reader with the address that it answers on.
+    pub seats: Vec<Seat<RingArchive, Listening, OpenGate>>,
+}
+
+impl Seats for TcpSeats {
+    fn serve<T: Threads + Sync>(&mut self, rt: &T, alloc: Global, visits: u64) -> bool {
+        if self.seats.is_empty() {
+            return true;
+        }
+        let is_out = AtomicBool::new(false);
+        let shared = &is_out;
+        let threads = self.seats.len();
+        for_each_mut(
+            rt,
+            self.seats.as_mut_slice(),
+            threads,
+            &|_, seat: &mut Seat<RingArchive, Listening, OpenGate>| {
+                if serve_seat(alloc, seat, visits).is_err() {
+                    shared.store(true, Ordering::SeqCst);
+                }
+            },
+        );
+        !is_out.load(Ordering::SeqCst)
+    }
+}

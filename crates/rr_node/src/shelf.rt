@@ -1,0 +1,53 @@
+//! Shelves, to which snapshots are saved.
+
+ghost use Rattle.std.specs.Prelude.{◌≡◌};
+
+use crate::fault::NodeFault;
+use rr_base::Counted;
+use rr_snapshot::SaveFault;
+use std::io::Write;
+
+/// What a shelf opens for a snapshot.
+pub enum Opening<W> {
+    /// A writer for it.
+    Writer(Counted<W>),
+    /// Nothing: no snapshot is wanted.
+    Unwanted,
+    /// Nothing: its writer can't be opened.
+    Failed,
+}
+
+/// Whoever takes the snapshots of a node, and is told what failed.
+///
+/// It is seen as the list of its calls, where that is known.
+pub trait Shelf {
+    ghost use Rattle.std.specs.Prelude.{List, [], ◌∷◌, Option};
+    ghost use Rattle.rr_base.specs.Counted.{inner_of};
+    ghost use Rattle.rr_node.specs.Calls.{Grows, ShelfCall, opened, peer_failed, put_back, save_failed, unopened, unwanted};
+    ghost use Rattle.rr_node.specs.declared.shelf.Opening.TheVariants as opening;
+
+    /// Where a snapshot is written.
+    type Output: Write;
+
+    ghost calls: { Self → Option (List ShelfCall) };
+
+    /// Opens a writer for a snapshot, where one is wanted.
+    fn open(&mut self) -> Opening<Self::Output>
+        ensures opened { (writer : _) → result ≡ opening.Writer writer → Grows (calls self.old) (calls self.new)
+            (opened (Self.Output.contents (inner_of writer)) ∷ []) }
+        ensures unwanted { result ≡ opening.Unwanted → Grows (calls self.old) (calls self.new) (unwanted ∷ []) }
+        ensures failed { result ≡ opening.Failed → Grows (calls self.old) (calls self.new) (unopened ∷ []) };
+
+    /// Takes back the writer of a snapshot, which is written whole or not.
+    fn take_back(&mut self, output: Counted<Self::Output>, whole: bool)
+        ensures { Grows (calls self.old) (calls self.new)
+            (put_back (Self.Output.contents (inner_of output)) whole ∷ []) };
+
+    /// Is told that the pull of a peer failed, by its number from 1.
+    fn peer_failed(&mut self, number: usize, fault: NodeFault)
+        ensures { Grows (calls self.old) (calls self.new) (peer_failed number fault ∷ []) };
+
+    /// Is told that a save failed.
+    fn save_failed(&mut self, fault: SaveFault)
+        ensures { Grows (calls self.old) (calls self.new) (save_failed fault ∷ []) };
+}
