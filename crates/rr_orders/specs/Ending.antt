@@ -20,4 +20,7 @@ abbrev pub status_of : Ending → ℕ
 status_of ending.Done = 0
 status_of ending.LinesRefused = 1
 status_of (ending.WordsRefused text) = 2
+status_of (ending.ConfigRefused name) = 2
+status_of (ending.LoadRefused name) = 2
+status_of ending.BadAddress = 3
 status_of (ending.Failed fault) = 3

@@ -15,6 +15,12 @@ pub enum Ending {
     LinesRefused,
     /// The command line is refused; with the text for standard error.
     WordsRefused(String),
+    /// The configuration of a node is refused; with the name of its fault.
+    ConfigRefused(&'static str),
+    /// The snapshot that a node was to begin with is refused; with the name of its fault.
+    LoadRefused(&'static str),
+    /// An address can't be listened on.
+    BadAddress,
     /// The order can't be obeyed.
     Failed(ToolFault),
 }
@@ -40,8 +46,8 @@ impl Ending {
         match self {
             Ending::Done => 0,
             Ending::LinesRefused => 1,
-            Ending::WordsRefused(_) => 2,
-            Ending::Failed(_) => 3,
+            Ending::WordsRefused(_) | Ending::ConfigRefused(_) | Ending::LoadRefused(_) => 2,
+            Ending::BadAddress | Ending::Failed(_) => 3,
         }
     }
 
@@ -50,6 +56,9 @@ impl Ending {
         match self {
             Ending::Done | Ending::LinesRefused => Ok(()),
             Ending::WordsRefused(text) => rt.eprint(text),
+            Ending::ConfigRefused(name) => eprintln!(rt; "config: {name}"),
+            Ending::LoadRefused(name) => eprintln!(rt; "load: {name}"),
+            Ending::BadAddress => rt.eprintln("rr: bad address"),
             Ending::Failed(fault) => rt.eprintln(fault.message()),
         }
     }

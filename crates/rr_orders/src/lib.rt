@@ -5,12 +5,12 @@
 //! ```
 //!
 //! [`obey_order`] runs a script or checks lines, from a reader to a writer, and its contract says
-//! what is written. [`run`] does so for a process: it reads the process's words and picks its
-//! streams, by the traits of a runtime, so that a test can stand in for the process.
+//! what is written. [`read_order`] reads the words of a process, and [`obey`] picks its streams, by the
+//! traits of a runtime, so that a test can stand in for the process.
 //!
 //! Streams are counted, so that one is blamed only where a call of it failed. A run ends with status
-//! 0 where it is done, 1 where lines were refused, 2 where the command line is, and 3 where reading
-//! or writing failed or memory ran out ([`Ending`]).
+//! 0 where it is done, 1 where lines were refused, 2 where the command line is, or what a node is told to
+//! begin with, and 3 where reading or writing failed, an address was bad or memory ran out ([`Ending`]).
 #![tactic(auto)]
 
 mod ending;
@@ -20,5 +20,5 @@ mod script;
 
 pub use ending::Ending;
 pub use orders::obey_order;
-pub use process::{obey, read_order, run};
+pub use process::{obey, read_order};
 pub use script::run_script;

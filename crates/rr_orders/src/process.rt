@@ -27,7 +27,7 @@ pub fn read_order(rt: &(impl AllocGlobal + Env)) -> Result<Order, WordsFault> {
     read_words(alloc, &words)
 }
 
-/// Obeys an order. The output goes to standard output, and the input comes from standard input, or
+/// Obeys an order that has streams. The output goes to standard output, and the input comes from standard input, or
 /// from the script's file where one is named. A file that can't be opened is named on standard
 /// error.
 pub fn obey(
@@ -46,16 +46,5 @@ pub fn obey(
             let _printed = eprintln!(rt; "rr: {file}: {error}");
             Err(ToolFault::ReadFailed)
         }
-    }
-}
-
-/// Obeys the order of the process's own words, and says how that ended.
-pub fn run(rt: &(impl AllocGlobal + Env + Files + Input + Print + Eprint)) -> Ending {
-    match read_order(rt) {
-        Ok(order) => match obey(rt, &order) {
-            Ok(ending) => ending,
-            Err(fault) => Ending::Failed(fault),
-        },
-        Err(fault) => Ending::from(fault),
     }
 }

@@ -1,9 +1,10 @@
-//! The program `rr`: it runs a script of several nodes, or checks lines of the line protocol.
+//! The program `rr`: it runs a script of several nodes, checks lines of the line protocol, or serves as a
+//! node.
 //!
-//! What it does is [`rr_orders::run`], over the words and the streams of its process.
+//! What it does is [`rr_serve::run`], over the words and the streams of its process.
 #![tactic(auto)]
 
-use rr_orders::run;
+use rr_serve::run;
 use std::process::ExitCode;
 
 fn main(rt: HostRuntime) -> ExitCode {

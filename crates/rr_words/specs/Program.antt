@@ -18,9 +18,33 @@ now_rule = record (new_rule (codes "now")) { long = Some (codes "now"); value_na
 abbrev pub check_lines_app : App
 check_lines_app = with_rule (with_rule (new_app (codes "check-lines")) precision_rule) now_rule
 
+-- CONFIG
+abbrev pub config_rule : Rule
+config_rule = record (new_rule (codes "CONFIG")) { required = true }
+
+-- --origin N
+abbrev pub origin_rule : Rule
+origin_rule = record (new_rule (codes "origin")) { long = Some (codes "origin"); value_names = 1; required = true }
+
+-- --load FILE
+abbrev pub load_rule : Rule
+load_rule = record (new_rule (codes "load")) { long = Some (codes "load"); value_names = 1 }
+
+-- --save FILE
+abbrev pub save_rule : Rule
+save_rule = record (new_rule (codes "save")) { long = Some (codes "save"); value_names = 1 }
+
+-- serve CONFIG --origin N [--load FILE] [--save FILE]
+abbrev pub serve_app : App
+serve_app = with_rule (with_rule (with_rule (with_rule (new_app (codes "serve")) config_rule) origin_rule) load_rule) save_rule
+
 -- the words are those after the program's name
 abbrev pub bare_app : App
 bare_app = record { top = record (new_app (codes "rr")).top { no_binary_name = true }; subs = [] }
 
+-- with the commands over two streams
+abbrev pub stream_commands_app : App
+stream_commands_app = with_subcommand (with_subcommand bare_app sim_app.top) check_lines_app.top
+
 abbrev pub program_app : App
-program_app = with_subcommand (with_subcommand bare_app sim_app.top) check_lines_app.top
+program_app = with_subcommand stream_commands_app serve_app.top

@@ -1,10 +1,11 @@
 -- What the words of a command line ask for, by what clap makes of them.
-use Rattle.std.specs.Prelude.{◌≡◌, ℤ, pos, List, codes, Option, Some, None, option_map, string_bytes, if◌then◌else◌}
+use Rattle.std.specs.Prelude.{◌≡◌, ℕ, ◌&&◌, nat_le, ℤ, pos, List, codes, Option, Some, None, option_map, string_bytes, if◌then◌else◌}
 use Rattle.std.specs.Option.{option_and_then}
 use Rattle.std.specs.Str.{bytes_eq}
 use Rattle.clap.specs.Walk.{Row, Text, first_of, is_empty}
 use Rattle.clap.specs.Words.{fault_of, subcommand_of}
-use Rattle.rr_base.specs.Text.{integer_at}
+use Rattle.rr_base.specs.declared.limits.TheConstants.{MAX_ORIGIN}
+use Rattle.rr_base.specs.Text.{integer_at, number_at}
 use Rattle.rr_line.specs.declared.precision.Precision.{Precision}
 use Rattle.rr_line.specs.declared.precision.Precision.TheVariants.{Ns, Us, Ms, S}
 use Rattle.rr_words.specs.declared.order.Order.{Order}
@@ -15,10 +16,13 @@ use Rattle.rr_words.specs.Program.{program_app}
 pub data Asked : Type 0 where
   sim : Option Text → Asked
   check_lines : Precision → ℤ → Asked
+  serve : Text → ℕ → Option Text → Option Text → Asked
 
 abbrev pub asked_by : Order → Asked
 asked_by (order.Sim file) = sim (option_map string_bytes file)
 asked_by (order.CheckLines precision now) = check_lines precision now
+asked_by (order.Serve config origin load save) =
+    serve (string_bytes config) origin (option_map string_bytes load) (option_map string_bytes save)
 
 -- ns, us, ms or s; nanoseconds if none is written
 abbrev pub precision_at : Option Text → Option Precision
@@ -43,12 +47,33 @@ lines_asked_by precision now =
 abbrev pub lines_asked : List Row → Option Asked
 lines_asked rows = lines_asked_by (first_of (codes "precision") rows) (first_of (codes "now") rows)
 
+-- an origin, in digits
+abbrev pub origin_at : Text → Option ℕ
+origin_at text =
+    option_and_then (λ n. if nat_le 1 n && nat_le n MAX_ORIGIN then Some n else None) (number_at text)
+
+-- the origin that is written, if one is
+abbrev pub origin_in : Option Text → Option ℕ
+origin_in = option_and_then origin_at
+
+-- what `serve` asks for by the texts of its configuration, origin and files
+abbrev pub serve_asked_by : Option Text → Option Text → Option Text → Option Text → Option Asked
+serve_asked_by config origin load save =
+    option_and_then (λ c. option_map (λ o. serve c o load save) (origin_in origin)) config
+
+-- what the values of `serve` ask for
+abbrev pub serve_asked : List Row → Option Asked
+serve_asked rows =
+    serve_asked_by (first_of (codes "CONFIG") rows) (first_of (codes "origin") rows)
+    (first_of (codes "load") rows) (first_of (codes "save") rows)
+
 -- what a subcommand and its values ask for, or no subcommand
 abbrev pub asked_of : Option (Text × List Row) → Option Asked
 asked_of None = Some (sim None)
 asked_of (Some met) =
     if bytes_eq met.0 (codes "sim") then Some (sim (first_of (codes "FILE") met.1))
-    else (if bytes_eq met.0 (codes "check-lines") then lines_asked met.1 else None)
+    else (if bytes_eq met.0 (codes "check-lines") then lines_asked met.1
+    else (if bytes_eq met.0 (codes "serve") then serve_asked met.1 else None))
 
 -- what words ask for that clap finds no fault in
 abbrev pub asked_at : List Text → Option Asked

@@ -3,10 +3,10 @@
 
 ghost use Rattle.std.specs.Prelude.{◌≡◌, ℕ, List, [], ◌∷◌, ◌++◌, pos, negsuc, codes, None, Some};
 ghost use Rattle.rr_line.specs.declared.precision.Precision.TheVariants.{Ns, Us, Ms, S};
-ghost use Rattle.rr_words.specs.Words.{AskFor, AskForNothing, asked_at, check_lines, lines_asked_by, sim};
+ghost use Rattle.rr_words.specs.Words.{AskFor, AskForNothing, asked_at, check_lines, lines_asked_by, serve, serve_asked_by, sim};
 
 /// The options of `check-lines` take any text as their value, in either order; what they ask for is
-/// then up to these texts. A script's file may have any name.
+/// then up to these texts. A script's file may have any name, and so may the files of `serve`.
 pub fn values_are_any_text()
     ensures file { (f : List ℕ) → AskFor (codes "sim" ∷ codes "--" ∷ f ∷ []) (sim (Some f)) }
     ensures precision { (p : List ℕ) → asked_at (codes "check-lines" ∷ (codes "--precision=" ++ p) ∷ [])
@@ -19,6 +19,9 @@ pub fn values_are_any_text()
     ensures both_the_other_way { (p t : List ℕ)
         → asked_at (codes "check-lines" ∷ (codes "--now=" ++ t) ∷ (codes "--precision=" ++ p) ∷ [])
         ≡ lines_asked_by (Some p) (Some t) }
+    ensures serve { (n l s : List ℕ)
+        → asked_at (codes "serve" ∷ codes "c" ∷ (codes "--origin=" ++ n) ∷ (codes "--load=" ++ l) ∷ (codes "--save=" ++ s) ∷ [])
+        ≡ serve_asked_by (Some (codes "c")) (Some n) (Some l) (Some s) }
 {}
 
 /// Command lines of each kind, written out, ask for what they are to ask for, or are refused.
@@ -38,6 +41,10 @@ pub fn command_lines_are_read()
         (check_lines S (pos 5)) }
     ensures below_zero { AskFor (codes "check-lines" ∷ codes "--now=-5" ∷ [])
         (check_lines Ns (negsuc 4)) }
+    ensures serve { AskFor (codes "serve" ∷ codes "c" ∷ codes "--origin" ∷ codes "7" ∷ [])
+        (serve (codes "c") 7 None None) }
+    ensures serve_from_a_snapshot { AskFor (codes "serve" ∷ codes "--origin=65535" ∷ codes "--load" ∷ codes "l" ∷ codes "c" ∷ [])
+        (serve (codes "c") 65535 (Some (codes "l")) None) }
 
     // A word that begins with a dash is no value, and a number has no plus.
     ensures dashed_word { AskForNothing (codes "check-lines" ∷ codes "--now" ∷ codes "-5" ∷ []) }
@@ -45,6 +52,10 @@ pub fn command_lines_are_read()
     ensures past_i64 { AskForNothing (codes "check-lines" ∷ codes "--now=9223372036854775808" ∷ []) }
     ensures other_precision { AskForNothing (codes "check-lines" ∷ codes "--precision" ∷ codes "h" ∷ []) }
     ensures two_files { AskForNothing (codes "sim" ∷ codes "f" ∷ codes "g" ∷ []) }
+    ensures no_origin { AskForNothing (codes "serve" ∷ codes "c" ∷ []) }
+    ensures origin_0 { AskForNothing (codes "serve" ∷ codes "c" ∷ codes "--origin" ∷ codes "0" ∷ []) }
+    ensures past_origins { AskForNothing (codes "serve" ∷ codes "c" ∷ codes "--origin=65536" ∷ []) }
+    ensures no_configuration { AskForNothing (codes "serve" ∷ codes "--origin" ∷ codes "7" ∷ []) }
     ensures other_word { AskForNothing (codes "frob" ∷ []) }
     ensures help { AskForNothing (codes "--help" ∷ []) }
 {}

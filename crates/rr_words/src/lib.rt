@@ -1,8 +1,9 @@
 //! The words of the program's command line, read with `clap`.
 //!
 //! ```text
-//! none, sim [FILE]                          Order::Sim
-//! check-lines [--precision P] [--now T]     Order::CheckLines
+//! none, sim [FILE]                                        Order::Sim
+//! check-lines [--precision P] [--now T]                   Order::CheckLines
+//! serve CONFIG --origin N [--load FILE] [--save FILE]     Order::Serve
 //! ```
 //!
 //! [`read_words`] makes an [`Order`] of them, or a [`WordsFault`] with the text for whoever wrote

@@ -1,5 +1,6 @@
 //! What a command line asks for.
 
+use rr_base::Origin;
 use rr_line::Precision;
 
 /// What the words of a command line ask for.
@@ -16,5 +17,16 @@ pub enum Order {
         precision: Precision,
         /// The time of a line without one, in nanoseconds since the Unix epoch.
         now: i64,
+    },
+    /// To serve as a node.
+    Serve {
+        /// The file of the configuration.
+        config: String,
+        /// The origin of the samples that the node writes.
+        origin: Origin,
+        /// The file of a snapshot to begin with.
+        load: Option<String>,
+        /// The file that a snapshot is saved to.
+        save: Option<String>,
     },
 }

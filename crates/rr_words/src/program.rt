@@ -3,7 +3,7 @@
 ghost use Rattle.std.specs.Prelude.{◌≡◌, false, IfOk};
 ghost use Rattle.clap.specs.Words.{app_of, rule_of};
 ghost use Rattle.clap.specs.declared.builder.command.Command.TheViews.{out-Command as fields_of};
-ghost use Rattle.rr_words.specs.Program.{sim_app, precision_rule, now_rule, check_lines_app, program_app};
+ghost use Rattle.rr_words.specs.Program.{sim_app, precision_rule, now_rule, check_lines_app, config_rule, origin_rule, load_rule, save_rule, serve_app, stream_commands_app, program_app};
 
 use clap::{Arg, Command};
 use std::alloc::{AllocError, Global};
@@ -51,9 +51,65 @@ fn check_lines<'a>(alloc: Global) -> Result<Command<'a>, AllocError>
         .arg(now_arg(alloc))
 }
 
-/// The program and its subcommands.
-pub(crate) fn program<'a>(alloc: Global) -> Result<Command<'a>, AllocError>
-    ensures { IfOk result (λ c. app_of c ≡ program_app) }
+/// `CONFIG`.
+fn config_arg<'a>(alloc: Global) -> Arg<'a>
+    ensures rule { rule_of result ≡ config_rule }
+    ensures local { result.global ≡ false }
+{
+    Arg::new(alloc, "CONFIG")
+        .required(true)
+        .help("The configuration of the node, in TOML")
+}
+
+/// `--origin N`.
+fn origin_arg<'a>(alloc: Global) -> Arg<'a>
+    ensures rule { rule_of result ≡ origin_rule }
+    ensures local { result.global ≡ false }
+{
+    Arg::new(alloc, "origin")
+        .long("origin")
+        .value_name("N")
+        .required(true)
+        .help("The origin of this node's samples, 1 to 65535: another one at each start")
+}
+
+/// `--load FILE`.
+fn load_arg<'a>(alloc: Global) -> Arg<'a>
+    ensures rule { rule_of result ≡ load_rule }
+    ensures local { result.global ≡ false }
+{
+    Arg::new(alloc, "load")
+        .long("load")
+        .value_name("FILE")
+        .help("A snapshot to begin with")
+}
+
+/// `--save FILE`.
+fn save_arg<'a>(alloc: Global) -> Arg<'a>
+    ensures rule { rule_of result ≡ save_rule }
+    ensures local { result.global ≡ false }
+{
+    Arg::new(alloc, "save").long("save").value_name("FILE").help(
+        "The file that a snapshot is saved to after each line connection",
+    )
+}
+
+/// `serve CONFIG --origin N [--load FILE] [--save FILE]`.
+fn serve<'a>(alloc: Global) -> Result<Command<'a>, AllocError>
+    ensures app { IfOk result (λ c. app_of c ≡ serve_app) }
+    ensures local { IfOk result (λ c. (fields_of c).has_globals ≡ false) }
+{
+    Command::new(alloc, "serve")
+        .about("Serves as a node: takes lines, answers fetches and pulls from peers")
+        .arg(config_arg(alloc))?
+        .arg(origin_arg(alloc))?
+        .arg(load_arg(alloc))?
+        .arg(save_arg(alloc))
+}
+
+/// The program with the subcommands that read one stream and write another.
+fn stream_commands<'a>(alloc: Global) -> Result<Command<'a>, AllocError>
+    ensures { IfOk result (λ c. app_of c ≡ stream_commands_app) }
 {
     Command::new(alloc, "rr")
         .bin_name("rr")?
@@ -61,4 +117,11 @@ pub(crate) fn program<'a>(alloc: Global) -> Result<Command<'a>, AllocError>
         .no_binary_name(true)
         .subcommand(sim(alloc)?)?
         .subcommand(check_lines(alloc)?)
+}
+
+/// The program and its subcommands.
+pub(crate) fn program<'a>(alloc: Global) -> Result<Command<'a>, AllocError>
+    ensures { IfOk result (λ c. app_of c ≡ program_app) }
+{
+    stream_commands(alloc)?.subcommand(serve(alloc)?)
 }

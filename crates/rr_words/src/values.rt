@@ -2,10 +2,11 @@
 
 ghost use Rattle.std.specs.Prelude.{◌≡◌, IfOk, option_map, string_bytes};
 ghost use Rattle.clap.specs.Words.{found_of, first_of, rows_of};
-ghost use Rattle.rr_words.specs.Words.{moment_at, precision_at};
+ghost use Rattle.rr_words.specs.Words.{moment_at, origin_in, precision_at};
 
 use clap::ArgMatches;
-use rr_base::text::integer;
+use rr_base::Origin;
+use rr_base::text::{integer, number};
 use rr_line::Precision;
 use std::alloc::{AllocError, Global};
 
@@ -50,4 +51,12 @@ pub(crate) fn moment_of(text: Option<&str>) -> Option<i64>
         None => Some(0),
         Some(text) => integer(text.as_bytes()),
     }
+}
+
+/// The origin that a text writes in digits, if it writes one.
+pub(crate) fn origin_of(text: Option<&str>) -> Option<Origin>
+    ensures { result ≡ origin_in (option_map (λ s. s.now) text.entry) }
+{
+    let number = u16::try_from(number(text?.as_bytes())?).ok()?;
+    Origin::new(number).ok()
 }

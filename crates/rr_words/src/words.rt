@@ -2,12 +2,12 @@
 
 ghost use Rattle.std.specs.Prelude.{◌≡◌, ◌≢◌, Some, None, IfOk, IfErr, MatchResult, map};
 ghost use Rattle.clap.specs.Words.{found_of, kind_of, rows_of, subcommand_rows_of};
-ghost use Rattle.rr_words.specs.Words.{asked_at, asked_by, asked_of, lines_asked};
+ghost use Rattle.rr_words.specs.Words.{asked_at, asked_by, asked_of, lines_asked, serve_asked};
 
 use crate::fault::WordsFault;
 use crate::order::Order;
 use crate::program::program;
-use crate::values::{moment_of, owned, precision_of, value_of};
+use crate::values::{moment_of, origin_of, owned, precision_of, value_of};
 use clap::error::ErrorKind;
 use clap::{ArgMatches, Command, Error};
 use std::alloc::Global;
@@ -15,6 +15,10 @@ use std::alloc::Global;
 const BAD_PRECISION: &str = "invalid value for '--precision <P>': it must be ns, us, ms or s";
 
 const BAD_NOW: &str = "invalid value for '--now <T>': it must be an integer of 64 bits";
+
+const BAD_ORIGIN: &str = "invalid value for '--origin <N>': it must be from 1 to 65,535";
+
+const NO_CONFIG: &str = "the configuration was not provided";
 
 const NOT_TEXT: &str = "invalid UTF-8 was detected in one or more arguments";
 
@@ -60,6 +64,30 @@ fn lines_order(
     Ok(Order::CheckLines { precision, now })
 }
 
+/// What the matches of `serve` ask for.
+fn serve_order(
+    alloc: Global,
+    command: &mut Command<'_>,
+    matches: &ArgMatches<'_>,
+) -> Result<Order, WordsFault>
+    ensures { MatchResult result
+        (λ order. serve_asked (rows_of (found_of matches.now)) ≡ Some (asked_by order))
+        (λ fault. fault ≢ WordsFault.Memory → serve_asked (rows_of (found_of matches.now)) ≡ None) }
+{
+    let Some(config) = value_of(matches, "CONFIG") else {
+        return Err(value_fault(alloc, command, NO_CONFIG));
+    };
+    let Some(origin) = origin_of(value_of(matches, "origin")) else {
+        return Err(value_fault(alloc, command, BAD_ORIGIN));
+    };
+    Ok(Order::Serve {
+        config: String::from_str(alloc, config)?,
+        origin,
+        load: owned(alloc, value_of(matches, "load"))?,
+        save: owned(alloc, value_of(matches, "save"))?,
+    })
+}
+
 /// What a command line asks for, by its matches.
 fn order_of(
     alloc: Global,
@@ -79,6 +107,7 @@ fn order_of(
             Ok(Order::Sim { file })
         }
         "check-lines" => lines_order(alloc, command, inner),
+        "serve" => serve_order(alloc, command, inner),
         _ => Err(value_fault(alloc, command, UNKNOWN_COMMAND)),
     }
 }

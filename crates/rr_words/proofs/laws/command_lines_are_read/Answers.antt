@@ -65,3 +65,27 @@ returns-clause-other_word c = refl
 pub returns-clause-help : goal.returns-clause-help
 unfolding clap_on_literals
 returns-clause-help c = refl
+
+pub returns-clause-serve : goal.returns-clause-serve
+unfolding clap_on_literals
+returns-clause-serve c = refl
+
+pub returns-clause-serve_from_a_snapshot : goal.returns-clause-serve_from_a_snapshot
+unfolding clap_on_literals
+returns-clause-serve_from_a_snapshot c = refl
+
+pub returns-clause-no_origin : goal.returns-clause-no_origin
+unfolding clap_on_literals
+returns-clause-no_origin c = refl
+
+pub returns-clause-origin_0 : goal.returns-clause-origin_0
+unfolding clap_on_literals
+returns-clause-origin_0 c = refl
+
+pub returns-clause-past_origins : goal.returns-clause-past_origins
+unfolding clap_on_literals
+returns-clause-past_origins c = refl
+
+pub returns-clause-no_configuration : goal.returns-clause-no_configuration
+unfolding clap_on_literals
+returns-clause-no_configuration c = refl

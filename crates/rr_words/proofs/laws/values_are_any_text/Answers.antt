@@ -21,3 +21,7 @@ returns-clause-both c = λ p t. refl
 pub returns-clause-both_the_other_way : goal.returns-clause-both_the_other_way
 unfolding clap_on_literals
 returns-clause-both_the_other_way c = λ p t. refl
+
+pub returns-clause-serve : goal.returns-clause-serve
+unfolding clap_on_literals
+returns-clause-serve c = λ n l s. refl

@@ -1,0 +1,74 @@
+//! What a node begins with.
+
+use rr_base::{Counted, Origin, Schema};
+use rr_node::{Config, ConfigFault};
+use rr_orders::Ending;
+use rr_replica::Replica;
+use rr_report::ToolFault;
+use rr_ring::RingArchive;
+use rr_snapshot::{LoadFault, load};
+use std::fs;
+use std::io::BufReader;
+use std::rt::Files;
+
+/// A file that can't be read is named on standard error.
+fn unread(rt: &impl Eprint, file: &str, error: &std::io::Error) -> Ending {
+    // Where this can't be printed, the status still says that reading failed.
+    let _printed = eprintln!(rt; "rr: {file}: {error}");
+    Ending::Failed(ToolFault::ReadFailed)
+}
+
+/// The configuration in a file.
+pub(crate) fn read_config(
+    rt: &(impl AllocGlobal + Files + Eprint),
+    file: &str,
+) -> Result<Config, Ending> {
+    let text = match fs::read(rt, file) {
+        Ok(text) => text,
+        Err(error) => return Err(unread(rt, file, &error)),
+    };
+    match Config::from_toml(rt.alloc(), &text) {
+        Ok(config) => Ok(config),
+        Err(ConfigFault::Memory) => Err(Ending::Failed(ToolFault::Memory)),
+        Err(fault) => Err(Ending::ConfigRefused(fault.name())),
+    }
+}
+
+/// The replica that a snapshot in a file is loaded as.
+fn load_replica(
+    rt: &(impl AllocGlobal + Files + Eprint),
+    file: &str,
+    schema: &Schema,
+    origin: Origin,
+) -> Result<Replica<RingArchive>, Ending> {
+    let alloc = rt.alloc();
+    let input = match fs::open(rt, file) {
+        Ok(input) => input,
+        Err(error) => return Err(unread(rt, file, &error)),
+    };
+    let Ok(input) = BufReader::new(alloc, input) else {
+        return Err(Ending::Failed(ToolFault::Memory));
+    };
+    match load(alloc, &mut Counted::new(input), schema, origin) {
+        Ok(replica) => Ok(replica),
+        Err(LoadFault::ReadFailed) => Err(Ending::Failed(ToolFault::ReadFailed)),
+        Err(LoadFault::Memory) => Err(Ending::Failed(ToolFault::Memory)),
+        Err(fault) => Err(Ending::LoadRefused(fault.name())),
+    }
+}
+
+/// The replica that a node begins with: that of a snapshot, or an empty one.
+pub(crate) fn first_replica(
+    rt: &(impl AllocGlobal + Files + Eprint),
+    schema: &Schema,
+    origin: Origin,
+    file: Option<&str>,
+) -> Result<Replica<RingArchive>, Ending> {
+    match file {
+        Some(file) => load_replica(rt, file, schema, origin),
+        None => match Replica::new(rt.alloc(), schema, origin) {
+            Ok(replica) => Ok(replica),
+            Err(_) => Err(Ending::Failed(ToolFault::Memory)),
+        },
+    }
+}
