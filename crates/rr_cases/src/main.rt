@@ -19,6 +19,7 @@ mod kind;
 mod lines;
 mod pages;
 mod replicas;
+mod sessions;
 
 use anyhow::Result;
 use std::process::ExitCode;

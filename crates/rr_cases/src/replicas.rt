@@ -10,12 +10,14 @@
 //! | `apply-cell ARCHIVE ORIGIN NUMBER SLOT TIME VALUE` | the same of a cell of one sample at a time, whatever its slot |
 //! | `next` | the number of the next sample |
 //! | `cells` | a line for each cell: key, archive, slot, origin, version, count, last value |
+//! | `pull`, `give`, `give-after` and words | what a session over streams wrote and left, and how it ended ([`crate::sessions`]) |
 //! | `copy CALL` | what the call of a copy answers, and then a line for each cell of the copy |
 
 ghost use Rattle.std.specs.Prelude.{IfOk};
 ghost use Rattle.rr_replica.specs.CellBounds.{IsCellOf};
 ghost use Rattle.rr_replica.specs.Listing.{owned_cell};
 
+use crate::sessions;
 use anyhow::{Context, Result, bail};
 use rr_archive::Archive;
 use rr_base::limits::MAX_NUMBER;
@@ -93,6 +95,9 @@ fn push_call<A: Archive>(
         "join" => join(alloc, replica, words, output),
         "apply" => apply_sample(alloc, replica, words, output),
         "apply-cell" => apply_cell(alloc, replica, words, output),
+        "pull" => sessions::pull_call(alloc, replica, words, output),
+        "give" => sessions::give_call(alloc, replica, words, output),
+        "give-after" => sessions::give_after_call(alloc, replica, words, output),
         "next" => Ok(write!(output, "{}\n", replica.next_number())?),
         "cells" => Ok(push_cells(replica, output)?),
         _ => bail!("an unknown call"),

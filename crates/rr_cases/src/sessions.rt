@@ -1,0 +1,155 @@
+//! Sessions of a replica over streams, as calls of it ([`crate::replicas`]).
+//!
+//! The words of a call are how many bytes a read gives, how many reads there are before one fails, how
+//! many frames the session may have, each `-` where it is without a limit, and the input in
+//! hexadecimal.
+
+use anyhow::{Context, Result};
+use rr_archive::Archive;
+use rr_base::Counted;
+use rr_gossip::{GossipFault, give, give_after, give_after_within, give_within, pull, pull_within};
+use rr_replica::Replica;
+use std::alloc::{AllocError, Global};
+use std::io;
+use std::io::{ErrorKind, Read};
+
+/// A reader that gives at most `size` bytes at each of `reads` calls, and fails at each later one.
+#[derive(Drop)]
+struct Input<'a> {
+    rest: &'a [u8],
+    size: usize,
+    reads: u64,
+}
+
+impl Read for Input<'_> {
+    fn read(&mut self, buf: &mut [u8]) -> io::Result<usize> {
+        if self.reads == 0 {
+            return Err(io::Error::from(ErrorKind::ConnectionReset));
+        }
+        self.reads -= 1;
+        let mut rest = self.rest;
+        let piece = buf.len().min(self.size);
+        let given = rest.read(&mut buf[..piece])?;
+        self.rest = rest;
+        Ok(given)
+    }
+}
+
+/// The words of a call.
+#[derive(Drop)]
+struct Words {
+    size: Option<u16>,
+    reads: Option<u16>,
+    frames: Option<u16>,
+    bytes: Vec<u8>,
+}
+
+impl Words {
+    fn of(alloc: Global, words: &str) -> Result<Words> {
+        let mut words = words.split(' ');
+        Ok(Words {
+            size: limit(words.next())?,
+            reads: limit(words.next())?,
+            frames: limit(words.next())?,
+            bytes: hex::decode(alloc, words.next().context("a call without bytes")?)?,
+        })
+    }
+
+    /// The input after its first `from` bytes.
+    fn input(&self, from: usize) -> Result<Counted<Input<'_>>> {
+        Ok(Counted::new(Input {
+            rest: self.bytes.get(from..).context("no first byte")?,
+            size: self.size.map_or(usize::MAX, usize::from),
+            reads: self.reads.map_or(u64::MAX, u64::from),
+        }))
+    }
+}
+
+/// A limit, or that there is none.
+fn limit(word: Option<&str>) -> Result<Option<u16>> {
+    match word.context("a call without a limit")? {
+        "-" => Ok(None),
+        number => Ok(Some(number.parse::<u16>()?)),
+    }
+}
+
+/// Pulls from the input.
+pub(crate) fn pull_call<A: Archive>(
+    alloc: Global,
+    replica: &mut Replica<A>,
+    words: &str,
+    answer: &mut String,
+) -> Result<()> {
+    let words = Words::of(alloc, words)?;
+    let frames = words.frames;
+    let mut input = words.input(0)?;
+    let mut output = Counted::new(Vec::new(alloc));
+    let ended = match frames {
+        None => pull(alloc, &mut input, &mut output, replica),
+        Some(frames) => { pull_within(alloc, &mut input, &mut output, replica, u32::from(frames)) }
+    };
+    push_ending(alloc, answer, &output.into_inner(), input, ended)
+}
+
+/// Gives what the input asks for.
+pub(crate) fn give_call<A: Archive>(
+    alloc: Global,
+    replica: &mut Replica<A>,
+    words: &str,
+    answer: &mut String,
+) -> Result<()> {
+    let words = Words::of(alloc, words)?;
+    let frames = words.frames;
+    let mut input = words.input(0)?;
+    let mut output = Counted::new(Vec::new(alloc));
+    let ended = match frames {
+        None => give(alloc, &mut input, &mut output, replica),
+        Some(frames) => { give_within(alloc, &mut input, &mut output, replica, u32::from(frames)) }
+    };
+    push_ending(alloc, answer, &output.into_inner(), input, ended)
+}
+
+/// Gives what the input asks for, whose first byte is handed over apart from it.
+pub(crate) fn give_after_call<A: Archive>(
+    alloc: Global,
+    replica: &mut Replica<A>,
+    words: &str,
+    answer: &mut String,
+) -> Result<()> {
+    let words = Words::of(alloc, words)?;
+    let frames = words.frames;
+    let first = *words.bytes.first().context("no first byte")?;
+    let mut input = words.input(1)?;
+    let mut output = Counted::new(Vec::new(alloc));
+    let ended = match frames {
+        None => give_after(alloc, first, &mut input, &mut output, replica),
+        Some(frames) => {
+            let frames = u32::from(frames);
+            give_after_within(alloc, first, &mut input, &mut output, replica, frames)
+        }
+    };
+    push_ending(alloc, answer, &output.into_inner(), input, ended)
+}
+
+/// What was written, how many bytes of the input were left, how many calls of it failed, and how the
+/// session ended.
+fn push_ending(
+    alloc: Global,
+    answer: &mut String,
+    written: &[u8],
+    input: Counted<Input<'_>>,
+    ended: Result<(), GossipFault>,
+) -> Result<()> {
+    let failures = input.failures();
+    let left = input.into_inner().rest.len();
+    let written = hex::encode(alloc, written)?;
+    let ending = match &ended {
+        Ok(()) => "done",
+        Err(fault) => fault.name(),
+    };
+    let written = written.as_str();
+    Ok(write!(
+        answer,
+        "[{written}] {left} left, {failures} failed: {ending}\n"
+    )?)
+}
