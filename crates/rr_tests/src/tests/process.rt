@@ -1,12 +1,23 @@
 //! The program as a process: its words and streams, and how it ends.
 
 use crate::tests::fake_process::Process;
-use rr_orders::run;
+use rr_orders::{Ending, obey, read_order};
 use std::fs;
 use std::test::Fail;
 
 const SCRIPT: &[u8] =
     b"schema 60 1:3:0/1\nnode a 1\nwrite a m v=7i 60000000000\nfetch a AVERAGE 60 60 120 m v\n";
+
+/// Obeys the order of a process's words, and says how that ended.
+fn run(process: &Process<'_>) -> Ending {
+    match read_order(process) {
+        Ok(order) => match obey(process, &order) {
+            Ok(ending) => ending,
+            Err(fault) => Ending::Failed(fault),
+        },
+        Err(fault) => Ending::from(fault),
+    }
+}
 
 /// What a process printed, what it printed on standard error, and the status it ended with.
 fn ended(host: HostRuntime, words: &[&[u8]], input: &[u8]) -> Result<(Vec<u8>, Vec<u8>, u8), Fail> {

@@ -1,26 +1,17 @@
 //! Pulls over streams, and the answers to them.
 
-use crate::tests::failing::{failing_after, failing_first, in_pieces};
-use crate::tests::sessions::{REPLY, SENT, one_sample, replica};
+use crate::tests::failing::failing_first;
+use crate::tests::sessions::{SENT, one_sample};
 use rr_archive::PlainArchive;
 use rr_base::{ArchiveSpec, Counted, Origin, Schema};
 use rr_delta::Name;
-use rr_gossip::{
-    GossipFault, Target, give, give_after, give_after_within, give_within, pull, pull_within,
-};
+use rr_gossip::{GossipFault, Target, give, pull};
 use rr_key::SeriesKey;
 use rr_replica::{Cell, Replica};
 use std::alloc::{AllocError, Global};
 use std::cell;
 use std::io::{ErrorKind, Read};
 use std::test::Fail;
-
-/// Bytes, and one more behind them.
-fn and_one_more(alloc: Global, bytes: &[u8]) -> Result<Vec<u8>, Fail> {
-    let mut all = Vec::from_slice(alloc, bytes)?;
-    all.push(0xff)?;
-    Ok(all)
-}
 
 /// What a target writes that pulls from an input.
 fn pulled<R: Read>(
@@ -42,174 +33,6 @@ fn given<R: Read>(
     let mut output = Counted::new(Vec::new(alloc));
     give(alloc, input, &mut output, source)?;
     Ok(output.into_inner())
-}
-
-/// Whether a replica holds the sample of the page.
-fn is_joined(alloc: Global, target: &Replica<PlainArchive>) -> Result<bool, Fail> {
-    let key = SeriesKey::parse_text(alloc, b"m v")?;
-    let row = target.row(&key, 0, 1);
-    Ok(matches!(row, [cell] if cell.contribution.last_value == 7))
-}
-
-#[test]
-fn a_pull_leaves_what_is_behind_it(rt: HostRuntime) -> Result<(), Fail> {
-    let bytes = and_one_more(rt.alloc(), &REPLY)?;
-    let mut input = Counted::new(bytes.as_slice());
-    let mut target = replica(rt.alloc(), 2)?;
-    let written = pulled(rt.alloc(), &mut input, &mut target)?;
-    let is_sent = written.as_slice() == SENT.as_slice();
-    let is_left = input.into_inner() == [0xff].as_slice();
-    let is_joined = is_joined(rt.alloc(), &target)?;
-    assert!(rt; is_sent && is_left && is_joined);
-    Ok(())
-}
-
-#[test]
-fn an_answer_leaves_what_is_behind_the_names(rt: HostRuntime) -> Result<(), Fail> {
-    let bytes = and_one_more(rt.alloc(), &SENT)?;
-    let mut input = Counted::new(bytes.as_slice());
-    let mut source = one_sample(rt.alloc())?;
-    let written = given(rt.alloc(), &mut input, &mut source)?;
-    let is_answer = written.as_slice() == REPLY.as_slice();
-    let is_left = input.into_inner() == [0xff].as_slice();
-    assert!(rt; is_answer && is_left);
-    Ok(())
-}
-
-#[test]
-fn the_first_byte_may_be_read_before(rt: HostRuntime) -> Result<(), Fail> {
-    let mut source = one_sample(rt.alloc())?;
-    let mut input = Counted::new(&SENT[1..]);
-    let mut output = Counted::new(Vec::new(rt.alloc()));
-    give_after(rt.alloc(), SENT[0], &mut input, &mut output, &mut source)?;
-    let is_answer = output.into_inner().as_slice() == REPLY.as_slice();
-    let mut input = Counted::new(&SENT[1..]);
-    let mut output = Counted::new(Vec::new(rt.alloc()));
-    give_after_within(rt.alloc(), SENT[0], &mut input, &mut output, &mut source, 2)?;
-    let is_same = output.into_inner().as_slice() == REPLY.as_slice();
-    assert!(rt; is_answer && is_same);
-    Ok(())
-}
-
-#[test]
-fn a_session_is_read_in_pieces(rt: HostRuntime) -> Result<(), Fail> {
-    let mut source = one_sample(rt.alloc())?;
-    let mut are_same = true;
-    for size in [1, 2, 7] {
-        let mut target = replica(rt.alloc(), 2)?;
-        let sent = pulled(rt.alloc(), &mut in_pieces(&REPLY, size), &mut target)?;
-        let reply = given(rt.alloc(), &mut in_pieces(&SENT, size), &mut source)?;
-        are_same &= sent.as_slice() == SENT.as_slice()
-            && reply.as_slice() == REPLY.as_slice()
-            && is_joined(rt.alloc(), &target)?;
-    }
-    assert!(rt; are_same);
-    Ok(())
-}
-
-/// Frames that a giver refuses, and why.
-const REFUSED: [(&[u8], GossipFault); 10] = [
-    (&[0xff, 0xff, 0xff, 0xff, 1], GossipFault::FrameTooLong),
-    (&[0, 0x04, 0x93, 0xe1, 1], GossipFault::FrameTooLong),
-    (&[0, 0, 0, 0], GossipFault::BadFrame),
-    (&[0, 0, 0, 1, 6], GossipFault::BadFrame),
-    (&[0, 0, 0, 1, 4], GossipFault::UnexpectedFrame),
-    // A frame that is cut short is no frame of any kind.
-    (&[0, 0, 0, 2, 6], GossipFault::Ended),
-    // Another step.
-    (
-        &[
-            0, 0, 0, 0x0f, 1, 0, 0, 0, 0x3d, 1, 1, 0, 0, 0, 3, 0, 0, 0, 1,
-        ],
-        GossipFault::SchemaDiffers,
-    ),
-    // No entry.
-    (
-        &[
-            0, 0, 0, 0x0f, 1, 0, 0, 0, 0x3c, 1, 1, 0, 0, 0, 3, 0, 0, 0, 1, 0, 0, 0, 3, 2, 0, 0,
-        ],
-        GossipFault::BadFrame,
-    ),
-    // One entry twice.
-    (
-        &[
-            0, 0, 0, 0x0f, 1, 0, 0, 0, 0x3c, 1, 1, 0, 0, 0, 3, 0, 0, 0, 1, 0, 0, 0, 0x33, 2, 0, 2,
-            0, 3, 0x6d, 0x20, 0x76, 0, 0, 0, 0, 0, 0, 0, 0, 1, 0, 1, 0, 0, 0, 0, 0, 0, 0, 1, 0, 3,
-            0x6d, 0x20, 0x76, 0, 0, 0, 0, 0, 0, 0, 0, 1, 0, 1, 0, 0, 0, 0, 0, 0, 0, 1,
-        ],
-        GossipFault::BadFrame,
-    ),
-    // A Hello, and the end of the input.
-    (
-        &[
-            0, 0, 0, 0x0f, 1, 0, 0, 0, 0x3c, 1, 1, 0, 0, 0, 3, 0, 0, 0, 1,
-        ],
-        GossipFault::Ended,
-    ),
-];
-
-#[test]
-fn frames_are_refused_by_name(rt: HostRuntime) -> Result<(), Fail> {
-    let mut source = one_sample(rt.alloc())?;
-    let mut are_refused = true;
-    for (bytes, want) in REFUSED {
-        let mut output = Counted::new(Vec::new(rt.alloc()));
-        let fault = give(
-            rt.alloc(),
-            &mut Counted::new(bytes),
-            &mut output,
-            &mut source,
-        )
-        .err();
-        are_refused &= fault == Some(want) && output.into_inner().is_empty();
-    }
-    assert!(rt; are_refused);
-    Ok(())
-}
-
-#[test]
-fn nothing_is_read_after_a_length_that_is_too_great(rt: HostRuntime) -> Result<(), Fail> {
-    let mut input = Counted::new([0xff, 0xff, 0xff, 0xff, 4].as_slice());
-    let mut target = replica(rt.alloc(), 2)?;
-    let mut output = Counted::new(Vec::new(rt.alloc()));
-    let fault = pull(rt.alloc(), &mut input, &mut output, &mut target).err();
-    let left = input.into_inner().len();
-    assert_eq!(rt; (fault, left), (Some(GossipFault::FrameTooLong), 1));
-    Ok(())
-}
-
-#[test]
-fn a_session_over_streams_has_so_many_frames(rt: HostRuntime) -> Result<(), Fail> {
-    let mut target = replica(rt.alloc(), 2)?;
-    // The page twice, and then the end.
-    let mut input = Counted::new((&REPLY[..114]).chain(REPLY.as_slice()));
-    let mut output = Counted::new(Vec::new(rt.alloc()));
-    let third = pull_within(rt.alloc(), &mut input, &mut output, &mut target, 2).err();
-    let is_joined = is_joined(rt.alloc(), &target)?;
-    assert_eq!(rt;
-        (third, is_joined),
-        (Some(GossipFault::TooManyFrames), true)
-    );
-    let mut input = Counted::new(SENT.as_slice());
-    let mut output = Counted::new(Vec::new(rt.alloc()));
-    let second = give_within(rt.alloc(), &mut input, &mut output, &mut target, 1).err();
-    assert_eq!(rt; second, Some(GossipFault::TooManyFrames));
-    Ok(())
-}
-
-#[test]
-fn pages_before_a_failed_read_are_joined(rt: HostRuntime) -> Result<(), Fail> {
-    let mut target = replica(rt.alloc(), 2)?;
-    // A length and a page, and then a failure.
-    let mut input = failing_after(&REPLY, 200, 2);
-    let mut output = Counted::new(Vec::new(rt.alloc()));
-    let fault = pull(rt.alloc(), &mut input, &mut output, &mut target).err();
-    let is_joined = is_joined(rt.alloc(), &target)?;
-    assert_eq!(rt;
-        (fault, input.failures(), is_joined),
-        (Some(GossipFault::ReadFailed), 1, true)
-    );
-    Ok(())
 }
 
 #[test]
@@ -293,6 +116,12 @@ impl Target for Watched {
     ghost layout = { λ w. w.replica.schema };
 
     ghost cells = { λ w. w.replica.cells };
+
+    ghost may_become = { λ w x. Unit {0} };
+
+    ghost may_stay = { λ w. tt };
+
+    ghost may_go_on = { λ w x y p q. tt };
 
     fn schema(&self) -> &Schema {
         self.replica.schema()

@@ -14,6 +14,9 @@ fn asked(alloc: Global, words: &str) -> Result<String, AllocError> {
         Ok(Order::Sim { file: None }) => String::from_str(alloc, "sim"),
         Ok(Order::Sim { file: Some(file) }) => format!(in alloc; "sim of {}", file.as_str()),
         Ok(Order::CheckLines { precision, now }) => format!(in alloc; "{precision:?} {now}"),
+        Ok(Order::Serve { config, origin, .. }) => {
+            format!(in alloc; "serve {} as {}", config.as_str(), origin.get())
+        }
         Err(WordsFault::Refused(text)) => Ok(text),
         Err(WordsFault::Memory) => Err(AllocError),
     }
@@ -47,6 +50,7 @@ fn scripts_come_from_a_file_or_not(rt: HostRuntime) -> Result<(), Fail> {
         ("sim", "sim"),
         ("sim f", "sim of f"),
         ("sim -- -f", "sim of -f"),
+        ("serve c --origin 7", "serve c as 7"),
     ] {
         assert_eq!(rt; asked(rt.alloc(), words)?.as_str(), want);
     }
@@ -58,6 +62,7 @@ fn other_values_are_refused(rt: HostRuntime) -> Result<(), Fail> {
     for (words, part) in [
         ("check-lines --now -5", "error: unexpected argument '-5'"),
         ("check-lines --now=+5", "'--now <T>'"),
+        ("serve c --origin 0", "'--origin <N>'"),
         ("check-lines --now=", "'--now <T>'"),
         ("check-lines --now=9223372036854775808", "'--now <T>'"),
         ("check-lines --now", "'--now <T>'"),
@@ -77,7 +82,10 @@ fn other_words_are_refused(rt: HostRuntime) -> Result<(), Fail> {
         ("check-lines f", "error: unexpected argument 'f'"),
         ("sim f g", "error: unexpected argument 'g'"),
         ("sim --now=1", "error: unexpected argument '--now'"),
-        ("serve c", "error: unrecognized subcommand 'serve'"),
+        (
+            "serve c",
+            "required arguments were not provided:\n  --origin <N>",
+        ),
         ("frob", "error: unrecognized subcommand 'frob'"),
         ("--frob", "error: unexpected argument '--frob'"),
         ("--help", "Usage: rr [COMMAND]"),

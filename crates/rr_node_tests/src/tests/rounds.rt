@@ -1,0 +1,193 @@
+//! Rounds of a keeper over memory.
+
+use super::pulls::{REPLY, SENT};
+use super::replica;
+use rr_archive::PlainArchive;
+use rr_base::{Counted, Origin};
+use rr_desk::{Keeper, open};
+use rr_node::{
+    Config, Dial, Moments, NodeFault, Opening, Prepared, Seats, Shelf, keep_round, serve_node,
+};
+use rr_replica::Replica;
+use rr_snapshot::{SaveFault, load};
+use std::alloc::Global;
+use std::sync::Wait;
+use std::test::Fail;
+use std::thread::Threads;
+
+/// The configuration of a node of three rows a minute, which keeps one round and has two peers.
+const CONFIG: &[u8] =
+    b"step = 60\nlines = \"l\"\nfetch = [\"f\"]\npeers = [\"no\", \"yes\"]\nrounds = 1\n\
+    [[archive]]\nsteps = 1\nrows = 3\nxff_num = 0\nxff_den = 1\n";
+
+/// A dial that reaches the peer at `yes`, and keeps what was sent to it.
+#[derive(Drop)]
+struct Peers {
+    alloc: Global,
+    sent: Option<Vec<u8>>,
+}
+
+impl Dial for Peers {
+    ghost use Rattle.std.specs.Prelude.{[], ◌∷◌, None};
+    ghost use Rattle.rr_node.specs.Calls.{Grows, handed_back, stream};
+
+    type Input = &'static [u8];
+
+    type Output = Vec<u8>;
+
+    ghost calls = { λ d. None };
+
+    fn open(&mut self, address: &str) -> Option<(Counted<&'static [u8]>, Counted<Vec<u8>>)> {
+        if address != "yes" {
+            return None;
+        }
+        let input = Counted::new(REPLY.as_slice());
+        Some((input, Counted::new(Vec::new(self.alloc))))
+    }
+
+    fn take_back(&mut self, _input: Counted<&'static [u8]>, output: Counted<Vec<u8>>)
+        ensures { Grows None None (handed_back (stream None None) ∷ []) }
+    {
+        self.sent = Some(output.into_inner());
+    }
+}
+
+/// A shelf that keeps the last snapshot, and counts what it was told.
+#[derive(Drop)]
+struct Saves {
+    alloc: Global,
+    saved: Option<Vec<u8>>,
+    /// The number of the peer that failed last, and its fault.
+    failed: Option<(usize, NodeFault)>,
+}
+
+impl Shelf for Saves {
+    ghost use Rattle.std.specs.Prelude.{[], ◌∷◌, None};
+    ghost use Rattle.rr_node.specs.Calls.{Grows, put_back};
+
+    type Output = Vec<u8>;
+
+    ghost calls = { λ s. None };
+
+    fn open(&mut self) -> Opening<Vec<u8>> {
+        Opening::Writer(Counted::new(Vec::new(self.alloc)))
+    }
+
+    fn take_back(&mut self, output: Counted<Vec<u8>>, whole: bool)
+        ensures { Grows None None (put_back None whole ∷ []) }
+    {
+        self.saved = if whole {
+            Some(output.into_inner())
+        } else {
+            None
+        };
+    }
+
+    fn peer_failed(&mut self, number: usize, fault: NodeFault) {
+        self.failed = Some((number, fault));
+    }
+
+    fn save_failed(&mut self, _fault: SaveFault) {}
+}
+
+/// No seats.
+#[derive(Drop)]
+struct NoSeats;
+
+impl Seats for NoSeats {
+    fn serve<T: Threads + Sync>(&mut self, _rt: &T, _alloc: Global, _visits: u64) -> bool {
+        true
+    }
+}
+
+/// How many cells a snapshot is loaded as, and how many of them are the peer's sample.
+fn loaded(alloc: Global, config: &Config, bytes: &[u8]) -> Option<(usize, usize)> {
+    let origin = Origin::new(9).ok()?;
+    let mut input = Counted::new(bytes);
+    let replica: Replica<PlainArchive> = load(alloc, &mut input, &config.schema, origin).ok()?;
+    let mut right = 0usize;
+    for i in 0..replica.cell_count() {
+        let Some(cell) = replica.cell_at(i) else {
+            return None;
+        };
+        if cell.origin.get() == 1 && cell.contribution.last_value == 7 {
+            right = right.saturating_add(1);
+        }
+    }
+    Some((replica.cell_count(), right))
+}
+
+/// What a round did: whether it says that a connection came, whether the right frames were sent to the
+/// peer, which peer failed, and what was saved.
+type Done = (
+    Option<bool>,
+    bool,
+    Option<(usize, NodeFault)>,
+    Option<(usize, usize)>,
+);
+
+/// Keeps one round to which an empty connection comes, alone or as a node.
+fn kept<R: Wait + Threads + Sync>(
+    rt: &R,
+    alloc: Global,
+    keeper: &mut Keeper<PlainArchive>,
+    config: &Config,
+    alone: bool,
+) -> Option<Done> {
+    let inputs = [Some(b"".as_slice())];
+    let mut lines = Prepared::new(alloc, &inputs).ok()?;
+    let mut dial = Peers { alloc, sent: None };
+    let mut shelf = Saves {
+        alloc,
+        saved: None,
+        failed: None,
+    };
+    let mut clock = Moments::new(Vec::new(alloc));
+    let came = if alone {
+        keep_round(
+            alloc, keeper, &mut lines, &mut dial, &mut shelf, &mut clock, config, rt,
+        )
+        .ok()
+    } else {
+        let mut seats = NoSeats;
+        let served = serve_node(
+            alloc, keeper, &mut lines, &mut dial, &mut shelf, &mut seats, &mut clock, config, rt,
+        );
+        Some(served.is_ok())
+    };
+    let sent = dial.sent?.as_slice() == SENT.as_slice();
+    let saved = loaded(alloc, config, &shelf.saved?);
+    Some((came, sent, shelf.failed, saved))
+}
+
+/// What a round does whose first peer can't be reached and whose second has one sample.
+const DONE: Done = (
+    Some(true),
+    true,
+    Some((1, NodeFault::BadAddress)),
+    Some((1, 1)),
+);
+
+#[test]
+fn a_round_pulls_from_each_peer_and_saves(rt: HostRuntime) -> Result<(), Fail> {
+    let config = Config::from_toml(rt.alloc(), CONFIG)?;
+    let Ok((mut keeper, _readers)) = open(rt.alloc(), &rt, replica(rt.alloc(), 2)?, 1) else {
+        panic!(&rt; "no desk");
+    };
+    let done = kept(&rt, rt.alloc(), &mut keeper, &config, true);
+    keeper.close(&rt);
+    assert!(rt; done == Some(DONE));
+    Ok(())
+}
+
+#[test]
+fn a_node_keeps_its_rounds(rt: HostRuntime) -> Result<(), Fail> {
+    let config = Config::from_toml(rt.alloc(), CONFIG)?;
+    let Ok((mut keeper, _readers)) = open(rt.alloc(), &rt, replica(rt.alloc(), 2)?, 1) else {
+        panic!(&rt; "no desk");
+    };
+    let done = kept(&rt, rt.alloc(), &mut keeper, &config, false);
+    keeper.close(&rt);
+    assert!(rt; done == Some(DONE));
+    Ok(())
+}
