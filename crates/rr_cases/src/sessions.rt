@@ -7,33 +7,10 @@
 use anyhow::{Context, Result};
 use rr_archive::Archive;
 use rr_base::Counted;
+use rr_fakes::pieces::{Pieces, failing_after};
 use rr_gossip::{GossipFault, give, give_after, give_after_within, give_within, pull, pull_within};
 use rr_replica::Replica;
 use std::alloc::{AllocError, Global};
-use std::io;
-use std::io::{ErrorKind, Read};
-
-/// A reader that gives at most `size` bytes at each of `reads` calls, and fails at each later one.
-#[derive(Drop)]
-struct Input<'a> {
-    rest: &'a [u8],
-    size: usize,
-    reads: u64,
-}
-
-impl Read for Input<'_> {
-    fn read(&mut self, buf: &mut [u8]) -> io::Result<usize> {
-        if self.reads == 0 {
-            return Err(io::Error::from(ErrorKind::ConnectionReset));
-        }
-        self.reads -= 1;
-        let mut rest = self.rest;
-        let piece = buf.len().min(self.size);
-        let given = rest.read(&mut buf[..piece])?;
-        self.rest = rest;
-        Ok(given)
-    }
-}
 
 /// The words of a call.
 #[derive(Drop)]
@@ -55,13 +32,15 @@ impl Words {
         })
     }
 
-    /// The input after its first `from` bytes.
-    fn input(&self, from: usize) -> Result<Counted<Input<'_>>> {
-        Ok(Counted::new(Input {
-            rest: self.bytes.get(from..).context("no first byte")?,
-            size: self.size.map_or(usize::MAX, usize::from),
-            reads: self.reads.map_or(u64::MAX, u64::from),
-        }))
+    /// The streams of a call, whose input is the bytes after the first `from`.
+    fn streams(&self, alloc: Global, from: usize) -> Result<Streams<'_>> {
+        let input = failing_after(
+            self.bytes.get(from..).context("no first byte")?,
+            self.size.map_or(usize::MAX, usize::from),
+            self.reads.map_or(u64::MAX, u64::from),
+        );
+        let output = Counted::new(Vec::new(alloc));
+        Ok(Streams { input, output })
     }
 }
 
@@ -73,7 +52,39 @@ fn limit(word: Option<&str>) -> Result<Option<u16>> {
     }
 }
 
-/// Pulls from the input.
+/// What a call reads from and writes to.
+#[derive(Drop)]
+struct Streams<'a> {
+    input: Counted<Pieces<'a>>,
+    output: Counted<Vec<u8>>,
+}
+
+impl Streams<'_> {
+    /// What was written, how many bytes of the input were left, how many calls of it failed, and how
+    /// the session ended.
+    fn push_ending(
+        self,
+        alloc: Global,
+        answer: &mut String,
+        ended: Result<(), GossipFault>,
+    ) -> Result<()> {
+        let Streams { input, output } = self;
+        let failures = input.failures();
+        let left = input.into_inner().left();
+        let written = hex::encode(alloc, &output.into_inner())?;
+        let ending = match &ended {
+            Ok(()) => "done",
+            Err(fault) => fault.name(),
+        };
+        let written = written.as_str();
+        Ok(write!(
+            answer,
+            "[{written}] {left} left, {failures} failed: {ending}\n"
+        )?)
+    }
+}
+
+/// Pulls from an answer.
 pub(crate) fn pull_call<A: Archive>(
     alloc: Global,
     replica: &mut Replica<A>,
@@ -81,14 +92,13 @@ pub(crate) fn pull_call<A: Archive>(
     answer: &mut String,
 ) -> Result<()> {
     let words = Words::of(alloc, words)?;
-    let frames = words.frames;
-    let mut input = words.input(0)?;
-    let mut output = Counted::new(Vec::new(alloc));
-    let ended = match frames {
-        None => pull(alloc, &mut input, &mut output, replica),
-        Some(frames) => { pull_within(alloc, &mut input, &mut output, replica, u32::from(frames)) }
+    let mut streams = words.streams(alloc, 0)?;
+    let Streams { input, output } = &mut streams;
+    let ended = match words.frames {
+        None => pull(alloc, input, output, replica),
+        Some(frames) => pull_within(alloc, input, output, replica, u32::from(frames)),
     };
-    push_ending(alloc, answer, &output.into_inner(), input, ended)
+    streams.push_ending(alloc, answer, ended)
 }
 
 /// Gives what the input asks for.
@@ -99,14 +109,13 @@ pub(crate) fn give_call<A: Archive>(
     answer: &mut String,
 ) -> Result<()> {
     let words = Words::of(alloc, words)?;
-    let frames = words.frames;
-    let mut input = words.input(0)?;
-    let mut output = Counted::new(Vec::new(alloc));
-    let ended = match frames {
-        None => give(alloc, &mut input, &mut output, replica),
-        Some(frames) => { give_within(alloc, &mut input, &mut output, replica, u32::from(frames)) }
+    let mut streams = words.streams(alloc, 0)?;
+    let Streams { input, output } = &mut streams;
+    let ended = match words.frames {
+        None => give(alloc, input, output, replica),
+        Some(frames) => give_within(alloc, input, output, replica, u32::from(frames)),
     };
-    push_ending(alloc, answer, &output.into_inner(), input, ended)
+    streams.push_ending(alloc, answer, ended)
 }
 
 /// Gives what the input asks for, whose first byte is handed over apart from it.
@@ -117,39 +126,14 @@ pub(crate) fn give_after_call<A: Archive>(
     answer: &mut String,
 ) -> Result<()> {
     let words = Words::of(alloc, words)?;
-    let frames = words.frames;
     let first = *words.bytes.first().context("no first byte")?;
-    let mut input = words.input(1)?;
-    let mut output = Counted::new(Vec::new(alloc));
-    let ended = match frames {
-        None => give_after(alloc, first, &mut input, &mut output, replica),
+    let mut streams = words.streams(alloc, 1)?;
+    let Streams { input, output } = &mut streams;
+    let ended = match words.frames {
+        None => give_after(alloc, first, input, output, replica),
         Some(frames) => {
-            let frames = u32::from(frames);
-            give_after_within(alloc, first, &mut input, &mut output, replica, frames)
+            give_after_within(alloc, first, input, output, replica, u32::from(frames))
         }
     };
-    push_ending(alloc, answer, &output.into_inner(), input, ended)
-}
-
-/// What was written, how many bytes of the input were left, how many calls of it failed, and how the
-/// session ended.
-fn push_ending(
-    alloc: Global,
-    answer: &mut String,
-    written: &[u8],
-    input: Counted<Input<'_>>,
-    ended: Result<(), GossipFault>,
-) -> Result<()> {
-    let failures = input.failures();
-    let left = input.into_inner().rest.len();
-    let written = hex::encode(alloc, written)?;
-    let ending = match &ended {
-        Ok(()) => "done",
-        Err(fault) => fault.name(),
-    };
-    let written = written.as_str();
-    Ok(write!(
-        answer,
-        "[{written}] {left} left, {failures} failed: {ending}\n"
-    )?)
+    streams.push_ending(alloc, answer, ended)
 }

@@ -7,23 +7,10 @@ mod threads;
 mod writing;
 
 use rr_archive::Archive;
-use rr_base::{ArchiveSpec, Origin, Schema};
 use rr_desk::Reader;
 use rr_fetch::parse_request;
 use rr_key::SeriesKey;
-use rr_replica::Replica;
 use std::alloc::Global;
-use std::test::Fail;
-
-/// A minute, in nanoseconds.
-const MINUTE: i64 = 60_000_000_000;
-
-/// A replica of origin 1 with three rows of a minute, and 7 at a minute after the epoch.
-fn one_sample<A: Archive>(alloc: Global) -> Result<Replica<A>, Fail> {
-    let mut replica = replica(alloc)?;
-    replica.put(&SeriesKey::parse_text(alloc, b"m v")?, MINUTE, 7)?;
-    Ok(replica)
-}
 
 /// What is asked: the averages of three minutes.
 const AVERAGES: &[u8] = b"AVERAGE 60 0 180 m v";
@@ -33,18 +20,6 @@ const NOTHING: &[u8] = b"m v,0,U\nm v,60,U\nm v,120,U\n";
 
 /// The answer where 7 was put at a minute after the epoch.
 const SEVEN: &[u8] = b"m v,0,U\nm v,60,7\nm v,120,U\n";
-
-/// An empty replica of origin 1 with three rows of a minute.
-fn replica<A: Archive>(alloc: Global) -> Result<Replica<A>, Fail> {
-    let rows = ArchiveSpec {
-        steps: 1,
-        rows: 3,
-        num: 0,
-        den: 1,
-    };
-    let schema = Schema::new(alloc, 60, &[rows])?;
-    Ok(Replica::new(alloc, &schema, Origin::new(1)?)?)
-}
 
 /// The key `m v`.
 fn key(alloc: Global) -> Option<SeriesKey> {

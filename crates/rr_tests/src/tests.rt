@@ -2,7 +2,6 @@ mod archives;
 mod cells;
 mod contributions;
 mod deltas;
-mod failing;
 mod fake_process;
 mod faults;
 mod feeds;

@@ -1,8 +1,9 @@
 //! Opening and closing a desk.
 
-use super::{SEVEN, answers, one_sample};
+use super::{SEVEN, answers};
 use rr_archive::PlainArchive;
 use rr_desk::{FetchFault, OpenFault, open};
+use rr_fakes::replicas::one_sample;
 use rr_ring::RingArchive;
 use std::alloc::Global;
 use std::sync::Wait;
@@ -15,7 +16,7 @@ fn opened_for<R: Wait>(
     rt: &R,
     readers: usize,
 ) -> Result<Result<usize, (OpenFault, usize)>, Fail> {
-    let replica = one_sample::<PlainArchive>(alloc)?;
+    let replica = one_sample::<PlainArchive>(alloc, 1)?;
     Ok(match open(alloc, rt, replica, readers) {
         Ok((keeper, all)) => {
             keeper.close(rt);
@@ -41,7 +42,7 @@ fn a_desk_has_from_1_to_16_readers(rt: HostRuntime) -> Result<(), Fail> {
 
 #[test]
 fn readers_have_seen_what_was_there(rt: HostRuntime) -> Result<(), Fail> {
-    let replica = one_sample::<RingArchive>(rt.alloc())?;
+    let replica = one_sample::<RingArchive>(rt.alloc(), 1)?;
     let Ok((keeper, mut readers)) = open(rt.alloc(), &rt, replica, 1) else {
         panic!(&rt; "no desk");
     };

@@ -1,9 +1,10 @@
 //! What readers see, told or not.
 ghost use Rattle.std.specs.Prelude.{◌≡◌};
 
-use super::{MINUTE, NOTHING, SEVEN, answers, key, replica};
+use super::{NOTHING, SEVEN, answers, key};
 use rr_archive::{Archive, PlainArchive};
 use rr_desk::{Keeper, Note, Reader, open};
+use rr_fakes::replicas::{MINUTE, minutes};
 use rr_key::SeriesKey;
 use rr_ring::RingArchive;
 use std::alloc::Global;
@@ -30,7 +31,7 @@ fn learns<A: Archive>(alloc: Global, reader: &mut Reader<A>, note: Note, text: &
 
 #[test]
 fn readers_see_what_was_published(rt: HostRuntime) -> Result<(), Fail> {
-    let replica = replica::<RingArchive>(rt.alloc())?;
+    let replica = minutes::<RingArchive>(rt.alloc(), 1, 3)?;
     let Ok((mut keeper, mut readers)) = open(rt.alloc(), &rt, replica, 2) else {
         panic!(&rt; "no desk");
     };
@@ -44,7 +45,7 @@ fn readers_see_what_was_published(rt: HostRuntime) -> Result<(), Fail> {
 
 #[test]
 fn readers_see_nothing_that_is_pending(rt: HostRuntime) -> Result<(), Fail> {
-    let replica = replica::<PlainArchive>(rt.alloc())?;
+    let replica = minutes::<PlainArchive>(rt.alloc(), 1, 3)?;
     let key = SeriesKey::parse_text(rt.alloc(), b"m v")?;
     let Ok((mut keeper, mut readers)) = open(rt.alloc(), &rt, replica, 1) else {
         panic!(&rt; "no desk");
@@ -61,7 +62,7 @@ fn readers_see_nothing_that_is_pending(rt: HostRuntime) -> Result<(), Fail> {
 
 #[test]
 fn an_old_note_takes_nothing_back(rt: HostRuntime) -> Result<(), Fail> {
-    let replica = replica::<PlainArchive>(rt.alloc())?;
+    let replica = minutes::<PlainArchive>(rt.alloc(), 1, 3)?;
     let Ok((mut keeper, mut readers)) = open(rt.alloc(), &rt, replica, 1) else {
         panic!(&rt; "no desk");
     };
@@ -76,7 +77,7 @@ fn an_old_note_takes_nothing_back(rt: HostRuntime) -> Result<(), Fail> {
 
 #[test]
 fn after_close_nothing_is_learned(rt: HostRuntime) -> Result<(), Fail> {
-    let replica = replica::<PlainArchive>(rt.alloc())?;
+    let replica = minutes::<PlainArchive>(rt.alloc(), 1, 3)?;
     let Ok((keeper, mut readers)) = open(rt.alloc(), &rt, replica, 1) else {
         panic!(&rt; "no desk");
     };

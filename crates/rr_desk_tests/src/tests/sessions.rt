@@ -1,10 +1,11 @@
 //! A keeper and a reader as the sides of a session, and snapshots of a keeper.
 
-use super::{SEVEN, answers, one_sample, replica};
+use super::{SEVEN, answers};
 use rr_archive::PlainArchive;
 use rr_base::{Counted, Origin};
 use rr_delta::{Source, Target};
 use rr_desk::{Keeper, open};
+use rr_fakes::replicas::{minutes, one_sample};
 use rr_replica::{Cell, Replica};
 use rr_snapshot::load;
 use std::alloc::Global;
@@ -49,8 +50,8 @@ fn saved(alloc: Global, keeper: &Keeper<PlainArchive>) -> Option<usize> {
 
 /// The cells that a reader gives, of a desk with one sample, where the other side has none.
 fn given<R: Wait>(alloc: Global, rt: &R) -> Result<Vec<Cell>, Fail> {
-    let other = replica::<PlainArchive>(alloc)?;
-    let replica = one_sample::<PlainArchive>(alloc)?;
+    let other = minutes::<PlainArchive>(alloc, 1, 3)?;
+    let replica = one_sample::<PlainArchive>(alloc, 1)?;
     let Ok((keeper, mut readers)) = open(alloc, rt, replica, 1) else {
         return Ok(Vec::new(alloc));
     };
@@ -62,7 +63,7 @@ fn given<R: Wait>(alloc: Global, rt: &R) -> Result<Vec<Cell>, Fail> {
 #[test]
 fn a_keeper_takes_what_a_reader_gives(rt: HostRuntime) -> Result<(), Fail> {
     let cells = given(rt.alloc(), &rt)?;
-    let replica = replica::<PlainArchive>(rt.alloc())?;
+    let replica = minutes::<PlainArchive>(rt.alloc(), 1, 3)?;
     let Ok((mut keeper, mut readers)) = open(rt.alloc(), &rt, replica, 1) else {
         panic!(&rt; "no desk");
     };

@@ -1,8 +1,9 @@
 //! Readers on threads of their own.
 
-use super::{MINUTE, NOTHING, answers, fetched, key, replica};
+use super::{NOTHING, answers, fetched, key};
 use rr_archive::PlainArchive;
 use rr_desk::{FetchFault, Gate, GateCall, Keeper, Reader, open};
+use rr_fakes::replicas::{MINUTE, minutes};
 use rr_fetch::parse_request;
 use std::alloc::Global;
 use std::sync::Wait;
@@ -103,7 +104,7 @@ fn passes<G: Gate>(alloc: Global, reader: &mut Reader<PlainArchive>, gate: &mut 
 
 #[test]
 fn a_shut_gate_shuts_one_fetch(rt: HostRuntime) -> Result<(), Fail> {
-    let replica = replica::<PlainArchive>(rt.alloc())?;
+    let replica = minutes::<PlainArchive>(rt.alloc(), 1, 3)?;
     let Ok((keeper, mut readers)) = open(rt.alloc(), &rt, replica, 1) else {
         panic!(&rt; "no desk");
     };
@@ -150,7 +151,7 @@ fn fetch_both<R: Threads + Clock + Sync>(
 
 #[test]
 fn a_reader_answers_while_another_holds_its_copy(rt: HostRuntime) -> Result<(), Fail> {
-    let replica = replica::<PlainArchive>(rt.alloc())?;
+    let replica = minutes::<PlainArchive>(rt.alloc(), 1, 3)?;
     let Ok((keeper, mut readers)) = open(rt.alloc(), &rt, replica, 2) else {
         panic!(&rt; "no desk");
     };
@@ -218,7 +219,7 @@ fn fetch_beside<R: Threads + Wait + Sync>(
 
 #[test]
 fn a_reader_never_goes_back_while_the_keeper_publishes(rt: HostRuntime) -> Result<(), Fail> {
-    let replica = replica::<PlainArchive>(rt.alloc())?;
+    let replica = minutes::<PlainArchive>(rt.alloc(), 1, 3)?;
     let Ok((mut keeper, mut readers)) = open(rt.alloc(), &rt, replica, 1) else {
         panic!(&rt; "no desk");
     };

@@ -2,9 +2,9 @@
 
 ghost use Rattle.rr_line.specs.Line.{HasNoLineFeed};
 
-use super::replica;
 use rr_archive::PlainArchive;
 use rr_desk::{Keeper, open};
+use rr_fakes::replicas::minutes;
 use rr_line::{Line, Precision, parse_line};
 use rr_replica::WriteFault;
 use std::alloc::Global;
@@ -27,7 +27,7 @@ fn written(
 
 #[test]
 fn a_point_is_a_put_for_each_field(rt: HostRuntime) -> Result<(), Fail> {
-    let replica = replica::<PlainArchive>(rt.alloc())?;
+    let replica = minutes::<PlainArchive>(rt.alloc(), 1, 3)?;
     let Ok((mut keeper, _readers)) = open(rt.alloc(), &rt, replica, 1) else {
         panic!(&rt; "no desk");
     };

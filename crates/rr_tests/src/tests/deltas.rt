@@ -1,28 +1,17 @@
 //! Summaries and differences.
 
 use rr_archive::PlainArchive;
-use rr_base::{ArchiveSpec, Origin, Schema};
 use rr_delta::{Name, Source, Target, difference, part, summary};
+use rr_fakes::replicas::{MINUTE, minutes};
 use rr_key::SeriesKey;
 use rr_replica::{Cell, Replica};
 use std::alloc::Global;
 use std::test::Fail;
 
-const MINUTE: i64 = 60_000_000_000;
-
-/// Three rows of one step, all of which must be known.
-const THREE_ROWS: ArchiveSpec = ArchiveSpec {
-    steps: 1,
-    rows: 3,
-    num: 0,
-    den: 1,
-};
-
 /// A replica of origin 1 with three rows of a minute, and a sample of `m v` in each of the slots 0, 1
 /// and 2, under the numbers 1, 2 and 3.
 fn three_cells(alloc: Global) -> Result<Replica<PlainArchive>, Fail> {
-    let schema = Schema::new(alloc, 60, &[THREE_ROWS])?;
-    let mut replica = Replica::new(alloc, &schema, Origin::new(1)?)?;
+    let mut replica = minutes(alloc, 1, 3)?;
     let key = SeriesKey::parse_text(alloc, b"m v")?;
     for time in [0, MINUTE, 2 * MINUTE] {
         replica.put(&key, time, 7)?;

@@ -1,10 +1,11 @@
 //! Pulls over streams, and the answers to them.
 
-use crate::tests::failing::failing_first;
-use crate::tests::sessions::{SENT, one_sample};
+use crate::tests::sessions::SENT;
 use rr_archive::PlainArchive;
-use rr_base::{ArchiveSpec, Counted, Origin, Schema};
+use rr_base::{Counted, Schema};
 use rr_delta::Name;
+use rr_fakes::failing::failing_first;
+use rr_fakes::replicas::{MINUTE, minutes, one_sample};
 use rr_gossip::{GossipFault, Target, give, pull};
 use rr_key::SeriesKey;
 use rr_replica::{Cell, Replica};
@@ -37,7 +38,7 @@ fn given<R: Read>(
 
 #[test]
 fn a_failed_write_ends_an_answer(rt: HostRuntime) -> Result<(), Fail> {
-    let mut source = one_sample(rt.alloc())?;
+    let mut source = one_sample::<PlainArchive>(rt.alloc(), 1)?;
     let mut output = failing_first(1, ErrorKind::BrokenPipe, Vec::new(rt.alloc()));
     let fault = give(
         rt.alloc(),
@@ -53,19 +54,12 @@ fn a_failed_write_ends_an_answer(rt: HostRuntime) -> Result<(), Fail> {
     Ok(())
 }
 
-/// A replica of 600 rows of a minute that holds `minutes` cells of the key `m v`.
-fn minutes(alloc: Global, origin: u16, minutes: u16) -> Result<Replica<PlainArchive>, Fail> {
-    let rows = ArchiveSpec {
-        steps: 1,
-        rows: 600,
-        num: 0,
-        den: 1,
-    };
-    let schema = Schema::new(alloc, 60, &[rows])?;
-    let mut replica = Replica::new(alloc, &schema, Origin::new(origin)?)?;
+/// A replica of 600 rows of a minute that holds `cells` cells of the key `m v`.
+fn filled(alloc: Global, origin: u16, cells: u16) -> Result<Replica<PlainArchive>, Fail> {
+    let mut replica = minutes(alloc, origin, 600)?;
     let key = SeriesKey::parse_text(alloc, b"m v")?;
-    for minute in 0..minutes {
-        replica.put(&key, i64::from(minute) * 60_000_000_000, 7)?;
+    for minute in 0..cells {
+        replica.put(&key, i64::from(minute) * MINUTE, 7)?;
     }
     Ok(replica)
 }
@@ -78,8 +72,8 @@ fn cells_of_page(bytes: &[u8], place: usize) -> Option<(u8, u8)> {
 
 #[test]
 fn a_long_answer_comes_in_pages(rt: HostRuntime) -> Result<(), Fail> {
-    let mut source = minutes(rt.alloc(), 1, 600)?;
-    let mut target = minutes(rt.alloc(), 2, 0)?;
+    let mut source = filled(rt.alloc(), 1, 600)?;
+    let mut target = filled(rt.alloc(), 2, 0)?;
     let mut output = Counted::new(Vec::new(rt.alloc()));
     let ended = pull(
         rt.alloc(),
@@ -152,7 +146,7 @@ impl Target for Watched {
 #[test]
 fn names_are_asked_for_as_they_are_written(rt: HostRuntime) -> Result<(), Fail> {
     let mut target = Watched {
-        replica: minutes(rt.alloc(), 2, 600)?,
+        replica: filled(rt.alloc(), 2, 600)?,
         given: cell::Cell::new(0),
     };
     // Room for the schema's frame alone.

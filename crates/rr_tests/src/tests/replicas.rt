@@ -1,26 +1,13 @@
 //! Replicas: what cases of calls can't show.
 
 use rr_archive::{Archive, PlainArchive};
-use rr_base::{ArchiveSpec, Origin, Schema};
+use rr_base::Origin;
+use rr_fakes::replicas::{MINUTE, minutes};
 use rr_key::SeriesKey;
 use rr_replica::{Op, Replica, Sample};
 use rr_ring::RingArchive;
 use std::alloc::Global;
 use std::test::Fail;
-
-const MINUTE: i64 = 60_000_000_000;
-
-/// An empty replica of origin 1 with one archive of ten rows of a minute.
-fn replica<A: Archive>(alloc: Global) -> Result<Replica<A>, Fail> {
-    let ten = ArchiveSpec {
-        steps: 1,
-        rows: 10,
-        num: 0,
-        den: 1,
-    };
-    let schema = Schema::new(alloc, 60, &[ten])?;
-    Ok(Replica::new(alloc, &schema, Origin::new(1)?)?)
-}
 
 /// The slot of the cell with a number; -1 where there is none.
 fn slot_of<A: Archive>(replica: &Replica<A>, i: usize) -> i64 {
@@ -32,7 +19,7 @@ fn slot_of<A: Archive>(replica: &Replica<A>, i: usize) -> i64 {
 
 #[test]
 fn a_new_replica_holds_nothing(rt: HostRuntime) -> Result<(), Fail> {
-    let replica = replica::<PlainArchive>(rt.alloc())?;
+    let replica = minutes::<PlainArchive>(rt.alloc(), 1, 10)?;
     let key = SeriesKey::parse_text(rt.alloc(), b"m v")?;
     let rows = (replica.row(&key, 0, 0).len(), replica.row(&key, 1, 0).len());
     let head = (
@@ -50,7 +37,7 @@ fn a_new_replica_holds_nothing(rt: HostRuntime) -> Result<(), Fail> {
 
 /// How many cells a million samples leave, a minute apart, and the slots of the first and the tenth.
 fn left_of_a_million<A: Archive>(alloc: Global) -> Result<(usize, i64, i64), Fail> {
-    let mut replica = replica::<A>(alloc)?;
+    let mut replica = minutes::<A>(alloc, 1, 10)?;
     let key = SeriesKey::parse_text(alloc, b"m v")?;
     for k in 0..1_000_000u32 {
         replica.put(&key, i64::from(k) * MINUTE, 7)?;
@@ -78,7 +65,7 @@ fn a_million_samples_leave_ten_rows_of_a_ring(rt: HostRuntime) -> Result<(), Fai
 
 #[test]
 fn a_replica_lends_the_archives_of_a_series(rt: HostRuntime) -> Result<(), Fail> {
-    let mut replica = replica::<PlainArchive>(rt.alloc())?;
+    let mut replica = minutes::<PlainArchive>(rt.alloc(), 1, 10)?;
     let key = SeriesKey::parse_text(rt.alloc(), b"m v")?;
     let other = SeriesKey::parse_text(rt.alloc(), b"m w")?;
     replica.put(&key, 0, 5)?;
@@ -103,9 +90,9 @@ fn sample(alloc: Global, number: u64, value: i64) -> Result<Op, Fail> {
 /// Whether each of a copied sample and a copied cell is taken by a replica that holds nothing, with
 /// the next number after both, and how many cells there are then.
 fn taken_copies<A: Archive>(alloc: Global) -> Result<(bool, bool, u64, usize), Fail> {
-    let mut first = replica::<A>(alloc)?;
+    let mut first = minutes::<A>(alloc, 1, 10)?;
     let put = first.apply(&sample(alloc, 7, 5)?.copy()?)?;
-    let mut second = replica::<A>(alloc)?;
+    let mut second = minutes::<A>(alloc, 1, 10)?;
     let Some(cell) = first.cell_at(0) else {
         return Ok((put, false, 0, 0));
     };

@@ -1,7 +1,8 @@
 //! Lines checked from a stream to another: however they are cut, and where a stream fails.
 
-use crate::tests::failing::{Holding, failing_after, in_pieces};
 use rr_base::Counted;
+use rr_fakes::holding::Holding;
+use rr_fakes::pieces::{failing_after, in_pieces};
 use rr_line::Precision;
 use rr_orders::obey_order;
 use rr_report::{ToolFault, check_lines, check_lines_within};

@@ -1,7 +1,7 @@
 //! Sessions in which one replica pulls cells from another, frame by frame.
 
 use rr_archive::PlainArchive;
-use rr_base::{ArchiveSpec, Origin, Schema};
+use rr_fakes::replicas::{minutes, one_sample};
 use rr_gossip::{Giver, GossipFault, Puller};
 use rr_key::SeriesKey;
 use rr_replica::Replica;
@@ -23,26 +23,6 @@ pub(crate) const REPLY: [u8; 119] = [
     0, 0, 7, 0, 0, 0, 0x0d, 0xf8, 0x47, 0x58, 0, 0, 0, 0, 0, 0, 0, 0, 7, 0, 0, 0, 0, 0, 0, 0, 1, 0,
     0, 0, 1, 5,
 ];
-
-/// A replica of an origin that holds nothing.
-pub(crate) fn replica(alloc: Global, origin: u16) -> Result<Replica<PlainArchive>, Fail> {
-    let rows = ArchiveSpec {
-        steps: 1,
-        rows: 3,
-        num: 0,
-        den: 1,
-    };
-    let schema = Schema::new(alloc, 60, &[rows])?;
-    Ok(Replica::new(alloc, &schema, Origin::new(origin)?)?)
-}
-
-/// One that holds the sample of the page.
-pub(crate) fn one_sample(alloc: Global) -> Result<Replica<PlainArchive>, Fail> {
-    let mut replica = replica(alloc, 1)?;
-    let key = SeriesKey::parse_text(alloc, b"m v")?;
-    replica.put(&key, 60_000_000_000, 7)?;
-    Ok(replica)
-}
 
 /// All frames that a puller sends, up to ten.
 fn sent(
@@ -76,7 +56,7 @@ fn reply(
 
 #[test]
 fn who_holds_nothing_sends_its_schema(rt: HostRuntime) -> Result<(), Fail> {
-    let target = replica(rt.alloc(), 2)?;
+    let target = minutes(rt.alloc(), 2, 3)?;
     let bytes = sent(rt.alloc(), &mut Puller::new(), &target)?;
     assert!(rt; bytes.as_slice() == SENT.as_slice());
     Ok(())
@@ -84,7 +64,7 @@ fn who_holds_nothing_sends_its_schema(rt: HostRuntime) -> Result<(), Fail> {
 
 #[test]
 fn the_answer_is_what_is_lacked(rt: HostRuntime) -> Result<(), Fail> {
-    let mut source = one_sample(rt.alloc())?;
+    let mut source = one_sample::<PlainArchive>(rt.alloc(), 1)?;
     let mut giver = Giver::new();
     let first = giver.take(rt.alloc(), &SENT[4..19], &mut source)?;
     let last = giver.take(rt.alloc(), &SENT[23..], &mut source)?;
@@ -95,7 +75,7 @@ fn the_answer_is_what_is_lacked(rt: HostRuntime) -> Result<(), Fail> {
 
 #[test]
 fn the_pages_are_joined(rt: HostRuntime) -> Result<(), Fail> {
-    let mut target = replica(rt.alloc(), 2)?;
+    let mut target = minutes(rt.alloc(), 2, 3)?;
     let mut puller = Puller::new();
     sent(rt.alloc(), &mut puller, &target)?;
     let first = puller.take(rt.alloc(), &REPLY[4..114], &mut target)?;
@@ -109,7 +89,7 @@ fn the_pages_are_joined(rt: HostRuntime) -> Result<(), Fail> {
 
 #[test]
 fn a_session_fails_once_and_for_all(rt: HostRuntime) -> Result<(), Fail> {
-    let mut source = one_sample(rt.alloc())?;
+    let mut source = one_sample::<PlainArchive>(rt.alloc(), 1)?;
     for (frame, fault) in [
         ([9].as_slice(), GossipFault::BadFrame),
         ([3].as_slice(), GossipFault::UnexpectedFrame),
@@ -125,7 +105,7 @@ fn a_session_fails_once_and_for_all(rt: HostRuntime) -> Result<(), Fail> {
 
 #[test]
 fn a_session_has_so_many_frames(rt: HostRuntime) -> Result<(), Fail> {
-    let mut source = one_sample(rt.alloc())?;
+    let mut source = one_sample::<PlainArchive>(rt.alloc(), 1)?;
     let mut giver = Giver::with_limit(1);
     giver.take(rt.alloc(), &SENT[4..19], &mut source)?;
     let taken = giver.take(rt.alloc(), &SENT[23..], &mut source).err();

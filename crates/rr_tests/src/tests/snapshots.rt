@@ -1,8 +1,10 @@
 //! Snapshots: what a replica is saved as, and what is loaded.
 
-use crate::tests::failing::{failing_first, in_pieces};
 use rr_archive::PlainArchive;
-use rr_base::{ArchiveSpec, Counted, Origin, Schema};
+use rr_base::{Counted, Origin};
+use rr_fakes::failing::failing_first;
+use rr_fakes::pieces::in_pieces;
+use rr_fakes::replicas::{minutes, schema};
 use rr_key::SeriesKey;
 use rr_replica::Replica;
 use rr_snapshot::{LoadFault, load, save};
@@ -33,22 +35,6 @@ const ONE_SAMPLE: [u8; 145] = [
     0x43,
 ];
 
-/// Three rows of a minute.
-fn schema(alloc: Global) -> Result<Schema, Fail> {
-    let rows = ArchiveSpec {
-        steps: 1,
-        rows: 3,
-        num: 0,
-        den: 1,
-    };
-    Ok(Schema::new(alloc, 60, &[rows])?)
-}
-
-/// An empty replica of origin 1.
-fn replica(alloc: Global) -> Result<Replica<PlainArchive>, Fail> {
-    Ok(Replica::new(alloc, &schema(alloc)?, Origin::new(1)?)?)
-}
-
 /// The bytes that a replica is saved as.
 fn saved(alloc: Global, replica: &Replica<PlainArchive>) -> Result<Vec<u8>, Fail> {
     let mut bytes = Vec::new(alloc);
@@ -58,7 +44,7 @@ fn saved(alloc: Global, replica: &Replica<PlainArchive>) -> Result<Vec<u8>, Fail
 
 #[test]
 fn a_replica_is_saved(rt: HostRuntime) -> Result<(), Fail> {
-    let mut replica = replica(rt.alloc())?;
+    let mut replica = minutes(rt.alloc(), 1, 3)?;
     let nothing = saved(rt.alloc(), &replica)?;
     let key = SeriesKey::parse_text(rt.alloc(), b"m v")?;
     replica.put(&key, 60_000_000_000, 7)?;
@@ -75,7 +61,7 @@ fn load_under<R: Read>(
     input: &mut Counted<R>,
     origin: u16,
 ) -> Result<Result<Replica<PlainArchive>, LoadFault>, Fail> {
-    let schema = schema(alloc)?;
+    let schema = schema(alloc, 3)?;
     Ok(load(alloc, input, &schema, Origin::new(origin)?))
 }
 

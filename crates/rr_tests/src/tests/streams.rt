@@ -1,11 +1,12 @@
 //! Counted streams: reads and writes that are short, fail, or are interrupted.
 
-use crate::tests::failing::{failing_first, in_pieces};
 use rr_base::Counted;
 use rr_base::stream::{
     MAX_INTERRUPTS, ReadFailed, ReadFault, WriteFailed, fill, flush, read_some, read_to_end,
     read_to_end_within, write_all,
 };
+use rr_fakes::failing::failing_first;
+use rr_fakes::pieces::in_pieces;
 use std::io;
 use std::io::{ErrorKind, Read, Write};
 use std::test::Fail;

@@ -1,0 +1,17 @@
+//! Stand-ins for tests: streams that give little, fail or hold bytes back, and small replicas.
+//!
+//! A test hands a call one of these in place of a connection or a file. Nothing is known of them but
+//! that they run: what they do is written in their bodies, and a test says what comes of it.
+//!
+//! | Module | Stands for |
+//! |---|---|
+//! | [`pieces`] | a reader that gives little at a time, and fails after some calls |
+//! | [`failing`] | a stream whose first calls fail |
+//! | [`holding`] | a writer that holds bytes back until it is flushed |
+//! | [`replicas`] | replicas with rows of a minute, without a sample or with one |
+#![tactic(auto)]
+
+pub mod failing;
+pub mod holding;
+pub mod pieces;
+pub mod replicas;

@@ -1,0 +1,35 @@
+//! Replicas with rows of a minute.
+
+use anyhow::Result;
+use rr_archive::Archive;
+use rr_base::{ArchiveSpec, Origin, Schema};
+use rr_key::SeriesKey;
+use rr_replica::Replica;
+use std::alloc::Global;
+
+/// A minute, in nanoseconds.
+pub const MINUTE: i64 = 60_000_000_000;
+
+/// A schema of so many rows of a minute.
+pub fn schema(alloc: Global, rows: u32) -> Result<Schema> {
+    let rows = ArchiveSpec {
+        steps: 1,
+        rows,
+        num: 0,
+        den: 1,
+    };
+    Ok(Schema::new(alloc, 60, &[rows])?)
+}
+
+/// A replica of an origin with so many rows of a minute that holds nothing.
+pub fn minutes<A: Archive>(alloc: Global, origin: u16, rows: u32) -> Result<Replica<A>> {
+    Ok(Replica::new(alloc, &schema(alloc, rows)?, Origin::new(origin)?)?)
+}
+
+/// One with three rows that holds 7 at a minute after the epoch, of the key `m v`.
+pub fn one_sample<A: Archive>(alloc: Global, origin: u16) -> Result<Replica<A>> {
+    let mut replica = minutes(alloc, origin, 3)?;
+    let key = SeriesKey::parse_text(alloc, b"m v")?;
+    replica.put(&key, MINUTE, 7)?;
+    Ok(replica)
+}
