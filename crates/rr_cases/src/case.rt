@@ -6,6 +6,7 @@ use anyhow::{Context, Result};
 use rr_archive::PlainArchive;
 use rr_ring::RingArchive;
 use std::rt::Files;
+use std::sync::Wait;
 use std::{fs, io};
 
 /// Where two texts first differ: the number of the line, and what each has there.
@@ -44,15 +45,15 @@ fn report(
 
 /// Whether the case of a file of input holds over both kinds of archive; where it doesn't, the first
 /// difference is printed.
-pub(crate) fn holds(rt: &(impl Files + AllocGlobal + Print), file: &str) -> Result<bool> {
+pub(crate) fn holds(rt: &(impl Files + AllocGlobal + Print + Wait), file: &str) -> Result<bool> {
     let alloc = rt.alloc();
     let (stem, ending) = file.rsplit_once('.').context("a file without an ending")?;
     let kind = Kind::of_ending(ending).context("a file with another ending")?;
     let input = fs::read(rt, file).context(file)?;
     let expected_file = format!(in alloc; "{stem}{EXPECTED}")?;
     let expected = fs::read(rt, expected_file.as_str()).context("no expected output")?;
-    let rings = kind.output::<RingArchive>(alloc, &input)?;
-    let maps = kind.output::<PlainArchive>(alloc, &input)?;
+    let rings = kind.output::<RingArchive, _>(alloc, rt, &input)?;
+    let maps = kind.output::<PlainArchive, _>(alloc, rt, &input)?;
     for (archive, got) in [("rings", &rings), ("ordered maps", &maps)] {
         if got.as_slice() != expected.as_slice() {
             report(rt, file, archive, &expected, got)?;

@@ -1,9 +1,10 @@
 //! The kinds of cases.
 
-use crate::{cells, configs, documents, keys, lines, pages, replicas};
+use crate::{cells, configs, desks, documents, keys, lines, pages, replicas};
 use anyhow::Result;
 use rr_archive::Archive;
 use std::alloc::Global;
+use std::sync::Wait;
 
 /// What a file of input is.
 #[derive(Clone, Copy)]
@@ -22,6 +23,8 @@ pub(crate) enum Kind {
     Cell,
     /// Calls of a replica, a line each, and what they answer.
     Replica,
+    /// Calls of a desk over streams in memory, and what they answer.
+    Desk,
     /// A page in hexadecimal and changes of its bytes, and what each is read as.
     Page,
 }
@@ -37,13 +40,19 @@ impl Kind {
             "keys" => Some(Kind::Keys),
             "hex" => Some(Kind::Cell),
             "calls" => Some(Kind::Replica),
+            "desk" => Some(Kind::Desk),
             "page" => Some(Kind::Page),
             _ => None,
         }
     }
 
     /// What the libraries answer to a file's bytes, with archives of a kind where it speaks of any.
-    pub(crate) fn output<A: Archive>(self, alloc: Global, input: &[u8]) -> Result<Vec<u8>> {
+    pub(crate) fn output<A: Archive, T: Wait>(
+        self,
+        alloc: Global,
+        rt: &T,
+        input: &[u8],
+    ) -> Result<Vec<u8>> {
         match self {
             Kind::Script => Ok(rr_cluster::run_on::<A>(alloc, input)?),
             Kind::Lines => lines::answers(alloc, input),
@@ -52,6 +61,7 @@ impl Kind {
             Kind::Keys => Ok(keys::answers(alloc, input)?),
             Kind::Cell => cells::answers(alloc, input),
             Kind::Replica => replicas::answers::<A>(alloc, input),
+            Kind::Desk => desks::answers::<A, T>(alloc, rt, input),
             Kind::Page => pages::answers(alloc, input),
         }
     }

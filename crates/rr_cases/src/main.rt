@@ -12,6 +12,7 @@ mod case;
 mod cells;
 mod changes;
 mod configs;
+mod desks;
 mod documents;
 mod files;
 mod keys;
@@ -20,6 +21,7 @@ mod lines;
 mod pages;
 mod replicas;
 mod sessions;
+mod settings;
 
 use anyhow::Result;
 use std::process::ExitCode;

@@ -257,7 +257,7 @@ fn push_cells<A: Archive>(replica: &Replica<A>, output: &mut String) -> Result<(
     Ok(())
 }
 
-fn push_cell(output: &mut String, cell: CellRef<'_>) -> Result<(), AllocError> {
+pub(crate) fn push_cell(output: &mut String, cell: CellRef<'_>) -> Result<(), AllocError> {
     let key = str::from_utf8(cell.key.text()).unwrap_or("");
     let (archive, slot, origin) = (cell.archive, cell.slot, cell.origin.get());
     write!(output, "{key} {archive} {slot} {origin} ")?;

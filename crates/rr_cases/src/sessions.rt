@@ -93,10 +93,15 @@ pub(crate) fn pull_call<A: Archive>(
 ) -> Result<()> {
     let words = Words::of(alloc, words)?;
     let mut streams = words.streams(alloc, 0)?;
-    let Streams { input, output } = &mut streams;
     let ended = match words.frames {
-        None => pull(alloc, input, output, replica),
-        Some(frames) => pull_within(alloc, input, output, replica, u32::from(frames)),
+        None => pull(alloc, &mut streams.input, &mut streams.output, replica),
+        Some(frames) => pull_within(
+            alloc,
+            &mut streams.input,
+            &mut streams.output,
+            replica,
+            u32::from(frames),
+        ),
     };
     streams.push_ending(alloc, answer, ended)
 }
@@ -110,10 +115,15 @@ pub(crate) fn give_call<A: Archive>(
 ) -> Result<()> {
     let words = Words::of(alloc, words)?;
     let mut streams = words.streams(alloc, 0)?;
-    let Streams { input, output } = &mut streams;
     let ended = match words.frames {
-        None => give(alloc, input, output, replica),
-        Some(frames) => give_within(alloc, input, output, replica, u32::from(frames)),
+        None => give(alloc, &mut streams.input, &mut streams.output, replica),
+        Some(frames) => give_within(
+            alloc,
+            &mut streams.input,
+            &mut streams.output,
+            replica,
+            u32::from(frames),
+        ),
     };
     streams.push_ending(alloc, answer, ended)
 }
@@ -128,11 +138,23 @@ pub(crate) fn give_after_call<A: Archive>(
     let words = Words::of(alloc, words)?;
     let first = *words.bytes.first().context("no first byte")?;
     let mut streams = words.streams(alloc, 1)?;
-    let Streams { input, output } = &mut streams;
     let ended = match words.frames {
-        None => give_after(alloc, first, input, output, replica),
+        None => give_after(
+            alloc,
+            first,
+            &mut streams.input,
+            &mut streams.output,
+            replica,
+        ),
         Some(frames) => {
-            give_after_within(alloc, first, input, output, replica, u32::from(frames))
+            give_after_within(
+                alloc,
+                first,
+                &mut streams.input,
+                &mut streams.output,
+                replica,
+                u32::from(frames),
+            )
         }
     };
     streams.push_ending(alloc, answer, ended)

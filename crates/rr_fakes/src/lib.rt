@@ -8,6 +8,7 @@
 //! | [`pieces`] | a reader that gives little at a time, and fails after some calls |
 //! | [`failing`] | a stream whose first calls fail |
 //! | [`holding`] | a writer that holds bytes back until it is flushed |
+//! | [`room`] | a writer that has room for some bytes |
 //! | [`replicas`] | replicas with rows of a minute, without a sample or with one |
 #![tactic(auto)]
 
@@ -15,3 +16,4 @@ pub mod failing;
 pub mod holding;
 pub mod pieces;
 pub mod replicas;
+pub mod room;

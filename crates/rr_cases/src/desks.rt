@@ -1,0 +1,267 @@
+//! Calls of a desk of origin 2 with three rows of a minute and one reader, over streams in memory. A
+//! line `---` stands between two calls.
+//!
+//! The first line of a call has its words, and what follows is its input. Of a line `*N TEXT` of it there
+//! are N, and a line `+N TEXT` is one that has the text N times. The words after the first limit the
+//! streams and set the clock: `size=N`, how many bytes a read gives; `calls=N`, how many reads there are
+//! before one fails; `reads=N`, how many there may be; `room=N`, how many bytes can be written; `lead=N`
+//! and `now=T,T,..`.
+//!
+//! | Call | Answer |
+//! |---|---|
+//! | `lines` | what is written as the keeper is served the input |
+//! | `fetches` | what is written as the reader serves the input |
+//! | `session` | the same, the bytes of both in hexadecimal |
+//! | `pull` | what is written as the keeper pulls from the input, the bytes of both in hexadecimal |
+//! | `publish` | nothing |
+//! | `names` | how many cells the keeper has |
+//! | `cells` | a line for each cell that the reader gives to a side that has none |
+//!
+//! An answer ends with a line that says how the call did.
+
+use crate::documents::texts;
+use crate::replicas::push_cell;
+use crate::settings::Settings;
+use anyhow::{Context, Result, bail};
+use rr_archive::Archive;
+use rr_desk::{Keeper, Reader, open};
+use rr_fakes::pieces::failing_after;
+use rr_fakes::replicas::minutes;
+use rr_fakes::room::with_room;
+use rr_line::Precision;
+use rr_node::{Moments, OpenGate, pull_peer, serve_lines, serve_lines_within, serve_reader};
+use rr_replica::CellRef;
+use std::alloc::Global;
+use std::sync::Wait;
+
+/// What the calls answer.
+pub(crate) fn answers<A: Archive, T: Wait>(alloc: Global, rt: &T, input: &[u8]) -> Result<Vec<u8>> {
+    let calls = texts(alloc, input)?;
+    let Ok((mut keeper, mut readers)) = open(alloc, rt, minutes::<A>(alloc, 2, 3)?, 1) else {
+        bail!("no desk");
+    };
+    let output = match readers.pop() {
+        Some(reader) => answers_at(alloc, rt, &mut keeper, reader, &calls),
+        None => Ok(Vec::new(alloc)),
+    };
+    keeper.close(rt);
+    output
+}
+
+/// What the calls answer at a desk.
+fn answers_at<A: Archive, T: Wait>(
+    alloc: Global,
+    rt: &T,
+    keeper: &mut Keeper<A>,
+    mut reader: Reader<A>,
+    calls: &[Vec<u8>],
+) -> Result<Vec<u8>> {
+    let mut output = Vec::new(alloc);
+    for call in calls {
+        let (ending, written) = answer(alloc, rt, keeper, &mut reader, call)?;
+        output.extend_from_slice(&written)?;
+        output.extend_from_slice(format!(in alloc; "== {}\n", ending.as_str())?.as_bytes())?;
+    }
+    Ok(output)
+}
+
+/// How a call did, and what it wrote.
+type Answer = (String, Vec<u8>);
+
+/// Makes a call.
+fn answer<A: Archive, T: Wait>(
+    alloc: Global,
+    rt: &T,
+    keeper: &mut Keeper<A>,
+    reader: &mut Reader<A>,
+    call: &[u8],
+) -> Result<Answer> {
+    let (line, input) = first_line(call)?;
+    let (name, words) = line.split_once(' ').unwrap_or((line, ""));
+    let settings = Settings::of(alloc, words)?;
+    match name {
+        "lines" => lines(alloc, rt, keeper, settings, &expanded(alloc, input)?),
+        "fetches" => fetches(alloc, reader, &settings, &expanded(alloc, input)?),
+        "session" => session(alloc, reader, &settings, input),
+        "pull" => pull(alloc, rt, keeper, &settings, input),
+        "publish" => publish(alloc, rt, keeper),
+        "names" => names(alloc, keeper),
+        "cells" => cells(alloc, reader),
+        _ => bail!("an unknown call"),
+    }
+}
+
+/// The first line of a text, and what follows it.
+fn first_line(text: &[u8]) -> Result<(&str, &[u8])> {
+    let end = text
+        .iter()
+        .position(|byte| *byte == b'\n')
+        .context("a call without a line")?;
+    let line = text.get(..end).context("no line")?;
+    let rest = text.get(end..).context("nothing after it")?;
+    Ok((str::from_utf8(line)?, rest.get(1..).unwrap_or(b"")))
+}
+
+/// The input of a call, with the lines and texts that are in it several times.
+fn expanded(alloc: Global, input: &[u8]) -> Result<Vec<u8>> {
+    let mut bytes = Vec::new(alloc);
+    for line in input.split_inclusive(|byte| *byte == b'\n') {
+        match line.first() {
+            Some(b'*') => push_times(&mut bytes, line, line.len())?,
+            Some(b'+') => {
+                push_times(&mut bytes, line, line.len().saturating_sub(1))?;
+                bytes.push(b'\n')?;
+            }
+            _ => bytes.extend_from_slice(line)?,
+        }
+    }
+    Ok(bytes)
+}
+
+/// Adds what stands between the count of a line and a place of it, so many times.
+fn push_times(bytes: &mut Vec<u8>, line: &[u8], end: usize) -> Result<()> {
+    let space = line
+        .iter()
+        .position(|byte| *byte == b' ')
+        .context("a count without a text")?;
+    let count = line.get(1..space).context("no count")?;
+    let text = line.get(space.saturating_add(1)..end).context("no text")?;
+    for _ in 0..str::from_utf8(count)?.parse::<u32>()? {
+        bytes.extend_from_slice(text)?;
+    }
+    Ok(())
+}
+
+/// The name of a fault as a text.
+fn text_of(alloc: Global, name: &str) -> Result<String> {
+    Ok(String::from_str(alloc, name)?)
+}
+
+fn lines<A: Archive, T: Wait>(
+    alloc: Global,
+    rt: &T,
+    keeper: &mut Keeper<A>,
+    settings: Settings,
+    input: &[u8],
+) -> Result<Answer> {
+    let mut source = failing_after(input, settings.size, settings.calls);
+    let mut sink = with_room(alloc, settings.room);
+    let (reads, lead) = (settings.reads, settings.lead);
+    let mut clock = Moments::new(settings.moments);
+    let unit = Precision::Ns;
+    let served = match reads {
+        None => serve_lines(
+            alloc,
+            &mut source,
+            &mut sink,
+            keeper,
+            &mut clock,
+            unit,
+            lead,
+            rt,
+        ),
+        Some(reads) => serve_lines_within(
+            alloc,
+            &mut source,
+            &mut sink,
+            keeper,
+            &mut clock,
+            unit,
+            lead,
+            rt,
+            reads,
+        ),
+    };
+    let ending = match served {
+        Ok(report) => {
+            let (points, samples, refused) = (report.points, report.samples, report.refused);
+            format!(in alloc; "{points} points, {samples} samples, {refused} refused")?
+        }
+        Err(fault) => text_of(alloc, fault.name())?,
+    };
+    Ok((ending, sink.into_inner().into_written()))
+}
+
+fn fetches<A: Archive>(
+    alloc: Global,
+    reader: &mut Reader<A>,
+    settings: &Settings,
+    input: &[u8],
+) -> Result<Answer> {
+    let mut source = failing_after(input, settings.size, settings.calls);
+    let mut sink = with_room(alloc, settings.room);
+    let mut gate = OpenGate::new();
+    let ending = match serve_reader(alloc, &mut source, &mut sink, reader, &mut gate) {
+        Ok(()) => "done",
+        Err(fault) => fault.name(),
+    };
+    Ok((text_of(alloc, ending)?, sink.into_inner().into_written()))
+}
+
+/// The bytes of a line in hexadecimal.
+fn bytes_of(alloc: Global, input: &[u8]) -> Result<Vec<u8>> {
+    Ok(hex::decode(alloc, str::from_utf8(input)?.trim_end())?)
+}
+
+/// Bytes in hexadecimal, as a line.
+fn hex_line(alloc: Global, bytes: &[u8]) -> Result<Vec<u8>> {
+    let mut text = hex::encode(alloc, bytes)?;
+    text.push('\n')?;
+    Ok(text.into_bytes())
+}
+
+fn session<A: Archive>(
+    alloc: Global,
+    reader: &mut Reader<A>,
+    settings: &Settings,
+    input: &[u8],
+) -> Result<Answer> {
+    let (ending, written) = fetches(alloc, reader, settings, &bytes_of(alloc, input)?)?;
+    Ok((ending, hex_line(alloc, &written)?))
+}
+
+fn pull<A: Archive, T: Wait>(
+    alloc: Global,
+    rt: &T,
+    keeper: &mut Keeper<A>,
+    settings: &Settings,
+    input: &[u8],
+) -> Result<Answer> {
+    let bytes = bytes_of(alloc, input)?;
+    let mut source = failing_after(&bytes, settings.size, settings.calls);
+    let mut sink = with_room(alloc, settings.room);
+    let ending = match pull_peer(alloc, &mut source, &mut sink, keeper, rt) {
+        Ok(()) => "done",
+        Err(fault) => fault.name(),
+    };
+    let written = hex_line(alloc, &sink.into_inner().into_written())?;
+    Ok((text_of(alloc, ending)?, written))
+}
+
+fn publish<A: Archive, T: Wait>(alloc: Global, rt: &T, keeper: &mut Keeper<A>) -> Result<Answer> {
+    keeper.publish(rt)?;
+    Ok((text_of(alloc, "done")?, Vec::new(alloc)))
+}
+
+fn names<A: Archive>(alloc: Global, keeper: &Keeper<A>) -> Result<Answer> {
+    let count = keeper.names(alloc, 0, 256)?.len();
+    Ok((format!(in alloc; "{count}")?, Vec::new(alloc)))
+}
+
+fn cells<A: Archive>(alloc: Global, reader: &mut Reader<A>) -> Result<Answer> {
+    let Ok(cells) = reader.difference(alloc, &[]) else {
+        bail!("out of memory");
+    };
+    let mut listed = String::new(alloc);
+    for cell in &cells {
+        let cell = CellRef {
+            key: &cell.key,
+            archive: cell.archive,
+            slot: cell.slot,
+            origin: cell.origin,
+            contribution: cell.contribution,
+        };
+        push_cell(&mut listed, cell)?;
+    }
+    Ok((text_of(alloc, "done")?, listed.into_bytes()))
+}
