@@ -32,15 +32,13 @@ impl Words {
         })
     }
 
-    /// The streams of a call, whose input is the bytes after the first `from`.
-    fn streams(&self, alloc: Global, from: usize) -> Result<Streams<'_>> {
-        let input = failing_after(
+    /// The input after its first `from` bytes.
+    fn input(&self, from: usize) -> Result<Counted<Pieces<'_>>> {
+        Ok(failing_after(
             self.bytes.get(from..).context("no first byte")?,
             self.size.map_or(usize::MAX, usize::from),
             self.reads.map_or(u64::MAX, u64::from),
-        );
-        let output = Counted::new(Vec::new(alloc));
-        Ok(Streams { input, output })
+        ))
     }
 }
 
@@ -52,38 +50,6 @@ fn limit(word: Option<&str>) -> Result<Option<u16>> {
     }
 }
 
-/// What a call reads from and writes to.
-#[derive(Drop)]
-struct Streams<'a> {
-    input: Counted<Pieces<'a>>,
-    output: Counted<Vec<u8>>,
-}
-
-impl Streams<'_> {
-    /// What was written, how many bytes of the input were left, how many calls of it failed, and how
-    /// the session ended.
-    fn push_ending(
-        self,
-        alloc: Global,
-        answer: &mut String,
-        ended: Result<(), GossipFault>,
-    ) -> Result<()> {
-        let Streams { input, output } = self;
-        let failures = input.failures();
-        let left = input.into_inner().left();
-        let written = hex::encode(alloc, &output.into_inner())?;
-        let ending = match &ended {
-            Ok(()) => "done",
-            Err(fault) => fault.name(),
-        };
-        let written = written.as_str();
-        Ok(write!(
-            answer,
-            "[{written}] {left} left, {failures} failed: {ending}\n"
-        )?)
-    }
-}
-
 /// Pulls from an answer.
 pub(crate) fn pull_call<A: Archive>(
     alloc: Global,
@@ -92,18 +58,14 @@ pub(crate) fn pull_call<A: Archive>(
     answer: &mut String,
 ) -> Result<()> {
     let words = Words::of(alloc, words)?;
-    let mut streams = words.streams(alloc, 0)?;
-    let ended = match words.frames {
-        None => pull(alloc, &mut streams.input, &mut streams.output, replica),
-        Some(frames) => pull_within(
-            alloc,
-            &mut streams.input,
-            &mut streams.output,
-            replica,
-            u32::from(frames),
-        ),
+    let frames = words.frames;
+    let mut input = words.input(0)?;
+    let mut output = Counted::new(Vec::new(alloc));
+    let ended = match frames {
+        None => pull(alloc, &mut input, &mut output, replica),
+        Some(frames) => { pull_within(alloc, &mut input, &mut output, replica, u32::from(frames)) }
     };
-    streams.push_ending(alloc, answer, ended)
+    push_ending(alloc, answer, &output.into_inner(), input, ended)
 }
 
 /// Gives what the input asks for.
@@ -114,18 +76,14 @@ pub(crate) fn give_call<A: Archive>(
     answer: &mut String,
 ) -> Result<()> {
     let words = Words::of(alloc, words)?;
-    let mut streams = words.streams(alloc, 0)?;
-    let ended = match words.frames {
-        None => give(alloc, &mut streams.input, &mut streams.output, replica),
-        Some(frames) => give_within(
-            alloc,
-            &mut streams.input,
-            &mut streams.output,
-            replica,
-            u32::from(frames),
-        ),
+    let frames = words.frames;
+    let mut input = words.input(0)?;
+    let mut output = Counted::new(Vec::new(alloc));
+    let ended = match frames {
+        None => give(alloc, &mut input, &mut output, replica),
+        Some(frames) => { give_within(alloc, &mut input, &mut output, replica, u32::from(frames)) }
     };
-    streams.push_ending(alloc, answer, ended)
+    push_ending(alloc, answer, &output.into_inner(), input, ended)
 }
 
 /// Gives what the input asks for, whose first byte is handed over apart from it.
@@ -136,26 +94,39 @@ pub(crate) fn give_after_call<A: Archive>(
     answer: &mut String,
 ) -> Result<()> {
     let words = Words::of(alloc, words)?;
+    let frames = words.frames;
     let first = *words.bytes.first().context("no first byte")?;
-    let mut streams = words.streams(alloc, 1)?;
-    let ended = match words.frames {
-        None => give_after(
-            alloc,
-            first,
-            &mut streams.input,
-            &mut streams.output,
-            replica,
-        ),
+    let mut input = words.input(1)?;
+    let mut output = Counted::new(Vec::new(alloc));
+    let ended = match frames {
+        None => give_after(alloc, first, &mut input, &mut output, replica),
         Some(frames) => {
-            give_after_within(
-                alloc,
-                first,
-                &mut streams.input,
-                &mut streams.output,
-                replica,
-                u32::from(frames),
-            )
+            let frames = u32::from(frames);
+            give_after_within(alloc, first, &mut input, &mut output, replica, frames)
         }
     };
-    streams.push_ending(alloc, answer, ended)
+    push_ending(alloc, answer, &output.into_inner(), input, ended)
+}
+
+/// What was written, how many bytes of the input were left, how many calls of it failed, and how the
+/// session ended.
+fn push_ending(
+    alloc: Global,
+    answer: &mut String,
+    written: &[u8],
+    input: Counted<Pieces<'_>>,
+    ended: Result<(), GossipFault>,
+) -> Result<()> {
+    let failures = input.failures();
+    let left = input.into_inner().left();
+    let written = hex::encode(alloc, written)?;
+    let ending = match &ended {
+        Ok(()) => "done",
+        Err(fault) => fault.name(),
+    };
+    let written = written.as_str();
+    Ok(write!(
+        answer,
+        "[{written}] {left} left, {failures} failed: {ending}\n"
+    )?)
 }
