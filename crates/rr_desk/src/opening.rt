@@ -1,5 +1,5 @@
 //! Opening a desk.
-ghost use Rattle.std.specs.Prelude.{◌≡◌, ◌≤◌, ◌↔◌, All, [], true, false, length, IfErr, IfOk, OnOk};
+ghost use Rattle.std.specs.Prelude.{◌≡◌, ◌≤◌, ◌↔◌, All, [], ◌∷◌, true, false, length, IfErr, IfOk, OnOk};
 ghost use Rattle.left_right.specs.Sides.{view};
 ghost use Rattle.rr_base.specs.declared.limits.TheConstants.{MAX_READERS};
 ghost use Rattle.rr_replica.specs.Held.{IsHolding};
@@ -10,6 +10,7 @@ ghost use Rattle.rr_desk.specs.Rule.{keeper_of};
 ghost use Rattle.rr_desk.specs.Standing.{opened, HasSeen};
 ghost use Rattle.rr_desk.specs.Writers.{changes};
 ghost use Rattle.rr_desk.specs.declared.fault.OpenFault.TheVariants.{BadCount};
+ghost use Rattle.rr_desk.specs.declared.shown.Change.TheVariants.{Mark};
 
 use crate::book::{Batch, Editions};
 use crate::fault::OpenFault;
@@ -115,6 +116,79 @@ fn unopened<A: Archive>(
     })
 }
 
+/// Lets a writer go whose desk isn't opened.
+fn discard<A: Archive, R: Wait>(writer: DeskWriter<A>, rt: &R) -> AllocError {
+    drop(writer.take(rt));
+    AllocError
+}
+
+/// A writer of two copies of a replica, for so many readers, to which none can come yet.
+fn unopened_writer<A: Archive>(
+    alloc: Global,
+    replica: &Replica<A>,
+    readers: usize,
+    book: &Editions,
+) -> Result<DeskWriter<A>, AllocError>
+    requires some_reader { 1 ≤ readers }
+    requires few_readers { readers ≤ MAX_READERS }
+    ensures copy { IfOk result (λ w. held w.desk.shown.value.replica ≡ held replica.now) }
+    ensures unopened { IfOk result (λ w. w.desk.shown.value.started ≡ false) }
+    ensures pending { IfOk result (λ w. changes w ≡ []) }
+{
+    let first = unopened(alloc, replica, book)?;
+    let second = unopened(alloc, replica, book)?;
+    DeskWriter::new(alloc, first, second, readers)
+}
+
+/// One whose pending change is a mark of the book, which gets its first edition.
+fn marked_writer<A: Archive, R: Wait>(
+    alloc: Global,
+    rt: &R,
+    replica: &Replica<A>,
+    readers: usize,
+    book: &mut Editions,
+) -> Result<DeskWriter<A>, AllocError>
+    requires some_reader { 1 ≤ readers }
+    requires few_readers { readers ≤ MAX_READERS }
+    requires fresh { book.old.editions ≡ [] }
+    ensures copy { IfOk result (λ w. held w.desk.shown.value.replica ≡ held replica.now) }
+    ensures unopened { IfOk result (λ w. w.desk.shown.value.started ≡ false) }
+    ensures pending { IfOk result (λ w. changes w ≡ Mark book.new ∷ []) }
+    ensures book { OnOk result (flat book.new.editions ≡ joins_of replica.now.cells) }
+{
+    first_edition(book, replica)?;
+    let mut writer = unopened_writer(alloc, replica, readers, &*book)?;
+    match writer.append(Change::Mark(book.front())) {
+        Ok(()) => Ok(writer),
+        Err(_) => Err(discard(writer, rt)),
+    }
+}
+
+/// A writer of two copies of a replica, to which so many readers may come.
+fn started_writer<A: Archive, R: Wait>(
+    alloc: Global,
+    rt: &R,
+    replica: &Replica<A>,
+    readers: usize,
+    book: &mut Editions,
+) -> Result<DeskWriter<A>, AllocError>
+    requires some_reader { 1 ≤ readers }
+    requires few_readers { readers ≤ MAX_READERS }
+    requires fresh { book.old.editions ≡ [] }
+    ensures holds { OnOk result (IsHolding (held replica.now)) }
+    ensures view { IfOk result (λ w. view w.desk.place ≡ keeper_of (held replica.now) book.new.desk) }
+    ensures copy { IfOk result (λ w. held w.desk.shown.value.replica ≡ held replica.now) }
+    ensures front { IfOk result (λ w. w.desk.shown.value.front ≡ book.new) }
+    ensures pending { IfOk result (λ w. changes w ≡ []) }
+    ensures book { OnOk result (flat book.new.editions ≡ joins_of replica.now.cells) }
+{
+    let writer = marked_writer(alloc, rt, replica, readers, book)?;
+    match start(rt, writer, &*book) {
+        (writer, Ok(())) => Ok(writer),
+        (writer, Err(_)) => Err(discard(writer, rt)),
+    }
+}
+
 /// The two copies of a replica with all that a keeper needs besides, and their readers.
 fn begin<A: Archive, R: Wait>(
     alloc: Global,
@@ -134,27 +208,11 @@ fn begin<A: Archive, R: Wait>(
     ensures seen { IfOk result (λ r.
         All (HasSeen r.1.desk replica.now.schema (joins_of replica.now.cells)) r.2.items) }
 {
-    let schema = replica.schema();
     let mut book = Editions::open();
-    let first = unopened(alloc, replica, &book)?;
-    let second = unopened(alloc, replica, &book)?;
-    first_edition(&mut book, replica)?;
-    let mut writer = DeskWriter::new(alloc, first, second, readers)?;
-    if writer.append(Change::Mark(book.front())).is_err() {
-        drop(writer.take(rt));
-        return Err(AllocError);
-    }
-    let (mut writer, started) = start(rt, writer, &book);
-    if started.is_err() {
-        drop(writer.take(rt));
-        return Err(AllocError);
-    }
-    match seats(&mut writer, alloc, schema, readers) {
+    let mut writer = started_writer(alloc, rt, replica, readers, &mut book)?;
+    match seats(&mut writer, alloc, replica.schema(), readers) {
         Ok(all) => Ok((writer, book, all)),
-        Err(_) => {
-            drop(writer.take(rt));
-            Err(AllocError)
-        }
+        Err(_) => Err(discard(writer, rt)),
     }
 }
 

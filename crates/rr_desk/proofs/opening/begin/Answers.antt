@@ -5,15 +5,11 @@ use Rattle.rr_replica.specs.Standing.{held}
 use Rattle.rr_desk.specs.declared.rule.View.{View}
 use Rattle.rr_desk.specs.Rule.{keeper_of}
 use Rattle.rr_desk.specs.Standing.{HasSeen}
-use Rattle.rr_desk.proofs.RuleLemmas.{holds_first}
 use Rattle.rr_desk.proofs.opening.begin.Goals as goal
-
-pub new-requires-clause-rule : goal.new-requires-clause-rule
-new-requires-clause-rule g c = holds_first _ (search rules)
 
 pub returns-in-Ok-clause-seen : goal.returns-in-Ok-clause-seen
 returns-in-Ok-clause-seen g c =
-    let v = view c.start-writer.result.0.desk.place in
-    let place : v ≡ keeper_of (held c.args.replica.now) c.first_edition.new.book.desk = search rules in
-    let schema : c.schema-schema.result.now ≡ c.args.replica.now.schema = c.schema-schema.ensures.value in
+    let v = view c.in_ok-writer.writer.desk.place in
+    let place : v ≡ keeper_of (held c.args.replica.now) c.started_writer.new.book.desk = search rules in
+    let schema : c.schema.result.now ≡ c.args.replica.now.schema = c.schema.ensures.value in
     subst (λ (z : Layout × View). All (HasSeen z.1.desk z.0 z.1.seen) c.in-Ok.all.items) (λ i. (schema i, place i)) c.in-Ok.ensures.seen
