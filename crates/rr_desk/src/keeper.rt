@@ -22,7 +22,7 @@ ghost use Rattle.rr_desk.specs.Standing.{cells_of, holding_of, with_all_publishe
 
 use crate::book::Editions;
 use crate::note::Note;
-use crate::shown::{Change, CopyState, Shown};
+use crate::shown::{Change, CopyState, Hinted, Shown};
 use crate::writing::{DeskWriter, mark, publish};
 use core::mem::replace_with;
 use left_right::Absorb;
@@ -31,7 +31,7 @@ use rr_base::limits::MAX_NUMBER;
 use rr_base::{Counted, Schema};
 use rr_delta::{Name, summary, summary_after};
 use rr_key::SeriesKey;
-use rr_replica::{Cell, Op, PutFault, Replica, Sample};
+use rr_replica::{Cell, Hint, Op, PutFault, Replica, Sample};
 use rr_snapshot::SaveFault;
 use std::alloc::{AllocError, Global};
 use std::io::Write;
@@ -51,6 +51,8 @@ where
     pub(crate) book: Editions,
     /// Whether the last pending change is a mark of the whole book.
     pub(crate) marked: bool,
+    /// Where key texts of points are written, one over the other.
+    pub(crate) text: Vec<u8>,
 }
 
 impl<A: Archive> Model for Keeper<A>
@@ -83,17 +85,20 @@ where
 impl<A: Archive> Keeper<A> {
     /// Makes an operation pending that the keeper's own replica takes, and applies it there. Room is
     /// made first, so that it is taken whole or not at all.
-    fn push(&mut self, op: Op) -> Result<(), AllocError>
+    fn push(&mut self, hint: Hint, op: Op) -> Result<(), AllocError>
         requires { accepts (holding_of self.old) op ≡ true }
         ensures pending { OnOk result (self.new ≡ with_pending self.old op) }
         ensures unchanged { OnErr result (self.new ≡ self.old) }
     {
-        let shown = op.copy()?;
-        self.own.ready(&op)?;
+        let shown = Hinted {
+            op: op.copy()?,
+            hint,
+        };
+        self.own.ready_near(hint, &op)?;
         if self.writer.append(Change::Apply(shown)).is_err() {
             return Err(AllocError);
         }
-        self.own.apply(&op)?;
+        self.own.apply_near(hint, &op)?;
         self.marked = false;
         Ok(())
     }
@@ -111,7 +116,8 @@ impl<A: Archive> Keeper<A> {
     ///
     /// Refused as `NumbersSpent` where the next number is past 2^40. After a refusal nothing has
     /// changed. The cost is that of `Replica::put`, once here and once in each copy when it is
-    /// published; where the row is in memory only the list of pending operations grows.
+    /// published, where the key is mostly found without a look-up. Where the row is in memory only the
+    /// list of pending operations grows.
     pub fn put(&mut self, key: &SeriesKey, time: i64, value: i64) -> Result<u64, PutFault>
         ensures number { IfOk result (λ number. number ≡ self.old.next) }
         ensures pending { OnOk result (self.new ≡ with_put self.old key.now time value) }
@@ -122,14 +128,15 @@ impl<A: Archive> Keeper<A> {
         if number > MAX_NUMBER {
             return Err(PutFault::NumbersSpent);
         }
+        let (key, hint) = self.own.known_key(key)?;
         let sample = Sample {
             origin: self.own.origin(),
             number,
-            key: key.copy()?,
+            key,
             time,
             value,
         };
-        self.push(Op::Put(sample))?;
+        self.push(hint, Op::Put(sample))?;
         Ok(number)
     }
 
@@ -140,7 +147,7 @@ impl<A: Archive> Keeper<A> {
         ensures pending { OnOk result (self.new ≡ with_pending self.old (Join cell.now)) }
         ensures unchanged { OnErr result (self.new ≡ self.old) }
     {
-        self.push(Op::Join(cell.copy()?))
+        self.push(Hint::none(), Op::Join(cell.copy()?))
     }
 
     /// The names and versions of as many cells as `count` from a place on, in the order of the names;
@@ -222,6 +229,7 @@ impl<A: Archive> Keeper<A> {
             own,
             book: _,
             marked: _,
+            text: _,
         } = self;
         drop(writer.take(rt));
         own

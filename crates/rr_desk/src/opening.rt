@@ -245,6 +245,7 @@ pub fn open<A: Archive, R: Wait>(
                 own: replica,
                 book,
                 marked: false,
+                text: Vec::new(alloc),
             };
             Ok((keeper, all))
         }

@@ -8,9 +8,11 @@ ghost use Rattle.rr_desk.specs.Standing.{holding_of};
 
 use crate::keeper::Keeper;
 use rr_archive::Archive;
+use rr_key::SeriesKey;
 use rr_line::{Field, Point};
 use rr_replica::{WriteFault, is_ahead};
 use std::alloc::AllocError;
+use std::mem::replace;
 
 impl<A: Archive> Keeper<A> {
     ghost use Rattle.rr_replica.specs.Writing.{IsOfALine, is_ahead, lacks_numbers};
@@ -23,7 +25,7 @@ impl<A: Archive> Keeper<A> {
     /// Refused as `AheadOfClock` where the point's own time is greater than `now + lead`, and as
     /// `NumbersSpent` where fewer numbers are left than the point has fields; nothing has then
     /// changed. Where memory runs out, `Memory` says how many fields, from the first on, were put.
-    /// The cost is that of making the keys and of the puts.
+    /// The cost is that of writing the keys and of the puts.
     pub fn write(
         &mut self,
         point: &Point<'_>,
@@ -88,8 +90,12 @@ impl<A: Archive> Keeper<A> {
             ≡ with_put self.old (key_text (point_view point.now) field.now.key.now) time field.now.value) }
         ensures unchanged { OnErr result (self.new ≡ self.old) }
     {
-        let key = point.series_key(self.alloc, field.key)?;
-        match self.put(&key, time, field.value) {
+        let mut text = replace(&mut self.text, Vec::new(self.alloc));
+        point.write_key(self.alloc, &mut text, field.key)?;
+        let key = SeriesKey::from_vec(self.alloc, text);
+        let put = self.put(&key, time, field.value);
+        self.text = key.into_vec();
+        match put {
             Ok(_) => Ok(()),
             Err(_) => Err(AllocError),
         }

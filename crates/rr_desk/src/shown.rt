@@ -4,15 +4,32 @@ use crate::book::Front;
 use left_right::Absorb;
 use rr_archive::Archive;
 use rr_base::{Origin, Schema};
-use rr_replica::{Op, Replica};
+use rr_replica::{Hint, Op, Replica};
 use std::alloc::AllocError;
 use std::marker::Model;
+
+/// An operation, with a hint where the series is that it is of.
+#[derive(Drop)]
+pub struct Hinted {
+    /// The operation.
+    pub op: Op,
+    /// Where both copies are likely to have the series.
+    pub hint: Hint,
+}
+
+impl Model for Hinted {
+    ghost use Rattle.rr_replica.specs.declared.op.Op as declared;
+
+    ghost Value = { declared.Op };
+
+    ghost view = { λ h. h.op };
+}
 
 /// What both copies take in.
 #[derive(Drop)]
 pub enum Change {
     /// An operation.
-    Apply(Op),
+    Apply(Hinted),
     /// The copy then has all that is in the book so far, and may be read.
     Mark(Front),
 }
@@ -68,8 +85,8 @@ impl<A: Archive> Absorb<Change> for Shown<A> {
 
     fn absorb_first(&mut self, operation: &Change, _other: &Shown<A>) -> Result<(), AllocError> {
         match operation {
-            Change::Apply(op) => {
-                self.replica.apply(op)?;
+            Change::Apply(hinted) => {
+                self.replica.apply_near(hinted.hint, &hinted.op)?;
             }
             Change::Mark(front) => {
                 self.started = true;

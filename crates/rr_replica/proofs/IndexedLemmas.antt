@@ -9,7 +9,7 @@ use Rattle.std.specs.BTreeMap.{is_at, insert_entry}
 use Rattle.std.specs.Ordering.{is_eq, match_ordering}
 use Rattle.std.proofs.lemmas.List.{length-append}
 use Rattle.std.specs.Cmp.Lexicographic.{pointwise, bytes_decides, nat_list_cmp_total}
-use Rattle.std.proofs.lemmas.Option.{slice_get_within}
+use Rattle.std.proofs.lemmas.Option.{slice_get_within, slice_get-get_or}
 use Rattle.std.proofs.lemmas.Bool.{cases_lt}
 use Rattle.rr_join.proofs.Members.{same_from_tie, tie_itself}
 use Rattle.rr_base.specs.Bytes.{bytes_cmp}
@@ -40,6 +40,12 @@ key_at keys (e ∷ es) all key i at = elim (is_at (bytes_cmp key) e.0) as (λ b.
   | true ↦ λ t h. ap (slice_get keys) (ap (λ o. unwrap_or o i) (sym h)) ∙ all.0 ∙ ap (λ k. Some k) (sym (is_same key e.0 t))
   | false ↦ λ t h. key_at keys es all.1 key i h
 ] refl at
+
+pub key_within : (keys : List (List ℕ)) (indices : List (List ℕ × ℕ)) → AllByRecursion (λ e. slice_get keys e.1 ≡ Some e.0) indices → (key : List ℕ) (i : ℕ) → Some i ≡ index_of indices key → i < length keys
+key_within keys indices all key i at = slice_get_within keys i key (key_at keys indices all key i (sym at))
+
+pub key_found : (keys : List (List ℕ)) (indices : List (List ℕ × ℕ)) → AllByRecursion (λ e. slice_get keys e.1 ≡ Some e.0) indices → (key was : List ℕ) (i : ℕ) → Some i ≡ index_of indices key → was ≡ get_or keys i was → was ≡ key
+key_found keys indices all key was i at is = ap (λ o. unwrap_or o was) (ap (λ k. Some k) is ∙ sym (slice_get-get_or keys i was (key_within keys indices all key i at)) ∙ key_at keys indices all key i (sym at))
 
 -- ---- a key more
 

@@ -4,6 +4,7 @@ ghost use Rattle.rr_replica.specs.Archives.{IsOpOf};
 ghost use Rattle.rr_replica.specs.Operations.{accepts, step};
 ghost use Rattle.rr_replica.specs.Standing.{held, IsReadyFor};
 
+use crate::hint::Hint;
 use crate::op::Op;
 use crate::reading::Reading;
 use crate::replica::Replica;
@@ -43,6 +44,16 @@ impl<A: Archive> Replica<A> {
         ensures unchanged { OnErr result (held self.new ≡ held self.old) }
         ensures room { IsReadyFor self.old op.now → IsOk result }
     {
+        self.apply_near(Hint::none(), op)
+    }
+
+    /// Takes an operation as [`Replica::apply`] does, with a hint where its series is.
+    pub fn apply_near(&mut self, hint: Hint, op: &Op) -> Result<bool, AllocError>
+        ensures accepted { IfOk result (λ done. done ≡ accepts (held self.old) op.now) }
+        ensures applied { OnOk result (held self.new ≡ step (held self.old) op.now) }
+        ensures unchanged { OnErr result (held self.new ≡ held self.old) }
+        ensures room { IsReadyFor self.old op.now → IsOk result }
+    {
         if !self.accepts(op) {
             return Ok(false);
         }
@@ -54,7 +65,7 @@ impl<A: Archive> Replica<A> {
                     time: sample.time,
                     value: sample.value,
                 };
-                self.put_reading(&sample.key, reading)?;
+                self.put_reading(hint, &sample.key, reading)?;
             }
             Op::Join(cell) => self.join_cell(cell)?,
         }

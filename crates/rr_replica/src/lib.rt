@@ -19,6 +19,7 @@ mod archives;
 mod cell;
 mod copying;
 mod fault;
+mod hint;
 mod hints;
 mod joining;
 pub mod laws;
@@ -35,6 +36,7 @@ mod writing;
 
 pub use cell::{Cell, CellRef};
 pub use fault::{JoinFault, PutFault, WriteFault};
+pub use hint::Hint;
 pub use op::Op;
 pub use replica::Replica;
 pub use sample::Sample;

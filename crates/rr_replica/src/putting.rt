@@ -6,6 +6,7 @@ ghost use Rattle.rr_replica.specs.SeriesMap.{entries_of, IsIndexed};
 ghost use Rattle.rr_replica.specs.Held.{held_series, keyed, keyed_sample, HasRoom, IsHeld};
 
 use crate::archives::{empty_archives, put_into};
+use crate::hint::Hint;
 use crate::op::Op;
 use crate::reading::Reading;
 use crate::series::SeriesMap;
@@ -19,6 +20,7 @@ pub(crate) fn put_in<A: Archive>(
     series: &mut SeriesMap<A>,
     alloc: Global,
     schema: &Schema,
+    hint: Hint,
     key: &SeriesKey,
     sample: Reading,
 ) -> Result<(), AllocError>
@@ -35,7 +37,7 @@ pub(crate) fn put_in<A: Archive>(
 {
     // The proof needs that the text is a key text, which `text` ensures.
     let _text = key.text();
-    match series.find(key) {
+    match series.find_near(hint, key) {
         Some(index) => put_into(&mut series.archives[index], schema, &sample),
         None => {
             let mut archives = empty_archives(alloc, schema)?;

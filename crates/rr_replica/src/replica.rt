@@ -16,6 +16,7 @@ ghost use Rattle.rr_replica.specs.Writing.{lacks_numbers};
 use crate::cell::{Cell, CellRef};
 use crate::copying::copy_series;
 use crate::fault::{JoinFault, PutFault};
+use crate::hint::Hint;
 use crate::joining::{join_in, next_after};
 use crate::listing::{count_cells, nth_cell};
 use crate::next::{NameRef, next_cell};
@@ -146,12 +147,17 @@ impl<A: Archive> Replica<A> {
             time,
             value,
         };
-        self.put_reading(key, sample)?;
+        self.put_reading(Hint::none(), key, sample)?;
         Ok(number)
     }
 
     /// Puts a sample of a key under its own number, after which the next one comes.
-    pub(crate) fn put_reading(&mut self, key: &SeriesKey, sample: Reading) -> Result<(), AllocError>
+    pub(crate) fn put_reading(
+        &mut self,
+        hint: Hint,
+        key: &SeriesKey,
+        sample: Reading,
+    ) -> Result<(), AllocError>
         requires origin { sample.origin ≡ self.old.origin }
         requires number { self.old.next ≤ sample.number }
         ensures put { OnOk result (held self.new ≡ with_sample (held self.old) (keyed_sample key.now sample)) }
@@ -159,7 +165,14 @@ impl<A: Archive> Replica<A> {
         ensures room { HasRoomFor self.old (Op.Put (keyed key.now sample)) → IsOk result }
     {
         let number = sample.number;
-        put_in(&mut self.series, self.alloc, &self.schema, key, sample)?;
+        put_in(
+            &mut self.series,
+            self.alloc,
+            &self.schema,
+            hint,
+            key,
+            sample,
+        )?;
         self.next = number + 1;
         Ok(())
     }
@@ -173,10 +186,29 @@ impl<A: Archive> Replica<A> {
         ensures unchanged { held self.new ≡ held self.old }
         ensures room { OnOk result (IsReadyFor self.new op.now) }
     {
+        self.ready_near(Hint::none(), op)
+    }
+
+    /// Makes room as [`Replica::ready`] does, with a hint where the series of the operation is.
+    pub fn ready_near(&mut self, hint: Hint, op: &Op) -> Result<(), AllocError>
+        ensures unchanged { held self.new ≡ held self.old }
+        ensures room { OnOk result (IsReadyFor self.new op.now) }
+    {
         if !self.accepts(op) {
             return Ok(());
         }
-        make_room_in(&mut self.series, self.alloc, &self.schema, op)
+        make_room_in(&mut self.series, self.alloc, &self.schema, hint, op)
+    }
+
+    /// The key, and where its series is. Of a series that is known the key shares its text with this
+    /// one, so no memory is taken and a further look-up has the text at hand.
+    ///
+    /// The cost is one look-up of the key.
+    pub fn known_key(&self, key: &SeriesKey) -> Result<(SeriesKey, Hint), AllocError>
+        ensures { IfOk result (λ known. known.0 ≡ key.now) }
+    {
+        let (known, index) = self.series.known_key(key);
+        Ok((known.copy()?, Hint { index }))
     }
 
     /// The archive of a key with a number, from 0. There is none where the key is unknown, nor past

@@ -7,6 +7,7 @@ ghost use Rattle.rr_replica.specs.SeriesMap.{entries_of, IsIndexed};
 ghost use Rattle.rr_replica.specs.Held.{held_series, HasRoom, AreAllSized};
 
 use crate::archives::{empty_archives, make_room};
+use crate::hint::Hint;
 use crate::op::Op;
 use crate::series::SeriesMap;
 use rr_archive::Archive;
@@ -19,6 +20,7 @@ pub(crate) fn make_room_in<A: Archive>(
     series: &mut SeriesMap<A>,
     alloc: Global,
     schema: &Schema,
+    hint: Hint,
     op: &Op,
 ) -> Result<(), AllocError>
     requires layout { IsLayout schema.now }
@@ -32,7 +34,7 @@ pub(crate) fn make_room_in<A: Archive>(
     ensures room { OnOk result (HasRoom A.is_ready schema.now op.now (entries_of series.new)) }
 {
     let key = op.key();
-    match series.find(key) {
+    match series.find_near(hint, key) {
         Some(index) => make_room(&mut series.archives[index], schema, op),
         None => {
             let mut archives = empty_archives(alloc, schema)?;

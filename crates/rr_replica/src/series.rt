@@ -1,11 +1,12 @@
 //! The archives of all keys, found by a key.
-ghost use Rattle.std.specs.Prelude.{◌≡◌, ◌∷◌, ◌++◌, ℕ, List, [], None, Some, Option, cond, IfOk, OnOk, OnErr, slice_get};
+ghost use Rattle.std.specs.Prelude.{◌≡◌, ◌∷◌, ◌++◌, ℕ, List, [], None, Some, Option, cond, IfOk, IfSome, OnOk, OnErr, slice_get};
 ghost use Rattle.std.specs.Option.{option_map};
 ghost use Rattle.std.specs.BTreeMap.{is_at};
 ghost use Rattle.rr_base.specs.Bytes.{bytes_cmp};
 ghost use Rattle.rr_replica.specs.Held.{archives_of};
 ghost use Rattle.rr_replica.specs.Indexed.{index_of, items_of};
 
+use crate::hint::Hint;
 use crate::hints::Hints;
 use rr_key::SeriesKey;
 use std::alloc::{AllocError, Global};
@@ -49,6 +50,40 @@ impl<A: Drop> SeriesMap<A> {
         match self.hints.find(&self.keys, key) {
             Some(index) => Some(index),
             None => self.indices.get(key).copied(),
+        }
+    }
+
+    /// The index of a hint, if the key is there.
+    fn index_near(&self, hint: Hint, key: &SeriesKey) -> Option<usize>
+        ensures { IfSome result (λ i. slice_get self.now.keys.items i ≡ Some key.now) }
+    {
+        let near = self.keys.get(hint.index)?;
+        if near == key {
+            return Some(hint.index);
+        }
+        None
+    }
+
+    /// The index of a key, if it is known. The hint is tried first.
+    pub(crate) fn find_near(&self, hint: Hint, key: &SeriesKey) -> Option<usize>
+        requires { IsIndexed self.now }
+        ensures { result ≡ index_of self.now.indices.entries key.now }
+    {
+        match self.index_near(hint, key) {
+            Some(index) => Some(index),
+            None => self.find(key),
+        }
+    }
+
+    /// The key as it is known, with its index; one that isn't known as it is, with the index that it
+    /// gets when it is added next.
+    pub(crate) fn known_key<'a>(&'a self, key: &'a SeriesKey) -> (&'a SeriesKey, usize)
+        requires { IsIndexed self.now }
+        ensures { result.0.now ≡ key.now }
+    {
+        match self.find(key) {
+            Some(index) => (&self.keys[index], index),
+            None => (key, self.keys.len()),
         }
     }
 

@@ -1,7 +1,7 @@
 use Rattle.std.proofs.Common.{subst}
 use Rattle.rr_replica.specs.declared.op.Op.{Op}
 use Rattle.rr_replica.specs.Archives.{IsOpOf}
-use Rattle.rr_replica.proofs.replica.Replica.apply.Goals as goal
+use Rattle.rr_replica.proofs.replica.Replica.apply_near.Goals as goal
 
 pub invariant_of-reading : goal.invariant_of-reading
 invariant_of-reading g c =

@@ -8,7 +8,7 @@ use Rattle.rr_replica.specs.Standing.{Standing, held}
 use Rattle.rr_replica.proofs.HeldLemmas.{kept_same}
 use Rattle.rr_replica.proofs.IndexedLemmas.{entries_ordered}
 use Rattle.rr_replica.proofs.RoomLemmas.{room_told, taken_origin}
-use Rattle.rr_replica.proofs.replica.Replica.ready.Goals as goal
+use Rattle.rr_replica.proofs.replica.Replica.ready_near.Goals as goal
 
 pub invariant_of-self : goal.invariant_of-self
 invariant_of-self g c =
