@@ -22,13 +22,14 @@ use std::time::Clock;
 /// The ending where memory ran out.
 const OUT_OF_MEMORY: Ending = Ending::Failed(ToolFault::Memory);
 
-/// Listens on an address.
+/// Listens on an address, whose connections may be silent for the idle time.
 fn listen(
     rt: &(impl AllocGlobal + Net<Listener = TcpListener, Stream = TcpStream>),
     address: &str,
+    idle: Option<u64>,
 ) -> Result<Listening, Ending> {
     match TcpListener::bind(rt, address) {
-        Ok(listener) => Ok(Listening::new(rt.alloc(), listener)),
+        Ok(listener) => Ok(Listening::new(rt.alloc(), listener, idle)),
         Err(_) => Err(Ending::BadAddress),
     }
 }
@@ -37,10 +38,11 @@ fn listen(
 fn listen_all(
     rt: &(impl AllocGlobal + Net<Listener = TcpListener, Stream = TcpStream>),
     addresses: &[String],
+    idle: Option<u64>,
 ) -> Result<Vec<Listening>, Ending> {
     let mut all = Vec::new(rt.alloc());
     for address in addresses {
-        let listening = listen(rt, address.as_str())?;
+        let listening = listen(rt, address.as_str(), idle)?;
         if all.push(listening).is_err() {
             return Err(OUT_OF_MEMORY);
         }
@@ -93,7 +95,7 @@ where
     let Ok(mut shelf) = FileShelf::new(rt, alloc, save) else {
         return OUT_OF_MEMORY;
     };
-    let mut dial = Calling::new(rt, alloc);
+    let mut dial = Calling::new(rt, alloc, config.idle);
     let mut clock = SystemClock::new(rt);
     match serve_node(
         alloc, keeper, &mut lines, &mut dial, &mut shelf, &mut seats, &mut clock, config, rt,
@@ -151,8 +153,8 @@ where
 {
     let config = read_config(rt, config)?;
     let replica = first_replica(rt, &config.schema, origin, load)?;
-    let lines = listen(rt, config.lines.as_str())?;
-    let listening = listen_all(rt, &config.fetch)?;
+    let lines = listen(rt, config.lines.as_str(), config.idle)?;
+    let listening = listen_all(rt, &config.fetch, config.idle)?;
     Ok(serve_replica(rt, replica, lines, listening, save, &config))
 }
 
