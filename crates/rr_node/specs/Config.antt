@@ -12,7 +12,7 @@ use Rattle.rr_line.specs.declared.precision.Precision.TheVariants.{Ns}
 use Rattle.rr_node.specs.declared.config.Config.{Config}
 use Rattle.rr_node.specs.declared.fault.ConfigFault.{ConfigFault}
 use Rattle.rr_node.specs.Fault.{of_schema_fault}
-use Rattle.rr_node.specs.Values.{needed, if_there, text_of, count_of, some_count_of, texts_of, readers_of, precision_of}
+use Rattle.rr_node.specs.Values.{needed, if_there, text_of, count_of, some_count_of, some_idle_of, texts_of, readers_of, precision_of}
 
 -- a configuration, with its texts by their bytes
 pub record ConfigView : Type 0 where
@@ -24,6 +24,7 @@ pub record ConfigView : Type 0 where
   pub visits : ℕ
   pub lead : Option ℕ
   pub precision : Precision
+  pub idle : Option ℕ
 
 abbrev pub config_view : Config → ConfigView
 config_view c = record {
@@ -35,6 +36,7 @@ config_view c = record {
   visits = c.visits;
   lead = c.lead;
   precision = c.precision;
+  idle = c.idle;
 }
 
 -- a step of a schema as one of the configuration
@@ -55,7 +57,8 @@ config_in table = do
   visits ← if_there 0 count_of (get_member (codes "visits") table)
   lead ← if_there None some_count_of (get_member (codes "lead") table)
   precision ← if_there Ns precision_of (get_member (codes "precision") table)
-  Ok (record { schema = schema; lines = lines; fetch = fetch; peers = peers; rounds = rounds; visits = visits; lead = lead; precision = precision })
+  idle ← if_there None some_idle_of (get_member (codes "idle") table)
+  Ok (record { schema = schema; lines = lines; fetch = fetch; peers = peers; rounds = rounds; visits = visits; lead = lead; precision = precision; idle = idle })
 
 -- the configuration of a text
 abbrev pub config_of : List ℕ → Result ConfigView ConfigFault

@@ -7,6 +7,7 @@ use Rattle.rr_base.specs.declared.limits.TheConstants.{MAX_READERS}
 use Rattle.rr_line.specs.declared.precision.Precision.{Precision}
 use Rattle.rr_line.specs.declared.precision.Precision.TheVariants.{Ns, Us, Ms, S}
 use Rattle.rr_node.specs.declared.fault.ConfigFault.{ConfigFault}
+use Rattle.rr_node.specs.declared.value.TheConstants.{MAX_IDLE}
 use Rattle.rr_node.specs.declared.fault.ConfigFault.TheVariants.{MissingField, WrongKind, BadCount, BadPrecision}
 
 -- a key that must be there
@@ -66,3 +67,12 @@ precision_named name =
 
 abbrev pub precision_of : Data → Result Precision ConfigFault
 precision_of value = text_of value >>= precision_named
+
+-- a number of seconds from 1 to a day
+abbrev pub idle_of : Data → Result ℕ ConfigFault
+idle_of value = do
+  seconds ← count_of value
+  unless BadCount (not (nat_le 1 seconds && nat_le seconds MAX_IDLE)) (Ok seconds)
+
+abbrev pub some_idle_of : Data → Result (Option ℕ) ConfigFault
+some_idle_of value = idle_of value >>= λ n. Ok (Some n)

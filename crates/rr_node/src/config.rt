@@ -9,7 +9,7 @@ ghost use Rattle.rr_base.specs.Results.{GivesUnless};
 ghost use Rattle.rr_base.specs.declared.fault.SchemaFault.TheVariants.{BadToml};
 ghost use Rattle.rr_line.specs.declared.precision.Precision.TheVariants.{Ns};
 ghost use Rattle.rr_node.specs.Config.{config_in, config_of, config_view};
-ghost use Rattle.rr_node.specs.Values.{if_there, count_of, some_count_of, texts_of, precision_of};
+ghost use Rattle.rr_node.specs.Values.{if_there, count_of, some_count_of, some_idle_of, texts_of, precision_of};
 
 use crate::fault::ConfigFault;
 use crate::value;
@@ -40,6 +40,9 @@ pub struct Config {
     pub lead: Option<u64>,
     /// The unit of the times of lines.
     pub precision: Precision,
+    /// For how many seconds a connection may move no byte, from 1 to 86,400; without end where it is
+    /// missing.
+    pub idle: Option<u64>,
 }
 
 /// The peers, none where the key is missing.
@@ -83,6 +86,16 @@ fn precision_in(table: &Table) -> Result<Precision, ConfigFault>
     }
 }
 
+/// The idle time, if the key is there.
+fn idle_in(table: &Table) -> Result<Option<u64>, ConfigFault>
+    ensures { result ≡ if_there None some_idle_of (get_member (codes "idle") (table_view table.now)) }
+{
+    match find(table, "idle") {
+        Some(value) => Ok(Some(value::idle_of(value)?)),
+        None => Ok(None),
+    }
+}
+
 impl Config {
     /// The configuration that a TOML table writes. Other keys are ignored.
     #[tactic(auto, unfolding(crate::specs::Config::config_in))]
@@ -97,6 +110,7 @@ impl Config {
         let visits = count_in(table, "visits")?;
         let lead = lead_in(table)?;
         let precision = precision_in(table)?;
+        let idle = idle_in(table)?;
         Ok(Config {
             schema,
             lines: String::from_str(alloc, lines)?,
@@ -106,6 +120,7 @@ impl Config {
             visits,
             lead,
             precision,
+            idle,
         })
     }
 
@@ -113,8 +128,8 @@ impl Config {
     ///
     /// The keys are those of [`Schema::from_toml`], and `lines`, an address; `fetch`, an array of 1 to
     /// 16 addresses; `peers`, an array of addresses; `rounds` and `visits`, numbers from 0; `lead`, a
-    /// number of nanoseconds from 0; and `precision`, one of `ns`, `us`, `ms` and `s`. All but `lines`
-    /// and `fetch` may be missing. Other keys are ignored.
+    /// number of nanoseconds from 0; `precision`, one of `ns`, `us`, `ms` and `s`; and `idle`, a number of
+    /// seconds from 1 to 86,400. All but `lines` and `fetch` may be missing. Other keys are ignored.
     ///
     /// Refusals, in this order: those of the schema; then key by key, in the order above,
     /// `MissingField`, `WrongKind`, and `BadCount` or `BadPrecision`. `Memory` is answered where

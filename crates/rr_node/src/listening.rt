@@ -7,6 +7,7 @@ use std::io;
 use std::io::{Read, Write};
 use std::net::{TcpListener, TcpStream};
 use std::sync::Arc;
+use std::time::Duration;
 
 /// One side of a TCP connection, which both share.
 #[derive(Drop)]
@@ -48,24 +49,43 @@ pub fn halves(alloc: Global, stream: TcpStream) -> Option<(Half, Half)> {
     Some((Half { stream: input }, Half { stream: output }))
 }
 
+/// Limits how long a connection may move no byte, where a number of seconds is given: a read or write
+/// that waits longer fails.
+pub(crate) fn limit_idle(stream: &TcpStream, idle: Option<u64>) -> io::Result<()> {
+    let Some(seconds) = idle else {
+        return Ok(());
+    };
+    let limit = Some(Duration::from_secs(seconds));
+    stream.set_read_timeout(limit)?;
+    stream.set_write_timeout(limit)
+}
+
 /// The connections that come to an address, without end. Nothing is known of them.
 ///
-/// One for which there is no memory fails.
+/// One for which there is no memory fails. A read or write of one that moves no byte for the idle time
+/// fails too, so that no silent peer holds whoever serves it.
 #[derive(Drop)]
 pub struct Listening {
     alloc: Global,
     listener: TcpListener,
+    idle: Option<u64>,
 }
 
 impl Listening {
-    /// The connections that come to a listener.
-    pub fn new(alloc: Global, listener: TcpListener) -> Listening {
-        Listening { alloc, listener }
+    /// The connections that come to a listener, each of which may move no byte for `idle` seconds, or
+    /// without end where that is missing.
+    pub fn new(alloc: Global, listener: TcpListener, idle: Option<u64>) -> Listening {
+        Listening {
+            alloc,
+            listener,
+            idle,
+        }
     }
 
     /// Waits for the next connection, and takes its halves.
     fn accept(&self) -> Option<(Half, Half)> {
         let (stream, _) = self.listener.accept().ok()?;
+        limit_idle(&stream, self.idle).ok()?;
         halves(self.alloc, stream)
     }
 }

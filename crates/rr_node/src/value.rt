@@ -6,13 +6,16 @@ ghost use Rattle.std.specs.String.{string_bytes};
 ghost use Rattle.toml.specs.Data.{get_member};
 ghost use Rattle.toml.specs.View.{view, table_view, array_view};
 ghost use Rattle.rr_base.specs.Results.{Gives, GivesUnless};
-ghost use Rattle.rr_node.specs.Values.{needed, text_of, count_of, texts_in, texts_of, readers_of, precision_named, precision_of};
+ghost use Rattle.rr_node.specs.Values.{needed, text_of, count_of, texts_in, texts_of, readers_of, precision_named, precision_of, idle_of};
 
 use crate::fault::ConfigFault;
 use rr_base::limits::MAX_READERS;
 use rr_line::Precision;
 use std::alloc::Global;
 use toml::{Table, Value};
+
+/// The most seconds for which a connection may move no byte: one day.
+pub(crate) const MAX_IDLE: u64 = 86_400;
 
 /// The value at a key, if it is there.
 pub(crate) fn find<'a>(table: &'a Table, key: &str) -> Option<&'a Value>
@@ -99,4 +102,15 @@ pub(crate) fn precision_of(value: &Value) -> Result<Precision, ConfigFault>
     ensures { result ≡ precision_of (view value.now) }
 {
     precision_named(text_of(value)?)
+}
+
+/// For how many seconds a connection may move no byte, from 1 to a day.
+pub(crate) fn idle_of(value: &Value) -> Result<u64, ConfigFault>
+    ensures { result ≡ idle_of (view value.now) }
+{
+    let seconds = count_of(value)?;
+    if seconds == 0 || seconds > MAX_IDLE {
+        return Err(ConfigFault::BadCount);
+    }
+    Ok(seconds)
 }

@@ -45,13 +45,14 @@ where
         + Sync,
 {}
 
-/// Listens on an address.
+/// Listens on an address, whose connections may be silent for the idle time.
 fn listen(
     rt: &(impl AllocGlobal + Net<Listener = TcpListener, Stream = TcpStream>),
     address: &str,
+    idle: Option<u64>,
 ) -> Result<Listening, Ending> {
     match TcpListener::bind(rt, address) {
-        Ok(listener) => Ok(Listening::new(rt.alloc(), listener)),
+        Ok(listener) => Ok(Listening::new(rt.alloc(), listener, idle)),
         Err(_) => Err(Ending::BadAddress),
     }
 }
@@ -60,10 +61,11 @@ fn listen(
 fn listen_all(
     rt: &(impl AllocGlobal + Net<Listener = TcpListener, Stream = TcpStream>),
     addresses: &[String],
+    idle: Option<u64>,
 ) -> Result<Vec<Listening>, Ending> {
     let mut all = Vec::new(rt.alloc());
     for address in addresses {
-        let listening = listen(rt, address.as_str())?;
+        let listening = listen(rt, address.as_str(), idle)?;
         if all.push(listening).is_err() {
             return Err(OUT_OF_MEMORY);
         }
@@ -85,8 +87,8 @@ impl Sockets {
         rt: &(impl AllocGlobal + Net<Listener = TcpListener, Stream = TcpStream>),
         config: &Config,
     ) -> Result<Sockets, Ending> {
-        let lines = listen(rt, config.lines.as_str())?;
-        let fetch = listen_all(rt, &config.fetch)?;
+        let lines = listen(rt, config.lines.as_str(), config.idle)?;
+        let fetch = listen_all(rt, &config.fetch, config.idle)?;
         Ok(Sockets { lines, fetch })
     }
 }
@@ -120,7 +122,7 @@ fn serve_seats<R: Host>(
 ) -> Result<(), NodeFault> {
     let alloc = rt.alloc();
     let mut shelf = FileShelf::new(rt, alloc, save)?;
-    let mut dial = Calling::new(rt, alloc);
+    let mut dial = Calling::new(rt, alloc, config.idle);
     let mut clock = SystemClock::new(rt);
     serve_node(
         alloc, keeper, lines, &mut dial, &mut shelf, seats, &mut clock, config, rt,

@@ -254,7 +254,7 @@ fn answer_over_tcp<R: Net<Listener = TcpListener, Stream = TcpStream>>(
     let address = listener.local_addr().ok()?;
     let mut seat = Seat {
         reader,
-        visits: Listening::new(alloc, listener),
+        visits: Listening::new(alloc, listener, None),
         gate: OpenGate::new(),
     };
     let mut stream = TcpStream::connect(rt, address).ok()?;

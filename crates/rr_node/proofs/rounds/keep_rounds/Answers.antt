@@ -1,4 +1,4 @@
-use Rattle.std.proofs.Common.{◌≡◌, ◌<◌, true, false, inl}
+use Rattle.std.proofs.Common.{◌<◌}
 use Rattle.std.proofs.lemmas.Result.{err_from_is_err_and}
 use Rattle.rr_node.specs.Rounds.{Log, and_then, rounds_of}
 use Rattle.rr_node.proofs.CallsLemmas.{grows_on}
