@@ -20,7 +20,7 @@ pub(crate) fn empty_archives<A: Archive>(
     ensures of_schema { IfOk result (λ archives. AreOf A.row_limit schema.now archives.items) }
     ensures empty { IfOk result (λ archives. Each (λ i a. A.cells a ≡ fin.empty) archives.items) }
 {
-    let mut archives = Vec::new(alloc);
+    let mut archives = Vec::with_capacity(alloc, schema.archives().len())?;
     for archive in schema.archives() {
         archives.push(A::new(alloc, archive.rows))?;
     }
