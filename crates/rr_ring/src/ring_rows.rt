@@ -49,7 +49,8 @@ impl Ring {
             return Ok(());
         }
         let all = (self.rows as usize).div_ceil(BLOCK_ROWS);
-        self.blocks.reserve(all.saturating_sub(self.blocks.len()))?;
+        self.blocks
+            .reserve_exact(all.saturating_sub(self.blocks.len()))?;
         while self.blocks.len() <= number {
             self.blocks.push(Block::new(self.alloc))?;
         }

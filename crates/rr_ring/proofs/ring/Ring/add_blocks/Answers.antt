@@ -9,8 +9,8 @@ loop-self-preserved c =
     let more : c.push.new.self.items ≡ was ++ (c.new.result ∷ []) = search rules in
     (ap items_by_position more ∙ blocks_grown was c.new.result c.new.ensures ∙ c.loop-self.invariant.0, c.loop-self.invariant.1)
 
-pub returns-in_err-reserve-clause-same : goal.returns-in_err-reserve-clause-same
-returns-in_err-reserve-clause-same c = ap items_by_position (search rules)
+pub returns-in_err-reserve_exact-clause-same : goal.returns-in_err-reserve_exact-clause-same
+returns-in_err-reserve_exact-clause-same c = ap items_by_position (search rules)
 
 pub loop-self-init : goal.loop-self-init
 loop-self-init c = (ap items_by_position (search rules), refl)
