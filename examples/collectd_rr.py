@@ -1,0 +1,64 @@
+"""Sends what collectd reads to a node: a write plugin for the Python plugin of collectd.
+
+A node takes whole numbers, so each value is multiplied by `Scale` and rounded. Readings are collected for
+`Every` seconds and sent over one connection, which is then closed. If the node can't be reached, up to a
+million of them are kept for the next time.
+"""
+
+import collections
+import math
+import socket
+import time
+
+import collectd
+
+settings = {"host": "127.0.0.1", "port": 8094, "scale": 1000, "every": 60}
+lines = collections.deque(maxlen=1_000_000)
+sent = time.monotonic()
+
+
+def configure(module):
+    for child in module.children:
+        settings[child.key.lower()] = child.values[0]
+
+
+def name(text):
+    """A name as a line has it."""
+    return "".join("\\" + byte if byte in ",= " else byte for byte in text)
+
+
+def keep(values, _=None):
+    """Keeps the readings of a callback of collectd, and sends all when it is time."""
+    tags = [("host", values.host), ("instance", values.plugin_instance), ("kind", values.type_instance)]
+    front = name(values.plugin) + "".join(f",{key}={name(tag)}" for key, tag in tags if tag)
+    for source, value in zip(collectd.get_dataset(values.type), values.values):
+        if math.isfinite(value):
+            number = round(value * settings["scale"])
+            field = name(f"{values.type}_{source[0]}")
+            lines.append(f"{front} {field}={number}i {int(values.time * 1e9)}\n")
+    if time.monotonic() - sent >= settings["every"]:
+        send()
+
+
+def send():
+    """Sends all that is kept over one connection, to its report."""
+    global sent
+    sent = time.monotonic()
+    # Other threads may add lines meanwhile.
+    batch = [lines.popleft() for _ in range(len(lines))]
+    try:
+        with socket.create_connection((settings["host"], int(settings["port"])), timeout=30) as stream:
+            stream.sendall("".join(batch).encode())
+            stream.shutdown(socket.SHUT_WR)
+            report = b"".join(iter(lambda: stream.recv(65_536), b""))
+    except OSError as error:
+        lines.extendleft(reversed(batch))
+        collectd.warning(f"rr: {len(lines)} readings are kept: {error}")
+        return
+    if not report.endswith(b" refused 0\n"):
+        collectd.warning(f"rr: {report.decode()}")
+
+
+collectd.register_config(configure)
+collectd.register_write(keep)
+collectd.register_shutdown(send)
