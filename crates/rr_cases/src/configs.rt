@@ -29,7 +29,11 @@ fn push_config(output: &mut String, config: &Config) -> Result<(), AllocError> {
         write!(output, "; lead {lead}")?;
     }
     output.push_str("; precision ")?;
-    output.push_str(name_of(config.precision))
+    output.push_str(name_of(config.precision))?;
+    match config.idle {
+        Some(idle) => write!(output, "; idle {idle}"),
+        None => Ok(()),
+    }
 }
 
 fn push_texts(output: &mut String, key: &str, texts: &[String]) -> Result<(), AllocError> {
