@@ -1,7 +1,10 @@
+mod faults;
 mod fetches;
 mod lines;
+mod loopback;
 mod pulls;
 mod rounds;
+mod seats;
 mod streams;
 
 use rr_archive::PlainArchive;

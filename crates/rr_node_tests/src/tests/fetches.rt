@@ -3,15 +3,13 @@
 use super::replica;
 use rr_archive::PlainArchive;
 use rr_base::Counted;
-use rr_desk::{Gate, GateCall, Reader, open};
+use rr_desk::{Reader, open};
+use rr_gossip::GossipFault;
 use rr_node::{Listening, NodeFault, OpenGate, Prepared, Seat, serve_reader, serve_seat};
 use std::alloc::Global;
 use std::io::{Read, Write};
 use std::net::{Net, Shutdown, TcpListener, TcpStream};
-use std::sync::atomic::{AtomicU64, Ordering};
 use std::test::Fail;
-use std::thread::{Threads, join, sleep};
-use std::time::{Clock, Duration};
 
 /// Two minutes are asked for, and then what no function is named so.
 const REQUESTS: &[u8] = b"fetch LAST 60 0 120 m v\nfetch MEDIAN 60 0 60 m v";
@@ -110,9 +108,55 @@ fn a_writer_that_fails_has_a_front(rt: HostRuntime) -> Result<(), Fail> {
     Ok(())
 }
 
-/// What a seat writes to the last of so many connections, of which the first fails.
+/// The fault that ends a connection on which these bytes come.
+fn fault_of(alloc: Global, reader: &mut Reader<PlainArchive>, bytes: &[u8]) -> Option<NodeFault> {
+    let mut input = Counted::new(bytes);
+    let mut output = Counted::new(Vec::new(alloc));
+    let mut gate = OpenGate::new();
+    serve_reader(alloc, &mut input, &mut output, reader, &mut gate).err()
+}
+
+/// The first frame of one that pulls, and the length of a frame of 4 GB.
+const HUGE: [u8; 23] = [
+    0, 0, 0, 0x0f, 1, 0, 0, 0, 0x3c, 1, 1, 0, 0, 0, 3, 0, 0, 0, 1, 0xff, 0xff, 0xff, 0xff,
+];
+
+/// Random bytes that begin as a session does.
+const NOISE: [u8; 12] = [0, 0, 0, 6, 0x9c, 0x41, 0xe3, 0x0a, 0x77, 0xd2, 0x18, 0xb5];
+
+#[test]
+fn a_wrong_session_ends_by_its_fault(rt: HostRuntime) -> Result<(), Fail> {
+    let replica = replica(rt.alloc(), 1)?;
+    let Ok((keeper, mut readers)) = open(rt.alloc(), &rt, replica, 1) else {
+        panic!(&rt; "no desk");
+    };
+    let reader = &mut readers[0];
+    let half = fault_of(rt.alloc(), reader, &PULL[..7]);
+    let huge = fault_of(rt.alloc(), reader, &HUGE);
+    let noise = fault_of(rt.alloc(), reader, &NOISE);
+    keeper.close(&rt);
+    assert_eq!(rt;
+        (half, huge, noise),
+        (
+            Some(NodeFault::Session(GossipFault::Ended)),
+            Some(NodeFault::Session(GossipFault::FrameTooLong)),
+            Some(NodeFault::Session(GossipFault::BadFrame))
+        )
+    );
+    Ok(())
+}
+
+/// What a seat writes to the last of so many connections, all but the sixth of which are no client's: they
+/// fail, close at once, or bring half a frame, one of 4 GB, or random bytes.
 fn last_answer(alloc: Global, reader: Reader<PlainArchive>, visits: u64) -> Option<Vec<u8>> {
-    let inputs = [None, Some(REQUESTS)];
+    let inputs = [
+        None,
+        Some(b"".as_slice()),
+        Some(&PULL[..7]),
+        Some(HUGE.as_slice()),
+        Some(NOISE.as_slice()),
+        Some(REQUESTS),
+    ];
     let visits_given = Prepared::new(alloc, &inputs).ok()?;
     let mut seat = Seat {
         reader,
@@ -137,7 +181,7 @@ fn a_connection_that_fails_counts(rt: HostRuntime) -> Result<(), Fail> {
     let both = match (readers.pop(), readers.pop()) {
         (Some(one), Some(two)) => (
             last_answer(rt.alloc(), one, 1),
-            last_answer(rt.alloc(), two, 2),
+            last_answer(rt.alloc(), two, 6),
         ),
         _ => (None, None),
     };
@@ -147,104 +191,7 @@ fn a_connection_that_fails_counts(rt: HostRuntime) -> Result<(), Fail> {
     Ok(())
 }
 
-/// A gate that sets its own flag, looks until the other's is set, and answers false if it never was.
-#[derive(Drop)]
-struct Meets<'a, R: Clock> {
-    rt: &'a R,
-    mine: &'a AtomicU64,
-    other: &'a AtomicU64,
-    last: Option<GateCall>,
-}
-
-impl<'a, R: Clock> Gate for Meets<'a, R> {
-    ghost last = { λ g. g.last };
-
-    fn before(&mut self) -> bool {
-        self.mine.store(1, Ordering::SeqCst);
-        let mut is_set = false;
-        for _ in 0..100_000 {
-            if self.other.load(Ordering::SeqCst) > 0 {
-                is_set = true;
-                break;
-            }
-            sleep(self.rt, Duration::from_micros(1));
-        }
-        self.last = Some(GateCall::Before(is_set));
-        is_set
-    }
-
-    fn after(&mut self) {
-        self.last = Some(GateCall::After);
-    }
-}
-
-/// What a seat answers to a request, where its gate has these flags.
-fn answer_beside<R: Clock>(
-    rt: &R,
-    alloc: Global,
-    reader: Reader<PlainArchive>,
-    mine: &AtomicU64,
-    other: &AtomicU64,
-) -> Option<Vec<u8>> {
-    let inputs = [Some(b"fetch LAST 60 0 120 m v".as_slice())];
-    let gate = Meets {
-        rt,
-        mine,
-        other,
-        last: None,
-    };
-    let mut seat = Seat {
-        reader,
-        visits: Prepared::new(alloc, &inputs).ok()?,
-        gate,
-    };
-    serve_seat(alloc, &mut seat, 1).ok()?;
-    let Seat {
-        reader: _,
-        visits,
-        gate: _,
-    } = seat;
-    visits.into_last()
-}
-
-/// What two seats answer to a request each, on threads of their own.
-fn answers_of_both<R: Threads + Clock + Sync>(
-    rt: &R,
-    alloc: Global,
-    one: Reader<PlainArchive>,
-    two: Reader<PlainArchive>,
-) -> (Option<Vec<u8>>, Option<Vec<u8>>) {
-    let first = AtomicU64::new(0);
-    let second = AtomicU64::new(0);
-    let (left, right) = (&first, &second);
-    join(
-        rt,
-        move || answer_beside(rt, alloc, one, left, right),
-        move || answer_beside(rt, alloc, two, right, left),
-    )
-}
-
-/// Whether this is the answer of a seat where nothing is known.
-fn is_answer(text: Option<Vec<u8>>) -> bool {
-    text.is_some_and(|text| text.as_slice() == b"m v,0,U\nm v,60,U\n\n".as_slice())
-}
-
-#[test]
-fn seats_answer_beside_each_other(rt: HostRuntime) -> Result<(), Fail> {
-    let replica = replica(rt.alloc(), 1)?;
-    let Ok((keeper, mut readers)) = open(rt.alloc(), &rt, replica, 2) else {
-        panic!(&rt; "no desk");
-    };
-    let both = match (readers.pop(), readers.pop()) {
-        (Some(one), Some(two)) => answers_of_both(&rt, rt.alloc(), one, two),
-        _ => (None, None),
-    };
-    keeper.close(&rt);
-    assert_eq!(rt; (is_answer(both.0), is_answer(both.1)), (true, true));
-    Ok(())
-}
-
-/// What a seat answers over TCP, both ends of which are here.
+/// What a seat answers over TCP to a connection that comes after a silent one. Both ends are here.
 fn answer_over_tcp<R: Net<Listener = TcpListener, Stream = TcpStream>>(
     rt: &R,
     alloc: Global,
@@ -254,20 +201,22 @@ fn answer_over_tcp<R: Net<Listener = TcpListener, Stream = TcpStream>>(
     let address = listener.local_addr().ok()?;
     let mut seat = Seat {
         reader,
-        visits: Listening::new(alloc, listener, None),
+        visits: Listening::new(alloc, listener, Some(1)),
         gate: OpenGate::new(),
     };
+    let silent = TcpStream::connect(rt, address).ok()?;
     let mut stream = TcpStream::connect(rt, address).ok()?;
     stream.write_all(REQUESTS).ok()?;
     stream.shutdown(Shutdown::Write).ok()?;
-    serve_seat(alloc, &mut seat, 1).ok()?;
+    serve_seat(alloc, &mut seat, 2).ok()?;
+    drop(silent);
     let mut answer = Vec::new(alloc);
     stream.read_to_end(&mut answer).ok()?;
     Some(answer)
 }
 
 #[test]
-fn fetches_are_answered_over_tcp(rt: HostRuntime) -> Result<(), Fail> {
+fn a_silent_connection_over_tcp_ends(rt: HostRuntime) -> Result<(), Fail> {
     let replica = replica(rt.alloc(), 1)?;
     let Ok((keeper, mut readers)) = open(rt.alloc(), &rt, replica, 1) else {
         panic!(&rt; "no desk");

@@ -76,6 +76,21 @@ fn the_end_of_the_lines_takes_a_read(rt: HostRuntime) -> Result<(), Fail> {
     Ok(())
 }
 
+#[test]
+fn the_rest_of_an_endless_line_is_passed_over(rt: HostRuntime) -> Result<(), Fail> {
+    let mut lines = vec![in rt.alloc(); b'x'; 200_000]?;
+    lines.extend_from_slice(b"\nm v=1i 0\n")?;
+    let mut answers = Vec::new(rt.alloc());
+    let mut input = in_pieces(&lines, 30_000);
+    let ended = serve_within(rt.alloc(), &rt, &mut input, &mut answers, MAX_READS)?;
+    assert_eq!(rt; ended, (Ok((1, 1, 1)), 1));
+    assert_eq!(rt;
+        answers.as_slice(),
+        b"line 1: LineTooLong\npoints 1 samples 1 refused 1\n".as_slice()
+    );
+    Ok(())
+}
+
 /// So many lines of one sample each; one of them, by its number, is refused.
 fn many_lines(alloc: Global, count: u32, refused: u32) -> Result<Vec<u8>, Fail> {
     let mut lines = Vec::new(alloc);

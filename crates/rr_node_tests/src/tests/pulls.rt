@@ -2,6 +2,7 @@
 ghost use Rattle.std.specs.Prelude.{◌≡◌};
 
 use super::replica;
+use super::streams::failing_after;
 use rr_archive::PlainArchive;
 use rr_base::{Counted, Origin};
 use rr_desk::{Keeper, Reader, open};
@@ -129,5 +130,57 @@ fn what_a_pull_has_joined_stays_pending(rt: HostRuntime) -> Result<(), Fail> {
     keeper.close(&rt);
     assert_eq!(rt; (pull, is_unseen), ((Some(GossipFault::Ended), true), true));
     assert_eq!(rt; (pending, published, is_seen), (Some(1), true, true));
+    Ok(())
+}
+
+/// The fault of a pull of these bytes by a side that has nothing; so many reads succeed, and so many bytes can
+/// be written.
+fn fault_of<R: Wait>(
+    rt: &R,
+    alloc: Global,
+    keeper: &mut Keeper<PlainArchive>,
+    bytes: &[u8],
+    reads: u32,
+    room: usize,
+) -> Option<GossipFault> {
+    let mut written = [0u8; 24];
+    let room = room.min(written.len());
+    let mut output = Counted::new(&mut written[..room]);
+    let mut input = failing_after(bytes, 1_000, reads);
+    pull_peer(alloc, &mut input, &mut output, keeper, rt).err()
+}
+
+/// An empty page of a schema whose step is a second longer.
+const OTHER_PAGE: [u8; 26] = [
+    0, 0, 0, 0x16, 4, 0x52, 0x52, 0x50, 0x47, 1, 0, 0, 0, 0x3d, 1, 1, 0, 0, 0, 3, 0, 0, 0, 1, 0, 0,
+];
+
+#[test]
+fn a_pull_ends_by_its_fault(rt: HostRuntime) -> Result<(), Fail> {
+    let Ok((mut keeper, _readers)) = open(rt.alloc(), &rt, replica(rt.alloc(), 2)?, 1) else {
+        panic!(&rt; "no desk");
+    };
+    let mut wrong = 0u32;
+    for (bytes, reads, room, fault) in [
+        (&REPLY[..0], 9, 24, GossipFault::Ended),
+        (&REPLY[..3], 9, 24, GossipFault::Ended),
+        (&REPLY[..3], 1, 24, GossipFault::ReadFailed),
+        (&REPLY[..], 9, 20, GossipFault::WriteFailed),
+        (
+            b"\xff\xff\xff\xff".as_slice(),
+            9,
+            24,
+            GossipFault::FrameTooLong,
+        ),
+        (b"\0\0\0\x01\x09".as_slice(), 9, 24, GossipFault::BadFrame),
+        (&SENT[..], 9, 24, GossipFault::UnexpectedFrame),
+        (&OTHER_PAGE[..], 9, 24, GossipFault::SchemaDiffers),
+    ] {
+        if fault_of(&rt, rt.alloc(), &mut keeper, bytes, reads, room) != Some(fault) {
+            wrong = wrong.saturating_add(1);
+        }
+    }
+    keeper.close(&rt);
+    assert_eq!(rt; wrong, 0);
     Ok(())
 }

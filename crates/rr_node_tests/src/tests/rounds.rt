@@ -16,15 +16,27 @@ use std::test::Fail;
 use std::thread::Threads;
 
 /// The configuration of a node of three rows a minute, which keeps one round and has two peers.
-const CONFIG: &[u8] =
+pub(crate) const CONFIG: &[u8] =
     b"step = 60\nlines = \"l\"\nfetch = [\"f\"]\npeers = [\"no\", \"yes\"]\nrounds = 1\n\
     [[archive]]\nsteps = 1\nrows = 3\nxff_num = 0\nxff_den = 1\n";
 
 /// A dial that reaches the peer at `yes`, and keeps what was sent to it.
 #[derive(Drop)]
-struct Peers {
+pub(crate) struct Peers {
     alloc: Global,
+    reply: &'static [u8],
     sent: Option<Vec<u8>>,
+}
+
+impl Peers {
+    /// The peer gives this reply.
+    pub(crate) fn new(alloc: Global, reply: &'static [u8]) -> Peers {
+        Peers {
+            alloc,
+            reply,
+            sent: None,
+        }
+    }
 }
 
 impl Dial for Peers {
@@ -41,7 +53,7 @@ impl Dial for Peers {
         if address != "yes" {
             return None;
         }
-        let input = Counted::new(REPLY.as_slice());
+        let input = Counted::new(self.reply);
         Some((input, Counted::new(Vec::new(self.alloc))))
     }
 
@@ -54,11 +66,22 @@ impl Dial for Peers {
 
 /// A shelf that keeps the last snapshot, and counts what it was told.
 #[derive(Drop)]
-struct Saves {
+pub(crate) struct Saves {
     alloc: Global,
     saved: Option<Vec<u8>>,
     /// The number of the peer that failed last, and its fault.
     failed: Option<(usize, NodeFault)>,
+}
+
+impl Saves {
+    /// Nothing was saved yet.
+    pub(crate) fn new(alloc: Global) -> Saves {
+        Saves {
+            alloc,
+            saved: None,
+            failed: None,
+        }
+    }
 }
 
 impl Shelf for Saves {
@@ -90,13 +113,15 @@ impl Shelf for Saves {
     fn save_failed(&mut self, _fault: SaveFault) {}
 }
 
-/// No seats.
+/// No seats; memory sufficed for them or not.
 #[derive(Drop)]
-struct NoSeats;
+struct NoSeats {
+    suffices: bool,
+}
 
 impl Seats for NoSeats {
     fn serve<T: Threads + Sync>(&mut self, _rt: &T, _alloc: Global, _visits: u64) -> bool {
-        true
+        self.suffices
     }
 }
 
@@ -126,34 +151,33 @@ type Done = (
     Option<(usize, usize)>,
 );
 
-/// Keeps one round to which an empty connection comes, alone or as a node.
+/// Keeps one round to which an empty connection comes: alone, or as a node for whose seats memory suffices
+/// or not.
 fn kept<R: Wait + Threads + Sync>(
     rt: &R,
     alloc: Global,
     keeper: &mut Keeper<PlainArchive>,
     config: &Config,
-    alone: bool,
+    seats: Option<bool>,
 ) -> Option<Done> {
     let inputs = [Some(b"".as_slice())];
     let mut lines = Prepared::new(alloc, &inputs).ok()?;
-    let mut dial = Peers { alloc, sent: None };
-    let mut shelf = Saves {
-        alloc,
-        saved: None,
-        failed: None,
-    };
+    let mut dial = Peers::new(alloc, &REPLY);
+    let mut shelf = Saves::new(alloc);
     let mut clock = Moments::new(Vec::new(alloc));
-    let came = if alone {
-        keep_round(
+    let came = match seats {
+        None => keep_round(
             alloc, keeper, &mut lines, &mut dial, &mut shelf, &mut clock, config, rt,
         )
-        .ok()
-    } else {
-        let mut seats = NoSeats;
-        let served = serve_node(
-            alloc, keeper, &mut lines, &mut dial, &mut shelf, &mut seats, &mut clock, config, rt,
-        );
-        Some(served.is_ok())
+        .ok(),
+        Some(suffices) => {
+            let mut seats = NoSeats { suffices };
+            let served = serve_node(
+                alloc, keeper, &mut lines, &mut dial, &mut shelf, &mut seats, &mut clock, config,
+                rt,
+            );
+            Some(served != Err(NodeFault::Memory))
+        }
     };
     let sent = dial.sent?.as_slice() == SENT.as_slice();
     let saved = loaded(alloc, config, &shelf.saved?);
@@ -174,7 +198,7 @@ fn a_round_pulls_from_each_peer_and_saves(rt: HostRuntime) -> Result<(), Fail> {
     let Ok((mut keeper, _readers)) = open(rt.alloc(), &rt, replica(rt.alloc(), 2)?, 1) else {
         panic!(&rt; "no desk");
     };
-    let done = kept(&rt, rt.alloc(), &mut keeper, &config, true);
+    let done = kept(&rt, rt.alloc(), &mut keeper, &config, None);
     keeper.close(&rt);
     assert!(rt; done == Some(DONE));
     Ok(())
@@ -186,8 +210,21 @@ fn a_node_keeps_its_rounds(rt: HostRuntime) -> Result<(), Fail> {
     let Ok((mut keeper, _readers)) = open(rt.alloc(), &rt, replica(rt.alloc(), 2)?, 1) else {
         panic!(&rt; "no desk");
     };
-    let done = kept(&rt, rt.alloc(), &mut keeper, &config, false);
+    let done = kept(&rt, rt.alloc(), &mut keeper, &config, Some(true));
     keeper.close(&rt);
     assert!(rt; done == Some(DONE));
+    Ok(())
+}
+
+#[test]
+fn a_node_is_out_of_memory_where_a_seat_is(rt: HostRuntime) -> Result<(), Fail> {
+    let config = Config::from_toml(rt.alloc(), CONFIG)?;
+    let Ok((mut keeper, _readers)) = open(rt.alloc(), &rt, replica(rt.alloc(), 2)?, 1) else {
+        panic!(&rt; "no desk");
+    };
+    let done = kept(&rt, rt.alloc(), &mut keeper, &config, Some(false));
+    keeper.close(&rt);
+    let (_, sent, failed, saved) = DONE;
+    assert!(rt; done == Some((Some(false), sent, failed, saved)));
     Ok(())
 }

@@ -1,0 +1,141 @@
+//! Rounds of a keeper in which something fails.
+
+use super::replica;
+use super::rounds::{CONFIG, Peers};
+use rr_archive::PlainArchive;
+use rr_base::Counted;
+use rr_desk::{Keeper, open};
+use rr_gossip::GossipFault;
+use rr_node::{Config, Moments, NodeFault, Opening, Prepared, Shelf, keep_round};
+use rr_snapshot::SaveFault;
+use std::alloc::Global;
+use std::io;
+use std::io::{ErrorKind, Write};
+use std::sync::Wait;
+use std::test::Fail;
+
+/// A writer that takes nothing.
+#[derive(Drop)]
+struct Full;
+
+impl Write for Full {
+    ghost use Rattle.std.specs.Prelude.{None};
+
+    ghost contents = { λ f. None };
+
+    fn write(&mut self, _buf: &[u8]) -> io::Result<usize> {
+        Err(io::Error::from(ErrorKind::StorageFull))
+    }
+
+    fn flush(&mut self) -> io::Result<()> {
+        Ok(())
+    }
+}
+
+/// A shelf without room: it wants no snapshot, or can't open a writer, or opens one that takes nothing. It
+/// keeps what it was told last.
+#[derive(Drop)]
+struct NoRoom {
+    /// Whether a writer is opened; where this is missing, no snapshot is wanted.
+    opens: Option<bool>,
+    peer: Option<(usize, NodeFault)>,
+    save: Option<SaveFault>,
+    /// Whether the snapshot that was handed back was whole.
+    whole: Option<bool>,
+}
+
+impl Shelf for NoRoom {
+    ghost use Rattle.std.specs.Prelude.{[], ◌∷◌, None};
+    ghost use Rattle.rr_node.specs.Calls.{Grows, put_back};
+
+    type Output = Full;
+
+    ghost calls = { λ s. None };
+
+    fn open(&mut self) -> Opening<Full> {
+        match self.opens {
+            None => Opening::Unwanted,
+            Some(false) => Opening::Failed,
+            Some(true) => Opening::Writer(Counted::new(Full)),
+        }
+    }
+
+    fn take_back(&mut self, _output: Counted<Full>, whole: bool)
+        ensures { Grows None None (put_back None whole ∷ []) }
+    {
+        self.whole = Some(whole);
+    }
+
+    fn peer_failed(&mut self, number: usize, fault: NodeFault) {
+        self.peer = Some((number, fault));
+    }
+
+    fn save_failed(&mut self, fault: SaveFault) {
+        self.save = Some(fault);
+    }
+}
+
+/// What a round did: whether it says that a connection came, and what its shelf was told.
+type Told = (
+    Option<bool>,
+    Option<(usize, NodeFault)>,
+    Option<SaveFault>,
+    Option<bool>,
+);
+
+/// Keeps a round to which these connections come, with a peer that sends no frame, and a shelf without room.
+fn told<R: Wait>(
+    rt: &R,
+    alloc: Global,
+    keeper: &mut Keeper<PlainArchive>,
+    config: &Config,
+    inputs: &[Option<&[u8]>],
+    opens: Option<bool>,
+) -> Option<Told> {
+    let mut lines = Prepared::new(alloc, inputs).ok()?;
+    let mut dial = Peers::new(alloc, b"\xff\xff\xff\xff");
+    let mut shelf = NoRoom {
+        opens,
+        peer: None,
+        save: None,
+        whole: None,
+    };
+    let mut clock = Moments::new(Vec::new(alloc));
+    let came = keep_round(
+        alloc, keeper, &mut lines, &mut dial, &mut shelf, &mut clock, config, rt,
+    );
+    Some((came.ok(), shelf.peer, shelf.save, shelf.whole))
+}
+
+/// The fault of the second peer.
+const PEER: Option<(usize, NodeFault)> = Some((2, NodeFault::Session(GossipFault::FrameTooLong)));
+
+#[test]
+fn a_round_goes_on_after_faults(rt: HostRuntime) -> Result<(), Fail> {
+    let config = Config::from_toml(rt.alloc(), CONFIG)?;
+    let Ok((mut keeper, _readers)) = open(rt.alloc(), &rt, replica(rt.alloc(), 2)?, 1) else {
+        panic!(&rt; "no desk");
+    };
+    let full = told(&rt, rt.alloc(), &mut keeper, &config, &[None], Some(true));
+    let shut = told(&rt, rt.alloc(), &mut keeper, &config, &[None], Some(false));
+    let unwanted = told(&rt, rt.alloc(), &mut keeper, &config, &[None], None);
+    keeper.close(&rt);
+    let fault = Some(SaveFault::WriteFailed);
+    let is_told = full == Some((Some(true), PEER, fault, Some(false)))
+        && shut == Some((Some(true), PEER, fault, None))
+        && unwanted == Some((Some(true), PEER, None, None));
+    assert!(rt; is_told);
+    Ok(())
+}
+
+#[test]
+fn nothing_is_done_where_no_connection_will_come(rt: HostRuntime) -> Result<(), Fail> {
+    let config = Config::from_toml(rt.alloc(), CONFIG)?;
+    let Ok((mut keeper, _readers)) = open(rt.alloc(), &rt, replica(rt.alloc(), 2)?, 1) else {
+        panic!(&rt; "no desk");
+    };
+    let over = told(&rt, rt.alloc(), &mut keeper, &config, &[], Some(true));
+    keeper.close(&rt);
+    assert!(rt; over == Some((Some(false), None, None, None)));
+    Ok(())
+}

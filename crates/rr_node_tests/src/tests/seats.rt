@@ -1,0 +1,233 @@
+//! A node with two seats, each of which is served on a thread of its own.
+
+use super::replica;
+use super::rounds::{Peers, Saves};
+use rr_archive::PlainArchive;
+use rr_base::Counted;
+use rr_desk::{Gate, GateCall, Keeper, Reader, open};
+use rr_node::{Config, Moments, Seat, Seats, Visit, Visits, serve_node, serve_seat};
+use std::alloc::Global;
+use std::io;
+use std::io::Read;
+use std::sync::atomic::{AtomicU64, Ordering};
+use std::sync::{Arc, Wait};
+use std::test::Fail;
+use std::thread::{Threads, for_each_mut, sleep};
+use std::time::Duration;
+
+/// The configuration of a node of three rows a minute to which no line connection comes, and which takes
+/// one connection at each of two seats.
+const CONFIG: &[u8] = b"step = 60\nlines = \"l\"\nfetch = [\"f\", \"g\"]\nvisits = 1\n\
+    [[archive]]\nsteps = 1\nrows = 3\nxff_num = 0\nxff_den = 1\n";
+
+/// What each seat is asked.
+const REQUEST: &[u8] = b"fetch LAST 60 0 120 m v";
+
+/// The request as it is read.
+#[derive(Drop)]
+struct Request {
+    given: usize,
+}
+
+impl Read for Request {
+    ghost use Rattle.std.specs.Prelude.{None};
+
+    ghost remaining = { λ r. None };
+
+    fn read(&mut self, buf: &mut [u8]) -> io::Result<usize> {
+        let Some(mut rest) = REQUEST.get(self.given..) else {
+            return Ok(0);
+        };
+        let given = rest.read(buf)?;
+        self.given = self.given.saturating_add(given);
+        Ok(given)
+    }
+}
+
+/// One connection, on which the request comes, or none; and what was answered.
+#[derive(Drop)]
+struct Asked {
+    alloc: Global,
+    is_over: bool,
+    answer: Option<Vec<u8>>,
+}
+
+impl Asked {
+    /// A connection will come, or none.
+    fn new(alloc: Global, comes: bool) -> Asked {
+        Asked {
+            alloc,
+            is_over: !comes,
+            answer: None,
+        }
+    }
+}
+
+impl Visits for Asked {
+    ghost use Rattle.std.specs.Prelude.{[], ◌∷◌, None};
+    ghost use Rattle.rr_node.specs.Visits.{HasCalled, TookBack};
+
+    type Input = Request;
+
+    type Output = Vec<u8>;
+
+    ghost calls = { λ a. None };
+
+    fn next(&mut self) -> Visit<Request, Vec<u8>> {
+        if self.is_over {
+            return Visit::Over;
+        }
+        self.is_over = true;
+        let request = Request { given: 0 };
+        Visit::Stream(Counted::new(request), Counted::new(Vec::new(self.alloc)))
+    }
+
+    fn take_back(&mut self, _input: Counted<Request>, output: Counted<Vec<u8>>)
+        ensures { HasCalled None None (TookBack None None ∷ []) }
+    {
+        self.answer = Some(output.into_inner());
+    }
+}
+
+/// A gate that sets its own flag, looks until the other's is set, and answers false if it never was.
+#[derive(Drop)]
+struct Meets {
+    clock: HostRuntime,
+    mine: Arc<AtomicU64>,
+    other: Arc<AtomicU64>,
+    last: Option<GateCall>,
+}
+
+impl Gate for Meets {
+    ghost last = { λ g. g.last };
+
+    fn before(&mut self) -> bool {
+        self.mine.store(1, Ordering::SeqCst);
+        let mut is_set = false;
+        for _ in 0..100_000 {
+            if self.other.load(Ordering::SeqCst) > 0 {
+                is_set = true;
+                break;
+            }
+            sleep(&self.clock, Duration::from_micros(1));
+        }
+        self.last = Some(GateCall::Before(is_set));
+        is_set
+    }
+
+    fn after(&mut self) {
+        self.last = Some(GateCall::After);
+    }
+}
+
+/// A seat over memory whose gate meets the other one's.
+type Meeting = Seat<PlainArchive, Asked, Meets>;
+
+/// Two seats.
+#[derive(Drop)]
+struct Two {
+    seats: Vec<Meeting>,
+}
+
+/// Serves a seat, and answers whether memory sufficed.
+fn is_served(alloc: Global, seat: &mut Meeting, visits: u64) -> bool {
+    serve_seat(alloc, seat, visits).is_ok()
+}
+
+impl Seats for Two {
+    fn serve<T: Threads + Sync>(&mut self, rt: &T, alloc: Global, visits: u64) -> bool {
+        let served = AtomicU64::new(0);
+        let count = &served;
+        for_each_mut(
+            rt,
+            self.seats.as_mut_slice(),
+            2,
+            &|_, seat: &mut Meeting| {
+                if is_served(alloc, seat, visits) {
+                    count.fetch_add(1, Ordering::SeqCst);
+                }
+            },
+        );
+        served.load(Ordering::SeqCst) == 2
+    }
+}
+
+/// A seat that is asked once, whose gate has these flags.
+fn seat(
+    clock: &HostRuntime,
+    alloc: Global,
+    reader: Reader<PlainArchive>,
+    mine: &Arc<AtomicU64>,
+    other: &Arc<AtomicU64>,
+) -> Option<Meeting> {
+    let gate = Meets {
+        clock: *clock,
+        mine: Arc::try_clone(mine).ok()?,
+        other: Arc::try_clone(other).ok()?,
+        last: None,
+    };
+    Some(Seat {
+        reader,
+        visits: Asked::new(alloc, true),
+        gate,
+    })
+}
+
+/// What a seat answered.
+fn written(seat: Meeting) -> Option<Vec<u8>> {
+    let Seat {
+        reader: _,
+        visits,
+        gate: _,
+    } = seat;
+    visits.answer
+}
+
+/// What both seats of a node answer to a request.
+fn answers_of_both<R: Threads + Wait + Sync>(
+    rt: &R,
+    clock: &HostRuntime,
+    alloc: Global,
+    keeper: &mut Keeper<PlainArchive>,
+    readers: (Reader<PlainArchive>, Reader<PlainArchive>),
+    config: &Config,
+) -> Option<(Vec<u8>, Vec<u8>)> {
+    let first = Arc::new(alloc, AtomicU64::new(0)).ok()?;
+    let second = Arc::new(alloc, AtomicU64::new(0)).ok()?;
+    let one = seat(clock, alloc, readers.0, &first, &second)?;
+    let two = seat(clock, alloc, readers.1, &second, &first)?;
+    let mut both = Two {
+        seats: Vec::from_array(alloc, [one, two]).ok()?,
+    };
+    let mut lines = Asked::new(alloc, false);
+    let mut dial = Peers::new(alloc, b"");
+    let mut shelf = Saves::new(alloc);
+    let mut clock = Moments::new(Vec::new(alloc));
+    serve_node(
+        alloc, keeper, &mut lines, &mut dial, &mut shelf, &mut both, &mut clock, config, rt,
+    )
+    .ok()?;
+    let Two { mut seats } = both;
+    Some((written(seats.pop()?)?, written(seats.pop()?)?))
+}
+
+#[test]
+fn seats_answer_beside_each_other(rt: HostRuntime) -> Result<(), Fail> {
+    let config = Config::from_toml(rt.alloc(), CONFIG)?;
+    let Ok((mut keeper, mut readers)) = open(rt.alloc(), &rt, replica(rt.alloc(), 1)?, 2) else {
+        panic!(&rt; "no desk");
+    };
+    let both = match (readers.pop(), readers.pop()) {
+        (Some(one), Some(two)) => {
+            answers_of_both(&rt, &rt, rt.alloc(), &mut keeper, (one, two), &config)
+        }
+        _ => None,
+    };
+    keeper.close(&rt);
+    let Some((one, two)) = both else {
+        panic!(&rt; "no answers");
+    };
+    let rows = b"m v,0,U\nm v,60,U\n\n".as_slice();
+    assert_eq!(rt; (one.as_slice(), two.as_slice()), (rows, rows));
+    Ok(())
+}
