@@ -13,4 +13,4 @@
 mod begin;
 mod process;
 
-pub use process::{Host, run, serve};
+pub use process::{run, serve};
