@@ -1,5 +1,6 @@
 mod faults;
 mod fetches;
 mod loopback;
+mod pulls;
 mod rounds;
 mod seats;

@@ -20,13 +20,13 @@ pub(crate) const CONFIG: &[u8] =
     [[archive]]\nsteps = 1\nrows = 3\nxff_num = 0\nxff_den = 1\n";
 
 /// What a side sends that holds nothing and pulls.
-const SENT: [u8; 24] = [
+pub(crate) const SENT: [u8; 24] = [
     0, 0, 0, 0x0f, 1, 0, 0, 0, 0x3c, 1, 1, 0, 0, 0, 3, 0, 0, 0, 1, 0, 0, 0, 1, 3,
 ];
 
 /// The answer of a peer that holds one sample, 7 at a minute after the epoch, of the key `m v` and
 /// origin 1.
-const REPLY: [u8; 119] = [
+pub(crate) const REPLY: [u8; 119] = [
     0, 0, 0, 0x6e, 4, 0x52, 0x52, 0x50, 0x47, 1, 0, 0, 0, 0x3c, 1, 1, 0, 0, 0, 3, 0, 0, 0, 1, 0, 1,
     0, 3, 0x6d, 0x20, 0x76, 0, 0, 0, 0, 0, 0, 0, 0, 1, 0, 1, 0, 0, 0, 0, 0, 0, 0, 1, 0, 0, 0, 0, 0,
     0, 0, 1, 0, 0, 0, 0, 0, 0, 0, 0, 0, 0, 0, 0, 0, 0, 0, 7, 0, 0, 0, 0, 0, 0, 0, 7, 0, 0, 0, 0, 0,
