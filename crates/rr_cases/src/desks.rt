@@ -118,7 +118,7 @@ fn expanded(alloc: Global, input: &[u8]) -> Result<Vec<u8>> {
     Ok(bytes)
 }
 
-/// Adds what stands between the count of a line and a place of it, so many times.
+/// Adds the text between a line's count and a place in it, as often as the count says.
 fn push_times(bytes: &mut Vec<u8>, line: &[u8], end: usize) -> Result<()> {
     let space = line
         .iter()

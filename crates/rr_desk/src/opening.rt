@@ -122,7 +122,7 @@ fn discard<A: Archive, R: Wait>(writer: DeskWriter<A>, rt: &R) -> AllocError {
     AllocError
 }
 
-/// A writer of two copies of a replica, for so many readers, to which none can come yet.
+/// A writer of two copies of a replica with room for `readers` readers, of which none can come yet.
 fn unopened_writer<A: Archive>(
     alloc: Global,
     replica: &Replica<A>,
@@ -164,7 +164,7 @@ fn marked_writer<A: Archive, R: Wait>(
     }
 }
 
-/// A writer of two copies of a replica, to which so many readers may come.
+/// A writer of two copies of a replica, to which up to `readers` readers may come.
 fn started_writer<A: Archive, R: Wait>(
     alloc: Global,
     rt: &R,

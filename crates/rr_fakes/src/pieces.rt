@@ -4,7 +4,7 @@ use rr_base::Counted;
 use std::io;
 use std::io::{ErrorKind, Read};
 
-/// A reader that gives at most so many bytes of a text at each call, and fails after some calls.
+/// A reader that gives at most `size` bytes of a text at each call, and fails after `calls` calls.
 #[derive(Drop)]
 pub struct Pieces<'a> {
     rest: &'a [u8],

@@ -10,7 +10,7 @@ use std::alloc::Global;
 /// A minute, in nanoseconds.
 pub const MINUTE: i64 = 60_000_000_000;
 
-/// A schema of so many rows of a minute.
+/// A schema of `rows` rows of a minute.
 pub fn schema(alloc: Global, rows: u32) -> Result<Schema> {
     let rows = ArchiveSpec {
         steps: 1,
@@ -21,7 +21,7 @@ pub fn schema(alloc: Global, rows: u32) -> Result<Schema> {
     Ok(Schema::new(alloc, 60, &[rows])?)
 }
 
-/// A replica of an origin with so many rows of a minute that holds nothing.
+/// A replica of an origin with `rows` rows of a minute that holds nothing.
 pub fn minutes<A: Archive>(alloc: Global, origin: u16, rows: u32) -> Result<Replica<A>> {
     Ok(Replica::new(alloc, &schema(alloc, rows)?, Origin::new(origin)?)?)
 }

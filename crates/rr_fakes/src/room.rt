@@ -5,7 +5,7 @@ use std::alloc::Global;
 use std::io;
 use std::io::Write;
 
-/// A writer that has room for so many bytes, and takes none after them.
+/// A writer that has room for `left` more bytes, and takes none after them.
 #[derive(Drop)]
 pub struct Room {
     written: Vec<u8>,
