@@ -107,7 +107,7 @@ report_with r skipped = r
 report_with r (put p time) = record { points = r.points + 1; samples = r.samples + length p.fields; refused = r.refused }
 report_with r (refused name) = record { points = r.points; samples = r.samples; refused = r.refused + 1 }
 
--- after so many lines all is published, and else nothing
+-- all that is pending is published each time the lines are a multiple of LINES_TO_PUBLISH
 abbrev pub published_after : ℕ → KeeperState → KeeperState
 published_after lines k = if lines % LINES_TO_PUBLISH == 0 then with_all_published k else k
 

@@ -16,7 +16,7 @@ abbrev pub came_in : {F : Type 0} → Result Bool F → Option Bool
 came_in (Ok came) = Some came
 came_in (Err fault) = None
 
--- the lines of a connection were served to the end; or not, for a fault, which may be want of memory
+-- the lines of a connection were served to the end, or up to a fault, which may be that memory ran out
 abbrev pub EndsConnection : Rules → Run → Option Bool → Type 0
 EndsConnection rules run came =
     ((came ≡ Some true) × (counted : Report) × IsServed rules run counted)

@@ -31,7 +31,7 @@ abbrev pub IsRound : Config → Option Bool → Post → Post → Log → Type 0
 IsRound config came old new log =
     EndsRound config came old.keeper new.keeper old.given new.given log.visits log.dialed log.shelved
 
--- so many rounds, to each of which a connection came
+-- n rounds, to each of which a connection came
 abbrev pub AreRounds : ℕ → Config → Post → Post → Log → Type 0
 AreRounds zero config old new log = (new ≡ old) × (log ≡ no_calls)
 AreRounds (suc n) config old new log =
@@ -49,7 +49,7 @@ pub record AreFewer (most : ℕ) (config : Config) (came : Option Bool) (old new
   pub ended : IsRound config came mid new last
   pub whole : log ≡ and_then first last
 
--- at most so many rounds, as far as memory goes: to the first to which no connection will come
+-- the rounds until as many were kept as may be, until no connection will come, or until memory runs out
 abbrev pub EndRounds : ℕ → Config → Bool → Post → Post → Log → Type 0
 EndRounds most config true old new log = AreRounds most config old new log ⊎ AreFewer most config (Some false) old new log
 EndRounds most config false old new log = AreFewer most config None old new log

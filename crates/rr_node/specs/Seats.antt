@@ -20,7 +20,7 @@ IsVisit calls old new =
     ((calls ≡ Failed ∷ []) × (new ≡ old))
     ⊎ ((result : Result (Unit {0}) NodeFault) × (result ≢ Err Memory) × IsStreamServed result calls old new)
 
--- so many visits, in order
+-- n visits, in order
 abbrev pub AreVisits : ℕ → List Call → Sight → Sight → Type 0
 AreVisits zero calls old new = (calls ≡ []) × (new ≡ old)
 AreVisits (suc n) calls old new =

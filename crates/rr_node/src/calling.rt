@@ -9,8 +9,8 @@ use std::time::Duration;
 
 /// Reaches peers over TCP. Nothing is known of what they send.
 ///
-/// A peer for whose connection there is no memory can't be reached, nor one that is silent for the idle
-/// time when it is called.
+/// A peer can't be reached, either, where there is no memory for its connection, or where it doesn't answer
+/// the call within the idle time.
 #[derive(Drop)]
 pub struct Calling<'a, R> {
     rt: &'a R,

@@ -107,7 +107,7 @@ impl Connection {
         Ok(())
     }
 
-    /// Publishes what is pending after so many lines.
+    /// Publishes what is pending after each 1,000 lines.
     fn publish_in_turn<A: Archive, T: Wait>(
         &self,
         keeper: &mut Keeper<A>,

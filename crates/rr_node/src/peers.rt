@@ -33,7 +33,7 @@ fn pull_from<A: Archive, D: Dial, T: Wait>(
     Ok(pulled?)
 }
 
-/// The fault that ended a pull, if one did other than want of memory.
+/// The fault that ended a pull, unless it succeeded or memory ran out.
 fn skipped(pulled: Result<(), NodeFault>) -> Result<Option<NodeFault>, AllocError>
     ensures skipped { IfOk result (λ fault. (fault ≡ fault_in pulled) × IfSome fault (λ why. why ≢ NodeFault.Memory)) }
     ensures memory { OnErr result (fault_in pulled ≡ Some NodeFault.Memory) }
