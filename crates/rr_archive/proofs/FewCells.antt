@@ -9,7 +9,7 @@ use Rattle.std.specs.FinMap.Entries.{by_order, below_all, put}
 use Rattle.std.proofs.lemmas.Bool.{ltb-true, or_right}
 use Rattle.std.proofs.lemmas.Bool.Decides.{nat_tests}
 use Rattle.std.proofs.lemmas.Int.{ints}
-use Rattle.rr_base.specs.declared.limits.TheConstants.{MAX_SECOND}
+use Rattle.rr_text.specs.declared.limits.TheConstants.{MAX_SECOND}
 use Rattle.rr_join.specs.Maps.{greater}
 use Rattle.rr_join.proofs.Booleans.{first_T, second_T, true_from_T}
 use Rattle.rr_join.proofs.Greater.{greater_comm, greater_assoc, greater_itself, greater_swap}

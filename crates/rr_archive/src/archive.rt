@@ -9,8 +9,8 @@ ghost use Rattle.rr_archive.specs.Cells.{Rows, AreInRange, IsTrimmed, put_row, j
 
 use crate::entry::Entry;
 use rr_base::Origin;
-use rr_base::limits::{MAX_NUMBER, MAX_ROWS, MAX_STEPS};
 use rr_contrib::Contribution;
+use rr_text::limits::{MAX_NUMBER, MAX_ROWS, MAX_STEPS};
 use std::alloc::{AllocError, Global};
 
 /// The cells of one archive of one series, each the contribution of an origin to a slot.

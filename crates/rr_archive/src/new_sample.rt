@@ -1,6 +1,6 @@
 //! A sample on its way into a cell.
 ghost use Rattle.std.specs.Prelude.{◌<◌, ◌≤◌};
-ghost use Rattle.rr_base.specs.declared.limits.TheConstants.{MAX_NUMBER, MAX_STEPS};
+ghost use Rattle.rr_text.specs.declared.limits.TheConstants.{MAX_NUMBER, MAX_STEPS};
 
 /// A sample as its slot sees it.
 #[derive(Clone, Copy)]

@@ -6,7 +6,7 @@ use Rattle.rr_base.specs.declared.archive.ArchiveSpec.{ArchiveSpec}
 use Rattle.rr_base.specs.declared.fault.SchemaFault.{SchemaFault}
 use Rattle.rr_base.specs.Schema.{IsArchive, IsLayout}
 use Rattle.rr_base.specs.Check.{archive_fault, archives_fault, schema_fault}
-use Rattle.rr_base.specs.Results.{first_fault}
+use Rattle.rr_text.specs.Results.{first_fault}
 use Rattle.rr_base.proofs.Rising.{Rise}
 
 -- a test that finds no fault was false, and none was found after it

@@ -10,7 +10,7 @@ use Rattle.rr_base.specs.declared.archive.ArchiveSpec.{ArchiveSpec}
 use Rattle.rr_base.specs.declared.fault.SchemaFault.{SchemaFault}
 use Rattle.rr_base.specs.declared.fault.SchemaFault.TheVariants.{WrongKind}
 use Rattle.rr_base.specs.Document.{archive_in, archives_in}
-use Rattle.rr_base.specs.Results.{◌>>=◌}
+use Rattle.rr_text.specs.Results.{◌>>=◌}
 
 -- the archives so far, and those of the tables that are left
 abbrev pub with_front : List ArchiveSpec → Result (List ArchiveSpec) SchemaFault → Result (List ArchiveSpec) SchemaFault

@@ -3,9 +3,6 @@ pub mod CountLemmas
 pub mod ChoiceLemmas
 pub mod PlaceLemmas
 pub mod Checked
-pub mod CutLemmas
-pub mod DigitsLemmas
 pub mod StreamLemmas
 pub mod DocumentLemmas
 pub mod SchemaBytesLemmas
-pub mod RepeatLemmas

@@ -3,8 +3,8 @@ use Rattle.std.specs.Prelude.{ℕ, ◌||◌, ◌==◌, nat_lt, nat_le, List, [],
 use Rattle.rr_base.specs.declared.archive.ArchiveSpec.{ArchiveSpec}
 use Rattle.rr_base.specs.declared.fault.SchemaFault.{SchemaFault}
 use Rattle.rr_base.specs.declared.fault.SchemaFault.TheVariants.{BadStep, NoArchive, TooManyArchives, BadSteps, BadRows, BadXff, StepsNotRising}
-use Rattle.rr_base.specs.Results.{first_fault}
-use Rattle.rr_base.specs.declared.limits.TheConstants.{MAX_STEP, MAX_ARCHIVES, MAX_STEPS, MAX_ROWS, MAX_XFF_DEN}
+use Rattle.rr_text.specs.Results.{first_fault}
+use Rattle.rr_text.specs.declared.limits.TheConstants.{MAX_STEP, MAX_ARCHIVES, MAX_STEPS, MAX_ROWS, MAX_XFF_DEN}
 
 -- of an archive, the one before which has `before` steps, 0 if it is the first
 abbrev pub archive_fault : ℕ → ArchiveSpec → Option SchemaFault

@@ -8,7 +8,7 @@ use Rattle.rr_base.specs.declared.fault.SchemaFault.{SchemaFault}
 use Rattle.rr_base.specs.declared.fault.SchemaFault.TheVariants.{BadToml, MissingField, WrongKind}
 use Rattle.rr_base.specs.Schema.{Layout}
 use Rattle.rr_base.specs.Check.{schema_fault}
-use Rattle.rr_base.specs.Results.{◌>>=◌, unless_faulty}
+use Rattle.rr_text.specs.Results.{◌>>=◌, unless_faulty}
 
 -- a key that must be there
 abbrev pub needed : Option Data → Result Data SchemaFault

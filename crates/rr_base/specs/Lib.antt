@@ -1,13 +1,8 @@
-pub mod Results
-pub mod Options
-pub mod Bytes
 pub mod Origin
 pub mod Schema
 pub mod Fault
 pub mod Check
 pub mod Choice
-pub mod Text
-pub mod Digits
 pub mod Counted
 pub mod Stream
 pub mod Document

@@ -3,7 +3,7 @@ use Rattle.std.specs.Prelude.{ℕ, ℤ, pos, ◌+◌, ◌-◌, ◌*◌, ◌*ℤ�
 use Rattle.std.specs.Int.{int_div_euclid}
 use Rattle.std.specs.List.Sorted.{IsStrictlyIncreasing}
 use Rattle.rr_base.specs.declared.archive.ArchiveSpec.{ArchiveSpec}
-use Rattle.rr_base.specs.declared.limits.TheConstants.{MAX_STEP, MAX_ARCHIVES, MAX_STEPS, MAX_ROWS, MAX_XFF_DEN}
+use Rattle.rr_text.specs.declared.limits.TheConstants.{MAX_STEP, MAX_ARCHIVES, MAX_STEPS, MAX_ROWS, MAX_XFF_DEN}
 
 -- the step in seconds, and the archives from the finest on
 pub record Layout : Type 0 where

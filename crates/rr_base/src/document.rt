@@ -6,7 +6,7 @@ ghost use Rattle.std.specs.Str.{is_utf8};
 ghost use Rattle.toml.specs.Data.{get_member};
 ghost use Rattle.toml.specs.View.{view, table_view, array_view};
 ghost use Rattle.rr_base.specs.Document.{needed, in_32_bits, whole_at, archive_in, are_tables, tables_at, archives_in, tables_in, layout_in, layout_of};
-ghost use Rattle.rr_base.specs.Results.{GivesUnless, NeedsMemoryAfter};
+ghost use Rattle.rr_text.specs.Results.{GivesUnless, NeedsMemoryAfter};
 
 use crate::archive::ArchiveSpec;
 use crate::fault::SchemaFault;

@@ -1,5 +1,5 @@
-//! What every other crate of the store speaks of: origins, limits, the schema of archives, where
-//! a time falls in them, and streams that count failed calls.
+//! What every other crate of the store speaks of: origins, the schema of archives, where a time falls in
+//! them, and streams that count failed calls.
 //!
 //! A [`Schema`] is checked once, by [`Schema::new`] or, of a TOML text, by [`Schema::from_toml`],
 //! and is within its limits from then on. It says in which slot of an archive a time falls
@@ -16,22 +16,20 @@
 #![tactic(auto)]
 
 mod archive;
-pub mod bytes;
 mod consolidation;
 mod counted;
 mod document;
 mod fault;
 pub mod laws;
-pub mod limits;
 mod origin;
 mod schema;
 mod schema_bytes;
 pub mod stream;
-pub mod text;
 
 pub use archive::ArchiveSpec;
 pub use consolidation::ConsolidationFunction;
 pub use counted::Counted;
 pub use fault::{OriginFault, SchemaFault};
 pub use origin::Origin;
+pub use rr_text::{bytes, limits, text};
 pub use schema::Schema;

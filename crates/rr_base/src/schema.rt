@@ -6,13 +6,13 @@ ghost use Rattle.std.specs.Result.{result_err};
 ghost use Rattle.rr_base.specs.Schema.{IsLayout, archive_at, span, slot_of, place_of, is_known_enough, last_within, choice};
 ghost use Rattle.rr_base.specs.Check.{archive_fault, archives_fault, schema_fault};
 ghost use Rattle.rr_base.specs.Choice.{IsChoice};
-ghost use Rattle.rr_base.specs.declared.limits.TheConstants.{MAX_STEPS};
+ghost use Rattle.rr_text.specs.declared.limits.TheConstants.{MAX_STEPS};
 ghost use Rattle.rr_base.specs.SchemaBytes.{schema_bytes};
 
 use crate::archive::ArchiveSpec;
 use crate::fault::SchemaFault;
-use crate::limits::{MAX_ARCHIVES, MAX_ROWS, MAX_STEP, MAX_STEPS, MAX_XFF_DEN, NANOSECONDS};
 use crate::schema_bytes::{ARCHIVE_LEN, push_archives};
+use rr_text::limits::{MAX_ARCHIVES, MAX_ROWS, MAX_STEP, MAX_STEPS, MAX_XFF_DEN, NANOSECONDS};
 use std::alloc::{AllocError, Global};
 use std::marker::Model;
 

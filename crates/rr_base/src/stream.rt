@@ -12,11 +12,11 @@ ghost use Rattle.std.specs.Prelude.{◌≡◌, ◌<◌, ◌≤◌, ◌+◌, ◌+
 ghost use Rattle.std.specs.Io.{ReadsAtMost, WritesAtMost};
 ghost use Rattle.std.specs.Io.KnownBytes.{Appends, Consumes, IsAtEnd, Keeps, ReadConsumes, WriteAppends};
 ghost use Rattle.rr_base.specs.Counted.{inner_of, failures_of, reads_of, one_more, HasRisen, HasRisenBy};
-ghost use Rattle.rr_base.specs.declared.limits.TheConstants.{MAX_READS};
+ghost use Rattle.rr_text.specs.declared.limits.TheConstants.{MAX_READS};
 ghost use Rattle.rr_base.specs.Stream.{AddsFront, AppendsPrefix, ConsumesSome, ReadsOnce};
 
 use crate::counted::Counted;
-use crate::limits::MAX_READS;
+use rr_text::limits::MAX_READS;
 use std::alloc::AllocError;
 use std::fmt;
 use std::io::{ErrorKind, Read, Write};

@@ -3,8 +3,8 @@
 use anyhow::Result;
 use rr_archive::Archive;
 use rr_base::Origin;
-use rr_base::limits::MAX_ROWS;
 use rr_contrib::Contribution;
+use rr_text::limits::MAX_ROWS;
 use std::alloc::Global;
 
 /// How many archives of how many rows, and the slots and origins of the cells.

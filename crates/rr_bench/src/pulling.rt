@@ -2,11 +2,11 @@
 
 use anyhow::{Result, bail};
 use rr_archive::Archive;
-use rr_base::limits::MAX_ROWS;
 use rr_base::{ArchiveSpec, Counted, Origin, Schema};
 use rr_gossip::{GossipFault, give, pull};
 use rr_key::SeriesKey;
 use rr_replica::Replica;
+use rr_text::limits::MAX_ROWS;
 use std::alloc::Global;
 
 /// The nanoseconds of a minute.

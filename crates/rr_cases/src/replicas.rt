@@ -20,13 +20,13 @@ ghost use Rattle.rr_replica.specs.Listing.{owned_cell};
 use crate::sessions;
 use anyhow::{Context, Result, bail};
 use rr_archive::Archive;
-use rr_base::limits::MAX_NUMBER;
 use rr_base::{ArchiveSpec, Origin, Schema};
 use rr_contrib::Contribution;
 use rr_key::SeriesKey;
 use rr_line::{LINE_FEED, Line, Precision, parse_line};
 use rr_page::{cell_bytes, read_cell};
 use rr_replica::{Cell, CellRef, Op, Replica, Sample, WriteFault};
+use rr_text::limits::MAX_NUMBER;
 use std::alloc::{AllocError, Global};
 
 /// The nanoseconds of a step.

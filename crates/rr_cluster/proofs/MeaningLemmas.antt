@@ -14,7 +14,7 @@ use Rattle.rr_join.proofs.ValuesLemmas.{get_called-insert, get_called-set}
 use Rattle.rr_model.specs.World.{World}
 use Rattle.rr_replica.specs.Cells.{Cells}
 use Rattle.rr_replica.specs.Standing.{Standing}
-use Rattle.rr_base.specs.Bytes.{bytes_cmp}
+use Rattle.rr_text.specs.Bytes.{bytes_cmp}
 use Rattle.rr_cluster.specs.declared.cluster.Cluster.{Cluster}
 use Rattle.rr_cluster.specs.Commands.Bytes.{bytes_of_page}
 use Rattle.rr_cluster.specs.Meaning.{node_in, bytes_at, bytes_of_snapshot, replica_at, HasPageText, HasSnapshotText, OptionRepresents, Represents}

@@ -7,11 +7,11 @@ use Rattle.std.specs.Cmp.Lexicographic.{pointwise}
 use Rattle.std.proofs.lemmas.List.Splits.{join_with_byte-slice_split}
 use Rattle.std.proofs.lemmas.List.Elements.{All-nil, All-cons, All-head, All-tail, All-same, All-get_or}
 use Rattle.std.proofs.lemmas.List.{get_or-map, length-map}
-use Rattle.rr_base.specs.declared.limits.TheConstants.{MAX_LINE}
-use Rattle.rr_base.specs.Bytes.{HasNoLineFeed}
+use Rattle.rr_text.specs.declared.limits.TheConstants.{MAX_LINE}
+use Rattle.rr_text.specs.Bytes.{HasNoLineFeed}
 use Rattle.rr_cluster.specs.declared.fault.CommandFault.{CommandFault}
 use Rattle.rr_cluster.specs.declared.fault.CommandFault.TheVariants.{LineTooLong, BadCommand}
-use Rattle.rr_base.specs.declared.bytes.TheConstants.{LINE_FEED, SPACE}
+use Rattle.rr_text.specs.declared.bytes.TheConstants.{LINE_FEED, SPACE}
 use Rattle.rr_cluster.specs.declared.event.ScriptLine.{ScriptLine}
 use Rattle.rr_cluster.specs.Command.{Command, IsOneLine}
 use Rattle.rr_cluster.specs.Commands.{command_of}

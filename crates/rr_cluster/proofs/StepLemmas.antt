@@ -6,9 +6,9 @@ use Rattle.std.specs.FinMap.{FinMap, get, nat_cmp-IsAntisymmetric, slice_cmp-IsA
 use Rattle.std.specs.Cmp.Lexicographic.{nat_list_cmp_total}
 use Rattle.rr_join.specs.Values.{map_values}
 use Rattle.rr_join.proofs.ValuesLemmas.{get-map_values}
-use Rattle.rr_base.specs.Bytes.{bytes_cmp}
+use Rattle.rr_text.specs.Bytes.{bytes_cmp}
 use Rattle.rr_cluster.specs.declared.fault.CommandFault.{CommandFault}
-use Rattle.rr_base.specs.Results.{◌>>=◌, checked}
+use Rattle.rr_text.specs.Results.{◌>>=◌, checked}
 use Rattle.rr_cluster.specs.Commands.{on_ok}
 
 pub names_apart : IsAntisymmetric bytes_cmp

@@ -2,8 +2,8 @@
 use Rattle.std.proofs.Common.{◌≡◌, ℕ, ◌<◌, length, arith, false, eqb, List, [], ◌∷◌, Option, None, Some, option_map, MatchOption, IfSome, refl, sym, ap, subst, ◌∙◌, inl, inr}
 use Rattle.std.proofs.lemmas.Bool.{cases_Bool}
 use Rattle.std.proofs.lemmas.List.Splits.{join_with_byte-slice_split}
-use Rattle.rr_base.specs.Text.{cut_at}
-use Rattle.rr_base.specs.declared.bytes.TheConstants.{SPACE}
+use Rattle.rr_text.specs.Text.{cut_at}
+use Rattle.rr_text.specs.declared.bytes.TheConstants.{SPACE}
 use Rattle.rr_cluster.specs.Words.{parts_of, text_of, words_of}
 
 -- what a cut says of the parts

@@ -1,7 +1,7 @@
 -- A command with its words, and the command of an event in memory.
 use Rattle.std.specs.Prelude.{ℕ, ◌+◌, List, [], length, Option, None, Some}
 use Rattle.std.specs.Borrow.{Bor}
-use Rattle.rr_base.specs.Bytes.{HasNoLineFeed}
+use Rattle.rr_text.specs.Bytes.{HasNoLineFeed}
 use Rattle.rr_fetch.specs.Words.{Parts, parts}
 use Rattle.rr_cluster.specs.declared.event.Event.{Event}
 use Rattle.rr_cluster.specs.declared.event.Event.TheVariants as event

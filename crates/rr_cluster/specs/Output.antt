@@ -2,7 +2,7 @@
 use Rattle.std.specs.Prelude.{ℕ, List, [], ◌∷◌, ◌++◌, Option, None, Result, Ok, Err}
 use Rattle.rr_records.specs.Records.{refusal_text}
 use Rattle.rr_cluster.specs.declared.fault.CommandFault.{CommandFault}
-use Rattle.rr_base.specs.Results.{◌>>=◌}
+use Rattle.rr_text.specs.Results.{◌>>=◌}
 use Rattle.rr_cluster.specs.Command.{Command}
 use Rattle.rr_cluster.specs.Commands.{step}
 use Rattle.rr_cluster.specs.Fault.{command_fault_name}

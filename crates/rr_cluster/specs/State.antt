@@ -1,7 +1,7 @@
 -- What a script has made so far, in either model.
 use Rattle.std.specs.Prelude.{ℕ, ℤ, pos, List, [], Option, None}
 use Rattle.std.specs.FinMap.{FinMap, empty}
-use Rattle.rr_base.specs.Bytes.{bytes_cmp}
+use Rattle.rr_text.specs.Bytes.{bytes_cmp}
 use Rattle.rr_base.specs.Schema.{Layout}
 use Rattle.rr_model.specs.World.{World}
 

@@ -7,8 +7,8 @@ ghost use Rattle.rr_contrib.specs.Samples.{contribution_of};
 ghost use Rattle.rr_contrib.specs.Validity.{IsBounded, IsValid, StartsValid, KeepsValid};
 
 use rr_base::Schema;
-use rr_base::limits::{MAX_NUMBER, MAX_STEPS};
 use rr_join::{Join, join_max};
+use rr_text::limits::{MAX_NUMBER, MAX_STEPS};
 
 /// A set of places of a slot, place `p` as bit `p`.
 pub type Mask = u64;

@@ -35,4 +35,4 @@ pub use keeper::Keeper;
 pub use note::Note;
 pub use opening::open;
 pub use reader::Reader;
-pub use rr_base::limits::MAX_READERS;
+pub use rr_text::limits::MAX_READERS;

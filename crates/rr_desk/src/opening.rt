@@ -1,7 +1,7 @@
 //! Opening a desk.
 ghost use Rattle.std.specs.Prelude.{◌≡◌, ◌≤◌, ◌↔◌, All, [], ◌∷◌, true, false, length, IfErr, IfOk, OnOk};
 ghost use Rattle.left_right.specs.Sides.{view};
-ghost use Rattle.rr_base.specs.declared.limits.TheConstants.{MAX_READERS};
+ghost use Rattle.rr_text.specs.declared.limits.TheConstants.{MAX_READERS};
 ghost use Rattle.rr_replica.specs.Held.{IsHolding};
 ghost use Rattle.rr_replica.specs.Operations.{joins_of};
 ghost use Rattle.rr_replica.specs.Standing.{held};
@@ -21,8 +21,8 @@ use crate::shown::{Change, Shown};
 use crate::writing::{DeskWriter, introduce, start};
 use rr_archive::Archive;
 use rr_base::Schema;
-use rr_base::limits::MAX_READERS;
 use rr_replica::Replica;
+use rr_text::limits::MAX_READERS;
 use std::alloc::{AllocError, Global};
 use std::marker::Brand;
 use std::sync::Wait;

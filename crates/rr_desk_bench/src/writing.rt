@@ -1,12 +1,12 @@
 //! What is put: a sample of each series in each minute.
 
 use anyhow::Result;
-use rr_base::limits::MAX_ROWS;
 use rr_base::{ArchiveSpec, Origin, Schema};
 use rr_desk::Keeper;
 use rr_key::SeriesKey;
 use rr_replica::Replica;
 use rr_ring::RingArchive;
+use rr_text::limits::MAX_ROWS;
 use std::alloc::Global;
 use std::sync::Wait;
 use std::time::{Clock, Duration, Instant};

@@ -3,9 +3,9 @@ use Rattle.std.proofs.Common.{◌≡◌, ℕ, ◌+◌, ◌-◌, ◌<◌, ◌≤�
 use Rattle.std.proofs.lemmas.Bool.{and_parts, eqb-false, ltb-false, not-true}
 use Rattle.std.proofs.lemmas.List.{append-nil, drop-drop}
 use Rattle.std.proofs.Math.Seq.{drop-append_seam}
-use Rattle.rr_base.specs.declared.limits.TheConstants.{MAX_LINE}
-use Rattle.rr_base.specs.declared.bytes.TheConstants.{LINE_FEED}
-use Rattle.rr_base.specs.Bytes.{HasNoLineFeed}
+use Rattle.rr_text.specs.declared.limits.TheConstants.{MAX_LINE}
+use Rattle.rr_text.specs.declared.bytes.TheConstants.{LINE_FEED}
+use Rattle.rr_text.specs.Bytes.{HasNoLineFeed}
 use Rattle.rr_feed.specs.Items.{Item, Line, TooLong, pieces, item_of, items_of}
 use Rattle.rr_feed.specs.Feed.{state, HandsOut}
 use Rattle.rr_feed.specs.Next.{IsCut, IsEnd}

@@ -4,9 +4,9 @@ use Rattle.std.specs.List.{All, onto_first}
 use Rattle.std.proofs.lemmas.Bool.{cases_Bool, or_parts, lt-ltb, lt-leb, leb-true}
 use Rattle.std.proofs.lemmas.List.Elements.{All-nil, All-cons}
 use Rattle.std.proofs.lemmas.List.Splits.{slice_split_at, slice_split_none, slice_split-cons_yes, slice_split-cons_no}
-use Rattle.rr_base.specs.declared.limits.TheConstants.{MAX_LINE}
-use Rattle.rr_base.specs.declared.bytes.TheConstants.{LINE_FEED}
-use Rattle.rr_base.specs.Bytes.{HasNoLineFeed}
+use Rattle.rr_text.specs.declared.limits.TheConstants.{MAX_LINE}
+use Rattle.rr_text.specs.declared.bytes.TheConstants.{LINE_FEED}
+use Rattle.rr_text.specs.Bytes.{HasNoLineFeed}
 use Rattle.rr_feed.specs.Items.{Line, TooLong, pieces, item_of, last_items, items_of, IsLine}
 
 none_is_line_feed : (text : List ℕ) → HasNoLineFeed text → All (λ byte. eqb byte LINE_FEED ≡ false) text

@@ -6,8 +6,8 @@ use Rattle.std.proofs.lemmas.List.Folds.{list_any-append}
 use Rattle.std.proofs.Math.Seq.{take-add, take-length, drop-cons}
 use Rattle.std.specs.List.{list_any}
 use Rattle.memchr.specs.Find.{IsFirstByte, is_byte}
-use Rattle.rr_base.specs.declared.bytes.TheConstants.{LINE_FEED}
-use Rattle.rr_base.specs.Bytes.{HasNoLineFeed}
+use Rattle.rr_text.specs.declared.bytes.TheConstants.{LINE_FEED}
+use Rattle.rr_text.specs.Bytes.{HasNoLineFeed}
 use Rattle.rr_feed.specs.Next.{IsSearched, IsCut}
 
 -- the first bytes hold no line feed, if none of them is one

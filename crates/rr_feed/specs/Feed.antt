@@ -1,6 +1,6 @@
 -- What a feed holds, and what it hands out.
 use Rattle.std.specs.Prelude.{◌≡◌, ℕ, ◌+◌, ◌≤◌, Bool, true, false, List, [], ◌∷◌, ◌++◌, length, drop, Option, None, Some, IfSome, if◌then◌else◌}
-use Rattle.rr_base.specs.declared.limits.TheConstants.{MAX_LINE}
+use Rattle.rr_text.specs.declared.limits.TheConstants.{MAX_LINE}
 use Rattle.rr_feed.specs.Items.{Item, pieces, items_of, IsLine}
 
 -- the bytes that are left, whether they begin within a line that was reported as too long, and

@@ -1,11 +1,11 @@
 -- The items of a byte stream: it is cut after each line feed.
 use Rattle.std.specs.Prelude.{ℕ, ◌≤◌, Bool, not, ◌&&◌, ◌==◌, nat_lt, nat_le, List, [], ◌∷◌, length, if◌then◌else◌}
 use Rattle.std.specs.List.{slice_split}
-use Rattle.rr_base.specs.Bytes.{HasNoLineFeed}
-use Rattle.rr_base.specs.declared.limits.TheConstants.{MAX_LINE}
+use Rattle.rr_text.specs.Bytes.{HasNoLineFeed}
+use Rattle.rr_text.specs.declared.limits.TheConstants.{MAX_LINE}
 use Rattle.rr_feed.specs.declared.line.FeedLine.{FeedLine}
 use Rattle.rr_feed.specs.declared.line.FeedLine.TheVariants as line
-use Rattle.rr_base.specs.declared.bytes.TheConstants.{LINE_FEED}
+use Rattle.rr_text.specs.declared.bytes.TheConstants.{LINE_FEED}
 
 -- a line without its line feed, or a line that is too long
 pub data Item : Type 0 where

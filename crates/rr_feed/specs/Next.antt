@@ -1,7 +1,7 @@
 -- How the bytes that are left are searched.
 use Rattle.std.specs.Prelude.{◌≡◌, ℕ, ◌-◌, ◌≤◌, List, ◌∷◌, ◌++◌, length, take, drop}
-use Rattle.rr_base.specs.declared.bytes.TheConstants.{LINE_FEED}
-use Rattle.rr_base.specs.Bytes.{HasNoLineFeed}
+use Rattle.rr_text.specs.declared.bytes.TheConstants.{LINE_FEED}
+use Rattle.rr_text.specs.Bytes.{HasNoLineFeed}
 
 -- this many of the bytes that are left hold no line feed
 pub record IsSearched (left : List ℕ) (searched : ℕ) : Type 0 where

@@ -17,7 +17,7 @@ use std::marker::Model;
 ///
 /// A feed holds the bytes that are left: what was pushed and neither handed out nor skipped. Once
 /// [`Feed::next_line`] has answered `None`, these are at most
-/// [`MAX_LINE`](rr_base::limits::MAX_LINE), so what a feed holds is bounded by one line and the
+/// [`MAX_LINE`](rr_text::limits::MAX_LINE), so what a feed holds is bounded by one line and the
 /// pieces pushed since. Bytes that were handed out stay in memory until a push finds as many of
 /// them as are left.
 ///

@@ -2,7 +2,7 @@
 //!
 //! Bytes are pushed into a [`Feed`] as they come, and whole lines are taken out, as slices of what
 //! the feed holds. A byte stream is cut after each line feed. What precedes a line feed is a
-//! line if it has at most [`MAX_LINE`](rr_base::limits::MAX_LINE) bytes; a longer one is reported
+//! line if it has at most [`MAX_LINE`](rr_text::limits::MAX_LINE) bytes; a longer one is reported
 //! as [`FeedLine::TooLong`], once, as soon as it is too long, and the rest of it is skipped. What
 //! follows the last line feed becomes a line at the end of the stream, unless it is empty. A CR is
 //! a byte like any other.

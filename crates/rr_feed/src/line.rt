@@ -8,7 +8,7 @@ pub const LINE_TOO_LONG: &str = "LineTooLong";
 pub enum FeedLine<'a> {
     /// The bytes of a line, without its line feed.
     Line(&'a [u8]),
-    /// A line has more than [`MAX_LINE`](rr_base::limits::MAX_LINE) bytes. What comes of it up to
+    /// A line has more than [`MAX_LINE`](rr_text::limits::MAX_LINE) bytes. What comes of it up to
     /// its line feed is skipped.
     TooLong,
 }

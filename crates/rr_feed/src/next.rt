@@ -1,15 +1,15 @@
 //! The next item of the bytes that are left.
 
 ghost use Rattle.std.specs.Prelude.{◌≡◌, ◌==◌, ◌&&◌, nat_lt, not, false, length, option_map, MatchOption};
-ghost use Rattle.rr_base.specs.Bytes.{HasNoLineFeed};
+ghost use Rattle.rr_text.specs.Bytes.{HasNoLineFeed};
 ghost use Rattle.rr_feed.specs.Items.{item_of, item_view};
 ghost use Rattle.rr_feed.specs.Feed.{HandsOut, state};
 ghost use Rattle.rr_feed.specs.Next.{IsCut, IsEnd, IsSearched};
 
 use crate::line::FeedLine;
 use memchr::memchr;
-use rr_base::bytes::LINE_FEED;
-use rr_base::limits::MAX_LINE;
+use rr_text::bytes::LINE_FEED;
+use rr_text::limits::MAX_LINE;
 
 /// An item, and what is left after it.
 #[derive(Clone, Copy)]

@@ -2,13 +2,13 @@
 use Rattle.std.specs.Prelude.{ℕ, ℤ, ◌&&◌, nat_eq, nat_le, List, codes, Option, None, Some, unsigned_abs, if◌then◌else◌}
 use Rattle.std.specs.Cmp.Lexicographic.{pointwise}
 use Rattle.std.specs.Str.Parse.{digits_value}
-use Rattle.rr_base.specs.Options.{◌>>=◌}
-use Rattle.rr_base.specs.Text.{cut_at, is_digits, integer_at}
+use Rattle.rr_text.specs.Options.{◌>>=◌}
+use Rattle.rr_text.specs.Text.{cut_at, is_digits, integer_at}
 use Rattle.rr_base.specs.declared.consolidation.ConsolidationFunction.{ConsolidationFunction}
 use Rattle.rr_base.specs.declared.consolidation.ConsolidationFunction.TheVariants.{Average, Min, Max, Last}
-use Rattle.rr_base.specs.declared.limits.TheConstants.{MAX_SECOND}
+use Rattle.rr_text.specs.declared.limits.TheConstants.{MAX_SECOND}
 use Rattle.rr_fetch.specs.declared.words.RequestWords.{RequestWords}
-use Rattle.rr_base.specs.declared.bytes.TheConstants.{SPACE}
+use Rattle.rr_text.specs.declared.bytes.TheConstants.{SPACE}
 
 -- four words, each ended by a space, and the key, which is all that follows
 pub record Parts : Type 0 where

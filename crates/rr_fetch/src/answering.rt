@@ -15,10 +15,10 @@ use crate::record::push_row;
 use crate::request::Request;
 use rr_archive::{Archive, Entry};
 use rr_base::Counted;
-use rr_base::limits::{MAX_FETCH_ROWS, MAX_SECOND, MAX_STEP, MAX_STEPS};
 use rr_base::stream::write_all;
 use rr_records::Records;
 use rr_replica::Replica;
+use rr_text::limits::{MAX_FETCH_ROWS, MAX_SECOND, MAX_STEP, MAX_STEPS};
 use std::alloc::{AllocError, Global};
 use std::io::Write;
 

@@ -19,7 +19,7 @@ use rr_contrib::Mask;
 /// time, and at one time of the greatest origin.
 ///
 /// The origins of the entries ascend. Each contribution has a count from 1 to
-/// [`MAX_NUMBER`](rr_base::limits::MAX_NUMBER) and a sum from `count * min` to `count * max`. The
+/// [`MAX_NUMBER`](rr_text::limits::MAX_NUMBER) and a sum from `count * min` to `count * max`. The
 /// cost is linear in the entries.
 #[tactic(auto, unfolding(crate::specs::Consolidation::consolidated))]
 pub fn consolidate(

@@ -2,15 +2,15 @@
 
 ghost use Rattle.std.specs.Prelude.{◌≡◌, ◌<◌, ◌≤◌, pos, neg_ℤ, ◌-ℤ◌, ◌<ℤ◌, unsigned_abs, length, List, ℕ, IfOk, IfErr};
 ghost use Rattle.std.specs.Int.{int_div_euclid};
-ghost use Rattle.rr_base.specs.Results.{Gives, GivesUnless, NeedsMemoryAfter};
+ghost use Rattle.rr_text.specs.Results.{Gives, GivesUnless, NeedsMemoryAfter};
 ghost use Rattle.rr_fetch.specs.Requests.{few_rows, read, requested, request_view, rows_between, IsFetchable};
 ghost use Rattle.rr_fetch.specs.Words.{parts};
 
 use crate::fault::RequestFault;
 use crate::words::{RequestWords, function_of, key_of, request_words, resolution_of, second_of};
-use rr_base::limits::{MAX_FETCH_ROWS, MAX_SECOND};
 use rr_base::{ConsolidationFunction, Schema};
 use rr_key::SeriesKey;
+use rr_text::limits::{MAX_FETCH_ROWS, MAX_SECOND};
 use std::alloc::Global;
 
 /// Rows of a series in an archive, from a first slot on, each consolidated by a function.

@@ -5,8 +5,8 @@ ghost use Rattle.rr_model.specs.Rows.{average};
 ghost use Rattle.rr_fetch.specs.Consolidation.{IsBounded, IsSummable, total_of, count_of};
 
 use rr_archive::Entry;
-use rr_base::limits::MAX_NUMBER;
 use rr_contrib::Contribution;
+use rr_text::limits::MAX_NUMBER;
 
 /// The most entries of a row: origins have 16 bits.
 pub(crate) const MAX_ENTRIES: usize = 65_536;

@@ -6,10 +6,10 @@ ghost use Rattle.rr_fetch.specs.Words.{words_of, parts, function_of, resolution_
 
 use crate::fault::RequestFault;
 use rr_base::ConsolidationFunction;
-use rr_base::bytes::SPACE;
-use rr_base::limits::MAX_SECOND;
-use rr_base::text::{cut, integer, number};
 use rr_key::{KeyFault, SeriesKey};
+use rr_text::bytes::SPACE;
+use rr_text::limits::MAX_SECOND;
+use rr_text::text::{cut, integer, number};
 use std::alloc::Global;
 
 /// The words of a request, `CF RESOLUTION START END KEY`, cut apart and not yet read. The key is all

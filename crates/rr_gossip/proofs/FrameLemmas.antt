@@ -2,7 +2,7 @@
 use Rattle.std.proofs.Common.{◌≡◌, ℕ, ◌≤◌, Bool, true, false, cond, List, [], ◌∷◌, length, Option, None, Some, Ok, refl, ap, ◌∙◌}
 use Rattle.std.specs.Prelude.{nat_lt, ◌==◌, unwrap_or}
 use Rattle.std.proofs.lemmas.Bool.{eqb-true, ltb-false, le-ltb}
-use Rattle.rr_base.specs.Results.{unless}
+use Rattle.rr_text.specs.Results.{unless}
 use Rattle.rr_gossip.specs.declared.fault.GossipFault.TheVariants.{FrameTooLong}
 use Rattle.rr_gossip.specs.declared.frame.Kind.{Kind}
 use Rattle.rr_gossip.specs.declared.frame.Kind.TheVariants.{Hello, Summary, SummaryEnd, Page, PageEnd}

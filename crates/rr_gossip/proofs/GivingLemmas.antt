@@ -6,10 +6,10 @@ use Rattle.std.specs.Io.KnownBytes.{Appends}
 use Rattle.std.specs.List.{concat}
 use Rattle.std.proofs.lemmas.Bool.{leb-false, leb-true, lt-leb}
 use Rattle.std.proofs.lemmas.List.{append-nil, length-append, length-drop}
-use Rattle.rr_base.specs.Results.{◌>>=◌, unless}
+use Rattle.rr_text.specs.Results.{◌>>=◌, unless}
 use Rattle.rr_base.specs.Schema.{Layout}
 use Rattle.rr_base.specs.Stream.{AppendsPrefix}
-use Rattle.rr_base.specs.declared.limits.TheConstants.{MAX_PAGE_CELLS}
+use Rattle.rr_text.specs.declared.limits.TheConstants.{MAX_PAGE_CELLS}
 use Rattle.rr_delta.specs.Difference.{newer_cells}
 use Rattle.rr_delta.specs.Names.{NamedVersion}
 use Rattle.rr_page.specs.Page.{page_text}

@@ -1,7 +1,7 @@
 -- Cells joined one after the other.
 use Rattle.std.proofs.Common.{◌≡◌, ℕ, List, [], ◌∷◌, ◌++◌, OnErr, Result, Ok, Err, Bool, false, take, drop, inl, inr, refl, sym, ap, subst}
 use Rattle.std.proofs.lemmas.List.{take-append-drop}
-use Rattle.rr_base.specs.Results.{◌>>=◌}
+use Rattle.rr_text.specs.Results.{◌>>=◌}
 use Rattle.rr_page.specs.PageReading.{page_at}
 use Rattle.rr_gossip.specs.declared.fault.GossipFault.{GossipFault}
 use Rattle.rr_gossip.specs.declared.fault.GossipFault.TheVariants.{Memory}

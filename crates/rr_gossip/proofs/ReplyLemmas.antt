@@ -3,8 +3,8 @@ use Rattle.std.proofs.Common.{◌≡◌, ℕ, zero, suc, ◌+◌, ◌<◌, ◌�
 use Rattle.std.specs.Prelude.{nat_le, ◌&&◌, is_some}
 use Rattle.std.proofs.lemmas.Bool.{lt-leb}
 use Rattle.std.proofs.lemmas.List.{length-drop}
-use Rattle.rr_base.specs.declared.limits.TheConstants.{MAX_PAGE_CELLS}
-use Rattle.rr_base.specs.Results.{◌>>=◌, unless}
+use Rattle.rr_text.specs.declared.limits.TheConstants.{MAX_PAGE_CELLS}
+use Rattle.rr_text.specs.Results.{◌>>=◌, unless}
 use Rattle.rr_base.specs.Schema.{Layout}
 use Rattle.rr_page.specs.Page.{page_text}
 use Rattle.rr_page.specs.Version.{latest}

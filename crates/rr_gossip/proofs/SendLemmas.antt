@@ -7,7 +7,7 @@ use Rattle.std.specs.List.{concat}
 use Rattle.std.proofs.lemmas.Bool.{leb-false, leb-true}
 use Rattle.std.proofs.lemmas.List.{append-nil, length-append, length-drop}
 use Rattle.std.proofs.lemmas.List.Folds.{concat-append}
-use Rattle.rr_base.specs.Results.{◌>>=◌, unless}
+use Rattle.rr_text.specs.Results.{◌>>=◌, unless}
 use Rattle.rr_base.specs.Schema.{Layout}
 use Rattle.rr_base.specs.Stream.{AppendsPrefix}
 use Rattle.rr_base.proofs.StreamLemmas.{prefix_after, prefix_before}

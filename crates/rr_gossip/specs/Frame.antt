@@ -1,7 +1,7 @@
 -- Frames: a kind and a body, and their bytes.
 use Rattle.std.specs.Prelude.{ℕ, ◌+◌, nat_lt, ◌==◌, if◌then◌else◌, List, [], ◌∷◌, ◌++◌, length, Option, None, Some, Result, Ok, Err}
 use Rattle.std.specs.Int.{w32, to_be_bytes}
-use Rattle.rr_base.specs.Results.{unless}
+use Rattle.rr_text.specs.Results.{unless}
 use Rattle.rr_gossip.specs.declared.fault.GossipFault.{GossipFault}
 use Rattle.rr_gossip.specs.declared.fault.GossipFault.TheVariants.{FrameTooLong, BadFrame}
 use Rattle.rr_gossip.specs.declared.frame.Kind.{Kind}

@@ -2,7 +2,7 @@
 use Rattle.std.specs.Prelude.{ℕ, ◌+◌, nat_le, nat_eq, ◌==◌, Bool, true, false, not, ◌&&◌, IsTrue, List, [], length, is_some, Option, None, Some, Result, Ok, Err}
 use Rattle.std.specs.Cmp.Lexicographic.{pointwise}
 use Rattle.std.specs.FinMap.{entries}
-use Rattle.rr_base.specs.Results.{◌>>=◌, unless}
+use Rattle.rr_text.specs.Results.{◌>>=◌, unless}
 use Rattle.rr_base.specs.Schema.{Layout}
 use Rattle.rr_base.specs.SchemaBytes.{schema_bytes}
 use Rattle.rr_delta.specs.Difference.{newer_cells}

@@ -1,8 +1,8 @@
 -- The reading of the body of a Summary frame, as a function of the bytes: field by field, up to the first fault.
 use Rattle.std.specs.Prelude.{ℕ, zero, suc, nat_lt, ◌||◌, not, ◌==◌, List, [], ◌∷◌, ◌++◌, length, Result, Ok}
 use Rattle.std.specs.Int.{w16, w64}
-use Rattle.rr_base.specs.declared.limits.TheConstants.{MAX_NUMBER}
-use Rattle.rr_base.specs.Results.{◌>>=◌, unless}
+use Rattle.rr_text.specs.declared.limits.TheConstants.{MAX_NUMBER}
+use Rattle.rr_text.specs.Results.{◌>>=◌, unless}
 use Rattle.rr_base.specs.Schema.{Layout}
 use Rattle.rr_page.specs.declared.fault.PageFault.{PageFault}
 use Rattle.rr_page.specs.declared.fault.PageFault.TheVariants.{BadContribution, OutOfOrder, TooManyCells, TrailingBytes}

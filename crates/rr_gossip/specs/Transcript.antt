@@ -1,7 +1,7 @@
 -- The frames of a whole session, one way and the other.
 use Rattle.std.specs.Prelude.{◌≡◌, ℕ, zero, suc, ◌+◌, ◌≤◌, List, [], ◌∷◌, ◌++◌, length, map, take, drop, Option, None, Some, Result, Ok, All}
-use Rattle.rr_base.specs.declared.limits.TheConstants.{MAX_PAGE_CELLS}
-use Rattle.rr_base.specs.Results.{◌>>=◌}
+use Rattle.rr_text.specs.declared.limits.TheConstants.{MAX_PAGE_CELLS}
+use Rattle.rr_text.specs.Results.{◌>>=◌}
 use Rattle.rr_base.specs.Schema.{Layout, IsLayout}
 use Rattle.std.specs.FinMap.{entries}
 use Rattle.rr_delta.specs.Difference.{IsSummary, newer_cells}

@@ -1,7 +1,7 @@
 //! Frames as bytes.
 ghost use Rattle.std.specs.Prelude.{◌≡◌, ◌≤◌, ◌<◌, ◌+◌, ◌^◌, length, IfOk};
 ghost use Rattle.std.specs.Option.{option_map};
-ghost use Rattle.rr_base.specs.Results.{Gives};
+ghost use Rattle.rr_text.specs.Results.{Gives};
 ghost use Rattle.rr_gossip.specs.Frame.{kind_byte, kind_at, frame_text, content_at};
 
 use crate::fault::GossipFault;

@@ -1,7 +1,7 @@
 //! The side of a session that gives cells.
 ghost use Rattle.std.specs.Prelude.{◌≡◌, ◌≤◌, IfOk, OnErr, IsTrue};
 ghost use Rattle.std.specs.Option.{option_map};
-ghost use Rattle.rr_base.specs.Results.{GivesUnless};
+ghost use Rattle.rr_text.specs.Results.{GivesUnless};
 ghost use Rattle.rr_gossip.specs.declared.frame.TheConstants.{MAX_FRAMES};
 ghost use Rattle.rr_gossip.specs.Giver.{HasFailed, first_giver, has_failed, is_due, is_listing, names_in, hello_taken, summary_taken, end_taken, body_taken, giver_takes, stage_sends, giver_sends};
 

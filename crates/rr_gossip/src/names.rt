@@ -1,6 +1,6 @@
 //! The names that were taken from Summary frames.
 ghost use Rattle.std.specs.Prelude.{◌≡◌, [], map};
-ghost use Rattle.rr_base.specs.Results.{GivesUnless};
+ghost use Rattle.rr_text.specs.Results.{GivesUnless};
 ghost use Rattle.rr_delta.specs.Difference.{IsSummary};
 ghost use Rattle.rr_delta.specs.Names.{owned_name};
 ghost use Rattle.rr_gossip.specs.SummaryReading.{summary_at};

@@ -1,7 +1,7 @@
 //! The side of a session that pulls cells.
 ghost use Rattle.std.specs.Prelude.{◌≡◌, ◌≤◌, ◌<◌, length, map, IfOk, OnErr, IsTrue};
 ghost use Rattle.std.specs.Option.{option_map};
-ghost use Rattle.rr_base.specs.Results.{GivesUnless};
+ghost use Rattle.rr_text.specs.Results.{GivesUnless};
 ghost use Rattle.rr_delta.specs.Names.{owned_name};
 ghost use Rattle.rr_gossip.specs.declared.frame.TheConstants.{MAX_FRAMES, MAX_FRAME_LEN};
 ghost use Rattle.rr_gossip.specs.declared.summary.TheConstants.{MAX_ENTRIES};

@@ -1,16 +1,16 @@
 //! The body of a Summary frame.
 ghost use Rattle.std.specs.Prelude.{◌≡◌, ◌++◌, ◌≤◌, IfOk, OnOk, Some, map, length};
-ghost use Rattle.rr_base.specs.Results.{GivesUnless};
+ghost use Rattle.rr_text.specs.Results.{GivesUnless};
 ghost use Rattle.rr_delta.specs.Names.{owned_name};
 ghost use Rattle.rr_page.specs.PageReading.{is_after};
 ghost use Rattle.rr_gossip.specs.Summary.{entry_text, summary_text, last_name};
 ghost use Rattle.rr_gossip.specs.SummaryReading.{entry_at, entries_at, summary_at};
 
-use rr_base::limits::MAX_NUMBER;
 use rr_base::{Origin, Schema};
 use rr_delta::Name;
 use rr_page::fields::{i64_at, u16_at, u64_at};
 use rr_page::{PageFault, archive_of, key_of, push_name};
+use rr_text::limits::MAX_NUMBER;
 use std::alloc::{AllocError, Global};
 
 /// How many entries a Summary frame may have.

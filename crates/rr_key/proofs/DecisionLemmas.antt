@@ -3,9 +3,9 @@ use Rattle.std.proofs.Common.{◌≡◌, ℕ, zero, suc, ◌+◌, ◌≤◌, ◌
 use Rattle.std.proofs.lemmas.Bool.{leb-true, le-leb}
 use Rattle.std.specs.Ordering.{is_lt}
 use Rattle.rr_key.specs.declared.class.Class.TheVariants.{Measurement, Other}
-use Rattle.rr_base.specs.declared.limits.TheConstants.{MAX_TAGS}
+use Rattle.rr_text.specs.declared.limits.TheConstants.{MAX_TAGS}
 use Rattle.rr_key.specs.Reading.{name_at, tag_at, IsTail, IsLast, is_some_and, if_comma, is_last, is_tail, is_key_text}
-use Rattle.rr_base.specs.Bytes.{strip}
+use Rattle.rr_text.specs.Bytes.{strip}
 use Rattle.rr_key.specs.Series.{bytes_cmp, IsKeyText}
 use Rattle.rr_key.specs.Unit.{unescape}
 use Rattle.rr_key.proofs.EscapeLemmas.{both_true}

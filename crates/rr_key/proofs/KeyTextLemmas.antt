@@ -13,7 +13,7 @@ use Rattle.std.specs.FinMap.Entries.{below_all}
 use Rattle.rr_key.specs.declared.class.Class.TheVariants.{Measurement, Other}
 use Rattle.rr_key.specs.Name.{is_name}
 use Rattle.rr_key.specs.Reading.{name_at, rises, IsTail, IsLast}
-use Rattle.rr_base.specs.Bytes.{strip}
+use Rattle.rr_text.specs.Bytes.{strip}
 use Rattle.rr_key.specs.Series.{bytes_cmp, Tags, Series, is_tag, tail_text, key_text, IsSeries, IsKeyText}
 use Rattle.rr_key.specs.Unit.{escape, unescape}
 use Rattle.rr_key.proofs.EscapeLemmas.{both_true}

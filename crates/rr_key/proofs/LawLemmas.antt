@@ -6,7 +6,7 @@ use Rattle.std.specs.FinMap.{from_entries, entries, same_map, same_entries_map, 
 use Rattle.std.proofs.lemmas.Cmp.{nat_list_cmp_total}
 use Rattle.rr_key.specs.declared.class.Class.TheVariants.{Measurement, Other}
 use Rattle.std.specs.Map.{keys_of}
-use Rattle.rr_base.specs.Bytes.{has_repeat}
+use Rattle.rr_text.specs.Bytes.{has_repeat}
 use Rattle.rr_key.specs.Name.{is_name}
 use Rattle.rr_key.specs.Series.{bytes_cmp, Tags, Series, is_tag, tail_text, key_text, IsSeries}
 use Rattle.rr_key.specs.Unit.{escape, unescape}

@@ -15,10 +15,10 @@ use Rattle.rr_key.specs.Room.{IsRoomAfter}
 use Rattle.std.specs.Prelude.{is_some}
 use Rattle.rr_key.specs.Unit.{escape}
 use Rattle.rr_key.specs.Making.{Names, names_of, tags_of, series_of, any_tag, any_name, naming_fault, making_fault, key_of}
-use Rattle.rr_base.specs.Results.{first_fault, unless_faulty}
-use Rattle.rr_base.specs.declared.limits.TheConstants.{MAX_KEY_TEXT, MAX_TAGS}
+use Rattle.rr_text.specs.Results.{first_fault, unless_faulty}
+use Rattle.rr_text.specs.declared.limits.TheConstants.{MAX_KEY_TEXT, MAX_TAGS}
 use Rattle.std.specs.Map.{keys_of}
-use Rattle.rr_base.specs.Bytes.{has_repeat}
+use Rattle.rr_text.specs.Bytes.{has_repeat}
 use Rattle.rr_key.specs.Name.{is_empty, is_bad, is_name}
 use Rattle.rr_key.specs.Series.{bytes_cmp, is_tag, key_text, tail_text, IsSeries, IsKeyText}
 use Rattle.rr_key.proofs.EscapeLemmas.{both_true}

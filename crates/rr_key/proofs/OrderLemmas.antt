@@ -13,9 +13,9 @@ use Rattle.std.proofs.lemmas.Cmp.{nat_list_cmp_total, eq_by_cmp_equiv}
 use Rattle.std.proofs.lemmas.List.{length-map}
 use Rattle.std.proofs.lemmas.List.Sorted.{IsPermutation-map, IsPermutation-sym, Contains-permutation, list_any-IsPermutation}
 use Rattle.std.proofs.lemmas.Map.Views.{Contains-from_lookup, lookup-from_Contains}
-use Rattle.rr_base.specs.Bytes.{bytes_cmp, is_among, has_repeat}
-use Rattle.rr_base.proofs.RepeatLemmas.{IsDistinct-has_repeat, differ_turned}
-use Rattle.rr_base.proofs.RepeatLemmas as repeats
+use Rattle.rr_text.specs.Bytes.{bytes_cmp, is_among, has_repeat}
+use Rattle.rr_text.proofs.RepeatLemmas.{IsDistinct-has_repeat, differ_turned}
+use Rattle.rr_text.proofs.RepeatLemmas as repeats
 use Rattle.rr_key.specs.Making.{any_tag, tags_of}
 use Rattle.rr_key.specs.Name.{is_empty}
 use Rattle.rr_key.specs.Reading.{rises}

@@ -5,7 +5,7 @@ use Rattle.std.proofs.lemmas.Bool.{eqb-true, eq-eqb}
 use Rattle.rr_key.specs.declared.class.Class.TheVariants.{Other}
 use Rattle.rr_key.specs.Name.{is_name}
 use Rattle.rr_key.specs.Reading.{name_at, tag_at}
-use Rattle.rr_base.specs.Bytes.{strip}
+use Rattle.rr_text.specs.Bytes.{strip}
 use Rattle.rr_key.specs.Series.{is_tag}
 use Rattle.rr_key.specs.Unit.{escape, unescape}
 use Rattle.rr_key.proofs.NameLemmas.{Divides, name_at-escape, name_at-found, some_if}

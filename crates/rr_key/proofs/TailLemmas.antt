@@ -7,7 +7,7 @@ use Rattle.rr_key.specs.declared.class.Class.{Class}
 use Rattle.rr_key.specs.declared.class.Class.TheVariants.{Measurement, Other}
 use Rattle.rr_key.specs.Name.{is_name}
 use Rattle.rr_key.specs.Reading.{tag_at, rises, IsTail, IsLast}
-use Rattle.rr_base.specs.Bytes.{strip}
+use Rattle.rr_text.specs.Bytes.{strip}
 use Rattle.rr_key.specs.Series.{is_tag, tail_text}
 use Rattle.rr_key.specs.Unit.{escape, unescape}
 use Rattle.rr_key.proofs.EscapeLemmas.{both_true, unescape-escape}

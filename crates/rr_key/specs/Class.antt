@@ -3,7 +3,7 @@ use Rattle.std.specs.Prelude.{ℕ, Bool}
 use Rattle.memchr.specs.Find.{is_byte2, is_byte3}
 use Rattle.rr_key.specs.declared.class.Class.{Class}
 use Rattle.rr_key.specs.declared.class.Class.TheVariants.{Measurement, Other}
-use Rattle.rr_base.specs.declared.bytes.TheConstants.{COMMA, SPACE, EQUALS}
+use Rattle.rr_text.specs.declared.bytes.TheConstants.{COMMA, SPACE, EQUALS}
 
 -- the bytes that end a name of the class where no backslash takes them
 abbrev pub is_special : Class → ℕ → Bool

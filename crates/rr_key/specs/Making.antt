@@ -4,9 +4,9 @@ use Rattle.std.specs.Borrow.{Bor}
 use Rattle.std.specs.FinMap.{from_entries}
 use Rattle.std.specs.List.{list_any}
 use Rattle.std.specs.Map.{keys_of}
-use Rattle.rr_base.specs.Bytes.{has_repeat}
-use Rattle.rr_base.specs.Results.{first_fault, unless_faulty}
-use Rattle.rr_base.specs.declared.limits.TheConstants.{MAX_KEY_TEXT, MAX_TAGS}
+use Rattle.rr_text.specs.Bytes.{has_repeat}
+use Rattle.rr_text.specs.Results.{first_fault, unless_faulty}
+use Rattle.rr_text.specs.declared.limits.TheConstants.{MAX_KEY_TEXT, MAX_TAGS}
 use Rattle.rr_key.specs.declared.fault.KeyFault.{KeyFault}
 use Rattle.rr_key.specs.declared.fault.KeyFault.TheVariants.{EmptyName, BadName, DuplicateTag, TooManyTags, KeyTooLong}
 use Rattle.rr_key.specs.Name.{is_empty, is_bad}

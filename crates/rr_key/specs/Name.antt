@@ -2,7 +2,7 @@
 use Rattle.std.specs.Prelude.{◌≡◌, ℕ, Bool, true, false, ◌&&◌, ◌||◌, not, ◌==◌, List, [], ◌∷◌, length}
 use Rattle.std.specs.List.{list_any}
 use Rattle.rr_key.specs.declared.class.Class.{Class}
-use Rattle.rr_base.specs.declared.bytes.TheConstants.{BACKSLASH, LINE_FEED}
+use Rattle.rr_text.specs.declared.bytes.TheConstants.{BACKSLASH, LINE_FEED}
 use Rattle.rr_key.specs.Class.{is_special}
 
 -- a name without a byte

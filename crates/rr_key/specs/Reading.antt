@@ -2,13 +2,13 @@
 use Rattle.std.specs.Prelude.{◌≡◌, ℕ, zero, suc, ◌+◌, ◌≤◌, nat_le, Bool, true, false, ◌&&◌, ◌==◌, List, [], ◌∷◌, length, take, drop, IsTrue, Option, None, Some, if◌then◌else◌}
 use Rattle.std.specs.List.{list_all}
 use Rattle.std.specs.Ordering.{is_lt}
-use Rattle.rr_base.specs.declared.limits.TheConstants.{MAX_KEY_TEXT, MAX_TAGS}
+use Rattle.rr_text.specs.declared.limits.TheConstants.{MAX_KEY_TEXT, MAX_TAGS}
 use Rattle.rr_key.specs.declared.class.Class.{Class}
 use Rattle.rr_key.specs.declared.class.Class.TheVariants.{Measurement, Other}
-use Rattle.rr_base.specs.declared.bytes.TheConstants.{COMMA, SPACE, EQUALS}
+use Rattle.rr_text.specs.declared.bytes.TheConstants.{COMMA, SPACE, EQUALS}
 use Rattle.rr_key.specs.Name.{is_name}
-use Rattle.rr_base.specs.Bytes.{bytes_cmp, strip}
-use Rattle.rr_base.specs.Options.{◌>>=◌}
+use Rattle.rr_text.specs.Bytes.{bytes_cmp, strip}
+use Rattle.rr_text.specs.Options.{◌>>=◌}
 use Rattle.rr_key.specs.Series.{is_tag, tail_text}
 use Rattle.rr_key.specs.Unit.{escape, unescape, name_len}
 

@@ -2,10 +2,10 @@
 use Rattle.std.specs.Prelude.{◌≡◌, ℕ, ◌≤◌, Bool, ◌&&◌, List, ◌∷◌, ◌++◌, length, IsTrue}
 use Rattle.std.specs.FinMap.{FinMap, entries}
 use Rattle.std.specs.List.{flat_map, list_all}
-pub use Rattle.rr_base.specs.Bytes.{bytes_cmp}
-use Rattle.rr_base.specs.declared.limits.TheConstants.{MAX_KEY_TEXT, MAX_TAGS}
+pub use Rattle.rr_text.specs.Bytes.{bytes_cmp}
+use Rattle.rr_text.specs.declared.limits.TheConstants.{MAX_KEY_TEXT, MAX_TAGS}
 use Rattle.rr_key.specs.declared.class.Class.TheVariants.{Measurement, Other}
-use Rattle.rr_base.specs.declared.bytes.TheConstants.{COMMA, SPACE, EQUALS}
+use Rattle.rr_text.specs.declared.bytes.TheConstants.{COMMA, SPACE, EQUALS}
 use Rattle.rr_key.specs.Name.{is_name}
 use Rattle.rr_key.specs.Unit.{escape}
 

@@ -2,7 +2,7 @@
 -- byte that is not special, which stands for itself: a backslash too, where no special byte follows.
 use Rattle.std.specs.Prelude.{ℕ, ◌+◌, ◌&&◌, ◌==◌, List, [], ◌∷◌, if◌then◌else◌}
 use Rattle.rr_key.specs.declared.class.Class.{Class}
-use Rattle.rr_base.specs.declared.bytes.TheConstants.{BACKSLASH}
+use Rattle.rr_text.specs.declared.bytes.TheConstants.{BACKSLASH}
 use Rattle.rr_key.specs.Class.{is_special}
 
 -- the name as it is written: with a backslash before each special byte

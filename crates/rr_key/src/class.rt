@@ -3,7 +3,7 @@
 ghost use Rattle.std.specs.Prelude.{◌≡◌};
 ghost use Rattle.rr_key.specs.Class.{is_special};
 
-use rr_base::bytes::{COMMA, EQUALS, SPACE};
+use rr_text::bytes::{COMMA, EQUALS, SPACE};
 
 /// Which bytes of a name are special: each is written with a backslash before it.
 #[derive(Clone, Copy, Debug, PartialEq, Eq)]

@@ -6,7 +6,7 @@ ghost use Rattle.rr_key.specs.Class.{is_special};
 ghost use Rattle.rr_key.specs.Unit.{escape, unescape};
 
 use crate::class::{Class, is_special};
-use rr_base::bytes::BACKSLASH;
+use rr_text::bytes::BACKSLASH;
 use std::alloc::{AllocError, Global};
 
 /// The name that is written: a backslash before a special byte of the class is dropped, and any

@@ -86,7 +86,7 @@ impl PartialOrd for SeriesKey {
 }
 
 impl SeriesKey {
-    ghost use Rattle.rr_base.specs.Results.{GivesUnless};
+    ghost use Rattle.rr_text.specs.Results.{GivesUnless};
     ghost use Rattle.rr_key.specs.Series.{IsKeyText};
     ghost use Rattle.rr_key.specs.Making.{names_of, making_fault, key_of};
 
@@ -94,7 +94,7 @@ impl SeriesKey {
     ///
     /// Refusals, in this order: `EmptyName`; `BadName`, a name with a line feed or that ends in a
     /// backslash; `DuplicateTag`; `TooManyTags`, more than [`MAX_TAGS`](crate::MAX_TAGS);
-    /// `KeyTooLong`, a text of more than [`MAX_KEY_TEXT`](rr_base::limits::MAX_KEY_TEXT) bytes.
+    /// `KeyTooLong`, a text of more than [`MAX_KEY_TEXT`](rr_text::limits::MAX_KEY_TEXT) bytes.
     /// `Memory` is answered where memory runs out for the text, so never in place of a refusal. The
     /// cost is that of sorting the tags, measuring the text and writing it; more tags than a key may
     /// have are compared pair by pair.

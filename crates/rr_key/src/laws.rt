@@ -3,7 +3,7 @@
 ghost use Rattle.std.specs.Prelude.{◌≡◌, ◌↔◌, ℕ, List, ◌++◌, length, take, None, true, false};
 ghost use Rattle.std.specs.List.Sorted.{IsPermutation};
 ghost use Rattle.std.specs.Map.{keys_of};
-ghost use Rattle.rr_base.specs.Bytes.{has_repeat};
+ghost use Rattle.rr_text.specs.Bytes.{has_repeat};
 ghost use Rattle.rr_key.specs.Making.{Names, series_of, making_fault};
 ghost use Rattle.rr_key.specs.Name.{MayFollow};
 ghost use Rattle.rr_key.specs.Reading.{is_key_text};

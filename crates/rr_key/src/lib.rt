@@ -14,7 +14,7 @@
 //! says where a written name ends in a text. A backslash that no special byte follows is a
 //! byte of the name. No name of a key is empty, has a line feed or ends in a backslash; a key has at
 //! most [`MAX_TAGS`] tags, their keys differ, and its text has at most
-//! [`MAX_KEY_TEXT`](rr_base::limits::MAX_KEY_TEXT) bytes.
+//! [`MAX_KEY_TEXT`](rr_text::limits::MAX_KEY_TEXT) bytes.
 //!
 //! In `specs/` a series has its tags as a map, and its key text is a function of it; [`laws`] says
 //! that no two series have one text, and that a name is written in one way.
@@ -36,4 +36,4 @@ pub use escapes::{escape, unescape};
 pub use fault::KeyFault;
 pub use key::SeriesKey;
 pub use names::name_len;
-pub use rr_base::limits::MAX_TAGS;
+pub use rr_text::limits::MAX_TAGS;

@@ -5,17 +5,17 @@ ghost use Rattle.rr_key.specs.declared.fault.KeyFault.TheVariants.{DuplicateTag,
 ghost use Rattle.rr_key.specs.Making.{names_of, tags_of, any_tag, any_name, making_fault, key_of};
 ghost use Rattle.rr_key.specs.Name.{is_empty, is_bad};
 ghost use Rattle.rr_key.specs.Reading.{rises};
-ghost use Rattle.rr_base.specs.Bytes.{has_repeat};
-ghost use Rattle.rr_base.specs.Results.{GivesUnless};
-ghost use Rattle.rr_base.specs.declared.limits.TheConstants.{MAX_TAGS};
+ghost use Rattle.rr_text.specs.Bytes.{has_repeat};
+ghost use Rattle.rr_text.specs.Results.{GivesUnless};
+ghost use Rattle.rr_text.specs.declared.limits.TheConstants.{MAX_TAGS};
 ghost use Rattle.std.specs.Map.{keys_of};
 
 use crate::fault::KeyFault;
 use crate::names::is_bad;
 use crate::room::room_after_key;
 use crate::writing::write_key;
-use rr_base::bytes::has_repeat;
-use rr_base::limits::MAX_TAGS;
+use rr_text::bytes::has_repeat;
+use rr_text::limits::MAX_TAGS;
 use std::alloc::Global;
 
 /// The key text of names.

@@ -9,7 +9,7 @@ ghost use Rattle.rr_key.specs.Reading.{name_at};
 
 use crate::class::{Class, is_special};
 use memchr::{memchr2, memchr3};
-use rr_base::bytes::{BACKSLASH, COMMA, EQUALS, LINE_FEED, SPACE};
+use rr_text::bytes::{BACKSLASH, COMMA, EQUALS, LINE_FEED, SPACE};
 
 /// How many bytes the written name at the front of the text takes: up to the first special byte of
 /// the class that no backslash took, or to the end.

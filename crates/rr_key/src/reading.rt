@@ -2,7 +2,7 @@
 
 ghost use Rattle.std.specs.Prelude.{◌≡◌, ◌↔◌, IsTrue, option_map, []};
 ghost use Rattle.std.specs.Ordering.{is_lt};
-ghost use Rattle.rr_base.specs.Bytes.{bytes_cmp};
+ghost use Rattle.rr_text.specs.Bytes.{bytes_cmp};
 ghost use Rattle.rr_key.specs.Series.{IsKeyText};
 ghost use Rattle.rr_key.specs.Reading.{tag_at, IsTail, IsLast};
 ghost use Rattle.rr_key.specs.declared.class.Class.TheVariants.{Other};
@@ -11,8 +11,8 @@ ghost use Rattle.rr_key.specs.Unit.{unescape};
 use crate::class::Class;
 use crate::escapes::first_unit;
 use crate::names::split_name;
-use rr_base::bytes::{COMMA, EQUALS, SPACE, strip};
-use rr_base::limits::{MAX_KEY_TEXT, MAX_TAGS};
+use rr_text::bytes::{COMMA, EQUALS, SPACE, strip};
+use rr_text::limits::{MAX_KEY_TEXT, MAX_TAGS};
 
 /// Whether the bytes are a key text. One pass, and no memory.
 pub(crate) fn is_key_text(text: &[u8]) -> bool

@@ -2,7 +2,7 @@
 
 ghost use Rattle.std.specs.Prelude.{◌≡◌, ◌++◌, [], ◌∷◌, length};
 ghost use Rattle.std.specs.List.{flat_map};
-ghost use Rattle.rr_base.specs.declared.limits.TheConstants.{MAX_KEY_TEXT};
+ghost use Rattle.rr_text.specs.declared.limits.TheConstants.{MAX_KEY_TEXT};
 ghost use Rattle.rr_key.specs.declared.class.Class.TheVariants.{Measurement};
 ghost use Rattle.rr_key.specs.Making.{tags_of};
 ghost use Rattle.rr_key.specs.Room.{IsRoomAfter};
@@ -10,7 +10,7 @@ ghost use Rattle.rr_key.specs.Series.{tag_text, tail_text};
 ghost use Rattle.rr_key.specs.Unit.{escape};
 
 use crate::class::{Class, is_special};
-use rr_base::limits::MAX_KEY_TEXT;
+use rr_text::limits::MAX_KEY_TEXT;
 
 /// The room that is left after the key text of names, if they fit into a key text.
 pub(crate) fn room_after_key(

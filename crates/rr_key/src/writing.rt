@@ -9,7 +9,7 @@ ghost use Rattle.rr_key.specs.Unit.{escape};
 
 use crate::class::Class;
 use crate::escapes::push_escaped;
-use rr_base::bytes::{COMMA, EQUALS, SPACE};
+use rr_text::bytes::{COMMA, EQUALS, SPACE};
 use std::alloc::{AllocError, Global};
 
 /// The bytes that are taken at once for a key text; most have fewer.

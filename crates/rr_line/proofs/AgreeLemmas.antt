@@ -1,7 +1,7 @@
 -- When a reading agrees with a relation between texts and what they say, or why they are refused: from its steps.
 use Rattle.std.proofs.Common.{◌≡◌, Bool, true, false, Option, Some, None, Result, Ok, Err, refl, sym, inl, inr, subst}
 use Rattle.std.specs.Prelude.{◌⊎◌, ok_or}
-use Rattle.rr_base.specs.Results.{◌>>=◌, unless}
+use Rattle.rr_text.specs.Results.{◌>>=◌, unless}
 use Rattle.rr_line.specs.declared.fault.LineFault.{LineFault}
 
 -- a reading that is good

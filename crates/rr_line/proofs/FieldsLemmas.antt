@@ -2,13 +2,13 @@
 use Rattle.std.proofs.Common.{◌≡◌, ℕ, zero, suc, ◌+◌, ◌<◌, true, false, List, [], ◌∷◌, ◌++◌, length, length-append, Option, Some, None, Result, Ok, Err, refl, sym, ap, subst, ◌∙◌, inl, inr, arith}
 use Rattle.std.specs.Prelude.{◌⊎◌}
 use Rattle.std.proofs.lemmas.List.{append-nil, append_assoc}
-use Rattle.rr_base.specs.Bytes.{strip, begins}
-use Rattle.rr_base.specs.Results.{◌>>=◌, unless}
+use Rattle.rr_text.specs.Bytes.{strip, begins}
+use Rattle.rr_text.specs.Results.{◌>>=◌, unless}
 use Rattle.rr_key.specs.declared.class.Class.TheVariants.{Other}
-use Rattle.rr_base.specs.declared.bytes.TheConstants.{EQUALS, COMMA}
+use Rattle.rr_text.specs.declared.bytes.TheConstants.{EQUALS, COMMA}
 use Rattle.rr_line.specs.declared.fault.LineFault.{LineFault}
 use Rattle.rr_line.specs.declared.fault.LineFault.TheVariants.{TooManyFields, DuplicateField}
-use Rattle.rr_base.specs.declared.limits.TheConstants.{MAX_FIELDS}
+use Rattle.rr_text.specs.declared.limits.TheConstants.{MAX_FIELDS}
 use Rattle.rr_line.specs.Field.{Field, IsField, MayComeAfter, LeadTo, FieldFault, no_key, no_value, bad_value, too_many, repeated}
 use Rattle.rr_line.specs.Part.{IsName}
 use Rattle.rr_line.specs.Reading.{field_at, fields_at, after_comma}

@@ -1,8 +1,8 @@
 -- What the steps before the fields say of the length of keys.
 use Rattle.std.proofs.Common.{◌≡◌, ℕ, ◌+◌, ◌-◌, ◌≤◌, ℤ, false, ltb, eqb, List, [], length, take, Option, Result, Ok, refl, subst, arith}
 use Rattle.std.specs.List.{list_any}
-use Rattle.rr_base.specs.Bytes.{HasNoLineFeed}
-use Rattle.rr_base.specs.declared.limits.TheConstants.{MAX_KEY_TEXT, MAX_TAGS, MAX_FIELDS}
+use Rattle.rr_text.specs.Bytes.{HasNoLineFeed}
+use Rattle.rr_text.specs.declared.limits.TheConstants.{MAX_KEY_TEXT, MAX_TAGS, MAX_FIELDS}
 use Rattle.rr_key.specs.declared.class.Class.TheVariants.{Measurement}
 use Rattle.rr_line.specs.declared.fault.LineFault.{LineFault}
 use Rattle.rr_line.specs.declared.fault.LineFault.TheVariants.{NoMeasurement, NoFields}

@@ -2,9 +2,9 @@
 use Rattle.std.proofs.Common.{◌≡◌, ℕ, zero, suc, true, false, List, [], ◌∷◌, ◌++◌, Option, Some, None, Result, Ok, Err, refl, sym, ap, ◌∙◌, inl, inr}
 use Rattle.std.proofs.lemmas.Bool.{cases_Bool}
 use Rattle.std.proofs.lemmas.List.{append-nil, append_assoc}
-use Rattle.rr_base.specs.Bytes.{strip}
-use Rattle.rr_base.specs.Results.{◌>>=◌, unless}
-use Rattle.rr_base.specs.declared.bytes.TheConstants.{COMMA}
+use Rattle.rr_text.specs.Bytes.{strip}
+use Rattle.rr_text.specs.Results.{◌>>=◌, unless}
+use Rattle.rr_text.specs.declared.bytes.TheConstants.{COMMA}
 use Rattle.rr_line.specs.declared.fault.LineFault.{LineFault}
 use Rattle.rr_line.specs.declared.fault.LineFault.TheVariants.{TooManyTags, DuplicateTag, TooManyFields, DuplicateField}
 use Rattle.rr_line.specs.Field.{Field}

@@ -2,7 +2,7 @@
 use Rattle.std.proofs.Common.{◌≡◌, true, ◌&&◌, List, ℕ, ℤ, Some, inl, inr}
 use Rattle.std.proofs.lemmas.Bool.{cases_Bool, and_parts}
 use Rattle.std.specs.Str.Parse.{signed_digits_value}
-use Rattle.rr_base.specs.Text.{is_digits, unsigned, fits_i64, integer_at}
+use Rattle.rr_text.specs.Text.{is_digits, unsigned, fits_i64, integer_at}
 
 pub read_from_digits : (text : List ℕ) (number : ℤ) → Some number ≡ integer_at text → (is_digits (unsigned text) ≡ true) × (signed_digits_value 10 text ≡ number)
 read_from_digits text number read =

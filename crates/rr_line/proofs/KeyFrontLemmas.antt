@@ -8,8 +8,8 @@ use Rattle.std.proofs.lemmas.List.Sorted.{IsPermutation-refl}
 use Rattle.std.specs.FinMap.{entries, from_entries}
 use Rattle.std.specs.List.{flat_map}
 use Rattle.std.specs.Map.{keys_of}
-use Rattle.rr_base.specs.Bytes.{bytes_cmp, has_repeat}
-use Rattle.rr_base.specs.declared.bytes.TheConstants.{COMMA, EQUALS, SPACE, BACKSLASH}
+use Rattle.rr_text.specs.Bytes.{bytes_cmp, has_repeat}
+use Rattle.rr_text.specs.declared.bytes.TheConstants.{COMMA, EQUALS, SPACE, BACKSLASH}
 use Rattle.rr_key.specs.declared.class.Class.{Class}
 use Rattle.rr_key.specs.declared.class.Class.TheVariants.{Measurement, Other}
 use Rattle.rr_key.specs.Series.{tag_text}

@@ -9,16 +9,16 @@ use Rattle.std.specs.Map.{keys_of}
 use Rattle.std.specs.Ordering.{is_eq}
 use Rattle.std.specs.declared.cmp.Ordering.{Ordering}
 use Rattle.std.specs.declared.cmp.Ordering.TheVariants.{Less, Equal, Greater}
-use Rattle.rr_base.proofs.RepeatLemmas.{same_turned}
-use Rattle.rr_base.specs.Bytes.{has_repeat, bytes_cmp, HasNoLineFeed, is_among}
-use Rattle.rr_base.specs.declared.limits.TheConstants.{MAX_KEY_TEXT, MAX_TAGS}
+use Rattle.rr_text.proofs.RepeatLemmas.{same_turned}
+use Rattle.rr_text.specs.Bytes.{has_repeat, bytes_cmp, HasNoLineFeed, is_among}
+use Rattle.rr_text.specs.declared.limits.TheConstants.{MAX_KEY_TEXT, MAX_TAGS}
 use Rattle.rr_key.specs.declared.class.Class.TheVariants.{Measurement, Other}
 use Rattle.rr_key.specs.Making as making
 use Rattle.rr_key.specs.Name.{is_empty, is_bad, is_name}
 use Rattle.rr_key.specs.Series.{tag_text}
 use Rattle.rr_key.specs.Unit.{escape, unescape}
 use Rattle.rr_key.proofs.OrderLemmas.{same_key}
-use Rattle.rr_base.specs.declared.bytes.TheConstants.{EQUALS, COMMA, SPACE}
+use Rattle.rr_text.specs.declared.bytes.TheConstants.{EQUALS, COMMA, SPACE}
 use Rattle.rr_line.specs.declared.precision.Precision.{Precision}
 use Rattle.rr_line.specs.Field.{Field, IsField, LeadTo, AreFields}
 use Rattle.rr_line.specs.Gathering.{repeats_key}

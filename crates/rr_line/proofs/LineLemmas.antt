@@ -2,9 +2,9 @@
 use Rattle.std.proofs.Common.{◌≡◌, ◌≢◌, ℕ, Bool, true, false, eqb, cond, List, [], ◌∷◌, ◌++◌, length, ℤ, Option, Some, None, option_map, Result, Ok, Err, refl, sym, ap, subst, ◌∙◌, inl, inr}
 use Rattle.std.specs.Prelude.{unwrap_or, ok_or, option_and_then}
 use Rattle.std.proofs.lemmas.Bool.{cases_Bool}
-use Rattle.rr_base.specs.Bytes.{HasNoLineFeed}
-use Rattle.rr_base.specs.Text.{integer_at}
-use Rattle.rr_base.specs.declared.bytes.TheConstants.{RETURN}
+use Rattle.rr_text.specs.Bytes.{HasNoLineFeed}
+use Rattle.rr_text.specs.Text.{integer_at}
+use Rattle.rr_text.specs.declared.bytes.TheConstants.{RETURN}
 use Rattle.rr_line.specs.declared.mark.TheConstants.{INTEGER_MARK}
 use Rattle.rr_line.specs.declared.fault.LineFault.{LineFault}
 use Rattle.rr_line.specs.declared.fault.LineFault.TheVariants.{NoMeasurement, MissingTagKey, MissingTagValue, TooManyTags, DuplicateTag, NoFields, MissingFieldKey, MissingFieldValue, BooleanField, IntegerRange, UnsignedField, FloatField, TextField, BadField, TooManyFields, DuplicateField, BadTime, TimeRange, KeyTooLong, Memory}

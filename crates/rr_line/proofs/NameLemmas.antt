@@ -3,13 +3,13 @@ use Rattle.std.proofs.Common.{◌≡◌, ℕ, ◌<◌, true, false, eqb, List, [
 use Rattle.std.proofs.lemmas.Bool.{or_parts}
 use Rattle.std.proofs.lemmas.List.Folds.{list_any-append}
 use Rattle.std.specs.List.{list_any}
-use Rattle.rr_base.specs.Bytes.{HasNoLineFeed}
+use Rattle.rr_text.specs.Bytes.{HasNoLineFeed}
 use Rattle.rr_key.specs.declared.class.Class.{Class}
 use Rattle.rr_key.specs.Name.{is_name, ends_in_backslash}
 use Rattle.rr_key.specs.Unit.{escape, unescape}
 use Rattle.rr_key.proofs.EscapeLemmas.{unescape-escape}
 use Rattle.rr_key.proofs.NameLemmas.{is_name-escape, ends-escape}
-use Rattle.rr_base.specs.declared.bytes.TheConstants.{LINE_FEED}
+use Rattle.rr_text.specs.declared.bytes.TheConstants.{LINE_FEED}
 use Rattle.rr_line.specs.Part.{IsName}
 use Rattle.rr_line.proofs.PartLemmas.{not_zero}
 

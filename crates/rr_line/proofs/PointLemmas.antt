@@ -3,11 +3,11 @@ use Rattle.std.proofs.Common.{◌≡◌, ℕ, ◌<◌, true, false, eqb, List, [
 use Rattle.std.specs.Prelude.{◌⊎◌}
 use Rattle.std.proofs.lemmas.Bool.{cases_Bool, false≢true}
 use Rattle.std.proofs.Math.Dec.{eqb-suc-zero}
-use Rattle.rr_base.specs.Bytes.{begins}
-use Rattle.rr_base.specs.Results.{◌>>=◌}
+use Rattle.rr_text.specs.Bytes.{begins}
+use Rattle.rr_text.specs.Results.{◌>>=◌}
 use Rattle.rr_key.specs.declared.class.Class.TheVariants.{Measurement}
-use Rattle.rr_base.specs.declared.limits.TheConstants.{MAX_TAGS, MAX_FIELDS}
-use Rattle.rr_base.specs.declared.bytes.TheConstants.{COMMA}
+use Rattle.rr_text.specs.declared.limits.TheConstants.{MAX_TAGS, MAX_FIELDS}
+use Rattle.rr_text.specs.declared.bytes.TheConstants.{COMMA}
 use Rattle.rr_line.specs.declared.fault.LineFault.{LineFault}
 use Rattle.rr_line.specs.declared.fault.LineFault.TheVariants.{NoMeasurement, NoFields, KeyTooLong}
 use Rattle.rr_line.specs.declared.precision.Precision.{Precision}

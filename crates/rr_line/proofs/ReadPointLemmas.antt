@@ -1,7 +1,7 @@
 -- A point is read as its steps say, but for keys that are too long.
 use Rattle.std.proofs.Common.{◌≡◌, ℕ, ◌+◌, Bool, true, false, ltb, List, length, Option, Ok, Err, ℤ, refl, ◌∙◌}
 use Rattle.std.specs.List.{list_any}
-use Rattle.rr_base.specs.declared.limits.TheConstants.{MAX_KEY_TEXT}
+use Rattle.rr_text.specs.declared.limits.TheConstants.{MAX_KEY_TEXT}
 use Rattle.rr_key.specs.declared.class.Class.TheVariants.{Measurement}
 use Rattle.rr_line.specs.declared.fault.LineFault.TheVariants.{NoMeasurement, KeyTooLong}
 use Rattle.rr_line.specs.declared.precision.Precision.{Precision}

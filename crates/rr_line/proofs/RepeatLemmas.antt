@@ -2,8 +2,8 @@
 use Rattle.std.proofs.Common.{◌≡◌, ℕ, true, false, List, [], ◌∷◌, ◌++◌, ap, ◌∙◌}
 use Rattle.std.proofs.lemmas.List.{map-append, append_assoc}
 use Rattle.std.specs.Map.{keys_of}
-use Rattle.rr_base.proofs.RepeatLemmas.{has_repeat-again, has_repeat-new}
-use Rattle.rr_base.specs.Bytes.{has_repeat}
+use Rattle.rr_text.proofs.RepeatLemmas.{has_repeat-again, has_repeat-new}
+use Rattle.rr_text.specs.Bytes.{has_repeat}
 use Rattle.rr_line.specs.Gathering.{repeats_key}
 use Rattle.rr_line.specs.Tag.{has_key}
 

@@ -9,8 +9,8 @@ use Rattle.std.specs.Ordering.{is_eq}
 use Rattle.std.specs.declared.cmp.Ordering.{Ordering}
 use Rattle.std.specs.declared.cmp.Ordering.TheVariants.{Less, Equal, Greater}
 use Rattle.std.specs.Map.{keys_of}
-use Rattle.rr_base.proofs.RepeatLemmas.{differ_turned}
-use Rattle.rr_base.specs.Bytes.{bytes_cmp, is_among, has_repeat}
+use Rattle.rr_text.proofs.RepeatLemmas.{differ_turned}
+use Rattle.rr_text.specs.Bytes.{bytes_cmp, is_among, has_repeat}
 use Rattle.rr_key.specs.Series.{tag_text}
 
 abbrev Pair : Type 0

@@ -10,9 +10,9 @@ use Rattle.std.specs.List.Sorted.{IsPermutation, IsSortedBy}
 use Rattle.std.specs.Ordering.{is_lt, is_eq, ordering_reverse}
 use Rattle.std.specs.declared.cmp.Ordering.{Ordering}
 use Rattle.std.specs.declared.cmp.Ordering.TheVariants.{Less, Equal, Greater}
-use Rattle.rr_base.proofs.RepeatLemmas.{or_true, has_repeat-IsPermutation}
-use Rattle.rr_base.specs.Bytes.{bytes_cmp, has_repeat, is_among}
-use Rattle.rr_base.specs.declared.limits.TheConstants.{MAX_FIELDS}
+use Rattle.rr_text.proofs.RepeatLemmas.{or_true, has_repeat-IsPermutation}
+use Rattle.rr_text.specs.Bytes.{bytes_cmp, has_repeat, is_among}
+use Rattle.rr_text.specs.declared.limits.TheConstants.{MAX_FIELDS}
 use Rattle.rr_line.specs.Gathering.{is_below, rise}
 
 less : (o : Ordering) → is_lt o ≡ true → o ≡ Less

@@ -3,11 +3,11 @@ use Rattle.std.proofs.Common.{◌≡◌, ℕ, zero, suc, ◌+◌, ◌<◌, true,
 use Rattle.std.proofs.lemmas.Bool.{false≢true}
 use Rattle.std.proofs.lemmas.List.{append-nil, append_assoc}
 use Rattle.std.specs.Prelude.{ok_or, ◌⊎◌}
-use Rattle.rr_base.specs.Bytes.{strip, begins}
-use Rattle.rr_base.specs.Results.{◌>>=◌, unless}
+use Rattle.rr_text.specs.Bytes.{strip, begins}
+use Rattle.rr_text.specs.Results.{◌>>=◌, unless}
 use Rattle.rr_key.specs.declared.class.Class.TheVariants.{Other}
-use Rattle.rr_base.specs.declared.limits.TheConstants.{MAX_TAGS}
-use Rattle.rr_base.specs.declared.bytes.TheConstants.{EQUALS, COMMA}
+use Rattle.rr_text.specs.declared.limits.TheConstants.{MAX_TAGS}
+use Rattle.rr_text.specs.declared.bytes.TheConstants.{EQUALS, COMMA}
 use Rattle.rr_line.specs.declared.fault.LineFault.{LineFault}
 use Rattle.rr_line.specs.declared.fault.LineFault.TheVariants.{MissingTagKey, MissingTagValue, TooManyTags, DuplicateTag}
 use Rattle.rr_line.specs.Part.{IsName, HasNoName}

@@ -5,9 +5,9 @@ use Rattle.std.proofs.lemmas.Bool.{cases_Bool, eqb-true, eqb-false, or_parts, no
 use Rattle.std.proofs.Math.Dec.{eqb-suc-zero}
 use Rattle.std.proofs.lemmas.List.{take-append-drop, length-take-le, nil_from_length}
 use Rattle.std.proofs.lemmas.List.Sums.{prefix_len-le-length}
-use Rattle.rr_base.specs.Results.{◌>>=◌}
-use Rattle.rr_base.specs.Text.{is_digits, unsigned, fits_i64}
-use Rattle.rr_base.specs.declared.bytes.TheConstants.{SPACE}
+use Rattle.rr_text.specs.Results.{◌>>=◌}
+use Rattle.rr_text.specs.Text.{is_digits, unsigned, fits_i64}
+use Rattle.rr_text.specs.declared.bytes.TheConstants.{SPACE}
 use Rattle.rr_line.specs.declared.fault.LineFault.{LineFault}
 use Rattle.rr_line.specs.declared.fault.LineFault.TheVariants.{BadTime, TimeRange}
 use Rattle.rr_line.specs.declared.precision.Precision.{Precision}

@@ -2,8 +2,8 @@
 use Rattle.std.proofs.Common.{◌≡◌, ℕ, true, false, eqb, ◌&&◌, List, [], ◌∷◌, ◌++◌, drop, Option, Some, None, refl, sym, ap, subst, ◌∙◌, inl, inr}
 use Rattle.std.proofs.lemmas.Bool.{cases_Bool, and_parts, eqb-true, eq-eqb}
 use Rattle.std.specs.List.{flat_map}
-use Rattle.rr_base.specs.Bytes.{begins}
-use Rattle.rr_base.specs.declared.bytes.TheConstants.{BACKSLASH}
+use Rattle.rr_text.specs.Bytes.{begins}
+use Rattle.rr_text.specs.declared.bytes.TheConstants.{BACKSLASH}
 use Rattle.rr_line.specs.declared.mark.TheConstants.{QUOTE}
 use Rattle.rr_line.proofs.ScanLemmas.{part_scanned, ended_scanned}
 use Rattle.rr_line.specs.Value.{ends_value, value_len, EndsValue, TextUnit, itself, taken, unit_text, is_taken, begins_taken, AreUnits, IsQuoted, after_quote, is_text}

@@ -1,11 +1,11 @@
 -- Fields, separated by commas.
 use Rattle.std.specs.Prelude.{◌≡◌, ℕ, ◌<◌, ℤ, true, false, List, [], ◌∷◌, ◌++◌, length}
-use Rattle.rr_base.specs.Bytes.{begins}
+use Rattle.rr_text.specs.Bytes.{begins}
 use Rattle.rr_key.specs.declared.class.Class.TheVariants.{Other}
-use Rattle.rr_base.specs.declared.bytes.TheConstants.{COMMA, EQUALS}
+use Rattle.rr_text.specs.declared.bytes.TheConstants.{COMMA, EQUALS}
 use Rattle.rr_line.specs.declared.fault.LineFault.{LineFault}
 use Rattle.rr_line.specs.declared.fault.LineFault.TheVariants.{MissingFieldKey, MissingFieldValue, TooManyFields, DuplicateField}
-use Rattle.rr_base.specs.declared.limits.TheConstants.{MAX_FIELDS}
+use Rattle.rr_text.specs.declared.limits.TheConstants.{MAX_FIELDS}
 use Rattle.rr_line.specs.Part.{IsName, HasNoName}
 use Rattle.rr_line.specs.Tag.{has_key}
 use Rattle.rr_line.specs.Value.{IsValue, ValueFault}

@@ -2,8 +2,8 @@
 use Rattle.std.specs.Prelude.{◌≡◌, ℕ, Bool, true, false, ◌==◌, List, [], ◌++◌, map}
 use Rattle.std.specs.FinMap.{entries, from_entries}
 use Rattle.std.specs.List.{flat_map, list_any}
-use Rattle.rr_base.specs.Bytes.{bytes_cmp}
-use Rattle.rr_base.specs.declared.bytes.TheConstants.{BACKSLASH}
+use Rattle.rr_text.specs.Bytes.{bytes_cmp}
+use Rattle.rr_text.specs.declared.bytes.TheConstants.{BACKSLASH}
 use Rattle.rr_key.specs.declared.class.Class.TheVariants.{Measurement, Other}
 use Rattle.rr_key.specs.Reading.{rises}
 use Rattle.rr_key.specs.Series.{tag_text}

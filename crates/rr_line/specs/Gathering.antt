@@ -3,10 +3,10 @@
 use Rattle.std.specs.Prelude.{ℕ, zero, suc, Bool, true, ◌&&◌, List, [], ◌∷◌, ◌++◌, Result, Ok, Err}
 use Rattle.std.specs.Map.{keys_of}
 use Rattle.std.specs.Ordering.{is_lt}
-use Rattle.rr_base.specs.Bytes.{strip, bytes_cmp, has_repeat}
-use Rattle.rr_base.specs.Results.{◌>>=◌, unless}
-use Rattle.rr_base.specs.declared.limits.TheConstants.{MAX_TAGS, MAX_FIELDS}
-use Rattle.rr_base.specs.declared.bytes.TheConstants.{COMMA}
+use Rattle.rr_text.specs.Bytes.{strip, bytes_cmp, has_repeat}
+use Rattle.rr_text.specs.Results.{◌>>=◌, unless}
+use Rattle.rr_text.specs.declared.limits.TheConstants.{MAX_TAGS, MAX_FIELDS}
+use Rattle.rr_text.specs.declared.bytes.TheConstants.{COMMA}
 use Rattle.rr_line.specs.declared.fault.LineFault.{LineFault}
 use Rattle.rr_line.specs.declared.fault.LineFault.TheVariants.{TooManyTags, TooManyFields}
 use Rattle.rr_line.specs.Field.{Field}

@@ -2,9 +2,9 @@
 --
 -- line = spaces measurement { "," tag } spaces field { "," field } spaces [ time spaces ] [ CR ]
 use Rattle.std.specs.Prelude.{◌≡◌, ℕ, ◌<◌, Bool, true, false, ◌==◌, List, [], ◌∷◌, length, Result, Ok, Err}
-use Rattle.rr_base.specs.Bytes.{begins}
+use Rattle.rr_text.specs.Bytes.{begins}
 use Rattle.rr_key.specs.declared.class.Class.TheVariants.{Measurement}
-use Rattle.rr_base.specs.declared.bytes.TheConstants.{COMMA, HASH}
+use Rattle.rr_text.specs.declared.bytes.TheConstants.{COMMA, HASH}
 use Rattle.rr_line.specs.declared.fault.LineFault.{LineFault}
 use Rattle.rr_line.specs.declared.fault.LineFault.TheVariants.{NoMeasurement, NoFields, KeyTooLong}
 use Rattle.rr_line.specs.declared.precision.Precision.{Precision}

@@ -1,6 +1,6 @@
 -- What a line says, without where its parts lie in memory.
 use Rattle.std.specs.Prelude.{ℕ, ℤ, List, map, Option}
-pub use Rattle.rr_base.specs.Bytes.{HasNoLineFeed}
+pub use Rattle.rr_text.specs.Bytes.{HasNoLineFeed}
 use Rattle.rr_line.specs.declared.line.Field.{Field}
 use Rattle.rr_line.specs.declared.line.Line.{Line}
 use Rattle.rr_line.specs.declared.line.Line.TheVariants as line

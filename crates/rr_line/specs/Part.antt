@@ -4,7 +4,7 @@ use Rattle.rr_key.specs.declared.class.Class.{Class}
 use Rattle.rr_key.specs.Class.{is_special}
 use Rattle.rr_key.specs.Name.{MayFollow}
 use Rattle.rr_key.specs.Unit.{escape}
-use Rattle.rr_base.specs.declared.bytes.TheConstants.{RETURN, SPACE}
+use Rattle.rr_text.specs.declared.bytes.TheConstants.{RETURN, SPACE}
 
 -- a text without the spaces at its front
 abbrev pub skip_spaces : List ℕ → List ℕ

@@ -1,13 +1,13 @@
 -- The reading, as a function of the bytes of a line: part by part, up to the first fault.
 use Rattle.std.specs.Prelude.{ℕ, zero, suc, ℤ, ◌||◌, not, ◌==◌, List, [], ◌∷◌, ◌++◌, length, take, drop, Option, None, Some, Result, Ok, Err, ok_or, if◌then◌else◌}
-use Rattle.rr_base.specs.Bytes.{strip, begins}
-use Rattle.rr_base.specs.Results.{◌>>=◌, unless}
-use Rattle.rr_base.specs.Text.{is_digits, unsigned, fits_i64}
+use Rattle.rr_text.specs.Bytes.{strip, begins}
+use Rattle.rr_text.specs.Results.{◌>>=◌, unless}
+use Rattle.rr_text.specs.Text.{is_digits, unsigned, fits_i64}
 use Rattle.rr_key.specs.declared.class.Class.{Class}
 use Rattle.rr_key.specs.declared.class.Class.TheVariants.{Measurement, Other}
-use Rattle.rr_base.specs.declared.limits.TheConstants.{MAX_TAGS, MAX_FIELDS}
+use Rattle.rr_text.specs.declared.limits.TheConstants.{MAX_TAGS, MAX_FIELDS}
 use Rattle.rr_key.specs.Unit.{name_len}
-use Rattle.rr_base.specs.declared.bytes.TheConstants.{COMMA, EQUALS}
+use Rattle.rr_text.specs.declared.bytes.TheConstants.{COMMA, EQUALS}
 use Rattle.rr_line.specs.declared.mark.TheConstants.{QUOTE}
 use Rattle.rr_line.specs.declared.fault.LineFault.{LineFault}
 use Rattle.rr_line.specs.declared.fault.LineFault.TheVariants.{NoMeasurement, MissingTagKey, MissingTagValue, TooManyTags, DuplicateTag, NoFields, MissingFieldKey, MissingFieldValue, TooManyFields, DuplicateField, BadTime, TimeRange, KeyTooLong}

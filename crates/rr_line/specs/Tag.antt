@@ -1,10 +1,10 @@
 -- Tags, each after a comma.
 use Rattle.std.specs.Prelude.{◌≡◌, ℕ, ◌<◌, Bool, true, false, List, [], ◌∷◌, ◌++◌, length}
 use Rattle.std.specs.Map.{keys_of}
-use Rattle.rr_base.specs.Bytes.{begins, is_among}
+use Rattle.rr_text.specs.Bytes.{begins, is_among}
 use Rattle.rr_key.specs.declared.class.Class.TheVariants.{Other}
-use Rattle.rr_base.specs.declared.limits.TheConstants.{MAX_TAGS}
-use Rattle.rr_base.specs.declared.bytes.TheConstants.{COMMA, EQUALS}
+use Rattle.rr_text.specs.declared.limits.TheConstants.{MAX_TAGS}
+use Rattle.rr_text.specs.declared.bytes.TheConstants.{COMMA, EQUALS}
 use Rattle.rr_line.specs.declared.fault.LineFault.{LineFault}
 use Rattle.rr_line.specs.declared.fault.LineFault.TheVariants.{MissingTagKey, MissingTagValue, TooManyTags, DuplicateTag}
 use Rattle.rr_line.specs.Part.{IsName, HasNoName}

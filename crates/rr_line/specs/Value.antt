@@ -3,9 +3,9 @@ use Rattle.std.specs.Prelude.{◌≡◌, ℕ, ℤ, Bool, true, false, ◌&&◌, 
 use Rattle.std.specs.List.{flat_map, list_any, position_or_len}
 use Rattle.std.specs.Cmp.Lexicographic.{pointwise}
 use Rattle.memchr.specs.Find.{is_byte2}
-use Rattle.rr_base.specs.Bytes.{begins}
-use Rattle.rr_base.specs.Text.{cut_at, is_digits, unsigned, integer_at}
-use Rattle.rr_base.specs.declared.bytes.TheConstants.{COMMA, SPACE, BACKSLASH, MINUS}
+use Rattle.rr_text.specs.Bytes.{begins}
+use Rattle.rr_text.specs.Text.{cut_at, is_digits, unsigned, integer_at}
+use Rattle.rr_text.specs.declared.bytes.TheConstants.{COMMA, SPACE, BACKSLASH, MINUS}
 use Rattle.rr_line.specs.declared.mark.TheConstants.{QUOTE, INTEGER_MARK, UNSIGNED_MARK, POINT, EXPONENT_MARK, GREAT_EXPONENT_MARK, PLUS}
 use Rattle.rr_line.specs.declared.fault.LineFault.{LineFault}
 use Rattle.rr_line.specs.declared.fault.LineFault.TheVariants.{MissingFieldValue, BooleanField, IntegerRange, UnsignedField, FloatField, TextField, BadField}

@@ -45,7 +45,7 @@ pub enum LineFault {
     BadTime,
     /// The time in nanoseconds is not in `i64`.
     TimeRange,
-    /// The key text of a field is longer than [`MAX_KEY_TEXT`](rr_base::limits::MAX_KEY_TEXT).
+    /// The key text of a field is longer than [`MAX_KEY_TEXT`](rr_text::limits::MAX_KEY_TEXT).
     KeyTooLong,
     /// Memory ran out.
     Memory,

@@ -1,8 +1,8 @@
 //! The fields of a line.
 
 ghost use Rattle.std.specs.Prelude.{◌≡◌, ◌≤◌, length, IfOk};
-ghost use Rattle.rr_base.specs.Results.{Gives, GivesUnless};
-ghost use Rattle.rr_base.specs.declared.limits.TheConstants.{MAX_FIELDS};
+ghost use Rattle.rr_text.specs.Results.{Gives, GivesUnless};
+ghost use Rattle.rr_text.specs.declared.limits.TheConstants.{MAX_FIELDS};
 ghost use Rattle.rr_line.specs.Answer.{rest_view};
 ghost use Rattle.rr_line.specs.Gathering.{all_gathered_fields};
 ghost use Rattle.rr_line.specs.Line.{field_view, fields_view};
@@ -13,9 +13,9 @@ use crate::line::Field;
 use crate::part::read_name;
 use crate::repeat::has_repeat;
 use crate::value::read_value;
-use rr_base::bytes::{COMMA, EQUALS, strip};
-use rr_base::limits::MAX_FIELDS;
 use rr_key::Class;
+use rr_text::bytes::{COMMA, EQUALS, strip};
+use rr_text::limits::MAX_FIELDS;
 use std::alloc::{AllocError, Global};
 
 /// The fields at the front, and what follows them.

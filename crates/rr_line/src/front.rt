@@ -5,7 +5,7 @@ ghost use Rattle.rr_key.specs.Reading.{rises};
 ghost use Rattle.rr_line.specs.Front.{IsPlain, tags_view};
 
 use crate::line::Tag;
-use rr_base::bytes::BACKSLASH;
+use rr_text::bytes::BACKSLASH;
 
 /// The text that precedes the fields of a line, where key texts have it as it stands: no name has a
 /// backslash, and the keys of the tags rise.

@@ -1,7 +1,7 @@
 //! The series of a point's fields.
 
 ghost use Rattle.std.specs.Prelude.{◌≡◌, ◌++◌, ◌∷◌, None, IfOk, OnOk, map};
-ghost use Rattle.rr_base.specs.declared.bytes.TheConstants.{SPACE};
+ghost use Rattle.rr_text.specs.declared.bytes.TheConstants.{SPACE};
 ghost use Rattle.rr_key.specs.declared.class.Class.TheVariants.{Other};
 ghost use Rattle.rr_key.specs.Making.{making_fault, tags_of};
 ghost use Rattle.rr_key.specs.Series.{IsKeyText};
@@ -10,8 +10,8 @@ ghost use Rattle.rr_line.specs.Key.{names_of, key_text, tags_unescaped, tag_name
 ghost use Rattle.rr_line.specs.Line.{point_view, tags_view};
 
 use crate::line::{Point, Tag};
-use rr_base::bytes::SPACE;
 use rr_key::{Class, SeriesKey, name_len, unescape};
+use rr_text::bytes::SPACE;
 use std::alloc::{AllocError, Global};
 
 impl<'a> Point<'a> {

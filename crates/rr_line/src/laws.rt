@@ -1,7 +1,7 @@
 //! What holds of the definitions themselves: functions without a body, whose contracts say it.
 
 ghost use Rattle.std.specs.Prelude.{◌≡◌, ◌≢◌, ◌↔◌, ℕ, List, Result, Err};
-ghost use Rattle.rr_base.specs.Bytes.{HasNoLineFeed};
+ghost use Rattle.rr_text.specs.Bytes.{HasNoLineFeed};
 ghost use Rattle.rr_line.specs.declared.fault.LineFault.{LineFault};
 ghost use Rattle.rr_line.specs.declared.fault.LineFault.TheVariants.{Memory};
 ghost use Rattle.rr_line.specs.declared.precision.Precision.{Precision};

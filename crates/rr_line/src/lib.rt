@@ -21,7 +21,7 @@
 //!
 //! A line has at most [`MAX_TAGS`](rr_key::MAX_TAGS) tags and [`MAX_FIELDS`] fields, each with a
 //! key of its own, and the key text of each field has at most
-//! [`MAX_KEY_TEXT`](rr_base::limits::MAX_KEY_TEXT) bytes. The rules are those of the "InfluxDB
+//! [`MAX_KEY_TEXT`](rr_text::limits::MAX_KEY_TEXT) bytes. The rules are those of the "InfluxDB
 //! line protocol reference" where it has them; fields of other kinds are refused by their kind.
 //!
 //! In `specs/` the grammar is a relation between a line's bytes and what they say, or why they are
@@ -48,5 +48,5 @@ pub use fault::LineFault;
 pub use line::{Field, Line, Point, Tag, Tags};
 pub use parse::parse_line;
 pub use precision::Precision;
-pub use rr_base::bytes::LINE_FEED;
-pub use rr_base::limits::MAX_FIELDS;
+pub use rr_text::bytes::LINE_FEED;
+pub use rr_text::limits::MAX_FIELDS;

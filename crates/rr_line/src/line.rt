@@ -4,7 +4,7 @@ ghost use Rattle.std.specs.Prelude.{◌≡◌};
 ghost use Rattle.std.specs.Option.{ForSome};
 ghost use Rattle.rr_line.specs.Front.{front_text, tags_view};
 
-use rr_base::bytes::Keyed;
+use rr_text::bytes::Keyed;
 use smallvec::SmallVec;
 
 /// What a line says.

@@ -2,9 +2,9 @@
 
 ghost use Rattle.std.specs.Prelude.{◌≡◌, ◌+◌, true, false, length, nat_lt, Result, IfOk, IsOk, Ok};
 ghost use Rattle.std.specs.List.{list_any};
-ghost use Rattle.rr_base.specs.Bytes.{HasNoLineFeed};
-ghost use Rattle.rr_base.specs.Results.{Gives, GivesUnless, AnswersUnless, NeedsMemoryAfter};
-ghost use Rattle.rr_base.specs.declared.limits.TheConstants.{MAX_KEY_TEXT};
+ghost use Rattle.rr_text.specs.Bytes.{HasNoLineFeed};
+ghost use Rattle.rr_text.specs.Results.{Gives, GivesUnless, AnswersUnless, NeedsMemoryAfter};
+ghost use Rattle.rr_text.specs.declared.limits.TheConstants.{MAX_KEY_TEXT};
 ghost use Rattle.rr_line.specs.Grammar.{is_nothing, IsLineOf};
 ghost use Rattle.rr_line.specs.Key.{LineHasKeys};
 ghost use Rattle.rr_line.specs.Line.{LineView, point_view, line_view, fields_view};
@@ -21,9 +21,9 @@ use crate::part::{content, read_name, skip_spaces};
 use crate::precision::Precision;
 use crate::tags::read_tags;
 use crate::time::read_ending;
-use rr_base::bytes::HASH;
-use rr_base::limits::MAX_KEY_TEXT;
 use rr_key::Class;
+use rr_text::bytes::HASH;
+use rr_text::limits::MAX_KEY_TEXT;
 use std::alloc::Global;
 
 /// Reads one line, without the line feed that ended it.

@@ -1,14 +1,14 @@
 //! The parts of a line: what is at the front of a text, and what follows it.
 
 ghost use Rattle.std.specs.Prelude.{◌≡◌, ◌≤◌, length, option_map};
-ghost use Rattle.rr_base.specs.Bytes.{strip, begins};
-ghost use Rattle.rr_base.specs.Results.{Gives};
+ghost use Rattle.rr_text.specs.Bytes.{strip, begins};
+ghost use Rattle.rr_text.specs.Results.{Gives};
 ghost use Rattle.rr_line.specs.Part.{skip_spaces, before_last, content};
 ghost use Rattle.rr_line.specs.Reading.{name_at};
 
 use crate::fault::LineFault;
-use rr_base::bytes::{RETURN, SPACE};
 use rr_key::{Class, name_len};
+use rr_text::bytes::{RETURN, SPACE};
 
 /// The text without the spaces at its front.
 pub(crate) fn skip_spaces(text: &[u8]) -> &[u8]

@@ -1,12 +1,12 @@
 //! Keys that occur twice.
 
 ghost use Rattle.std.specs.Prelude.{◌≡◌, ◌≤◌, not, map, length};
-ghost use Rattle.rr_base.specs.Bytes.{has_repeat};
-ghost use Rattle.rr_base.specs.declared.limits.TheConstants.{MAX_FIELDS};
+ghost use Rattle.rr_text.specs.Bytes.{has_repeat};
+ghost use Rattle.rr_text.specs.declared.limits.TheConstants.{MAX_FIELDS};
 ghost use Rattle.rr_line.specs.Gathering.{is_below, rise};
 
-use rr_base::bytes::{self, Keyed};
-use rr_base::limits::MAX_FIELDS;
+use rr_text::bytes::{self, Keyed};
+use rr_text::limits::MAX_FIELDS;
 
 /// The most keys that are compared pair by pair. More of them are sorted.
 const FEW: usize = 16;

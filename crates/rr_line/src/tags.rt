@@ -1,8 +1,8 @@
 //! The tags of a line.
 
 ghost use Rattle.std.specs.Prelude.{◌≡◌, ◌≤◌, length, IfOk};
-ghost use Rattle.rr_base.specs.Results.{Gives, GivesUnless};
-ghost use Rattle.rr_base.specs.declared.limits.TheConstants.{MAX_TAGS};
+ghost use Rattle.rr_text.specs.Results.{Gives, GivesUnless};
+ghost use Rattle.rr_text.specs.declared.limits.TheConstants.{MAX_TAGS};
 ghost use Rattle.rr_line.specs.Answer.{rest_view};
 ghost use Rattle.rr_line.specs.Gathering.{all_gathered_tags};
 ghost use Rattle.rr_line.specs.Line.{tag_view, tags_view};
@@ -12,8 +12,8 @@ use crate::fault::LineFault;
 use crate::line::{Tag, Tags};
 use crate::part::read_name;
 use crate::repeat::has_repeat;
-use rr_base::bytes::{COMMA, EQUALS, begins, strip};
 use rr_key::{Class, MAX_TAGS};
+use rr_text::bytes::{COMMA, EQUALS, begins, strip};
 use smallvec::SmallVec;
 use std::alloc::{AllocError, Global};
 

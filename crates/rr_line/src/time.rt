@@ -9,8 +9,8 @@ use crate::fault::LineFault;
 use crate::part::skip_spaces;
 use crate::precision::Precision;
 use memchr::memchr;
-use rr_base::bytes::SPACE;
-use rr_base::text::{integer, is_digits, unsigned};
+use rr_text::bytes::SPACE;
+use rr_text::text::{integer, is_digits, unsigned};
 
 /// The time after the fields, in nanoseconds, if there is one.
 pub(crate) fn read_ending(precision: Precision, ending: &[u8]) -> Result<Option<i64>, LineFault>

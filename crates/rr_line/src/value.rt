@@ -1,8 +1,8 @@
 //! Values of fields.
 
 ghost use Rattle.std.specs.Prelude.{◌≡◌, ◌≤◌, ◌++◌, length, option_map};
-ghost use Rattle.rr_base.specs.Results.{Gives};
-ghost use Rattle.rr_base.specs.Text.{is_digits};
+ghost use Rattle.rr_text.specs.Results.{Gives};
+ghost use Rattle.rr_text.specs.Text.{is_digits};
 ghost use Rattle.rr_line.specs.Reading.{value_at};
 ghost use Rattle.rr_line.specs.Value.{is_boolean, is_one_of, trues, falses, is_integer, is_unsigned, is_float, is_mantissa, is_exponent, mantissa_len, kind_fault, value_of, value_len, after_quote, after_unit, is_text, quoted_fault, without_sign};
 
@@ -12,8 +12,8 @@ use crate::mark::{
 };
 use crate::part::before_last;
 use memchr::memchr2;
-use rr_base::bytes::{BACKSLASH, COMMA, MINUS, SPACE, begins};
-use rr_base::text::{cut, integer, is_digits, unsigned};
+use rr_text::bytes::{BACKSLASH, COMMA, MINUS, SPACE, begins};
+use rr_text::text::{cut, integer, is_digits, unsigned};
 
 /// An integer and what follows it. A value of another kind is refused by its kind.
 pub(crate) fn read_value(text: &[u8]) -> Result<(i64, &[u8]), LineFault>

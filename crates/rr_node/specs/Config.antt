@@ -5,7 +5,7 @@ use Rattle.toml.specs.Data.{Members, get_member}
 use Rattle.rr_base.specs.declared.fault.SchemaFault.{SchemaFault}
 use Rattle.rr_base.specs.declared.fault.SchemaFault.TheVariants.{BadToml}
 use Rattle.rr_base.specs.Document.{layout_in, table_of}
-use Rattle.rr_base.specs.Results.{◌>>=◌}
+use Rattle.rr_text.specs.Results.{◌>>=◌}
 use Rattle.rr_base.specs.Schema.{Layout}
 use Rattle.rr_line.specs.declared.precision.Precision.{Precision}
 use Rattle.rr_line.specs.declared.precision.Precision.TheVariants.{Ns}

@@ -2,11 +2,11 @@
 use Rattle.std.specs.Prelude.{◌≡◌, ◌⊎◌, ℕ, ◌==◌, nat_eq, Bool, true, false, List, [], ◌∷◌, ◌++◌, codes, Option, None, Some, Result, Ok, Err, ok_or, drop, option_and_then, IfSome, IfErr, OnOk, OnErr, if◌then◌else◌}
 use Rattle.std.specs.Cmp.Lexicographic.{pointwise}
 use Rattle.std.specs.Io.KnownBytes.{Appends}
-use Rattle.rr_base.specs.declared.bytes.TheConstants.{LINE_FEED, SPACE}
-use Rattle.rr_base.specs.Results.{◌>>=◌}
+use Rattle.rr_text.specs.declared.bytes.TheConstants.{LINE_FEED, SPACE}
+use Rattle.rr_text.specs.Results.{◌>>=◌}
 use Rattle.rr_base.specs.Schema.{Layout}
 use Rattle.rr_base.specs.Stream.{AppendsPrefix}
-use Rattle.rr_base.specs.Text.{cut_at}
+use Rattle.rr_text.specs.Text.{cut_at}
 use Rattle.rr_feed.specs.Items.{Item, Line, TooLong, items}
 use Rattle.rr_model.specs.FetchText.{Request}
 use Rattle.rr_replica.specs.Cells.{Cells}

@@ -1,7 +1,7 @@
 //! A line, handed to the keeper.
 
 ghost use Rattle.std.specs.Prelude.{◌≡◌, ◌≢◌, ℤ, [], ◌∷◌, IfOk, OnOk};
-ghost use Rattle.rr_base.specs.Bytes.{HasNoLineFeed};
+ghost use Rattle.rr_text.specs.Bytes.{HasNoLineFeed};
 ghost use Rattle.rr_desk.specs.Standing.{holding_of};
 ghost use Rattle.rr_feed.specs.Items.{item_view, IsLine};
 ghost use Rattle.rr_feed.specs.Items as feed;

@@ -1,7 +1,7 @@
 //! The answer to a line of a fetch connection.
 
 ghost use Rattle.std.specs.Prelude.{◌≡◌, Option, Ok, IfOk, option_map};
-ghost use Rattle.rr_base.specs.Results.{GivesUnless};
+ghost use Rattle.rr_text.specs.Results.{GivesUnless};
 ghost use Rattle.rr_feed.specs.Feed.{HandsOut};
 ghost use Rattle.rr_feed.specs.Items.{Item, item_view};
 ghost use Rattle.rr_fetch.specs.Requests.{request_view, IsFetchable};
@@ -11,11 +11,11 @@ ghost use Rattle.rr_node.specs.Fetches.{after_fetch, by_name, error_text, reques
 
 use rr_archive::Archive;
 use rr_base::Schema;
-use rr_base::bytes::{LINE_FEED, SPACE};
-use rr_base::text::cut;
 use rr_desk::{FetchFault, Gate, Reader};
 use rr_feed::{Feed, FeedLine, LINE_TOO_LONG};
 use rr_fetch::{Request, RequestFault, parse_request};
+use rr_text::bytes::{LINE_FEED, SPACE};
+use rr_text::text::cut;
 use std::alloc::{AllocError, Global};
 
 /// What follows the word `fetch` and a space, where a line begins so.

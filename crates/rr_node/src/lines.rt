@@ -2,7 +2,7 @@
 
 ghost use Rattle.std.specs.Prelude.{◌≡◌, ◌+◌, ◌≤◌, Err, IfOk, OnErr};
 ghost use Rattle.rr_base.specs.Counted.{inner_of, failures_of, reads_of, HasRisen, HasRisenBy};
-ghost use Rattle.rr_base.specs.declared.limits.TheConstants.{MAX_READS};
+ghost use Rattle.rr_text.specs.declared.limits.TheConstants.{MAX_READS};
 ghost use Rattle.rr_node.specs.Lines.{rules_of, HasStopped, IsServed};
 
 use crate::clock::Clock;
@@ -12,10 +12,10 @@ use crate::report::Report;
 use crate::rules::Rules;
 use rr_archive::Archive;
 use rr_base::Counted;
-use rr_base::limits::MAX_READS;
 use rr_base::stream::read_once;
 use rr_desk::Keeper;
 use rr_line::Precision;
+use rr_text::limits::MAX_READS;
 use std::alloc::Global;
 use std::io::{Read, Write};
 use std::sync::Wait;

@@ -4,7 +4,7 @@ ghost use Rattle.std.specs.Prelude.{◌≡◌, ◌≢◌, ◌+◌, ◌≤◌, Er
 ghost use Rattle.std.specs.Io.KnownBytes.{Appends};
 ghost use Rattle.rr_base.specs.Counted.{inner_of, failures_of, reads_of, HasRisen, HasRisenBy};
 ghost use Rattle.rr_base.specs.Stream.{AppendsPrefix};
-ghost use Rattle.rr_base.specs.declared.limits.TheConstants.{MAX_READS};
+ghost use Rattle.rr_text.specs.declared.limits.TheConstants.{MAX_READS};
 ghost use Rattle.rr_cluster.specs.Model.{sample_model};
 ghost use Rattle.rr_cluster.specs.Output.{output_of};
 

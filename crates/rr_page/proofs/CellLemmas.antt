@@ -7,7 +7,7 @@ use Rattle.std.proofs.Math.Nat as nat
 use Rattle.std.proofs.Math.Pow.{pow_mono}
 use Rattle.std.proofs.lemmas.Bool.{ltb-true, le-ltb, lt-ltb, ne_eqb}
 use Rattle.std.proofs.lemmas.List.{length-append, drop_at}
-use Rattle.rr_base.specs.declared.limits.TheConstants.{MAX_KEY_TEXT}
+use Rattle.rr_text.specs.declared.limits.TheConstants.{MAX_KEY_TEXT}
 use Rattle.rr_base.specs.Schema.{Layout, IsLayout}
 use Rattle.rr_base.specs.Schema as schema
 use Rattle.rr_contrib.specs.declared.contribution.Contribution.{Contribution}
@@ -26,7 +26,7 @@ use Rattle.rr_page.specs.Version.{mask_width, HasMasksFor}
 use Rattle.rr_replica.specs.CellBounds.{NamedCell, IsCellOf}
 use Rattle.rr_page.specs.CellText.{signed_bytes, sums_text, values_text, name_text, cell_text}
 use Rattle.rr_page.specs.Laws.{AreBytes, CellsAreTheirText}
-use Rattle.rr_base.specs.Results.{◌>>=◌, unless}
+use Rattle.rr_text.specs.Results.{◌>>=◌, unless}
 use Rattle.rr_page.specs.Reading.{front_at, number_at, key_at, archive_at, contribution_at, cell_at}
 use Rattle.rr_contrib.specs.Validity.{is_valid}
 use Rattle.rr_contrib.proofs.ValidityLemmas.{Decides-is_valid}

@@ -12,7 +12,7 @@ use Rattle.rr_page.specs.declared.fault.PageFault.{PageFault}
 use Rattle.rr_page.specs.declared.fault.PageFault.TheVariants.{Short}
 use Rattle.rr_page.specs.CellText.{signed_bytes}
 use Rattle.rr_page.specs.Laws.{AreBytes}
-use Rattle.rr_base.specs.Results.{◌>>=◌, unless}
+use Rattle.rr_text.specs.Results.{◌>>=◌, unless}
 use Rattle.rr_page.specs.Reading.{front_at, number_at, signed_at}
 use Rattle.rr_page.proofs.NumberLemmas.{IsWide}
 

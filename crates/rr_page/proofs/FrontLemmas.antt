@@ -6,8 +6,8 @@ use Rattle.std.specs.Int.{Width, w8, w16, w64, w128, byte_len, from_be_bytes, ca
 use Rattle.std.proofs.lemmas.Bool.{ltb-false, le-ltb}
 use Rattle.std.proofs.lemmas.List.{append-nil, length-append, take-append-le}
 use lib.Seq.{drop-append-le}
-use Rattle.rr_base.specs.declared.limits.TheConstants.{MAX_KEY_TEXT, MAX_PAGE_CELLS}
-use Rattle.rr_base.specs.Results.{◌>>=◌, unless}
+use Rattle.rr_text.specs.declared.limits.TheConstants.{MAX_KEY_TEXT, MAX_PAGE_CELLS}
+use Rattle.rr_text.specs.Results.{◌>>=◌, unless}
 use Rattle.rr_base.specs.Schema.{Layout}
 use Rattle.rr_base.specs.SchemaBytes.{schema_bytes}
 use Rattle.rr_contrib.specs.Validity.{is_valid}

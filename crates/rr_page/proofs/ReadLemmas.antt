@@ -3,7 +3,7 @@ use Rattle.std.proofs.Common.{◌≡◌, ℕ, ℤ, Bool, true, false, ◌||◌, 
 use Rattle.std.specs.Prelude.{nat_lt, ◌==◌, IsOk}
 use Rattle.std.specs.Int.{w16, w64}
 use Rattle.std.proofs.lemmas.Bool.{false_from_ne_true}
-use Rattle.rr_base.specs.declared.limits.TheConstants.{MAX_KEY_TEXT}
+use Rattle.rr_text.specs.declared.limits.TheConstants.{MAX_KEY_TEXT}
 use Rattle.rr_base.specs.Schema.{Layout}
 use Rattle.rr_contrib.specs.declared.contribution.Contribution.{Contribution}
 use Rattle.rr_contrib.specs.Validity.{IsValid, is_valid}
@@ -14,7 +14,7 @@ use Rattle.rr_key.proofs.DecisionLemmas.{Decides-is_key_text}
 use Rattle.rr_replica.specs.CellBounds.{NamedCell}
 use Rattle.rr_page.specs.declared.fault.PageFault.{PageFault}
 use Rattle.rr_page.specs.declared.fault.PageFault.TheVariants.{BadKey, BadContribution}
-use Rattle.rr_base.specs.Results.{◌>>=◌, unless}
+use Rattle.rr_text.specs.Results.{◌>>=◌, unless}
 use Rattle.rr_page.specs.Reading.{front_at, number_at, signed_at, key_at, archive_at, contribution_at, cell_at}
 use Rattle.rr_page.specs.declared.version.Version.{Version}
 

@@ -4,8 +4,8 @@ use Rattle.std.specs.Cmp.Lexicographic.{pointwise}
 use Rattle.std.specs.Int.{w8, w16}
 use Rattle.std.specs.List.{last_or}
 use Rattle.std.specs.Ordering.{is_lt}
-use Rattle.rr_base.specs.declared.limits.TheConstants.{MAX_PAGE_CELLS}
-use Rattle.rr_base.specs.Results.{◌>>=◌, unless}
+use Rattle.rr_text.specs.declared.limits.TheConstants.{MAX_PAGE_CELLS}
+use Rattle.rr_text.specs.Results.{◌>>=◌, unless}
 use Rattle.rr_base.specs.Schema.{Layout}
 use Rattle.rr_base.specs.SchemaBytes.{schema_bytes}
 use Rattle.rr_model.specs.CellNames.{CellName, cell_name_cmp}

@@ -1,8 +1,8 @@
 -- The reading of a cell, as a function of the bytes: field by field, up to the first fault.
 use Rattle.std.specs.Prelude.{ℕ, ℤ, nat_lt, ◌||◌, not, ◌==◌, List, length, take, drop, Result, Ok}
 use Rattle.std.specs.Int.{Width, w8, w16, w64, w128, byte_len, cast_signed, from_be_bytes}
-use Rattle.rr_base.specs.declared.limits.TheConstants.{MAX_KEY_TEXT}
-use Rattle.rr_base.specs.Results.{◌>>=◌, unless}
+use Rattle.rr_text.specs.declared.limits.TheConstants.{MAX_KEY_TEXT}
+use Rattle.rr_text.specs.Results.{◌>>=◌, unless}
 use Rattle.rr_base.specs.Schema.{Layout}
 use Rattle.rr_contrib.specs.declared.contribution.Contribution.{Contribution}
 use Rattle.rr_contrib.specs.Validity.{is_valid}

@@ -1,7 +1,7 @@
 //! The cells of a page, from its bytes.
 ghost use Rattle.std.specs.Prelude.{◌≡◌, List, All, IfOk, Ok, None, Some, map};
 ghost use Rattle.rr_base.specs.Schema.{IsLayout};
-ghost use Rattle.rr_base.specs.Results.{GivesUnless, NeedsMemoryAfter};
+ghost use Rattle.rr_text.specs.Results.{GivesUnless, NeedsMemoryAfter};
 ghost use Rattle.rr_page.specs.Page.{IsPage, IsPageText};
 ghost use Rattle.rr_page.specs.PageReading.{is_after, last_name, schema_at, cells_at, page_at};
 ghost use Rattle.rr_replica.specs.CellBounds.{NamedCell, IsCellOf};

@@ -1,6 +1,6 @@
 //! What a page has before its cells.
 ghost use Rattle.std.specs.Prelude.{◌≡◌, ◌≢◌, Err, ◌++◌, IsOk, IfOk, OnOk};
-ghost use Rattle.rr_base.specs.Results.{Gives, GivesUnless, NeedsMemoryAfter};
+ghost use Rattle.rr_text.specs.Results.{Gives, GivesUnless, NeedsMemoryAfter};
 ghost use Rattle.rr_page.specs.Page.{head_text};
 ghost use Rattle.rr_page.specs.PageReading.{version_at, start_at, schema_at, head_at};
 ghost use Rattle.rr_page.specs.Version.{latest};
@@ -9,7 +9,7 @@ use crate::fault::PageFault;
 use crate::fields::{bytes_at, u8_at, u16_at};
 use crate::version::{LATEST, Version};
 use rr_base::Schema;
-use rr_base::limits::MAX_PAGE_CELLS;
+use rr_text::limits::MAX_PAGE_CELLS;
 use std::alloc::{AllocError, Global};
 
 /// The bytes that every page begins with.

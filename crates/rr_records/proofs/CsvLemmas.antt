@@ -4,7 +4,7 @@ use Rattle.std.specs.Char.{digit_value}
 use Rattle.std.specs.Fmt.{decimal, signed_decimal}
 use Rattle.std.specs.Int.{w64}
 use Rattle.std.proofs.lemmas.Int.{ints}
-use Rattle.rr_base.specs.Text.{cut_at}
+use Rattle.rr_text.specs.Text.{cut_at}
 use Rattle.std.specs.List.{list_any, flat_map}
 use Rattle.std.specs.Prelude.{codes, if◌then◌else◌, IfSome, FitsSigned}
 use Rattle.std.specs.Str.Parse.{AllDigits}

@@ -5,8 +5,8 @@ ghost use Rattle.std.specs.List.{list_any, flat_map};
 ghost use Rattle.rr_model.specs.FetchText.{doubled, field_text, is_special};
 ghost use Rattle.rr_records.specs.Records.{record_text, IsPlain};
 
-use rr_base::bytes::{COMMA, LINE_FEED, RETURN};
-use rr_base::text::cut;
+use rr_text::bytes::{COMMA, LINE_FEED, RETURN};
+use rr_text::text::cut;
 use std::alloc::AllocError;
 
 const DOUBLE_QUOTE: u8 = b'"';

@@ -3,7 +3,7 @@ use Rattle.std.proofs.Common.{ℕ, ◌^◌, ◌<◌, ◌≤◌, ℤ, pos, negsuc
 use Rattle.std.specs.Prelude.{FitsSigned, unsigned_abs, int_lt}
 use Rattle.std.specs.Int.{w64, w128}
 use Rattle.std.proofs.lemmas.Int.{ints, fits_signed_mul}
-use Rattle.rr_base.specs.declared.limits.TheConstants.{MAX_NUMBER}
+use Rattle.rr_text.specs.declared.limits.TheConstants.{MAX_NUMBER}
 use Rattle.rr_base.specs.Origin.{IsOrigin}
 use Rattle.rr_base.specs.Schema.{Layout}
 use Rattle.rr_contrib.specs.declared.contribution.Contribution.{Contribution}

@@ -6,7 +6,7 @@ use Rattle.std.specs.Ordering.{eq_by_cmp}
 use Rattle.std.specs.Cmp.Lexicographic.{pointwise, bytes_decides}
 use Rattle.std.specs.FinMap.{get, insert, keys, get-insert}
 use Rattle.std.proofs.lemmas.Bool.{cases_lt}
-use Rattle.rr_base.specs.declared.limits.TheConstants.{MAX_NUMBER}
+use Rattle.rr_text.specs.declared.limits.TheConstants.{MAX_NUMBER}
 use Rattle.rr_base.specs.Origin.{IsOrigin}
 use Rattle.rr_base.specs.Schema.{Layout, IsLayout, archive_at}
 use Rattle.rr_join.proofs.Members.{same_from_tie}

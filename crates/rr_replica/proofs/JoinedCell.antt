@@ -12,7 +12,7 @@ use Rattle.std.specs.FinMap.{get, empty, insert, keys, get-empty, get-insert, sa
 use Rattle.std.proofs.lemmas.Bool.{cases_lt, eq-eqb, le-leb, leb-true, ne_eqb, and_left, and_right, false_from_ne_true}
 use Rattle.std.proofs.lemmas.Bool.Decides.{eqb_tells}
 use Rattle.std.proofs.lemmas.Option.{slice_get_past}
-use Rattle.rr_base.specs.declared.limits.TheConstants.{MAX_NUMBER}
+use Rattle.rr_text.specs.declared.limits.TheConstants.{MAX_NUMBER}
 use Rattle.rr_base.specs.Schema.{Layout, IsLayout, archive_at}
 use Rattle.rr_join.specs.Maps.{greater}
 use Rattle.rr_join.proofs.Joining.{get-joined}
@@ -37,7 +37,7 @@ use Rattle.rr_replica.specs.Joining.{next_after, with_cell, with_cells}
 use Rattle.rr_replica.specs.Held.{IsHolding, AreAllSized, IsHeld, held_series, archives_of, holding_of}
 use Rattle.rr_replica.specs.Holding.{Holding}
 use Rattle.rr_replica.specs.Listing.{owned_cell}
-use Rattle.rr_base.specs.Bytes.{bytes_cmp}
+use Rattle.rr_text.specs.Bytes.{bytes_cmp}
 use Rattle.rr_replica.specs.Series.{cells_of}
 use Rattle.rr_replica.proofs.CellByCell.{join_nothing}
 use Rattle.rr_replica.proofs.Each.{sized_at}

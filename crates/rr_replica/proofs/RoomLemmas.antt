@@ -14,8 +14,8 @@ use Rattle.std.proofs.lemmas.Int.{ints}
 use Rattle.std.proofs.lemmas.List.Folds.{list_any-append}
 use Rattle.std.proofs.lemmas.Map.Views.{any-filter_same}
 use Rattle.std.proofs.lemmas.Option.{slice_get_within}
-use Rattle.rr_base.specs.Bytes.{bytes_cmp}
-use Rattle.rr_base.specs.declared.limits.TheConstants.{MAX_NUMBER, MAX_ORIGIN, MAX_SECOND}
+use Rattle.rr_text.specs.Bytes.{bytes_cmp}
+use Rattle.rr_text.specs.declared.limits.TheConstants.{MAX_NUMBER, MAX_ORIGIN, MAX_SECOND}
 use Rattle.rr_base.specs.Origin.{IsOrigin}
 use Rattle.rr_base.specs.Schema.{Layout, IsLayout, slot_of}
 use Rattle.rr_join.proofs.Members.{tie_itself, same_from_tie}

@@ -6,8 +6,8 @@ use Rattle.std.specs.BTreeMap.Range.{entries_between, range_contains}
 use Rattle.std.specs.declared.ops.Bound.{Bound}
 use Rattle.std.specs.declared.ops.Bound.TheVariants.{Included, Unbounded}
 use Rattle.std.specs.Ordering.{is_le}
-use Rattle.rr_base.specs.declared.limits.TheConstants.{MAX_ARCHIVES}
-use Rattle.rr_base.specs.Bytes.{bytes_cmp}
+use Rattle.rr_text.specs.declared.limits.TheConstants.{MAX_ARCHIVES}
+use Rattle.rr_text.specs.Bytes.{bytes_cmp}
 use Rattle.rr_archive.specs.CellSlots.{CellSlot}
 use Rattle.rr_archive.specs.Cells.{Rows}
 use Rattle.rr_replica.specs.CellBounds.{NamedCell}

@@ -2,7 +2,7 @@
 use Rattle.std.specs.Prelude.{◌≡◌, ◌≢◌, ℕ, ℤ, ◌≤◌, Bool, IsTrue, List, map, length, Some, slice_get, FitsSigned}
 use Rattle.std.specs.FinMap.{get}
 use Rattle.std.specs.Int.{w64}
-use Rattle.rr_base.specs.declared.limits.TheConstants.{MAX_NUMBER}
+use Rattle.rr_text.specs.declared.limits.TheConstants.{MAX_NUMBER}
 use Rattle.rr_base.specs.Schema.{Layout, IsLayout, archive_at, slot_of, place_of}
 use Rattle.rr_contrib.specs.Contributions.{SlotSample, slot_sample}
 use Rattle.rr_contrib.specs.Validity.{CanAdd}

@@ -6,7 +6,7 @@ use Rattle.std.specs.Map.{lookup, keys_of}
 use Rattle.std.specs.BTreeMap.{is_at}
 use Rattle.std.specs.Option.{option_map}
 use Rattle.std.specs.FinMap.{get, len}
-use Rattle.rr_base.specs.declared.limits.TheConstants.{MAX_NUMBER}
+use Rattle.rr_text.specs.declared.limits.TheConstants.{MAX_NUMBER}
 use Rattle.rr_base.specs.Origin.{IsOrigin}
 use Rattle.rr_base.specs.Schema.{Layout, IsLayout, archive_at}
 use Rattle.rr_contrib.specs.declared.contribution.Contribution.{Contribution}
@@ -21,7 +21,7 @@ use Rattle.rr_replica.specs.Operations.{sample_of, key_of}
 use Rattle.rr_replica.specs.CellBounds.{IsCellOf}
 use Rattle.rr_replica.specs.Cells.{IsTrimmed, rows_at}
 use Rattle.rr_replica.specs.Holding.{Holding}
-use Rattle.rr_base.specs.Bytes.{bytes_cmp}
+use Rattle.rr_text.specs.Bytes.{bytes_cmp}
 use Rattle.rr_replica.specs.Series.{Series, cells_of}
 use Rattle.rr_replica.specs.Archives.{AreSized, HaveRoomFor}
 

@@ -1,7 +1,7 @@
 -- Operations, and what they make of a replica and of cells alone.
 use Rattle.std.specs.Prelude.{◌≡◌, ℕ, nat_le, Bool, true, ◌==◌, ◌&&◌, if◌then◌else◌, List, [], ◌∷◌, map, fold}
 use Rattle.std.specs.FinMap.{empty, entries}
-use Rattle.rr_base.specs.declared.limits.TheConstants.{MAX_NUMBER}
+use Rattle.rr_text.specs.declared.limits.TheConstants.{MAX_NUMBER}
 use Rattle.rr_base.specs.Schema.{Layout}
 use Rattle.rr_model.specs.Samples as model
 use Rattle.rr_replica.specs.declared.sample.Sample.{Sample}

@@ -9,7 +9,7 @@ use crate::op::Op;
 use crate::reading::Reading;
 use crate::replica::Replica;
 use rr_archive::Archive;
-use rr_base::limits::MAX_NUMBER;
+use rr_text::limits::MAX_NUMBER;
 use std::alloc::AllocError;
 
 impl<A: Archive> Replica<A> {

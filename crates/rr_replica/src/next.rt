@@ -5,7 +5,7 @@ ghost use Rattle.std.specs.List.Sorted.{IsStrictlySortedBy};
 ghost use Rattle.std.specs.Map.{keys_of};
 ghost use Rattle.std.specs.Option.{option_map};
 ghost use Rattle.std.specs.Ordering.{is_le};
-ghost use Rattle.rr_base.specs.Bytes.{bytes_cmp};
+ghost use Rattle.rr_text.specs.Bytes.{bytes_cmp};
 ghost use Rattle.rr_replica.specs.Held.{held_series};
 ghost use Rattle.rr_replica.specs.SeriesMap.{entries_of};
 ghost use Rattle.rr_replica.specs.Listing.{seen_cell, seen_name, first_after, next_cell};
@@ -16,8 +16,8 @@ use crate::listing::named;
 use crate::series::SeriesMap;
 use rr_archive::Archive;
 use rr_base::Origin;
-use rr_base::limits::MAX_ARCHIVES;
 use rr_key::SeriesKey;
+use rr_text::limits::MAX_ARCHIVES;
 
 /// The name of a cell.
 #[derive(Clone, Copy)]

@@ -1,6 +1,6 @@
 //! A reading, which the archives of a key take.
 ghost use Rattle.std.specs.Prelude.{◌≤◌};
-ghost use Rattle.rr_base.specs.declared.limits.TheConstants.{MAX_NUMBER};
+ghost use Rattle.rr_text.specs.declared.limits.TheConstants.{MAX_NUMBER};
 
 use rr_base::Origin;
 

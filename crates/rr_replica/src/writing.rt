@@ -1,6 +1,6 @@
 //! The fields of a point, put one after the other.
 ghost use Rattle.std.specs.Prelude.{◌≡◌, ℕ, ◌<◌, ◌≤◌, ◌↔◌, length, Err, IfOk, IfErr, OnOk, IsTrue, IsFalse, unwrap_or};
-ghost use Rattle.rr_base.specs.declared.limits.TheConstants.{MAX_FIELDS};
+ghost use Rattle.rr_text.specs.declared.limits.TheConstants.{MAX_FIELDS};
 ghost use Rattle.rr_line.specs.Key.{HasKeys};
 ghost use Rattle.rr_line.specs.Line.{point_view};
 ghost use Rattle.rr_replica.specs.Standing.{held};

@@ -1,7 +1,7 @@
 //! The report of a line: a record for each of its samples, or why it is refused.
 
 ghost use Rattle.std.specs.Prelude.{◌≡◌, ◌≢◌, ◌++◌, ◌∷◌, [], None, IfOk, OnOk, is_err};
-ghost use Rattle.rr_base.specs.Bytes.{HasNoLineFeed};
+ghost use Rattle.rr_text.specs.Bytes.{HasNoLineFeed};
 ghost use Rattle.rr_feed.specs.Items.{item_view, IsLine};
 ghost use Rattle.rr_key.specs.Making.{making_fault};
 ghost use Rattle.rr_line.specs.Fault.{line_fault_name};

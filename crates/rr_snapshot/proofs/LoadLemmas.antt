@@ -5,7 +5,7 @@ use Rattle.std.proofs.lemmas.List.{length-append, take_at}
 use Rattle.sha2.specs.Hashers.{Holds256}
 use Rattle.sha2.specs.Sha256.{sha256}
 use Rattle.sha2.specs.declared.Sha256.{Sha256}
-use Rattle.rr_base.specs.Results.{◌>>=◌, unless}
+use Rattle.rr_text.specs.Results.{◌>>=◌, unless}
 use Rattle.rr_base.specs.Schema.{Layout}
 use Rattle.rr_base.specs.SchemaBytes.{schema_bytes}
 use Rattle.rr_page.specs.declared.version.Version.{Version}

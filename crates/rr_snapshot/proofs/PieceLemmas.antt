@@ -8,7 +8,7 @@ use Rattle.std.proofs.lemmas.List.{nil_from_length}
 use Rattle.rr_page.specs.declared.fault.PageFault.{PageFault}
 use Rattle.rr_page.specs.declared.fault.PageFault.TheVariants.{Short, BadMagic, BadVersion, SchemaDiffers}
 use Rattle.rr_page.specs.declared.version.Version.TheVariants.{One}
-use Rattle.rr_base.specs.Results.{unless}
+use Rattle.rr_text.specs.Results.{unless}
 use Rattle.rr_page.specs.PageReading.{version_at}
 use Rattle.rr_page.specs.Reading.{front_at, number_at}
 use Rattle.rr_page.proofs.FrontLemmas.{Reader, IsFront, IsFront-field, IsFront-then, IsFront-unless, IsFront-done, IsFront-number, IsFront-version, extended}

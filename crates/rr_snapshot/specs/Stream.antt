@@ -4,7 +4,7 @@ use Rattle.std.specs.Int.{w16}
 use Rattle.std.specs.Io.KnownBytes.{Consumes}
 use Rattle.sha2.specs.Hashers.{Holds256}
 use Rattle.sha2.specs.declared.Sha256.{Sha256}
-use Rattle.rr_base.specs.declared.limits.TheConstants.{MAX_KEY_TEXT}
+use Rattle.rr_text.specs.declared.limits.TheConstants.{MAX_KEY_TEXT}
 use Rattle.rr_page.specs.declared.fault.PageFault.{PageFault}
 use Rattle.rr_page.specs.declared.version.Version.{Version}
 use Rattle.rr_page.specs.Reading.{number_at}

@@ -7,7 +7,7 @@ ghost use Rattle.rr_base.specs.SchemaBytes.{schema_bytes};
 ghost use Rattle.rr_page.specs.Reading.{number_at};
 ghost use Rattle.rr_snapshot.specs.Stream.{Digests, StreamGives};
 ghost use Rattle.rr_page.specs.Version.{latest};
-ghost use Rattle.rr_base.specs.Results.{Gives};
+ghost use Rattle.rr_text.specs.Results.{Gives};
 ghost use Rattle.rr_snapshot.specs.Snapshot.{head_text};
 ghost use Rattle.rr_snapshot.specs.SnapshotReading.{as_in_page, start_at, head_at};
 

@@ -12,12 +12,12 @@ ghost use Rattle.rr_snapshot.specs.SnapshotReading.{as_in_page};
 ghost use Rattle.rr_snapshot.specs.Stream.{Adds, StreamGives, whole_len};
 
 use crate::fault::LoadFault;
-use rr_base::limits::MAX_KEY_TEXT;
 use rr_base::stream::{ReadFailed, fill};
 use rr_base::{Counted, Schema};
 use rr_page::fields::u16_at;
 use rr_page::{FIELDS_LEN, Version, read_cell_in};
 use rr_replica::Cell;
+use rr_text::limits::MAX_KEY_TEXT;
 use std::alloc::Global;
 use std::io::Read;
 

@@ -4,8 +4,8 @@ use Rattle.std.specs.Option.{option_and_then}
 use Rattle.std.specs.Str.{bytes_eq}
 use Rattle.clap.specs.Walk.{Row, Text, first_of, is_empty}
 use Rattle.clap.specs.Words.{fault_of, subcommand_of}
-use Rattle.rr_base.specs.declared.limits.TheConstants.{MAX_ORIGIN}
-use Rattle.rr_base.specs.Text.{integer_at, number_at}
+use Rattle.rr_text.specs.declared.limits.TheConstants.{MAX_ORIGIN}
+use Rattle.rr_text.specs.Text.{integer_at, number_at}
 use Rattle.rr_line.specs.declared.precision.Precision.{Precision}
 use Rattle.rr_line.specs.declared.precision.Precision.TheVariants.{Ns, Us, Ms, S}
 use Rattle.rr_words.specs.declared.order.Order.{Order}

@@ -6,8 +6,8 @@ ghost use Rattle.rr_words.specs.Words.{moment_at, origin_in, precision_at};
 
 use clap::ArgMatches;
 use rr_base::Origin;
-use rr_base::text::{integer, number};
 use rr_line::Precision;
+use rr_text::text::{integer, number};
 use std::alloc::{AllocError, Global};
 
 /// The value of an argument, if it is written.

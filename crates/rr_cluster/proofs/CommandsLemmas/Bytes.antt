@@ -3,7 +3,7 @@ use Rattle.std.proofs.Common.{◌≡◌, ℕ, List, [], ◌∷◌, ◌++◌, Som
 use Rattle.std.specs.FinMap as map
 use Rattle.hex.specs.Hex.{encode_lower}
 use Rattle.rr_archive.specs.declared.archive.Archive.{Ghosts}
-use Rattle.rr_base.specs.declared.bytes.TheConstants.{LINE_FEED, SPACE}
+use Rattle.rr_text.specs.declared.bytes.TheConstants.{LINE_FEED, SPACE}
 use Rattle.rr_model.specs.Knowledge.{Knowledge}
 use Rattle.rr_replica.specs.Cells.{Cells}
 use Rattle.rr_replica.specs.State.{state}

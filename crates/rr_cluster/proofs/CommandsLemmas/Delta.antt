@@ -7,9 +7,9 @@ use Rattle.std.specs.List.{All}
 use Rattle.std.specs.Ordering.{is_lt}
 use Rattle.std.proofs.lemmas.List.Elements.{All-map}
 use Rattle.std.proofs.lemmas.List.{drop-map, length-map, length-take, take-map, take_all}
-use Rattle.rr_base.specs.declared.bytes.TheConstants.{SPACE}
-use Rattle.rr_base.specs.declared.limits.TheConstants.{MAX_PAGE_CELLS}
-use Rattle.rr_base.specs.Results.{checked}
+use Rattle.rr_text.specs.declared.bytes.TheConstants.{SPACE}
+use Rattle.rr_text.specs.declared.limits.TheConstants.{MAX_PAGE_CELLS}
+use Rattle.rr_text.specs.Results.{checked}
 use Rattle.rr_base.specs.Schema.{Layout, IsLayout}
 use Rattle.rr_delta.specs.Difference.{IsSummary, newer_cells}
 use Rattle.rr_delta.specs.declared.name.Name.{Name}

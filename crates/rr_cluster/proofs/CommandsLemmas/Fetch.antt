@@ -2,7 +2,7 @@
 use Rattle.std.proofs.Common.{◌≡◌, inl, inr, ℕ, List, [], ◌∷◌, None, Some, IfSome, option_map, Result, Ok, Err, refl, sym, ap, subst, ◌∙◌}
 use Rattle.std.specs.FinMap as map
 use Rattle.rr_archive.specs.declared.archive.Archive.{Ghosts}
-use Rattle.rr_base.specs.Text.{cut_at}
+use Rattle.rr_text.specs.Text.{cut_at}
 use Rattle.rr_fetch.specs.Answers.{cells_text}
 use Rattle.rr_fetch.specs.Requests.{read}
 use Rattle.rr_fetch.specs.Words.{Parts, words_of as request_words}
@@ -14,12 +14,12 @@ use Rattle.rr_model.specs.Knowledge.{Knowledge}
 use Rattle.rr_replica.specs.Cells.{Cells}
 use Rattle.rr_replica.specs.Standing.{Standing}
 use Rattle.rr_cluster.specs.declared.cluster.Cluster.{Cluster}
-use Rattle.rr_base.specs.declared.bytes.TheConstants.{SPACE}
+use Rattle.rr_text.specs.declared.bytes.TheConstants.{SPACE}
 use Rattle.rr_cluster.specs.declared.fault.CommandFault.{CommandFault}
 use Rattle.rr_cluster.specs.declared.fault.CommandFault.TheVariants.{NoNode, Fetch}
 use Rattle.rr_cluster.specs.declared.stop.Stop.{Stop}
 use Rattle.rr_cluster.specs.Agreement.{in_cells, node_in_cells}
-use Rattle.rr_base.specs.Results.{◌>>=◌, GivesUnless}
+use Rattle.rr_text.specs.Results.{◌>>=◌, GivesUnless}
 use Rattle.rr_cluster.specs.Command.{fetch, IsOneLine}
 use Rattle.rr_cluster.specs.Commands.Fetch.{fetch_command, request_of, answer_to}
 use Rattle.rr_cluster.specs.Meaning.{node_in, replica_at, Represents}

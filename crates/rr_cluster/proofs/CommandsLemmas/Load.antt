@@ -6,8 +6,8 @@ use Rattle.std.specs.Ordering.{nat_cmp, is_eq}
 use Rattle.std.specs.BTreeSet.{contains}
 use Rattle.std.specs.FinMap as map
 use Rattle.rr_archive.specs.declared.archive.Archive.{Ghosts}
-use Rattle.rr_base.specs.declared.bytes.TheConstants.{SPACE}
-use Rattle.rr_base.specs.Results.{checked, unless}
+use Rattle.rr_text.specs.declared.bytes.TheConstants.{SPACE}
+use Rattle.rr_text.specs.Results.{checked, unless}
 use Rattle.rr_base.specs.Schema.{Layout}
 use Rattle.rr_model.specs.Knowledge.{Knowledge}
 use Rattle.rr_model.specs.World.{IsClosed}

@@ -30,7 +30,7 @@ use Rattle.rr_cluster.specs.declared.cluster.Cluster.{Cluster}
 use Rattle.rr_cluster.specs.declared.fault.CommandFault.{CommandFault}
 use Rattle.rr_cluster.specs.declared.fault.CommandFault.TheVariants.{BadName, NameUsed, OriginUsed}
 use Rattle.rr_cluster.specs.Agreement.{in_cells, node_in_cells}
-use Rattle.rr_base.specs.Results.{checked}
+use Rattle.rr_text.specs.Results.{checked}
 use Rattle.rr_cluster.specs.Command.{IsOneLine}
 use Rattle.rr_cluster.specs.Commands.Node.{node_command, new_node, after_node}
 use Rattle.rr_cluster.specs.Meaning.{node_of, node_in, replica_at, Represents}

@@ -6,8 +6,8 @@ use Rattle.std.specs.Global.{Vec}
 use Rattle.std.specs.FinMap as map
 use Rattle.std.proofs.lemmas.Bool.{le-leb, leb-false, leb-true, lt-leb}
 use Rattle.rr_archive.specs.declared.archive.Archive.{Ghosts}
-use Rattle.rr_base.specs.declared.bytes.TheConstants.{SPACE}
-use Rattle.rr_base.specs.Results.{checked}
+use Rattle.rr_text.specs.declared.bytes.TheConstants.{SPACE}
+use Rattle.rr_text.specs.Results.{checked}
 use Rattle.rr_base.specs.Schema.{Layout}
 use Rattle.rr_join.specs.Values.{map_values}
 use Rattle.rr_join.proofs.ValuesLemmas.{insert_cases, map_values-insert}

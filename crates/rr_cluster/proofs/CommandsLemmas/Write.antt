@@ -8,15 +8,15 @@ use Rattle.std.proofs.lemmas.Bool.{cases_Bool, ltb-false, or_parts}
 use Rattle.std.proofs.lemmas.List.Folds.{list_any-append}
 use Rattle.rr_archive.specs.declared.archive.Archive.{Ghosts}
 use Rattle.rr_base.specs.Schema.{IsLayout}
-use Rattle.rr_base.specs.Text.{fits_i64}
-use Rattle.rr_base.specs.declared.limits.TheConstants.{MAX_NUMBER}
+use Rattle.rr_text.specs.Text.{fits_i64}
+use Rattle.rr_text.specs.declared.limits.TheConstants.{MAX_NUMBER}
 use Rattle.rr_join.proofs.ValuesLemmas.{get-insert_itself, insert_there, insert_twice}
 use Rattle.rr_line.specs.declared.fault.LineFault.{LineFault}
 use Rattle.rr_line.specs.declared.fault.LineFault.TheVariants as line
 use Rattle.rr_line.specs.declared.precision.Precision.TheVariants.{Ns}
 use Rattle.rr_line.specs.Grammar.{IsLineOf}
 use Rattle.rr_line.specs.Key.{key_text}
-use Rattle.rr_base.specs.Bytes.{HasNoLineFeed}
+use Rattle.rr_text.specs.Bytes.{HasNoLineFeed}
 use Rattle.rr_line.specs.Line.{LineView, PointView, nothing, point}
 use Rattle.rr_line.specs.Reading.{reading}
 use Rattle.rr_line.proofs.LineLemmas.{line_found, keys_of_point}
@@ -33,13 +33,13 @@ use Rattle.rr_replica.specs.Standing.{Standing, held}
 use Rattle.rr_replica.specs.Writing.{with_fields, is_ahead, lacks_numbers, IsAfterRefusal}
 use Rattle.rr_replica.proofs.OneSampleMore.{put_is_one_sample_more}
 use Rattle.rr_cluster.specs.declared.cluster.Cluster.{Cluster}
-use Rattle.rr_base.specs.declared.bytes.TheConstants.{LINE_FEED, SPACE}
+use Rattle.rr_text.specs.declared.bytes.TheConstants.{LINE_FEED, SPACE}
 use Rattle.rr_cluster.specs.declared.fault.CommandFault.{CommandFault}
 use Rattle.rr_cluster.specs.declared.fault.CommandFault.TheVariants.{NoNode, Line, Write}
 use Rattle.rr_cluster.specs.declared.stop.Stop.{Stop}
 use Rattle.rr_cluster.specs.declared.stop.Stop.TheVariants.{Refused, Memory}
 use Rattle.rr_cluster.specs.Agreement.{in_cells, node_in_cells}
-use Rattle.rr_base.specs.Results.{◌>>=◌, checked}
+use Rattle.rr_text.specs.Results.{◌>>=◌, checked}
 use Rattle.rr_cluster.specs.Command.{write, IsOneLine}
 use Rattle.rr_cluster.specs.Commands.Write.{write_command, line_of, samples_of, samples_at, samples_of_point, samples_of_view, samples_of_line, with_samples, with_written, with_all_written, after_write}
 use Rattle.rr_cluster.specs.Meaning.{node_of, replica_at, Represents, Leaves, Writes, node_in}

@@ -1,11 +1,11 @@
 -- delta NAME GIVER TAKER FROM COUNT
 use Rattle.std.specs.Prelude.{ℕ, List, [], ◌∷◌, Option, None, Some, Result, Ok, ok_or}
 use Rattle.std.specs.FinMap.{get, insert}
-use Rattle.rr_base.specs.declared.limits.TheConstants.{MAX_PAGE_CELLS}
+use Rattle.rr_text.specs.declared.limits.TheConstants.{MAX_PAGE_CELLS}
 use Rattle.rr_cluster.specs.declared.fault.CommandFault.{CommandFault}
 use Rattle.rr_cluster.specs.declared.fault.CommandFault.TheVariants.{BadName, NoNode, BadNumber}
 use Rattle.rr_cluster.specs.declared.words.TheConstants.{MAX_U32}
-use Rattle.rr_base.specs.Results.{◌>>=◌, checked}
+use Rattle.rr_text.specs.Results.{◌>>=◌, checked}
 use Rattle.rr_cluster.specs.Command.{Command, delta}
 use Rattle.rr_cluster.specs.Model.{Model}
 use Rattle.rr_cluster.specs.State.{State}

@@ -7,7 +7,7 @@ use Rattle.rr_fetch.specs.Requests.{read}
 use Rattle.rr_fetch.specs.Words.{Parts}
 use Rattle.rr_cluster.specs.declared.fault.CommandFault.{CommandFault}
 use Rattle.rr_cluster.specs.declared.fault.CommandFault.TheVariants.{NoNode, Fetch}
-use Rattle.rr_base.specs.Results.{◌>>=◌}
+use Rattle.rr_text.specs.Results.{◌>>=◌}
 use Rattle.rr_cluster.specs.Command.{Command, fetch}
 use Rattle.rr_cluster.specs.Model.{Model}
 use Rattle.rr_cluster.specs.State.{State}

@@ -5,7 +5,7 @@ use Rattle.std.specs.FinMap.{insert, contains_key}
 use Rattle.rr_base.specs.Schema.{Layout}
 use Rattle.rr_cluster.specs.declared.fault.CommandFault.{CommandFault}
 use Rattle.rr_cluster.specs.declared.fault.CommandFault.TheVariants.{BadName, NameUsed, OriginUsed}
-use Rattle.rr_base.specs.Results.{◌>>=◌, checked}
+use Rattle.rr_text.specs.Results.{◌>>=◌, checked}
 use Rattle.rr_cluster.specs.Command.{Command, node}
 use Rattle.rr_cluster.specs.Model.{Model}
 use Rattle.rr_cluster.specs.State.{Node, State}

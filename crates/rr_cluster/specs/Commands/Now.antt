@@ -1,7 +1,7 @@
 -- now T [LEAD]
 use Rattle.std.specs.Prelude.{ℕ, List, [], ◌∷◌, Option, None, Some, Result, Ok}
 use Rattle.rr_cluster.specs.declared.fault.CommandFault.{CommandFault}
-use Rattle.rr_base.specs.Results.{◌>>=◌}
+use Rattle.rr_text.specs.Results.{◌>>=◌}
 use Rattle.rr_cluster.specs.Command.{Command, now}
 use Rattle.rr_cluster.specs.State.{State}
 use Rattle.rr_cluster.specs.Words.{moment_of, lead_of}

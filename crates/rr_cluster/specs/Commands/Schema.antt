@@ -6,7 +6,7 @@ use Rattle.rr_base.specs.Check.{schema_fault}
 use Rattle.rr_cluster.specs.declared.fault.CommandFault.{CommandFault}
 use Rattle.rr_cluster.specs.declared.fault.CommandFault.TheVariants.{BadNumber, Schema}
 use Rattle.rr_cluster.specs.declared.words.TheConstants.{MAX_U32}
-use Rattle.rr_base.specs.Results.{◌>>=◌}
+use Rattle.rr_text.specs.Results.{◌>>=◌}
 use Rattle.rr_cluster.specs.Command.{Command, schema}
 use Rattle.rr_cluster.specs.Words.{archives_of, number_within}
 

@@ -1,7 +1,7 @@
 -- write NODE LINE
 use Rattle.std.specs.Prelude.{ℕ, ◌+◌, ◌-◌, ℤ, not, nat_lt, List, [], ◌∷◌, length, Option, None, Some, Result, Ok, Err, ok_or, unwrap_or}
 use Rattle.std.specs.FinMap.{get, insert}
-use Rattle.rr_base.specs.declared.limits.TheConstants.{MAX_NUMBER}
+use Rattle.rr_text.specs.declared.limits.TheConstants.{MAX_NUMBER}
 use Rattle.rr_line.specs.declared.precision.Precision.TheVariants.{Ns}
 use Rattle.rr_line.specs.declared.fault.LineFault.{LineFault}
 use Rattle.rr_line.specs.Line.{LineView, PointView, nothing, point}
@@ -13,7 +13,7 @@ use Rattle.rr_replica.specs.declared.fault.WriteFault.TheVariants.{AheadOfClock,
 use Rattle.rr_replica.specs.Writing.{is_ahead}
 use Rattle.rr_cluster.specs.declared.fault.CommandFault.{CommandFault}
 use Rattle.rr_cluster.specs.declared.fault.CommandFault.TheVariants.{NoNode, Line, Write}
-use Rattle.rr_base.specs.Results.{◌>>=◌, checked}
+use Rattle.rr_text.specs.Results.{◌>>=◌, checked}
 use Rattle.rr_cluster.specs.Command.{Command, write}
 use Rattle.rr_cluster.specs.Model.{Model}
 use Rattle.rr_cluster.specs.State.{Node, State}

@@ -16,7 +16,7 @@ use crate::fault::CommandFault;
 use crate::stop::Stop;
 use crate::words::first_word;
 use rr_archive::Archive;
-use rr_base::bytes::LINE_FEED;
+use rr_text::bytes::LINE_FEED;
 
 /// The command of the word after `bytes`.
 pub(crate) fn bytes_command(words: &[u8]) -> Option<Event<'_>>

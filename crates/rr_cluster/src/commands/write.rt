@@ -1,7 +1,7 @@
 //! `write NODE LINE`: hands a line of the line protocol to a node.
 
 ghost use Rattle.std.specs.Prelude.{◌≡◌, option_map};
-ghost use Rattle.rr_base.specs.Bytes.{HasNoLineFeed};
+ghost use Rattle.rr_text.specs.Bytes.{HasNoLineFeed};
 ghost use Rattle.rr_line.specs.Line.{point_view};
 ghost use Rattle.rr_replica.specs.Cells.{Cells};
 ghost use Rattle.rr_replica.specs.Writing.{IsOfALine};

@@ -1,7 +1,7 @@
 //! Feeds: lines from pieces of a stream.
 
-use rr_base::limits::MAX_LINE;
 use rr_feed::{Feed, FeedFault, FeedLine};
+use rr_text::limits::MAX_LINE;
 use std::alloc::Global;
 use std::test::Fail;
 

@@ -1,7 +1,7 @@
 //! Fetches: rows of several origins, long answers, and writers that fail.
 
 ghost use Rattle.std.specs.Prelude.{◌≡◌, ◌<◌, length, IfOk};
-ghost use Rattle.rr_base.specs.declared.limits.TheConstants.{MAX_STEPS};
+ghost use Rattle.rr_text.specs.declared.limits.TheConstants.{MAX_STEPS};
 ghost use Rattle.rr_fetch.specs.Consolidation.{IsSummable};
 
 use rr_archive::{Entry, PlainArchive};

@@ -1,7 +1,7 @@
 //! Keys made of names, and names with their escapes.
 
-use rr_base::limits::MAX_KEY_TEXT;
 use rr_key::{Class, KeyFault, SeriesKey, escape, name_len, unescape};
+use rr_text::limits::MAX_KEY_TEXT;
 use std::alloc::{AllocError, Global};
 use std::collections::BTreeMap;
 use std::test::Fail;

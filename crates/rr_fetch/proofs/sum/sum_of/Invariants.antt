@@ -1,5 +1,5 @@
 use Rattle.std.proofs.Common.{◌≡◌, ◌≤◌, ◌*◌, take}
-use Rattle.rr_base.specs.declared.limits.TheConstants.{MAX_NUMBER}
+use Rattle.rr_text.specs.declared.limits.TheConstants.{MAX_NUMBER}
 use Rattle.rr_fetch.specs.Consolidation.{total_of, count_of, IsBounded}
 use Rattle.rr_fetch.proofs.sum.sum_of.Given as goal
 

@@ -1,6 +1,6 @@
 use Rattle.std.proofs.Common.{◌≡◌, true, false, sym, ap, ◌∙◌, refl}
 use Rattle.std.specs.Map.{keys_of}
-use Rattle.rr_base.specs.Bytes.{has_repeat}
+use Rattle.rr_text.specs.Bytes.{has_repeat}
 use Rattle.rr_key.specs.Making.{tags_of}
 use Rattle.rr_key.proofs.OrderLemmas.{keys_of_slices}
 use Rattle.rr_key.proofs.making.fault_of_many.Goals as goal

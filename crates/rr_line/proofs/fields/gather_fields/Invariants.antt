@@ -1,6 +1,6 @@
 -- What is still to be gathered, with the room that is left.
 use Rattle.std.proofs.Common.{◌-◌, length}
-use Rattle.rr_base.specs.declared.limits.TheConstants.{MAX_FIELDS}
+use Rattle.rr_text.specs.declared.limits.TheConstants.{MAX_FIELDS}
 use Rattle.rr_line.proofs.GatheredLemmas.{GathersFields}
 use Rattle.rr_line.proofs.fields.gather_fields.Given as goal
 

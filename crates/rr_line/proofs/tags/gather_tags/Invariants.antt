@@ -1,6 +1,6 @@
 -- What is still to be gathered, with the room that is left.
 use Rattle.std.proofs.Common.{◌-◌, length}
-use Rattle.rr_base.specs.declared.limits.TheConstants.{MAX_TAGS}
+use Rattle.rr_text.specs.declared.limits.TheConstants.{MAX_TAGS}
 use Rattle.rr_line.proofs.GatheredLemmas.{GathersTags}
 use Rattle.rr_line.proofs.tags.gather_tags.Given as goal
 

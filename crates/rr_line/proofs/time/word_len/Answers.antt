@@ -1,6 +1,6 @@
 -- What `memchr` finds is where the first delimiter is.
 use Rattle.std.proofs.Common.{eqb}
-use Rattle.rr_base.specs.declared.bytes.TheConstants.{SPACE}
+use Rattle.rr_text.specs.declared.bytes.TheConstants.{SPACE}
 use Rattle.rr_line.proofs.PartLemmas.{found_first, found_none}
 use Rattle.rr_line.proofs.time.word_len.Goals as goal
 

@@ -1,6 +1,6 @@
 -- What `memchr` finds is where the first delimiter is.
 use Rattle.memchr.specs.Find.{is_byte2}
-use Rattle.rr_base.specs.declared.bytes.TheConstants.{COMMA, SPACE}
+use Rattle.rr_text.specs.declared.bytes.TheConstants.{COMMA, SPACE}
 use Rattle.rr_line.proofs.PartLemmas.{found_first, found_none}
 use Rattle.rr_line.proofs.value.value_len.Goals as goal
 

@@ -1,6 +1,6 @@
 use Rattle.std.proofs.Common.{rules, ◌≡◌, ◌∙◌, Ok, Err, sym, ap, inr, false, ◌||◌}
 use Rattle.std.specs.Prelude.{nat_lt, ◌==◌}
-use Rattle.rr_base.specs.declared.limits.TheConstants.{MAX_KEY_TEXT}
+use Rattle.rr_text.specs.declared.limits.TheConstants.{MAX_KEY_TEXT}
 use Rattle.rr_page.proofs.ReadLemmas.{key_read, key_refused, key_left}
 use Rattle.rr_page.proofs.reading.key_of.Goals as goal
 

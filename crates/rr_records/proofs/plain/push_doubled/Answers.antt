@@ -1,7 +1,7 @@
 use Rattle.std.proofs.Common.{rules, ◌≡◌, ◌++◌, ◌∷◌, [], ℕ, List, Some, None, sym, ap, ◌∙◌, append_assoc}
 use Rattle.std.specs.List.{flat_map}
 use Rattle.rr_model.specs.FetchText.{doubled}
-use Rattle.rr_base.specs.Text.{cut_at}
+use Rattle.rr_text.specs.Text.{cut_at}
 use Rattle.rr_records.proofs.CsvLemmas.{doubled_cut, doubled_none, cut_is_shorter}
 use Rattle.rr_records.proofs.plain.push_doubled.Goals as goal
 

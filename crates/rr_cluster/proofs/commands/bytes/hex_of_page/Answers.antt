@@ -1,6 +1,6 @@
 use Rattle.std.proofs.Common.{◌≡◌, ◌++◌, [], ◌∷◌, None, Some, rules}
 use Rattle.hex.specs.Hex.{encode_lower}
-use Rattle.rr_base.specs.declared.bytes.TheConstants.{LINE_FEED}
+use Rattle.rr_text.specs.declared.bytes.TheConstants.{LINE_FEED}
 use Rattle.rr_cluster.specs.Model.{cell_model}
 use Rattle.rr_cluster.proofs.CommandsLemmas.Bytes.{no_page, line_printed}
 use Rattle.rr_cluster.proofs.MeaningLemmas.{no_page_at, bytes_found}

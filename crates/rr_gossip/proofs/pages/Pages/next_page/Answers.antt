@@ -1,5 +1,5 @@
 use Rattle.std.proofs.Common.{◌<◌, map, take, drop, length, sym, ap, ◌∙◌, subst, Some}
-use Rattle.rr_base.specs.declared.limits.TheConstants.{MAX_PAGE_CELLS}
+use Rattle.rr_text.specs.declared.limits.TheConstants.{MAX_PAGE_CELLS}
 use Rattle.rr_page.specs.Page.{IsPage}
 use Rattle.rr_replica.specs.Listing.{owned_cell}
 use Rattle.rr_gossip.specs.declared.frame.TheConstants.{MAX_FRAME_LEN}

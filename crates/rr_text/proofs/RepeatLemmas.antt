@@ -7,7 +7,7 @@ use Rattle.std.proofs.lemmas.Map.Keys.{IsDistinct-IsPermutation}
 use Rattle.std.specs.List.{AllByRecursion, IsDistinct}
 use Rattle.std.specs.List.Sorted.{IsPermutation}
 use Rattle.std.specs.Ordering.{is_eq, eq_by_cmp}
-use Rattle.rr_base.specs.Bytes.{bytes_cmp, is_among, has_repeat}
+use Rattle.rr_text.specs.Bytes.{bytes_cmp, is_among, has_repeat}
 
 -- texts are equal either way round
 pub same_turned : (x y : List ℕ) → is_eq (bytes_cmp x y) ≡ true → is_eq (bytes_cmp y x) ≡ true

@@ -4,8 +4,8 @@ use Rattle.std.proofs.lemmas.Bool.{and_right, cases_Bool, ltb-false, le-ltb, lt-
 use Rattle.std.specs.Char.{is_ascii_digit, digit_value}
 use Rattle.std.specs.List.{list_all}
 use Rattle.std.specs.Str.Parse.{digits_value_after}
-use Rattle.rr_base.specs.Digits.{with_digit, with_digits}
-use Rattle.rr_base.specs.Text.{number_at}
+use Rattle.rr_text.specs.Digits.{with_digit, with_digits}
+use Rattle.rr_text.specs.Text.{number_at}
 
 -- more digits make no smaller number
 digits_grow : (number : ℕ) (digits : List ℕ) → number ≤ digits_value_after 10 number digits

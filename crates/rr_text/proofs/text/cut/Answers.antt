@@ -2,8 +2,8 @@
 use Rattle.std.proofs.Common.{◌≡◌, ℕ, ◌-◌, List, length, take, drop, Some, None, ap, sym, ◌∙◌}
 use Rattle.std.proofs.Math.Seq.{take-length}
 use Rattle.std.proofs.lemmas.List.{length-drop}
-use Rattle.rr_base.proofs.CutLemmas.{cut_at-found}
-use Rattle.rr_base.proofs.text.cut.Goals as goal
+use Rattle.rr_text.proofs.CutLemmas.{cut_at-found}
+use Rattle.rr_text.proofs.text.cut.Goals as goal
 
 -- the slice up to the end is what is left
 rest_is : (n : ℕ) (text : List ℕ) → take (length text - n) (drop n text) ≡ drop n text

@@ -1,6 +1,6 @@
 use Rattle.std.proofs.Common.{◌≡◌, map, drop}
-use Rattle.rr_base.specs.Bytes.{is_among}
-use Rattle.rr_base.proofs.bytes.is_among.Given as goal
+use Rattle.rr_text.specs.Bytes.{is_among}
+use Rattle.rr_text.proofs.bytes.is_among.Given as goal
 
 abbrev pub invariant-loop-entry : goal.invariant-loop-entry
 invariant-loop-entry g l =

@@ -4,7 +4,7 @@ use Rattle.std.specs.Cmp.Lexicographic.{slice_cmp}
 use Rattle.std.specs.List.{list_any}
 use Rattle.std.specs.Ordering.{nat_cmp, is_eq}
 use Rattle.std.specs.declared.cmp.Ordering.{Ordering}
-use Rattle.rr_base.specs.declared.bytes.TheConstants.{LINE_FEED}
+use Rattle.rr_text.specs.declared.bytes.TheConstants.{LINE_FEED}
 
 -- texts are ordered by their bytes
 abbrev pub bytes_cmp : List ℕ → List ℕ → Ordering

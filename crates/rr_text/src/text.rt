@@ -3,8 +3,8 @@
 ghost use Rattle.std.specs.Prelude.{◌≡◌, option_map};
 ghost use Rattle.std.specs.Char.{is_ascii_digit};
 ghost use Rattle.std.specs.List.{list_all};
-ghost use Rattle.rr_base.specs.Text.{cut_at, is_digits, unsigned, number_at, integer_at};
-ghost use Rattle.rr_base.specs.Digits.{with_digit};
+ghost use Rattle.rr_text.specs.Text.{cut_at, is_digits, unsigned, number_at, integer_at};
+ghost use Rattle.rr_text.specs.Digits.{with_digit};
 
 use crate::bytes::{MINUS, begins};
 use memchr::memchr;

@@ -1,7 +1,7 @@
 //! The bytes that divide lines, keys, scripts and requests, and texts that occur twice.
 
 ghost use Rattle.std.specs.Prelude.{◌≡◌, ℕ, List, map, option_map};
-ghost use Rattle.rr_base.specs.Bytes.{begins, strip, is_among, has_repeat};
+ghost use Rattle.rr_text.specs.Bytes.{begins, strip, is_among, has_repeat};
 
 /// Ends a line.
 pub const LINE_FEED: u8 = b'\n';

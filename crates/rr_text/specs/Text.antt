@@ -3,7 +3,7 @@ use Rattle.std.specs.Prelude.{ℕ, ◌^◌, ℤ, pos, negsuc, Bool, ◌&&◌, no
 use Rattle.std.specs.Char.{is_ascii_digit}
 use Rattle.std.specs.List.{list_all}
 use Rattle.std.specs.Str.Parse.{digits_value, signed_digits_value}
-use Rattle.rr_base.specs.declared.bytes.TheConstants.{MINUS}
+use Rattle.rr_text.specs.declared.bytes.TheConstants.{MINUS}
 
 -- the bytes before the first delimiter, and those after it
 abbrev pub cut_at : ℕ → List ℕ → Option (List ℕ × List ℕ)

@@ -3,7 +3,7 @@ use Rattle.std.proofs.Common.{◌≡◌, ℕ, zero, suc, ◌+◌, ◌<◌, Bool,
 use Rattle.std.proofs.lemmas.Bool.{false_from_ne_true, and_parts, cases_Bool, eqb-true, ne_eqb, eq-eqb, false≢true}
 use Rattle.std.specs.List.{list_all}
 use Rattle.memchr.specs.Find.{IsFirstByte, is_byte}
-use Rattle.rr_base.specs.Text.{cut_at}
+use Rattle.rr_text.specs.Text.{cut_at}
 
 -- a text is cut at a delimiter that has none before it
 cut_at-first : (delimiter : ℕ) (text : List ℕ) (k : ℕ) → k < length text → ((j : ℕ) → j < k → eqb (get_or text j 0) delimiter ≡ true → ⊥) → eqb (get_or text k 0) delimiter ≡ true → cut_at delimiter text ≡ Some (take k text, drop (suc k) text)

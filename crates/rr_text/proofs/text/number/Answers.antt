@@ -1,7 +1,7 @@
 -- Digits are taken one by one, from 0 on.
 use Rattle.std.proofs.Common.{rules, arith, ◌≡◌, ◌==◌, not, true, length, ◌∙◌, sym}
-use Rattle.rr_base.proofs.DigitsLemmas.{with_digits-none, with_digits-whole, with_digits-number}
-use Rattle.rr_base.proofs.text.number.Goals as goal
+use Rattle.rr_text.proofs.DigitsLemmas.{with_digits-none, with_digits-whole, with_digits-number}
+use Rattle.rr_text.proofs.text.number.Goals as goal
 
 pub returns-in_err-number : goal.returns-in_err-number
 returns-in_err-number c =

@@ -1,6 +1,6 @@
 use Rattle.std.proofs.Common.{◌≡◌, map, length}
-use Rattle.rr_base.specs.Bytes.{has_repeat}
-use Rattle.rr_base.proofs.bytes.has_repeat.Given as goal
+use Rattle.rr_text.specs.Bytes.{has_repeat}
+use Rattle.rr_text.proofs.bytes.has_repeat.Given as goal
 
 abbrev pub invariant-loop-left : goal.invariant-loop-left
 invariant-loop-left g l = has_repeat (map g.T.Keyed.key_of l.left) ≡ has_repeat (map g.T.Keyed.key_of l.entries)

@@ -1,0 +1,5 @@
+pub mod Results
+pub mod Options
+pub mod Bytes
+pub mod Text
+pub mod Digits
