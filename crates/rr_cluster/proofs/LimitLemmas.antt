@@ -12,8 +12,8 @@ use Rattle.rr_key.proofs.MakingLemmas.{IsKeyText-made}
 use Rattle.rr_line.specs.declared.fault.LineFault.TheVariants.{IntegerRange}
 use Rattle.rr_line.specs.declared.precision.Precision.{Precision}
 use Rattle.rr_line.specs.Field.{Field, LeadTo, AreFields}
-use Rattle.rr_line.specs.Key.{key_text, names_of}
-use Rattle.rr_line.specs.Line.{PointView}
+use Rattle.rr_point.specs.Key.{key_text, names_of}
+use Rattle.rr_point.specs.Point.{PointView}
 use Rattle.rr_line.specs.Part.{before_last}
 use Rattle.rr_line.specs.Time.{IsEnding}
 use Rattle.rr_line.specs.Value.{value_of, is_integer, kind_fault}

@@ -1,7 +1,7 @@
 -- Fields, put one after the other.
 use Rattle.std.proofs.Common.{◌≡◌, ℤ, ℕ, List, [], ◌∷◌, ◌++◌, refl}
-use Rattle.rr_line.specs.Key.{key_text}
-use Rattle.rr_line.specs.Line.{PointView}
+use Rattle.rr_point.specs.Key.{key_text}
+use Rattle.rr_point.specs.Point.{PointView}
 use Rattle.rr_desk.specs.Points.{with_put, with_puts}
 use Rattle.rr_desk.specs.Standing.{KeeperState}
 

@@ -2,20 +2,20 @@
 ghost use Rattle.std.specs.Prelude.{◌≡◌, ℕ, ◌<◌, ◌≤◌, ◌↔◌, length, take, None, Err, IfOk, IfErr, OnErr, OnOk, IsTrue, IsFalse, unwrap_or};
 ghost use Rattle.rr_text.specs.declared.limits.TheConstants.{MAX_FIELDS, MAX_NUMBER};
 ghost use Rattle.rr_key.specs.Making.{making_fault};
-ghost use Rattle.rr_line.specs.Key.{HasKeys, key_text, names_of};
-ghost use Rattle.rr_line.specs.Line.{point_view};
+ghost use Rattle.rr_point.specs.Key.{HasKeys, IsWritable, key_text, names_of};
+ghost use Rattle.rr_point.specs.Point.{point_view};
 ghost use Rattle.rr_desk.specs.Standing.{holding_of};
 
 use crate::keeper::Keeper;
 use rr_archive::Archive;
 use rr_key::SeriesKey;
-use rr_line::{Field, Point};
+use rr_point::{Field, Point};
 use rr_replica::{WriteFault, is_ahead};
 use std::alloc::AllocError;
 use std::mem::replace;
 
 impl<A: Archive> Keeper<A> {
-    ghost use Rattle.rr_replica.specs.Writing.{IsOfALine, is_ahead, lacks_numbers};
+    ghost use Rattle.rr_replica.specs.Writing.{is_ahead, lacks_numbers};
     ghost use Rattle.rr_desk.specs.Points.{put_before, with_put, with_puts};
 
     /// Puts a sample of each field of a point, in the line's order, under as many numbers, and
@@ -32,7 +32,7 @@ impl<A: Archive> Keeper<A> {
         now: i64,
         lead: Option<u64>,
     ) -> Result<u32, WriteFault>
-        requires { IsOfALine (point_view point.now) }
+        requires { IsWritable (point_view point.now) }
         ensures count { IfOk result (λ count. count ≡ length point.now.fields.items) }
         ensures put { OnOk result (self.new
             ≡ with_puts self.old (point_view point.now) (unwrap_or point.now.time now)

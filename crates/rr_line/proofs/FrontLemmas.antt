@@ -7,9 +7,10 @@ use Rattle.rr_key.specs.declared.class.Class.TheVariants.{Measurement}
 use Rattle.rr_line.specs.declared.fault.LineFault.{LineFault}
 use Rattle.rr_line.specs.declared.fault.LineFault.TheVariants.{NoMeasurement, NoFields}
 use Rattle.rr_line.specs.Field.{Field}
-use Rattle.rr_line.specs.Front.{front_text, IsPlain}
+use Rattle.rr_point.specs.Front.{front_text}
+use Rattle.rr_line.specs.Front.{IsPlain}
 use Rattle.rr_line.specs.Grammar.{is_nothing, LeadsToTags}
-use Rattle.rr_line.specs.Key.{has_long_key}
+use Rattle.rr_point.specs.Key.{has_long_key}
 use Rattle.rr_line.specs.Part.{skip_spaces}
 use Rattle.rr_line.specs.Reading.{name_at, all_tags_at, fields_text_of, all_fields_at}
 use Rattle.rr_line.specs.Tag.{Tag}

@@ -9,12 +9,12 @@ use Rattle.rr_text.specs.declared.limits.TheConstants.{MAX_TAGS, MAX_FIELDS}
 use Rattle.rr_text.specs.declared.bytes.TheConstants.{COMMA}
 use Rattle.rr_line.specs.declared.fault.LineFault.{LineFault}
 use Rattle.rr_line.specs.declared.fault.LineFault.TheVariants.{TooManyTags, DuplicateTag, TooManyFields, DuplicateField}
-use Rattle.rr_line.specs.declared.line.Field as line_field
-use Rattle.rr_line.specs.declared.line.Tag as line_tag
+use Rattle.rr_point.specs.declared.point.Field as line_field
+use Rattle.rr_point.specs.declared.point.Tag as line_tag
 use Rattle.rr_line.specs.Field.{Field}
 use Rattle.rr_line.specs.Answer.{rest_view}
 use Rattle.rr_line.specs.Gathering.{without_repeat, gathered_tags, gathered_fields, all_gathered_tags, all_gathered_fields}
-use Rattle.rr_line.specs.Line.{tag_view, tags_view, field_view, fields_view}
+use Rattle.rr_point.specs.Point.{tag_view, tags_view, field_view, fields_view}
 use Rattle.rr_line.specs.Reading.{tag_at, all_tags_at, field_at, all_fields_at}
 use Rattle.rr_line.specs.Tag.{Tag}
 use Rattle.rr_line.proofs.GatherLemmas.{tags_gathered, fields_gathered}

@@ -1,6 +1,6 @@
 -- Where a line has no backslash before its fields and its tags are in order, key texts begin as the line does.
 use Rattle.std.proofs.Common.{◌≡◌, ℕ, ◌-◌, false, List, [], ◌∷◌, ◌++◌, ◌==◌, length, length-append, take, refl, sym, ap, ap₂, subst, ◌∙◌, arith}
-use Rattle.std.proofs.Math.Seq.{take-append_seam, take-length}
+use Rattle.std.proofs.Math.Seq.{take-append_seam}
 use Rattle.std.proofs.lemmas.Bool.{or_parts}
 use Rattle.std.proofs.lemmas.List.{append_assoc}
 use Rattle.std.proofs.lemmas.List.Folds.{list_any-append}
@@ -9,18 +9,16 @@ use Rattle.std.specs.FinMap.{entries, from_entries}
 use Rattle.std.specs.List.{flat_map}
 use Rattle.std.specs.Map.{keys_of}
 use Rattle.rr_text.specs.Bytes.{bytes_cmp, has_repeat}
-use Rattle.rr_text.specs.declared.bytes.TheConstants.{COMMA, EQUALS, SPACE, BACKSLASH}
+use Rattle.rr_text.specs.declared.bytes.TheConstants.{COMMA, EQUALS, BACKSLASH}
 use Rattle.rr_key.specs.declared.class.Class.{Class}
-use Rattle.rr_key.specs.declared.class.Class.TheVariants.{Measurement, Other}
+use Rattle.rr_key.specs.declared.class.Class.TheVariants.{Other}
 use Rattle.rr_key.specs.Series.{tag_text}
-use Rattle.rr_key.specs.Unit.{escape, unescape, name_len}
-use Rattle.rr_key.proofs.EscapeLemmas.{escape-unescape}
+use Rattle.rr_key.specs.Unit.{escape}
 use Rattle.rr_key.proofs.OrderLemmas.{entries_rise}
 use Rattle.rr_key.proofs.PlainLemmas.{unescape_plain}
-use Rattle.rr_line.specs.Front.{front_text, has_backslash, tags_unescaped, IsPlain}
+use Rattle.rr_point.specs.Front.{front_text, tags_unescaped}
+use Rattle.rr_line.specs.Front.{has_backslash, IsPlain}
 use Rattle.rr_line.specs.Grammar.{LeadsToTags}
-use Rattle.rr_line.specs.Key.{key_text}
-use Rattle.rr_line.specs.Line.{PointView}
 use Rattle.rr_line.specs.Tag.{Tag, AreTags}
 use Rattle.rr_line.proofs.KeyLemmas.{AreGood, HasGoodNames}
 use Rattle.rr_line.proofs.NameLemmas.{IsGood}
@@ -99,11 +97,3 @@ front_is text measurement tags rest leads names plain =
     let front = names.measurement_good.written in
     let back = ap (flat_map tag_text) sorted ∙ tags_spelled tags names.tags_are_good parts.1 in
     taken ∙ sym (ap₂ (λ (m ts : List ℕ). m ++ ts) front back)
-
--- a field's key that is spelled as it is unescaped comes after it
-pub key_after_front : (p : PointView) (front field : List ℕ) → front ≡ front_text p.measurement p.tags → name_len Other field ≡ length field → front ++ SPACE ∷ field ≡ key_text p field
-key_after_front p front field is spelled =
-    let whole : take (name_len Other field) field ≡ field = ap (λ (n : ℕ). take n field) spelled ∙ take-length field in
-    let written : escape Other (unescape Other field) ≡ field = ap (λ (t : List ℕ). escape Other (unescape Other t)) (sym whole) ∙ escape-unescape Other field ∙ whole in
-    let tags = flat_map tag_text (entries (from_entries {R = bytes_cmp} (tags_unescaped p.tags))) in
-    ap₂ (λ (t f : List ℕ). t ++ SPACE ∷ f) is (sym written) ∙ append_assoc (escape Measurement (unescape Measurement p.measurement)) tags (SPACE ∷ escape Other (unescape Other field))

@@ -23,8 +23,8 @@ use Rattle.rr_line.specs.declared.precision.Precision.{Precision}
 use Rattle.rr_line.specs.Field.{Field, IsField, LeadTo, AreFields}
 use Rattle.rr_line.specs.Gathering.{repeats_key}
 use Rattle.rr_line.specs.Grammar.{LeadsToTags, LeadsToFields, HasParts}
-use Rattle.rr_line.specs.Key.{names_of, key_text, has_long_key, HasKeys}
-use Rattle.rr_line.specs.Line.{PointView}
+use Rattle.rr_point.specs.Key.{names_of, key_text, has_long_key, HasKeys}
+use Rattle.rr_point.specs.Point.{PointView}
 use Rattle.rr_line.specs.Part.{skip_spaces}
 use Rattle.rr_line.specs.Tag.{Tag, AreTags}
 use Rattle.rr_line.proofs.NameLemmas.{IsGood, name_is_good, none_in_parts}

@@ -1,10 +1,11 @@
 -- A line is read as the grammar has it, and as nothing else.
-use Rattle.std.proofs.Common.{◌≡◌, ◌≢◌, ℕ, Bool, true, false, eqb, cond, List, [], ◌∷◌, ◌++◌, length, ℤ, Option, Some, None, option_map, Result, Ok, Err, refl, sym, ap, subst, ◌∙◌, inl, inr}
+use Rattle.std.proofs.Common.{◌≡◌, ◌≢◌, ◌≤◌, ℕ, Bool, true, false, eqb, cond, List, [], ◌∷◌, ◌++◌, length, length-append, ℤ, Option, Some, None, option_map, Result, Ok, Err, refl, sym, ap, subst, ◌∙◌, inl, inr, arith}
 use Rattle.std.specs.Prelude.{unwrap_or, ok_or, option_and_then}
 use Rattle.std.proofs.lemmas.Bool.{cases_Bool}
 use Rattle.rr_text.specs.Bytes.{HasNoLineFeed}
 use Rattle.rr_text.specs.Text.{integer_at}
 use Rattle.rr_text.specs.declared.bytes.TheConstants.{RETURN}
+use Rattle.rr_text.specs.declared.limits.TheConstants.{MAX_FIELDS}
 use Rattle.rr_line.specs.declared.mark.TheConstants.{INTEGER_MARK}
 use Rattle.rr_line.specs.declared.fault.LineFault.{LineFault}
 use Rattle.rr_line.specs.declared.fault.LineFault.TheVariants.{NoMeasurement, MissingTagKey, MissingTagValue, TooManyTags, DuplicateTag, NoFields, MissingFieldKey, MissingFieldValue, BooleanField, IntegerRange, UnsignedField, FloatField, TextField, BadField, TooManyFields, DuplicateField, BadTime, TimeRange, KeyTooLong, Memory}
@@ -12,8 +13,9 @@ use Rattle.rr_line.specs.declared.precision.Precision.{Precision}
 use Rattle.rr_line.specs.Field.{Field, FieldFault}
 use Rattle.rr_line.specs.Field as field
 use Rattle.rr_line.specs.Grammar.{is_nothing, IsPointOf, TextFault, no_measurement, at_tag, no_fields, at_field, at_time, long_key, HasFault, IsLineOf}
-use Rattle.rr_line.specs.Key.{HasKeys}
-use Rattle.rr_line.specs.Line.{PointView, LineView, nothing, point}
+use Rattle.rr_point.specs.Key.{HasKeys, IsWritable}
+use Rattle.rr_point.specs.Point.{PointView}
+use Rattle.rr_line.specs.Line.{LineView, nothing, point}
 use Rattle.rr_line.specs.Part.{content, before_last}
 use Rattle.rr_line.specs.Reading.{point_at, text_at, reading}
 use Rattle.rr_line.specs.Tag.{Tag, TagFault}
@@ -85,6 +87,15 @@ none_in_content line text none e = subst HasNoLineFeed (sym e) (none_skipped (un
 -- each field of a point that is read has a key
 pub keys_of_point : (precision : Precision) (line : List ℕ) (p : PointView) → HasNoLineFeed line → IsPointOf precision line p → HasKeys p
 keys_of_point precision line p none h = has_keys precision (content line) p (none_in_content line (content line) none refl) h.parts h.short
+
+-- and few fields
+pub few_of_point : (precision : Precision) (line : List ℕ) (p : PointView) → IsPointOf precision line p → length p.fields ≤ MAX_FIELDS
+few_of_point precision line p h =
+    let fields = h.parts.are_fields in
+    omega (arith, ap length fields.all, length-append fields.front (fields.last ∷ []), fields.new.few)
+
+pub writable_point : (precision : Precision) (line : List ℕ) (p : PointView) → HasNoLineFeed line → IsPointOf precision line p → IsWritable p
+writable_point precision line p none h = record { keyed = keys_of_point precision line p none h; few = few_of_point precision line p h }
 
 -- no fault of a line is running out of memory
 either_is_no_memory : (test : Bool) (one other : LineFault) → one ≢ Memory → other ≢ Memory → cond test one other ≢ Memory

@@ -13,8 +13,9 @@ use Rattle.rr_line.specs.declared.fault.LineFault.TheVariants.{NoMeasurement, No
 use Rattle.rr_line.specs.declared.precision.Precision.{Precision}
 use Rattle.rr_line.specs.Field.{Field, AreFields}
 use Rattle.rr_line.specs.Grammar.{is_nothing, LeadsToTags, LeadsToFields, HasParts, TextFault, no_measurement, at_tag, no_fields, at_field, at_time, long_key}
-use Rattle.rr_line.specs.Key.{has_long_key}
-use Rattle.rr_line.specs.Line.{PointView, LineView, nothing, point}
+use Rattle.rr_point.specs.Key.{has_long_key}
+use Rattle.rr_point.specs.Point.{PointView}
+use Rattle.rr_line.specs.Line.{LineView, nothing, point}
 use Rattle.rr_line.specs.Part.{skip_spaces, IsName, HasNoName}
 use Rattle.rr_line.specs.Reading.{name_at, all_tags_at, fields_text_of, all_fields_at, ending_at, unless_long, point_at, text_at}
 use Rattle.rr_line.specs.Tag.{Tag, AreTags}

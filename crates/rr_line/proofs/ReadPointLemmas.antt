@@ -5,10 +5,10 @@ use Rattle.rr_text.specs.declared.limits.TheConstants.{MAX_KEY_TEXT}
 use Rattle.rr_key.specs.declared.class.Class.TheVariants.{Measurement}
 use Rattle.rr_line.specs.declared.fault.LineFault.TheVariants.{NoMeasurement, KeyTooLong}
 use Rattle.rr_line.specs.declared.precision.Precision.{Precision}
-use Rattle.rr_line.specs.declared.line.Field as line_field
+use Rattle.rr_point.specs.declared.point.Field as line_field
 use Rattle.rr_line.specs.Field.{Field}
-use Rattle.rr_line.specs.Key.{has_long_key}
-use Rattle.rr_line.specs.Line.{PointView, fields_view}
+use Rattle.rr_point.specs.Key.{has_long_key}
+use Rattle.rr_point.specs.Point.{PointView, fields_view}
 use Rattle.rr_line.specs.Part.{skip_spaces}
 use Rattle.rr_line.specs.Reading.{name_at, all_tags_at, fields_text_of, all_fields_at, ending_at, unless_long, point_at}
 use Rattle.rr_line.specs.Tag.{Tag}

@@ -9,8 +9,9 @@ use Rattle.rr_line.specs.declared.fault.LineFault.{LineFault}
 use Rattle.rr_line.specs.declared.fault.LineFault.TheVariants.{NoMeasurement, NoFields, KeyTooLong}
 use Rattle.rr_line.specs.declared.precision.Precision.{Precision}
 use Rattle.rr_line.specs.Field.{Field, LeadTo, AreFields, FieldFault}
-use Rattle.rr_line.specs.Key.{has_long_key}
-use Rattle.rr_line.specs.Line.{PointView, LineView, nothing, point}
+use Rattle.rr_point.specs.Key.{has_long_key}
+use Rattle.rr_point.specs.Point.{PointView}
+use Rattle.rr_line.specs.Line.{LineView, nothing, point}
 use Rattle.rr_line.specs.Part.{skip_spaces, content, IsName, HasNoName}
 use Rattle.rr_line.specs.Tag.{Tag, AreTags, TagFault}
 use Rattle.rr_line.specs.Time.{IsEnding, EndingFault}

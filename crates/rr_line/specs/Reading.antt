@@ -14,8 +14,9 @@ use Rattle.rr_line.specs.declared.fault.LineFault.TheVariants.{NoMeasurement, Mi
 use Rattle.rr_line.specs.declared.precision.Precision.{Precision}
 use Rattle.rr_line.specs.Field.{Field}
 use Rattle.rr_line.specs.Grammar.{is_nothing}
-use Rattle.rr_line.specs.Key.{has_long_key}
-use Rattle.rr_line.specs.Line.{PointView, LineView, nothing, point}
+use Rattle.rr_point.specs.Key.{has_long_key}
+use Rattle.rr_point.specs.Point.{PointView}
+use Rattle.rr_line.specs.Line.{LineView, nothing, point}
 use Rattle.rr_line.specs.Part.{skip_spaces, content, cut_after}
 use Rattle.rr_line.specs.Tag.{Tag, has_key}
 use Rattle.rr_line.specs.Time.{word_len, nanoseconds}

@@ -5,15 +5,15 @@ ghost use Rattle.rr_text.specs.Results.{Gives, GivesUnless};
 ghost use Rattle.rr_text.specs.declared.limits.TheConstants.{MAX_FIELDS};
 ghost use Rattle.rr_line.specs.Answer.{rest_view};
 ghost use Rattle.rr_line.specs.Gathering.{all_gathered_fields};
-ghost use Rattle.rr_line.specs.Line.{field_view, fields_view};
+ghost use Rattle.rr_point.specs.Point.{field_view, fields_view};
 ghost use Rattle.rr_line.specs.Reading.{field_at, all_fields_at};
 
 use crate::fault::LineFault;
-use crate::line::Field;
 use crate::part::read_name;
 use crate::repeat::has_repeat;
 use crate::value::read_value;
 use rr_key::Class;
+use rr_point::Field;
 use rr_text::bytes::{COMMA, EQUALS, strip};
 use rr_text::limits::MAX_FIELDS;
 use std::alloc::{AllocError, Global};

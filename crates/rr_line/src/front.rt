@@ -2,9 +2,10 @@
 
 ghost use Rattle.std.specs.Prelude.{◌≡◌, [], IfSome};
 ghost use Rattle.rr_key.specs.Reading.{rises};
-ghost use Rattle.rr_line.specs.Front.{IsPlain, tags_view};
+ghost use Rattle.rr_point.specs.Front.{tags_view};
+ghost use Rattle.rr_line.specs.Front.{IsPlain};
 
-use crate::line::Tag;
+use rr_point::Tag;
 use rr_text::bytes::BACKSLASH;
 
 /// The text that precedes the fields of a line, where key texts have it as it stands: no name has a

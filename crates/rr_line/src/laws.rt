@@ -6,8 +6,9 @@ ghost use Rattle.rr_line.specs.declared.fault.LineFault.{LineFault};
 ghost use Rattle.rr_line.specs.declared.fault.LineFault.TheVariants.{Memory};
 ghost use Rattle.rr_line.specs.declared.precision.Precision.{Precision};
 ghost use Rattle.rr_line.specs.Grammar.{IsLineOf, HasFault, IsPointOf};
-ghost use Rattle.rr_line.specs.Key.{HasKeys};
-ghost use Rattle.rr_line.specs.Line.{LineView, PointView, point};
+ghost use Rattle.rr_point.specs.Key.{HasKeys, IsWritable};
+ghost use Rattle.rr_point.specs.Point.{PointView};
+ghost use Rattle.rr_line.specs.Line.{LineView, point};
 ghost use Rattle.rr_line.specs.Reading.{reading};
 
 /// Of each line the grammar has exactly one of three: it says nothing, it says one point, or it
@@ -31,4 +32,10 @@ pub fn reading_is_the_grammar()
 pub fn a_field_of_a_point_has_a_key()
     ensures { (precision : Precision) (line : List ℕ) (p : PointView)
         → HasNoLineFeed line → IsPointOf precision line p → HasKeys p }
+{}
+
+/// A point that a line says can be written.
+pub fn a_point_of_a_line_is_writable()
+    ensures { (precision : Precision) (line : List ℕ) (p : PointView)
+        → HasNoLineFeed line → IsPointOf precision line p → IsWritable p }
 {}

@@ -32,7 +32,6 @@
 mod fault;
 mod fields;
 mod front;
-mod key;
 pub mod laws;
 mod line;
 mod mark;
@@ -45,8 +44,9 @@ mod time;
 mod value;
 
 pub use fault::LineFault;
-pub use line::{Field, Line, Point, Tag, Tags};
+pub use line::Line;
 pub use parse::parse_line;
 pub use precision::Precision;
+pub use rr_point::{Field, Point, Tag, Tags};
 pub use rr_text::bytes::LINE_FEED;
 pub use rr_text::limits::MAX_FIELDS;

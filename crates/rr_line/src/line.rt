@@ -1,11 +1,6 @@
 //! What a line says.
 
-ghost use Rattle.std.specs.Prelude.{◌≡◌};
-ghost use Rattle.std.specs.Option.{ForSome};
-ghost use Rattle.rr_line.specs.Front.{front_text, tags_view};
-
-use rr_text::bytes::Keyed;
-use smallvec::SmallVec;
+use rr_point::Point;
 
 /// What a line says.
 #[derive(Debug, Drop)]
@@ -14,61 +9,4 @@ pub enum Line<'a> {
     Nothing,
     /// The samples of one moment.
     Point(Point<'a>),
-}
-
-/// The samples of one moment. The names are slices of the line, as it writes them: with a
-/// backslash before each special byte of a name (see [`rr_key::unescape`]).
-#[derive(Debug, Drop)]
-pub struct Point<'a> {
-    /// What was measured, a name of the class [`Measurement`](rr_key::Class::Measurement).
-    pub measurement: &'a [u8],
-    /// What tells series of one measurement apart, in the line's order.
-    pub tags: Tags<'a>,
-    /// What was sampled, in the line's order.
-    pub fields: Vec<Field<'a>>,
-    /// Nanoseconds since the Unix epoch, if the line says when.
-    pub time: Option<i64>,
-    /// What precedes the field in each key text, if the line has it as it stands.
-    pub(crate) front: Option<&'a [u8]>,
-
-    ghost front_of: { ForSome front (λ f. f.now ≡ front_text measurement.now (tags_view tags.items)) },
-}
-
-/// The tags of a point: a few are kept in place, and only more of them take memory.
-pub type Tags<'a> = SmallVec<Tag<'a>, 4>;
-
-/// A tag of a point. Its key and its value are names of the class [`Other`](rr_key::Class::Other),
-/// slices of the line, still escaped.
-#[derive(Clone, Copy, Debug, Default, PartialEq, Eq)]
-pub struct Tag<'a> {
-    /// Its key.
-    pub key: &'a [u8],
-    /// Its value.
-    pub value: &'a [u8],
-}
-
-/// A field of a point. Its key is a name of the class [`Other`](rr_key::Class::Other), a slice of
-/// the line, still escaped.
-#[derive(Clone, Copy, Debug, PartialEq, Eq)]
-pub struct Field<'a> {
-    /// Its key.
-    pub key: &'a [u8],
-    /// Its value.
-    pub value: i64,
-}
-
-impl Keyed for Tag<'_> {
-    ghost key_of = { λ tag. tag.key.now };
-
-    fn key(&self) -> &[u8] {
-        self.key
-    }
-}
-
-impl Keyed for Field<'_> {
-    ghost key_of = { λ field. field.key.now };
-
-    fn key(&self) -> &[u8] {
-        self.key
-    }
 }

@@ -6,8 +6,9 @@ ghost use Rattle.rr_text.specs.Bytes.{HasNoLineFeed};
 ghost use Rattle.rr_text.specs.Results.{Gives, GivesUnless, AnswersUnless, NeedsMemoryAfter};
 ghost use Rattle.rr_text.specs.declared.limits.TheConstants.{MAX_KEY_TEXT};
 ghost use Rattle.rr_line.specs.Grammar.{is_nothing, IsLineOf};
-ghost use Rattle.rr_line.specs.Key.{LineHasKeys};
-ghost use Rattle.rr_line.specs.Line.{LineView, point_view, line_view, fields_view};
+ghost use Rattle.rr_line.specs.Key.{LineHasKeys, LineHasFewFields};
+ghost use Rattle.rr_point.specs.Point.{point_view, fields_view};
+ghost use Rattle.rr_line.specs.Line.{LineView, line_view};
 ghost use Rattle.rr_line.specs.Part.{content};
 ghost use Rattle.rr_line.specs.Reading.{fields_text_of, name_at, point_at, reading};
 ghost use Rattle.rr_key.specs.declared.class.Class.TheVariants.{Measurement};
@@ -16,12 +17,13 @@ ghost use Rattle.rr_line.specs.declared.fault.LineFault.TheVariants.{NoMeasureme
 use crate::fault::LineFault;
 use crate::fields::read_fields;
 use crate::front::key_front;
-use crate::line::{Field, Line, Point};
+use crate::line::Line;
 use crate::part::{content, read_name, skip_spaces};
 use crate::precision::Precision;
 use crate::tags::read_tags;
 use crate::time::read_ending;
 use rr_key::Class;
+use rr_point::{Field, Point};
 use rr_text::bytes::HASH;
 use rr_text::limits::MAX_KEY_TEXT;
 use std::alloc::Global;
@@ -55,8 +57,9 @@ pub fn parse_line<'a>(
     ensures memory { NeedsMemoryAfter LineFault.Memory
         (name_at Measurement NoMeasurement (content line.now)) result }
 
-    // Each field of a point has a key.
+    // Each field of a point has a key, and they are few.
     ensures keyed { IfOk result (λ said. LineHasKeys (line_view said)) }
+    ensures few { IfOk result (λ said. LineHasFewFields (line_view said)) }
 {
     let text = content(line);
     if is_nothing(text) {
@@ -99,13 +102,7 @@ fn read_point<'a>(
         return Err(LineFault::KeyTooLong);
     }
     let front = key_front(front, tags.as_slice());
-    Ok(Point {
-        measurement,
-        tags,
-        fields,
-        time,
-        front,
-    })
+    Ok(Point::new(measurement, tags, fields, time, front))
 }
 
 /// The text of the fields, after the spaces that precede them.

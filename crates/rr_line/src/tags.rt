@@ -5,14 +5,14 @@ ghost use Rattle.rr_text.specs.Results.{Gives, GivesUnless};
 ghost use Rattle.rr_text.specs.declared.limits.TheConstants.{MAX_TAGS};
 ghost use Rattle.rr_line.specs.Answer.{rest_view};
 ghost use Rattle.rr_line.specs.Gathering.{all_gathered_tags};
-ghost use Rattle.rr_line.specs.Line.{tag_view, tags_view};
+ghost use Rattle.rr_point.specs.Point.{tag_view, tags_view};
 ghost use Rattle.rr_line.specs.Reading.{tag_at, all_tags_at};
 
 use crate::fault::LineFault;
-use crate::line::{Tag, Tags};
 use crate::part::read_name;
 use crate::repeat::has_repeat;
 use rr_key::{Class, MAX_TAGS};
+use rr_point::{Tag, Tags};
 use rr_text::bytes::{COMMA, EQUALS, begins, strip};
 use smallvec::SmallVec;
 use std::alloc::{AllocError, Global};

@@ -6,12 +6,12 @@ use Rattle.std.specs.Io.KnownBytes.{Appends, Consumes, IsAtEnd}
 use Rattle.std.proofs.KnownBytes.{Consumes-trans, Consumes-whole}
 use mathlib.Core.List.{IsPrefix}
 use Rattle.rr_feed.specs.Items.{Item, items}
-use Rattle.rr_line.specs.Line.{PointView}
+use Rattle.rr_point.specs.Point.{PointView}
 use Rattle.rr_desk.specs.Points.{with_puts, with_put}
 use Rattle.rr_desk.specs.Standing.{KeeperState, holding_of, with_all_published}
 use Rattle.rr_desk.proofs.PrefixLemmas.{prefix_refl, prefix_append, prefix_trans}
 use Rattle.rr_replica.specs.declared.op.Op.{Op}
-use Rattle.rr_line.specs.Key.{key_text}
+use Rattle.rr_point.specs.Key.{key_text}
 use Rattle.rr_node.specs.declared.connection.Connection.{Connection}
 use Rattle.rr_node.specs.declared.fault.NodeFault.{NodeFault}
 use Rattle.rr_node.specs.declared.report.Report.{Report}

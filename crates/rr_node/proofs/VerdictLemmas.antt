@@ -4,7 +4,8 @@ use Rattle.std.specs.Prelude.{◌↔◌, codes, IsTrue, IsFalse, unwrap_or}
 use Rattle.std.proofs.lemmas.List.{take_all}
 use Rattle.rr_feed.specs.Items.{Item, Line, TooLong}
 use Rattle.rr_line.specs.declared.fault.LineFault.{LineFault}
-use Rattle.rr_line.specs.Line.{LineView, PointView, nothing, point}
+use Rattle.rr_point.specs.Point.{PointView}
+use Rattle.rr_line.specs.Line.{LineView, nothing, point}
 use Rattle.rr_line.specs.Reading.{reading}
 use Rattle.rr_replica.specs.declared.fault.WriteFault.{WriteFault}
 use Rattle.rr_replica.specs.declared.fault.WriteFault.TheVariants as why

@@ -7,7 +7,8 @@ use Rattle.rr_feed.specs.Items.{Item, Line, TooLong, items}
 use Rattle.rr_line.specs.declared.fault.LineFault.{LineFault}
 use Rattle.rr_line.specs.declared.precision.Precision.{Precision}
 use Rattle.rr_line.specs.Fault.{line_fault_name}
-use Rattle.rr_line.specs.Line.{LineView, PointView, nothing, point}
+use Rattle.rr_point.specs.Point.{PointView}
+use Rattle.rr_line.specs.Line.{LineView, nothing, point}
 use Rattle.rr_line.specs.Reading.{reading}
 use Rattle.rr_records.specs.Records.{refusal_text}
 use Rattle.rr_replica.specs.Holding.{Holding}

@@ -6,11 +6,11 @@ ghost use Rattle.rr_desk.specs.Standing.{holding_of};
 ghost use Rattle.rr_feed.specs.Items.{item_view, IsLine};
 ghost use Rattle.rr_feed.specs.Items as feed;
 ghost use Rattle.rr_line.specs.Fault.{line_fault_name};
-ghost use Rattle.rr_line.specs.Line.{point_view};
+ghost use Rattle.rr_point.specs.Point.{point_view};
 ghost use Rattle.rr_node.specs.Clock.{HasGiven};
 ghost use Rattle.rr_node.specs.Connection.{IsAnswer, IsFew, IsTaken, TakesItem};
 ghost use Rattle.rr_node.specs.Lines.{refused, verdict_of_point};
-ghost use Rattle.rr_replica.specs.Writing.{IsOfALine};
+ghost use Rattle.rr_point.specs.Key.{IsWritable};
 
 use crate::clock::Clock;
 use crate::rules::Rules;
@@ -39,7 +39,7 @@ fn write_point<A: Archive, C: Clock>(
     point: &Point<'_>,
     lead: Option<u64>,
 ) -> Result<Answer, AllocError>
-    requires { IsOfALine (point_view point.now) }
+    requires { IsWritable (point_view point.now) }
     ensures taken { (now : ℤ) × HasGiven (C.given clock.old) (C.given clock.new) (now ∷ [])
         × IsTaken (verdict_of_point lead now (holding_of keeper.old) (point_view point.now)) keeper.old keeper.new result }
     ensures few { IfOk result IsFew }

@@ -1,20 +1,11 @@
 -- What a point makes of a replica.
 use Rattle.std.specs.Prelude.{◌≡◌, ℕ, ◌+◌, ◌-◌, ℤ, pos, ◌+ℤ◌, Bool, false, int_lt, nat_lt, List, [], ◌∷◌, take, Option, None, Some}
 use Rattle.rr_text.specs.declared.limits.TheConstants.{MAX_NUMBER}
-use Rattle.rr_line.specs.declared.precision.Precision.{Precision}
-use Rattle.rr_line.specs.Grammar.{IsPointOf}
-use Rattle.rr_line.specs.Key.{key_text}
-use Rattle.rr_line.specs.Line.{PointView, HasNoLineFeed}
+use Rattle.rr_point.specs.Key.{key_text}
+use Rattle.rr_point.specs.Point.{PointView}
 use Rattle.rr_replica.specs.declared.fault.WriteFault.{WriteFault}
 use Rattle.rr_replica.specs.declared.fault.WriteFault.TheVariants as why
 use Rattle.rr_replica.specs.Holding.{Holding, with_put}
-
--- a point that some line says
-pub record IsOfALine (p : PointView) : Type 0 where
-  pub precision : Precision
-  pub line : List ℕ
-  pub whole : HasNoLineFeed line
-  pub says : IsPointOf precision line p
 
 -- with a sample of each of these fields put, in order
 abbrev pub with_fields : Holding → PointView → ℤ → List (List ℕ × ℤ) → Holding

@@ -1,18 +1,18 @@
 //! The fields of a point, put one after the other.
 ghost use Rattle.std.specs.Prelude.{◌≡◌, ℕ, ◌<◌, ◌≤◌, ◌↔◌, length, Err, IfOk, IfErr, OnOk, IsTrue, IsFalse, unwrap_or};
 ghost use Rattle.rr_text.specs.declared.limits.TheConstants.{MAX_FIELDS};
-ghost use Rattle.rr_line.specs.Key.{HasKeys};
-ghost use Rattle.rr_line.specs.Line.{point_view};
+ghost use Rattle.rr_point.specs.Key.{HasKeys, IsWritable};
+ghost use Rattle.rr_point.specs.Point.{point_view};
 ghost use Rattle.rr_replica.specs.Standing.{held};
 ghost use Rattle.rr_replica.specs.Writing.{is_ahead};
 
 use crate::fault::WriteFault;
 use crate::replica::Replica;
 use rr_archive::Archive;
-use rr_line::Point;
+use rr_point::Point;
 
 impl<A: Archive> Replica<A> {
-    ghost use Rattle.rr_replica.specs.Writing.{IsOfALine, IsAfterRefusal, IsMemoryAfter, with_fields, is_ahead, lacks_numbers};
+    ghost use Rattle.rr_replica.specs.Writing.{IsAfterRefusal, IsMemoryAfter, with_fields, is_ahead, lacks_numbers};
 
     /// Puts a sample of each field of a point, in the line's order, under as many numbers, and
     /// answers how many. A point without a time takes `now`. Times are in nanoseconds since the Unix
@@ -28,7 +28,7 @@ impl<A: Archive> Replica<A> {
         now: i64,
         lead: Option<u64>,
     ) -> Result<u32, WriteFault>
-        requires { IsOfALine (point_view point.now) }
+        requires { IsWritable (point_view point.now) }
         ensures count { IfOk result (λ count. count ≡ length point.now.fields.items) }
         ensures put { OnOk result (held self.new
             ≡ with_fields (held self.old) (point_view point.now) (unwrap_or point.now.time now) (point_view point.now).fields) }

@@ -15,9 +15,10 @@ use Rattle.rr_line.specs.declared.fault.LineFault.{LineFault}
 use Rattle.rr_line.specs.declared.fault.LineFault.TheVariants as line
 use Rattle.rr_line.specs.declared.precision.Precision.TheVariants.{Ns}
 use Rattle.rr_line.specs.Grammar.{IsLineOf}
-use Rattle.rr_line.specs.Key.{key_text}
+use Rattle.rr_point.specs.Key.{key_text}
 use Rattle.rr_text.specs.Bytes.{HasNoLineFeed}
-use Rattle.rr_line.specs.Line.{LineView, PointView, nothing, point}
+use Rattle.rr_point.specs.Point.{PointView}
+use Rattle.rr_line.specs.Line.{LineView, nothing, point}
 use Rattle.rr_line.specs.Reading.{reading}
 use Rattle.rr_line.proofs.LineLemmas.{line_found, keys_of_point}
 use Rattle.rr_model.specs.Knowledge.{Knowledge, IsAheadOf, with_marks}

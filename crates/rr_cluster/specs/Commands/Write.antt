@@ -4,8 +4,9 @@ use Rattle.std.specs.FinMap.{get, insert}
 use Rattle.rr_text.specs.declared.limits.TheConstants.{MAX_NUMBER}
 use Rattle.rr_line.specs.declared.precision.Precision.TheVariants.{Ns}
 use Rattle.rr_line.specs.declared.fault.LineFault.{LineFault}
-use Rattle.rr_line.specs.Line.{LineView, PointView, nothing, point}
-use Rattle.rr_line.specs.Key.{key_text}
+use Rattle.rr_point.specs.Point.{PointView}
+use Rattle.rr_line.specs.Line.{LineView, nothing, point}
+use Rattle.rr_point.specs.Key.{key_text}
 use Rattle.rr_line.specs.Reading.{reading}
 use Rattle.rr_model.specs.Samples.{Sample}
 use Rattle.rr_model.specs.World.{World, with_sample}

@@ -2,9 +2,9 @@
 
 ghost use Rattle.std.specs.Prelude.{◌≡◌, option_map};
 ghost use Rattle.rr_text.specs.Bytes.{HasNoLineFeed};
-ghost use Rattle.rr_line.specs.Line.{point_view};
+ghost use Rattle.rr_point.specs.Point.{point_view};
 ghost use Rattle.rr_replica.specs.Cells.{Cells};
-ghost use Rattle.rr_replica.specs.Writing.{IsOfALine};
+ghost use Rattle.rr_point.specs.Key.{IsWritable};
 ghost use Rattle.rr_cluster.specs.Command.{view_of};
 ghost use Rattle.rr_cluster.specs.Commands.Write.{after_write, samples_of_line, samples_of_point, write_command};
 ghost use Rattle.rr_replica.specs.Standing.{held};
@@ -72,7 +72,7 @@ fn write_point<A: Archive>(
     clock: i64,
     lead: Option<u64>,
 ) -> Result<(), Stop>
-    requires { IsOfALine (point_view point.now) }
+    requires { IsWritable (point_view point.now) }
     ensures { Writes (held replica.old) (held replica.new) result
         (samples_of_point (node_in replica.old) clock lead (point_view point.now)) }
 {

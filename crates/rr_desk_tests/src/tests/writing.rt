@@ -1,6 +1,6 @@
 //! What a keeper writes, and what its own replica then has.
 
-ghost use Rattle.rr_line.specs.Line.{HasNoLineFeed};
+ghost use Rattle.rr_text.specs.Bytes.{HasNoLineFeed};
 
 use rr_archive::PlainArchive;
 use rr_desk::{Keeper, open};

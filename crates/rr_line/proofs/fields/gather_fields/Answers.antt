@@ -1,7 +1,7 @@
 -- What is gathered in the loop is what the definition gathers.
 use Rattle.std.proofs.Common.{◌≡◌, ◌∙◌, sym, length, rules}
 use Rattle.rr_text.specs.declared.limits.TheConstants.{MAX_FIELDS}
-use Rattle.rr_line.specs.Line.{field_view}
+use Rattle.rr_point.specs.Point.{field_view}
 use Rattle.rr_line.proofs.GatheredLemmas.{fields_begin, fields_stop, fields_full, fields_go_on, fields_end, fewer_left}
 use Rattle.rr_line.proofs.fields.gather_fields.Goals as goal
 

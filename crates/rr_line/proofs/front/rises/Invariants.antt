@@ -1,6 +1,6 @@
 use Rattle.std.proofs.Common.{◌≡◌, [], drop}
 use Rattle.rr_key.specs.Reading.{rises}
-use Rattle.rr_line.specs.Front.{tags_view}
+use Rattle.rr_point.specs.Front.{tags_view}
 use Rattle.rr_line.proofs.front.rises.Given as goal
 
 abbrev pub invariant-loop-tag : goal.invariant-loop-tag

@@ -1,7 +1,7 @@
 use Rattle.std.proofs.Common.{◌≡◌, ◌+◌, ltb, length, drop}
 use Rattle.std.specs.List.{list_any}
 use Rattle.rr_text.specs.declared.limits.TheConstants.{MAX_KEY_TEXT}
-use Rattle.rr_line.specs.Line.{fields_view}
+use Rattle.rr_point.specs.Point.{fields_view}
 use Rattle.rr_line.proofs.parse.has_long_key.Given as goal
 
 abbrev pub invariant-loop-field : goal.invariant-loop-field

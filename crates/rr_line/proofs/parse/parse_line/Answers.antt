@@ -2,8 +2,8 @@
 use Rattle.std.proofs.Common.{sym, subst, ◌∙◌, inl, inr}
 use Rattle.std.proofs.lemmas.Result.{err_from_is_err_and}
 use Rattle.rr_line.specs.Grammar.{IsLineOf}
-use Rattle.rr_line.specs.Line.{point_view}
-use Rattle.rr_line.proofs.LineLemmas.{line_found, line_only, point_said, point_refused, none_in_content, keys_of_point}
+use Rattle.rr_point.specs.Point.{point_view}
+use Rattle.rr_line.proofs.LineLemmas.{line_found, line_only, point_said, point_refused, none_in_content, keys_of_point, few_of_point}
 use Rattle.rr_line.proofs.parse.parse_line.Goals as goal
 
 pub read_point-requires-clause-one_line : goal.read_point-requires-clause-one_line
@@ -36,4 +36,9 @@ returns-clause-only c =
 pub returns-clause-keyed : goal.returns-clause-keyed
 returns-clause-keyed c =
     keys_of_point c.args.precision c.args.line.now (point_view c.in_ok-point.point) c.requires
+    (subst (IsLineOf c.args.precision c.args.line.now) (point_said c.args.precision c.args.line.now c.content-text.result.now (point_view c.in_ok-point.point) c.content-text.ensures c.if-is_nothing.ensures c.in_ok-point.ensures.read) (line_found c.args.precision c.args.line.now))
+
+pub returns-clause-few : goal.returns-clause-few
+returns-clause-few c =
+    few_of_point c.args.precision c.args.line.now (point_view c.in_ok-point.point)
     (subst (IsLineOf c.args.precision c.args.line.now) (point_said c.args.precision c.args.line.now c.content-text.result.now (point_view c.in_ok-point.point) c.content-text.ensures c.if-is_nothing.ensures c.in_ok-point.ensures.read) (line_found c.args.precision c.args.line.now))

@@ -1,7 +1,7 @@
 -- What is gathered in the loop is what the definition gathers.
 use Rattle.std.proofs.Common.{◌≡◌, ◌∙◌, sym, length, rules}
 use Rattle.rr_text.specs.declared.limits.TheConstants.{MAX_TAGS}
-use Rattle.rr_line.specs.Line.{tag_view}
+use Rattle.rr_point.specs.Point.{tag_view}
 use Rattle.rr_line.proofs.GatheredLemmas.{tags_begin, tags_stop, tags_full, tags_go_on, tags_end, fewer_left}
 use Rattle.rr_line.proofs.tags.gather_tags.Goals as goal
 

@@ -2,7 +2,7 @@ use Rattle.std.proofs.Common.{◌≡◌, ℕ, length, Err, refl, sym, subst, ◌
 use Rattle.std.proofs.Math.Facts.{to_z-of_z}
 use Rattle.std.specs.Int.{w64}
 use Rattle.std.proofs.lemmas.List.{length-map}
-use Rattle.rr_line.specs.Line.{field_view, point_view}
+use Rattle.rr_point.specs.Point.{field_view, point_view}
 use Rattle.rr_replica.specs.declared.fault.WriteFault.TheVariants as why
 use Rattle.rr_desk.specs.Standing.{holding_of}
 use Rattle.rr_node.specs.declared.answer.Answer.TheVariants as says

@@ -4,9 +4,9 @@ use Rattle.std.specs.List.{AllByRecursion, flat_map}
 use Rattle.std.proofs.Math.Facts.{to_z-of_z}
 use Rattle.std.proofs.lemmas.List.{take_all}
 use Rattle.rr_key.specs.Making.{making_fault}
-use Rattle.rr_line.specs.Key.{names_of, key_text}
-use Rattle.rr_line.specs.Line.{PointView, field_view, point_view}
-use Rattle.rr_line.specs.declared.line.Field.{Field}
+use Rattle.rr_point.specs.Key.{names_of, key_text}
+use Rattle.rr_point.specs.Point.{PointView, field_view, point_view}
+use Rattle.rr_point.specs.declared.point.Field.{Field}
 use Rattle.std.specs.Fmt.{signed_decimal}
 use Rattle.rr_records.specs.Records.{IsPlain}
 use Rattle.rr_records.proofs.CsvLemmas.{plain_signed}

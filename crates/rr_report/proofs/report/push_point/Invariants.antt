@@ -1,7 +1,7 @@
 use Rattle.std.proofs.Common.{◌≡◌, ℕ, ℤ, List, ◌++◌, map, take}
 use Rattle.std.specs.List.{flat_map}
-use Rattle.rr_line.specs.Key.{key_text}
-use Rattle.rr_line.specs.Line.{field_view, point_view}
+use Rattle.rr_point.specs.Key.{key_text}
+use Rattle.rr_point.specs.Point.{field_view, point_view}
 use Rattle.rr_report.specs.Report.{sample_text}
 use Rattle.rr_report.proofs.report.push_point.Given as goal
 

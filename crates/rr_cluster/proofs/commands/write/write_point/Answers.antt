@@ -3,7 +3,7 @@ use Rattle.std.specs.Int.{w64}
 use Rattle.std.proofs.Math.Facts.{to_z-of_z}
 use Rattle.std.proofs.lemmas.List.{length-map}
 use Rattle.std.proofs.lemmas.Result.{err_from_is_err_and}
-use Rattle.rr_line.specs.Line.{point_view}
+use Rattle.rr_point.specs.Point.{point_view}
 use Rattle.rr_replica.specs.declared.fault.WriteFault.{WriteFault}
 use Rattle.rr_replica.specs.Standing.{held}
 use Rattle.rr_cluster.proofs.CommandsLemmas.Write.{point_written, point_refused}

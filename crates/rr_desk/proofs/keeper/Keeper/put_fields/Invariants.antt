@@ -1,5 +1,5 @@
 use Rattle.std.proofs.Common.{◌≡◌, ◌+◌, map, take}
-use Rattle.rr_line.specs.Line.{field_view, point_view}
+use Rattle.rr_point.specs.Point.{field_view, point_view}
 use Rattle.rr_desk.specs.Points.{with_puts}
 use Rattle.rr_desk.proofs.keeper.Keeper.put_fields.Given as goal
 

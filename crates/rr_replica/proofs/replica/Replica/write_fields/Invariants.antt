@@ -1,5 +1,5 @@
 use Rattle.std.proofs.Common.{◌≡◌, ◌+◌, map, take}
-use Rattle.rr_line.specs.Line.{field_view, point_view}
+use Rattle.rr_point.specs.Point.{field_view, point_view}
 use Rattle.rr_replica.specs.Writing.{with_fields}
 use Rattle.rr_replica.specs.Standing.{held}
 use Rattle.rr_replica.proofs.replica.Replica.write_fields.Given as goal

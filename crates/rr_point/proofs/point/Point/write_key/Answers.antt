@@ -4,10 +4,10 @@ use Rattle.rr_key.specs.Series.{IsKeyText}
 use Rattle.rr_key.specs.Unit.{name_len}
 use Rattle.rr_key.specs.declared.class.Class.TheVariants.{Other}
 use Rattle.rr_key.proofs.MakingLemmas.{IsKeyText-made}
-use Rattle.rr_line.specs.Key.{names_of, key_text}
-use Rattle.rr_line.specs.Line.{point_view}
-use Rattle.rr_line.proofs.KeyFrontLemmas.{key_after_front}
-use Rattle.rr_line.proofs.line.Point.write_key.Goals as goal
+use Rattle.rr_point.specs.Key.{names_of, key_text}
+use Rattle.rr_point.specs.Point.{point_view}
+use Rattle.rr_point.proofs.FrontLemmas.{key_after_front}
+use Rattle.rr_point.proofs.point.Point.write_key.Goals as goal
 
 pub returns-in-Some-clause-written : goal.returns-in-Some-clause-written
 returns-in-Some-clause-written c =

@@ -6,10 +6,10 @@ ghost use Rattle.rr_key.specs.declared.class.Class.TheVariants.{Other};
 ghost use Rattle.rr_key.specs.Making.{making_fault, tags_of};
 ghost use Rattle.rr_key.specs.Series.{IsKeyText};
 ghost use Rattle.rr_key.specs.Unit.{unescape};
-ghost use Rattle.rr_line.specs.Key.{names_of, key_text, tags_unescaped, tag_names};
-ghost use Rattle.rr_line.specs.Line.{point_view, tags_view};
+ghost use Rattle.rr_point.specs.Key.{names_of, key_text, tags_unescaped, tag_names};
+ghost use Rattle.rr_point.specs.Point.{point_view, tags_view};
 
-use crate::line::{Point, Tag};
+use crate::point::{Point, Tag};
 use rr_key::{Class, SeriesKey, name_len, unescape};
 use rr_text::bytes::SPACE;
 use std::alloc::{AllocError, Global};
