@@ -8,9 +8,10 @@ use Rattle.rr_base.specs.Bytes.{bytes_cmp}
 use Rattle.rr_base.specs.Schema.{Layout}
 use Rattle.rr_archive.specs.Cells.{Rows}
 use Rattle.rr_replica.specs.Archives.{AreSized}
-use Rattle.rr_replica.specs.Held.{archives_of, seen_archive, seen_at, held_series, AreAllSized, IsHolding, IsHeld}
+use Rattle.rr_cells.specs.Holding.{IsHolding}
+use Rattle.rr_replica.specs.Held.{archives_of, seen_archive, seen_at, held_series, AreAllSized, IsHeld}
 use Rattle.rr_replica.specs.Series.{cells_of}
-use Rattle.rr_replica.proofs.Local.{same_cells}
+use Rattle.rr_cells.proofs.Local.{same_cells}
 use Rattle.rr_replica.proofs.Shown.{rows_shown, items_of, held_at}
 use Rattle.rr_replica.specs.Indexed.{index_of, entries_at, IsIndexed}
 use Rattle.rr_replica.proofs.Each.{slice_get-map}

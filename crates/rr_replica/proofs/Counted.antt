@@ -12,13 +12,13 @@ use Rattle.rr_archive.specs.declared.entry.Entry.{Entry}
 use Rattle.rr_archive.specs.CellSlots.{CellSlot, cell_slot}
 use Rattle.rr_archive.specs.Cells.{Rows, cell_of}
 use Rattle.rr_model.specs.CellNames.{CellName}
-use Rattle.rr_replica.specs.Cells.{name_at}
+use Rattle.rr_cells.specs.Cells.{name_at}
 use Rattle.rr_base.specs.declared.limits.TheConstants.{MAX_ARCHIVES}
 use Rattle.rr_base.specs.Schema.{Layout}
 use Rattle.rr_base.specs.Bytes.{bytes_cmp}
 use Rattle.rr_replica.specs.Series.{Series, cells_from, all_cells, cells_of}
 use Rattle.rr_replica.specs.Held.{held_series, archives_of, IsHeld}
-use Rattle.rr_replica.specs.Listing.{count_of, at_most_usize}
+use Rattle.rr_cells.specs.Listing.{count_of, at_most_usize}
 use Rattle.rr_replica.proofs.InOrder.{named_as, entries-cells_of}
 use Rattle.rr_replica.proofs.Shown.{keys_shown}
 use Rattle.rr_replica.proofs.SeriesLemmas.{bytes_cmp-IsAntisymmetric}

@@ -1,20 +1,16 @@
 -- Archives that are changed one after the other.
-use Rattle.std.proofs.Common.{◌≡◌, ◌≢◌, ℕ, zero, suc, ◌+◌, ◌<◌, ◌≤◌, Bool, ℤ, pos, negsuc, ◌*◌, ◌/◌, ◌^◌, true, List, [], ◌∷◌, ◌++◌, take, map, length, set, slice_get, refl, sym, ap, ◌∙◌, subst, arith, Option, Some, None, ⊎_elim, true≢false, is_some, unwrap_or, get_or}
-use Rattle.std.specs.Prelude.{FitsSigned, IsTrue, IfSome, OnErr, Result, Ok, Err}
-use Rattle.std.specs.Int.{w64, int_div_euclid}
+use Rattle.std.proofs.Common.{◌≡◌, ◌≢◌, ℕ, zero, suc, ◌+◌, ◌<◌, ◌≤◌, Bool, ℤ, true, List, [], ◌∷◌, ◌++◌, take, map, length, set, slice_get, refl, sym, ap, ◌∙◌, subst, arith, Option, Some, None, ⊎_elim, true≢false, is_some, unwrap_or, get_or}
+use Rattle.std.specs.Prelude.{IsTrue, IfSome, OnErr, Result, Ok, Err}
 use Rattle.std.specs.Option.{option_map}
 use Rattle.std.specs.FinMap.{get}
-use Rattle.std.proofs.Math.Nat.{div-lt_iff_lt-mul}
 use Rattle.std.proofs.lemmas.Bool.{cases_lt}
 use Rattle.std.proofs.lemmas.Bool.Decides.{eqb_tells}
 use Rattle.std.proofs.lemmas.Option.{slice_get_within, slice_get-get_or, get_or_from_slice_get}
-use Rattle.std.proofs.lemmas.Int.{ints}
 use Rattle.rr_base.specs.declared.archive.ArchiveSpec.{ArchiveSpec}
-use Rattle.rr_base.specs.Schema.{Layout, IsLayout, archive_at, slot_of, span}
+use Rattle.rr_base.specs.Schema.{Layout, archive_at, slot_of}
 use Rattle.rr_contrib.specs.Validity.{CanAdd}
-use Rattle.rr_archive.specs.CellSlots.{CellSlot, cell_slot, IsSlot}
+use Rattle.rr_archive.specs.CellSlots.{CellSlot, cell_slot}
 use Rattle.rr_archive.specs.Cells.{Rows, put_row}
-use Rattle.rr_model.proofs.Horizon.{archive_is}
 use Rattle.rr_replica.specs.declared.reading.Reading.{Reading}
 use Rattle.rr_replica.specs.Archives.{cell_slot_for, sample_for, Each, AreSized, AreReadyFrom, CanTake, AreSame, HavePut}
 
@@ -80,23 +76,6 @@ module _ {X : Type 0} (limit : X → ℕ) (s : Layout) (archives : List X) (size
       read : (o : Option ArchiveSpec) (past : ArchiveSpec) → Some (limit a) ≡ option_map (λ (b : ArchiveSpec). b.rows) o → ((b : ArchiveSpec) → o ≡ Some b → get_or s.archives i past ≡ b) → limit a ≡ (get_or s.archives i past).rows
       read None past e f = absurd (true≢false (ap is_some e))
       read (Some b) past e f = ap (λ o. unwrap_or o 0) e ∙ sym (ap (λ (c : ArchiveSpec). c.rows) (f b refl))
-
--- ---- the slots of times
-
-below_second : (t n : ℕ) → 1 ≤ n → t < 2 ^ 63 → t / (n * 1_000_000_000) < 9_223_372_037
-below_second t n some fits = (div-lt_iff_lt-mul {k = n * 1_000_000_000} (omega arith)).1 (omega arith)
-
-slot_bound : (time : ℤ) (n : ℕ) → 1 ≤ n → FitsSigned w64 time → IsSlot (int_div_euclid time (pos (n * 1_000_000_000)))
-slot_bound (pos t) n some fits = let h = below_second t n some (omega (arith, ints)) in (omega (arith, ints), omega (arith, ints))
-slot_bound (negsuc t) n some fits = let h = below_second t n some (omega (arith, ints)) in (omega (arith, ints), omega (arith, ints))
-
-pub slot_is : (s : Layout) → IsLayout s → (i : ℕ) (time : ℤ) → FitsSigned w64 time → IsSlot (slot_of s i time)
-slot_is s is i time fits = slot_bound time (span s i) (some_span s.step (archive_at s i).steps is.some_step (archive_is s is i).some_step) fits
-  where
-    some_span : (m n : ℕ) → 1 ≤ m → 1 ≤ n → 1 ≤ m * n
-    some_span (suc m) (suc n) a b = omega arith
-    some_span zero n a b = absurd (omega arith)
-    some_span (suc m) zero a b = absurd (omega arith)
 
 -- ---- room is made
 

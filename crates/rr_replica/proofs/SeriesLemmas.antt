@@ -16,10 +16,10 @@ use Rattle.rr_archive.specs.Cells.{Rows}
 use Rattle.rr_archive.proofs.CellSlotOrder.{cell_slot_cmp_total, cell_slot_cmp-IsAntisymmetric}
 use Rattle.rr_model.specs.CellNames.{CellName, cell_name_cmp}
 use Rattle.rr_model.proofs.Orders.{cell_name_cmp_total, cell_name_cmp-IsAntisymmetric}
-use Rattle.rr_replica.specs.Cells.{name_at, rows_at}
+use Rattle.rr_cells.specs.Cells.{name_at, rows_at}
 use Rattle.rr_base.specs.Bytes.{bytes_cmp}
 use Rattle.rr_replica.specs.Series.{Series, cells_from, all_cells, cells_of, rows_from, rows_in}
-use Rattle.rr_replica.proofs.Local.{get-rows_at, cell_slots_tie}
+use Rattle.rr_cells.proofs.Local.{get-rows_at, cell_slots_tie}
 
 option_or-None : (x : Option Contribution) → option_or x None ≡ x
 option_or-None None = refl

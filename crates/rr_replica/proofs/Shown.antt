@@ -16,16 +16,16 @@ use Rattle.rr_join.proofs.Members.{same_from_tie, tie_itself}
 use Rattle.rr_archive.specs.Cells.{Rows, put_row}
 use Rattle.rr_model.specs.Samples as model
 use Rattle.rr_replica.specs.declared.reading.Reading.{Reading}
-use Rattle.rr_replica.specs.Cells.{Cells, IsTrimmed, rows_at}
-use Rattle.rr_replica.specs.Puts.{put_sample}
+use Rattle.rr_cells.specs.Cells.{Cells, IsTrimmed, rows_at}
+use Rattle.rr_cells.specs.Puts.{put_sample}
 use Rattle.rr_base.specs.Bytes.{bytes_cmp}
 use Rattle.rr_replica.specs.Series.{cells_of, rows_from}
 use Rattle.rr_replica.specs.Archives.{cell_slot_for, sample_for, AreSame, HavePut}
 pub use Rattle.rr_replica.specs.Indexed.{items_of}
 use Rattle.rr_replica.specs.Held.{held_series, archives_of, keyed_sample}
-use Rattle.rr_replica.proofs.Local.{same_cells}
+use Rattle.rr_cells.proofs.Local.{same_cells}
 use Rattle.rr_replica.proofs.SeriesLemmas.{bytes_cmp-IsAntisymmetric, rows_of_series}
-use Rattle.rr_replica.proofs.PutsLemmas.{put_at, put_past, put_other_key}
+use Rattle.rr_cells.proofs.PutsLemmas.{put_at, put_past, put_other_key}
 use Rattle.rr_replica.proofs.Each.{slice_get-map}
 
 rows_from-is : (first : ℕ) (rs : List Rows) (i : ℕ) → rows_from first rs (first + i) ≡ unwrap_or (slice_get rs i) empty

@@ -10,11 +10,11 @@ use Rattle.std.specs.Prelude.{IfSome}
 use Rattle.rr_archive.specs.CellSlots.{CellSlot, cell_slot}
 use Rattle.rr_archive.specs.Cells.{Rows, put_row, join_cell}
 use Rattle.rr_replica.specs.declared.reading.Reading.{Reading}
-use Rattle.rr_replica.specs.declared.cell.Cell.{Cell}
-use Rattle.rr_replica.specs.declared.op.Op.{Op}
-use Rattle.rr_replica.specs.declared.op.Op.TheVariants.{Put, Join}
-use Rattle.rr_replica.specs.CellBounds.{IsCellOf}
-use Rattle.rr_replica.specs.Listing.{owned_cell}
+use Rattle.rr_cells.specs.declared.cell.Cell.{Cell}
+use Rattle.rr_cells.specs.declared.op.Op.{Op}
+use Rattle.rr_cells.specs.declared.op.Op.TheVariants.{Put, Join}
+use Rattle.rr_cells.specs.CellBounds.{IsCellOf}
+use Rattle.rr_cells.specs.Listing.{owned_cell}
 
 -- where the sample falls in an archive
 abbrev pub cell_slot_for : Layout → Reading → ℕ → CellSlot

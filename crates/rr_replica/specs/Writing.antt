@@ -7,7 +7,7 @@ use Rattle.rr_line.specs.Key.{key_text}
 use Rattle.rr_line.specs.Line.{PointView, HasNoLineFeed}
 use Rattle.rr_replica.specs.declared.fault.WriteFault.{WriteFault}
 use Rattle.rr_replica.specs.declared.fault.WriteFault.TheVariants as why
-use Rattle.rr_replica.specs.Holding.{Holding, with_put}
+use Rattle.rr_cells.specs.Holding.{Holding, with_put}
 
 -- a point that some line says
 pub record IsOfALine (p : PointView) : Type 0 where

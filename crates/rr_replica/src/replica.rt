@@ -5,22 +5,20 @@ ghost use Rattle.std.specs.FinMap as fin;
 ghost use Rattle.rr_key.specs.Making.{making_fault};
 ghost use Rattle.rr_line.specs.Key.{names_of, key_text};
 ghost use Rattle.rr_line.specs.Line.{point_view};
-ghost use Rattle.rr_replica.specs.CellBounds.{IsCellOf};
-ghost use Rattle.rr_replica.specs.Cells.{row_at, rows_at};
-ghost use Rattle.rr_replica.specs.Holding.{with_sample, with_put};
-ghost use Rattle.rr_replica.specs.Held.{keyed, keyed_sample, IsHolding};
-ghost use Rattle.rr_replica.specs.Listing.{seen_cell, owned_cell, at_most_usize, cell_name, next_cell};
+ghost use Rattle.rr_cells.specs.CellBounds.{IsCellOf};
+ghost use Rattle.rr_cells.specs.Cells.{row_at, rows_at};
+ghost use Rattle.rr_cells.specs.Holding.{with_sample, with_put, IsHolding};
+ghost use Rattle.rr_replica.specs.Held.{keyed, keyed_sample};
+ghost use Rattle.rr_cells.specs.Listing.{seen_cell, owned_cell, at_most_usize, cell_name, next_cell};
 ghost use Rattle.rr_replica.specs.Standing.{held, HasRoomFor, IsReadyFor};
 ghost use Rattle.rr_replica.specs.Writing.{lacks_numbers};
 
-use crate::cell::{Cell, CellRef};
 use crate::copying::copy_series;
 use crate::fault::{JoinFault, PutFault};
 use crate::hint::Hint;
 use crate::joining::{join_in, next_after};
 use crate::listing::{count_cells, nth_cell};
 use crate::next::{NameRef, next_cell};
-use crate::op::Op;
 use crate::putting::put_in;
 use crate::reading::Reading;
 use crate::room::make_room_in;
@@ -28,6 +26,7 @@ use crate::series::SeriesMap;
 use rr_archive::{Archive, Entry};
 use rr_base::limits::MAX_NUMBER;
 use rr_base::{Origin, Schema};
+use rr_cells::{Cell, CellRef, Op};
 use rr_key::SeriesKey;
 use rr_line::{Field, Point};
 use std::alloc::{AllocError, Global};
@@ -338,7 +337,8 @@ impl<A: Archive> Replica<A> {
 }
 
 impl<A: Archive> Replica<A> {
-    ghost use Rattle.rr_replica.specs.Joining.{with_cell, with_cells, IsAfterJoined};
+    ghost use Rattle.rr_cells.specs.Joining.{with_cell, with_cells};
+    ghost use Rattle.rr_replica.specs.Joining.{IsAfterJoined};
 
     /// Joins a cell from elsewhere, which is valid under the schema: of it and what stands at its
     /// name the greater stays, and then only the live cells. A cell of the replica's own origin,

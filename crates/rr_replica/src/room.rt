@@ -8,10 +8,10 @@ ghost use Rattle.rr_replica.specs.Held.{held_series, HasRoom, AreAllSized};
 
 use crate::archives::{empty_archives, make_room};
 use crate::hint::Hint;
-use crate::op::Op;
 use crate::series::SeriesMap;
 use rr_archive::Archive;
 use rr_base::Schema;
+use rr_cells::Op;
 use std::alloc::{AllocError, Global};
 
 /// Makes room for an operation in the archives of its key, which are added where there are none. No

@@ -1,6 +1,6 @@
 use Rattle.std.proofs.Common.{◌≡◌, ◌+◌, length}
 use Rattle.rr_replica.specs.Indexed.{entries_at}
-use Rattle.rr_replica.specs.Listing.{at_most_usize}
+use Rattle.rr_cells.specs.Listing.{at_most_usize}
 use Rattle.rr_replica.specs.Series.{all_cells}
 use Rattle.rr_replica.specs.SeriesMap.{entries_of}
 use Rattle.rr_replica.specs.Held.{held_series}

@@ -1,6 +1,6 @@
 use Rattle.std.proofs.Common.{rules, ◌≡◌, ◌+◌, [], ◌∷◌, Some, slice_get, map, ap, sym, ◌∙◌, subst}
 use Rattle.rr_replica.specs.Indexed.{entries_at, items_of}
-use Rattle.rr_replica.specs.Listing.{seen_cell, count_of}
+use Rattle.rr_cells.specs.Listing.{seen_cell, count_of}
 use Rattle.rr_replica.specs.Series.{cells_from, all_cells}
 use Rattle.rr_replica.specs.SeriesMap.{entries_of}
 use Rattle.rr_replica.specs.Held.{held_series}

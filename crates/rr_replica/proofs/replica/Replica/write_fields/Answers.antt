@@ -8,7 +8,7 @@ use Rattle.rr_key.specs.Making.{making_fault}
 use Rattle.rr_line.specs.Key.{names_of, key_text}
 use Rattle.rr_line.specs.Line.{field_view, point_view}
 use Rattle.rr_line.specs.declared.line.Field.{Field}
-use Rattle.rr_replica.specs.Holding.{Holding, with_put}
+use Rattle.rr_cells.specs.Holding.{Holding, with_put}
 use Rattle.rr_replica.specs.Writing.{with_fields}
 use Rattle.rr_replica.specs.Standing.{held}
 use Rattle.rr_replica.proofs.FieldLemmas.{with_fields-more, field_at, take-view, failed, passed}
