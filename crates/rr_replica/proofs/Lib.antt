@@ -10,7 +10,6 @@ pub mod FieldLemmas
 pub mod OneArchive
 pub mod JoinedCell
 pub mod Lending
-pub mod IndexedLemmas
 pub mod WalkLemmas
 pub mod CopyingLemmas
 pub mod RoomLemmas
