@@ -3,8 +3,8 @@
 use crate::changes;
 use anyhow::Result;
 use rr_base::{ArchiveSpec, Schema, SchemaFault};
+use rr_cells::Cell;
 use rr_page::{PageFault, read_cell};
-use rr_replica::Cell;
 use std::alloc::{AllocError, Global};
 
 /// Three rows of one step, all of which must be known.

@@ -24,13 +24,13 @@ use crate::replicas::push_cell;
 use crate::settings::Settings;
 use anyhow::{Context, Result, bail};
 use rr_archive::Archive;
+use rr_cells::CellRef;
 use rr_desk::{Keeper, Reader, open};
 use rr_fakes::pieces::failing_after;
 use rr_fakes::replicas::minutes;
 use rr_fakes::room::with_room;
 use rr_line::Precision;
 use rr_node::{Moments, OpenGate, pull_peer, serve_lines, serve_lines_within, serve_reader};
-use rr_replica::CellRef;
 use std::alloc::Global;
 use std::sync::Wait;
 

@@ -14,19 +14,19 @@
 //! | `copy CALL` | what the call of a copy answers, and then a line for each cell of the copy |
 
 ghost use Rattle.std.specs.Prelude.{IfOk};
-ghost use Rattle.rr_replica.specs.CellBounds.{IsCellOf};
-ghost use Rattle.rr_replica.specs.Listing.{owned_cell};
+ghost use Rattle.rr_cells.specs.CellBounds.{IsCellOf};
+ghost use Rattle.rr_cells.specs.Listing.{owned_cell};
 
 use crate::sessions;
 use anyhow::{Context, Result, bail};
 use rr_archive::Archive;
 use rr_base::{ArchiveSpec, Origin, Schema};
+use rr_cells::{Cell, CellRef, Op, Sample};
 use rr_contrib::Contribution;
 use rr_key::SeriesKey;
 use rr_line::{LINE_FEED, Line, Precision, parse_line};
 use rr_page::{cell_bytes, read_cell};
-use rr_replica::{Cell, CellRef, Op, Replica, Sample, WriteFault};
-use rr_text::limits::MAX_NUMBER;
+use rr_replica::{Replica, WriteFault};
 use std::alloc::{AllocError, Global};
 
 /// The nanoseconds of a step.

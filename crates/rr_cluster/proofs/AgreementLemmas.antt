@@ -7,7 +7,7 @@ use Rattle.std.proofs.lemmas.List.Elements.{All-head, All-tail}
 use Rattle.rr_text.specs.Bytes.{HasNoLineFeed}
 use Rattle.rr_base.specs.Schema.{Layout, IsLayout}
 use Rattle.rr_model.specs.Knowledge.{Knowledge}
-use Rattle.rr_replica.specs.Cells.{Cells}
+use Rattle.rr_cells.specs.Cells.{Cells}
 use Rattle.rr_cluster.specs.declared.fault.CommandFault.{CommandFault}
 use Rattle.rr_cluster.specs.Agreement.{in_cells, step_in_cells, CommandsAgree, ScriptsAgree}
 use Rattle.rr_cluster.specs.Command.{IsOneLine, Command, schema, node, now, write, page, delta, deliver, bytes, save, load, fetch}

@@ -16,8 +16,8 @@ use Rattle.rr_join.proofs.Members.{is_in, same_from_tie, tie_itself}
 use Rattle.rr_model.specs.CellNames.{CellName, cell_name_cmp}
 use Rattle.rr_model.proofs.Orders.{cell_name_cmp_total, cell_name_cmp-IsAntisymmetric}
 use Rattle.rr_page.specs.Page.{IsPage}
-use Rattle.rr_replica.specs.CellBounds.{NamedCell, IsCellOf}
-use Rattle.rr_replica.specs.Cells.{Cells}
+use Rattle.rr_cells.specs.CellBounds.{NamedCell, IsCellOf}
+use Rattle.rr_cells.specs.Cells.{Cells}
 use Rattle.rr_cluster.specs.Model.{part_of}
 
 neither_left : (a b : Bool) → (a || b) ≡ false → a ≡ false

@@ -12,7 +12,7 @@ use Rattle.rr_base.specs.Schema.{Layout}
 use Rattle.rr_join.specs.Values.{get_called}
 use Rattle.rr_join.proofs.ValuesLemmas.{get_called-insert, get_called-set}
 use Rattle.rr_model.specs.World.{World}
-use Rattle.rr_replica.specs.Cells.{Cells}
+use Rattle.rr_cells.specs.Cells.{Cells}
 use Rattle.rr_replica.specs.Standing.{Standing}
 use Rattle.rr_text.specs.Bytes.{bytes_cmp}
 use Rattle.rr_cluster.specs.declared.cluster.Cluster.{Cluster}

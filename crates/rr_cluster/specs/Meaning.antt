@@ -10,8 +10,8 @@ use Rattle.std.specs.FinMap.{get, entries}
 use Rattle.rr_archive.specs.declared.archive.Archive.{Ghosts}
 use Rattle.rr_join.specs.Values.{get_called}
 use Rattle.rr_model.specs.Samples.{Sample}
-use Rattle.rr_replica.specs.Cells.{Cells, IsTrimmed}
-use Rattle.rr_replica.specs.Holding.{Holding}
+use Rattle.rr_cells.specs.Cells.{Cells, IsTrimmed}
+use Rattle.rr_cells.specs.Holding.{Holding}
 use Rattle.rr_replica.specs.Standing.{Standing, held}
 use Rattle.rr_text.specs.Bytes.{bytes_cmp}
 use Rattle.rr_base.specs.Schema.{Layout, IsLayout}

@@ -5,12 +5,12 @@ use Rattle.rr_base.specs.Schema.{Layout}
 use Rattle.rr_model.specs.Samples.{Sample, marks_of}
 use Rattle.rr_model.specs.Knowledge.{Knowledge, union, with_marks, live, part, cells_named, difference}
 use Rattle.rr_model.specs.FetchText.{Request, fetch_text}
-use Rattle.rr_replica.specs.CellBounds.{NamedCell}
-use Rattle.rr_replica.specs.Cells.{Cells}
-use Rattle.rr_replica.specs.Joining.{next_after}
-use Rattle.rr_replica.specs.Joins.{join_cells}
-use Rattle.rr_replica.specs.Puts.{put_sample}
-use Rattle.rr_replica.specs.State.{state}
+use Rattle.rr_cells.specs.CellBounds.{NamedCell}
+use Rattle.rr_cells.specs.Cells.{Cells}
+use Rattle.rr_cells.specs.Joining.{next_past}
+use Rattle.rr_cells.specs.Joins.{join_cells}
+use Rattle.rr_cells.specs.Puts.{put_sample}
+use Rattle.rr_cells.specs.State.{state}
 use Rattle.rr_delta.specs.Difference.{newer_cells}
 use Rattle.rr_delta.specs.Names.{versions_of}
 use Rattle.rr_fetch.specs.Answers.{cells_text}
@@ -62,11 +62,6 @@ part_of m from count = from_entries (take count (drop from (entries m)))
 -- those of them that are newer than the cells of another, by their versions
 abbrev pub newer_part_of : Cells → Cells → ℕ → ℕ → Cells
 newer_part_of m n from count = from_entries (take count (drop from (newer_cells (versions_of n) (entries m))))
-
--- the next number of an origin, past the versions of these cells that are its own
-abbrev pub next_past : ℕ → ℕ → List NamedCell → ℕ
-next_past origin next [] = next
-next_past origin next (e ∷ es) = next_past origin (next_after origin next e) es
 
 -- a node that takes in cells joins them in their order
 abbrev pub with_joined : Node Cells → Cells → Node Cells

@@ -1,7 +1,7 @@
 //! The commands. Each has a file of its own, with how it is read from its words and what it does.
 
 ghost use Rattle.std.specs.Prelude.{◌≡◌, Option, None, Some, option_map};
-ghost use Rattle.rr_replica.specs.Cells.{Cells};
+ghost use Rattle.rr_cells.specs.Cells.{Cells};
 ghost use Rattle.rr_cluster.specs.Command.{view_of, IsOneLine};
 ghost use Rattle.rr_cluster.specs.Commands.{command_of, step};
 ghost use Rattle.rr_cluster.specs.Meaning.{Begins, OptionRepresents, Obeys, Represents};

@@ -1,7 +1,7 @@
 //! A script, from its bytes to what it prints.
 
 ghost use Rattle.std.specs.Prelude.{◌≡◌, Option, IfOk, OnOk};
-ghost use Rattle.rr_replica.specs.Cells.{Cells};
+ghost use Rattle.rr_cells.specs.Cells.{Cells};
 ghost use Rattle.rr_cluster.specs.Meaning.{OptionRepresents, Prints};
 ghost use Rattle.rr_cluster.specs.Model.{cell_model, sample_model};
 ghost use Rattle.rr_cluster.specs.Output.{obeyed, output_of};

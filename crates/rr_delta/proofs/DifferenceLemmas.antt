@@ -8,8 +8,8 @@ use Rattle.rr_base.specs.Schema.{Layout}
 use Rattle.rr_join.proofs.Booleans.{first_T, second_T, true_from_T}
 use Rattle.rr_model.specs.CellNames.{CellName, cell_name_cmp}
 use Rattle.rr_model.proofs.Orders.{cell_name_cmp_total}
-use Rattle.rr_replica.specs.CellBounds.{NamedCell, IsCellOf}
-use Rattle.rr_replica.specs.Listing.{first_after}
+use Rattle.rr_cells.specs.CellBounds.{NamedCell, IsCellOf}
+use Rattle.rr_cells.specs.Listing.{first_after}
 use Rattle.rr_delta.specs.Names.{NamedVersion}
 use Rattle.rr_delta.specs.Summaries.{cells_from}
 use Rattle.rr_delta.specs.Difference.{is_newer_than, newer_cell, newer_cells, names_from, first_version}

@@ -6,13 +6,12 @@ use Rattle.std.specs.FinMap.{entries}
 use Rattle.std.proofs.lemmas.List.Elements.{All-from_recursion, recursion_from_All}
 use Rattle.std.specs.Ordering.{is_lt}
 use Rattle.rr_model.specs.CellNames.{CellName, cell_name_cmp}
-use Rattle.rr_replica.specs.declared.cell.Cell.{Cell}
-use Rattle.rr_replica.specs.CellBounds.{NamedCell, IsCellOf}
-use Rattle.rr_replica.specs.Held.{IsHolding}
-use Rattle.rr_replica.specs.Holding.{Holding}
-use Rattle.rr_replica.specs.Listing.{owned_cell}
+use Rattle.rr_cells.specs.declared.cell.Cell.{Cell}
+use Rattle.rr_cells.specs.CellBounds.{NamedCell, IsCellOf}
+use Rattle.rr_cells.specs.Holding.{IsHolding, Holding}
+use Rattle.rr_cells.specs.Listing.{owned_cell}
 use Rattle.rr_replica.proofs.Counted.{take_all}
-use Rattle.rr_replica.proofs.HeldCells.{listed_held}
+use Rattle.rr_cells.proofs.HeldCells.{listed_held}
 use Rattle.rr_base.specs.Schema.{Layout}
 use Rattle.rr_delta.specs.declared.name.Name.{Name}
 use Rattle.rr_delta.specs.Summaries.{cells_after}

@@ -18,14 +18,14 @@ use Rattle.rr_contrib.specs.Contributions.{contribution_cmp}
 use Rattle.rr_model.specs.CellNames.{CellName, cell_name_cmp, is_live}
 use Rattle.rr_model.specs.Knowledge.{cells_named, difference}
 use Rattle.rr_model.proofs.Orders.{cell_name_cmp_total, cell_name_cmp-IsAntisymmetric}
-use Rattle.rr_replica.specs.CellBounds.{NamedCell}
-use Rattle.rr_replica.specs.Cells.{Cells}
-use Rattle.rr_replica.specs.Joins.{join_cells}
-use Rattle.rr_replica.specs.State.{state}
-use Rattle.rr_replica.specs.Versions.{is_newer, newer_names}
-use Rattle.rr_replica.proofs.CellByCell.{join_goes_by_cells}
-use Rattle.rr_replica.proofs.Differing.{difference_is_by_versions}
-use Rattle.rr_replica.proofs.WholeCells.{state_where}
+use Rattle.rr_cells.specs.CellBounds.{NamedCell}
+use Rattle.rr_cells.specs.Cells.{Cells}
+use Rattle.rr_cells.specs.Joins.{join_cells}
+use Rattle.rr_cells.specs.State.{state}
+use Rattle.rr_cells.specs.Versions.{is_newer, newer_names}
+use Rattle.rr_cells.proofs.CellByCell.{join_goes_by_cells}
+use Rattle.rr_cells.proofs.Differing.{difference_is_by_versions}
+use Rattle.rr_cells.proofs.WholeCells.{state_where}
 use Rattle.rr_delta.specs.Names.{named_version, versions_of}
 use Rattle.rr_delta.specs.Difference.{is_newer_than, newer_cells}
 use Rattle.rr_delta.specs.Laws as laws

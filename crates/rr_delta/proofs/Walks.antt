@@ -9,8 +9,8 @@ use Rattle.std.specs.FinMap.Entries.{below_all}
 use Rattle.rr_join.proofs.Booleans.{first_T, second_T, true_from_T, T_and, T_from_true}
 use Rattle.rr_model.specs.CellNames.{CellName, cell_name_cmp}
 use Rattle.rr_model.proofs.Orders.{cell_name_cmp_total}
-use Rattle.rr_replica.specs.CellBounds.{NamedCell}
-use Rattle.rr_replica.specs.Listing.{first_after}
+use Rattle.rr_cells.specs.CellBounds.{NamedCell}
+use Rattle.rr_cells.specs.Listing.{first_after}
 use Rattle.rr_replica.proofs.NextCell.{is_past}
 use Rattle.rr_delta.specs.Summaries.{cells_after, cells_from}
 use Rattle.rr_delta.specs.Names.{named_version}

@@ -6,10 +6,10 @@ use Rattle.rr_contrib.specs.declared.contribution.Contribution.{Contribution}
 use Rattle.rr_model.specs.CellNames.{CellName}
 use Rattle.rr_model.specs.Knowledge.{Knowledge, cells_named, difference}
 use Rattle.rr_model.specs.World.{World, IsClosed}
-use Rattle.rr_replica.specs.Cells.{Cells, IsTrimmed}
-use Rattle.rr_replica.specs.Joins.{join, join_cells}
-use Rattle.rr_replica.specs.State.{state}
-use Rattle.rr_replica.specs.Versions.{newer_names}
+use Rattle.rr_cells.specs.Cells.{Cells, IsTrimmed}
+use Rattle.rr_cells.specs.Joins.{join, join_cells}
+use Rattle.rr_cells.specs.State.{state}
+use Rattle.rr_cells.specs.Versions.{newer_names}
 use Rattle.rr_delta.specs.Names.{versions_of}
 use Rattle.rr_delta.specs.Difference.{newer_cells}
 

@@ -9,8 +9,8 @@ use Rattle.rr_base.specs.Origin.{IsOrigin}
 use Rattle.rr_base.specs.Schema.{Layout}
 use Rattle.rr_key.specs.Series.{IsKeyText}
 use Rattle.rr_model.specs.CellNames.{CellName}
-use Rattle.rr_replica.specs.CellBounds.{NamedCell}
-use Rattle.rr_replica.specs.Cells.{Cells}
+use Rattle.rr_cells.specs.CellBounds.{NamedCell}
+use Rattle.rr_cells.specs.Cells.{Cells}
 use Rattle.rr_delta.specs.declared.name.Name.{Name}
 
 -- a name, and the version of the cell there

@@ -2,14 +2,15 @@
 ghost use Rattle.std.specs.Prelude.{◌≡◌, ◌++◌, All, IfOk, OnOk, IsTrue, map, take, drop};
 ghost use Rattle.std.specs.FinMap.{entries, is_sorted};
 ghost use Rattle.rr_model.specs.CellNames.{cell_name_cmp};
-ghost use Rattle.rr_replica.specs.CellBounds.{IsCellOf};
-ghost use Rattle.rr_replica.specs.Listing.{seen_cell, owned_cell};
+ghost use Rattle.rr_cells.specs.CellBounds.{IsCellOf};
+ghost use Rattle.rr_cells.specs.Listing.{seen_cell, owned_cell};
 ghost use Rattle.rr_delta.specs.Names.{owned_name};
 ghost use Rattle.rr_delta.specs.Difference.{IsSummary, is_newer_than, newer_cell, newer_cells, names_from, first_version};
 
 use crate::name::Name;
 use rr_archive::Archive;
-use rr_replica::{Cell, CellRef, Replica};
+use rr_cells::{Cell, CellRef};
+use rr_replica::Replica;
 use std::alloc::{AllocError, Global};
 
 /// The names without those at the front that are before a cell's.

@@ -1,14 +1,15 @@
 //! The names and versions of a replica's cells, in order.
 ghost use Rattle.std.specs.Prelude.{◌≡◌, All, IfOk, Some, map, take, drop};
 ghost use Rattle.std.specs.FinMap.{entries};
-ghost use Rattle.rr_replica.specs.Listing.{seen_cell};
+ghost use Rattle.rr_cells.specs.Listing.{seen_cell};
 ghost use Rattle.rr_delta.specs.Names.{IsNameOf, name_in, named_version, owned_name, versions_of};
 ghost use Rattle.rr_delta.specs.Difference.{IsSummary};
 ghost use Rattle.rr_delta.specs.Summaries.{cells_after, cells_from};
 
 use crate::name::Name;
 use rr_archive::Archive;
-use rr_replica::{CellRef, Replica};
+use rr_cells::CellRef;
+use rr_replica::Replica;
 use std::alloc::{AllocError, Global};
 
 /// The names and versions of as many cells as `count` from one on; fewer where there are fewer.

@@ -4,9 +4,9 @@ ghost use Rattle.std.proofs.Common.{◌∙◌};
 ghost use Rattle.std.specs.FinMap.{entries, is_sorted};
 ghost use Rattle.rr_base.specs.Schema.{Layout, IsLayout};
 ghost use Rattle.rr_model.specs.CellNames.{cell_name_cmp};
-ghost use Rattle.rr_replica.specs.CellBounds.{IsCellOf};
-ghost use Rattle.rr_replica.specs.Cells.{Cells};
-ghost use Rattle.rr_replica.specs.Listing.{owned_cell};
+ghost use Rattle.rr_cells.specs.CellBounds.{IsCellOf};
+ghost use Rattle.rr_cells.specs.Cells.{Cells};
+ghost use Rattle.rr_cells.specs.Listing.{owned_cell};
 ghost use Rattle.rr_delta.specs.Names.{owned_name};
 ghost use Rattle.rr_delta.specs.Difference.{IsSummary, newer_cells};
 
@@ -14,7 +14,8 @@ use crate::differing::difference;
 use crate::name::Name;
 use rr_archive::Archive;
 use rr_base::Schema;
-use rr_replica::{Cell, Replica};
+use rr_cells::Cell;
+use rr_replica::Replica;
 use std::alloc::{AllocError, Global};
 
 /// Whoever gives cells to others: it answers what a summary lacks.

@@ -3,10 +3,10 @@ ghost use Rattle.std.specs.Prelude.{◌≡◌, All, IfOk, OnOk, OnErr, map, take
 ghost use Rattle.std.proofs.Common.{◌∙◌};
 ghost use Rattle.std.specs.FinMap.{entries};
 ghost use Rattle.rr_base.specs.Schema.{Layout, IsLayout};
-ghost use Rattle.rr_replica.specs.CellBounds.{IsCellOf};
-ghost use Rattle.rr_replica.specs.Cells.{Cells, IsTrimmed};
-ghost use Rattle.rr_replica.specs.Joins.{join_cell};
-ghost use Rattle.rr_replica.specs.Listing.{owned_cell};
+ghost use Rattle.rr_cells.specs.CellBounds.{IsCellOf};
+ghost use Rattle.rr_cells.specs.Cells.{Cells, IsTrimmed};
+ghost use Rattle.rr_cells.specs.Joins.{join_cell};
+ghost use Rattle.rr_cells.specs.Listing.{owned_cell};
 ghost use Rattle.rr_delta.specs.Names.{IsNameOf, name_in, named_version, owned_name, versions_of};
 ghost use Rattle.rr_delta.specs.Difference.{IsSummary};
 ghost use Rattle.rr_delta.specs.Summaries.{cells_after};
@@ -15,7 +15,8 @@ use crate::listing::{summary, summary_after};
 use crate::name::Name;
 use rr_archive::Archive;
 use rr_base::Schema;
-use rr_replica::{Cell, Replica};
+use rr_cells::Cell;
+use rr_replica::Replica;
 use std::alloc::{AllocError, Global};
 
 /// Whoever takes cells from elsewhere: it says which it has, and joins those that it is given.

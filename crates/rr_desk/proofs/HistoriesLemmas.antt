@@ -16,23 +16,23 @@ use Rattle.rr_model.specs.World.{IsWritten, IsNext, IsClosed, HoldsAllOf}
 use Rattle.rr_model.specs.Knowledge.{Knowledge, IsAheadOf}
 use Rattle.rr_model.proofs.Writes.{others_stay_closed, others_hold_own, writer_stays_closed, writer_holds_own, union_is_closed, union_holds_own, written_now}
 use Rattle.rr_model.proofs.WholeCells.{whole_cells_are_closed}
-use Rattle.rr_replica.specs.declared.cell.Cell.{Cell}
-use Rattle.rr_replica.specs.declared.op.Op.{Op}
-use Rattle.rr_replica.specs.declared.op.Op.TheVariants.{Join, Put}
-use Rattle.rr_replica.specs.declared.sample.Sample.{Sample}
-use Rattle.rr_replica.specs.CellBounds.{NamedCell}
-use Rattle.rr_replica.specs.Cells.{Cells}
-use Rattle.rr_replica.specs.Holding.{Holding}
-use Rattle.rr_replica.specs.Joining.{next_after}
-use Rattle.rr_replica.specs.Joins.{join_cell}
-use Rattle.rr_replica.specs.Listing.{owned_cell}
-use Rattle.rr_replica.specs.Operations.{accepts, applied, cell_step, outcome_of, joins_of, sample_of, step, to_cell, AllAccepted}
-use Rattle.rr_replica.specs.Puts.{put_sample}
-use Rattle.rr_replica.specs.State.{state}
-use Rattle.rr_replica.proofs.CellByCell.{join_cell_unites}
-use Rattle.rr_replica.proofs.HeldCells.{all_entries}
-use Rattle.rr_replica.proofs.OneSampleMore.{put_is_one_sample_more}
-use Rattle.rr_replica.proofs.OperationsLemmas.{outcome_of-append, outcome_of-joins, step_accepted, step-origin, step-schema, steps-cells, steps-schema}
+use Rattle.rr_cells.specs.declared.cell.Cell.{Cell}
+use Rattle.rr_cells.specs.declared.op.Op.{Op}
+use Rattle.rr_cells.specs.declared.op.Op.TheVariants.{Join, Put}
+use Rattle.rr_cells.specs.declared.sample.Sample.{Sample}
+use Rattle.rr_cells.specs.CellBounds.{NamedCell}
+use Rattle.rr_cells.specs.Cells.{Cells}
+use Rattle.rr_cells.specs.Holding.{Holding}
+use Rattle.rr_cells.specs.Joining.{next_after}
+use Rattle.rr_cells.specs.Joins.{join_cell}
+use Rattle.rr_cells.specs.Listing.{owned_cell}
+use Rattle.rr_cells.specs.Operations.{accepts, applied, cell_step, outcome_of, joins_of, sample_of, step, to_cell, AllAccepted}
+use Rattle.rr_cells.specs.Puts.{put_sample}
+use Rattle.rr_cells.specs.State.{state}
+use Rattle.rr_cells.proofs.CellByCell.{join_cell_unites}
+use Rattle.rr_cells.proofs.HeldCells.{all_entries}
+use Rattle.rr_cells.proofs.OneSampleMore.{put_is_one_sample_more}
+use Rattle.rr_cells.proofs.OperationsLemmas.{outcome_of-append, outcome_of-joins, step_accepted, step-origin, step-schema, steps-cells, steps-schema}
 use Rattle.rr_delta.specs.Difference.{newer_cells}
 use Rattle.rr_delta.specs.Names.{NamedVersion}
 use Rattle.rr_delta.proofs.HeldLemmas.{all_filtered}

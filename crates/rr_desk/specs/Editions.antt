@@ -2,7 +2,7 @@
 -- editions.
 use Rattle.std.specs.Prelude.{ℕ, ◌≡◌, ◌==◌, true, List, [], ◌∷◌, ◌++◌, length, drop, MatchBool}
 use Rattle.logbook.specs.Pages.{Cell, Step, View, Book, Named}
-use Rattle.rr_replica.specs.declared.op.Op.{Op}
+use Rattle.rr_cells.specs.declared.op.Op.{Op}
 
 -- the editions of a desk's book, as far as they were seen
 pub record Sighting : Type 0 where

@@ -8,15 +8,15 @@ use Rattle.rr_model.specs.Samples as model
 use Rattle.rr_model.specs.Samples.{marks_of}
 use Rattle.rr_model.specs.Knowledge.{Knowledge, union, with_marks, cells_where}
 use Rattle.rr_model.specs.World.{World, IsWritten, IsNext, IsClosed, HoldsAllOf, with_sample}
-use Rattle.rr_replica.specs.declared.cell.Cell.{Cell}
-use Rattle.rr_replica.specs.declared.op.Op.{Op}
-use Rattle.rr_replica.specs.declared.op.Op.TheVariants.{Join, Put}
-use Rattle.rr_replica.specs.declared.sample.Sample.{Sample}
-use Rattle.rr_replica.specs.Cells.{IsTrimmed}
-use Rattle.rr_replica.specs.Holding.{Holding}
-use Rattle.rr_replica.specs.Listing.{owned_cell}
-use Rattle.rr_replica.specs.Operations.{joins_of, sample_of, AllAccepted}
-use Rattle.rr_replica.specs.State.{state}
+use Rattle.rr_cells.specs.declared.cell.Cell.{Cell}
+use Rattle.rr_cells.specs.declared.op.Op.{Op}
+use Rattle.rr_cells.specs.declared.op.Op.TheVariants.{Join, Put}
+use Rattle.rr_cells.specs.declared.sample.Sample.{Sample}
+use Rattle.rr_cells.specs.Cells.{IsTrimmed}
+use Rattle.rr_cells.specs.Holding.{Holding}
+use Rattle.rr_cells.specs.Listing.{owned_cell}
+use Rattle.rr_cells.specs.Operations.{joins_of, sample_of, AllAccepted}
+use Rattle.rr_cells.specs.State.{state}
 
 -- what happens next: another origin writes a sample, the keeper puts one, or it joins a cell of what someone knows
 pub data Turn : Type 0 where

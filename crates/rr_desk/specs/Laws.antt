@@ -3,10 +3,10 @@ use Rattle.std.specs.Prelude.{◌≡◌, List, All, fold}
 use Rattle.std.specs.FinMap.{entries}
 use mathlib.Core.List.{IsPrefix}
 use Rattle.rr_model.specs.FetchText.{Request, fetch_text}
-use Rattle.rr_replica.specs.declared.op.Op.{Op}
-use Rattle.rr_replica.specs.Holding.{Holding}
-use Rattle.rr_replica.specs.Operations.{outcome_of, joins_of, step, to_cell, AllAccepted}
-use Rattle.rr_replica.specs.State.{state}
+use Rattle.rr_cells.specs.declared.op.Op.{Op}
+use Rattle.rr_cells.specs.Holding.{Holding}
+use Rattle.rr_cells.specs.Operations.{outcome_of, joins_of, step, to_cell, AllAccepted}
+use Rattle.rr_cells.specs.State.{state}
 use Rattle.rr_delta.specs.Difference.{newer_cells}
 use Rattle.rr_delta.specs.Names.{NamedVersion}
 use Rattle.rr_fetch.specs.Answers.{cells_text}

@@ -8,7 +8,7 @@ ghost use mathlib.Core.List.{IsPrefix};
 ghost use Rattle.rr_desk.specs.Editions.{head_of};
 
 use logbook::{Gain, Offer, Plain, Play, Rule, Seen, Start, Word};
-use rr_replica::Op;
+use rr_cells::Op;
 use std::alloc::AllocError;
 use std::collections::LinkedList;
 use std::marker::{Brand, Model, PhantomData};
@@ -46,7 +46,7 @@ impl Gain<LinkedList<Op>, u64> for Nothing {
 /// Which operations a step is about. No value of it is made: each call picks them in its proof.
 pub trait Batch {
     ghost use Rattle.std.specs.Prelude.{List};
-    ghost use Rattle.rr_replica.specs.declared.op.Op.{Op};
+    ghost use Rattle.rr_cells.specs.declared.op.Op.{Op};
 
     ghost batch: { List Op };
 }

@@ -4,9 +4,9 @@ ghost use Rattle.std.specs.FinMap.{entries, is_sorted};
 ghost use mathlib.Core.List.{IsPrefix};
 ghost use Rattle.left_right.specs.Sides.{view};
 ghost use Rattle.rr_model.specs.CellNames.{cell_name_cmp};
-ghost use Rattle.rr_replica.specs.CellBounds.{IsCellOf};
-ghost use Rattle.rr_replica.specs.Listing.{owned_cell};
-ghost use Rattle.rr_replica.specs.Operations.{outcome_of};
+ghost use Rattle.rr_cells.specs.CellBounds.{IsCellOf};
+ghost use Rattle.rr_cells.specs.Listing.{owned_cell};
+ghost use Rattle.rr_cells.specs.Operations.{outcome_of};
 ghost use Rattle.rr_delta.specs.Names.{owned_name};
 ghost use Rattle.rr_delta.specs.Difference.{IsSummary, newer_cells};
 ghost use Rattle.rr_fetch.specs.Answers.{cells_text};
@@ -23,9 +23,9 @@ use crate::rule::{Enters, Published, View};
 use crate::shown::Shown;
 use left_right::reader::Reader;
 use rr_archive::Archive;
+use rr_cells::Cell;
 use rr_delta::{Name, difference};
 use rr_fetch::{Request, answer_text};
-use rr_replica::Cell;
 use std::alloc::{AllocError, Global};
 
 /// A reader's seat at the copies.

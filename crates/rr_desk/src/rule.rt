@@ -6,7 +6,7 @@ use atomic_table::{Join, Split};
 use crossbeam_utils::rule::{Outcome, Protocol};
 use rr_archive::Archive;
 use rr_base::Schema;
-use rr_replica::Op;
+use rr_cells::Op;
 use std::collections::LinkedList;
 use std::marker::PhantomData;
 

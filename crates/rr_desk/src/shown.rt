@@ -4,7 +4,8 @@ use crate::book::Front;
 use left_right::Absorb;
 use rr_archive::Archive;
 use rr_base::{Origin, Schema};
-use rr_replica::{Hint, Op, Replica};
+use rr_cells::Op;
+use rr_replica::{Hint, Replica};
 use std::alloc::AllocError;
 use std::marker::Model;
 
@@ -18,7 +19,7 @@ pub struct Hinted {
 }
 
 impl Model for Hinted {
-    ghost use Rattle.rr_replica.specs.declared.op.Op as declared;
+    ghost use Rattle.rr_cells.specs.declared.op.Op as declared;
 
     ghost Value = { declared.Op };
 
@@ -54,7 +55,7 @@ pub struct Held {
 
 impl Model for Held {
     ghost use Rattle.std.specs.FinMap.{empty};
-    ghost use Rattle.rr_replica.specs.Holding.{Holding, coded_holding};
+    ghost use Rattle.rr_cells.specs.Holding.{Holding, coded_holding};
 
     ghost Value = { Holding };
 

@@ -4,15 +4,15 @@ use crate::keeper::Keeper;
 use crate::reader::Reader;
 use rr_archive::Archive;
 use rr_base::Schema;
+use rr_cells::Cell;
 use rr_delta::{Name, Source, Target};
-use rr_replica::Cell;
 use std::alloc::{AllocError, Global};
 
 impl<A: Archive> Target for Keeper<A> {
     ghost use Rattle.std.specs.Prelude.{[], ◌∷◌, ◌++◌, fold, refl};
     ghost use Rattle.std.proofs.Common.{◌∙◌, ap, sym};
     ghost use Rattle.std.proofs.lemmas.List.Sums.{fold-append};
-    ghost use Rattle.rr_replica.specs.declared.op.Op.TheVariants.{Join};
+    ghost use Rattle.rr_cells.specs.declared.op.Op.TheVariants.{Join};
     ghost use Rattle.rr_desk.specs.Standing.{HasJoined, cells_of, with_joined, with_pending};
 
     ghost layout = { λ k. k.schema };

@@ -2,8 +2,8 @@
 ghost use Rattle.std.specs.Prelude.{◌≡◌, true, false, [], ◌∷◌, ◌++◌, fold, OnErr, OnOk, MatchResult};
 ghost use Rattle.left_right.specs.Sides.{view};
 ghost use Rattle.rr_base.specs.Schema.{IsLayout};
-ghost use Rattle.rr_replica.specs.Cells.{IsTrimmed};
-ghost use Rattle.rr_replica.specs.Operations.{joins_of, step, AllAccepted};
+ghost use Rattle.rr_cells.specs.Cells.{IsTrimmed};
+ghost use Rattle.rr_cells.specs.Operations.{joins_of, step, AllAccepted};
 ghost use Rattle.rr_replica.specs.Standing.{held};
 ghost use Rattle.rr_desk.specs.Changes.{mark_in, ops_in};
 ghost use Rattle.rr_desk.specs.Editions.{after, flat, Begins};

@@ -20,10 +20,9 @@ use Rattle.rr_archive.specs.Cells.{Rows, entry_of, row_of}
 use Rattle.rr_archive.specs.CellSlots.{CellSlot, cell_slot_cmp}
 use Rattle.rr_archive.specs.Row.{ascends, ascends_from}
 use Rattle.rr_archive.proofs.CellSlotOrder.{cell_slot_cmp_total, cell_slot_cmp-IsAntisymmetric}
-use Rattle.rr_replica.specs.Cells.{name_at, rows_at, row_at}
-use Rattle.rr_replica.specs.Holding.{Holding}
-use Rattle.rr_replica.specs.Held.{IsHolding}
-use Rattle.rr_replica.proofs.Local.{get-rows_at}
+use Rattle.rr_cells.specs.Cells.{name_at, rows_at, row_at}
+use Rattle.rr_cells.specs.Holding.{Holding, IsHolding}
+use Rattle.rr_cells.proofs.Local.{get-rows_at}
 use Rattle.rr_fetch.specs.Consolidation.{IsSummable, IsRow}
 
 -- ---- by cell slots

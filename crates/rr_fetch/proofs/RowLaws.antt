@@ -32,9 +32,9 @@ use Rattle.rr_model.specs.FetchText.{Request, answer_text, fetch_text}
 use Rattle.rr_model.proofs.Orders.{cell_name_cmp_total, cell_name_cmp-IsAntisymmetric, mark_cmp_total, mark_cmp-IsAntisymmetric}
 use Rattle.rr_model.proofs.Horizon.{is_at_says}
 use Rattle.rr_model.proofs.Places.{place_below}
-use Rattle.rr_replica.specs.Cells.{row_at}
-use Rattle.rr_replica.specs.Puts.{seen}
-use Rattle.rr_replica.specs.State.{state}
+use Rattle.rr_cells.specs.Cells.{row_at}
+use Rattle.rr_cells.specs.Puts.{seen}
+use Rattle.rr_cells.specs.State.{state}
 use Rattle.rr_fetch.specs.Answers.{cells_text}
 use Rattle.rr_fetch.specs.Consolidation.{united, total_of, count_of, last_cmp, of_entries, consolidated}
 use Rattle.rr_fetch.proofs.Gathering.{gather, gather_by_name, gather_agree, gather-greatest, greatest-map, greatest_agree}

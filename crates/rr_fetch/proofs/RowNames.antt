@@ -22,11 +22,11 @@ use Rattle.rr_model.specs.Samples.{Mark, mark_cmp, name_of}
 use Rattle.rr_model.specs.Knowledge.{Knowledge, live, cell}
 use Rattle.rr_model.specs.Rows.{is_at, marks_of_row}
 use Rattle.rr_model.proofs.Orders.{cell_name_cmp_total, cell_name_cmp-IsAntisymmetric, mark_cmp_total, mark_cmp-IsAntisymmetric}
-use Rattle.rr_replica.specs.Cells.{name_at, cell_slot_of, rows_at, row_at}
-use Rattle.rr_replica.specs.Puts.{seen}
-use Rattle.rr_replica.specs.State.{value_of, state}
-use Rattle.rr_replica.proofs.Local.{get-rows_at, is_of_itself, named_place, cell_slots_tie}
-use Rattle.rr_replica.proofs.States.{get-state, tie_of, valued}
+use Rattle.rr_cells.specs.Cells.{name_at, cell_slot_of, rows_at, row_at}
+use Rattle.rr_cells.specs.Puts.{seen}
+use Rattle.rr_cells.specs.State.{value_of, state}
+use Rattle.rr_cells.proofs.Local.{get-rows_at, is_of_itself, named_place, cell_slots_tie}
+use Rattle.rr_cells.proofs.States.{get-state, tie_of, valued}
 use Rattle.rr_fetch.proofs.Gathering.{filter_agree_at}
 use Rattle.rr_fetch.proofs.RowEntries.{map-map, places_of, row_by_places, found_at}
 use Rattle.rr_fetch.proofs.SeenMarks.{or_summary}

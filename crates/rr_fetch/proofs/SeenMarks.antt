@@ -17,8 +17,8 @@ use Rattle.rr_model.specs.CellNames.{CellName}
 use Rattle.rr_model.specs.Samples.{Mark, mark_cmp, name_of}
 use Rattle.rr_model.specs.Rows.{last_of}
 use Rattle.rr_model.proofs.Orders.{mark_cmp_total, mark_cmp-IsAntisymmetric}
-use Rattle.rr_replica.specs.Puts.{seen}
-use Rattle.rr_replica.specs.State.{value_of}
+use Rattle.rr_cells.specs.Puts.{seen}
+use Rattle.rr_cells.specs.State.{value_of}
 use Rattle.rr_fetch.proofs.Gathering.{gather, greatest-map, greatest_agree}
 use Rattle.rr_fetch.proofs.RowEntries.{map-map}
 

@@ -2,7 +2,7 @@
 use Rattle.std.specs.Prelude.{ℕ, ℤ, List, Option}
 use Rattle.rr_base.specs.Schema.{Layout}
 use Rattle.rr_model.specs.FetchText.{Request, answer_text}
-use Rattle.rr_replica.specs.Cells.{Cells, row_at}
+use Rattle.rr_cells.specs.Cells.{Cells, row_at}
 use Rattle.rr_fetch.specs.Consolidation.{consolidated}
 
 -- the row of a slot by cells: that of the contributions to it

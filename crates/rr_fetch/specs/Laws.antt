@@ -5,10 +5,9 @@ use Rattle.rr_base.specs.Schema.{Layout, IsLayout}
 use Rattle.rr_model.specs.Knowledge.{Knowledge}
 use Rattle.rr_model.specs.Rows.{row}
 use Rattle.rr_model.specs.FetchText.{Request, fetch_text}
-use Rattle.rr_replica.specs.Cells.{row_at}
-use Rattle.rr_replica.specs.Holding.{Holding}
-use Rattle.rr_replica.specs.Held.{IsHolding}
-use Rattle.rr_replica.specs.State.{state}
+use Rattle.rr_cells.specs.Cells.{row_at}
+use Rattle.rr_cells.specs.Holding.{Holding, IsHolding}
+use Rattle.rr_cells.specs.State.{state}
 use Rattle.rr_fetch.specs.Answers.{cells_text}
 use Rattle.rr_fetch.specs.Consolidation.{consolidated, IsRow}
 

@@ -9,9 +9,9 @@ use Rattle.rr_gossip.specs.declared.puller.Stage.TheVariants.{Waiting}
 use Rattle.rr_gossip.specs.Fault.{as_body}
 use Rattle.rr_gossip.specs.Puller.{IsFrontJoined, Takes, page_taken}
 use Rattle.rr_base.specs.Schema.{Layout}
-use Rattle.rr_replica.specs.CellBounds.{NamedCell}
-use Rattle.rr_replica.specs.Cells.{Cells}
-use Rattle.rr_replica.specs.Joins.{join_cell, join_cells}
+use Rattle.rr_cells.specs.CellBounds.{NamedCell}
+use Rattle.rr_cells.specs.Cells.{Cells}
+use Rattle.rr_cells.specs.Joins.{join_cell, join_cells}
 
 -- one cell more is one join more
 pub join_cells-more : (s : Layout) (m : Cells) (es : List NamedCell) (e : NamedCell) → join_cells s m (es ++ e ∷ []) ≡ join_cell s (join_cells s m es) e.0 e.1

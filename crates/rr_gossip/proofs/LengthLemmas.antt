@@ -13,7 +13,7 @@ use Rattle.rr_page.specs.Page.{IsPage, magic, head_text, page_text}
 use Rattle.rr_page.specs.Version.{latest, version_byte}
 use Rattle.rr_page.proofs.CellLemmas.{some_text}
 use Rattle.rr_page.proofs.LengthLemmas.{cell_len, name_len}
-use Rattle.rr_replica.specs.CellBounds.{NamedCell, IsCellOf}
+use Rattle.rr_cells.specs.CellBounds.{NamedCell, IsCellOf}
 use Rattle.rr_replica.proofs.Each.{length-map}
 use Rattle.rr_delta.specs.declared.name.Name.{Name}
 use Rattle.rr_delta.specs.Names.{NamedVersion, IsNameOf, owned_name}

@@ -14,7 +14,7 @@ use Rattle.rr_delta.specs.Names.{NamedVersion, IsNameOf}
 use Rattle.rr_page.specs.Page.{page_text}
 use Rattle.rr_page.specs.Version.{latest}
 use Rattle.rr_page.specs.Reading.{number_at}
-use Rattle.rr_replica.specs.CellBounds.{NamedCell}
+use Rattle.rr_cells.specs.CellBounds.{NamedCell}
 use Rattle.rr_gossip.specs.declared.fault.GossipFault.{GossipFault}
 use Rattle.rr_gossip.specs.declared.fault.GossipFault.TheVariants.{Ended, FrameTooLong}
 use Rattle.rr_gossip.specs.declared.frame.Kind.{Kind}

@@ -11,9 +11,9 @@ use Rattle.rr_join.proofs.Booleans.{T_from_true, true_from_T}
 use Rattle.rr_model.specs.CellNames.{cell_name_cmp}
 use Rattle.rr_page.specs.Page.{IsPage, page_text}
 use Rattle.rr_page.specs.Version.{latest}
-use Rattle.rr_replica.specs.declared.cell.Cell.{Cell}
-use Rattle.rr_replica.specs.CellBounds.{NamedCell, IsCellOf}
-use Rattle.rr_replica.specs.Listing.{owned_cell}
+use Rattle.rr_cells.specs.declared.cell.Cell.{Cell}
+use Rattle.rr_cells.specs.CellBounds.{NamedCell, IsCellOf}
+use Rattle.rr_cells.specs.Listing.{owned_cell}
 use Rattle.std.specs.Prelude.{◌==◌, IsTrue}
 use Rattle.rr_delta.proofs.HeldLemmas.{all_mapped}
 use Rattle.rr_delta.proofs.Walks.{sorted_take, sorted_drop}

@@ -15,9 +15,9 @@ use Rattle.rr_delta.proofs.LawLemmas.{difference_brings_the_join}
 use Rattle.rr_delta.proofs.Walks.{sorted_versions}
 use Rattle.rr_join.proofs.Booleans.{true_from_T}
 use Rattle.rr_model.specs.CellNames.{cell_name_cmp}
-use Rattle.rr_replica.specs.CellBounds.{NamedCell, IsCellOf}
-use Rattle.rr_replica.specs.Cells.{Cells}
-use Rattle.rr_replica.specs.Joins.{join_cells}
+use Rattle.rr_cells.specs.CellBounds.{NamedCell, IsCellOf}
+use Rattle.rr_cells.specs.Cells.{Cells}
+use Rattle.rr_cells.specs.Joins.{join_cells}
 use Rattle.rr_gossip.specs.declared.fault.GossipFault.{GossipFault}
 use Rattle.rr_gossip.specs.declared.fault.GossipFault.TheVariants as why
 use Rattle.rr_gossip.specs.declared.frame.Kind.{Kind}

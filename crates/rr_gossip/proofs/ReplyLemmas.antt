@@ -8,7 +8,7 @@ use Rattle.rr_text.specs.Results.{◌>>=◌, unless}
 use Rattle.rr_base.specs.Schema.{Layout}
 use Rattle.rr_page.specs.Page.{page_text}
 use Rattle.rr_page.specs.Version.{latest}
-use Rattle.rr_replica.specs.CellBounds.{NamedCell}
+use Rattle.rr_cells.specs.CellBounds.{NamedCell}
 use Rattle.rr_gossip.specs.declared.fault.GossipFault.TheVariants as why
 use Rattle.rr_gossip.specs.declared.frame.Kind.TheVariants as kind
 use Rattle.rr_gossip.specs.declared.giver.Giver.{Giver}

@@ -14,7 +14,7 @@ use Rattle.rr_base.proofs.StreamLemmas.{prefix_after, prefix_before}
 use Rattle.rr_delta.specs.declared.name.Name.{Name}
 use Rattle.rr_delta.specs.Names.{NamedVersion, named_version, versions_of}
 use Rattle.rr_delta.specs.Summaries.{cells_after}
-use Rattle.rr_replica.specs.Cells.{Cells}
+use Rattle.rr_cells.specs.Cells.{Cells}
 use Rattle.rr_gossip.specs.declared.fault.GossipFault.{GossipFault}
 use Rattle.rr_gossip.specs.declared.fault.GossipFault.TheVariants.{TooManyFrames, WriteFailed, Memory}
 use Rattle.rr_gossip.specs.declared.fault.GossipFault.TheVariants as why

@@ -14,8 +14,8 @@ use Rattle.rr_delta.specs.Summaries.{cells_after, cells_from}
 use Rattle.rr_delta.proofs.Walks.{before_both, walked_to, sorted_after}
 use Rattle.rr_model.specs.CellNames.{CellName, cell_name_cmp}
 use Rattle.rr_replica.proofs.NextCell.{is_past}
-use Rattle.rr_replica.specs.CellBounds.{NamedCell}
-use Rattle.rr_replica.specs.Cells.{Cells}
+use Rattle.rr_cells.specs.CellBounds.{NamedCell}
+use Rattle.rr_cells.specs.Cells.{Cells}
 use Rattle.rr_gossip.specs.declared.fault.GossipFault.TheVariants as why
 use Rattle.rr_gossip.specs.declared.frame.Kind.TheVariants as kind
 use Rattle.rr_gossip.specs.declared.puller.Puller.{Puller}

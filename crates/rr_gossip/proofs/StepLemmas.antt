@@ -7,9 +7,9 @@ use Rattle.rr_base.specs.Schema.{Layout}
 use Rattle.rr_page.specs.declared.fault.PageFault.{PageFault}
 use Rattle.rr_page.specs.declared.fault.PageFault.TheVariants as page
 use Rattle.rr_page.specs.PageReading.{page_at}
-use Rattle.rr_replica.specs.CellBounds.{NamedCell}
-use Rattle.rr_replica.specs.Cells.{Cells}
-use Rattle.rr_replica.specs.Joins.{join_cells}
+use Rattle.rr_cells.specs.CellBounds.{NamedCell}
+use Rattle.rr_cells.specs.Cells.{Cells}
+use Rattle.rr_cells.specs.Joins.{join_cells}
 use Rattle.rr_gossip.specs.declared.fault.GossipFault.{GossipFault}
 use Rattle.rr_gossip.specs.declared.fault.GossipFault.TheVariants.{ReadFailed, Ended, FrameTooLong, BadFrame, UnexpectedFrame, TooManyFrames, SchemaDiffers, WriteFailed, Memory, Failed}
 use Rattle.rr_gossip.specs.declared.frame.Kind.{Kind}

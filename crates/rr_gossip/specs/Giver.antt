@@ -7,7 +7,7 @@ use Rattle.rr_base.specs.Schema.{Layout}
 use Rattle.rr_base.specs.SchemaBytes.{schema_bytes}
 use Rattle.rr_delta.specs.Difference.{newer_cells}
 use Rattle.rr_delta.specs.Names.{NamedVersion}
-use Rattle.rr_replica.specs.Cells.{Cells}
+use Rattle.rr_cells.specs.Cells.{Cells}
 use Rattle.rr_gossip.specs.declared.fault.GossipFault.{GossipFault}
 use Rattle.rr_gossip.specs.declared.fault.GossipFault.TheVariants as why
 use Rattle.rr_gossip.specs.declared.frame.Kind.{Kind}

@@ -6,7 +6,7 @@ use Rattle.rr_base.specs.Schema.{Layout}
 use Rattle.rr_model.specs.CellNames.{cell_name_cmp}
 use Rattle.rr_page.specs.Page.{page_text}
 use Rattle.rr_page.specs.Version.{latest}
-use Rattle.rr_replica.specs.CellBounds.{NamedCell, IsCellOf}
+use Rattle.rr_cells.specs.CellBounds.{NamedCell, IsCellOf}
 
 -- cells of a schema that are still to be sent
 abbrev pub CellsLeft : Type 0

@@ -8,9 +8,9 @@ use Rattle.rr_base.specs.Stream.{AppendsPrefix}
 use Rattle.rr_delta.specs.Difference.{IsSummary, newer_cells}
 use Rattle.rr_delta.specs.Laws.{AgreeAtVersions}
 use Rattle.rr_delta.specs.Names.{NamedVersion, IsNameOf, versions_of}
-use Rattle.rr_replica.specs.CellBounds.{NamedCell, IsCellOf}
-use Rattle.rr_replica.specs.Cells.{Cells, IsTrimmed}
-use Rattle.rr_replica.specs.Joins.{join, join_cells}
+use Rattle.rr_cells.specs.CellBounds.{NamedCell, IsCellOf}
+use Rattle.rr_cells.specs.Cells.{Cells, IsTrimmed}
+use Rattle.rr_cells.specs.Joins.{join, join_cells}
 use Rattle.rr_gossip.specs.declared.fault.GossipFault.{GossipFault}
 use Rattle.rr_gossip.specs.declared.fault.GossipFault.TheVariants.{TooManyFrames, WriteFailed, Memory}
 use Rattle.rr_gossip.specs.declared.giver.Giver.{Giver}

@@ -7,13 +7,13 @@ use Rattle.std.specs.FinMap.{entries}
 use Rattle.rr_delta.specs.Difference.{IsSummary, newer_cells}
 use Rattle.rr_delta.specs.Laws.{AgreeAtVersions}
 use Rattle.rr_gossip.specs.Pages.{AreLeft}
-use Rattle.rr_replica.specs.Joins.{join, join_cells}
+use Rattle.rr_cells.specs.Joins.{join, join_cells}
 use Rattle.rr_base.specs.SchemaBytes.{schema_bytes}
 use Rattle.rr_delta.specs.Names.{NamedVersion, IsNameOf, versions_of}
 use Rattle.rr_page.specs.Page.{page_text}
 use Rattle.rr_page.specs.Version.{latest}
-use Rattle.rr_replica.specs.CellBounds.{NamedCell, IsCellOf}
-use Rattle.rr_replica.specs.Cells.{Cells, IsTrimmed}
+use Rattle.rr_cells.specs.CellBounds.{NamedCell, IsCellOf}
+use Rattle.rr_cells.specs.Cells.{Cells, IsTrimmed}
 use Rattle.rr_gossip.specs.declared.fault.GossipFault.{GossipFault}
 use Rattle.rr_gossip.specs.declared.frame.Kind.TheVariants as kind
 use Rattle.rr_gossip.specs.declared.giver.Giver.{Giver}

@@ -1,15 +1,15 @@
 //! The cells of a page, joined into a target.
 ghost use Rattle.std.specs.Prelude.{◌≡◌, ℕ, All, OnOk, OnErr, map, take};
-ghost use Rattle.rr_replica.specs.CellBounds.{IsCellOf};
-ghost use Rattle.rr_replica.specs.Joins.{join_cells};
-ghost use Rattle.rr_replica.specs.Listing.{owned_cell};
+ghost use Rattle.rr_cells.specs.CellBounds.{IsCellOf};
+ghost use Rattle.rr_cells.specs.Joins.{join_cells};
+ghost use Rattle.rr_cells.specs.Listing.{owned_cell};
 ghost use Rattle.rr_gossip.specs.Puller.{Takes, page_taken};
 
 use crate::fault::GossipFault;
 use crate::puller::Stage;
+use rr_cells::Cell;
 use rr_delta::Target;
 use rr_page::decode;
-use rr_replica::Cell;
 use std::alloc::{AllocError, Global};
 
 /// Joins cells, in order. Where memory runs out, some of them from the first on are joined.

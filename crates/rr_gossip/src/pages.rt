@@ -3,16 +3,16 @@ ghost use Rattle.std.specs.Prelude.{◌≡◌, ◌<◌, All, IsTrue, IfOk, IfSom
 ghost use Rattle.std.specs.FinMap.{is_sorted};
 ghost use Rattle.std.specs.Option.{option_map};
 ghost use Rattle.rr_model.specs.CellNames.{cell_name_cmp};
-ghost use Rattle.rr_replica.specs.CellBounds.{IsCellOf};
-ghost use Rattle.rr_replica.specs.Listing.{owned_cell};
+ghost use Rattle.rr_cells.specs.CellBounds.{IsCellOf};
+ghost use Rattle.rr_cells.specs.Listing.{owned_cell};
 ghost use Rattle.rr_gossip.specs.declared.frame.TheConstants.{MAX_FRAME_LEN};
 ghost use Rattle.rr_gossip.specs.Pages.{next_page, after_page};
 
 use rr_base::Schema;
+use rr_base::limits::MAX_PAGE_CELLS;
+use rr_cells::Cell;
 use rr_delta::part;
 use rr_page::encode;
-use rr_replica::Cell;
-use rr_text::limits::MAX_PAGE_CELLS;
 use std::alloc::{AllocError, Global};
 use std::marker::Model;
 
@@ -26,7 +26,7 @@ pub(crate) struct Pages {
 
 impl Model for Pages {
     ghost use Rattle.std.specs.Prelude.{map, drop};
-    ghost use Rattle.rr_replica.specs.Listing.{owned_cell};
+    ghost use Rattle.rr_cells.specs.Listing.{owned_cell};
     ghost use Rattle.rr_gossip.specs.Codes.{coded_pages};
     ghost use Rattle.rr_gossip.specs.Pages.{CellsLeft, AreLeft};
 

@@ -9,7 +9,7 @@ use Rattle.rr_line.specs.Line.{LineView, nothing, point}
 use Rattle.rr_line.specs.Reading.{reading}
 use Rattle.rr_replica.specs.declared.fault.WriteFault.{WriteFault}
 use Rattle.rr_replica.specs.declared.fault.WriteFault.TheVariants as why
-use Rattle.rr_replica.specs.Holding.{Holding}
+use Rattle.rr_cells.specs.Holding.{Holding}
 use Rattle.rr_replica.specs.Writing.{is_ahead, lacks_numbers}
 use Rattle.rr_desk.specs.Points.{with_puts}
 use Rattle.rr_desk.specs.Standing.{KeeperState}

@@ -9,7 +9,7 @@ use Rattle.rr_base.specs.Stream.{AppendsPrefix}
 use Rattle.rr_text.specs.Text.{cut_at}
 use Rattle.rr_feed.specs.Items.{Item, Line, TooLong, items}
 use Rattle.rr_model.specs.FetchText.{Request}
-use Rattle.rr_replica.specs.Cells.{Cells}
+use Rattle.rr_cells.specs.Cells.{Cells}
 use Rattle.rr_fetch.specs.declared.fault.RequestFault.{RequestFault}
 use Rattle.rr_fetch.specs.declared.fault.RequestFault.TheVariants.{BadCommand}
 use Rattle.rr_fetch.specs.Answers.{cells_text}

@@ -23,7 +23,7 @@ use Rattle.rr_page.specs.declared.fault.PageFault.TheVariants.{BadKey, BadArchiv
 use Rattle.rr_page.specs.declared.version.Version.{Version}
 use Rattle.rr_page.specs.declared.version.Version.TheVariants.{One}
 use Rattle.rr_page.specs.Version.{mask_width, HasMasksFor}
-use Rattle.rr_replica.specs.CellBounds.{NamedCell, IsCellOf}
+use Rattle.rr_cells.specs.CellBounds.{NamedCell, IsCellOf}
 use Rattle.rr_page.specs.CellText.{signed_bytes, sums_text, values_text, name_text, cell_text}
 use Rattle.rr_page.specs.Laws.{AreBytes, CellsAreTheirText}
 use Rattle.rr_text.specs.Results.{◌>>=◌, unless}

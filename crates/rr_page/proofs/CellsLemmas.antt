@@ -7,7 +7,7 @@ use Rattle.rr_text.specs.Results.{◌>>=◌, unless}
 use Rattle.rr_base.specs.Schema.{Layout, IsLayout}
 use Rattle.rr_join.proofs.Booleans.{and_first, and_second}
 use Rattle.rr_model.specs.CellNames.{CellName}
-use Rattle.rr_replica.specs.CellBounds.{NamedCell, IsCellOf}
+use Rattle.rr_cells.specs.CellBounds.{NamedCell, IsCellOf}
 use Rattle.rr_page.specs.declared.fault.PageFault.TheVariants.{OutOfOrder}
 use Rattle.rr_page.specs.declared.version.Version.{Version}
 use Rattle.rr_page.specs.CellText.{cell_text}

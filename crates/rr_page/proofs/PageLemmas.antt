@@ -12,9 +12,9 @@ use Rattle.rr_text.specs.Results.{GivesUnless}
 use Rattle.rr_base.specs.Schema.{Layout, IsLayout}
 use Rattle.rr_base.specs.SchemaBytes.{schema_bytes}
 use Rattle.rr_base.proofs.SchemaBytesLemmas.{bytes_tell}
-use Rattle.rr_replica.specs.declared.cell.Cell.{Cell}
-use Rattle.rr_replica.specs.CellBounds.{NamedCell, IsCellOf}
-use Rattle.rr_replica.specs.Listing.{owned_cell}
+use Rattle.rr_cells.specs.declared.cell.Cell.{Cell}
+use Rattle.rr_cells.specs.CellBounds.{NamedCell, IsCellOf}
+use Rattle.rr_cells.specs.Listing.{owned_cell}
 use Rattle.rr_page.specs.declared.fault.PageFault.{PageFault}
 use Rattle.rr_page.specs.declared.fault.PageFault.TheVariants.{TrailingBytes, Memory}
 use Rattle.rr_page.specs.declared.version.Version.{Version}

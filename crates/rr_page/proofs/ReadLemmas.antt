@@ -11,7 +11,7 @@ use Rattle.rr_contrib.proofs.ValidityLemmas.{Decides-is_valid}
 use Rattle.rr_key.specs.Reading.{is_key_text}
 use Rattle.rr_key.specs.Series.{IsKeyText}
 use Rattle.rr_key.proofs.DecisionLemmas.{Decides-is_key_text}
-use Rattle.rr_replica.specs.CellBounds.{NamedCell}
+use Rattle.rr_cells.specs.CellBounds.{NamedCell}
 use Rattle.rr_page.specs.declared.fault.PageFault.{PageFault}
 use Rattle.rr_page.specs.declared.fault.PageFault.TheVariants.{BadKey, BadContribution}
 use Rattle.rr_text.specs.Results.{◌>>=◌, unless}

@@ -7,7 +7,7 @@ use Rattle.rr_base.specs.Schema.{Layout}
 use Rattle.rr_contrib.specs.declared.contribution.Contribution.{Contribution}
 use Rattle.rr_contrib.specs.Validity.{is_valid}
 use Rattle.rr_key.specs.Reading.{is_key_text}
-use Rattle.rr_replica.specs.CellBounds.{NamedCell}
+use Rattle.rr_cells.specs.CellBounds.{NamedCell}
 use Rattle.rr_page.specs.declared.fault.PageFault.{PageFault}
 use Rattle.rr_page.specs.declared.fault.PageFault.TheVariants.{Short, BadKey, BadArchive, BadContribution}
 use Rattle.rr_page.specs.declared.version.Version.{Version}

@@ -4,15 +4,15 @@ ghost use Rattle.rr_base.specs.Schema.{IsLayout};
 ghost use Rattle.rr_text.specs.Results.{GivesUnless, NeedsMemoryAfter};
 ghost use Rattle.rr_page.specs.Page.{IsPage, IsPageText};
 ghost use Rattle.rr_page.specs.PageReading.{is_after, last_name, schema_at, cells_at, page_at};
-ghost use Rattle.rr_replica.specs.CellBounds.{NamedCell, IsCellOf};
-ghost use Rattle.rr_replica.specs.Listing.{owned_cell};
+ghost use Rattle.rr_cells.specs.CellBounds.{NamedCell, IsCellOf};
+ghost use Rattle.rr_cells.specs.Listing.{owned_cell};
 
 use crate::fault::PageFault;
 use crate::heading::head_of;
 use crate::reading::cell_of;
 use crate::version::Version;
 use rr_base::Schema;
-use rr_replica::Cell;
+use rr_cells::Cell;
 use std::alloc::Global;
 
 /// Whether the name of a cell is greater than that of another, so that it may follow it.

@@ -3,12 +3,12 @@ ghost use Rattle.std.specs.Prelude.{◌≡◌, ◌≤◌, ◌++◌, IfOk, OnOk, 
 ghost use Rattle.rr_page.specs.CellText.{cell_text};
 ghost use Rattle.rr_page.specs.Page.{IsPage, page_text};
 ghost use Rattle.rr_page.specs.Version.{latest};
-ghost use Rattle.rr_replica.specs.Listing.{owned_cell};
+ghost use Rattle.rr_cells.specs.Listing.{owned_cell};
 
 use crate::heading::push_head;
 use crate::writing::push_cell;
 use rr_base::Schema;
-use rr_replica::Cell;
+use rr_cells::Cell;
 use std::alloc::{AllocError, Global};
 
 /// Adds a cell.

@@ -5,17 +5,16 @@ ghost use Rattle.rr_text.specs.Results.{Gives, GivesUnless, NeedsMemoryAfter};
 ghost use Rattle.rr_page.specs.CellText.{cell_text};
 ghost use Rattle.rr_page.specs.Reading.{number_at, key_at, archive_at, contribution_at, cell_at};
 ghost use Rattle.rr_page.specs.Version.{latest, mask_width};
-ghost use Rattle.rr_replica.specs.CellBounds.{IsCellOf};
-ghost use Rattle.rr_replica.specs.Listing.{owned_cell};
+ghost use Rattle.rr_cells.specs.CellBounds.{IsCellOf};
+ghost use Rattle.rr_cells.specs.Listing.{owned_cell};
 
 use crate::fault::PageFault;
 use crate::fields::{bytes_at, i64_at, i128_at, u8_at, u16_at, u64_at};
 use crate::version::{LATEST, Version};
 use rr_base::{Origin, Schema};
+use rr_cells::Cell;
 use rr_contrib::{Contribution, Mask};
 use rr_key::{KeyFault, SeriesKey};
-use rr_replica::Cell;
-use rr_text::limits::MAX_KEY_TEXT;
 use std::alloc::Global;
 
 /// The key that the bytes begin with, as a length and a text, and what follows it.

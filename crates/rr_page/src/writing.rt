@@ -3,13 +3,13 @@ ghost use Rattle.std.specs.Prelude.{◌≡◌, ◌+◌, ◌++◌, length, IfOk, 
 ghost use Rattle.rr_page.specs.CellText.{sums_text, values_text, name_text, cell_text};
 ghost use Rattle.rr_page.specs.Version.{fields_len, latest};
 ghost use Rattle.rr_archive.specs.CellSlots.{cell_slot};
-ghost use Rattle.rr_replica.specs.Cells.{name_at};
-ghost use Rattle.rr_replica.specs.Listing.{seen_cell};
+ghost use Rattle.rr_cells.specs.Cells.{name_at};
+ghost use Rattle.rr_cells.specs.Listing.{seen_cell};
 
 use rr_base::Origin;
+use rr_cells::CellRef;
 use rr_contrib::Contribution;
 use rr_key::SeriesKey;
-use rr_replica::CellRef;
 use std::alloc::{AllocError, Global};
 
 /// How many bytes a cell of the latest version has besides its key text.

@@ -8,28 +8,29 @@ use Rattle.std.specs.BTreeMap.{is_at}
 use Rattle.std.specs.Option.{option_map}
 use Rattle.std.specs.List.{filter}
 use Rattle.std.specs.Ordering.{int_eq}
-use Rattle.std.specs.FinMap.{get, keys, entries, empty, len-entries, len-empty, get-empty, same_map}
-use Rattle.rr_text.specs.declared.limits.TheConstants.{MAX_NUMBER}
+use Rattle.std.specs.FinMap.{get, entries, empty, len-entries, len-empty, get-empty}
+use Rattle.rr_base.specs.declared.limits.TheConstants.{MAX_NUMBER}
 use Rattle.rr_base.specs.Origin.{IsOrigin}
 use Rattle.rr_base.specs.Schema.{Layout, IsLayout}
 use Rattle.rr_contrib.specs.Validity.{CanAdd}
 use Rattle.rr_archive.specs.CellSlots.{CellSlot, cell_slot_cmp}
 use Rattle.rr_archive.specs.Cells.{Rows, entry_of, row_of}
 use Rattle.rr_replica.specs.declared.reading.Reading.{Reading}
-use Rattle.rr_replica.specs.Cells.{Cells, IsTrimmed, name_at, rows_at, row_at}
+use Rattle.rr_cells.specs.Cells.{Cells, name_at, rows_at, row_at}
 use Rattle.rr_contrib.specs.declared.contribution.Contribution.{Contribution}
-use Rattle.rr_join.proofs.Lookups.{get-trimmed}
-use Rattle.rr_model.specs.CellNames.{cell_name_cmp, is_live}
-use Rattle.rr_model.proofs.Orders.{cell_name_cmp_total, cell_name_cmp-IsAntisymmetric}
-use Rattle.rr_replica.specs.Puts.{put_sample}
-use Rattle.rr_text.specs.Bytes.{bytes_cmp}
+use Rattle.rr_model.specs.CellNames.{cell_name_cmp}
+use Rattle.rr_cells.specs.Puts.{put_sample}
+use Rattle.rr_base.specs.Bytes.{bytes_cmp}
 use Rattle.rr_replica.specs.Series.{cells_of}
 use Rattle.rr_replica.specs.Archives.{cell_slot_for, Each, AreSized, CanTake, AreSame, HavePut}
-use Rattle.rr_replica.specs.Held.{IsHolding, AreAllSized, held_series, archives_of, keyed_sample, holding_of, IsHeld}
-use Rattle.rr_replica.proofs.PutLaws.{few_held}
-use Rattle.rr_replica.proofs.Local.{get-rows_at}
-use Rattle.rr_replica.proofs.Shown.{held_at, items_of, rows_shown, cells_same, cells_put, held_same, held_put}
-use Rattle.rr_replica.proofs.HoldingLemmas.{IsTyped, holds_put, can_add}
+use Rattle.rr_cells.specs.Holding.{IsHolding}
+use Rattle.rr_series.specs.Indexed.{archives_of, items_of}
+use Rattle.rr_replica.specs.Held.{AreAllSized, held_series, keyed_sample, holding_of, IsHeld}
+use Rattle.rr_cells.proofs.PutLaws.{few_held}
+use Rattle.rr_cells.proofs.Local.{get-rows_at}
+use Rattle.rr_replica.proofs.Shown.{held_at, rows_shown, cells_same, cells_put, held_same, held_put}
+use Rattle.rr_cells.proofs.CellByCell.{trimmed_none}
+use Rattle.rr_cells.proofs.HoldingLemmas.{IsTyped, holds_put, can_add}
 
 module _ {X : Type 0} (cells : X → Rows) (limit : X → ℕ) (s : Layout) (key : List ℕ) (x : Reading) (old : List (List ℕ × Vec X)) (kept : IsHeld cells limit s x.origin x.number old) (known : x.number ≤ MAX_NUMBER) where
   abbrev all : Cells
@@ -93,21 +94,6 @@ kept_same cells limit s origin next old new kept same sized ordered = record {
 }
 
 -- ---- a replica that holds nothing
-
--- no cell is past the horizon where there is none
-pub trimmed_none : (s : Layout) → IsTrimmed s empty
-trimmed_none s = same_map cell_name_cmp_total cell_name_cmp-IsAntisymmetric _ _ (λ q.
-    get-trimmed cell_name_cmp_total cell_name_cmp-IsAntisymmetric (is_live s) empty q
-    ∙ ap (λ o. cond (is_live s (keys nothing) q) o None) (get-empty cell_name_cmp q)
-    ∙ none_either_way (is_live s (keys nothing) q)
-    ∙ sym (get-empty cell_name_cmp q))
-  where
-    nothing : Cells
-    nothing = empty
-
-    none_either_way : (b : Bool) → ◌≡◌ {A = Option Contribution} (cond b None None) None
-    none_either_way true = refl
-    none_either_way false = refl
 
 -- no key has archives
 pub kept_none : {X : Type 0} (cells : X → Rows) (limit : X → ℕ) (s : Layout) (origin : ℕ) (entries : List (List ℕ × Vec X)) → IsLayout s → IsOrigin origin → entries ≡ [] → IsHeld cells limit s origin 1 entries

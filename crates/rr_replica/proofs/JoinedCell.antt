@@ -28,24 +28,25 @@ use Rattle.rr_archive.proofs.CellSlotOrder.{cell_slot_cmp_total, cell_slot_cmp-I
 use Rattle.rr_model.specs.CellNames.{CellName, cell_name_cmp, is_of, is_live}
 use Rattle.rr_model.proofs.Horizon.{live_horizon}
 use Rattle.rr_model.proofs.Orders.{cell_name_cmp_total, cell_name_cmp-IsAntisymmetric}
-use Rattle.rr_replica.specs.declared.cell.Cell.{Cell}
+use Rattle.rr_cells.specs.declared.cell.Cell.{Cell}
 use Rattle.rr_replica.specs.Archives.{Each, AreSized, AreSame, HaveJoined}
-use Rattle.rr_replica.specs.CellBounds.{IsCellOf}
-use Rattle.rr_replica.specs.Cells.{Cells, IsTrimmed, cell_slot_of, rows_at}
-use Rattle.rr_replica.specs.Joins.{join_cell}
-use Rattle.rr_replica.specs.Joining.{next_after, with_cell, with_cells}
-use Rattle.rr_replica.specs.Held.{IsHolding, AreAllSized, IsHeld, held_series, archives_of, holding_of}
-use Rattle.rr_replica.specs.Holding.{Holding}
-use Rattle.rr_replica.specs.Listing.{owned_cell}
-use Rattle.rr_text.specs.Bytes.{bytes_cmp}
+use Rattle.rr_cells.specs.CellBounds.{IsCellOf}
+use Rattle.rr_cells.specs.Cells.{Cells, IsTrimmed, cell_slot_of, rows_at}
+use Rattle.rr_cells.specs.Joins.{join_cell}
+use Rattle.rr_cells.specs.Joining.{next_after, with_cell, with_cells}
+use Rattle.rr_cells.specs.Holding.{IsHolding, Holding}
+use Rattle.rr_series.specs.Indexed.{archives_of, items_of}
+use Rattle.rr_replica.specs.Held.{AreAllSized, IsHeld, held_series, holding_of}
+use Rattle.rr_cells.specs.Listing.{owned_cell}
+use Rattle.rr_base.specs.Bytes.{bytes_cmp}
 use Rattle.rr_replica.specs.Series.{cells_of}
-use Rattle.rr_replica.proofs.CellByCell.{join_nothing}
+use Rattle.rr_cells.proofs.CellByCell.{join_nothing}
 use Rattle.rr_replica.proofs.Each.{sized_at}
-use Rattle.rr_replica.proofs.JoinLaws.{join_trims, join_goes_by_archives}
-use Rattle.rr_replica.proofs.PutLaws.{few_held}
-use Rattle.rr_replica.proofs.Local.{get-rows_at, insert_here, insert_elsewhere, same_cells}
-use Rattle.rr_replica.proofs.SeriesLemmas.{bytes_cmp-IsAntisymmetric}
-use Rattle.rr_replica.proofs.Shown.{there, held_at, items_of, rows_shown, at_key, at_other, same_key, cells_same, held_same}
+use Rattle.rr_cells.proofs.JoinLaws.{join_trims, join_goes_by_archives}
+use Rattle.rr_cells.proofs.PutLaws.{few_held}
+use Rattle.rr_cells.proofs.Local.{get-rows_at, insert_here, insert_elsewhere, same_cells}
+use Rattle.rr_series.proofs.Lists.{bytes_cmp-IsAntisymmetric, there}
+use Rattle.rr_replica.proofs.Shown.{held_at, rows_shown, at_key, at_other, same_key, cells_same, held_same}
 
 no_rows : (key : List ℕ) (archive : ℕ) → rows_at empty key archive ≡ empty
 no_rows key archive = same_map cell_slot_cmp_total cell_slot_cmp-IsAntisymmetric _ _ (λ p. get-rows_at key archive empty p ∙ get-empty cell_name_cmp _ ∙ sym (get-empty cell_slot_cmp p))

@@ -20,12 +20,12 @@ use Rattle.rr_archive.specs.declared.entry.Entry.{Entry}
 use Rattle.rr_archive.specs.CellSlots.{CellSlot, cell_slot, cell_slot_cmp}
 use Rattle.rr_archive.specs.Cells.{Rows, cell_of, next_cell}
 use Rattle.rr_model.specs.CellNames.{CellName, cell_name_cmp}
-use Rattle.rr_replica.specs.CellBounds.{NamedCell}
-use Rattle.rr_replica.specs.Cells.{name_at}
+use Rattle.rr_cells.specs.CellBounds.{NamedCell}
+use Rattle.rr_cells.specs.Cells.{name_at}
 use Rattle.rr_replica.specs.Held.{held_series}
 use Rattle.rr_replica.specs.Series.{cells_from, all_cells}
 use Rattle.rr_replica.proofs.Each.{slice_get-map}
-use Rattle.rr_replica.proofs.SeriesLemmas.{bytes_cmp-IsAntisymmetric}
+use Rattle.rr_series.proofs.Lists.{bytes_cmp-IsAntisymmetric}
 use Rattle.rr_replica.proofs.InOrder.{named_as, same_archive, later_archive, later_key}
 
 -- whether a cell is after a name

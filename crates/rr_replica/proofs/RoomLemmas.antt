@@ -22,16 +22,17 @@ use Rattle.rr_join.proofs.Members.{tie_itself, same_from_tie}
 use Rattle.rr_archive.specs.CellSlots.{CellSlot, cell_slot, cell_slot_cmp, IsSlot}
 use Rattle.rr_archive.specs.Cells.{Rows}
 use Rattle.rr_archive.proofs.CellSlotOrder.{cell_slot_cmp_total, cell_slot_cmp-IsAntisymmetric}
-use Rattle.rr_replica.specs.declared.op.Op.{Op}
-use Rattle.rr_replica.specs.declared.op.Op.TheVariants.{Put, Join}
+use Rattle.rr_cells.specs.declared.op.Op.{Op}
+use Rattle.rr_cells.specs.declared.op.Op.TheVariants.{Put, Join}
 use Rattle.rr_replica.specs.Archives.{HaveRoomFor, IsOpOf}
-use Rattle.rr_replica.specs.Held.{archives_of, HasRoom, AreAllSized}
-use Rattle.rr_replica.specs.Holding.{Holding}
-use Rattle.rr_replica.specs.Operations.{key_of, accepts}
+use Rattle.rr_series.specs.Indexed.{archives_of}
+use Rattle.rr_replica.specs.Held.{HasRoom, AreAllSized}
+use Rattle.rr_cells.specs.Holding.{Holding}
+use Rattle.rr_cells.specs.Operations.{key_of, accepts}
 use Rattle.rr_replica.specs.Standing.{room_at, room_in, is_one_of, cell_slots_of, cell_slots_within, all_cell_slots, standing_of, HasRoomFor}
-use Rattle.rr_replica.proofs.Each.{slot_is, sized_many}
-use Rattle.rr_replica.proofs.SeriesLemmas.{bytes_cmp-IsAntisymmetric}
-use Rattle.rr_replica.proofs.Shown.{there}
+use Rattle.rr_cells.proofs.Slots.{slot_is}
+use Rattle.rr_replica.proofs.Each.{sized_many}
+use Rattle.rr_series.proofs.Lists.{bytes_cmp-IsAntisymmetric, there}
 
 -- ---- all cell slots
 

@@ -7,7 +7,7 @@ use Rattle.std.specs.BTreeMap.{is_at}
 use Rattle.std.specs.Option.{option_or, unwrap_or}
 use Rattle.std.specs.Ordering.{eq_by_cmp, is_eq}
 use Rattle.std.specs.Cmp.Lexicographic.{nat_list_cmp_total}
-use Rattle.std.specs.FinMap.{get, entries, find, get-empty, get-entries, get-from_entries, same_map, slice_cmp-IsAntisymmetric, nat_cmp-IsAntisymmetric, IsAntisymmetric}
+use Rattle.std.specs.FinMap.{get, entries, find, get-empty, get-entries, get-from_entries, same_map}
 use Rattle.std.proofs.lemmas.Bool.Decides.{eqb_tells}
 use Rattle.rr_contrib.specs.declared.contribution.Contribution.{Contribution}
 use Rattle.rr_join.proofs.Members.{same_from_tie, tie_itself}
@@ -16,10 +16,11 @@ use Rattle.rr_archive.specs.Cells.{Rows}
 use Rattle.rr_archive.proofs.CellSlotOrder.{cell_slot_cmp_total, cell_slot_cmp-IsAntisymmetric}
 use Rattle.rr_model.specs.CellNames.{CellName, cell_name_cmp}
 use Rattle.rr_model.proofs.Orders.{cell_name_cmp_total, cell_name_cmp-IsAntisymmetric}
-use Rattle.rr_replica.specs.Cells.{name_at, rows_at}
-use Rattle.rr_text.specs.Bytes.{bytes_cmp}
+use Rattle.rr_cells.specs.Cells.{name_at, rows_at}
+use Rattle.rr_base.specs.Bytes.{bytes_cmp}
 use Rattle.rr_replica.specs.Series.{Series, cells_from, all_cells, cells_of, rows_from, rows_in}
-use Rattle.rr_replica.proofs.Local.{get-rows_at, cell_slots_tie}
+use Rattle.rr_cells.proofs.Local.{get-rows_at, cell_slots_tie}
+use Rattle.rr_series.proofs.Lists.{bytes_cmp-IsAntisymmetric}
 
 option_or-None : (x : Option Contribution) → option_or x None ≡ x
 option_or-None None = refl
@@ -75,9 +76,6 @@ other_key key other archive first p [] apart = refl
 other_key key other archive first p (r ∷ rs) apart =
     find-append (name_at key archive p) (named_as other first (entries r)) (cells_from other (first + 1) rs)
     ∙ (λ i. option_or (find_elsewhere (name_at key archive p) other first (entries r) (λ q e. apart (ap (λ (n : CellName). n.key) e)) i) (other_key key other archive (first + 1) p rs apart i))
-
-pub bytes_cmp-IsAntisymmetric : IsAntisymmetric bytes_cmp
-bytes_cmp-IsAntisymmetric = slice_cmp-IsAntisymmetric nat_cmp-IsAntisymmetric
 
 -- ---- all keys
 

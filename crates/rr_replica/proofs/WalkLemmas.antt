@@ -10,13 +10,13 @@ use Rattle.rr_text.specs.declared.limits.TheConstants.{MAX_ARCHIVES}
 use Rattle.rr_text.specs.Bytes.{bytes_cmp}
 use Rattle.rr_archive.specs.CellSlots.{CellSlot}
 use Rattle.rr_archive.specs.Cells.{Rows}
-use Rattle.rr_replica.specs.CellBounds.{NamedCell}
-use Rattle.rr_replica.specs.Cells.{name_at}
+use Rattle.rr_cells.specs.CellBounds.{NamedCell}
+use Rattle.rr_cells.specs.Cells.{name_at}
 use Rattle.rr_replica.specs.Held.{held_series}
-use Rattle.rr_replica.specs.Indexed.{with_entry, entries_at, items_of}
+use Rattle.rr_series.specs.Indexed.{with_entry, entries_at, items_of}
 use Rattle.rr_replica.specs.Series.{cells_from, all_cells}
 use Rattle.std.proofs.lemmas.List.{length-append}
-use Rattle.rr_replica.specs.Listing.{count_of}
+use Rattle.rr_cells.specs.Listing.{count_of}
 use Rattle.rr_replica.proofs.Counted.{length-cells_from}
 use Rattle.rr_replica.proofs.NextCell.{is_past, LeftFrom, left_more, left_found}
 

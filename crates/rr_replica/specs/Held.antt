@@ -1,42 +1,22 @@
 -- What a replica keeps to.
-use Rattle.std.specs.Prelude.{◌≡◌, ℕ, ◌+◌, ◌*◌, ◌<◌, ◌≤◌, Bool, List, map, Option, Some}
+use Rattle.std.specs.Prelude.{◌≡◌, ℕ, Bool, List, map, Option, Some}
 use Rattle.std.specs.Global.{Vec}
 use Rattle.std.specs.List.Sorted.{IsStrictlySortedBy}
-use Rattle.std.specs.Map.{lookup, keys_of}
-use Rattle.std.specs.BTreeMap.{is_at}
+use Rattle.std.specs.Map.{keys_of}
 use Rattle.std.specs.Option.{option_map}
-use Rattle.std.specs.FinMap.{get, len}
-use Rattle.rr_text.specs.declared.limits.TheConstants.{MAX_NUMBER}
-use Rattle.rr_base.specs.Origin.{IsOrigin}
-use Rattle.rr_base.specs.Schema.{Layout, IsLayout, archive_at}
-use Rattle.rr_contrib.specs.declared.contribution.Contribution.{Contribution}
+use Rattle.rr_base.specs.Schema.{Layout}
 use Rattle.rr_archive.specs.CellSlots.{CellSlot}
 use Rattle.rr_archive.specs.Cells.{Rows}
-use Rattle.rr_model.specs.CellNames.{CellName}
 use Rattle.rr_model.specs.Samples as model
 use Rattle.rr_replica.specs.declared.reading.Reading.{Reading}
-use Rattle.rr_replica.specs.declared.sample.Sample.{Sample}
-use Rattle.rr_replica.specs.declared.op.Op.{Op}
-use Rattle.rr_replica.specs.Operations.{sample_of, key_of}
-use Rattle.rr_replica.specs.CellBounds.{IsCellOf}
-use Rattle.rr_replica.specs.Cells.{IsTrimmed, rows_at}
-use Rattle.rr_replica.specs.Holding.{Holding}
-use Rattle.rr_text.specs.Bytes.{bytes_cmp}
+use Rattle.rr_cells.specs.declared.sample.Sample.{Sample}
+use Rattle.rr_cells.specs.declared.op.Op.{Op}
+use Rattle.rr_cells.specs.Operations.{sample_of, key_of}
+use Rattle.rr_cells.specs.Holding.{Holding, IsHolding}
+use Rattle.rr_base.specs.Bytes.{bytes_cmp}
+use Rattle.rr_series.specs.Indexed.{archives_of}
 use Rattle.rr_replica.specs.Series.{Series, cells_of}
 use Rattle.rr_replica.specs.Archives.{AreSized, HaveRoomFor}
-
--- a next number is left or was the last, no cell is past the horizon, each is one of the schema's and within bounds,
--- those of the replica's own origin are of earlier numbers, and in each archive of each key there are at most as many
--- as its rows times the origins
-pub record IsHolding (h : Holding) : Type 0 where
-  pub layout : IsLayout h.schema
-  pub origin : IsOrigin h.origin
-  pub next_at_least : 1 ≤ h.next
-  pub next_at_most : h.next ≤ MAX_NUMBER + 1
-  pub live : IsTrimmed h.schema h.cells
-  pub cells : (n : CellName) (c : Contribution) → get h.cells n ≡ Some c → IsCellOf h.schema (n, c)
-  pub own : (n : CellName) (c : Contribution) → get h.cells n ≡ Some c → n.origin ≡ h.origin → c.version < h.next
-  pub few : (key : List ℕ) (archive origins : ℕ) → ((n : CellName) (c : Contribution) → get h.cells n ≡ Some c → n.origin ≤ origins) → len (rows_at h.cells key archive) ≤ (archive_at h.schema archive).rows * origins
 
 -- a reading, as a sample of a key
 abbrev pub keyed : List ℕ → Reading → Sample
@@ -50,10 +30,6 @@ module _ {X : Type 0} where
   -- the archives of each key, each seen as a map
   abbrev pub held_series : (X → Rows) → List (List ℕ × Vec X) → Series
   held_series cells entries = map (λ e. (e.0, map cells e.1.items)) entries
-
-  -- the archives of a key, if it has any
-  abbrev pub archives_of : List (List ℕ × Vec X) → List ℕ → Option (Vec X)
-  archives_of entries key = lookup (is_at (bytes_cmp key)) entries
 
   -- what an archive holds, and how many rows it keeps
   abbrev pub seen_archive : (X → Rows) → (X → ℕ) → X → Rows × ℕ

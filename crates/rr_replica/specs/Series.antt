@@ -5,8 +5,8 @@ use Rattle.std.specs.BTreeMap.{is_at}
 use Rattle.std.specs.FinMap.{empty, entries, from_entries}
 use Rattle.rr_text.specs.Bytes.{bytes_cmp}
 use Rattle.rr_archive.specs.Cells.{Rows}
-use Rattle.rr_replica.specs.CellBounds.{NamedCell}
-use Rattle.rr_replica.specs.Cells.{Cells, name_at}
+use Rattle.rr_cells.specs.CellBounds.{NamedCell}
+use Rattle.rr_cells.specs.Cells.{Cells, name_at}
 
 abbrev pub Series : Type 0
 Series = List (List ℕ × List Rows)

@@ -13,13 +13,13 @@ use Rattle.rr_text.specs.declared.limits.TheConstants.{MAX_ORIGIN, MAX_SECOND}
 use Rattle.rr_archive.specs.CellSlots.{CellSlot, cell_slot, cell_slot_cmp}
 use Rattle.rr_archive.specs.Cells.{Rows}
 use Rattle.rr_archive.specs.Codes.{coded_cell_slot, coded_contribution}
-use Rattle.rr_replica.specs.declared.op.Op.{Op}
-use Rattle.rr_replica.specs.declared.op.Op.TheVariants.{Put, Join}
-use Rattle.rr_replica.specs.Cells.{Cells}
+use Rattle.rr_cells.specs.declared.op.Op.{Op}
+use Rattle.rr_cells.specs.declared.op.Op.TheVariants.{Put, Join}
+use Rattle.rr_cells.specs.Cells.{Cells}
 use Rattle.rr_replica.specs.Series.{cells_of}
 use Rattle.rr_replica.specs.Held.{held_series}
-use Rattle.rr_replica.specs.Holding.{Holding, coded_layout, coded_name}
-use Rattle.rr_replica.specs.Operations.{accepts}
+use Rattle.rr_cells.specs.Holding.{Holding, coded_layout, coded_name}
+use Rattle.rr_cells.specs.Operations.{accepts}
 
 -- ---- room
 

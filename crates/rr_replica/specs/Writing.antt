@@ -5,7 +5,7 @@ use Rattle.rr_point.specs.Key.{key_text}
 use Rattle.rr_point.specs.Point.{PointView}
 use Rattle.rr_replica.specs.declared.fault.WriteFault.{WriteFault}
 use Rattle.rr_replica.specs.declared.fault.WriteFault.TheVariants as why
-use Rattle.rr_replica.specs.Holding.{Holding, with_put}
+use Rattle.rr_cells.specs.Holding.{Holding, with_put}
 
 -- with a sample of each of these fields put, in order
 abbrev pub with_fields : Holding → PointView → ℤ → List (List ℕ × ℤ) → Holding

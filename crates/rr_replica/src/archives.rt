@@ -2,14 +2,13 @@
 ghost use Rattle.std.specs.Prelude.{◌≡◌, ℕ, ◌<◌, slice_get, IsOk, OnOk, OnErr, IfOk};
 ghost use Rattle.std.specs.FinMap as fin;
 ghost use Rattle.rr_replica.specs.Archives.{Each, AreOf, AreReadyFrom, CanTake, AreSame, HavePut, HaveJoined, HaveRoomFor, IsOpOf};
-ghost use Rattle.rr_replica.specs.CellBounds.{IsCellOf};
-ghost use Rattle.rr_replica.specs.Listing.{owned_cell};
+ghost use Rattle.rr_cells.specs.CellBounds.{IsCellOf};
+ghost use Rattle.rr_cells.specs.Listing.{owned_cell};
 
-use crate::cell::Cell;
-use crate::op::Op;
 use crate::reading::Reading;
 use rr_archive::Archive;
 use rr_base::{Origin, Schema};
+use rr_cells::{Cell, Op};
 use std::alloc::{AllocError, Global};
 
 /// An archive that holds no cell, for each of a schema's.

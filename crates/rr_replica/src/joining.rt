@@ -1,22 +1,21 @@
 //! Cells from elsewhere, joined into the archives of their keys.
 ghost use Rattle.std.specs.Prelude.{◌≡◌, ◌≤◌, IsOk, OnOk, OnErr};
 ghost use Rattle.rr_base.specs.Schema.{IsLayout};
-ghost use Rattle.rr_text.specs.declared.limits.TheConstants.{MAX_NUMBER};
-ghost use Rattle.rr_replica.specs.Cells.{IsTrimmed};
-ghost use Rattle.rr_replica.specs.Joins.{join_cell};
-ghost use Rattle.rr_replica.specs.CellBounds.{IsCellOf};
-ghost use Rattle.rr_replica.specs.Joining.{next_after};
+ghost use Rattle.rr_base.specs.declared.limits.TheConstants.{MAX_NUMBER};
+ghost use Rattle.rr_cells.specs.Cells.{IsTrimmed};
+ghost use Rattle.rr_cells.specs.Joins.{join_cell};
+ghost use Rattle.rr_cells.specs.CellBounds.{IsCellOf};
+ghost use Rattle.rr_cells.specs.Joining.{next_after};
 ghost use Rattle.rr_replica.specs.Held.{held_series, HasRoom, AreAllSized};
-ghost use Rattle.rr_replica.specs.Listing.{owned_cell};
+ghost use Rattle.rr_cells.specs.Listing.{owned_cell};
 ghost use Rattle.rr_replica.specs.Series.{cells_of};
-ghost use Rattle.rr_replica.specs.SeriesMap.{entries_of, IsIndexed};
+ghost use Rattle.rr_series.specs.SeriesMap.{entries_of, IsIndexed};
 
 use crate::archives::{empty_archives, join_into};
-use crate::cell::Cell;
-use crate::op::Op;
-use crate::series::SeriesMap;
 use rr_archive::Archive;
 use rr_base::{Origin, Schema};
+use rr_cells::{Cell, Op};
+use rr_series::SeriesMap;
 use std::alloc::{AllocError, Global};
 
 /// Joins a cell into the archives of its key, or into none.

@@ -3,33 +3,30 @@ ghost use Rattle.std.specs.Prelude.{◌≡◌, ℕ, ◌<◌, ◌≤◌, ◌↔�
 ghost use Rattle.std.specs.Option.{option_map};
 ghost use Rattle.std.specs.FinMap as fin;
 ghost use Rattle.rr_key.specs.Making.{making_fault};
-ghost use Rattle.rr_point.specs.Key.{names_of, key_text};
-ghost use Rattle.rr_point.specs.Point.{point_view};
-ghost use Rattle.rr_replica.specs.CellBounds.{IsCellOf};
-ghost use Rattle.rr_replica.specs.Cells.{row_at, rows_at};
-ghost use Rattle.rr_replica.specs.Holding.{with_sample, with_put};
-ghost use Rattle.rr_replica.specs.Held.{keyed, keyed_sample, IsHolding};
-ghost use Rattle.rr_replica.specs.Listing.{seen_cell, owned_cell, at_most_usize, cell_name, next_cell};
+ghost use Rattle.rr_line.specs.Key.{names_of, key_text};
+ghost use Rattle.rr_line.specs.Line.{point_view};
+ghost use Rattle.rr_cells.specs.CellBounds.{IsCellOf};
+ghost use Rattle.rr_cells.specs.Cells.{row_at, rows_at};
+ghost use Rattle.rr_cells.specs.Holding.{with_sample, with_put, IsHolding};
+ghost use Rattle.rr_replica.specs.Held.{keyed, keyed_sample};
+ghost use Rattle.rr_cells.specs.Listing.{seen_cell, owned_cell, at_most_usize, cell_name, next_cell};
 ghost use Rattle.rr_replica.specs.Standing.{held, HasRoomFor, IsReadyFor};
 ghost use Rattle.rr_replica.specs.Writing.{lacks_numbers};
 
-use crate::cell::{Cell, CellRef};
 use crate::copying::copy_series;
 use crate::fault::{JoinFault, PutFault};
-use crate::hint::Hint;
 use crate::joining::{join_in, next_after};
 use crate::listing::{count_cells, nth_cell};
 use crate::next::{NameRef, next_cell};
-use crate::op::Op;
 use crate::putting::put_in;
 use crate::reading::Reading;
 use crate::room::make_room_in;
-use crate::series::SeriesMap;
 use rr_archive::{Archive, Entry};
 use rr_base::{Origin, Schema};
+use rr_cells::{Cell, CellRef, Op};
 use rr_key::SeriesKey;
-use rr_point::{Field, Point};
-use rr_text::limits::MAX_NUMBER;
+use rr_line::{Field, Point};
+use rr_series::{Hint, SeriesMap};
 use std::alloc::{AllocError, Global};
 use std::marker::Model;
 use std::mem::replace;
@@ -53,7 +50,7 @@ pub struct Replica<A: Archive> {
 impl<A: Archive> Model for Replica<A> {
     ghost use Rattle.rr_replica.specs.Standing.{Standing, coded_standing, standing_of};
     ghost use Rattle.rr_replica.specs.Held.{IsHeld};
-    ghost use Rattle.rr_replica.specs.SeriesMap.{entries_of, IsIndexed};
+    ghost use Rattle.rr_series.specs.SeriesMap.{entries_of, IsIndexed};
 
     ghost Value = { Standing };
 
@@ -207,8 +204,8 @@ impl<A: Archive> Replica<A> {
     pub fn known_key(&self, key: &SeriesKey) -> Result<(SeriesKey, Hint), AllocError>
         ensures { IfOk result (λ known. known.0 ≡ key.now) }
     {
-        let (known, index) = self.series.known_key(key);
-        Ok((known.copy()?, Hint { index }))
+        let (known, hint) = self.series.known_key(key);
+        Ok((known.copy()?, hint))
     }
 
     /// The archive of a key with a number, from 0. There is none where the key is unknown, nor past
@@ -338,7 +335,8 @@ impl<A: Archive> Replica<A> {
 }
 
 impl<A: Archive> Replica<A> {
-    ghost use Rattle.rr_replica.specs.Joining.{with_cell, with_cells, IsAfterJoined};
+    ghost use Rattle.rr_cells.specs.Joining.{with_cell, with_cells};
+    ghost use Rattle.rr_replica.specs.Joining.{IsAfterJoined};
 
     /// Joins a cell from elsewhere, which is valid under the schema: of it and what stands at its
     /// name the greater stays, and then only the live cells. A cell of the replica's own origin,

@@ -9,13 +9,13 @@ use Rattle.rr_page.specs.declared.version.Version.{Version}
 use Rattle.rr_page.specs.PageReading.{is_after, last_name, cells_at}
 use Rattle.rr_page.specs.Reading.{cell_at}
 use Rattle.rr_page.proofs.LoopLemmas.{with_front, goes_on, ends, falls, is_done}
-use Rattle.rr_replica.specs.declared.cell.Cell.{Cell}
-use Rattle.rr_replica.specs.CellBounds.{NamedCell}
-use Rattle.rr_replica.specs.Cells.{Cells}
-use Rattle.rr_replica.specs.Holding.{Holding}
-use Rattle.rr_replica.specs.Joining.{next_after, with_named}
-use Rattle.rr_replica.specs.Joins.{join_cell, join_cells}
-use Rattle.rr_replica.specs.Listing.{owned_cell}
+use Rattle.rr_cells.specs.declared.cell.Cell.{Cell}
+use Rattle.rr_cells.specs.CellBounds.{NamedCell}
+use Rattle.rr_cells.specs.Cells.{Cells}
+use Rattle.rr_cells.specs.Holding.{Holding}
+use Rattle.rr_cells.specs.Joining.{next_after, with_named}
+use Rattle.rr_cells.specs.Joins.{join_cell, join_cells}
+use Rattle.rr_cells.specs.Listing.{owned_cell}
 use Rattle.rr_snapshot.specs.declared.fault.LoadFault.{LoadFault}
 use Rattle.rr_snapshot.specs.declared.fault.LoadFault.TheVariants as why
 use Rattle.rr_snapshot.specs.Fault.{load_fault}

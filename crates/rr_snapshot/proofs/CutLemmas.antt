@@ -10,7 +10,7 @@ use Rattle.sha2.proofs.Facts256.{length-sha256}
 use Rattle.rr_text.specs.Results.{◌>>=◌, unless}
 use Rattle.rr_base.specs.Schema.{Layout, IsLayout}
 use Rattle.rr_base.specs.SchemaBytes.{schema_bytes}
-use Rattle.rr_replica.specs.CellBounds.{NamedCell}
+use Rattle.rr_cells.specs.CellBounds.{NamedCell}
 use Rattle.rr_page.specs.declared.fault.PageFault.{PageFault}
 use Rattle.rr_page.specs.declared.fault.PageFault.TheVariants as page
 use Rattle.rr_page.specs.declared.version.Version.{Version}

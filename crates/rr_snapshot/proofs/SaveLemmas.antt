@@ -10,8 +10,8 @@ use Rattle.rr_base.specs.Stream.{AppendsPrefix}
 use Rattle.rr_base.proofs.StreamLemmas.{prefix_after, prefix_before}
 use Rattle.rr_page.specs.CellText.{cell_text}
 use Rattle.rr_page.specs.Version.{latest}
-use Rattle.rr_replica.specs.CellBounds.{NamedCell}
-use Rattle.rr_replica.specs.Listing.{at_most_usize}
+use Rattle.rr_cells.specs.CellBounds.{NamedCell}
+use Rattle.rr_cells.specs.Listing.{at_most_usize}
 use Rattle.rr_snapshot.specs.Snapshot.{head_text, body_text, snapshot_text}
 
 -- a count that is below the greatest one is the number itself

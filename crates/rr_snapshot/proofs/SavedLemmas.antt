@@ -12,15 +12,13 @@ use Rattle.rr_join.proofs.Booleans.{true_from_T}
 use Rattle.rr_model.specs.CellNames.{CellName, cell_name_cmp}
 use Rattle.rr_page.specs.Version.{latest}
 use Rattle.rr_page.proofs.PageLemmas.{masks_wide}
-use Rattle.rr_replica.specs.CellBounds.{NamedCell, IsCellOf}
-use Rattle.rr_replica.specs.Cells.{Cells, IsTrimmed}
-use Rattle.rr_replica.specs.Held.{IsHolding}
-use Rattle.rr_replica.specs.Holding.{Holding}
-use Rattle.rr_replica.specs.Joins.{join_cells}
-use Rattle.rr_replica.proofs.CellByCell.{join_goes_by_cells, join_nothing}
-use Rattle.rr_replica.proofs.HeldCells.{all_entries, all_held}
-use Rattle.rr_replica.proofs.HeldLemmas.{trimmed_none}
-use Rattle.rr_replica.proofs.JoinLaws.{join_commutes}
+use Rattle.rr_cells.specs.CellBounds.{NamedCell, IsCellOf}
+use Rattle.rr_cells.specs.Cells.{Cells, IsTrimmed}
+use Rattle.rr_cells.specs.Holding.{IsHolding, Holding}
+use Rattle.rr_cells.specs.Joins.{join_cells}
+use Rattle.rr_cells.proofs.CellByCell.{join_goes_by_cells, join_nothing, trimmed_none}
+use Rattle.rr_cells.proofs.HeldCells.{all_entries, all_held}
+use Rattle.rr_cells.proofs.JoinLaws.{join_commutes}
 use Rattle.rr_snapshot.specs.declared.fault.LoadFault.{LoadFault}
 use Rattle.rr_snapshot.specs.declared.fault.LoadFault.TheVariants.{OriginUsed}
 use Rattle.rr_snapshot.specs.declared.heading.TheConstants.{MAX_SNAPSHOT_CELLS}

@@ -6,10 +6,10 @@ use Rattle.std.proofs.lemmas.List.{append-nil, take-append-drop}
 use Rattle.std.proofs.lemmas.List.Concat.{flat_map-cons, flat_map-append}
 use Rattle.rr_base.specs.Stream.{AppendsPrefix}
 use Rattle.rr_base.proofs.StreamLemmas.{prefix_after, prefix_before}
-use Rattle.rr_replica.specs.CellBounds.{NamedCell}
+use Rattle.rr_cells.specs.CellBounds.{NamedCell}
 use Rattle.std.specs.Option.{option_map}
-use Rattle.rr_replica.specs.declared.cell.CellRef.{CellRef}
-use Rattle.rr_replica.specs.Listing.{seen_cell}
+use Rattle.rr_cells.specs.declared.cell.CellRef.{CellRef}
+use Rattle.rr_cells.specs.Listing.{seen_cell}
 use Rattle.rr_replica.proofs.Counted.{past_end, take_all}
 use Rattle.rr_replica.proofs.InTurn.{taken_more}
 

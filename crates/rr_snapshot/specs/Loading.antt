@@ -4,9 +4,9 @@ use Rattle.std.specs.FinMap.{empty}
 use Rattle.std.specs.List.{list_any}
 use Rattle.rr_text.specs.Results.{◌>>=◌, unless}
 use Rattle.rr_base.specs.Schema.{Layout}
-use Rattle.rr_replica.specs.CellBounds.{NamedCell}
-use Rattle.rr_replica.specs.Holding.{Holding}
-use Rattle.rr_replica.specs.Joins.{join_cells}
+use Rattle.rr_cells.specs.CellBounds.{NamedCell}
+use Rattle.rr_cells.specs.Holding.{Holding}
+use Rattle.rr_cells.specs.Joins.{join_cells}
 use Rattle.rr_snapshot.specs.declared.fault.LoadFault.{LoadFault}
 use Rattle.rr_snapshot.specs.declared.fault.LoadFault.TheVariants.{ReadFailed, OriginUsed, Memory}
 use Rattle.rr_snapshot.specs.SnapshotReading.{snapshot_at}

@@ -6,18 +6,17 @@ ghost use Rattle.rr_base.specs.Stream.{ConsumesSome};
 ghost use Rattle.rr_page.specs.Reading.{cell_at};
 ghost use Rattle.rr_page.specs.Version.{fields_len};
 ghost use Rattle.rr_page.specs.declared.writing.TheConstants.{FIELDS_LEN};
-ghost use Rattle.rr_replica.specs.CellBounds.{IsCellOf};
-ghost use Rattle.rr_replica.specs.Listing.{owned_cell};
+ghost use Rattle.rr_cells.specs.CellBounds.{IsCellOf};
+ghost use Rattle.rr_cells.specs.Listing.{owned_cell};
 ghost use Rattle.rr_snapshot.specs.SnapshotReading.{as_in_page};
 ghost use Rattle.rr_snapshot.specs.Stream.{Adds, StreamGives, whole_len};
 
 use crate::fault::LoadFault;
 use rr_base::stream::{ReadFailed, fill};
 use rr_base::{Counted, Schema};
+use rr_cells::Cell;
 use rr_page::fields::u16_at;
 use rr_page::{FIELDS_LEN, Version, read_cell_in};
-use rr_replica::Cell;
-use rr_text::limits::MAX_KEY_TEXT;
 use std::alloc::Global;
 use std::io::Read;
 

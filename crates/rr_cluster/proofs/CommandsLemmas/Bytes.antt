@@ -5,8 +5,8 @@ use Rattle.hex.specs.Hex.{encode_lower}
 use Rattle.rr_archive.specs.declared.archive.Archive.{Ghosts}
 use Rattle.rr_text.specs.declared.bytes.TheConstants.{LINE_FEED, SPACE}
 use Rattle.rr_model.specs.Knowledge.{Knowledge}
-use Rattle.rr_replica.specs.Cells.{Cells}
-use Rattle.rr_replica.specs.State.{state}
+use Rattle.rr_cells.specs.Cells.{Cells}
+use Rattle.rr_cells.specs.State.{state}
 use Rattle.rr_cluster.specs.declared.cluster.Cluster.{Cluster}
 use Rattle.rr_cluster.specs.declared.fault.CommandFault.TheVariants.{NoPage}
 use Rattle.rr_cluster.specs.Agreement.{in_cells}

@@ -21,19 +21,19 @@ use Rattle.rr_model.proofs.Knowing.{knows-cell, is_in-keys_of, name_from_tie}
 use Rattle.rr_model.proofs.Orders.{cell_name_cmp_total, cell_name_cmp-IsAntisymmetric}
 use Rattle.rr_model.proofs.Writes.{union_is_closed, union_holds_own}
 use Rattle.rr_page.specs.declared.fault.PageFault.{PageFault}
-use Rattle.rr_replica.specs.CellBounds.{NamedCell}
-use Rattle.rr_replica.specs.declared.cell.Cell.{Cell}
-use Rattle.rr_replica.specs.Holding.{Holding}
+use Rattle.rr_cells.specs.CellBounds.{NamedCell}
+use Rattle.rr_cells.specs.declared.cell.Cell.{Cell}
+use Rattle.rr_cells.specs.Holding.{Holding}
 use Rattle.rr_replica.specs.Standing.{Standing, held}
-use Rattle.rr_replica.specs.Joining.{with_cell, with_cells}
-use Rattle.rr_replica.specs.Joins.{join_cells}
-use Rattle.rr_replica.specs.Listing.{owned_cell}
-use Rattle.rr_replica.specs.Cells.{Cells, IsTrimmed}
-use Rattle.rr_replica.specs.State.{state}
-use Rattle.rr_replica.proofs.CellByCell.{join_goes_by_cells}
-use Rattle.rr_replica.proofs.JoinLaws.{join_unites}
-use Rattle.rr_replica.proofs.States.{get-state, full, state_is_trimmed_full}
-use Rattle.rr_replica.proofs.Uniting.{value_top}
+use Rattle.rr_cells.specs.Joining.{with_cell, with_cells, next_past}
+use Rattle.rr_cells.specs.Joins.{join_cells}
+use Rattle.rr_cells.specs.Listing.{owned_cell}
+use Rattle.rr_cells.specs.Cells.{Cells, IsTrimmed}
+use Rattle.rr_cells.specs.State.{state}
+use Rattle.rr_cells.proofs.CellByCell.{join_goes_by_cells}
+use Rattle.rr_cells.proofs.JoinLaws.{join_unites}
+use Rattle.rr_cells.proofs.States.{get-state, full, state_is_trimmed_full}
+use Rattle.rr_cells.proofs.Uniting.{value_top}
 use Rattle.rr_cluster.specs.declared.cluster.Cluster.{Cluster}
 use Rattle.rr_cluster.specs.declared.fault.CommandFault.TheVariants.{NoNode, NoPage}
 use Rattle.rr_cluster.specs.declared.stop.Stop.{Stop}
@@ -41,7 +41,7 @@ use Rattle.rr_cluster.specs.Agreement.{in_cells, node_in_cells}
 use Rattle.rr_cluster.specs.Command.{IsOneLine}
 use Rattle.rr_cluster.specs.Commands.Deliver.{deliver_command, after_deliver}
 use Rattle.rr_cluster.specs.Meaning.{node_of, bytes_at, replica_at, HasPageText, Joins, Leaves, Represents, node_in}
-use Rattle.rr_cluster.specs.Model.{Model, cell_model, sample_model, next_past, with_joined, with_known}
+use Rattle.rr_cluster.specs.Model.{Model, cell_model, sample_model, with_joined, with_known}
 use Rattle.rr_cluster.specs.Soundness.{IsSound, IsSoundNode}
 use Rattle.rr_cluster.specs.State.{Node, State}
 use Rattle.rr_cluster.specs.Words.{words_of}

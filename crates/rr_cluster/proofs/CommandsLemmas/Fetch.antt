@@ -11,7 +11,7 @@ use Rattle.rr_fetch.specs.declared.fault.RequestFault.TheVariants.{Memory}
 use Rattle.rr_fetch.proofs.RowLaws.{answer_of_state}
 use Rattle.rr_model.specs.FetchText.{Request}
 use Rattle.rr_model.specs.Knowledge.{Knowledge}
-use Rattle.rr_replica.specs.Cells.{Cells}
+use Rattle.rr_cells.specs.Cells.{Cells}
 use Rattle.rr_replica.specs.Standing.{Standing}
 use Rattle.rr_cluster.specs.declared.cluster.Cluster.{Cluster}
 use Rattle.rr_text.specs.declared.bytes.TheConstants.{SPACE}

@@ -11,8 +11,8 @@ use Rattle.rr_text.specs.Results.{checked, unless}
 use Rattle.rr_base.specs.Schema.{Layout}
 use Rattle.rr_model.specs.Knowledge.{Knowledge}
 use Rattle.rr_model.specs.World.{IsClosed}
-use Rattle.rr_replica.specs.Cells.{Cells}
-use Rattle.rr_replica.specs.Holding.{Holding}
+use Rattle.rr_cells.specs.Cells.{Cells}
+use Rattle.rr_cells.specs.Holding.{Holding}
 use Rattle.rr_replica.specs.Standing.{Standing, held}
 use Rattle.rr_snapshot.specs.declared.fault.LoadFault.{LoadFault}
 use Rattle.rr_snapshot.specs.declared.fault.LoadFault.TheVariants as load

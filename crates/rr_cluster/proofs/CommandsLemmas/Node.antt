@@ -22,10 +22,10 @@ use Rattle.rr_model.specs.World.{World}
 use Rattle.rr_model.proofs.Knowing.{knows-empty, knows-cell}
 use Rattle.rr_model.proofs.Orders.{cell_name_cmp_total, cell_name_cmp-IsAntisymmetric}
 use Rattle.rr_model.proofs.Writes.{nothing_is_closed}
-use Rattle.rr_replica.specs.Cells.{Cells}
+use Rattle.rr_cells.specs.Cells.{Cells}
 use Rattle.rr_replica.specs.Standing.{Standing, held}
-use Rattle.rr_replica.specs.State.{state}
-use Rattle.rr_replica.proofs.States.{get-state, no_value}
+use Rattle.rr_cells.specs.State.{state}
+use Rattle.rr_cells.proofs.States.{get-state, no_value}
 use Rattle.rr_cluster.specs.declared.cluster.Cluster.{Cluster}
 use Rattle.rr_cluster.specs.declared.fault.CommandFault.{CommandFault}
 use Rattle.rr_cluster.specs.declared.fault.CommandFault.TheVariants.{BadName, NameUsed, OriginUsed}

@@ -15,12 +15,11 @@ use Rattle.rr_model.specs.World.{IsClosed}
 use Rattle.rr_model.proofs.WholeCells.{whole_cells_are_closed}
 use Rattle.rr_page.specs.Page.{IsPage, page_text}
 use Rattle.rr_page.specs.Version.{latest}
-use Rattle.rr_replica.specs.Cells.{Cells}
-use Rattle.rr_replica.specs.Held.{IsHolding}
-use Rattle.rr_replica.specs.Holding.{Holding}
+use Rattle.rr_cells.specs.Cells.{Cells}
+use Rattle.rr_cells.specs.Holding.{IsHolding, Holding}
 use Rattle.rr_replica.specs.Standing.{Standing}
-use Rattle.rr_replica.specs.State.{state}
-use Rattle.rr_replica.proofs.Parting.{parts_are_cut}
+use Rattle.rr_cells.specs.State.{state}
+use Rattle.rr_cells.proofs.Parting.{parts_are_cut}
 use Rattle.rr_cluster.specs.declared.cluster.Cluster.{Cluster}
 use Rattle.rr_cluster.specs.declared.fault.CommandFault.{CommandFault}
 use Rattle.rr_cluster.specs.declared.fault.CommandFault.TheVariants.{BadName, NoNode, BadNumber}

@@ -15,12 +15,11 @@ use Rattle.rr_model.specs.Knowledge.{Knowledge, live}
 use Rattle.rr_model.specs.World.{IsClosed}
 use Rattle.rr_model.proofs.WholeCells.{live_is_closed}
 use Rattle.rr_page.specs.Version.{latest}
-use Rattle.rr_replica.specs.Cells.{Cells}
-use Rattle.rr_replica.specs.Held.{IsHolding}
-use Rattle.rr_replica.specs.Holding.{Holding}
+use Rattle.rr_cells.specs.Cells.{Cells}
+use Rattle.rr_cells.specs.Holding.{IsHolding, Holding}
 use Rattle.rr_replica.specs.Standing.{Standing, held}
-use Rattle.rr_replica.specs.State.{state}
-use Rattle.rr_replica.proofs.WholeCells.{live_makes_the_same}
+use Rattle.rr_cells.specs.State.{state}
+use Rattle.rr_cells.proofs.WholeCells.{live_makes_the_same}
 use Rattle.rr_snapshot.specs.declared.fault.SaveFault.{SaveFault}
 use Rattle.rr_snapshot.specs.declared.fault.SaveFault.TheVariants.{TooManyCells, WriteFailed, Memory}
 use Rattle.rr_snapshot.specs.declared.heading.TheConstants.{MAX_SNAPSHOT_CELLS}

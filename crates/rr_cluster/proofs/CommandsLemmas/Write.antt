@@ -28,11 +28,11 @@ use Rattle.rr_model.proofs.Writes.{writer_stays_closed, writer_holds_own, others
 use Rattle.rr_replica.specs.declared.fault.WriteFault.{WriteFault}
 use Rattle.rr_replica.specs.declared.fault.WriteFault.TheVariants as why
 use Rattle.rr_replica.specs.declared.fault.WriteFault.TheVariants.{AheadOfClock, NumbersSpent}
-use Rattle.rr_replica.specs.Cells.{Cells}
-use Rattle.rr_replica.specs.Holding.{Holding, with_put}
+use Rattle.rr_cells.specs.Cells.{Cells}
+use Rattle.rr_cells.specs.Holding.{Holding, with_put}
 use Rattle.rr_replica.specs.Standing.{Standing, held}
 use Rattle.rr_replica.specs.Writing.{with_fields, is_ahead, lacks_numbers, IsAfterRefusal}
-use Rattle.rr_replica.proofs.OneSampleMore.{put_is_one_sample_more}
+use Rattle.rr_cells.proofs.OneSampleMore.{put_is_one_sample_more}
 use Rattle.rr_cluster.specs.declared.cluster.Cluster.{Cluster}
 use Rattle.rr_text.specs.declared.bytes.TheConstants.{LINE_FEED, SPACE}
 use Rattle.rr_cluster.specs.declared.fault.CommandFault.{CommandFault}

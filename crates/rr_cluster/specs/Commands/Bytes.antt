@@ -6,7 +6,7 @@ use Rattle.rr_text.specs.declared.bytes.TheConstants.{LINE_FEED}
 use Rattle.rr_base.specs.Schema.{Layout}
 use Rattle.rr_page.specs.Page.{page_text}
 use Rattle.rr_page.specs.Version.{latest}
-use Rattle.rr_replica.specs.Cells.{Cells}
+use Rattle.rr_cells.specs.Cells.{Cells}
 use Rattle.rr_cluster.specs.declared.fault.CommandFault.{CommandFault}
 use Rattle.rr_cluster.specs.declared.fault.CommandFault.TheVariants.{NoPage}
 use Rattle.rr_text.specs.Results.{◌>>=◌}

@@ -1,7 +1,7 @@
 //! `bytes NAME`: prints the bytes of a page.
 
 ghost use Rattle.std.specs.Prelude.{◌≡◌, option_map};
-ghost use Rattle.rr_replica.specs.Cells.{Cells};
+ghost use Rattle.rr_cells.specs.Cells.{Cells};
 ghost use Rattle.rr_cluster.specs.Command.{view_of};
 ghost use Rattle.rr_cluster.specs.Commands.Bytes.{bytes_command, hex_of_page};
 ghost use Rattle.rr_cluster.specs.Meaning.{Represents};

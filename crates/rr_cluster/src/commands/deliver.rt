@@ -1,7 +1,7 @@
 //! `deliver NAME NODE`: joins the cells of a page into a node.
 
 ghost use Rattle.std.specs.Prelude.{◌≡◌, option_map};
-ghost use Rattle.rr_replica.specs.Cells.{Cells};
+ghost use Rattle.rr_cells.specs.Cells.{Cells};
 ghost use Rattle.rr_cluster.specs.Command.{view_of};
 ghost use Rattle.rr_cluster.specs.Commands.Deliver.{after_deliver, deliver_command};
 ghost use Rattle.rr_replica.specs.Standing.{held};

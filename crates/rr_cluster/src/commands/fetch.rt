@@ -2,7 +2,7 @@
 
 ghost use Rattle.std.specs.Prelude.{◌≡◌, option_map};
 ghost use Rattle.rr_fetch.specs.Words.{parts};
-ghost use Rattle.rr_replica.specs.Cells.{Cells};
+ghost use Rattle.rr_cells.specs.Cells.{Cells};
 ghost use Rattle.rr_cluster.specs.Command.{view_of};
 ghost use Rattle.rr_cluster.specs.Commands.Fetch.{answer_to, fetch_command};
 ghost use Rattle.rr_cluster.specs.Meaning.{Represents};

@@ -1,7 +1,7 @@
 //! `load NAME NODE ORIGIN`: makes a snapshot a node, under a new origin.
 
 ghost use Rattle.std.specs.Prelude.{◌≡◌, option_map};
-ghost use Rattle.rr_replica.specs.Cells.{Cells};
+ghost use Rattle.rr_cells.specs.Cells.{Cells};
 ghost use Rattle.rr_cluster.specs.Command.{view_of};
 ghost use Rattle.rr_cluster.specs.Commands.Load.{after_load, load_command};
 ghost use Rattle.rr_cluster.specs.Meaning.{HasSnapshotText, Leaves, Loads, Represents};

@@ -1,7 +1,7 @@
 //! `node NAME ORIGIN`: makes an empty replica.
 
 ghost use Rattle.std.specs.Prelude.{◌≡◌, option_map};
-ghost use Rattle.rr_replica.specs.Cells.{Cells};
+ghost use Rattle.rr_cells.specs.Cells.{Cells};
 ghost use Rattle.rr_cluster.specs.Command.{view_of};
 ghost use Rattle.rr_cluster.specs.Commands.Node.{after_node, node_command};
 ghost use Rattle.rr_cluster.specs.Meaning.{Leaves, Represents};

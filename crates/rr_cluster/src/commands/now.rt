@@ -1,7 +1,7 @@
 //! `now T [LEAD]`: sets the clock, and how far ahead of it a point's own time may be.
 
 ghost use Rattle.std.specs.Prelude.{◌≡◌, option_map};
-ghost use Rattle.rr_replica.specs.Cells.{Cells};
+ghost use Rattle.rr_cells.specs.Cells.{Cells};
 ghost use Rattle.rr_cluster.specs.Command.{view_of, word_of};
 ghost use Rattle.rr_cluster.specs.Commands.Now.{after_now, now_command};
 ghost use Rattle.rr_cluster.specs.Meaning.{Leaves, Represents};

@@ -1,7 +1,7 @@
 //! `save NAME NODE`: makes a snapshot of a node.
 
 ghost use Rattle.std.specs.Prelude.{◌≡◌, option_map};
-ghost use Rattle.rr_replica.specs.Cells.{Cells};
+ghost use Rattle.rr_cells.specs.Cells.{Cells};
 ghost use Rattle.rr_cluster.specs.Command.{view_of};
 ghost use Rattle.rr_cluster.specs.Commands.Save.{after_save, save_command};
 ghost use Rattle.rr_replica.specs.Standing.{held};

@@ -3,10 +3,11 @@
 use super::{SEVEN, answers};
 use rr_archive::PlainArchive;
 use rr_base::{Counted, Origin};
+use rr_cells::Cell;
 use rr_delta::{Source, Target};
 use rr_desk::{Keeper, open};
 use rr_fakes::replicas::{minutes, one_sample};
-use rr_replica::{Cell, Replica};
+use rr_replica::Replica;
 use rr_snapshot::load;
 use std::alloc::Global;
 use std::sync::Wait;

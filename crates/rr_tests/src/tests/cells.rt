@@ -1,10 +1,10 @@
 //! Cells as bytes.
 
 use rr_base::{ArchiveSpec, Origin, Schema};
+use rr_cells::CellRef;
 use rr_contrib::Contribution;
 use rr_key::SeriesKey;
 use rr_page::{PageFault, cell_bytes, read_cell};
-use rr_replica::CellRef;
 use std::test::Fail;
 
 /// The cell of the key `m v`, archive 0, slot 1 and origin 258, whose eight numbers all differ.

@@ -1,10 +1,11 @@
 //! Summaries and differences.
 
 use rr_archive::PlainArchive;
+use rr_cells::Cell;
 use rr_delta::{Name, Source, Target, difference, part, summary};
 use rr_fakes::replicas::{MINUTE, minutes};
 use rr_key::SeriesKey;
-use rr_replica::{Cell, Replica};
+use rr_replica::Replica;
 use std::alloc::Global;
 use std::test::Fail;
 

@@ -3,12 +3,13 @@
 use crate::tests::sessions::SENT;
 use rr_archive::PlainArchive;
 use rr_base::{Counted, Schema};
+use rr_cells::Cell;
 use rr_delta::Name;
 use rr_fakes::failing::failing_first;
 use rr_fakes::replicas::{MINUTE, minutes, one_sample};
 use rr_gossip::{GossipFault, Target, give, pull};
 use rr_key::SeriesKey;
-use rr_replica::{Cell, Replica};
+use rr_replica::Replica;
 use std::alloc::{AllocError, Global};
 use std::cell;
 use std::io::{ErrorKind, Read};

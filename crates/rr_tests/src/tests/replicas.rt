@@ -2,9 +2,10 @@
 
 use rr_archive::{Archive, PlainArchive};
 use rr_base::Origin;
+use rr_cells::{Op, Sample};
 use rr_fakes::replicas::{MINUTE, minutes};
 use rr_key::SeriesKey;
-use rr_replica::{Op, Replica, Sample};
+use rr_replica::Replica;
 use rr_ring::RingArchive;
 use std::alloc::Global;
 use std::test::Fail;

@@ -1,5 +1,5 @@
 use Rattle.std.proofs.Common.{◌≡◌, ◌++◌, drop, map, Option}
-use Rattle.rr_replica.specs.Cells.{Cells}
+use Rattle.rr_cells.specs.Cells.{Cells}
 use Rattle.rr_cluster.specs.Meaning.{OptionRepresents}
 use Rattle.rr_cluster.specs.Model.{cell_model}
 use Rattle.rr_cluster.specs.Output.{output_from, output_of}

@@ -1,5 +1,5 @@
 use Rattle.std.proofs.Common.{◌≡◌, map, length}
-use Rattle.rr_replica.specs.Listing.{seen_cell}
+use Rattle.rr_cells.specs.Listing.{seen_cell}
 use Rattle.rr_delta.specs.Names.{owned_name}
 use Rattle.rr_delta.specs.Difference.{names_from}
 use Rattle.rr_delta.proofs.differing.names_from.Given as goal

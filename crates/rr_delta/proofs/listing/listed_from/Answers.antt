@@ -3,7 +3,7 @@ use Rattle.std.specs.List.{filter}
 use Rattle.std.specs.Option.{option_map}
 use Rattle.std.specs.FinMap.{entries, entries_sorted}
 use Rattle.std.proofs.lemmas.List.{map_push}
-use Rattle.rr_replica.specs.Listing.{seen_cell}
+use Rattle.rr_cells.specs.Listing.{seen_cell}
 use Rattle.rr_replica.proofs.NextCell.{is_past}
 use Rattle.rr_delta.specs.Names.{named_version, owned_name}
 use Rattle.rr_delta.specs.Summaries.{cells_from}

@@ -1,7 +1,7 @@
 use Rattle.std.proofs.Common.{◌≡◌, ◌-◌, map, take, Some}
 use Rattle.std.specs.Option.{option_map}
 use Rattle.std.specs.FinMap.{entries}
-use Rattle.rr_replica.specs.Listing.{seen_cell}
+use Rattle.rr_cells.specs.Listing.{seen_cell}
 use Rattle.rr_delta.specs.Names.{named_version, owned_name}
 use Rattle.rr_delta.specs.Summaries.{cells_from}
 use Rattle.rr_delta.proofs.SummaryLemmas.{listed_so_far}

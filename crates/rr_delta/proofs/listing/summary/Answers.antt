@@ -2,7 +2,7 @@ use Rattle.std.proofs.Common.{◌≡◌, [], map, take, drop, sym, ap, ◌∙◌
 use Rattle.std.specs.Option.{option_map}
 use Rattle.std.specs.FinMap.{entries, entries_sorted}
 use Rattle.std.specs.List.{drop-map}
-use Rattle.rr_replica.specs.Listing.{seen_cell}
+use Rattle.rr_cells.specs.Listing.{seen_cell}
 use Rattle.rr_delta.specs.Names.{IsNameOf, named_version, owned_name, versions_of}
 use Rattle.rr_delta.specs.Summaries.{cells_from}
 use Rattle.rr_replica.specs.Standing.{held}

@@ -1,7 +1,7 @@
 use Rattle.std.proofs.Common.{rules, ◌≡◌, [], map, take, sym, ap, ◌∙◌, subst, to_z, of_z, w64, Some, IfOk}
 use Rattle.std.specs.Option.{option_map}
 use Rattle.std.specs.FinMap.{entries, entries_sorted}
-use Rattle.rr_replica.specs.Listing.{seen_cell, first_after}
+use Rattle.rr_cells.specs.Listing.{seen_cell, first_after}
 use Rattle.rr_delta.specs.Names.{IsNameOf, name_in, named_version, owned_name}
 use Rattle.rr_delta.specs.Summaries.{cells_after, cells_from}
 use Rattle.rr_replica.specs.Standing.{held}

@@ -1,6 +1,6 @@
 use Rattle.std.proofs.Common.{rules, ◌≡◌, [], ◌∷◌, ◌++◌, sym, ap, ◌∙◌, subst}
 use Rattle.left_right.specs.Sides.{view}
-use Rattle.rr_replica.specs.Holding.{Holding}
+use Rattle.rr_cells.specs.Holding.{Holding}
 use Rattle.rr_replica.specs.Standing.{held}
 use Rattle.rr_desk.specs.declared.rule.View.{View}
 use Rattle.rr_desk.specs.declared.shown.Change.TheVariants.{Mark}

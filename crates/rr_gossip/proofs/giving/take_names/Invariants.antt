@@ -1,6 +1,6 @@
 use Rattle.std.proofs.Common.{◌≡◌, ◌≤◌, ◌-◌, List, ℕ, Ok, length}
 use Rattle.rr_base.specs.Counted.{inner_of, failures_of}
-use Rattle.rr_replica.specs.Cells.{Cells}
+use Rattle.rr_cells.specs.Cells.{Cells}
 use Rattle.rr_gossip.specs.Stream.{WasRead}
 use Rattle.rr_gossip.specs.Transcript.{contents, giver_after}
 use Rattle.rr_gossip.proofs.giving.take_names.Given as goal

@@ -1,9 +1,9 @@
 use Rattle.std.proofs.Common.{rules, ◌≡◌, ◌∙◌, [], ◌∷◌, ◌++◌, map, take, get_or, sym, ap, subst}
 use Rattle.std.specs.List.{take-map}
 use Rattle.std.proofs.lemmas.List.{take_more, map_push}
-use Rattle.rr_replica.specs.CellBounds.{IsCellOf}
-use Rattle.rr_replica.specs.Joins.{join_cell, join_cells}
-use Rattle.rr_replica.specs.Listing.{owned_cell}
+use Rattle.rr_cells.specs.CellBounds.{IsCellOf}
+use Rattle.rr_cells.specs.Joins.{join_cell, join_cells}
+use Rattle.rr_cells.specs.Listing.{owned_cell}
 use Rattle.rr_gossip.proofs.JoinLemmas.{join_cells-more, on_err}
 use Rattle.rr_gossip.proofs.joining.join_all.Goals as goal
 

@@ -1,6 +1,6 @@
 use Rattle.std.proofs.Common.{◌≡◌, map, take}
-use Rattle.rr_replica.specs.Joins.{join_cells}
-use Rattle.rr_replica.specs.Listing.{owned_cell}
+use Rattle.rr_cells.specs.Joins.{join_cells}
+use Rattle.rr_cells.specs.Listing.{owned_cell}
 use Rattle.rr_gossip.proofs.joining.join_all.Given as goal
 
 -- the cells so far are joined

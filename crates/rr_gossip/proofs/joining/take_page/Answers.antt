@@ -1,8 +1,8 @@
 use Rattle.std.proofs.Common.{rules, ◌≡◌, Ok, Err, All, map, take, sym, ap, ◌∙◌, subst}
 use Rattle.rr_page.specs.PageReading.{page_at}
-use Rattle.rr_replica.specs.CellBounds.{IsCellOf}
-use Rattle.rr_replica.specs.Joins.{join_cells}
-use Rattle.rr_replica.specs.Listing.{owned_cell}
+use Rattle.rr_cells.specs.CellBounds.{IsCellOf}
+use Rattle.rr_cells.specs.Joins.{join_cells}
+use Rattle.rr_cells.specs.Listing.{owned_cell}
 use Rattle.rr_gossip.specs.declared.fault.GossipFault.TheVariants.{Memory}
 use Rattle.rr_gossip.specs.declared.puller.Stage.TheVariants.{Waiting}
 use Rattle.rr_gossip.specs.Puller.{page_taken}

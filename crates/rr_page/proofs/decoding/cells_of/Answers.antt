@@ -1,7 +1,7 @@
 use Rattle.std.proofs.Common.{◌≡◌, ◌++◌, ◌∷◌, [], ◌∙◌, sym, ap, map, None, inl, inr, true, false}
 use Rattle.std.proofs.lemmas.Result.{err_from_is_err_and}
 use Rattle.std.proofs.lemmas.List.{map_push}
-use Rattle.rr_replica.specs.Listing.{owned_cell}
+use Rattle.rr_cells.specs.Listing.{owned_cell}
 use Rattle.rr_page.specs.PageReading.{is_after, last_name, cells_at}
 use Rattle.rr_page.proofs.LoopLemmas.{goes_on, ends, falls, is_done}
 use Rattle.rr_page.proofs.decoding.cells_of.Goals as goal

@@ -1,5 +1,5 @@
 use Rattle.std.proofs.Common.{◌≡◌, ◌-◌, map, None}
-use Rattle.rr_replica.specs.Listing.{owned_cell}
+use Rattle.rr_cells.specs.Listing.{owned_cell}
 use Rattle.rr_page.specs.PageReading.{last_name, cells_at}
 use Rattle.rr_page.proofs.LoopLemmas.{with_front}
 use Rattle.rr_page.proofs.decoding.cells_of.Given as goal

@@ -1,6 +1,6 @@
 use Rattle.std.proofs.Common.{arith, map, subst}
-use Rattle.rr_text.specs.Results.{GivesUnless}
-use Rattle.rr_replica.specs.Listing.{owned_cell}
+use Rattle.rr_base.specs.Results.{GivesUnless}
+use Rattle.rr_cells.specs.Listing.{owned_cell}
 use Rattle.rr_page.specs.declared.fault.PageFault.TheVariants.{Memory}
 use Rattle.rr_page.proofs.FieldLemmas.{AreBytes-from_get_or}
 use Rattle.rr_page.proofs.PageLemmas.{page_found, page_again, cells_found}

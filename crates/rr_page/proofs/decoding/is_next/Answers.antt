@@ -1,5 +1,5 @@
 use Rattle.std.proofs.Common.{ap, sym, ◌∙◌}
-use Rattle.rr_replica.specs.Listing.{owned_cell}
+use Rattle.rr_cells.specs.Listing.{owned_cell}
 use Rattle.rr_page.specs.PageReading.{is_after}
 use Rattle.rr_page.proofs.LoopLemmas.{last_name_is}
 use Rattle.rr_page.proofs.decoding.is_next.Goals as goal

@@ -1,6 +1,6 @@
 use Rattle.std.proofs.Common.{◌≡◌, ◌++◌, length, take, map}
 use Rattle.std.specs.List.{flat_map}
-use Rattle.rr_replica.specs.Listing.{owned_cell}
+use Rattle.rr_cells.specs.Listing.{owned_cell}
 use Rattle.rr_page.specs.CellText.{cell_text}
 use Rattle.rr_page.specs.Page.{head_text}
 use Rattle.rr_page.specs.Version.{latest}

@@ -1,5 +1,5 @@
 use Rattle.std.proofs.Common.{arith}
-use Rattle.rr_replica.specs.Listing.{owned_cell}
+use Rattle.rr_cells.specs.Listing.{owned_cell}
 use Rattle.rr_page.proofs.FieldLemmas.{AreBytes-from_get_or}
 use Rattle.rr_page.proofs.CellLemmas.{rest_fits, len_read, rest_read, text_read, cell_bounded}
 use Rattle.rr_page.specs.Version.{latest}

@@ -1,5 +1,5 @@
 use Rattle.std.proofs.Common.{rules, ◌≡◌, ◌∙◌, length, ap}
-use Rattle.rr_replica.specs.CellBounds.{NamedCell}
+use Rattle.rr_cells.specs.CellBounds.{NamedCell}
 use Rattle.rr_page.specs.CellText.{cell_text}
 use Rattle.rr_page.specs.Version.{latest}
 use Rattle.rr_page.proofs.LengthLemmas.{cell_len}

@@ -1,6 +1,6 @@
 use Rattle.std.proofs.Common.{rules, ◌≡◌, sym, subst, to_z, of_z, w64}
 use Rattle.std.specs.Prelude.{OnOk}
-use Rattle.rr_replica.specs.declared.op.Op.{Op}
+use Rattle.rr_cells.specs.declared.op.Op.{Op}
 use Rattle.rr_replica.specs.Archives.{HaveRoomFor}
 use Rattle.rr_replica.proofs.archives.make_room.Goals as goal
 

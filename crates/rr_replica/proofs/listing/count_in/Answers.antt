@@ -1,6 +1,6 @@
 use Rattle.std.proofs.Common.{rules, ◌≡◌, ◌<◌, ◌≤◌, ◌+◌, arith, length, get_or, min, map, take, ap, ◌∙◌}
 use Rattle.std.specs.FinMap as fin
-use Rattle.rr_replica.specs.Listing.{count_of, at_most_usize}
+use Rattle.rr_cells.specs.Listing.{count_of, at_most_usize}
 use Rattle.rr_replica.proofs.Counted.{at_most-sum, count_more, take_all}
 use Rattle.rr_replica.proofs.listing.count_in.Goals as goal
 

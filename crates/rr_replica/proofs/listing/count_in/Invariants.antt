@@ -1,5 +1,5 @@
 use Rattle.std.proofs.Common.{◌≡◌, ◌+◌, map, take}
-use Rattle.rr_replica.specs.Listing.{count_of, at_most_usize}
+use Rattle.rr_cells.specs.Listing.{count_of, at_most_usize}
 use Rattle.rr_replica.proofs.listing.count_in.Given as goal
 
 abbrev pub invariant-loop-archive : goal.invariant-loop-archive

@@ -2,7 +2,7 @@ use Rattle.std.proofs.Common.{rules, ◌≡◌, map, Some, ap, sym, ◌∙◌, t
 use Rattle.std.specs.Option.{option_map}
 use Rattle.rr_archive.specs.CellSlots.{cell_slot}
 use Rattle.rr_archive.specs.Cells.{cell_of, next_cell}
-use Rattle.rr_replica.specs.CellBounds.{NamedCell}
+use Rattle.rr_cells.specs.CellBounds.{NamedCell}
 use Rattle.rr_replica.proofs.NextCell.{same_key, next_key_is_later, later_cells, own_found, own_none, own_past}
 use Rattle.rr_replica.proofs.next.next_in.Goals as goal
 

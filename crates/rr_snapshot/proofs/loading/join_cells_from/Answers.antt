@@ -7,7 +7,7 @@ use Rattle.rr_base.specs.Counted.{inner_of}
 use Rattle.rr_model.specs.CellNames.{CellName}
 use Rattle.rr_page.specs.PageReading.{is_after, last_name}
 use Rattle.rr_page.proofs.LoopLemmas.{last_name_push}
-use Rattle.rr_replica.specs.Listing.{owned_cell}
+use Rattle.rr_cells.specs.Listing.{owned_cell}
 use Rattle.rr_replica.specs.Standing.{held}
 use Rattle.rr_snapshot.specs.Loading.{HasJoined}
 use Rattle.rr_snapshot.proofs.FrontLemmas.{none_read, read_then}

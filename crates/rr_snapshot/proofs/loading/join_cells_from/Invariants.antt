@@ -3,8 +3,8 @@ use Rattle.std.specs.Option.{option_map}
 use Rattle.rr_base.specs.Counted.{inner_of, failures_of}
 use Rattle.rr_base.specs.Stream.{ConsumesSome}
 use Rattle.rr_page.specs.PageReading.{last_name}
-use Rattle.rr_replica.specs.CellBounds.{NamedCell}
-use Rattle.rr_replica.specs.Listing.{owned_cell}
+use Rattle.rr_cells.specs.CellBounds.{NamedCell}
+use Rattle.rr_cells.specs.Listing.{owned_cell}
 use Rattle.rr_replica.specs.Standing.{held}
 use Rattle.rr_snapshot.specs.Loading.{HasJoined}
 use Rattle.rr_snapshot.specs.Stream.{Digests}

@@ -5,7 +5,7 @@ use Rattle.std.proofs.lemmas.Result.{err_from_is_err_and}
 use Rattle.rr_base.specs.Counted.{inner_of}
 use Rattle.rr_base.specs.Schema.{Layout}
 use Rattle.rr_page.specs.PageReading.{cells_at}
-use Rattle.rr_replica.specs.Holding.{Holding}
+use Rattle.rr_cells.specs.Holding.{Holding}
 use Rattle.rr_replica.specs.Standing.{held}
 use Rattle.rr_snapshot.specs.Loading.{is_among}
 use Rattle.rr_snapshot.specs.SnapshotReading.{as_in_page}

@@ -8,7 +8,7 @@ use Rattle.sha2.specs.Hashers.{Holds256}
 use Rattle.rr_base.specs.Counted.{inner_of}
 use Rattle.rr_page.specs.CellText.{cell_text}
 use Rattle.rr_page.specs.Version.{latest}
-use Rattle.rr_replica.specs.Listing.{seen_cell}
+use Rattle.rr_cells.specs.Listing.{seen_cell}
 use Rattle.rr_replica.proofs.InTurn.{next_of_sorted}
 use Rattle.rr_snapshot.proofs.WriteLemmas.{text_more, cells_front, whole_is_front, all_taken, none_left}
 use Rattle.rr_snapshot.proofs.saving.write_cells.Goals as goal

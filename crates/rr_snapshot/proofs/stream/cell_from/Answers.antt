@@ -3,7 +3,7 @@ use Rattle.rr_snapshot.specs.Fault.{load_fault}
 use Rattle.std.proofs.lemmas.List.{length-take}
 use Rattle.std.proofs.lemmas.Result.{err_from_is_err_and}
 use Rattle.rr_base.specs.Counted.{inner_of}
-use Rattle.rr_replica.specs.Listing.{owned_cell}
+use Rattle.rr_cells.specs.Listing.{owned_cell}
 use Rattle.rr_snapshot.proofs.FrontLemmas.{read_then}
 use Rattle.rr_snapshot.proofs.StreamLemmas.{stream_ok, stream_err}
 use Rattle.rr_snapshot.proofs.stream.cell_from.Goals as goal

@@ -1,6 +1,6 @@
 use Rattle.std.proofs.Common.{ap, refl, sym, ◌∙◌}
 use Rattle.std.proofs.lemmas.Result.{err_from_is_err_and}
-use Rattle.rr_replica.specs.Holding.{Holding}
+use Rattle.rr_cells.specs.Holding.{Holding}
 use Rattle.rr_cluster.specs.Commands.Node.{new_node}
 use Rattle.rr_cluster.specs.Model.{cell_model}
 use Rattle.rr_cluster.proofs.CommandsLemmas.Node.{bad_name, used_name, bad_origin, used_origin, node_is_new, new_replica, represents_with_node}

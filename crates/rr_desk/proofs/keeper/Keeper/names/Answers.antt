@@ -1,6 +1,6 @@
 use Rattle.std.proofs.Common.{◌≡◌, All, IfOk, ap, drop, map, subst, take}
 use Rattle.rr_base.specs.Schema.{Layout}
-use Rattle.rr_replica.specs.Cells.{Cells}
+use Rattle.rr_cells.specs.Cells.{Cells}
 use Rattle.rr_delta.specs.Names.{IsNameOf, owned_name, versions_of}
 use Rattle.rr_desk.proofs.StandingLemmas.{cells-state}
 use Rattle.rr_desk.proofs.keeper.Keeper.names.Goals as goal

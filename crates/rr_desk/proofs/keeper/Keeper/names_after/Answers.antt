@@ -1,7 +1,7 @@
 use Rattle.std.proofs.Common.{◌≡◌, All, IfOk, ap, map, subst, take}
 use Rattle.std.specs.FinMap.{entries}
 use Rattle.rr_base.specs.Schema.{Layout}
-use Rattle.rr_replica.specs.Cells.{Cells}
+use Rattle.rr_cells.specs.Cells.{Cells}
 use Rattle.rr_delta.specs.Names.{IsNameOf, name_in, named_version, owned_name}
 use Rattle.rr_delta.specs.Summaries.{cells_after}
 use Rattle.rr_desk.proofs.StandingLemmas.{cells-state}

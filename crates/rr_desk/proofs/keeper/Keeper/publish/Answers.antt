@@ -1,7 +1,7 @@
 use Rattle.std.proofs.Common.{rules, true, ◌≡◌, [], ◌++◌, fold, sym, subst}
 use Rattle.left_right.specs.Sides.{view}
-use Rattle.rr_replica.specs.Holding.{Holding}
-use Rattle.rr_replica.specs.Operations.{step}
+use Rattle.rr_cells.specs.Holding.{Holding}
+use Rattle.rr_cells.specs.Operations.{step}
 use Rattle.rr_replica.specs.Standing.{held}
 use Rattle.rr_desk.specs.declared.rule.View.{View}
 use Rattle.rr_desk.specs.declared.shown.Shown.{Shown}

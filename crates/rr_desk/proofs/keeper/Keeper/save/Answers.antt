@@ -4,8 +4,8 @@ use Rattle.std.specs.Io.KnownBytes.{Appends}
 use Rattle.rr_base.specs.Counted.{inner_of}
 use Rattle.rr_base.specs.Stream.{AppendsPrefix}
 use Rattle.rr_page.specs.Version.{latest}
-use Rattle.rr_replica.specs.Cells.{Cells}
-use Rattle.rr_replica.specs.Holding.{Holding}
+use Rattle.rr_cells.specs.Cells.{Cells}
+use Rattle.rr_cells.specs.Holding.{Holding}
 use Rattle.rr_snapshot.specs.Snapshot.{snapshot_text}
 use Rattle.rr_snapshot.specs.declared.fault.SaveFault.TheVariants.{TooManyCells}
 use Rattle.rr_snapshot.specs.declared.heading.TheConstants.{MAX_SNAPSHOT_CELLS}

@@ -1,6 +1,6 @@
 use Rattle.std.proofs.Common.{All, subst, sym, ◌∙◌}
-use Rattle.rr_replica.specs.CellBounds.{IsCellOf}
-use Rattle.rr_replica.specs.Listing.{owned_cell}
+use Rattle.rr_cells.specs.CellBounds.{IsCellOf}
+use Rattle.rr_cells.specs.Listing.{owned_cell}
 use Rattle.rr_gossip.proofs.giver.Stage.take_end.Goals as goal
 
 pub new-requires-clause-of_schema : goal.new-requires-clause-of_schema

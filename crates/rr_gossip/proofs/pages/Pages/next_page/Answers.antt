@@ -1,7 +1,7 @@
 use Rattle.std.proofs.Common.{◌<◌, map, take, drop, length, sym, ap, ◌∙◌, subst, Some}
 use Rattle.rr_text.specs.declared.limits.TheConstants.{MAX_PAGE_CELLS}
 use Rattle.rr_page.specs.Page.{IsPage}
-use Rattle.rr_replica.specs.Listing.{owned_cell}
+use Rattle.rr_cells.specs.Listing.{owned_cell}
 use Rattle.rr_gossip.specs.declared.frame.TheConstants.{MAX_FRAME_LEN}
 use Rattle.rr_gossip.specs.Pages.{AreLeft, next_page, after_page}
 use Rattle.rr_gossip.proofs.LengthLemmas.{page_fits}

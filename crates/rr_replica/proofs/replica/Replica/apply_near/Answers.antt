@@ -1,5 +1,5 @@
 use Rattle.std.proofs.Common.{subst}
-use Rattle.rr_replica.specs.declared.op.Op.{Op}
+use Rattle.rr_cells.specs.declared.op.Op.{Op}
 use Rattle.rr_replica.specs.Archives.{IsOpOf}
 use Rattle.rr_replica.proofs.replica.Replica.apply_near.Goals as goal
 

@@ -1,12 +1,12 @@
 use Rattle.std.proofs.Common.{subst}
 use Rattle.std.specs.Prelude.{IfSome}
-use Rattle.rr_replica.specs.SeriesMap.{entries_of}
-use Rattle.rr_replica.specs.CellBounds.{IsCellOf}
+use Rattle.rr_series.specs.SeriesMap.{entries_of}
+use Rattle.rr_cells.specs.CellBounds.{IsCellOf}
 use Rattle.rr_replica.specs.Held.{holding_of}
 use Rattle.rr_replica.specs.Standing.{Standing}
-use Rattle.rr_replica.specs.Listing.{seen_cell}
+use Rattle.rr_cells.specs.Listing.{seen_cell}
 use Rattle.rr_replica.proofs.Counted.{few_held}
-use Rattle.rr_replica.proofs.HeldCells.{at_held}
+use Rattle.rr_cells.proofs.HeldCells.{at_held}
 use Rattle.rr_replica.proofs.replica.Replica.cell_at.Goals as goal
 
 pub nth_cell-requires-clause-few_archives : goal.nth_cell-requires-clause-few_archives

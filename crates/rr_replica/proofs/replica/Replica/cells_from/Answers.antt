@@ -1,9 +1,9 @@
 use Rattle.std.proofs.Common.{rules, ◌≡◌, ◌+◌, [], ◌∷◌, ◌++◌, map, take, drop, slice_get, Some, None, sym, ap, ◌∙◌, to_z, of_z, w64, arith}
 use Rattle.std.specs.Option.{option_map}
 use Rattle.std.specs.FinMap as fin
-use Rattle.rr_replica.specs.Listing.{seen_cell, owned_cell}
+use Rattle.rr_cells.specs.Listing.{seen_cell, owned_cell}
 use Rattle.rr_replica.specs.Standing.{held}
-use Rattle.rr_replica.proofs.HeldCells.{listed_held}
+use Rattle.rr_cells.proofs.HeldCells.{listed_held}
 use Rattle.rr_replica.proofs.InTurn.{next_of_sorted, taken_more, taken_all, map-last}
 use Rattle.rr_replica.proofs.replica.Replica.cells_from.Goals as goal
 

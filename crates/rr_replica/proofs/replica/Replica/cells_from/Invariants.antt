@@ -1,7 +1,7 @@
 use Rattle.std.proofs.Common.{◌≡◌, ◌+◌, map, take, drop, slice_get}
 use Rattle.std.specs.Option.{option_map}
 use Rattle.std.specs.FinMap as fin
-use Rattle.rr_replica.specs.Listing.{seen_cell, owned_cell}
+use Rattle.rr_cells.specs.Listing.{seen_cell, owned_cell}
 use Rattle.rr_replica.proofs.replica.Replica.cells_from.Given as goal
 
 -- the cells so far, and the one after them

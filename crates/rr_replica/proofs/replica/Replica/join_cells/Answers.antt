@@ -1,10 +1,10 @@
 -- The cells so far are joined, each to what the ones before left.
 use Rattle.std.proofs.Common.{rules, ◌≡◌, ◌∙◌, [], ◌∷◌, ◌++◌, take, get_or, sym, ap, subst, arith}
 use Rattle.std.proofs.lemmas.List.{take_more}
-use Rattle.rr_replica.specs.Holding.{Holding}
-use Rattle.rr_replica.specs.CellBounds.{IsCellOf}
-use Rattle.rr_replica.specs.Joining.{with_cell, with_cells}
-use Rattle.rr_replica.specs.Listing.{owned_cell}
+use Rattle.rr_cells.specs.Holding.{Holding}
+use Rattle.rr_cells.specs.CellBounds.{IsCellOf}
+use Rattle.rr_cells.specs.Joining.{with_cell, with_cells}
+use Rattle.rr_cells.specs.Listing.{owned_cell}
 use Rattle.rr_replica.specs.Standing.{held}
 use Rattle.rr_replica.proofs.FieldLemmas.{passed}
 use Rattle.rr_replica.proofs.JoinedCell.{with_cells-more}

@@ -1,5 +1,5 @@
 use Rattle.std.proofs.Common.{◌≡◌, take}
-use Rattle.rr_replica.specs.Joining.{with_cells}
+use Rattle.rr_cells.specs.Joining.{with_cells}
 use Rattle.rr_replica.specs.Standing.{held}
 use Rattle.rr_replica.proofs.replica.Replica.join_cells.Given as goal
 

@@ -1,0 +1,17 @@
+pub mod Local
+pub mod PutsLemmas
+pub mod CellBoundsLemmas
+pub mod Slots
+pub mod PutLaws
+pub mod HoldingLemmas
+pub mod HeldCells
+pub mod Values
+pub mod States
+pub mod OneSampleMore
+pub mod Uniting
+pub mod JoinLaws
+pub mod WholeCells
+pub mod Differing
+pub mod CellByCell
+pub mod Parting
+pub mod OperationsLemmas

@@ -1,0 +1,115 @@
+-- The laws of puts and joins, each the contract of a function of `src/laws.rt`.
+use Rattle.std.specs.Prelude.{◌≡◌, ◌≢◌, Bool, ℕ, ◌*◌, ◌<◌, ◌≤◌, List, length, Some, IsFalse, take, drop}
+use Rattle.std.specs.Ordering.{eq_by_cmp}
+use Rattle.std.specs.FinMap.{get, keys, len, entries, retain_keys}
+use Rattle.rr_base.specs.Schema.{Layout, IsLayout, archive_at, slot_of}
+use Rattle.rr_contrib.specs.declared.contribution.Contribution.{Contribution}
+use Rattle.rr_archive.specs.Cells.{put_row, join_rows}
+use Rattle.rr_model.specs.CellNames.{CellName, cell_name_cmp, is_slot_live}
+use Rattle.rr_model.specs.Samples.{Sample, Mark, name_of}
+use Rattle.rr_cells.specs.Cells.{Cells, IsTrimmed, cell_slot_of, rows_at}
+use Rattle.rr_model.specs.Knowledge.{Knowledge, union, live, cells_where, part, difference}
+use Rattle.rr_model.specs.World.{World, IsClosed}
+use Rattle.rr_cells.specs.Puts.{seen, put_sample}
+use Rattle.rr_cells.specs.Joins.{join, join_cell, join_cells}
+use Rattle.rr_cells.specs.State.{state}
+use Rattle.rr_cells.specs.Versions.{newer_names}
+
+-- the sample in an archive
+abbrev pub mark_in : Sample → ℕ → Mark
+mark_in x archive = record { sample = x; archive = archive }
+
+-- a put is a put into each archive of the sample's key
+abbrev pub PutGoesByArchives : Type 0
+PutGoesByArchives =
+    (s : Layout) (m : Cells) (x : Sample) (archive : ℕ) → IsLayout s → IsTrimmed s m → archive < length s.archives
+    → rows_at (put_sample s m x) x.key archive
+    ≡ put_row (archive_at s archive).rows (rows_at m x.key archive) (cell_slot_of (name_of s (mark_in x archive))) (seen s (mark_in x archive))
+
+-- and changes no other key
+abbrev pub PutLeavesOtherKeys : Type 0
+PutLeavesOtherKeys =
+    (s : Layout) (m : Cells) (x : Sample) (key : List ℕ) (archive : ℕ) → IsLayout s → IsTrimmed s m → x.key ≢ key
+    → rows_at (put_sample s m x) key archive ≡ rows_at m key archive
+
+-- a sample whose slot is past the horizon of an archive leaves no trace there
+abbrev pub DeadLeaveNoTrace : Type 0
+DeadLeaveNoTrace =
+    (s : Layout) (m : Cells) (x : Sample) (archive : ℕ) → IsLayout s → IsTrimmed s m → archive < length s.archives
+    → IsFalse (is_slot_live s (keys m) x.key archive (slot_of s archive x.time))
+    → rows_at (put_sample s m x) x.key archive ≡ rows_at m x.key archive
+
+-- what a put leaves is trimmed
+abbrev pub PutIsTrimmed : Type 0
+PutIsTrimmed = (s : Layout) (m : Cells) (x : Sample) → IsLayout s → IsTrimmed s m → IsTrimmed s (put_sample s m x)
+
+-- in each archive of each key the live cells are at most as many as its rows times the origins
+abbrev pub CellsAreFew : Type 0
+CellsAreFew =
+    (s : Layout) (m : Cells) (key : List ℕ) (archive origins : ℕ) → IsLayout s → IsTrimmed s m
+    → ((n : CellName) (c : Contribution) → get m n ≡ Some c → (1 ≤ n.origin) × (n.origin ≤ origins))
+    → len (rows_at m key archive) ≤ (archive_at s archive).rows * origins
+
+-- ---- joins
+
+abbrev pub JoinIsCommutative : Type 0
+JoinIsCommutative = (s : Layout) (m n : Cells) → IsLayout s → join s m n ≡ join s n m
+
+abbrev pub JoinIsAssociative : Type 0
+JoinIsAssociative = (s : Layout) (l m n : Cells) → IsLayout s → join s (join s l m) n ≡ join s l (join s m n)
+
+abbrev pub JoinIsIdempotent : Type 0
+JoinIsIdempotent = (s : Layout) (m : Cells) → IsLayout s → IsTrimmed s m → join s m m ≡ m
+
+-- what the join gives is trimmed
+abbrev pub JoinIsTrimmed : Type 0
+JoinIsTrimmed = (s : Layout) (m n : Cells) → IsLayout s → IsTrimmed s (join s m n)
+
+-- a join is a join of each archive of each key
+abbrev pub JoinGoesByArchives : Type 0
+JoinGoesByArchives =
+    (s : Layout) (m n : Cells) (key : List ℕ) (archive : ℕ) → IsLayout s
+    → rows_at (join s m n) key archive ≡ join_rows (archive_at s archive).rows (rows_at m key archive) (rows_at n key archive)
+
+-- to join the cells of two closed knowledges is to unite what is known, through the horizon
+abbrev pub JoinUnites : Type 0
+JoinUnites =
+    (s : Layout) (w : World) (k l : Knowledge) → IsLayout s → IsClosed s w k → IsClosed s w l
+    → join s (state s k) (state s l) ≡ state s (union k l)
+
+-- to join a map cell by cell is to join it
+abbrev pub JoinGoesByCells : Type 0
+JoinGoesByCells = (s : Layout) (m n : Cells) → IsLayout s → IsTrimmed s m → join_cells s m (entries n) ≡ join s m n
+
+-- to join one cell of a closed knowledge is to know that cell's marks
+abbrev pub JoinCellUnites : Type 0
+JoinCellUnites =
+    (s : Layout) (w : World) (k l : Knowledge) (n : CellName) (c : Contribution) → IsLayout s → IsClosed s w k → IsClosed s w l
+    → get (state s l) n ≡ Some c
+    → join_cell s (state s k) n c ≡ state s (union k (cells_where s l (eq_by_cmp cell_name_cmp n)))
+
+-- ---- whole cells, and differences
+
+-- the cells of a part are those from a place on, as many as there are up to a count
+abbrev pub PartsAreCutFromEntries : Type 0
+PartsAreCutFromEntries =
+    (s : Layout) (k : Knowledge) (from count : ℕ) → IsLayout s
+    → entries (state s (part s k from count)) ≡ take count (drop from (entries (state s k)))
+
+-- whole live cells make their own cells
+abbrev pub WholeCellsMakeTheirCells : Type 0
+WholeCellsMakeTheirCells = (s : Layout) (k : Knowledge) (test : CellName → Bool) → IsLayout s → state s (cells_where s k test) ≡ retain_keys (state s k) test
+
+-- the live marks make the same cells
+abbrev pub LiveMakesTheSame : Type 0
+LiveMakesTheSame = (s : Layout) (k : Knowledge) → IsLayout s → state s (live s k) ≡ state s k
+
+-- so two that have the same live marks make the same cells
+abbrev pub StateIsOfTheLive : Type 0
+StateIsOfTheLive = (s : Layout) (k l : Knowledge) → IsLayout s → live s k ≡ live s l → state s k ≡ state s l
+
+-- of closed knowledges the difference is read from the versions
+abbrev pub DifferenceIsByVersions : Type 0
+DifferenceIsByVersions =
+    (s : Layout) (w : World) (k l : Knowledge) → IsLayout s → IsClosed s w k → IsClosed s w l
+    → newer_names (state s k) (state s l) ≡ difference s k l

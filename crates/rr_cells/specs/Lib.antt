@@ -1,0 +1,11 @@
+pub mod Cells
+pub mod CellBounds
+pub mod Puts
+pub mod Joins
+pub mod Holding
+pub mod Listing
+pub mod Joining
+pub mod Operations
+pub mod State
+pub mod Versions
+pub mod Laws

@@ -1,0 +1,66 @@
+-- Operations, and what they make of a replica and of cells alone.
+use Rattle.std.specs.Prelude.{◌≡◌, ℕ, nat_le, Bool, true, ◌==◌, ◌&&◌, if◌then◌else◌, List, [], ◌∷◌, map, fold}
+use Rattle.std.specs.FinMap.{empty, entries}
+use Rattle.rr_text.specs.declared.limits.TheConstants.{MAX_NUMBER}
+use Rattle.rr_base.specs.Schema.{Layout}
+use Rattle.rr_model.specs.Samples as model
+use Rattle.rr_cells.specs.declared.sample.Sample.{Sample}
+use Rattle.rr_cells.specs.declared.cell.Cell.{Cell}
+use Rattle.rr_cells.specs.declared.op.Op.{Op}
+use Rattle.rr_cells.specs.declared.op.Op.TheVariants.{Put, Join}
+use Rattle.rr_cells.specs.CellBounds.{NamedCell, is_cell_of}
+use Rattle.rr_cells.specs.Cells.{Cells}
+use Rattle.rr_cells.specs.Puts.{put_sample}
+use Rattle.rr_cells.specs.Joins.{join_cell}
+use Rattle.rr_cells.specs.Listing.{owned_cell}
+use Rattle.rr_cells.specs.Holding.{Holding, with_sample}
+use Rattle.rr_cells.specs.Joining.{with_cell}
+
+-- the sample of an operation, as the model has it
+abbrev pub sample_of : Sample → model.Sample
+sample_of x = record { time = x.time; origin = x.origin; number = x.number; key = x.key; value = x.value }
+
+abbrev pub key_of : Op → List ℕ
+key_of (Put x) = x.key
+key_of (Join c) = c.key
+
+-- ---- a replica
+
+-- whether a replica takes an operation: a sample of its own origin under the next number or a later one, up to 2^40,
+-- and a valid cell of its schema
+abbrev pub accepts : Holding → Op → Bool
+accepts h (Put x) = x.origin == h.origin && (nat_le h.next x.number && nat_le x.number MAX_NUMBER)
+accepts h (Join c) = is_cell_of h.schema (owned_cell c)
+
+-- with an operation applied
+abbrev pub applied : Holding → Op → Holding
+applied h (Put x) = with_sample h (sample_of x)
+applied h (Join c) = with_cell h c
+
+-- after an operation: one that isn't taken changes nothing
+abbrev pub step : Holding → Op → Holding
+step h op = if accepts h op then applied h op else h
+
+-- each operation is taken where its turn comes
+abbrev pub AllAccepted : Holding → List Op → Type 0
+AllAccepted h [] = Unit {0}
+AllAccepted h (op ∷ ops) = (accepts h op ≡ true) × AllAccepted (step h op) ops
+
+-- ---- cells alone
+
+-- after an operation that is taken
+abbrev pub cell_step : Layout → Cells → Op → Cells
+cell_step s m (Put x) = put_sample s m (sample_of x)
+cell_step s m (Join c) = join_cell s m (owned_cell c).0 c.contribution
+
+-- the cells after a list of operations, from none
+abbrev pub outcome_of : Layout → List Op → Cells
+outcome_of s ops = fold (cell_step s) empty ops
+
+-- a cell of these
+abbrev pub to_cell : NamedCell → Cell
+to_cell e = record { key = e.0.key; archive = e.0.archive; slot = e.0.slot; origin = e.0.origin; contribution = e.1 }
+
+-- a join for each cell, in order
+abbrev pub joins_of : Cells → List Op
+joins_of m = map (λ e. Join (to_cell e)) (entries m)

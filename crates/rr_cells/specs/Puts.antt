@@ -1,0 +1,27 @@
+-- What a sample makes of the cells of a replica.
+use Rattle.std.specs.Prelude.{List, [], ◌∷◌}
+use Rattle.std.specs.FinMap.{get, insert}
+use Rattle.rr_base.specs.Schema.{Layout, place_of}
+use Rattle.rr_join.specs.Maps.{trimmed}
+use Rattle.rr_contrib.specs.Contributions.{SlotSample, slot_sample, contribution_with}
+use Rattle.rr_model.specs.CellNames.{is_live}
+use Rattle.rr_model.specs.Samples.{Sample, Mark, name_of, marks_of}
+use Rattle.rr_cells.specs.Cells.{Cells}
+
+-- a sample, as the slot of an archive sees it
+abbrev pub seen : Layout → Mark → SlotSample
+seen s m = slot_sample m.number (place_of s m.archive m.time) m.time m.value
+
+-- with a sample more in the cell of one archive, and then the live cells: a sample that is past the horizon
+-- there leaves no trace
+unfoldable pub put_mark : Layout → Cells → Mark → Cells
+put_mark s cells m = trimmed (is_live s) (insert cells (name_of s m) (contribution_with (get cells (name_of s m)) (seen s m)))
+
+-- so in each of these archives, in order
+abbrev pub put_marks : Layout → Cells → List Mark → Cells
+put_marks s cells [] = cells
+put_marks s cells (m ∷ ms) = put_marks s (put_mark s cells m) ms
+
+-- the cells with a sample more
+abbrev pub put_sample : Layout → Cells → Sample → Cells
+put_sample s cells x = put_marks s cells (marks_of s x)

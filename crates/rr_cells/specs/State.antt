@@ -1,0 +1,25 @@
+-- The cells that a knowledge makes: at each name what its live marks contribute together.
+use Rattle.std.specs.Prelude.{◌≡◌, List, map, Option}
+use Rattle.std.specs.FinMap.{keys}
+use Rattle.rr_base.specs.Schema.{Layout, IsLayout}
+use Rattle.rr_join.specs.Maps.{map_of}
+use Rattle.rr_contrib.specs.declared.contribution.Contribution.{Contribution}
+use Rattle.rr_contrib.specs.Samples.{contribution_of}
+use Rattle.rr_model.specs.Samples.{Sample, Mark, marks_of}
+use Rattle.rr_model.specs.Knowledge.{Knowledge, IsAheadOf, with_marks, names, cell}
+use Rattle.rr_cells.specs.Cells.{Cells}
+use Rattle.rr_cells.specs.Puts.{seen, put_sample}
+
+-- what some marks contribute
+abbrev pub value_of : Layout → List Mark → Option Contribution
+value_of s ms = contribution_of (map (seen s) ms)
+
+-- at each name the contribution of its cell
+unfoldable pub state : Layout → Knowledge → Cells
+state s k = map_of (names s k) (λ n. value_of s (keys (cell s k n)))
+
+-- to put a sample that is ahead of what is known is to know it too
+abbrev pub PutIsOneSampleMore : Type 0
+PutIsOneSampleMore =
+    (s : Layout) (k : Knowledge) (x : Sample) → IsLayout s → IsAheadOf x k
+    → put_sample s (state s k) x ≡ state s (with_marks k (marks_of s x))

@@ -1,0 +1,14 @@
+-- The archives of all keys, as they are found by a key.
+use Rattle.std.specs.Prelude.{ℕ, List}
+use Rattle.std.specs.Global.{Vec}
+use Rattle.rr_series.specs.declared.series.SeriesMap.{SeriesMap}
+use Rattle.rr_series.specs.Indexed as indexed
+
+module _ {X : Type 0} where
+  -- the archives of each key, in order of the keys
+  abbrev pub entries_of : SeriesMap X → List (List ℕ × Vec X)
+  entries_of m = indexed.entries_at m.indices.entries m.archives.items
+
+  -- each key has an index, and its archives are at the same
+  abbrev pub IsIndexed : SeriesMap X → Type 0
+  IsIndexed m = indexed.IsIndexed m.keys.items m.indices.entries m.archives.items

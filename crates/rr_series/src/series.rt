@@ -1,0 +1,136 @@
+//! The archives of all keys, found by a key.
+ghost use Rattle.std.specs.Prelude.{◌≡◌, ◌∷◌, ◌++◌, ℕ, List, [], None, Some, Option, cond, IfOk, IfSome, OnOk, OnErr, slice_get};
+ghost use Rattle.std.specs.Option.{option_map};
+ghost use Rattle.std.specs.BTreeMap.{is_at};
+ghost use Rattle.rr_base.specs.Bytes.{bytes_cmp};
+ghost use Rattle.rr_series.specs.Indexed.{archives_of, index_of, items_of};
+
+use crate::hint::Hint;
+use crate::hints::Hints;
+use rr_key::SeriesKey;
+use std::alloc::{AllocError, Global};
+use std::collections::BTreeMap;
+
+/// The archives of all keys. Each key has an index, by which its archives are found once it is known.
+///
+/// A tree has the indices in order of the keys, and hints are tried before it: a key is mostly found
+/// by its hash, and at worst at the cost of the tree.
+#[derive(Drop)]
+pub struct SeriesMap<A> {
+    /// The keys, each at its index.
+    pub keys: Vec<SeriesKey>,
+    /// The archives of each key, at its index. Those of a key that is there may change.
+    pub archives: Vec<Vec<A>>,
+    /// The index of each key, in order of the keys.
+    pub indices: BTreeMap<SeriesKey, usize>,
+    hints: Hints,
+}
+
+impl<A: Drop> SeriesMap<A> {
+    ghost use Rattle.rr_series.specs.SeriesMap.{entries_of, IsIndexed};
+
+    /// No key yet. Takes no memory.
+    pub fn new(alloc: Global) -> SeriesMap<A>
+        ensures none { entries_of result ≡ [] }
+        ensures no_keys { result.keys.items ≡ [] }
+        ensures no_archives { result.archives.items ≡ [] }
+        ensures indexed { IsIndexed result }
+    {
+        SeriesMap {
+            keys: Vec::new(alloc),
+            archives: Vec::new(alloc),
+            indices: BTreeMap::new(alloc),
+            hints: Hints::new(alloc),
+        }
+    }
+
+    /// The index of a key, if it is known.
+    pub fn find(&self, key: &SeriesKey) -> Option<usize>
+        requires { IsIndexed self.now }
+        ensures { result ≡ index_of self.now.indices.entries key.now }
+    {
+        match self.hints.find(&self.keys, key) {
+            Some(index) => Some(index),
+            None => self.indices.get(key).copied(),
+        }
+    }
+
+    /// The index of a hint, if the key is there.
+    fn index_near(&self, hint: Hint, key: &SeriesKey) -> Option<usize>
+        ensures { IfSome result (λ i. slice_get self.now.keys.items i ≡ Some key.now) }
+    {
+        let near = self.keys.get(hint.index)?;
+        if near == key {
+            return Some(hint.index);
+        }
+        None
+    }
+
+    /// The index of a key, if it is known. The hint is tried first.
+    pub fn find_near(&self, hint: Hint, key: &SeriesKey) -> Option<usize>
+        requires { IsIndexed self.now }
+        ensures { result ≡ index_of self.now.indices.entries key.now }
+    {
+        match self.index_near(hint, key) {
+            Some(index) => Some(index),
+            None => self.find(key),
+        }
+    }
+
+    /// The key as it is known, with a hint where its archives are; one that isn't known as it is, with
+    /// a hint where they are once it is added next.
+    pub fn known_key<'a>(&'a self, key: &'a SeriesKey) -> (&'a SeriesKey, Hint)
+        requires { IsIndexed self.now }
+        ensures { result.0.now ≡ key.now }
+    {
+        match self.find(key) {
+            Some(index) => (&self.keys[index], Hint { index }),
+            None => {
+                let index = self.keys.len();
+                (key, Hint { index })
+            }
+        }
+    }
+
+    /// The archives of a key, if it is known.
+    pub fn get(&self, key: &SeriesKey) -> Option<&Vec<A>>
+        requires { IsIndexed self.now }
+        ensures { option_map (λ archives. archives.now) result ≡ archives_of (entries_of self.now) key.now }
+    {
+        match self.find(key) {
+            Some(index) => self.archives.get(index),
+            None => None,
+        }
+    }
+
+    /// The archives at an index; none past the last.
+    pub fn at(&self, index: usize) -> &[A]
+        ensures { result.now ≡ items_of (slice_get self.now.archives.items index) }
+    {
+        match self.archives.get(index) {
+            Some(archives) => archives,
+            None => &[],
+        }
+    }
+
+    /// Adds a key that isn't known yet, with its archives. After an error nothing has changed.
+    pub fn insert(&mut self, key: &SeriesKey, archives: Vec<A>) -> Result<(), AllocError>
+        requires indexed { IsIndexed self.old }
+        requires unknown { index_of self.old.indices.entries key.now ≡ None }
+        ensures keys { OnOk result (self.new.keys.items ≡ self.old.keys.items ++ key.now ∷ []) }
+        ensures archives { OnOk result (self.new.archives.items ≡ self.old.archives.items ++ archives ∷ []) }
+        ensures sets { OnOk result ((q : List ℕ) → archives_of (entries_of self.new) q
+            ≡ cond (is_at (bytes_cmp key.now) q) (Some archives) (archives_of (entries_of self.old) q)) }
+        ensures unchanged { OnErr result (entries_of self.new ≡ entries_of self.old) }
+        ensures indexed_now { IsIndexed self.new }
+    {
+        self.keys.reserve(1)?;
+        self.archives.reserve(1)?;
+        let key = key.copy()?;
+        self.indices.insert(key.copy()?, self.keys.len())?;
+        self.keys.push_reserved(key);
+        self.archives.push_reserved(archives);
+        self.hints.add(&self.keys);
+        Ok(())
+    }
+}
