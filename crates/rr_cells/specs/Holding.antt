@@ -4,7 +4,7 @@ use Rattle.std.specs.FinMap as fin
 use Rattle.std.specs.FinMap.{get, len}
 use Rattle.std.specs.Coded.{Coded, code_by, coded×, coded_ℕ, coded_ℤ, coded_list}
 use Rattle.rr_base.specs.declared.archive.ArchiveSpec.{ArchiveSpec}
-use Rattle.rr_base.specs.declared.limits.TheConstants.{MAX_NUMBER}
+use Rattle.rr_text.specs.declared.limits.TheConstants.{MAX_NUMBER}
 use Rattle.rr_base.specs.Origin.{IsOrigin}
 use Rattle.rr_base.specs.Schema.{Layout, IsLayout, archive_at}
 use Rattle.rr_contrib.specs.declared.contribution.Contribution.{Contribution}

@@ -1,7 +1,7 @@
 -- What samples and points make of a keeper.
 use Rattle.std.specs.Prelude.{ℕ, ℤ, List, [], ◌∷◌}
-use Rattle.rr_line.specs.Key.{key_text}
-use Rattle.rr_line.specs.Line.{PointView}
+use Rattle.rr_point.specs.Key.{key_text}
+use Rattle.rr_point.specs.Point.{PointView}
 use Rattle.rr_cells.specs.declared.op.Op.TheVariants.{Put}
 use Rattle.rr_replica.specs.declared.fault.WriteFault.{WriteFault}
 use Rattle.rr_replica.specs.declared.fault.WriteFault.TheVariants as why

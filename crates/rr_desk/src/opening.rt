@@ -1,7 +1,7 @@
 //! Opening a desk.
 ghost use Rattle.std.specs.Prelude.{◌≡◌, ◌≤◌, ◌↔◌, All, [], ◌∷◌, true, false, length, IfErr, IfOk, OnOk};
 ghost use Rattle.left_right.specs.Sides.{view};
-ghost use Rattle.rr_base.specs.declared.limits.TheConstants.{MAX_READERS};
+ghost use Rattle.rr_text.specs.declared.limits.TheConstants.{MAX_READERS};
 ghost use Rattle.rr_cells.specs.Holding.{IsHolding};
 ghost use Rattle.rr_cells.specs.Operations.{joins_of};
 ghost use Rattle.rr_replica.specs.Standing.{held};

@@ -10,7 +10,7 @@ use Rattle.rr_cells.specs.Listing.{owned_cell}
 use Rattle.rr_page.specs.declared.fault.PageFault.{PageFault}
 use Rattle.rr_page.specs.declared.fault.PageFault.TheVariants.{OutOfOrder}
 use Rattle.rr_page.specs.declared.version.Version.{Version}
-use Rattle.rr_base.specs.Results.{◌>>=◌, unless}
+use Rattle.rr_text.specs.Results.{◌>>=◌, unless}
 use Rattle.rr_cells.specs.CellBounds.{NamedCell}
 use Rattle.rr_page.specs.PageReading.{is_after, last_name, cells_at}
 use Rattle.rr_page.specs.Reading.{cell_at}

@@ -3,8 +3,8 @@ use Rattle.std.proofs.Common.{◌≡◌, ℕ, zero, suc, ◌<◌, ℤ, true, fal
 use Rattle.std.specs.Prelude.{OnOk, OnErr}
 use Rattle.std.specs.Result.{is_err}
 use Rattle.std.specs.List.{AllByRecursion}
-use Rattle.rr_line.specs.Key.{key_text}
-use Rattle.rr_line.specs.Line.{PointView}
+use Rattle.rr_point.specs.Key.{key_text}
+use Rattle.rr_point.specs.Point.{PointView}
 use Rattle.rr_cells.specs.Holding.{Holding, with_put}
 use Rattle.rr_replica.specs.Writing.{with_fields}
 

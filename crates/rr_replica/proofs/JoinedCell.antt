@@ -38,7 +38,7 @@ use Rattle.rr_cells.specs.Holding.{IsHolding, Holding}
 use Rattle.rr_series.specs.Indexed.{archives_of, items_of}
 use Rattle.rr_replica.specs.Held.{AreAllSized, IsHeld, held_series, holding_of}
 use Rattle.rr_cells.specs.Listing.{owned_cell}
-use Rattle.rr_base.specs.Bytes.{bytes_cmp}
+use Rattle.rr_text.specs.Bytes.{bytes_cmp}
 use Rattle.rr_replica.specs.Series.{cells_of}
 use Rattle.rr_cells.proofs.CellByCell.{join_nothing}
 use Rattle.rr_replica.proofs.Each.{sized_at}

@@ -17,7 +17,7 @@ use Rattle.rr_archive.proofs.CellSlotOrder.{cell_slot_cmp_total, cell_slot_cmp-I
 use Rattle.rr_model.specs.CellNames.{CellName, cell_name_cmp}
 use Rattle.rr_model.proofs.Orders.{cell_name_cmp_total, cell_name_cmp-IsAntisymmetric}
 use Rattle.rr_cells.specs.Cells.{name_at, rows_at}
-use Rattle.rr_base.specs.Bytes.{bytes_cmp}
+use Rattle.rr_text.specs.Bytes.{bytes_cmp}
 use Rattle.rr_replica.specs.Series.{Series, cells_from, all_cells, cells_of, rows_from, rows_in}
 use Rattle.rr_cells.proofs.Local.{get-rows_at, cell_slots_tie}
 use Rattle.rr_series.proofs.Lists.{bytes_cmp-IsAntisymmetric}

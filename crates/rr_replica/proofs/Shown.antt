@@ -18,7 +18,7 @@ use Rattle.rr_model.specs.Samples as model
 use Rattle.rr_replica.specs.declared.reading.Reading.{Reading}
 use Rattle.rr_cells.specs.Cells.{Cells, IsTrimmed, rows_at}
 use Rattle.rr_cells.specs.Puts.{put_sample}
-use Rattle.rr_base.specs.Bytes.{bytes_cmp}
+use Rattle.rr_text.specs.Bytes.{bytes_cmp}
 use Rattle.rr_replica.specs.Series.{cells_of, rows_from}
 use Rattle.rr_replica.specs.Archives.{AreSized, cell_slot_for, sample_for, AreSame, HavePut}
 use Rattle.rr_series.specs.Indexed.{archives_of, items_of}

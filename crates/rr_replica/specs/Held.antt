@@ -13,7 +13,7 @@ use Rattle.rr_cells.specs.declared.sample.Sample.{Sample}
 use Rattle.rr_cells.specs.declared.op.Op.{Op}
 use Rattle.rr_cells.specs.Operations.{sample_of, key_of}
 use Rattle.rr_cells.specs.Holding.{Holding, IsHolding}
-use Rattle.rr_base.specs.Bytes.{bytes_cmp}
+use Rattle.rr_text.specs.Bytes.{bytes_cmp}
 use Rattle.rr_series.specs.Indexed.{archives_of}
 use Rattle.rr_replica.specs.Series.{Series, cells_of}
 use Rattle.rr_replica.specs.Archives.{AreSized, HaveRoomFor}

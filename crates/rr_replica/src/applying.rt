@@ -7,7 +7,7 @@ ghost use Rattle.rr_replica.specs.Standing.{held, IsReadyFor};
 use crate::reading::Reading;
 use crate::replica::Replica;
 use rr_archive::Archive;
-use rr_base::limits::MAX_NUMBER;
+use rr_text::limits::MAX_NUMBER;
 use rr_cells::Op;
 use rr_series::Hint;
 use std::alloc::AllocError;

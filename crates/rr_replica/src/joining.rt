@@ -1,7 +1,7 @@
 //! Cells from elsewhere, joined into the archives of their keys.
 ghost use Rattle.std.specs.Prelude.{◌≡◌, ◌≤◌, IsOk, OnOk, OnErr};
 ghost use Rattle.rr_base.specs.Schema.{IsLayout};
-ghost use Rattle.rr_base.specs.declared.limits.TheConstants.{MAX_NUMBER};
+ghost use Rattle.rr_text.specs.declared.limits.TheConstants.{MAX_NUMBER};
 ghost use Rattle.rr_cells.specs.Cells.{IsTrimmed};
 ghost use Rattle.rr_cells.specs.Joins.{join_cell};
 ghost use Rattle.rr_cells.specs.CellBounds.{IsCellOf};

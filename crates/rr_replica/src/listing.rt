@@ -3,7 +3,7 @@ ghost use Rattle.std.specs.Prelude.{◌≡◌, ◌+◌, ◌≤◌, length, map, 
 ghost use Rattle.rr_archive.specs.CellSlots.{cell_slot};
 ghost use Rattle.rr_archive.specs.Cells.{cell_of};
 ghost use Rattle.rr_cells.specs.Cells.{name_at};
-ghost use Rattle.rr_base.specs.Bytes.{bytes_cmp};
+ghost use Rattle.rr_text.specs.Bytes.{bytes_cmp};
 ghost use Rattle.rr_replica.specs.Series.{cells_from, cells_of};
 ghost use Rattle.rr_replica.specs.Held.{held_series};
 ghost use Rattle.rr_series.specs.SeriesMap.{entries_of};
@@ -15,7 +15,7 @@ ghost use Rattle.std.specs.FinMap as fin;
 ghost use Rattle.rr_cells.specs.Listing.{seen_cell, count_of, at_most_usize};
 
 use rr_archive::{Archive, Entry};
-use rr_base::limits::MAX_ARCHIVES;
+use rr_text::limits::MAX_ARCHIVES;
 use rr_cells::CellRef;
 use rr_key::SeriesKey;
 use rr_series::SeriesMap;

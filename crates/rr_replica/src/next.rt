@@ -15,7 +15,7 @@ ghost use Rattle.rr_replica.specs.Series.{cells_from, cells_of};
 use crate::listing::named;
 use rr_archive::Archive;
 use rr_base::Origin;
-use rr_base::limits::MAX_ARCHIVES;
+use rr_text::limits::MAX_ARCHIVES;
 use rr_cells::CellRef;
 use rr_key::SeriesKey;
 use rr_series::SeriesMap;

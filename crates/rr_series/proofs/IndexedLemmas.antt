@@ -12,7 +12,7 @@ use Rattle.std.specs.Cmp.Lexicographic.{pointwise, bytes_decides, nat_list_cmp_t
 use Rattle.std.proofs.lemmas.Option.{slice_get_within, slice_get-get_or}
 use Rattle.std.proofs.lemmas.Bool.{cases_lt}
 use Rattle.rr_join.proofs.Members.{same_from_tie, tie_itself}
-use Rattle.rr_base.specs.Bytes.{bytes_cmp}
+use Rattle.rr_text.specs.Bytes.{bytes_cmp}
 use Rattle.rr_series.specs.Indexed.{archives_of, index_of, with_entry, entries_at, IsIndexed}
 use Rattle.rr_series.proofs.Lists.{get_append, get_first, found_at, slice_get-set_same, slice_get-set_other, length-set, there, bytes_cmp-IsAntisymmetric}
 

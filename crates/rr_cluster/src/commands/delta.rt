@@ -1,7 +1,7 @@
 //! `delta NAME GIVER TAKER FROM COUNT`: makes a page of what one node has and another lacks.
 
 ghost use Rattle.std.specs.Prelude.{◌≡◌, ◌≤◌, option_map, IfOk};
-ghost use Rattle.rr_base.specs.declared.limits.TheConstants.{MAX_PAGE_CELLS};
+ghost use Rattle.rr_text.specs.declared.limits.TheConstants.{MAX_PAGE_CELLS};
 ghost use Rattle.rr_cells.specs.Cells.{Cells};
 ghost use Rattle.rr_cluster.specs.Command.{view_of};
 ghost use Rattle.rr_cluster.specs.Commands.Delta.{after_delta, delta_command};

@@ -1,10 +1,10 @@
 //! `write NODE LINE`: hands a line of the line protocol to a node.
 
 ghost use Rattle.std.specs.Prelude.{◌≡◌, option_map};
-ghost use Rattle.rr_base.specs.Bytes.{HasNoLineFeed};
-ghost use Rattle.rr_line.specs.Line.{point_view};
+ghost use Rattle.rr_text.specs.Bytes.{HasNoLineFeed};
+ghost use Rattle.rr_point.specs.Point.{point_view};
 ghost use Rattle.rr_cells.specs.Cells.{Cells};
-ghost use Rattle.rr_replica.specs.Writing.{IsOfALine};
+ghost use Rattle.rr_point.specs.Key.{IsWritable};
 ghost use Rattle.rr_cluster.specs.Command.{view_of};
 ghost use Rattle.rr_cluster.specs.Commands.Write.{after_write, samples_of_line, samples_of_point, write_command};
 ghost use Rattle.rr_replica.specs.Standing.{held};

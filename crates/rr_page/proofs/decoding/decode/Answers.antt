@@ -1,5 +1,5 @@
 use Rattle.std.proofs.Common.{arith, map, subst}
-use Rattle.rr_base.specs.Results.{GivesUnless}
+use Rattle.rr_text.specs.Results.{GivesUnless}
 use Rattle.rr_cells.specs.Listing.{owned_cell}
 use Rattle.rr_page.specs.declared.fault.PageFault.TheVariants.{Memory}
 use Rattle.rr_page.proofs.FieldLemmas.{AreBytes-from_get_or}

@@ -3,7 +3,7 @@ use Rattle.std.specs.BTreeMap.Range.{entries_between}
 use Rattle.std.specs.declared.ops.Bound.TheVariants.{Included, Unbounded}
 use Rattle.std.specs.Option.{option_map}
 use Rattle.rr_archive.specs.CellSlots.{cell_slot}
-use Rattle.rr_base.specs.Bytes.{bytes_cmp}
+use Rattle.rr_text.specs.Bytes.{bytes_cmp}
 use Rattle.rr_series.specs.Indexed.{entries_at}
 use Rattle.rr_cells.specs.Listing.{seen_cell, first_after}
 use Rattle.rr_replica.specs.Listing.{seen_name}

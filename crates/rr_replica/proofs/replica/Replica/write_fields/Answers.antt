@@ -5,9 +5,9 @@ use Rattle.std.proofs.lemmas.List.{map_more}
 use Rattle.std.specs.Int.{w64}
 use Rattle.std.specs.List.{AllByRecursion}
 use Rattle.rr_key.specs.Making.{making_fault}
-use Rattle.rr_line.specs.Key.{names_of, key_text}
-use Rattle.rr_line.specs.Line.{field_view, point_view}
-use Rattle.rr_line.specs.declared.line.Field.{Field}
+use Rattle.rr_point.specs.Key.{names_of, key_text}
+use Rattle.rr_point.specs.Point.{field_view, point_view}
+use Rattle.rr_point.specs.declared.point.Field.{Field}
 use Rattle.rr_cells.specs.Holding.{Holding, with_put}
 use Rattle.rr_replica.specs.Writing.{with_fields}
 use Rattle.rr_replica.specs.Standing.{held}

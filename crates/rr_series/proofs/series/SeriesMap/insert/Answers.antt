@@ -1,6 +1,6 @@
 use Rattle.std.proofs.Common.{rules, ◌≡◌, ◌∷◌, ◌++◌, ℕ, List, [], Some, cond, length, ap, ◌∙◌}
 use Rattle.std.specs.BTreeMap.{is_at, insert_entry}
-use Rattle.rr_base.specs.Bytes.{bytes_cmp}
+use Rattle.rr_text.specs.Bytes.{bytes_cmp}
 use Rattle.rr_series.specs.Indexed.{archives_of, index_of, entries_at}
 use Rattle.rr_series.proofs.IndexedLemmas.{sets_more, indexed_more}
 use Rattle.rr_series.proofs.series.SeriesMap.insert.Goals as goal
