@@ -17,10 +17,10 @@ use Rattle.rr_node.specs.declared.fault.NodeFault.{NodeFault}
 use Rattle.rr_node.specs.declared.report.Report.{Report}
 use Rattle.rr_node.specs.declared.rules.Rules.{Rules}
 use Rattle.rr_node.specs.declared.rules.TheConstants.{LINES_TO_PUBLISH}
-use Rattle.rr_node.specs.Clock.{HasGiven}
+use Rattle.rr_host.specs.Clock.{HasGiven}
 use Rattle.rr_node.specs.Connection.{ComesAfter, EndsAtLast, Finishes, HasServed, IsWhole, Stops}
 use Rattle.rr_node.specs.Lines.{Run, Served, Verdict, skipped, put, refused, after, begun, first_of, HasStopped, IsServed, keeper_with, keeper_with_some, keeper_within, published_after, verdict_of, with_item}
-use Rattle.rr_node.proofs.ClockLemmas.{HasGiven-trans}
+use Rattle.rr_host.proofs.ClockLemmas.{HasGiven-trans}
 use Rattle.rr_node.proofs.ConnectionLemmas.{ends_here}
 use Rattle.rr_node.proofs.StreamLemmas.{answered_in_part}
 

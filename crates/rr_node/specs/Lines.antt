@@ -17,7 +17,7 @@ use Rattle.rr_desk.specs.Standing.{KeeperState, holding_of, with_all_published}
 use Rattle.rr_node.specs.declared.report.Report.{Report}
 use Rattle.rr_node.specs.declared.rules.Rules.{Rules}
 use Rattle.rr_node.specs.declared.rules.TheConstants.{LINES_TO_PUBLISH}
-use Rattle.rr_node.specs.Clock.{HasGiven}
+use Rattle.rr_host.specs.Clock.{HasGiven}
 
 -- lines whose times have this precision, and that may be this much ahead of the clock
 abbrev pub rules_of : Precision → Option ℕ → Rules

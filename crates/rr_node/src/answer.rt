@@ -7,16 +7,16 @@ ghost use Rattle.rr_feed.specs.Items.{item_view, IsLine};
 ghost use Rattle.rr_feed.specs.Items as feed;
 ghost use Rattle.rr_line.specs.Fault.{line_fault_name};
 ghost use Rattle.rr_line.specs.Line.{point_view};
-ghost use Rattle.rr_node.specs.Clock.{HasGiven};
+ghost use Rattle.rr_host.specs.Clock.{HasGiven};
 ghost use Rattle.rr_node.specs.Connection.{IsAnswer, IsFew, IsTaken, TakesItem};
 ghost use Rattle.rr_node.specs.Lines.{refused, verdict_of_point};
 ghost use Rattle.rr_replica.specs.Writing.{IsOfALine};
 
-use crate::clock::Clock;
 use crate::rules::Rules;
 use rr_archive::Archive;
 use rr_desk::Keeper;
 use rr_feed::{FeedLine, LINE_TOO_LONG};
+use rr_host::Clock;
 use rr_line::{Line, LineFault, Point, parse_line};
 use rr_replica::WriteFault;
 use std::alloc::{AllocError, Global};
