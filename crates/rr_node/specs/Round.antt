@@ -1,7 +1,7 @@
 -- How a round of a keeper goes: the lines of a connection, the pulls from all peers, and a save.
 use Rattle.std.specs.Prelude.{◌≡◌, ◌⊎◌, ℕ, ℤ, Bool, true, false, List, [], ◌∷◌, ◌++◌, map, Option, None, Some, Result, Ok, Err}
 use Rattle.std.specs.String.{string_bytes}
-use Rattle.rr_desk.specs.Standing.{KeeperState}
+use Rattle.rr_copies.specs.Standing.{KeeperState}
 use Rattle.rr_config.specs.declared.config.Config.{Config}
 use Rattle.rr_node.specs.declared.report.Report.{Report}
 use Rattle.rr_node.specs.declared.rules.Rules.{Rules}

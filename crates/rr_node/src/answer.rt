@@ -2,7 +2,7 @@
 
 ghost use Rattle.std.specs.Prelude.{◌≡◌, ◌≢◌, ℤ, [], ◌∷◌, IfOk, OnOk};
 ghost use Rattle.rr_base.specs.Bytes.{HasNoLineFeed};
-ghost use Rattle.rr_desk.specs.Standing.{holding_of};
+ghost use Rattle.rr_copies.specs.Standing.{holding_of};
 ghost use Rattle.rr_feed.specs.Items.{item_view, IsLine};
 ghost use Rattle.rr_feed.specs.Items as feed;
 ghost use Rattle.rr_line.specs.Fault.{line_fault_name};
