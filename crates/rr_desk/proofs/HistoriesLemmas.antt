@@ -39,7 +39,7 @@ use Rattle.rr_delta.proofs.HeldLemmas.{all_filtered}
 use Rattle.rr_fetch.specs.Answers.{cells_text}
 use Rattle.rr_fetch.proofs.RowLaws.{answer_of_state}
 use Rattle.rr_desk.specs.Histories.{Turn, elsewhere, put, joined, Scene, Knows, IsHistory, IsWhole, AreHonest, list_of, marks_in, next_scene, ops_of, scene_after}
-use Rattle.rr_desk.proofs.PrefixLemmas.{prefix_nil}
+use Rattle.rr_copies.proofs.PrefixLemmas.{prefix_nil}
 
 -- ---- one turn
 

@@ -1,7 +1,2 @@
-pub mod PrefixLemmas
-pub mod EditionsLemmas
-pub mod ChangesLemmas
-pub mod RuleLemmas
-pub mod StandingLemmas
 pub mod PointsLemmas
 pub mod HistoriesLemmas

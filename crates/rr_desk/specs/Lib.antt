@@ -1,9 +1,5 @@
-pub mod Editions
-pub mod Changes
-pub mod Rule
 pub mod Standing
 pub mod Points
-pub mod Writers
 pub mod Fault
 pub mod Histories
 pub mod Laws

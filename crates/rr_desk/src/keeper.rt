@@ -18,17 +18,13 @@ ghost use Rattle.rr_page.specs.Version.{latest};
 ghost use Rattle.rr_snapshot.specs.Snapshot.{snapshot_text};
 ghost use Rattle.rr_snapshot.specs.declared.heading.TheConstants.{MAX_SNAPSHOT_CELLS};
 ghost use Rattle.rr_desk.specs.Points.{with_put};
-ghost use Rattle.rr_desk.specs.Standing.{cells_of, holding_of, with_all_published, with_pending};
+ghost use Rattle.rr_copies.specs.Standing.{cells_of, holding_of, with_all_published, with_pending};
 
-use crate::book::Editions;
 use crate::note::Note;
-use crate::shown::{Change, CopyState, Hinted, Shown};
-use crate::writing::{DeskWriter, mark, publish};
-use core::mem::replace_with;
 use left_right::Absorb;
 use rr_archive::Archive;
 use rr_base::{Counted, Schema};
-use rr_cells::{Cell, Op, Sample};
+use rr_copies::{Change, Copies, CopyState, Shown};
 use rr_delta::{Name, summary, summary_after};
 use rr_key::SeriesKey;
 use rr_replica::{Hint, PutFault, Replica};
@@ -47,11 +43,7 @@ where
     Shown<A>: Absorb<Change, State = CopyState>,
 {
     pub(crate) alloc: Global,
-    pub(crate) writer: DeskWriter<A>,
-    pub(crate) own: Replica<A>,
-    pub(crate) book: Editions,
-    /// Whether the last pending change is a mark of the whole book.
-    pub(crate) marked: bool,
+    pub(crate) copies: Copies<A>,
     /// Where key texts of points are written, one over the other.
     pub(crate) text: Vec<u8>,
 }
@@ -60,56 +52,20 @@ impl<A: Archive> Model for Keeper<A>
 where
     Shown<A>: Absorb<Change, State = CopyState>,
 {
-    ghost use Rattle.rr_desk.specs.Standing.{KeeperState, IsKeeper};
+    ghost use Rattle.rr_copies.specs.Standing.{KeeperState};
 
     ghost Value = { KeeperState };
 
-    ghost use Rattle.left_right.specs.Sides.{view as seat_view};
-    ghost use Rattle.rr_replica.specs.Standing.{held};
-    ghost use Rattle.rr_desk.specs.Changes.{ops_in};
-    ghost use Rattle.rr_desk.specs.Writers.{changes};
-
-    ghost view = { λ k. record {
-      desk = (seat_view k.writer.desk.place).desk;
-      schema = k.own.schema;
-      origin = k.own.origin;
-      next = k.own.next;
-      published = (seat_view k.writer.desk.place).seen;
-      pending = ops_in (changes k.writer);
-    } };
-
-    ghost invariant = { λ k. IsKeeper (seat_view k.writer.desk.place)
-        (held k.writer.desk.shown.value.replica) (held k.own)
-        k.writer.desk.shown.value.front k.book (changes k.writer) k.marked };
+    ghost view = { λ k. k.copies };
 }
 
 impl<A: Archive> Keeper<A> {
-    /// Makes an operation pending that the keeper's own replica takes, and applies it there. Room is
-    /// made first, so that it is taken whole or not at all.
-    fn push(&mut self, hint: Hint, op: Op) -> Result<(), AllocError>
-        requires { accepts (holding_of self.old) op ≡ true }
-        ensures pending { OnOk result (self.new ≡ with_pending self.old op) }
-        ensures unchanged { OnErr result (self.new ≡ self.old) }
-    {
-        let shown = Hinted {
-            op: op.copy()?,
-            hint,
-        };
-        self.own.ready_near(hint, &op)?;
-        if self.writer.append(Change::Apply(shown)).is_err() {
-            return Err(AllocError);
-        }
-        self.own.apply_near(hint, &op)?;
-        self.marked = false;
-        Ok(())
-    }
-
     /// The schema of all cells.
     pub fn schema(&self) -> &Schema
         ensures value { result.now ≡ self.now.schema }
         ensures holds { IsHolding (holding_of self.now) }
     {
-        self.own.schema()
+        self.copies.replica().schema()
     }
 
     /// Puts a sample of a key under the next number, which is the answer. The time is in nanoseconds
@@ -125,19 +81,19 @@ impl<A: Archive> Keeper<A> {
         ensures unchanged { OnErr result (self.new ≡ self.old) }
         ensures spent { (result ≡ Err PutFault.NumbersSpent) ↔ (MAX_NUMBER < self.old.next) }
     {
-        let number = self.own.next_number();
+        let number = self.copies.replica().next_number();
         if number > MAX_NUMBER {
             return Err(PutFault::NumbersSpent);
         }
-        let (key, hint) = self.own.known_key(key)?;
+        let (key, hint) = self.copies.replica().known_key(key)?;
         let sample = Sample {
-            origin: self.own.origin(),
+            origin: self.copies.replica().origin(),
             number,
             key,
             time,
             value,
         };
-        self.push(hint, Op::Put(sample))?;
+        self.copies.push(hint, Op::Put(sample))?;
         Ok(number)
     }
 
@@ -148,7 +104,7 @@ impl<A: Archive> Keeper<A> {
         ensures pending { OnOk result (self.new ≡ with_pending self.old (Join cell.now)) }
         ensures unchanged { OnErr result (self.new ≡ self.old) }
     {
-        self.push(Hint::none(), Op::Join(cell.copy()?))
+        self.copies.push(Hint::none(), Op::Join(cell.copy()?))
     }
 
     /// The names and versions of as many cells as `count` from a place on, in the order of the names;
@@ -159,7 +115,7 @@ impl<A: Archive> Keeper<A> {
         ensures ascending { IfOk result (λ names. IsSummary (map owned_name names.items)) }
         ensures of_schema { IfOk result (λ names. All (λ n. IsNameOf self.now.schema (owned_name n)) names.items) }
     {
-        summary(alloc, &self.own, from, count)
+        summary(alloc, self.copies.replica(), from, count)
     }
 
     /// The names and versions of as many cells as `count` after a name, or of the first ones where
@@ -175,7 +131,7 @@ impl<A: Archive> Keeper<A> {
         ensures ascending { IfOk result (λ names. IsSummary (map owned_name names.items)) }
         ensures of_schema { IfOk result (λ names. All (λ n. IsNameOf self.now.schema (owned_name n)) names.items) }
     {
-        summary_after(alloc, &self.own, after, count)
+        summary_after(alloc, self.copies.replica(), after, count)
     }
 
     /// Writes the cells of all operations, pending ones too, as a snapshot: see `rr_snapshot::save`.
@@ -192,7 +148,7 @@ impl<A: Archive> Keeper<A> {
         ensures failed { result ≡ Err SaveFault.WriteFailed
             → HasRisen (failures_of output.old) (failures_of output.new) }
     {
-        rr_snapshot::save(alloc, &self.own, output)
+        rr_snapshot::save(alloc, self.copies.replica(), output)
     }
 
     /// Shows readers all pending operations, at one step. It waits for readers that are still in the
@@ -203,11 +159,7 @@ impl<A: Archive> Keeper<A> {
         ensures published { OnOk result (self.new ≡ with_all_published self.old) }
         ensures unchanged { OnErr result (self.new ≡ self.old) }
     {
-        mark(&mut self.book, &mut self.writer, self.marked)?;
-        self.marked = true;
-        replace_with(&mut self.writer, rt, |writer, rt| publish(rt, writer))?;
-        self.marked = false;
-        Ok(())
+        self.copies.publish(rt)
     }
 
     /// A note of what is published.
@@ -215,7 +167,7 @@ impl<A: Archive> Keeper<A> {
         ensures { result ≡ record { desk = self.now.desk; list = self.now.published } }
     {
         Note {
-            front: self.writer.published().front.again(),
+            front: self.copies.front(),
         }
     }
 
@@ -226,13 +178,9 @@ impl<A: Archive> Keeper<A> {
     {
         let Keeper {
             alloc: _,
-            writer,
-            own,
-            book: _,
-            marked: _,
+            copies,
             text: _,
         } = self;
-        drop(writer.take(rt));
-        own
+        copies.close(rt)
     }
 }

@@ -9,12 +9,10 @@
 //! In `specs/` a keeper stands for two lists of operations, the published and the pending ones, a
 //! reader for the list that it has seen (`specs/Standing.antt`). What a reader answers is made of the
 //! cells after its list. All of these lists, of one desk, are beginnings of one list: that is the rule
-//! of the copies (`specs/Rule.antt`), which every step keeps. No list is in memory. A book of editions
-//! (`specs/Editions.antt`), of which code keeps the number alone, says whether a copy has what a note
-//! is of.
+//! of the copies, which are in [`rr_copies`] with the keeper's replica and the book of editions. The book
+//! says whether a copy has what a note is of.
 #![tactic(auto)]
 
-mod book;
 mod fault;
 mod gate;
 mod keeper;
@@ -24,10 +22,7 @@ mod opening;
 mod points;
 mod reader;
 mod reading;
-mod rule;
-mod shown;
 mod sides;
-mod writing;
 
 pub use fault::{FetchFault, OpenFault};
 pub use gate::{Gate, GateCall};

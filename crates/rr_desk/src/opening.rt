@@ -1,30 +1,27 @@
 //! Opening a desk.
-ghost use Rattle.std.specs.Prelude.{◌≡◌, ◌≤◌, ◌↔◌, All, [], ◌∷◌, true, false, length, IfErr, IfOk, OnOk};
+ghost use Rattle.std.specs.Prelude.{◌≡◌, ◌≤◌, ◌↔◌, All, [], true, length, IfErr, IfOk, OnOk};
 ghost use Rattle.left_right.specs.Sides.{view};
 ghost use Rattle.rr_text.specs.declared.limits.TheConstants.{MAX_READERS};
 ghost use Rattle.rr_cells.specs.Holding.{IsHolding};
 ghost use Rattle.rr_cells.specs.Operations.{joins_of};
 ghost use Rattle.rr_replica.specs.Standing.{held};
-ghost use Rattle.rr_desk.specs.Editions.{flat};
-ghost use Rattle.rr_desk.specs.Rule.{keeper_of};
-ghost use Rattle.rr_desk.specs.Standing.{opened, HasSeen};
-ghost use Rattle.rr_desk.specs.Writers.{changes};
+ghost use Rattle.rr_copies.specs.Editions.{flat};
+ghost use Rattle.rr_copies.specs.Rule.{keeper_of};
+ghost use Rattle.rr_copies.specs.Standing.{opened};
+ghost use Rattle.rr_desk.specs.Standing.{HasSeen};
+ghost use Rattle.rr_copies.specs.Writers.{changes};
 ghost use Rattle.rr_desk.specs.declared.fault.OpenFault.TheVariants.{BadCount};
-ghost use Rattle.rr_desk.specs.declared.shown.Change.TheVariants.{Mark};
 
-use crate::book::{Batch, Editions};
 use crate::fault::OpenFault;
 use crate::keeper::Keeper;
 use crate::reader::Reader;
-use crate::reading::look;
-use crate::shown::{Change, Shown};
-use crate::writing::{DeskWriter, introduce, start};
 use rr_archive::Archive;
 use rr_base::Schema;
+use rr_base::limits::MAX_READERS;
+use rr_copies::{Copies, DeskWriter, Editions, discard, introduce, look, started_writer};
 use rr_replica::Replica;
 use rr_text::limits::MAX_READERS;
 use std::alloc::{AllocError, Global};
-use std::marker::Brand;
 use std::sync::Wait;
 
 /// A reader that has seen what is published.
@@ -74,119 +71,6 @@ fn seats<A: Archive>(
         all.push(seat(writer, alloc, schema)?)?;
     }
     Ok(all)
-}
-
-/// `first_edition`, of the operations that are picked.
-fn first_batch<A: Archive, K: Batch>(
-    book: &mut Editions,
-    replica: &Replica<A>,
-) -> Result<(), AllocError>
-    requires fresh { book.old.editions ≡ [] }
-    requires batch { K.batch ≡ joins_of replica.now.cells }
-    ensures desk { book.new.desk ≡ book.old.desk }
-    ensures added { OnOk result (flat book.new.editions ≡ joins_of replica.now.cells) }
-{
-    let _ = replica;
-    book.add::<K>()
-}
-
-/// Adds the first edition, of one join for each cell of a replica.
-fn first_edition<A: Archive>(book: &mut Editions, replica: &Replica<A>) -> Result<(), AllocError>
-    requires fresh { book.old.editions ≡ [] }
-    ensures desk { book.new.desk ≡ book.old.desk }
-    ensures added { OnOk result (flat book.new.editions ≡ joins_of replica.now.cells) }
-{
-    first_batch::<A, Brand>(book, replica)
-}
-
-/// A copy of a replica, which is not opened for readers yet.
-fn unopened<A: Archive>(
-    alloc: Global,
-    replica: &Replica<A>,
-    book: &Editions,
-) -> Result<Shown<A>, AllocError>
-    ensures replica { IfOk result (λ copy. held copy.replica ≡ held replica.now) }
-    ensures unopened { IfOk result (λ copy. copy.started ≡ false) }
-    ensures front { IfOk result (λ copy. copy.front ≡ book.now) }
-{
-    Ok(Shown {
-        replica: replica.copy(alloc)?,
-        started: false,
-        front: book.front(),
-    })
-}
-
-/// Lets a writer go whose desk isn't opened.
-fn discard<A: Archive, R: Wait>(writer: DeskWriter<A>, rt: &R) -> AllocError {
-    drop(writer.take(rt));
-    AllocError
-}
-
-/// A writer of two copies of a replica with room for `readers` readers, of which none can come yet.
-fn unopened_writer<A: Archive>(
-    alloc: Global,
-    replica: &Replica<A>,
-    readers: usize,
-    book: &Editions,
-) -> Result<DeskWriter<A>, AllocError>
-    requires some_reader { 1 ≤ readers }
-    requires few_readers { readers ≤ MAX_READERS }
-    ensures copy { IfOk result (λ w. held w.desk.shown.value.replica ≡ held replica.now) }
-    ensures unopened { IfOk result (λ w. w.desk.shown.value.started ≡ false) }
-    ensures pending { IfOk result (λ w. changes w ≡ []) }
-{
-    let first = unopened(alloc, replica, book)?;
-    let second = unopened(alloc, replica, book)?;
-    DeskWriter::new(alloc, first, second, readers)
-}
-
-/// One whose pending change is a mark of the book, which gets its first edition.
-fn marked_writer<A: Archive, R: Wait>(
-    alloc: Global,
-    rt: &R,
-    replica: &Replica<A>,
-    readers: usize,
-    book: &mut Editions,
-) -> Result<DeskWriter<A>, AllocError>
-    requires some_reader { 1 ≤ readers }
-    requires few_readers { readers ≤ MAX_READERS }
-    requires fresh { book.old.editions ≡ [] }
-    ensures copy { IfOk result (λ w. held w.desk.shown.value.replica ≡ held replica.now) }
-    ensures unopened { IfOk result (λ w. w.desk.shown.value.started ≡ false) }
-    ensures pending { IfOk result (λ w. changes w ≡ Mark book.new ∷ []) }
-    ensures book { OnOk result (flat book.new.editions ≡ joins_of replica.now.cells) }
-{
-    first_edition(book, replica)?;
-    let mut writer = unopened_writer(alloc, replica, readers, &*book)?;
-    match writer.append(Change::Mark(book.front())) {
-        Ok(()) => Ok(writer),
-        Err(_) => Err(discard(writer, rt)),
-    }
-}
-
-/// A writer of two copies of a replica, to which up to `readers` readers may come.
-fn started_writer<A: Archive, R: Wait>(
-    alloc: Global,
-    rt: &R,
-    replica: &Replica<A>,
-    readers: usize,
-    book: &mut Editions,
-) -> Result<DeskWriter<A>, AllocError>
-    requires some_reader { 1 ≤ readers }
-    requires few_readers { readers ≤ MAX_READERS }
-    requires fresh { book.old.editions ≡ [] }
-    ensures holds { OnOk result (IsHolding (held replica.now)) }
-    ensures view { IfOk result (λ w. view w.desk.place ≡ keeper_of (held replica.now) book.new.desk) }
-    ensures copy { IfOk result (λ w. held w.desk.shown.value.replica ≡ held replica.now) }
-    ensures front { IfOk result (λ w. w.desk.shown.value.front ≡ book.new) }
-    ensures pending { IfOk result (λ w. changes w ≡ []) }
-    ensures book { OnOk result (flat book.new.editions ≡ joins_of replica.now.cells) }
-{
-    let writer = marked_writer(alloc, rt, replica, readers, book)?;
-    match start(rt, writer, &*book) {
-        (writer, Ok(())) => Ok(writer),
-        (writer, Err(_)) => Err(discard(writer, rt)),
-    }
 }
 
 /// The two copies of a replica with all that a keeper needs besides, and their readers.
@@ -241,10 +125,7 @@ pub fn open<A: Archive, R: Wait>(
         Ok((writer, book, all)) => {
             let keeper = Keeper {
                 alloc,
-                writer,
-                own: replica,
-                book,
-                marked: false,
+                copies: Copies::new(writer, replica, book),
                 text: Vec::new(alloc),
             };
             Ok((keeper, all))

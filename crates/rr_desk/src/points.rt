@@ -2,9 +2,9 @@
 ghost use Rattle.std.specs.Prelude.{◌≡◌, ℕ, ◌<◌, ◌≤◌, ◌↔◌, length, take, None, Err, IfOk, IfErr, OnErr, OnOk, IsTrue, IsFalse, unwrap_or};
 ghost use Rattle.rr_text.specs.declared.limits.TheConstants.{MAX_FIELDS, MAX_NUMBER};
 ghost use Rattle.rr_key.specs.Making.{making_fault};
-ghost use Rattle.rr_point.specs.Key.{HasKeys, IsWritable, key_text, names_of};
-ghost use Rattle.rr_point.specs.Point.{point_view};
-ghost use Rattle.rr_desk.specs.Standing.{holding_of};
+ghost use Rattle.rr_line.specs.Key.{HasKeys, key_text, names_of};
+ghost use Rattle.rr_line.specs.Line.{point_view};
+ghost use Rattle.rr_copies.specs.Standing.{holding_of};
 
 use crate::keeper::Keeper;
 use rr_archive::Archive;
@@ -48,7 +48,7 @@ impl<A: Archive> Keeper<A> {
         if is_ahead(point.time, now, lead) {
             return Err(WriteFault::AheadOfClock);
         }
-        if self.own.lacks_numbers(point.fields.len()) {
+        if self.copies.replica().lacks_numbers(point.fields.len()) {
             return Err(WriteFault::NumbersSpent);
         }
         self.put_fields(point, point.time.unwrap_or(now))

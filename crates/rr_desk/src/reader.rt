@@ -17,10 +17,10 @@ ghost use Rattle.rr_desk.specs.declared.gate.GateCall.TheVariants.{After, Before
 use crate::fault::FetchFault;
 use crate::gate::{Gate, GateCall};
 use crate::note::Note;
-use crate::reading::{Seat, answer, lacking, look_for};
+use crate::reading::{answer, lacking};
 use rr_archive::Archive;
 use rr_base::Schema;
-use rr_cells::Cell;
+use rr_copies::{Seat, look_for};
 use rr_delta::Name;
 use rr_fetch::Request;
 use std::alloc::{AllocError, Global};

@@ -1,7 +1,6 @@
-//! What readers do with the copies, each under the rule.
+//! What readers make of the copies, each under the rule.
 ghost use Rattle.std.specs.Prelude.{◌≡◌, true, false, All, Some, IfOk, IsTrue, MatchResult, map};
 ghost use Rattle.std.specs.FinMap.{entries, is_sorted};
-ghost use mathlib.Core.List.{IsPrefix};
 ghost use Rattle.left_right.specs.Sides.{view};
 ghost use Rattle.rr_model.specs.CellNames.{cell_name_cmp};
 ghost use Rattle.rr_cells.specs.CellBounds.{IsCellOf};
@@ -11,25 +10,17 @@ ghost use Rattle.rr_delta.specs.Names.{owned_name};
 ghost use Rattle.rr_delta.specs.Difference.{IsSummary, newer_cells};
 ghost use Rattle.rr_fetch.specs.Answers.{cells_text};
 ghost use Rattle.rr_fetch.specs.Requests.{request_view, IsFetchable};
-ghost use Rattle.rr_desk.specs.Editions.{flat};
-ghost use Rattle.rr_desk.specs.Rule.{Looked, Saw};
+ghost use Rattle.rr_copies.specs.Rule.{Saw};
 ghost use Rattle.rr_desk.specs.declared.fault.FetchFault.TheVariants.{GateShut};
 ghost use Rattle.rr_desk.specs.declared.gate.GateCall.TheVariants.{After, Before};
 
-use crate::book::Front;
 use crate::fault::FetchFault;
 use crate::gate::Gate;
-use crate::rule::{Enters, Published, View};
-use crate::shown::Shown;
-use left_right::reader::Reader;
 use rr_archive::Archive;
-use rr_cells::Cell;
+use rr_copies::{Enters, Seat};
 use rr_delta::{Name, difference};
 use rr_fetch::{Request, answer_text};
 use std::alloc::{AllocError, Global};
-
-/// A reader's seat at the copies.
-pub type Seat<A> = Reader<Shown<A>, View, Published>;
 
 /// The answer to a request from the copy that is shown, if the gate lets it be made.
 pub fn answer<A: Archive, G: Gate>(
@@ -84,39 +75,6 @@ pub fn lacking<A: Archive>(
         Ok(reading) => {
             let cells = difference(alloc, &reading.get().replica, summary);
             (reading.leave(), cells)
-        }
-        Err(seat) => (seat, Err(AllocError)),
-    }
-}
-
-/// Enters and leaves once.
-pub fn look<A: Archive>(seat: Seat<A>) -> Result<Seat<A>, Seat<A>>
-    ensures { MatchResult result
-        (λ s. Looked (view seat.place) (view s.place))
-        (λ s. view s.place ≡ view seat.place) }
-{
-    match seat.enter_as::<Enters>() {
-        Ok(reading) => Ok(reading.leave()),
-        Err(seat) => Err(seat),
-    }
-}
-
-/// Enters and leaves once, and says whether what is then seen begins with what a front has.
-pub fn look_for<A: Archive>(seat: Seat<A>, front: &Front) -> (Seat<A>, Result<(), AllocError>)
-    requires joined { (view seat.place).joined ≡ true }
-    requires desk { front.now.desk ≡ (view seat.place).desk }
-    ensures seen { Saw (view seat.place) (view result.0.place) }
-    ensures told { IfOk result.1 (λ _. IsPrefix (flat front.now.editions) (view result.0.place).seen) }
-{
-    match seat.enter_as::<Enters>() {
-        Ok(reading) => {
-            let newer = front.begins(&reading.get().front);
-            let seat = reading.leave();
-            if newer {
-                (seat, Ok(()))
-            } else {
-                (seat, Err(AllocError))
-            }
         }
         Err(seat) => (seat, Err(AllocError)),
     }

@@ -11,7 +11,7 @@ use Rattle.rr_feed.specs.Items.{Item}
 use Rattle.rr_feed.specs.Laws.{IsFed}
 use Rattle.rr_feed.proofs.FedLemmas.{IsFed-next_line}
 use Rattle.rr_desk.specs.Standing.{ReaderState, HasSeenMore}
-use Rattle.rr_desk.proofs.PrefixLemmas.{prefix_refl, prefix_trans}
+use Rattle.rr_copies.proofs.PrefixLemmas.{prefix_refl, prefix_trans}
 use Rattle.rr_node.specs.Answering.{HasHanded, HasWritten, HasWrittenSome, Next}
 use Rattle.rr_node.specs.Fetches.{Sight, IsAnswered, AreAnswered}
 

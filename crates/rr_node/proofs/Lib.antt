@@ -1,11 +1,9 @@
-pub mod TextsLemmas
-pub mod CallsLemmas
 pub mod PeersLemmas
 pub mod FetchesLemmas
 pub mod ServingLemmas
 pub mod ServedLemmas
 pub mod VerdictLemmas
-pub mod ClockLemmas
+pub mod RefusalLemmas
 pub mod ConnectionLemmas
 pub mod StreamLemmas
 pub mod LinesLemmas

@@ -8,19 +8,19 @@ use mathlib.Core.List.{IsPrefix}
 use Rattle.rr_feed.specs.Items.{Item, items}
 use Rattle.rr_point.specs.Point.{PointView}
 use Rattle.rr_desk.specs.Points.{with_puts, with_put}
-use Rattle.rr_desk.specs.Standing.{KeeperState, holding_of, with_all_published}
-use Rattle.rr_desk.proofs.PrefixLemmas.{prefix_refl, prefix_append, prefix_trans}
-use Rattle.rr_cells.specs.declared.op.Op.{Op}
-use Rattle.rr_point.specs.Key.{key_text}
+use Rattle.rr_copies.specs.Standing.{KeeperState, holding_of, with_all_published}
+use Rattle.rr_copies.proofs.PrefixLemmas.{prefix_refl, prefix_append, prefix_trans}
+use Rattle.rr_replica.specs.declared.op.Op.{Op}
+use Rattle.rr_line.specs.Key.{key_text}
 use Rattle.rr_node.specs.declared.connection.Connection.{Connection}
 use Rattle.rr_node.specs.declared.fault.NodeFault.{NodeFault}
 use Rattle.rr_node.specs.declared.report.Report.{Report}
 use Rattle.rr_node.specs.declared.rules.Rules.{Rules}
 use Rattle.rr_node.specs.declared.rules.TheConstants.{LINES_TO_PUBLISH}
-use Rattle.rr_node.specs.Clock.{HasGiven}
+use Rattle.rr_host.specs.Clock.{HasGiven}
 use Rattle.rr_node.specs.Connection.{ComesAfter, EndsAtLast, Finishes, HasServed, IsWhole, Stops}
 use Rattle.rr_node.specs.Lines.{Run, Served, Verdict, skipped, put, refused, after, begun, first_of, HasStopped, IsServed, keeper_with, keeper_with_some, keeper_within, published_after, verdict_of, with_item}
-use Rattle.rr_node.proofs.ClockLemmas.{HasGiven-trans}
+use Rattle.rr_host.proofs.ClockLemmas.{HasGiven-trans}
 use Rattle.rr_node.proofs.ConnectionLemmas.{ends_here}
 use Rattle.rr_node.proofs.StreamLemmas.{answered_in_part}
 

@@ -1,10 +1,11 @@
 -- The pulls of peers, one after the other.
 use Rattle.std.proofs.Common.{◌≡◌, ℕ, ◌+◌, ◌<◌, Bool, true, false, List, [], ◌∷◌, ◌++◌, length, get_or, drop, map, ◌≢◌, Option, IfSome, Some, refl, sym, ap, ◌∙◌, inl, inr, append_assoc}
 use Rattle.std.proofs.lemmas.List.{append-nil, at_drop_more}
-use Rattle.rr_desk.specs.Standing.{KeeperState}
+use Rattle.rr_copies.specs.Standing.{KeeperState}
 use Rattle.rr_node.specs.declared.fault.NodeFault.{NodeFault}
 use Rattle.rr_node.specs.declared.fault.NodeFault.TheVariants.{Memory}
-use Rattle.rr_node.specs.Calls.{DialCall, ShelfCall}
+use Rattle.rr_host.specs.Calls.{DialCall}
+use Rattle.rr_node.specs.Shelf.{ShelfCall}
 use Rattle.rr_node.specs.Peers.{EndsPull, EndsPulls, IsPast, told_of}
 
 pub next_left : {X : Type 0} (text : X → List ℕ) (xs : List X) (place : ℕ) (x : X) (address : List ℕ) → place < length xs → x ≡ get_or xs place x → address ≡ text x → map text (drop place xs) ≡ address ∷ map text (drop (place + 1) xs)

@@ -1,8 +1,9 @@
 -- What a pull leaves as it was.
 use Rattle.std.proofs.Common.{◌≡◌, List, [], ◌∷◌, refl, ap, ◌∙◌}
-use Rattle.rr_cells.specs.declared.cell.Cell.{Cell}
-use Rattle.rr_cells.specs.declared.op.Op.TheVariants.{Join}
-use Rattle.rr_desk.specs.Standing.{HasJoined, KeeperState, with_joined, with_pending}
+use Rattle.rr_replica.specs.declared.cell.Cell.{Cell}
+use Rattle.rr_replica.specs.declared.op.Op.TheVariants.{Join}
+use Rattle.rr_desk.specs.Standing.{HasJoined, with_joined}
+use Rattle.rr_copies.specs.Standing.{KeeperState, with_pending}
 
 joined_desk : (cells : List Cell) (k : KeeperState) → (with_joined k cells).desk ≡ k.desk
 joined_desk [] k = refl

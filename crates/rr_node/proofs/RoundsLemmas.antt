@@ -1,6 +1,6 @@
 -- Rounds that are kept one after the other.
 use Rattle.std.proofs.Common.{ℕ, ◌+◌, ◌<◌, true, false, Some, None, refl, inr, add-one}
-use Rattle.rr_node.specs.declared.config.Config.{Config}
+use Rattle.rr_config.specs.declared.config.Config.{Config}
 use Rattle.rr_node.specs.Rounds.{AreRounds, EndRounds, IsRound, Log, Post, and_then}
 
 pub rounds_more : (n : ℕ) (config : Config) (old mid new : Post) (first last : Log) → AreRounds n config old mid first → IsRound config (Some true) mid new last → AreRounds (n + 1) config old new (and_then first last)

@@ -9,13 +9,13 @@ use Rattle.rr_feed.specs.Laws.{IsFed}
 use Rattle.rr_base.specs.Stream.{AppendsPrefix}
 use Rattle.rr_text.specs.declared.limits.TheConstants.{MAX_FIELDS}
 use Rattle.rr_records.specs.Records.{refusal_text}
-use Rattle.rr_desk.specs.Standing.{KeeperState, holding_of, with_all_published}
+use Rattle.rr_copies.specs.Standing.{KeeperState, holding_of, with_all_published}
 use Rattle.rr_node.specs.declared.answer.Answer.{Answer}
 use Rattle.rr_node.specs.declared.answer.Answer.TheVariants as says
 use Rattle.rr_node.specs.declared.connection.Connection.{Connection}
 use Rattle.rr_node.specs.declared.report.Report.{Report}
 use Rattle.rr_node.specs.declared.rules.Rules.{Rules}
-use Rattle.rr_node.specs.Clock.{HasGiven}
+use Rattle.rr_host.specs.Clock.{HasGiven}
 use Rattle.rr_node.specs.Lines.{Verdict, skipped, put, refused, Served, after, answer_of, asks_clock, first_of, keeper_with, keeper_with_some, keeper_within, verdict_of}
 
 -- the answer tells what came of a verdict

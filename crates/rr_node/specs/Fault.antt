@@ -1,40 +1,12 @@
--- The faults of a configuration and of connections, and their printed names.
+-- The faults of connections, and their printed names.
 use Rattle.std.specs.Prelude.{◌≡◌, ◌⊎◌, ℕ, Bool, true, false, List, codes}
-use Rattle.rr_base.specs.declared.fault.SchemaFault.{SchemaFault}
-use Rattle.rr_base.specs.declared.fault.SchemaFault.TheVariants as schema
 use Rattle.rr_base.specs.declared.stream.ReadFault.{ReadFault}
 use Rattle.rr_base.specs.declared.stream.ReadFault.TheVariants as read
-use Rattle.rr_base.specs.Fault.{schema_fault_name}
 use Rattle.rr_gossip.specs.declared.fault.GossipFault.{GossipFault}
 use Rattle.rr_gossip.specs.declared.fault.GossipFault.TheVariants as session
 use Rattle.rr_gossip.specs.Fault.{gossip_fault_name}
-use Rattle.rr_node.specs.declared.fault.ConfigFault.{ConfigFault}
-use Rattle.rr_node.specs.declared.fault.ConfigFault.TheVariants as config
 use Rattle.rr_node.specs.declared.fault.NodeFault.{NodeFault}
 use Rattle.rr_node.specs.declared.fault.NodeFault.TheVariants as node
-
--- each is its variant's, and that of a schema's fault is the schema's
-abbrev pub config_fault_name : ConfigFault → List ℕ
-config_fault_name (config.Schema fault) = schema_fault_name fault
-config_fault_name config.MissingField = codes "MissingField"
-config_fault_name config.WrongKind = codes "WrongKind"
-config_fault_name config.BadCount = codes "BadCount"
-config_fault_name config.BadPrecision = codes "BadPrecision"
-config_fault_name config.Memory = codes "Memory"
-
--- a schema's fault as one of the configuration
-abbrev pub of_schema_fault : SchemaFault → ConfigFault
-of_schema_fault schema.Memory = config.Memory
-of_schema_fault schema.BadToml = config.Schema schema.BadToml
-of_schema_fault schema.MissingField = config.Schema schema.MissingField
-of_schema_fault schema.WrongKind = config.Schema schema.WrongKind
-of_schema_fault schema.BadStep = config.Schema schema.BadStep
-of_schema_fault schema.NoArchive = config.Schema schema.NoArchive
-of_schema_fault schema.TooManyArchives = config.Schema schema.TooManyArchives
-of_schema_fault schema.BadSteps = config.Schema schema.BadSteps
-of_schema_fault schema.BadRows = config.Schema schema.BadRows
-of_schema_fault schema.BadXff = config.Schema schema.BadXff
-of_schema_fault schema.StepsNotRising = config.Schema schema.StepsNotRising
 
 -- each is its variant's, and that of a session's fault is the session's
 abbrev pub node_fault_name : NodeFault → List ℕ

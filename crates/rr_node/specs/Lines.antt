@@ -14,11 +14,11 @@ use Rattle.rr_records.specs.Records.{refusal_text}
 use Rattle.rr_cells.specs.Holding.{Holding}
 use Rattle.rr_replica.specs.Writing.{is_ahead, lacks_numbers}
 use Rattle.rr_desk.specs.Points.{with_puts}
-use Rattle.rr_desk.specs.Standing.{KeeperState, holding_of, with_all_published}
+use Rattle.rr_copies.specs.Standing.{KeeperState, holding_of, with_all_published}
 use Rattle.rr_node.specs.declared.report.Report.{Report}
 use Rattle.rr_node.specs.declared.rules.Rules.{Rules}
 use Rattle.rr_node.specs.declared.rules.TheConstants.{LINES_TO_PUBLISH}
-use Rattle.rr_node.specs.Clock.{HasGiven}
+use Rattle.rr_host.specs.Clock.{HasGiven}
 
 -- lines whose times have this precision, and that may be this much ahead of the clock
 abbrev pub rules_of : Precision → Option ℕ → Rules

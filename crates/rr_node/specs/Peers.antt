@@ -1,10 +1,11 @@
 -- How the pulls of a round go, from one peer after the other.
 use Rattle.std.specs.Prelude.{◌≡◌, ◌≢◌, ◌⊎◌, ℕ, ◌+◌, Bool, true, false, List, [], ◌∷◌, ◌++◌, Option, None, Some, IfSome, Result, Ok, Err}
-use Rattle.rr_desk.specs.Standing.{KeeperState}
+use Rattle.rr_copies.specs.Standing.{KeeperState}
 use Rattle.rr_gossip.specs.declared.fault.GossipFault.{GossipFault}
 use Rattle.rr_node.specs.declared.fault.NodeFault.{NodeFault}
 use Rattle.rr_node.specs.declared.fault.NodeFault.TheVariants.{BadAddress, Memory}
-use Rattle.rr_node.specs.Calls.{DialCall, ShelfCall, Stream, handed_back, peer_failed, reached, unreached}
+use Rattle.rr_host.specs.Calls.{DialCall, Stream, handed_back, reached, unreached}
+use Rattle.rr_node.specs.Shelf.{ShelfCall, peer_failed}
 use Rattle.rr_node.specs.Fault.{of_session_fault}
 use Rattle.rr_node.specs.Pull.{HasPulledAll, HasStoppedPulling}
 

@@ -1,15 +1,16 @@
 -- How a round of a keeper goes: the lines of a connection, the pulls from all peers, and a save.
 use Rattle.std.specs.Prelude.{◌≡◌, ◌⊎◌, ℕ, ℤ, Bool, true, false, List, [], ◌∷◌, ◌++◌, map, Option, None, Some, Result, Ok, Err}
 use Rattle.std.specs.String.{string_bytes}
-use Rattle.rr_desk.specs.Standing.{KeeperState}
-use Rattle.rr_node.specs.declared.config.Config.{Config}
+use Rattle.rr_copies.specs.Standing.{KeeperState}
+use Rattle.rr_config.specs.declared.config.Config.{Config}
 use Rattle.rr_node.specs.declared.report.Report.{Report}
 use Rattle.rr_node.specs.declared.rules.Rules.{Rules}
-use Rattle.rr_node.specs.Calls.{DialCall, ShelfCall}
+use Rattle.rr_host.specs.Calls.{DialCall}
+use Rattle.rr_node.specs.Shelf.{ShelfCall}
 use Rattle.rr_node.specs.Lines.{Run, IsServed, HasStopped, rules_of}
 use Rattle.rr_node.specs.Peers.{EndsPulls}
 use Rattle.rr_node.specs.Saving.{EndsSave}
-use Rattle.rr_node.specs.Visits.{Call, Failed, Gave, Over, TookBack}
+use Rattle.rr_host.specs.Visits.{Call, Failed, Gave, Over, TookBack}
 
 -- whether a connection came; none where memory ran out
 abbrev pub came_in : {F : Type 0} → Result Bool F → Option Bool

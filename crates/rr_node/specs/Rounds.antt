@@ -1,10 +1,11 @@
 -- The rounds of a keeper, one after the other.
 use Rattle.std.specs.Prelude.{◌≡◌, ◌⊎◌, ℕ, zero, suc, ◌<◌, ◌==◌, ◌-◌, ◌^◌, ℤ, Bool, true, false, List, [], ◌++◌, Option, None, Some, if◌then◌else◌}
-use Rattle.rr_desk.specs.Standing.{KeeperState}
-use Rattle.rr_node.specs.declared.config.Config.{Config}
-use Rattle.rr_node.specs.Calls.{DialCall, Grows, ShelfCall}
+use Rattle.rr_copies.specs.Standing.{KeeperState}
+use Rattle.rr_config.specs.declared.config.Config.{Config}
+use Rattle.rr_host.specs.Calls.{DialCall, Grows}
+use Rattle.rr_node.specs.Shelf.{ShelfCall}
 use Rattle.rr_node.specs.Round.{EndsRound}
-use Rattle.rr_node.specs.Visits.{Call, HasCalled}
+use Rattle.rr_host.specs.Visits.{Call, HasCalled}
 
 -- a keeper, and the moments that its clock gave
 pub record Post : Type 0 where

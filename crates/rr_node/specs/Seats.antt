@@ -3,7 +3,7 @@ use Rattle.std.specs.Prelude.{◌≡◌, ◌≢◌, ◌⊎◌, ℕ, zero, suc, �
 use Rattle.rr_node.specs.declared.fault.NodeFault.{NodeFault}
 use Rattle.rr_node.specs.declared.fault.NodeFault.TheVariants.{Memory}
 use Rattle.rr_node.specs.Fetches.{Sight, IsServed}
-use Rattle.rr_node.specs.Visits.{Call, Gave, Failed, Over, TookBack}
+use Rattle.rr_host.specs.Visits.{Call, Gave, Failed, Over, TookBack}
 
 -- a connection was given, served with this result, and handed back
 pub record IsStreamServed (result : Result (Unit {0}) NodeFault) (calls : List Call) (old new : Sight) : Type 0 where

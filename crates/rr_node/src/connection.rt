@@ -4,16 +4,15 @@ ghost use Rattle.std.specs.Prelude.{◌≡◌, ℕ, ◌+◌, ◌*◌, ◌<◌, �
 ghost use Rattle.std.specs.Io.KnownBytes.{Appends};
 ghost use Rattle.rr_base.specs.Counted.{inner_of, failures_of, HasRisen};
 ghost use Rattle.rr_base.specs.Stream.{AppendsPrefix};
-ghost use Rattle.rr_text.specs.declared.limits.TheConstants.{MAX_FIELDS};
-ghost use Rattle.rr_desk.specs.Standing.{KeeperState};
+ghost use Rattle.rr_base.specs.declared.limits.TheConstants.{MAX_FIELDS};
+ghost use Rattle.rr_copies.specs.Standing.{KeeperState};
 ghost use Rattle.rr_feed.specs.Feed.{items_left, empty_feed};
 ghost use Rattle.rr_node.specs.declared.lines.TheConstants.{PIECE};
-ghost use Rattle.rr_node.specs.Clock.{HasGiven};
+ghost use Rattle.rr_host.specs.Clock.{HasGiven};
 ghost use Rattle.rr_node.specs.Fault.{IsOfWriting};
 ghost use Rattle.rr_node.specs.Lines.{published_after, report_text};
 
 use crate::answer::{Answer, write_item};
-use crate::clock::Clock;
 use crate::fault::NodeFault;
 use crate::report::{Report, push_report};
 use crate::rules::{LINES_TO_PUBLISH, Rules};
@@ -22,6 +21,7 @@ use rr_base::Counted;
 use rr_base::stream::{WriteFailed, flush, write_all};
 use rr_desk::Keeper;
 use rr_feed::Feed;
+use rr_host::Clock;
 use rr_records::push_refusal;
 use std::alloc::{AllocError, Global};
 use std::io::Write;

@@ -71,7 +71,8 @@ impl<'a, R: Files + Eprint> FileShelf<'a, R> {
 
 impl<R: Files + Eprint> Shelf for FileShelf<'_, R> {
     ghost use Rattle.std.specs.Prelude.{[], ◌∷◌, None};
-    ghost use Rattle.rr_node.specs.Calls.{Grows, put_back};
+    ghost use Rattle.rr_host.specs.Calls.{Grows};
+    ghost use Rattle.rr_node.specs.Shelf.{put_back};
 
     type Output = BufWriter<R::File>;
 

@@ -5,7 +5,6 @@ ghost use Rattle.rr_base.specs.Counted.{inner_of, failures_of, reads_of, HasRise
 ghost use Rattle.rr_text.specs.declared.limits.TheConstants.{MAX_READS};
 ghost use Rattle.rr_node.specs.Lines.{rules_of, HasStopped, IsServed};
 
-use crate::clock::Clock;
 use crate::connection::Connection;
 use crate::fault::NodeFault;
 use crate::report::Report;
@@ -14,6 +13,7 @@ use rr_archive::Archive;
 use rr_base::Counted;
 use rr_base::stream::read_once;
 use rr_desk::Keeper;
+use rr_host::Clock;
 use rr_line::Precision;
 use rr_text::limits::MAX_READS;
 use std::alloc::Global;

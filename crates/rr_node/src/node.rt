@@ -3,15 +3,13 @@
 ghost use Rattle.std.specs.Prelude.{◌≡◌, Bool, true, is_ok, IfErr, OnErr, OnOk};
 ghost use Rattle.rr_node.specs.Rounds.{HasKept, post};
 
-use crate::clock::Clock;
-use crate::config::Config;
-use crate::dial::Dial;
 use crate::fault::NodeFault;
 use crate::rounds::keep_rounds;
 use crate::shelf::Shelf;
-use crate::visits::Visits;
 use rr_archive::Archive;
+use rr_config::Config;
 use rr_desk::Keeper;
+use rr_host::{Clock, Dial, Visits};
 use std::alloc::Global;
 use std::sync::Wait;
 use std::thread::{Threads, join_mut};

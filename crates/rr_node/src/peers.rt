@@ -2,15 +2,16 @@
 
 ghost use Rattle.std.specs.Prelude.{◌≡◌, ◌≢◌, IfOk, IfSome, List, OnErr, Some, map, is_ok};
 ghost use Rattle.std.specs.String.{string_bytes};
-ghost use Rattle.rr_node.specs.Calls.{DialCall, Grows, ShelfCall};
+ghost use Rattle.rr_host.specs.Calls.{DialCall, Grows};
+ghost use Rattle.rr_node.specs.Shelf.{ShelfCall};
 ghost use Rattle.rr_node.specs.Peers.{EndsPull, EndsPulls, fault_in};
 
-use crate::dial::Dial;
 use crate::fault::NodeFault;
 use crate::pull::pull_peer;
 use crate::shelf::Shelf;
 use rr_archive::Archive;
 use rr_desk::Keeper;
+use rr_host::Dial;
 use std::alloc::{AllocError, Global};
 use std::sync::Wait;
 

@@ -1,21 +1,20 @@
 //! A round of the keeper: the lines of a connection, the pulls from all peers, and a save.
 
 ghost use Rattle.std.specs.Prelude.{List};
-ghost use Rattle.rr_node.specs.Calls.{DialCall, Grows, ShelfCall};
+ghost use Rattle.rr_host.specs.Calls.{DialCall, Grows};
+ghost use Rattle.rr_node.specs.Shelf.{ShelfCall};
 ghost use Rattle.rr_node.specs.Round.{EndsLines, EndsRound, came_in};
-ghost use Rattle.rr_node.specs.Visits.{Call, HasCalled};
+ghost use Rattle.rr_host.specs.Visits.{Call, HasCalled};
 
-use crate::clock::Clock;
-use crate::config::Config;
-use crate::dial::Dial;
 use crate::fault::NodeFault;
 use crate::lines::serve_lines;
 use crate::peers::pull_peers;
 use crate::saving::save_to;
 use crate::shelf::Shelf;
-use crate::visits::{Visit, Visits};
 use rr_archive::Archive;
+use rr_config::Config;
 use rr_desk::Keeper;
+use rr_host::{Clock, Dial, Visit, Visits};
 use std::alloc::{AllocError, Global};
 use std::sync::Wait;
 

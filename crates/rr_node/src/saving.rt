@@ -1,7 +1,8 @@
 //! The save of a round.
 
 ghost use Rattle.std.specs.Prelude.{List, is_ok};
-ghost use Rattle.rr_node.specs.Calls.{Grows, ShelfCall};
+ghost use Rattle.rr_host.specs.Calls.{Grows};
+ghost use Rattle.rr_node.specs.Shelf.{ShelfCall};
 ghost use Rattle.rr_node.specs.Saving.{EndsSave};
 
 use crate::shelf::{Opening, Shelf};

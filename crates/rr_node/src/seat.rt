@@ -3,13 +3,13 @@
 ghost use Rattle.std.specs.Prelude.{◌≡◌, ◌≢◌, Err, List, MatchResult};
 ghost use Rattle.rr_node.specs.Fetches.{sight};
 ghost use Rattle.rr_node.specs.Seats.{visits_of, HasServedSeat, HasVisited};
-ghost use Rattle.rr_node.specs.Visits.{Call, HasCalled};
+ghost use Rattle.rr_host.specs.Visits.{Call, HasCalled};
 
 use crate::fault::NodeFault;
 use crate::reader::serve_reader;
-use crate::visits::{Visit, Visits};
 use rr_archive::Archive;
 use rr_desk::{Gate, Reader};
+use rr_host::{Visit, Visits};
 use std::alloc::{AllocError, Global};
 
 /// A reader of a desk, where its connections come from, and its gate.

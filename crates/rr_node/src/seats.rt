@@ -1,9 +1,9 @@
 //! Seats over TCP.
 
 use crate::gates::OpenGate;
-use crate::listening::Listening;
 use crate::node::Seats;
 use crate::seat::{Seat, serve_seat};
+use rr_host::Listening;
 use rr_ring::RingArchive;
 use std::alloc::Global;
 use std::sync::atomic::{AtomicBool, Ordering};

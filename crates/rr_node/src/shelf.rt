@@ -23,7 +23,8 @@ pub enum Opening<W> {
 pub trait Shelf {
     ghost use Rattle.std.specs.Prelude.{List, [], ◌∷◌, Option};
     ghost use Rattle.rr_base.specs.Counted.{inner_of};
-    ghost use Rattle.rr_node.specs.Calls.{Grows, ShelfCall, opened, peer_failed, put_back, save_failed, unopened, unwanted};
+    ghost use Rattle.rr_host.specs.Calls.{Grows};
+    ghost use Rattle.rr_node.specs.Shelf.{ShelfCall, opened, peer_failed, put_back, save_failed, unopened, unwanted};
     ghost use Rattle.rr_node.specs.declared.shelf.Opening.TheVariants as opening;
 
     /// Where a snapshot is written.

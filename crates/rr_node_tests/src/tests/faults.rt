@@ -46,7 +46,8 @@ struct NoRoom {
 
 impl Shelf for NoRoom {
     ghost use Rattle.std.specs.Prelude.{[], ◌∷◌, None};
-    ghost use Rattle.rr_node.specs.Calls.{Grows, put_back};
+    ghost use Rattle.rr_host.specs.Calls.{Grows};
+    ghost use Rattle.rr_node.specs.Shelf.{put_back};
 
     type Output = Full;
 

@@ -55,7 +55,7 @@ impl Peers {
 
 impl Dial for Peers {
     ghost use Rattle.std.specs.Prelude.{[], ◌∷◌, None};
-    ghost use Rattle.rr_node.specs.Calls.{Grows, handed_back, stream};
+    ghost use Rattle.rr_host.specs.Calls.{Grows, handed_back, stream};
 
     type Input = &'static [u8];
 
@@ -100,7 +100,8 @@ impl Saves {
 
 impl Shelf for Saves {
     ghost use Rattle.std.specs.Prelude.{[], ◌∷◌, None};
-    ghost use Rattle.rr_node.specs.Calls.{Grows, put_back};
+    ghost use Rattle.rr_host.specs.Calls.{Grows};
+    ghost use Rattle.rr_node.specs.Shelf.{put_back};
 
     type Output = Vec<u8>;
 

@@ -65,7 +65,7 @@ impl Asked {
 
 impl Visits for Asked {
     ghost use Rattle.std.specs.Prelude.{[], ◌∷◌, None};
-    ghost use Rattle.rr_node.specs.Visits.{HasCalled, TookBack};
+    ghost use Rattle.rr_host.specs.Visits.{HasCalled, TookBack};
 
     type Input = Request;
 

@@ -1,4 +1,4 @@
-use Rattle.rr_desk.proofs.RuleLemmas.{sees}
+use Rattle.rr_copies.proofs.RuleLemmas.{sees}
 use Rattle.rr_desk.proofs.reading.answer.Goals as goal
 
 pub enter_as-requires : goal.enter_as-requires

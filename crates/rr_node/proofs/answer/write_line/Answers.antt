@@ -1,4 +1,4 @@
-use Rattle.rr_node.proofs.ClockLemmas.{takes_refusal}
+use Rattle.rr_node.proofs.RefusalLemmas.{takes_refusal}
 use Rattle.rr_node.proofs.answer.write_line.Goals as goal
 
 pub returns-in-Err-clause-taken : goal.returns-in-Err-clause-taken

@@ -5,7 +5,7 @@ use Rattle.rr_base.proofs.CountLemmas.{no_call, HasRisenBy-more, one_more_at_mos
 use Rattle.rr_base.specs.Counted.{inner_of}
 use Rattle.rr_feed.specs.Feed.{FeedState}
 use Rattle.rr_node.specs.Lines.{Run}
-use Rattle.rr_node.proofs.ClockLemmas.{HasGiven-nil, HasGiven-trans}
+use Rattle.rr_host.proofs.ClockLemmas.{HasGiven-nil, HasGiven-trans}
 use Rattle.rr_node.proofs.ConnectionLemmas.{HasServed-push}
 use Rattle.rr_node.proofs.LinesLemmas.{served_finally, stopped_finally, stopped_before, stopped_between}
 use Rattle.rr_node.proofs.lines.serve_lines_within.Goals as goal

@@ -1,6 +1,6 @@
 use Rattle.std.proofs.Common.{inr, refl}
 use Rattle.std.proofs.lemmas.Result.{err_from_is_err_and}
-use Rattle.rr_node.proofs.CallsLemmas.{grows_on}
+use Rattle.rr_host.proofs.CallsLemmas.{grows_on}
 use Rattle.rr_node.proofs.peers.pull_from.Goals as goal
 
 pub returns-in_err-pulled : goal.returns-in_err-pulled

@@ -3,7 +3,7 @@ use Rattle.std.proofs.Math.ListN.{drop_of_length-le}
 use Rattle.std.proofs.lemmas.Result.{err_from_is_err_and}
 use Rattle.std.specs.String.{string_bytes}
 use Rattle.rr_node.specs.Peers.{told_of}
-use Rattle.rr_node.proofs.CallsLemmas.{grows_not, grows_on}
+use Rattle.rr_host.proofs.CallsLemmas.{grows_not, grows_on}
 use Rattle.rr_node.proofs.PeersLemmas.{all_past, next_left, one_past, stops_here}
 use Rattle.rr_node.proofs.peers.pull_peers.Goals as goal
 use Rattle.rr_node.proofs.peers.pull_peers.Goals.{in-Some, in_default}

@@ -1,6 +1,7 @@
 use Rattle.std.proofs.Common.{List, map, drop, ◌+◌}
 use Rattle.std.specs.String.{string_bytes}
-use Rattle.rr_node.specs.Calls.{DialCall, Grows, ShelfCall}
+use Rattle.rr_host.specs.Calls.{DialCall, Grows}
+use Rattle.rr_node.specs.Shelf.{ShelfCall}
 use Rattle.rr_node.proofs.PeersLemmas.{GoesOn}
 use Rattle.rr_node.proofs.peers.pull_peers.Given as goal
 

@@ -1,6 +1,6 @@
 use Rattle.std.proofs.Common.{[], ◌++◌, inl, inr, refl}
 use Rattle.std.proofs.lemmas.Result.{err_from_is_err_and}
-use Rattle.rr_node.proofs.CallsLemmas.{grows_not, grows_on}
+use Rattle.rr_host.proofs.CallsLemmas.{grows_not, grows_on}
 use Rattle.rr_node.proofs.round.keep_round.Goals as goal
 
 pub returns-in_err-take_lines : goal.returns-in_err-take_lines

@@ -1,5 +1,5 @@
 use Rattle.std.proofs.Common.{inl, inr, refl}
-use Rattle.rr_node.proofs.SeatsLemmas.{called_more}
+use Rattle.rr_host.proofs.VisitsLemmas.{called_more}
 use Rattle.rr_node.proofs.round.take_lines.Goals as goal
 
 pub returns-in-Err-Memory : goal.returns-in-Err-Memory

@@ -1,9 +1,9 @@
 use Rattle.std.proofs.Common.{◌<◌}
 use Rattle.std.proofs.lemmas.Result.{err_from_is_err_and}
 use Rattle.rr_node.specs.Rounds.{Log, and_then, rounds_of}
-use Rattle.rr_node.proofs.CallsLemmas.{grows_on}
+use Rattle.rr_host.proofs.CallsLemmas.{grows_on}
 use Rattle.rr_node.proofs.RoundsLemmas.{rounds_more, rounds_out, rounds_over}
-use Rattle.rr_node.proofs.SeatsLemmas.{called_more}
+use Rattle.rr_host.proofs.VisitsLemmas.{called_more}
 use Rattle.rr_node.proofs.rounds.keep_rounds.Goals as goal
 
 pub returns-in_err-keep_round : goal.returns-in_err-keep_round

@@ -1,6 +1,6 @@
-use Rattle.rr_node.specs.Calls.{Grows}
+use Rattle.rr_host.specs.Calls.{Grows}
 use Rattle.rr_node.specs.Rounds.{AreRounds, Log, post}
-use Rattle.rr_node.specs.Visits.{HasCalled}
+use Rattle.rr_host.specs.Visits.{HasCalled}
 use Rattle.rr_node.proofs.rounds.keep_rounds.Given as goal
 
 -- one round at each turn

@@ -1,5 +1,5 @@
 use Rattle.std.proofs.Common.{◌≡◌, rules, true, false, inl, inr, refl}
-use Rattle.rr_node.proofs.CallsLemmas.{grows_on}
+use Rattle.rr_host.proofs.CallsLemmas.{grows_on}
 use Rattle.rr_node.proofs.saving.save_to.Goals as goal
 
 pub returns-in-Failed : goal.returns-in-Failed

@@ -1,7 +1,8 @@
 use Rattle.std.proofs.Common.{◌≡◌, ◌<◌, ◌++◌, true, false, rules}
 use Rattle.std.proofs.lemmas.Result.{err_from_is_err_and}
 use Rattle.rr_node.specs.Seats.{visits_of}
-use Rattle.rr_node.proofs.SeatsLemmas.{called_more, seat_out, seat_over, visits_more}
+use Rattle.rr_host.proofs.VisitsLemmas.{called_more}
+use Rattle.rr_node.proofs.SeatsLemmas.{seat_out, seat_over, visits_more}
 use Rattle.rr_node.proofs.seat.serve_seat.Goals as goal
 
 pub returns-in_err-serve_visit : goal.returns-in_err-serve_visit

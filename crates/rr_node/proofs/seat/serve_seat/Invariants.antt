@@ -1,7 +1,7 @@
 use Rattle.std.proofs.Common.{List}
 use Rattle.rr_node.specs.Fetches.{sight}
 use Rattle.rr_node.specs.Seats.{AreVisits}
-use Rattle.rr_node.specs.Visits.{Call, HasCalled}
+use Rattle.rr_host.specs.Visits.{Call, HasCalled}
 use Rattle.rr_node.proofs.seat.serve_seat.Given as goal
 
 -- one visit at each turn

@@ -1,11 +1,13 @@
-use Rattle.std.proofs.Common.{true, ◌≡◌, sym, subst}
-use Rattle.rr_cells.specs.declared.cell.Cell.{Cell}
-use Rattle.rr_cells.specs.CellBounds.{is_cell_of}
-use Rattle.rr_cells.specs.Listing.{owned_cell}
-use Rattle.rr_cells.proofs.OperationsLemmas.{cell_is_taken}
+use Rattle.std.proofs.Common.{true, ◌≡◌, ap, sym, subst}
+use Rattle.rr_base.specs.Schema.{Layout}
+use Rattle.rr_replica.specs.declared.cell.Cell.{Cell}
+use Rattle.rr_replica.specs.CellBounds.{is_cell_of}
+use Rattle.rr_replica.specs.Listing.{owned_cell}
+use Rattle.rr_replica.proofs.OperationsLemmas.{cell_is_taken}
 use Rattle.rr_desk.proofs.keeper.Keeper.join_cell.Goals as goal
 
 pub push-requires : goal.push-requires
 push-requires g c =
     let s = c.args.self.now.schema in
-    subst (λ (x : Cell). is_cell_of s (owned_cell x) ≡ true) (sym (c.in_ok-copy.ensures)) (cell_is_taken s (owned_cell c.args.cell.now) c.requires)
+    let may = subst (λ (x : Cell). is_cell_of s (owned_cell x) ≡ true) (sym (c.in_ok-copy.ensures)) (cell_is_taken s (owned_cell c.args.cell.now) c.requires) in
+    subst (λ (l : Layout). is_cell_of l (owned_cell c.in_ok-copy.field-0) ≡ true) (sym (ap (λ k. k.schema) c.self.view_is)) may

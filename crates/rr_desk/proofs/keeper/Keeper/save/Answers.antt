@@ -1,4 +1,4 @@
-use Rattle.std.proofs.Common.{◌≡◌, ◌<◌, ◌↔◌, Err, OnOk, subst}
+use Rattle.std.proofs.Common.{◌≡◌, ◌<◌, ◌↔◌, Err, OnOk, subst, ap, ◌∙◌}
 use Rattle.std.specs.FinMap.{entries, len}
 use Rattle.std.specs.Io.KnownBytes.{Appends}
 use Rattle.rr_base.specs.Counted.{inner_of}
@@ -9,19 +9,19 @@ use Rattle.rr_cells.specs.Holding.{Holding}
 use Rattle.rr_snapshot.specs.Snapshot.{snapshot_text}
 use Rattle.rr_snapshot.specs.declared.fault.SaveFault.TheVariants.{TooManyCells}
 use Rattle.rr_snapshot.specs.declared.heading.TheConstants.{MAX_SNAPSHOT_CELLS}
-use Rattle.rr_desk.proofs.StandingLemmas.{cells-state, own-state}
+use Rattle.rr_copies.specs.Standing.{cells_of, holding_of}
 use Rattle.rr_desk.proofs.keeper.Keeper.save.Goals as goal
 
 pub returns-clause-whole : goal.returns-clause-whole
 returns-clause-whole g c =
     subst (λ (h : Holding). OnOk c.save.result (Appends (g.W.Write.contents (inner_of c.args.output.now)) (g.W.Write.contents (inner_of c.save.new.output)) (snapshot_text latest h.schema h.origin (entries h.cells))))
-    (own-state _ _ _ _ _ _ _ _ _ c.self.invariant c.self.view_is) c.save.ensures.whole
+    (c.replica.ensures.holding ∙ ap holding_of c.self.view_is) c.save.ensures.whole
 
 pub returns-clause-front : goal.returns-clause-front
 returns-clause-front g c =
     subst (λ (h : Holding). AppendsPrefix (g.W.Write.contents (inner_of c.args.output.now)) (g.W.Write.contents (inner_of c.save.new.output)) (snapshot_text latest h.schema h.origin (entries h.cells)))
-    (own-state _ _ _ _ _ _ _ _ _ c.self.invariant c.self.view_is) c.save.ensures.front
+    (c.replica.ensures.holding ∙ ap holding_of c.self.view_is) c.save.ensures.front
 
 pub returns-clause-too_many : goal.returns-clause-too_many
 returns-clause-too_many g c =
-    subst (λ (m : Cells). (c.save.result ≡ Err TooManyCells) ↔ (MAX_SNAPSHOT_CELLS < len m)) (cells-state _ _ _ _ _ _ _ _ _ c.self.invariant c.self.view_is) c.save.ensures.too_many
+    subst (λ (m : Cells). (c.save.result ≡ Err TooManyCells) ↔ (MAX_SNAPSHOT_CELLS < len m)) (c.replica.ensures.cells ∙ ap cells_of c.self.view_is) c.save.ensures.too_many

@@ -4,7 +4,7 @@ use Rattle.rr_feed.specs.Items.{item_view}
 use Rattle.rr_feed.specs.Feed.{HandsOut}
 use Rattle.rr_feed.proofs.FedLemmas.{items_left-handed}
 use Rattle.rr_node.specs.Connection.{text_to}
-use Rattle.rr_node.proofs.ClockLemmas.{HasGiven-nil, HasGiven-trans}
+use Rattle.rr_host.proofs.ClockLemmas.{HasGiven-nil, HasGiven-trans}
 use Rattle.rr_node.proofs.ConnectionLemmas.{Serves-nothing, Serves-item, Serves-none, Ends-taking, Ends-after, taken_whole}
 use Rattle.rr_node.proofs.connection.Connection.write_lines.Goals as goal
 

@@ -1,5 +1,5 @@
 use Rattle.std.proofs.Common.{◌≡◌, ℕ, ℤ, List, ◌++◌, length}
-use Rattle.rr_node.specs.Clock.{HasGiven}
+use Rattle.rr_host.specs.Clock.{HasGiven}
 use Rattle.rr_node.specs.Connection.{Serves}
 use Rattle.rr_node.proofs.connection.Connection.write_lines.Given as goal
 

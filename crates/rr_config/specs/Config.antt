@@ -1,0 +1,69 @@
+-- What the TOML text of a configuration says: the configuration, or the first fault, key by key.
+use Rattle.std.specs.Prelude.{ℕ, List, [], map, codes, Option, None, Some, Result, Ok, Err}
+use Rattle.std.specs.String.{string_bytes}
+use Rattle.toml.specs.Data.{Members, get_member}
+use Rattle.rr_base.specs.declared.fault.SchemaFault.{SchemaFault}
+use Rattle.rr_base.specs.declared.fault.SchemaFault.TheVariants.{BadToml}
+use Rattle.rr_base.specs.Document.{layout_in, table_of}
+use Rattle.rr_text.specs.Results.{◌>>=◌}
+use Rattle.rr_base.specs.Schema.{Layout}
+use Rattle.rr_line.specs.declared.precision.Precision.{Precision}
+use Rattle.rr_line.specs.declared.precision.Precision.TheVariants.{Ns}
+use Rattle.rr_config.specs.declared.config.Config.{Config}
+use Rattle.rr_config.specs.declared.fault.ConfigFault.{ConfigFault}
+use Rattle.rr_config.specs.Fault.{of_schema_fault}
+use Rattle.rr_config.specs.Values.{needed, if_there, text_of, count_of, some_count_of, some_idle_of, texts_of, readers_of, precision_of}
+
+-- a configuration, with its texts by their bytes
+pub record ConfigView : Type 0 where
+  pub schema : Layout
+  pub lines : List ℕ
+  pub fetch : List (List ℕ)
+  pub peers : List (List ℕ)
+  pub rounds : ℕ
+  pub visits : ℕ
+  pub lead : Option ℕ
+  pub precision : Precision
+  pub idle : Option ℕ
+
+abbrev pub config_view : Config → ConfigView
+config_view c = record {
+  schema = c.schema;
+  lines = string_bytes c.lines;
+  fetch = map string_bytes c.fetch.items;
+  peers = map string_bytes c.peers.items;
+  rounds = c.rounds;
+  visits = c.visits;
+  lead = c.lead;
+  precision = c.precision;
+  idle = c.idle;
+}
+
+-- a step of a schema as one of the configuration
+abbrev pub of_schema : {A : Type 0} → Result A SchemaFault → Result A ConfigFault
+of_schema (Ok x) = Ok x
+of_schema (Err fault) = Err (of_schema_fault fault)
+
+-- the configuration of a table: the schema, and then the other keys, each through its faults; other keys are ignored
+unfoldable pub config_in : Members → Result ConfigView ConfigFault
+config_in table = do
+  schema ← of_schema (layout_in table)
+  address ← needed (get_member (codes "lines") table)
+  lines ← text_of address
+  addresses ← needed (get_member (codes "fetch") table)
+  fetch ← readers_of addresses
+  peers ← if_there [] texts_of (get_member (codes "peers") table)
+  rounds ← if_there 0 count_of (get_member (codes "rounds") table)
+  visits ← if_there 0 count_of (get_member (codes "visits") table)
+  lead ← if_there None some_count_of (get_member (codes "lead") table)
+  precision ← if_there Ns precision_of (get_member (codes "precision") table)
+  idle ← if_there None some_idle_of (get_member (codes "idle") table)
+  Ok (record { schema = schema; lines = lines; fetch = fetch; peers = peers; rounds = rounds; visits = visits; lead = lead; precision = precision; idle = idle })
+
+-- the configuration of a text
+abbrev pub config_of : List ℕ → Result ConfigView ConfigFault
+config_of text = read (table_of text)
+  where
+    read : Option Members → Result ConfigView ConfigFault
+    read None = Err (of_schema_fault BadToml)
+    read (Some table) = config_in table

@@ -1,0 +1,78 @@
+-- What the values of a configuration's keys are read as.
+use Rattle.std.specs.Prelude.{ℕ, ◌&&◌, nat_le, not, List, [], ◌∷◌, length, ℤ, pos, negsuc, codes, Option, None, Some, Result, Ok, Err, if◌then◌else◌}
+use Rattle.std.specs.Str.{bytes_eq}
+use Rattle.toml.specs.Data.{Data, Items, no_items, item, as_integer, as_str, as_array}
+use Rattle.rr_text.specs.Results.{◌>>=◌, unless}
+use Rattle.rr_text.specs.declared.limits.TheConstants.{MAX_READERS}
+use Rattle.rr_line.specs.declared.precision.Precision.{Precision}
+use Rattle.rr_line.specs.declared.precision.Precision.TheVariants.{Ns, Us, Ms, S}
+use Rattle.rr_config.specs.declared.fault.ConfigFault.{ConfigFault}
+use Rattle.rr_config.specs.declared.value.TheConstants.{MAX_IDLE}
+use Rattle.rr_config.specs.declared.fault.ConfigFault.TheVariants.{MissingField, WrongKind, BadCount, BadPrecision}
+
+-- a key that must be there
+abbrev pub needed : Option Data → Result Data ConfigFault
+needed None = Err MissingField
+needed (Some value) = Ok value
+
+-- a key that may be missing, and what then stands in its place
+abbrev pub if_there : {A : Type 0} → A → (Data → Result A ConfigFault) → Option Data → Result A ConfigFault
+if_there default read None = Ok default
+if_there default read (Some value) = read value
+
+-- a value that must be of a kind
+abbrev pub of_kind : {A : Type 0} → Option A → Result A ConfigFault
+of_kind None = Err WrongKind
+of_kind (Some value) = Ok value
+
+-- a text
+abbrev pub text_of : Data → Result (List ℕ) ConfigFault
+text_of value = of_kind (as_str value)
+
+-- a whole number that isn't negative
+abbrev pub unsigned_of : ℤ → Result ℕ ConfigFault
+unsigned_of (pos n) = Ok n
+unsigned_of (negsuc n) = Err BadCount
+
+abbrev pub count_of : Data → Result ℕ ConfigFault
+count_of value = of_kind (as_integer value) >>= unsigned_of
+
+abbrev pub some_count_of : Data → Result (Option ℕ) ConfigFault
+some_count_of value = count_of value >>= λ n. Ok (Some n)
+
+-- the texts of an array, one after the other
+unfoldable pub texts_in : Items → Result (List (List ℕ)) ConfigFault
+texts_in no_items = Ok []
+texts_in (item value values) = do
+  text ← text_of value
+  others ← texts_in values
+  Ok (text ∷ others)
+
+abbrev pub texts_of : Data → Result (List (List ℕ)) ConfigFault
+texts_of value = of_kind (as_array value) >>= texts_in
+
+-- 1 to 16 texts
+abbrev pub readers_of : Data → Result (List (List ℕ)) ConfigFault
+readers_of value = do
+  texts ← texts_of value
+  unless BadCount (not (nat_le 1 (length texts) && nat_le (length texts) MAX_READERS)) (Ok texts)
+
+-- the name of a precision
+abbrev pub precision_named : List ℕ → Result Precision ConfigFault
+precision_named name =
+    if bytes_eq name (codes "ns") then Ok Ns
+    else (if bytes_eq name (codes "us") then Ok Us
+    else (if bytes_eq name (codes "ms") then Ok Ms
+    else (if bytes_eq name (codes "s") then Ok S else Err BadPrecision)))
+
+abbrev pub precision_of : Data → Result Precision ConfigFault
+precision_of value = text_of value >>= precision_named
+
+-- a number of seconds from 1 to a day
+abbrev pub idle_of : Data → Result ℕ ConfigFault
+idle_of value = do
+  seconds ← count_of value
+  unless BadCount (not (nat_le 1 seconds && nat_le seconds MAX_IDLE)) (Ok seconds)
+
+abbrev pub some_idle_of : Data → Result (Option ℕ) ConfigFault
+some_idle_of value = idle_of value >>= λ n. Ok (Some n)

@@ -1,0 +1,19 @@
+//! The configuration of a node: what an operator writes in TOML.
+//!
+//! A [`Config`] has the schema of the store, the addresses that the node listens on, its peers, how long
+//! it serves, and how the times of lines are taken. It is read by [`Config::from_toml`].
+//!
+//! ```text
+//! TOML text ── toml ──> a table ── value, key by key ──> Config, or the first ConfigFault
+//! ```
+//!
+//! In `specs/` the configuration of a text is a function of its TOML table, key by key, and so is the
+//! first fault of a text that is refused.
+#![tactic(auto)]
+
+mod config;
+mod fault;
+mod value;
+
+pub use config::Config;
+pub use fault::ConfigFault;

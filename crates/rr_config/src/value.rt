@@ -1,0 +1,116 @@
+//! The values of a configuration's keys.
+
+ghost use Rattle.std.specs.Prelude.{◌≡◌, map, option_map, option_copied};
+ghost use Rattle.std.specs.Result.{result_map_both};
+ghost use Rattle.std.specs.String.{string_bytes};
+ghost use Rattle.toml.specs.Data.{get_member};
+ghost use Rattle.toml.specs.View.{view, table_view, array_view};
+ghost use Rattle.rr_base.specs.Results.{Gives, GivesUnless};
+ghost use Rattle.rr_config.specs.Values.{needed, text_of, count_of, texts_in, texts_of, readers_of, precision_named, precision_of, idle_of};
+
+use crate::fault::ConfigFault;
+use rr_line::Precision;
+use rr_text::limits::MAX_READERS;
+use std::alloc::Global;
+use toml::{Table, Value};
+
+/// The most seconds for which a connection may move no byte: one day.
+pub(crate) const MAX_IDLE: u64 = 86_400;
+
+/// The value at a key, if it is there.
+pub(crate) fn find<'a>(table: &'a Table, key: &str) -> Option<&'a Value>
+    ensures { option_map (λ value. view value.now) result ≡ get_member key.now (table_view table.now) }
+{
+    table.get(key)
+}
+
+/// The value at a key that must be there.
+pub(crate) fn value_at<'a>(table: &'a Table, key: &str) -> Result<&'a Value, ConfigFault>
+    ensures { Gives (λ value. view value.now) result (needed (get_member key.now (table_view table.now))) }
+{
+    find(table, key).ok_or(ConfigFault::MissingField)
+}
+
+/// A text.
+pub(crate) fn text_of(value: &Value) -> Result<&str, ConfigFault>
+    ensures { Gives (λ text. text.now) result (text_of (view value.now)) }
+{
+    value.as_str().ok_or(ConfigFault::WrongKind)
+}
+
+/// A whole number that isn't negative.
+pub(crate) fn count_of(value: &Value) -> Result<u64, ConfigFault>
+    ensures { result ≡ count_of (view value.now) }
+{
+    match value.as_integer() {
+        Some(number) => u64::try_from(number).map_err(|_| ConfigFault::BadCount),
+        None => Err(ConfigFault::WrongKind),
+    }
+}
+
+/// The texts of an array.
+pub(crate) fn texts_of(alloc: Global, value: &Value) -> Result<Vec<String>, ConfigFault>
+    ensures { GivesUnless ConfigFault.Memory (λ texts. map string_bytes texts.items) result
+        (texts_of (view value.now)) }
+{
+    match value.as_array() {
+        Some(values) => texts_in(alloc, values),
+        None => Err(ConfigFault::WrongKind),
+    }
+}
+
+/// The texts of the values of an array, one after the other.
+fn texts_in(alloc: Global, values: &Vec<Value>) -> Result<Vec<String>, ConfigFault>
+    ensures { GivesUnless ConfigFault.Memory (λ texts. map string_bytes texts.items) result
+        (texts_in (array_view values.now)) }
+{
+    let mut texts = Vec::new(alloc);
+    for value in values {
+        let text = text_of(value)?;
+        texts.push(String::from_str(alloc, text)?)?;
+    }
+    Ok(texts)
+}
+
+/// The addresses that fetches are answered on, from 1 to 16 of them.
+pub(crate) fn readers_of(alloc: Global, value: &Value) -> Result<Vec<String>, ConfigFault>
+    ensures { GivesUnless ConfigFault.Memory (λ texts. map string_bytes texts.items) result
+        (readers_of (view value.now)) }
+{
+    let texts = texts_of(alloc, value)?;
+    if texts.is_empty() || texts.len() > MAX_READERS {
+        return Err(ConfigFault::BadCount);
+    }
+    Ok(texts)
+}
+
+/// The precision of a name.
+fn precision_named(name: &str) -> Result<Precision, ConfigFault>
+    ensures { result ≡ precision_named name.now }
+{
+    match name {
+        "ns" => Ok(Precision::Ns),
+        "us" => Ok(Precision::Us),
+        "ms" => Ok(Precision::Ms),
+        "s" => Ok(Precision::S),
+        _ => Err(ConfigFault::BadPrecision),
+    }
+}
+
+/// A precision, by its name.
+pub(crate) fn precision_of(value: &Value) -> Result<Precision, ConfigFault>
+    ensures { result ≡ precision_of (view value.now) }
+{
+    precision_named(text_of(value)?)
+}
+
+/// For how many seconds a connection may move no byte, from 1 to a day.
+pub(crate) fn idle_of(value: &Value) -> Result<u64, ConfigFault>
+    ensures { result ≡ idle_of (view value.now) }
+{
+    let seconds = count_of(value)?;
+    if seconds == 0 || seconds > MAX_IDLE {
+        return Err(ConfigFault::BadCount);
+    }
+    Ok(seconds)
+}

@@ -1,0 +1,5 @@
+pub mod PrefixLemmas
+pub mod EditionsLemmas
+pub mod ChangesLemmas
+pub mod RuleLemmas
+pub mod StandingLemmas

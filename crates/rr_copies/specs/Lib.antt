@@ -1,0 +1,5 @@
+pub mod Editions
+pub mod Changes
+pub mod Rule
+pub mod Standing
+pub mod Writers

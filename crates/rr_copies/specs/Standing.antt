@@ -1,0 +1,88 @@
+-- What contracts see of a keeper, and what it keeps to.
+use Rattle.std.specs.Prelude.{◌≡◌, ℕ, Bool, true, List, [], ◌∷◌, ◌++◌, fold}
+use Rattle.logbook.specs.Pages.{Book}
+use Rattle.rr_base.specs.Schema.{Layout}
+use Rattle.rr_replica.specs.declared.op.Op.{Op}
+use Rattle.rr_replica.specs.Cells.{Cells}
+use Rattle.rr_replica.specs.Holding.{Holding}
+use Rattle.rr_replica.specs.Operations.{outcome_of, applied, step, joins_of, AllAccepted}
+use Rattle.rr_copies.specs.declared.rule.View.{View}
+use Rattle.rr_copies.specs.declared.shown.Change.{Change}
+use Rattle.rr_copies.specs.Changes.{ops_in, mark_in}
+use Rattle.rr_copies.specs.Editions.{Sighting, flat, Begins}
+
+-- a keeper: its desk; the schema, origin and next number of its own replica; the operations that are published, and
+-- those that are pending
+pub record KeeperState : Type 0 where
+  pub desk : Book
+  pub schema : Layout
+  pub origin : ℕ
+  pub next : ℕ
+  pub published : List Op
+  pub pending : List Op
+
+-- the cells that all of its operations make
+abbrev pub cells_of : KeeperState → Cells
+cells_of k = outcome_of k.schema (k.published ++ k.pending)
+
+-- what its own replica holds
+abbrev pub holding_of : KeeperState → Holding
+holding_of k = record { schema = k.schema; origin = k.origin; next = k.next; cells = cells_of k }
+
+-- with an operation more that is pending
+abbrev pub with_pending : KeeperState → Op → KeeperState
+with_pending k op = record {
+  desk = k.desk;
+  schema = k.schema;
+  origin = k.origin;
+  next = (applied (holding_of k) op).next;
+  published = k.published;
+  pending = k.pending ++ op ∷ [];
+}
+
+-- with all that is pending published
+abbrev pub with_all_published : KeeperState → KeeperState
+with_all_published k = record {
+  desk = k.desk;
+  schema = k.schema;
+  origin = k.origin;
+  next = k.next;
+  published = k.published ++ k.pending;
+  pending = [];
+}
+
+-- a keeper that has opened a desk with what a replica holds
+abbrev pub opened : Holding → Book → KeeperState
+opened h b = record { desk = b; schema = h.schema; origin = h.origin; next = h.next; published = joins_of h.cells; pending = [] }
+
+-- ---- what keepers keep to
+
+-- the keeper's view fits the copy that is shown, and its own replica holds the pending operations too
+pub record IsTied (v : View) (shown own : Holding) (pending : List Op) : Type 0 where
+  pub writes : v.writes ≡ true
+  pub joined : v.joined ≡ true
+  pub schema : v.schema ≡ own.schema
+  pub cells : shown.cells ≡ outcome_of shown.schema v.seen
+  pub accepted : AllAccepted shown pending
+  pub applied : own ≡ fold step shown pending
+
+-- the copy's book has what is published, and the keeper's has that and perhaps some of what is pending
+pub record IsBooked (v : View) (copy all : Sighting) (pending : List Op) : Type 0 where
+  pub copy_desk : copy.desk ≡ v.desk
+  pub all_desk : all.desk ≡ v.desk
+  pub shown : flat copy.editions ≡ v.seen
+  pub whole : Begins (flat all.editions) (v.seen ++ pending)
+
+-- the pending changes can be published: the last mark among them has what is published and all that is pending
+pub record IsReady (v : View) (shown : Holding) (front : Sighting) (cs : List Change) : Type 0 where
+  pub writes : v.writes ≡ true
+  pub joined : v.joined ≡ true
+  pub accepted : AllAccepted shown (ops_in cs)
+  pub marked : flat (mark_in front cs).editions ≡ v.seen ++ ops_in cs
+  pub desk : (mark_in front cs).desk ≡ v.desk
+
+-- what a keeper keeps to, with the changes that are pending, and whether the last of them is a mark of all
+pub record IsKeeper (v : View) (shown own : Holding) (front all : Sighting) (cs : List Change) (marked : Bool) : Type 0 where
+  pub tied : IsTied v shown own (ops_in cs)
+  pub booked : IsBooked v front all (ops_in cs)
+  pub ready : marked ≡ true → IsReady v shown front cs

@@ -1,0 +1,151 @@
+//! A keeper's replica beside its two published copies.
+ghost use Rattle.std.specs.Prelude.{◌≡◌, [], true, OnErr, OnOk};
+ghost use Rattle.left_right.specs.Sides.{view};
+ghost use Rattle.rr_replica.specs.Held.{IsHolding};
+ghost use Rattle.rr_replica.specs.Operations.{accepts, joins_of};
+ghost use Rattle.rr_replica.specs.Standing.{held};
+ghost use Rattle.rr_copies.specs.Editions.{flat};
+ghost use Rattle.rr_copies.specs.Rule.{keeper_of};
+ghost use Rattle.rr_copies.specs.Standing.{cells_of, holding_of, opened, with_all_published, with_pending};
+ghost use Rattle.rr_copies.specs.Writers.{changes};
+
+use crate::book::{Editions, Front};
+use crate::shown::{Change, CopyState, Hinted, Shown};
+use crate::writing::{DeskWriter, mark, publish};
+use core::mem::replace_with;
+use left_right::Absorb;
+use rr_archive::Archive;
+use rr_replica::{Hint, Op, Replica};
+use std::alloc::AllocError;
+use std::marker::Model;
+use std::sync::Wait;
+
+/// A keeper's replica, with all operations, published or pending, and the two copies that readers read in
+/// turn, with what is published.
+///
+/// It is not `Drop`: it ends by [`Copies::close`].
+pub struct Copies<A: Archive>
+where
+    Shown<A>: Absorb<Change, State = CopyState>,
+{
+    writer: DeskWriter<A>,
+    own: Replica<A>,
+    book: Editions,
+    /// Whether the last pending change is a mark of the whole book.
+    marked: bool,
+}
+
+impl<A: Archive> Model for Copies<A>
+where
+    Shown<A>: Absorb<Change, State = CopyState>,
+{
+    ghost use Rattle.rr_copies.specs.Standing.{KeeperState, IsKeeper};
+
+    ghost Value = { KeeperState };
+
+    ghost use Rattle.left_right.specs.Sides.{view as seat_view};
+    ghost use Rattle.rr_replica.specs.Standing.{held};
+    ghost use Rattle.rr_copies.specs.Changes.{ops_in};
+    ghost use Rattle.rr_copies.specs.Writers.{changes};
+
+    ghost view = { λ k. record {
+      desk = (seat_view k.writer.desk.place).desk;
+      schema = k.own.schema;
+      origin = k.own.origin;
+      next = k.own.next;
+      published = (seat_view k.writer.desk.place).seen;
+      pending = ops_in (changes k.writer);
+    } };
+
+    ghost invariant = { λ k. IsKeeper (seat_view k.writer.desk.place)
+        (held k.writer.desk.shown.value.replica) (held k.own)
+        k.writer.desk.shown.value.front k.book (changes k.writer) k.marked };
+}
+
+impl<A: Archive> Copies<A> {
+    /// A replica beside its two copies, which are opened, with their book.
+    pub fn new(writer: DeskWriter<A>, own: Replica<A>, book: Editions) -> Copies<A>
+        requires holds { IsHolding (held own) }
+        requires view { view writer.desk.place ≡ keeper_of (held own) book.desk }
+        requires copy { held writer.desk.shown.value.replica ≡ held own }
+        requires front { writer.desk.shown.value.front ≡ book }
+        requires pending { changes writer ≡ [] }
+        requires book { flat book.editions ≡ joins_of own.cells }
+        ensures { result ≡ opened (held own) book.desk }
+    {
+        Copies {
+            writer,
+            own,
+            book,
+            marked: false,
+        }
+    }
+
+    /// The keeper's replica.
+    pub fn replica(&self) -> &Replica<A>
+        ensures holding { held result.now ≡ holding_of self.now }
+        ensures cells { result.now.cells ≡ cells_of self.now }
+        ensures next { result.now.next ≡ self.now.next }
+        ensures origin { result.now.origin ≡ self.now.origin }
+        ensures schema { result.now.schema ≡ self.now.schema }
+    {
+        &self.own
+    }
+
+    /// Makes an operation pending that the replica takes, and applies it there. Room is
+    /// made first, so that it is taken whole or not at all.
+    pub fn push(&mut self, hint: Hint, op: Op) -> Result<(), AllocError>
+        requires { accepts (holding_of self.old) op ≡ true }
+        ensures pending { OnOk result (self.new ≡ with_pending self.old op) }
+        ensures unchanged { OnErr result (self.new ≡ self.old) }
+    {
+        let shown = Hinted {
+            op: op.copy()?,
+            hint,
+        };
+        self.own.ready_near(hint, &op)?;
+        if self.writer.append(Change::Apply(shown)).is_err() {
+            return Err(AllocError);
+        }
+        self.own.apply_near(hint, &op)?;
+        self.marked = false;
+        Ok(())
+    }
+
+    /// Shows readers all pending operations, at one step. It waits for readers that are still in the
+    /// copy that is not shown. Where it is refused, nothing has changed, and readers see what they saw.
+    ///
+    /// The cost is that of applying the operations to each copy once, however large the replica is.
+    pub fn publish<R: Wait>(&mut self, rt: &R) -> Result<(), AllocError>
+        ensures published { OnOk result (self.new ≡ with_all_published self.old) }
+        ensures unchanged { OnErr result (self.new ≡ self.old) }
+    {
+        mark(&mut self.book, &mut self.writer, self.marked)?;
+        self.marked = true;
+        replace_with(&mut self.writer, rt, |writer, rt| publish(rt, writer))?;
+        self.marked = false;
+        Ok(())
+    }
+
+    /// The editions of the copy that is shown.
+    pub fn front(&self) -> Front
+        ensures desk { result.desk ≡ self.now.desk }
+        ensures published { flat result.editions ≡ self.now.published }
+    {
+        self.writer.published().front.again()
+    }
+
+    /// Gives the replica. It waits for readers that are in a copy; after it no reader enters.
+    pub fn close<R: Wait>(self, rt: &R) -> Replica<A>
+        ensures { held result ≡ holding_of self }
+    {
+        let Copies {
+            writer,
+            own,
+            book: _,
+            marked: _,
+        } = self;
+        drop(writer.take(rt));
+        own
+    }
+}

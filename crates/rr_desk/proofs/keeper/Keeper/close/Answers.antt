@@ -1,5 +1,0 @@
-use Rattle.rr_desk.proofs.StandingLemmas.{own-state}
-use Rattle.rr_desk.proofs.keeper.Keeper.close.Goals as goal
-
-pub returns : goal.returns
-returns g c = own-state _ _ _ _ _ _ _ _ _ c.self.invariant c.self.view_is

@@ -1,0 +1,4 @@
+pub mod Clock
+pub mod Calls
+pub mod Visits
+pub mod Prepared

@@ -1,0 +1,66 @@
+//! Peers over TCP.
+
+use crate::dial::Dial;
+use crate::listening::{Half, halves, limit_idle};
+use rr_base::Counted;
+use std::alloc::Global;
+use std::net::{Net, TcpStream, ToSocketAddrs};
+use std::time::Duration;
+
+/// Reaches peers over TCP. Nothing is known of what they send.
+///
+/// A peer can't be reached, either, where there is no memory for its connection, or where it doesn't answer
+/// the call within the idle time.
+#[derive(Drop)]
+pub struct Calling<'a, R> {
+    rt: &'a R,
+    alloc: Global,
+    idle: Option<u64>,
+}
+
+impl<'a, R: Net<Stream = TcpStream>> Calling<'a, R> {
+    /// Reaches peers by the network of a runtime. Each connection may move no byte for `idle` seconds, or
+    /// without end where that is missing.
+    pub fn new(rt: &'a R, alloc: Global, idle: Option<u64>) -> Calling<'a, R> {
+        Calling { rt, alloc, idle }
+    }
+
+    /// Connects to the first of a name's addresses that answers in time.
+    fn connect(&self, address: &str) -> Option<TcpStream> {
+        let Some(seconds) = self.idle else {
+            return TcpStream::connect(self.rt, address).ok();
+        };
+        let limit = Duration::from_secs(seconds);
+        for found in address.to_socket_addrs(self.rt).ok()? {
+            if let Ok(stream) = TcpStream::connect_timeout(self.rt, &found, limit) {
+                return Some(stream);
+            }
+        }
+        None
+    }
+}
+
+impl<R: Net<Stream = TcpStream>> Dial for Calling<'_, R> {
+    ghost use Rattle.std.specs.Prelude.{[], ◌∷◌, None};
+    ghost use Rattle.rr_host.specs.Calls.{Grows, handed_back, stream};
+
+    type Input = Half;
+
+    type Output = Half;
+
+    ghost calls = { λ d. None };
+
+    fn open(&mut self, address: &str) -> Option<(Counted<Half>, Counted<Half>)> {
+        let stream = self.connect(address)?;
+        limit_idle(&stream, self.idle).ok()?;
+        let (input, output) = halves(self.alloc, stream)?;
+        Some((Counted::new(input), Counted::new(output)))
+    }
+
+    fn take_back(&mut self, input: Counted<Half>, output: Counted<Half>)
+        ensures { Grows None None (handed_back (stream None None) ∷ []) }
+    {
+        drop(input);
+        drop(output);
+    }
+}

@@ -1,0 +1,41 @@
+//! Where the connections of a listener come from.
+
+use rr_base::Counted;
+use std::io::{Read, Write};
+
+/// What comes of waiting for a connection.
+pub enum Visit<R, W> {
+    /// A connection: its input and its output.
+    Stream(Counted<R>, Counted<W>),
+    /// It failed.
+    Failed,
+    /// None will come any more.
+    Over,
+}
+
+/// Whoever gives connections, one after the other, and is handed back each of them.
+///
+/// It is seen as the list of its calls, where that is known.
+pub trait Visits {
+    ghost use Rattle.std.specs.Prelude.{[], ◌∷◌, List, Option};
+    ghost use Rattle.rr_base.specs.Counted.{inner_of};
+    ghost use Rattle.rr_host.specs.Visits.{Call, HasCalled, TookBack, call_of};
+
+    /// What a connection's bytes come from.
+    type Input: Read;
+
+    /// What a connection's answers go to.
+    type Output: Write;
+
+    ghost calls: { Self → Option (List Call) };
+
+    /// Waits for the next connection.
+    fn next(&mut self) -> Visit<Self::Input, Self::Output>
+        ensures { HasCalled (calls self.old) (calls self.new)
+            (call_of Self.Input.remaining Self.Output.contents result ∷ []) };
+
+    /// Takes back a connection that was given.
+    fn take_back(&mut self, input: Counted<Self::Input>, output: Counted<Self::Output>)
+        ensures { HasCalled (calls self.old) (calls self.new)
+            (TookBack (Self.Input.remaining (inner_of input)) (Self.Output.contents (inner_of output)) ∷ []) };
+}

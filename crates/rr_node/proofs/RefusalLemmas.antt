@@ -1,0 +1,34 @@
+-- Lines that are refused, which ask a clock for nothing.
+use Rattle.std.proofs.Common.{◌≢◌, ℕ, ℤ, List, [], Option, Result, Ok, Err, inl, inr, refl}
+use Rattle.std.specs.Prelude.{IfOk, OnOk}
+use Rattle.std.specs.declared.alloc.AllocError.{AllocError}
+use Rattle.rr_base.specs.Results.{GivesUnless}
+use Rattle.rr_feed.specs.Items.{Line}
+use Rattle.rr_line.specs.declared.fault.LineFault.{LineFault}
+use Rattle.rr_line.specs.declared.fault.LineFault.TheVariants.{Memory}
+use Rattle.rr_line.specs.Fault.{line_fault_name}
+use Rattle.rr_line.specs.Line.{line_view}
+use Rattle.rr_line.specs.Reading.{reading}
+use Rattle.rr_copies.specs.Standing.{KeeperState}
+use Rattle.rr_host.proofs.ClockLemmas.{HasGiven-nil}
+use Rattle.rr_node.specs.declared.answer.Answer.{Answer}
+use Rattle.rr_node.specs.declared.rules.Rules.{Rules}
+use Rattle.rr_node.specs.Connection.{IsAnswer, TakesItem}
+use Rattle.rr_node.specs.Lines.{refused}
+
+-- a line that isn't read asks for nothing and changes nothing
+pub takes_refusal : (rules : Rules) (bytes : List ℕ) (k : KeeperState) (given : Option (List ℤ)) (fault : LineFault) (result : Result Answer AllocError)
+    → GivesUnless Memory line_view (Err fault) (reading rules.precision bytes)
+    → IfOk result (IsAnswer (refused (line_fault_name fault))) → OnOk result (fault ≢ Memory)
+    → TakesItem rules (Line bytes) k k given given result
+takes_refusal rules bytes k given fault (Ok answer) (inl memory) answers read = absurd (read memory)
+takes_refusal rules bytes k given fault (Ok answer) (inr said) answers read = record {
+  asked = [];
+  gave = HasGiven-nil given;
+  taken = inl (rw said refl, rw said (refl, answers));
+}
+takes_refusal rules bytes k given fault (Err e) unless answers read = record {
+  asked = [];
+  gave = HasGiven-nil given;
+  taken = inr (refl, refl, (e, refl));
+}
