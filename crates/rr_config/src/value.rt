@@ -5,7 +5,7 @@ ghost use Rattle.std.specs.Result.{result_map_both};
 ghost use Rattle.std.specs.String.{string_bytes};
 ghost use Rattle.toml.specs.Data.{get_member};
 ghost use Rattle.toml.specs.View.{view, table_view, array_view};
-ghost use Rattle.rr_base.specs.Results.{Gives, GivesUnless};
+ghost use Rattle.rr_text.specs.Results.{Gives, GivesUnless};
 ghost use Rattle.rr_config.specs.Values.{needed, text_of, count_of, texts_in, texts_of, readers_of, precision_named, precision_of, idle_of};
 
 use crate::fault::ConfigFault;

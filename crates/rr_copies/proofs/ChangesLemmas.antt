@@ -1,7 +1,7 @@
 -- What a list of changes makes of a copy.
 use Rattle.std.proofs.Common.{◌≡◌, true, List, [], ◌∷◌, ◌++◌, fold, refl, ap}
-use Rattle.rr_replica.specs.declared.op.Op.{Op}
-use Rattle.rr_replica.specs.Operations.{step}
+use Rattle.rr_cells.specs.declared.op.Op.{Op}
+use Rattle.rr_cells.specs.Operations.{step}
 use Rattle.rr_copies.specs.declared.shown.Change.{Change}
 use Rattle.rr_copies.specs.declared.shown.Change.TheVariants.{Apply, Mark}
 use Rattle.rr_copies.specs.declared.shown.CopyState.{CopyState}

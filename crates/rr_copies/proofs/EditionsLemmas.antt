@@ -5,7 +5,7 @@ use Rattle.std.proofs.lemmas.Bool.Decides.{nat_tests}
 use mathlib.Core.List.{IsPrefix}
 use prog.Atomic.{either}
 use Rattle.logbook.specs.Pages.{Cell, cell, keeps, no_nib, step, Moves, Goes}
-use Rattle.rr_replica.specs.declared.op.Op.{Op}
+use Rattle.rr_cells.specs.declared.op.Op.{Op}
 use Rattle.rr_copies.specs.Editions.{Sighting, flat, after, Begins, IsCounted, Adds}
 use Rattle.rr_copies.proofs.PrefixLemmas.{prefix_all}
 

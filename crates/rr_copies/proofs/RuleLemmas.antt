@@ -6,11 +6,11 @@ use lib.ListN.{get_elem?}
 use Rattle.atomic_table.proofs.Lists.{at_set, at_snoc, set_again}
 use Rattle.logbook.specs.Pages.{Book}
 use Rattle.rr_base.specs.Schema.{Layout, IsLayout}
-use Rattle.rr_replica.specs.declared.op.Op.{Op}
-use Rattle.rr_replica.specs.Cells.{Cells, IsTrimmed}
-use Rattle.rr_replica.specs.Holding.{Holding}
-use Rattle.rr_replica.specs.Operations.{cell_step, outcome_of, step, joins_of, AllAccepted}
-use Rattle.rr_replica.proofs.OperationsLemmas.{outcome_of-append, outcome_of-joins, steps-cells, steps-schema}
+use Rattle.rr_cells.specs.declared.op.Op.{Op}
+use Rattle.rr_cells.specs.Cells.{Cells, IsTrimmed}
+use Rattle.rr_cells.specs.Holding.{Holding}
+use Rattle.rr_cells.specs.Operations.{cell_step, outcome_of, step, joins_of, AllAccepted}
+use Rattle.rr_cells.proofs.OperationsLemmas.{outcome_of-append, outcome_of-joins, steps-cells, steps-schema}
 use Rattle.rr_copies.specs.declared.rule.View.{View}
 use Rattle.rr_copies.specs.declared.shown.Change.{Change}
 use Rattle.rr_copies.specs.declared.shown.Change.TheVariants.{Mark}

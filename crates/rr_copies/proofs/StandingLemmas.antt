@@ -3,12 +3,11 @@ use Rattle.std.proofs.Common.{◌≡◌, Bool, true, false, List, [], ◌∷◌,
 use Rattle.std.proofs.lemmas.List.Sums.{fold-append}
 use Rattle.logbook.specs.Pages.{Book}
 use Rattle.rr_base.specs.Schema.{Layout}
-use Rattle.rr_replica.specs.declared.op.Op.{Op}
-use Rattle.rr_replica.specs.Cells.{Cells}
-use Rattle.rr_replica.specs.Held.{IsHolding}
-use Rattle.rr_replica.specs.Holding.{Holding}
-use Rattle.rr_replica.specs.Operations.{accepts, applied, cell_step, outcome_of, step, joins_of, AllAccepted}
-use Rattle.rr_replica.proofs.OperationsLemmas.{accepted-append, outcome_of-append, outcome_of-joins, step_accepted, step-origin, step-schema, steps-cells, steps-schema}
+use Rattle.rr_cells.specs.declared.op.Op.{Op}
+use Rattle.rr_cells.specs.Cells.{Cells}
+use Rattle.rr_cells.specs.Holding.{IsHolding, Holding}
+use Rattle.rr_cells.specs.Operations.{accepts, applied, cell_step, outcome_of, step, joins_of, AllAccepted}
+use Rattle.rr_cells.proofs.OperationsLemmas.{accepted-append, outcome_of-append, outcome_of-joins, step_accepted, step-origin, step-schema, steps-cells, steps-schema}
 use Rattle.rr_copies.specs.declared.rule.View.{View}
 use Rattle.rr_copies.specs.declared.shown.Change.{Change}
 use Rattle.rr_copies.specs.declared.shown.Change.TheVariants.{Apply, Mark}

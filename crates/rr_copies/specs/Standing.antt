@@ -2,10 +2,10 @@
 use Rattle.std.specs.Prelude.{◌≡◌, ℕ, Bool, true, List, [], ◌∷◌, ◌++◌, fold}
 use Rattle.logbook.specs.Pages.{Book}
 use Rattle.rr_base.specs.Schema.{Layout}
-use Rattle.rr_replica.specs.declared.op.Op.{Op}
-use Rattle.rr_replica.specs.Cells.{Cells}
-use Rattle.rr_replica.specs.Holding.{Holding}
-use Rattle.rr_replica.specs.Operations.{outcome_of, applied, step, joins_of, AllAccepted}
+use Rattle.rr_cells.specs.declared.op.Op.{Op}
+use Rattle.rr_cells.specs.Cells.{Cells}
+use Rattle.rr_cells.specs.Holding.{Holding}
+use Rattle.rr_cells.specs.Operations.{outcome_of, applied, step, joins_of, AllAccepted}
 use Rattle.rr_copies.specs.declared.rule.View.{View}
 use Rattle.rr_copies.specs.declared.shown.Change.{Change}
 use Rattle.rr_copies.specs.Changes.{ops_in, mark_in}

@@ -1,8 +1,8 @@
 //! A keeper's replica beside its two published copies.
 ghost use Rattle.std.specs.Prelude.{◌≡◌, [], true, OnErr, OnOk};
 ghost use Rattle.left_right.specs.Sides.{view};
-ghost use Rattle.rr_replica.specs.Held.{IsHolding};
-ghost use Rattle.rr_replica.specs.Operations.{accepts, joins_of};
+ghost use Rattle.rr_cells.specs.Holding.{IsHolding};
+ghost use Rattle.rr_cells.specs.Operations.{accepts, joins_of};
 ghost use Rattle.rr_replica.specs.Standing.{held};
 ghost use Rattle.rr_copies.specs.Editions.{flat};
 ghost use Rattle.rr_copies.specs.Rule.{keeper_of};
@@ -15,7 +15,8 @@ use crate::writing::{DeskWriter, mark, publish};
 use core::mem::replace_with;
 use left_right::Absorb;
 use rr_archive::Archive;
-use rr_replica::{Hint, Op, Replica};
+use rr_cells::Op;
+use rr_replica::{Hint, Replica};
 use std::alloc::AllocError;
 use std::marker::Model;
 use std::sync::Wait;

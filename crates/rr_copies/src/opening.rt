@@ -1,9 +1,9 @@
 //! Opening the two copies of a replica.
 ghost use Rattle.std.specs.Prelude.{◌≡◌, ◌≤◌, [], ◌∷◌, false, IfOk, OnOk};
 ghost use Rattle.left_right.specs.Sides.{view};
-ghost use Rattle.rr_base.specs.declared.limits.TheConstants.{MAX_READERS};
-ghost use Rattle.rr_replica.specs.Held.{IsHolding};
-ghost use Rattle.rr_replica.specs.Operations.{joins_of};
+ghost use Rattle.rr_text.specs.declared.limits.TheConstants.{MAX_READERS};
+ghost use Rattle.rr_cells.specs.Holding.{IsHolding};
+ghost use Rattle.rr_cells.specs.Operations.{joins_of};
 ghost use Rattle.rr_replica.specs.Standing.{held};
 ghost use Rattle.rr_copies.specs.Editions.{flat};
 ghost use Rattle.rr_copies.specs.Rule.{keeper_of};
@@ -14,7 +14,7 @@ use crate::book::{Batch, Editions};
 use crate::shown::{Change, Shown};
 use crate::writing::{DeskWriter, start};
 use rr_archive::Archive;
-use rr_base::limits::MAX_READERS;
+use rr_text::limits::MAX_READERS;
 use rr_replica::Replica;
 use std::alloc::{AllocError, Global};
 use std::marker::Brand;

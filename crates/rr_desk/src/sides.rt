@@ -12,7 +12,7 @@ impl<A: Archive> Target for Keeper<A> {
     ghost use Rattle.std.specs.Prelude.{[], ◌∷◌, ◌++◌, fold, refl};
     ghost use Rattle.std.proofs.Common.{◌∙◌, ap, sym};
     ghost use Rattle.std.proofs.lemmas.List.Sums.{fold-append};
-    ghost use Rattle.rr_replica.specs.declared.op.Op.TheVariants.{Join};
+    ghost use Rattle.rr_cells.specs.declared.op.Op.TheVariants.{Join};
     ghost use Rattle.rr_desk.specs.Standing.{HasJoined, with_joined};
     ghost use Rattle.rr_copies.specs.Standing.{cells_of, with_pending};
 

@@ -10,8 +10,8 @@ use Rattle.rr_point.specs.Point.{PointView}
 use Rattle.rr_desk.specs.Points.{with_puts, with_put}
 use Rattle.rr_copies.specs.Standing.{KeeperState, holding_of, with_all_published}
 use Rattle.rr_copies.proofs.PrefixLemmas.{prefix_refl, prefix_append, prefix_trans}
-use Rattle.rr_replica.specs.declared.op.Op.{Op}
-use Rattle.rr_line.specs.Key.{key_text}
+use Rattle.rr_cells.specs.declared.op.Op.{Op}
+use Rattle.rr_point.specs.Key.{key_text}
 use Rattle.rr_node.specs.declared.connection.Connection.{Connection}
 use Rattle.rr_node.specs.declared.fault.NodeFault.{NodeFault}
 use Rattle.rr_node.specs.declared.report.Report.{Report}

@@ -1,7 +1,7 @@
 -- What a pull leaves as it was.
 use Rattle.std.proofs.Common.{◌≡◌, List, [], ◌∷◌, refl, ap, ◌∙◌}
-use Rattle.rr_replica.specs.declared.cell.Cell.{Cell}
-use Rattle.rr_replica.specs.declared.op.Op.TheVariants.{Join}
+use Rattle.rr_cells.specs.declared.cell.Cell.{Cell}
+use Rattle.rr_cells.specs.declared.op.Op.TheVariants.{Join}
 use Rattle.rr_desk.specs.Standing.{HasJoined, with_joined}
 use Rattle.rr_copies.specs.Standing.{KeeperState, with_pending}
 

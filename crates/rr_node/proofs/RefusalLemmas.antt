@@ -2,7 +2,7 @@
 use Rattle.std.proofs.Common.{◌≢◌, ℕ, ℤ, List, [], Option, Result, Ok, Err, inl, inr, refl}
 use Rattle.std.specs.Prelude.{IfOk, OnOk}
 use Rattle.std.specs.declared.alloc.AllocError.{AllocError}
-use Rattle.rr_base.specs.Results.{GivesUnless}
+use Rattle.rr_text.specs.Results.{GivesUnless}
 use Rattle.rr_feed.specs.Items.{Line}
 use Rattle.rr_line.specs.declared.fault.LineFault.{LineFault}
 use Rattle.rr_line.specs.declared.fault.LineFault.TheVariants.{Memory}

@@ -1,12 +1,12 @@
 //! A line, handed to the keeper.
 
 ghost use Rattle.std.specs.Prelude.{◌≡◌, ◌≢◌, ℤ, [], ◌∷◌, IfOk, OnOk};
-ghost use Rattle.rr_base.specs.Bytes.{HasNoLineFeed};
+ghost use Rattle.rr_text.specs.Bytes.{HasNoLineFeed};
 ghost use Rattle.rr_copies.specs.Standing.{holding_of};
 ghost use Rattle.rr_feed.specs.Items.{item_view, IsLine};
 ghost use Rattle.rr_feed.specs.Items as feed;
 ghost use Rattle.rr_line.specs.Fault.{line_fault_name};
-ghost use Rattle.rr_line.specs.Line.{point_view};
+ghost use Rattle.rr_point.specs.Point.{point_view};
 ghost use Rattle.rr_host.specs.Clock.{HasGiven};
 ghost use Rattle.rr_node.specs.Connection.{IsAnswer, IsFew, IsTaken, TakesItem};
 ghost use Rattle.rr_node.specs.Lines.{refused, verdict_of_point};

@@ -4,7 +4,7 @@ ghost use Rattle.std.specs.Prelude.{◌≡◌, ℕ, ◌+◌, ◌*◌, ◌<◌, �
 ghost use Rattle.std.specs.Io.KnownBytes.{Appends};
 ghost use Rattle.rr_base.specs.Counted.{inner_of, failures_of, HasRisen};
 ghost use Rattle.rr_base.specs.Stream.{AppendsPrefix};
-ghost use Rattle.rr_base.specs.declared.limits.TheConstants.{MAX_FIELDS};
+ghost use Rattle.rr_text.specs.declared.limits.TheConstants.{MAX_FIELDS};
 ghost use Rattle.rr_copies.specs.Standing.{KeeperState};
 ghost use Rattle.rr_feed.specs.Feed.{items_left, empty_feed};
 ghost use Rattle.rr_node.specs.declared.lines.TheConstants.{PIECE};

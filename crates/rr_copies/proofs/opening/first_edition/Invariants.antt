@@ -1,4 +1,4 @@
-use Rattle.rr_replica.specs.Operations.{joins_of}
+use Rattle.rr_cells.specs.Operations.{joins_of}
 use Rattle.rr_copies.proofs.opening.first_edition.Given as goal
 
 abbrev pub ghosts-first_batch : goal.ghosts-first_batch

@@ -1,7 +1,7 @@
 use Rattle.std.proofs.Common.{rules, ◌≡◌, List, sym, ap, ◌∙◌, subst}
 use mathlib.Core.List.{IsPrefix}
 use Rattle.left_right.specs.Sides.{view}
-use Rattle.rr_replica.specs.declared.op.Op.{Op}
+use Rattle.rr_cells.specs.declared.op.Op.{Op}
 use Rattle.rr_copies.specs.Editions.{flat}
 use Rattle.rr_copies.proofs.EditionsLemmas.{flat-prefix}
 use Rattle.rr_copies.proofs.RuleLemmas.{sees}

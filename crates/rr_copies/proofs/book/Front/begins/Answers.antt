@@ -1,7 +1,7 @@
 use Rattle.std.proofs.Common.{◌≤◌, List, length, ap, subst, arith}
 use Rattle.std.proofs.lemmas.Bool.Decides.{nat_tests}
 use mathlib.Core.List.{IsPrefix}
-use Rattle.rr_replica.specs.declared.op.Op.{Op}
+use Rattle.rr_cells.specs.declared.op.Op.{Op}
 use Rattle.rr_copies.proofs.PrefixLemmas.{prefix_short}
 use Rattle.rr_copies.proofs.book.Front.begins.Goals as goal
 

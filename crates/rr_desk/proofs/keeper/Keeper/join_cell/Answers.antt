@@ -1,9 +1,9 @@
 use Rattle.std.proofs.Common.{true, ◌≡◌, ap, sym, subst}
 use Rattle.rr_base.specs.Schema.{Layout}
-use Rattle.rr_replica.specs.declared.cell.Cell.{Cell}
-use Rattle.rr_replica.specs.CellBounds.{is_cell_of}
-use Rattle.rr_replica.specs.Listing.{owned_cell}
-use Rattle.rr_replica.proofs.OperationsLemmas.{cell_is_taken}
+use Rattle.rr_cells.specs.declared.cell.Cell.{Cell}
+use Rattle.rr_cells.specs.CellBounds.{is_cell_of}
+use Rattle.rr_cells.specs.Listing.{owned_cell}
+use Rattle.rr_cells.proofs.OperationsLemmas.{cell_is_taken}
 use Rattle.rr_desk.proofs.keeper.Keeper.join_cell.Goals as goal
 
 pub push-requires : goal.push-requires

@@ -1,5 +1,5 @@
 use Rattle.std.proofs.Common.{subst, ap, ◌∙◌}
-use Rattle.rr_replica.specs.Held.{IsHolding}
+use Rattle.rr_cells.specs.Holding.{IsHolding}
 use Rattle.rr_copies.specs.Standing.{holding_of}
 use Rattle.rr_desk.proofs.keeper.Keeper.schema.Goals as goal
 

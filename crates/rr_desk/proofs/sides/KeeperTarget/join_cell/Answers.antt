@@ -1,7 +1,7 @@
 use Rattle.std.proofs.Common.{◌≡◌, [], ◌∷◌, Result, Ok, Err}
 use Rattle.std.specs.Prelude.{OnErr, OnOk}
-use Rattle.rr_replica.specs.declared.cell.Cell.{Cell}
-use Rattle.rr_replica.specs.declared.op.Op.TheVariants.{Join}
+use Rattle.rr_cells.specs.declared.cell.Cell.{Cell}
+use Rattle.rr_cells.specs.declared.op.Op.TheVariants.{Join}
 use Rattle.rr_desk.specs.Standing.{HasJoined}
 use Rattle.rr_copies.specs.Standing.{KeeperState, with_pending}
 use Rattle.rr_desk.proofs.sides.KeeperTarget.join_cell.Goals as goal
