@@ -27,6 +27,7 @@ use rr_key::SeriesKey;
 use rr_line::{LINE_FEED, Line, Precision, parse_line};
 use rr_page::{cell_bytes, read_cell};
 use rr_replica::{Replica, WriteFault};
+use rr_text::limits::MAX_NUMBER;
 use std::alloc::{AllocError, Global};
 
 /// The nanoseconds of a step.

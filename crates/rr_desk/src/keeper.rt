@@ -24,6 +24,7 @@ use crate::note::Note;
 use left_right::Absorb;
 use rr_archive::Archive;
 use rr_base::{Counted, Schema};
+use rr_cells::{Cell, Op, Sample};
 use rr_copies::{Change, Copies, CopyState, Shown};
 use rr_delta::{Name, summary, summary_after};
 use rr_key::SeriesKey;

@@ -20,6 +20,7 @@ use crate::note::Note;
 use crate::reading::{answer, lacking};
 use rr_archive::Archive;
 use rr_base::Schema;
+use rr_cells::Cell;
 use rr_copies::{Seat, look_for};
 use rr_delta::Name;
 use rr_fetch::Request;

@@ -17,6 +17,7 @@ ghost use Rattle.rr_desk.specs.declared.gate.GateCall.TheVariants.{After, Before
 use crate::fault::FetchFault;
 use crate::gate::Gate;
 use rr_archive::Archive;
+use rr_cells::Cell;
 use rr_copies::{Enters, Seat};
 use rr_delta::{Name, difference};
 use rr_fetch::{Request, answer_text};

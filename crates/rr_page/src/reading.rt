@@ -15,6 +15,7 @@ use rr_base::{Origin, Schema};
 use rr_cells::Cell;
 use rr_contrib::{Contribution, Mask};
 use rr_key::{KeyFault, SeriesKey};
+use rr_text::limits::MAX_KEY_TEXT;
 use std::alloc::Global;
 
 /// The key that the bytes begin with, as a length and a text, and what follows it.

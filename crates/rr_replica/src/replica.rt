@@ -27,6 +27,7 @@ use rr_cells::{Cell, CellRef, Op};
 use rr_key::SeriesKey;
 use rr_point::{Field, Point};
 use rr_series::{Hint, SeriesMap};
+use rr_text::limits::MAX_NUMBER;
 use std::alloc::{AllocError, Global};
 use std::marker::Model;
 use std::mem::replace;

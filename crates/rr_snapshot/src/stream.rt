@@ -17,6 +17,7 @@ use rr_base::{Counted, Schema};
 use rr_cells::Cell;
 use rr_page::fields::u16_at;
 use rr_page::{FIELDS_LEN, Version, read_cell_in};
+use rr_text::limits::MAX_KEY_TEXT;
 use std::alloc::Global;
 use std::io::Read;
 
