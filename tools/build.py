@@ -60,6 +60,7 @@ class Build:
         listing = listed()
         self.uses = {name: listing[name] for name in with_those_below(listing, [PROGRAM])}
         self.libraries = [name for name in self.uses if name != PROGRAM]
+        self.sizes = {name: self.size(name) for name in self.uses}
         self.proved = []
         self.running = {}
         self.commands = set()
@@ -131,25 +132,36 @@ class Build:
         finally:
             self.give_back(name)
 
-    def next_crates(self):
-        """The crates whose proof can begin, first those that the longest chain of others waits for."""
-        waiting = {}
+    def size(self, name):
+        """The bytes of what a proof reads of a crate, which go with the time that it takes."""
+        files = (file for part in SOURCES for file in (TOP / "crates" / name / part).rglob("*"))
+        return sum(file.stat().st_size for file in files if file.is_file())
+
+    def ways(self):
+        """For each crate that isn't proved, the size of the longest way from it up to the program."""
+        ways = {}
         for name in reversed(self.uses):
-            above = [waiting[it] for it in waiting if name in self.uses[it]]
-            waiting[name] = 1 + max(above, default=0)
-        begun = {*self.proved, *self.running.values()}
-        ready = [it for it in self.libraries if it not in begun and {*self.uses[it]} <= {*self.proved}]
-        return sorted(ready, key=waiting.get, reverse=True)
+            above = [way for it, way in ways.items() if name in self.uses[it]]
+            ways[name] = self.sizes[name] + max(above, default=0)
+        return {name: way for name, way in ways.items() if name not in self.proved}
+
+    def begin(self, pool, most):
+        """Begins the proofs that can begin, first those of the longest ways; the longest of all takes
+        two jobs, and so does each as long as cores are left."""
+        ways, running = self.ways(), {*self.running.values()}
+        ready = [it for it in self.libraries if it in ways and it not in running and not ways.keys() & self.uses[it]]
+        begins = sorted(ready, key=ways.get, reverse=True)[: most - len(running)]
+        jobs = max(1, min(2, most // max(1, len(begins) + len(running))))
+        for name in begins:
+            longest = ways[name] == max(ways.values())
+            self.running[pool.submit(self.prove, name, 2 if longest else jobs)] = name
 
     def prove_all(self):
         most = most_proofs()
         with concurrent.futures.ThreadPoolExecutor(most) as pool:
             try:
                 while len(self.proved) < len(self.libraries):
-                    begins = self.next_crates()[: most - len(self.running)]
-                    jobs = max(1, min(2, most // max(1, len(begins) + len(self.running))))
-                    for name in begins:
-                        self.running[pool.submit(self.prove, name, jobs)] = name
+                    self.begin(pool, most)
                     finished, _ = concurrent.futures.wait(
                         self.running, return_when=concurrent.futures.FIRST_COMPLETED
                     )

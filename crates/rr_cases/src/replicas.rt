@@ -17,7 +17,7 @@ ghost use Rattle.std.specs.Prelude.{IfOk};
 ghost use Rattle.rr_cells.specs.CellBounds.{IsCellOf};
 ghost use Rattle.rr_cells.specs.Listing.{owned_cell};
 
-use crate::sessions;
+use crate::sessions::{Session, push_session};
 use anyhow::{Context, Result, bail};
 use rr_archive::Archive;
 use rr_base::{ArchiveSpec, Origin, Schema};
@@ -57,124 +57,164 @@ pub(crate) fn answers<A: Archive>(alloc: Global, input: &[u8]) -> Result<Vec<u8>
         .get(..count)
         .context("a replica has one archive or two")?;
     let schema = Schema::new(alloc, 60, archives)?;
-    let mut replica: Replica<A> = Replica::new(alloc, &schema, Origin::new(1)?)?;
-    let mut output = String::new(alloc);
+    let replica: Replica<A> = Replica::new(alloc, &schema, Origin::new(1)?)?;
+    let mut calls = Calls::new(alloc, replica);
     for line in lines {
-        push_answer(alloc, &mut replica, line, &mut output)?;
+        calls.push_answer(line)?;
     }
-    Ok(output.into_bytes())
+    Ok(calls.output.into_bytes())
 }
 
-/// Makes the call of a line, and adds its answer.
-fn push_answer<A: Archive>(
+/// A replica, and what its calls have answered.
+#[derive(Drop)]
+struct Calls<A: Archive> {
     alloc: Global,
-    replica: &mut Replica<A>,
-    line: &str,
-    output: &mut String,
-) -> Result<()> {
-    match line.strip_prefix("copy ") {
-        Some(call) => {
-            let mut copy = replica.copy(alloc)?;
-            push_call(alloc, &mut copy, call, output)?;
-            Ok(push_cells(&copy, output)?)
+    replica: Replica<A>,
+    output: String,
+}
+
+impl<A: Archive> Calls<A> {
+    fn new(alloc: Global, replica: Replica<A>) -> Calls<A> {
+        Calls {
+            alloc,
+            replica,
+            output: String::new(alloc),
         }
-        None => push_call(alloc, replica, line, output),
     }
-}
 
-/// Makes a call other than `copy`, and adds its answer.
-fn push_call<A: Archive>(
-    alloc: Global,
-    replica: &mut Replica<A>,
-    line: &str,
-    output: &mut String,
-) -> Result<()> {
-    let (call, words) = first_word(line);
-    match call {
-        "put" => put(alloc, replica, words, output),
-        "write" => write_line(alloc, replica, words, output),
-        "join" => join(alloc, replica, words, output),
-        "apply" => apply_sample(alloc, replica, words, output),
-        "apply-cell" => apply_cell(alloc, replica, words, output),
-        "pull" => sessions::pull_call(alloc, replica, words, output),
-        "give" => sessions::give_call(alloc, replica, words, output),
-        "give-after" => sessions::give_after_call(alloc, replica, words, output),
-        "next" => Ok(write!(output, "{}\n", replica.next_number())?),
-        "cells" => Ok(push_cells(replica, output)?),
-        _ => bail!("an unknown call"),
+    /// Makes the call of a line.
+    fn push_answer(&mut self, line: &str) -> Result<()> {
+        match line.strip_prefix("copy ") {
+            Some(call) => {
+                let mut copy = Calls::new(self.alloc, self.replica.copy(self.alloc)?);
+                copy.push_call(call)?;
+                copy.push_cells()?;
+                Ok(self.output.push_str(&copy.output)?)
+            }
+            None => self.push_call(line),
+        }
+    }
+
+    /// Makes a call other than `copy`.
+    fn push_call(&mut self, line: &str) -> Result<()> {
+        let (call, words) = first_word(line);
+        match call {
+            "put" => self.put(words),
+            "write" => self.write_line(words),
+            "join" => self.join(words),
+            "apply" => self.apply_sample(words),
+            "apply-cell" => self.apply_cell(words),
+            "pull" => self.hold(Session::Pull, words),
+            "give" => self.hold(Session::Give, words),
+            "give-after" => self.hold(Session::GiveAfter, words),
+            "next" => Ok(write!(self.output, "{}\n", self.replica.next_number())?),
+            "cells" => Ok(self.push_cells()?),
+            _ => bail!("an unknown call"),
+        }
+    }
+
+    fn put(&mut self, words: &str) -> Result<()> {
+        let (time, value) = first_word(words);
+        let key = SeriesKey::parse_text(self.alloc, b"m v")?;
+        match self.replica.put(&key, time.parse()?, value.parse()?) {
+            Ok(number) => Ok(write!(self.output, "{number}\n")?),
+            Err(fault) => Ok(write!(self.output, "{}\n", fault.name())?),
+        }
+    }
+
+    fn write_line(&mut self, words: &str) -> Result<()> {
+        let (now, words) = first_word(words);
+        let (lead, line) = first_word(words);
+        let lead = match lead {
+            "-" => None,
+            number => Some(number.parse::<u64>()?),
+        };
+        let now = now.parse::<i64>()?;
+        match self.write_point(line.as_bytes(), now, lead)? {
+            Ok(fields) => Ok(write!(self.output, "{fields}\n")?),
+            Err(fault) => Ok(write!(self.output, "{}\n", fault.name())?),
+        }
+    }
+
+    /// Writes the point of a line.
+    fn write_point(&mut self, line: &[u8], now: i64, lead: Option<u64>) -> Result<Result<u32, WriteFault>> {
+        if line.contains(&LINE_FEED) {
+            bail!("more than a line");
+        }
+        match parse_line(self.alloc, line, Precision::Ns)? {
+            Line::Point(point) => Ok(self.replica.write(&point, now, lead)),
+            Line::Nothing => bail!("a line without a point"),
+        }
+    }
+
+    fn join(&mut self, words: &str) -> Result<()> {
+        let (origin, words) = first_word(words);
+        let (number, words) = first_word(words);
+        let (slot, value) = first_word(words);
+        let number = number.parse::<u64>()?.clamp(1, MAX_NUMBER);
+        let slot = slot.parse::<i64>()?.clamp(-9, 9);
+        let sample = Contribution::first(number, 0, slot * MINUTE, value.parse()?);
+        let cell = cell_of(self.alloc, self.replica.schema(), origin.parse()?, slot, sample)?;
+        self.replica.join_cell(&cell)?;
+        Ok(self.output.push_str("joined\n")?)
+    }
+
+    fn apply_sample(&mut self, words: &str) -> Result<()> {
+        let (origin, words) = first_word(words);
+        let (number, words) = first_word(words);
+        let (time, value) = first_word(words);
+        let sample = Sample {
+            origin: Origin::new(origin.parse()?)?,
+            number: number.parse()?,
+            key: SeriesKey::parse_text(self.alloc, b"m v")?,
+            time: time.parse()?,
+            value: value.parse()?,
+        };
+        self.push_taken(&Op::Put(sample))
+    }
+
+    fn apply_cell(&mut self, words: &str) -> Result<()> {
+        let (archive, words) = first_word(words);
+        let (origin, words) = first_word(words);
+        let (number, words) = first_word(words);
+        let (slot, words) = first_word(words);
+        let (time, value) = first_word(words);
+        let number = number.parse::<u64>()?.clamp(1, MAX_NUMBER);
+        let cell = Cell {
+            key: SeriesKey::parse_text(self.alloc, b"m v")?,
+            archive: archive.parse()?,
+            slot: slot.parse()?,
+            origin: Origin::new(origin.parse()?)?,
+            contribution: Contribution::first(number, 0, time.parse()?, value.parse()?),
+        };
+        self.push_taken(&Op::Join(cell))
+    }
+
+    /// Makes room for an operation and applies it, and adds whether it was taken.
+    fn push_taken(&mut self, op: &Op) -> Result<()> {
+        self.replica.ready(op)?;
+        let taken = self.replica.apply(op)?;
+        Ok(self.output.push_str(if taken { "taken\n" } else { "not taken\n" })?)
+    }
+
+    fn hold(&mut self, session: Session, words: &str) -> Result<()> {
+        push_session(self.alloc, session, &mut self.replica, words, &mut self.output)
+    }
+
+    fn push_cells(&mut self) -> Result<(), AllocError> {
+        for i in 0..self.replica.cell_count() {
+            let Some(cell) = self.replica.cell_at(i) else {
+                return Ok(());
+            };
+            push_cell(&mut self.output, cell)?;
+        }
+        Ok(())
     }
 }
 
 /// The first word, and the words after it.
 fn first_word(words: &str) -> (&str, &str) {
     words.split_once(' ').unwrap_or((words, ""))
-}
-
-fn put<A: Archive>(
-    alloc: Global,
-    replica: &mut Replica<A>,
-    words: &str,
-    output: &mut String,
-) -> Result<()> {
-    let (time, value) = first_word(words);
-    let key = SeriesKey::parse_text(alloc, b"m v")?;
-    match replica.put(&key, time.parse()?, value.parse()?) {
-        Ok(number) => Ok(write!(output, "{number}\n")?),
-        Err(fault) => Ok(write!(output, "{}\n", fault.name())?),
-    }
-}
-
-fn write_line<A: Archive>(
-    alloc: Global,
-    replica: &mut Replica<A>,
-    words: &str,
-    output: &mut String,
-) -> Result<()> {
-    let (now, words) = first_word(words);
-    let (lead, line) = first_word(words);
-    let lead = match lead {
-        "-" => None,
-        number => Some(number.parse::<u64>()?),
-    };
-    let now = now.parse::<i64>()?;
-    match write_point(alloc, replica, line.as_bytes(), now, lead)? {
-        Ok(fields) => Ok(write!(output, "{fields}\n")?),
-        Err(fault) => Ok(write!(output, "{}\n", fault.name())?),
-    }
-}
-
-/// Writes the point of a line.
-fn write_point<A: Archive>(
-    alloc: Global,
-    replica: &mut Replica<A>,
-    line: &[u8],
-    now: i64,
-    lead: Option<u64>,
-) -> Result<Result<u32, WriteFault>> {
-    if line.contains(&LINE_FEED) {
-        bail!("more than a line");
-    }
-    match parse_line(alloc, line, Precision::Ns)? {
-        Line::Point(point) => Ok(replica.write(&point, now, lead)),
-        Line::Nothing => bail!("a line without a point"),
-    }
-}
-
-fn join<A: Archive>(
-    alloc: Global,
-    replica: &mut Replica<A>,
-    words: &str,
-    output: &mut String,
-) -> Result<()> {
-    let (origin, words) = first_word(words);
-    let (number, words) = first_word(words);
-    let (slot, value) = first_word(words);
-    let number = number.parse::<u64>()?.clamp(1, MAX_NUMBER);
-    let slot = slot.parse::<i64>()?.clamp(-9, 9);
-    let sample = Contribution::first(number, 0, slot * MINUTE, value.parse()?);
-    let cell = cell_of(alloc, replica.schema(), origin.parse()?, slot, sample)?;
-    replica.join_cell(&cell)?;
-    Ok(output.push_str("joined\n")?)
 }
 
 /// The cell of a contribution, as it is read from its bytes.
@@ -200,64 +240,7 @@ fn cell_of(
     Ok(cell)
 }
 
-fn apply_sample<A: Archive>(
-    alloc: Global,
-    replica: &mut Replica<A>,
-    words: &str,
-    output: &mut String,
-) -> Result<()> {
-    let (origin, words) = first_word(words);
-    let (number, words) = first_word(words);
-    let (time, value) = first_word(words);
-    let sample = Sample {
-        origin: Origin::new(origin.parse()?)?,
-        number: number.parse()?,
-        key: SeriesKey::parse_text(alloc, b"m v")?,
-        time: time.parse()?,
-        value: value.parse()?,
-    };
-    push_taken(replica, &Op::Put(sample), output)
-}
-
-fn apply_cell<A: Archive>(
-    alloc: Global,
-    replica: &mut Replica<A>,
-    words: &str,
-    output: &mut String,
-) -> Result<()> {
-    let (archive, words) = first_word(words);
-    let (origin, words) = first_word(words);
-    let (number, words) = first_word(words);
-    let (slot, words) = first_word(words);
-    let (time, value) = first_word(words);
-    let number = number.parse::<u64>()?.clamp(1, MAX_NUMBER);
-    let cell = Cell {
-        key: SeriesKey::parse_text(alloc, b"m v")?,
-        archive: archive.parse()?,
-        slot: slot.parse()?,
-        origin: Origin::new(origin.parse()?)?,
-        contribution: Contribution::first(number, 0, time.parse()?, value.parse()?),
-    };
-    push_taken(replica, &Op::Join(cell), output)
-}
-
-/// Makes room for an operation and applies it, and adds whether it was taken.
-fn push_taken<A: Archive>(replica: &mut Replica<A>, op: &Op, output: &mut String) -> Result<()> {
-    replica.ready(op)?;
-    let taken = replica.apply(op)?;
-    Ok(output.push_str(if taken { "taken\n" } else { "not taken\n" })?)
-}
-
-fn push_cells<A: Archive>(replica: &Replica<A>, output: &mut String) -> Result<(), AllocError> {
-    for i in 0..replica.cell_count() {
-        let Some(cell) = replica.cell_at(i) else {
-            return Ok(());
-        };
-        push_cell(output, cell)?;
-    }
-    Ok(())
-}
-
+/// A line for a cell.
 pub(crate) fn push_cell(output: &mut String, cell: CellRef<'_>) -> Result<(), AllocError> {
     let key = str::from_utf8(cell.key.text()).unwrap_or("");
     let (archive, slot, origin) = (cell.archive, cell.slot, cell.origin.get());

@@ -50,59 +50,42 @@ fn limit(word: Option<&str>) -> Result<Option<u16>> {
     }
 }
 
-/// Pulls from an answer.
-pub(crate) fn pull_call<A: Archive>(
-    alloc: Global,
-    replica: &mut Replica<A>,
-    words: &str,
-    answer: &mut String,
-) -> Result<()> {
-    let words = Words::of(alloc, words)?;
-    let frames = words.frames;
-    let mut input = words.input(0)?;
-    let mut output = Counted::new(Vec::new(alloc));
-    let ended = match frames {
-        None => pull(alloc, &mut input, &mut output, replica),
-        Some(frames) => { pull_within(alloc, &mut input, &mut output, replica, u32::from(frames)) }
-    };
-    push_ending(alloc, answer, &output.into_inner(), input, ended)
+/// A session.
+#[derive(Clone, Copy, PartialEq)]
+pub(crate) enum Session {
+    /// Pulls from an answer.
+    Pull,
+    /// Gives what the input asks for.
+    Give,
+    /// Gives what the input asks for, whose first byte is handed over apart from it.
+    GiveAfter,
 }
 
-/// Gives what the input asks for.
-pub(crate) fn give_call<A: Archive>(
+/// Holds a session over the input that the words have, and adds its ending.
+pub(crate) fn push_session<A: Archive>(
     alloc: Global,
+    session: Session,
     replica: &mut Replica<A>,
     words: &str,
     answer: &mut String,
 ) -> Result<()> {
     let words = Words::of(alloc, words)?;
-    let frames = words.frames;
-    let mut input = words.input(0)?;
+    let frames = words.frames.map(u32::from);
     let mut output = Counted::new(Vec::new(alloc));
-    let ended = match frames {
-        None => give(alloc, &mut input, &mut output, replica),
-        Some(frames) => { give_within(alloc, &mut input, &mut output, replica, u32::from(frames)) }
-    };
-    push_ending(alloc, answer, &output.into_inner(), input, ended)
-}
-
-/// Gives what the input asks for, whose first byte is handed over apart from it.
-pub(crate) fn give_after_call<A: Archive>(
-    alloc: Global,
-    replica: &mut Replica<A>,
-    words: &str,
-    answer: &mut String,
-) -> Result<()> {
-    let words = Words::of(alloc, words)?;
-    let frames = words.frames;
-    let first = *words.bytes.first().context("no first byte")?;
-    let mut input = words.input(1)?;
-    let mut output = Counted::new(Vec::new(alloc));
-    let ended = match frames {
-        None => give_after(alloc, first, &mut input, &mut output, replica),
-        Some(frames) => {
-            let frames = u32::from(frames);
-            give_after_within(alloc, first, &mut input, &mut output, replica, frames)
+    let apart = usize::from(session == Session::GiveAfter);
+    let mut input = words.input(apart)?;
+    let ended = match (session, frames) {
+        (Session::Pull, None) => pull(alloc, &mut input, &mut output, replica),
+        (Session::Pull, Some(most)) => pull_within(alloc, &mut input, &mut output, replica, most),
+        (Session::Give, None) => give(alloc, &mut input, &mut output, replica),
+        (Session::Give, Some(most)) => give_within(alloc, &mut input, &mut output, replica, most),
+        (Session::GiveAfter, None) => {
+            let first = *words.bytes.first().context("no first byte")?;
+            give_after(alloc, first, &mut input, &mut output, replica)
+        }
+        (Session::GiveAfter, Some(most)) => {
+            let first = *words.bytes.first().context("no first byte")?;
+            give_after_within(alloc, first, &mut input, &mut output, replica, most)
         }
     };
     push_ending(alloc, answer, &output.into_inner(), input, ended)

@@ -132,6 +132,39 @@ where
     ending
 }
 
+/// Listens on the addresses of a configuration: for lines, and for fetches.
+fn listen_as(
+    rt: &(impl AllocGlobal + Net<Listener = TcpListener, Stream = TcpStream>),
+    config: &Config,
+) -> Result<(Listening, Vec<Listening>), Ending> {
+    let lines = listen(rt, config.lines.as_str(), config.idle)?;
+    let fetches = listen_all(rt, &config.fetch, config.idle)?;
+    Ok((lines, fetches))
+}
+
+/// Serves with a configuration: loads the snapshot to begin with, then listens.
+fn serve_with<R>(
+    rt: &R,
+    config: &Config,
+    origin: Origin,
+    load: Option<&str>,
+    save: Option<&str>,
+) -> Result<Ending, Ending>
+where
+    R: AllocGlobal
+        + Files
+        + Eprint
+        + Net<Listener = TcpListener, Stream = TcpStream>
+        + Clock
+        + Threads
+        + Wait
+        + Sync,
+{
+    let replica = first_replica(rt, &config.schema, origin, load)?;
+    let (lines, fetches) = listen_as(rt, config)?;
+    Ok(serve_replica(rt, replica, lines, fetches, save, config))
+}
+
 /// Serves as a node until its rounds and visits are done. Its configuration is read first, then the
 /// snapshot to begin with, then it listens on its addresses; the first fault ends it.
 pub fn serve<R>(
@@ -152,10 +185,7 @@ where
         + Sync,
 {
     let config = read_config(rt, config)?;
-    let replica = first_replica(rt, &config.schema, origin, load)?;
-    let lines = listen(rt, config.lines.as_str(), config.idle)?;
-    let listening = listen_all(rt, &config.fetch, config.idle)?;
-    Ok(serve_replica(rt, replica, lines, listening, save, &config))
+    serve_with(rt, &config, origin, load, save)
 }
 
 /// The text of an argument that may be missing.

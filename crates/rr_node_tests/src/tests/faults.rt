@@ -3,7 +3,7 @@
 use super::rounds::{CONFIG, Peers};
 use rr_archive::PlainArchive;
 use rr_base::Counted;
-use rr_desk::{Keeper, open};
+use rr_desk::open;
 use rr_fakes::replicas::minutes;
 use rr_gossip::GossipFault;
 use rr_node::{Config, Moments, NodeFault, Opening, Prepared, Shelf, keep_round};
@@ -84,15 +84,16 @@ type Told = (
     Option<bool>,
 );
 
-/// Keeps a round to which these connections come, with a peer that sends no frame, and a shelf without room.
+/// Keeps a round of a new desk to which these connections come, with a peer that sends no frame, and a shelf
+/// without room.
 fn told<R: Wait>(
     rt: &R,
     alloc: Global,
-    keeper: &mut Keeper<PlainArchive>,
-    config: &Config,
     inputs: &[Option<&[u8]>],
     opens: Option<bool>,
 ) -> Option<Told> {
+    let config = Config::from_toml(alloc, CONFIG).ok()?;
+    let (mut keeper, _readers) = open(alloc, rt, minutes::<PlainArchive>(alloc, 2, 3).ok()?, 1).ok()?;
     let mut lines = Prepared::new(alloc, inputs).ok()?;
     let mut dial = Peers::new(alloc, b"\xff\xff\xff\xff");
     let mut shelf = NoRoom {
@@ -103,8 +104,9 @@ fn told<R: Wait>(
     };
     let mut clock = Moments::new(Vec::new(alloc));
     let came = keep_round(
-        alloc, keeper, &mut lines, &mut dial, &mut shelf, &mut clock, config, rt,
+        alloc, &mut keeper, &mut lines, &mut dial, &mut shelf, &mut clock, &config, rt,
     );
+    keeper.close(rt);
     Some((came.ok(), shelf.peer, shelf.save, shelf.whole))
 }
 
@@ -113,19 +115,9 @@ const PEER: Option<(usize, NodeFault)> = Some((2, NodeFault::Session(GossipFault
 
 #[test]
 fn a_round_goes_on_after_faults(rt: HostRuntime) -> Result<(), Fail> {
-    let config = Config::from_toml(rt.alloc(), CONFIG)?;
-    let Ok((mut keeper, _readers)) = open(
-        rt.alloc(),
-        &rt,
-        minutes::<PlainArchive>(rt.alloc(), 2, 3)?,
-        1,
-    ) else {
-        panic!(&rt; "no desk");
-    };
-    let full = told(&rt, rt.alloc(), &mut keeper, &config, &[None], Some(true));
-    let shut = told(&rt, rt.alloc(), &mut keeper, &config, &[None], Some(false));
-    let unwanted = told(&rt, rt.alloc(), &mut keeper, &config, &[None], None);
-    keeper.close(&rt);
+    let full = told(&rt, rt.alloc(), &[None], Some(true));
+    let shut = told(&rt, rt.alloc(), &[None], Some(false));
+    let unwanted = told(&rt, rt.alloc(), &[None], None);
     let fault = Some(SaveFault::WriteFailed);
     let is_told = full == Some((Some(true), PEER, fault, Some(false)))
         && shut == Some((Some(true), PEER, fault, None))
@@ -136,17 +128,7 @@ fn a_round_goes_on_after_faults(rt: HostRuntime) -> Result<(), Fail> {
 
 #[test]
 fn nothing_is_done_where_no_connection_will_come(rt: HostRuntime) -> Result<(), Fail> {
-    let config = Config::from_toml(rt.alloc(), CONFIG)?;
-    let Ok((mut keeper, _readers)) = open(
-        rt.alloc(),
-        &rt,
-        minutes::<PlainArchive>(rt.alloc(), 2, 3)?,
-        1,
-    ) else {
-        panic!(&rt; "no desk");
-    };
-    let over = told(&rt, rt.alloc(), &mut keeper, &config, &[], Some(true));
-    keeper.close(&rt);
+    let over = told(&rt, rt.alloc(), &[], Some(true));
     assert!(rt; over == Some((Some(false), None, None, None)));
     Ok(())
 }

@@ -207,54 +207,30 @@ const DONE: Done = (
     Some((1, 1)),
 );
 
+/// What the keeper of a new desk of origin 2 does, as [`kept`] has it.
+fn done<R: Wait + Threads + Sync>(rt: &R, alloc: Global, seats: Option<bool>) -> Option<Done> {
+    let config = Config::from_toml(alloc, CONFIG).ok()?;
+    let (mut keeper, _readers) = open(alloc, rt, minutes(alloc, 2, 3).ok()?, 1).ok()?;
+    let done = kept(rt, alloc, &mut keeper, &config, seats);
+    keeper.close(rt);
+    done
+}
+
 #[test]
 fn a_round_pulls_from_each_peer_and_saves(rt: HostRuntime) -> Result<(), Fail> {
-    let config = Config::from_toml(rt.alloc(), CONFIG)?;
-    let Ok((mut keeper, _readers)) = open(
-        rt.alloc(),
-        &rt,
-        minutes::<PlainArchive>(rt.alloc(), 2, 3)?,
-        1,
-    ) else {
-        panic!(&rt; "no desk");
-    };
-    let done = kept(&rt, rt.alloc(), &mut keeper, &config, None);
-    keeper.close(&rt);
-    assert!(rt; done == Some(DONE));
+    assert!(rt; done(&rt, rt.alloc(), None) == Some(DONE));
     Ok(())
 }
 
 #[test]
 fn a_node_keeps_its_rounds(rt: HostRuntime) -> Result<(), Fail> {
-    let config = Config::from_toml(rt.alloc(), CONFIG)?;
-    let Ok((mut keeper, _readers)) = open(
-        rt.alloc(),
-        &rt,
-        minutes::<PlainArchive>(rt.alloc(), 2, 3)?,
-        1,
-    ) else {
-        panic!(&rt; "no desk");
-    };
-    let done = kept(&rt, rt.alloc(), &mut keeper, &config, Some(true));
-    keeper.close(&rt);
-    assert!(rt; done == Some(DONE));
+    assert!(rt; done(&rt, rt.alloc(), Some(true)) == Some(DONE));
     Ok(())
 }
 
 #[test]
 fn a_node_is_out_of_memory_where_a_seat_is(rt: HostRuntime) -> Result<(), Fail> {
-    let config = Config::from_toml(rt.alloc(), CONFIG)?;
-    let Ok((mut keeper, _readers)) = open(
-        rt.alloc(),
-        &rt,
-        minutes::<PlainArchive>(rt.alloc(), 2, 3)?,
-        1,
-    ) else {
-        panic!(&rt; "no desk");
-    };
-    let done = kept(&rt, rt.alloc(), &mut keeper, &config, Some(false));
-    keeper.close(&rt);
     let (_, sent, failed, saved) = DONE;
-    assert!(rt; done == Some((Some(false), sent, failed, saved)));
+    assert!(rt; done(&rt, rt.alloc(), Some(false)) == Some((Some(false), sent, failed, saved)));
     Ok(())
 }
