@@ -221,7 +221,7 @@ pub fn read_to_end_within<R: Read>(
 /// Writes some bytes from the front of a piece that has some, and answers how many.
 fn write_some<W: Write>(output: &mut Counted<W>, piece: &[u8]) -> Result<usize, WriteFailed>
     requires { 0 < length piece.now }
-    ensures some { IfOk result (λ taken. 0 < taken) }
+    ensures some_taken { IfOk result (λ taken. 0 < taken) }
     ensures bound { WritesAtMost result piece.now }
     ensures bytes { WriteAppends (W.contents (inner_of output.old))
         (W.contents (inner_of output.new)) result piece.now }

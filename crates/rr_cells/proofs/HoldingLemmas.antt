@@ -24,7 +24,7 @@ use Rattle.rr_model.specs.Samples.{Sample, name_of, marks_of}
 use Rattle.rr_model.proofs.Horizon.{archive_is}
 use Rattle.rr_cells.specs.CellBounds.{IsCellOf}
 use Rattle.rr_cells.specs.Cells.{Cells, IsTrimmed, cell_slot_of, rows_at}
-use Rattle.rr_cells.specs.Puts.{seen, put_sample}
+use Rattle.rr_cells.specs.Puts.{slot_sample_of, put_sample}
 use Rattle.rr_cells.specs.Holding.{Holding, IsHolding}
 use Rattle.rr_cells.proofs.CellBoundsLemmas.{KnownHasBounds, bounds_with, bounds_of, cell_from}
 use Rattle.rr_cells.proofs.Slots.{slot_is}
@@ -57,7 +57,7 @@ module _ (s : Layout) (is : IsLayout s) (cells : Cells) (kept : IsTrimmed s cell
   -- n is where the sample falls, and c what it comes to there
   pub record Falls_at (n : CellName) (c : Contribution) : Type 0 where
     pub named : n ≡ name_of s (mark x n.archive)
-    pub comes : contribution_with (get cells n) (seen s (mark x n.archive)) ≡ c
+    pub comes : contribution_with (get cells n) (slot_sample_of s (mark x n.archive)) ≡ c
     pub within : n.archive < length s.archives
 
   abbrev pub Cases : CellName → Contribution → Type 0
@@ -77,16 +77,16 @@ module _ (s : Layout) (is : IsLayout s) (cells : Cells) (kept : IsTrimmed s cell
             (λ was. inl (sym (get-rows_at n.key n.archive cells (cell_slot_of n)) ∙ was))
             (λ new. inr (record {
               named = λ i. record { key = sym same i; archive = n.archive; slot = (new.0 i).slot; origin = (new.0 i).origin };
-              comes = ap (λ o. contribution_with o (seen s (mark x n.archive))) (sym (get-rows_at n.key n.archive cells (cell_slot_of n)) ∙ ap (get (rows_at cells n.key n.archive)) new.0) ∙ new.1;
+              comes = ap (λ o. contribution_with o (slot_sample_of s (mark x n.archive))) (sym (get-rows_at n.key n.archive cells (cell_slot_of n)) ∙ ap (get (rows_at cells n.key n.archive)) new.0) ∙ new.1;
               within = within;
             }))
-            (put_row_cases (archive_at s n.archive).rows (rows_at cells n.key n.archive) (cell_slot_of (name_of s (mark x n.archive))) (seen s (mark x n.archive)) (cell_slot_of n) c (ap (λ r. get r (cell_slot_of n)) (sym at) ∙ here)))
+            (put_row_cases (archive_at s n.archive).rows (rows_at cells n.key n.archive) (cell_slot_of (name_of s (mark x n.archive))) (slot_sample_of s (mark x n.archive)) (cell_slot_of n) c (ap (λ r. get r (cell_slot_of n)) (sym at) ∙ here)))
             (λ past. inl (sym (get-rows_at n.key n.archive cells (cell_slot_of n)) ∙ ap (λ r. get r (cell_slot_of n)) (sym (put_past s is x n.key n.archive cells kept past)) ∙ here))
             (cases_lt n.archive (length s.archives))
       ] refl
 
 module _ (h : Holding) (holds : IsHolding h) (x : Sample) (number : x.number ≡ h.next) (origin : x.origin ≡ h.origin) (known : h.next ≤ MAX_NUMBER) where
-  falls : (n : CellName) → n ≡ name_of h.schema (mark x n.archive) → Falls h.schema n.archive n.slot (seen h.schema (mark x n.archive))
+  falls : (n : CellName) → n ≡ name_of h.schema (mark x n.archive) → Falls h.schema n.archive n.slot (slot_sample_of h.schema (mark x n.archive))
   falls n same = record {
     some_number = (let some = holds.next_at_least in omega arith);
     known_number = omega arith;
@@ -95,10 +95,10 @@ module _ (h : Holding) (holds : IsHolding h) (x : Sample) (number : x.number ≡
     within = place_below h.schema n.archive x.time (archive_is h.schema holds.layout n.archive).some_step;
   }
 
-  added_valid : (n : CellName) → n ≡ name_of h.schema (mark x n.archive) → (o : Option Contribution) → get h.cells n ≡ o → IsValid h.schema n.archive n.slot (contribution_with o (seen h.schema (mark x n.archive)))
-  added_valid n same None e = of_one_valid h.schema n.archive n.slot (seen h.schema (mark x n.archive)) (falls n same)
+  added_valid : (n : CellName) → n ≡ name_of h.schema (mark x n.archive) → (o : Option Contribution) → get h.cells n ≡ o → IsValid h.schema n.archive n.slot (contribution_with o (slot_sample_of h.schema (mark x n.archive)))
+  added_valid n same None e = of_one_valid h.schema n.archive n.slot (slot_sample_of h.schema (mark x n.archive)) (falls n same)
   added_valid n same (Some c) e =
-      with_sample_valid h.schema n.archive n.slot c (seen h.schema (mark x n.archive)) (holds.cells n c e).valid (falls n same)
+      with_sample_valid h.schema n.archive n.slot c (slot_sample_of h.schema (mark x n.archive)) (holds.cells n c e).valid (falls n same)
       (let below = holds.own n c e (ap (λ (m : CellName). m.origin) same ∙ origin) in omega arith)
 
   added_version : (o : Option Contribution) (z : SlotSample) → (contribution_with o z).version ≡ z.number
@@ -106,15 +106,15 @@ module _ (h : Holding) (holds : IsHolding h) (x : Sample) (number : x.number ≡
   added_version (Some c) z = refl
 
   -- what the cell of a name comes to with the sample is within bounds
-  added_cell : IsTyped x → (n : CellName) → n ≡ name_of h.schema (mark x n.archive) → n.archive < length h.schema.archives → (o : Option Contribution) → get h.cells n ≡ o → IsCellOf h.schema (n, contribution_with o (seen h.schema (mark x n.archive)))
+  added_cell : IsTyped x → (n : CellName) → n ≡ name_of h.schema (mark x n.archive) → n.archive < length h.schema.archives → (o : Option Contribution) → get h.cells n ≡ o → IsCellOf h.schema (n, contribution_with o (slot_sample_of h.schema (mark x n.archive)))
   added_cell typed n same within o e =
-      cell_from h.schema n (contribution_with o (seen h.schema (mark x n.archive)))
+      cell_from h.schema n (contribution_with o (slot_sample_of h.schema (mark x n.archive)))
       (subst IsKeyText (sym (ap (λ (m : CellName). m.key) same)) typed.key)
       within
       (subst IsOrigin (sym (ap (λ (m : CellName). m.origin) same ∙ origin)) holds.origin)
       (subst IsSlot (sym (ap (λ (m : CellName). m.slot) same)) (slot_is h.schema holds.layout n.archive x.time typed.time))
       (added_valid n same o e)
-      (bounds_with o (seen h.schema (mark x n.archive)) (known_bounds o e) typed.time typed.value)
+      (bounds_with o (slot_sample_of h.schema (mark x n.archive)) (known_bounds o e) typed.time typed.value)
     where
       known_bounds : (o : Option Contribution) → get h.cells n ≡ o → KnownHasBounds o
       known_bounds None e = tt
@@ -136,7 +136,7 @@ module _ (h : Holding) (holds : IsHolding h) (x : Sample) (number : x.number ≡
         cells = cells;
         own = λ n c e at. ⊎_elim
             (λ was. let below = holds.own n c was at in omega arith)
-            (λ new. let version = ap (λ (d : Contribution). d.version) (sym new.comes) ∙ added_version (get h.cells n) (seen h.schema (mark x n.archive)) in omega arith)
+            (λ new. let version = ap (λ (d : Contribution). d.version) (sym new.comes) ∙ added_version (get h.cells n) (slot_sample_of h.schema (mark x n.archive)) in omega arith)
             (put_cases h.schema holds.layout h.cells holds.live x n c e);
         few = few_held h.schema (put_sample h.schema h.cells x) holds.layout live cells;
       }

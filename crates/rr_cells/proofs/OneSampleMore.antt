@@ -18,7 +18,7 @@ use Rattle.rr_model.specs.Knowledge.{Knowledge, knows, with_marks, is_live_in}
 use Rattle.rr_model.proofs.Orders.{cell_name_cmp_total, cell_name_cmp-IsAntisymmetric, mark_cmp_total, mark_cmp-IsAntisymmetric}
 use Rattle.rr_model.proofs.Horizon.{live_horizon}
 use Rattle.rr_model.proofs.Knowing.{same_knowledge, is_in-keys_of, knows-set_of, knows-with_marks, with_marks-nil, with_marks-cons, is_in-names_of, name_from_tie, live_in-union}
-use Rattle.rr_cells.specs.Puts.{seen, put_mark, put_marks}
+use Rattle.rr_cells.specs.Puts.{slot_sample_of, put_mark, put_marks}
 use Rattle.rr_cells.specs.State.{state, PutIsOneSampleMore}
 use Rattle.rr_cells.proofs.PutsLemmas.{mark, marks_from}
 use Rattle.rr_cells.proofs.Values.{value-insert}
@@ -91,7 +91,7 @@ module _ (s : Layout) (is : IsLayout s) (k : Knowledge) (m : Mark) (fresh : (y :
         | false ↦ λ h. refl
       ] refl
 
-  value_here : value s (marks_at s more here) ≡ Some (contribution_with (value s (marks_at s k here)) (seen s m))
+  value_here : value s (marks_at s more here) ≡ Some (contribution_with (value s (marks_at s k here)) (slot_sample_of s m))
   value_here = ap (value s) marks_here ∙ value-insert s (marks_at s k here) m
       (knows-marks_at s k here m ∙ ap (λ b. b && eq_by_cmp cell_name_cmp here here) not_known)
       (λ y e. let a = known_at s k here y e in fresh y a.0 a.1)
@@ -108,7 +108,7 @@ module _ (s : Layout) (is : IsLayout s) (k : Knowledge) (m : Mark) (fresh : (y :
   pub put_state : put_mark s (state s k) m ≡ state s more
   unfolding put_mark
   put_state =
-      let v = contribution_with (get (state s k) here) (seen s m) in
+      let v = contribution_with (get (state s k) here) (slot_sample_of s m) in
       same_map cell_name_cmp_total cell_name_cmp-IsAntisymmetric (put_mark s (state s k) m) (state s more) (λ q.
       get-trimmed cell_name_cmp_total cell_name_cmp-IsAntisymmetric (is_live s) (insert (state s k) here v) q
       ∙ (λ i. cond (live_inserted v q i) (get-insert cell_name_cmp_total (state s k) here v q i) None)
@@ -116,7 +116,7 @@ module _ (s : Layout) (is : IsLayout s) (k : Knowledge) (m : Mark) (fresh : (y :
       elim (eq_by_cmp cell_name_cmp q here) as (λ t. eq_by_cmp cell_name_cmp q here ≡ t → cond t (Some v) (get (state s k) q) ≡ value s (marks_at s more q)) [
         | true ↦ λ t.
             let at_here : q ≡ here = same_from_tie cell_name_cmp_total cell_name_cmp-IsAntisymmetric q here t in
-            ap (λ x. Some (contribution_with x (seen s m))) (get_live here (subst (λ x. is_live_in s k x ≡ true) at_here b)) ∙ sym value_here ∙ ap (λ x. value s (marks_at s more x)) (sym at_here)
+            ap (λ x. Some (contribution_with x (slot_sample_of s m))) (get_live here (subst (λ x. is_live_in s k x ≡ true) at_here b)) ∙ sym value_here ∙ ap (λ x. value s (marks_at s more x)) (sym at_here)
         | false ↦ λ t. get_live q b ∙ ap (value s) (sym (marks_elsewhere q t))
       ] refl)
       ∙ sym (get-state s more q ∙ value_cell s is more q ∙ ap (λ b. cond b (value s (marks_at s more q)) None) (live_more q)))

@@ -15,46 +15,46 @@ use Rattle.rr_cells.specs.Holding.{Holding}
 use Rattle.rr_cells.specs.Joins.{join_cells}
 use Rattle.rr_cells.proofs.CellByCell.{join_nothing, join_goes_by_cells, trimmed_none}
 use Rattle.rr_cells.proofs.JoinLaws.{join_commutes}
-use Rattle.rr_cells.specs.Operations.{accepts, applied, step, AllAccepted, cell_step, outcome_of, to_cell, joins_of}
+use Rattle.rr_cells.specs.Operations.{accepts, with_op, step, AllAccepted, cell_step, outcome_of, to_cell, joins_of}
 
 -- ---- a replica
 
 -- an operation that is taken is applied
-pub step_accepted : (h : Holding) (op : Op) → accepts h op ≡ true → step h op ≡ applied h op
-step_accepted h op e = ap (λ b. if b then applied h op else h) e
+pub step_accepted : (h : Holding) (op : Op) → accepts h op ≡ true → step h op ≡ with_op h op
+step_accepted h op e = ap (λ b. if b then with_op h op else h) e
 
 -- one that isn't changes nothing
 pub step_refused : (h : Holding) (op : Op) → accepts h op ≡ false → step h op ≡ h
-step_refused h op e = ap (λ b. if b then applied h op else h) e
+step_refused h op e = ap (λ b. if b then with_op h op else h) e
 
-pub applied-cells : (h : Holding) (op : Op) → (applied h op).cells ≡ cell_step h.schema h.cells op
-applied-cells h (Put x) = refl
-applied-cells h (Join c) = refl
+pub with_op-cells : (h : Holding) (op : Op) → (with_op h op).cells ≡ cell_step h.schema h.cells op
+with_op-cells h (Put x) = refl
+with_op-cells h (Join c) = refl
 
-applied-schema : (h : Holding) (op : Op) → (applied h op).schema ≡ h.schema
-applied-schema h (Put x) = refl
-applied-schema h (Join c) = refl
+with_op-schema : (h : Holding) (op : Op) → (with_op h op).schema ≡ h.schema
+with_op-schema h (Put x) = refl
+with_op-schema h (Join c) = refl
 
-applied-origin : (h : Holding) (op : Op) → (applied h op).origin ≡ h.origin
-applied-origin h (Put x) = refl
-applied-origin h (Join c) = refl
+with_op-origin : (h : Holding) (op : Op) → (with_op h op).origin ≡ h.origin
+with_op-origin h (Put x) = refl
+with_op-origin h (Join c) = refl
 
 -- a step changes neither the schema nor the origin
 pub step-schema : (h : Holding) (op : Op) → (step h op).schema ≡ h.schema
-step-schema h op = elim (accepts h op) as (λ b. (if b then applied h op else h).schema ≡ h.schema) [
-  | true ↦ applied-schema h op
+step-schema h op = elim (accepts h op) as (λ b. (if b then with_op h op else h).schema ≡ h.schema) [
+  | true ↦ with_op-schema h op
   | false ↦ refl
 ]
 
 pub step-origin : (h : Holding) (op : Op) → (step h op).origin ≡ h.origin
-step-origin h op = elim (accepts h op) as (λ b. (if b then applied h op else h).origin ≡ h.origin) [
-  | true ↦ applied-origin h op
+step-origin h op = elim (accepts h op) as (λ b. (if b then with_op h op else h).origin ≡ h.origin) [
+  | true ↦ with_op-origin h op
   | false ↦ refl
 ]
 
 -- of an operation that is taken the cells take one step
 pub step-cells : (h : Holding) (op : Op) → accepts h op ≡ true → (step h op).cells ≡ cell_step h.schema h.cells op
-step-cells h op e = ap (λ (k : Holding). k.cells) (step_accepted h op e) ∙ applied-cells h op
+step-cells h op e = ap (λ (k : Holding). k.cells) (step_accepted h op e) ∙ with_op-cells h op
 
 -- ---- lists of operations
 

@@ -14,7 +14,7 @@ use Rattle.rr_model.specs.CellNames.{CellName}
 use Rattle.rr_model.specs.Samples.{name_of, marks_of}
 use Rattle.rr_cells.specs.CellBounds.{IsCellOf}
 use Rattle.rr_cells.specs.Cells.{Cells, IsTrimmed, name_at, cell_slot_of, rows_at}
-use Rattle.rr_cells.specs.Puts.{seen}
+use Rattle.rr_cells.specs.Puts.{slot_sample_of}
 use Rattle.rr_cells.specs.Laws.{PutGoesByArchives, PutLeavesOtherKeys, PutIsTrimmed, DeadLeaveNoTrace, CellsAreFew, mark_in}
 use Rattle.rr_cells.proofs.Local.{get-rows_at, live_local, trimmed_local}
 use Rattle.rr_cells.proofs.PutsLemmas.{puts_trimmed, put_at, put_other_key}
@@ -35,7 +35,7 @@ dead_leave_no_trace s m x archive is kept there dead =
     let rows = rows_at m x.key archive in
     let trimmed = sym (trimmed_local x.key archive s is m) ∙ ap (λ c. rows_at c x.key archive) kept in
     put_at s is x archive m kept there
-    ∙ trimmed_dead (archive_at s archive).rows rows p (contribution_with (get rows p) (seen s k)) trimmed (sym (live_local x.key archive s is m p) ∙ dead)
+    ∙ trimmed_dead (archive_at s archive).rows rows p (contribution_with (get rows p) (slot_sample_of s k)) trimmed (sym (live_local x.key archive s is m p) ∙ dead)
 
 pub cells_few : CellsAreFew
 cells_few s m key archive origins is kept of =

@@ -19,7 +19,7 @@ use Rattle.rr_model.specs.Samples.{Sample, Mark, name_of}
 use Rattle.rr_model.proofs.Orders.{cell_name_cmp_total, cell_name_cmp-IsAntisymmetric}
 use Rattle.rr_model.proofs.Horizon.{live_horizon}
 use Rattle.rr_cells.specs.Cells.{Cells, IsTrimmed, cell_slot_of, rows_at}
-use Rattle.rr_cells.specs.Puts.{seen, put_mark, put_marks, put_sample}
+use Rattle.rr_cells.specs.Puts.{slot_sample_of, put_mark, put_marks, put_sample}
 use Rattle.rr_cells.proofs.Local.{get-rows_at, trimmed_local, insert_here, insert_elsewhere}
 
 -- the sample in an archive
@@ -28,24 +28,24 @@ mark x archive = record { sample = x; archive = archive }
 
 -- the rows of an archive with the mark put
 abbrev pub with_mark : Layout → held.Rows → Mark → held.Rows
-with_mark s rows m = put_row (archive_at s m.archive).rows rows (cell_slot_of (name_of s m)) (seen s m)
+with_mark s rows m = put_row (archive_at s m.archive).rows rows (cell_slot_of (name_of s m)) (slot_sample_of s m)
 
 module _ (s : Layout) (is : IsLayout s) where
   put_here : (cells : Cells) (m : Mark) → rows_at (put_mark s cells m) m.key m.archive ≡ with_mark s (rows_at cells m.key m.archive) m
   unfolding put_mark
   put_here cells m =
       let n = name_of s m in
-      let v : Contribution = contribution_with (get cells n) (seen s m) in
+      let v : Contribution = contribution_with (get cells n) (slot_sample_of s m) in
       trimmed_local m.key m.archive s is (insert cells n v)
       ∙ ap (trimmed (is_live_at (archive_at s m.archive).rows))
       (insert_here m.key m.archive cells (cell_slot_of n) v
-      ∙ ap (λ o. insert (rows_at cells m.key m.archive) (cell_slot_of n) (contribution_with o (seen s m))) (sym (get-rows_at m.key m.archive cells (cell_slot_of n))))
+      ∙ ap (λ o. insert (rows_at cells m.key m.archive) (cell_slot_of n) (contribution_with o (slot_sample_of s m))) (sym (get-rows_at m.key m.archive cells (cell_slot_of n))))
 
   put_elsewhere : (cells : Cells) (m : Mark) (key : List ℕ) (archive : ℕ) → IsTrimmed s cells → is_of key archive (name_of s m) ≡ false → rows_at (put_mark s cells m) key archive ≡ rows_at cells key archive
   unfolding put_mark
   put_elsewhere cells m key archive kept apart =
       let n = name_of s m in
-      let v : Contribution = contribution_with (get cells n) (seen s m) in
+      let v : Contribution = contribution_with (get cells n) (slot_sample_of s m) in
       trimmed_local key archive s is (insert cells n v)
       ∙ ap (trimmed (is_live_at (archive_at s archive).rows)) (insert_elsewhere key archive cells n v apart)
       ∙ sym (trimmed_local key archive s is cells)

@@ -22,7 +22,7 @@ use Rattle.rr_model.specs.World.{World, IsWritten, IsClosed}
 use Rattle.rr_model.proofs.Orders.{cell_name_cmp_total, cell_name_cmp-IsAntisymmetric, mark_cmp_total, mark_cmp-IsAntisymmetric}
 use Rattle.rr_model.proofs.Horizon.{live_horizon}
 use Rattle.rr_model.proofs.Knowing.{same_knowledge, is_in-keys_of, knows-union, knows-live, live_in-union}
-use Rattle.rr_cells.specs.Puts.{seen}
+use Rattle.rr_cells.specs.Puts.{slot_sample_of}
 use Rattle.rr_cells.specs.Joins.{join}
 use Rattle.rr_cells.specs.State.{value_of, state}
 use Rattle.rr_cells.proofs.States.{value, tie_of, marks_at, knows-marks_at, valued, known_at, get-state, value_cell, live_state}
@@ -60,7 +60,7 @@ one_more m x xs t top = ⊎_elim
     })
     (max_nat m.number t)
 
-pub top_number : (s : Layout) (m : Mark) (ms : List Mark) → IsTop (m ∷ ms) (unwrap_or (greatest nat_cmp (map (λ x. x.number) (map (seen s) (m ∷ ms)))) 0)
+pub top_number : (s : Layout) (m : Mark) (ms : List Mark) → IsTop (m ∷ ms) (unwrap_or (greatest nat_cmp (map (λ x. x.number) (map (slot_sample_of s) (m ∷ ms)))) 0)
 top_number s m [] = record {
   mark = m;
   known = or_left (eq_by_cmp mark_cmp m m) false (tie_itself mark_cmp_total mark_cmp-IsAntisymmetric m);
@@ -70,8 +70,8 @@ top_number s m [] = record {
       (λ there. absurd (true≢false (sym there)));
 }
 top_number s m (x ∷ xs) =
-    let rest = greatest nat_cmp (map (λ y. y.number) (map (seen s) (x ∷ xs))) in
-    subst (λ g. IsTop (m ∷ x ∷ xs) (unwrap_or (greater nat_cmp (Some m.number) g) 0)) (sym (greatest_some nat_cmp x.number (map (λ y. y.number) (map (seen s) xs)) 0))
+    let rest = greatest nat_cmp (map (λ y. y.number) (map (slot_sample_of s) (x ∷ xs))) in
+    subst (λ g. IsTop (m ∷ x ∷ xs) (unwrap_or (greater nat_cmp (Some m.number) g) 0)) (sym (greatest_some nat_cmp x.number (map (λ y. y.number) (map (slot_sample_of s) xs)) 0))
     (one_more m x xs (unwrap_or rest 0) (top_number s x xs))
 
 -- a value's version is the greatest number of its marks

@@ -10,7 +10,7 @@ use Rattle.rr_model.specs.Samples.{Sample, Mark, name_of}
 use Rattle.rr_cells.specs.Cells.{Cells, IsTrimmed, cell_slot_of, rows_at}
 use Rattle.rr_model.specs.Knowledge.{Knowledge, union, live, cells_where, part, difference}
 use Rattle.rr_model.specs.World.{World, IsClosed}
-use Rattle.rr_cells.specs.Puts.{seen, put_sample}
+use Rattle.rr_cells.specs.Puts.{slot_sample_of, put_sample}
 use Rattle.rr_cells.specs.Joins.{join, join_cell, join_cells}
 use Rattle.rr_cells.specs.State.{state}
 use Rattle.rr_cells.specs.Versions.{newer_names}
@@ -24,7 +24,7 @@ abbrev pub PutGoesByArchives : Type 0
 PutGoesByArchives =
     (s : Layout) (m : Cells) (x : Sample) (archive : ℕ) → IsLayout s → IsTrimmed s m → archive < length s.archives
     → rows_at (put_sample s m x) x.key archive
-    ≡ put_row (archive_at s archive).rows (rows_at m x.key archive) (cell_slot_of (name_of s (mark_in x archive))) (seen s (mark_in x archive))
+    ≡ put_row (archive_at s archive).rows (rows_at m x.key archive) (cell_slot_of (name_of s (mark_in x archive))) (slot_sample_of s (mark_in x archive))
 
 -- and changes no other key
 abbrev pub PutLeavesOtherKeys : Type 0

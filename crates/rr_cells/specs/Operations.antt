@@ -33,13 +33,13 @@ accepts h (Put x) = x.origin == h.origin && (nat_le h.next x.number && nat_le x.
 accepts h (Join c) = is_cell_of h.schema (owned_cell c)
 
 -- with an operation applied
-abbrev pub applied : Holding → Op → Holding
-applied h (Put x) = with_sample h (sample_of x)
-applied h (Join c) = with_cell h c
+abbrev pub with_op : Holding → Op → Holding
+with_op h (Put x) = with_sample h (sample_of x)
+with_op h (Join c) = with_cell h c
 
 -- after an operation: one that isn't taken changes nothing
 abbrev pub step : Holding → Op → Holding
-step h op = if accepts h op then applied h op else h
+step h op = if accepts h op then with_op h op else h
 
 -- each operation is taken where its turn comes
 abbrev pub AllAccepted : Holding → List Op → Type 0

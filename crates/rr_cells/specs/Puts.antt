@@ -9,13 +9,13 @@ use Rattle.rr_model.specs.Samples.{Sample, Mark, name_of, marks_of}
 use Rattle.rr_cells.specs.Cells.{Cells}
 
 -- a sample, as the slot of an archive sees it
-abbrev pub seen : Layout → Mark → SlotSample
-seen s m = slot_sample m.number (place_of s m.archive m.time) m.time m.value
+abbrev pub slot_sample_of : Layout → Mark → SlotSample
+slot_sample_of s m = slot_sample m.number (place_of s m.archive m.time) m.time m.value
 
 -- with a sample more in the cell of one archive, and then the live cells: a sample that is past the horizon
 -- there leaves no trace
 unfoldable pub put_mark : Layout → Cells → Mark → Cells
-put_mark s cells m = trimmed (is_live s) (insert cells (name_of s m) (contribution_with (get cells (name_of s m)) (seen s m)))
+put_mark s cells m = trimmed (is_live s) (insert cells (name_of s m) (contribution_with (get cells (name_of s m)) (slot_sample_of s m)))
 
 -- so in each of these archives, in order
 abbrev pub put_marks : Layout → Cells → List Mark → Cells

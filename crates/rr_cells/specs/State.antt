@@ -8,11 +8,11 @@ use Rattle.rr_contrib.specs.Samples.{contribution_of}
 use Rattle.rr_model.specs.Samples.{Sample, Mark, marks_of}
 use Rattle.rr_model.specs.Knowledge.{Knowledge, IsAheadOf, with_marks, names, cell}
 use Rattle.rr_cells.specs.Cells.{Cells}
-use Rattle.rr_cells.specs.Puts.{seen, put_sample}
+use Rattle.rr_cells.specs.Puts.{slot_sample_of, put_sample}
 
 -- what some marks contribute
 abbrev pub value_of : Layout → List Mark → Option Contribution
-value_of s ms = contribution_of (map (seen s) ms)
+value_of s ms = contribution_of (map (slot_sample_of s) ms)
 
 -- at each name the contribution of its cell
 unfoldable pub state : Layout → Knowledge → Cells

@@ -14,7 +14,7 @@ use Rattle.rr_cluster.specs.Command.{IsOneLine, Command, schema, node, now, writ
 use Rattle.rr_cluster.specs.Commands.{on_ok, step, silently, beginning, printing}
 use Rattle.rr_cluster.specs.Commands.Schema.{layout_of}
 use Rattle.rr_cluster.specs.Model.{cell_model, sample_model}
-use Rattle.rr_cluster.specs.Output.{obeyed, settled, output_from}
+use Rattle.rr_cluster.specs.Output.{after_line, unless_refused, output_from}
 use Rattle.rr_cluster.specs.Script.{commands_of, SaysOneLine}
 use Rattle.rr_cluster.specs.Soundness.{IsSound, CommandsKeepSound, ScriptsAreSound, state_after}
 use Rattle.rr_cluster.specs.State.{State}
@@ -100,11 +100,11 @@ Line = ℕ × Result Command CommandFault
 abbrev IsLineOfOne : Line → Type 0
 IsLineOfOne line = SaysOneLine line.1
 
-line_keeps_sound : (m : Option (State Knowledge)) (number : ℕ) (said : Result Command CommandFault) → SaysOneLine said → IfSome m IsSound → IfSome (obeyed sample_model m number said).0 IsSound
+line_keeps_sound : (m : Option (State Knowledge)) (number : ℕ) (said : Result Command CommandFault) → SaysOneLine said → IfSome m IsSound → IfSome (after_line sample_model m number said).0 IsSound
 line_keeps_sound m number (Err fault) one sound = sound
 line_keeps_sound m number (Ok command) one sound = by (step sample_model m command) (commands_keep_sound m command sound one)
   where
-    by : (r : Result Step CommandFault) → IfOk r (λ done. IfSome done.0 IsSound) → IfSome (settled m number r).0 IsSound
+    by : (r : Result Step CommandFault) → IfOk r (λ done. IfSome done.0 IsSound) → IfSome (unless_refused m number r).0 IsSound
     by (Ok done) h = h
     by (Err fault) h = sound
 
@@ -112,24 +112,24 @@ lines_keep_sound : (m : Option (State Knowledge)) (lines : List Line) (count : �
 lines_keep_sound m lines zero one sound = sound
 lines_keep_sound m [] (suc count) one sound = sound
 lines_keep_sound m (line ∷ lines) (suc count) one sound =
-    lines_keep_sound (obeyed sample_model m line.0 line.1).0 lines count (All-tail IsLineOfOne line lines one) (line_keeps_sound m line.0 line.1 (All-head IsLineOfOne line lines one) sound)
+    lines_keep_sound (after_line sample_model m line.0 line.1).0 lines count (All-tail IsLineOfOne line lines one) (line_keeps_sound m line.0 line.1 (All-head IsLineOfOne line lines one) sound)
 
 pub scripts_are_sound : ScriptsAreSound
 scripts_are_sound script count = lines_keep_sound None (commands_of script) count (commands_are_one_line script) tt
 
 line_agrees : (m : Option (State Knowledge)) (number : ℕ) (said : Result Command CommandFault) → IfSome m IsSound
-    → obeyed cell_model (option_map in_cells m) number said ≡ step_in_cells (obeyed sample_model m number said)
+    → after_line cell_model (option_map in_cells m) number said ≡ step_in_cells (after_line sample_model m number said)
 line_agrees m number (Err fault) sound = refl
-line_agrees m number (Ok command) sound = ap (settled (option_map in_cells m) number) (commands_agree m command sound) ∙ by (step sample_model m command)
+line_agrees m number (Ok command) sound = ap (unless_refused (option_map in_cells m) number) (commands_agree m command sound) ∙ by (step sample_model m command)
   where
-    by : (r : Result Step CommandFault) → settled (option_map in_cells m) number (on_ok step_in_cells r) ≡ step_in_cells (settled m number r)
+    by : (r : Result Step CommandFault) → unless_refused (option_map in_cells m) number (on_ok step_in_cells r) ≡ step_in_cells (unless_refused m number r)
     by (Ok done) = refl
     by (Err fault) = refl
 
 lines_agree : (m : Option (State Knowledge)) (lines : List Line) → All IsLineOfOne lines → IfSome m IsSound → output_from cell_model (option_map in_cells m) lines ≡ output_from sample_model m lines
 lines_agree m [] one sound = refl
 lines_agree m (line ∷ lines) one sound =
-    let done = obeyed sample_model m line.0 line.1 in
+    let done = after_line sample_model m line.0 line.1 in
     rw (line_agrees m line.0 line.1 sound, lines_agree done.0 lines (All-tail IsLineOfOne line lines one) (line_keeps_sound m line.0 line.1 (All-head IsLineOfOne line lines one) sound)) refl
 
 pub scripts_agree : ScriptsAgree

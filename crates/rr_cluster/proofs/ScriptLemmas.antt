@@ -26,7 +26,7 @@ use Rattle.rr_cluster.specs.Commands.Bytes.{bytes_command}
 use Rattle.rr_cluster.specs.Commands.Save.{save_command}
 use Rattle.rr_cluster.specs.Commands.Load.{load_command}
 use Rattle.rr_cluster.specs.Commands.Fetch.{fetch_command}
-use Rattle.rr_cluster.specs.Script.{line_view, said_view, said_by, is_skipped, numbered, commands_of, SaysOneLine}
+use Rattle.rr_cluster.specs.Script.{line_view, said_view, said_by, is_skipped, numbered_lines, commands_of, SaysOneLine}
 use Rattle.rr_cluster.specs.Words.{parts_of, words_of, text_of}
 use Rattle.rr_cluster.proofs.WordsLemmas.{some_parts}
 use Rattle.rr_cluster.proofs.CommandsLemmas.Schema.{schema_is_one_line}
@@ -42,25 +42,25 @@ use Rattle.rr_cluster.proofs.CommandsLemmas.Load.{load_is_one_line}
 use Rattle.rr_cluster.proofs.CommandsLemmas.Fetch.{fetch_is_one_line}
 
 -- the first line, and then the others
-pub numbered-first : (number : ℕ) (line : List ℕ) (lines : List (List ℕ)) → numbered number (line ∷ lines) ≡ numbered number (line ∷ []) ++ numbered (number + 1) lines
-numbered-first number line lines =
+pub numbered_lines-first : (number : ℕ) (line : List ℕ) (lines : List (List ℕ)) → numbered_lines number (line ∷ lines) ≡ numbered_lines number (line ∷ []) ++ numbered_lines (number + 1) lines
+numbered_lines-first number line lines =
     elim (cases_Bool (is_skipped line)) [ inl skipped ↦ rw skipped refl | inr other ↦ rw other refl ]
 
 abbrev Lines : Type 0
 Lines = List (ℕ × Result Command CommandFault)
 
 -- once the first line of a text is taken in, the rest is what follows it
-pub line_taken : (number : ℕ) (text line after : List ℕ) (old new all : Lines) → new ≡ old ++ numbered number (line ∷ []) → parts_of LINE_FEED text ≡ line ∷ parts_of LINE_FEED after → old ++ numbered number (parts_of LINE_FEED text) ≡ all → new ++ numbered (number + 1) (parts_of LINE_FEED after) ≡ all
+pub line_taken : (number : ℕ) (text line after : List ℕ) (old new all : Lines) → new ≡ old ++ numbered_lines number (line ∷ []) → parts_of LINE_FEED text ≡ line ∷ parts_of LINE_FEED after → old ++ numbered_lines number (parts_of LINE_FEED text) ≡ all → new ++ numbered_lines (number + 1) (parts_of LINE_FEED after) ≡ all
 line_taken number text line after old new all taken parts before =
     let rest = parts_of LINE_FEED after in
-    ap (λ (l : Lines). l ++ numbered (number + 1) rest) taken
-    ∙ append_assoc old (numbered number (line ∷ [])) (numbered (number + 1) rest)
-    ∙ ap (λ (l : Lines). old ++ l) (sym (numbered-first number line rest) ∙ ap (numbered number) (sym parts)) ∙ before
+    ap (λ (l : Lines). l ++ numbered_lines (number + 1) rest) taken
+    ∙ append_assoc old (numbered_lines number (line ∷ [])) (numbered_lines (number + 1) rest)
+    ∙ ap (λ (l : Lines). old ++ l) (sym (numbered_lines-first number line rest) ∙ ap (numbered_lines number) (sym parts)) ∙ before
 
 -- once the last line is taken in, all are
-pub last_taken : (number : ℕ) (text : List ℕ) (old new all : Lines) → new ≡ old ++ numbered number (text ∷ []) → parts_of LINE_FEED text ≡ text ∷ [] → old ++ numbered number (parts_of LINE_FEED text) ≡ all → new ≡ all
+pub last_taken : (number : ℕ) (text : List ℕ) (old new all : Lines) → new ≡ old ++ numbered_lines number (text ∷ []) → parts_of LINE_FEED text ≡ text ∷ [] → old ++ numbered_lines number (parts_of LINE_FEED text) ≡ all → new ≡ all
 last_taken number text old new all taken parts before =
-    taken ∙ ap (λ (l : Lines). old ++ l) (ap (numbered number) (sym parts)) ∙ before
+    taken ∙ ap (λ (l : Lines). old ++ l) (ap (numbered_lines number) (sym parts)) ∙ before
 
 -- ---- no line has a line feed
 
@@ -109,13 +109,13 @@ said_is_one_line line none =
 abbrev Line : Type 0
 Line = ℕ × Result Command CommandFault
 
-numbered_are_one_line : (number : ℕ) (lines : List (List ℕ)) → All HasNoLineFeed lines → All (λ (line : Line). SaysOneLine line.1) (numbered number lines)
+numbered_are_one_line : (number : ℕ) (lines : List (List ℕ)) → All HasNoLineFeed lines → All (λ (line : Line). SaysOneLine line.1) (numbered_lines number lines)
 numbered_are_one_line number [] all = All-nil (λ (line : Line). SaysOneLine line.1)
 numbered_are_one_line number (line ∷ lines) all =
     let rest = numbered_are_one_line (number + 1) lines (All-tail HasNoLineFeed line lines all) in
     elim (cases_Bool (is_skipped line)) [
       | inl skipped ↦ rw skipped rest
-      | inr other ↦ rw other (All-cons (λ (l : Line). SaysOneLine l.1) (number, said_by line) (numbered (number + 1) lines) (said_is_one_line line (All-head HasNoLineFeed line lines all)) rest)
+      | inr other ↦ rw other (All-cons (λ (l : Line). SaysOneLine l.1) (number, said_by line) (numbered_lines (number + 1) lines) (said_is_one_line line (All-head HasNoLineFeed line lines all)) rest)
     ]
 
 pub commands_are_one_line : (script : List ℕ) → All (λ (line : Line). SaysOneLine line.1) (commands_of script)

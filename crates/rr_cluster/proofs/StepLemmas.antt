@@ -8,7 +8,7 @@ use Rattle.rr_join.specs.Values.{map_values}
 use Rattle.rr_join.proofs.ValuesLemmas.{get-map_values}
 use Rattle.rr_text.specs.Bytes.{bytes_cmp}
 use Rattle.rr_cluster.specs.declared.fault.CommandFault.{CommandFault}
-use Rattle.rr_text.specs.Results.{◌>>=◌, checked}
+use Rattle.rr_text.specs.Results.{◌>>=◌, check}
 use Rattle.rr_cluster.specs.Commands.{on_ok}
 
 pub names_apart : IsAntisymmetric bytes_cmp
@@ -35,7 +35,7 @@ pub holds_of : {A : Type 0} (P : A → Type 0) (r : Result A CommandFault) (x : 
 unfolding OfAnswer
 holds_of P r x h e = subst (λ (q : Result _ CommandFault). OfAnswer P q) e h
 
-pub not_true : (b : Bool) (fault : CommandFault) (u : Unit {0}) → checked (not b) fault ≡ Ok u → b ≡ false
+pub not_true : (b : Bool) (fault : CommandFault) (u : Unit {0}) → check (not b) fault ≡ Ok u → b ≡ false
 not_true true fault u e = absurd cc
 not_true false fault u e = refl
 

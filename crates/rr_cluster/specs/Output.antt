@@ -11,19 +11,19 @@ use Rattle.rr_cluster.specs.Script.{commands_of}
 use Rattle.rr_cluster.specs.State.{State}
 
 -- a refused command prints `line N: NAME`, and changes nothing
-abbrev pub settled : {K : Type 0} → Option (State K) → ℕ → Result (Option (State K) × List ℕ) CommandFault → Option (State K) × List ℕ
-settled m number (Ok done) = done
-settled m number (Err fault) = (m, refusal_text number (command_fault_name fault))
+abbrev pub unless_refused : {K : Type 0} → Option (State K) → ℕ → Result (Option (State K) × List ℕ) CommandFault → Option (State K) × List ℕ
+unless_refused m number (Ok done) = done
+unless_refused m number (Err fault) = (m, refusal_text number (command_fault_name fault))
 
 module _ {K : Type 0} (model : Model K) where
   -- the state after a line, and what it prints
-  abbrev pub obeyed : Option (State K) → ℕ → Result Command CommandFault → Option (State K) × List ℕ
-  obeyed m number said = settled m number (said >>= step model m)
+  abbrev pub after_line : Option (State K) → ℕ → Result Command CommandFault → Option (State K) × List ℕ
+  after_line m number said = unless_refused m number (said >>= step model m)
 
   -- what these lines print, one after the other
   abbrev pub output_from : Option (State K) → List (ℕ × Result Command CommandFault) → List ℕ
   output_from m [] = []
-  output_from m (line ∷ lines) = let done = obeyed m line.0 line.1 in done.1 ++ output_from done.0 lines
+  output_from m (line ∷ lines) = let done = after_line m line.0 line.1 in done.1 ++ output_from done.0 lines
 
   -- what a script prints
   abbrev pub output_of : List ℕ → List ℕ

@@ -15,7 +15,7 @@ use Rattle.rr_cluster.specs.declared.fault.CommandFault.{CommandFault}
 use Rattle.rr_cluster.specs.Command.{Command, IsOneLine}
 use Rattle.rr_cluster.specs.Commands.{step}
 use Rattle.rr_cluster.specs.Model.{sample_model}
-use Rattle.rr_cluster.specs.Output.{obeyed}
+use Rattle.rr_cluster.specs.Output.{after_line}
 use Rattle.rr_cluster.specs.Script.{commands_of}
 use Rattle.rr_cluster.specs.State.{Node, Snapshot, State, first_state}
 
@@ -64,7 +64,7 @@ pub record IsSound (m : State Knowledge) : Type 0 where
 -- the state after some lines
 abbrev pub state_after : Option (State Knowledge) → List (ℕ × Result Command CommandFault) → Option (State Knowledge)
 state_after m [] = m
-state_after m (line ∷ lines) = state_after (obeyed sample_model m line.0 line.1).0 lines
+state_after m (line ∷ lines) = state_after (after_line sample_model m line.0 line.1).0 lines
 
 -- the state is sound once the schema is set
 abbrev pub FirstStatesAreSound : Type 0

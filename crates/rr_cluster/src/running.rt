@@ -4,7 +4,7 @@ ghost use Rattle.std.specs.Prelude.{◌≡◌, Option, IfOk, OnOk};
 ghost use Rattle.rr_cells.specs.Cells.{Cells};
 ghost use Rattle.rr_cluster.specs.Meaning.{OptionRepresents, Prints};
 ghost use Rattle.rr_cluster.specs.Model.{cell_model, sample_model};
-ghost use Rattle.rr_cluster.specs.Output.{obeyed, output_of};
+ghost use Rattle.rr_cluster.specs.Output.{after_line, output_of};
 ghost use Rattle.rr_cluster.specs.Script.{said_view, SaysOneLine};
 ghost use Rattle.rr_cluster.specs.State.{State};
 
@@ -57,7 +57,7 @@ fn obey_line<A: Archive>(
     requires state { (m : Option (State Cells)) × OptionRepresents cluster.old m }
     ensures { OnOk result ((m : Option (State Cells)) → OptionRepresents cluster.old m
         → Prints cluster.new text.old.items text.new.items
-        (obeyed cell_model m line.now.number (said_view line.now.said))) }
+        (after_line cell_model m line.now.number (said_view line.now.said))) }
 {
     let done = match line.said {
         Ok(event) => obey(alloc, cluster, event, text),

@@ -5,23 +5,23 @@ use Rattle.rr_cells.specs.Operations.{step}
 use Rattle.rr_copies.specs.declared.shown.Change.{Change}
 use Rattle.rr_copies.specs.declared.shown.Change.TheVariants.{Apply, Mark}
 use Rattle.rr_copies.specs.declared.shown.CopyState.{CopyState}
-use Rattle.rr_copies.specs.Changes.{changed, mark_in, ops_in}
+use Rattle.rr_copies.specs.Changes.{copy_after, mark_in, ops_in}
 use Rattle.rr_copies.specs.Editions.{Sighting}
 
-pub changes-held : (cs : List Change) (x : CopyState) → (fold changed x cs).held ≡ fold step x.held (ops_in cs)
+pub changes-held : (cs : List Change) (x : CopyState) → (fold copy_after x cs).held ≡ fold step x.held (ops_in cs)
 changes-held [] x = refl
-changes-held (Apply op ∷ cs) x = changes-held cs (changed x (Apply op))
-changes-held (Mark m ∷ cs) x = changes-held cs (changed x (Mark m))
+changes-held (Apply op ∷ cs) x = changes-held cs (copy_after x (Apply op))
+changes-held (Mark m ∷ cs) x = changes-held cs (copy_after x (Mark m))
 
-pub changes-started : (cs : List Change) (x : CopyState) → x.started ≡ true → (fold changed x cs).started ≡ true
+pub changes-started : (cs : List Change) (x : CopyState) → x.started ≡ true → (fold copy_after x cs).started ≡ true
 changes-started [] x h = h
-changes-started (Apply op ∷ cs) x h = changes-started cs (changed x (Apply op)) h
-changes-started (Mark m ∷ cs) x h = changes-started cs (changed x (Mark m)) refl
+changes-started (Apply op ∷ cs) x h = changes-started cs (copy_after x (Apply op)) h
+changes-started (Mark m ∷ cs) x h = changes-started cs (copy_after x (Mark m)) refl
 
-pub changes-front : (cs : List Change) (x : CopyState) → (fold changed x cs).front ≡ mark_in x.front cs
+pub changes-front : (cs : List Change) (x : CopyState) → (fold copy_after x cs).front ≡ mark_in x.front cs
 changes-front [] x = refl
-changes-front (Apply op ∷ cs) x = changes-front cs (changed x (Apply op))
-changes-front (Mark m ∷ cs) x = changes-front cs (changed x (Mark m))
+changes-front (Apply op ∷ cs) x = changes-front cs (copy_after x (Apply op))
+changes-front (Mark m ∷ cs) x = changes-front cs (copy_after x (Mark m))
 
 -- ---- one change more
 

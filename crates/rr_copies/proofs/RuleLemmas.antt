@@ -15,9 +15,9 @@ use Rattle.rr_copies.specs.declared.rule.View.{View}
 use Rattle.rr_copies.specs.declared.shown.Change.{Change}
 use Rattle.rr_copies.specs.declared.shown.Change.TheVariants.{Mark}
 use Rattle.rr_copies.specs.declared.shown.CopyState.{CopyState}
-use Rattle.rr_copies.specs.Changes.{changed, mark_in, ops_in}
+use Rattle.rr_copies.specs.Changes.{copy_after, mark_in, ops_in}
 use Rattle.rr_copies.specs.Editions.{Sighting, flat}
-use Rattle.rr_copies.specs.Rule.{newcomer, IsShown, Fits, Keeps, Sees, keeper_of, extended, telling_of, informed}
+use Rattle.rr_copies.specs.Rule.{newcomer, IsShown, Fits, Keeps, Sees, keeper_of, with_published, telling_of, with_news}
 use Rattle.rr_copies.proofs.PrefixLemmas.{prefix_refl, prefix_append, prefix_trans, prefix_nil, prefix_of_nil}
 use Rattle.rr_copies.proofs.ChangesLemmas.{changes-front, changes-held, changes-started}
 
@@ -98,7 +98,7 @@ others_fit x y list more writer seat v next not f = record {
   writes = λ e. absurd (not e);
 }
 
-extended_fits : (x y : CopyState) (list more : List Op) (writer seat : ℕ) (v : View) → Follows x y → v.writes ≡ true → Fits x list writer seat v → Fits y (list ++ more) writer seat (extended v more)
+extended_fits : (x y : CopyState) (list more : List Op) (writer seat : ℕ) (v : View) → Follows x y → v.writes ≡ true → Fits x list writer seat v → Fits y (list ++ more) writer seat (with_published v more)
 extended_fits x y list more writer seat v next writes f =
     let h = f.writes writes in record {
       seen = subst (λ (l : List Op). IsPrefix (v.seen ++ more) (l ++ more)) h.all (prefix_refl (v.seen ++ more));
@@ -108,12 +108,12 @@ extended_fits x y list more writer seat v next writes f =
     }
 
 publishes : (seat : ℕ) (v : View) (x y : CopyState) (more : List Op) → v.writes ≡ true → Follows x y → flat y.front.editions ≡ v.seen ++ more → y.held.cells ≡ fold (cell_step x.held.schema) x.held.cells more
-    → (views : List View) → Keeps x views → get_elem? views seat ≡ some v → (w : View) × Keeps y (set views seat w) × (w ≡ extended v more)
+    → (views : List View) → Keeps x views → get_elem? views seat ≡ some v → (w : View) × Keeps y (set views seat w) × (w ≡ with_published v more)
 publishes seat v x y more writes next book is views k at =
     let f = k.each seat v at in
     let h = f.writes writes in
     let same : y.held.cells ≡ outcome_of x.held.schema (k.list ++ more) = is ∙ (ap (λ (c : Cells). fold (cell_step x.held.schema) c more) (k.outcome h.started).cells ∙ sym (outcome_of-append x.held.schema k.list more)) in (
-      extended v more,
+      with_published v more,
       record {
         list = k.list ++ more;
         writer = k.writer;
@@ -122,7 +122,7 @@ publishes seat v x y more writes next book is views k at =
           cells = same ∙ ap (λ (s : Layout). outcome_of s (k.list ++ more)) (sym next.schema);
           book = book ∙ ap (λ (l : List Op). l ++ more) h.all;
         };
-        each = set_fits y (k.list ++ more) k.writer views seat (extended v more)
+        each = set_fits y (k.list ++ more) k.writer views seat (with_published v more)
             (λ j u ne e. let fu = k.each j u e in others_fit x y k.list more k.writer j u next (λ wr. ne ((fu.writes wr).alone ∙ sym h.alone)) fu)
             (extended_fits x y k.list more k.writer seat v next writes f);
       },
@@ -131,8 +131,8 @@ publishes seat v x y more writes next book is views k at =
 
 -- with all changes that are pending
 pub publishes_changes : (seat : ℕ) (v : View) (x y : CopyState) (cs : List Change) (batch : List Op) → batch ≡ ops_in cs → v.writes ≡ true → v.joined ≡ true → AllAccepted x.held (ops_in cs)
-    → flat (mark_in x.front cs).editions ≡ v.seen ++ ops_in cs → (mark_in x.front cs).desk ≡ v.desk → y ≡ fold changed x cs
-    → (views : List View) → Keeps x views → get_elem? views seat ≡ some v → (w : View) × Keeps y (set views seat w) × (w ≡ extended v batch)
+    → flat (mark_in x.front cs).editions ≡ v.seen ++ ops_in cs → (mark_in x.front cs).desk ≡ v.desk → y ≡ fold copy_after x cs
+    → (views : List View) → Keeps x views → get_elem? views seat ≡ some v → (w : View) × Keeps y (set views seat w) × (w ≡ with_published v batch)
 publishes_changes seat v x y cs batch same writes joined accepted marked desk is views k at =
     let f = k.each seat v at in
     let held : y.held ≡ fold step x.held (ops_in cs) = ap (λ (z : CopyState). z.held) is ∙ changes-held cs x in
@@ -148,10 +148,10 @@ publishes_changes seat v x y cs batch same writes joined accepted marked desk is
 
 -- what a publication leaves, from what its call says
 pub published : {E C : Type 0} (r : Result (Unit {0}) E) (cs : List Change) (batch : List Op) (x y : CopyState) (v w : View) (rest : List Change) (new old : C) → batch ≡ ops_in cs
-    → MatchResult r (λ _. (y ≡ fold changed x cs) × (rest ≡ [])) (λ _. (new ≡ old) × (rest ≡ cs))
-    → MatchResult r (λ _. w ≡ extended v batch) (λ _. w ≡ v)
-    → MatchResult r (λ _. (w ≡ extended v (ops_in cs)) × (rest ≡ []) × (y.held ≡ fold step x.held (ops_in cs)) × (y.front ≡ mark_in x.front cs)) (λ _. (w ≡ v) × (new ≡ old) × (rest ≡ cs))
-published (Ok u) cs batch x y v w rest new old is values rule = (rule ∙ ap (extended v) is, values.1, ap (λ (z : CopyState). z.held) values.0 ∙ changes-held cs x, ap (λ (z : CopyState). z.front) values.0 ∙ changes-front cs x)
+    → MatchResult r (λ _. (y ≡ fold copy_after x cs) × (rest ≡ [])) (λ _. (new ≡ old) × (rest ≡ cs))
+    → MatchResult r (λ _. w ≡ with_published v batch) (λ _. w ≡ v)
+    → MatchResult r (λ _. (w ≡ with_published v (ops_in cs)) × (rest ≡ []) × (y.held ≡ fold step x.held (ops_in cs)) × (y.front ≡ mark_in x.front cs)) (λ _. (w ≡ v) × (new ≡ old) × (rest ≡ cs))
+published (Ok u) cs batch x y v w rest new old is values rule = (rule ∙ ap (with_published v) is, values.1, ap (λ (z : CopyState). z.held) values.0 ∙ changes-held cs x, ap (λ (z : CopyState). z.front) values.0 ∙ changes-front cs x)
 published (Err e) cs batch x y v w rest new old is values rule = (rule, values.0, values.1)
 
 -- ---- the keeper opens
@@ -189,10 +189,10 @@ starts seat v x y layout live off on same book views k at =
     )
 
 -- where one mark alone is pending
-pub starts_marked : (seat : ℕ) (v : View) (x y : CopyState) (m : Sighting) (cs : List Change) → IsLayout x.held.schema → IsTrimmed x.held.schema x.held.cells → x.started ≡ false → cs ≡ Mark m ∷ [] → flat m.editions ≡ joins_of x.held.cells → y ≡ fold changed x cs
+pub starts_marked : (seat : ℕ) (v : View) (x y : CopyState) (m : Sighting) (cs : List Change) → IsLayout x.held.schema → IsTrimmed x.held.schema x.held.cells → x.started ≡ false → cs ≡ Mark m ∷ [] → flat m.editions ≡ joins_of x.held.cells → y ≡ fold copy_after x cs
     → (views : List View) → Keeps x views → get_elem? views seat ≡ some v → (w : View) × Keeps y (set views seat w) × (w ≡ keeper_of x.held y.front.desk)
 starts_marked seat v x y m cs layout live off pending book is =
-    let e : y ≡ changed x (Mark m) = is ∙ ap (fold changed x) pending in
+    let e : y ≡ copy_after x (Mark m) = is ∙ ap (fold copy_after x) pending in
     starts seat v x y layout live off (ap (λ (z : CopyState). z.started) e) (ap (λ (z : CopyState). z.held) e) (ap (λ (z : CopyState). flat z.front.editions) e ∙ book)
 
 -- before that the rule holds of the keeper's view alone
@@ -224,7 +224,7 @@ informed_joined : (x : CopyState) (a b : Bool) (s t : Layout) (d e : Book) → (
 informed_joined x true b s t d d' f g e = f refl
 informed_joined x false b s t d d' f g e = g e
 
-informed_fits : (x : CopyState) (list : List Op) (writer seat other : ℕ) (v w : View) → Fits x list writer seat v → Fits x list writer other w → Fits x list writer seat (informed v w)
+informed_fits : (x : CopyState) (list : List Op) (writer seat other : ℕ) (v w : View) → Fits x list writer seat v → Fits x list writer other w → Fits x list writer seat (with_news v w)
 informed_fits x list writer seat other v w f g = record {
   seen = f.seen;
   told = g.seen;
@@ -232,15 +232,15 @@ informed_fits x list writer seat other v w f g = record {
   writes = λ e. let h = f.writes e in record { started = h.started; alone = h.alone; all = h.all };
 }
 
-pub merges : (seat : ℕ) (v : View) (other : ℕ) (w : View) (x : CopyState) (views : List View) → Keeps x views → get_elem? views seat ≡ some v → ¬ (other ≡ seat) → get_elem? (set views seat (informed v w)) other ≡ some w
-    → Keeps x (set (set views seat (informed v w)) other newcomer)
+pub merges : (seat : ℕ) (v : View) (other : ℕ) (w : View) (x : CopyState) (views : List View) → Keeps x views → get_elem? views seat ≡ some v → ¬ (other ≡ seat) → get_elem? (set views seat (with_news v w)) other ≡ some w
+    → Keeps x (set (set views seat (with_news v w)) other newcomer)
 merges seat v other w x views k at apart there =
-    let old : get_elem? views other ≡ some w = ⊎_elim (λ (t : (other ≡ seat) × (informed v w ≡ w)). absurd (apart t.0)) (λ (t : (other ≢ seat) × (get_elem? views other ≡ some w)). t.1) (at_set views seat other (informed v w) w there) in
-    let first = set_fits x k.list k.writer views seat (informed v w) (λ j u ne e. k.each j u e) (informed_fits x k.list k.writer seat other v w (k.each seat v at) (k.each other w old)) in
+    let old : get_elem? views other ≡ some w = ⊎_elim (λ (t : (other ≡ seat) × (with_news v w ≡ w)). absurd (apart t.0)) (λ (t : (other ≢ seat) × (get_elem? views other ≡ some w)). t.1) (at_set views seat other (with_news v w) w there) in
+    let first = set_fits x k.list k.writer views seat (with_news v w) (λ j u ne e. k.each j u e) (informed_fits x k.list k.writer seat other v w (k.each seat v at) (k.each other w old)) in
     record {
       list = k.list;
       writer = k.writer;
       unopened = k.unopened;
       outcome = k.outcome;
-      each = set_fits x k.list k.writer (set views seat (informed v w)) other newcomer (λ j u ne e. first j u e) (newcomer_fits x k.list k.writer other);
+      each = set_fits x k.list k.writer (set views seat (with_news v w)) other newcomer (λ j u ne e. first j u e) (newcomer_fits x k.list k.writer other);
     }

@@ -6,14 +6,14 @@ use Rattle.rr_base.specs.Schema.{Layout}
 use Rattle.rr_cells.specs.declared.op.Op.{Op}
 use Rattle.rr_cells.specs.Cells.{Cells}
 use Rattle.rr_cells.specs.Holding.{IsHolding, Holding}
-use Rattle.rr_cells.specs.Operations.{accepts, applied, cell_step, outcome_of, step, joins_of, AllAccepted}
+use Rattle.rr_cells.specs.Operations.{accepts, with_op, cell_step, outcome_of, step, joins_of, AllAccepted}
 use Rattle.rr_cells.proofs.OperationsLemmas.{accepted-append, outcome_of-append, outcome_of-joins, step_accepted, step-origin, step-schema, steps-cells, steps-schema}
 use Rattle.rr_copies.specs.declared.rule.View.{View}
 use Rattle.rr_copies.specs.declared.shown.Change.{Change}
 use Rattle.rr_copies.specs.declared.shown.Change.TheVariants.{Apply, Mark}
 use Rattle.rr_copies.specs.Changes.{mark_in, ops_in}
 use Rattle.rr_copies.specs.Editions.{Sighting, flat, Begins}
-use Rattle.rr_copies.specs.Rule.{extended, keeper_of}
+use Rattle.rr_copies.specs.Rule.{with_published, keeper_of}
 use Rattle.rr_copies.specs.Standing.{KeeperState, cells_of, holding_of, with_pending, IsKeeper, IsTied, IsBooked, IsReady}
 use Rattle.rr_copies.proofs.EditionsLemmas.{begins-refl, begins-more}
 use Rattle.rr_copies.proofs.ChangesLemmas.{mark_in-mark, ops_in-apply, ops_in-mark}
@@ -38,28 +38,28 @@ tied-push v shown own new pending all op t may is more =
       schema = t.schema ∙ sym (step-schema own op);
       cells = t.cells;
       accepted = accepted-append pending (op ∷ []) shown t.accepted (here, tt);
-      applied = ap (λ (h : Holding). step h op) t.applied ∙ sym (fold-append step shown pending (op ∷ []));
+      with_op = ap (λ (h : Holding). step h op) t.applied ∙ sym (fold-append step shown pending (op ∷ []));
     } in
     subst (λ (z : Holding × List Op). IsTied v shown z.0 z.1) (λ i. (sym is i, sym more i)) whole
 
 -- a publication leaves the two tied
-tied-published : (v w : View) (x y own : Holding) (pending : List Op) → w ≡ extended v pending → y ≡ fold step x pending → IsTied v x own pending → IsTied w y own []
+tied-published : (v w : View) (x y own : Holding) (pending : List Op) → w ≡ with_published v pending → y ≡ fold step x pending → IsTied v x own pending → IsTied w y own []
 tied-published v w x y own pending now is t =
     let same : y ≡ own = is ∙ sym t.applied in
-    let whole : IsTied (extended v pending) own own [] = record {
+    let whole : IsTied (with_published v pending) own own [] = record {
       writes = t.writes;
       joined = t.joined;
       schema = t.schema;
       cells = tied-cells v x own pending t;
       accepted = tt;
-      applied = refl;
+      with_op = refl;
     } in
     subst (λ (z : View × Holding). IsTied z.0 z.1 own []) (λ i. (sym now i, sym same i)) whole
 
 -- an opened desk is tied
 pub tied-open : (v : View) (shown own : Holding) (b : Book) (cs : List Change) → IsHolding own → v ≡ keeper_of own b → shown ≡ own → cs ≡ [] → IsTied v shown own (ops_in cs)
 tied-open v shown own b cs holds is same none =
-    let whole : IsTied (keeper_of own b) own own [] = record { writes = refl; joined = refl; schema = refl; cells = sym (outcome_of-joins own.schema own.cells holds.layout holds.live); accepted = tt; applied = refl } in
+    let whole : IsTied (keeper_of own b) own own [] = record { writes = refl; joined = refl; schema = refl; cells = sym (outcome_of-joins own.schema own.cells holds.layout holds.live); accepted = tt; with_op = refl } in
     subst (λ (z : View × Holding × List Op). IsTied z.0 z.1 own z.2) (λ i. (sym is i, sym same i, ops_in (sym none i))) whole
 
 -- ---- the book
@@ -74,9 +74,9 @@ booked-push v copy all pending more op b is = record {
 }
 
 -- a publication leaves the keeper booked
-booked-published : (v w : View) (x : Holding) (front new all : Sighting) (cs : List Change) → w ≡ extended v (ops_in cs) → new ≡ mark_in front cs → IsReady v x front cs → IsBooked v front all (ops_in cs) → IsBooked w new all []
+booked-published : (v w : View) (x : Holding) (front new all : Sighting) (cs : List Change) → w ≡ with_published v (ops_in cs) → new ≡ mark_in front cs → IsReady v x front cs → IsBooked v front all (ops_in cs) → IsBooked w new all []
 booked-published v w x front new all cs now last ready b =
-    let here : IsBooked (extended v (ops_in cs)) (mark_in front cs) all [] = record {
+    let here : IsBooked (with_published v (ops_in cs)) (mark_in front cs) all [] = record {
       copy_desk = ready.desk;
       all_desk = b.all_desk;
       shown = ready.marked;
@@ -128,7 +128,7 @@ keeper-push v shown own new front all cs more marked op k may is longer =
     }
 
 -- all is published
-pub keeper-published : (v w : View) (x y own : Holding) (front new all : Sighting) (cs rest : List Change) → w ≡ extended v (ops_in cs) → rest ≡ [] → y ≡ fold step x (ops_in cs) → new ≡ mark_in front cs → IsKeeper v x own front all cs true → IsKeeper w y own new all rest false
+pub keeper-published : (v w : View) (x y own : Holding) (front new all : Sighting) (cs rest : List Change) → w ≡ with_published v (ops_in cs) → rest ≡ [] → y ≡ fold step x (ops_in cs) → new ≡ mark_in front cs → IsKeeper v x own front all cs true → IsKeeper w y own new all rest false
 keeper-published v w x y own front new all cs rest now none is last k = record {
   tied = subst (λ (l : List Change). IsTied w y own (ops_in l)) (sym none) (tied-published v w x y own (ops_in cs) now is k.tied);
   booked = subst (λ (l : List Change). IsBooked w new all (ops_in l)) (sym none) (booked-published v w x front new all cs now last (k.ready refl) k.booked);
@@ -174,5 +174,5 @@ push-state k new op b published pending may is desk seen more =
     let h = holding_of k in
     let schema : new.schema ≡ k.schema = ap (λ (x : Holding). x.schema) is ∙ step-schema h op in
     let origin : new.origin ≡ k.origin = ap (λ (x : Holding). x.origin) is ∙ step-origin h op in
-    let next : new.next ≡ (applied h op).next = ap (λ (x : Holding). x.next) (is ∙ step_accepted h op may) in
+    let next : new.next ≡ (with_op h op).next = ap (λ (x : Holding). x.next) (is ∙ step_accepted h op may) in
     λ i. record { desk = desk i; schema = schema i; origin = origin i; next = next i; published = seen i; pending = more i }

@@ -7,9 +7,9 @@ use Rattle.rr_copies.specs.declared.shown.Change.TheVariants.{Apply, Mark}
 use Rattle.rr_copies.specs.declared.shown.CopyState.{CopyState}
 use Rattle.rr_copies.specs.Editions.{Sighting}
 
-abbrev pub changed : CopyState → Change → CopyState
-changed x (Apply op) = record { held = step x.held op; started = x.started; front = x.front }
-changed x (Mark front) = record { held = x.held; started = true; front = front }
+abbrev pub copy_after : CopyState → Change → CopyState
+copy_after x (Apply op) = record { held = step x.held op; started = x.started; front = x.front }
+copy_after x (Mark front) = record { held = x.held; started = true; front = front }
 
 -- the operations among these changes
 abbrev pub ops_in : List Change → List Op

@@ -78,8 +78,8 @@ abbrev pub keeper_of : Holding → Book → View
 keeper_of h b = record { writes = true; joined = true; schema = h.schema; desk = b; seen = joins_of h.cells; told = [] }
 
 -- a view with more operations published
-abbrev pub extended : View → List Op → View
-extended v more = record {
+abbrev pub with_published : View → List Op → View
+with_published v more = record {
   writes = v.writes;
   joined = v.joined;
   schema = v.schema;
@@ -93,8 +93,8 @@ abbrev pub telling_of : View → View
 telling_of v = record { writes = false; joined = v.joined; schema = v.schema; desk = v.desk; seen = v.seen; told = [] }
 
 -- the view v, told what w has seen
-abbrev pub informed : View → View → View
-informed v w = record {
+abbrev pub with_news : View → View → View
+with_news v w = record {
   writes = v.writes;
   joined = v.joined || w.joined;
   schema = if v.joined then v.schema else w.schema;

@@ -5,7 +5,7 @@ use Rattle.rr_base.specs.Schema.{Layout}
 use Rattle.rr_cells.specs.declared.op.Op.{Op}
 use Rattle.rr_cells.specs.Cells.{Cells}
 use Rattle.rr_cells.specs.Holding.{Holding}
-use Rattle.rr_cells.specs.Operations.{outcome_of, applied, step, joins_of, AllAccepted}
+use Rattle.rr_cells.specs.Operations.{outcome_of, with_op, step, joins_of, AllAccepted}
 use Rattle.rr_copies.specs.declared.rule.View.{View}
 use Rattle.rr_copies.specs.declared.shown.Change.{Change}
 use Rattle.rr_copies.specs.Changes.{ops_in, mark_in}
@@ -35,7 +35,7 @@ with_pending k op = record {
   desk = k.desk;
   schema = k.schema;
   origin = k.origin;
-  next = (applied (holding_of k) op).next;
+  next = (with_op (holding_of k) op).next;
   published = k.published;
   pending = k.pending ++ op ∷ [];
 }
@@ -52,8 +52,8 @@ with_all_published k = record {
 }
 
 -- a keeper that has opened a desk with what a replica holds
-abbrev pub opened : Holding → Book → KeeperState
-opened h b = record { desk = b; schema = h.schema; origin = h.origin; next = h.next; published = joins_of h.cells; pending = [] }
+abbrev pub keeper_at_opening : Holding → Book → KeeperState
+keeper_at_opening h b = record { desk = b; schema = h.schema; origin = h.origin; next = h.next; published = joins_of h.cells; pending = [] }
 
 -- ---- what keepers keep to
 
@@ -64,7 +64,7 @@ pub record IsTied (v : View) (shown own : Holding) (pending : List Op) : Type 0 
   pub schema : v.schema ≡ own.schema
   pub cells : shown.cells ≡ outcome_of shown.schema v.seen
   pub accepted : AllAccepted shown pending
-  pub applied : own ≡ fold step shown pending
+  pub with_op : own ≡ fold step shown pending
 
 -- the copy's book has what is published, and the keeper's has that and perhaps some of what is pending
 pub record IsBooked (v : View) (copy all : Sighting) (pending : List Op) : Type 0 where

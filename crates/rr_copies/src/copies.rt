@@ -6,7 +6,7 @@ ghost use Rattle.rr_cells.specs.Operations.{accepts, joins_of};
 ghost use Rattle.rr_replica.specs.Standing.{held};
 ghost use Rattle.rr_copies.specs.Editions.{flat};
 ghost use Rattle.rr_copies.specs.Rule.{keeper_of};
-ghost use Rattle.rr_copies.specs.Standing.{cells_of, holding_of, opened, with_all_published, with_pending};
+ghost use Rattle.rr_copies.specs.Standing.{cells_of, holding_of, keeper_at_opening, with_all_published, with_pending};
 ghost use Rattle.rr_copies.specs.Writers.{changes};
 
 use crate::book::{Editions, Front};
@@ -72,7 +72,7 @@ impl<A: Archive> Copies<A> {
         requires front { writer.desk.shown.value.front ≡ book }
         requires pending { changes writer ≡ [] }
         requires book { flat book.editions ≡ joins_of own.cells }
-        ensures { result ≡ opened (held own) book.desk }
+        ensures { result ≡ keeper_at_opening (held own) book.desk }
     {
         Copies {
             writer,

@@ -66,9 +66,9 @@ pub struct Publishes<K> {
 
 impl<A: Archive, K: Batch> Outcome<Shown<A>, View> for Publishes<K> {
     ghost use Rattle.std.specs.Prelude.{◌≡◌};
-    ghost use Rattle.rr_copies.specs.Rule.{extended};
+    ghost use Rattle.rr_copies.specs.Rule.{with_published};
 
-    ghost then = { λ v x y w. w ≡ extended v K.batch };
+    ghost then = { λ v x y w. w ≡ with_published v K.batch };
 }
 
 /// What the keeper tells a new reader, and what the reader then knows.
@@ -83,9 +83,9 @@ impl Split<View> for Introduces {
 }
 
 impl Join<View> for Introduces {
-    ghost use Rattle.rr_copies.specs.Rule.{informed, newcomer};
+    ghost use Rattle.rr_copies.specs.Rule.{with_news, newcomer};
 
-    ghost both = { informed };
+    ghost both = { with_news };
 
     ghost spent = { newcomer };
 }

@@ -75,14 +75,14 @@ pub struct CopyState {
 }
 
 impl<A: Archive> Absorb<Change> for Shown<A> {
-    ghost use Rattle.rr_copies.specs.Changes.{changed};
+    ghost use Rattle.rr_copies.specs.Changes.{copy_after};
     ghost use Rattle.rr_replica.specs.Standing.{held};
 
     type State = CopyState;
 
     ghost state = { λ s. record { held = held s.replica; started = s.started; front = s.front } };
 
-    ghost applied = { changed };
+    ghost applied = { copy_after };
 
     fn absorb_first(&mut self, operation: &Change, _other: &Shown<A>) -> Result<(), AllocError> {
         match operation {

@@ -7,7 +7,7 @@ ghost use Rattle.rr_cells.specs.Operations.{joins_of, step, AllAccepted};
 ghost use Rattle.rr_replica.specs.Standing.{held};
 ghost use Rattle.rr_copies.specs.Changes.{mark_in, ops_in};
 ghost use Rattle.rr_copies.specs.Editions.{after, flat, Begins};
-ghost use Rattle.rr_copies.specs.Rule.{extended, informed, keeper_of};
+ghost use Rattle.rr_copies.specs.Rule.{with_published, with_news, keeper_of};
 ghost use Rattle.rr_copies.specs.Standing.{IsReady};
 ghost use Rattle.rr_copies.specs.Writers.{changes};
 ghost use Rattle.rr_copies.specs.declared.shown.Change.TheVariants.{Mark};
@@ -57,7 +57,7 @@ fn publish_batch<A: Archive, K: Batch, R: Wait>(
     requires ready { IsReady (view writer.desk.place) (held writer.desk.shown.value.replica)
         writer.desk.shown.value.front (changes writer) }
     ensures { MatchResult result.1
-        (λ _. (view result.0.desk.place ≡ extended (view writer.desk.place) (ops_in (changes writer)))
+        (λ _. (view result.0.desk.place ≡ with_published (view writer.desk.place) (ops_in (changes writer)))
         × (changes result.0 ≡ [])
         × (held result.0.desk.shown.value.replica
         ≡ fold step (held writer.desk.shown.value.replica) (ops_in (changes writer)))
@@ -77,7 +77,7 @@ pub fn publish<A: Archive, R: Wait>(
     requires ready { IsReady (view writer.desk.place) (held writer.desk.shown.value.replica)
         writer.desk.shown.value.front (changes writer) }
     ensures { MatchResult result.1
-        (λ _. (view result.0.desk.place ≡ extended (view writer.desk.place) (ops_in (changes writer)))
+        (λ _. (view result.0.desk.place ≡ with_published (view writer.desk.place) (ops_in (changes writer)))
         × (changes result.0 ≡ [])
         × (held result.0.desk.shown.value.replica
         ≡ fold step (held writer.desk.shown.value.replica) (ops_in (changes writer)))
@@ -157,7 +157,7 @@ pub fn mark<A: Archive>(
 /// Tells a new reader of the desk, and of what is published.
 pub fn introduce<A: Archive>(writer: &mut DeskWriter<A>, seat: &mut Seat<A>)
     requires { seat.old.place.table_id ≡ writer.old.desk.place.table_id }
-    ensures told { view seat.new.place ≡ informed (view seat.old.place) (view writer.old.desk.place) }
+    ensures told { view seat.new.place ≡ with_news (view seat.old.place) (view writer.old.desk.place) }
     ensures view { view writer.new.desk.place ≡ view writer.old.desk.place }
     ensures shown { writer.new.desk.shown ≡ writer.old.desk.shown }
     ensures pending { changes writer.new ≡ changes writer.old }

@@ -26,7 +26,7 @@ use Rattle.rr_cells.specs.Holding.{Holding}
 use Rattle.rr_cells.specs.Joining.{next_after}
 use Rattle.rr_cells.specs.Joins.{join_cell}
 use Rattle.rr_cells.specs.Listing.{owned_cell}
-use Rattle.rr_cells.specs.Operations.{accepts, applied, cell_step, outcome_of, joins_of, sample_of, step, to_cell, AllAccepted}
+use Rattle.rr_cells.specs.Operations.{accepts, with_op, cell_step, outcome_of, joins_of, sample_of, step, to_cell, AllAccepted}
 use Rattle.rr_cells.specs.Puts.{put_sample}
 use Rattle.rr_cells.specs.State.{state}
 use Rattle.rr_cells.proofs.CellByCell.{join_cell_unites}
@@ -69,7 +69,7 @@ knows_elsewhere h z x k other next = record {
   cells = k.cells;
 }
 
-knows_put : (h : Holding) (z : Scene) (x : Sample) → Knows h z → accepts h (Put x) ≡ true → Knows (applied h (Put x)) (next_scene h.schema z (put x))
+knows_put : (h : Holding) (z : Scene) (x : Sample) → Knows h z → accepts h (Put x) ≡ true → Knows (with_op h (Put x)) (next_scene h.schema z (put x))
 knows_put h z x k may =
     let s = h.schema in
     let y = sample_of x in
@@ -93,7 +93,7 @@ next_grows o n e = elim (e.0.origin == o && nat_le n e.1.version) as (λ b. (e.0
   | false ↦ λ t. omega arith
 ] refl
 
-knows_joined : (h : Holding) (z : Scene) (l : Knowledge) (c : Cell) → Knows h z → IsWhole h.schema z.world l c → Knows (applied h (Join c)) (next_scene h.schema z (joined l c))
+knows_joined : (h : Holding) (z : Scene) (l : Knowledge) (c : Cell) → Knows h z → IsWhole h.schema z.world l c → Knows (with_op h (Join c)) (next_scene h.schema z (joined l c))
 knows_joined h z l c k whole =
     let s = h.schema in
     let n = (owned_cell c).0 in record {
@@ -116,7 +116,7 @@ operations_are_known h z (elsewhere x ∷ turns) k honest accepted =
 operations_are_known h z (put x ∷ turns) k honest accepted =
     let next = step h (Put x) in
     let z' = next_scene h.schema z (put x) in
-    let same : applied h (Put x) ≡ next = sym (step_accepted h (Put x) accepted.0) in
+    let same : with_op h (Put x) ≡ next = sym (step_accepted h (Put x) accepted.0) in
     let schema : h.schema ≡ next.schema = sym (step-schema h (Put x)) in
     let k' : Knows next z' = subst (λ (g : Holding). Knows g z') same (knows_put h z x k accepted.0) in
     subst (λ (s : Layout). Knows (fold step next (ops_of turns)) (fold (next_scene s) z' turns)) (sym schema)
@@ -124,7 +124,7 @@ operations_are_known h z (put x ∷ turns) k honest accepted =
 operations_are_known h z (joined l c ∷ turns) k honest accepted =
     let next = step h (Join c) in
     let z' = next_scene h.schema z (joined l c) in
-    let same : applied h (Join c) ≡ next = sym (step_accepted h (Join c) accepted.0) in
+    let same : with_op h (Join c) ≡ next = sym (step_accepted h (Join c) accepted.0) in
     let schema : h.schema ≡ next.schema = sym (step-schema h (Join c)) in
     let k' : Knows next z' = subst (λ (g : Holding). Knows g z') same (knows_joined h z l c k honest.0) in
     subst (λ (s : Layout). Knows (fold step next (ops_of turns)) (fold (next_scene s) z' turns)) (sym schema)

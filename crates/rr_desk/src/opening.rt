@@ -7,7 +7,7 @@ ghost use Rattle.rr_cells.specs.Operations.{joins_of};
 ghost use Rattle.rr_replica.specs.Standing.{held};
 ghost use Rattle.rr_copies.specs.Editions.{flat};
 ghost use Rattle.rr_copies.specs.Rule.{keeper_of};
-ghost use Rattle.rr_copies.specs.Standing.{opened};
+ghost use Rattle.rr_copies.specs.Standing.{keeper_at_opening};
 ghost use Rattle.rr_desk.specs.Standing.{HasSeen};
 ghost use Rattle.rr_copies.specs.Writers.{changes};
 ghost use Rattle.rr_desk.specs.declared.fault.OpenFault.TheVariants.{BadCount};
@@ -111,7 +111,7 @@ pub fn open<A: Archive, R: Wait>(
     replica: Replica<A>,
     readers: usize,
 ) -> Result<(Keeper<A>, Vec<Reader<A>>), (OpenFault, Replica<A>)>
-    ensures keeper { IfOk result (λ r. r.0 ≡ opened (held replica) r.0.desk) }
+    ensures keeper { IfOk result (λ r. r.0 ≡ keeper_at_opening (held replica) r.0.desk) }
     ensures count { IfOk result (λ r. length r.1.items ≡ readers) }
     ensures seen { IfOk result (λ r. All (HasSeen r.0.desk replica.schema r.0.published) r.1.items) }
     ensures accepted { OnOk result ((1 ≤ readers) × (readers ≤ MAX_READERS)) }

@@ -30,17 +30,17 @@ abbrev pub MayCome : FeedState → List ℕ → Bool → Type 0
 MayCome s more ended = s.ended ≡ true → (more ≡ []) × (ended ≡ true)
 
 -- an item, if there is one, as a list
-abbrev pub found : Option Item → List Item
-found None = []
-found (Some item) = item ∷ []
+abbrev pub item_list : Option Item → List Item
+item_list None = []
+item_list (Some item) = item ∷ []
 
 -- What is handed out is the first of the items, whatever comes, and the others are left. Nothing is
 -- handed out only where there is none yet, and then no more is held than a line may have.
 pub record HandsOut (old : FeedState) (item : Option Item) (new : FeedState) : Type 0 where
   pub first : (more : List ℕ) (ended : Bool) → MayCome old more ended
-      → items_left (with_more old more ended) ≡ found item ++ items_left (with_more new more ended)
+      → items_left (with_more old more ended) ≡ item_list item ++ items_left (with_more new more ended)
   pub none : item ≡ None → items_left old ≡ []
   pub line : IfSome item IsLine
   pub ended : new.ended ≡ old.ended
-  pub fewer : length new.left + length (found item) ≤ length old.left
+  pub fewer : length new.left + length (item_list item) ≤ length old.left
   pub few : item ≡ None → length new.left ≤ MAX_LINE

@@ -1,7 +1,7 @@
 -- What a feed handed out, against all bytes that were pushed.
 use Rattle.std.specs.Prelude.{◌≡◌, ℕ, Bool, true, false, List, [], ◌++◌, Option}
 use Rattle.rr_feed.specs.Items.{Item, items}
-use Rattle.rr_feed.specs.Feed.{FeedState, empty_feed, items_left, with_more, MayCome, found, HandsOut}
+use Rattle.rr_feed.specs.Feed.{FeedState, empty_feed, items_left, with_more, MayCome, item_list, HandsOut}
 
 -- what was handed out, and then the items of what is left, are the items of all that was pushed,
 -- whatever comes
@@ -21,7 +21,7 @@ PushKeepsFed =
 abbrev pub HandingOutKeepsFed : Type 0
 HandingOutKeepsFed =
     (pushed : List ℕ) (handed : List Item) (item : Option Item) (old new : FeedState)
-    → HandsOut old item new → IsFed pushed handed old → IsFed pushed (handed ++ found item) new
+    → HandsOut old item new → IsFed pushed handed old → IsFed pushed (handed ++ item_list item) new
 
 abbrev pub EndKeepsFed : Type 0
 EndKeepsFed =

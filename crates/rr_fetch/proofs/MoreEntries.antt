@@ -14,7 +14,7 @@ use Rattle.rr_join.proofs.Greater.{greater-None, greater_assoc}
 use Rattle.rr_contrib.proofs.Masks.{or_swap}
 use Rattle.rr_archive.specs.declared.entry.Entry.{Entry}
 use Rattle.rr_join.specs.Sums.{int_sum}
-use Rattle.rr_fetch.specs.Consolidation.{united, total_of, count_of, last_cmp}
+use Rattle.rr_fetch.specs.Consolidation.{mask_of_entries, total_of, count_of, last_cmp}
 use Rattle.rr_fetch.proofs.Gathering.{gather, gather-more, gather-greatest}
 
 -- ---- lists as gathered
@@ -27,7 +27,7 @@ pub gather-count : {N : Type 0} (f : N → ℕ) (ns : List N) → sum (map f ns)
 gather-count f [] = refl
 gather-count f (n ∷ ns) = sum_by-cons (λ x. x) (f n) (map f ns) ∙ ap (λ y. f n + y) (gather-count f ns)
 
-pub gather-united : {N : Type 0} (f : N → Entry) (ns : List N) → united (map f ns) ≡ gather bit_or 0 (λ n. (f n).contribution.mask) ns
+pub gather-united : {N : Type 0} (f : N → Entry) (ns : List N) → mask_of_entries (map f ns) ≡ gather bit_or 0 (λ n. (f n).contribution.mask) ns
 gather-united f [] = refl
 gather-united f (n ∷ ns) = ap (bit_or (f n).contribution.mask) (gather-united f ns)
 
@@ -57,12 +57,12 @@ module _ (es : List Entry) (i : ℕ) (d : Entry) (within : i < length es) where
   abbrev next : Entry
   next = get_or es i d
 
-  pub united_more : united (take (i + 1) es) ≡ bit_or (united (take i es)) (get_or es i d).contribution.mask
+  pub united_more : mask_of_entries (take (i + 1) es) ≡ bit_or (mask_of_entries (take i es)) (get_or es i d).contribution.mask
   united_more =
-      ap united (take_more es i d within ∙ sym (map_itself (take i es ++ next ∷ [])))
+      ap mask_of_entries (take_more es i d within ∙ sym (map_itself (take i es ++ next ∷ [])))
       ∙ gather-united (λ e. e) (take i es ++ next ∷ [])
       ∙ gather-more bit_or 0 (λ (e : Entry). e.contribution.mask) bits.or_zero_r or_assoc (take i es) next
-      ∙ ap (λ m. bit_or m next.contribution.mask) (sym (gather-united (λ e. e) (take i es)) ∙ ap united (map_itself (take i es)))
+      ∙ ap (λ m. bit_or m next.contribution.mask) (sym (gather-united (λ e. e) (take i es)) ∙ ap mask_of_entries (map_itself (take i es)))
 
   pub total_more : total_of (take (i + 1) es) ≡ total_of (take i es) +ℤ (get_or es i d).contribution.sum
   total_more =

@@ -33,10 +33,10 @@ use Rattle.rr_model.proofs.Orders.{cell_name_cmp_total, cell_name_cmp-IsAntisymm
 use Rattle.rr_model.proofs.Horizon.{is_at_says}
 use Rattle.rr_model.proofs.Places.{place_below}
 use Rattle.rr_cells.specs.Cells.{row_at}
-use Rattle.rr_cells.specs.Puts.{seen}
+use Rattle.rr_cells.specs.Puts.{slot_sample_of}
 use Rattle.rr_cells.specs.State.{state}
 use Rattle.rr_fetch.specs.Answers.{cells_text}
-use Rattle.rr_fetch.specs.Consolidation.{united, total_of, count_of, last_cmp, of_entries, consolidated}
+use Rattle.rr_fetch.specs.Consolidation.{mask_of_entries, total_of, count_of, last_cmp, of_entries, consolidation_of}
 use Rattle.rr_fetch.proofs.Gathering.{gather, gather_by_name, gather_agree, gather-greatest, greatest-map, greatest_agree}
 use Rattle.rr_fetch.proofs.MoreEntries.{gather-sum, gather-count, gather-united, or_assoc}
 use Rattle.rr_fetch.proofs.PlaceBits.{ones-mask}
@@ -103,7 +103,7 @@ module _ (s : Layout) (is : IsLayout s) (k : Knowledge) (key : List ℕ) (archiv
 
   -- ---- extremes
 
-  best : (S : ℤ → ℤ → Ordering) → IsTotalOrder S → IsAntisymmetric S → (read : Contribution → ℤ) → ((ms : List Mark) → read (summary (map (seen s) ms)) ≡ unwrap_or (greatest S (map (λ x. x.value) (map (seen s) ms))) (pos 0)) → greatest S (map (λ e. read e.contribution) (map at ns)) ≡ greatest S (map (λ m. m.value) row_marks)
+  best : (S : ℤ → ℤ → Ordering) → IsTotalOrder S → IsAntisymmetric S → (read : Contribution → ℤ) → ((ms : List Mark) → read (summary (map (slot_sample_of s) ms)) ≡ unwrap_or (greatest S (map (λ x. x.value) (map (slot_sample_of s) ms))) (pos 0)) → greatest S (map (λ e. read e.contribution) (map at ns)) ≡ greatest S (map (λ m. m.value) row_marks)
   best S o same read reads =
       ap (greatest S) (map-map (λ (e : Entry). read e.contribution) at ns)
       ∙ gather-greatest S (λ n. read (at n).contribution) ns
@@ -120,7 +120,7 @@ module _ (s : Layout) (is : IsLayout s) (k : Knowledge) (key : List ℕ) (archiv
   abbrev place : Mark → ℕ
   place m = place_of s m.archive m.time
 
-  masks : united (map at ns) ≡ mask_of (map place row_marks)
+  masks : mask_of_entries (map at ns) ≡ mask_of (map place row_marks)
   unfolding summary
   masks =
       gather-united at ns
@@ -134,7 +134,7 @@ module _ (s : Layout) (is : IsLayout s) (k : Knowledge) (key : List ℕ) (archiv
   in_archive m e =
       (is_at_says key archive slot (name_of s m) (and_first (is_at key archive slot (name_of s m)) (is_in mark_cmp (keys (live s k)) m) (sym (is_in-filter mark_cmp_total mark_cmp-IsAntisymmetric (λ x. is_at key archive slot (name_of s x)) (keys (live s k)) m) ∙ e))).1
 
-  same_places : count_ones (united (map at ns)) ≡ known_places s archive row_marks
+  same_places : count_ones (mask_of_entries (map at ns)) ≡ known_places s archive row_marks
   same_places =
       ap count_ones masks
       ∙ ones-mask (map place row_marks) (archive_at s archive).steps (λ p e.
@@ -152,8 +152,8 @@ module _ (s : Layout) (is : IsLayout s) (k : Knowledge) (key : List ℕ) (archiv
   unfolding last_at
   is_last n e = some_last s (marks n) no_mark (in_row_names s k key archive slot n e).1
 
-  last_is : {A : Type 0} (f : SlotSample → A) (d : A) (n : CellName) → is_in cell_name_cmp ns n ≡ true → unwrap_or (option_map f (samples.last_of (map (seen s) (marks n)))) d ≡ f (seen s (last_at n))
-  last_is f d n e = ap (λ l. unwrap_or (option_map f l) d) (last-seen s n (marks n) (of_name-named s k key archive slot n) ∙ ap (option_map (seen s)) (is_last n e))
+  last_is : {A : Type 0} (f : SlotSample → A) (d : A) (n : CellName) → is_in cell_name_cmp ns n ≡ true → unwrap_or (option_map f (samples.last_of (map (slot_sample_of s) (marks n)))) d ≡ f (slot_sample_of s (last_at n))
+  last_is f d n e = ap (λ l. unwrap_or (option_map f l) d) (last-seen s n (marks n) (of_name-named s k key archive slot n) ∙ ap (option_map (slot_sample_of s)) (is_last n e))
 
   last_time_at : (n : CellName) → is_in cell_name_cmp ns n ≡ true → (at n).contribution.last_time ≡ (last_at n).time
   unfolding summary
@@ -224,10 +224,10 @@ module _ (s : Layout) (is : IsLayout s) (k : Knowledge) (key : List ℕ) (archiv
   same_answer Last = last_same
 
   -- what is consolidated from a state's cells is what the samples say
-  pub row_of_state : (f : ConsolidationFunction) → consolidated s archive f (row_at (state s k) key archive slot) ≡ row s k key archive slot f
-  unfolding consolidated row
+  pub row_of_state : (f : ConsolidationFunction) → consolidation_of s archive f (row_at (state s k) key archive slot) ≡ row s k key archive slot f
+  unfolding consolidation_of row
   row_of_state f =
-      ap (λ es. cond (is_known_enough s archive (count_ones (united es))) (of_entries f es) None) (entries_are s k key archive slot)
+      ap (λ es. cond (is_known_enough s archive (count_ones (mask_of_entries es))) (of_entries f es) None) (entries_are s k key archive slot)
       ∙ (λ i. cond (is_known_enough s archive (same_places i)) (same_answer f i) None)
 
 -- so the answers are the same

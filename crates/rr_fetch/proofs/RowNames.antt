@@ -23,7 +23,7 @@ use Rattle.rr_model.specs.Knowledge.{Knowledge, live, cell}
 use Rattle.rr_model.specs.Rows.{is_at, marks_of_row}
 use Rattle.rr_model.proofs.Orders.{cell_name_cmp_total, cell_name_cmp-IsAntisymmetric, mark_cmp_total, mark_cmp-IsAntisymmetric}
 use Rattle.rr_cells.specs.Cells.{name_at, cell_slot_of, rows_at, row_at}
-use Rattle.rr_cells.specs.Puts.{seen}
+use Rattle.rr_cells.specs.Puts.{slot_sample_of}
 use Rattle.rr_cells.specs.State.{value_of, state}
 use Rattle.rr_cells.proofs.Local.{get-rows_at, is_of_itself, named_place, cell_slots_tie}
 use Rattle.rr_cells.proofs.States.{get-state, tie_of, valued}
@@ -67,7 +67,7 @@ module _ (s : Layout) (k : Knowledge) (key : List ℕ) (archive : ℕ) (slot : �
 
   -- and what they contribute
   abbrev pub entry : CellName → Entry
-  entry n = record { origin = n.origin; contribution = summary (map (seen s) (of_name n)) }
+  entry n = record { origin = n.origin; contribution = summary (map (slot_sample_of s) (of_name n)) }
 
   value_is : (p : CellSlot) → get rows p ≡ value_of s (of_name (name_at key archive p))
   unfolding cell

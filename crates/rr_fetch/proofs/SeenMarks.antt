@@ -17,29 +17,29 @@ use Rattle.rr_model.specs.CellNames.{CellName}
 use Rattle.rr_model.specs.Samples.{Mark, mark_cmp, name_of}
 use Rattle.rr_model.specs.Rows.{last_of}
 use Rattle.rr_model.proofs.Orders.{mark_cmp_total, mark_cmp-IsAntisymmetric}
-use Rattle.rr_cells.specs.Puts.{seen}
+use Rattle.rr_cells.specs.Puts.{slot_sample_of}
 use Rattle.rr_cells.specs.State.{value_of}
 use Rattle.rr_fetch.proofs.Gathering.{gather, greatest-map, greatest_agree}
 use Rattle.rr_fetch.proofs.RowEntries.{map-map}
 
 module _ (s : Layout) where
-  pub sum-seen : (ms : List Mark) → int_sum (map (λ x. x.value) (map (seen s) ms)) ≡ gather ◌+ℤ◌ (pos 0) (λ m. m.value) ms
+  pub sum-seen : (ms : List Mark) → int_sum (map (λ x. x.value) (map (slot_sample_of s) ms)) ≡ gather ◌+ℤ◌ (pos 0) (λ m. m.value) ms
   sum-seen [] = refl
   sum-seen (m ∷ ms) = ap (λ y. m.value +ℤ y) (sum-seen ms)
 
-  pub count-seen : (ms : List Mark) → length (map (seen s) ms) ≡ gather ◌+◌ 0 (λ _. 1) ms
+  pub count-seen : (ms : List Mark) → length (map (slot_sample_of s) ms) ≡ gather ◌+◌ 0 (λ _. 1) ms
   count-seen [] = refl
   count-seen (m ∷ ms) = ap suc (count-seen ms) ∙ one_more (gather ◌+◌ 0 (λ _. 1) ms)
     where
       one_more : (k : ℕ) → suc k ≡ 1 + k
       one_more k = omega arith
 
-  pub mask-seen : (ms : List Mark) → mask_of (map (λ x. x.place) (map (seen s) ms)) ≡ gather bit_or 0 (λ m. 2 ^ place_of s m.archive m.time) ms
+  pub mask-seen : (ms : List Mark) → mask_of (map (λ x. x.place) (map (slot_sample_of s) ms)) ≡ gather bit_or 0 (λ m. 2 ^ place_of s m.archive m.time) ms
   mask-seen [] = refl
   mask-seen (m ∷ ms) = ap (bit_or (2 ^ place_of s m.archive m.time)) (mask-seen ms)
 
-  pub values-seen : (ms : List Mark) → map (λ x. x.value) (map (seen s) ms) ≡ map (λ m. m.value) ms
-  values-seen ms = map-map (λ x. x.value) (seen s) ms
+  pub values-seen : (ms : List Mark) → map (λ x. x.value) (map (slot_sample_of s) ms) ≡ map (λ m. m.value) ms
+  values-seen ms = map-map (λ x. x.value) (slot_sample_of s) ms
 
   -- marks that contribute something
   pub some_value : (S : ℤ → ℤ → Ordering) (ms : List Mark) (d : ℤ) → is_some (value_of s ms) ≡ true → Some (unwrap_or (greatest S (map (λ m. m.value) ms)) d) ≡ greatest S (map (λ m. m.value) ms)
@@ -50,7 +50,7 @@ module _ (s : Layout) where
   some_last [] d e = absurd (true≢false (sym e))
   some_last (m ∷ ms) d e = greatest_some mark_cmp m ms d
 
-  pub or_summary : (ms : List Mark) → unwrap_or (value_of s ms) (summary []) ≡ summary (map (seen s) ms)
+  pub or_summary : (ms : List Mark) → unwrap_or (value_of s ms) (summary []) ≡ summary (map (slot_sample_of s) ms)
   or_summary [] = refl
   or_summary (m ∷ ms) = refl
 
@@ -61,7 +61,7 @@ module _ (s : Layout) where
       ap (λ r. ordering_then r rest) ((λ i. nat_cmp (place_of s a.archive a.time) (place_of s (sym archive i) (sym time i))) ∙ tied_itself nat_cmp_total (place_of s a.archive a.time))
 
   -- marks of one name compare as their samples do
-  same_order : (n : CellName) (a b : Mark) → name_of s a ≡ n → name_of s b ≡ n → sample_cmp (seen s a) (seen s b) ≡ mark_cmp a b
+  same_order : (n : CellName) (a b : Mark) → name_of s a ≡ n → name_of s b ≡ n → sample_cmp (slot_sample_of s a) (slot_sample_of s b) ≡ mark_cmp a b
   same_order n a b of_a of_b =
       let same : name_of s a ≡ name_of s b = of_a ∙ sym of_b in
       let key : a.key ≡ b.key = ap (λ (q : CellName). q.key) same in
@@ -83,10 +83,10 @@ module _ (s : Layout) where
       ] refl
 
   -- the last sample of marks of one name is that of the last mark
-  pub last-seen : (n : CellName) (ms : List Mark) → ((m : Mark) → is_in mark_cmp ms m ≡ true → name_of s m ≡ n) → samples.last_of (map (seen s) ms) ≡ option_map (seen s) (last_of ms)
+  pub last-seen : (n : CellName) (ms : List Mark) → ((m : Mark) → is_in mark_cmp ms m ≡ true → name_of s m ≡ n) → samples.last_of (map (slot_sample_of s) ms) ≡ option_map (slot_sample_of s) (last_of ms)
   last-seen n ms named =
-      greatest-map sample_cmp (seen s) ms
-      ∙ ap (option_map (seen s)) (greatest_agree mark_cmp_total mark_cmp-IsAntisymmetric (λ a b. sample_cmp (seen s a) (seen s b)) mark_cmp ms (λ a b p q. same_order n a b (named a p) (named b q))).0
+      greatest-map sample_cmp (slot_sample_of s) ms
+      ∙ ap (option_map (slot_sample_of s)) (greatest_agree mark_cmp_total mark_cmp-IsAntisymmetric (λ a b. sample_cmp (slot_sample_of s a) (slot_sample_of s b)) mark_cmp ms (λ a b p q. same_order n a b (named a p) (named b q))).0
 
   -- and it is one of them
   pub last_in : (ms : List Mark) (m : Mark) → last_of ms ≡ Some m → is_in mark_cmp ms m ≡ true

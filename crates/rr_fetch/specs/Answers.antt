@@ -3,11 +3,11 @@ use Rattle.std.specs.Prelude.{ℕ, ℤ, List, Option}
 use Rattle.rr_base.specs.Schema.{Layout}
 use Rattle.rr_model.specs.FetchText.{Request, answer_text}
 use Rattle.rr_cells.specs.Cells.{Cells, row_at}
-use Rattle.rr_fetch.specs.Consolidation.{consolidated}
+use Rattle.rr_fetch.specs.Consolidation.{consolidation_of}
 
 -- the row of a slot by cells: that of the contributions to it
 abbrev pub value_of_cells : Layout → Cells → Request → ℤ → Option ℤ
-value_of_cells s cells q slot = consolidated s q.archive q.function (row_at cells q.key q.archive slot)
+value_of_cells s cells q slot = consolidation_of s q.archive q.function (row_at cells q.key q.archive slot)
 
 -- the answer by cells
 abbrev pub cells_text : Layout → Cells → Request → List ℕ

@@ -16,9 +16,9 @@ use Rattle.rr_join.specs.Sums.{int_sum}
 use Rattle.rr_model.specs.Rows.{average}
 
 -- the places in which some origin has a sample, as one mask
-abbrev pub united : List Entry → ℕ
-united [] = 0
-united (e ∷ es) = bit_or e.contribution.mask (united es)
+abbrev pub mask_of_entries : List Entry → ℕ
+mask_of_entries [] = 0
+mask_of_entries (e ∷ es) = bit_or e.contribution.mask (mask_of_entries es)
 
 -- the sum of all samples, and how many they are
 abbrev pub total_of : List Entry → ℤ
@@ -39,8 +39,8 @@ of_entries Max es = greatest int_cmp (map (λ e. e.contribution.max) es)
 of_entries Last es = option_map (λ e. e.contribution.last_value) (greatest last_cmp es)
 
 -- the row of these entries; None is unknown
-unfoldable pub consolidated : Layout → ℕ → ConsolidationFunction → List Entry → Option ℤ
-consolidated s archive f es = if is_known_enough s archive (count_ones (united es)) then of_entries f es else None
+unfoldable pub consolidation_of : Layout → ℕ → ConsolidationFunction → List Entry → Option ℤ
+consolidation_of s archive f es = if is_known_enough s archive (count_ones (mask_of_entries es)) then of_entries f es else None
 
 -- ---- what a consolidation requires of a row
 

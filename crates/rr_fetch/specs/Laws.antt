@@ -9,13 +9,13 @@ use Rattle.rr_cells.specs.Cells.{row_at}
 use Rattle.rr_cells.specs.Holding.{Holding, IsHolding}
 use Rattle.rr_cells.specs.State.{state}
 use Rattle.rr_fetch.specs.Answers.{cells_text}
-use Rattle.rr_fetch.specs.Consolidation.{consolidated, IsRow}
+use Rattle.rr_fetch.specs.Consolidation.{consolidation_of, IsRow}
 
 -- what is consolidated from the cells of what is known is what its samples say
 abbrev pub RowsAgree : Type 0
 RowsAgree =
     (s : Layout) (k : Knowledge) (key : List ℕ) (archive : ℕ) (slot : ℤ) (f : ConsolidationFunction) → IsLayout s
-    → consolidated s archive f (row_at (state s k) key archive slot) ≡ row s k key archive slot f
+    → consolidation_of s archive f (row_at (state s k) key archive slot) ≡ row s k key archive slot f
 
 -- so an answer from these cells is the answer from the samples
 abbrev pub AnswersAgree : Type 0

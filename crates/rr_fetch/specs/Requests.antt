@@ -3,7 +3,7 @@ use Rattle.std.specs.Prelude.{ℕ, ◌≤◌, ◌<◌, ℤ, pos, neg_ℤ, ◌-�
 use Rattle.std.specs.Int.{int_div_euclid}
 use Rattle.rr_base.specs.declared.consolidation.ConsolidationFunction.{ConsolidationFunction}
 use Rattle.rr_text.specs.declared.limits.TheConstants.{MAX_FETCH_ROWS, MAX_SECOND}
-use Rattle.rr_text.specs.Results.{◌>>=◌, checked}
+use Rattle.rr_text.specs.Results.{◌>>=◌, check}
 use Rattle.rr_base.specs.Schema.{Layout, span, choice}
 use Rattle.rr_key.specs.Reading.{is_key_text}
 use Rattle.rr_model.specs.FetchText as text
@@ -35,12 +35,12 @@ read s words = do
   start ← ok_or (second_of words.start) BadNumber
   end ← ok_or (second_of words.end) BadNumber
   key ← key_of words.key
-  some ← checked (int_lt start end) EmptyRange
+  some ← check (int_lt start end) EmptyRange
   few_rows (rows_between s key function (choice s resolution) start end)
 
 -- the request of the words CF RESOLUTION START END KEY
-unfoldable pub requested : Layout → List ℕ → Result text.Request RequestFault
-requested s bytes = do
+unfoldable pub request_of_words : Layout → List ℕ → Result text.Request RequestFault
+request_of_words s bytes = do
   words ← ok_or (words_of bytes) BadCommand
   read s words
 

@@ -5,7 +5,7 @@ ghost use Rattle.std.specs.Option.{option_map};
 ghost use Rattle.std.specs.Ordering.{int_cmp, is_lt, flip_args};
 ghost use Rattle.rr_join.specs.Maps.{greater, greatest};
 ghost use Rattle.rr_model.specs.Rows.{average};
-ghost use Rattle.rr_fetch.specs.Consolidation.{consolidated, count_of, last_cmp, total_of, united, IsRow};
+ghost use Rattle.rr_fetch.specs.Consolidation.{consolidation_of, count_of, last_cmp, total_of, mask_of_entries, IsRow};
 
 use crate::sum::sum_of;
 use rr_archive::Entry;
@@ -30,7 +30,7 @@ pub fn consolidate(
 ) -> Option<i64>
     requires archive_exists { archive < length schema.now.archives }
     requires row { IsRow row.now }
-    ensures { result ≡ consolidated schema.now archive cf row.now }
+    ensures { result ≡ consolidation_of schema.now archive cf row.now }
 {
     if !schema.known_enough(archive, known_places(row)) {
         return None;
@@ -45,7 +45,7 @@ pub fn consolidate(
 
 /// How many places have a sample of some origin.
 fn known_places(row: &[Entry]) -> u32
-    ensures { result ≡ count_ones (united row.now) }
+    ensures { result ≡ count_ones (mask_of_entries row.now) }
 {
     let mut mask: Mask = 0;
     for entry in row {

@@ -3,7 +3,7 @@
 ghost use Rattle.std.specs.Prelude.{◌≡◌, ◌<◌, ◌≤◌, pos, neg_ℤ, ◌-ℤ◌, ◌<ℤ◌, unsigned_abs, length, List, ℕ, IfOk, IfErr};
 ghost use Rattle.std.specs.Int.{int_div_euclid};
 ghost use Rattle.rr_text.specs.Results.{Gives, GivesUnless, NeedsMemoryAfter};
-ghost use Rattle.rr_fetch.specs.Requests.{few_rows, read, requested, request_view, rows_between, IsFetchable};
+ghost use Rattle.rr_fetch.specs.Requests.{few_rows, read, request_of_words, request_view, rows_between, IsFetchable};
 ghost use Rattle.rr_fetch.specs.Words.{parts};
 
 use crate::fault::RequestFault;
@@ -103,8 +103,8 @@ fn rows_of(schema: &Schema, archive: u8, start: i64, end: i64) -> Result<(i64, u
 #[tactic(auto, unfolding(crate::specs::Requests::requested))]
 pub fn parse_request(alloc: Global, bytes: &[u8], schema: &Schema) -> Result<Request, RequestFault>
     ensures value { GivesUnless RequestFault.Memory request_view result
-        (requested schema.now bytes.now) }
-    ensures memory { NeedsMemoryAfter RequestFault.Memory (requested schema.now bytes.now) result }
+        (request_of_words schema.now bytes.now) }
+    ensures memory { NeedsMemoryAfter RequestFault.Memory (request_of_words schema.now bytes.now) result }
     ensures fetchable { IfOk result (λ q. IsFetchable schema.now (request_view q)) }
 {
     let words = request_words(bytes).ok_or(RequestFault::BadCommand)?;

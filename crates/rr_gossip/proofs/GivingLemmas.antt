@@ -24,7 +24,7 @@ use Rattle.rr_gossip.specs.declared.giver.Stage.{Stage}
 use Rattle.rr_gossip.specs.declared.giver.Stage.TheVariants.{Opening, Listing, Giving, Done, Failed}
 use Rattle.rr_gossip.specs.Fault.{as_body}
 use Rattle.rr_gossip.specs.Frame.{content_at, frame_text}
-use Rattle.rr_gossip.specs.Giver.{first_giver, hello_taken, summary_taken, end_taken, last, body_taken, counted, giver_sends, giver_takes, has_failed, is_due, names_in, stage_sends}
+use Rattle.rr_gossip.specs.Giver.{first_giver, hello_taken, summary_taken, end_taken, last, body_taken, count_with, giver_sends, giver_takes, has_failed, is_due, names_in, stage_sends}
 use Rattle.rr_gossip.specs.Pages.{CellsLeft}
 use Rattle.rr_gossip.specs.Session.{CannotSend, HasFailedToGive, HasGiven, HasHeard, is_giving, replied_by, reply_left}
 use Rattle.rr_gossip.specs.Stream.{IsFrame, IsRefused}
@@ -266,12 +266,12 @@ pub record Replies (all : List (List ℕ)) (limit : ℕ) (g : Giver) (before : L
   pub limit_is : g.limit ≡ limit
 
 abbrev after_stage : Giver → Stage × Option (List ℕ) → Result (Giver × Option (List ℕ)) GossipFault
-after_stage g next = unless why.TooManyFrames (is_some next.1 && nat_le g.limit g.sent) (Ok (record { stage = next.0; sent = counted g.sent next.1; taken = g.taken; limit = g.limit }, next.1))
+after_stage g next = unless why.TooManyFrames (is_some next.1 && nat_le g.limit g.sent) (Ok (record { stage = next.0; sent = count_with g.sent next.1; taken = g.taken; limit = g.limit }, next.1))
 
 -- what one call of a giver sends
 record GiverSends (g q : Giver) (o : Option (List ℕ)) : Type 0 where
   stage : StageSends g.stage q.stage o
-  count : q.sent ≡ counted g.sent o
+  count : q.sent ≡ count_with g.sent o
   limit : q.limit ≡ g.limit
   room : (is_some o && nat_le g.limit g.sent) ≡ false
 
@@ -280,8 +280,8 @@ unfolding giver_sends
 giver_step g q o going e =
     let a = bind_ok (stage_sends g.stage) (after_stage g) (q, o) e in
     let next = a.0 in
-    let b = unless_ok why.TooManyFrames (is_some next.1 && nat_le g.limit g.sent) (Ok (record { stage = next.0; sent = counted g.sent next.1; taken = g.taken; limit = g.limit }, next.1)) (q, o) a.2 in
-    let is = ok_is {E = GossipFault} (record { stage = next.0; sent = counted g.sent next.1; taken = g.taken; limit = g.limit }, next.1) (q, o) b.1 in
+    let b = unless_ok why.TooManyFrames (is_some next.1 && nat_le g.limit g.sent) (Ok (record { stage = next.0; sent = count_with g.sent next.1; taken = g.taken; limit = g.limit }, next.1)) (q, o) a.2 in
+    let is = ok_is {E = GossipFault} (record { stage = next.0; sent = count_with g.sent next.1; taken = g.taken; limit = g.limit }, next.1) (q, o) b.1 in
     subst (λ (y : Giver × Option (List ℕ)). GiverSends g y.0 y.1) is
     (record { stage = stage_step g.stage next going a.1; count = refl; limit = refl; room = b.0 })
 
@@ -336,7 +336,7 @@ stage_fault Done fault going e = absurd cc
 stage_fault Failed fault going e = absurd cc
 
 too_many : (all : List (List ℕ)) (limit : ℕ) (g : Giver) (before : List (List ℕ)) (fault : GossipFault) (next : Stage × Option (List ℕ)) → Replies all limit g before → stage_sends g.stage ≡ Ok next → (b : Bool) → (is_some next.1 && nat_le g.limit g.sent) ≡ b
-    → unless {A = Giver × Option (List ℕ)} why.TooManyFrames b (Ok (record { stage = next.0; sent = counted g.sent next.1; taken = g.taken; limit = g.limit }, next.1)) ≡ Err fault → (fault ≡ why.TooManyFrames) × (limit < length all)
+    → unless {A = Giver × Option (List ℕ)} why.TooManyFrames b (Ok (record { stage = next.0; sent = count_with g.sent next.1; taken = g.taken; limit = g.limit }, next.1)) ≡ Err fault → (fault ≡ why.TooManyFrames) × (limit < length all)
 too_many all limit g before fault next replies is false t e = absurd cc
 too_many all limit g before fault (stage, None) replies is true t e = absurd cc
 too_many all limit g before fault (stage, Some frame) replies is true t e =

@@ -35,7 +35,7 @@ use Rattle.rr_gossip.specs.Fault.{as_body}
 use Rattle.rr_gossip.specs.Frame.{content_text, frame_text}
 use Rattle.rr_gossip.specs.Pages.{AreLeft}
 use Rattle.rr_gossip.specs.Puller.{Taken, is_due, page_taken, end_taken, body_taken, puller_takes}
-use Rattle.rr_gossip.specs.Transcript.{pieces, contents, sent, reply, waiting, puller_after, PullersTake, SessionsBringTheJoin}
+use Rattle.rr_gossip.specs.Transcript.{pieces, contents, frames_of_names, reply, waiting, puller_after, PullersTake, SessionsBringTheJoin}
 use Rattle.rr_gossip.proofs.LengthLemmas.{page_fits}
 use Rattle.rr_gossip.proofs.PagesLemmas.{left_page, left_after}
 use Rattle.rr_gossip.proofs.ReplyLemmas.{under, givers_reply}
@@ -116,13 +116,13 @@ sessions_bring_the_join s m given limit is trimmed each each_given agree room ro
       names_ascend = true_from_T (is_sorted cell_name_cmp es) (newer_sorted vs (entries given) (entries_sorted given));
     } in
     record {
-      puller = waiting (length (sent s vs)) 0 limit;
-      frames = sent s vs;
+      puller = waiting (length (frames_of_names s vs)) 0 limit;
+      frames = frames_of_names s vs;
       is_sent = pullers_send s m limit limit room room;
-      giver = record { stage = Giving (s, es); sent = 0; taken = length (sent s vs); limit = limit };
+      giver = record { stage = Giving (s, es); sent = 0; taken = length (frames_of_names s vs); limit = limit };
       is_heard = givers_take s given vs limit is (All-from_recursion (IsNameOf s) vs all) ascend room;
       pages = reply s es;
-      is_replied = givers_reply s es 0 (length (sent s vs)) limit limit (omega (arith, room_back)) room_back;
-      last = record { stage = Done; sent = length (sent s vs); taken = 0 + length (reply s es); limit = limit };
-      is_joined = pullers_take s m es (length (sent s vs)) 0 limit is left (omega (arith, room_back)) ∙ ap (λ c. Ok (record { stage = Done; sent = length (sent s vs); taken = 0 + length (reply s es); limit = limit }, c)) (difference_brings_the_join s given m is trimmed agree);
+      is_replied = givers_reply s es 0 (length (frames_of_names s vs)) limit limit (omega (arith, room_back)) room_back;
+      last = record { stage = Done; sent = length (frames_of_names s vs); taken = 0 + length (reply s es); limit = limit };
+      is_joined = pullers_take s m es (length (frames_of_names s vs)) 0 limit is left (omega (arith, room_back)) ∙ ap (λ c. Ok (record { stage = Done; sent = length (frames_of_names s vs); taken = 0 + length (reply s es); limit = limit }, c)) (difference_brings_the_join s given m is trimmed agree);
     }

@@ -25,7 +25,7 @@ use Rattle.rr_gossip.specs.Frame.{content_text, frame_text}
 use Rattle.rr_gossip.specs.Pages.{AreLeft}
 use Rattle.rr_gossip.specs.Stream.{frame_at, IsFrame}
 use Rattle.rr_gossip.specs.Summary.{summary_text}
-use Rattle.rr_gossip.specs.Transcript.{pieces, reply, sent}
+use Rattle.rr_gossip.specs.Transcript.{pieces, reply, frames_of_names}
 use Rattle.rr_gossip.proofs.LengthLemmas.{page_fits, schema_fits, summary_len}
 use Rattle.rr_gossip.proofs.PagesLemmas.{left_page, left_after}
 use Rattle.rr_gossip.proofs.StreamLemmas.{choice, drop_past, frame_fits, frame_long, frame_short, frame_there, number_long}
@@ -144,7 +144,7 @@ module _ (s : Layout) (is : IsLayout s) where
       let short = summary_len s piece (omega (arith, many)) (recursion_from_All (IsNameOf s) piece (All-take (IsNameOf s) MAX_ENTRIES (v ∷ vs) all)) in
       (text_is_frame kind.Summary (summary_text piece) short, names_are k (drop MAX_ENTRIES (v ∷ vs)) (All-drop (IsNameOf s) MAX_ENTRIES (v ∷ vs) all))
 
-  pub sent_are : (vs : List NamedVersion) → All (IsNameOf s) vs → AllByRecursion IsFrame (sent s vs)
+  pub sent_are : (vs : List NamedVersion) → All (IsNameOf s) vs → AllByRecursion IsFrame (frames_of_names s vs)
   sent_are vs all = (text_is_frame kind.Hello (schema_bytes s) (schema_fits s is), names_are (length vs) vs all)
 
   pages_are : (k : ℕ) (es : List NamedCell) → AreLeft (s, es) → AllByRecursion IsFrame (map (λ piece. frame_text kind.Page (page_text latest s piece)) (pieces k MAX_PAGE_CELLS es) ++ frame_text kind.PageEnd [] ∷ [])

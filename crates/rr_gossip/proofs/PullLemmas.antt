@@ -35,7 +35,7 @@ use Rattle.rr_gossip.specs.Puller as pulling
 use Rattle.rr_gossip.specs.Puller.{puller_takes}
 use Rattle.rr_gossip.specs.Session.{GivesAnswer, HasPulled, PullsBringTheJoin, PullsJoin, is_giving, replied_by, sent_by}
 use Rattle.rr_gossip.specs.Stream.{IsFrame, WasRead}
-use Rattle.rr_gossip.specs.Transcript.{contents, giver_after, puller_after, reply, sent, waiting}
+use Rattle.rr_gossip.specs.Transcript.{contents, giver_after, puller_after, reply, frames_of_names, waiting}
 use Rattle.rr_gossip.proofs.GivingLemmas as giver
 use Rattle.rr_gossip.proofs.JoinedLemmas.{pullers_take}
 use Rattle.rr_gossip.proofs.OnceLemmas.{GoesOn, cut_once, reply_are, sent_are}
@@ -177,7 +177,7 @@ pub gives_answer : GivesAnswer
 unfolding replied_by cells_given
 gives_answer s m names limit answer more left is all ascend given =
     let heard = given.heard in
-    let frames = sent s names in
+    let frames = frames_of_names s names in
     let n = limit + length frames in
     let r = read_of (concat frames ++ more) left heard.frames heard.read in
     let expected : giver_after m s (first_giver n) (contents frames) ≡ Ok (record { stage = stage.Giving (s, newer_cells names (entries m)); sent = 0; taken = length frames; limit = n }) = givers_take s m names n is all ascend (omega arith) in
@@ -211,5 +211,5 @@ pulls_bring_the_join s m given after limit limit_given answer more more_given le
     } in
     let answered = gives_answer s given vs limit_given answer more_given left_given is (All-from_recursion (IsNameOf s) vs all) ascend gave in
     let text : answer ≡ concat (reply s es) = answered.0 ∙ answer_text s vs given in
-    let joined = pulls_join s m after es (length (sent s vs)) limit more left is fits (subst (λ (t : List ℕ). HasPulled s (waiting (length (sent s vs)) 0 limit) m after (Some (t ++ more)) left) text pulled) in
+    let joined = pulls_join s m after es (length (frames_of_names s vs)) limit more left is fits (subst (λ (t : List ℕ). HasPulled s (waiting (length (frames_of_names s vs)) 0 limit) m after (Some (t ++ more)) left) text pulled) in
     joined.0 ∙ difference_brings_the_join s given m is trimmed agree

@@ -15,7 +15,7 @@ use Rattle.rr_gossip.specs.declared.giver.Giver.{Giver}
 use Rattle.rr_gossip.specs.declared.giver.Stage.{Stage}
 use Rattle.rr_gossip.specs.declared.giver.Stage.TheVariants.{Giving, Done}
 use Rattle.rr_gossip.specs.Frame.{frame_text}
-use Rattle.rr_gossip.specs.Giver.{counted, stage_sends, giver_sends}
+use Rattle.rr_gossip.specs.Giver.{count_with, stage_sends, giver_sends}
 use Rattle.rr_gossip.specs.Transcript.{pieces, and_frames, giver_frames, GiversReply}
 
 -- a limit that is not reached
@@ -29,7 +29,7 @@ module _ (taken limit : ℕ) where
   one_sent : (stage next : Stage) (frame : List ℕ) (before : ℕ) → before < limit → stage_sends stage ≡ Ok (next, Some frame) → giver_sends (at stage before) ≡ Ok (at next (before + 1), Some frame)
   unfolding giver_sends at
   one_sent stage next frame before lt sends =
-      ap (λ r. r >>= λ (x : Stage × Option (List ℕ)). unless why.TooManyFrames (is_some x.1 && nat_le limit before) (Ok (record { stage = x.0; sent = counted before x.1; taken = taken; limit = limit }, x.1))) sends
+      ap (λ r. r >>= λ (x : Stage × Option (List ℕ)). unless why.TooManyFrames (is_some x.1 && nat_le limit before) (Ok (record { stage = x.0; sent = count_with before x.1; taken = taken; limit = limit }, x.1))) sends
       ∙ ap (λ b. unless why.TooManyFrames (true && b) (Ok (record { stage = next; sent = before + 1; taken = taken; limit = limit }, Some frame))) (under before limit lt)
 
   none_after : (most before : ℕ) → giver_frames most (at Done before) ≡ Ok []

@@ -24,11 +24,11 @@ use Rattle.rr_gossip.specs.declared.puller.Stage.{Stage}
 use Rattle.rr_gossip.specs.declared.puller.Stage.TheVariants.{Opening, Listing, Waiting, Done, Failed}
 use Rattle.rr_gossip.specs.declared.summary.TheConstants.{MAX_ENTRIES}
 use Rattle.rr_gossip.specs.Frame.{frame_text}
-use Rattle.rr_gossip.specs.Giver.{counted}
+use Rattle.rr_gossip.specs.Giver.{count_with}
 use Rattle.rr_gossip.specs.Puller.{first_puller, names_sent, stage_sends, puller_sends}
 use Rattle.rr_gossip.specs.Session.{CannotSend, sent_by}
 use Rattle.rr_gossip.specs.Summary.{summary_text}
-use Rattle.rr_gossip.specs.Transcript.{cut, pieces, sent, waiting}
+use Rattle.rr_gossip.specs.Transcript.{cut, pieces, frames_of_names, waiting}
 use Rattle.rr_gossip.proofs.SentLemmas.{name_in, next_left}
 use Rattle.rr_gossip.proofs.StepLemmas.{bind_ok, unless_ok, ok_is, err_is}
 
@@ -72,7 +72,7 @@ abbrev names_left : List NamedVersion → List (List ℕ)
 names_left vs = map (λ piece. frame_text kind.Summary (summary_text piece)) (cut MAX_ENTRIES vs) ++ frame_text kind.SummaryEnd [] ∷ []
 
 abbrev pub stage_left : Cells → Layout → Stage → List (List ℕ)
-stage_left m s Opening = sent s (versions_of m)
+stage_left m s Opening = frames_of_names s (versions_of m)
 stage_left m s (Listing after) = names_left (map named_version (cells_after (name_in after) (entries m)))
 stage_left m s Waiting = []
 stage_left m s Done = []
@@ -126,12 +126,12 @@ module _ (m : Cells) (s : Layout) where
     pub limit_is : p.limit ≡ limit
 
   abbrev after_stage : Puller → Stage × Option (List ℕ) → Result (Puller × Option (List ℕ)) GossipFault
-  after_stage p next = unless TooManyFrames (is_some next.1 && nat_le p.limit p.sent) (Ok (record { stage = next.0; sent = counted p.sent next.1; taken = p.taken; limit = p.limit }, next.1))
+  after_stage p next = unless TooManyFrames (is_some next.1 && nat_le p.limit p.sent) (Ok (record { stage = next.0; sent = count_with p.sent next.1; taken = p.taken; limit = p.limit }, next.1))
 
   -- what one call of a puller sends
   record PullerSends (p q : Puller) (o : Option (List ℕ)) : Type 0 where
     stage : StageSends m s p.stage q.stage o
-    count : q.sent ≡ counted p.sent o
+    count : q.sent ≡ count_with p.sent o
     taken : q.taken ≡ p.taken
     limit : q.limit ≡ p.limit
     room : (is_some o && nat_le p.limit p.sent) ≡ false
@@ -141,8 +141,8 @@ module _ (m : Cells) (s : Layout) where
   puller_step p q o going e =
       let a = bind_ok (stage_sends m s p.stage) (after_stage p) (q, o) e in
       let next = a.0 in
-      let b = unless_ok TooManyFrames (is_some next.1 && nat_le p.limit p.sent) (Ok (record { stage = next.0; sent = counted p.sent next.1; taken = p.taken; limit = p.limit }, next.1)) (q, o) a.2 in
-      let is = ok_is {E = GossipFault} (record { stage = next.0; sent = counted p.sent next.1; taken = p.taken; limit = p.limit }, next.1) (q, o) b.1 in
+      let b = unless_ok TooManyFrames (is_some next.1 && nat_le p.limit p.sent) (Ok (record { stage = next.0; sent = count_with p.sent next.1; taken = p.taken; limit = p.limit }, next.1)) (q, o) a.2 in
+      let is = ok_is {E = GossipFault} (record { stage = next.0; sent = count_with p.sent next.1; taken = p.taken; limit = p.limit }, next.1) (q, o) b.1 in
       subst (λ (y : Puller × Option (List ℕ)). PullerSends p y.0 y.1) is
       (record { stage = stage_step p.stage next going a.1; count = refl; taken = refl; limit = refl; room = b.0 })
 
@@ -207,7 +207,7 @@ module _ (m : Cells) (s : Layout) where
   stage_fault Failed fault going e = absurd cc
 
   too_many : (limit : ℕ) (p : Puller) (before : List (List ℕ)) (fault : GossipFault) (next : Stage × Option (List ℕ)) → Sends limit p before → stage_sends m s p.stage ≡ Ok next → (b : Bool) → (is_some next.1 && nat_le p.limit p.sent) ≡ b
-      → unless {A = Puller × Option (List ℕ)} TooManyFrames b (Ok (record { stage = next.0; sent = counted p.sent next.1; taken = p.taken; limit = p.limit }, next.1)) ≡ Err fault → (fault ≡ TooManyFrames) × (limit < length (sent_by s m))
+      → unless {A = Puller × Option (List ℕ)} TooManyFrames b (Ok (record { stage = next.0; sent = count_with p.sent next.1; taken = p.taken; limit = p.limit }, next.1)) ≡ Err fault → (fault ≡ TooManyFrames) × (limit < length (sent_by s m))
   too_many limit p before fault next sends is false t e = absurd cc
   too_many limit p before fault (stage, None) sends is true t e = absurd cc
   too_many limit p before fault (stage, Some frame) sends is true t e =
@@ -231,7 +231,7 @@ module _ (m : Cells) (s : Layout) where
   not_written p fault (inl memory) e = absurd (cc (sym memory ∙ e))
   not_written p fault (inr refused) e = by_stage (stage_sends m s p.stage) refl
     where
-      by_test : (next : Stage × Option (List ℕ)) (b : Bool) → unless {A = Puller × Option (List ℕ)} TooManyFrames b (Ok (record { stage = next.0; sent = counted p.sent next.1; taken = p.taken; limit = p.limit }, next.1)) ≡ Err fault → ⊥
+      by_test : (next : Stage × Option (List ℕ)) (b : Bool) → unless {A = Puller × Option (List ℕ)} TooManyFrames b (Ok (record { stage = next.0; sent = count_with p.sent next.1; taken = p.taken; limit = p.limit }, next.1)) ≡ Err fault → ⊥
       by_test next true f = absurd (cc (err_is {A = Puller × Option (List ℕ)} TooManyFrames fault f ∙ e))
       by_test next false f = absurd cc
 

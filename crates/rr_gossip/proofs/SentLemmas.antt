@@ -23,7 +23,7 @@ use Rattle.rr_gossip.specs.declared.puller.Stage.{Stage}
 use Rattle.rr_gossip.specs.declared.puller.Stage.TheVariants.{Opening, Listing, Waiting}
 use Rattle.rr_gossip.specs.declared.summary.TheConstants.{MAX_ENTRIES}
 use Rattle.rr_gossip.specs.Frame.{frame_text}
-use Rattle.rr_gossip.specs.Giver.{counted}
+use Rattle.rr_gossip.specs.Giver.{count_with}
 use Rattle.rr_gossip.specs.Puller.{as_name, last_listed, names_sent, some_sent, stage_sends, puller_sends}
 use Rattle.rr_gossip.specs.Summary.{summary_text}
 use Rattle.rr_gossip.specs.Transcript.{pieces, and_later, puller_frames, PullersSend}
@@ -128,7 +128,7 @@ module _ (m : Cells) (s : Layout) (limit : ℕ) where
   one_sent : (stage next : Stage) (frame : List ℕ) (before : ℕ) → before < limit → stage_sends m s stage ≡ Ok (next, Some frame) → puller_sends m s (at stage before) ≡ Ok (at next (before + 1), Some frame)
   unfolding puller_sends at
   one_sent stage next frame before lt sends =
-      ap (λ r. r >>= λ (x : Stage × Option (List ℕ)). unless why.TooManyFrames (is_some x.1 && nat_le limit before) (Ok (record { stage = x.0; sent = counted before x.1; taken = 0; limit = limit }, x.1))) sends
+      ap (λ r. r >>= λ (x : Stage × Option (List ℕ)). unless why.TooManyFrames (is_some x.1 && nat_le limit before) (Ok (record { stage = x.0; sent = count_with before x.1; taken = 0; limit = limit }, x.1))) sends
       ∙ ap (λ b. unless why.TooManyFrames (true && b) (Ok (record { stage = next; sent = before + 1; taken = 0; limit = limit }, Some frame))) (under before limit lt)
 
   none_after : (most before : ℕ) → puller_frames most m s (at Waiting before) ≡ Ok (at Waiting before, [])

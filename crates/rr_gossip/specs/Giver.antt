@@ -109,16 +109,16 @@ stage_sends Done = Ok (Done, None)
 stage_sends Failed = Err why.Failed
 
 -- one frame more, if one is sent
-abbrev pub counted : ℕ → Option (List ℕ) → ℕ
-counted n None = n
-counted n (Some frame) = n + 1
+abbrev pub count_with : ℕ → Option (List ℕ) → ℕ
+count_with n None = n
+count_with n (Some frame) = n + 1
 
 -- the frame that a giver sends next, if one is due
 unfoldable pub giver_sends : Giver → Result (Giver × Option (List ℕ)) GossipFault
 giver_sends g = do
   next ← stage_sends g.stage
   unless why.TooManyFrames (is_some next.1 && nat_le g.limit g.sent)
-      (Ok (record { stage = next.0; sent = counted g.sent next.1; taken = g.taken; limit = g.limit }, next.1))
+      (Ok (record { stage = next.0; sent = count_with g.sent next.1; taken = g.taken; limit = g.limit }, next.1))
 
 -- a session that has failed answers Failed from then on
 abbrev pub HasFailed : Giver → Type 0

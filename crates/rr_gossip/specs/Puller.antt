@@ -23,7 +23,7 @@ use Rattle.rr_gossip.specs.declared.puller.Stage.TheVariants.{Opening, Listing, 
 use Rattle.rr_gossip.specs.declared.summary.TheConstants.{MAX_ENTRIES}
 use Rattle.rr_gossip.specs.Fault.{as_body}
 use Rattle.rr_gossip.specs.Frame.{content_at, frame_text}
-use Rattle.rr_gossip.specs.Giver.{counted}
+use Rattle.rr_gossip.specs.Giver.{count_with}
 use Rattle.rr_gossip.specs.Summary.{summary_text}
 
 -- ---- the next frame
@@ -61,7 +61,7 @@ unfoldable pub puller_sends : Cells → Layout → Puller → Result (Puller × 
 puller_sends m s p = do
   next ← stage_sends m s p.stage
   unless why.TooManyFrames (is_some next.1 && nat_le p.limit p.sent)
-      (Ok (record { stage = next.0; sent = counted p.sent next.1; taken = p.taken; limit = p.limit }, next.1))
+      (Ok (record { stage = next.0; sent = count_with p.sent next.1; taken = p.taken; limit = p.limit }, next.1))
 
 -- ---- what a frame does
 

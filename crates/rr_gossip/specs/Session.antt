@@ -22,7 +22,7 @@ use Rattle.rr_gossip.specs.Giver.{first_giver, giver_takes}
 use Rattle.rr_gossip.specs.Pages.{AreLeft}
 use Rattle.rr_gossip.specs.Puller.{IsFrontJoined, puller_takes}
 use Rattle.rr_gossip.specs.Stream.{Stops, WasRead}
-use Rattle.rr_gossip.specs.Transcript.{contents, giver_after, puller_after, reply, sent, waiting}
+use Rattle.rr_gossip.specs.Transcript.{contents, giver_after, puller_after, reply, frames_of_names, waiting}
 
 -- why not all of a side's frames were sent: the writer failed, memory ran out, or the session may not have as many
 abbrev pub CannotSend : ℕ → List (List ℕ) → GossipFault → Type 0
@@ -32,7 +32,7 @@ CannotSend limit frames fault = (fault ≡ WriteFailed) ⊎ (fault ≡ Memory) �
 
 -- the frames of a target of the cells m
 unfoldable pub sent_by : Layout → Cells → List (List ℕ)
-sent_by s m = sent s (versions_of m)
+sent_by s m = frames_of_names s (versions_of m)
 
 -- it took frames to the end of the pages and nothing after them, and joined each page
 pub record HasPulled (s : Layout) (first : Puller) (old new : Cells) (had left : Option (List ℕ)) : Type 0 where
@@ -132,7 +132,7 @@ abbrev pub GivesAnswer : Type 0
 GivesAnswer =
     (s : Layout) (m : Cells) (names : List NamedVersion) (limit : ℕ) (answer more : List ℕ) (left : Option (List ℕ))
     → IsLayout s → All (IsNameOf s) names → IsSummary names
-    → HasGiven limit s m [] (Some (concat (sent s names) ++ more)) left (Some []) (Some answer)
+    → HasGiven limit s m [] (Some (concat (frames_of_names s names) ++ more)) left (Some []) (Some answer)
     → (answer ≡ concat (replied_by s names m)) × (left ≡ Some more)
 
 -- a pull that read what a side replies of some cells, and perhaps more behind it, joined these cells, and left what is

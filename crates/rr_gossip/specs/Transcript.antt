@@ -39,8 +39,8 @@ abbrev pub cut : {X : Type 0} → ℕ → List X → List (List X)
 cut n xs = pieces (length xs) n xs
 
 -- the schema, then names and versions, 256 in a frame, and the end
-abbrev pub sent : Layout → List NamedVersion → List (List ℕ)
-sent s vs = frame_text kind.Hello (schema_bytes s) ∷ (map (λ piece. frame_text kind.Summary (summary_text piece)) (cut MAX_ENTRIES vs) ++ frame_text kind.SummaryEnd [] ∷ [])
+abbrev pub frames_of_names : Layout → List NamedVersion → List (List ℕ)
+frames_of_names s vs = frame_text kind.Hello (schema_bytes s) ∷ (map (λ piece. frame_text kind.Summary (summary_text piece)) (cut MAX_ENTRIES vs) ++ frame_text kind.SummaryEnd [] ∷ [])
 
 -- pages of cells, 256 in each, and the end
 abbrev pub reply : Layout → List NamedCell → List (List ℕ)
@@ -83,8 +83,8 @@ GiversReply =
 -- a puller sends its schema, the names and versions of all cells, and the end, if it may send as many frames
 abbrev pub PullersSend : Type 0
 PullersSend =
-    (s : Layout) (m : Cells) (limit most : ℕ) → length (sent s (versions_of m)) ≤ limit → length (sent s (versions_of m)) ≤ most
-    → puller_frames most m s (first_puller limit) ≡ Ok (waiting (length (sent s (versions_of m))) 0 limit, sent s (versions_of m))
+    (s : Layout) (m : Cells) (limit most : ℕ) → length (frames_of_names s (versions_of m)) ≤ limit → length (frames_of_names s (versions_of m)) ≤ most
+    → puller_frames most m s (first_puller limit) ≡ Ok (waiting (length (frames_of_names s (versions_of m))) 0 limit, frames_of_names s (versions_of m))
 
 -- ---- what is taken
 
@@ -105,9 +105,9 @@ puller_after s p m (c ∷ cs) = puller_takes s p c >>= λ next. puller_after s n
 -- a giver that takes what a puller sends then has the difference against it to send
 abbrev pub GiversTake : Type 0
 GiversTake =
-    (s : Layout) (m : Cells) (vs : List NamedVersion) (limit : ℕ) → IsLayout s → All (IsNameOf s) vs → IsSummary vs → length (sent s vs) ≤ limit
-    → giver_after m s (first_giver limit) (contents (sent s vs))
-    ≡ Ok (record { stage = giver.Giving (s, newer_cells vs (entries m)); sent = 0; taken = length (sent s vs); limit = limit })
+    (s : Layout) (m : Cells) (vs : List NamedVersion) (limit : ℕ) → IsLayout s → All (IsNameOf s) vs → IsSummary vs → length (frames_of_names s vs) ≤ limit
+    → giver_after m s (first_giver limit) (contents (frames_of_names s vs))
+    ≡ Ok (record { stage = giver.Giving (s, newer_cells vs (entries m)); sent = 0; taken = length (frames_of_names s vs); limit = limit })
 
 -- a puller that takes what a giver replies joins all of it, in order, and is done
 abbrev pub PullersTake : Type 0
@@ -133,5 +133,5 @@ pub record IsSession (s : Layout) (m given : Cells) (limit : ℕ) (after : Cells
 abbrev pub SessionsBringTheJoin : Type 0
 SessionsBringTheJoin =
     (s : Layout) (m given : Cells) (limit : ℕ) → IsLayout s → IsTrimmed s m → All (IsCellOf s) (entries m) → All (IsCellOf s) (entries given) → AgreeAtVersions given m
-    → length (sent s (versions_of m)) ≤ limit → length (reply s (newer_cells (versions_of m) (entries given))) ≤ limit
+    → length (frames_of_names s (versions_of m)) ≤ limit → length (reply s (newer_cells (versions_of m) (entries given))) ≤ limit
     → IsSession s m given limit (join s m given)

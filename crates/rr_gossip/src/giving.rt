@@ -87,7 +87,7 @@ fn give_from<S: Source, R: Read, W: Write>(
     source: &mut S,
     frames: u32,
 ) -> Result<(), GossipFault>
-    requires few { length before.now ≤ 4 }
+    requires front_fits { length before.now ≤ 4 }
     requires frames_fit { frames ≤ MAX_FRAMES }
     ensures given { OnOk result (HasGiven frames
         (S.layout source.old) (S.cells source.new) before.now

@@ -32,7 +32,7 @@ pub(crate) enum Stage {
 
 /// The frame of these names, or the end where there is none; and the stage after it.
 fn listed(alloc: Global, names: Vec<Name>) -> Result<(Stage, Vec<u8>), AllocError>
-    requires few { length names.items ≤ MAX_ENTRIES }
+    requires names_fit { length names.items ≤ MAX_ENTRIES }
     requires fits { length (summary_text (map owned_name names.items)) < MAX_FRAME_LEN }
     ensures { IfOk result (λ x. (x.0, x.1.items) ≡ names_sent (map owned_name names.items)) }
 {

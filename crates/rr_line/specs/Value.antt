@@ -39,13 +39,13 @@ abbrev pub is_unsigned : List ℕ → Bool
 is_unsigned text = has is_digits (before_last UNSIGNED_MARK text)
 
 -- a text without the point that it may have
-abbrev pub joined : List ℕ → Option (List ℕ × List ℕ) → List ℕ
-joined text None = text
-joined text (Some (whole, part)) = whole ++ part
+abbrev pub without_point : List ℕ → Option (List ℕ × List ℕ) → List ℕ
+without_point text None = text
+without_point text (Some (whole, part)) = whole ++ part
 
 -- digits, or digits "." digits where one side may be empty but not both
 abbrev pub is_mantissa : List ℕ → Bool
-is_mantissa text = is_digits (joined text (cut_at POINT text))
+is_mantissa text = is_digits (without_point text (cut_at POINT text))
 
 -- a text without the sign that it may have
 abbrev pub without_sign : List ℕ → List ℕ

@@ -15,7 +15,7 @@ use Rattle.rr_node.specs.declared.connection.Connection.{Connection}
 use Rattle.rr_node.specs.declared.report.Report.{Report}
 use Rattle.rr_node.specs.declared.rules.Rules.{Rules}
 use Rattle.rr_node.specs.Connection.{IsAnswer, IsTakenAt, HasServed, Serves, Takes, counted_in, moments_asked, standing, text_to, Ends, EndsWithin, ComesAfter}
-use Rattle.rr_node.specs.Lines.{Verdict, skipped, put, refused, Served, after, answer_of, answer_to, asks_clock, begun, first_of, keeper_with, keeper_with_some, keeper_within, later_than_first, published_after, report_text, report_with, verdict_of, with_item, with_verdict}
+use Rattle.rr_node.specs.Lines.{Verdict, skipped, put, refused, Served, after, answer_of, answer_to, asks_clock, served_at_start, first_of, keeper_with, keeper_with_some, keeper_within, later_than_first, published_after, report_text, report_with, verdict_of, with_item, with_verdict}
 use Rattle.rr_node.proofs.VerdictLemmas.{count_in, keeper_with_all, verdict_unasked}
 
 -- ---- one item
@@ -86,7 +86,7 @@ HasServed-item old new start k now pushed text given asked item answer counts ha
           let front : after old.rules start ((given ++ asked) ++ later) has.handed ≡ standing old k text (asked ++ later) =
           ap (λ (m : List ℤ). after old.rules start m has.handed) (append_assoc given asked later) ∙ has.served (asked ++ later) in
           let whole : after old.rules start ((given ++ asked) ++ later) (has.handed ++ item ∷ []) ≡ with_verdict s v later =
-          fold-append (with_item old.rules) (begun start ((given ++ asked) ++ later)) has.handed (item ∷ [])
+          fold-append (with_item old.rules) (served_at_start start ((given ++ asked) ++ later)) has.handed (item ∷ [])
           ∙ ap (λ (x : Served). with_item old.rules x item) front
           ∙ item_served old.rules k old.lines text old.report item asked later (asks_clock old.rules item) refl counts.few in
           let keeper = counts.keeper in
@@ -267,7 +267,7 @@ answer_front c start k pushed text given later bytes has comes =
     let s = standing c k text later in
     let all : after c.rules start (given ++ later) (items true bytes) ≡ fold (with_item c.rules) s front.0 =
     ap (after c.rules start (given ++ later)) front.1
-    ∙ fold-append (with_item c.rules) (begun start (given ++ later)) has.handed front.0
+    ∙ fold-append (with_item c.rules) (served_at_start start (given ++ later)) has.handed front.0
     ∙ ap (λ (x : Served). fold (with_item c.rules) x front.0) (has.served later) in
     let more = answers_grow c.rules s front.0 in
     let report = report_text (fold (with_item c.rules) s front.0).report in

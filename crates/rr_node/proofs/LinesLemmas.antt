@@ -19,7 +19,7 @@ use Rattle.rr_node.specs.declared.rules.Rules.{Rules}
 use Rattle.rr_node.specs.declared.rules.TheConstants.{LINES_TO_PUBLISH}
 use Rattle.rr_host.specs.Clock.{HasGiven}
 use Rattle.rr_node.specs.Connection.{ComesAfter, EndsAtLast, Finishes, HasServed, IsWhole, Stops}
-use Rattle.rr_node.specs.Lines.{Run, Served, Verdict, skipped, put, refused, after, begun, first_of, HasStopped, IsServed, keeper_with, keeper_with_some, keeper_within, published_after, verdict_of, with_item}
+use Rattle.rr_node.specs.Lines.{Run, Served, Verdict, skipped, put, refused, after, served_at_start, first_of, HasStopped, IsServed, keeper_with, keeper_with_some, keeper_within, published_after, verdict_of, with_item}
 use Rattle.rr_host.proofs.ClockLemmas.{HasGiven-trans}
 use Rattle.rr_node.proofs.ConnectionLemmas.{ends_here}
 use Rattle.rr_node.proofs.StreamLemmas.{answered_in_part}
@@ -59,12 +59,12 @@ published_within rules s (item ∷ later) count = published_with_some s.keeper (
 published_all : (rules : Rules) (old new : KeeperState) (moments : List ℤ) (lines : List Item) → new ≡ with_all_published (after rules old moments lines).keeper → IsPrefix old.published new.published
 published_all rules old new moments lines is =
     let s = after rules old moments lines in
-    rw is (prefix_trans old.published s.keeper.published (s.keeper.published ++ s.keeper.pending) (published_lines rules (begun old moments) lines) (prefix_append s.keeper.published s.keeper.pending))
+    rw is (prefix_trans old.published s.keeper.published (s.keeper.published ++ s.keeper.pending) (published_lines rules (served_at_start old moments) lines) (prefix_append s.keeper.published s.keeper.pending))
 
 published_part : (rules : Rules) (old new : KeeperState) (moments : List ℤ) (lines last : List Item) (count : ℕ) → new ≡ keeper_within rules (after rules old moments lines) last count → IsPrefix old.published new.published
 published_part rules old new moments lines last count is =
     let s = after rules old moments lines in
-    rw is (rw (published_within rules s last count) (published_lines rules (begun old moments) lines))
+    rw is (rw (published_within rules s last count) (published_lines rules (served_at_start old moments) lines))
 
 -- ---- the whole connection
 

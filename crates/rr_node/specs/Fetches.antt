@@ -14,7 +14,7 @@ use Rattle.rr_fetch.specs.declared.fault.RequestFault.{RequestFault}
 use Rattle.rr_fetch.specs.declared.fault.RequestFault.TheVariants.{BadCommand}
 use Rattle.rr_fetch.specs.Answers.{cells_text}
 use Rattle.rr_fetch.specs.Fault.{request_fault_name}
-use Rattle.rr_fetch.specs.Requests.{requested}
+use Rattle.rr_fetch.specs.Requests.{request_of_words}
 use Rattle.rr_desk.specs.declared.gate.GateCall.{GateCall}
 use Rattle.rr_desk.specs.declared.gate.GateCall.TheVariants.{After, Before}
 use Rattle.rr_desk.specs.Standing.{ReaderState, HasSeenMore, cells_seen}
@@ -33,7 +33,7 @@ after_fetch line = option_and_then (λ cut. if pointwise nat_eq cut.0 (codes "fe
 
 -- the request of a line `fetch CF RESOLUTION START END KEY`
 unfoldable pub request_in : Layout → List ℕ → Result Request RequestFault
-request_in s line = ok_or (after_fetch line) BadCommand >>= requested s
+request_in s line = ok_or (after_fetch line) BadCommand >>= request_of_words s
 
 -- a fault by its name
 abbrev pub by_name : Result Request RequestFault → Result Request (List ℕ)
@@ -41,9 +41,9 @@ by_name (Ok q) = Ok q
 by_name (Err fault) = Err (request_fault_name fault)
 
 -- what an item asks for, or the name of its refusal
-abbrev pub asked : Layout → Item → Result Request (List ℕ)
-asked s (Line bytes) = by_name (request_in s bytes)
-asked s TooLong = Err (codes "LineTooLong")
+abbrev pub request_of_item : Layout → Item → Result Request (List ℕ)
+request_of_item s (Line bytes) = by_name (request_in s bytes)
+request_of_item s TooLong = Err (codes "LineTooLong")
 
 -- a refusal
 abbrev pub error_text : List ℕ → List ℕ
@@ -73,16 +73,16 @@ sight reader call = record { reader = reader; call = call }
 
 -- what is asked is answered by this text, after the operations that the reader has then seen, which begin with those
 -- that it had seen before
-pub record IsAnswer (asked : Result Request (List ℕ)) (old new : Sight) (text : List ℕ) : Type 0 where
+pub record IsAnswer (request_of_item : Result Request (List ℕ)) (old new : Sight) (text : List ℕ) : Type 0 where
   pub seen : HasSeenMore old.reader new.reader
   pub passes : Bool
-  pub by_cells : text ≡ text_by new.reader.schema (cells_seen new.reader) passes asked
-  pub call : new.call ≡ call_by old.call passes asked
+  pub by_cells : text ≡ text_by new.reader.schema (cells_seen new.reader) passes request_of_item
+  pub call : new.call ≡ call_by old.call passes request_of_item
 
 -- an item is answered: its answer, and an empty line
 pub record IsAnswered (item : Item) (old new : Sight) (text : List ℕ) : Type 0 where
   pub answer : List ℕ
-  pub made : IsAnswer (asked old.reader.schema item) old new answer
+  pub made : IsAnswer (request_of_item old.reader.schema item) old new answer
   pub whole : text ≡ answer ++ LINE_FEED ∷ []
 
 -- items are answered in order

@@ -74,8 +74,8 @@ pub record Served : Type 0 where
   pub report : Report
 
 -- before the first line
-abbrev pub begun : KeeperState → List ℤ → Served
-begun keeper moments = record {
+abbrev pub served_at_start : KeeperState → List ℤ → Served
+served_at_start keeper moments = record {
   keeper = keeper;
   moments = moments;
   lines = 0;
@@ -129,7 +129,7 @@ with_item rules s item =
 
 -- after these lines, with a clock that gives these moments
 abbrev pub after : Rules → KeeperState → List ℤ → List Item → Served
-after rules keeper moments lines = fold (with_item rules) (begun keeper moments) lines
+after rules keeper moments lines = fold (with_item rules) (served_at_start keeper moments) lines
 
 -- ---- the whole connection
 

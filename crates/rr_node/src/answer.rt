@@ -42,7 +42,7 @@ fn write_point<A: Archive, C: Clock>(
     requires { IsWritable (point_view point.now) }
     ensures taken { (now : ℤ) × HasGiven (C.given clock.old) (C.given clock.new) (now ∷ [])
         × IsTaken (verdict_of_point lead now (holding_of keeper.old) (point_view point.now)) keeper.old keeper.new result }
-    ensures few { IfOk result IsFew }
+    ensures count_fits { IfOk result IsFew }
 {
     let now = clock.now();
     match keeper.write(point, now, lead) {
@@ -63,7 +63,7 @@ fn write_line<A: Archive, C: Clock>(
 ) -> Result<Answer, AllocError>
     requires { HasNoLineFeed line.now }
     ensures taken { TakesItem rules (feed.Line line.now) keeper.old keeper.new (C.given clock.old) (C.given clock.new) result }
-    ensures few { IfOk result IsFew }
+    ensures count_fits { IfOk result IsFew }
 {
     match parse_line(alloc, line, rules.precision) {
         Ok(Line::Nothing) => Ok(Answer::Nothing),
@@ -76,7 +76,7 @@ fn write_line<A: Archive, C: Clock>(
 fn refusal(fault: LineFault) -> Result<Answer, AllocError>
     ensures refused { IfOk result (IsAnswer (refused (line_fault_name fault))) }
     ensures read { OnOk result (fault ≢ LineFault.Memory) }
-    ensures few { IfOk result IsFew }
+    ensures count_fits { IfOk result IsFew }
 {
     match fault {
         LineFault::Memory => Err(AllocError),
@@ -94,7 +94,7 @@ pub(crate) fn write_item<A: Archive, C: Clock>(
 ) -> Result<Answer, AllocError>
     requires { IsLine (item_view item) }
     ensures taken { TakesItem rules (item_view item.entry) keeper.old keeper.new (C.given clock.old) (C.given clock.new) result }
-    ensures few { IfOk result IsFew }
+    ensures count_fits { IfOk result IsFew }
 {
     match item {
         FeedLine::Line(line) => write_line(alloc, keeper, clock, rules, line),

@@ -70,7 +70,7 @@ impl Connection {
     /// Takes in a piece.
     pub(crate) fn push(&mut self, piece: &[u8]) -> Result<(), AllocError>
         requires going { self.old.feed.ended ≡ false }
-        requires few { self.old.pieces + 1 < 2 ^ 32 }
+        requires pieces_fit { self.old.pieces + 1 < 2 ^ 32 }
         requires fits { length piece.now ≤ PIECE }
         ensures taken { OnOk result (Takes self.old self.new piece.now) }
     {
@@ -84,7 +84,7 @@ impl Connection {
     /// Counts a line, and adds what is answered to it.
     fn count(&mut self, answers: &mut Vec<u8>, answer: Answer) -> Result<(), AllocError>
         requires room { self.old.lines + length self.old.feed.left < self.old.pieces * PIECE }
-        requires few { IsFew answer }
+        requires answer_fits { IsFew answer }
         ensures lines { OnOk result (self.new.lines ≡ self.old.lines + 1) }
         ensures report { OnOk result (self.new.report ≡ counted_in self.old.report answer) }
         ensures answered { OnOk result (answers.new.items ≡ answers.old.items ++ text_to (self.old.lines + 1) answer) }
@@ -134,7 +134,7 @@ impl Connection {
             × HasGiven (C.given clock.old) (C.given clock.new) moments
             × (answers.new.items ≡ answers.old.items ++ text)
             × Serves self.old self.new keeper.old keeper.new moments text) }
-        ensures all { OnOk result (items_left self.new.feed ≡ []) }
+        ensures all_taken { OnOk result (items_left self.new.feed ≡ []) }
         ensures ended { OnErr result ((moments : List ℤ)
             × HasGiven (C.given clock.old) (C.given clock.new) moments
             × Ends self.old keeper.old keeper.new moments) }
@@ -159,7 +159,7 @@ impl Connection {
             × HasGiven (C.given clock.old) (C.given clock.new) moments
             × Appends (W.contents (inner_of output.old)) (W.contents (inner_of output.new)) text
             × Serves self.old self.new keeper.old keeper.new moments text) }
-        ensures all { OnOk result (items_left self.new.feed ≡ []) }
+        ensures all_taken { OnOk result (items_left self.new.feed ≡ []) }
         ensures stopped { OnErr result ((moments : List ℤ)
             × HasGiven (C.given clock.old) (C.given clock.new) moments
             × EndsAnswered self.old keeper.old keeper.new moments (W.contents (inner_of output.old)) (W.contents (inner_of output.new))) }

@@ -52,7 +52,7 @@ pub fn serve_node<
     ensures rounds { OnOk result (HasKept config.now true (V.calls lines.old) (V.calls lines.new)
         (D.calls dial.old) (D.calls dial.new) (S.calls shelf.old) (S.calls shelf.new)
         (post keeper.old (C.given clock.old)) (post keeper.new (C.given clock.new))) }
-    ensures some { OnErr result ((whole : Bool) × HasKept config.now whole (V.calls lines.old) (V.calls lines.new)
+    ensures rounds_so_far { OnErr result ((whole : Bool) × HasKept config.now whole (V.calls lines.old) (V.calls lines.new)
         (D.calls dial.old) (D.calls dial.new) (S.calls shelf.old) (S.calls shelf.new)
         (post keeper.old (C.given clock.old)) (post keeper.new (C.given clock.new))) }
     ensures memory { IfErr result (λ fault. fault ≡ NodeFault.Memory) }

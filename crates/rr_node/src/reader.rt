@@ -70,8 +70,8 @@ fn answer_items<A: Archive, W: Write, G: Gate>(
     ensures answered { OnOk result (HasWritten feed.old feed.new
         (sight reader.old (G.last gate.old)) (sight reader.new (G.last gate.new))
         (W.contents (inner_of output.old)) (W.contents (inner_of output.new))) }
-    ensures all { OnOk result (items_left feed.new ≡ []) }
-    ensures some { OnErr result (HasWrittenSome feed.old feed.new
+    ensures all_taken { OnOk result (items_left feed.new ≡ []) }
+    ensures part_written { OnErr result (HasWrittenSome feed.old feed.new
         (sight reader.old (G.last gate.old)) reader.new
         (W.contents (inner_of output.old)) (W.contents (inner_of output.new))) }
     ensures count { failures_of output.old ≤ failures_of output.new }
@@ -98,7 +98,7 @@ fn answer_lines<A: Archive, R: Read, W: Write, G: Gate>(
     ensures answered { OnOk result (IfSome (R.remaining (inner_of input.old)) (λ rest.
         HasAnswered (first ∷ rest) (sight reader.old (G.last gate.old)) (sight reader.new (G.last gate.new))
         (W.contents (inner_of output.old)) (W.contents (inner_of output.new)))) }
-    ensures some { OnErr result (IfSome (R.remaining (inner_of input.old)) (λ rest.
+    ensures part_written { OnErr result (IfSome (R.remaining (inner_of input.old)) (λ rest.
         HasAnsweredSome (first ∷ rest) (sight reader.old (G.last gate.old)) reader.new
         (W.contents (inner_of output.old)) (W.contents (inner_of output.new)))) }
     ensures seen { HasSeenMore reader.old reader.new }

@@ -19,12 +19,12 @@ use Rattle.rr_replica.specs.Series.{Series, cells_of}
 use Rattle.rr_replica.specs.Archives.{AreSized, HaveRoomFor}
 
 -- a reading, as a sample of a key
-abbrev pub keyed : List ℕ → Reading → Sample
-keyed key x = record { origin = x.origin; number = x.number; key = key; time = x.time; value = x.value }
+abbrev pub sample_of_reading : List ℕ → Reading → Sample
+sample_of_reading key x = record { origin = x.origin; number = x.number; key = key; time = x.time; value = x.value }
 
 -- and as the model has it
 abbrev pub keyed_sample : List ℕ → Reading → model.Sample
-keyed_sample key x = sample_of (keyed key x)
+keyed_sample key x = sample_of (sample_of_reading key x)
 
 module _ {X : Type 0} where
   -- the archives of each key, each seen as a map

@@ -8,7 +8,7 @@ ghost use Rattle.rr_point.specs.Point.{point_view};
 ghost use Rattle.rr_cells.specs.CellBounds.{IsCellOf};
 ghost use Rattle.rr_cells.specs.Cells.{row_at, rows_at};
 ghost use Rattle.rr_cells.specs.Holding.{with_sample, with_put, IsHolding};
-ghost use Rattle.rr_replica.specs.Held.{keyed, keyed_sample};
+ghost use Rattle.rr_replica.specs.Held.{sample_of_reading, keyed_sample};
 ghost use Rattle.rr_cells.specs.Listing.{seen_cell, owned_cell, at_most_usize, cell_name, next_cell};
 ghost use Rattle.rr_replica.specs.Standing.{held, HasRoomFor, IsReadyFor};
 ghost use Rattle.rr_replica.specs.Writing.{lacks_numbers};
@@ -160,7 +160,7 @@ impl<A: Archive> Replica<A> {
         requires number { self.old.next ≤ sample.number }
         ensures put { OnOk result (held self.new ≡ with_sample (held self.old) (keyed_sample key.now sample)) }
         ensures unchanged { OnErr result (held self.new ≡ held self.old) }
-        ensures room { HasRoomFor self.old (Op.Put (keyed key.now sample)) → IsOk result }
+        ensures room { HasRoomFor self.old (Op.Put (sample_of_reading key.now sample)) → IsOk result }
     {
         let number = sample.number;
         put_in(

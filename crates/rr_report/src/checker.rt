@@ -59,7 +59,7 @@ impl Checker {
     /// Takes in a piece.
     pub(crate) fn push(&mut self, piece: &[u8]) -> Result<(), AllocError>
         requires going { self.old.feed.ended ≡ false }
-        requires few { self.old.pieces + 1 < 2 ^ 32 }
+        requires pieces_fit { self.old.pieces + 1 < 2 ^ 32 }
         requires fits { length piece.now ≤ PIECE }
         ensures { OnOk result (Takes self.old self.new piece.now) }
     {
@@ -73,7 +73,7 @@ impl Checker {
     /// Reports and counts the items that can be handed out.
     fn push_items(&mut self, report: &mut Vec<u8>) -> Result<(), AllocError>
         ensures reported { OnOk result ((text : List ℕ) × (report.new.items ≡ report.old.items ++ text) × Reports self.old self.new text) }
-        ensures all { OnOk result (items_left self.new.feed ≡ []) }
+        ensures all_taken { OnOk result (items_left self.new.feed ≡ []) }
     {
         let mut key = Vec::new(self.alloc);
         while let Some(item) = self.feed.next_line() {
@@ -95,7 +95,7 @@ impl Checker {
     /// The report of the items that can be handed out; they are counted.
     fn report(&mut self) -> Result<Vec<u8>, AllocError>
         ensures reported { IfOk result (λ text. Reports self.old self.new text.items) }
-        ensures all { OnOk result (items_left self.new.feed ≡ []) }
+        ensures all_taken { OnOk result (items_left self.new.feed ≡ []) }
     {
         let mut report = Vec::new(self.alloc);
         self.push_items(&mut report)?;
@@ -106,7 +106,7 @@ impl Checker {
     pub(crate) fn write_items<W: Write>(&mut self, output: &mut Counted<W>) -> Result<(), ToolFault>
         ensures reported { OnOk result ((text : List ℕ) × Reports self.old self.new text
             × Appends (W.contents (inner_of output.old)) (W.contents (inner_of output.new)) text) }
-        ensures all { OnOk result (items_left self.new.feed ≡ []) }
+        ensures all_taken { OnOk result (items_left self.new.feed ≡ []) }
         ensures front { (pushed before more : List ℕ) (start : Option (List ℕ))
             → HasReported self.old pushed before → Appends start (W.contents (inner_of output.old)) before
             → MayCome self.old.feed more true

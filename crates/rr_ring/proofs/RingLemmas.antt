@@ -17,7 +17,7 @@ use Rattle.rr_ring.specs.declared.block.TheConstants.{BLOCK_ROWS}
 use Rattle.rr_ring.specs.declared.ring.Ring.{Ring}
 use Rattle.rr_ring.specs.Positions.{position_of}
 use Rattle.rr_ring.specs.Ring.{row_at, IsRowChanged}
-use Rattle.rr_ring.specs.StoredRows.{items_of, items_at, has_room_at, is_blank, stored}
+use Rattle.rr_ring.specs.StoredRows.{items_of, items_at, has_room_at, is_blank, slot_and_entries}
 use Rattle.rr_ring.specs.Blocks.{items_in, items_of_block, items_by_position, has_room_in, block_has_room, has_room_by_position, IsChanged}
 use Rattle.rr_ring.proofs.RingCellsLemmas.{empty_is}
 
@@ -62,12 +62,12 @@ items_stored : Option (ℤ × List Entry) → ℤ → List Entry
 items_stored None s = []
 items_stored (Some p) s = cond (int_eq p.0 s) p.1 []
 
-items_at-stored : (o : Option StoredRow) (s : ℤ) → items_at o s ≡ items_stored (option_map stored o) s
+items_at-stored : (o : Option StoredRow) (s : ℤ) → items_at o s ≡ items_stored (option_map slot_and_entries o) s
 unfolding items_stored
 items_at-stored None s = refl
 items_at-stored (Some r) s = refl
 
-pub items_at-alike : (old new : StoredRow) (s : ℤ) → stored new ≡ stored old → items_at (Some new) s ≡ items_at (Some old) s
+pub items_at-alike : (old new : StoredRow) (s : ℤ) → slot_and_entries new ≡ slot_and_entries old → items_at (Some new) s ≡ items_at (Some old) s
 items_at-alike old new s same = items_at-stored (Some new) s ∙ ap (λ p. items_stored (Some p) s) same ∙ sym (items_at-stored (Some old) s)
 
 items_at-blank : (r : StoredRow) (s : ℤ) → is_blank r ≡ true → items_at (Some r) s ≡ []
@@ -85,7 +85,7 @@ unfolding items_in
 block_same old new is = λ i number s. items_at (slice_get (is i) number) s
 
 -- with a row that stores the same
-pub block_alike : (old new : Block) (at : ℕ) (was row : StoredRow) → slice_get old.rows.items at ≡ Some was → new.rows.items ≡ set old.rows.items at row → stored row ≡ stored was → items_in new ≡ items_in old
+pub block_alike : (old new : Block) (at : ℕ) (was row : StoredRow) → slice_get old.rows.items at ≡ Some was → new.rows.items ≡ set old.rows.items at row → slot_and_entries row ≡ slot_and_entries was → items_in new ≡ items_in old
 unfolding items_in
 block_alike old new at was row has is same = λ i number s. (
     ap (λ xs. items_at (slice_get xs number) s) is
@@ -96,7 +96,7 @@ block_alike old new at was row has is same = λ i number s. (
     ] refl) i
 
 -- with an entry set in a row
-block_changed : (old new : Block) (at : ℕ) (was row : StoredRow) (slot : ℤ) (e : Entry) → slice_get old.rows.items at ≡ Some was → new.rows.items ≡ set old.rows.items at row → stored row ≡ (slot, with_entry (items_at (Some was) slot) e) → IsChanged at slot e (items_in old) (items_in new)
+block_changed : (old new : Block) (at : ℕ) (was row : StoredRow) (slot : ℤ) (e : Entry) → slice_get old.rows.items at ≡ Some was → new.rows.items ≡ set old.rows.items at row → slot_and_entries row ≡ (slot, with_entry (items_at (Some was) slot) e) → IsChanged at slot e (items_in old) (items_in new)
 unfolding items_in
 block_changed old new at was row slot e has is now = λ number s.
     ap (λ xs. items_at (slice_get xs number) s) is
@@ -112,7 +112,7 @@ unfolding items_in
 block_read block number row s has = ap (λ o. items_at o s) (sym has)
 
 -- with a change of the entry of an origin, of a block that stores what another does
-pub block_after : (old made new : Block) (at : ℕ) (was row : StoredRow) (slot : ℤ) (origin : ℕ) (change : Change) → items_in made ≡ items_in old → slice_get made.rows.items at ≡ Some was → new.rows.items ≡ set made.rows.items at row → stored row ≡ (slot, with_entry (items_at (Some was) slot) (entry_after (items_at (Some was) slot) origin change)) → IsChanged at slot (entry_after (items_in old at slot) origin change) (items_in old) (items_in new)
+pub block_after : (old made new : Block) (at : ℕ) (was row : StoredRow) (slot : ℤ) (origin : ℕ) (change : Change) → items_in made ≡ items_in old → slice_get made.rows.items at ≡ Some was → new.rows.items ≡ set made.rows.items at row → slot_and_entries row ≡ (slot, with_entry (items_at (Some was) slot) (entry_after (items_at (Some was) slot) origin change)) → IsChanged at slot (entry_after (items_in old at slot) origin change) (items_in old) (items_in new)
 block_after old made new at was row slot origin change same has is now =
     subst (λ f. IsChanged at slot (entry_after (f at slot) origin change) f (items_in new)) same
     (subst (λ es. IsChanged at slot (entry_after es origin change) (items_in made) (items_in new)) (block_read made at was slot has)
@@ -142,7 +142,7 @@ block_room_made old new number row slot origin within is room =
 
 -- what a block stores, row by row
 abbrev pub stored_rows : Block → List (ℤ × List Entry)
-stored_rows block = map stored block.rows.items
+stored_rows block = map slot_and_entries block.rows.items
 
 -- a block as what it stores is read
 items_by_stored : Option (List (ℤ × List Entry)) → ℕ → ℤ → List Entry
@@ -152,7 +152,7 @@ items_by_stored (Some rows) number s = items_stored (slice_get rows number) s
 items_of_block-stored : (o : Option Block) (number : ℕ) (s : ℤ) → items_of_block o number s ≡ items_by_stored (option_map stored_rows o) number s
 unfolding items_by_stored items_in
 items_of_block-stored None number s = refl
-items_of_block-stored (Some block) number s = items_at-stored (slice_get block.rows.items number) s ∙ ap (λ o. items_stored o s) (sym (slice_get-map stored block.rows.items number))
+items_of_block-stored (Some block) number s = items_at-stored (slice_get block.rows.items number) s ∙ ap (λ o. items_stored o s) (sym (slice_get-map slot_and_entries block.rows.items number))
 
 pub blocks_copied : (old new : List Block) → map stored_rows new ≡ map stored_rows old → items_by_position new ≡ items_by_position old
 unfolding items_by_position

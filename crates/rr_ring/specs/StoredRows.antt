@@ -19,8 +19,8 @@ has_room (One e) origin = e.origin == origin
 has_room (Many v) origin = nat_lt (vec_len v) (vec_capacity v)
 
 -- the slot and the entries
-abbrev pub stored : StoredRow → ℤ × List Entry
-stored r = (r.slot, items_of r.entries)
+abbrev pub slot_and_entries : StoredRow → ℤ × List Entry
+slot_and_entries r = (r.slot, items_of r.entries)
 
 -- the entries of a slot; none, where the row is that of another, or not made yet
 abbrev pub items_at : Option StoredRow → ℤ → List Entry

@@ -2,7 +2,7 @@
 ghost use Rattle.std.specs.Prelude.{◌≡◌, ◌<◌, [], length, map, is_none, IsTrue, IsOk, OnOk, OnErr, IfOk};
 ghost use Rattle.rr_archive.specs.Row.{entry_at};
 ghost use Rattle.rr_archive.specs.Changes.{Fits, entry_after};
-ghost use Rattle.rr_ring.specs.StoredRows.{stored};
+ghost use Rattle.rr_ring.specs.StoredRows.{slot_and_entries};
 ghost use Rattle.rr_ring.specs.Blocks.{items_in, has_room_in, IsChanged};
 
 use crate::stored_row::StoredRow;
@@ -99,7 +99,7 @@ impl Block {
     }
 
     pub(crate) fn copy(&self, alloc: Global) -> Result<Block, AllocError>
-        ensures { IfOk result (λ new. map stored new.rows.items ≡ map stored self.now.rows.items) }
+        ensures { IfOk result (λ new. map slot_and_entries new.rows.items ≡ map slot_and_entries self.now.rows.items) }
     {
         let mut rows = Vec::with_capacity(alloc, self.rows.len())?;
         for row in &self.rows {

@@ -2,7 +2,7 @@
 ghost use Rattle.std.specs.Prelude.{◌≡◌, is_none, IsTrue, IsOk, OnOk, OnErr, IfOk, Some};
 ghost use Rattle.rr_archive.specs.Row.{entry_at, with_entry};
 ghost use Rattle.rr_archive.specs.Changes.{Fits, entry_after};
-ghost use Rattle.rr_ring.specs.StoredRows.{items_at, has_room_at, is_blank, stored};
+ghost use Rattle.rr_ring.specs.StoredRows.{items_at, has_room_at, is_blank, slot_and_entries};
 
 use crate::entries::Entries;
 use rr_archive::Entry;
@@ -49,13 +49,13 @@ impl StoredRow {
         change: &Change,
     ) -> Result<bool, AllocError>
         requires { Fits (entry_at (items_at (Some self.old) slot) origin) change.now }
-        ensures changed { OnOk result (stored self.new ≡ (
+        ensures changed { OnOk result (slot_and_entries self.new ≡ (
           slot,
           with_entry (items_at (Some self.old) slot) (entry_after (items_at (Some self.old) slot) origin change.now),
         )) }
         ensures is_new { IfOk result (λ is_new. is_new
             ≡ is_none (entry_at (items_at (Some self.old) slot) origin)) }
-        ensures unchanged { OnErr result (stored self.new ≡ stored self.old) }
+        ensures unchanged { OnErr result (slot_and_entries self.new ≡ slot_and_entries self.old) }
         ensures room { IsTrue (has_room_at (Some self.old) slot origin) → IsOk result }
     {
         if self.slot == slot {
@@ -73,7 +73,7 @@ impl StoredRow {
         slot: i64,
         origin: Origin,
     ) -> Result<(), AllocError>
-        ensures same { stored self.new ≡ stored self.old }
+        ensures same { slot_and_entries self.new ≡ slot_and_entries self.old }
         ensures room { OnOk result (IsTrue (has_room_at (Some self.new) slot origin)) }
         ensures kept { IsTrue (has_room_at (Some self.old) slot origin) → IsOk result }
     {
@@ -85,7 +85,7 @@ impl StoredRow {
     }
 
     pub(crate) fn copy(&self, alloc: Global) -> Result<StoredRow, AllocError>
-        ensures { IfOk result (λ new. stored new ≡ stored self.now) }
+        ensures { IfOk result (λ new. slot_and_entries new ≡ slot_and_entries self.now) }
     {
         Ok(StoredRow {
             slot: self.slot,

@@ -22,8 +22,8 @@ unless_faulty None value = Ok value
 unless_faulty (Some fault) value = Err fault
 
 -- a test that must hold
-abbrev pub checked : {E : Type 0} → Bool → E → Result (Unit {0}) E
-checked test fault = if test then Ok tt else Err fault
+abbrev pub check : {E : Type 0} → Bool → E → Result (Unit {0}) E
+check test fault = if test then Ok tt else Err fault
 
 -- the result, seen by a view, is the definition's answer
 abbrev pub Gives : {X Y E : Type 0} → (X → Y) → Result X E → Result Y E → Type 0

@@ -9,7 +9,7 @@ use Rattle.std.proofs.lemmas.List.Elements.{All-map}
 use Rattle.std.proofs.lemmas.List.{drop-map, length-map, length-take, take-map, take_all}
 use Rattle.rr_text.specs.declared.bytes.TheConstants.{SPACE}
 use Rattle.rr_text.specs.declared.limits.TheConstants.{MAX_PAGE_CELLS}
-use Rattle.rr_text.specs.Results.{checked}
+use Rattle.rr_text.specs.Results.{check}
 use Rattle.rr_base.specs.Schema.{Layout, IsLayout}
 use Rattle.rr_delta.specs.Difference.{IsSummary, newer_cells}
 use Rattle.rr_delta.specs.declared.name.Name.{Name}
@@ -160,6 +160,6 @@ module _ (m : State Knowledge) (sound : IsSound m) (giver taker : List ℕ) (g t
 pub delta_agrees : (m : State Knowledge) → IsSound m → (name giver taker from count : List ℕ) → Agrees in_cells IsSound (after_delta cell_model (in_cells m) name giver taker from count) (after_delta sample_model m name giver taker from count)
 unfolding after_delta
 delta_agrees m sound name giver taker from count =
-    then_agree in_cells IsSound (checked (is_name name) BadName) _ _ (λ named is. found_agree in_cells IsSound node_in_cells m.nodes giver NoNode _ _ (λ g here. found_agree in_cells IsSound node_in_cells m.nodes taker NoNode _ _ (λ t there. then_agree in_cells IsSound (ok_or (number_within 0 MAX_U32 from) BadNumber) _ _ (λ first read. then_agree in_cells IsSound (ok_or (number_within 1 MAX_PAGE_CELLS count) BadNumber) _ _ (λ most also.
+    then_agree in_cells IsSound (check (is_name name) BadName) _ _ (λ named is. found_agree in_cells IsSound node_in_cells m.nodes giver NoNode _ _ (λ g here. found_agree in_cells IsSound node_in_cells m.nodes taker NoNode _ _ (λ t there. then_agree in_cells IsSound (ok_or (number_within 0 MAX_U32 from) BadNumber) _ _ (λ first read. then_agree in_cells IsSound (ok_or (number_within 1 MAX_PAGE_CELLS count) BadNumber) _ _ (λ most also.
     done_agrees in_cells IsSound _ _ (with_page_agrees m name _ (part_of_difference g.schema g.contents t.contents first most) (newer_agrees m sound giver taker g t here there first most))
     (with_page_is_sound m sound name (part_of_difference g.schema g.contents t.contents first most) (newer_is_closed m sound giver taker g t here there first most)))))))

@@ -7,7 +7,7 @@ use Rattle.std.specs.BTreeSet.{contains}
 use Rattle.std.specs.FinMap as map
 use Rattle.rr_archive.specs.declared.archive.Archive.{Ghosts}
 use Rattle.rr_text.specs.declared.bytes.TheConstants.{SPACE}
-use Rattle.rr_text.specs.Results.{checked, unless}
+use Rattle.rr_text.specs.Results.{check, unless}
 use Rattle.rr_base.specs.Schema.{Layout}
 use Rattle.rr_model.specs.Knowledge.{Knowledge}
 use Rattle.rr_model.specs.World.{IsClosed}
@@ -176,7 +176,7 @@ module _ {A : Type 0} {g : Ghosts A} (c : Cluster A g) (m : State Cells) (is : R
 pub load_agrees : (m : State Knowledge) → IsSound m → (name node origin : List ℕ) → Agrees in_cells IsSound (after_load cell_model (in_cells m) name node origin) (after_load sample_model m name node origin)
 unfolding after_load
 load_agrees m sound name node origin =
-    found_agree in_cells IsSound snapshot_in_cells m.snapshots name NoSnapshot _ _ (λ x here. then_agree in_cells IsSound (checked (is_name node) BadName) _ _ (λ named is. then_agree in_cells IsSound (origin_of origin) _ _ (λ number read. then_agree in_cells IsSound (checked (not (list_any (λ used. used == number) m.origins)) OriginUsed) _ _ (λ unused yes. then_agree in_cells IsSound (checked (not (has_origin sample_model x number)) OriginUsed) _ _ (λ absent so.
+    found_agree in_cells IsSound snapshot_in_cells m.snapshots name NoSnapshot _ _ (λ x here. then_agree in_cells IsSound (check (is_name node) BadName) _ _ (λ named is. then_agree in_cells IsSound (origin_of origin) _ _ (λ number read. then_agree in_cells IsSound (check (not (list_any (λ used. used == number) m.origins)) OriginUsed) _ _ (λ unused yes. then_agree in_cells IsSound (check (not (has_origin sample_model x number)) OriginUsed) _ _ (λ absent so.
     let none = not_true _ _ unused yes in
     let before = sound.snapshots name x here in
     let closed = subst (λ (s : Layout). IsClosed s m.world x.contents) (sym before.shared) before.closed in

@@ -30,7 +30,7 @@ use Rattle.rr_cluster.specs.declared.cluster.Cluster.{Cluster}
 use Rattle.rr_cluster.specs.declared.fault.CommandFault.{CommandFault}
 use Rattle.rr_cluster.specs.declared.fault.CommandFault.TheVariants.{BadName, NameUsed, OriginUsed}
 use Rattle.rr_cluster.specs.Agreement.{in_cells, node_in_cells}
-use Rattle.rr_text.specs.Results.{checked}
+use Rattle.rr_text.specs.Results.{check}
 use Rattle.rr_cluster.specs.Command.{IsOneLine}
 use Rattle.rr_cluster.specs.Commands.Node.{node_command, new_node, after_node}
 use Rattle.rr_cluster.specs.Meaning.{node_of, node_in, replica_at, Represents}
@@ -146,7 +146,7 @@ with_node_agrees m name c n origins w e =
 pub node_agrees : (m : State Knowledge) → IsSound m → (name origin : List ℕ) → Agrees in_cells IsSound (after_node cell_model (in_cells m) name origin) (after_node sample_model m name origin)
 unfolding after_node
 node_agrees m sound name origin =
-    rw (is_some-map_values nat_list_cmp_total names_apart node_in_cells m.nodes name) (then_agree in_cells IsSound (checked (is_name name) BadName) _ _ (λ named is. then_agree in_cells IsSound (checked (not (map.contains_key m.nodes name)) NameUsed) _ _ (λ free new. then_agree in_cells IsSound (origin_of origin) _ _ (λ number read. then_agree in_cells IsSound (checked (not (list_any (λ used. used == number) m.origins)) OriginUsed) _ _ (λ unused yes.
+    rw (is_some-map_values nat_list_cmp_total names_apart node_in_cells m.nodes name) (then_agree in_cells IsSound (check (is_name name) BadName) _ _ (λ named is. then_agree in_cells IsSound (check (not (map.contains_key m.nodes name)) NameUsed) _ _ (λ free new. then_agree in_cells IsSound (origin_of origin) _ _ (λ number read. then_agree in_cells IsSound (check (not (list_any (λ used. used == number) m.origins)) OriginUsed) _ _ (λ unused yes.
     let none = not_true _ _ unused yes in
     done_agrees in_cells IsSound _ _ (with_node_agrees m name (new_node cell_model m.schema number) (new_node sample_model m.schema number) (number ∷ m.origins) m.world (new_nodes_agree m.schema number))
     (with_node_is_sound m sound name (new_node sample_model m.schema number) refl (starting_is_sound m sound m.schema number _ (nothing_is_closed m.schema m.world) none) (origin_is origin number read) none))))))

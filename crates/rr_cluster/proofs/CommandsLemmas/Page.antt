@@ -6,7 +6,7 @@ use Rattle.std.specs.FinMap as map
 use Rattle.rr_archive.specs.declared.archive.Archive.{Ghosts}
 use Rattle.rr_text.specs.declared.bytes.TheConstants.{SPACE}
 use Rattle.rr_text.specs.declared.limits.TheConstants.{MAX_PAGE_CELLS}
-use Rattle.rr_text.specs.Results.{checked}
+use Rattle.rr_text.specs.Results.{check}
 use Rattle.rr_base.specs.Schema.{Layout}
 use Rattle.rr_join.specs.Values.{map_values}
 use Rattle.rr_join.proofs.ValuesLemmas.{insert_cases, map_values-insert}
@@ -142,6 +142,6 @@ with_page_agrees m name c k e =
 pub page_agrees : (m : State Knowledge) → IsSound m → (name node from count : List ℕ) → Agrees in_cells IsSound (after_page cell_model (in_cells m) name node from count) (after_page sample_model m name node from count)
 unfolding after_page
 page_agrees m sound name node from count =
-    then_agree in_cells IsSound (checked (is_name name) BadName) _ _ (λ named is. found_agree in_cells IsSound node_in_cells m.nodes node NoNode _ _ (λ n here. then_agree in_cells IsSound (ok_or (number_within 0 MAX_U32 from) BadNumber) _ _ (λ first read. then_agree in_cells IsSound (ok_or (number_within 1 MAX_PAGE_CELLS count) BadNumber) _ _ (λ most also.
+    then_agree in_cells IsSound (check (is_name name) BadName) _ _ (λ named is. found_agree in_cells IsSound node_in_cells m.nodes node NoNode _ _ (λ n here. then_agree in_cells IsSound (ok_or (number_within 0 MAX_U32 from) BadNumber) _ _ (λ first read. then_agree in_cells IsSound (ok_or (number_within 1 MAX_PAGE_CELLS count) BadNumber) _ _ (λ most also.
     done_agrees in_cells IsSound _ _ (with_page_agrees m name _ (part n.schema n.contents first most) (part_agrees m sound node n here first most))
     (with_page_is_sound m sound name (part n.schema n.contents first most) (part_is_closed m sound node n here first most))))))

@@ -7,7 +7,7 @@ use Rattle.std.specs.FinMap as map
 use Rattle.std.proofs.lemmas.Bool.{le-leb, leb-false, leb-true, lt-leb}
 use Rattle.rr_archive.specs.declared.archive.Archive.{Ghosts}
 use Rattle.rr_text.specs.declared.bytes.TheConstants.{SPACE}
-use Rattle.rr_text.specs.Results.{checked}
+use Rattle.rr_text.specs.Results.{check}
 use Rattle.rr_base.specs.Schema.{Layout}
 use Rattle.rr_join.specs.Values.{map_values}
 use Rattle.rr_join.proofs.ValuesLemmas.{insert_cases, map_values-insert}
@@ -162,6 +162,6 @@ with_snapshot_agrees m name c x e =
 pub save_agrees : (m : State Knowledge) → IsSound m → (name node : List ℕ) → Agrees in_cells IsSound (after_save cell_model (in_cells m) name node) (after_save sample_model m name node)
 unfolding after_save
 save_agrees m sound name node =
-    then_agree in_cells IsSound (checked (is_name name) BadName) _ _ (λ named is. found_agree in_cells IsSound node_in_cells m.nodes node NoNode _ _ (λ n here. then_agree in_cells IsSound (checked (nat_le (length (map.entries (state n.schema n.contents))) MAX_SNAPSHOT_CELLS) (Save TooManyCells)) _ _ (λ few yes.
+    then_agree in_cells IsSound (check (is_name name) BadName) _ _ (λ named is. found_agree in_cells IsSound node_in_cells m.nodes node NoNode _ _ (λ n here. then_agree in_cells IsSound (check (nat_le (length (map.entries (state n.schema n.contents))) MAX_SNAPSHOT_CELLS) (Save TooManyCells)) _ _ (λ few yes.
     done_agrees in_cells IsSound _ _ (with_snapshot_agrees m name _ (snapshot_of sample_model n) (snapshots_agree m sound node n here))
     (with_snapshot_is_sound m sound name (snapshot_of sample_model n) (snapshot_is_sound m sound node n here)))))

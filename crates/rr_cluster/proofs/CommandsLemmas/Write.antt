@@ -40,7 +40,7 @@ use Rattle.rr_cluster.specs.declared.fault.CommandFault.TheVariants.{NoNode, Lin
 use Rattle.rr_cluster.specs.declared.stop.Stop.{Stop}
 use Rattle.rr_cluster.specs.declared.stop.Stop.TheVariants.{Refused, Memory}
 use Rattle.rr_cluster.specs.Agreement.{in_cells, node_in_cells}
-use Rattle.rr_text.specs.Results.{◌>>=◌, checked}
+use Rattle.rr_text.specs.Results.{◌>>=◌, check}
 use Rattle.rr_cluster.specs.Command.{write, IsOneLine}
 use Rattle.rr_cluster.specs.Commands.Write.{write_command, line_of, samples_of, samples_at, samples_of_point, samples_of_view, samples_of_line, with_samples, with_written, with_all_written, after_write}
 use Rattle.rr_cluster.specs.Meaning.{node_of, replica_at, Represents, Leaves, Writes, node_in}
@@ -182,7 +182,7 @@ samples_are_next origin number time p (field ∷ fields) few = (refl, refl, omeg
 module _ {K : Type 0} (n : Node K) (few : n.next ≤ MAX_NUMBER + 1) (clock : ℤ) (lead : Option ℕ) where
   -- what holds of the samples of a point, if enough numbers are left for them, holds of those that are written of it
   of_point : (P : List Sample → Type 0) (p : PointView) → (n.next + length p.fields ≤ MAX_NUMBER + 1 → P (samples_at n clock p)) → OfAnswer P (samples_of_point n clock lead p)
-  of_point P p holds = then_holds P (checked (not (is_ahead p.time clock lead)) (Write AheadOfClock)) _ (λ timely yes. then_holds P (checked (not (nat_lt (MAX_NUMBER + 1 - n.next) (length p.fields))) (Write NumbersSpent)) _ (λ left also.
+  of_point P p holds = then_holds P (check (not (is_ahead p.time clock lead)) (Write AheadOfClock)) _ (λ timely yes. then_holds P (check (not (nat_lt (MAX_NUMBER + 1 - n.next) (length p.fields))) (Write NumbersSpent)) _ (λ left also.
       let enough = ltb-false _ _ (not_true _ (Write NumbersSpent) left also) in
       last_holds P _ (holds (omega (arith, few, enough)))))
 

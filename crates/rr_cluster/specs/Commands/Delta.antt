@@ -5,7 +5,7 @@ use Rattle.rr_text.specs.declared.limits.TheConstants.{MAX_PAGE_CELLS}
 use Rattle.rr_cluster.specs.declared.fault.CommandFault.{CommandFault}
 use Rattle.rr_cluster.specs.declared.fault.CommandFault.TheVariants.{BadName, NoNode, BadNumber}
 use Rattle.rr_cluster.specs.declared.words.TheConstants.{MAX_U32}
-use Rattle.rr_text.specs.Results.{◌>>=◌, checked}
+use Rattle.rr_text.specs.Results.{◌>>=◌, check}
 use Rattle.rr_cluster.specs.Command.{Command, delta}
 use Rattle.rr_cluster.specs.Model.{Model}
 use Rattle.rr_cluster.specs.State.{State}
@@ -20,7 +20,7 @@ module _ {K : Type 0} (model : Model K) where
   -- a page of what the giver has and the taker lacks; it takes the place of one of its name
   unfoldable pub after_delta : State K → List ℕ → List ℕ → List ℕ → List ℕ → List ℕ → Result (State K) CommandFault
   after_delta m name giver taker from count = do
-    named ← checked (is_name name) BadName
+    named ← check (is_name name) BadName
     g ← ok_or (get m.nodes giver) NoNode
     t ← ok_or (get m.nodes taker) NoNode
     first ← ok_or (number_within 0 MAX_U32 from) BadNumber

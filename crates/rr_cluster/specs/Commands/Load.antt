@@ -5,7 +5,7 @@ use Rattle.std.specs.FinMap.{get, insert, entries}
 use Rattle.rr_snapshot.specs.Loading.{is_used}
 use Rattle.rr_cluster.specs.declared.fault.CommandFault.{CommandFault}
 use Rattle.rr_cluster.specs.declared.fault.CommandFault.TheVariants.{NoSnapshot, BadName, OriginUsed}
-use Rattle.rr_text.specs.Results.{◌>>=◌, checked}
+use Rattle.rr_text.specs.Results.{◌>>=◌, check}
 use Rattle.rr_cluster.specs.Command.{Command, load}
 use Rattle.rr_cluster.specs.Model.{Model}
 use Rattle.rr_cluster.specs.State.{Node, Snapshot, State}
@@ -29,8 +29,8 @@ module _ {K : Type 0} (model : Model K) where
   unfoldable pub after_load : State K → List ℕ → List ℕ → List ℕ → Result (State K) CommandFault
   after_load m name node origin = do
     x ← ok_or (get m.snapshots name) NoSnapshot
-    named ← checked (is_name node) BadName
+    named ← check (is_name node) BadName
     number ← origin_of origin
-    unused ← checked (not (list_any (λ used. used == number) m.origins)) OriginUsed
-    absent ← checked (not (has_origin x number)) OriginUsed
+    unused ← check (not (list_any (λ used. used == number) m.origins)) OriginUsed
+    absent ← check (not (has_origin x number)) OriginUsed
     Ok (record m { nodes = insert m.nodes node (loaded_node x number); origins = number ∷ m.origins })

@@ -5,7 +5,7 @@ use Rattle.std.specs.FinMap.{insert, contains_key}
 use Rattle.rr_base.specs.Schema.{Layout}
 use Rattle.rr_cluster.specs.declared.fault.CommandFault.{CommandFault}
 use Rattle.rr_cluster.specs.declared.fault.CommandFault.TheVariants.{BadName, NameUsed, OriginUsed}
-use Rattle.rr_text.specs.Results.{◌>>=◌, checked}
+use Rattle.rr_text.specs.Results.{◌>>=◌, check}
 use Rattle.rr_cluster.specs.Command.{Command, node}
 use Rattle.rr_cluster.specs.Model.{Model}
 use Rattle.rr_cluster.specs.State.{Node, State}
@@ -23,8 +23,8 @@ module _ {K : Type 0} (model : Model K) where
 
   unfoldable pub after_node : State K → List ℕ → List ℕ → Result (State K) CommandFault
   after_node m name origin = do
-    named ← checked (is_name name) BadName
-    free ← checked (not (contains_key m.nodes name)) NameUsed
+    named ← check (is_name name) BadName
+    free ← check (not (contains_key m.nodes name)) NameUsed
     number ← origin_of origin
-    unused ← checked (not (list_any (λ used. used == number) m.origins)) OriginUsed
+    unused ← check (not (list_any (λ used. used == number) m.origins)) OriginUsed
     Ok (record m { nodes = insert m.nodes name (new_node m.schema number); origins = number ∷ m.origins })

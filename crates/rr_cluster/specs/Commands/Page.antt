@@ -5,7 +5,7 @@ use Rattle.rr_text.specs.declared.limits.TheConstants.{MAX_PAGE_CELLS}
 use Rattle.rr_cluster.specs.declared.fault.CommandFault.{CommandFault}
 use Rattle.rr_cluster.specs.declared.fault.CommandFault.TheVariants.{BadName, NoNode, BadNumber}
 use Rattle.rr_cluster.specs.declared.words.TheConstants.{MAX_U32}
-use Rattle.rr_text.specs.Results.{◌>>=◌, checked}
+use Rattle.rr_text.specs.Results.{◌>>=◌, check}
 use Rattle.rr_cluster.specs.Command.{Command, page}
 use Rattle.rr_cluster.specs.Model.{Model}
 use Rattle.rr_cluster.specs.State.{State}
@@ -20,7 +20,7 @@ module _ {K : Type 0} (model : Model K) where
   -- a page of a name that is used takes the place of the one before
   unfoldable pub after_page : State K → List ℕ → List ℕ → List ℕ → List ℕ → Result (State K) CommandFault
   after_page m name node from count = do
-    named ← checked (is_name name) BadName
+    named ← check (is_name name) BadName
     n ← ok_or (get m.nodes node) NoNode
     first ← ok_or (number_within 0 MAX_U32 from) BadNumber
     most ← ok_or (number_within 1 MAX_PAGE_CELLS count) BadNumber

@@ -5,7 +5,7 @@ use Rattle.rr_snapshot.specs.declared.fault.SaveFault.TheVariants.{TooManyCells}
 use Rattle.rr_snapshot.specs.declared.heading.TheConstants.{MAX_SNAPSHOT_CELLS}
 use Rattle.rr_cluster.specs.declared.fault.CommandFault.{CommandFault}
 use Rattle.rr_cluster.specs.declared.fault.CommandFault.TheVariants.{BadName, NoNode, Save}
-use Rattle.rr_text.specs.Results.{◌>>=◌, checked}
+use Rattle.rr_text.specs.Results.{◌>>=◌, check}
 use Rattle.rr_cluster.specs.Command.{Command, save}
 use Rattle.rr_cluster.specs.Model.{Model}
 use Rattle.rr_cluster.specs.State.{Node, Snapshot, State}
@@ -24,7 +24,7 @@ module _ {K : Type 0} (model : Model K) where
   -- a snapshot of a name that is used takes the place of the one before
   unfoldable pub after_save : State K → List ℕ → List ℕ → Result (State K) CommandFault
   after_save m name node = do
-    named ← checked (is_name name) BadName
+    named ← check (is_name name) BadName
     n ← ok_or (get m.nodes node) NoNode
-    few ← checked (nat_le (length (entries (model.cells n.schema n.contents))) MAX_SNAPSHOT_CELLS) (Save TooManyCells)
+    few ← check (nat_le (length (entries (model.cells n.schema n.contents))) MAX_SNAPSHOT_CELLS) (Save TooManyCells)
     Ok (record m { snapshots = insert m.snapshots name (snapshot_of n) })

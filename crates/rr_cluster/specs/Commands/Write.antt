@@ -14,7 +14,7 @@ use Rattle.rr_replica.specs.declared.fault.WriteFault.TheVariants.{AheadOfClock,
 use Rattle.rr_replica.specs.Writing.{is_ahead}
 use Rattle.rr_cluster.specs.declared.fault.CommandFault.{CommandFault}
 use Rattle.rr_cluster.specs.declared.fault.CommandFault.TheVariants.{NoNode, Line, Write}
-use Rattle.rr_text.specs.Results.{◌>>=◌, checked}
+use Rattle.rr_text.specs.Results.{◌>>=◌, check}
 use Rattle.rr_cluster.specs.Command.{Command, write}
 use Rattle.rr_cluster.specs.Model.{Model}
 use Rattle.rr_cluster.specs.State.{Node, State}
@@ -55,8 +55,8 @@ module _ {K : Type 0} where
   -- fields too few numbers are left
   abbrev pub samples_of_point : Node K → ℤ → Option ℕ → PointView → Result (List Sample) CommandFault
   samples_of_point n clock lead p = do
-    timely ← checked (not (is_ahead p.time clock lead)) (Write AheadOfClock)
-    enough ← checked (not (nat_lt (MAX_NUMBER + 1 - n.next) (length p.fields))) (Write NumbersSpent)
+    timely ← check (not (is_ahead p.time clock lead)) (Write AheadOfClock)
+    enough ← check (not (nat_lt (MAX_NUMBER + 1 - n.next) (length p.fields))) (Write NumbersSpent)
     Ok (samples_at n clock p)
 
   -- the samples that a node writes of what a line says: none of a line that says nothing

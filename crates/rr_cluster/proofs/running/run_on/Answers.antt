@@ -4,7 +4,7 @@ use Rattle.std.proofs.Math.Seq.{drop-length}
 use Rattle.rr_cluster.specs.declared.event.Event.TheVariants as event
 use Rattle.rr_cluster.specs.declared.event.ScriptLine.{ScriptLine}
 use Rattle.rr_cluster.specs.Model.{cell_model}
-use Rattle.rr_cluster.specs.Output.{obeyed, output_from}
+use Rattle.rr_cluster.specs.Output.{after_line, output_from}
 use Rattle.rr_cluster.specs.Script.{line_view, said_view}
 use Rattle.rr_cluster.proofs.AgreementLemmas.{scripts_agree}
 use Rattle.rr_cluster.proofs.ScriptLemmas.{line_says_one_line}
@@ -33,7 +33,7 @@ loop-line-preserved g c =
     let before = c.loop-line.invariant in
     let m = before.0 in
     let line = get_or lines i any in
-    let done = obeyed cell_model m line.number (said_view line.said) in
+    let done = after_line cell_model m line.number (said_view line.said) in
     let printed = c.in_ok-obey_line.ensures m before.1 in
     let rest = output_from cell_model done.0 (map line_view (drop (i + 1) lines)) in
     let more = at_drop_more (λ (ls : List ScriptLine). output_from cell_model m (map line_view ls)) lines i any c.loop-line-test.true in

@@ -5,7 +5,7 @@ use Rattle.rr_base.specs.Schema.{span}
 use Rattle.rr_model.specs.FetchText.{record_text}
 use Rattle.rr_cells.specs.Cells.{row_at, rows_at}
 use Rattle.rr_fetch.specs.Answers.{value_of_cells}
-use Rattle.rr_fetch.specs.Consolidation.{consolidated, IsRow}
+use Rattle.rr_fetch.specs.Consolidation.{consolidation_of, IsRow}
 use Rattle.rr_fetch.specs.Requests.{request_view}
 use Rattle.rr_replica.specs.Standing.{held}
 use Rattle.rr_fetch.proofs.AnswerLemmas.{answer_none, answer_more}
@@ -34,9 +34,9 @@ loop-row-preserved g c =
     let start : c.start_of-start.result ≡ (q.first +ℤ pos row) *ℤ pos (span h.schema q.archive) = search rules in
     let back_slot = to_z-of_z {w = w64} {z = c.slot_of-slot.result} (search rules) in
     let entries : c.entries_at-entries.result.now ≡ row_at h.cells q.key q.archive c.slot_of-slot.result = rw back_slot at (c.entries_at-entries.ensures (rows_at h.cells q.key q.archive) c.archive-archive.ensures) in
-    let here : c.consolidate-value.result ≡ consolidated h.schema q.archive q.function c.entries_at-entries.result.now = search rules in
+    let here : c.consolidate-value.result ≡ consolidation_of h.schema q.archive q.function c.entries_at-entries.result.now = search rules in
     let value : c.consolidate-value.result ≡ value_of (q.first +ℤ pos row) =
-    here ∙ ap (consolidated h.schema q.archive q.function) (entries ∙ ap (row_at h.cells q.key q.archive) at) in
+    here ∙ ap (consolidation_of h.schema q.archive q.function) (entries ∙ ap (row_at h.cells q.key q.archive) at) in
     let back = to_z-of_z {w = w64} {z = c.start_of-start.result} (search rules) in
     let pushed = rw (c.text.ensures.value, back) at c.in_ok-push_row.ensures in
     rw (answer_more h.schema value_of q row, ← start, ← value) (pushed ∙ ap (λ (text : List ℕ). text ++ record_text q.key (c.start_of-start.result, c.consolidate-value.result)) c.loop-row.invariant)

@@ -8,8 +8,8 @@ use Rattle.rr_node.proofs.FetchesLemmas.{on_either, on_err, on_ok_both, seen_mor
 use Rattle.rr_node.proofs.ServingLemmas.{all_answered, front_of_some, front_so_far, none_answered, of_all_taken, of_each, seen_in_some, seen_in_written, seen_so_far, so_far_answered, so_far_first, so_far_pushed, so_far_same, some_answered}
 use Rattle.rr_node.proofs.reader.answer_lines.Goals as goal
 
-pub returns-in_err-push-clause-some : goal.returns-in_err-push-clause-some
-returns-in_err-push-clause-some g c =
+pub returns-in_err-push-clause-part_written : goal.returns-in_err-push-clause-part_written
+returns-in_err-push-clause-part_written g c =
     on_err c.from_residual.result _ (of_each (g.R.Read.remaining (inner_of c.args.input.now)) _
     (λ rest. none_answered (c.args.first ∷ rest) (sight c.args.reader.now (g.G.Gate.last c.args.gate.now)) _))
 
@@ -24,16 +24,16 @@ loop-init g c =
       out_count = omega arith;
     }
 
-pub returns-in_err-answer_items-clause-some : goal.returns-in_err-answer_items-clause-some
-returns-in_err-answer_items-clause-some g c =
-    on_err _ _ (front_of_some c.args.first _ _ _ _ _ _ _ _ _ _ c.loop.invariant.so_far c.loop.invariant.going c.in_err-answer_items.ensures.some)
+pub returns-in_err-answer_items-clause-part_written : goal.returns-in_err-answer_items-clause-part_written
+returns-in_err-answer_items-clause-part_written g c =
+    on_err _ _ (front_of_some c.args.first _ _ _ _ _ _ _ _ _ _ c.loop.invariant.so_far c.loop.invariant.going c.in_err-answer_items.ensures.part_written)
 
 pub returns-in_err-answer_items-clause-seen : goal.returns-in_err-answer_items-clause-seen
 returns-in_err-answer_items-clause-seen g c =
-    seen_more _ _ _ (seen_so_far c.args.first _ _ _ _ _ _ _ c.loop.invariant.so_far) (seen_in_some _ _ _ _ _ _ c.in_err-answer_items.ensures.some)
+    seen_more _ _ _ (seen_so_far c.args.first _ _ _ _ _ _ _ c.loop.invariant.so_far) (seen_in_some _ _ _ _ _ _ c.in_err-answer_items.ensures.part_written)
 
-pub returns-in_err-given-clause-some : goal.returns-in_err-given-clause-some
-returns-in_err-given-clause-some g c =
+pub returns-in_err-given-clause-part_written : goal.returns-in_err-given-clause-part_written
+returns-in_err-given-clause-part_written g c =
     let now = so_far_answered c.args.first _ _ _ _ _ _ _ _ _ _ c.loop.invariant.so_far c.in_ok-answer_items.ensures.answered in
     on_err _ _ (front_so_far c.args.first _ _ _ _ _ _ _ _ now (c.in_ok-answer_items.ensures.answered.handed.ended ∙ c.loop.invariant.going) (seen_same _))
 
@@ -66,10 +66,10 @@ returns-then-given-eq0-clause-answered g c =
     on_ok_both last.result _ _ _ (λ more nothing.
     of_all_taken _ _ _ now.taken c.read_once.new.buf c.in-Some.given (λ rest. HasAnswered (c.args.first ∷ rest) old new before after)
     now.consumed read.1 c.if-given-eq0.true (read.2 c.if-given-eq0.true (search rules))
-    (all_answered c.args.first _ _ _ _ _ _ _ _ _ _ _ now c.end.ensures more nothing)) last.ensures.answered last.ensures.all
+    (all_answered c.args.first _ _ _ _ _ _ _ _ _ _ _ now c.end.ensures more nothing)) last.ensures.answered last.ensures.all_taken
 
-pub returns-then-given-eq0-clause-some : goal.returns-then-given-eq0-clause-some
-returns-then-given-eq0-clause-some g c =
+pub returns-then-given-eq0-clause-part_written : goal.returns-then-given-eq0-clause-part_written
+returns-then-given-eq0-clause-part_written g c =
     let last = c.answer_items-then-given-eq0 in
     let old = sight c.args.reader.now (g.G.Gate.last c.args.gate.now) in
     let before = g.W.Write.contents (inner_of c.args.output.now) in
@@ -79,15 +79,15 @@ returns-then-given-eq0-clause-some g c =
     on_err_weaker last.result (λ some.
     of_all_taken _ _ _ now.taken c.read_once.new.buf c.in-Some.given (λ rest. HasAnsweredSome (c.args.first ∷ rest) old last.new.reader before after)
     now.consumed read.1 c.if-given-eq0.true (read.2 c.if-given-eq0.true (search rules))
-    (some_answered c.args.first _ _ _ _ _ _ _ _ _ _ _ now c.end.ensures some)) last.ensures.some
+    (some_answered c.args.first _ _ _ _ _ _ _ _ _ _ _ now c.end.ensures some)) last.ensures.part_written
 
 pub returns-then-given-eq0-clause-seen : goal.returns-then-given-eq0-clause-seen
 returns-then-given-eq0-clause-seen g c =
     seen_more _ _ _ (seen_so_far c.args.first _ _ _ _ _ _ _ (so_far_answered c.args.first _ _ _ _ _ _ _ _ _ _ c.loop.invariant.so_far c.in_ok-answer_items.ensures.answered))
-    (on_either c.answer_items-then-given-eq0.result _ _ _ (seen_in_written _ _ _ _ _ _) (seen_in_some _ _ _ _ _ _) c.answer_items-then-given-eq0.ensures.answered c.answer_items-then-given-eq0.ensures.some)
+    (on_either c.answer_items-then-given-eq0.result _ _ _ (seen_in_written _ _ _ _ _ _) (seen_in_some _ _ _ _ _ _) c.answer_items-then-given-eq0.ensures.answered c.answer_items-then-given-eq0.ensures.part_written)
 
-pub returns-in_err-push-2-clause-some : goal.returns-in_err-push-2-clause-some
-returns-in_err-push-2-clause-some g c =
+pub returns-in_err-push-2-clause-part_written : goal.returns-in_err-push-2-clause-part_written
+returns-in_err-push-2-clause-part_written g c =
     let now = so_far_answered c.args.first _ _ _ _ _ _ _ _ _ _ c.loop.invariant.so_far c.in_ok-answer_items.ensures.answered in
     on_err _ _ (front_so_far c.args.first _ _ _ _ _ _ _ _ now (c.in_ok-answer_items.ensures.answered.handed.ended ∙ c.loop.invariant.going) (seen_same _))
 
@@ -109,8 +109,8 @@ loop-preserved g c =
       out_count = omega (arith, c.loop.invariant.out_count, c.in_ok-answer_items.ensures.count);
     }
 
-pub returns-clause-some : goal.returns-clause-some
-returns-clause-some g c = front_so_far c.args.first _ _ _ _ _ _ _ _ c.loop.invariant.so_far c.loop.invariant.going (seen_same _)
+pub returns-clause-part_written : goal.returns-clause-part_written
+returns-clause-part_written g c = front_so_far c.args.first _ _ _ _ _ _ _ _ c.loop.invariant.so_far c.loop.invariant.going (seen_same _)
 
 pub returns-clause-seen : goal.returns-clause-seen
 returns-clause-seen g c = seen_so_far c.args.first _ _ _ _ _ _ _ c.loop.invariant.so_far

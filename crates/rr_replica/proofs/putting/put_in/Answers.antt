@@ -1,7 +1,7 @@
 use Rattle.std.proofs.Common.{rules, ◌≡◌, true, set, Some, None, sym, arith}
 use Rattle.std.proofs.lemmas.Result.{on_ok_weaker, on_err_weaker}
 use Rattle.rr_cells.specs.declared.op.Op.TheVariants.{Put}
-use Rattle.rr_replica.specs.Held.{keyed, keyed_sample}
+use Rattle.rr_replica.specs.Held.{sample_of_reading, keyed_sample}
 use Rattle.rr_series.specs.Indexed.{index_of, entries_at}
 use Rattle.rr_series.specs.SeriesMap.{entries_of}
 use Rattle.rr_series.proofs.IndexedLemmas.{index_within, element_found, archives_nowhere, entries_ordered, sets_at, still_indexed}
@@ -72,7 +72,7 @@ returns-in-Some g c =
       unchanged = on_err_weaker c.put_into.result (cells_without cells limit schema c.args.key.now c.args.sample old c.requires.held c.args.sample.number_at_most new now sets ordered was.items before step.of_schema.sized) step.unchanged;
       held = on_err_weaker c.put_into.result (kept_without cells limit schema c.args.key.now c.args.sample old c.requires.held c.args.sample.number_at_most new now sets ordered was.items before step.of_schema.sized) step.unchanged;
       indexed = still;
-      room = λ h. step.room (room_found g.A.Archive.is_ready schema (Put (keyed c.args.key.now c.args.sample)) old was found h);
+      room = λ h. step.room (room_found g.A.Archive.is_ready schema (Put (sample_of_reading c.args.key.now c.args.sample)) old was found h);
     }
 
 pub returns-in_ok-insert-in-None : goal.returns-in_ok-insert-in-None
@@ -109,18 +109,18 @@ returns-in_err-archives-in-None-clause-room g c = λ h.
     let m = c.args.series.now in
     let unknown : None ≡ index_of m.indices.entries c.args.key.now = c.in-None.ensures in
     let none = sym (archives_nowhere m.keys.items m.indices.entries m.archives.items c.requires.indexed c.args.key.now unknown) in
-    absurd (room_nowhere g.A.Archive.is_ready c.args.schema.now (Put (keyed c.args.key.now c.args.sample)) (entries_of m) none h)
+    absurd (room_nowhere g.A.Archive.is_ready c.args.schema.now (Put (sample_of_reading c.args.key.now c.args.sample)) (entries_of m) none h)
 
 pub returns-in_err-put_into-in-None-clause-room : goal.returns-in_err-put_into-in-None-clause-room
 returns-in_err-put_into-in-None-clause-room g c = λ h.
     let m = c.args.series.now in
     let unknown : None ≡ index_of m.indices.entries c.args.key.now = c.in-None.ensures in
     let none = sym (archives_nowhere m.keys.items m.indices.entries m.archives.items c.requires.indexed c.args.key.now unknown) in
-    absurd (room_nowhere g.A.Archive.is_ready c.args.schema.now (Put (keyed c.args.key.now c.args.sample)) (entries_of m) none h)
+    absurd (room_nowhere g.A.Archive.is_ready c.args.schema.now (Put (sample_of_reading c.args.key.now c.args.sample)) (entries_of m) none h)
 
 pub returns-in_err-insert-in-None-clause-room : goal.returns-in_err-insert-in-None-clause-room
 returns-in_err-insert-in-None-clause-room g c = λ h.
     let m = c.args.series.now in
     let unknown : None ≡ index_of m.indices.entries c.args.key.now = c.in-None.ensures in
     let none = sym (archives_nowhere m.keys.items m.indices.entries m.archives.items c.requires.indexed c.args.key.now unknown) in
-    absurd (room_nowhere g.A.Archive.is_ready c.args.schema.now (Put (keyed c.args.key.now c.args.sample)) (entries_of m) none h)
+    absurd (room_nowhere g.A.Archive.is_ready c.args.schema.now (Put (sample_of_reading c.args.key.now c.args.sample)) (entries_of m) none h)

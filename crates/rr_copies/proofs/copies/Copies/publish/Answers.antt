@@ -7,7 +7,7 @@ use Rattle.rr_copies.specs.declared.rule.View.{View}
 use Rattle.rr_copies.specs.declared.shown.Shown.{Shown}
 use Rattle.rr_copies.specs.Changes.{mark_in, ops_in}
 use Rattle.rr_copies.specs.Editions.{Sighting, flat, Begins}
-use Rattle.rr_copies.specs.Rule.{extended}
+use Rattle.rr_copies.specs.Rule.{with_published}
 use Rattle.rr_copies.specs.Standing.{IsKeeper, IsReady}
 use Rattle.rr_copies.specs.Writers.{changes}
 use Rattle.rr_copies.proofs.StandingLemmas.{keeper-marked, keeper-published, keeper-same, keeper-unmarked}
@@ -44,7 +44,7 @@ invariant_of-self-2 g c =
     let n = c.replace_with.new.dest in
     let b = c.mark.new.book in
     let desk = sym {a = w.desk} c.mark.ensures.same_copy in
-    let h : (view n.desk.place ≡ extended (view w.desk.place) (ops_in (changes w))) × (changes n ≡ []) × (held n.desk.shown.value.replica ≡ fold step (held w.desk.shown.value.replica) (ops_in (changes w))) × (n.desk.shown.value.front ≡ mark_in w.desk.shown.value.front (changes w)) = search rules in
+    let h : (view n.desk.place ≡ with_published (view w.desk.place) (ops_in (changes w))) × (changes n ≡ []) × (held n.desk.shown.value.replica ≡ fold step (held w.desk.shown.value.replica) (ops_in (changes w))) × (n.desk.shown.value.front ≡ mark_in w.desk.shown.value.front (changes w)) = search rules in
     let ready : IsReady (view w.desk.place) (held w.desk.shown.value.replica) w.desk.shown.value.front (changes w) = search rules in
     let was : IsKeeper (view w.desk.place) (held w.desk.shown.value.replica) (held c.self.inside.own) w.desk.shown.value.front c.self.inside.book (changes o) c.self.inside.marked × Begins (flat b.editions) ((view w.desk.place).seen ++ ops_in (changes o)) =
     subst (λ (z : View × Holding × Sighting). IsKeeper z.0 z.1 (held c.self.inside.own) z.2 c.self.inside.book (changes o) c.self.inside.marked × Begins (flat b.editions) (z.0.seen ++ ops_in (changes o)))

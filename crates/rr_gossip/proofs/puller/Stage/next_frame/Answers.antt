@@ -9,8 +9,8 @@ pub frame_bytes-requires : goal.frame_bytes-requires
 frame_bytes-requires g c =
     subst (λ l. length l < MAX_FRAME_LEN) (sym (c.deref.ensures.value ∙ c.in_ok-own-in-Opening.ensures ∙ ap schema_bytes c.schema.ensures.value)) (schema_fits (g.T.Target.layout c.args.target.now) c.schema.ensures.within)
 
-pub listed-requires-clause-few : goal.listed-requires-clause-few
-listed-requires-clause-few g c = few_listed c.in_ok-names-in-Listing.names.items MAX_ENTRIES _ c.in_ok-names-in-Listing.ensures.listed
+pub listed-requires-clause-names_fit : goal.listed-requires-clause-names_fit
+listed-requires-clause-names_fit g c = few_listed c.in_ok-names-in-Listing.names.items MAX_ENTRIES _ c.in_ok-names-in-Listing.ensures.listed
 
 pub listed-requires-clause-fits : goal.listed-requires-clause-fits
 listed-requires-clause-fits g c =

@@ -49,7 +49,7 @@ returns-in_err-send_report-clause-stopped g c =
       served.2,
       λ start pushed said text first has appends.
           let last = HasServed-end c.args.self.now _ start c.args.keeper.now pushed text said c.end.ensures (record { lines = refl; report = refl; rules = refl }) has in
-          let done : IsDone new start c.answer_lines.new.keeper pushed (said ++ served.0) (text ++ served.1) = record { has = served.4.served start pushed said text last; nothing = c.in_ok-answer_lines.ensures.all; ended = ended } in
+          let done : IsDone new start c.answer_lines.new.keeper pushed (said ++ served.0) (text ++ served.1) = record { has = served.4.served start pushed said text last; nothing = c.in_ok-answer_lines.ensures.all_taken; ended = ended } in
           stops_of new.rules c.args.self.now.rules start c.publish.new.self (λ bytes. bytes ≡ pushed) (λ bytes. bytes ≡ pushed) (said ++ served.0) first _ served.4.rules (λ bytes e. e)
           (stops_reporting new start c.answer_lines.new.keeper c.publish.new.self pushed (text ++ served.1) (said ++ served.0) first _ _ done c.in_ok-publish.ensures.published (Appends-trans _ _ _ text served.1 appends served.3) c.in_err-send_report.ensures.front),
     )
@@ -63,7 +63,7 @@ returns-clause-served g c =
       served.2,
       λ start pushed said text first has appends.
           let last = HasServed-end c.args.self.now _ start c.args.keeper.now pushed text said c.end.ensures (record { lines = refl; report = refl; rules = refl }) has in
-          let done : IsDone new start c.answer_lines.new.keeper pushed (said ++ served.0) (text ++ served.1) = record { has = served.4.served start pushed said text last; nothing = c.in_ok-answer_lines.ensures.all; ended = ended } in
+          let done : IsDone new start c.answer_lines.new.keeper pushed (said ++ served.0) (text ++ served.1) = record { has = served.4.served start pushed said text last; nothing = c.in_ok-answer_lines.ensures.all_taken; ended = ended } in
           subst (λ (r : Rules). IsWhole r start c.publish.new.self new.report pushed (said ++ served.0) first (g.W.Write.contents (inner_of c.send_report.new.output))) served.4.rules
           (whole_of new start c.answer_lines.new.keeper c.publish.new.self pushed (text ++ served.1) (said ++ served.0) new.report first _ _ done c.in_ok-publish.ensures.published refl (Appends-trans _ _ _ text served.1 appends served.3) c.in_ok-send_report.ensures.whole),
     )

@@ -89,7 +89,7 @@ returns-clause-served g c =
     let so_far = c.loop-item.invariant in
     (so_far.0, so_far.1, so_far.2, so_far.3, Serves-none c.args.self.now c.loop-item.self _ c.args.keeper.now c.loop-item.keeper so_far.0 so_far.1 hands (record { lines = refl; report = refl; rules = refl }) refl so_far.4)
 
-pub returns-clause-all : goal.returns-clause-all
-returns-clause-all g c =
+pub returns-clause-all_taken : goal.returns-clause-all_taken
+returns-clause-all_taken g c =
     let hands : HandsOut c.loop-item.self.feed None c.next_line.follows.lender-at-none = rw c.in_default.is at c.next_line.follows.holds-at-none in
     sym (items_left-handed None _ _ hands) ∙ hands.none refl

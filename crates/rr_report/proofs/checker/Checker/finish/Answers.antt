@@ -23,14 +23,14 @@ returns-clause-reported g c = λ pushed before start has appends.
     let last = HasReported-end c.args.self.now _ pushed before c.end.ensures (record { lines = refl; refused = refl; precision = refl; now = refl }) has in
     let all = c.in_ok-write_items.ensures.reported in
     let ended = all.1.ended ∙ ap (λ (s : FeedState). s.ended) c.end.ensures in
-    Appends-kept start _ _ _ (report_of_all _ _ pushed before all.0 start _ _ all.1 c.in_ok-write_items.ensures.all ended last appends all.2) c.in_ok-flush.ensures.bytes
+    Appends-kept start _ _ _ (report_of_all _ _ pushed before all.0 start _ _ all.1 c.in_ok-write_items.ensures.all_taken ended last appends all.2) c.in_ok-flush.ensures.bytes
 
 pub returns-clause-refused : goal.returns-clause-refused
 returns-clause-refused g c = λ pushed before has.
     let last = HasReported-end c.args.self.now _ pushed before c.end.ensures (record { lines = refl; refused = refl; precision = refl; now = refl }) has in
     let all = c.in_ok-write_items.ensures.reported in
     let ended = all.1.ended ∙ ap (λ (s : FeedState). s.ended) c.end.ensures in
-    rw all.1.precision at (HasReported-all c.write_items.new.self pushed _ c.in_ok-write_items.ensures.all ended (all.1.reported pushed before last)).1
+    rw all.1.precision at (HasReported-all c.write_items.new.self pushed _ c.in_ok-write_items.ensures.all_taken ended (all.1.reported pushed before last)).1
 
 pub returns-clause-front : goal.returns-clause-front
 returns-clause-front g c = λ pushed before start has appends.

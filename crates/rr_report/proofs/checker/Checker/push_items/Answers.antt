@@ -24,7 +24,7 @@ loop-item-preserved c =
       Reports-item c.args.self.now old _ so_far.0 item (record { hands = hands; lines = refl; refused = ap (λ (n : ℕ). old.refused + n) byte; precision = refl; now = refl; pieces = refl }) so_far.2,
     )
 
-pub returns-clause-all : goal.returns-clause-all
-returns-clause-all c =
+pub returns-clause-all_taken : goal.returns-clause-all_taken
+returns-clause-all_taken c =
     let hands : HandsOut c.loop-item.self.feed None c.next_line.follows.lender-at-none = rw c.in_default.is at c.next_line.follows.holds-at-none in
     sym (items_left-handed None _ _ hands) ∙ hands.none refl
