@@ -9,7 +9,7 @@ ghost use Rattle.rr_cells.specs.Listing.{owned_cell};
 
 use crate::fault::PageFault;
 use crate::heading::head_of;
-use crate::reading::cell_of;
+use crate::reading::read_cell_in;
 use crate::version::Version;
 use rr_base::Schema;
 use rr_cells::Cell;
@@ -54,7 +54,7 @@ fn cells_of<'a>(
     let mut cells = Vec::new(alloc);
     let mut rest = bytes;
     for _ in 0..count {
-        let (cell, after) = cell_of(alloc, rest, schema, version)?;
+        let (cell, after) = read_cell_in(alloc, rest, schema, version)?;
         if !is_next(&cells, &cell) {
             return Err(PageFault::OutOfOrder);
         }

@@ -87,10 +87,10 @@ fn contribution_of(bytes: &[u8], format: Version) -> Result<(Contribution, &[u8]
     Ok((contribution, rest))
 }
 
-/// The cell at the front of the bytes, in a version, and what follows it, for those who read cells
-/// one after the other. Refusals and the cost are those of [`read_cell`].
+/// The cell at the front of the bytes, in a version, one of the schema's and valid there, and what
+/// follows it. Refusals and the cost are those of [`read_cell`].
 #[tactic(auto, unfolding(crate::specs::Reading::cell_at))]
-pub fn cell_of<'a>(
+pub fn read_cell_in<'a>(
     alloc: Global,
     bytes: &'a [u8],
     schema: &Schema,
@@ -123,23 +123,6 @@ pub fn cell_of<'a>(
     Ok((cell, rest))
 }
 
-/// The cell at the front of the bytes, in a version, one of the schema's and valid there, and what
-/// follows it. Refusals and the cost are those of [`read_cell`].
-pub fn read_cell_in<'a>(
-    alloc: Global,
-    bytes: &'a [u8],
-    schema: &Schema,
-    version: Version,
-) -> Result<(Cell, &'a [u8]), PageFault>
-    ensures read { GivesUnless PageFault.Memory (λ x. (owned_cell x.0, x.1.now)) result
-        (cell_at version schema.now bytes.now) }
-    ensures memory { NeedsMemoryAfter PageFault.Memory (key_at bytes.now) result }
-    ensures cell { IfOk result (λ x. IsCellOf schema.now (owned_cell x.0)) }
-{
-    let (cell, rest) = cell_of(alloc, bytes, schema, version)?;
-    Ok((cell, rest))
-}
-
 /// The cell at the front of the bytes, in the latest version, one of the schema's and valid there,
 /// and how many bytes it takes. Bytes may follow it.
 ///
@@ -156,7 +139,7 @@ pub fn read_cell(alloc: Global, bytes: &[u8], schema: &Schema) -> Result<(Cell, 
     ensures len { IfOk result (λ x. x.1 ≡ length (cell_text latest (owned_cell x.0))) }
     ensures cell { IfOk result (λ x. IsCellOf schema.now (owned_cell x.0)) }
 {
-    let (cell, rest) = cell_of(alloc, bytes, schema, LATEST)?;
+    let (cell, rest) = read_cell_in(alloc, bytes, schema, LATEST)?;
     let len = bytes.len() - rest.len();
     Ok((cell, len))
 }
