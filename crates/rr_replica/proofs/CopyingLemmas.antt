@@ -9,14 +9,13 @@ use Rattle.rr_base.specs.Schema.{Layout}
 use Rattle.rr_archive.specs.Cells.{Rows}
 use Rattle.rr_replica.specs.Archives.{AreSized}
 use Rattle.rr_cells.specs.Holding.{IsHolding}
-use Rattle.rr_series.specs.Indexed.{archives_of, items_of, index_of, entries_at, IsIndexed}
-use Rattle.rr_replica.specs.Held.{seen_archive, seen_at, held_series, AreAllSized, IsHeld}
+use Rattle.rr_replica.specs.Held.{archives_of, seen_archive, seen_at, held_series, AreAllSized, IsHeld}
 use Rattle.rr_replica.specs.Series.{cells_of}
 use Rattle.rr_cells.proofs.Local.{same_cells}
-use Rattle.rr_replica.proofs.Shown.{rows_shown, held_at}
+use Rattle.rr_replica.proofs.Shown.{rows_shown, items_of, held_at}
+use Rattle.rr_replica.specs.Indexed.{index_of, entries_at, IsIndexed}
 use Rattle.rr_replica.proofs.Each.{slice_get-map}
-use Rattle.rr_series.proofs.IndexedLemmas.{key_at, archives_found, archives_nowhere}
-use Rattle.rr_series.proofs.Lists.{slice_get-take}
+use Rattle.rr_replica.proofs.IndexedLemmas.{key_at, archives_found, archives_nowhere, slice_get-take}
 
 pub take_none : {Y : Type 0} (xs : List Y) → take 0 xs ≡ []
 take_none [] = refl

@@ -17,12 +17,11 @@ use Rattle.rr_text.specs.declared.limits.TheConstants.{MAX_ARCHIVES}
 use Rattle.rr_base.specs.Schema.{Layout}
 use Rattle.rr_text.specs.Bytes.{bytes_cmp}
 use Rattle.rr_replica.specs.Series.{Series, cells_from, all_cells, cells_of}
-use Rattle.rr_series.specs.Indexed.{archives_of}
-use Rattle.rr_replica.specs.Held.{held_series, IsHeld}
+use Rattle.rr_replica.specs.Held.{held_series, archives_of, IsHeld}
 use Rattle.rr_cells.specs.Listing.{count_of, at_most_usize}
 use Rattle.rr_replica.proofs.InOrder.{named_as, entries-cells_of}
 use Rattle.rr_replica.proofs.Shown.{keys_shown}
-use Rattle.rr_series.proofs.Lists.{bytes_cmp-IsAntisymmetric, get_append, get_first}
+use Rattle.rr_replica.proofs.SeriesLemmas.{bytes_cmp-IsAntisymmetric}
 use Rattle.rr_join.proofs.Members.{same_from_tie, tie_itself}
 use Rattle.std.specs.List.{AllByRecursion}
 use Rattle.std.specs.Ordering.{is_eq}
@@ -69,6 +68,21 @@ take_all (x ∷ xs) zero h = absurd (omega arith)
 take_all (x ∷ xs) (suc i) h = ap (λ l. x ∷ l) (take_all xs i (omega arith))
 
 -- ---- the cell with a number
+
+pub get_append : {X : Type 0} (xs ys : List X) (i : ℕ) → slice_get (xs ++ ys) (length xs + i) ≡ slice_get ys i
+get_append [] ys i = ap (slice_get ys) (from_zero i)
+  where
+    from_zero : (n : ℕ) → 0 + n ≡ n
+    from_zero n = omega arith
+get_append (x ∷ xs) ys i = ap (slice_get (x ∷ (xs ++ ys))) (later (length xs) i) ∙ get_append xs ys i
+  where
+    later : (m n : ℕ) → suc m + n ≡ suc (m + n)
+    later m n = omega arith
+
+pub get_first : {X : Type 0} (xs ys : List X) (i : ℕ) (x : X) → slice_get xs i ≡ Some x → slice_get (xs ++ ys) i ≡ Some x
+get_first [] ys i x e = absurd (true≢false (sym (ap is_some e)))
+get_first (y ∷ xs) ys zero x e = e
+get_first (y ∷ xs) ys (suc i) x e = get_first xs ys i x e
 
 get_named : (key : List ℕ) (archive : ℕ) (es : List (CellSlot × Contribution)) (i : ℕ) (e : CellSlot × Contribution) → slice_get es i ≡ Some e → slice_get (named_as key archive es) i ≡ Some (name_at key archive e.0, e.1)
 get_named key archive [] i e h = absurd (true≢false (sym (ap is_some h)))

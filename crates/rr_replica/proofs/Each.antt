@@ -5,7 +5,7 @@ use Rattle.std.specs.Option.{option_map}
 use Rattle.std.specs.FinMap.{get}
 use Rattle.std.proofs.lemmas.Bool.{cases_lt}
 use Rattle.std.proofs.lemmas.Bool.Decides.{eqb_tells}
-use Rattle.std.proofs.lemmas.Option.{slice_get_within, get_or_from_slice_get}
+use Rattle.std.proofs.lemmas.Option.{slice_get_within, slice_get-get_or, get_or_from_slice_get}
 use Rattle.rr_base.specs.declared.archive.ArchiveSpec.{ArchiveSpec}
 use Rattle.rr_base.specs.Schema.{Layout, archive_at, slot_of}
 use Rattle.rr_contrib.specs.Validity.{CanAdd}
@@ -13,13 +13,39 @@ use Rattle.rr_archive.specs.CellSlots.{CellSlot, cell_slot}
 use Rattle.rr_archive.specs.Cells.{Rows, put_row}
 use Rattle.rr_replica.specs.declared.reading.Reading.{Reading}
 use Rattle.rr_replica.specs.Archives.{cell_slot_for, sample_for, Each, AreSized, AreReadyFrom, CanTake, AreSame, HavePut}
-use Rattle.rr_series.proofs.Lists.{slice_get-set_same, slice_get-set_other, length-set, there}
+
+-- within a list there is something
+pub reached : {X : Type 0} (xs : List X) (j : ℕ) → j < length xs → (x : X) × (slice_get xs j ≡ Some x)
+reached [] j h = absurd (omega arith)
+reached (x ∷ xs) zero h = (x, refl)
+reached (x ∷ xs) (suc j) h = reached xs j (omega arith)
+
+-- what is read at a place, as the list has it
+pub found_at : {X : Type 0} (xs : List X) (i : ℕ) (d : X) → i < length xs → d ≡ get_or xs i d → slice_get xs i ≡ Some d
+found_at xs i d within is = slice_get-get_or xs i d within ∙ ap (λ x. Some x) (sym is)
 
 pub on_err_from : {T E P : Type 0} (r : Result T E) → P → OnErr r P
 on_err_from (Ok x) h = tt
 on_err_from (Err e) h = h
 
 -- ---- lists
+
+pub slice_get-set_same : {X : Type 0} (xs : List X) (i : ℕ) (v : X) → i < length xs → slice_get (set xs i v) i ≡ Some v
+slice_get-set_same [] i v h = absurd (omega arith)
+slice_get-set_same (x ∷ xs) zero v h = refl
+slice_get-set_same (x ∷ xs) (suc i) v h = slice_get-set_same xs i v (omega arith)
+
+pub slice_get-set_other : {X : Type 0} (xs : List X) (i j : ℕ) (v : X) → j ≢ i → slice_get (set xs i v) j ≡ slice_get xs j
+slice_get-set_other [] i j v h = refl
+slice_get-set_other (x ∷ xs) zero zero v h = absurd (h refl)
+slice_get-set_other (x ∷ xs) zero (suc j) v h = refl
+slice_get-set_other (x ∷ xs) (suc i) zero v h = refl
+slice_get-set_other (x ∷ xs) (suc i) (suc j) v h = slice_get-set_other xs i j v (λ e. h (ap suc e))
+
+pub length-set : {X : Type 0} (xs : List X) (i : ℕ) (v : X) → length (set xs i v) ≡ length xs
+length-set [] i v = refl
+length-set (x ∷ xs) zero v = refl
+length-set (x ∷ xs) (suc i) v = ap suc (length-set xs i v)
 
 pub map-set_same : {X Y : Type 0} (f : X → Y) (xs : List X) (i : ℕ) (a v : X) → slice_get xs i ≡ Some a → f v ≡ f a → map f (set xs i v) ≡ map f xs
 map-set_same f [] i a v at same = refl
@@ -168,7 +194,7 @@ module _ {X : Type 0} (cells : X → Rows) (limit : X → ℕ) (s : Layout) (x :
   put_after_same old mid new same h = record {
     many = h.many ∙ same.many;
     each = λ j a b was here.
-        let m = there mid j (let within = slice_get_within new j b here in let many = h.many in omega arith) in
+        let m = reached mid j (let within = slice_get_within new j b here in let many = h.many in omega arith) in
         h.each j m.0 b m.1 here ∙ ap (λ r. put_row (archive_at s j).rows r (cell_slot_for s x j) (sample_for s x j)) (same.each j a m.0 was m.1);
   }
 
@@ -176,13 +202,13 @@ module _ {X : Type 0} (cells : X → Rows) (limit : X → ℕ) (s : Layout) (x :
   same_after_same old mid new same h = record {
     many = h.many ∙ same.many;
     each = λ j a b was here.
-        let m = there mid j (let within = slice_get_within new j b here in let many = h.many in omega arith) in
+        let m = reached mid j (let within = slice_get_within new j b here in let many = h.many in omega arith) in
         h.each j m.0 b m.1 here ∙ same.each j a m.0 was m.1;
   }
 
   pub can_take_same : (old mid : List X) → AreSame cells old mid → CanTake cells s x old → CanTake cells s x mid
   can_take_same old mid same can = λ j b here.
-      let a = there old j (let within = slice_get_within mid j b here in let many = same.many in omega arith) in
+      let a = reached old j (let within = slice_get_within mid j b here in let many = same.many in omega arith) in
       subst (λ r. IfSome (get r (cell_slot_for s x j)) (CanAdd x.number)) (sym (same.each j a.0 b a.1 here)) (can j a.0 a.1)
 
 -- ---- archives that are made

@@ -24,11 +24,10 @@ use Rattle.rr_text.specs.Bytes.{bytes_cmp}
 use Rattle.rr_replica.specs.Series.{cells_of}
 use Rattle.rr_replica.specs.Archives.{cell_slot_for, Each, AreSized, CanTake, AreSame, HavePut}
 use Rattle.rr_cells.specs.Holding.{IsHolding}
-use Rattle.rr_series.specs.Indexed.{archives_of, items_of}
-use Rattle.rr_replica.specs.Held.{AreAllSized, held_series, keyed_sample, holding_of, IsHeld}
+use Rattle.rr_replica.specs.Held.{AreAllSized, held_series, archives_of, keyed_sample, holding_of, IsHeld}
 use Rattle.rr_cells.proofs.PutLaws.{few_held}
 use Rattle.rr_cells.proofs.Local.{get-rows_at}
-use Rattle.rr_replica.proofs.Shown.{held_at, rows_shown, cells_same, cells_put, held_same, held_put}
+use Rattle.rr_replica.proofs.Shown.{held_at, items_of, rows_shown, cells_same, cells_put, held_same, held_put}
 use Rattle.rr_cells.proofs.CellByCell.{trimmed_none}
 use Rattle.rr_cells.proofs.HoldingLemmas.{IsTyped, holds_put, can_add}
 

@@ -35,8 +35,7 @@ use Rattle.rr_cells.specs.Cells.{Cells, IsTrimmed, cell_slot_of, rows_at}
 use Rattle.rr_cells.specs.Joins.{join_cell}
 use Rattle.rr_cells.specs.Joining.{next_after, with_cell, with_cells}
 use Rattle.rr_cells.specs.Holding.{IsHolding, Holding}
-use Rattle.rr_series.specs.Indexed.{archives_of, items_of}
-use Rattle.rr_replica.specs.Held.{AreAllSized, IsHeld, held_series, holding_of}
+use Rattle.rr_replica.specs.Held.{AreAllSized, IsHeld, held_series, archives_of, holding_of}
 use Rattle.rr_cells.specs.Listing.{owned_cell}
 use Rattle.rr_text.specs.Bytes.{bytes_cmp}
 use Rattle.rr_replica.specs.Series.{cells_of}
@@ -45,8 +44,8 @@ use Rattle.rr_replica.proofs.Each.{sized_at}
 use Rattle.rr_cells.proofs.JoinLaws.{join_trims, join_goes_by_archives}
 use Rattle.rr_cells.proofs.PutLaws.{few_held}
 use Rattle.rr_cells.proofs.Local.{get-rows_at, insert_here, insert_elsewhere, same_cells}
-use Rattle.rr_series.proofs.Lists.{bytes_cmp-IsAntisymmetric, there}
-use Rattle.rr_replica.proofs.Shown.{held_at, rows_shown, at_key, at_other, same_key, cells_same, held_same}
+use Rattle.rr_replica.proofs.SeriesLemmas.{bytes_cmp-IsAntisymmetric}
+use Rattle.rr_replica.proofs.Shown.{there, held_at, items_of, rows_shown, at_key, at_other, same_key, cells_same, held_same}
 
 no_rows : (key : List ℕ) (archive : ℕ) → rows_at empty key archive ≡ empty
 no_rows key archive = same_map cell_slot_cmp_total cell_slot_cmp-IsAntisymmetric _ _ (λ p. get-rows_at key archive empty p ∙ get-empty cell_name_cmp _ ∙ sym (get-empty cell_slot_cmp p))

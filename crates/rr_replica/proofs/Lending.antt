@@ -1,16 +1,21 @@
 -- An archive of a key that a replica lends.
-use Rattle.std.proofs.Common.{◌≡◌, ℕ, List, length, get_or, ltb, sym, ap, ◌∙◌, Option, Some, None, is_some, unwrap_or, IfSome, MatchOption, Bor}
+use Rattle.std.proofs.Common.{◌≡◌, ℕ, List, length, slice_get, get_or, ltb, sym, ap, ◌∙◌, Option, Some, None, is_some, unwrap_or, IfSome, MatchOption, Bor}
 use Rattle.std.specs.Global.{Vec}
 use Rattle.std.specs.Option.{option_map}
 use Rattle.std.specs.FinMap.{empty}
+use Rattle.std.proofs.lemmas.Bool.{ltb-true, ltb-false}
+use Rattle.std.proofs.lemmas.Option.{slice_get-get_or, slice_get_past}
 use Rattle.rr_archive.specs.Cells.{Rows}
 use Rattle.rr_base.specs.Schema.{Layout}
 use Rattle.rr_cells.specs.Cells.{rows_at}
-use Rattle.rr_series.specs.Indexed.{archives_of, items_of}
-use Rattle.rr_replica.specs.Held.{held_series, IsHeld}
+use Rattle.rr_replica.specs.Held.{held_series, archives_of, IsHeld}
 use Rattle.rr_replica.specs.Series.{cells_of}
-use Rattle.rr_replica.proofs.Shown.{held_at, rows_shown}
-use Rattle.rr_series.proofs.Lists.{lent_at}
+use Rattle.rr_replica.proofs.Shown.{held_at, items_of, rows_shown}
+
+-- what a slice lends at an index is what stands there
+pub lent_at : {X : Type 0} (items : List X) (i : ℕ) (lent : Option (Bor X)) → IfSome lent (λ x. x.now ≡ get_or items i x.now) → is_some lent ≡ ltb i (length items) → slice_get items i ≡ option_map (λ x. x.now) lent
+lent_at items i None same within = slice_get_past items i (ltb-false i (length items) (sym within))
+lent_at items i (Some x) same within = slice_get-get_or items i x.now (ltb-true i (length items) (sym within)) ∙ ap (λ a. Some a) (sym same)
 
 -- the archive that is lent has the rows, and where none is lent there are no rows
 IsLent : {X : Type 0} → (X → Rows) → Rows → Option (Bor X) → Type 0

@@ -10,6 +10,7 @@ pub mod FieldLemmas
 pub mod OneArchive
 pub mod JoinedCell
 pub mod Lending
+pub mod IndexedLemmas
 pub mod WalkLemmas
 pub mod CopyingLemmas
 pub mod RoomLemmas

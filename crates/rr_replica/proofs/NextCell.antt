@@ -25,7 +25,7 @@ use Rattle.rr_cells.specs.Cells.{name_at}
 use Rattle.rr_replica.specs.Held.{held_series}
 use Rattle.rr_replica.specs.Series.{cells_from, all_cells}
 use Rattle.rr_replica.proofs.Each.{slice_get-map}
-use Rattle.rr_series.proofs.Lists.{bytes_cmp-IsAntisymmetric}
+use Rattle.rr_replica.proofs.SeriesLemmas.{bytes_cmp-IsAntisymmetric}
 use Rattle.rr_replica.proofs.InOrder.{named_as, same_archive, later_archive, later_key}
 
 -- whether a cell is after a name

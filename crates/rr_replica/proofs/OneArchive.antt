@@ -6,7 +6,7 @@ use Rattle.rr_archive.specs.CellSlots.{cell_slot}
 use Rattle.rr_archive.specs.Cells.{Rows, join_cell}
 use Rattle.rr_cells.specs.declared.cell.Cell.{Cell}
 use Rattle.rr_replica.specs.Archives.{AreSame, HaveJoined}
-use Rattle.rr_series.proofs.Lists.{slice_get-set_same, slice_get-set_other, length-set}
+use Rattle.rr_replica.proofs.Each.{slice_get-set_same, slice_get-set_other, length-set}
 
 -- of the archive with this number a is what stood there, and b what stands there now
 module _ {X : Type 0} (cells : X → Rows) where

@@ -25,14 +25,14 @@ use Rattle.rr_archive.proofs.CellSlotOrder.{cell_slot_cmp_total, cell_slot_cmp-I
 use Rattle.rr_cells.specs.declared.op.Op.{Op}
 use Rattle.rr_cells.specs.declared.op.Op.TheVariants.{Put, Join}
 use Rattle.rr_replica.specs.Archives.{HaveRoomFor, IsOpOf}
-use Rattle.rr_series.specs.Indexed.{archives_of}
-use Rattle.rr_replica.specs.Held.{HasRoom, AreAllSized}
+use Rattle.rr_replica.specs.Held.{archives_of, HasRoom, AreAllSized}
 use Rattle.rr_cells.specs.Holding.{Holding}
 use Rattle.rr_cells.specs.Operations.{key_of, accepts}
 use Rattle.rr_replica.specs.Standing.{room_at, room_in, is_one_of, cell_slots_of, cell_slots_within, all_cell_slots, standing_of, HasRoomFor}
 use Rattle.rr_cells.proofs.Slots.{slot_is}
 use Rattle.rr_replica.proofs.Each.{sized_many}
-use Rattle.rr_series.proofs.Lists.{bytes_cmp-IsAntisymmetric, there}
+use Rattle.rr_replica.proofs.SeriesLemmas.{bytes_cmp-IsAntisymmetric}
+use Rattle.rr_replica.proofs.Shown.{there}
 
 -- ---- all cell slots
 

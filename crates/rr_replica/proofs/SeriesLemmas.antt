@@ -7,7 +7,7 @@ use Rattle.std.specs.BTreeMap.{is_at}
 use Rattle.std.specs.Option.{option_or, unwrap_or}
 use Rattle.std.specs.Ordering.{eq_by_cmp, is_eq}
 use Rattle.std.specs.Cmp.Lexicographic.{nat_list_cmp_total}
-use Rattle.std.specs.FinMap.{get, entries, find, get-empty, get-entries, get-from_entries, same_map}
+use Rattle.std.specs.FinMap.{get, entries, find, get-empty, get-entries, get-from_entries, same_map, slice_cmp-IsAntisymmetric, nat_cmp-IsAntisymmetric, IsAntisymmetric}
 use Rattle.std.proofs.lemmas.Bool.Decides.{eqb_tells}
 use Rattle.rr_contrib.specs.declared.contribution.Contribution.{Contribution}
 use Rattle.rr_join.proofs.Members.{same_from_tie, tie_itself}
@@ -20,7 +20,6 @@ use Rattle.rr_cells.specs.Cells.{name_at, rows_at}
 use Rattle.rr_text.specs.Bytes.{bytes_cmp}
 use Rattle.rr_replica.specs.Series.{Series, cells_from, all_cells, cells_of, rows_from, rows_in}
 use Rattle.rr_cells.proofs.Local.{get-rows_at, cell_slots_tie}
-use Rattle.rr_series.proofs.Lists.{bytes_cmp-IsAntisymmetric}
 
 option_or-None : (x : Option Contribution) → option_or x None ≡ x
 option_or-None None = refl
@@ -76,6 +75,9 @@ other_key key other archive first p [] apart = refl
 other_key key other archive first p (r ∷ rs) apart =
     find-append (name_at key archive p) (named_as other first (entries r)) (cells_from other (first + 1) rs)
     ∙ (λ i. option_or (find_elsewhere (name_at key archive p) other first (entries r) (λ q e. apart (ap (λ (n : CellName). n.key) e)) i) (other_key key other archive (first + 1) p rs apart i))
+
+pub bytes_cmp-IsAntisymmetric : IsAntisymmetric bytes_cmp
+bytes_cmp-IsAntisymmetric = slice_cmp-IsAntisymmetric nat_cmp-IsAntisymmetric
 
 -- ---- all keys
 

@@ -1,5 +1,5 @@
 -- The cells of the archives of all keys, as they are kept.
-use Rattle.std.proofs.Common.{◌≡◌, ℕ, zero, suc, ◌+◌, true, false, cond, List, [], ◌∷◌, map, length, slice_get, refl, sym, ap, ◌∙◌, subst, arith, true≢false, Some, unwrap_or, ⊎_elim}
+use Rattle.std.proofs.Common.{◌≡◌, ℕ, zero, suc, ◌+◌, ◌<◌, true, false, cond, List, [], ◌∷◌, map, length, slice_get, refl, sym, ap, ◌∙◌, subst, arith, true≢false, Some, unwrap_or, ⊎_elim}
 use Rattle.std.specs.Prelude.{nat_eq}
 use Rattle.std.specs.Global.{Vec}
 use Rattle.std.specs.List.Sorted.{IsStrictlySortedBy}
@@ -20,12 +20,11 @@ use Rattle.rr_cells.specs.Cells.{Cells, IsTrimmed, rows_at}
 use Rattle.rr_cells.specs.Puts.{put_sample}
 use Rattle.rr_text.specs.Bytes.{bytes_cmp}
 use Rattle.rr_replica.specs.Series.{cells_of, rows_from}
-use Rattle.rr_replica.specs.Archives.{AreSized, cell_slot_for, sample_for, AreSame, HavePut}
-use Rattle.rr_series.specs.Indexed.{archives_of, items_of}
-use Rattle.rr_replica.specs.Held.{AreAllSized, held_series, keyed_sample}
+use Rattle.rr_replica.specs.Archives.{cell_slot_for, sample_for, AreSame, HavePut}
+pub use Rattle.rr_replica.specs.Indexed.{items_of}
+use Rattle.rr_replica.specs.Held.{held_series, archives_of, keyed_sample}
 use Rattle.rr_cells.proofs.Local.{same_cells}
-use Rattle.rr_series.proofs.Lists.{bytes_cmp-IsAntisymmetric, there}
-use Rattle.rr_replica.proofs.SeriesLemmas.{rows_of_series}
+use Rattle.rr_replica.proofs.SeriesLemmas.{bytes_cmp-IsAntisymmetric, rows_of_series}
 use Rattle.rr_cells.proofs.PutsLemmas.{put_at, put_past, put_other_key}
 use Rattle.rr_replica.proofs.Each.{slice_get-map}
 
@@ -39,6 +38,12 @@ rows_from-is first (r ∷ rs) (suc i) =
   where
     later : (m n : ℕ) → m + suc n ≡ m + 1 + n
     later m n = omega arith
+
+-- there is an element with each number below the length
+pub there : {X : Type 0} (xs : List X) (i : ℕ) → i < length xs → (x : X) × (slice_get xs i ≡ Some x)
+there [] i h = absurd (omega arith)
+there (x ∷ xs) zero h = (x, refl)
+there (x ∷ xs) (suc i) h = there xs i (omega arith)
 
 -- what stands with a number among archives, and nothing past the last
 abbrev pub held_at : {X : Type 0} → (X → Rows) → List X → ℕ → Rows
@@ -97,13 +102,6 @@ module _ {X : Type 0} (cells : X → Rows) where
           | true ↦ λ t. subst (λ k. rows_at (cells_of (held_series cells new)) k i ≡ rows_at (put_sample s (cells_of (held_series cells old)) x) k i) (same_key q t) (at_key i ∙ put i)
           | false ↦ λ t. at_other q i t ∙ sym (put_other_key s is x q i (cells_of (held_series cells old)) kept (false_from_ne_true (pointwise nat_eq x.key q) (λ e. true≢false (sym (ap (is_at (bytes_cmp key)) (sym ((bytes_decides x.key q).0 e) ∙ of) ∙ tie_itself nat_list_cmp_total bytes_cmp-IsAntisymmetric key) ∙ t))))
         ] refl)
-
--- archives of a size at a key keep all of a size
-pub sized_with : {X : Type 0} (limit : X → ℕ) (s : Layout) (key : List ℕ) (old new : List (List ℕ × Vec X)) (now : Vec X) → AreAllSized limit s old → ((q : List ℕ) → archives_of new q ≡ cond (is_at (bytes_cmp key) q) (Some now) (archives_of old q)) → AreSized limit s now.items → AreAllSized limit s new
-sized_with limit s key old new now sized sets size q archives e = elim (is_at (bytes_cmp key) q) as (λ b. cond b (Some now) (archives_of old q) ≡ Some archives → AreSized limit s archives.items) [
-  | true ↦ λ h. subst (λ v. AreSized limit s v.items) (ap (λ o. unwrap_or o now) h) size
-  | false ↦ λ h. sized q archives h
-] (sym (sets q) ∙ e)
 
 -- archives with the same cells, and with a sample put
 module _ {X : Type 0} (cells : X → Rows) where

@@ -13,7 +13,7 @@ use Rattle.rr_archive.specs.Cells.{Rows}
 use Rattle.rr_cells.specs.CellBounds.{NamedCell}
 use Rattle.rr_cells.specs.Cells.{name_at}
 use Rattle.rr_replica.specs.Held.{held_series}
-use Rattle.rr_series.specs.Indexed.{with_entry, entries_at, items_of}
+use Rattle.rr_replica.specs.Indexed.{with_entry, entries_at, items_of}
 use Rattle.rr_replica.specs.Series.{cells_from, all_cells}
 use Rattle.std.proofs.lemmas.List.{length-append}
 use Rattle.rr_cells.specs.Listing.{count_of}

@@ -2,7 +2,8 @@
 use Rattle.std.specs.Prelude.{◌≡◌, ℕ, Bool, List, map, Option, Some}
 use Rattle.std.specs.Global.{Vec}
 use Rattle.std.specs.List.Sorted.{IsStrictlySortedBy}
-use Rattle.std.specs.Map.{keys_of}
+use Rattle.std.specs.Map.{lookup, keys_of}
+use Rattle.std.specs.BTreeMap.{is_at}
 use Rattle.std.specs.Option.{option_map}
 use Rattle.rr_base.specs.Schema.{Layout}
 use Rattle.rr_archive.specs.CellSlots.{CellSlot}
@@ -14,7 +15,6 @@ use Rattle.rr_cells.specs.declared.op.Op.{Op}
 use Rattle.rr_cells.specs.Operations.{sample_of, key_of}
 use Rattle.rr_cells.specs.Holding.{Holding, IsHolding}
 use Rattle.rr_text.specs.Bytes.{bytes_cmp}
-use Rattle.rr_series.specs.Indexed.{archives_of}
 use Rattle.rr_replica.specs.Series.{Series, cells_of}
 use Rattle.rr_replica.specs.Archives.{AreSized, HaveRoomFor}
 
@@ -30,6 +30,10 @@ module _ {X : Type 0} where
   -- the archives of each key, each seen as a map
   abbrev pub held_series : (X → Rows) → List (List ℕ × Vec X) → Series
   held_series cells entries = map (λ e. (e.0, map cells e.1.items)) entries
+
+  -- the archives of a key, if it has any
+  abbrev pub archives_of : List (List ℕ × Vec X) → List ℕ → Option (Vec X)
+  archives_of entries key = lookup (is_at (bytes_cmp key)) entries
 
   -- what an archive holds, and how many rows it keeps
   abbrev pub seen_archive : (X → Rows) → (X → ℕ) → X → Rows × ℕ

@@ -2,6 +2,8 @@ pub mod Series
 pub mod Listing
 pub mod Joining
 pub mod Archives
+pub mod Indexed
+pub mod SeriesMap
 pub mod Held
 pub mod Standing
 pub mod Writing

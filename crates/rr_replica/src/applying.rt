@@ -4,12 +4,12 @@ ghost use Rattle.rr_replica.specs.Archives.{IsOpOf};
 ghost use Rattle.rr_cells.specs.Operations.{accepts, step};
 ghost use Rattle.rr_replica.specs.Standing.{held, IsReadyFor};
 
+use crate::hint::Hint;
 use crate::reading::Reading;
 use crate::replica::Replica;
 use rr_archive::Archive;
 use rr_text::limits::MAX_NUMBER;
 use rr_cells::Op;
-use rr_series::Hint;
 use std::alloc::AllocError;
 
 impl<A: Archive> Replica<A> {

@@ -1,10 +1,10 @@
 //! Copies of the archives of all keys.
 ghost use Rattle.std.specs.Prelude.{◌≡◌, ℕ, List, map, IfOk};
 ghost use Rattle.rr_replica.specs.Held.{seen_archive, seen_at};
-ghost use Rattle.rr_series.specs.SeriesMap.{entries_of, IsIndexed};
+ghost use Rattle.rr_replica.specs.SeriesMap.{entries_of, IsIndexed};
 
+use crate::series::SeriesMap;
 use rr_archive::Archive;
-use rr_series::SeriesMap;
 use std::alloc::{AllocError, Global};
 
 /// Archives with the same cells and rows, in the same order.

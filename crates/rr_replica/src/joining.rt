@@ -9,13 +9,13 @@ ghost use Rattle.rr_cells.specs.Joining.{next_after};
 ghost use Rattle.rr_replica.specs.Held.{held_series, HasRoom, AreAllSized};
 ghost use Rattle.rr_cells.specs.Listing.{owned_cell};
 ghost use Rattle.rr_replica.specs.Series.{cells_of};
-ghost use Rattle.rr_series.specs.SeriesMap.{entries_of, IsIndexed};
+ghost use Rattle.rr_replica.specs.SeriesMap.{entries_of, IsIndexed};
 
 use crate::archives::{empty_archives, join_into};
+use crate::series::SeriesMap;
 use rr_archive::Archive;
 use rr_base::{Origin, Schema};
 use rr_cells::{Cell, Op};
-use rr_series::SeriesMap;
 use std::alloc::{AllocError, Global};
 
 /// Joins a cell into the archives of its key, or into none.

@@ -6,7 +6,7 @@ ghost use Rattle.rr_cells.specs.Cells.{name_at};
 ghost use Rattle.rr_text.specs.Bytes.{bytes_cmp};
 ghost use Rattle.rr_replica.specs.Series.{cells_from, cells_of};
 ghost use Rattle.rr_replica.specs.Held.{held_series};
-ghost use Rattle.rr_series.specs.SeriesMap.{entries_of};
+ghost use Rattle.rr_replica.specs.SeriesMap.{entries_of};
 ghost use Rattle.std.specs.List.{AllByRecursion};
 ghost use Rattle.std.specs.List.Sorted.{IsStrictlySortedBy};
 ghost use Rattle.std.specs.Map.{keys_of};
@@ -14,11 +14,11 @@ ghost use Rattle.std.specs.Option.{option_map};
 ghost use Rattle.std.specs.FinMap as fin;
 ghost use Rattle.rr_cells.specs.Listing.{seen_cell, count_of, at_most_usize};
 
+use crate::series::SeriesMap;
 use rr_archive::{Archive, Entry};
 use rr_text::limits::MAX_ARCHIVES;
 use rr_cells::CellRef;
 use rr_key::SeriesKey;
-use rr_series::SeriesMap;
 
 /// How many cells archives hold, added to others; the greatest value of the type, where it can't
 /// hold that many.

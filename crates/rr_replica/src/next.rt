@@ -7,18 +7,18 @@ ghost use Rattle.std.specs.Option.{option_map};
 ghost use Rattle.std.specs.Ordering.{is_le};
 ghost use Rattle.rr_text.specs.Bytes.{bytes_cmp};
 ghost use Rattle.rr_replica.specs.Held.{held_series};
-ghost use Rattle.rr_series.specs.SeriesMap.{entries_of};
+ghost use Rattle.rr_replica.specs.SeriesMap.{entries_of};
 ghost use Rattle.rr_cells.specs.Listing.{seen_cell, first_after, next_cell};
 ghost use Rattle.rr_replica.specs.Listing.{seen_name};
 ghost use Rattle.rr_replica.specs.Series.{cells_from, cells_of};
 
 use crate::listing::named;
+use crate::series::SeriesMap;
 use rr_archive::Archive;
 use rr_base::Origin;
 use rr_text::limits::MAX_ARCHIVES;
 use rr_cells::CellRef;
 use rr_key::SeriesKey;
-use rr_series::SeriesMap;
 
 /// The name of a cell.
 #[derive(Clone, Copy)]

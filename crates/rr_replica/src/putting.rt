@@ -2,16 +2,17 @@
 ghost use Rattle.std.specs.Prelude.{◌≡◌, ◌+◌, IsOk, OnOk, OnErr};
 ghost use Rattle.rr_cells.specs.Puts.{put_sample};
 ghost use Rattle.rr_replica.specs.Series.{cells_of};
-ghost use Rattle.rr_series.specs.SeriesMap.{entries_of, IsIndexed};
+ghost use Rattle.rr_replica.specs.SeriesMap.{entries_of, IsIndexed};
 ghost use Rattle.rr_replica.specs.Held.{held_series, sample_of_reading, keyed_sample, HasRoom, IsHeld};
 
 use crate::archives::{empty_archives, put_into};
+use crate::hint::Hint;
 use crate::reading::Reading;
+use crate::series::SeriesMap;
 use rr_archive::Archive;
 use rr_base::Schema;
 use rr_cells::Op;
 use rr_key::SeriesKey;
-use rr_series::{Hint, SeriesMap};
 use std::alloc::{AllocError, Global};
 
 /// Puts a sample of a key into each of its archives, or into none.

@@ -15,18 +15,19 @@ ghost use Rattle.rr_replica.specs.Writing.{lacks_numbers};
 
 use crate::copying::copy_series;
 use crate::fault::{JoinFault, PutFault};
+use crate::hint::Hint;
 use crate::joining::{join_in, next_after};
 use crate::listing::{count_cells, nth_cell};
 use crate::next::{NameRef, next_cell};
 use crate::putting::put_in;
 use crate::reading::Reading;
 use crate::room::make_room_in;
+use crate::series::SeriesMap;
 use rr_archive::{Archive, Entry};
 use rr_base::{Origin, Schema};
 use rr_cells::{Cell, CellRef, Op};
 use rr_key::SeriesKey;
 use rr_point::{Field, Point};
-use rr_series::{Hint, SeriesMap};
 use rr_text::limits::MAX_NUMBER;
 use std::alloc::{AllocError, Global};
 use std::marker::Model;
@@ -51,7 +52,7 @@ pub struct Replica<A: Archive> {
 impl<A: Archive> Model for Replica<A> {
     ghost use Rattle.rr_replica.specs.Standing.{Standing, coded_standing, standing_of};
     ghost use Rattle.rr_replica.specs.Held.{IsHeld};
-    ghost use Rattle.rr_series.specs.SeriesMap.{entries_of, IsIndexed};
+    ghost use Rattle.rr_replica.specs.SeriesMap.{entries_of, IsIndexed};
 
     ghost Value = { Standing };
 
@@ -205,8 +206,8 @@ impl<A: Archive> Replica<A> {
     pub fn known_key(&self, key: &SeriesKey) -> Result<(SeriesKey, Hint), AllocError>
         ensures { IfOk result (λ known. known.0 ≡ key.now) }
     {
-        let (known, hint) = self.series.known_key(key);
-        Ok((known.copy()?, hint))
+        let (known, index) = self.series.known_key(key);
+        Ok((known.copy()?, Hint { index }))
     }
 
     /// The archive of a key with a number, from 0. There is none where the key is unknown, nor past

@@ -3,14 +3,15 @@ ghost use Rattle.std.specs.Prelude.{◌≡◌, OnOk};
 ghost use Rattle.rr_base.specs.Schema.{IsLayout};
 ghost use Rattle.rr_replica.specs.Archives.{IsOpOf};
 ghost use Rattle.rr_replica.specs.Series.{cells_of};
-ghost use Rattle.rr_series.specs.SeriesMap.{entries_of, IsIndexed};
+ghost use Rattle.rr_replica.specs.SeriesMap.{entries_of, IsIndexed};
 ghost use Rattle.rr_replica.specs.Held.{held_series, HasRoom, AreAllSized};
 
 use crate::archives::{empty_archives, make_room};
+use crate::hint::Hint;
+use crate::series::SeriesMap;
 use rr_archive::Archive;
 use rr_base::Schema;
 use rr_cells::Op;
-use rr_series::{Hint, SeriesMap};
 use std::alloc::{AllocError, Global};
 
 /// Makes room for an operation in the archives of its key, which are added where there are none. No

@@ -4,8 +4,7 @@ use Rattle.std.proofs.lemmas.Option.{slice_get_within}
 use Rattle.rr_base.specs.Schema.{slot_of}
 use Rattle.rr_archive.specs.CellSlots.{cell_slot}
 use Rattle.rr_cells.proofs.Slots.{slot_is}
-use Rattle.rr_series.proofs.Lists.{found_at}
-use Rattle.rr_replica.proofs.Each.{map-set_same, readied_none, readied_more, same_more, before_set}
+use Rattle.rr_replica.proofs.Each.{found_at, map-set_same, readied_none, readied_more, same_more, before_set}
 use Rattle.rr_replica.proofs.archives.make_ready.Goals as goal
 
 pub loop-i-init : goal.loop-i-init

@@ -1,7 +1,7 @@
 use Rattle.std.proofs.Common.{rules, ◌<◌, ◌≤◌, map, length, sym, ap, ◌∙◌, arith, subst}
-use Rattle.rr_series.specs.Indexed.{IsIndexed}
+use Rattle.rr_replica.specs.Indexed.{IsIndexed}
 use Rattle.rr_replica.proofs.Counted.{take_all}
-use Rattle.rr_series.proofs.Lists.{found_at}
+use Rattle.rr_replica.proofs.Each.{found_at}
 use Rattle.rr_replica.proofs.CopyingLemmas.{take_none, seen, not_yet, copies_seen}
 use Rattle.rr_replica.proofs.copying.copy_series.Goals as goal
 

@@ -1,10 +1,9 @@
 use Rattle.std.proofs.Common.{◌≡◌, ◌<◌, length, set, Some, None, sym, arith}
 use Rattle.std.proofs.lemmas.Result.{on_ok_weaker, on_err_weaker}
 use Rattle.rr_cells.specs.declared.op.Op.TheVariants.{Join}
-use Rattle.rr_series.specs.Indexed.{index_of, entries_at}
-use Rattle.rr_series.specs.SeriesMap.{entries_of}
-use Rattle.rr_series.proofs.IndexedLemmas.{index_within, element_found, archives_nowhere, entries_ordered, sets_at, still_indexed}
-use Rattle.rr_replica.proofs.Shown.{sized_with}
+use Rattle.rr_replica.specs.Indexed.{index_of, entries_at}
+use Rattle.rr_replica.specs.SeriesMap.{entries_of}
+use Rattle.rr_replica.proofs.IndexedLemmas.{index_within, element_found, archives_nowhere, entries_ordered, sets_at, still_indexed, sized_with}
 use Rattle.rr_replica.proofs.Each.{sized_many}
 use Rattle.rr_replica.proofs.JoinedCell.{cells_joined, cells_unchanged, before_found, before_fresh}
 use Rattle.rr_replica.proofs.RoomLemmas.{room_found, room_nowhere}

@@ -1,8 +1,8 @@
 use Rattle.std.proofs.Common.{rules, ◌≡◌, ◌+◌, [], ◌∷◌, length, map, slice_get, ap, sym, ◌∙◌}
-use Rattle.rr_series.specs.Indexed.{entries_at, items_of}
+use Rattle.rr_replica.specs.Indexed.{entries_at, items_of}
 use Rattle.rr_cells.specs.Listing.{at_most_usize, count_of}
 use Rattle.rr_replica.specs.Series.{all_cells}
-use Rattle.rr_series.specs.SeriesMap.{entries_of}
+use Rattle.rr_replica.specs.SeriesMap.{entries_of}
 use Rattle.rr_replica.specs.Held.{held_series}
 use Rattle.rr_replica.proofs.Counted.{at_most-then, at_most-start, at_most-fits, len-held_series}
 use Rattle.rr_replica.proofs.WalkLemmas.{walk_length}

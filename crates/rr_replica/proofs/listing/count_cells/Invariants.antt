@@ -1,8 +1,8 @@
 use Rattle.std.proofs.Common.{◌≡◌, ◌+◌, length}
-use Rattle.rr_series.specs.Indexed.{entries_at}
+use Rattle.rr_replica.specs.Indexed.{entries_at}
 use Rattle.rr_cells.specs.Listing.{at_most_usize}
 use Rattle.rr_replica.specs.Series.{all_cells}
-use Rattle.rr_series.specs.SeriesMap.{entries_of}
+use Rattle.rr_replica.specs.SeriesMap.{entries_of}
 use Rattle.rr_replica.specs.Held.{held_series}
 use Rattle.rr_replica.proofs.listing.count_cells.Given as goal
 

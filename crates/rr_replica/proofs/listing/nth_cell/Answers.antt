@@ -1,8 +1,8 @@
 use Rattle.std.proofs.Common.{rules, ◌≡◌, ◌+◌, [], ◌∷◌, Some, slice_get, map, ap, sym, ◌∙◌, subst}
-use Rattle.rr_series.specs.Indexed.{entries_at, items_of}
+use Rattle.rr_replica.specs.Indexed.{entries_at, items_of}
 use Rattle.rr_cells.specs.Listing.{seen_cell, count_of}
 use Rattle.rr_replica.specs.Series.{cells_from, all_cells}
-use Rattle.rr_series.specs.SeriesMap.{entries_of}
+use Rattle.rr_replica.specs.SeriesMap.{entries_of}
 use Rattle.rr_replica.specs.Held.{held_series}
 use Rattle.rr_replica.proofs.Counted.{get-all_first, get-all_later, entries-held_series}
 use Rattle.rr_replica.proofs.WalkLemmas.{AreFew, walk_cells, walk_few}

@@ -1,7 +1,7 @@
 use Rattle.std.proofs.Common.{◌≡◌, slice_get}
-use Rattle.rr_series.specs.Indexed.{entries_at}
+use Rattle.rr_replica.specs.Indexed.{entries_at}
 use Rattle.rr_replica.specs.Series.{all_cells}
-use Rattle.rr_series.specs.SeriesMap.{entries_of}
+use Rattle.rr_replica.specs.SeriesMap.{entries_of}
 use Rattle.rr_replica.specs.Held.{held_series}
 use Rattle.rr_replica.proofs.WalkLemmas.{AreFew}
 use Rattle.rr_replica.proofs.listing.nth_cell.Given as goal

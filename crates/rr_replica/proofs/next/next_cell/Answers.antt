@@ -4,10 +4,10 @@ use Rattle.std.specs.declared.ops.Bound.TheVariants.{Included, Unbounded}
 use Rattle.std.specs.Option.{option_map}
 use Rattle.rr_archive.specs.CellSlots.{cell_slot}
 use Rattle.rr_text.specs.Bytes.{bytes_cmp}
-use Rattle.rr_series.specs.Indexed.{entries_at}
+use Rattle.rr_replica.specs.Indexed.{entries_at}
 use Rattle.rr_cells.specs.Listing.{seen_cell, first_after}
 use Rattle.rr_replica.specs.Listing.{seen_name}
-use Rattle.rr_series.specs.SeriesMap.{entries_of}
+use Rattle.rr_replica.specs.SeriesMap.{entries_of}
 use Rattle.rr_replica.proofs.Counted.{entries-held_series}
 use Rattle.rr_replica.proofs.NextCell.{LeftFrom, left_from, left_none}
 use Rattle.rr_replica.proofs.WalkLemmas.{AreFew, AreFrom, walk_few, between_at, between_few, from_key, walk_more, walk_found}

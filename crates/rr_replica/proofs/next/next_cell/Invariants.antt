@@ -1,6 +1,6 @@
 use Rattle.rr_archive.specs.CellSlots.{cell_slot}
-use Rattle.rr_series.specs.Indexed.{entries_at}
-use Rattle.rr_series.specs.SeriesMap.{entries_of}
+use Rattle.rr_replica.specs.Indexed.{entries_at}
+use Rattle.rr_replica.specs.SeriesMap.{entries_of}
 use Rattle.rr_replica.proofs.NextCell.{LeftFrom}
 use Rattle.rr_replica.proofs.WalkLemmas.{AreFew, AreFrom}
 use Rattle.rr_replica.proofs.next.next_cell.Given as goal

@@ -2,9 +2,9 @@ use Rattle.std.proofs.Common.{rules, ◌≡◌, true, set, Some, None, sym, arit
 use Rattle.std.proofs.lemmas.Result.{on_ok_weaker, on_err_weaker}
 use Rattle.rr_cells.specs.declared.op.Op.TheVariants.{Put}
 use Rattle.rr_replica.specs.Held.{sample_of_reading, keyed_sample}
-use Rattle.rr_series.specs.Indexed.{index_of, entries_at}
-use Rattle.rr_series.specs.SeriesMap.{entries_of}
-use Rattle.rr_series.proofs.IndexedLemmas.{index_within, element_found, archives_nowhere, entries_ordered, sets_at, still_indexed}
+use Rattle.rr_replica.specs.Indexed.{index_of, entries_at}
+use Rattle.rr_replica.specs.SeriesMap.{entries_of}
+use Rattle.rr_replica.proofs.IndexedLemmas.{index_within, element_found, archives_nowhere, entries_ordered, sets_at, still_indexed}
 use Rattle.rr_replica.proofs.Each.{sized_many}
 use Rattle.rr_cells.proofs.HoldingLemmas.{IsTyped}
 use Rattle.rr_replica.proofs.HeldLemmas.{before_found, before_fresh, can_take, cells_with, kept_with, cells_without, kept_without}

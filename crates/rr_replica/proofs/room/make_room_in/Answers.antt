@@ -1,11 +1,11 @@
 use Rattle.std.proofs.Common.{◌≡◌, Some, None, set, sym, ◌∙◌, arith}
 use Rattle.std.proofs.lemmas.Result.{on_ok_weaker}
-use Rattle.rr_series.specs.Indexed.{index_of, entries_at}
-use Rattle.rr_series.specs.SeriesMap.{entries_of}
-use Rattle.rr_series.proofs.IndexedLemmas.{index_within, element_found, archives_nowhere, entries_ordered, sets_at, still_indexed}
-use Rattle.rr_replica.proofs.Shown.{sized_with, cells_same, held_same}
+use Rattle.rr_replica.specs.Indexed.{index_of, entries_at}
+use Rattle.rr_replica.specs.SeriesMap.{entries_of}
+use Rattle.rr_replica.proofs.IndexedLemmas.{index_within, element_found, archives_nowhere, entries_ordered, sets_at, still_indexed, sized_with}
 use Rattle.rr_replica.proofs.JoinedCell.{before_found, before_fresh}
 use Rattle.rr_replica.proofs.RoomLemmas.{room_set}
+use Rattle.rr_replica.proofs.Shown.{cells_same, held_same}
 use Rattle.rr_replica.proofs.room.make_room_in.Goals as goal
 
 pub index_mut-requires : goal.index_mut-requires

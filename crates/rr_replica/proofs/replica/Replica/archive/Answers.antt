@@ -1,6 +1,6 @@
 use Rattle.std.proofs.Common.{◌≡◌, Some, None}
-use Rattle.rr_series.specs.SeriesMap.{entries_of}
-use Rattle.rr_series.specs.Indexed.{archives_of}
+use Rattle.rr_replica.specs.SeriesMap.{entries_of}
+use Rattle.rr_replica.specs.Held.{archives_of}
 use Rattle.rr_replica.proofs.Lending.{archive_found, archive_unknown}
 use Rattle.rr_replica.proofs.replica.Replica.archive.Goals as goal
 

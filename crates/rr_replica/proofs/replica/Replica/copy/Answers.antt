@@ -1,9 +1,9 @@
 use Rattle.std.proofs.Common.{subst, sym, ap, ◌∙◌}
 use Rattle.rr_base.specs.Schema.{Layout}
-use Rattle.rr_series.specs.SeriesMap.{entries_of}
+use Rattle.rr_replica.specs.SeriesMap.{entries_of}
 use Rattle.rr_replica.specs.Held.{IsHeld}
 use Rattle.rr_replica.specs.Standing.{held}
-use Rattle.rr_series.proofs.IndexedLemmas.{entries_ordered}
+use Rattle.rr_replica.proofs.IndexedLemmas.{entries_ordered}
 use Rattle.rr_replica.proofs.CopyingLemmas.{same_cells_copied, held_copied}
 use Rattle.rr_replica.proofs.replica.Replica.copy.Goals as goal
 

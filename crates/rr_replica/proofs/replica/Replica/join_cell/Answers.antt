@@ -1,6 +1,6 @@
 use Rattle.std.proofs.Common.{◌≡◌, true≢false, sym, subst}
 use Rattle.std.specs.Prelude.{IsOk}
-use Rattle.rr_series.specs.SeriesMap.{entries_of}
+use Rattle.rr_replica.specs.SeriesMap.{entries_of}
 use Rattle.rr_cells.specs.CellBounds.{IsCellOf}
 use Rattle.rr_cells.specs.declared.op.Op.TheVariants.{Join}
 use Rattle.rr_replica.specs.Standing.{Standing, HasRoomFor}
@@ -8,7 +8,7 @@ use Rattle.rr_cells.specs.Joining.{next_after}
 use Rattle.rr_cells.specs.Listing.{owned_cell}
 use Rattle.rr_replica.specs.Held.{IsHeld}
 use Rattle.rr_replica.proofs.HeldLemmas.{kept_same}
-use Rattle.rr_series.proofs.IndexedLemmas.{entries_ordered}
+use Rattle.rr_replica.proofs.IndexedLemmas.{entries_ordered}
 use Rattle.rr_replica.proofs.JoinedCell.{kept_joined}
 use Rattle.rr_replica.proofs.RoomLemmas.{room_there}
 use Rattle.rr_replica.proofs.replica.Replica.join_cell.Goals as goal

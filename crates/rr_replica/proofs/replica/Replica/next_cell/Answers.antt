@@ -1,6 +1,6 @@
 use Rattle.std.proofs.Common.{subst}
 use Rattle.std.specs.Prelude.{IfSome}
-use Rattle.rr_series.specs.SeriesMap.{entries_of}
+use Rattle.rr_replica.specs.SeriesMap.{entries_of}
 use Rattle.rr_cells.specs.CellBounds.{IsCellOf}
 use Rattle.rr_replica.specs.Held.{holding_of}
 use Rattle.rr_replica.specs.Standing.{Standing}

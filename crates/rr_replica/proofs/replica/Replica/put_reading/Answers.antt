@@ -1,6 +1,6 @@
 use Rattle.std.proofs.Common.{true≢false, sym, subst}
 use Rattle.std.specs.Prelude.{IsOk}
-use Rattle.rr_series.specs.SeriesMap.{entries_of}
+use Rattle.rr_replica.specs.SeriesMap.{entries_of}
 use Rattle.rr_cells.specs.declared.op.Op.TheVariants.{Put}
 use Rattle.rr_replica.specs.Held.{sample_of_reading}
 use Rattle.rr_replica.specs.Standing.{Standing, HasRoomFor}

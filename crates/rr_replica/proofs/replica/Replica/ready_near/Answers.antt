@@ -1,12 +1,12 @@
 use Rattle.std.proofs.Common.{◌≡◌, true, sym, subst, ◌∙◌}
 use Rattle.std.proofs.lemmas.Result.{on_ok_weaker}
-use Rattle.rr_series.specs.SeriesMap.{entries_of}
+use Rattle.rr_replica.specs.SeriesMap.{entries_of}
 use Rattle.rr_replica.specs.Archives.{IsOpOf}
 use Rattle.rr_replica.specs.Held.{holding_of}
 use Rattle.rr_cells.specs.Operations.{accepts}
 use Rattle.rr_replica.specs.Standing.{Standing, held}
 use Rattle.rr_replica.proofs.HeldLemmas.{kept_same}
-use Rattle.rr_series.proofs.IndexedLemmas.{entries_ordered}
+use Rattle.rr_replica.proofs.IndexedLemmas.{entries_ordered}
 use Rattle.rr_replica.proofs.RoomLemmas.{room_told, taken_origin}
 use Rattle.rr_replica.proofs.replica.Replica.ready_near.Goals as goal
 

@@ -2,8 +2,8 @@ use Rattle.std.proofs.Common.{rules, ◌≡◌, ◌∙◌, Some, None, slice_get
 use Rattle.std.proofs.lemmas.Bool.{ltb-true}
 use Rattle.std.proofs.lemmas.Option.{slice_get-get_or, slice_get_past}
 use Rattle.rr_archive.specs.Cells.{row_of}
-use Rattle.rr_series.specs.SeriesMap.{entries_of}
-use Rattle.rr_series.specs.Indexed.{archives_of}
+use Rattle.rr_replica.specs.SeriesMap.{entries_of}
+use Rattle.rr_replica.specs.Held.{archives_of}
 use Rattle.rr_replica.proofs.HeldLemmas.{row_found, row_missing, row_unknown}
 use Rattle.rr_replica.proofs.replica.Replica.row.Goals as goal
 

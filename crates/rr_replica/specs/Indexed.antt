@@ -22,10 +22,6 @@ module _ {X : Type 0} where
   entries_at [] archives = []
   entries_at (e ∷ es) archives = with_entry e.0 (slice_get archives e.1) (entries_at es archives)
 
-  -- the archives of a key, if it has any
-  abbrev pub archives_of : List (List ℕ × Vec X) → List ℕ → Option (Vec X)
-  archives_of entries key = lookup (is_at (bytes_cmp key)) entries
-
   -- the archives, or none
   abbrev pub items_of : Option (Vec X) → List X
   items_of None = []

@@ -1,9 +1,10 @@
 use Rattle.std.proofs.Common.{rules, ◌≡◌, ◌∷◌, ◌++◌, ℕ, List, [], Some, cond, length, ap, ◌∙◌}
 use Rattle.std.specs.BTreeMap.{is_at, insert_entry}
 use Rattle.rr_text.specs.Bytes.{bytes_cmp}
-use Rattle.rr_series.specs.Indexed.{archives_of, index_of, entries_at}
-use Rattle.rr_series.proofs.IndexedLemmas.{sets_more, indexed_more}
-use Rattle.rr_series.proofs.series.SeriesMap.insert.Goals as goal
+use Rattle.rr_replica.specs.Held.{archives_of}
+use Rattle.rr_replica.specs.Indexed.{index_of, entries_at}
+use Rattle.rr_replica.proofs.IndexedLemmas.{sets_more, indexed_more}
+use Rattle.rr_replica.proofs.series.SeriesMap.insert.Goals as goal
 
 pub returns-clause-sets : goal.returns-clause-sets
 returns-clause-sets g c =

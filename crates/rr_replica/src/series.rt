@@ -3,7 +3,8 @@ ghost use Rattle.std.specs.Prelude.{◌≡◌, ◌∷◌, ◌++◌, ℕ, List, [
 ghost use Rattle.std.specs.Option.{option_map};
 ghost use Rattle.std.specs.BTreeMap.{is_at};
 ghost use Rattle.rr_text.specs.Bytes.{bytes_cmp};
-ghost use Rattle.rr_series.specs.Indexed.{archives_of, index_of, items_of};
+ghost use Rattle.rr_replica.specs.Held.{archives_of};
+ghost use Rattle.rr_replica.specs.Indexed.{index_of, items_of};
 
 use crate::hint::Hint;
 use crate::hints::Hints;
@@ -16,21 +17,18 @@ use std::collections::BTreeMap;
 /// A tree has the indices in order of the keys, and hints are tried before it: a key is mostly found
 /// by its hash, and at worst at the cost of the tree.
 #[derive(Drop)]
-pub struct SeriesMap<A> {
-    /// The keys, each at its index.
-    pub keys: Vec<SeriesKey>,
-    /// The archives of each key, at its index. Those of a key that is there may change.
-    pub archives: Vec<Vec<A>>,
-    /// The index of each key, in order of the keys.
-    pub indices: BTreeMap<SeriesKey, usize>,
+pub(crate) struct SeriesMap<A> {
+    pub(crate) keys: Vec<SeriesKey>,
+    pub(crate) archives: Vec<Vec<A>>,
+    pub(crate) indices: BTreeMap<SeriesKey, usize>,
     hints: Hints,
 }
 
 impl<A: Drop> SeriesMap<A> {
-    ghost use Rattle.rr_series.specs.SeriesMap.{entries_of, IsIndexed};
+    ghost use Rattle.rr_replica.specs.SeriesMap.{entries_of, IsIndexed};
 
     /// No key yet. Takes no memory.
-    pub fn new(alloc: Global) -> SeriesMap<A>
+    pub(crate) fn new(alloc: Global) -> SeriesMap<A>
         ensures none { entries_of result ≡ [] }
         ensures no_keys { result.keys.items ≡ [] }
         ensures no_archives { result.archives.items ≡ [] }
@@ -45,7 +43,7 @@ impl<A: Drop> SeriesMap<A> {
     }
 
     /// The index of a key, if it is known.
-    pub fn find(&self, key: &SeriesKey) -> Option<usize>
+    pub(crate) fn find(&self, key: &SeriesKey) -> Option<usize>
         requires { IsIndexed self.now }
         ensures { result ≡ index_of self.now.indices.entries key.now }
     {
@@ -67,7 +65,7 @@ impl<A: Drop> SeriesMap<A> {
     }
 
     /// The index of a key, if it is known. The hint is tried first.
-    pub fn find_near(&self, hint: Hint, key: &SeriesKey) -> Option<usize>
+    pub(crate) fn find_near(&self, hint: Hint, key: &SeriesKey) -> Option<usize>
         requires { IsIndexed self.now }
         ensures { result ≡ index_of self.now.indices.entries key.now }
     {
@@ -77,23 +75,20 @@ impl<A: Drop> SeriesMap<A> {
         }
     }
 
-    /// The key as it is known, with a hint where its archives are; one that isn't known as it is, with
-    /// a hint where they are once it is added next.
-    pub fn known_key<'a>(&'a self, key: &'a SeriesKey) -> (&'a SeriesKey, Hint)
+    /// The key as it is known, with its index; one that isn't known as it is, with the index that it
+    /// gets when it is added next.
+    pub(crate) fn known_key<'a>(&'a self, key: &'a SeriesKey) -> (&'a SeriesKey, usize)
         requires { IsIndexed self.now }
         ensures { result.0.now ≡ key.now }
     {
         match self.find(key) {
-            Some(index) => (&self.keys[index], Hint { index }),
-            None => {
-                let index = self.keys.len();
-                (key, Hint { index })
-            }
+            Some(index) => (&self.keys[index], index),
+            None => (key, self.keys.len()),
         }
     }
 
     /// The archives of a key, if it is known.
-    pub fn get(&self, key: &SeriesKey) -> Option<&Vec<A>>
+    pub(crate) fn get(&self, key: &SeriesKey) -> Option<&Vec<A>>
         requires { IsIndexed self.now }
         ensures { option_map (λ archives. archives.now) result ≡ archives_of (entries_of self.now) key.now }
     {
@@ -104,7 +99,7 @@ impl<A: Drop> SeriesMap<A> {
     }
 
     /// The archives at an index; none past the last.
-    pub fn at(&self, index: usize) -> &[A]
+    pub(crate) fn at(&self, index: usize) -> &[A]
         ensures { result.now ≡ items_of (slice_get self.now.archives.items index) }
     {
         match self.archives.get(index) {
@@ -114,7 +109,7 @@ impl<A: Drop> SeriesMap<A> {
     }
 
     /// Adds a key that isn't known yet, with its archives. After an error nothing has changed.
-    pub fn insert(&mut self, key: &SeriesKey, archives: Vec<A>) -> Result<(), AllocError>
+    pub(crate) fn insert(&mut self, key: &SeriesKey, archives: Vec<A>) -> Result<(), AllocError>
         requires indexed { IsIndexed self.old }
         requires unknown { index_of self.old.indices.entries key.now ≡ None }
         ensures keys { OnOk result (self.new.keys.items ≡ self.old.keys.items ++ key.now ∷ []) }

@@ -1,8 +1,8 @@
 use Rattle.std.proofs.Common.{length, Some, sym, ap, ◌∙◌}
 use Rattle.std.proofs.lemmas.Bool.{ltb-true}
 use Rattle.std.proofs.lemmas.Option.{slice_get-get_or}
-use Rattle.rr_series.proofs.IndexedLemmas.{same_text}
-use Rattle.rr_series.proofs.series.SeriesMap.index_near.Goals as goal
+use Rattle.rr_replica.proofs.IndexedLemmas.{same_text}
+use Rattle.rr_replica.proofs.series.SeriesMap.index_near.Goals as goal
 
 pub returns-then-eq : goal.returns-then-eq
 returns-then-eq g c =

@@ -1,5 +1,5 @@
 -- Keys and their archives, each at its index.
-use Rattle.std.proofs.Common.{◌≡◌, ℕ, ◌+◌, ◌<◌, Bool, true, false, cond, List, [], ◌∷◌, ◌++◌, length, set, slice_get, get_or, refl, sym, ap, ◌∙◌, subst, arith, true≢false, Option, Some, None, is_some, unwrap_or, ⊎_elim, Less, Equal, Greater}
+use Rattle.std.proofs.Common.{◌≡◌, ℕ, zero, suc, ◌+◌, ◌<◌, Bool, true, false, cond, List, [], ◌∷◌, ◌++◌, length, set, take, slice_get, get_or, refl, sym, ap, ◌∙◌, subst, arith, true≢false, Option, Some, None, is_some, unwrap_or, ⊎_elim, Less, Equal, Greater}
 use Rattle.std.specs.Prelude.{nat_eq}
 use Rattle.std.specs.Global.{Vec}
 use Rattle.std.specs.List.{AllByRecursion}
@@ -13,8 +13,14 @@ use Rattle.std.proofs.lemmas.Option.{slice_get_within, slice_get-get_or}
 use Rattle.std.proofs.lemmas.Bool.{cases_lt}
 use Rattle.rr_join.proofs.Members.{same_from_tie, tie_itself}
 use Rattle.rr_text.specs.Bytes.{bytes_cmp}
-use Rattle.rr_series.specs.Indexed.{archives_of, index_of, with_entry, entries_at, IsIndexed}
-use Rattle.rr_series.proofs.Lists.{get_append, get_first, found_at, slice_get-set_same, slice_get-set_other, length-set, there, bytes_cmp-IsAntisymmetric}
+use Rattle.rr_base.specs.Schema.{Layout}
+use Rattle.rr_replica.specs.Archives.{AreSized}
+use Rattle.rr_replica.specs.Held.{archives_of, AreAllSized}
+use Rattle.rr_replica.specs.Indexed.{index_of, with_entry, entries_at, IsIndexed}
+use Rattle.rr_replica.proofs.Counted.{get_append, get_first}
+use Rattle.rr_replica.proofs.Each.{found_at, slice_get-set_same, slice_get-set_other, length-set}
+use Rattle.rr_replica.proofs.Shown.{there}
+use Rattle.rr_replica.proofs.SeriesLemmas.{bytes_cmp-IsAntisymmetric}
 
 is_same : (a b : List ℕ) → is_at (bytes_cmp a) b ≡ true → a ≡ b
 is_same a b t = same_from_tie nat_list_cmp_total bytes_cmp-IsAntisymmetric a b t
@@ -169,3 +175,18 @@ module _ {X : Type 0} where
         earlier : (o : Option ℕ) → index_of indices q ≡ o → after o (archives ++ now ∷ []) ≡ after o archives
         earlier None e = refl
         earlier (Some j) e = let a = there archives j (index_within keys indices archives is q j (sym e)) in get_first archives (now ∷ []) j a.0 a.1 ∙ sym a.1
+
+-- what stands in the front of a list
+pub slice_get-take : {Y : Type 0} (xs : List Y) (i j : ℕ) (y : Y) → slice_get (take i xs) j ≡ Some y → (slice_get xs j ≡ Some y) × (j < i)
+slice_get-take [] zero j y e = absurd (true≢false (sym (ap is_some e)))
+slice_get-take [] (suc i) j y e = absurd (true≢false (sym (ap is_some e)))
+slice_get-take (x ∷ xs) zero j y e = absurd (true≢false (sym (ap is_some e)))
+slice_get-take (x ∷ xs) (suc i) zero y e = (e, omega arith)
+slice_get-take (x ∷ xs) (suc i) (suc j) y e = let h = slice_get-take xs i j y e in (h.0, let less = h.1 in omega arith)
+
+-- archives of a size at a key keep all of a size
+pub sized_with : {X : Type 0} (limit : X → ℕ) (s : Layout) (key : List ℕ) (old new : List (List ℕ × Vec X)) (now : Vec X) → AreAllSized limit s old → ((q : List ℕ) → archives_of new q ≡ cond (is_at (bytes_cmp key) q) (Some now) (archives_of old q)) → AreSized limit s now.items → AreAllSized limit s new
+sized_with limit s key old new now sized sets size q archives e = elim (is_at (bytes_cmp key) q) as (λ b. cond b (Some now) (archives_of old q) ≡ Some archives → AreSized limit s archives.items) [
+  | true ↦ λ h. subst (λ v. AreSized limit s v.items) (ap (λ o. unwrap_or o now) h) size
+  | false ↦ λ h. sized q archives h
+] (sym (sets q) ∙ e)

@@ -1,7 +1,7 @@
 use Rattle.std.proofs.Common.{◌≡◌, Some, arith}
-use Rattle.rr_series.specs.Indexed.{index_of}
-use Rattle.rr_series.proofs.IndexedLemmas.{key_within, key_found}
-use Rattle.rr_series.proofs.series.SeriesMap.known_key.Goals as goal
+use Rattle.rr_replica.specs.Indexed.{index_of}
+use Rattle.rr_replica.proofs.IndexedLemmas.{key_within, key_found}
+use Rattle.rr_replica.proofs.series.SeriesMap.known_key.Goals as goal
 
 pub index-requires : goal.index-requires
 index-requires g c =
