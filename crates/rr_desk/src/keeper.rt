@@ -1,5 +1,5 @@
 //! The keeper of a desk, which alone writes.
-ghost use Rattle.std.specs.Prelude.{◌≡◌, ◌<◌, ◌≤◌, ◌↔◌, All, Err, IfOk, OnErr, OnOk, map, take, drop, true};
+ghost use Rattle.std.specs.Prelude.{◌≡◌, ◌<◌, ◌≤◌, ◌↔◌, All, Err, IfOk, OnErr, OnOk, map, take, drop};
 ghost use Rattle.std.specs.FinMap.{entries, len};
 ghost use Rattle.std.specs.Io.KnownBytes.{Appends};
 ghost use Rattle.rr_base.specs.declared.limits.TheConstants.{MAX_NUMBER};
@@ -8,7 +8,6 @@ ghost use Rattle.rr_base.specs.Stream.{AppendsPrefix};
 ghost use Rattle.rr_replica.specs.CellBounds.{IsCellOf};
 ghost use Rattle.rr_replica.specs.Held.{IsHolding};
 ghost use Rattle.rr_replica.specs.Listing.{owned_cell};
-ghost use Rattle.rr_replica.specs.Operations.{accepts};
 ghost use Rattle.rr_replica.specs.declared.op.Op.TheVariants.{Join};
 ghost use Rattle.rr_replica.specs.Standing.{held};
 ghost use Rattle.rr_delta.specs.Difference.{IsSummary};
