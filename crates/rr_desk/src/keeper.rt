@@ -1,15 +1,14 @@
 //! The keeper of a desk, which alone writes.
-ghost use Rattle.std.specs.Prelude.{◌≡◌, ◌<◌, ◌≤◌, ◌↔◌, All, Err, IfOk, OnErr, OnOk, map, take, drop, true};
+ghost use Rattle.std.specs.Prelude.{◌≡◌, ◌<◌, ◌≤◌, ◌↔◌, All, Err, IfOk, OnErr, OnOk, map, take, drop};
 ghost use Rattle.std.specs.FinMap.{entries, len};
 ghost use Rattle.std.specs.Io.KnownBytes.{Appends};
 ghost use Rattle.rr_text.specs.declared.limits.TheConstants.{MAX_NUMBER};
 ghost use Rattle.rr_base.specs.Counted.{inner_of, failures_of, HasRisen};
 ghost use Rattle.rr_base.specs.Stream.{AppendsPrefix};
-ghost use Rattle.rr_cells.specs.CellBounds.{IsCellOf};
-ghost use Rattle.rr_cells.specs.Holding.{IsHolding};
-ghost use Rattle.rr_cells.specs.Listing.{owned_cell};
-ghost use Rattle.rr_cells.specs.Operations.{accepts};
-ghost use Rattle.rr_cells.specs.declared.op.Op.TheVariants.{Join};
+ghost use Rattle.rr_replica.specs.CellBounds.{IsCellOf};
+ghost use Rattle.rr_replica.specs.Held.{IsHolding};
+ghost use Rattle.rr_replica.specs.Listing.{owned_cell};
+ghost use Rattle.rr_replica.specs.declared.op.Op.TheVariants.{Join};
 ghost use Rattle.rr_replica.specs.Standing.{held};
 ghost use Rattle.rr_delta.specs.Difference.{IsSummary};
 ghost use Rattle.rr_delta.specs.Names.{IsNameOf, name_in, named_version, owned_name, versions_of};

@@ -10,7 +10,6 @@
 //! `rr_node::serve_node`. The first fault ends it.
 #![tactic(auto)]
 
-mod begin;
 mod process;
 
 pub use process::{run, serve};

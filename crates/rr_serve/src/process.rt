@@ -1,6 +1,5 @@
 //! The program's run, and a node over TCP.
 
-use crate::begin::{first_replica, read_config};
 use rr_base::Origin;
 use rr_desk::{Keeper, Reader, open};
 use rr_node::{
@@ -10,6 +9,7 @@ use rr_orders::{Ending, obey, read_order};
 use rr_replica::Replica;
 use rr_report::ToolFault;
 use rr_ring::RingArchive;
+use rr_startup::{first_replica, read_config};
 use rr_words::Order;
 use std::alloc::AllocError;
 use std::env::Env;

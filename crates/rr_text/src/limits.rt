@@ -47,6 +47,9 @@ pub const MAX_READS: u32 = 4_294_967_295;
 /// The readers of a node, each with an address of its own.
 pub const MAX_READERS: usize = 16;
 
+/// The most seconds for which a connection may move no byte: one day.
+pub const MAX_IDLE: u64 = 86_400;
+
 /// The last second, either side of the Unix epoch, that a fetch may name: the first one past every
 /// time of a sample.
 pub const MAX_SECOND: u64 = 9_223_372_037;
@@ -87,3 +90,5 @@ const _: () = prove!(MAX_SECOND == 9_223_372_037);
 const _: () = prove!(NANOSECONDS == 1_000_000_000);
 
 const _: () = prove!(MAX_READERS == 16);
+
+const _: () = prove!(MAX_IDLE == 86_400);

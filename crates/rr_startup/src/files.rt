@@ -1,7 +1,7 @@
-//! What a node begins with.
+//! The files that a node begins with.
 
 use rr_base::{Counted, Origin, Schema};
-use rr_node::{Config, ConfigFault};
+use rr_config::{Config, ConfigFault};
 use rr_orders::Ending;
 use rr_replica::Replica;
 use rr_report::ToolFault;
@@ -18,11 +18,9 @@ fn unread(rt: &impl Eprint, file: &str, error: &std::io::Error) -> Ending {
     Ending::Failed(ToolFault::ReadFailed)
 }
 
-/// The configuration in a file.
-pub(crate) fn read_config(
-    rt: &(impl AllocGlobal + Files + Eprint),
-    file: &str,
-) -> Result<Config, Ending> {
+/// The configuration in a file. The ending says why there is none; a file that can't be read is named on
+/// standard error.
+pub fn read_config(rt: &(impl AllocGlobal + Files + Eprint), file: &str) -> Result<Config, Ending> {
     let text = match fs::read(rt, file) {
         Ok(text) => text,
         Err(error) => return Err(unread(rt, file, &error)),
@@ -57,8 +55,9 @@ fn load_replica(
     }
 }
 
-/// The replica that a node begins with: that of a snapshot, or an empty one.
-pub(crate) fn first_replica(
+/// The replica that a node begins with: that of a snapshot in a file, or an empty one. The ending says why
+/// there is none; a file that can't be read is named on standard error.
+pub fn first_replica(
     rt: &(impl AllocGlobal + Files + Eprint),
     schema: &Schema,
     origin: Origin,
