@@ -2,8 +2,8 @@
 use Rattle.std.specs.Prelude.{ℕ, ◌&&◌, nat_le, not, List, [], ◌∷◌, length, ℤ, pos, negsuc, codes, Option, None, Some, Result, Ok, Err, if◌then◌else◌}
 use Rattle.std.specs.Str.{bytes_eq}
 use Rattle.toml.specs.Data.{Data, Items, no_items, item, as_integer, as_str, as_array}
-use Rattle.rr_base.specs.Results.{◌>>=◌, unless}
-use Rattle.rr_base.specs.declared.limits.TheConstants.{MAX_IDLE, MAX_READERS}
+use Rattle.rr_text.specs.Results.{◌>>=◌, unless}
+use Rattle.rr_text.specs.declared.limits.TheConstants.{MAX_IDLE, MAX_READERS}
 use Rattle.rr_line.specs.declared.precision.Precision.{Precision}
 use Rattle.rr_line.specs.declared.precision.Precision.TheVariants.{Ns, Us, Ms, S}
 use Rattle.rr_config.specs.declared.fault.ConfigFault.{ConfigFault}

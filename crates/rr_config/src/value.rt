@@ -9,9 +9,8 @@ ghost use Rattle.rr_text.specs.Results.{Gives, GivesUnless};
 ghost use Rattle.rr_config.specs.Values.{needed, text_of, count_of, texts_in, texts_of, readers_of, precision_named, precision_of, idle_of};
 
 use crate::fault::ConfigFault;
-use rr_base::limits::{MAX_IDLE, MAX_READERS};
 use rr_line::Precision;
-use rr_text::limits::MAX_READERS;
+use rr_text::limits::{MAX_IDLE, MAX_READERS};
 use std::alloc::Global;
 use toml::{Table, Value};
 

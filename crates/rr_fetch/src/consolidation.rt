@@ -21,7 +21,7 @@ use rr_contrib::Mask;
 /// The origins of the entries ascend. Each contribution has a count from 1 to
 /// [`MAX_NUMBER`](rr_text::limits::MAX_NUMBER) and a sum from `count * min` to `count * max`. The
 /// cost is linear in the entries.
-#[tactic(auto, unfolding(crate::specs::Consolidation::consolidated))]
+#[tactic(auto, unfolding(crate::specs::Consolidation::consolidation_of))]
 pub fn consolidate(
     row: &[Entry],
     schema: &Schema,

@@ -100,7 +100,7 @@ fn rows_of(schema: &Schema, archive: u8, start: i64, end: i64) -> Result<(i64, u
 /// of the three numbers; `BadKey`; `EmptyRange`, for a start that is not before the end;
 /// `TooManyRows`, for more than [`MAX_FETCH_ROWS`]; and `Memory` only where none of these is due.
 /// The cost is linear in the bytes.
-#[tactic(auto, unfolding(crate::specs::Requests::requested))]
+#[tactic(auto, unfolding(crate::specs::Requests::request_of_words))]
 pub fn parse_request(alloc: Global, bytes: &[u8], schema: &Schema) -> Result<Request, RequestFault>
     ensures value { GivesUnless RequestFault.Memory request_view result
         (request_of_words schema.now bytes.now) }

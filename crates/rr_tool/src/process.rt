@@ -1,4 +1,4 @@
-//! The program's run, and a node over TCP.
+//! An order obeyed, and a node served over TCP.
 
 use rr_base::Origin;
 use rr_desk::{Keeper, Reader, open};
@@ -167,7 +167,7 @@ where
 
 /// Serves as a node until its rounds and visits are done. Its configuration is read first, then the
 /// snapshot to begin with, then it listens on its addresses; the first fault ends it.
-pub fn serve<R>(
+fn serve<R>(
     rt: &R,
     config: &str,
     origin: Origin,
@@ -197,7 +197,7 @@ fn lent(text: &Option<String>) -> Option<&str> {
 }
 
 /// Obeys the order of the process's own words, and says how that ended.
-pub fn run<R>(rt: &R) -> Ending
+pub(crate) fn run<R>(rt: &R) -> Ending
 where
     R: AllocGlobal
         + Env
