@@ -137,7 +137,12 @@ impl<A: Archive> Calls<A> {
     }
 
     /// Writes the point of a line.
-    fn write_point(&mut self, line: &[u8], now: i64, lead: Option<u64>) -> Result<Result<u32, WriteFault>> {
+    fn write_point(
+        &mut self,
+        line: &[u8],
+        now: i64,
+        lead: Option<u64>,
+    ) -> Result<Result<u32, WriteFault>> {
         if line.contains(&LINE_FEED) {
             bail!("more than a line");
         }
@@ -154,7 +159,13 @@ impl<A: Archive> Calls<A> {
         let number = number.parse::<u64>()?.clamp(1, MAX_NUMBER);
         let slot = slot.parse::<i64>()?.clamp(-9, 9);
         let sample = Contribution::first(number, 0, slot * MINUTE, value.parse()?);
-        let cell = cell_of(self.alloc, self.replica.schema(), origin.parse()?, slot, sample)?;
+        let cell = cell_of(
+            self.alloc,
+            self.replica.schema(),
+            origin.parse()?,
+            slot,
+            sample,
+        )?;
         self.replica.join_cell(&cell)?;
         Ok(self.output.push_str("joined\n")?)
     }
@@ -194,11 +205,20 @@ impl<A: Archive> Calls<A> {
     fn push_taken(&mut self, op: &Op) -> Result<()> {
         self.replica.ready(op)?;
         let taken = self.replica.apply(op)?;
-        Ok(self.output.push_str(if taken { "taken\n" } else { "not taken\n" })?)
+        Ok(
+            self.output
+                .push_str(if taken { "taken\n" } else { "not taken\n" })?,
+        )
     }
 
     fn hold(&mut self, session: Session, words: &str) -> Result<()> {
-        push_session(self.alloc, session, &mut self.replica, words, &mut self.output)
+        push_session(
+            self.alloc,
+            session,
+            &mut self.replica,
+            words,
+            &mut self.output,
+        )
     }
 
     fn push_cells(&mut self) -> Result<(), AllocError> {

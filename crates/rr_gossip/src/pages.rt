@@ -9,10 +9,10 @@ ghost use Rattle.rr_gossip.specs.declared.frame.TheConstants.{MAX_FRAME_LEN};
 ghost use Rattle.rr_gossip.specs.Pages.{next_page, after_page};
 
 use rr_base::Schema;
-use rr_text::limits::MAX_PAGE_CELLS;
 use rr_cells::Cell;
 use rr_delta::part;
 use rr_page::encode;
+use rr_text::limits::MAX_PAGE_CELLS;
 use std::alloc::{AllocError, Global};
 use std::marker::Model;
 

@@ -8,8 +8,8 @@ use crate::hint::Hint;
 use crate::reading::Reading;
 use crate::replica::Replica;
 use rr_archive::Archive;
-use rr_text::limits::MAX_NUMBER;
 use rr_cells::Op;
+use rr_text::limits::MAX_NUMBER;
 use std::alloc::AllocError;
 
 impl<A: Archive> Replica<A> {

@@ -16,9 +16,9 @@ ghost use Rattle.rr_cells.specs.Listing.{seen_cell, count_of, at_most_usize};
 
 use crate::series::SeriesMap;
 use rr_archive::{Archive, Entry};
-use rr_text::limits::MAX_ARCHIVES;
 use rr_cells::CellRef;
 use rr_key::SeriesKey;
+use rr_text::limits::MAX_ARCHIVES;
 
 /// How many cells archives hold, added to others; the greatest value of the type, where it can't
 /// hold that many.

@@ -16,9 +16,9 @@ use crate::listing::named;
 use crate::series::SeriesMap;
 use rr_archive::Archive;
 use rr_base::Origin;
-use rr_text::limits::MAX_ARCHIVES;
 use rr_cells::CellRef;
 use rr_key::SeriesKey;
+use rr_text::limits::MAX_ARCHIVES;
 
 /// The name of a cell.
 #[derive(Clone, Copy)]

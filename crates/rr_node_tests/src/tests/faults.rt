@@ -93,7 +93,12 @@ fn told<R: Wait>(
     opens: Option<bool>,
 ) -> Option<Told> {
     let config = Config::from_toml(alloc, CONFIG).ok()?;
-    let (mut keeper, _readers) = open(alloc, rt, minutes::<PlainArchive>(alloc, 2, 3).ok()?, 1).ok()?;
+    let (mut keeper, _readers) = open(
+        alloc,
+        rt,
+        minutes::<PlainArchive>(alloc, 2, 3).ok()?,
+        1,
+    ).ok()?;
     let mut lines = Prepared::new(alloc, inputs).ok()?;
     let mut dial = Peers::new(alloc, b"\xff\xff\xff\xff");
     let mut shelf = NoRoom {
@@ -104,7 +109,14 @@ fn told<R: Wait>(
     };
     let mut clock = Moments::new(Vec::new(alloc));
     let came = keep_round(
-        alloc, &mut keeper, &mut lines, &mut dial, &mut shelf, &mut clock, &config, rt,
+        alloc,
+        &mut keeper,
+        &mut lines,
+        &mut dial,
+        &mut shelf,
+        &mut clock,
+        &config,
+        rt,
     );
     keeper.close(rt);
     Some((came.ok(), shelf.peer, shelf.save, shelf.whole))
