@@ -2,11 +2,11 @@
 //!
 //! [`Copies`] is the keeper's part: a replica with all operations, and the writer of the two copies.
 //! [`Copies::push`] makes an operation pending, and [`Copies::publish`] shows all pending ones at one step,
-//! by a mark of the book of editions and a swap of the copies. A reader has a [`Seat`], enters the copy
+//! by a mark of the book of editions and a swap of the copies. A reader has a [`ReadHandle`], enters the copy
 //! that is shown, and leaves it.
 //!
 //! ```text
-//! operation ── push ──> pending ── publish ──> book, and the copy that is shown ── Seat ──> what is seen
+//! operation ── push ──> pending ── publish ──> book, and the copy that is shown ── ReadHandle ──> what is seen
 //! ```
 //!
 //! In `specs/` all lists of operations that are seen, told or published are beginnings of one list: that
@@ -18,15 +18,15 @@
 mod book;
 mod copies;
 mod opening;
+mod read_handle;
 mod rule;
-mod seat;
 mod shown;
 mod writing;
 
 pub use book::{Editions, Front};
 pub use copies::Copies;
 pub use opening::{discard, started_writer};
+pub use read_handle::{ReadHandle, look, look_for};
 pub use rule::{Enters, Introduces, Published, View};
-pub use seat::{Seat, look, look_for};
 pub use shown::{Change, CopyState, Shown};
 pub use writing::{DeskWriter, introduce};

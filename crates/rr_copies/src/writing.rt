@@ -13,8 +13,8 @@ ghost use Rattle.rr_copies.specs.Writers.{changes};
 ghost use Rattle.rr_copies.specs.declared.shown.Change.TheVariants.{Mark};
 
 use crate::book::{Batch, Editions};
+use crate::read_handle::ReadHandle;
 use crate::rule::{Introduces, Opens, Published, Publishes, View};
-use crate::seat::Seat;
 use crate::shown::{Change, Shown};
 use left_right::writer::Writer;
 use rr_archive::Archive;
@@ -155,7 +155,7 @@ pub fn mark<A: Archive>(
 }
 
 /// Tells a new reader of the desk, and of what is published.
-pub fn introduce<A: Archive>(writer: &mut DeskWriter<A>, seat: &mut Seat<A>)
+pub fn introduce<A: Archive>(writer: &mut DeskWriter<A>, seat: &mut ReadHandle<A>)
     requires { seat.old.place.table_id ≡ writer.old.desk.place.table_id }
     ensures told { view seat.new.place ≡ with_news (view seat.old.place) (view writer.old.desk.place) }
     ensures view { view writer.new.desk.place ≡ view writer.old.desk.place }

@@ -21,7 +21,7 @@ use crate::reading::{answer, lacking};
 use rr_archive::Archive;
 use rr_base::Schema;
 use rr_cells::Cell;
-use rr_copies::{Seat, look_for};
+use rr_copies::{ReadHandle, look_for};
 use rr_delta::Name;
 use rr_fetch::Request;
 use std::alloc::{AllocError, Global};
@@ -32,7 +32,7 @@ use std::marker::Model;
 #[derive(Drop)]
 pub struct Reader<A: Archive> {
     pub(crate) schema: Schema,
-    pub(crate) seat: Option<Seat<A>>,
+    pub(crate) seat: Option<ReadHandle<A>>,
 }
 
 impl<A: Archive> Model for Reader<A> {

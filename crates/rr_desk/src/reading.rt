@@ -18,18 +18,18 @@ use crate::fault::FetchFault;
 use crate::gate::Gate;
 use rr_archive::Archive;
 use rr_cells::Cell;
-use rr_copies::{Enters, Seat};
+use rr_copies::{Enters, ReadHandle};
 use rr_delta::{Name, difference};
 use rr_fetch::{Request, answer_text};
 use std::alloc::{AllocError, Global};
 
 /// The answer to a request from the copy that is shown, if the gate lets it be made.
 pub fn answer<A: Archive, G: Gate>(
-    seat: Seat<A>,
+    seat: ReadHandle<A>,
     alloc: Global,
     request: &Request,
     gate: &mut G,
-) -> (Seat<A>, Result<Vec<u8>, FetchFault>)
+) -> (ReadHandle<A>, Result<Vec<u8>, FetchFault>)
     requires joined { (view seat.place).joined ≡ true }
     requires fetchable { IsFetchable (view seat.place).schema (request_view request.now) }
     ensures seen { Saw (view seat.place) (view result.0.place) }
@@ -57,10 +57,10 @@ pub fn answer<A: Archive, G: Gate>(
 
 /// The cells of the copy that is shown which a summary lacks.
 pub fn lacking<A: Archive>(
-    seat: Seat<A>,
+    seat: ReadHandle<A>,
     alloc: Global,
     summary: &[Name],
-) -> (Seat<A>, Result<Vec<Cell>, AllocError>)
+) -> (ReadHandle<A>, Result<Vec<Cell>, AllocError>)
     requires joined { (view seat.place).joined ≡ true }
     requires summary { IsSummary (map owned_name summary.now) }
     ensures seen { Saw (view seat.place) (view result.0.place) }

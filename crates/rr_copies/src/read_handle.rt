@@ -1,4 +1,4 @@
-//! A reader's seat at the copies, and what is done there under the rule.
+//! A reader's handle of the copies, and what is done with it under the rule.
 ghost use Rattle.std.specs.Prelude.{◌≡◌, true, IfOk, MatchResult};
 ghost use mathlib.Core.List.{IsPrefix};
 ghost use Rattle.left_right.specs.Sides.{view};
@@ -12,11 +12,11 @@ use left_right::reader::Reader;
 use rr_archive::Archive;
 use std::alloc::AllocError;
 
-/// A reader's seat at the copies.
-pub type Seat<A> = Reader<Shown<A>, View, Published>;
+/// A reader's handle of the copies, which is at a seat of their table.
+pub type ReadHandle<A> = Reader<Shown<A>, View, Published>;
 
 /// Enters and leaves once.
-pub fn look<A: Archive>(seat: Seat<A>) -> Result<Seat<A>, Seat<A>>
+pub fn look<A: Archive>(seat: ReadHandle<A>) -> Result<ReadHandle<A>, ReadHandle<A>>
     ensures { MatchResult result
         (λ s. Looked (view seat.place) (view s.place))
         (λ s. view s.place ≡ view seat.place) }
@@ -28,7 +28,10 @@ pub fn look<A: Archive>(seat: Seat<A>) -> Result<Seat<A>, Seat<A>>
 }
 
 /// Enters and leaves once, and says whether what is then seen begins with what a front has.
-pub fn look_for<A: Archive>(seat: Seat<A>, front: &Front) -> (Seat<A>, Result<(), AllocError>)
+pub fn look_for<A: Archive>(
+    seat: ReadHandle<A>,
+    front: &Front,
+) -> (ReadHandle<A>, Result<(), AllocError>)
     requires joined { (view seat.place).joined ≡ true }
     requires desk { front.now.desk ≡ (view seat.place).desk }
     ensures seen { Saw (view seat.place) (view result.0.place) }

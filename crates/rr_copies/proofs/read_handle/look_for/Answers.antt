@@ -5,7 +5,7 @@ use Rattle.rr_cells.specs.declared.op.Op.{Op}
 use Rattle.rr_copies.specs.Editions.{flat}
 use Rattle.rr_copies.proofs.EditionsLemmas.{flat-prefix}
 use Rattle.rr_copies.proofs.RuleLemmas.{sees}
-use Rattle.rr_copies.proofs.seat.look_for.Goals as goal
+use Rattle.rr_copies.proofs.read_handle.look_for.Goals as goal
 
 pub enter_as-requires : goal.enter_as-requires
 enter_as-requires g c x = sees _ _ _
