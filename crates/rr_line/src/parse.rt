@@ -59,7 +59,7 @@ pub fn parse_line<'a>(
 
     // Each field of a point has a key, and they are few.
     ensures keyed { IfOk result (λ said. LineHasKeys (line_view said)) }
-    ensures few { IfOk result (λ said. LineHasFewFields (line_view said)) }
+    ensures fields_fit { IfOk result (λ said. LineHasFewFields (line_view said)) }
 {
     let text = content(line);
     if is_nothing(text) {

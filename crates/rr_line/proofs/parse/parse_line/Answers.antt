@@ -38,7 +38,7 @@ returns-clause-keyed c =
     keys_of_point c.args.precision c.args.line.now (point_view c.in_ok-point.point) c.requires
     (subst (IsLineOf c.args.precision c.args.line.now) (point_said c.args.precision c.args.line.now c.content-text.result.now (point_view c.in_ok-point.point) c.content-text.ensures c.if-is_nothing.ensures c.in_ok-point.ensures.read) (line_found c.args.precision c.args.line.now))
 
-pub returns-clause-few : goal.returns-clause-few
-returns-clause-few c =
+pub returns-clause-fields_fit : goal.returns-clause-fields_fit
+returns-clause-fields_fit c =
     few_of_point c.args.precision c.args.line.now (point_view c.in_ok-point.point)
     (subst (IsLineOf c.args.precision c.args.line.now) (point_said c.args.precision c.args.line.now c.content-text.result.now (point_view c.in_ok-point.point) c.content-text.ensures c.if-is_nothing.ensures c.in_ok-point.ensures.read) (line_found c.args.precision c.args.line.now))
