@@ -64,6 +64,7 @@ class Build:
         self.proved = []
         self.running = {}
         self.commands = set()
+        self.stopped = threading.Event()
         self.ended = threading.Event()
 
     def say(self, text):
@@ -90,6 +91,8 @@ class Build:
             start_new_session=True,
         )
         self.commands.add(process)
+        if self.stopped.is_set():
+            os.killpg(process.pid, signal.SIGTERM)
         try:
             said, _ = process.communicate()
         finally:
@@ -98,7 +101,8 @@ class Build:
             raise Failed(said)
 
     def stop(self):
-        """Ends all commands that run."""
+        """Ends all commands that run, and each that would run later."""
+        self.stopped.set()
         for process in list(self.commands):
             os.killpg(process.pid, signal.SIGTERM)
 

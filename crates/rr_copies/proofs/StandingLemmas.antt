@@ -38,7 +38,7 @@ tied-push v shown own new pending all op t may is more =
       schema = t.schema ∙ sym (step-schema own op);
       cells = t.cells;
       accepted = accepted-append pending (op ∷ []) shown t.accepted (here, tt);
-      with_op = ap (λ (h : Holding). step h op) t.applied ∙ sym (fold-append step shown pending (op ∷ []));
+      applied = ap (λ (h : Holding). step h op) t.applied ∙ sym (fold-append step shown pending (op ∷ []));
     } in
     subst (λ (z : Holding × List Op). IsTied v shown z.0 z.1) (λ i. (sym is i, sym more i)) whole
 
@@ -52,14 +52,14 @@ tied-published v w x y own pending now is t =
       schema = t.schema;
       cells = tied-cells v x own pending t;
       accepted = tt;
-      with_op = refl;
+      applied = refl;
     } in
     subst (λ (z : View × Holding). IsTied z.0 z.1 own []) (λ i. (sym now i, sym same i)) whole
 
 -- an opened desk is tied
 pub tied-open : (v : View) (shown own : Holding) (b : Book) (cs : List Change) → IsHolding own → v ≡ keeper_of own b → shown ≡ own → cs ≡ [] → IsTied v shown own (ops_in cs)
 tied-open v shown own b cs holds is same none =
-    let whole : IsTied (keeper_of own b) own own [] = record { writes = refl; joined = refl; schema = refl; cells = sym (outcome_of-joins own.schema own.cells holds.layout holds.live); accepted = tt; with_op = refl } in
+    let whole : IsTied (keeper_of own b) own own [] = record { writes = refl; joined = refl; schema = refl; cells = sym (outcome_of-joins own.schema own.cells holds.layout holds.live); accepted = tt; applied = refl } in
     subst (λ (z : View × Holding × List Op). IsTied z.0 z.1 own z.2) (λ i. (sym is i, sym same i, ops_in (sym none i))) whole
 
 -- ---- the book

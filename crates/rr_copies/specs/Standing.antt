@@ -64,7 +64,7 @@ pub record IsTied (v : View) (shown own : Holding) (pending : List Op) : Type 0 
   pub schema : v.schema ≡ own.schema
   pub cells : shown.cells ≡ outcome_of shown.schema v.seen
   pub accepted : AllAccepted shown pending
-  pub with_op : own ≡ fold step shown pending
+  pub applied : own ≡ fold step shown pending
 
 -- the copy's book has what is published, and the keeper's has that and perhaps some of what is pending
 pub record IsBooked (v : View) (copy all : Sighting) (pending : List Op) : Type 0 where
