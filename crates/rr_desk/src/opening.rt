@@ -19,7 +19,7 @@ use rr_archive::Archive;
 use rr_base::Schema;
 use rr_copies::{Copies, DeskWriter, Editions, discard, introduce, look, started_writer};
 use rr_replica::Replica;
-use rr_text::limits::{MAX_READERS, MAX_READERS};
+use rr_text::limits::MAX_READERS;
 use std::alloc::{AllocError, Global};
 use std::sync::Wait;
 
