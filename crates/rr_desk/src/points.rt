@@ -2,7 +2,7 @@
 ghost use Rattle.std.specs.Prelude.{◌≡◌, ℕ, ◌<◌, ◌≤◌, ◌↔◌, length, take, None, Err, IfOk, IfErr, OnErr, OnOk, IsTrue, IsFalse, unwrap_or};
 ghost use Rattle.rr_text.specs.declared.limits.TheConstants.{MAX_FIELDS, MAX_NUMBER};
 ghost use Rattle.rr_key.specs.Making.{making_fault};
-ghost use Rattle.rr_point.specs.Key.{HasKeys, key_text, names_of};
+ghost use Rattle.rr_point.specs.Key.{HasKeys, IsWritable, key_text, names_of};
 ghost use Rattle.rr_point.specs.Point.{point_view};
 ghost use Rattle.rr_copies.specs.Standing.{holding_of};
 
