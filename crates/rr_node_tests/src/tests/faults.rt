@@ -93,13 +93,9 @@ fn told<R: Wait>(
     opens: Option<bool>,
 ) -> Option<Told> {
     let config = Config::from_toml(alloc, CONFIG).ok()?;
-    let (mut keeper, _readers) = open(
-        alloc,
-        rt,
-        minutes::<PlainArchive>(alloc, 2, 3).ok()?,
-        1,
-    ).ok()?;
     let mut lines = Prepared::new(alloc, inputs).ok()?;
+    let replica = minutes::<PlainArchive>(alloc, 2, 3).ok()?;
+    let (mut keeper, _readers) = open(alloc, rt, replica, 1).ok()?;
     let mut dial = Peers::new(alloc, b"\xff\xff\xff\xff");
     let mut shelf = NoRoom {
         opens,

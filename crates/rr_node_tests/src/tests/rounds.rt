@@ -210,7 +210,8 @@ const DONE: Done = (
 /// What the keeper of a new desk of origin 2 does, as [`kept`] has it.
 fn done<R: Wait + Threads + Sync>(rt: &R, alloc: Global, seats: Option<bool>) -> Option<Done> {
     let config = Config::from_toml(alloc, CONFIG).ok()?;
-    let (mut keeper, _readers) = open(alloc, rt, minutes(alloc, 2, 3).ok()?, 1).ok()?;
+    let replica = minutes(alloc, 2, 3).ok()?;
+    let (mut keeper, _readers) = open(alloc, rt, replica, 1).ok()?;
     let done = kept(rt, alloc, &mut keeper, &config, seats);
     keeper.close(rt);
     done
