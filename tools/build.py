@@ -1,5 +1,9 @@
 #!/usr/bin/env python3
-"""Proves the crates of the program rr, builds it, and says on standard error how far it is.
+"""Proves the crates of a program, builds it, and says on standard error how far it is.
+
+usage: build.py [PROGRAM]
+
+PROGRAM is a crate of the repository that is a program: rr_tool, if missing.
 
 While `rt` works on a crate, it lets no other run work on a crate below it. So that crates are proved
 side by side, each is proved in a tree of its own: its sources and the libraries below it are hard
@@ -19,7 +23,8 @@ import time
 
 from crates import TOP, lines_of, listed, with_those_below
 
-PROGRAM = "rr_tool"
+# The program with all words.
+WHOLE = "rr_tool"
 
 # Where the trees are while crates are proved.
 TREES = TOP / ".build"
@@ -55,11 +60,14 @@ def link(source, target):
 class Build:
     """The crates that are proved, those that are being proved, and the commands that run."""
 
-    def __init__(self):
+    def __init__(self, program):
         self.began = time.monotonic()
+        self.program = program
         listing = listed()
-        self.uses = {name: listing[name] for name in with_those_below(listing, [PROGRAM])}
-        self.libraries = [name for name in self.uses if name != PROGRAM]
+        if program not in listing:
+            sys.exit(f"build.py: crates.txt has no crate {program}")
+        self.uses = {name: listing[name] for name in with_those_below(listing, [program])}
+        self.libraries = [name for name in self.uses if name != program]
         self.sizes = {name: self.size(name) for name in self.uses}
         self.proved = []
         self.running = {}
@@ -151,14 +159,14 @@ class Build:
 
     def begin(self, pool, most):
         """Begins the proofs that can begin, first those of the longest ways; the longest of all takes
-        two jobs, and so does each as long as cores are left."""
+        two jobs at least, and all together as many as there are cores."""
         ways, running = self.ways(), {*self.running.values()}
         ready = [it for it in self.libraries if it in ways and it not in running and not ways.keys() & self.uses[it]]
         begins = sorted(ready, key=ways.get, reverse=True)[: most - len(running)]
-        jobs = max(1, min(2, most // max(1, len(begins) + len(running))))
+        jobs = max(1, most // max(1, len(begins) + len(running)))
         for name in begins:
             longest = ways[name] == max(ways.values())
-            self.running[pool.submit(self.prove, name, 2 if longest else jobs)] = name
+            self.running[pool.submit(self.prove, name, max(2, jobs) if longest else min(2, jobs))] = name
 
     def prove_all(self):
         most = most_proofs()
@@ -181,8 +189,11 @@ class Build:
     def build(self):
         """Proves and builds the program, over the libraries."""
         self.say("proving and building the program")
+        folder = TOP / "crates" / self.program
         # To run it on the empty script builds it, and prints nothing.
-        self.run(TOP / "crates" / PROGRAM, "rt", "run", "--jobs", str(min(2, most_proofs())))
+        self.run(folder, "rt", "run", "--jobs", str(min(2, most_proofs())))
+        # It may be built already, and older than a source of another crate.
+        (folder / "out" / self.program).touch()
 
 
 def wait_for_others():
@@ -192,7 +203,7 @@ def wait_for_others():
 
 def main():
     wait_for_others()
-    build = Build()
+    build = Build(sys.argv[1] if len(sys.argv) > 1 else WHOLE)
     threading.Thread(target=build.remind, daemon=True).start()
     try:
         TREES.mkdir(exist_ok=True)
