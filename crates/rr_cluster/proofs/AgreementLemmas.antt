@@ -10,12 +10,13 @@ use Rattle.rr_model.specs.Knowledge.{Knowledge}
 use Rattle.rr_cells.specs.Cells.{Cells}
 use Rattle.rr_cluster.specs.declared.fault.CommandFault.{CommandFault}
 use Rattle.rr_cluster.specs.Agreement.{in_cells, step_in_cells, CommandsAgree, ScriptsAgree}
-use Rattle.rr_cluster.specs.Command.{IsOneLine, Command, schema, node, now, write, page, delta, deliver, bytes, save, load, fetch}
+use Rattle.rr_script.specs.Command.{IsOneLine, Command, schema, node, now, write, page, delta, deliver, bytes, save, load, fetch}
 use Rattle.rr_cluster.specs.Commands.{on_ok, step, silently, beginning, printing}
 use Rattle.rr_cluster.specs.Commands.Schema.{layout_of}
 use Rattle.rr_cluster.specs.Model.{cell_model, sample_model}
 use Rattle.rr_cluster.specs.Output.{after_line, unless_refused, output_from}
-use Rattle.rr_cluster.specs.Script.{commands_of, SaysOneLine}
+use Rattle.rr_script.specs.Script.{commands_of, SaysOneLine}
+use Rattle.rr_script.specs.declared.fault.SyntaxFault.{SyntaxFault}
 use Rattle.rr_cluster.specs.Soundness.{IsSound, CommandsKeepSound, ScriptsAreSound, state_after}
 use Rattle.rr_cluster.specs.State.{State}
 use Rattle.rr_cluster.proofs.CommandsLemmas.Schema.{layout_is, first_states_agree, first_states_are_sound}
@@ -29,7 +30,7 @@ use Rattle.rr_cluster.proofs.CommandsLemmas.Bytes.{bytes_agree}
 use Rattle.rr_cluster.proofs.CommandsLemmas.Save.{save_agrees}
 use Rattle.rr_cluster.proofs.CommandsLemmas.Load.{load_agrees}
 use Rattle.rr_cluster.proofs.CommandsLemmas.Fetch.{fetch_agrees}
-use Rattle.rr_cluster.proofs.ScriptLemmas.{commands_are_one_line}
+use Rattle.rr_script.proofs.ScriptLemmas.{commands_are_one_line}
 use Rattle.rr_cluster.proofs.StepLemmas.{OfAnswer, Agrees, on_ok-agrees, same_answer, holds_after}
 
 abbrev Step : Type 0
@@ -95,12 +96,12 @@ commands_keep_sound m command sound one = by (step sample_model m command) (hold
 -- ---- scripts
 
 abbrev Line : Type 0
-Line = ℕ × Result Command CommandFault
+Line = ℕ × Result Command SyntaxFault
 
 abbrev IsLineOfOne : Line → Type 0
 IsLineOfOne line = SaysOneLine line.1
 
-line_keeps_sound : (m : Option (State Knowledge)) (number : ℕ) (said : Result Command CommandFault) → SaysOneLine said → IfSome m IsSound → IfSome (after_line sample_model m number said).0 IsSound
+line_keeps_sound : (m : Option (State Knowledge)) (number : ℕ) (said : Result Command SyntaxFault) → SaysOneLine said → IfSome m IsSound → IfSome (after_line sample_model m number said).0 IsSound
 line_keeps_sound m number (Err fault) one sound = sound
 line_keeps_sound m number (Ok command) one sound = by (step sample_model m command) (commands_keep_sound m command sound one)
   where
@@ -117,7 +118,7 @@ lines_keep_sound m (line ∷ lines) (suc count) one sound =
 pub scripts_are_sound : ScriptsAreSound
 scripts_are_sound script count = lines_keep_sound None (commands_of script) count (commands_are_one_line script) tt
 
-line_agrees : (m : Option (State Knowledge)) (number : ℕ) (said : Result Command CommandFault) → IfSome m IsSound
+line_agrees : (m : Option (State Knowledge)) (number : ℕ) (said : Result Command SyntaxFault) → IfSome m IsSound
     → after_line cell_model (option_map in_cells m) number said ≡ step_in_cells (after_line sample_model m number said)
 line_agrees m number (Err fault) sound = refl
 line_agrees m number (Ok command) sound = ap (unless_refused (option_map in_cells m) number) (commands_agree m command sound) ∙ by (step sample_model m command)

@@ -1,4 +1,4 @@
--- The lemmas on each command: how its words are read, what the code's step does, and that the models agree on it.
+-- The lemmas on each command: what the code's step does, and that the models agree on it.
 pub mod Schema
 pub mod Node
 pub mod Now

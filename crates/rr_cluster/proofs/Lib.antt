@@ -1,6 +1,4 @@
-pub mod WordsLemmas
 pub mod LimitLemmas
-pub mod ScriptLemmas
 pub mod MeaningLemmas
 pub mod StepLemmas
 pub mod SoundnessLemmas

@@ -1,5 +1,5 @@
--- The commands. Each has a file of its own, with how it is read from its words and what it does to a state: its
--- checks, in their order, and then the change. The first check that fails refuses it.
+-- The commands. Each has a file of its own, with what it does to a state: its checks, in their order, and then the
+-- change. The first check that fails refuses it.
 pub mod Schema
 pub mod Node
 pub mod Now
@@ -16,36 +16,20 @@ use Rattle.std.specs.Cmp.Lexicographic.{pointwise}
 use Rattle.rr_base.specs.Schema.{Layout}
 use Rattle.rr_cluster.specs.declared.fault.CommandFault.{CommandFault}
 use Rattle.rr_cluster.specs.declared.fault.CommandFault.TheVariants.{NoSchema, SchemaSet}
-use Rattle.rr_cluster.specs.Command.{Command, schema, node, now, write, page, delta, deliver, bytes, save, load, fetch}
-use Rattle.rr_cluster.specs.Commands.Schema.{schema_command, layout_of}
-use Rattle.rr_cluster.specs.Commands.Node.{node_command, after_node}
-use Rattle.rr_cluster.specs.Commands.Now.{now_command, after_now}
-use Rattle.rr_cluster.specs.Commands.Write.{write_command, after_write}
-use Rattle.rr_cluster.specs.Commands.Page.{page_command, after_page}
-use Rattle.rr_cluster.specs.Commands.Delta.{delta_command, after_delta}
-use Rattle.rr_cluster.specs.Commands.Deliver.{deliver_command, after_deliver}
-use Rattle.rr_cluster.specs.Commands.Bytes.{bytes_command, hex_of_page}
-use Rattle.rr_cluster.specs.Commands.Save.{save_command, after_save}
-use Rattle.rr_cluster.specs.Commands.Load.{load_command, after_load}
-use Rattle.rr_cluster.specs.Commands.Fetch.{fetch_command, answer_to}
+use Rattle.rr_script.specs.Command.{Command, schema, node, now, write, page, delta, deliver, bytes, save, load, fetch}
+use Rattle.rr_cluster.specs.Commands.Schema.{layout_of}
+use Rattle.rr_cluster.specs.Commands.Node.{after_node}
+use Rattle.rr_cluster.specs.Commands.Now.{after_now}
+use Rattle.rr_cluster.specs.Commands.Write.{after_write}
+use Rattle.rr_cluster.specs.Commands.Page.{after_page}
+use Rattle.rr_cluster.specs.Commands.Delta.{after_delta}
+use Rattle.rr_cluster.specs.Commands.Deliver.{after_deliver}
+use Rattle.rr_cluster.specs.Commands.Bytes.{hex_of_page}
+use Rattle.rr_cluster.specs.Commands.Save.{after_save}
+use Rattle.rr_cluster.specs.Commands.Load.{after_load}
+use Rattle.rr_cluster.specs.Commands.Fetch.{answer_to}
 use Rattle.rr_cluster.specs.Model.{Model}
 use Rattle.rr_cluster.specs.State.{State, first_state}
-
--- the command of a line's words, the first of which is its name
-abbrev pub command_of : List (List ℕ) → Option Command
-command_of [] = None
-command_of (name ∷ words) =
-    if pointwise nat_eq name (codes "schema") then schema_command words
-    else (if pointwise nat_eq name (codes "node") then node_command words
-    else (if pointwise nat_eq name (codes "now") then now_command words
-    else (if pointwise nat_eq name (codes "write") then write_command words
-    else (if pointwise nat_eq name (codes "page") then page_command words
-    else (if pointwise nat_eq name (codes "delta") then delta_command words
-    else (if pointwise nat_eq name (codes "deliver") then deliver_command words
-    else (if pointwise nat_eq name (codes "bytes") then bytes_command words
-    else (if pointwise nat_eq name (codes "save") then save_command words
-    else (if pointwise nat_eq name (codes "load") then load_command words
-    else (if pointwise nat_eq name (codes "fetch") then fetch_command words else None))))))))))
 
 -- f of an answer; a refusal stays
 abbrev pub on_ok : {A B : Type 0} → (A → B) → Result A CommandFault → Result B CommandFault

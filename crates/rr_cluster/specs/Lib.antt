@@ -1,6 +1,4 @@
 pub mod Words
-pub mod Command
-pub mod Script
 pub mod Fault
 pub mod Model
 pub mod State

@@ -2,12 +2,13 @@
 use Rattle.std.specs.Prelude.{ℕ, List, [], ◌∷◌, ◌++◌, Option, None, Result, Ok, Err}
 use Rattle.rr_records.specs.Records.{refusal_text}
 use Rattle.rr_cluster.specs.declared.fault.CommandFault.{CommandFault}
-use Rattle.rr_text.specs.Results.{◌>>=◌}
-use Rattle.rr_cluster.specs.Command.{Command}
+use Rattle.rr_cluster.specs.declared.fault.CommandFault.TheVariants.{Syntax}
+use Rattle.rr_script.specs.declared.fault.SyntaxFault.{SyntaxFault}
+use Rattle.rr_script.specs.Command.{Command}
 use Rattle.rr_cluster.specs.Commands.{step}
 use Rattle.rr_cluster.specs.Fault.{command_fault_name}
 use Rattle.rr_cluster.specs.Model.{Model}
-use Rattle.rr_cluster.specs.Script.{commands_of}
+use Rattle.rr_script.specs.Script.{commands_of}
 use Rattle.rr_cluster.specs.State.{State}
 
 -- a refused command prints `line N: NAME`, and changes nothing
@@ -17,11 +18,12 @@ unless_refused m number (Err fault) = (m, refusal_text number (command_fault_nam
 
 module _ {K : Type 0} (model : Model K) where
   -- the state after a line, and what it prints
-  abbrev pub after_line : Option (State K) → ℕ → Result Command CommandFault → Option (State K) × List ℕ
-  after_line m number said = unless_refused m number (said >>= step model m)
+  abbrev pub after_line : Option (State K) → ℕ → Result Command SyntaxFault → Option (State K) × List ℕ
+  after_line m number (Ok command) = unless_refused m number (step model m command)
+  after_line m number (Err fault) = unless_refused m number (Err (Syntax fault))
 
   -- what these lines print, one after the other
-  abbrev pub output_from : Option (State K) → List (ℕ × Result Command CommandFault) → List ℕ
+  abbrev pub output_from : Option (State K) → List (ℕ × Result Command SyntaxFault) → List ℕ
   output_from m [] = []
   output_from m (line ∷ lines) = let done = after_line m line.0 line.1 in done.1 ++ output_from done.0 lines
 

@@ -11,12 +11,12 @@ use Rattle.rr_key.specs.Series.{IsKeyText}
 use Rattle.rr_model.specs.Samples.{Sample}
 use Rattle.rr_model.specs.Knowledge.{Knowledge}
 use Rattle.rr_model.specs.World.{World, IsWritten, IsClosed, HoldsAllOf}
-use Rattle.rr_cluster.specs.declared.fault.CommandFault.{CommandFault}
-use Rattle.rr_cluster.specs.Command.{Command, IsOneLine}
+use Rattle.rr_script.specs.declared.fault.SyntaxFault.{SyntaxFault}
+use Rattle.rr_script.specs.Command.{Command, IsOneLine}
 use Rattle.rr_cluster.specs.Commands.{step}
 use Rattle.rr_cluster.specs.Model.{sample_model}
 use Rattle.rr_cluster.specs.Output.{after_line}
-use Rattle.rr_cluster.specs.Script.{commands_of}
+use Rattle.rr_script.specs.Script.{commands_of}
 use Rattle.rr_cluster.specs.State.{Node, Snapshot, State, first_state}
 
 -- a sample within the limits, of a key text, with a time and a value of 64 bits
@@ -62,7 +62,7 @@ pub record IsSound (m : State Knowledge) : Type 0 where
   pub samples : (x : Sample) → IsWritten m.world x → IsSoundSample x
 
 -- the state after some lines
-abbrev pub state_after : Option (State Knowledge) → List (ℕ × Result Command CommandFault) → Option (State Knowledge)
+abbrev pub state_after : Option (State Knowledge) → List (ℕ × Result Command SyntaxFault) → Option (State Knowledge)
 state_after m [] = m
 state_after m (line ∷ lines) = state_after (after_line sample_model m line.0 line.1).0 lines
 

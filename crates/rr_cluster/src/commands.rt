@@ -1,13 +1,12 @@
-//! The commands. Each has a file of its own, with how it is read from its words and what it does.
+//! The commands. Each has a file of its own, with what it does.
 
-ghost use Rattle.std.specs.Prelude.{◌≡◌, Option, None, Some, option_map};
+ghost use Rattle.std.specs.Prelude.{Option, None, Some};
 ghost use Rattle.rr_cells.specs.Cells.{Cells};
-ghost use Rattle.rr_cluster.specs.Command.{view_of, IsOneLine};
-ghost use Rattle.rr_cluster.specs.Commands.{command_of, step};
+ghost use Rattle.rr_script.specs.Command.{view_of, IsOneLine};
+ghost use Rattle.rr_cluster.specs.Commands.{step};
 ghost use Rattle.rr_cluster.specs.Meaning.{Begins, OptionRepresents, Obeys, Represents};
 ghost use Rattle.rr_cluster.specs.Model.{cell_model};
 ghost use Rattle.rr_cluster.specs.State.{State};
-ghost use Rattle.rr_cluster.specs.Words.{words_of};
 
 pub(crate) mod bytes;
 pub(crate) mod deliver;
@@ -22,55 +21,22 @@ pub(crate) mod schema;
 pub(crate) mod write;
 
 use crate::cluster::Cluster;
-use crate::event::Event;
 use crate::fault::CommandFault;
 use crate::stop::Stop;
-use crate::words::first_word;
-use bytes::{bytes_command, hex_of_page};
-use deliver::{deliver, deliver_command};
-use delta::{add_delta, delta_command};
-use fetch::{answer_to, fetch_command};
-use load::{load_command, load_node};
-use node::{add_node, node_command};
-use now::{now_command, set_clock};
-use page::{add_page, page_command};
+use bytes::hex_of_page;
+use deliver::deliver;
+use delta::add_delta;
+use fetch::answer_to;
+use load::load_node;
+use node::add_node;
+use now::set_clock;
+use page::add_page;
 use rr_archive::Archive;
-use save::{save_command, save_node};
-use schema::{schema_command, schema_of};
+use rr_script::Event;
+use save::save_node;
+use schema::schema_of;
 use std::alloc::Global;
-use write::{write_command, write_line};
-
-/// The command of a line. Every command has at least two words.
-pub(crate) fn command_of(line: &[u8]) -> Option<Event<'_>>
-    ensures { option_map view_of result ≡ command_of (words_of line.now) }
-{
-    let (name, words) = first_word(line)?;
-    if name == b"schema".as_slice() {
-        Some(schema_command(words))
-    } else if name == b"node".as_slice() {
-        node_command(words)
-    } else if name == b"now".as_slice() {
-        now_command(words)
-    } else if name == b"write".as_slice() {
-        write_command(words)
-    } else if name == b"page".as_slice() {
-        page_command(words)
-    } else if name == b"delta".as_slice() {
-        delta_command(words)
-    } else if name == b"deliver".as_slice() {
-        deliver_command(words)
-    } else if name == b"bytes".as_slice() {
-        bytes_command(words)
-    } else if name == b"save".as_slice() {
-        save_command(words)
-    } else if name == b"load".as_slice() {
-        load_command(words)
-    } else if name == b"fetch".as_slice() {
-        fetch_command(words)
-    } else {
-        None
-    }
-}
+use write::write_line;
 
 /// Obeys a command, and adds what it prints to the text. Until the schema is set there is no
 /// cluster.

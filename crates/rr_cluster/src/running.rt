@@ -5,18 +5,17 @@ ghost use Rattle.rr_cells.specs.Cells.{Cells};
 ghost use Rattle.rr_cluster.specs.Meaning.{OptionRepresents, Prints};
 ghost use Rattle.rr_cluster.specs.Model.{cell_model, sample_model};
 ghost use Rattle.rr_cluster.specs.Output.{after_line, output_of};
-ghost use Rattle.rr_cluster.specs.Script.{said_view, SaysOneLine};
+ghost use Rattle.rr_script.specs.Script.{said_view, SaysOneLine};
 ghost use Rattle.rr_cluster.specs.State.{State};
 
 use crate::cluster::Cluster;
 use crate::commands::obey;
-use crate::event::ScriptLine;
-use crate::fault::RunFault;
-use crate::script::parse_script;
+use crate::fault::{CommandFault, RunFault};
 use crate::stop::Stop;
 use rr_archive::Archive;
 use rr_records::push_refusal;
 use rr_ring::RingArchive;
+use rr_script::{ScriptLine, parse_script};
 use std::alloc::Global;
 
 /// What a script prints: the answers of its fetches, and `line N: NAME` for each command that is
@@ -61,7 +60,7 @@ fn obey_line<A: Archive>(
 {
     let done = match line.said {
         Ok(event) => obey(alloc, cluster, event, text),
-        Err(fault) => Err(Stop::Refused(fault)),
+        Err(fault) => Err(Stop::Refused(CommandFault::Syntax(fault))),
     };
     match done {
         Ok(()) => Ok(()),

@@ -9,7 +9,7 @@ ghost use Rattle.rr_cells.specs.Listing.{owned_cell};
 ghost use Rattle.rr_delta.specs.Names.{owned_name};
 ghost use Rattle.rr_delta.specs.Difference.{IsSummary, newer_cells};
 ghost use Rattle.rr_fetch.specs.Answers.{cells_text};
-ghost use Rattle.rr_fetch.specs.Requests.{request_view, IsFetchable};
+ghost use Rattle.rr_request.specs.Requests.{request_view, IsFetchable};
 ghost use Rattle.rr_desk.specs.Standing.{cells_seen, HasSeenMore};
 ghost use Rattle.rr_desk.specs.declared.fault.FetchFault.TheVariants.{GateShut};
 ghost use Rattle.rr_desk.specs.declared.gate.GateCall.TheVariants.{After, Before};

@@ -1,8 +1,6 @@
 pub mod Gathering
 pub mod MoreEntries
 pub mod SumLemmas
-pub mod KeyLemmas
-pub mod RequestLemmas
 pub mod AnswerLemmas
 pub mod RowEntries
 pub mod PlaceBits

@@ -1,6 +1,4 @@
 pub mod Fault
-pub mod Words
-pub mod Requests
 pub mod Consolidation
 pub mod Answers
 pub mod Laws

@@ -1,36 +1,22 @@
 -- bytes NAME
-use Rattle.std.proofs.Common.{◌≡◌, ℕ, List, [], ◌∷◌, ◌++◌, Some, None, IfSome, Ok, Err, refl, sym, ap, ◌∙◌}
+use Rattle.std.proofs.Common.{◌≡◌, ℕ, List, [], ◌∷◌, ◌++◌, Some, None, Ok, Err, refl, sym, ap, ◌∙◌}
 use Rattle.std.specs.FinMap as map
 use Rattle.hex.specs.Hex.{encode_lower}
 use Rattle.rr_archive.specs.declared.archive.Archive.{Ghosts}
-use Rattle.rr_text.specs.declared.bytes.TheConstants.{LINE_FEED, SPACE}
+use Rattle.rr_text.specs.declared.bytes.TheConstants.{LINE_FEED}
 use Rattle.rr_model.specs.Knowledge.{Knowledge}
 use Rattle.rr_cells.specs.Cells.{Cells}
 use Rattle.rr_cells.specs.State.{state}
 use Rattle.rr_cluster.specs.declared.cluster.Cluster.{Cluster}
 use Rattle.rr_cluster.specs.declared.fault.CommandFault.TheVariants.{NoPage}
 use Rattle.rr_cluster.specs.Agreement.{in_cells}
-use Rattle.rr_cluster.specs.Command.{IsOneLine}
-use Rattle.rr_cluster.specs.Commands.Bytes.{bytes_command, bytes_of_page, hex_of_page}
+use Rattle.rr_cluster.specs.Commands.Bytes.{bytes_of_page, hex_of_page}
 use Rattle.rr_cluster.specs.Meaning.{bytes_at, Represents}
 use Rattle.rr_cluster.specs.Model.{Model, cell_model, sample_model}
 use Rattle.rr_cluster.specs.Soundness.{IsSound}
 use Rattle.rr_cluster.specs.State.{State}
-use Rattle.rr_cluster.specs.Words.{words_of}
 use Rattle.rr_cluster.proofs.MeaningLemmas.{page_there}
 use Rattle.rr_cluster.proofs.StepLemmas.{Agrees, found_agree, done_agrees}
-use Rattle.rr_cluster.proofs.WordsLemmas.{some_parts}
-
--- ---- words
-
--- two words are too many
-pub bytes_command-more : (name rest : List ℕ) → bytes_command (name ∷ words_of rest) ≡ None
-bytes_command-more name rest = let some = some_parts SPACE rest in rw some.2 refl
-
-pub bytes_is_one_line : (words : List (List ℕ)) → IfSome (bytes_command words) IsOneLine
-bytes_is_one_line [] = tt
-bytes_is_one_line (name ∷ []) = tt
-bytes_is_one_line (name ∷ more ∷ rest) = tt
 
 -- ---- check by check
 

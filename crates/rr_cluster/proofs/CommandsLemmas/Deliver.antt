@@ -1,12 +1,11 @@
 -- deliver NAME NODE
-use Rattle.std.proofs.Common.{◌≡◌, ℕ, ◌+◌, ◌<◌, Bool, true, false, cond, ◌&&◌, List, [], ◌∷◌, map, Some, None, IfSome, Result, Ok, Err, refl, sym, ap, subst, ◌∙◌, arith}
+use Rattle.std.proofs.Common.{◌≡◌, ℕ, ◌+◌, ◌<◌, Bool, true, false, cond, ◌&&◌, List, [], ◌∷◌, map, Some, None, Result, Ok, Err, refl, sym, ap, subst, ◌∙◌, arith}
 use Rattle.std.specs.Prelude.{◌==◌, nat_le}
 use Rattle.std.specs.FinMap as fin
 use Rattle.std.specs.List.{AllByRecursion}
 use Rattle.std.specs.Ordering.{eq_by_cmp}
 use Rattle.std.proofs.lemmas.Bool.{eqb-true, leb-true}
 use Rattle.rr_archive.specs.declared.archive.Archive.{Ghosts}
-use Rattle.rr_text.specs.declared.bytes.TheConstants.{SPACE}
 use Rattle.rr_base.specs.Schema.{Layout, IsLayout}
 use Rattle.rr_contrib.specs.declared.contribution.Contribution.{Contribution}
 use Rattle.rr_join.specs.Maps.{trimmed}
@@ -38,32 +37,17 @@ use Rattle.rr_cluster.specs.declared.cluster.Cluster.{Cluster}
 use Rattle.rr_cluster.specs.declared.fault.CommandFault.TheVariants.{NoNode, NoPage}
 use Rattle.rr_cluster.specs.declared.stop.Stop.{Stop}
 use Rattle.rr_cluster.specs.Agreement.{in_cells, node_in_cells}
-use Rattle.rr_cluster.specs.Command.{IsOneLine}
-use Rattle.rr_cluster.specs.Commands.Deliver.{deliver_command, after_deliver}
+use Rattle.rr_cluster.specs.Commands.Deliver.{after_deliver}
 use Rattle.rr_cluster.specs.Meaning.{node_of, bytes_at, replica_at, HasPageText, Joins, Leaves, Represents, node_in}
 use Rattle.rr_cluster.specs.Model.{Model, cell_model, sample_model, with_joined, with_known}
 use Rattle.rr_cluster.specs.Soundness.{IsSound, IsSoundNode}
 use Rattle.rr_cluster.specs.State.{Node, State}
-use Rattle.rr_cluster.specs.Words.{words_of}
 use Rattle.rr_cluster.proofs.CommandsLemmas.Node.{with_node_agrees}
 use Rattle.rr_cluster.proofs.CommandsLemmas.Write.{layout_at}
 use Rattle.rr_cluster.proofs.EntriesLemmas.{all_entries}
 use Rattle.rr_cluster.proofs.MeaningLemmas.{HasPut, SameBesidesNodes, represents_put, node_at, page_there}
 use Rattle.rr_cluster.proofs.SoundnessLemmas.{place_is_sound}
 use Rattle.rr_cluster.proofs.StepLemmas.{Agrees, found_agree, done_agrees}
-use Rattle.rr_cluster.proofs.WordsLemmas.{some_parts}
-
--- ---- words
-
--- three words are too many
-pub deliver_command-more : (name node rest : List ℕ) → deliver_command (name ∷ node ∷ words_of rest) ≡ None
-deliver_command-more name node rest = let some = some_parts SPACE rest in rw some.2 refl
-
-pub deliver_is_one_line : (words : List (List ℕ)) → IfSome (deliver_command words) IsOneLine
-deliver_is_one_line [] = tt
-deliver_is_one_line (name ∷ []) = tt
-deliver_is_one_line (name ∷ node ∷ []) = tt
-deliver_is_one_line (name ∷ node ∷ more ∷ rest) = tt
 
 -- ---- check by check
 

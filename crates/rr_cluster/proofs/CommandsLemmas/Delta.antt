@@ -1,5 +1,5 @@
 -- delta NAME GIVER TAKER FROM COUNT
-use Rattle.std.proofs.Common.{◌≡◌, ℕ, ◌<◌, ◌≤◌, true, false, T, take, drop, length, List, [], ◌∷◌, map as each, Some, None, IfSome, Ok, Err, refl, sym, ap, subst, ◌∙◌, arith}
+use Rattle.std.proofs.Common.{◌≡◌, ℕ, ◌<◌, ◌≤◌, true, false, T, take, drop, length, List, [], ◌∷◌, map as each, Some, None, Ok, Err, refl, sym, ap, subst, ◌∙◌, arith}
 use Rattle.std.specs.Prelude.{IsTrue, ok_or}
 use Rattle.std.specs.FinMap as map
 use Rattle.std.specs.FinMap.Entries.{below_all}
@@ -7,7 +7,6 @@ use Rattle.std.specs.List.{All}
 use Rattle.std.specs.Ordering.{is_lt}
 use Rattle.std.proofs.lemmas.List.Elements.{All-map}
 use Rattle.std.proofs.lemmas.List.{drop-map, length-map, length-take, take-map, take_all}
-use Rattle.rr_text.specs.declared.bytes.TheConstants.{SPACE}
 use Rattle.rr_text.specs.declared.limits.TheConstants.{MAX_PAGE_CELLS}
 use Rattle.rr_text.specs.Results.{check}
 use Rattle.rr_base.specs.Schema.{Layout, IsLayout}
@@ -31,33 +30,16 @@ use Rattle.rr_cluster.specs.declared.fault.CommandFault.{CommandFault}
 use Rattle.rr_cluster.specs.declared.fault.CommandFault.TheVariants.{BadName, NoNode, BadNumber}
 use Rattle.rr_cluster.specs.declared.words.TheConstants.{MAX_U32}
 use Rattle.rr_cluster.specs.Agreement.{in_cells, node_in_cells}
-use Rattle.rr_cluster.specs.Command.{IsOneLine}
-use Rattle.rr_cluster.specs.Commands.Delta.{delta_command, after_delta}
+use Rattle.rr_cluster.specs.Commands.Delta.{after_delta}
 use Rattle.rr_cluster.specs.Meaning.{HasPageText}
 use Rattle.rr_cluster.specs.Model.{Model, cell_model, sample_model, part_of_difference, newer_part_of}
 use Rattle.rr_cluster.specs.Soundness.{IsSound}
 use Rattle.rr_cluster.specs.State.{Node, State}
-use Rattle.rr_cluster.specs.Words.{words_of, is_name, number_within}
+use Rattle.rr_cluster.specs.Words.{is_name, number_within}
 use Rattle.rr_cluster.proofs.CommandsLemmas.Page.{with_page_agrees}
 use Rattle.rr_cluster.proofs.EntriesLemmas.{entries-of_part, from_entries-entries, part_is_page}
 use Rattle.rr_cluster.proofs.SoundnessLemmas.{with_page_is_sound}
 use Rattle.rr_cluster.proofs.StepLemmas.{Agrees, then_agree, found_agree, done_agrees}
-use Rattle.rr_cluster.proofs.WordsLemmas.{some_parts}
-
--- ---- words
-
--- six words are too many
-pub delta_command-more : (name giver taker from count rest : List ℕ) → delta_command (name ∷ giver ∷ taker ∷ from ∷ count ∷ words_of rest) ≡ None
-delta_command-more name giver taker from count rest = let some = some_parts SPACE rest in rw some.2 refl
-
-pub delta_is_one_line : (words : List (List ℕ)) → IfSome (delta_command words) IsOneLine
-delta_is_one_line [] = tt
-delta_is_one_line (a ∷ []) = tt
-delta_is_one_line (a ∷ b ∷ []) = tt
-delta_is_one_line (a ∷ b ∷ c ∷ []) = tt
-delta_is_one_line (a ∷ b ∷ c ∷ d ∷ []) = tt
-delta_is_one_line (a ∷ b ∷ c ∷ d ∷ e ∷ []) = tt
-delta_is_one_line (a ∷ b ∷ c ∷ d ∷ e ∷ f ∷ rest) = tt
 
 -- ---- check by check
 

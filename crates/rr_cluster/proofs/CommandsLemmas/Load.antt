@@ -1,12 +1,11 @@
 -- load NAME NODE ORIGIN
-use Rattle.std.proofs.Common.{◌≡◌, ◌⊎◌, ℕ, Bool, true, false, not, cond, inl, inr, List, [], ◌∷◌, Some, None, IfSome, Result, Ok, Err, refl, sym, ap, subst, ◌∙◌}
+use Rattle.std.proofs.Common.{◌≡◌, ◌⊎◌, ℕ, Bool, true, false, not, cond, inl, inr, List, ◌∷◌, Some, None, Result, Ok, Err, refl, sym, ap, subst, ◌∙◌}
 use Rattle.std.specs.Prelude.{◌==◌}
 use Rattle.std.specs.List.{list_any}
 use Rattle.std.specs.Ordering.{nat_cmp, is_eq}
 use Rattle.std.specs.BTreeSet.{contains}
 use Rattle.std.specs.FinMap as map
 use Rattle.rr_archive.specs.declared.archive.Archive.{Ghosts}
-use Rattle.rr_text.specs.declared.bytes.TheConstants.{SPACE}
 use Rattle.rr_text.specs.Results.{check, unless}
 use Rattle.rr_base.specs.Schema.{Layout}
 use Rattle.rr_model.specs.Knowledge.{Knowledge}
@@ -24,32 +23,17 @@ use Rattle.rr_cluster.specs.declared.fault.CommandFault.TheVariants.{NoSnapshot,
 use Rattle.rr_cluster.specs.declared.stop.Stop.{Stop}
 use Rattle.rr_cluster.specs.declared.stop.Stop.TheVariants.{Refused}
 use Rattle.rr_cluster.specs.Agreement.{in_cells, snapshot_in_cells}
-use Rattle.rr_cluster.specs.Command.{IsOneLine}
-use Rattle.rr_cluster.specs.Commands.Load.{load_command, loaded_node, has_origin, after_load}
+use Rattle.rr_cluster.specs.Commands.Load.{loaded_node, has_origin, after_load}
 use Rattle.rr_cluster.specs.Meaning.{node_of, bytes_at, HasSnapshotText, Leaves, Loads, Represents}
 use Rattle.rr_cluster.specs.Model.{Model, cell_model, sample_model}
 use Rattle.rr_cluster.specs.Soundness.{IsSound}
 use Rattle.rr_cluster.specs.State.{Node, Snapshot, State}
-use Rattle.rr_cluster.specs.Words.{words_of, is_name, origin_of}
+use Rattle.rr_cluster.specs.Words.{is_name, origin_of}
 use Rattle.rr_cluster.proofs.CommandsLemmas.Node.{represents_with_node, with_node_agrees}
 use Rattle.rr_cluster.proofs.MeaningLemmas.{HasPut, snapshot_there}
 use Rattle.rr_cluster.proofs.LimitLemmas.{origin_is}
 use Rattle.rr_cluster.proofs.SoundnessLemmas.{with_node_is_sound, starting_is_sound}
 use Rattle.rr_cluster.proofs.StepLemmas.{Agrees, then_agree, found_agree, done_agrees, not_true}
-use Rattle.rr_cluster.proofs.WordsLemmas.{some_parts}
-
--- ---- words
-
--- four words are too many
-pub load_command-more : (name node origin rest : List ℕ) → load_command (name ∷ node ∷ origin ∷ words_of rest) ≡ None
-load_command-more name node origin rest = let some = some_parts SPACE rest in rw some.2 refl
-
-pub load_is_one_line : (words : List (List ℕ)) → IfSome (load_command words) IsOneLine
-load_is_one_line [] = tt
-load_is_one_line (name ∷ []) = tt
-load_is_one_line (name ∷ node ∷ []) = tt
-load_is_one_line (name ∷ node ∷ origin ∷ []) = tt
-load_is_one_line (name ∷ node ∷ origin ∷ more ∷ rest) = tt
 
 -- ---- check by check
 

@@ -1,5 +1,5 @@
 -- node NAME ORIGIN
-use Rattle.std.proofs.Common.{◌≡◌, ℕ, Bool, true, false, not, cond, option_map, subst, ◌&&◌, ◌||◌, List, [], ◌∷◌, None, IfSome, Ok, Err, refl, sym, ap, ◌∙◌, eq-eqb}
+use Rattle.std.proofs.Common.{◌≡◌, ℕ, Bool, true, false, not, cond, option_map, subst, ◌&&◌, ◌||◌, List, ◌∷◌, Ok, Err, refl, sym, ap, ◌∙◌, eq-eqb}
 use Rattle.std.specs.Prelude.{◌==◌}
 use Rattle.std.specs.List.{list_any}
 use Rattle.std.proofs.lemmas.Bool.{eqb-true}
@@ -31,30 +31,16 @@ use Rattle.rr_cluster.specs.declared.fault.CommandFault.{CommandFault}
 use Rattle.rr_cluster.specs.declared.fault.CommandFault.TheVariants.{BadName, NameUsed, OriginUsed}
 use Rattle.rr_cluster.specs.Agreement.{in_cells, node_in_cells}
 use Rattle.rr_text.specs.Results.{check}
-use Rattle.rr_cluster.specs.Command.{IsOneLine}
-use Rattle.rr_cluster.specs.Commands.Node.{node_command, new_node, after_node}
+use Rattle.rr_cluster.specs.Commands.Node.{new_node, after_node}
 use Rattle.rr_cluster.specs.Meaning.{node_of, node_in, replica_at, Represents}
 use Rattle.rr_cluster.specs.Model.{Model, cell_model, sample_model}
 use Rattle.rr_cluster.specs.Soundness.{IsSound}
 use Rattle.rr_cluster.specs.State.{Node, State}
-use Rattle.rr_cluster.specs.Words.{words_of, is_name, origin_of}
+use Rattle.rr_cluster.specs.Words.{is_name, origin_of}
 use Rattle.rr_cluster.proofs.LimitLemmas.{origin_is}
 use Rattle.rr_cluster.proofs.MeaningLemmas.{HasPut, nodes_put, each_put}
 use Rattle.rr_cluster.proofs.SoundnessLemmas.{with_node_is_sound, starting_is_sound}
 use Rattle.rr_cluster.proofs.StepLemmas.{names_apart, Agrees, then_agree, done_agrees, not_true}
-use Rattle.rr_cluster.proofs.WordsLemmas.{some_parts}
-
--- ---- words
-
--- two words are too many
-pub node_command-more : (name origin rest : List ℕ) → node_command (name ∷ origin ∷ words_of rest) ≡ None
-node_command-more name origin rest = let some = some_parts 32 rest in rw some.2 refl
-
-pub node_is_one_line : (words : List (List ℕ)) → IfSome (node_command words) IsOneLine
-node_is_one_line [] = tt
-node_is_one_line (name ∷ []) = tt
-node_is_one_line (name ∷ origin ∷ []) = tt
-node_is_one_line (name ∷ origin ∷ more ∷ rest) = tt
 
 -- ---- check by check
 

@@ -1,32 +1,18 @@
 -- now T [LEAD]
-use Rattle.std.proofs.Common.{◌≡◌, ℕ, ℤ, List, [], ◌∷◌, Option, None, IfSome, Result, Ok, Err, refl, sym, ap, ◌∙◌}
+use Rattle.std.proofs.Common.{◌≡◌, ℕ, ℤ, List, Option, Result, Ok, Err, refl, sym, ap, ◌∙◌}
 use Rattle.rr_archive.specs.declared.archive.Archive.{Ghosts}
 use Rattle.rr_model.specs.Knowledge.{Knowledge}
 use Rattle.rr_cells.specs.Cells.{Cells}
 use Rattle.rr_cluster.specs.declared.cluster.Cluster.{Cluster}
 use Rattle.rr_cluster.specs.declared.fault.CommandFault.{CommandFault}
 use Rattle.rr_cluster.specs.Agreement.{in_cells}
-use Rattle.rr_cluster.specs.Command.{IsOneLine}
-use Rattle.rr_cluster.specs.Commands.Now.{now_command, after_now}
+use Rattle.rr_cluster.specs.Commands.Now.{after_now}
 use Rattle.rr_cluster.specs.Meaning.{Represents}
 use Rattle.rr_cluster.specs.Soundness.{IsSound}
 use Rattle.rr_cluster.specs.State.{State}
-use Rattle.rr_cluster.specs.Words.{words_of, moment_of, lead_of}
+use Rattle.rr_cluster.specs.Words.{moment_of, lead_of}
 use Rattle.rr_cluster.proofs.LimitLemmas.{moment_fits}
 use Rattle.rr_cluster.proofs.StepLemmas.{Agrees, then_agree, done_agrees}
-use Rattle.rr_cluster.proofs.WordsLemmas.{some_parts}
-
--- ---- words
-
--- three words are too many
-pub now_command-more : (time lead rest : List ℕ) → now_command (time ∷ lead ∷ words_of rest) ≡ None
-now_command-more time lead rest = let some = some_parts 32 rest in rw some.2 refl
-
-pub now_is_one_line : (words : List (List ℕ)) → IfSome (now_command words) IsOneLine
-now_is_one_line [] = tt
-now_is_one_line (time ∷ []) = tt
-now_is_one_line (time ∷ lead ∷ []) = tt
-now_is_one_line (time ∷ lead ∷ more ∷ rest) = tt
 
 -- ---- check by check
 

@@ -1,10 +1,9 @@
 -- page NAME NODE FROM COUNT
-use Rattle.std.proofs.Common.{◌≡◌, ℕ, ◌≤◌, take, drop, List, [], ◌∷◌, Some, None, IfSome, Ok, Err, true, false, refl, sym, ap, subst, ◌∙◌}
+use Rattle.std.proofs.Common.{◌≡◌, ℕ, ◌≤◌, take, drop, List, Some, None, Ok, Err, true, false, refl, sym, ap, subst, ◌∙◌}
 use Rattle.std.specs.Prelude.{ok_or}
 use Rattle.std.specs.Cmp.Lexicographic.{nat_list_cmp_total}
 use Rattle.std.specs.FinMap as map
 use Rattle.rr_archive.specs.declared.archive.Archive.{Ghosts}
-use Rattle.rr_text.specs.declared.bytes.TheConstants.{SPACE}
 use Rattle.rr_text.specs.declared.limits.TheConstants.{MAX_PAGE_CELLS}
 use Rattle.rr_text.specs.Results.{check}
 use Rattle.rr_base.specs.Schema.{Layout}
@@ -25,34 +24,18 @@ use Rattle.rr_cluster.specs.declared.fault.CommandFault.{CommandFault}
 use Rattle.rr_cluster.specs.declared.fault.CommandFault.TheVariants.{BadName, NoNode, BadNumber}
 use Rattle.rr_cluster.specs.declared.words.TheConstants.{MAX_U32}
 use Rattle.rr_cluster.specs.Agreement.{in_cells, node_in_cells}
-use Rattle.rr_cluster.specs.Command.{IsOneLine}
-use Rattle.rr_cluster.specs.Commands.Page.{page_command, after_page}
+use Rattle.rr_cluster.specs.Commands.Page.{after_page}
 use Rattle.rr_cluster.specs.Commands.Bytes.{bytes_of_page}
 use Rattle.rr_cluster.specs.Meaning.{replica_at, HasPageText, Represents}
 use Rattle.rr_cluster.specs.Model.{Model, cell_model, sample_model, part_of}
 use Rattle.rr_cluster.specs.Soundness.{IsSound}
 use Rattle.rr_cluster.specs.State.{Node, State}
-use Rattle.rr_cluster.specs.Words.{words_of, is_name, number_within}
+use Rattle.rr_cluster.specs.Words.{is_name, number_within}
 use Rattle.rr_cluster.proofs.CommandsLemmas.Write.{layout_at}
 use Rattle.rr_cluster.proofs.EntriesLemmas.{entries-part_of, from_entries-entries, part_of_is_page}
 use Rattle.rr_cluster.proofs.MeaningLemmas.{HasPutBytes, texts_put}
 use Rattle.rr_cluster.proofs.SoundnessLemmas.{with_page_is_sound}
 use Rattle.rr_cluster.proofs.StepLemmas.{names_apart, Agrees, then_agree, found_agree, done_agrees}
-use Rattle.rr_cluster.proofs.WordsLemmas.{some_parts}
-
--- ---- words
-
--- five words are too many
-pub page_command-more : (name node from count rest : List ℕ) → page_command (name ∷ node ∷ from ∷ count ∷ words_of rest) ≡ None
-page_command-more name node from count rest = let some = some_parts SPACE rest in rw some.2 refl
-
-pub page_is_one_line : (words : List (List ℕ)) → IfSome (page_command words) IsOneLine
-page_is_one_line [] = tt
-page_is_one_line (a ∷ []) = tt
-page_is_one_line (a ∷ b ∷ []) = tt
-page_is_one_line (a ∷ b ∷ c ∷ []) = tt
-page_is_one_line (a ∷ b ∷ c ∷ d ∷ []) = tt
-page_is_one_line (a ∷ b ∷ c ∷ d ∷ e ∷ rest) = tt
 
 -- ---- check by check
 

@@ -1,12 +1,11 @@
 -- save NAME NODE
-use Rattle.std.proofs.Common.{◌≡◌, ℕ, ◌<◌, ◌≤◌, Bool, true, false, inl, inr, List, [], ◌∷◌, length, Some, None, IfSome, Ok, Err, refl, sym, ap, subst, ◌∙◌, arith}
+use Rattle.std.proofs.Common.{◌≡◌, ℕ, ◌<◌, ◌≤◌, Bool, true, false, inl, inr, List, length, Some, None, Ok, Err, refl, sym, ap, subst, ◌∙◌, arith}
 use Rattle.std.specs.Prelude.{nat_le}
 use Rattle.std.specs.Cmp.Lexicographic.{nat_list_cmp_total}
 use Rattle.std.specs.Global.{Vec}
 use Rattle.std.specs.FinMap as map
 use Rattle.std.proofs.lemmas.Bool.{le-leb, leb-false, leb-true, lt-leb}
 use Rattle.rr_archive.specs.declared.archive.Archive.{Ghosts}
-use Rattle.rr_text.specs.declared.bytes.TheConstants.{SPACE}
 use Rattle.rr_text.specs.Results.{check}
 use Rattle.rr_base.specs.Schema.{Layout}
 use Rattle.rr_join.specs.Values.{map_values}
@@ -29,31 +28,17 @@ use Rattle.rr_cluster.specs.declared.cluster.Cluster.{Cluster}
 use Rattle.rr_cluster.specs.declared.fault.CommandFault.TheVariants.{BadName, NoNode, Save}
 use Rattle.rr_cluster.specs.declared.stop.Stop.{Stop}
 use Rattle.rr_cluster.specs.Agreement.{in_cells, node_in_cells, snapshot_in_cells}
-use Rattle.rr_cluster.specs.Command.{IsOneLine}
-use Rattle.rr_cluster.specs.Commands.Save.{save_command, snapshot_of, after_save}
+use Rattle.rr_cluster.specs.Commands.Save.{snapshot_of, after_save}
 use Rattle.rr_cluster.specs.Meaning.{node_of, replica_at, HasSnapshotText, IsKept, Leaves, Represents, Saves, node_in}
 use Rattle.rr_cluster.specs.Model.{Model, cell_model, sample_model}
 use Rattle.rr_cluster.specs.Soundness.{IsSound, IsSoundSnapshot}
 use Rattle.rr_cluster.specs.State.{Node, Snapshot, State}
 use Rattle.rr_cluster.specs.Stop.{IsStopOfSave}
-use Rattle.rr_cluster.specs.Words.{words_of, is_name}
+use Rattle.rr_cluster.specs.Words.{is_name}
 use Rattle.rr_cluster.proofs.CommandsLemmas.Write.{layout_at}
 use Rattle.rr_cluster.proofs.MeaningLemmas.{HasPutBytes, node_at, texts_put}
 use Rattle.rr_cluster.proofs.SoundnessLemmas.{with_snapshot_is_sound}
 use Rattle.rr_cluster.proofs.StepLemmas.{names_apart, Agrees, then_agree, found_agree, done_agrees}
-use Rattle.rr_cluster.proofs.WordsLemmas.{some_parts}
-
--- ---- words
-
--- three words are too many
-pub save_command-more : (name node rest : List ℕ) → save_command (name ∷ node ∷ words_of rest) ≡ None
-save_command-more name node rest = let some = some_parts SPACE rest in rw some.2 refl
-
-pub save_is_one_line : (words : List (List ℕ)) → IfSome (save_command words) IsOneLine
-save_is_one_line [] = tt
-save_is_one_line (name ∷ []) = tt
-save_is_one_line (name ∷ node ∷ []) = tt
-save_is_one_line (name ∷ node ∷ more ∷ rest) = tt
 
 -- ---- check by check
 

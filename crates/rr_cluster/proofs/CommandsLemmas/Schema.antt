@@ -1,5 +1,5 @@
 -- schema STEP S:R:N/D ..
-use Rattle.std.proofs.Common.{◌≡◌, ℕ, List, [], ◌∷◌, Some, None, Option, IfSome, refl, sym, ◌∙◌}
+use Rattle.std.proofs.Common.{◌≡◌, ℕ, List, Some, None, Option, refl, sym, ◌∙◌}
 use Rattle.std.specs.Prelude.{ok_or}
 use Rattle.std.specs.FinMap.{get-empty}
 use Rattle.rr_base.specs.declared.fault.SchemaFault.{SchemaFault}
@@ -12,18 +12,13 @@ use Rattle.rr_text.specs.Bytes.{bytes_cmp}
 use Rattle.rr_cluster.specs.declared.fault.CommandFault.TheVariants.{BadNumber}
 use Rattle.rr_cluster.specs.declared.words.TheConstants.{MAX_U32}
 use Rattle.rr_cluster.specs.Agreement.{in_cells, node_in_cells, snapshot_in_cells}
-use Rattle.rr_cluster.specs.Command.{IsOneLine}
-use Rattle.rr_cluster.specs.Commands.Schema.{schema_command, layout_of, unless_faulty}
+use Rattle.rr_cluster.specs.Commands.Schema.{layout_of, unless_faulty}
 use Rattle.rr_cluster.specs.Soundness.{FirstStatesAreSound}
 use Rattle.rr_cluster.specs.State.{State, first_state}
 use Rattle.rr_cluster.specs.Words.{archives_of, number_within}
 use Rattle.rr_join.proofs.ValuesLemmas.{map_values-empty}
 use Rattle.std.specs.Cmp.Lexicographic.{nat_list_cmp_total}
 use Rattle.rr_cluster.proofs.StepLemmas.{names_apart, OfAnswer, then_holds}
-
-pub schema_is_one_line : (words : List (List ℕ)) → IfSome (schema_command words) IsOneLine
-schema_is_one_line [] = tt
-schema_is_one_line (step ∷ archives) = tt
 
 -- ---- the models agree
 

@@ -1,11 +1,10 @@
 -- write NODE LINE
-use Rattle.std.proofs.Common.{◌≡◌, ◌≢◌, ℕ, ◌+◌, ◌<◌, ◌≤◌, ℤ, not, eqb, List, [], ◌∷◌, Option, Some, None, IfSome, IsTrue, length, Result, Ok, Err, refl, sym, ap, subst, ◌∙◌, inl, inr, arith, ⊎_elim}
+use Rattle.std.proofs.Common.{◌≡◌, ◌≢◌, ℕ, ◌+◌, ◌<◌, ◌≤◌, ℤ, not, List, [], ◌∷◌, Option, Some, None, IsTrue, length, Result, Ok, Err, refl, sym, ap, subst, ◌∙◌, inl, inr, arith, ⊎_elim}
 use Rattle.std.specs.Prelude.{◌⊎◌, ◌-◌, nat_lt, unwrap_or, IsFalse}
-use Rattle.std.specs.List.{list_any, AllByRecursion}
+use Rattle.std.specs.List.{AllByRecursion}
 use Rattle.std.specs.Cmp.Lexicographic.{nat_list_cmp_total}
 use Rattle.std.specs.FinMap as map
-use Rattle.std.proofs.lemmas.Bool.{cases_Bool, ltb-false, or_parts}
-use Rattle.std.proofs.lemmas.List.Folds.{list_any-append}
+use Rattle.std.proofs.lemmas.Bool.{cases_Bool, ltb-false}
 use Rattle.rr_archive.specs.declared.archive.Archive.{Ghosts}
 use Rattle.rr_base.specs.Schema.{IsLayout}
 use Rattle.rr_text.specs.Text.{fits_i64}
@@ -34,47 +33,24 @@ use Rattle.rr_replica.specs.Standing.{Standing, held}
 use Rattle.rr_replica.specs.Writing.{with_fields, is_ahead, lacks_numbers, IsAfterRefusal}
 use Rattle.rr_cells.proofs.OneSampleMore.{put_is_one_sample_more}
 use Rattle.rr_cluster.specs.declared.cluster.Cluster.{Cluster}
-use Rattle.rr_text.specs.declared.bytes.TheConstants.{LINE_FEED, SPACE}
 use Rattle.rr_cluster.specs.declared.fault.CommandFault.{CommandFault}
 use Rattle.rr_cluster.specs.declared.fault.CommandFault.TheVariants.{NoNode, Line, Write}
 use Rattle.rr_cluster.specs.declared.stop.Stop.{Stop}
 use Rattle.rr_cluster.specs.declared.stop.Stop.TheVariants.{Refused, Memory}
 use Rattle.rr_cluster.specs.Agreement.{in_cells, node_in_cells}
 use Rattle.rr_text.specs.Results.{◌>>=◌, check}
-use Rattle.rr_cluster.specs.Command.{write, IsOneLine}
-use Rattle.rr_cluster.specs.Commands.Write.{write_command, line_of, samples_of, samples_at, samples_of_point, samples_of_view, samples_of_line, with_samples, with_written, with_all_written, after_write}
+use Rattle.rr_cluster.specs.Commands.Write.{line_of, samples_of, samples_at, samples_of_point, samples_of_view, samples_of_line, with_samples, with_written, with_all_written, after_write}
 use Rattle.rr_cluster.specs.Meaning.{node_of, replica_at, Represents, Leaves, Writes, node_in}
 use Rattle.rr_cluster.specs.Model.{Model, cell_model, sample_model}
 use Rattle.rr_base.specs.Origin.{IsOrigin}
 use Rattle.rr_cluster.specs.Soundness.{IsSoundSample, IsSound, IsSoundNode, IsUsed}
 use Rattle.rr_cluster.specs.State.{Node, State}
 use Rattle.rr_cluster.specs.Stop.{IsStopOf, IsStopOfWrite}
-use Rattle.rr_cluster.specs.Words.{text_of, words_of}
 use Rattle.rr_cluster.proofs.CommandsLemmas.Node.{with_node_agrees}
 use Rattle.rr_cluster.proofs.LimitLemmas.{fields_fit, time_fits, samples_fit}
 use Rattle.rr_cluster.proofs.MeaningLemmas.{HasPut, SameBesidesNodes, represents_put, node_at}
 use Rattle.rr_cluster.proofs.SoundnessLemmas.{place_is_sound}
 use Rattle.rr_cluster.proofs.StepLemmas.{names_apart, OfAnswer, last_holds, then_holds, holds_of, not_true, Agrees, then_agree, found_agree, done_agrees}
-use Rattle.rr_cluster.proofs.WordsLemmas.{some_parts, text_of-words}
-
--- ---- words
-
-pub write_command-rest : (name line : List ℕ) → write_command (name ∷ words_of line) ≡ Some (write name line)
-write_command-rest name line =
-    let some = some_parts 32 line in
-    rw some.2 (ap (λ (l : List ℕ). Some (write name l)) (text_of-words line some.0 some.1 some.2))
-
--- the words after the first
-rest_has_none : (first second : List ℕ) (rest : List (List ℕ)) → HasNoLineFeed (text_of (first ∷ second ∷ rest)) → HasNoLineFeed (text_of (second ∷ rest))
-rest_has_none first second rest none =
-    let after = text_of (second ∷ rest) in
-    let halves = or_parts (list_any (λ byte. eqb byte LINE_FEED) first) (list_any (λ byte. eqb byte LINE_FEED) (SPACE ∷ after)) (sym (list_any-append (λ byte. eqb byte LINE_FEED) first (SPACE ∷ after)) ∙ none) in
-    (or_parts (eqb SPACE LINE_FEED) (list_any (λ byte. eqb byte LINE_FEED) after) halves.1).1
-
-pub write_is_one_line : (name : List ℕ) (words : List (List ℕ)) → HasNoLineFeed (text_of (name ∷ words)) → IfSome (write_command words) IsOneLine
-write_is_one_line name [] none = tt
-write_is_one_line name (node ∷ []) none = tt
-write_is_one_line name (node ∷ line ∷ rest) none = rest_has_none node line rest (rest_has_none name node (line ∷ rest) none)
 
 -- ---- check by check
 

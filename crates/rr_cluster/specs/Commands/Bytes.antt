@@ -1,5 +1,5 @@
 -- bytes NAME
-use Rattle.std.specs.Prelude.{ℕ, List, [], ◌∷◌, ◌++◌, Option, None, Some, Result, Ok, ok_or}
+use Rattle.std.specs.Prelude.{ℕ, List, [], ◌∷◌, ◌++◌, Result, Ok, ok_or}
 use Rattle.std.specs.FinMap.{get, entries}
 use Rattle.hex.specs.Hex.{encode_lower}
 use Rattle.rr_text.specs.declared.bytes.TheConstants.{LINE_FEED}
@@ -10,14 +10,8 @@ use Rattle.rr_cells.specs.Cells.{Cells}
 use Rattle.rr_cluster.specs.declared.fault.CommandFault.{CommandFault}
 use Rattle.rr_cluster.specs.declared.fault.CommandFault.TheVariants.{NoPage}
 use Rattle.rr_text.specs.Results.{◌>>=◌}
-use Rattle.rr_cluster.specs.Command.{Command, bytes}
 use Rattle.rr_cluster.specs.Model.{Model}
 use Rattle.rr_cluster.specs.State.{State}
-
--- the command of the words after its name
-abbrev pub bytes_command : List (List ℕ) → Option Command
-bytes_command (name ∷ []) = Some (bytes name)
-bytes_command _ = None
 
 -- the bytes of a page of these cells
 abbrev pub bytes_of_page : Layout → Cells → List ℕ

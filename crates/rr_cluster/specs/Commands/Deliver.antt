@@ -1,17 +1,11 @@
 -- deliver NAME NODE
-use Rattle.std.specs.Prelude.{ℕ, List, [], ◌∷◌, Option, None, Some, Result, Ok, ok_or}
+use Rattle.std.specs.Prelude.{ℕ, List, Result, Ok, ok_or}
 use Rattle.std.specs.FinMap.{get, insert}
 use Rattle.rr_cluster.specs.declared.fault.CommandFault.{CommandFault}
 use Rattle.rr_cluster.specs.declared.fault.CommandFault.TheVariants.{NoPage, NoNode}
 use Rattle.rr_text.specs.Results.{◌>>=◌}
-use Rattle.rr_cluster.specs.Command.{Command, deliver}
 use Rattle.rr_cluster.specs.Model.{Model}
 use Rattle.rr_cluster.specs.State.{State}
-
--- the command of the words after its name
-abbrev pub deliver_command : List (List ℕ) → Option Command
-deliver_command (name ∷ node ∷ []) = Some (deliver name node)
-deliver_command _ = None
 
 module _ {K : Type 0} (model : Model K) where
   unfoldable pub after_deliver : State K → List ℕ → List ℕ → Result (State K) CommandFault

@@ -1,23 +1,15 @@
 -- fetch NODE CF RESOLUTION START END KEY
-use Rattle.std.specs.Prelude.{ℕ, List, ◌∷◌, Option, None, Some, Result, Ok, Err, ok_or}
+use Rattle.std.specs.Prelude.{ℕ, List, Result, Ok, Err, ok_or}
 use Rattle.std.specs.FinMap.{get}
 use Rattle.rr_model.specs.FetchText.{Request}
-use Rattle.rr_fetch.specs.declared.fault.RequestFault.{RequestFault}
-use Rattle.rr_fetch.specs.Requests.{read}
-use Rattle.rr_fetch.specs.Words.{Parts}
+use Rattle.rr_request.specs.declared.fault.RequestFault.{RequestFault}
+use Rattle.rr_request.specs.Requests.{read}
+use Rattle.rr_request.specs.Words.{Parts}
 use Rattle.rr_cluster.specs.declared.fault.CommandFault.{CommandFault}
 use Rattle.rr_cluster.specs.declared.fault.CommandFault.TheVariants.{NoNode, Fetch}
 use Rattle.rr_text.specs.Results.{◌>>=◌}
-use Rattle.rr_cluster.specs.Command.{Command, fetch}
 use Rattle.rr_cluster.specs.Model.{Model}
 use Rattle.rr_cluster.specs.State.{State}
-use Rattle.rr_cluster.specs.Words.{text_of}
-
--- the command of the words after its name; the key is all that follows the end
-abbrev pub fetch_command : List (List ℕ) → Option Command
-fetch_command (name ∷ function ∷ resolution ∷ start ∷ end ∷ key ∷ rest) =
-    Some (fetch name (record { function = function; resolution = resolution; start = start; end = end; key = text_of (key ∷ rest) }))
-fetch_command _ = None
 
 -- a request, or its fault
 abbrev pub request_of : Result Request RequestFault → Result Request CommandFault

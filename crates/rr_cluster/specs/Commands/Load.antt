@@ -1,20 +1,14 @@
 -- load NAME NODE ORIGIN
-use Rattle.std.specs.Prelude.{ℕ, Bool, not, ◌==◌, List, [], ◌∷◌, Option, None, Some, Result, Ok, ok_or}
+use Rattle.std.specs.Prelude.{ℕ, Bool, not, ◌==◌, List, ◌∷◌, Result, Ok, ok_or}
 use Rattle.std.specs.List.{list_any}
 use Rattle.std.specs.FinMap.{get, insert, entries}
 use Rattle.rr_snapshot.specs.Loading.{is_used}
 use Rattle.rr_cluster.specs.declared.fault.CommandFault.{CommandFault}
 use Rattle.rr_cluster.specs.declared.fault.CommandFault.TheVariants.{NoSnapshot, BadName, OriginUsed}
 use Rattle.rr_text.specs.Results.{◌>>=◌, check}
-use Rattle.rr_cluster.specs.Command.{Command, load}
 use Rattle.rr_cluster.specs.Model.{Model}
 use Rattle.rr_cluster.specs.State.{Node, Snapshot, State}
 use Rattle.rr_cluster.specs.Words.{is_name, origin_of}
-
--- the command of the words after its name
-abbrev pub load_command : List (List ℕ) → Option Command
-load_command (name ∷ node ∷ origin ∷ []) = Some (load name node origin)
-load_command _ = None
 
 -- the node that a snapshot is loaded as, under a new origin
 abbrev pub loaded_node : {K : Type 0} → Snapshot K → ℕ → Node K

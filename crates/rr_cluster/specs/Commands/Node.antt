@@ -1,20 +1,14 @@
 -- node NAME ORIGIN
-use Rattle.std.specs.Prelude.{ℕ, not, ◌==◌, List, [], ◌∷◌, Option, None, Some, Result, Ok}
+use Rattle.std.specs.Prelude.{ℕ, not, ◌==◌, List, ◌∷◌, Result, Ok}
 use Rattle.std.specs.List.{list_any}
 use Rattle.std.specs.FinMap.{insert, contains_key}
 use Rattle.rr_base.specs.Schema.{Layout}
 use Rattle.rr_cluster.specs.declared.fault.CommandFault.{CommandFault}
 use Rattle.rr_cluster.specs.declared.fault.CommandFault.TheVariants.{BadName, NameUsed, OriginUsed}
 use Rattle.rr_text.specs.Results.{◌>>=◌, check}
-use Rattle.rr_cluster.specs.Command.{Command, node}
 use Rattle.rr_cluster.specs.Model.{Model}
 use Rattle.rr_cluster.specs.State.{Node, State}
 use Rattle.rr_cluster.specs.Words.{is_name, origin_of}
-
--- the command of the words after its name
-abbrev pub node_command : List (List ℕ) → Option Command
-node_command (name ∷ origin ∷ []) = Some (node name origin)
-node_command _ = None
 
 module _ {K : Type 0} (model : Model K) where
   -- a node that holds nothing

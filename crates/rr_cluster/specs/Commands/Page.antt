@@ -1,20 +1,14 @@
 -- page NAME NODE FROM COUNT
-use Rattle.std.specs.Prelude.{ℕ, List, [], ◌∷◌, Option, None, Some, Result, Ok, ok_or}
+use Rattle.std.specs.Prelude.{ℕ, List, Result, Ok, ok_or}
 use Rattle.std.specs.FinMap.{get, insert}
 use Rattle.rr_text.specs.declared.limits.TheConstants.{MAX_PAGE_CELLS}
 use Rattle.rr_cluster.specs.declared.fault.CommandFault.{CommandFault}
 use Rattle.rr_cluster.specs.declared.fault.CommandFault.TheVariants.{BadName, NoNode, BadNumber}
 use Rattle.rr_cluster.specs.declared.words.TheConstants.{MAX_U32}
 use Rattle.rr_text.specs.Results.{◌>>=◌, check}
-use Rattle.rr_cluster.specs.Command.{Command, page}
 use Rattle.rr_cluster.specs.Model.{Model}
 use Rattle.rr_cluster.specs.State.{State}
 use Rattle.rr_cluster.specs.Words.{is_name, number_within}
-
--- the command of the words after its name
-abbrev pub page_command : List (List ℕ) → Option Command
-page_command (name ∷ node ∷ from ∷ count ∷ []) = Some (page name node from count)
-page_command _ = None
 
 module _ {K : Type 0} (model : Model K) where
   -- a page of a name that is used takes the place of the one before

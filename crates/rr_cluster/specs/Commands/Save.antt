@@ -1,20 +1,14 @@
 -- save NAME NODE
-use Rattle.std.specs.Prelude.{ℕ, nat_le, List, [], ◌∷◌, length, Option, None, Some, Result, Ok, ok_or}
+use Rattle.std.specs.Prelude.{ℕ, nat_le, List, length, Result, Ok, ok_or}
 use Rattle.std.specs.FinMap.{get, insert, entries}
 use Rattle.rr_snapshot.specs.declared.fault.SaveFault.TheVariants.{TooManyCells}
 use Rattle.rr_snapshot.specs.declared.heading.TheConstants.{MAX_SNAPSHOT_CELLS}
 use Rattle.rr_cluster.specs.declared.fault.CommandFault.{CommandFault}
 use Rattle.rr_cluster.specs.declared.fault.CommandFault.TheVariants.{BadName, NoNode, Save}
 use Rattle.rr_text.specs.Results.{◌>>=◌, check}
-use Rattle.rr_cluster.specs.Command.{Command, save}
 use Rattle.rr_cluster.specs.Model.{Model}
 use Rattle.rr_cluster.specs.State.{Node, Snapshot, State}
 use Rattle.rr_cluster.specs.Words.{is_name}
-
--- the command of the words after its name
-abbrev pub save_command : List (List ℕ) → Option Command
-save_command (name ∷ node ∷ []) = Some (save name node)
-save_command _ = None
 
 module _ {K : Type 0} (model : Model K) where
   -- the snapshot of a node

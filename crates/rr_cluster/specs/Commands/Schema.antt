@@ -1,5 +1,5 @@
 -- schema STEP S:R:N/D ..
-use Rattle.std.specs.Prelude.{ℕ, List, [], ◌∷◌, Option, None, Some, Result, Ok, Err, ok_or}
+use Rattle.std.specs.Prelude.{ℕ, List, Option, None, Some, Result, Ok, Err, ok_or}
 use Rattle.rr_base.specs.declared.fault.SchemaFault.{SchemaFault}
 use Rattle.rr_base.specs.Schema.{Layout}
 use Rattle.rr_base.specs.Check.{schema_fault}
@@ -7,13 +7,7 @@ use Rattle.rr_cluster.specs.declared.fault.CommandFault.{CommandFault}
 use Rattle.rr_cluster.specs.declared.fault.CommandFault.TheVariants.{BadNumber, Schema}
 use Rattle.rr_cluster.specs.declared.words.TheConstants.{MAX_U32}
 use Rattle.rr_text.specs.Results.{◌>>=◌}
-use Rattle.rr_cluster.specs.Command.{Command, schema}
 use Rattle.rr_cluster.specs.Words.{archives_of, number_within}
-
--- the command of the words after its name
-abbrev pub schema_command : List (List ℕ) → Option Command
-schema_command [] = None
-schema_command (step ∷ archives) = Some (schema step archives)
 
 -- a schema, where it has no fault
 abbrev pub unless_faulty : Option SchemaFault → Layout → Result Layout CommandFault

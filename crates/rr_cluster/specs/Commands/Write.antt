@@ -1,5 +1,5 @@
 -- write NODE LINE
-use Rattle.std.specs.Prelude.{ℕ, ◌+◌, ◌-◌, ℤ, not, nat_lt, List, [], ◌∷◌, length, Option, None, Some, Result, Ok, Err, ok_or, unwrap_or}
+use Rattle.std.specs.Prelude.{ℕ, ◌+◌, ◌-◌, ℤ, not, nat_lt, List, [], ◌∷◌, length, Option, Result, Ok, Err, ok_or, unwrap_or}
 use Rattle.std.specs.FinMap.{get, insert}
 use Rattle.rr_text.specs.declared.limits.TheConstants.{MAX_NUMBER}
 use Rattle.rr_line.specs.declared.precision.Precision.TheVariants.{Ns}
@@ -15,15 +15,8 @@ use Rattle.rr_replica.specs.Writing.{is_ahead}
 use Rattle.rr_cluster.specs.declared.fault.CommandFault.{CommandFault}
 use Rattle.rr_cluster.specs.declared.fault.CommandFault.TheVariants.{NoNode, Line, Write}
 use Rattle.rr_text.specs.Results.{◌>>=◌, check}
-use Rattle.rr_cluster.specs.Command.{Command, write}
 use Rattle.rr_cluster.specs.Model.{Model}
 use Rattle.rr_cluster.specs.State.{Node, State}
-use Rattle.rr_cluster.specs.Words.{text_of}
-
--- the command of the words after its name; the line is all that follows the node
-abbrev pub write_command : List (List ℕ) → Option Command
-write_command (name ∷ line ∷ rest) = Some (write name (text_of (line ∷ rest)))
-write_command _ = None
 
 -- a line, or its fault
 abbrev pub line_of : Result LineView LineFault → Result LineView CommandFault

@@ -1,32 +1,17 @@
 //! `bytes NAME`: prints the bytes of a page.
 
-ghost use Rattle.std.specs.Prelude.{◌≡◌, option_map};
 ghost use Rattle.rr_cells.specs.Cells.{Cells};
-ghost use Rattle.rr_cluster.specs.Command.{view_of};
-ghost use Rattle.rr_cluster.specs.Commands.Bytes.{bytes_command, hex_of_page};
+ghost use Rattle.rr_cluster.specs.Commands.Bytes.{hex_of_page};
 ghost use Rattle.rr_cluster.specs.Meaning.{Represents};
 ghost use Rattle.rr_cluster.specs.Model.{cell_model};
 ghost use Rattle.rr_cluster.specs.State.{State};
 ghost use Rattle.rr_cluster.specs.Stop.{Gives};
-ghost use Rattle.rr_cluster.specs.Words.{words_of};
 
 use crate::cluster::Cluster;
-use crate::event::Event;
 use crate::fault::CommandFault;
 use crate::stop::Stop;
-use crate::words::first_word;
 use rr_archive::Archive;
 use rr_text::bytes::LINE_FEED;
-
-/// The command of the word after `bytes`.
-pub(crate) fn bytes_command(words: &[u8]) -> Option<Event<'_>>
-    ensures { option_map view_of result ≡ bytes_command (words_of words.now) }
-{
-    match first_word(words) {
-        Some(_) => None,
-        None => Some(Event::Bytes { name: words }),
-    }
-}
 
 /// The bytes of a page in lower-case hexadecimal, as a line.
 pub(crate) fn hex_of_page<A: Archive>(cluster: &Cluster<A>, name: &[u8]) -> Result<Vec<u8>, Stop>

@@ -1,35 +1,19 @@
 //! `deliver NAME NODE`: joins the cells of a page into a node.
 
-ghost use Rattle.std.specs.Prelude.{◌≡◌, option_map};
 ghost use Rattle.rr_cells.specs.Cells.{Cells};
-ghost use Rattle.rr_cluster.specs.Command.{view_of};
-ghost use Rattle.rr_cluster.specs.Commands.Deliver.{after_deliver, deliver_command};
+ghost use Rattle.rr_cluster.specs.Commands.Deliver.{after_deliver};
 ghost use Rattle.rr_replica.specs.Standing.{held};
 ghost use Rattle.rr_cluster.specs.Meaning.{HasPageText, Joins, Leaves, Represents};
 ghost use Rattle.rr_cluster.specs.Model.{cell_model};
 ghost use Rattle.rr_cluster.specs.State.{State};
-ghost use Rattle.rr_cluster.specs.Words.{words_of};
 
 use crate::cluster::Cluster;
-use crate::event::Event;
 use crate::fault::CommandFault;
 use crate::stop::Stop;
-use crate::words::first_word;
 use rr_archive::Archive;
 use rr_page::{PageFault, decode};
 use rr_replica::Replica;
 use std::alloc::Global;
-
-/// The command of the words after `deliver`.
-pub(crate) fn deliver_command(words: &[u8]) -> Option<Event<'_>>
-    ensures { option_map view_of result ≡ deliver_command (words_of words.now) }
-{
-    let (name, node) = first_word(words)?;
-    match first_word(node) {
-        Some(_) => None,
-        None => Some(Event::Deliver { name, node }),
-    }
-}
 
 /// Joins the cells of a page into a node.
 pub(crate) fn deliver<A: Archive>(

@@ -1,32 +1,18 @@
 //! `fetch NODE CF RESOLUTION START END KEY`: prints rows of a series.
 
-ghost use Rattle.std.specs.Prelude.{◌≡◌, option_map};
-ghost use Rattle.rr_fetch.specs.Words.{parts};
+ghost use Rattle.rr_request.specs.Words.{parts};
 ghost use Rattle.rr_cells.specs.Cells.{Cells};
-ghost use Rattle.rr_cluster.specs.Command.{view_of};
-ghost use Rattle.rr_cluster.specs.Commands.Fetch.{answer_to, fetch_command};
+ghost use Rattle.rr_cluster.specs.Commands.Fetch.{answer_to};
 ghost use Rattle.rr_cluster.specs.Meaning.{Represents};
 ghost use Rattle.rr_cluster.specs.Model.{cell_model};
 ghost use Rattle.rr_cluster.specs.State.{State};
 ghost use Rattle.rr_cluster.specs.Stop.{Gives};
-ghost use Rattle.rr_cluster.specs.Words.{words_of};
 
 use crate::cluster::Cluster;
-use crate::event::Event;
 use crate::fault::CommandFault;
 use crate::stop::Stop;
-use crate::words::first_word;
 use rr_archive::Archive;
-use rr_fetch::{RequestWords, answer_text, read_request, request_words};
-
-/// The command of the words after `fetch`; the key is all that follows the end.
-pub(crate) fn fetch_command(words: &[u8]) -> Option<Event<'_>>
-    ensures { option_map view_of result ≡ fetch_command (words_of words.now) }
-{
-    let (node, rest) = first_word(words)?;
-    let request = request_words(rest)?;
-    Some(Event::Fetch { node, request })
-}
+use rr_fetch::{RequestWords, answer_text, read_request};
 
 /// The answer of a node to a request.
 pub(crate) fn answer_to<A: Archive>(

@@ -1,36 +1,20 @@
 //! `load NAME NODE ORIGIN`: makes a snapshot a node, under a new origin.
 
-ghost use Rattle.std.specs.Prelude.{◌≡◌, option_map};
 ghost use Rattle.rr_cells.specs.Cells.{Cells};
-ghost use Rattle.rr_cluster.specs.Command.{view_of};
-ghost use Rattle.rr_cluster.specs.Commands.Load.{after_load, load_command};
+ghost use Rattle.rr_cluster.specs.Commands.Load.{after_load};
 ghost use Rattle.rr_cluster.specs.Meaning.{HasSnapshotText, Leaves, Loads, Represents};
 ghost use Rattle.rr_cluster.specs.Model.{cell_model};
 ghost use Rattle.rr_cluster.specs.State.{Snapshot, State};
-ghost use Rattle.rr_cluster.specs.Words.{words_of};
 
 use crate::cluster::Cluster;
-use crate::event::Event;
 use crate::fault::CommandFault;
 use crate::stop::Stop;
-use crate::words::{first_word, is_name, origin_of};
+use crate::words::{is_name, origin_of};
 use rr_archive::Archive;
 use rr_base::{Counted, Origin, Schema};
 use rr_replica::Replica;
 use rr_snapshot::{LoadFault, load};
 use std::alloc::Global;
-
-/// The command of the words after `load`.
-pub(crate) fn load_command(words: &[u8]) -> Option<Event<'_>>
-    ensures { option_map view_of result ≡ load_command (words_of words.now) }
-{
-    let (name, rest) = first_word(words)?;
-    let (node, origin) = first_word(rest)?;
-    match first_word(origin) {
-        Some(_) => None,
-        None => Some(Event::Load { name, node, origin }),
-    }
-}
 
 /// Makes a snapshot a node, under an origin that was not used. A node of that name is replaced, and
 /// its origin stays used.

@@ -1,42 +1,21 @@
 //! `page NAME NODE FROM COUNT`: makes a page of a node's cells.
 
-ghost use Rattle.std.specs.Prelude.{◌≡◌, ◌≤◌, option_map, IfOk};
+ghost use Rattle.std.specs.Prelude.{◌≤◌, IfOk};
 ghost use Rattle.rr_text.specs.declared.limits.TheConstants.{MAX_PAGE_CELLS};
 ghost use Rattle.rr_cells.specs.Cells.{Cells};
-ghost use Rattle.rr_cluster.specs.Command.{view_of};
-ghost use Rattle.rr_cluster.specs.Commands.Page.{after_page, page_command};
+ghost use Rattle.rr_cluster.specs.Commands.Page.{after_page};
 ghost use Rattle.rr_cluster.specs.Meaning.{HasPageText, Leaves, Represents};
 ghost use Rattle.rr_cluster.specs.Model.{cell_model, part_of};
 ghost use Rattle.rr_cluster.specs.State.{State};
-ghost use Rattle.rr_cluster.specs.Words.{words_of};
 
 use crate::cluster::Cluster;
-use crate::event::Event;
 use crate::fault::CommandFault;
 use crate::stop::Stop;
-use crate::words::{cell_count, first_word, is_name, number_u32};
+use crate::words::{cell_count, is_name, number_u32};
 use rr_archive::Archive;
 use rr_page::encode;
 use rr_replica::Replica;
 use std::alloc::{AllocError, Global};
-
-/// The command of the words after `page`.
-pub(crate) fn page_command(words: &[u8]) -> Option<Event<'_>>
-    ensures { option_map view_of result ≡ page_command (words_of words.now) }
-{
-    let (name, rest) = first_word(words)?;
-    let (node, rest) = first_word(rest)?;
-    let (from, count) = first_word(rest)?;
-    match first_word(count) {
-        Some(_) => None,
-        None => Some(Event::Page {
-            name,
-            node,
-            from,
-            count,
-        }),
-    }
-}
 
 /// Makes a page of a node's cells from a place on, as many as there are up to a count. A page of
 /// that name is replaced.

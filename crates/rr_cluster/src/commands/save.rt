@@ -1,36 +1,21 @@
 //! `save NAME NODE`: makes a snapshot of a node.
 
-ghost use Rattle.std.specs.Prelude.{◌≡◌, option_map};
 ghost use Rattle.rr_cells.specs.Cells.{Cells};
-ghost use Rattle.rr_cluster.specs.Command.{view_of};
-ghost use Rattle.rr_cluster.specs.Commands.Save.{after_save, save_command};
+ghost use Rattle.rr_cluster.specs.Commands.Save.{after_save};
 ghost use Rattle.rr_replica.specs.Standing.{held};
 ghost use Rattle.rr_cluster.specs.Meaning.{Leaves, Represents, Saves};
 ghost use Rattle.rr_cluster.specs.Model.{cell_model};
 ghost use Rattle.rr_cluster.specs.State.{State};
-ghost use Rattle.rr_cluster.specs.Words.{words_of};
 
 use crate::cluster::Cluster;
-use crate::event::Event;
 use crate::fault::CommandFault;
 use crate::stop::Stop;
-use crate::words::{first_word, is_name};
+use crate::words::is_name;
 use rr_archive::Archive;
 use rr_base::Counted;
 use rr_replica::Replica;
 use rr_snapshot::save;
 use std::alloc::Global;
-
-/// The command of the words after `save`.
-pub(crate) fn save_command(words: &[u8]) -> Option<Event<'_>>
-    ensures { option_map view_of result ≡ save_command (words_of words.now) }
-{
-    let (name, node) = first_word(words)?;
-    match first_word(node) {
-        Some(_) => None,
-        None => Some(Event::Save { name, node }),
-    }
-}
 
 /// Makes a snapshot of a node. A snapshot of that name is replaced.
 pub(crate) fn save_node<A: Archive>(

@@ -3,33 +3,17 @@
 ghost use Rattle.std.specs.Prelude.{◌≡◌, ◌<◌, [], ◌∷◌, Some, IfOk, IfSome, MatchOption};
 ghost use Rattle.std.specs.Option.{option_map};
 ghost use Rattle.rr_base.specs.Schema.{IsLayout};
-ghost use Rattle.rr_cluster.specs.Command.{archive_words, bytes_left, view_of};
-ghost use Rattle.rr_cluster.specs.Commands.Schema.{layout_of, schema_command};
+ghost use Rattle.rr_script.specs.Command.{archive_words, bytes_left};
+ghost use Rattle.rr_cluster.specs.Commands.Schema.{layout_of};
 ghost use Rattle.rr_cluster.specs.Stop.{Gives};
-ghost use Rattle.rr_cluster.specs.Words.{archives_of, words_of};
+ghost use Rattle.rr_cluster.specs.Words.{archives_of};
 
-use crate::event::Event;
 use crate::fault::CommandFault;
 use crate::stop::Stop;
-use crate::words::{archive_of, first_word, number_u32};
+use crate::words::{archive_of, number_u32};
 use rr_base::{ArchiveSpec, Schema};
+use rr_script::first_word;
 use std::alloc::{AllocError, Global};
-
-/// The command of the words after `schema`.
-pub(crate) fn schema_command(words: &[u8]) -> Event<'_>
-    ensures { Some (view_of result) ≡ schema_command (words_of words.now) }
-{
-    match first_word(words) {
-        Some((step, archives)) => Event::Schema {
-            step,
-            archives: Some(archives),
-        },
-        None => Event::Schema {
-            step: words,
-            archives: None,
-        },
-    }
-}
 
 /// The first of the words that are left, if there is one, and the rest.
 fn next_word(words: Option<&[u8]>) -> Option<(&[u8], Option<&[u8]>)>

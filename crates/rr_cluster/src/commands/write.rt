@@ -1,35 +1,22 @@
 //! `write NODE LINE`: hands a line of the line protocol to a node.
 
-ghost use Rattle.std.specs.Prelude.{◌≡◌, option_map};
 ghost use Rattle.rr_text.specs.Bytes.{HasNoLineFeed};
 ghost use Rattle.rr_point.specs.Point.{point_view};
 ghost use Rattle.rr_cells.specs.Cells.{Cells};
 ghost use Rattle.rr_point.specs.Key.{IsWritable};
-ghost use Rattle.rr_cluster.specs.Command.{view_of};
-ghost use Rattle.rr_cluster.specs.Commands.Write.{after_write, samples_of_line, samples_of_point, write_command};
+ghost use Rattle.rr_cluster.specs.Commands.Write.{after_write, samples_of_line, samples_of_point};
 ghost use Rattle.rr_replica.specs.Standing.{held};
 ghost use Rattle.rr_cluster.specs.Meaning.{node_in, Leaves, Represents, Writes};
 ghost use Rattle.rr_cluster.specs.Model.{cell_model};
 ghost use Rattle.rr_cluster.specs.State.{State};
-ghost use Rattle.rr_cluster.specs.Words.{words_of};
 
 use crate::cluster::Cluster;
-use crate::event::Event;
 use crate::fault::CommandFault;
 use crate::stop::Stop;
-use crate::words::first_word;
 use rr_archive::Archive;
 use rr_line::{Line, Point, Precision, parse_line};
 use rr_replica::Replica;
 use std::alloc::Global;
-
-/// The command of the words after `write`; the line is all that follows the node.
-pub(crate) fn write_command(words: &[u8]) -> Option<Event<'_>>
-    ensures { option_map view_of result ≡ write_command (words_of words.now) }
-{
-    let (node, line) = first_word(words)?;
-    Some(Event::Write { node, line })
-}
 
 /// Writes a line to a node.
 pub(crate) fn write_line<A: Archive>(

@@ -2,7 +2,7 @@
 
 use rr_base::stream::ReadFault;
 use rr_base::{OriginFault, SchemaFault};
-use rr_cluster::{CommandFault, RunFault};
+use rr_cluster::{CommandFault, RunFault, SyntaxFault};
 use rr_feed::FeedFault;
 use rr_fetch::{AnswerFault, RequestFault};
 use rr_gossip::GossipFault;
@@ -286,8 +286,8 @@ const COMMAND_FAULTS: &str = "LineTooLong: the line is longer than 65,536 bytes\
 fn command_faults_say_what_is_wrong(rt: HostRuntime) -> Result<(), Fail> {
     let mut text = String::new(rt.alloc());
     for fault in [
-        CommandFault::LineTooLong,
-        CommandFault::BadCommand,
+        CommandFault::Syntax(SyntaxFault::LineTooLong),
+        CommandFault::Syntax(SyntaxFault::BadCommand),
         CommandFault::NoSchema,
         CommandFault::SchemaSet,
         CommandFault::BadName,

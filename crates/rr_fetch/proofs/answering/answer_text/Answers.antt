@@ -6,7 +6,7 @@ use Rattle.rr_model.specs.FetchText.{record_text}
 use Rattle.rr_cells.specs.Cells.{row_at, rows_at}
 use Rattle.rr_fetch.specs.Answers.{value_of_cells}
 use Rattle.rr_fetch.specs.Consolidation.{consolidation_of, IsRow}
-use Rattle.rr_fetch.specs.Requests.{request_view}
+use Rattle.rr_request.specs.Requests.{request_view}
 use Rattle.rr_replica.specs.Standing.{held}
 use Rattle.rr_fetch.proofs.AnswerLemmas.{answer_none, answer_more}
 use Rattle.rr_fetch.proofs.RowEntries.{row_holds}

@@ -1,0 +1,3 @@
+pub mod WordsLemmas
+pub mod CommandsLemmas
+pub mod ScriptLemmas

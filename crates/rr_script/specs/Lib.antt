@@ -1,0 +1,5 @@
+pub mod Fault
+pub mod Words
+pub mod Command
+pub mod Commands
+pub mod Script
