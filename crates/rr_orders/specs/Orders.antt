@@ -2,9 +2,9 @@
 use Rattle.std.specs.Prelude.{ℕ, List, []}
 use Rattle.rr_cluster.specs.Model.{sample_model}
 use Rattle.rr_cluster.specs.Output as script
-use Rattle.rr_orders.specs.declared.ending.Ending.{Ending}
-use Rattle.rr_orders.specs.declared.ending.Ending.TheVariants.{Done}
-use Rattle.rr_orders.specs.Ending.{ending_of_lines}
+use Rattle.rr_process.specs.declared.ending.Ending.{Ending}
+use Rattle.rr_process.specs.declared.ending.Ending.TheVariants.{Done}
+use Rattle.rr_process.specs.Ending.{ending_of_lines}
 use Rattle.rr_report.specs.Report.{refused_count, report_of}
 use Rattle.rr_words.specs.Words.{Asked, sim, check_lines, serve}
 

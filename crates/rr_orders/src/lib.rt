@@ -5,20 +5,16 @@
 //! ```
 //!
 //! [`obey_order`] runs a script or checks lines, from a reader to a writer, and its contract says
-//! what is written. [`read_order`] reads the words of a process, and [`obey`] picks its streams, by the
-//! traits of a runtime, so that a test can stand in for the process.
-//!
-//! Streams are counted, so that one is blamed only where a call of it failed. A run ends with status
-//! 0 where it is done, 1 where lines were refused, 2 where the command line is, or what a node is told to
-//! begin with, and 3 where reading or writing failed, an address was bad or memory ran out ([`Ending`]).
+//! what is written. [`obey`] picks the streams of a process, by the traits of a runtime, so that a test can
+//! stand in for the process. How words are read and how a run ends is in `rr_process`, whose names are
+//! passed on.
 #![tactic(auto)]
 
-mod ending;
 mod orders;
 mod process;
 mod script;
 
-pub use ending::Ending;
 pub use orders::obey_order;
-pub use process::{obey, read_order};
+pub use process::obey;
+pub use rr_process::{Ending, read_order};
 pub use script::run_script;

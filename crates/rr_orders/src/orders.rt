@@ -8,9 +8,9 @@ ghost use Rattle.rr_text.specs.declared.limits.TheConstants.{MAX_READS};
 ghost use Rattle.rr_orders.specs.Orders.{ending_of, output_of};
 ghost use Rattle.rr_words.specs.Words.{asked_by};
 
-use crate::ending::Ending;
 use crate::script::run_script;
 use rr_base::Counted;
+use rr_process::Ending;
 use rr_report::{ToolFault, check_lines};
 use rr_words::Order;
 use std::alloc::Global;

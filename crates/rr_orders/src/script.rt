@@ -1,6 +1,6 @@
 //! A script, from a reader's bytes to a writer's.
 
-ghost use Rattle.std.specs.Prelude.{◌≡◌, ◌≢◌, ◌+◌, ◌≤◌, Err, IfSome, IfOk, OnOk, IfErr};
+ghost use Rattle.std.specs.Prelude.{◌≡◌, ◌≢◌, ◌+◌, ◌≤◌, Err, IfSome, OnOk, IfErr};
 ghost use Rattle.std.specs.Io.KnownBytes.{Appends};
 ghost use Rattle.rr_base.specs.Counted.{inner_of, failures_of, reads_of, HasRisen, HasRisenBy};
 ghost use Rattle.rr_base.specs.Stream.{AppendsPrefix};
@@ -9,8 +9,8 @@ ghost use Rattle.rr_cluster.specs.Model.{sample_model};
 ghost use Rattle.rr_cluster.specs.Output.{output_of};
 
 use rr_base::Counted;
-use rr_base::stream::{flush, read_to_end, write_all};
 use rr_cluster::{RunFault, run};
+use rr_process::{read_script, write_text};
 use rr_report::ToolFault;
 use std::alloc::Global;
 use std::io::{Read, Write};
@@ -44,30 +44,4 @@ pub fn run_script<R: Read, W: Write>(
         Err(RunFault::Memory) => return Err(ToolFault::Memory),
     };
     write_text(output, text.as_slice())
-}
-
-/// All that `input` still has.
-fn read_script<R: Read>(alloc: Global, input: &mut Counted<R>) -> Result<Vec<u8>, ToolFault>
-    ensures read { IfOk result (λ script. IfSome (R.remaining (inner_of input.old)) (λ bytes. script.items ≡ bytes)) }
-    ensures read_failed { result ≡ Err ToolFault.ReadFailed → HasRisen (failures_of input.old) (failures_of input.new) }
-    ensures limit { reads_of input.new ≤ reads_of input.old + MAX_READS }
-    ensures too_many { result ≡ Err ToolFault.TooManyReads
-        → HasRisenBy MAX_READS (reads_of input.old) (reads_of input.new) }
-    ensures failed { IfErr result (λ fault. fault ≢ ToolFault.WriteFailed) }
-{
-    let mut script = Vec::new(alloc);
-    read_to_end(input, &mut script)?;
-    Ok(script)
-}
-
-/// Writes the text whole, and has the writer pass on what it holds back of it.
-fn write_text<W: Write>(output: &mut Counted<W>, text: &[u8]) -> Result<(), ToolFault>
-    ensures whole { OnOk result (Appends (W.contents (inner_of output.old)) (W.contents (inner_of output.new)) text.now) }
-    ensures front { AppendsPrefix (W.contents (inner_of output.old)) (W.contents (inner_of output.new)) text.now }
-    ensures failed { IfErr result (λ fault. fault ≡ ToolFault.WriteFailed) }
-    ensures write_failed { result ≡ Err ToolFault.WriteFailed → HasRisen (failures_of output.old) (failures_of output.new) }
-{
-    write_all(output, text)?;
-    flush(output)?;
-    Ok(())
 }

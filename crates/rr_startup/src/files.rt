@@ -2,7 +2,7 @@
 
 use rr_base::{Counted, Origin, Schema};
 use rr_config::{Config, ConfigFault};
-use rr_orders::Ending;
+use rr_process::Ending;
 use rr_replica::Replica;
 use rr_report::ToolFault;
 use rr_ring::RingArchive;

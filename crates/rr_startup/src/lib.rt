@@ -5,7 +5,7 @@
 //! file ── first_replica ──> the replica of a snapshot, under a new origin; with no file an empty one
 //! ```
 //!
-//! Both answer how the process ends ([`Ending`](rr_orders::Ending)) where a file can't be read or is refused.
+//! Both answer how the process ends ([`Ending`](rr_process::Ending)) where a file can't be read or is refused.
 //! Nothing is known of files, so neither has a clause: what the text and the bytes mean is in the contracts
 //! of [`Config::from_toml`](rr_config::Config::from_toml) and [`load`](rr_snapshot::load).
 #![tactic(auto)]

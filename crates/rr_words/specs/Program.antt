@@ -34,9 +34,13 @@ load_rule = record (new_rule (codes "load")) { long = Some (codes "load"); value
 abbrev pub save_rule : Rule
 save_rule = record (new_rule (codes "save")) { long = Some (codes "save"); value_names = 1 }
 
+-- serve CONFIG --origin N
+abbrev pub bare_serve_app : App
+bare_serve_app = with_rule (with_rule (new_app (codes "serve")) config_rule) origin_rule
+
 -- serve CONFIG --origin N [--load FILE] [--save FILE]
 abbrev pub serve_app : App
-serve_app = with_rule (with_rule (with_rule (with_rule (new_app (codes "serve")) config_rule) origin_rule) load_rule) save_rule
+serve_app = with_rule (with_rule bare_serve_app load_rule) save_rule
 
 -- the words are those after the program's name
 abbrev pub bare_app : App

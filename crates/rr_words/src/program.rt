@@ -3,7 +3,7 @@
 ghost use Rattle.std.specs.Prelude.{◌≡◌, false, IfOk};
 ghost use Rattle.clap.specs.Words.{app_of, rule_of};
 ghost use Rattle.clap.specs.declared.builder.command.Command.TheViews.{out-Command as fields_of};
-ghost use Rattle.rr_words.specs.Program.{sim_app, precision_rule, now_rule, check_lines_app, config_rule, origin_rule, load_rule, save_rule, serve_app, stream_commands_app, program_app};
+ghost use Rattle.rr_words.specs.Program.{sim_app, precision_rule, now_rule, check_lines_app, config_rule, origin_rule, load_rule, save_rule, bare_serve_app, serve_app, bare_app, stream_commands_app, program_app};
 
 use clap::{Arg, Command};
 use std::alloc::{AllocError, Global};
@@ -94,27 +94,43 @@ fn save_arg<'a>(alloc: Global) -> Arg<'a>
     )
 }
 
-/// `serve CONFIG --origin N [--load FILE] [--save FILE]`.
-fn serve<'a>(alloc: Global) -> Result<Command<'a>, AllocError>
-    ensures app { IfOk result (λ c. app_of c ≡ serve_app) }
+/// `serve CONFIG --origin N`.
+fn bare_serve<'a>(alloc: Global) -> Result<Command<'a>, AllocError>
+    ensures app { IfOk result (λ c. app_of c ≡ bare_serve_app) }
     ensures local { IfOk result (λ c. (fields_of c).has_globals ≡ false) }
 {
     Command::new(alloc, "serve")
         .about("Serves as a node: takes lines, answers fetches and pulls from peers")
         .arg(config_arg(alloc))?
-        .arg(origin_arg(alloc))?
+        .arg(origin_arg(alloc))
+}
+
+/// `serve CONFIG --origin N [--load FILE] [--save FILE]`.
+fn serve<'a>(alloc: Global) -> Result<Command<'a>, AllocError>
+    ensures app { IfOk result (λ c. app_of c ≡ serve_app) }
+    ensures local { IfOk result (λ c. (fields_of c).has_globals ≡ false) }
+{
+    bare_serve(alloc)?
         .arg(load_arg(alloc))?
         .arg(save_arg(alloc))
+}
+
+/// The program without subcommands; its words are those after its name.
+fn bare<'a>(alloc: Global) -> Result<Command<'a>, AllocError>
+    ensures { IfOk result (λ c. app_of c ≡ bare_app) }
+{
+    let program = Command::new(alloc, "rr")
+        .bin_name("rr")?
+        .about("A replicated round-robin store for integer time series")
+        .no_binary_name(true);
+    Ok(program)
 }
 
 /// The program with the subcommands that read one stream and write another.
 fn stream_commands<'a>(alloc: Global) -> Result<Command<'a>, AllocError>
     ensures { IfOk result (λ c. app_of c ≡ stream_commands_app) }
 {
-    Command::new(alloc, "rr")
-        .bin_name("rr")?
-        .about("A replicated round-robin store for integer time series")
-        .no_binary_name(true)
+    bare(alloc)?
         .subcommand(sim(alloc)?)?
         .subcommand(check_lines(alloc)?)
 }

@@ -26,7 +26,7 @@ pub enum Ending {
 }
 
 impl Ending {
-    ghost use Rattle.rr_orders.specs.Ending.{ending_of_lines, status_of};
+    ghost use Rattle.rr_process.specs.Ending.{ending_of_lines, status_of};
 
     /// The ending after lines, by how many of them were refused.
     pub fn of_lines(refused: u64) -> Ending
@@ -65,7 +65,7 @@ impl Ending {
 }
 
 impl From<WordsFault> for Ending {
-    ghost use Rattle.rr_orders.specs.Ending.{of_words_fault};
+    ghost use Rattle.rr_process.specs.Ending.{of_words_fault};
 
     ghost from_gives = { λ fault e. e ≡ of_words_fault fault };
 

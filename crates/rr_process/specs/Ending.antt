@@ -1,7 +1,7 @@
 -- How a run of the program ends, and with which status.
 use Rattle.std.specs.Prelude.{ℕ, ◌==◌, if◌then◌else◌}
-use Rattle.rr_orders.specs.declared.ending.Ending.{Ending}
-use Rattle.rr_orders.specs.declared.ending.Ending.TheVariants as ending
+use Rattle.rr_process.specs.declared.ending.Ending.{Ending}
+use Rattle.rr_process.specs.declared.ending.Ending.TheVariants as ending
 use Rattle.rr_report.specs.declared.fault.ToolFault.TheVariants as fault
 use Rattle.rr_words.specs.declared.fault.WordsFault.{WordsFault}
 use Rattle.rr_words.specs.declared.fault.WordsFault.TheVariants as words
