@@ -5,9 +5,9 @@ use Rattle.std.specs.Io.KnownBytes.{Appends}
 use Rattle.rr_base.specs.Stream.{AppendsPrefix}
 use Rattle.rr_copies.specs.Standing.{KeeperState, cells_of}
 use Rattle.rr_page.specs.Version.{latest}
-use Rattle.rr_snapshot.specs.declared.fault.SaveFault.TheVariants.{TooManyCells, WriteFailed}
-use Rattle.rr_snapshot.specs.declared.heading.TheConstants.{MAX_SNAPSHOT_CELLS}
-use Rattle.rr_snapshot.specs.Snapshot.{snapshot_text}
+use Rattle.rr_parts.specs.declared.fault.SaveFault.TheVariants.{TooManyCells, WriteFailed}
+use Rattle.rr_parts.specs.declared.heading.TheConstants.{MAX_SNAPSHOT_CELLS}
+use Rattle.rr_parts.specs.Snapshot.{snapshot_text}
 use Rattle.rr_node.specs.Shelf.{ShelfCall, opened, put_back, save_failed, unopened, unwanted}
 
 -- the snapshot of a keeper's replica

@@ -1,7 +1,7 @@
 -- The calls of a shelf, each told with what it gave and was handed back.
 use Rattle.std.specs.Prelude.{ℕ, Bool, List, Option}
 use Rattle.rr_node.specs.declared.fault.NodeFault.{NodeFault}
-use Rattle.rr_snapshot.specs.declared.fault.SaveFault.{SaveFault}
+use Rattle.rr_parts.specs.declared.fault.SaveFault.{SaveFault}
 
 -- a call of a shelf: it opened a writer for a snapshot, or wants none, or can't open one; a writer was handed back, with
 -- a whole snapshot or not; or it was told that the pull of a peer failed, or a save

@@ -1,12 +1,4 @@
-pub mod FrontLemmas
 pub mod WriteLemmas
-pub mod SaveLemmas
-pub mod WidthLemmas
-pub mod StreamLemmas
-pub mod PieceLemmas
-pub mod ChainLemmas
-pub mod CellsLemmas
+pub mod JoinedLemmas
 pub mod LoadLemmas
-pub mod SnapshotLemmas
 pub mod SavedLemmas
-pub mod CutLemmas

@@ -1,10 +1,6 @@
 -- What a snapshot is loaded as, by what was read of it, part by part.
-use Rattle.std.proofs.Common.{◌≡◌, ◌⊎◌, ℕ, Bool, true, false, List, ◌++◌, length, take, Option, None, Some, IfSome, Result, Ok, Err, refl, sym, ap, subst, ◌∙◌, arith, inl, inr, []}
-use Rattle.std.specs.Io.KnownBytes.{Consumes}
-use Rattle.std.proofs.lemmas.List.{length-append, take_at}
-use Rattle.sha2.specs.Hashers.{Holds256}
+use Rattle.std.proofs.Common.{◌≡◌, ◌⊎◌, ℕ, Bool, true, false, List, Option, None, Some, IfSome, Result, Ok, Err, sym, ap, ◌∙◌, inl, inr}
 use Rattle.sha2.specs.Sha256.{sha256}
-use Rattle.sha2.specs.declared.Sha256.{Sha256}
 use Rattle.rr_text.specs.Results.{◌>>=◌, unless}
 use Rattle.rr_base.specs.Schema.{Layout}
 use Rattle.rr_base.specs.SchemaBytes.{schema_bytes}
@@ -13,27 +9,14 @@ use Rattle.rr_page.specs.PageReading.{cells_at}
 use Rattle.rr_cells.specs.CellBounds.{NamedCell}
 use Rattle.rr_cells.specs.Holding.{Holding}
 use Rattle.rr_replica.specs.Standing.{Standing, held}
-use Rattle.rr_snapshot.specs.declared.fault.LoadFault.{LoadFault}
-use Rattle.rr_snapshot.specs.declared.fault.LoadFault.TheVariants.{ReadFailed, OriginUsed, Memory}
+use Rattle.rr_parts.specs.declared.fault.LoadFault.{LoadFault}
+use Rattle.rr_parts.specs.declared.fault.LoadFault.TheVariants.{ReadFailed, OriginUsed, Memory}
+use Rattle.rr_parts.specs.SnapshotReading.{as_in_page, head_at, digest_at, end_at, bytes_before, snapshot_at}
+use Rattle.rr_parts.proofs.BodyLemmas.{after_cells, after_head, of_rest, HeadRead, digest_of_taken, IsBodyRead}
+use Rattle.rr_parts.proofs.ChainLemmas.{Gave}
 use Rattle.rr_snapshot.specs.Loading.{is_used, replica_of, loaded_at, GivesIfRead}
-use Rattle.rr_snapshot.specs.SnapshotReading.{as_in_page, head_at, digest_at, end_at, bytes_before, snapshot_at}
-use Rattle.rr_snapshot.specs.Stream.{Digests}
-use Rattle.rr_snapshot.proofs.ChainLemmas.{Gave, Digests-then}
-
--- the bytes before those that are left, of bytes in two parts
-pub front_is : (front rest all : List ℕ) → all ≡ front ++ rest → bytes_before rest all ≡ front
-front_is front rest all e =
-    ap (bytes_before rest) e
-    ∙ ap (λ (n : ℕ). take n (front ++ rest)) (omega (arith, length-append front rest))
-    ∙ take_at front rest (length front) refl
 
 -- ---- where all bytes are known
-
-abbrev pub after_cells : List ℕ → ℕ → List NamedCell × List ℕ → Result (ℕ × List NamedCell) LoadFault
-after_cells all saver cells = digest_at (sha256 (bytes_before cells.1 all)) cells.1 >>= λ digest. end_at digest.1 >>= λ end. Ok (saver, cells.0)
-
-abbrev pub after_head : Layout → List ℕ → (Version × (ℕ × ℕ)) × List ℕ → Result (ℕ × List NamedCell) LoadFault
-after_head s all head = as_in_page (cells_at head.0.0 s None head.0.1.1 head.1) >>= after_cells all head.0.1.0
 
 abbrev judged : Layout → ℕ → ℕ × List NamedCell → Result Holding LoadFault
 judged s o x = unless OriginUsed (is_used o x) (Ok (replica_of s o x.1))
@@ -67,49 +50,12 @@ module _ (s : Layout) (o : ℕ) (all : List ℕ) where
 
 -- ---- where they may be
 
--- a fact of the bytes that are left, where they are these
-of_rest : (P : List ℕ → Type 0) (o : Option (List ℕ)) (rest : List ℕ) → o ≡ Some rest → IfSome o P → P rest
-of_rest P o rest is h = subst (λ (x : Option (List ℕ)). IfSome x P) is h
-
-abbrev pub HeadRead : Layout → Version → ℕ → ℕ → Option (List ℕ) → Option (List ℕ) → Type 0
-HeadRead s v saver count old now = Gave (v, (saver, count)) old now (head_at (schema_bytes s))
-
-abbrev pub CellsRead : Layout → Version → ℕ → List NamedCell → Option (List ℕ) → Option (List ℕ) → Type 0
-CellsRead s v count es old now = Gave es old now (λ all. as_in_page (cells_at v s None count all))
-
 pub head_failed : (s : Layout) (o : ℕ) (fault : LoadFault) (old : Option (List ℕ)) → (fault ≡ ReadFailed) ⊎ (fault ≡ Memory) ⊎ IfSome old (λ all. head_at (schema_bytes s) all ≡ Err fault)
     → IfSome old (λ all. GivesIfRead held (Err fault) (loaded_at s o all))
 head_failed s o fault None e = tt
 head_failed s o fault (Some all) (inl e) = inl e
 head_failed s o fault (Some all) (inr (inl e)) = inr (inl e)
 head_failed s o fault (Some all) (inr (inr e)) = inr (inr (head_refused s o all fault e))
-
--- the digest of what was taken is that of the bytes before those that are left
-digest_of_taken : (all left : List ℕ) (now : Option (List ℕ)) (taken digest : List ℕ) → now ≡ Some left → Consumes (Some all) now taken → digest ≡ sha256 taken → digest ≡ sha256 (bytes_before left all)
-digest_of_taken all left now taken digest en took made =
-    let parts : all ≡ taken ++ left = subst (λ (n : Option (List ℕ)). Consumes (Some all) n taken) en took in
-    made ∙ ap sha256 (sym (front_is taken left all parts))
-
--- the head and the cells were read, and the bytes of both have this digest
-pub record IsBodyRead (s : Layout) (v : Version) (saver count : ℕ) (es : List NamedCell) (digest : List ℕ) (old now mid : Option (List ℕ)) : Type 0 where
-  pub head : HeadRead s v saver count old now
-  pub cells : CellsRead s v count es now mid
-  pub taken : List ℕ
-  pub took : Consumes old mid taken
-  pub made : digest ≡ sha256 taken
-
--- the cells were read under a schema that is the reader's, and all of it was digested as it came
-pub body_read : (s t : Layout) (v : Version) (saver count : ℕ) (es : List NamedCell) (digest : List ℕ) (old now mid : Option (List ℕ)) (none head all : Sha256) → HeadRead s v saver count old now → t ≡ s → CellsRead t v count es now mid
-    → Holds256 none [] → Digests old now none head → Digests now mid head all → ((m : List ℕ) → Holds256 all m → digest ≡ sha256 m) → IsBodyRead s v saver count es digest old now mid
-body_read s t v saver count es digest old now mid none head all first is cells empty one two made =
-    let taken = Digests-then old now mid none head all one two in
-    record {
-      head = first;
-      cells = subst (λ (u : Layout). CellsRead u v count es now mid) is cells;
-      taken = taken.0;
-      took = taken.1;
-      made = made taken.0 (taken.2 [] empty);
-    }
 
 module _ (s : Layout) (o : ℕ) (v : Version) (saver count : ℕ) where
   pub cells_failed : (fault : LoadFault) (old now : Option (List ℕ)) → HeadRead s v saver count old now → (fault ≡ ReadFailed) ⊎ (fault ≡ Memory) ⊎ IfSome now (λ all. as_in_page (cells_at v s None count all) ≡ Err fault)

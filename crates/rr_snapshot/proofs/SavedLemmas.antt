@@ -19,13 +19,13 @@ use Rattle.rr_cells.specs.Joins.{join_cells}
 use Rattle.rr_cells.proofs.CellByCell.{join_goes_by_cells, join_nothing, trimmed_none}
 use Rattle.rr_cells.proofs.HeldCells.{all_entries, all_held}
 use Rattle.rr_cells.proofs.JoinLaws.{join_commutes}
-use Rattle.rr_snapshot.specs.declared.fault.LoadFault.{LoadFault}
-use Rattle.rr_snapshot.specs.declared.fault.LoadFault.TheVariants.{OriginUsed}
-use Rattle.rr_snapshot.specs.declared.heading.TheConstants.{MAX_SNAPSHOT_CELLS}
+use Rattle.rr_parts.specs.declared.fault.LoadFault.{LoadFault}
+use Rattle.rr_parts.specs.declared.fault.LoadFault.TheVariants.{OriginUsed}
+use Rattle.rr_parts.specs.declared.heading.TheConstants.{MAX_SNAPSHOT_CELLS}
+use Rattle.rr_parts.specs.Snapshot.{IsSnapshot, snapshot_text}
+use Rattle.rr_parts.proofs.SnapshotLemmas.{snapshot_read}
 use Rattle.rr_snapshot.specs.Laws.{SavedIsLoaded}
 use Rattle.rr_snapshot.specs.Loading.{is_among, is_used, replica_of, loaded_at}
-use Rattle.rr_snapshot.specs.Snapshot.{IsSnapshot, snapshot_text}
-use Rattle.rr_snapshot.proofs.SnapshotLemmas.{snapshot_read}
 
 -- to join all cells of a map into none is to have that map
 pub cells_again : (s : Layout) (m : Cells) → IsLayout s → IsTrimmed s m → join_cells s empty (entries m) ≡ m

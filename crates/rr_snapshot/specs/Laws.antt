@@ -1,40 +1,13 @@
--- The laws of snapshots.
-use Rattle.std.specs.Prelude.{◌≡◌, ◌≢◌, ℕ, ◌≤◌, ◌↔◌, List, ◌++◌, length, Some, Ok, Err}
+-- The law of what was saved.
+use Rattle.std.specs.Prelude.{◌≡◌, ◌≢◌, ℕ, ◌≤◌, Some, Ok}
 use Rattle.std.specs.FinMap.{get, len, entries}
-use Rattle.rr_base.specs.Schema.{Layout, IsLayout}
 use Rattle.rr_contrib.specs.declared.contribution.Contribution.{Contribution}
 use Rattle.rr_model.specs.CellNames.{CellName}
-use Rattle.rr_cells.specs.CellBounds.{NamedCell}
 use Rattle.rr_cells.specs.Holding.{IsHolding, Holding}
-use Rattle.rr_page.specs.declared.version.Version.{Version}
-use Rattle.rr_page.specs.Laws.{AreBytes}
-use Rattle.rr_page.specs.Version.{HasMasksFor, latest}
-use Rattle.rr_snapshot.specs.declared.fault.LoadFault.TheVariants.{Short}
-use Rattle.rr_snapshot.specs.declared.heading.TheConstants.{MAX_SNAPSHOT_CELLS}
+use Rattle.rr_page.specs.Version.{latest}
+use Rattle.rr_parts.specs.declared.heading.TheConstants.{MAX_SNAPSHOT_CELLS}
+use Rattle.rr_parts.specs.Snapshot.{snapshot_text}
 use Rattle.rr_snapshot.specs.Loading.{loaded_at}
-use Rattle.rr_snapshot.specs.Snapshot.{IsSnapshot, IsSnapshotText, snapshot_text}
-use Rattle.rr_snapshot.specs.SnapshotReading.{snapshot_at}
-
--- a snapshot is read exactly where the bytes are the text of a snapshot of the schema
-abbrev pub SnapshotsAreTheirText : Type 0
-SnapshotsAreTheirText =
-    (s : Layout) (bytes : List ℕ) (origin : ℕ) (es : List NamedCell) → IsLayout s → AreBytes bytes
-    → (snapshot_at s bytes ≡ Ok (origin, es)) ↔ (IsSnapshot s origin es × IsSnapshotText s origin es bytes)
-
--- no snapshot begins another: where the text of a snapshot, and bytes after it, are the text of a snapshot and bytes
--- after it, the versions, the schemas, the origins, the cells and the bytes after them are the same
-abbrev pub NoSnapshotBeginsAnother : Type 0
-NoSnapshotBeginsAnother =
-    (v w : Version) (s t : Layout) (o p : ℕ) (es fs : List NamedCell) (x y : List ℕ) → IsLayout s → IsLayout t
-    → HasMasksFor v s → HasMasksFor w t → IsSnapshot s o es → IsSnapshot t p fs
-    → snapshot_text v s o es ++ x ≡ snapshot_text w t p fs ++ y
-    → (v ≡ w) × (s ≡ t) × (o ≡ p) × (es ≡ fs) × (x ≡ y)
-
--- the bytes of a snapshot without some at the end are Short
-abbrev pub FrontsAreShort : Type 0
-FrontsAreShort =
-    (v : Version) (s : Layout) (o : ℕ) (es : List NamedCell) (front rest : List ℕ) → IsLayout s → HasMasksFor v s
-    → IsSnapshot s o es → snapshot_text v s o es ≡ front ++ rest → 1 ≤ length rest → snapshot_at s front ≡ Err Short
 
 -- what a replica was saved as is loaded, under its schema and an origin that is neither its own nor that of one of its
 -- cells, as a replica of that origin with the same cells and the first number

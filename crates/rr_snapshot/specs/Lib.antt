@@ -1,6 +1,2 @@
-pub mod Fault
-pub mod Snapshot
-pub mod SnapshotReading
-pub mod Stream
 pub mod Loading
 pub mod Laws

@@ -7,9 +7,9 @@ use Rattle.rr_base.specs.Schema.{Layout}
 use Rattle.rr_cells.specs.CellBounds.{NamedCell}
 use Rattle.rr_cells.specs.Holding.{Holding}
 use Rattle.rr_cells.specs.Joins.{join_cells}
-use Rattle.rr_snapshot.specs.declared.fault.LoadFault.{LoadFault}
-use Rattle.rr_snapshot.specs.declared.fault.LoadFault.TheVariants.{ReadFailed, OriginUsed, Memory}
-use Rattle.rr_snapshot.specs.SnapshotReading.{snapshot_at}
+use Rattle.rr_parts.specs.declared.fault.LoadFault.{LoadFault}
+use Rattle.rr_parts.specs.declared.fault.LoadFault.TheVariants.{ReadFailed, OriginUsed, Memory}
+use Rattle.rr_parts.specs.SnapshotReading.{snapshot_at}
 
 -- whether an origin is that of one of these cells
 abbrev pub is_among : ℕ → List NamedCell → Bool

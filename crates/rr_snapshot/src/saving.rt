@@ -1,5 +1,5 @@
 //! A replica's cells, written as a snapshot.
-ghost use Rattle.std.specs.Prelude.{◌≡◌, ◌≢◌, ◌↔◌, ◌≤◌, ◌<◌, ◌++◌, Ok, Err, IfOk, OnOk, OnErr, List, ℕ};
+ghost use Rattle.std.specs.Prelude.{◌≡◌, ◌≢◌, ◌↔◌, ◌≤◌, ◌<◌, ◌++◌, Err, OnOk, List, ℕ};
 ghost use Rattle.std.specs.FinMap.{entries, len};
 ghost use Rattle.std.specs.Io.KnownBytes.{Appends};
 ghost use Rattle.std.specs.List.{flat_map};
@@ -10,69 +10,17 @@ ghost use Rattle.rr_page.specs.CellText.{cell_text};
 ghost use Rattle.rr_page.specs.Version.{latest};
 ghost use Rattle.rr_cells.specs.Holding.{IsHolding};
 ghost use Rattle.rr_replica.specs.Standing.{held};
-ghost use Rattle.rr_cells.specs.Listing.{seen_cell};
-ghost use Rattle.rr_snapshot.specs.Snapshot.{snapshot_text};
-ghost use Rattle.rr_snapshot.specs.declared.heading.TheConstants.{MAX_SNAPSHOT_CELLS};
+ghost use Rattle.rr_parts.specs.Snapshot.{snapshot_text};
+ghost use Rattle.rr_parts.specs.declared.heading.TheConstants.{MAX_SNAPSHOT_CELLS};
 
-use crate::fault::SaveFault;
-use crate::heading::{MAX_SNAPSHOT_CELLS, head_bytes};
 use rr_archive::Archive;
 use rr_base::Counted;
-use rr_base::stream::{WriteFailed, write_all};
-use rr_cells::CellRef;
-use rr_page::cell_bytes;
+use rr_base::stream::write_all;
+use rr_parts::{MAX_SNAPSHOT_CELLS, SaveFault, head_bytes, write_cell, write_piece};
 use rr_replica::Replica;
 use sha2::{Digest, Sha256};
 use std::alloc::Global;
 use std::io::Write;
-
-/// Writes a piece, and adds it to what is digested.
-fn write_piece<W: Write>(
-    output: &mut Counted<W>,
-    hasher: &mut Sha256,
-    piece: &[u8],
-) -> Result<(), WriteFailed>
-    ensures whole { OnOk result (Appends (W.contents (inner_of output.old))
-        (W.contents (inner_of output.new)) piece.now) }
-    ensures front { AppendsPrefix (W.contents (inner_of output.old))
-        (W.contents (inner_of output.new)) piece.now }
-    ensures digest { (m : List ℕ) → Holds256 hasher.old m → Holds256 hasher.new (m ++ piece.now) }
-    ensures count { failures_of output.old ≤ failures_of output.new }
-    ensures failed { OnErr result (HasRisen (failures_of output.old) (failures_of output.new)) }
-{
-    hasher.update(piece);
-    write_all(output, piece)
-}
-
-/// Writes a cell, and adds its bytes to what is digested.
-fn write_cell<W: Write>(
-    alloc: Global,
-    cell: &CellRef<'_>,
-    output: &mut Counted<W>,
-    hasher: &mut Sha256,
-) -> Result<(), SaveFault>
-    ensures whole { OnOk result (Appends (W.contents (inner_of output.old))
-        (W.contents (inner_of output.new)) (cell_text latest (seen_cell cell.now))) }
-    ensures front { AppendsPrefix (W.contents (inner_of output.old))
-        (W.contents (inner_of output.new)) (cell_text latest (seen_cell cell.now)) }
-    ensures digest { OnOk result ((m : List ℕ) → Holds256 hasher.old m
-        → Holds256 hasher.new (m ++ cell_text latest (seen_cell cell.now))) }
-    ensures fits { result ≢ Err SaveFault.TooManyCells }
-    ensures count { failures_of output.old ≤ failures_of output.new }
-    ensures failed { result ≡ Err SaveFault.WriteFailed
-        → HasRisen (failures_of output.old) (failures_of output.new) }
-{
-    let cell = CellRef {
-        key: cell.key,
-        archive: cell.archive,
-        slot: cell.slot,
-        origin: cell.origin,
-        contribution: cell.contribution,
-    };
-    let bytes = cell_bytes(alloc, cell)?;
-    write_piece(output, hasher, &bytes)?;
-    Ok(())
-}
 
 /// Writes the cells of a replica, in order, and adds their bytes to what is digested.
 fn write_cells<A: Archive, W: Write>(

@@ -13,8 +13,8 @@ use Rattle.rr_model.specs.World.{IsClosed}
 use Rattle.rr_cells.specs.Cells.{Cells}
 use Rattle.rr_cells.specs.Holding.{Holding}
 use Rattle.rr_replica.specs.Standing.{Standing, held}
-use Rattle.rr_snapshot.specs.declared.fault.LoadFault.{LoadFault}
-use Rattle.rr_snapshot.specs.declared.fault.LoadFault.TheVariants as load
+use Rattle.rr_parts.specs.declared.fault.LoadFault.{LoadFault}
+use Rattle.rr_parts.specs.declared.fault.LoadFault.TheVariants as load
 use Rattle.rr_snapshot.specs.Loading.{loaded_at}
 use Rattle.rr_snapshot.proofs.SavedLemmas.{snapshot_is_loaded}
 use Rattle.rr_cluster.specs.declared.cluster.Cluster.{Cluster}

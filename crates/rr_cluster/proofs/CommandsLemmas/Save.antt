@@ -19,10 +19,10 @@ use Rattle.rr_cells.specs.Holding.{IsHolding, Holding}
 use Rattle.rr_replica.specs.Standing.{Standing, held}
 use Rattle.rr_cells.specs.State.{state}
 use Rattle.rr_cells.proofs.WholeCells.{live_makes_the_same}
-use Rattle.rr_snapshot.specs.declared.fault.SaveFault.{SaveFault}
-use Rattle.rr_snapshot.specs.declared.fault.SaveFault.TheVariants.{TooManyCells, WriteFailed, Memory}
-use Rattle.rr_snapshot.specs.declared.heading.TheConstants.{MAX_SNAPSHOT_CELLS}
-use Rattle.rr_snapshot.specs.Snapshot.{snapshot_text}
+use Rattle.rr_parts.specs.declared.fault.SaveFault.{SaveFault}
+use Rattle.rr_parts.specs.declared.fault.SaveFault.TheVariants.{TooManyCells, WriteFailed, Memory}
+use Rattle.rr_parts.specs.declared.heading.TheConstants.{MAX_SNAPSHOT_CELLS}
+use Rattle.rr_parts.specs.Snapshot.{snapshot_text}
 use Rattle.rr_snapshot.proofs.SavedLemmas.{holding_is_snapshot}
 use Rattle.rr_cluster.specs.declared.cluster.Cluster.{Cluster}
 use Rattle.rr_cluster.specs.declared.fault.CommandFault.TheVariants.{BadName, NoNode, Save}

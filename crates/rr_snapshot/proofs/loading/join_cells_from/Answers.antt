@@ -9,9 +9,10 @@ use Rattle.rr_page.specs.PageReading.{is_after, last_name}
 use Rattle.rr_page.proofs.LoopLemmas.{last_name_push}
 use Rattle.rr_cells.specs.Listing.{owned_cell}
 use Rattle.rr_replica.specs.Standing.{held}
+use Rattle.rr_parts.proofs.FrontLemmas.{none_read, read_then}
+use Rattle.rr_parts.proofs.CellsLemmas.{nothing_yet, goes_on_stream, falls_stream, passed_made, done_stream, same_schema, same_schema_read}
 use Rattle.rr_snapshot.specs.Loading.{HasJoined}
-use Rattle.rr_snapshot.proofs.FrontLemmas.{none_read, read_then}
-use Rattle.rr_snapshot.proofs.CellsLemmas.{nothing_yet, goes_on_stream, falls_stream, passed_made, done_stream, HasJoined-none, HasJoined-more, same_schema, same_schema_read}
+use Rattle.rr_snapshot.proofs.JoinedLemmas.{HasJoined-none, HasJoined-more}
 use Rattle.rr_snapshot.proofs.loading.join_cells_from.Goals as goal
 
 pub loop-init : goal.loop-init

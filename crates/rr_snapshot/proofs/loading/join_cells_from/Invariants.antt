@@ -6,9 +6,9 @@ use Rattle.rr_page.specs.PageReading.{last_name}
 use Rattle.rr_cells.specs.CellBounds.{NamedCell}
 use Rattle.rr_cells.specs.Listing.{owned_cell}
 use Rattle.rr_replica.specs.Standing.{held}
+use Rattle.rr_parts.specs.Stream.{Digests}
+use Rattle.rr_parts.proofs.CellsLemmas.{IsSoFar}
 use Rattle.rr_snapshot.specs.Loading.{HasJoined}
-use Rattle.rr_snapshot.specs.Stream.{Digests}
-use Rattle.rr_snapshot.proofs.CellsLemmas.{IsSoFar}
 use Rattle.rr_snapshot.proofs.loading.join_cells_from.Given as goal
 
 -- the cells so far are read, digested and joined, and the last is kept

@@ -7,12 +7,13 @@ use Rattle.rr_base.specs.Schema.{Layout}
 use Rattle.rr_page.specs.PageReading.{cells_at}
 use Rattle.rr_cells.specs.Holding.{Holding}
 use Rattle.rr_replica.specs.Standing.{held}
+use Rattle.rr_parts.specs.SnapshotReading.{as_in_page}
+use Rattle.rr_parts.specs.declared.fault.LoadFault.TheVariants.{ReadFailed, Memory}
+use Rattle.rr_parts.proofs.FrontLemmas.{read_then}
+use Rattle.rr_parts.proofs.BodyLemmas.{body_read}
 use Rattle.rr_snapshot.specs.Loading.{is_among}
-use Rattle.rr_snapshot.specs.SnapshotReading.{as_in_page}
-use Rattle.rr_snapshot.specs.declared.fault.LoadFault.TheVariants.{ReadFailed, Memory}
-use Rattle.rr_snapshot.proofs.FrontLemmas.{read_then}
-use Rattle.rr_snapshot.proofs.CellsLemmas.{joined_replica}
-use Rattle.rr_snapshot.proofs.LoadLemmas.{body_read, head_failed, cells_failed, digest_failed, end_failed, all_read, used_origin, new_origin}
+use Rattle.rr_snapshot.proofs.JoinedLemmas.{joined_replica}
+use Rattle.rr_snapshot.proofs.LoadLemmas.{head_failed, cells_failed, digest_failed, end_failed, all_read, used_origin, new_origin}
 use Rattle.rr_snapshot.proofs.loading.load.Goals as goal
 
 pub returns-in_err-version-clause-read : goal.returns-in_err-version-clause-read

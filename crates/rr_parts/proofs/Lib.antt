@@ -1,0 +1,10 @@
+pub mod FrontLemmas
+pub mod SaveLemmas
+pub mod WidthLemmas
+pub mod StreamLemmas
+pub mod PieceLemmas
+pub mod ChainLemmas
+pub mod CellsLemmas
+pub mod BodyLemmas
+pub mod SnapshotLemmas
+pub mod CutLemmas

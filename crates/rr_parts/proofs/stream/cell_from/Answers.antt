@@ -1,0 +1,64 @@
+use Rattle.std.proofs.Common.{◌≡◌, ap, take, length, arith, inl, inr}
+use Rattle.rr_parts.specs.Fault.{load_fault}
+use Rattle.std.proofs.lemmas.List.{length-take}
+use Rattle.std.proofs.lemmas.Result.{err_from_is_err_and}
+use Rattle.rr_base.specs.Counted.{inner_of}
+use Rattle.rr_cells.specs.Listing.{owned_cell}
+use Rattle.rr_parts.proofs.FrontLemmas.{read_then}
+use Rattle.rr_parts.proofs.StreamLemmas.{stream_ok, stream_err}
+use Rattle.rr_parts.proofs.stream.cell_from.Goals as goal
+
+pub returns-clause-read : goal.returns-clause-read
+returns-clause-read g c =
+    let one = c.fill_up_to.new.buffer in
+    let two = c.fill_up_to-2.new.buffer in
+    let head = take c.in_ok-head.head one in
+    let bytes = take c.in_ok-got.got two in
+    let low = c.in_ok-head.ensures.more.1 in
+    let room = c.requires.room in
+    let same = c.in_ok-head.ensures.buffer_len in
+    let same_too = c.in_ok-got.ensures.buffer_len in
+    let head_len : length head ≡ c.in_ok-head.head = omega (arith, length-take c.in_ok-head.head one) in
+    let fits = c.cell_len-len.ensures.fits (omega (arith, head_len, low)) in
+    let most = c.in_ok-got.ensures.more.1 in
+    let got_len : length bytes ≡ c.in_ok-got.got = omega (arith, length-take c.in_ok-got.got two) in
+    let whole = c.cell_len-len.ensures.value in
+    stream_ok c.args.version c.args.schema.now (g.R.Read.remaining (inner_of c.args.input.now)) (g.R.Read.remaining (inner_of c.fill_up_to.new.input)) (g.R.Read.remaining (inner_of c.fill_up_to-2.new.input)) head bytes
+    c.in_ok-head.ensures.bytes c.in_ok-got.ensures.bytes (λ lt. c.in_ok-head.ensures.end (omega (arith, head_len, lt))) (λ lt. c.in_ok-got.ensures.end (omega (arith, got_len, whole, lt))) (omega (arith, got_len, whole, most))
+    (owned_cell c.in_ok-cell.cell) _ c.in_ok-cell.ensures.read
+
+pub returns-in_err-cell-clause-read : goal.returns-in_err-cell-clause-read
+returns-in_err-cell-clause-read g c =
+    let one = c.fill_up_to.new.buffer in
+    let two = c.fill_up_to-2.new.buffer in
+    let head = take c.in_ok-head.head one in
+    let bytes = take c.in_ok-got.got two in
+    let low = c.in_ok-head.ensures.more.1 in
+    let room = c.requires.room in
+    let same = c.in_ok-head.ensures.buffer_len in
+    let same_too = c.in_ok-got.ensures.buffer_len in
+    let head_len : length head ≡ c.in_ok-head.head = omega (arith, length-take c.in_ok-head.head one) in
+    let fits = c.cell_len-len.ensures.fits (omega (arith, head_len, low)) in
+    let most = c.in_ok-got.ensures.more.1 in
+    let got_len : length bytes ≡ c.in_ok-got.got = omega (arith, length-take c.in_ok-got.got two) in
+    let whole = c.cell_len-len.ensures.value in
+    let p = err_from_is_err_and c.from_residual-in_err-cell.result c.from_residual-in_err-cell.ensures.1 in
+    rw (p.1, p.2)
+    (elim c.in_err-cell.ensures.read [
+      | inl m ↦ inr (inl (ap load_fault m))
+      | inr e ↦ inr (inr (stream_err c.args.version c.args.schema.now (g.R.Read.remaining (inner_of c.args.input.now)) (g.R.Read.remaining (inner_of c.fill_up_to.new.input)) (g.R.Read.remaining (inner_of c.fill_up_to-2.new.input)) head bytes
+          c.in_ok-head.ensures.bytes c.in_ok-got.ensures.bytes (λ lt. c.in_ok-head.ensures.end (omega (arith, head_len, lt))) (λ lt. c.in_ok-got.ensures.end (omega (arith, got_len, whole, lt))) (omega (arith, got_len, whole, most))
+          _ e))
+    ])
+
+pub returns-in_err-got-clause-front : goal.returns-in_err-got-clause-front
+returns-in_err-got-clause-front g c =
+    read_then (g.R.Read.remaining (inner_of c.args.input.now)) (g.R.Read.remaining (inner_of c.fill_up_to.new.input)) (g.R.Read.remaining (inner_of c.fill_up_to-2.new.input)) c.fill_up_to.ensures.front c.fill_up_to-2.ensures.front
+
+pub returns-in_err-cell-clause-front : goal.returns-in_err-cell-clause-front
+returns-in_err-cell-clause-front g c =
+    read_then (g.R.Read.remaining (inner_of c.args.input.now)) (g.R.Read.remaining (inner_of c.fill_up_to.new.input)) (g.R.Read.remaining (inner_of c.fill_up_to-2.new.input)) c.fill_up_to.ensures.front c.fill_up_to-2.ensures.front
+
+pub returns-clause-front : goal.returns-clause-front
+returns-clause-front g c =
+    read_then (g.R.Read.remaining (inner_of c.args.input.now)) (g.R.Read.remaining (inner_of c.fill_up_to.new.input)) (g.R.Read.remaining (inner_of c.fill_up_to-2.new.input)) c.fill_up_to.ensures.front c.fill_up_to-2.ensures.front

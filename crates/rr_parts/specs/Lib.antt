@@ -1,0 +1,5 @@
+pub mod Fault
+pub mod Snapshot
+pub mod SnapshotReading
+pub mod Stream
+pub mod Laws
