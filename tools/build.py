@@ -134,13 +134,15 @@ class Build:
                     shutil.copytree(source, tree / "crates" / it / part, copy_function=link)
         return tree / "crates" / name
 
-    def prove(self, name, jobs):
-        """Proves a library over those below it, which are proved."""
+    def prove(self, name, jobs, longest):
+        """Proves a library over those below it, which are proved; one that isn't on the longest way gives
+        way to those that are."""
         folder, kept = self.plant(name, TREES / name), TOP / "crates" / name / "out"
         if kept.exists():
             kept.rename(folder / "out")
         try:
-            self.run(folder, "rt", "lib", "--jobs", str(jobs))
+            priority = [] if longest else ["nice"]
+            self.run(folder, *priority, "rt", "lib", "--jobs", str(jobs))
         finally:
             self.give_back(name)
 
@@ -166,7 +168,8 @@ class Build:
         jobs = max(1, most // max(1, len(begins) + len(running)))
         for name in begins:
             longest = ways[name] == max(ways.values())
-            self.running[pool.submit(self.prove, name, max(2, jobs) if longest else min(2, jobs))] = name
+            number = max(2, jobs) if longest else min(2, jobs)
+            self.running[pool.submit(self.prove, name, number, longest)] = name
 
     def prove_all(self):
         most = most_proofs()
