@@ -3,8 +3,8 @@
 use crate::changes;
 use anyhow::Result;
 use rr_base::{ArchiveSpec, Schema, SchemaFault};
-use rr_cells::Cell;
-use rr_page::{PageFault, read_cell};
+use rr_cells::{Cell, CellRef};
+use rr_page::{PageFault, cell_bytes, read_cell};
 use std::alloc::{AllocError, Global};
 
 /// Three rows of one step, all of which must be known.
@@ -20,28 +20,48 @@ pub(crate) fn minutes(alloc: Global) -> Result<Schema, SchemaFault> {
     Schema::new(alloc, 60, &[THREE_ROWS])
 }
 
-/// What each variant of the bytes is read as.
+/// What each variant of the bytes is read as: its fault, or its fields, and whether they are written as the
+/// same bytes again.
 pub(crate) fn answers(alloc: Global, input: &[u8]) -> Result<Vec<u8>> {
     let schema = minutes(alloc)?;
     let mut output = String::new(alloc);
     for bytes in &changes::variants(alloc, input)? {
-        push_answer(&mut output, read_cell(alloc, bytes, &schema))?;
+        push_answer(alloc, &mut output, bytes, read_cell(alloc, bytes, &schema))?;
     }
     Ok(output.into_bytes())
 }
 
 fn push_answer(
+    alloc: Global,
     output: &mut String,
+    bytes: &[u8],
     read: Result<(Cell, usize), PageFault>,
 ) -> Result<(), AllocError> {
     match read {
         Ok((cell, len)) => {
             push_fields(output, &cell)?;
-            write!(output, ": {len} bytes")?;
+            let again = cell_bytes(alloc, as_ref(&cell))?;
+            let which = if bytes.get(..len) == Some(again.as_slice()) {
+                "the same"
+            } else {
+                "other"
+            };
+            write!(output, ": {len} bytes, {which} again")?;
         }
         Err(fault) => output.push_str(fault.name())?,
     }
     output.push('\n')
+}
+
+/// A cell as it is lent.
+pub(crate) fn as_ref(cell: &Cell) -> CellRef<'_> {
+    CellRef {
+        key: &cell.key,
+        archive: cell.archive,
+        slot: cell.slot,
+        origin: cell.origin,
+        contribution: cell.contribution,
+    }
 }
 
 /// The fields of a cell in their order.

@@ -1,5 +1,6 @@
 //! Bytes in hexadecimal, and changes of them. The first line of a file has the bytes; each further
-//! line a place from 0, a space, and the bytes that stand there instead.
+//! line a place from 0, a space, and the bytes that stand there instead, or `end` where the bytes end
+//! there.
 
 use anyhow::{Context, Result};
 use std::alloc::Global;
@@ -20,9 +21,12 @@ pub(crate) fn variants(alloc: Global, input: &[u8]) -> Result<Vec<Vec<u8>>> {
 
 /// The bytes with some changed from a place on.
 fn with_change(alloc: Global, bytes: &[u8], at: usize, change: &str) -> Result<Vec<u8>> {
-    let change = hex::decode(alloc, change)?;
     let (front, back) = bytes.split_at_checked(at).context("a place past the end")?;
     let mut changed = Vec::from_slice(alloc, front)?;
+    if change == "end" {
+        return Ok(changed);
+    }
+    let change = hex::decode(alloc, change)?;
     changed.extend_from_slice(&change)?;
     changed.extend_from_slice(back.get(change.len()..).unwrap_or(&[]))?;
     Ok(changed)

@@ -19,12 +19,12 @@
 //!
 //! An answer ends with a line that says how the call did.
 
+use crate::cells::as_ref;
 use crate::documents::texts;
 use crate::replicas::push_cell;
 use crate::settings::Settings;
 use anyhow::{Context, Result, bail};
 use rr_archive::Archive;
-use rr_cells::CellRef;
 use rr_desk::{Keeper, Reader, open};
 use rr_fakes::pieces::failing_after;
 use rr_fakes::replicas::minutes;
@@ -103,7 +103,7 @@ fn first_line(text: &[u8]) -> Result<(&str, &[u8])> {
 }
 
 /// The input of a call, with the lines and texts that are in it several times.
-fn expanded(alloc: Global, input: &[u8]) -> Result<Vec<u8>> {
+pub(crate) fn expanded(alloc: Global, input: &[u8]) -> Result<Vec<u8>> {
     let mut bytes = Vec::new(alloc);
     for line in input.split_inclusive(|byte| *byte == b'\n') {
         match line.first() {
@@ -254,14 +254,7 @@ fn cells<A: Archive>(alloc: Global, reader: &mut Reader<A>) -> Result<Answer> {
     };
     let mut listed = String::new(alloc);
     for cell in &cells {
-        let cell = CellRef {
-            key: &cell.key,
-            archive: cell.archive,
-            slot: cell.slot,
-            origin: cell.origin,
-            contribution: cell.contribution,
-        };
-        push_cell(&mut listed, cell)?;
+        push_cell(&mut listed, as_ref(cell))?;
     }
     Ok((text_of(alloc, "done")?, listed.into_bytes()))
 }

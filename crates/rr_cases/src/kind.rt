@@ -1,6 +1,6 @@
 //! The kinds of cases.
 
-use crate::{cells, configs, desks, documents, keys, lines, pages, replicas};
+use crate::{cells, configs, desks, documents, faults, keys, lines, pages, replicas};
 use anyhow::Result;
 use rr_archive::Archive;
 use std::alloc::Global;
@@ -17,6 +17,8 @@ pub(crate) enum Kind {
     Documents,
     /// Configurations of a node as TOML texts, and what each is read as.
     Configs,
+    /// The word of some faults, and their names and sentences.
+    Faults,
     /// Key texts, a line each, and which of them are.
     Keys,
     /// A cell in hexadecimal and changes of its bytes, and what each is read as.
@@ -37,6 +39,7 @@ impl Kind {
             "lines" => Some(Kind::Lines),
             "toml" => Some(Kind::Documents),
             "config" => Some(Kind::Configs),
+            "faults" => Some(Kind::Faults),
             "keys" => Some(Kind::Keys),
             "hex" => Some(Kind::Cell),
             "calls" => Some(Kind::Replica),
@@ -58,6 +61,7 @@ impl Kind {
             Kind::Lines => lines::answers(alloc, input),
             Kind::Documents => Ok(documents::answers(alloc, input)?),
             Kind::Configs => Ok(configs::answers(alloc, input)?),
+            Kind::Faults => faults::answers(alloc, input),
             Kind::Keys => Ok(keys::answers(alloc, input)?),
             Kind::Cell => cells::answers(alloc, input),
             Kind::Replica => replicas::answers::<A>(alloc, input),

@@ -1,24 +1,49 @@
-//! Lines of the line protocol. A first line `# check-lines ..` has the words of the command line.
+//! Lines of the line protocol. A first line `# check-lines ..` has the words of the command line; what
+//! follows a `;` in it limits the streams, by the words of a desk's call ([`crate::desks`]), and then
+//! lines and texts may be in it several times as they are there.
 
+use crate::desks::expanded;
+use crate::settings::Settings;
 use anyhow::{Result, bail};
-use rr_base::Counted;
-use rr_report::check_lines;
+use rr_fakes::pieces::failing_after;
+use rr_fakes::room::with_room;
+use rr_report::{check_lines, check_lines_within};
 use rr_words::{Order, read_words};
 use std::alloc::Global;
 
 /// How the words are written of a file whose first line has none.
 const NO_OPTIONS: &str = "check-lines";
 
-/// The report of the lines.
+/// The report of the lines, and why they are not all checked.
 pub(crate) fn answers(alloc: Global, input: &[u8]) -> Result<Vec<u8>> {
-    let words: Vec<&str> = words_of(input).split(' ').collect(alloc)?;
+    let words = words_of(input);
+    match words.split_once("; ") {
+        Some((words, limits)) => report(
+            alloc,
+            words,
+            &Settings::of(alloc, limits)?,
+            &expanded(alloc, input)?,
+        ),
+        None => report(alloc, words, &Settings::of(alloc, "")?, input),
+    }
+}
+
+/// The report of the lines over streams with some limits.
+fn report(alloc: Global, words: &str, settings: &Settings, lines: &[u8]) -> Result<Vec<u8>> {
+    let words: Vec<&str> = words.split(' ').collect(alloc)?;
     let Order::CheckLines { precision, now } = read_words(alloc, &words)? else {
         bail!("the words of the first line aren't those of check-lines");
     };
-    let mut output = Vec::new(alloc);
-    let mut lines = Counted::new(input);
-    let mut report = Counted::new(&mut output);
-    check_lines(alloc, &mut lines, &mut report, precision, now)?;
+    let mut source = failing_after(lines, settings.size, settings.calls);
+    let mut sink = with_room(alloc, settings.room);
+    let checked = match settings.reads {
+        None => check_lines(alloc, &mut source, &mut sink, precision, now),
+        Some(reads) => check_lines_within(alloc, &mut source, &mut sink, precision, now, reads),
+    };
+    let mut output = sink.into_inner().into_written();
+    if let Err(fault) = checked {
+        output.extend_from_slice(format!(in alloc; "== {}\n", fault.name())?.as_bytes())?;
+    }
     Ok(output)
 }
 

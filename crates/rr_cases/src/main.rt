@@ -14,6 +14,7 @@ mod changes;
 mod configs;
 mod desks;
 mod documents;
+mod faults;
 mod files;
 mod keys;
 mod kind;
@@ -22,6 +23,7 @@ mod pages;
 mod replicas;
 mod sessions;
 mod settings;
+mod stored;
 
 use anyhow::Result;
 use std::process::ExitCode;

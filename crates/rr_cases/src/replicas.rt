@@ -11,6 +11,9 @@
 //! | `next` | the number of the next sample |
 //! | `cells` | a line for each cell: key, archive, slot, origin, version, count, last value |
 //! | `pull`, `give`, `give-after` and words | what a session over streams wrote and left, and how it ended ([`crate::sessions`]) |
+//! | `after ARCHIVE SLOT ORIGIN KEY` | the first cell after a name, or `none` |
+//! | `save` | the bytes of a snapshot in hexadecimal |
+//! | `load ORIGIN SIZE READS BYTES` | how a snapshot is loaded in the place of the replica ([`crate::stored`]) |
 //! | `copy CALL` | what the call of a copy answers, and then a line for each cell of the copy |
 
 ghost use Rattle.std.specs.Prelude.{IfOk};
@@ -18,6 +21,7 @@ ghost use Rattle.rr_cells.specs.CellBounds.{IsCellOf};
 ghost use Rattle.rr_cells.specs.Listing.{owned_cell};
 
 use crate::sessions::{Session, push_session};
+use crate::stored::{loaded, push_saved};
 use anyhow::{Context, Result, bail};
 use rr_archive::Archive;
 use rr_base::{ArchiveSpec, Origin, Schema};
@@ -107,6 +111,9 @@ impl<A: Archive> Calls<A> {
             "pull" => self.hold(Session::Pull, words),
             "give" => self.hold(Session::Give, words),
             "give-after" => self.hold(Session::GiveAfter, words),
+            "after" => self.push_after(words),
+            "save" => push_saved(self.alloc, &self.replica, &mut self.output),
+            "load" => self.load(words),
             "next" => Ok(write!(self.output, "{}\n", self.replica.next_number())?),
             "cells" => Ok(self.push_cells()?),
             _ => bail!("an unknown call"),
@@ -201,14 +208,23 @@ impl<A: Archive> Calls<A> {
         self.push_taken(&Op::Join(cell))
     }
 
-    /// Makes room for an operation and applies it, and adds whether it was taken.
+    /// Makes room for a copy of an operation and applies it, and adds whether it was taken.
     fn push_taken(&mut self, op: &Op) -> Result<()> {
-        self.replica.ready(op)?;
-        let taken = self.replica.apply(op)?;
+        let op = op.copy()?;
+        self.replica.ready(&op)?;
+        let taken = self.replica.apply(&op)?;
         Ok(
             self.output
                 .push_str(if taken { "taken\n" } else { "not taken\n" })?,
         )
+    }
+
+    fn load(&mut self, words: &str) -> Result<()> {
+        let schema = self.replica.schema();
+        if let Some(replica) = loaded(self.alloc, schema, words, &mut self.output)? {
+            self.replica = replica;
+        }
+        Ok(())
     }
 
     fn hold(&mut self, session: Session, words: &str) -> Result<()> {
@@ -219,6 +235,22 @@ impl<A: Archive> Calls<A> {
             words,
             &mut self.output,
         )
+    }
+
+    /// Adds the first cell after a name.
+    fn push_after(&mut self, words: &str) -> Result<()> {
+        let (archive, words) = first_word(words);
+        let (slot, words) = first_word(words);
+        let (origin, key) = first_word(words);
+        let key = SeriesKey::parse_text(self.alloc, key.as_bytes())?;
+        let origin = Origin::new(origin.parse()?)?;
+        match self
+            .replica
+            .next_cell(&key, archive.parse()?, slot.parse()?, origin)
+        {
+            Some(cell) => Ok(push_cell(&mut self.output, cell)?),
+            None => Ok(self.output.push_str("none\n")?),
+        }
     }
 
     fn push_cells(&mut self) -> Result<(), AllocError> {

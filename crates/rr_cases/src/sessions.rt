@@ -43,7 +43,7 @@ impl Words {
 }
 
 /// A limit, or that there is none.
-fn limit(word: Option<&str>) -> Result<Option<u16>> {
+pub(crate) fn limit(word: Option<&str>) -> Result<Option<u16>> {
     match word.context("a call without a limit")? {
         "-" => Ok(None),
         number => Ok(Some(number.parse::<u16>()?)),

@@ -1,0 +1,51 @@
+//! Snapshots of a replica, as calls of it ([`crate::replicas`]).
+
+use crate::sessions::limit;
+use anyhow::{Context, Result};
+use rr_archive::Archive;
+use rr_base::{Counted, Origin, Schema};
+use rr_fakes::pieces::failing_after;
+use rr_replica::Replica;
+use rr_snapshot::{load, save};
+use std::alloc::Global;
+
+/// Adds the bytes that a replica is saved as, in hexadecimal.
+pub(crate) fn push_saved<A: Archive>(
+    alloc: Global,
+    replica: &Replica<A>,
+    answer: &mut String,
+) -> Result<()> {
+    let mut bytes = Vec::new(alloc);
+    save(alloc, replica, &mut Counted::new(&mut bytes))?;
+    answer.push_str(&hex::encode(alloc, &bytes)?)?;
+    Ok(answer.push('\n')?)
+}
+
+/// The replica that the bytes of some words are loaded as, if they are one; and adds how that ended. The
+/// words are its origin, how many bytes a read gives, how many reads there are before one fails, and
+/// the bytes.
+pub(crate) fn loaded<A: Archive>(
+    alloc: Global,
+    schema: &Schema,
+    words: &str,
+    answer: &mut String,
+) -> Result<Option<Replica<A>>> {
+    let mut words = words.split(' ');
+    let origin = Origin::new(words.next().context("a load without an origin")?.parse()?)?;
+    let size = limit(words.next())?.map_or(usize::MAX, usize::from);
+    let reads = limit(words.next())?.map_or(u64::MAX, u64::from);
+    let bytes = hex::decode(alloc, words.next().context("a load without bytes")?)?;
+    let mut input = failing_after(&bytes, size, reads);
+    match load(alloc, &mut input, schema, origin) {
+        Ok(replica) => {
+            let (origin, next) = (replica.origin().get(), replica.next_number());
+            write!(answer, "loaded as {origin}, next {next}\n")?;
+            Ok(Some(replica))
+        }
+        Err(fault) => {
+            let (name, failures) = (fault.name(), input.failures());
+            write!(answer, "{name}, {failures} failed\n")?;
+            Ok(None)
+        }
+    }
+}
