@@ -27,61 +27,37 @@ fn spelled(alloc: Global, names: &str) -> Result<Vec<u8>, AllocError> {
     }
 }
 
+/// Names and the text of their key, or why they make none, with a ` -> ` between the two and a `;`
+/// after them.
+const TEXTS: &str = "m|b|2|a|1|v -> m,a=1,b=2 v;\
+    a b\\,c|v -> a\\ b\\\\,c v;\
+    a,b|k=|=x y|f, -> a\\,b,k\\==\\=x\\ y f\\,;\
+    a=b|v -> a=b v;\
+    #m|v\r -> #m v\r;\
+    m|a!|1|a b|2|v -> m,a\\ b=2,a!=1 v;\
+    |a\n|1|v -> EmptyName;\
+    m|a||v -> EmptyName;\
+    \\|v -> BadName;\
+    m|a|1\n2|v -> BadName;\
+    m|v\\ -> BadName;\
+    m|a|1|a|2|v -> DuplicateTag;\
+    m|b|1|a|1|b|1|v -> DuplicateTag;\
+    m|A|1|B|1|C|1|D|1|E|1|F|1|G|1|H|1|I|1|J|1|K|1|L|1|M|1|N|1|O|1|P|1|Q|1|R|1|S|1|T|1|U|1|V|1|\
+    W|1|X|1|Y|1|Z|1|a|1|b|1|c|1|d|1|e|1|f|1|v -> m,A=1,B=1,C=1,D=1,E=1,F=1,G=1,H=1,I=1,J=1,K=1\
+    ,L=1,M=1,N=1,O=1,P=1,Q=1,R=1,S=1,T=1,U=1,V=1,W=1,X=1,Y=1,Z=1,a=1,b=1,c=1,d=1,e=1,f=1 \
+    v;\
+    m|A|1|B|1|C|1|D|1|E|1|F|1|G|1|H|1|I|1|J|1|K|1|L|1|M|1|N|1|O|1|P|1|Q|1|R|1|S|1|T|1|U|1|V|1|\
+    W|1|X|1|Y|1|Z|1|a|1|b|1|c|1|d|1|e|1|f|1|g|1|v -> TooManyTags;\
+    m|A|1|B|1|C|1|D|1|E|1|F|1|G|1|H|1|I|1|J|1|K|1|L|1|M|1|N|1|O|1|P|1|Q|1|R|1|S|1|T|1|U|1|V|1|\
+    W|1|X|1|Y|1|Z|1|a|1|b|1|c|1|d|1|e|1|f|1|g|1|A|1|v -> DuplicateTag";
+
+// The tags of a text are by the bytes of the names, and not of their escapes: a space is below '!'.
 #[test]
 fn names_make_one_text(rt: HostRuntime) -> Result<(), Fail> {
-    for (names, want) in [
-        ("m|b|2|a|1|v", "m,a=1,b=2 v"),
-        ("a b\\,c|v", "a\\ b\\\\,c v"),
-        ("a,b|k=|=x y|f,", "a\\,b,k\\==\\=x\\ y f\\,"),
-        ("a=b|v", "a=b v"),
-        ("#m|v\r", "#m v\r"),
-        // By the bytes of the names, and not of their escapes: a space is below '!'.
-        ("m|a!|1|a b|2|v", "m,a\\ b=2,a!=1 v"),
-    ] {
-        assert_eq!(rt; spelled(rt.alloc(), names)?.as_slice(), want.as_bytes());
+    for line in TEXTS.split(';') {
+        let (names, want) = line.split_once(" -> ").expect(&rt, "a text in two");
+        assert!(rt; spelled(rt.alloc(), names)?.as_slice() == want.as_bytes());
     }
-    Ok(())
-}
-
-#[test]
-fn other_names_are_refused(rt: HostRuntime) -> Result<(), Fail> {
-    for (names, want) in [
-        ("|a\n|1|v", "EmptyName"),
-        ("m|a||v", "EmptyName"),
-        ("\\|v", "BadName"),
-        ("m|a|1\n2|v", "BadName"),
-        ("m|v\\", "BadName"),
-        ("m|a|1|a|2|v", "DuplicateTag"),
-        ("m|b|1|a|1|b|1|v", "DuplicateTag"),
-    ] {
-        assert_eq!(rt; spelled(rt.alloc(), names)?.as_slice(), want.as_bytes());
-    }
-    Ok(())
-}
-
-/// The letters, each of which may be a tag's key.
-const LETTERS: &[u8] = b"ABCDEFGHIJKLMNOPQRSTUVWXYZabcdefg";
-
-/// Why a key with these letters as its tags' keys is refused.
-fn fault_of_tags(alloc: Global, letters: &[u8]) -> Result<Option<KeyFault>, Fail> {
-    let mut tags: Vec<(&[u8], &[u8])> = Vec::new(alloc);
-    for letter in letters.chunks(1) {
-        tags.push((letter, b"1"))?;
-    }
-    Ok(SeriesKey::new(alloc, b"m", &tags, b"v").err())
-}
-
-#[test]
-fn a_key_has_at_most_32_tags(rt: HostRuntime) -> Result<(), Fail> {
-    let most = fault_of_tags(rt.alloc(), &LETTERS[..32])?;
-    let more = fault_of_tags(rt.alloc(), LETTERS)?;
-    let repeated = fault_of_tags(rt.alloc(), b"ABCDEFGHIJKLMNOPQRSTUVWXYZabcdefgA")?;
-    let want = (
-        None,
-        Some(KeyFault::TooManyTags),
-        Some(KeyFault::DuplicateTag),
-    );
-    assert_eq!(rt; (most, more, repeated), want);
     Ok(())
 }
 
@@ -90,13 +66,12 @@ fn a_key_text_has_at_most_1024_bytes(rt: HostRuntime) -> Result<(), Fail> {
     let alloc = rt.alloc();
     let measurement = vec![in alloc; b'm'; MAX_KEY_TEXT - 2]?;
     let longest = SeriesKey::new(alloc, &measurement, &[], b"v")?;
-    let longer = SeriesKey::new(alloc, &measurement, &[], b"vw");
+    let longer = SeriesKey::new(alloc, &measurement, &[], b"vw").err();
+    let line_feed = SeriesKey::parse_text(alloc, b"m v\n").err();
     assert_eq!(rt;
-        (longest.text().len(), longer.err()),
-        (1_024, Some(KeyFault::KeyTooLong))
+        (longest.text().len(), longer, line_feed),
+        (1_024, Some(KeyFault::KeyTooLong), Some(KeyFault::BadKey))
     );
-    let line_feed = SeriesKey::parse_text(alloc, b"m v\n");
-    assert_eq!(rt; line_feed.err(), Some(KeyFault::BadKey));
     Ok(())
 }
 

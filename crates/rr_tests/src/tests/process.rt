@@ -28,15 +28,53 @@ fn ended(host: HostRuntime, words: &[&[u8]], input: &[u8]) -> Result<(Vec<u8>, V
     Ok((printed, complained, ending.status()))
 }
 
+/// Whether words with single spaces between them, and an input, end with a text, the front of a text on
+/// standard error, all of it where the front is empty, and a status.
+fn ends(
+    host: HostRuntime,
+    (words, input): (&[u8], &[u8]),
+    want: (&[u8], &[u8], u8),
+) -> Result<bool, Fail> {
+    let words: Vec<&[u8]> = words.split(|byte| *byte == b' ').collect(host.alloc())?;
+    let (printed, complained, status) = ended(host, &words, input)?;
+    Ok(
+        printed.as_slice() == want.0
+            && complained.starts_with(want.1)
+            && complained.is_empty() == want.1.is_empty()
+            && status == want.2,
+    )
+}
+
+const ROW: &[u8] = b"m v,60,7\n";
+
 #[test]
-fn a_script_comes_from_standard_input(rt: HostRuntime) -> Result<(), Fail> {
-    let words: [&[u8]; 2] = [b"rr", b"sim"];
-    for count in [1, 2] {
-        let (printed, complained, status) = ended(rt, &words[..count], SCRIPT)?;
-        assert_eq!(rt;
-            (printed.as_slice(), complained.len(), status),
-            (b"m v,60,7\n".as_slice(), 0, 0)
-        );
+fn words_choose_what_is_done(rt: HostRuntime) -> Result<(), Fail> {
+    let lines = b"rr check-lines --precision s --now=-7".as_slice();
+    let mixed = b"m v=1\nm v=1i\n".as_slice();
+    let mixed_report = b"line 1: FloatField\nm v,1,-7\n".as_slice();
+    for (words, input, want) in [
+        (b"rr".as_slice(), SCRIPT, (ROW, b"".as_slice(), 0)),
+        (b"rr sim", SCRIPT, (ROW, b"", 0)),
+        (lines, b"m v=1i 5\n", (b"m v,1,5000000000\n", b"", 0)),
+        (lines, mixed, (mixed_report, b"", 1)),
+        (
+            b"rr frob",
+            SCRIPT,
+            (b"", b"error: unrecognized subcommand 'frob'", 2),
+        ),
+        (
+            b"rr --help",
+            SCRIPT,
+            (b"", b"A replicated round-robin store", 2),
+        ),
+        (b"rr \xff", SCRIPT, (b"", b"error: invalid UTF-8", 2)),
+        (
+            b"rr sim missing.rr",
+            b"",
+            (b"", b"rr: missing.rr: No such file", 3),
+        ),
+    ] {
+        assert!(rt; ends(rt, (words, input), want)?);
     }
     Ok(())
 }
@@ -44,57 +82,9 @@ fn a_script_comes_from_standard_input(rt: HostRuntime) -> Result<(), Fail> {
 #[test]
 fn a_script_may_come_from_a_file(rt: HostRuntime) -> Result<(), Fail> {
     fs::write(&rt, "script.rr", SCRIPT)?;
-    let (printed, complained, status) = ended(rt, &[b"rr", b"sim", b"script.rr"], b"")?;
+    let is_run = ends(rt, (b"rr sim script.rr", b""), (ROW, b"", 0))?;
     fs::remove_file(&rt, "script.rr")?;
-    assert_eq!(rt;
-        (printed.as_slice(), complained.len(), status),
-        (b"m v,60,7\n".as_slice(), 0, 0)
-    );
-    Ok(())
-}
-
-#[test]
-fn a_missing_file_is_named_with_its_reason(rt: HostRuntime) -> Result<(), Fail> {
-    let (printed, complained, status) = ended(rt, &[b"rr", b"sim", b"missing.rr"], b"")?;
-    assert_eq!(rt; (printed.len(), status), (0, 3));
-    assert!(rt; complained.starts_with(b"rr: missing.rr: No such file"));
-    assert!(rt; complained.ends_with(b"\nrr: read failed\n"));
-    Ok(())
-}
-
-#[test]
-fn refused_lines_have_a_status(rt: HostRuntime) -> Result<(), Fail> {
-    for (lines, want, ends) in [
-        (
-            b"m v=1i 5\n".as_slice(),
-            b"m v,1,5000000000\n".as_slice(),
-            0,
-        ),
-        (b"m v=1\nm v=1i\n", b"line 1: FloatField\nm v,1,-7\n", 1),
-    ] {
-        let words: [&[u8]; 5] = [b"rr", b"check-lines", b"--precision", b"s", b"--now=-7"];
-        let (printed, complained, status) = ended(rt, &words, lines)?;
-        assert_eq!(rt;
-            (printed.as_slice(), complained.len(), status),
-            (want, 0, ends)
-        );
-    }
-    Ok(())
-}
-
-#[test]
-fn other_words_have_a_status(rt: HostRuntime) -> Result<(), Fail> {
-    for (word, front) in [
-        (
-            b"frob".as_slice(),
-            b"error: unrecognized subcommand 'frob'".as_slice(),
-        ),
-        (b"--help", b"A replicated round-robin store"),
-        (b"\xff", b"error: invalid UTF-8"),
-    ] {
-        let (printed, complained, status) = ended(rt, &[b"rr", word], SCRIPT)?;
-        assert_eq!(rt; (printed.len(), status), (0, 2));
-        assert!(rt; complained.starts_with(front));
-    }
+    let (_, complained, _) = ended(rt, &[b"rr", b"sim", b"missing.rr"], b"")?;
+    assert!(rt; is_run && complained.ends_with(b"\nrr: read failed\n"));
     Ok(())
 }

@@ -1,18 +1,16 @@
 //! Pulls over streams, and the answers to them.
 
-use crate::tests::sessions::SENT;
 use rr_archive::PlainArchive;
 use rr_base::{Counted, Schema};
 use rr_cells::Cell;
 use rr_delta::Name;
-use rr_fakes::failing::failing_first;
-use rr_fakes::replicas::{MINUTE, minutes, one_sample};
+use rr_fakes::replicas::{MINUTE, minutes};
 use rr_gossip::{GossipFault, Target, give, pull};
 use rr_key::SeriesKey;
 use rr_replica::Replica;
 use std::alloc::{AllocError, Global};
 use std::cell;
-use std::io::{ErrorKind, Read};
+use std::io::Read;
 use std::test::Fail;
 
 /// What a target writes that pulls from an input.
@@ -37,24 +35,6 @@ fn given<R: Read>(
     Ok(output.into_inner())
 }
 
-#[test]
-fn a_failed_write_ends_an_answer(rt: HostRuntime) -> Result<(), Fail> {
-    let mut source = one_sample::<PlainArchive>(rt.alloc(), 1)?;
-    let mut output = failing_first(1, ErrorKind::BrokenPipe, Vec::new(rt.alloc()));
-    let fault = give(
-        rt.alloc(),
-        &mut Counted::new(SENT.as_slice()),
-        &mut output,
-        &mut source,
-    )
-    .err();
-    assert_eq!(rt;
-        (fault, output.failures()),
-        (Some(GossipFault::WriteFailed), 1)
-    );
-    Ok(())
-}
-
 /// A replica of 600 rows of a minute that holds `cells` cells of the key `m v`.
 fn filled(alloc: Global, origin: u16, cells: u16) -> Result<Replica<PlainArchive>, Fail> {
     let mut replica = minutes(alloc, origin, 600)?;
@@ -63,12 +43,6 @@ fn filled(alloc: Global, origin: u16, cells: u16) -> Result<Replica<PlainArchive
         replica.put(&key, i64::from(minute) * MINUTE, 7)?;
     }
     Ok(replica)
-}
-
-/// How many cells the page has whose frame is at a place of some bytes: the last two bytes of its head.
-fn cells_of_page(bytes: &[u8], place: usize) -> Option<(u8, u8)> {
-    let frame = bytes.get(place..)?;
-    Some((*frame.get(24)?, *frame.get(25)?))
 }
 
 #[test]
@@ -86,16 +60,13 @@ fn a_long_answer_comes_in_pages(rt: HostRuntime) -> Result<(), Fail> {
     let sent = output.into_inner();
     let reply = given(rt.alloc(), &mut Counted::new(sent.as_slice()), &mut source)?;
     pulled(rt.alloc(), &mut Counted::new(reply.as_slice()), &mut target)?;
-    // A cell has 88 bytes, and a frame 26 besides those of its cells.
-    let pages = (
-        cells_of_page(&reply, 0),
-        cells_of_page(&reply, 22_554),
-        cells_of_page(&reply, 45_108),
-    );
-    assert_eq!(rt; pages, (Some((1, 0)), Some((1, 0)), Some((0, 88))));
+    // A cell has 88 bytes, and a frame 26 besides those of its cells, whose number ends its head.
+    let pages = reply.get(24..26) == Some([1, 0].as_slice())
+        && reply.get(22_578..22_580) == Some([1, 0].as_slice())
+        && reply.get(45_132..45_134) == Some([0, 88].as_slice());
     assert_eq!(rt;
-        (ended, reply.len(), target.cell_count()),
-        (Some(GossipFault::Ended), 52_883, 600)
+        (ended, reply.len(), target.cell_count(), pages),
+        (Some(GossipFault::Ended), 52_883, 600, true)
     );
     Ok(())
 }

@@ -1,8 +1,6 @@
 //! Replicas: what cases of calls can't show.
 
 use rr_archive::{Archive, PlainArchive};
-use rr_base::Origin;
-use rr_cells::{Op, Sample};
 use rr_fakes::replicas::{MINUTE, minutes};
 use rr_key::SeriesKey;
 use rr_replica::Replica;
@@ -16,24 +14,6 @@ fn slot_of<A: Archive>(replica: &Replica<A>, i: usize) -> i64 {
         return -1;
     };
     cell.slot
-}
-
-#[test]
-fn a_new_replica_holds_nothing(rt: HostRuntime) -> Result<(), Fail> {
-    let replica = minutes::<PlainArchive>(rt.alloc(), 1, 10)?;
-    let key = SeriesKey::parse_text(rt.alloc(), b"m v")?;
-    let rows = (replica.row(&key, 0, 0).len(), replica.row(&key, 1, 0).len());
-    let head = (
-        replica.schema().step(),
-        replica.origin().get(),
-        replica.next_number(),
-    );
-    assert_eq!(rt; (head, rows), ((60, 1, 1), (0, 0)));
-    assert_eq!(rt;
-        (replica.cell_count(), replica.cell_at(0).is_none()),
-        (0, true)
-    );
-    Ok(())
 }
 
 /// How many cells a million samples leave, a minute apart, and the slots of the first and the tenth.
@@ -74,38 +54,5 @@ fn a_replica_lends_the_archives_of_a_series(rt: HostRuntime) -> Result<(), Fail>
     let past = replica.archive(&key, 1).is_none();
     let unknown = replica.archive(&other, 0).is_none();
     assert_eq!(rt; (count, past, unknown), (1, true, true));
-    Ok(())
-}
-
-/// The sample of a value at time 0 under a number of origin 1.
-fn sample(alloc: Global, number: u64, value: i64) -> Result<Op, Fail> {
-    Ok(Op::Put(Sample {
-        origin: Origin::new(1)?,
-        number,
-        key: SeriesKey::parse_text(alloc, b"m v")?,
-        time: 0,
-        value,
-    }))
-}
-
-/// Whether each of a copied sample and a copied cell is taken by a replica that holds nothing, with
-/// the next number after both, and how many cells there are then.
-fn taken_copies<A: Archive>(alloc: Global) -> Result<(bool, bool, u64, usize), Fail> {
-    let mut first = minutes::<A>(alloc, 1, 10)?;
-    let put = first.apply(&sample(alloc, 7, 5)?.copy()?)?;
-    let mut second = minutes::<A>(alloc, 1, 10)?;
-    let Some(cell) = first.cell_at(0) else {
-        return Ok((put, false, 0, 0));
-    };
-    let join = Op::Join(cell.to_cell()?).copy()?;
-    second.ready(&join)?;
-    let joined = second.apply(&join)?;
-    Ok((put, joined, second.next_number(), second.cell_count()))
-}
-
-#[test]
-fn copied_operations_are_taken(rt: HostRuntime) -> Result<(), Fail> {
-    let taken = taken_copies::<PlainArchive>(rt.alloc())?;
-    assert_eq!(rt; taken, (true, true, 8, 1));
     Ok(())
 }

@@ -1,6 +1,6 @@
-//! Origins and schemas: slots, places and known rows, which archive answers, and the bytes.
+//! Schemas: slots and places, and what a copy has.
 
-use rr_base::{ArchiveSpec, Origin, Schema, SchemaFault};
+use rr_base::{ArchiveSpec, Schema, SchemaFault};
 use std::alloc::Global;
 use std::test::Fail;
 
@@ -61,64 +61,10 @@ fn a_schema_has_what_it_was_made_of(rt: HostRuntime) -> Result<(), Fail> {
     let copy = schema.copy(rt.alloc())?;
     assert!(rt; copy.archives().len() == 3);
     let spans = (copy.span(0), copy.span(1), copy.span(2));
+    let are_same = copy.archives() == [MINUTE, FIVE_MINUTES, HOUR].as_slice();
     assert_eq!(rt;
-        (copy.step(), copy.byte_len(), spans),
-        (60, 32, (60, 300, 3_600))
+        (copy.step(), copy.byte_len(), spans, are_same),
+        (60, 32, (60, 300, 3_600), true)
     );
-    assert_eq!(rt; copy.archives(), [MINUTE, FIVE_MINUTES, HOUR].as_slice());
     Ok(())
-}
-
-#[test]
-fn enough_places_make_a_row_known(rt: HostRuntime) -> Result<(), Fail> {
-    let schema = three_archives(rt.alloc())?;
-    assert!(rt; schema.archives().len() == 3);
-    for (known, want) in [
-        (0, (false, false)),
-        (1, (true, false)),
-        (2, (true, false)),
-        (3, (true, true)),
-        (5, (true, true)),
-    ] {
-        let enough = (schema.known_enough(0, known), schema.known_enough(1, known));
-        assert_eq!(rt; enough, want);
-    }
-    Ok(())
-}
-
-#[test]
-fn the_greatest_span_within_the_resolution_answers(rt: HostRuntime) -> Result<(), Fail> {
-    let schema = three_archives(rt.alloc())?;
-    for (resolution, archive) in [
-        (0, 0),
-        (59, 0),
-        (60, 0),
-        (61, 0),
-        (299, 0),
-        (300, 1),
-        (301, 1),
-        (3_599, 1),
-        (3_600, 2),
-        (u64::MAX, 2),
-    ] {
-        assert_eq!(rt; schema.choose(resolution), archive);
-    }
-    Ok(())
-}
-
-#[test]
-fn a_schema_has_bytes(rt: HostRuntime) -> Result<(), Fail> {
-    let schema = Schema::new(rt.alloc(), 60, &[MINUTE])?;
-    let bytes = schema.bytes(rt.alloc())?;
-    let want = [0, 0, 0, 60, 1, 1, 0, 0, 0, 3, 0, 0, 0, 1];
-    assert_eq!(rt; bytes.as_slice(), want.as_slice());
-    Ok(())
-}
-
-#[test]
-fn origins_begin_at_1(rt: HostRuntime) {
-    for (number, want) in [(0, None), (1, Some(1)), (65_535, Some(65_535))] {
-        let origin = Origin::new(number).ok().map(|origin| origin.get());
-        assert_eq!(rt; origin, want);
-    }
 }

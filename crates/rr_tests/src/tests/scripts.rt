@@ -1,39 +1,25 @@
-//! Scripts: their lines, and one that is too long.
+//! Scripts: a line that is too long.
 
-use rr_cluster::{parse_script, run};
+use rr_cluster::run;
 use std::alloc::Global;
 use std::test::Fail;
 
-/// A script with a line of `x`s after two lines that are skipped.
-fn long_script(alloc: Global, length: usize) -> Result<Vec<u8>, Fail> {
+/// What a script prints with a line of `x`s after two lines that are skipped.
+fn printed(alloc: Global, length: usize) -> Result<Vec<u8>, Fail> {
     let mut script = Vec::from_slice(alloc, b"#x\n\n")?;
     script.extend_from_slice(vec![in alloc; b'x'; length]?.as_slice())?;
     script.extend_from_slice(b"\nnow 5")?;
-    Ok(script)
-}
-
-#[test]
-fn lines_have_numbers(rt: HostRuntime) -> Result<(), Fail> {
-    let script = long_script(rt.alloc(), 65_537)?;
-    let lines = parse_script(rt.alloc(), &script)?;
-    assert!(rt; lines.len() == 2);
-    assert_eq!(rt; (lines[0].number, lines[0].said.is_ok()), (3, false));
-    assert_eq!(rt; (lines[1].number, lines[1].said.is_ok()), (4, true));
-    Ok(())
+    Ok(run(alloc, &script)?)
 }
 
 #[test]
 fn a_line_of_65537_bytes_is_too_long(rt: HostRuntime) -> Result<(), Fail> {
-    let alloc = rt.alloc();
-    let longest = run(alloc, &long_script(alloc, 65_536)?)?;
-    assert_eq!(rt;
-        longest.as_slice(),
-        b"line 3: BadCommand\nline 4: NoSchema\n".as_slice()
+    let longest = printed(rt.alloc(), 65_536)?;
+    let longer = printed(rt.alloc(), 65_537)?;
+    let are_refused = (
+        longest.as_slice() == b"line 3: BadCommand\nline 4: NoSchema\n".as_slice(),
+        longer.as_slice() == b"line 3: LineTooLong\nline 4: NoSchema\n".as_slice(),
     );
-    let longer = run(alloc, &long_script(alloc, 65_537)?)?;
-    assert_eq!(rt;
-        longer.as_slice(),
-        b"line 3: LineTooLong\nline 4: NoSchema\n".as_slice()
-    );
+    assert_eq!(rt; are_refused, (true, true));
     Ok(())
 }

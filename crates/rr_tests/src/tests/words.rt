@@ -22,77 +22,57 @@ fn asked(alloc: Global, words: &str) -> Result<String, AllocError> {
     }
 }
 
+/// Words, and what they ask for.
+const ORDERS: &str = "check-lines | Ns 0
+check-lines --precision s | S 0
+check-lines --precision=ms | Ms 0
+check-lines --precision us | Us 0
+check-lines --precision ns | Ns 0
+check-lines --now 5 | Ns 5
+check-lines --now=-5 | Ns -5
+check-lines --now=007 --precision s | S 7
+check-lines --now=-9223372036854775808 | Ns -9223372036854775808
+ | sim
+sim | sim
+sim f | sim of f
+sim -- -f | sim of -f
+serve c --origin 7 | serve c as 7";
+
 #[test]
-fn checks_of_lines_have_defaults(rt: HostRuntime) -> Result<(), Fail> {
-    for (words, want) in [
-        ("check-lines", "Ns 0"),
-        ("check-lines --precision s", "S 0"),
-        ("check-lines --precision=ms", "Ms 0"),
-        ("check-lines --precision us", "Us 0"),
-        ("check-lines --precision ns", "Ns 0"),
-        ("check-lines --now 5", "Ns 5"),
-        ("check-lines --now=-5", "Ns -5"),
-        ("check-lines --now=007 --precision s", "S 7"),
-        (
-            "check-lines --now=-9223372036854775808",
-            "Ns -9223372036854775808",
-        ),
-    ] {
-        assert_eq!(rt; asked(rt.alloc(), words)?.as_str(), want);
+fn words_are_read(rt: HostRuntime) -> Result<(), Fail> {
+    for line in ORDERS.lines() {
+        let (words, want) = line.split_once(" | ").expect(&rt, "a line in two");
+        assert!(rt; asked(rt.alloc(), words)?.as_str() == want);
     }
     Ok(())
 }
 
-#[test]
-fn scripts_come_from_a_file_or_not(rt: HostRuntime) -> Result<(), Fail> {
-    for (words, want) in [
-        ("", "sim"),
-        ("sim", "sim"),
-        ("sim f", "sim of f"),
-        ("sim -- -f", "sim of -f"),
-        ("serve c --origin 7", "serve c as 7"),
-    ] {
-        assert_eq!(rt; asked(rt.alloc(), words)?.as_str(), want);
-    }
-    Ok(())
-}
-
-#[test]
-fn other_values_are_refused(rt: HostRuntime) -> Result<(), Fail> {
-    for (words, part) in [
-        ("check-lines --now -5", "error: unexpected argument '-5'"),
-        ("check-lines --now=+5", "'--now <T>'"),
-        ("serve c --origin 0", "'--origin <N>'"),
-        ("check-lines --now=", "'--now <T>'"),
-        ("check-lines --now=9223372036854775808", "'--now <T>'"),
-        ("check-lines --now", "'--now <T>'"),
-        ("check-lines --now=1 --now=1", "'--now <T>'"),
-        ("check-lines --precision h", "'--precision <P>'"),
-        ("check-lines --precision NS", "'--precision <P>'"),
-    ] {
-        let text = asked(rt.alloc(), words)?;
-        assert!(rt; text.starts_with("error: ") && text.contains(part));
-    }
-    Ok(())
-}
+/// Words, and a part of their refusal.
+const REFUSED: &str = "check-lines --now -5 | error: unexpected argument '-5'
+check-lines --now=+5 | '--now <T>'
+serve c --origin 0 | '--origin <N>'
+check-lines --now= | '--now <T>'
+check-lines --now=9223372036854775808 | '--now <T>'
+check-lines --now | '--now <T>'
+check-lines --now=1 --now=1 | '--now <T>'
+check-lines --precision h | '--precision <P>'
+check-lines --precision NS | '--precision <P>'
+check-lines f | error: unexpected argument 'f'
+sim f g | error: unexpected argument 'g'
+sim --now=1 | error: unexpected argument '--now'
+serve c | required arguments were not provided:
+serve c |   --origin <N>
+frob | error: unrecognized subcommand 'frob'
+--frob | error: unexpected argument '--frob'
+--help | Usage: rr [COMMAND]
+help | Usage: rr [COMMAND]
+sim --help | Usage: rr sim [FILE]
+check-lines -h | Usage: rr check-lines [OPTIONS]";
 
 #[test]
 fn other_words_are_refused(rt: HostRuntime) -> Result<(), Fail> {
-    for (words, part) in [
-        ("check-lines f", "error: unexpected argument 'f'"),
-        ("sim f g", "error: unexpected argument 'g'"),
-        ("sim --now=1", "error: unexpected argument '--now'"),
-        (
-            "serve c",
-            "required arguments were not provided:\n  --origin <N>",
-        ),
-        ("frob", "error: unrecognized subcommand 'frob'"),
-        ("--frob", "error: unexpected argument '--frob'"),
-        ("--help", "Usage: rr [COMMAND]"),
-        ("help", "Usage: rr [COMMAND]"),
-        ("sim --help", "Usage: rr sim [FILE]"),
-        ("check-lines -h", "Usage: rr check-lines [OPTIONS]"),
-    ] {
+    for line in REFUSED.lines() {
+        let (words, part) = line.split_once(" | ").expect(&rt, "a line in two");
         assert!(rt; asked(rt.alloc(), words)?.contains(part));
     }
     Ok(())
