@@ -20,4 +20,6 @@ mod sum;
 pub use answering::{answer, answer_text};
 pub use consolidation::consolidate;
 pub use fault::AnswerFault;
-pub use rr_request::{Request, RequestFault, RequestWords, parse_request, read_request, request_words};
+pub use rr_request::{
+    Request, RequestFault, RequestWords, parse_request, read_request, request_words,
+};
