@@ -4,8 +4,8 @@
 //! words ── read_order ──> an order ── obey ──> a script run, or lines checked, over two streams
 //! ```
 //!
-//! It stands on half of the libraries that `rr_tool` stands on, so it is proved in half the time. Asked to
-//! serve, it says that it has no node and ends with status 2.
+//! It stands on none of the libraries of a node, so it is proved sooner than `rr_tool`. Asked to serve, it
+//! says that it has no node and ends with status 2.
 #![tactic(auto)]
 
 use rr_orders::{Ending, obey, read_order};
