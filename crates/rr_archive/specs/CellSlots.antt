@@ -3,7 +3,7 @@ use Rattle.std.specs.Prelude.{ℕ, ℤ, pos, negsuc, ◌-◌, ◌≤ℤ◌, Bool
 use Rattle.std.specs.declared.cmp.Ordering.{Ordering}
 use Rattle.std.specs.Ordering.{ordering_then, nat_cmp, int_cmp}
 use Rattle.rr_text.specs.declared.limits.TheConstants.{MAX_SECOND}
-use Rattle.rr_base.specs.Origin.{IsOrigin}
+use Rattle.rr_schema.specs.Origin.{IsOrigin}
 use Rattle.rr_join.specs.Maps.{greatest}
 use Rattle.rr_join.specs.Horizon.{is_above}
 

@@ -8,8 +8,8 @@ ghost use Rattle.rr_archive.specs.CellSlots.{CellSlot, cell_slot, newest_of, is_
 ghost use Rattle.rr_archive.specs.Cells.{Rows, AreInRange, IsTrimmed, put_row, join_cell, row_of, cell_of, next_cell};
 
 use crate::entry::Entry;
-use rr_base::Origin;
 use rr_contrib::Contribution;
+use rr_schema::Origin;
 use rr_text::limits::{MAX_NUMBER, MAX_ROWS, MAX_STEPS};
 use std::alloc::{AllocError, Global};
 

@@ -1,7 +1,7 @@
 //! One entry of a row.
 
-use rr_base::Origin;
 use rr_contrib::Contribution;
+use rr_schema::Origin;
 
 /// What one origin contributes to a row.
 #[derive(Clone, Copy, Debug, PartialEq, Eq)]

@@ -16,8 +16,8 @@ use crate::entry::Entry;
 use crate::live_slots::{is_live, later};
 use crate::new_sample::NewSample;
 use crate::slots::Slots;
-use rr_base::Origin;
 use rr_contrib::Contribution;
+use rr_schema::Origin;
 use std::alloc::{AllocError, Global};
 
 /// The cells of one archive of one series, as an ordered map from slots to rows of entries.

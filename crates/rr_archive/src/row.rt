@@ -6,8 +6,8 @@ ghost use Rattle.rr_archive.specs.Changes.{Fits, entry_after};
 
 use crate::change::{Change, contribution_after};
 use crate::entry::Entry;
-use rr_base::Origin;
 use rr_contrib::Contribution;
+use rr_schema::Origin;
 use std::alloc::AllocError;
 
 /// The number of the first entry whose origin is not below this one, if there is one.

@@ -13,7 +13,7 @@ ghost use Rattle.rr_archive.specs.Held.{cells_in, has_room_in, RowsAscend};
 use crate::change::{Change, contribution_after};
 use crate::entry::Entry;
 use crate::row::{change_entry, first_after};
-use rr_base::Origin;
+use rr_schema::Origin;
 use std::alloc::{AllocError, Global};
 use std::collections::BTreeMap;
 

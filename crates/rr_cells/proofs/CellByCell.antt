@@ -3,7 +3,7 @@ use Rattle.std.proofs.Common.{◌≡◌, Bool, true, false, cond, ◌||◌, List
 use Rattle.std.specs.Ordering.{eq_by_cmp}
 use Rattle.std.specs.Cmp.{eq_by_cmp_equiv}
 use Rattle.std.specs.FinMap.{empty, get, insert, entries, keys, retain_keys, get-empty, get-insert, get-retain_keys, get-from_entries, get-entries, find, from_entries, same_map}
-use Rattle.rr_base.specs.Schema.{Layout, IsLayout}
+use Rattle.rr_schema.specs.Schema.{Layout, IsLayout}
 use Rattle.rr_join.specs.Maps as Maps
 use Rattle.rr_join.specs.Maps.{greater, merged, trimmed}
 use Rattle.rr_join.proofs.Distinct.{IsDistinct, keys_distinct}

@@ -5,7 +5,7 @@ use Rattle.std.specs.Ordering.{eq_by_cmp}
 use Rattle.std.specs.FinMap.{get, keys}
 use Rattle.std.proofs.lemmas.Bool.{cases_lt, lt-ltb, le-ltb, and_from}
 use Rattle.std.proofs.lemmas.List.Elements.{filter_agree}
-use Rattle.rr_base.specs.Schema.{Layout, IsLayout}
+use Rattle.rr_schema.specs.Schema.{Layout, IsLayout}
 use Rattle.rr_join.specs.Maps.{set_of}
 use Rattle.rr_join.proofs.Booleans.{same_test, and_first}
 use Rattle.rr_join.proofs.Keys.{same_keys}

@@ -7,8 +7,8 @@ use Rattle.std.specs.Cmp.Lexicographic.{pointwise, bytes_decides}
 use Rattle.std.specs.FinMap.{get, insert, keys, get-insert}
 use Rattle.std.proofs.lemmas.Bool.{cases_lt}
 use Rattle.rr_text.specs.declared.limits.TheConstants.{MAX_NUMBER}
-use Rattle.rr_base.specs.Origin.{IsOrigin}
-use Rattle.rr_base.specs.Schema.{Layout, IsLayout, archive_at}
+use Rattle.rr_schema.specs.Origin.{IsOrigin}
+use Rattle.rr_schema.specs.Schema.{Layout, IsLayout, archive_at}
 use Rattle.rr_join.proofs.Members.{same_from_tie}
 use Rattle.rr_join.proofs.Lookups.{get-trimmed}
 use Rattle.rr_contrib.specs.declared.contribution.Contribution.{Contribution}

@@ -1,7 +1,7 @@
 -- The laws of the join of two maps of cells.
 use Rattle.std.proofs.Common.{sym, ap, ◌∙◌}
 use Rattle.std.specs.FinMap.{same_map}
-use Rattle.rr_base.specs.Schema.{archive_at}
+use Rattle.rr_schema.specs.Schema.{archive_at}
 use Rattle.rr_join.specs.Maps as Maps
 use Rattle.rr_join.specs.Maps.{greater, merged, trimmed}
 use Rattle.rr_join.proofs.Joining.{joined_comm, joined_assoc, joined_itself, trimmed-joined}

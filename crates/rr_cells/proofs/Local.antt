@@ -7,7 +7,7 @@ use Rattle.std.specs.Cmp.Lexicographic.{pointwise, bytes_decides}
 use Rattle.std.specs.FinMap.{get, insert, keys, get-insert, same_map}
 use Rattle.std.proofs.lemmas.Bool.{eq-eqb, and_from, or_left, or_right}
 use Rattle.rr_contrib.specs.declared.contribution.Contribution.{Contribution}
-use Rattle.rr_base.specs.Schema.{Layout, IsLayout, archive_at}
+use Rattle.rr_schema.specs.Schema.{Layout, IsLayout, archive_at}
 use Rattle.rr_join.specs.Maps.{trimmed}
 use Rattle.rr_join.proofs.Booleans.{same_test, either_case}
 use Rattle.rr_join.proofs.Members.{is_in, same_from_tie, tie_itself, all_at, all_from, is_in-filter}

@@ -4,7 +4,7 @@ use Rattle.std.specs.Prelude.{nat_eq}
 use Rattle.std.specs.Cmp.Lexicographic.{pointwise, bytes_decides}
 use Rattle.std.specs.FinMap.{get, len}
 use Rattle.std.proofs.lemmas.Bool.{false_from_ne_true}
-use Rattle.rr_base.specs.Schema.{Layout, IsLayout, archive_at}
+use Rattle.rr_schema.specs.Schema.{Layout, IsLayout, archive_at}
 use Rattle.rr_contrib.specs.declared.contribution.Contribution.{Contribution}
 use Rattle.rr_contrib.specs.Contributions.{contribution_with}
 use Rattle.rr_archive.specs.CellSlots.{CellSlot}

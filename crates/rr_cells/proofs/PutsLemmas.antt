@@ -6,7 +6,7 @@ use Rattle.std.specs.Cmp.Lexicographic.{pointwise}
 use Rattle.std.specs.FinMap.{get, insert}
 use Rattle.std.proofs.lemmas.Bool.{ne_eqb, and_right}
 use Rattle.std.proofs.lemmas.Bool.Decides.{eqb_tells}
-use Rattle.rr_base.specs.Schema.{Layout, IsLayout, archive_at}
+use Rattle.rr_schema.specs.Schema.{Layout, IsLayout, archive_at}
 use Rattle.rr_join.specs.Maps.{trimmed}
 use Rattle.rr_join.proofs.Joining.{trimmed-trimmed}
 use Rattle.rr_contrib.specs.declared.contribution.Contribution.{Contribution}

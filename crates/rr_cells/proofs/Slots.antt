@@ -4,7 +4,7 @@ use Rattle.std.specs.Prelude.{FitsSigned}
 use Rattle.std.specs.Int.{w64, int_div_euclid}
 use Rattle.std.proofs.Math.Nat.{div-lt_iff_lt-mul}
 use Rattle.std.proofs.lemmas.Int.{ints}
-use Rattle.rr_base.specs.Schema.{Layout, IsLayout, archive_at, slot_of, span}
+use Rattle.rr_schema.specs.Schema.{Layout, IsLayout, archive_at, slot_of, span}
 use Rattle.rr_archive.specs.CellSlots.{IsSlot}
 use Rattle.rr_model.proofs.Horizon.{archive_is}
 

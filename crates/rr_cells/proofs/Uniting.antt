@@ -5,7 +5,7 @@ use Rattle.std.specs.Option.{unwrap_or}
 use Rattle.std.specs.FinMap.{get, keys, same_map}
 use Rattle.std.proofs.lemmas.Bool.{cases_lt, and_from, or_left, or_right}
 use Rattle.std.proofs.lemmas.Bool.Decides.{nat_tests}
-use Rattle.rr_base.specs.Schema.{Layout, IsLayout}
+use Rattle.rr_schema.specs.Schema.{Layout, IsLayout}
 use Rattle.rr_join.specs.Maps.{greater, greatest}
 use Rattle.rr_join.proofs.Booleans.{same_test, and_first, and_second, either_case}
 use Rattle.rr_join.proofs.Greater.{greatest_some, greater-None, greater_comm, max_itself}

@@ -8,7 +8,7 @@ use Rattle.std.specs.FinMap.{keys, insert, nat_cmp-IsAntisymmetric, int_cmp-IsAn
 use Rattle.std.proofs.Math.IntN.{+ℤ_assoc, +ℤ_comm}
 use Rattle.std.proofs.lemmas.Bool.{or_right}
 use Rattle.std.proofs.lemmas.Bool.Decides.{nat_tests}
-use Rattle.rr_base.specs.Schema.{Layout}
+use Rattle.rr_schema.specs.Schema.{Layout}
 use Rattle.rr_join.specs.Maps.{greatest, greater}
 use Rattle.rr_join.proofs.Greater.{greater_swap, greatest_some, flip_args-IsAntisymmetric}
 use Rattle.rr_join.proofs.Inserting.{inserted, keys-insert, total-inserted}

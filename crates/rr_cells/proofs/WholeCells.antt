@@ -3,7 +3,7 @@ use Rattle.std.proofs.Common.{◌≡◌, Bool, true, false, cond, ◌&&◌, refl
 use Rattle.std.specs.Ordering.{eq_by_cmp}
 use Rattle.std.specs.FinMap.{get, keys, retain_keys, get-retain_keys, same_map}
 use Rattle.std.proofs.lemmas.Bool.{and_from}
-use Rattle.rr_base.specs.Schema.{Layout, IsLayout}
+use Rattle.rr_schema.specs.Schema.{Layout, IsLayout}
 use Rattle.rr_join.proofs.Booleans.{same_test, and_first, and_second}
 use Rattle.rr_join.proofs.Horizons.{live_fewer}
 use Rattle.rr_join.proofs.Members.{is_in, found_of, any_from}

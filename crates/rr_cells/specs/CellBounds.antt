@@ -1,8 +1,8 @@
 -- The bounds that every cell of a schema keeps to.
 use Rattle.std.specs.Prelude.{◌<◌, nat_lt, Bool, ◌&&◌, length, FitsSigned}
 use Rattle.std.specs.Int.{w64, w128}
-use Rattle.rr_base.specs.Origin.{IsOrigin}
-use Rattle.rr_base.specs.Schema.{Layout}
+use Rattle.rr_schema.specs.Origin.{IsOrigin}
+use Rattle.rr_schema.specs.Schema.{Layout}
 use Rattle.rr_contrib.specs.declared.contribution.Contribution.{Contribution}
 use Rattle.rr_contrib.specs.Validity.{IsValid, is_valid}
 use Rattle.rr_key.specs.Series.{IsKeyText}

@@ -3,10 +3,10 @@ use Rattle.std.specs.Prelude.{◌≡◌, ℕ, ℤ, ◌+◌, ◌*◌, ◌<◌, �
 use Rattle.std.specs.FinMap as fin
 use Rattle.std.specs.FinMap.{get, len}
 use Rattle.std.specs.Coded.{Coded, code_by, coded×, coded_ℕ, coded_ℤ, coded_list}
-use Rattle.rr_base.specs.declared.archive.ArchiveSpec.{ArchiveSpec}
+use Rattle.rr_schema.specs.declared.archive.ArchiveSpec.{ArchiveSpec}
 use Rattle.rr_text.specs.declared.limits.TheConstants.{MAX_NUMBER}
-use Rattle.rr_base.specs.Origin.{IsOrigin}
-use Rattle.rr_base.specs.Schema.{Layout, IsLayout, archive_at}
+use Rattle.rr_schema.specs.Origin.{IsOrigin}
+use Rattle.rr_schema.specs.Schema.{Layout, IsLayout, archive_at}
 use Rattle.rr_contrib.specs.declared.contribution.Contribution.{Contribution}
 use Rattle.rr_archive.specs.Codes.{coded_contribution}
 use Rattle.rr_model.specs.CellNames.{CellName}

@@ -1,7 +1,7 @@
 -- The join of two maps of cells.
 use Rattle.std.specs.Prelude.{List, [], ◌∷◌}
 use Rattle.std.specs.FinMap.{empty, insert}
-use Rattle.rr_base.specs.Schema.{Layout}
+use Rattle.rr_schema.specs.Schema.{Layout}
 use Rattle.rr_join.specs.Maps.{joined}
 use Rattle.rr_contrib.specs.declared.contribution.Contribution.{Contribution}
 use Rattle.rr_contrib.specs.Contributions.{contribution_cmp}

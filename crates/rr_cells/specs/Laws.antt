@@ -2,7 +2,7 @@
 use Rattle.std.specs.Prelude.{◌≡◌, ◌≢◌, Bool, ℕ, ◌*◌, ◌<◌, ◌≤◌, List, length, Some, IsFalse, take, drop}
 use Rattle.std.specs.Ordering.{eq_by_cmp}
 use Rattle.std.specs.FinMap.{get, keys, len, entries, retain_keys}
-use Rattle.rr_base.specs.Schema.{Layout, IsLayout, archive_at, slot_of}
+use Rattle.rr_schema.specs.Schema.{Layout, IsLayout, archive_at, slot_of}
 use Rattle.rr_contrib.specs.declared.contribution.Contribution.{Contribution}
 use Rattle.rr_archive.specs.Cells.{put_row, join_rows}
 use Rattle.rr_model.specs.CellNames.{CellName, cell_name_cmp, is_slot_live}

@@ -1,7 +1,7 @@
 -- What a sample makes of the cells of a replica.
 use Rattle.std.specs.Prelude.{List, [], ◌∷◌}
 use Rattle.std.specs.FinMap.{get, insert}
-use Rattle.rr_base.specs.Schema.{Layout, place_of}
+use Rattle.rr_schema.specs.Schema.{Layout, place_of}
 use Rattle.rr_join.specs.Maps.{trimmed}
 use Rattle.rr_contrib.specs.Contributions.{SlotSample, slot_sample, contribution_with}
 use Rattle.rr_model.specs.CellNames.{is_live}

@@ -1,13 +1,13 @@
 //! Cells by their names.
 ghost use Rattle.std.specs.Prelude.{◌≡◌, ◌↔◌, ℕ, List, IsTrue};
-ghost use Rattle.rr_base.specs.Origin.{IsOrigin};
+ghost use Rattle.rr_schema.specs.Origin.{IsOrigin};
 ghost use Rattle.rr_key.specs.Series.{IsKeyText};
 ghost use Rattle.rr_cells.specs.CellBounds.{IsCellOf, is_cell_of};
 ghost use Rattle.rr_cells.specs.Listing.{cell_name};
 
-use rr_base::{Origin, Schema};
 use rr_contrib::Contribution;
 use rr_key::SeriesKey;
+use rr_schema::{Origin, Schema};
 use std::alloc::AllocError;
 
 /// A cell: what an origin contributes to a slot of an archive of a key, which is lent.

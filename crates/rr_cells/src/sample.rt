@@ -1,7 +1,7 @@
 //! Samples, with any number.
 
-use rr_base::Origin;
 use rr_key::SeriesKey;
+use rr_schema::Origin;
 use std::alloc::AllocError;
 
 /// What an origin writes under a number: a value of a series at a time.

@@ -4,7 +4,7 @@ use Rattle.std.specs.Prelude.{IsTrue, nat_le, ok_or, option_and_then, unwrap_or}
 use Rattle.std.specs.List.{AllByRecursion}
 use Rattle.std.specs.Str.Parse.{digits_value, signed_digits_value}
 use Rattle.std.proofs.lemmas.Bool.{leb-true}
-use Rattle.rr_base.specs.declared.fault.OriginFault.TheVariants.{BadOrigin}
+use Rattle.rr_schema.specs.declared.fault.OriginFault.TheVariants.{BadOrigin}
 use Rattle.rr_text.specs.declared.limits.TheConstants.{MAX_NUMBER}
 use Rattle.rr_text.specs.Text.{is_digits, unsigned, fits_i64, integer_at}
 use Rattle.rr_key.specs.Making.{making_fault}
@@ -20,7 +20,7 @@ use Rattle.rr_line.specs.Value.{value_of, is_integer, kind_fault}
 use Rattle.rr_cluster.specs.declared.fault.CommandFault.TheVariants.{BadNumber, Origin}
 use Rattle.rr_text.specs.declared.limits.TheConstants.{MAX_ORIGIN}
 use Rattle.rr_cluster.specs.Commands.Write.{samples_of}
-use Rattle.rr_base.specs.Origin.{IsOrigin}
+use Rattle.rr_schema.specs.Origin.{IsOrigin}
 use Rattle.rr_cluster.specs.Soundness.{IsSoundSample}
 use Rattle.rr_cluster.specs.Words.{number_within, origin_of, moment_of}
 

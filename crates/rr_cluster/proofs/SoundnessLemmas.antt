@@ -6,12 +6,12 @@ use Rattle.std.specs.List.{list_any}
 use Rattle.std.specs.Cmp.Lexicographic.{nat_list_cmp_total}
 use Rattle.std.specs.FinMap.{get, insert}
 use Rattle.std.proofs.lemmas.Bool.{eq-eqb, eqb-true, or_left, or_right}
-use Rattle.rr_base.specs.Schema.{Layout}
+use Rattle.rr_schema.specs.Schema.{Layout}
 use Rattle.rr_join.proofs.ValuesLemmas.{insert_cases}
 use Rattle.rr_model.specs.Knowledge.{Knowledge}
 use Rattle.rr_model.specs.Samples.{Sample}
 use Rattle.rr_model.specs.World.{World, IsWritten, IsClosed}
-use Rattle.rr_base.specs.Origin.{IsOrigin}
+use Rattle.rr_schema.specs.Origin.{IsOrigin}
 use Rattle.rr_cluster.specs.Soundness.{IsSoundSample, IsSound, IsSoundNode, IsSoundSnapshot, IsUsed}
 use Rattle.rr_cluster.specs.State.{Node, Snapshot, State}
 use Rattle.rr_cluster.proofs.StepLemmas.{names_apart}

@@ -13,7 +13,7 @@ pub mod Load
 pub mod Fetch
 use Rattle.std.specs.Prelude.{ℕ, nat_eq, List, [], ◌∷◌, codes, Option, None, Some, Result, Ok, Err, if◌then◌else◌}
 use Rattle.std.specs.Cmp.Lexicographic.{pointwise}
-use Rattle.rr_base.specs.Schema.{Layout}
+use Rattle.rr_schema.specs.Schema.{Layout}
 use Rattle.rr_cluster.specs.declared.fault.CommandFault.{CommandFault}
 use Rattle.rr_cluster.specs.declared.fault.CommandFault.TheVariants.{NoSchema, SchemaSet}
 use Rattle.rr_script.specs.Command.{Command, schema, node, now, write, page, delta, deliver, bytes, save, load, fetch}

@@ -14,7 +14,7 @@ use Rattle.rr_cells.specs.Cells.{Cells, IsTrimmed}
 use Rattle.rr_cells.specs.Holding.{Holding}
 use Rattle.rr_replica.specs.Standing.{Standing, held}
 use Rattle.rr_text.specs.Bytes.{bytes_cmp}
-use Rattle.rr_base.specs.Schema.{Layout, IsLayout}
+use Rattle.rr_schema.specs.Schema.{Layout, IsLayout}
 use Rattle.rr_cluster.specs.declared.fault.CommandFault.{CommandFault}
 use Rattle.rr_cluster.specs.declared.fault.CommandFault.TheVariants.{OriginUsed, Save}
 use Rattle.rr_cluster.specs.declared.cluster.Cluster.{Cluster}

@@ -1,7 +1,7 @@
 -- The two models of a script. They differ in what a node holds; all else is said once, for both.
 use Rattle.std.specs.Prelude.{ℕ, List, take, drop}
 use Rattle.std.specs.FinMap.{empty, entries, from_entries}
-use Rattle.rr_base.specs.Schema.{Layout}
+use Rattle.rr_schema.specs.Schema.{Layout}
 use Rattle.rr_model.specs.Samples.{Sample, marks_of}
 use Rattle.rr_model.specs.Knowledge.{Knowledge, union, with_marks, live, part, cells_named, difference}
 use Rattle.rr_model.specs.FetchText.{Request, fetch_text}

@@ -1,10 +1,10 @@
 //! The nodes of a script.
 
-ghost use Rattle.rr_base.specs.Schema.{IsLayout};
+ghost use Rattle.rr_schema.specs.Schema.{IsLayout};
 
 use rr_archive::Archive;
-use rr_base::Schema;
 use rr_replica::Replica;
+use rr_schema::Schema;
 use std::alloc::Global;
 use std::collections::{BTreeMap, BTreeSet};
 

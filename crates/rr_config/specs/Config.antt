@@ -2,11 +2,11 @@
 use Rattle.std.specs.Prelude.{ℕ, List, [], map, codes, Option, None, Some, Result, Ok, Err}
 use Rattle.std.specs.String.{string_bytes}
 use Rattle.toml.specs.Data.{Members, get_member}
-use Rattle.rr_base.specs.declared.fault.SchemaFault.{SchemaFault}
-use Rattle.rr_base.specs.declared.fault.SchemaFault.TheVariants.{BadToml}
-use Rattle.rr_base.specs.Document.{layout_in, table_of}
+use Rattle.rr_schema.specs.declared.fault.SchemaFault.{SchemaFault}
+use Rattle.rr_schema.specs.declared.fault.SchemaFault.TheVariants.{BadToml}
+use Rattle.rr_schema.specs.Document.{layout_in, table_of}
 use Rattle.rr_text.specs.Results.{◌>>=◌}
-use Rattle.rr_base.specs.Schema.{Layout}
+use Rattle.rr_schema.specs.Schema.{Layout}
 use Rattle.rr_line.specs.declared.precision.Precision.{Precision}
 use Rattle.rr_line.specs.declared.precision.Precision.TheVariants.{Ns}
 use Rattle.rr_config.specs.declared.config.Config.{Config}

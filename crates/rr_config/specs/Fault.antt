@@ -1,8 +1,8 @@
 -- The faults of a configuration, and their printed names.
 use Rattle.std.specs.Prelude.{ℕ, List, codes}
-use Rattle.rr_base.specs.declared.fault.SchemaFault.{SchemaFault}
-use Rattle.rr_base.specs.declared.fault.SchemaFault.TheVariants as schema
-use Rattle.rr_base.specs.Fault.{schema_fault_name}
+use Rattle.rr_schema.specs.declared.fault.SchemaFault.{SchemaFault}
+use Rattle.rr_schema.specs.declared.fault.SchemaFault.TheVariants as schema
+use Rattle.rr_schema.specs.Fault.{schema_fault_name}
 use Rattle.rr_config.specs.declared.fault.ConfigFault.{ConfigFault}
 use Rattle.rr_config.specs.declared.fault.ConfigFault.TheVariants as config
 

@@ -6,7 +6,7 @@ ghost use Rattle.std.specs.String.{string_bytes};
 ghost use Rattle.toml.specs.Data.{get_member};
 ghost use Rattle.toml.specs.View.{table_view};
 ghost use Rattle.rr_text.specs.Results.{GivesUnless};
-ghost use Rattle.rr_base.specs.declared.fault.SchemaFault.TheVariants.{BadToml};
+ghost use Rattle.rr_schema.specs.declared.fault.SchemaFault.TheVariants.{BadToml};
 ghost use Rattle.rr_line.specs.declared.precision.Precision.TheVariants.{Ns};
 ghost use Rattle.rr_config.specs.Config.{config_in, config_of, config_view};
 ghost use Rattle.rr_config.specs.Values.{if_there, count_of, some_count_of, some_idle_of, texts_of, precision_of};
@@ -14,8 +14,8 @@ ghost use Rattle.rr_config.specs.Values.{if_there, count_of, some_count_of, some
 use crate::fault::ConfigFault;
 use crate::value;
 use crate::value::{find, readers_of, text_of, value_at};
-use rr_base::{Schema, SchemaFault};
 use rr_line::Precision;
+use rr_schema::{Schema, SchemaFault};
 use std::alloc::Global;
 use std::str;
 use toml::Table;

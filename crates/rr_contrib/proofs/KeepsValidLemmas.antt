@@ -7,10 +7,10 @@ use Rattle.std.proofs.Math.Pow.{pow-lt}
 use Rattle.std.proofs.lemmas.Nat.{or_lt}
 use Rattle.std.proofs.lemmas.Nat.Bits.{bit_at-pow_same}
 use Rattle.std.proofs.lemmas.Int.{ints}
-use Rattle.rr_base.specs.declared.archive.ArchiveSpec.{ArchiveSpec}
+use Rattle.rr_schema.specs.declared.archive.ArchiveSpec.{ArchiveSpec}
 use Rattle.rr_text.specs.declared.limits.TheConstants.{MAX_NUMBER}
-use Rattle.rr_base.specs.Schema.{Layout, IsLayout, archive_at, slot_of, place_of}
-use Rattle.rr_base.proofs.PlaceLemmas.{rem_is_place}
+use Rattle.rr_schema.specs.Schema.{Layout, IsLayout, archive_at, slot_of, place_of}
+use Rattle.rr_schema.proofs.PlaceLemmas.{rem_is_place}
 use Rattle.rr_contrib.specs.declared.contribution.Contribution.{Contribution}
 use Rattle.rr_contrib.specs.Contributions.{SlotSample, of_one, with_sample}
 use Rattle.rr_contrib.specs.Validity.{IsValid, CanAdd, StartsValid, KeepsValid}

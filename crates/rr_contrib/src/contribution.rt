@@ -1,13 +1,13 @@
 //! The contribution of one origin to one slot.
 ghost use Rattle.std.specs.Prelude.{◌≡◌, ◌<◌, ◌≤◌, ◌^◌, pos, negsuc, ◌+ℤ◌, ◌*ℤ◌, ◌≤ℤ◌, List, ◌∷◌, [], length, count_ones, IsTrue, ◌↔◌, int_lt, if◌then◌else◌};
 ghost use Rattle.std.specs.Int.{bit_at};
-ghost use Rattle.rr_base.specs.Schema.{slot_of};
+ghost use Rattle.rr_schema.specs.Schema.{slot_of};
 ghost use Rattle.rr_contrib.specs.Contributions.{SlotSample, slot_sample, of_one, with_sample};
 ghost use Rattle.rr_contrib.specs.Samples.{contribution_of};
 ghost use Rattle.rr_contrib.specs.Validity.{IsBounded, IsValid, StartsValid, KeepsValid};
 
-use rr_base::Schema;
 use rr_join::{Join, join_max};
+use rr_schema::Schema;
 use rr_text::limits::{MAX_NUMBER, MAX_STEPS};
 
 /// A set of places of a slot, place `p` as bit `p`.

@@ -1,7 +1,7 @@
 -- What contracts see of a keeper, and what it keeps to.
 use Rattle.std.specs.Prelude.{◌≡◌, ℕ, Bool, true, List, [], ◌∷◌, ◌++◌, fold}
 use Rattle.logbook.specs.Pages.{Book}
-use Rattle.rr_base.specs.Schema.{Layout}
+use Rattle.rr_schema.specs.Schema.{Layout}
 use Rattle.rr_cells.specs.declared.op.Op.{Op}
 use Rattle.rr_cells.specs.Cells.{Cells}
 use Rattle.rr_cells.specs.Holding.{Holding}

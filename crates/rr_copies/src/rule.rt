@@ -5,8 +5,8 @@ use crate::shown::Shown;
 use atomic_table::{Join, Split};
 use crossbeam_utils::rule::{Outcome, Protocol};
 use rr_archive::Archive;
-use rr_base::Schema;
 use rr_cells::Op;
+use rr_schema::Schema;
 use std::collections::LinkedList;
 use std::marker::PhantomData;
 

@@ -3,9 +3,9 @@
 use crate::book::Front;
 use left_right::Absorb;
 use rr_archive::Archive;
-use rr_base::{Origin, Schema};
 use rr_cells::Op;
 use rr_replica::{Hint, Replica};
+use rr_schema::{Origin, Schema};
 use std::alloc::AllocError;
 use std::marker::Model;
 

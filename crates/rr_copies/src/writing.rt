@@ -1,7 +1,7 @@
 //! What the keeper does with the copies, each under the rule.
 ghost use Rattle.std.specs.Prelude.{◌≡◌, true, false, [], ◌∷◌, ◌++◌, fold, OnErr, OnOk, MatchResult};
 ghost use Rattle.left_right.specs.Sides.{view};
-ghost use Rattle.rr_base.specs.Schema.{IsLayout};
+ghost use Rattle.rr_schema.specs.Schema.{IsLayout};
 ghost use Rattle.rr_cells.specs.Cells.{IsTrimmed};
 ghost use Rattle.rr_cells.specs.Operations.{joins_of, step, AllAccepted};
 ghost use Rattle.rr_replica.specs.Standing.{held};

@@ -12,7 +12,7 @@ use Rattle.rr_cells.specs.Holding.{IsHolding, Holding}
 use Rattle.rr_cells.specs.Listing.{owned_cell}
 use Rattle.rr_replica.proofs.Counted.{take_all}
 use Rattle.rr_cells.proofs.HeldCells.{listed_held}
-use Rattle.rr_base.specs.Schema.{Layout}
+use Rattle.rr_schema.specs.Schema.{Layout}
 use Rattle.rr_delta.specs.declared.name.Name.{Name}
 use Rattle.rr_delta.specs.Summaries.{cells_after}
 use Rattle.rr_delta.specs.Names.{NamedVersion, IsNameOf, named_version, owned_name}

@@ -1,7 +1,7 @@
 -- The laws of differences, each the contract of a function of `src/laws.rt`.
 use Rattle.std.specs.Prelude.{◌≡◌, ℕ, map, take, drop, Some}
 use Rattle.std.specs.FinMap.{get, entries}
-use Rattle.rr_base.specs.Schema.{Layout, IsLayout}
+use Rattle.rr_schema.specs.Schema.{Layout, IsLayout}
 use Rattle.rr_contrib.specs.declared.contribution.Contribution.{Contribution}
 use Rattle.rr_model.specs.CellNames.{CellName}
 use Rattle.rr_model.specs.Knowledge.{Knowledge, cells_named, difference}

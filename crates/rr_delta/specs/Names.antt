@@ -5,8 +5,8 @@ use Rattle.std.specs.FinMap.{entries}
 use Rattle.std.specs.Int.{w64}
 use Rattle.std.specs.Option.{option_map}
 use Rattle.rr_text.specs.declared.limits.TheConstants.{MAX_NUMBER}
-use Rattle.rr_base.specs.Origin.{IsOrigin}
-use Rattle.rr_base.specs.Schema.{Layout}
+use Rattle.rr_schema.specs.Origin.{IsOrigin}
+use Rattle.rr_schema.specs.Schema.{Layout}
 use Rattle.rr_key.specs.Series.{IsKeyText}
 use Rattle.rr_model.specs.CellNames.{CellName}
 use Rattle.rr_cells.specs.CellBounds.{NamedCell}

@@ -4,9 +4,9 @@ ghost use Rattle.rr_model.specs.CellNames.{cell_name_cmp};
 ghost use Rattle.rr_cells.specs.Listing.{seen_cell};
 ghost use Rattle.rr_delta.specs.Names.{named_version, owned_name};
 
-use rr_base::Origin;
 use rr_cells::CellRef;
 use rr_key::SeriesKey;
+use rr_schema::Origin;
 use std::alloc::AllocError;
 use std::cmp::Ordering;
 

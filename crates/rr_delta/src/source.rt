@@ -2,7 +2,7 @@
 ghost use Rattle.std.specs.Prelude.{◌≡◌, All, IfOk, IsTrue, map, refl};
 ghost use Rattle.std.proofs.Common.{◌∙◌};
 ghost use Rattle.std.specs.FinMap.{entries, is_sorted};
-ghost use Rattle.rr_base.specs.Schema.{Layout, IsLayout};
+ghost use Rattle.rr_schema.specs.Schema.{Layout, IsLayout};
 ghost use Rattle.rr_model.specs.CellNames.{cell_name_cmp};
 ghost use Rattle.rr_cells.specs.CellBounds.{IsCellOf};
 ghost use Rattle.rr_cells.specs.Cells.{Cells};
@@ -13,9 +13,9 @@ ghost use Rattle.rr_delta.specs.Difference.{IsSummary, newer_cells};
 use crate::differing::difference;
 use crate::name::Name;
 use rr_archive::Archive;
-use rr_base::Schema;
 use rr_cells::Cell;
 use rr_replica::Replica;
+use rr_schema::Schema;
 use std::alloc::{AllocError, Global};
 
 /// Whoever gives cells to others: it answers what a summary lacks.

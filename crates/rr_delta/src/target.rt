@@ -2,7 +2,7 @@
 ghost use Rattle.std.specs.Prelude.{◌≡◌, All, IfOk, OnOk, OnErr, map, take, drop, refl};
 ghost use Rattle.std.proofs.Common.{◌∙◌};
 ghost use Rattle.std.specs.FinMap.{entries};
-ghost use Rattle.rr_base.specs.Schema.{Layout, IsLayout};
+ghost use Rattle.rr_schema.specs.Schema.{Layout, IsLayout};
 ghost use Rattle.rr_cells.specs.CellBounds.{IsCellOf};
 ghost use Rattle.rr_cells.specs.Cells.{Cells, IsTrimmed};
 ghost use Rattle.rr_cells.specs.Joins.{join_cell};
@@ -14,9 +14,9 @@ ghost use Rattle.rr_delta.specs.Summaries.{cells_after};
 use crate::listing::{summary, summary_after};
 use crate::name::Name;
 use rr_archive::Archive;
-use rr_base::Schema;
 use rr_cells::Cell;
 use rr_replica::Replica;
+use rr_schema::Schema;
 use std::alloc::{AllocError, Global};
 
 /// Whoever takes cells from elsewhere: it says which it has, and joins those that it is given.

@@ -7,7 +7,7 @@ use Rattle.std.specs.FinMap.{get, entries}
 use Rattle.std.specs.List.{All, AllByRecursion}
 use Rattle.std.specs.Ordering.{eq_by_cmp}
 use mathlib.Core.List.{IsPrefix}
-use Rattle.rr_base.specs.Schema.{Layout}
+use Rattle.rr_schema.specs.Schema.{Layout}
 use Rattle.rr_model.specs.CellNames.{cell_name_cmp}
 use Rattle.rr_model.specs.Samples as model
 use Rattle.rr_model.specs.Samples.{Mark}

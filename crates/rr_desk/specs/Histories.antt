@@ -2,7 +2,7 @@
 use Rattle.std.specs.Prelude.{◌≡◌, ◌≢◌, ℕ, ◌<◌, List, [], ◌∷◌, ◌++◌, fold, Some}
 use Rattle.std.specs.FinMap.{get}
 use Rattle.std.specs.Ordering.{eq_by_cmp}
-use Rattle.rr_base.specs.Schema.{Layout, IsLayout}
+use Rattle.rr_schema.specs.Schema.{Layout, IsLayout}
 use Rattle.rr_model.specs.CellNames.{cell_name_cmp}
 use Rattle.rr_model.specs.Samples as model
 use Rattle.rr_model.specs.Samples.{marks_of}

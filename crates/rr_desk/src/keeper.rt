@@ -3,8 +3,8 @@ ghost use Rattle.std.specs.Prelude.{◌≡◌, ◌<◌, ◌≤◌, ◌↔◌, Al
 ghost use Rattle.std.specs.FinMap.{entries, len};
 ghost use Rattle.std.specs.Io.KnownBytes.{Appends};
 ghost use Rattle.rr_text.specs.declared.limits.TheConstants.{MAX_NUMBER};
-ghost use Rattle.rr_base.specs.Counted.{inner_of, failures_of, HasRisen};
-ghost use Rattle.rr_base.specs.Stream.{AppendsPrefix};
+ghost use Rattle.rr_io.specs.Counted.{inner_of, failures_of, HasRisen};
+ghost use Rattle.rr_io.specs.Stream.{AppendsPrefix};
 ghost use Rattle.rr_cells.specs.CellBounds.{IsCellOf};
 ghost use Rattle.rr_cells.specs.Holding.{IsHolding};
 ghost use Rattle.rr_cells.specs.Listing.{owned_cell};
@@ -22,12 +22,13 @@ ghost use Rattle.rr_copies.specs.Standing.{cells_of, holding_of, with_all_publis
 use crate::note::Note;
 use left_right::Absorb;
 use rr_archive::Archive;
-use rr_base::{Counted, Schema};
 use rr_cells::{Cell, Op, Sample};
 use rr_copies::{Change, Copies, CopyState, Shown};
 use rr_delta::{Name, summary, summary_after};
+use rr_io::Counted;
 use rr_key::SeriesKey;
 use rr_replica::{Hint, PutFault, Replica};
+use rr_schema::Schema;
 use rr_snapshot::SaveFault;
 use rr_text::limits::MAX_NUMBER;
 use std::alloc::{AllocError, Global};

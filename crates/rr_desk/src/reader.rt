@@ -2,7 +2,7 @@
 ghost use Rattle.std.specs.Prelude.{◌≡◌, All, Some, false, IfOk, IsTrue, MatchResult, map};
 ghost use Rattle.std.specs.FinMap.{entries, is_sorted};
 ghost use mathlib.Core.List.{IsPrefix};
-ghost use Rattle.rr_base.specs.Schema.{IsLayout};
+ghost use Rattle.rr_schema.specs.Schema.{IsLayout};
 ghost use Rattle.rr_model.specs.CellNames.{cell_name_cmp};
 ghost use Rattle.rr_cells.specs.CellBounds.{IsCellOf};
 ghost use Rattle.rr_cells.specs.Listing.{owned_cell};
@@ -19,11 +19,11 @@ use crate::gate::{Gate, GateCall};
 use crate::note::Note;
 use crate::reading::{answer, lacking};
 use rr_archive::Archive;
-use rr_base::Schema;
 use rr_cells::Cell;
 use rr_copies::{ReadHandle, look_for};
 use rr_delta::Name;
 use rr_fetch::Request;
+use rr_schema::Schema;
 use std::alloc::{AllocError, Global};
 use std::marker::Model;
 

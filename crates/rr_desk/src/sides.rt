@@ -3,9 +3,9 @@
 use crate::keeper::Keeper;
 use crate::reader::Reader;
 use rr_archive::Archive;
-use rr_base::Schema;
 use rr_cells::Cell;
 use rr_delta::{Name, Source, Target};
+use rr_schema::Schema;
 use std::alloc::{AllocError, Global};
 
 impl<A: Archive> Target for Keeper<A> {

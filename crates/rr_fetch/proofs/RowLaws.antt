@@ -11,9 +11,9 @@ use Rattle.std.proofs.Math.Nat.{add_comm}
 use Rattle.std.proofs.lemmas.Bool.{eqb-true}
 use Rattle.std.proofs.lemmas.List.Elements.{filter_agree}
 use Rattle.std.proofs.lemmas.Nat.{or_comm}
-use Rattle.rr_base.specs.declared.consolidation.ConsolidationFunction.{ConsolidationFunction}
-use Rattle.rr_base.specs.declared.consolidation.ConsolidationFunction.TheVariants.{Average, Min, Max, Last}
-use Rattle.rr_base.specs.Schema.{Layout, IsLayout, archive_at, place_of, is_known_enough}
+use Rattle.rr_schema.specs.declared.consolidation.ConsolidationFunction.{ConsolidationFunction}
+use Rattle.rr_schema.specs.declared.consolidation.ConsolidationFunction.TheVariants.{Average, Min, Max, Last}
+use Rattle.rr_schema.specs.Schema.{Layout, IsLayout, archive_at, place_of, is_known_enough}
 use Rattle.rr_join.specs.Maps.{greatest, greater}
 use Rattle.rr_join.proofs.Booleans.{and_first}
 use Rattle.rr_join.proofs.Greater.{greater_assoc, greater_comm, flip_args-IsAntisymmetric}

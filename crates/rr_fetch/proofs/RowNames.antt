@@ -5,7 +5,7 @@ use Rattle.std.specs.Option.{unwrap_or}
 use Rattle.std.specs.Ordering.{eq_by_cmp, int_eq}
 use Rattle.std.specs.FinMap.{get, keys}
 use Rattle.std.proofs.lemmas.Bool.{and_from}
-use Rattle.rr_base.specs.Schema.{Layout}
+use Rattle.rr_schema.specs.Schema.{Layout}
 use Rattle.rr_join.proofs.Booleans.{same_test, and_first, and_second}
 use Rattle.rr_join.proofs.Distinct.{IsDistinct, keys_distinct, filter_distinct}
 use Rattle.rr_join.proofs.Distinct.IsDistinct.{none, more}

@@ -6,7 +6,7 @@ use Rattle.std.specs.Ordering.{ordering_then}
 use Rattle.std.specs.Cmp.{nat_cmp_total, tied_itself}
 use Rattle.std.specs.Cmp.Lexicographic.{slice_cmp, nat_list_cmp_total}
 use Rattle.std.specs.FinMap.{int_cmp-IsAntisymmetric}
-use Rattle.rr_base.specs.Schema.{Layout, place_of}
+use Rattle.rr_schema.specs.Schema.{Layout, place_of}
 use Rattle.rr_join.specs.Maps.{greatest}
 use Rattle.rr_join.specs.Sums.{int_sum}
 use Rattle.rr_join.proofs.Greater.{greatest_some}

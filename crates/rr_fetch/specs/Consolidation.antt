@@ -4,10 +4,10 @@ use Rattle.std.specs.List.{sum}
 use Rattle.std.specs.Option.{option_map}
 use Rattle.std.specs.declared.cmp.Ordering.{Ordering}
 use Rattle.std.specs.Ordering.{ordering_then, nat_cmp, int_cmp, flip_args}
-use Rattle.rr_base.specs.declared.consolidation.ConsolidationFunction.{ConsolidationFunction}
-use Rattle.rr_base.specs.declared.consolidation.ConsolidationFunction.TheVariants.{Average, Min, Max, Last}
+use Rattle.rr_schema.specs.declared.consolidation.ConsolidationFunction.{ConsolidationFunction}
+use Rattle.rr_schema.specs.declared.consolidation.ConsolidationFunction.TheVariants.{Average, Min, Max, Last}
 use Rattle.rr_text.specs.declared.limits.TheConstants.{MAX_NUMBER}
-use Rattle.rr_base.specs.Schema.{Layout, is_known_enough}
+use Rattle.rr_schema.specs.Schema.{Layout, is_known_enough}
 use Rattle.rr_join.specs.Maps.{greatest}
 use Rattle.rr_contrib.specs.declared.contribution.Contribution.{Contribution}
 use Rattle.rr_archive.specs.declared.entry.Entry.{Entry}

@@ -9,8 +9,8 @@ ghost use Rattle.rr_fetch.specs.Consolidation.{consolidation_of, count_of, last_
 
 use crate::sum::sum_of;
 use rr_archive::Entry;
-use rr_base::{ConsolidationFunction, Schema};
 use rr_contrib::Mask;
+use rr_schema::{ConsolidationFunction, Schema};
 
 /// What a function makes of the entries of a row, or `None` where the row is unknown: where
 /// more than the fraction xff of its steps has no sample of any origin.

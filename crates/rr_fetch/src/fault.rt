@@ -2,7 +2,7 @@
 
 ghost use Rattle.std.specs.Prelude.{◌≡◌};
 
-use rr_base::stream::WriteFailed;
+use rr_io::stream::WriteFailed;
 use std::alloc::{AllocError, AllocFailed};
 use thiserror::Error;
 

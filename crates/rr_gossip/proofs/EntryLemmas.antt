@@ -5,7 +5,7 @@ use Rattle.std.specs.Int.{w16, w64, to_be_bytes}
 use Rattle.std.proofs.lemmas.Bool.{ltb-false, le-ltb, ne_eqb}
 use Rattle.rr_text.specs.declared.limits.TheConstants.{MAX_NUMBER}
 use Rattle.rr_text.specs.Results.{unless}
-use Rattle.rr_base.specs.Schema.{Layout, IsLayout}
+use Rattle.rr_schema.specs.Schema.{Layout, IsLayout}
 use Rattle.rr_page.specs.declared.fault.PageFault.TheVariants.{BadContribution}
 use Rattle.rr_page.specs.CellText.{signed_bytes, name_text}
 use Rattle.rr_page.specs.Laws.{AreBytes}

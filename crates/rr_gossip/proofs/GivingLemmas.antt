@@ -7,8 +7,8 @@ use Rattle.std.specs.List.{concat}
 use Rattle.std.proofs.lemmas.Bool.{leb-false, leb-true, lt-leb}
 use Rattle.std.proofs.lemmas.List.{append-nil, length-append, length-drop}
 use Rattle.rr_text.specs.Results.{◌>>=◌, unless}
-use Rattle.rr_base.specs.Schema.{Layout}
-use Rattle.rr_base.specs.Stream.{AppendsPrefix}
+use Rattle.rr_schema.specs.Schema.{Layout}
+use Rattle.rr_io.specs.Stream.{AppendsPrefix}
 use Rattle.rr_text.specs.declared.limits.TheConstants.{MAX_PAGE_CELLS}
 use Rattle.rr_delta.specs.Difference.{newer_cells}
 use Rattle.rr_delta.specs.Names.{NamedVersion}

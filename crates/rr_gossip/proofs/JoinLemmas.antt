@@ -8,7 +8,7 @@ use Rattle.rr_gossip.specs.declared.fault.GossipFault.TheVariants.{Memory}
 use Rattle.rr_gossip.specs.declared.puller.Stage.TheVariants.{Waiting}
 use Rattle.rr_gossip.specs.Fault.{as_body}
 use Rattle.rr_gossip.specs.Puller.{IsFrontJoined, Takes, page_taken}
-use Rattle.rr_base.specs.Schema.{Layout}
+use Rattle.rr_schema.specs.Schema.{Layout}
 use Rattle.rr_cells.specs.CellBounds.{NamedCell}
 use Rattle.rr_cells.specs.Cells.{Cells}
 use Rattle.rr_cells.specs.Joins.{join_cell, join_cells}

@@ -5,9 +5,9 @@ use Rattle.std.specs.List.{flat_map, AllByRecursion}
 use Rattle.std.proofs.lemmas.List.{length-append, length-take}
 use Rattle.std.proofs.lemmas.List.Concat.{flat_map-cons}
 use Rattle.std.proofs.lemmas.List.Elements.{recursion_from_All}
-use Rattle.rr_base.specs.Schema.{Layout, IsLayout}
-use Rattle.rr_base.specs.SchemaBytes.{schema_bytes}
-use Rattle.rr_base.proofs.SchemaBytesLemmas.{schema_len}
+use Rattle.rr_schema.specs.Schema.{Layout, IsLayout}
+use Rattle.rr_schema.specs.SchemaBytes.{schema_bytes}
+use Rattle.rr_schema.proofs.SchemaBytesLemmas.{schema_len}
 use Rattle.rr_page.specs.CellText.{cell_text, name_text}
 use Rattle.rr_page.specs.Page.{IsPage, magic, head_text, page_text}
 use Rattle.rr_page.specs.Version.{latest, version_byte}

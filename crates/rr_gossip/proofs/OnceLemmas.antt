@@ -7,8 +7,8 @@ use Rattle.std.proofs.lemmas.Bool.{ltb-false, ltb-true}
 use Rattle.std.proofs.lemmas.List.{append-nil, length-append, length-drop, length-take, take-append-drop}
 use Rattle.std.proofs.lemmas.List.Elements.{All-drop, All-take, recursion_from_All}
 use Rattle.std.proofs.lemmas.Nat.{from_be_bytes-to_be_bytes_4}
-use Rattle.rr_base.specs.Schema.{Layout, IsLayout}
-use Rattle.rr_base.specs.SchemaBytes.{schema_bytes}
+use Rattle.rr_schema.specs.Schema.{Layout, IsLayout}
+use Rattle.rr_schema.specs.SchemaBytes.{schema_bytes}
 use Rattle.rr_text.specs.declared.limits.TheConstants.{MAX_PAGE_CELLS}
 use Rattle.rr_delta.specs.Names.{NamedVersion, IsNameOf}
 use Rattle.rr_page.specs.Page.{page_text}

@@ -6,7 +6,7 @@ use Rattle.rr_replica.proofs.Each.{length-map}
 use Rattle.std.proofs.lemmas.List.Elements.{All-drop, All-take, All-from_recursion, recursion_from_All}
 use Rattle.std.specs.FinMap.{is_sorted}
 use Rattle.rr_text.specs.declared.limits.TheConstants.{MAX_PAGE_CELLS}
-use Rattle.rr_base.specs.Schema.{Layout}
+use Rattle.rr_schema.specs.Schema.{Layout}
 use Rattle.rr_join.proofs.Booleans.{T_from_true, true_from_T}
 use Rattle.rr_model.specs.CellNames.{cell_name_cmp}
 use Rattle.rr_page.specs.Page.{IsPage, page_text}

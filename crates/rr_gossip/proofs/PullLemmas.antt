@@ -6,7 +6,7 @@ use Rattle.std.specs.List.{concat, AllByRecursion}
 use Rattle.std.proofs.lemmas.List.{append-nil, map-append}
 use Rattle.std.proofs.lemmas.List.Elements.{All-from_recursion, recursion_from_All}
 use Rattle.rr_text.specs.Results.{◌>>=◌, unless}
-use Rattle.rr_base.specs.Schema.{Layout}
+use Rattle.rr_schema.specs.Schema.{Layout}
 use Rattle.rr_delta.specs.Difference.{IsSummary, newer_cells}
 use Rattle.rr_delta.specs.Names.{IsNameOf, NamedVersion, versions_of}
 use Rattle.rr_delta.proofs.DifferenceLemmas.{newer_held, newer_sorted}

@@ -8,9 +8,9 @@ use Rattle.std.proofs.lemmas.Bool.{leb-false, leb-true}
 use Rattle.std.proofs.lemmas.List.{append-nil, length-append, length-drop}
 use Rattle.std.proofs.lemmas.List.Folds.{concat-append}
 use Rattle.rr_text.specs.Results.{◌>>=◌, unless}
-use Rattle.rr_base.specs.Schema.{Layout}
-use Rattle.rr_base.specs.Stream.{AppendsPrefix}
-use Rattle.rr_base.proofs.StreamLemmas.{prefix_after, prefix_before}
+use Rattle.rr_schema.specs.Schema.{Layout}
+use Rattle.rr_io.specs.Stream.{AppendsPrefix}
+use Rattle.rr_io.proofs.StreamLemmas.{prefix_after, prefix_before}
 use Rattle.rr_delta.specs.declared.name.Name.{Name}
 use Rattle.rr_delta.specs.Names.{NamedVersion, named_version, versions_of}
 use Rattle.rr_delta.specs.Summaries.{cells_after}

@@ -1,7 +1,7 @@
 -- Codes of names with versions, and of cells, which show that lists of them are sets.
 use Rattle.std.specs.Prelude.{List}
 use Rattle.std.specs.Coded.{Coded, coded×, coded_ℕ, coded_list}
-use Rattle.rr_base.specs.Schema.{Layout}
+use Rattle.rr_schema.specs.Schema.{Layout}
 use Rattle.rr_archive.specs.Codes.{coded_contribution}
 use Rattle.rr_delta.specs.Names.{NamedVersion}
 use Rattle.rr_cells.specs.CellBounds.{NamedCell}

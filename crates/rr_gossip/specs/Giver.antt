@@ -3,8 +3,8 @@ use Rattle.std.specs.Prelude.{ℕ, ◌+◌, nat_le, nat_eq, ◌==◌, Bool, true
 use Rattle.std.specs.Cmp.Lexicographic.{pointwise}
 use Rattle.std.specs.FinMap.{entries}
 use Rattle.rr_text.specs.Results.{◌>>=◌, unless}
-use Rattle.rr_base.specs.Schema.{Layout}
-use Rattle.rr_base.specs.SchemaBytes.{schema_bytes}
+use Rattle.rr_schema.specs.Schema.{Layout}
+use Rattle.rr_schema.specs.SchemaBytes.{schema_bytes}
 use Rattle.rr_delta.specs.Difference.{newer_cells}
 use Rattle.rr_delta.specs.Names.{NamedVersion}
 use Rattle.rr_cells.specs.Cells.{Cells}

@@ -1,6 +1,6 @@
 -- The laws of the bytes of frames.
 use Rattle.std.specs.Prelude.{◌≡◌, ◌↔◌, ◌≤◌, List, ℕ, ◌++◌, length, Ok}
-use Rattle.rr_base.specs.Schema.{Layout, IsLayout}
+use Rattle.rr_schema.specs.Schema.{Layout, IsLayout}
 use Rattle.rr_page.specs.Laws.{AreBytes}
 use Rattle.rr_delta.specs.Names.{NamedVersion}
 use Rattle.rr_gossip.specs.Frame.{content_text, content_at}

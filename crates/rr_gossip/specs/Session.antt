@@ -3,8 +3,8 @@ use Rattle.std.specs.Prelude.{◌≡◌, ◌⊎◌, ℕ, ◌<◌, Bool, true, fa
 use Rattle.std.specs.FinMap.{entries}
 use Rattle.std.specs.Io.KnownBytes.{Appends}
 use Rattle.std.specs.List.{concat}
-use Rattle.rr_base.specs.Schema.{Layout, IsLayout}
-use Rattle.rr_base.specs.Stream.{AppendsPrefix}
+use Rattle.rr_schema.specs.Schema.{Layout, IsLayout}
+use Rattle.rr_io.specs.Stream.{AppendsPrefix}
 use Rattle.rr_delta.specs.Difference.{IsSummary, newer_cells}
 use Rattle.rr_delta.specs.Laws.{AgreeAtVersions}
 use Rattle.rr_delta.specs.Names.{NamedVersion, IsNameOf, versions_of}

@@ -3,7 +3,7 @@ use Rattle.std.specs.Prelude.{ℕ, zero, suc, nat_lt, ◌||◌, not, ◌==◌, L
 use Rattle.std.specs.Int.{w16, w64}
 use Rattle.rr_text.specs.declared.limits.TheConstants.{MAX_NUMBER}
 use Rattle.rr_text.specs.Results.{◌>>=◌, unless}
-use Rattle.rr_base.specs.Schema.{Layout}
+use Rattle.rr_schema.specs.Schema.{Layout}
 use Rattle.rr_page.specs.declared.fault.PageFault.{PageFault}
 use Rattle.rr_page.specs.declared.fault.PageFault.TheVariants.{BadContribution, OutOfOrder, TooManyCells, TrailingBytes}
 use Rattle.rr_page.specs.PageReading.{is_after}

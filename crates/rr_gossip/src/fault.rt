@@ -1,7 +1,7 @@
 //! Why a session ends early.
 ghost use Rattle.std.specs.Prelude.{◌≡◌};
 
-use rr_base::stream::{ReadFailed, WriteFailed};
+use rr_io::stream::{ReadFailed, WriteFailed};
 use rr_page::PageFault;
 use std::alloc::{AllocError, AllocFailed};
 use std::fmt;

@@ -9,8 +9,8 @@ use crate::fault::GossipFault;
 use crate::frame::{Kind, MAX_FRAMES, content_of, frame_bytes};
 use crate::names::Names;
 use crate::pages::Pages;
-use rr_base::Schema;
 use rr_delta::Source;
+use rr_schema::Schema;
 use std::alloc::Global;
 
 /// Where a session is.

@@ -2,8 +2,8 @@
 ghost use Rattle.std.specs.Prelude.{◌≡◌, ◌≤◌, [], ◌∷◌, Err, IfErr, IsTrue, OnOk, length};
 ghost use Rattle.std.specs.Io.KnownBytes.{Appends, IsAtEnd};
 ghost use Rattle.std.specs.List.{concat};
-ghost use Rattle.rr_base.specs.Counted.{inner_of, failures_of, HasRisen};
-ghost use Rattle.rr_base.specs.Stream.{AppendsPrefix};
+ghost use Rattle.rr_io.specs.Counted.{inner_of, failures_of, HasRisen};
+ghost use Rattle.rr_io.specs.Stream.{AppendsPrefix};
 ghost use Rattle.rr_gossip.specs.declared.frame.TheConstants.{MAX_FRAMES};
 ghost use Rattle.rr_gossip.specs.Session.{CannotSend, HasFailedToGive, HasGiven, HasHeard, HasStoppedHearing, is_giving, reply_left};
 
@@ -11,9 +11,9 @@ use crate::fault::GossipFault;
 use crate::frame::MAX_FRAMES;
 use crate::giver::Giver;
 use crate::stream::{content, read_frame};
-use rr_base::Counted;
-use rr_base::stream::{flush, write_all};
 use rr_delta::Source;
+use rr_io::Counted;
+use rr_io::stream::{flush, write_all};
 use std::alloc::Global;
 use std::io::{Read, Write};
 

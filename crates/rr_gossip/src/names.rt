@@ -6,9 +6,9 @@ ghost use Rattle.rr_delta.specs.Names.{owned_name};
 ghost use Rattle.rr_gossip.specs.SummaryReading.{summary_at};
 
 use crate::summary::read_summary;
-use rr_base::Schema;
 use rr_delta::Name;
 use rr_page::PageFault;
+use rr_schema::Schema;
 use std::alloc::Global;
 use std::marker::Model;
 

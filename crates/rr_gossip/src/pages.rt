@@ -8,10 +8,10 @@ ghost use Rattle.rr_cells.specs.Listing.{owned_cell};
 ghost use Rattle.rr_gossip.specs.declared.frame.TheConstants.{MAX_FRAME_LEN};
 ghost use Rattle.rr_gossip.specs.Pages.{next_page, after_page};
 
-use rr_base::Schema;
 use rr_cells::Cell;
 use rr_delta::part;
 use rr_page::encode;
+use rr_schema::Schema;
 use rr_text::limits::MAX_PAGE_CELLS;
 use std::alloc::{AllocError, Global};
 use std::marker::Model;

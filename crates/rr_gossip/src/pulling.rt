@@ -2,8 +2,8 @@
 ghost use Rattle.std.specs.Prelude.{◌≡◌, ◌≤◌, Err, IfErr, OnOk, length};
 ghost use Rattle.std.specs.Io.KnownBytes.{Appends, IsAtEnd};
 ghost use Rattle.std.specs.List.{concat};
-ghost use Rattle.rr_base.specs.Counted.{inner_of, failures_of, HasRisen};
-ghost use Rattle.rr_base.specs.Stream.{AppendsPrefix};
+ghost use Rattle.rr_io.specs.Counted.{inner_of, failures_of, HasRisen};
+ghost use Rattle.rr_io.specs.Stream.{AppendsPrefix};
 ghost use Rattle.rr_gossip.specs.declared.frame.TheConstants.{MAX_FRAMES};
 ghost use Rattle.rr_gossip.specs.Puller.{first_puller};
 ghost use Rattle.rr_gossip.specs.Session.{CannotSend, HasFailedToPull, HasPulled, HasStoppedPulling, sent_by};
@@ -13,9 +13,9 @@ use crate::fault::GossipFault;
 use crate::frame::MAX_FRAMES;
 use crate::puller::Puller;
 use crate::stream::{content, read_frame};
-use rr_base::Counted;
-use rr_base::stream::{flush, write_all};
 use rr_delta::Target;
+use rr_io::Counted;
+use rr_io::stream::{flush, write_all};
 use std::alloc::Global;
 use std::io::{Read, Write};
 

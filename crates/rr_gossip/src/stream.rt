@@ -2,14 +2,14 @@
 ghost use Rattle.std.specs.Prelude.{◌≡◌, ◌≤◌, Ok, Err, IfErr, OnOk, List, ℕ, [], drop, length};
 ghost use Rattle.std.specs.Int.{w32};
 ghost use Rattle.std.specs.Io.KnownBytes.{IsAtEnd};
-ghost use Rattle.rr_base.specs.Counted.{inner_of, failures_of, HasRisen};
+ghost use Rattle.rr_io.specs.Counted.{inner_of, failures_of, HasRisen};
 ghost use Rattle.rr_page.specs.Reading.{number_at};
 ghost use Rattle.rr_gossip.specs.Stream.{BreaksOff, Grows, IsFrame, ReadsFewer};
 
 use crate::fault::GossipFault;
 use crate::frame::MAX_FRAME_LEN;
-use rr_base::Counted;
-use rr_base::stream::read_some;
+use rr_io::Counted;
+use rr_io::stream::read_some;
 use rr_page::fields::u32_at;
 use std::io::Read;
 

@@ -6,10 +6,10 @@ ghost use Rattle.rr_page.specs.PageReading.{is_after};
 ghost use Rattle.rr_gossip.specs.Summary.{entry_text, summary_text, last_name};
 ghost use Rattle.rr_gossip.specs.SummaryReading.{entry_at, entries_at, summary_at};
 
-use rr_base::{Origin, Schema};
 use rr_delta::Name;
 use rr_page::fields::{i64_at, u16_at, u64_at};
 use rr_page::{PageFault, archive_of, key_of, push_name};
+use rr_schema::{Origin, Schema};
 use rr_text::limits::MAX_NUMBER;
 use std::alloc::{AllocError, Global};
 

@@ -1,6 +1,6 @@
 -- The calls of prepared connections.
 use Rattle.std.specs.Prelude.{List, [], map, Option, None, Some, if◌then◌else◌}
-use Rattle.rr_base.specs.Counted.{inner_of}
+use Rattle.rr_io.specs.Counted.{inner_of}
 use Rattle.rr_host.specs.declared.prepared.Entry.{Entry}
 use Rattle.rr_host.specs.declared.prepared.Entry.TheVariants as entry
 use Rattle.rr_host.specs.declared.prepared.Prepared.{Prepared}

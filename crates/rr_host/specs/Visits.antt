@@ -1,6 +1,6 @@
 -- The calls of visits.
 use Rattle.std.specs.Prelude.{◌≡◌, ℕ, List, ◌++◌, Option, None, Some}
-use Rattle.rr_base.specs.Counted.{inner_of}
+use Rattle.rr_io.specs.Counted.{inner_of}
 use Rattle.rr_host.specs.declared.visits.Visit.{Visit}
 use Rattle.rr_host.specs.declared.visits.Visit.TheVariants as visit
 

@@ -2,7 +2,7 @@
 
 use crate::dial::Dial;
 use crate::listening::{Half, halves, limit_idle};
-use rr_base::Counted;
+use rr_io::Counted;
 use std::alloc::Global;
 use std::net::{Net, TcpStream, ToSocketAddrs};
 use std::time::Duration;

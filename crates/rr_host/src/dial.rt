@@ -2,7 +2,7 @@
 
 ghost use Rattle.std.specs.Prelude.{◌≡◌, IfSome, None};
 
-use rr_base::Counted;
+use rr_io::Counted;
 use std::io::{Read, Write};
 
 /// Whoever reaches peers by their addresses.
@@ -10,7 +10,7 @@ use std::io::{Read, Write};
 /// It is seen as the list of its calls, where that is known.
 pub trait Dial {
     ghost use Rattle.std.specs.Prelude.{List, [], ◌∷◌, Option};
-    ghost use Rattle.rr_base.specs.Counted.{inner_of};
+    ghost use Rattle.rr_io.specs.Counted.{inner_of};
     ghost use Rattle.rr_host.specs.Calls.{DialCall, Grows, handed_back, reached, stream, unreached};
 
     /// What peers send.

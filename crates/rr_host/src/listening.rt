@@ -1,7 +1,7 @@
 //! Connections over TCP.
 
 use crate::visits::{Visit, Visits};
-use rr_base::Counted;
+use rr_io::Counted;
 use std::alloc::Global;
 use std::io;
 use std::io::{Read, Write};

@@ -5,7 +5,7 @@ ghost use Rattle.rr_host.specs.Prepared.{calls_of, noted_call};
 ghost use Rattle.rr_host.specs.Visits.{HasCalled};
 
 use crate::visits::{Visit, Visits};
-use rr_base::Counted;
+use rr_io::Counted;
 use std::alloc::{AllocError, Global};
 
 /// What a call of prepared connections was.
@@ -71,7 +71,7 @@ impl<'a> Prepared<'a> {
 
 impl<'a> Visits for Prepared<'a> {
     ghost use Rattle.std.specs.Prelude.{[], ◌∷◌, Some};
-    ghost use Rattle.rr_base.specs.Counted.{inner_of};
+    ghost use Rattle.rr_io.specs.Counted.{inner_of};
     ghost use Rattle.rr_host.specs.Prepared.{calls_of};
     ghost use Rattle.rr_host.specs.Visits.{HasCalled, TookBack};
 

@@ -1,6 +1,6 @@
 //! Where the connections of a listener come from.
 
-use rr_base::Counted;
+use rr_io::Counted;
 use std::io::{Read, Write};
 
 /// What comes of waiting for a connection.
@@ -18,7 +18,7 @@ pub enum Visit<R, W> {
 /// It is seen as the list of its calls, where that is known.
 pub trait Visits {
     ghost use Rattle.std.specs.Prelude.{[], ◌∷◌, List, Option};
-    ghost use Rattle.rr_base.specs.Counted.{inner_of};
+    ghost use Rattle.rr_io.specs.Counted.{inner_of};
     ghost use Rattle.rr_host.specs.Visits.{Call, HasCalled, TookBack, call_of};
 
     /// What a connection's bytes come from.

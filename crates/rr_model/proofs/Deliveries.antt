@@ -4,7 +4,7 @@ use Rattle.std.specs.List.{list_any}
 use Rattle.std.specs.Ordering.{eq_by_cmp}
 use Rattle.std.specs.FinMap.{keys}
 use Rattle.std.proofs.lemmas.Bool.{and_from, or_left, or_right, false_from_ne_true}
-use Rattle.rr_base.specs.Schema.{Layout, IsLayout}
+use Rattle.rr_schema.specs.Schema.{Layout, IsLayout}
 use Rattle.rr_join.proofs.Booleans.{same_test, and_first, and_second, either_case}
 use Rattle.rr_join.proofs.Members.{is_in, same_from_tie, tie_itself, found_of, any_from, is_in-filter}
 use Rattle.rr_join.proofs.Lookups.{is_in-set_of}

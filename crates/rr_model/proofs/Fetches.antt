@@ -2,8 +2,8 @@
 use Rattle.std.proofs.Common.{ℤ, List, Option, None, if◌then◌else◌}
 use Rattle.std.specs.List.{filter}
 use Rattle.std.specs.FinMap.{keys}
-use Rattle.rr_base.specs.declared.consolidation.ConsolidationFunction.{ConsolidationFunction}
-use Rattle.rr_base.specs.Schema.{is_known_enough}
+use Rattle.rr_schema.specs.declared.consolidation.ConsolidationFunction.{ConsolidationFunction}
+use Rattle.rr_schema.specs.Schema.{is_known_enough}
 use Rattle.rr_model.specs.Samples.{Mark, name_of}
 use Rattle.rr_model.specs.Knowledge.{live}
 use Rattle.rr_model.specs.Rows.{of_marks, is_at, marks_of_row, known_places, row}

@@ -9,8 +9,8 @@ use Rattle.std.proofs.Math.Bool.{and-true}
 use Rattle.std.proofs.lemmas.List.{get_or_past}
 use Rattle.std.proofs.lemmas.Bool.{eqb-true, cases_lt, and_from, and_right, not-true}
 use Rattle.std.proofs.lemmas.Int.{ints}
-use Rattle.rr_base.specs.declared.archive.ArchiveSpec.{ArchiveSpec}
-use Rattle.rr_base.specs.Schema.{Layout, IsArchive, IsLayout, archive_at}
+use Rattle.rr_schema.specs.declared.archive.ArchiveSpec.{ArchiveSpec}
+use Rattle.rr_schema.specs.Schema.{Layout, IsArchive, IsLayout, archive_at}
 use Rattle.rr_join.specs.Maps.{greatest, greater, IsHorizon}
 use Rattle.rr_join.proofs.Booleans.{and_first, and_second}
 use Rattle.rr_join.proofs.Members.{Equal_from_is_eq}

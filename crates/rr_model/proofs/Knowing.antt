@@ -5,7 +5,7 @@ use Rattle.std.specs.Ordering.{eq_by_cmp}
 use Rattle.std.specs.FinMap.{get, keys, empty, retain_keys, get-empty, get-retain_keys, same_map}
 use Rattle.std.proofs.Math.Bool.{or_comm, or_assoc, or_self, or-false}
 use Rattle.std.proofs.lemmas.List.Folds.{list_any-append}
-use Rattle.rr_base.specs.Schema.{Layout, IsLayout}
+use Rattle.rr_schema.specs.Schema.{Layout, IsLayout}
 use Rattle.rr_join.specs.Maps.{set_of}
 use Rattle.rr_join.proofs.Members.{is_in, same_from_tie, head_in, is_in-append, any_by_members}
 use Rattle.rr_join.proofs.Lookups.{get-map_of, is_in-keys, marked, is_some-marked, marked-is_some}

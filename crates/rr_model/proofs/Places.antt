@@ -2,8 +2,8 @@
 use Rattle.std.proofs.Common.{◌*◌, ◌<◌, ◌≤◌, ℕ, ℤ, pos, negsuc, subst, arith}
 use Rattle.std.specs.Prelude.{unsigned_abs}
 use Rattle.std.specs.Int.{int_div_euclid, int_rem_euclid}
-use Rattle.rr_base.specs.Schema.{Layout, IsLayout, archive_at, place_of}
-use Rattle.rr_base.proofs.PlaceLemmas.{rem_is_place}
+use Rattle.rr_schema.specs.Schema.{Layout, IsLayout, archive_at, place_of}
+use Rattle.rr_schema.proofs.PlaceLemmas.{rem_is_place}
 use Rattle.rr_model.proofs.Horizon.{archive_is}
 
 rem_below : (z : ℤ) (n : ℕ) → 1 ≤ n → unsigned_abs (int_rem_euclid z (pos n)) < n

@@ -5,7 +5,7 @@ use Rattle.std.specs.Ordering.{eq_by_cmp}
 use Rattle.std.specs.Option.{unwrap_or}
 use Rattle.std.specs.FinMap.{get, get-insert, empty}
 use Rattle.std.proofs.lemmas.Bool.{cases_lt, and_from, or_left, or_right}
-use Rattle.rr_base.specs.Schema.{Layout}
+use Rattle.rr_schema.specs.Schema.{Layout}
 use Rattle.rr_join.specs.Maps.{set_of}
 use Rattle.rr_join.proofs.Booleans.{and_first, and_second, either_case}
 use Rattle.rr_join.proofs.Members.{is_in, same_from_tie, tie_itself}

@@ -4,7 +4,7 @@ use Rattle.std.specs.declared.cmp.Ordering.{Ordering}
 use Rattle.std.specs.Ordering.{ordering_then, nat_cmp, int_cmp}
 use Rattle.std.specs.Cmp.Lexicographic.{slice_cmp, pointwise}
 use Rattle.std.specs.List.{filter}
-use Rattle.rr_base.specs.Schema.{Layout, archive_at}
+use Rattle.rr_schema.specs.Schema.{Layout, archive_at}
 use Rattle.rr_join.specs.Maps.{greatest}
 use Rattle.rr_join.specs.Horizon.{is_above}
 

@@ -2,8 +2,8 @@
 use Rattle.std.specs.Prelude.{ℕ, ℤ, pos, ◌+ℤ◌, ◌*ℤ◌, Bool, ◌||◌, ◌==◌, List, [], ◌∷◌, ◌++◌, map, codes, Option, Some, None, if◌then◌else◌}
 use Rattle.std.specs.List.{list_any, flat_map, range_with_len}
 use Rattle.std.specs.Fmt.{signed_decimal}
-use Rattle.rr_base.specs.declared.consolidation.ConsolidationFunction.{ConsolidationFunction}
-use Rattle.rr_base.specs.Schema.{Layout, span}
+use Rattle.rr_schema.specs.declared.consolidation.ConsolidationFunction.{ConsolidationFunction}
+use Rattle.rr_schema.specs.Schema.{Layout, span}
 use Rattle.rr_model.specs.Knowledge.{Knowledge}
 use Rattle.rr_model.specs.Rows.{row}
 

@@ -3,7 +3,7 @@ use Rattle.std.specs.Prelude.{◌≡◌, ℕ, ◌<◌, Bool, not, IsTrue, List, 
 use Rattle.std.specs.Ordering.{eq_by_cmp}
 use Rattle.std.specs.List.{filter, list_any}
 use Rattle.std.specs.FinMap.{FinMap, keys, retain_keys, contains_key}
-use Rattle.rr_base.specs.Schema.{Layout}
+use Rattle.rr_schema.specs.Schema.{Layout}
 use Rattle.rr_join.specs.Maps.{set_of}
 use Rattle.rr_model.specs.CellNames.{CellName, cell_name_cmp, is_live}
 use Rattle.rr_model.specs.Samples.{Sample, Mark, mark_cmp, name_of, names_of}

@@ -1,8 +1,8 @@
 -- The laws, each the contract of a function of `src/laws.rt`.
 use Rattle.std.specs.Prelude.{◌≡◌, ◌≢◌, ℕ, ℤ, List, Bool}
 use Rattle.std.specs.FinMap.{empty}
-use Rattle.rr_base.specs.declared.consolidation.ConsolidationFunction.{ConsolidationFunction}
-use Rattle.rr_base.specs.Schema.{Layout, IsLayout}
+use Rattle.rr_schema.specs.declared.consolidation.ConsolidationFunction.{ConsolidationFunction}
+use Rattle.rr_schema.specs.Schema.{Layout, IsLayout}
 use Rattle.rr_model.specs.CellNames.{CellName}
 use Rattle.rr_model.specs.Samples.{Sample, marks_of}
 use Rattle.rr_model.specs.Knowledge.{Knowledge, union, with_marks, live, names, cells_where, cells_named, difference}

@@ -5,9 +5,9 @@ use Rattle.std.specs.Option.{option_map}
 use Rattle.std.specs.Int.{int_div_euclid}
 use Rattle.std.specs.Ordering.{int_cmp, int_eq, flip_args}
 use Rattle.std.specs.FinMap.{keys}
-use Rattle.rr_base.specs.declared.consolidation.ConsolidationFunction.{ConsolidationFunction}
-use Rattle.rr_base.specs.declared.consolidation.ConsolidationFunction.TheVariants.{Average, Min, Max, Last}
-use Rattle.rr_base.specs.Schema.{Layout, archive_at, place_of, is_known_enough}
+use Rattle.rr_schema.specs.declared.consolidation.ConsolidationFunction.{ConsolidationFunction}
+use Rattle.rr_schema.specs.declared.consolidation.ConsolidationFunction.TheVariants.{Average, Min, Max, Last}
+use Rattle.rr_schema.specs.Schema.{Layout, archive_at, place_of, is_known_enough}
 use Rattle.rr_join.specs.Maps.{greatest}
 use Rattle.rr_join.specs.Sums.{int_sum}
 use Rattle.rr_model.specs.CellNames.{CellName, is_of}

@@ -4,7 +4,7 @@ use Rattle.std.specs.declared.cmp.Ordering.{Ordering}
 use Rattle.std.specs.Ordering.{ordering_then, nat_cmp, int_cmp}
 use Rattle.std.specs.Cmp.Lexicographic.{slice_cmp}
 use Rattle.std.specs.List.{range_with_len}
-use Rattle.rr_base.specs.Schema.{Layout, slot_of}
+use Rattle.rr_schema.specs.Schema.{Layout, slot_of}
 use Rattle.rr_model.specs.CellNames.{CellName}
 
 -- a value that an origin wrote under a number, for a key (its text) and a time in nanoseconds

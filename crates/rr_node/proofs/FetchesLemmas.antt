@@ -4,8 +4,8 @@ use Rattle.std.specs.Prelude.{OnErr, OnOk}
 use Rattle.std.proofs.lemmas.List.{append-nil}
 use Rattle.std.proofs.KnownBytes.{Appends-nil, Appends-trans, Appends-kept}
 use Rattle.std.specs.Io.KnownBytes.{Appends, Keeps}
-use Rattle.rr_base.specs.Stream.{AppendsPrefix}
-use Rattle.rr_base.proofs.StreamLemmas.{prefix_after}
+use Rattle.rr_io.specs.Stream.{AppendsPrefix}
+use Rattle.rr_io.proofs.StreamLemmas.{prefix_after}
 use Rattle.rr_feed.specs.Feed.{FeedState, HandsOut}
 use Rattle.rr_feed.specs.Items.{Item}
 use Rattle.rr_feed.specs.Laws.{IsFed}

@@ -4,7 +4,7 @@ use Rattle.std.specs.Prelude.{IfSome}
 use Rattle.std.specs.Io.KnownBytes.{Appends, Consumes, IsAtEnd, Keeps}
 use Rattle.std.proofs.KnownBytes.{Appends-nil, Appends-trans, Consumes-nil, Consumes-trans, Consumes-whole}
 use Rattle.std.proofs.lemmas.List.{append-nil}
-use Rattle.rr_base.proofs.StreamLemmas.{prefix_after}
+use Rattle.rr_io.proofs.StreamLemmas.{prefix_after}
 use Rattle.rr_feed.specs.Feed.{FeedState, empty_feed, items_left, state, with_more}
 use Rattle.rr_feed.specs.Items.{Item, items}
 use Rattle.rr_feed.specs.Laws.{IsFed}

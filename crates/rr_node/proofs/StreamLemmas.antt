@@ -4,8 +4,8 @@ use Rattle.std.proofs.lemmas.List.{append-nil}
 use Rattle.std.specs.Prelude.{count_by}
 use Rattle.std.specs.Io.KnownBytes.{Appends}
 use Rattle.std.proofs.KnownBytes.{Appends-trans}
-use Rattle.rr_base.specs.Stream.{AppendsPrefix}
-use Rattle.rr_base.proofs.StreamLemmas.{prefix_after, prefix_before}
+use Rattle.rr_io.specs.Stream.{AppendsPrefix}
+use Rattle.rr_io.proofs.StreamLemmas.{prefix_after, prefix_before}
 use Rattle.rr_feed.specs.Feed.{FeedState, items_left}
 use Rattle.rr_feed.specs.Items.{items}
 use Rattle.rr_feed.proofs.FedLemmas.{IsFed-all}

@@ -1,7 +1,7 @@
 -- How far the items of a feed are answered.
 use Rattle.std.specs.Prelude.{◌≡◌, ℕ, List, ◌++◌, Option, None, Some, Result, Ok, Err}
 use Rattle.std.specs.Io.KnownBytes.{Appends}
-use Rattle.rr_base.specs.Stream.{AppendsPrefix}
+use Rattle.rr_io.specs.Stream.{AppendsPrefix}
 use Rattle.rr_feed.specs.Feed.{FeedState}
 use Rattle.rr_feed.specs.Items.{Item}
 use Rattle.rr_feed.specs.Laws.{IsFed}

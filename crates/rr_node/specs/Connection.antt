@@ -6,7 +6,7 @@ use mathlib.Core.List.{IsPrefix}
 use Rattle.rr_feed.specs.Feed.{FeedState, state, MayCome}
 use Rattle.rr_feed.specs.Items.{Item, items}
 use Rattle.rr_feed.specs.Laws.{IsFed}
-use Rattle.rr_base.specs.Stream.{AppendsPrefix}
+use Rattle.rr_io.specs.Stream.{AppendsPrefix}
 use Rattle.rr_text.specs.declared.limits.TheConstants.{MAX_FIELDS}
 use Rattle.rr_records.specs.Records.{refusal_text}
 use Rattle.rr_copies.specs.Standing.{KeeperState, holding_of, with_all_published}

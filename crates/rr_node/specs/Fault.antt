@@ -1,7 +1,7 @@
 -- The faults of connections, and their printed names.
 use Rattle.std.specs.Prelude.{◌≡◌, ◌⊎◌, ℕ, Bool, true, false, List, codes}
-use Rattle.rr_base.specs.declared.stream.ReadFault.{ReadFault}
-use Rattle.rr_base.specs.declared.stream.ReadFault.TheVariants as read
+use Rattle.rr_io.specs.declared.stream.ReadFault.{ReadFault}
+use Rattle.rr_io.specs.declared.stream.ReadFault.TheVariants as read
 use Rattle.rr_gossip.specs.declared.fault.GossipFault.{GossipFault}
 use Rattle.rr_gossip.specs.declared.fault.GossipFault.TheVariants as session
 use Rattle.rr_gossip.specs.Fault.{gossip_fault_name}

@@ -4,8 +4,8 @@ use Rattle.std.specs.Cmp.Lexicographic.{pointwise}
 use Rattle.std.specs.Io.KnownBytes.{Appends}
 use Rattle.rr_text.specs.declared.bytes.TheConstants.{LINE_FEED, SPACE}
 use Rattle.rr_text.specs.Results.{◌>>=◌}
-use Rattle.rr_base.specs.Schema.{Layout}
-use Rattle.rr_base.specs.Stream.{AppendsPrefix}
+use Rattle.rr_schema.specs.Schema.{Layout}
+use Rattle.rr_io.specs.Stream.{AppendsPrefix}
 use Rattle.rr_text.specs.Text.{cut_at}
 use Rattle.rr_feed.specs.Items.{Item, Line, TooLong, items}
 use Rattle.rr_model.specs.FetchText.{Request}

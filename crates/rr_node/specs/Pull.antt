@@ -2,7 +2,7 @@
 use Rattle.std.specs.Prelude.{◌≡◌, ◌⊎◌, ℕ, List, length, Option}
 use Rattle.std.specs.Io.KnownBytes.{Appends}
 use Rattle.std.specs.List.{concat}
-use Rattle.rr_base.specs.Stream.{AppendsPrefix}
+use Rattle.rr_io.specs.Stream.{AppendsPrefix}
 use Rattle.rr_copies.specs.Standing.{KeeperState, cells_of, with_all_published}
 use Rattle.rr_desk.specs.Standing.{HasJoined}
 use Rattle.rr_gossip.specs.declared.fault.GossipFault.{GossipFault}

@@ -2,7 +2,7 @@
 use Rattle.std.specs.Prelude.{◌≡◌, ◌⊎◌, ◌<◌, ℕ, Bool, true, false, List, [], ◌∷◌, Option}
 use Rattle.std.specs.FinMap.{entries, len}
 use Rattle.std.specs.Io.KnownBytes.{Appends}
-use Rattle.rr_base.specs.Stream.{AppendsPrefix}
+use Rattle.rr_io.specs.Stream.{AppendsPrefix}
 use Rattle.rr_copies.specs.Standing.{KeeperState, cells_of}
 use Rattle.rr_page.specs.Version.{latest}
 use Rattle.rr_parts.specs.declared.fault.SaveFault.TheVariants.{TooManyCells, WriteFailed}

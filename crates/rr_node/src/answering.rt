@@ -10,10 +10,10 @@ ghost use Rattle.rr_node.specs.Answering.{Next};
 ghost use Rattle.rr_node.specs.Fetches.{after_fetch, by_name, error_text, request_in, sight, IsAnswer, IsAnswered};
 
 use rr_archive::Archive;
-use rr_base::Schema;
 use rr_desk::{FetchFault, Gate, Reader};
 use rr_feed::{Feed, FeedLine, LINE_TOO_LONG};
 use rr_fetch::{Request, RequestFault, parse_request};
+use rr_schema::Schema;
 use rr_text::bytes::{LINE_FEED, SPACE};
 use rr_text::text::cut;
 use std::alloc::{AllocError, Global};

@@ -2,8 +2,8 @@
 
 ghost use Rattle.std.specs.Prelude.{◌≡◌, ℕ, ◌+◌, ◌*◌, ◌<◌, ◌≤◌, ◌^◌, ℤ, List, Option, true, false, [], ◌++◌, length, Err, IfOk, IfErr, OnOk, OnErr};
 ghost use Rattle.std.specs.Io.KnownBytes.{Appends};
-ghost use Rattle.rr_base.specs.Counted.{inner_of, failures_of, HasRisen};
-ghost use Rattle.rr_base.specs.Stream.{AppendsPrefix};
+ghost use Rattle.rr_io.specs.Counted.{inner_of, failures_of, HasRisen};
+ghost use Rattle.rr_io.specs.Stream.{AppendsPrefix};
 ghost use Rattle.rr_text.specs.declared.limits.TheConstants.{MAX_FIELDS};
 ghost use Rattle.rr_copies.specs.Standing.{KeeperState};
 ghost use Rattle.rr_feed.specs.Feed.{items_left, empty_feed};
@@ -17,11 +17,11 @@ use crate::fault::NodeFault;
 use crate::report::{Report, push_report};
 use crate::rules::{LINES_TO_PUBLISH, Rules};
 use rr_archive::Archive;
-use rr_base::Counted;
-use rr_base::stream::{WriteFailed, flush, write_all};
 use rr_desk::Keeper;
 use rr_feed::Feed;
 use rr_host::Clock;
+use rr_io::Counted;
+use rr_io::stream::{WriteFailed, flush, write_all};
 use rr_records::push_refusal;
 use std::alloc::{AllocError, Global};
 use std::io::Write;

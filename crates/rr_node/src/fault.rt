@@ -2,9 +2,9 @@
 
 ghost use Rattle.std.specs.Prelude.{◌≡◌};
 
-use rr_base::stream;
-use rr_base::stream::ReadFault;
 use rr_gossip::GossipFault;
+use rr_io::stream;
+use rr_io::stream::ReadFault;
 use std::alloc::{AllocError, AllocFailed};
 use std::fmt;
 use thiserror::Error;

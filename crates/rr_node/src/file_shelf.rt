@@ -2,7 +2,7 @@
 
 use crate::fault::NodeFault;
 use crate::shelf::{Opening, Shelf};
-use rr_base::Counted;
+use rr_io::Counted;
 use rr_snapshot::SaveFault;
 use std::alloc::{AllocError, Global};
 use std::fs::OpenFile;

@@ -1,7 +1,7 @@
 //! Lines from a reader, handed to the keeper of a desk.
 
 ghost use Rattle.std.specs.Prelude.{◌≡◌, ◌+◌, ◌≤◌, Err, IfOk, OnErr};
-ghost use Rattle.rr_base.specs.Counted.{inner_of, failures_of, reads_of, HasRisen, HasRisenBy};
+ghost use Rattle.rr_io.specs.Counted.{inner_of, failures_of, reads_of, HasRisen, HasRisenBy};
 ghost use Rattle.rr_text.specs.declared.limits.TheConstants.{MAX_READS};
 ghost use Rattle.rr_node.specs.Lines.{rules_of, HasStopped, IsServed};
 
@@ -10,10 +10,10 @@ use crate::fault::NodeFault;
 use crate::report::Report;
 use crate::rules::Rules;
 use rr_archive::Archive;
-use rr_base::Counted;
-use rr_base::stream::read_once;
 use rr_desk::Keeper;
 use rr_host::Clock;
+use rr_io::Counted;
+use rr_io::stream::read_once;
 use rr_line::Precision;
 use rr_text::limits::MAX_READS;
 use std::alloc::Global;

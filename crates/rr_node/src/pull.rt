@@ -2,13 +2,13 @@
 
 ghost use Rattle.std.specs.Prelude.{◌≡◌, Err, IfErr, OnOk};
 ghost use Rattle.std.specs.Io.KnownBytes.{IsAtEnd};
-ghost use Rattle.rr_base.specs.Counted.{inner_of, failures_of, HasRisen};
+ghost use Rattle.rr_io.specs.Counted.{inner_of, failures_of, HasRisen};
 ghost use Rattle.rr_node.specs.Pull.{HasPulledAll, HasStoppedPulling};
 
 use rr_archive::Archive;
-use rr_base::Counted;
 use rr_desk::Keeper;
 use rr_gossip::{GossipFault, pull};
+use rr_io::Counted;
 use std::alloc::Global;
 use std::io::{Read, Write};
 use std::sync::Wait;

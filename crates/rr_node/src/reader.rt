@@ -2,7 +2,7 @@
 
 ghost use Rattle.std.specs.Prelude.{◌≡◌, ◌⊎◌, ◌≤◌, ◌∷◌, ◌++◌, [], false, true, Err, None, IfErr, IfOk, IfSome, OnErr, OnOk, option_to_list};
 ghost use Rattle.std.specs.Io.KnownBytes.{Consumes, IsAtEnd};
-ghost use Rattle.rr_base.specs.Counted.{inner_of, failures_of, reads_of, HasRisen, HasRisenBy};
+ghost use Rattle.rr_io.specs.Counted.{inner_of, failures_of, reads_of, HasRisen, HasRisenBy};
 ghost use Rattle.rr_text.specs.declared.limits.TheConstants.{MAX_READS};
 ghost use Rattle.rr_feed.specs.Feed.{items_left};
 ghost use Rattle.rr_gossip.specs.declared.frame.TheConstants.{MAX_FRAMES};
@@ -15,11 +15,11 @@ ghost use Rattle.rr_node.specs.Fetches.{sight, HasAnswered, HasAnsweredSome, Has
 use crate::answering::next_answer;
 use crate::fault::NodeFault;
 use rr_archive::Archive;
-use rr_base::Counted;
-use rr_base::stream::{flush, read_once, write_all};
 use rr_desk::{Gate, Reader};
 use rr_feed::{Feed, FeedFault};
 use rr_gossip::{GossipFault, give_after};
+use rr_io::Counted;
+use rr_io::stream::{flush, read_once, write_all};
 use rr_text::limits::MAX_READS;
 use std::alloc::{AllocError, Global};
 use std::io::{Read, Write};

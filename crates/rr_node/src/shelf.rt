@@ -3,7 +3,7 @@
 ghost use Rattle.std.specs.Prelude.{◌≡◌};
 
 use crate::fault::NodeFault;
-use rr_base::Counted;
+use rr_io::Counted;
 use rr_snapshot::SaveFault;
 use std::io::Write;
 
@@ -22,7 +22,7 @@ pub enum Opening<W> {
 /// It is seen as the list of its calls, where that is known.
 pub trait Shelf {
     ghost use Rattle.std.specs.Prelude.{List, [], ◌∷◌, Option};
-    ghost use Rattle.rr_base.specs.Counted.{inner_of};
+    ghost use Rattle.rr_io.specs.Counted.{inner_of};
     ghost use Rattle.rr_host.specs.Calls.{Grows};
     ghost use Rattle.rr_node.specs.Shelf.{ShelfCall, opened, peer_failed, put_back, save_failed, unopened, unwanted};
     ghost use Rattle.rr_node.specs.declared.shelf.Opening.TheVariants as opening;

@@ -8,8 +8,8 @@ use Rattle.std.proofs.Math.Pow.{pow_mono}
 use Rattle.std.proofs.lemmas.Bool.{ltb-true, le-ltb, lt-ltb, ne_eqb}
 use Rattle.std.proofs.lemmas.List.{length-append, drop_at}
 use Rattle.rr_text.specs.declared.limits.TheConstants.{MAX_KEY_TEXT}
-use Rattle.rr_base.specs.Schema.{Layout, IsLayout}
-use Rattle.rr_base.specs.Schema as schema
+use Rattle.rr_schema.specs.Schema.{Layout, IsLayout}
+use Rattle.rr_schema.specs.Schema as schema
 use Rattle.rr_contrib.specs.declared.contribution.Contribution.{Contribution}
 use Rattle.rr_key.specs.Reading.{is_key_text}
 use Rattle.std.specs.FinMap.{entries}

@@ -8,8 +8,8 @@ use Rattle.std.proofs.lemmas.List.{append-nil, length-append, take-append-le}
 use lib.Seq.{drop-append-le}
 use Rattle.rr_text.specs.declared.limits.TheConstants.{MAX_KEY_TEXT, MAX_PAGE_CELLS}
 use Rattle.rr_text.specs.Results.{◌>>=◌, unless}
-use Rattle.rr_base.specs.Schema.{Layout}
-use Rattle.rr_base.specs.SchemaBytes.{schema_bytes}
+use Rattle.rr_schema.specs.Schema.{Layout}
+use Rattle.rr_schema.specs.SchemaBytes.{schema_bytes}
 use Rattle.rr_contrib.specs.Validity.{is_valid}
 use Rattle.rr_key.specs.Reading.{is_key_text}
 use Rattle.rr_model.specs.CellNames.{CellName}

@@ -6,8 +6,8 @@ use Rattle.std.specs.Int.{w8, w16, to_be_bytes}
 use Rattle.std.proofs.lemmas.Bool.{ltb-false, le-ltb, eqb-true}
 use Rattle.rr_text.specs.declared.limits.TheConstants.{MAX_PAGE_CELLS}
 use Rattle.rr_text.specs.Results.{◌>>=◌, unless}
-use Rattle.rr_base.specs.Schema.{Layout}
-use Rattle.rr_base.specs.SchemaBytes.{schema_bytes}
+use Rattle.rr_schema.specs.Schema.{Layout}
+use Rattle.rr_schema.specs.SchemaBytes.{schema_bytes}
 use Rattle.rr_page.specs.declared.fault.PageFault.TheVariants.{BadMagic, BadVersion, SchemaDiffers, TooManyCells}
 use Rattle.rr_page.specs.declared.version.Version.{Version}
 use Rattle.rr_page.specs.declared.version.Version.TheVariants.{One}

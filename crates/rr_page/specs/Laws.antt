@@ -1,6 +1,6 @@
 -- The laws of the bytes of cells and pages.
 use Rattle.std.specs.Prelude.{◌≡◌, ℕ, ◌<◌, ◌^◌, ◌↔◌, ◌≤◌, List, ◌++◌, length, Ok, Err, All}
-use Rattle.rr_base.specs.Schema.{Layout, IsLayout}
+use Rattle.rr_schema.specs.Schema.{Layout, IsLayout}
 use Rattle.rr_cells.specs.CellBounds.{NamedCell, IsCellOf}
 use Rattle.rr_page.specs.declared.fault.PageFault.TheVariants.{Short}
 use Rattle.rr_page.specs.declared.version.Version.{Version}

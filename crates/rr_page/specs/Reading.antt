@@ -3,7 +3,7 @@ use Rattle.std.specs.Prelude.{ℕ, ℤ, nat_lt, ◌||◌, not, ◌==◌, List, l
 use Rattle.std.specs.Int.{Width, w8, w16, w64, w128, byte_len, cast_signed, from_be_bytes}
 use Rattle.rr_text.specs.declared.limits.TheConstants.{MAX_KEY_TEXT}
 use Rattle.rr_text.specs.Results.{◌>>=◌, unless}
-use Rattle.rr_base.specs.Schema.{Layout}
+use Rattle.rr_schema.specs.Schema.{Layout}
 use Rattle.rr_contrib.specs.declared.contribution.Contribution.{Contribution}
 use Rattle.rr_contrib.specs.Validity.{is_valid}
 use Rattle.rr_key.specs.Reading.{is_key_text}

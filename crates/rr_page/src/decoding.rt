@@ -1,6 +1,6 @@
 //! The cells of a page, from its bytes.
 ghost use Rattle.std.specs.Prelude.{◌≡◌, List, All, IfOk, Ok, None, Some, map};
-ghost use Rattle.rr_base.specs.Schema.{IsLayout};
+ghost use Rattle.rr_schema.specs.Schema.{IsLayout};
 ghost use Rattle.rr_text.specs.Results.{GivesUnless, NeedsMemoryAfter};
 ghost use Rattle.rr_page.specs.Page.{IsPage, IsPageText};
 ghost use Rattle.rr_page.specs.PageReading.{is_after, last_name, schema_at, cells_at, page_at};
@@ -11,8 +11,8 @@ use crate::fault::PageFault;
 use crate::heading::head_of;
 use crate::reading::read_cell_in;
 use crate::version::Version;
-use rr_base::Schema;
 use rr_cells::Cell;
+use rr_schema::Schema;
 use std::alloc::Global;
 
 /// Whether the name of a cell is greater than that of another, so that it may follow it.

@@ -7,8 +7,8 @@ ghost use Rattle.rr_cells.specs.Listing.{owned_cell};
 
 use crate::heading::push_head;
 use crate::writing::push_cell;
-use rr_base::Schema;
 use rr_cells::Cell;
+use rr_schema::Schema;
 use std::alloc::{AllocError, Global};
 
 /// Adds a cell.

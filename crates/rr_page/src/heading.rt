@@ -8,7 +8,7 @@ ghost use Rattle.rr_page.specs.Version.{latest};
 use crate::fault::PageFault;
 use crate::fields::{bytes_at, u8_at, u16_at};
 use crate::version::{LATEST, Version};
-use rr_base::Schema;
+use rr_schema::Schema;
 use rr_text::limits::MAX_PAGE_CELLS;
 use std::alloc::{AllocError, Global};
 

@@ -1,6 +1,6 @@
 //! A cell from its bytes.
 ghost use Rattle.std.specs.Prelude.{◌≡◌, ◌++◌, ◌<◌, length, drop, IfOk};
-ghost use Rattle.rr_base.specs.Schema.{IsLayout};
+ghost use Rattle.rr_schema.specs.Schema.{IsLayout};
 ghost use Rattle.rr_text.specs.Results.{Gives, GivesUnless, NeedsMemoryAfter};
 ghost use Rattle.rr_page.specs.CellText.{cell_text};
 ghost use Rattle.rr_page.specs.Reading.{number_at, key_at, archive_at, contribution_at, cell_at};
@@ -11,10 +11,10 @@ ghost use Rattle.rr_cells.specs.Listing.{owned_cell};
 use crate::fault::PageFault;
 use crate::fields::{bytes_at, i64_at, i128_at, u8_at, u16_at, u64_at};
 use crate::version::{LATEST, Version};
-use rr_base::{Origin, Schema};
 use rr_cells::Cell;
 use rr_contrib::{Contribution, Mask};
 use rr_key::{KeyFault, SeriesKey};
+use rr_schema::{Origin, Schema};
 use rr_text::limits::MAX_KEY_TEXT;
 use std::alloc::Global;
 

@@ -6,10 +6,10 @@ ghost use Rattle.rr_archive.specs.CellSlots.{cell_slot};
 ghost use Rattle.rr_cells.specs.Cells.{name_at};
 ghost use Rattle.rr_cells.specs.Listing.{seen_cell};
 
-use rr_base::Origin;
 use rr_cells::CellRef;
 use rr_contrib::Contribution;
 use rr_key::SeriesKey;
+use rr_schema::Origin;
 use std::alloc::{AllocError, Global};
 
 /// How many bytes a cell of the latest version has besides its key text.

@@ -1,6 +1,6 @@
 -- Cells of a stream, one after the other.
 use Rattle.std.proofs.Common.{◌≡◌, ℕ, ◌+◌, ◌-◌, ◌<◌, ◌≤◌, true, false, List, [], ◌∷◌, ◌++◌, Option, None, Some, IfSome, Result, Ok, Err, refl, ap, subst, ◌∙◌, arith, inl, inr}
-use Rattle.rr_base.specs.Schema.{Layout}
+use Rattle.rr_schema.specs.Schema.{Layout}
 use Rattle.rr_page.specs.declared.fault.PageFault.{PageFault}
 use Rattle.rr_page.specs.declared.version.Version.{Version}
 use Rattle.rr_page.specs.PageReading.{is_after, last_name, cells_at}

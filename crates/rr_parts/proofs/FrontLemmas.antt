@@ -1,7 +1,7 @@
 -- What was read is a front of what a reader had.
 use Rattle.std.proofs.Common.{List, [], ◌++◌, ℕ, Option}
 use Rattle.std.proofs.KnownBytes.{Consumes-nil, Consumes-trans}
-use Rattle.rr_base.specs.Stream.{ConsumesSome}
+use Rattle.rr_io.specs.Stream.{ConsumesSome}
 
 pub none_read : (a : Option (List ℕ)) → ConsumesSome a a
 none_read a = ([], Consumes-nil a)

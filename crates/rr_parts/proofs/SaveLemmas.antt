@@ -5,9 +5,9 @@ use Rattle.std.specs.Io.KnownBytes.{Appends}
 use Rattle.std.specs.List.{flat_map}
 use Rattle.std.proofs.KnownBytes.{Appends-trans}
 use Rattle.sha2.specs.Sha256.{sha256}
-use Rattle.rr_base.specs.Schema.{Layout}
-use Rattle.rr_base.specs.Stream.{AppendsPrefix}
-use Rattle.rr_base.proofs.StreamLemmas.{prefix_after, prefix_before}
+use Rattle.rr_schema.specs.Schema.{Layout}
+use Rattle.rr_io.specs.Stream.{AppendsPrefix}
+use Rattle.rr_io.proofs.StreamLemmas.{prefix_after, prefix_before}
 use Rattle.rr_page.specs.CellText.{cell_text}
 use Rattle.rr_page.specs.Version.{latest}
 use Rattle.rr_cells.specs.CellBounds.{NamedCell}

@@ -9,11 +9,11 @@ use Rattle.std.proofs.lemmas.List.{append-nil, nil_from_length}
 use Rattle.std.proofs.lemmas.List.Elements.{All-from_recursion, recursion_from_All}
 use Rattle.sha2.specs.Sha256.{sha256}
 use Rattle.sha2.proofs.Facts256.{length-sha256}
-use Rattle.rr_base.specs.Origin.{IsOrigin}
+use Rattle.rr_schema.specs.Origin.{IsOrigin}
 use Rattle.rr_text.specs.Results.{◌>>=◌, unless}
-use Rattle.rr_base.specs.Schema.{Layout, IsLayout}
-use Rattle.rr_base.specs.SchemaBytes.{schema_bytes}
-use Rattle.rr_base.proofs.SchemaBytesLemmas.{bytes_tell}
+use Rattle.rr_schema.specs.Schema.{Layout, IsLayout}
+use Rattle.rr_schema.specs.SchemaBytes.{schema_bytes}
+use Rattle.rr_schema.proofs.SchemaBytesLemmas.{bytes_tell}
 use Rattle.rr_cells.specs.CellBounds.{NamedCell, IsCellOf}
 use Rattle.rr_page.specs.declared.fault.PageFault.TheVariants.{BadMagic, SchemaDiffers}
 use Rattle.rr_page.specs.declared.version.Version.{Version}

@@ -4,9 +4,9 @@ use Rattle.std.specs.FinMap.{is_sorted}
 use Rattle.std.specs.Int.{w16, w32, to_be_bytes}
 use Rattle.std.specs.List.{flat_map}
 use Rattle.sha2.specs.Sha256.{sha256}
-use Rattle.rr_base.specs.Origin.{IsOrigin}
-use Rattle.rr_base.specs.Schema.{Layout}
-use Rattle.rr_base.specs.SchemaBytes.{schema_bytes}
+use Rattle.rr_schema.specs.Origin.{IsOrigin}
+use Rattle.rr_schema.specs.Schema.{Layout}
+use Rattle.rr_schema.specs.SchemaBytes.{schema_bytes}
 use Rattle.rr_model.specs.CellNames.{cell_name_cmp}
 use Rattle.rr_cells.specs.CellBounds.{NamedCell, IsCellOf}
 use Rattle.rr_page.specs.declared.version.Version.{Version}

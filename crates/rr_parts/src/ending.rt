@@ -1,14 +1,14 @@
 //! What a snapshot has after its cells.
 ghost use Rattle.std.specs.Prelude.{◌≡◌, ◌≤◌, Err, OnOk};
 ghost use Rattle.std.specs.Io.KnownBytes.{IsAtEnd};
-ghost use Rattle.rr_base.specs.Counted.{inner_of, failures_of, HasRisen};
-ghost use Rattle.rr_base.specs.Stream.{ConsumesSome};
+ghost use Rattle.rr_io.specs.Counted.{inner_of, failures_of, HasRisen};
+ghost use Rattle.rr_io.specs.Stream.{ConsumesSome};
 ghost use Rattle.rr_parts.specs.SnapshotReading.{digest_at, end_at};
 ghost use Rattle.rr_parts.specs.Stream.{StreamGives};
 
 use crate::fault::LoadFault;
-use rr_base::Counted;
-use rr_base::stream::fill;
+use rr_io::Counted;
+use rr_io::stream::fill;
 use rr_page::fields::bytes_at;
 use std::io::Read;
 

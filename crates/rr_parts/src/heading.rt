@@ -1,9 +1,9 @@
 //! What a snapshot has before its cells.
 ghost use Rattle.std.specs.Prelude.{◌≡◌, ◌≢◌, ◌≤◌, ◌+◌, IfOk, OnOk, Err, length};
 ghost use Rattle.std.specs.Int.{w32};
-ghost use Rattle.rr_base.specs.Counted.{inner_of, failures_of, HasRisen};
-ghost use Rattle.rr_base.specs.Stream.{ConsumesSome};
-ghost use Rattle.rr_base.specs.SchemaBytes.{schema_bytes};
+ghost use Rattle.rr_io.specs.Counted.{inner_of, failures_of, HasRisen};
+ghost use Rattle.rr_io.specs.Stream.{ConsumesSome};
+ghost use Rattle.rr_schema.specs.SchemaBytes.{schema_bytes};
 ghost use Rattle.rr_page.specs.Reading.{number_at};
 ghost use Rattle.rr_parts.specs.Stream.{Digests, StreamGives};
 ghost use Rattle.rr_page.specs.Version.{latest};
@@ -12,10 +12,11 @@ ghost use Rattle.rr_parts.specs.Snapshot.{head_text};
 ghost use Rattle.rr_parts.specs.SnapshotReading.{as_in_page, start_at, head_at};
 
 use crate::fault::LoadFault;
-use rr_base::stream::fill;
-use rr_base::{Counted, Origin, Schema};
+use rr_io::Counted;
+use rr_io::stream::fill;
 use rr_page::fields::{bytes_at, u16_at, u32_at};
 use rr_page::{LATEST, PageFault, Version, version_of};
+use rr_schema::{Origin, Schema};
 use sha2::{Digest, Sha256};
 use std::alloc::{AllocError, Global};
 use std::io::Read;

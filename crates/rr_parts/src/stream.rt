@@ -1,8 +1,8 @@
 //! A cell from a stream, in one buffer.
 ghost use Rattle.std.specs.Prelude.{◌≡◌, ◌++◌, ◌<◌, ◌≤◌, List, ℕ, IfOk, OnErr, Err, length, take};
 ghost use Rattle.std.specs.Io.KnownBytes.{Consumes, IsAtEnd};
-ghost use Rattle.rr_base.specs.Counted.{inner_of, failures_of, HasRisen};
-ghost use Rattle.rr_base.specs.Stream.{ConsumesSome};
+ghost use Rattle.rr_io.specs.Counted.{inner_of, failures_of, HasRisen};
+ghost use Rattle.rr_io.specs.Stream.{ConsumesSome};
 ghost use Rattle.rr_page.specs.Reading.{cell_at};
 ghost use Rattle.rr_page.specs.Version.{fields_len};
 ghost use Rattle.rr_page.specs.declared.writing.TheConstants.{FIELDS_LEN};
@@ -12,11 +12,12 @@ ghost use Rattle.rr_parts.specs.SnapshotReading.{as_in_page};
 ghost use Rattle.rr_parts.specs.Stream.{Adds, StreamGives, whole_len};
 
 use crate::fault::LoadFault;
-use rr_base::stream::{ReadFailed, fill};
-use rr_base::{Counted, Schema};
 use rr_cells::Cell;
+use rr_io::Counted;
+use rr_io::stream::{ReadFailed, fill};
 use rr_page::fields::u16_at;
 use rr_page::{FIELDS_LEN, Version, read_cell_in};
+use rr_schema::Schema;
 use rr_text::limits::MAX_KEY_TEXT;
 use std::alloc::Global;
 use std::io::Read;

@@ -2,16 +2,16 @@
 ghost use Rattle.std.specs.Prelude.{◌≡◌, ◌≢◌, ◌≤◌, ◌++◌, Err, OnOk, OnErr, List, ℕ};
 ghost use Rattle.std.specs.Io.KnownBytes.{Appends};
 ghost use Rattle.sha2.specs.Hashers.{Holds256};
-ghost use Rattle.rr_base.specs.Counted.{inner_of, failures_of, HasRisen};
-ghost use Rattle.rr_base.specs.Stream.{AppendsPrefix};
+ghost use Rattle.rr_io.specs.Counted.{inner_of, failures_of, HasRisen};
+ghost use Rattle.rr_io.specs.Stream.{AppendsPrefix};
 ghost use Rattle.rr_page.specs.CellText.{cell_text};
 ghost use Rattle.rr_page.specs.Version.{latest};
 ghost use Rattle.rr_cells.specs.Listing.{seen_cell};
 
 use crate::fault::SaveFault;
-use rr_base::Counted;
-use rr_base::stream::{WriteFailed, write_all};
 use rr_cells::CellRef;
+use rr_io::Counted;
+use rr_io::stream::{WriteFailed, write_all};
 use rr_page::cell_bytes;
 use sha2::{Digest, Sha256};
 use std::alloc::Global;

@@ -2,12 +2,12 @@
 
 ghost use Rattle.std.specs.Prelude.{◌≡◌, ◌≢◌, ◌+◌, ◌≤◌, Err, IfSome, IfOk, OnOk, IfErr};
 ghost use Rattle.std.specs.Io.KnownBytes.{Appends};
-ghost use Rattle.rr_base.specs.Counted.{inner_of, failures_of, reads_of, HasRisen, HasRisenBy};
-ghost use Rattle.rr_base.specs.Stream.{AppendsPrefix};
+ghost use Rattle.rr_io.specs.Counted.{inner_of, failures_of, reads_of, HasRisen, HasRisenBy};
+ghost use Rattle.rr_io.specs.Stream.{AppendsPrefix};
 ghost use Rattle.rr_text.specs.declared.limits.TheConstants.{MAX_READS};
 
-use rr_base::Counted;
-use rr_base::stream::{flush, read_to_end, write_all};
+use rr_io::Counted;
+use rr_io::stream::{flush, read_to_end, write_all};
 use rr_report::ToolFault;
 use std::alloc::Global;
 use std::io::{Read, Write};

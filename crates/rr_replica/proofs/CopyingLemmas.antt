@@ -5,7 +5,7 @@ use Rattle.std.specs.List.Sorted.{IsStrictlySortedBy}
 use Rattle.std.specs.Map.{keys_of}
 use Rattle.std.specs.Option.{option_map}
 use Rattle.rr_text.specs.Bytes.{bytes_cmp}
-use Rattle.rr_base.specs.Schema.{Layout}
+use Rattle.rr_schema.specs.Schema.{Layout}
 use Rattle.rr_archive.specs.Cells.{Rows}
 use Rattle.rr_replica.specs.Archives.{AreSized}
 use Rattle.rr_cells.specs.Holding.{IsHolding}

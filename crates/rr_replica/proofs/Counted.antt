@@ -14,7 +14,7 @@ use Rattle.rr_archive.specs.Cells.{Rows, cell_of}
 use Rattle.rr_model.specs.CellNames.{CellName}
 use Rattle.rr_cells.specs.Cells.{name_at}
 use Rattle.rr_text.specs.declared.limits.TheConstants.{MAX_ARCHIVES}
-use Rattle.rr_base.specs.Schema.{Layout}
+use Rattle.rr_schema.specs.Schema.{Layout}
 use Rattle.rr_text.specs.Bytes.{bytes_cmp}
 use Rattle.rr_replica.specs.Series.{Series, cells_from, all_cells, cells_of}
 use Rattle.rr_replica.specs.Held.{held_series, archives_of, IsHeld}

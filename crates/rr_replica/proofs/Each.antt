@@ -6,8 +6,8 @@ use Rattle.std.specs.FinMap.{get}
 use Rattle.std.proofs.lemmas.Bool.{cases_lt}
 use Rattle.std.proofs.lemmas.Bool.Decides.{eqb_tells}
 use Rattle.std.proofs.lemmas.Option.{slice_get_within, slice_get-get_or, get_or_from_slice_get}
-use Rattle.rr_base.specs.declared.archive.ArchiveSpec.{ArchiveSpec}
-use Rattle.rr_base.specs.Schema.{Layout, archive_at, slot_of}
+use Rattle.rr_schema.specs.declared.archive.ArchiveSpec.{ArchiveSpec}
+use Rattle.rr_schema.specs.Schema.{Layout, archive_at, slot_of}
 use Rattle.rr_contrib.specs.Validity.{CanAdd}
 use Rattle.rr_archive.specs.CellSlots.{CellSlot, cell_slot}
 use Rattle.rr_archive.specs.Cells.{Rows, put_row}

@@ -13,7 +13,7 @@ use Rattle.std.proofs.lemmas.Option.{slice_get_within, slice_get-get_or}
 use Rattle.std.proofs.lemmas.Bool.{cases_lt}
 use Rattle.rr_join.proofs.Members.{same_from_tie, tie_itself}
 use Rattle.rr_text.specs.Bytes.{bytes_cmp}
-use Rattle.rr_base.specs.Schema.{Layout}
+use Rattle.rr_schema.specs.Schema.{Layout}
 use Rattle.rr_replica.specs.Archives.{AreSized}
 use Rattle.rr_replica.specs.Held.{archives_of, AreAllSized}
 use Rattle.rr_replica.specs.Indexed.{index_of, with_entry, entries_at, IsIndexed}

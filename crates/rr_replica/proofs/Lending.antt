@@ -6,7 +6,7 @@ use Rattle.std.specs.FinMap.{empty}
 use Rattle.std.proofs.lemmas.Bool.{ltb-true, ltb-false}
 use Rattle.std.proofs.lemmas.Option.{slice_get-get_or, slice_get_past}
 use Rattle.rr_archive.specs.Cells.{Rows}
-use Rattle.rr_base.specs.Schema.{Layout}
+use Rattle.rr_schema.specs.Schema.{Layout}
 use Rattle.rr_cells.specs.Cells.{rows_at}
 use Rattle.rr_replica.specs.Held.{held_series, archives_of, IsHeld}
 use Rattle.rr_replica.specs.Series.{cells_of}

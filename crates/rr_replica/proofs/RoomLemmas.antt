@@ -16,8 +16,8 @@ use Rattle.std.proofs.lemmas.Map.Views.{any-filter_same}
 use Rattle.std.proofs.lemmas.Option.{slice_get_within}
 use Rattle.rr_text.specs.Bytes.{bytes_cmp}
 use Rattle.rr_text.specs.declared.limits.TheConstants.{MAX_NUMBER, MAX_ORIGIN, MAX_SECOND}
-use Rattle.rr_base.specs.Origin.{IsOrigin}
-use Rattle.rr_base.specs.Schema.{Layout, IsLayout, slot_of}
+use Rattle.rr_schema.specs.Origin.{IsOrigin}
+use Rattle.rr_schema.specs.Schema.{Layout, IsLayout, slot_of}
 use Rattle.rr_join.proofs.Members.{tie_itself, same_from_tie}
 use Rattle.rr_archive.specs.CellSlots.{CellSlot, cell_slot, cell_slot_cmp, IsSlot}
 use Rattle.rr_archive.specs.Cells.{Rows}

@@ -8,7 +8,7 @@ use Rattle.std.specs.Ordering.{eq_by_cmp}
 use Rattle.std.specs.Coded.{Coded, code_by, coded×, coded_ℕ, coded_list}
 use Rattle.std.specs.FinMap as fin
 use Rattle.rr_text.specs.Bytes.{bytes_cmp}
-use Rattle.rr_base.specs.Schema.{Layout, slot_of}
+use Rattle.rr_schema.specs.Schema.{Layout, slot_of}
 use Rattle.rr_text.specs.declared.limits.TheConstants.{MAX_ORIGIN, MAX_SECOND}
 use Rattle.rr_archive.specs.CellSlots.{CellSlot, cell_slot, cell_slot_cmp}
 use Rattle.rr_archive.specs.Cells.{Rows}

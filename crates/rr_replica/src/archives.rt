@@ -7,8 +7,8 @@ ghost use Rattle.rr_cells.specs.Listing.{owned_cell};
 
 use crate::reading::Reading;
 use rr_archive::Archive;
-use rr_base::{Origin, Schema};
 use rr_cells::{Cell, Op};
+use rr_schema::{Origin, Schema};
 use std::alloc::{AllocError, Global};
 
 /// An archive that holds no cell, for each of a schema's.

@@ -1,6 +1,6 @@
 //! Cells from elsewhere, joined into the archives of their keys.
 ghost use Rattle.std.specs.Prelude.{◌≡◌, ◌≤◌, IsOk, OnOk, OnErr};
-ghost use Rattle.rr_base.specs.Schema.{IsLayout};
+ghost use Rattle.rr_schema.specs.Schema.{IsLayout};
 ghost use Rattle.rr_text.specs.declared.limits.TheConstants.{MAX_NUMBER};
 ghost use Rattle.rr_cells.specs.Cells.{IsTrimmed};
 ghost use Rattle.rr_cells.specs.Joins.{join_cell};
@@ -14,8 +14,8 @@ ghost use Rattle.rr_replica.specs.SeriesMap.{entries_of, IsIndexed};
 use crate::archives::{empty_archives, join_into};
 use crate::series::SeriesMap;
 use rr_archive::Archive;
-use rr_base::{Origin, Schema};
 use rr_cells::{Cell, Op};
+use rr_schema::{Origin, Schema};
 use std::alloc::{AllocError, Global};
 
 /// Joins a cell into the archives of its key, or into none.

@@ -15,9 +15,9 @@ ghost use Rattle.rr_replica.specs.Series.{cells_from, cells_of};
 use crate::listing::named;
 use crate::series::SeriesMap;
 use rr_archive::Archive;
-use rr_base::Origin;
 use rr_cells::CellRef;
 use rr_key::SeriesKey;
+use rr_schema::Origin;
 use rr_text::limits::MAX_ARCHIVES;
 
 /// The name of a cell.

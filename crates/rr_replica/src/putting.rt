@@ -10,9 +10,9 @@ use crate::hint::Hint;
 use crate::reading::Reading;
 use crate::series::SeriesMap;
 use rr_archive::Archive;
-use rr_base::Schema;
 use rr_cells::Op;
 use rr_key::SeriesKey;
+use rr_schema::Schema;
 use std::alloc::{AllocError, Global};
 
 /// Puts a sample of a key into each of its archives, or into none.

@@ -2,7 +2,7 @@
 ghost use Rattle.std.specs.Prelude.{◌≤◌};
 ghost use Rattle.rr_text.specs.declared.limits.TheConstants.{MAX_NUMBER};
 
-use rr_base::Origin;
+use rr_schema::Origin;
 
 /// A sample without its key, whose number is one that a sample can have: from 1 to 2^40.
 #[derive(Clone, Copy)]

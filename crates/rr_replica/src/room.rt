@@ -1,6 +1,6 @@
 //! Room for operations, made before they are applied.
 ghost use Rattle.std.specs.Prelude.{◌≡◌, OnOk};
-ghost use Rattle.rr_base.specs.Schema.{IsLayout};
+ghost use Rattle.rr_schema.specs.Schema.{IsLayout};
 ghost use Rattle.rr_replica.specs.Archives.{IsOpOf};
 ghost use Rattle.rr_replica.specs.Series.{cells_of};
 ghost use Rattle.rr_replica.specs.SeriesMap.{entries_of, IsIndexed};
@@ -10,8 +10,8 @@ use crate::archives::{empty_archives, make_room};
 use crate::hint::Hint;
 use crate::series::SeriesMap;
 use rr_archive::Archive;
-use rr_base::Schema;
 use rr_cells::Op;
+use rr_schema::Schema;
 use std::alloc::{AllocError, Global};
 
 /// Makes room for an operation in the archives of its key, which are added where there are none. No

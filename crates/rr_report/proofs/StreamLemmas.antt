@@ -4,8 +4,8 @@ use Rattle.std.proofs.lemmas.List.{append-nil}
 use Rattle.std.specs.Prelude.{IfSome}
 use Rattle.std.specs.Io.KnownBytes.{Appends, Consumes, IsAtEnd, Keeps}
 use Rattle.std.proofs.KnownBytes.{Appends-trans, Consumes-trans, Consumes-whole}
-use Rattle.rr_base.specs.Stream.{AppendsPrefix}
-use Rattle.rr_base.proofs.StreamLemmas.{prefix_after, prefix_before}
+use Rattle.rr_io.specs.Stream.{AppendsPrefix}
+use Rattle.rr_io.proofs.StreamLemmas.{prefix_after, prefix_before}
 use Rattle.rr_feed.specs.Feed.{items_left, MayCome}
 use Rattle.rr_report.specs.declared.checker.Checker.{Checker}
 use Rattle.rr_report.specs.Report.{report_of}

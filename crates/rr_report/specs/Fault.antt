@@ -1,7 +1,7 @@
 -- The printed names of faults, and the program's lines for them.
 use Rattle.std.specs.Prelude.{ℕ, List, codes}
-use Rattle.rr_base.specs.declared.stream.ReadFault.{ReadFault}
-use Rattle.rr_base.specs.declared.stream.ReadFault.TheVariants as read
+use Rattle.rr_io.specs.declared.stream.ReadFault.{ReadFault}
+use Rattle.rr_io.specs.declared.stream.ReadFault.TheVariants as read
 use Rattle.rr_report.specs.declared.fault.ToolFault.{ToolFault}
 use Rattle.rr_report.specs.declared.fault.ToolFault.TheVariants.{ReadFailed, WriteFailed, TooManyReads, Memory}
 

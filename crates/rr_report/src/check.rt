@@ -2,15 +2,15 @@
 
 ghost use Rattle.std.specs.Prelude.{◌≡◌, ◌+◌, ◌≤◌, Err, IfSome, IfOk, OnOk};
 ghost use Rattle.std.specs.Io.KnownBytes.{Appends};
-ghost use Rattle.rr_base.specs.Counted.{inner_of, failures_of, reads_of, HasRisen, HasRisenBy};
-ghost use Rattle.rr_base.specs.Stream.{AppendsPrefix};
+ghost use Rattle.rr_io.specs.Counted.{inner_of, failures_of, reads_of, HasRisen, HasRisenBy};
+ghost use Rattle.rr_io.specs.Stream.{AppendsPrefix};
 ghost use Rattle.rr_text.specs.declared.limits.TheConstants.{MAX_READS};
 ghost use Rattle.rr_report.specs.Report.{refused_count, report_of};
 
 use crate::checker::Checker;
 use crate::fault::ToolFault;
-use rr_base::Counted;
-use rr_base::stream::read_once;
+use rr_io::Counted;
+use rr_io::stream::read_once;
 use rr_line::Precision;
 use rr_text::limits::MAX_READS;
 use std::alloc::Global;

@@ -2,17 +2,17 @@
 
 ghost use Rattle.std.specs.Prelude.{◌≡◌, ◌⊎◌, ◌+◌, ◌*◌, ◌<◌, ◌≤◌, ◌^◌, ◌++◌, ℕ, List, Option, true, false, [], Err, length, IfOk, IfErr, OnOk};
 ghost use Rattle.std.specs.Io.KnownBytes.{Appends};
-ghost use Rattle.rr_base.specs.Counted.{inner_of, failures_of, HasRisen};
-ghost use Rattle.rr_base.specs.Stream.{AppendsPrefix};
+ghost use Rattle.rr_io.specs.Counted.{inner_of, failures_of, HasRisen};
+ghost use Rattle.rr_io.specs.Stream.{AppendsPrefix};
 ghost use Rattle.rr_feed.specs.Feed.{items_left, empty_feed, MayCome};
 ghost use Rattle.rr_report.specs.declared.check.TheConstants.{PIECE};
 ghost use Rattle.rr_report.specs.Report.{refused_count, report_of};
 
 use crate::fault::ToolFault;
 use crate::report::push_item;
-use rr_base::Counted;
-use rr_base::stream::{flush, write_all};
 use rr_feed::Feed;
+use rr_io::Counted;
+use rr_io::stream::{flush, write_all};
 use rr_line::Precision;
 use std::alloc::{AllocError, Global};
 use std::io::Write;

@@ -2,8 +2,8 @@
 
 ghost use Rattle.std.specs.Prelude.{◌≡◌};
 
-use rr_base::stream;
-use rr_base::stream::ReadFault;
+use rr_io::stream;
+use rr_io::stream::ReadFault;
 use std::alloc::AllocError;
 use thiserror::Error;
 

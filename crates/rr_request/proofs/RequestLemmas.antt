@@ -6,9 +6,9 @@ use Rattle.std.proofs.Math.Nat.{div-mul-le_self}
 use Rattle.std.proofs.lemmas.Bool.{le-leb, lt-leb}
 use Rattle.std.proofs.lemmas.Int.{ints}
 use Rattle.std.proofs.lemmas.Nat.{le-div}
-use Rattle.rr_base.specs.declared.consolidation.ConsolidationFunction.{ConsolidationFunction}
+use Rattle.rr_schema.specs.declared.consolidation.ConsolidationFunction.{ConsolidationFunction}
 use Rattle.rr_text.specs.declared.limits.TheConstants.{MAX_FETCH_ROWS}
-use Rattle.rr_base.specs.Schema.{Layout, span, choice}
+use Rattle.rr_schema.specs.Schema.{Layout, span, choice}
 use Rattle.rr_model.specs.FetchText as text
 use Rattle.rr_request.specs.declared.fault.RequestFault.TheVariants.{TooManyRows}
 use Rattle.rr_request.specs.Requests.{rows_between, few_rows, key_of, read}

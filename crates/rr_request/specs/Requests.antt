@@ -1,10 +1,10 @@
 -- What the bytes of a request ask for.
 use Rattle.std.specs.Prelude.{ℕ, ◌≤◌, ◌<◌, ℤ, pos, neg_ℤ, ◌-ℤ◌, nat_le, int_lt, List, length, Result, Ok, Err, ok_or, unsigned_abs, if◌then◌else◌}
 use Rattle.std.specs.Int.{int_div_euclid}
-use Rattle.rr_base.specs.declared.consolidation.ConsolidationFunction.{ConsolidationFunction}
+use Rattle.rr_schema.specs.declared.consolidation.ConsolidationFunction.{ConsolidationFunction}
 use Rattle.rr_text.specs.declared.limits.TheConstants.{MAX_FETCH_ROWS, MAX_SECOND}
 use Rattle.rr_text.specs.Results.{◌>>=◌, check}
-use Rattle.rr_base.specs.Schema.{Layout, span, choice}
+use Rattle.rr_schema.specs.Schema.{Layout, span, choice}
 use Rattle.rr_key.specs.Reading.{is_key_text}
 use Rattle.rr_model.specs.FetchText as text
 use Rattle.rr_request.specs.declared.fault.RequestFault.{RequestFault}

@@ -4,8 +4,8 @@ use Rattle.std.specs.Cmp.Lexicographic.{pointwise}
 use Rattle.std.specs.Str.Parse.{digits_value}
 use Rattle.rr_text.specs.Options.{◌>>=◌}
 use Rattle.rr_text.specs.Text.{cut_at, is_digits, integer_at}
-use Rattle.rr_base.specs.declared.consolidation.ConsolidationFunction.{ConsolidationFunction}
-use Rattle.rr_base.specs.declared.consolidation.ConsolidationFunction.TheVariants.{Average, Min, Max, Last}
+use Rattle.rr_schema.specs.declared.consolidation.ConsolidationFunction.{ConsolidationFunction}
+use Rattle.rr_schema.specs.declared.consolidation.ConsolidationFunction.TheVariants.{Average, Min, Max, Last}
 use Rattle.rr_text.specs.declared.limits.TheConstants.{MAX_SECOND}
 use Rattle.rr_request.specs.declared.words.RequestWords.{RequestWords}
 use Rattle.rr_text.specs.declared.bytes.TheConstants.{SPACE}

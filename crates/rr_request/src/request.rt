@@ -8,8 +8,8 @@ ghost use Rattle.rr_request.specs.Words.{parts};
 
 use crate::fault::RequestFault;
 use crate::words::{RequestWords, function_of, key_of, request_words, resolution_of, second_of};
-use rr_base::{ConsolidationFunction, Schema};
 use rr_key::SeriesKey;
+use rr_schema::{ConsolidationFunction, Schema};
 use rr_text::limits::{MAX_FETCH_ROWS, MAX_SECOND};
 use std::alloc::Global;
 

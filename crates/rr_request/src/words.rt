@@ -5,8 +5,8 @@ ghost use Rattle.rr_request.specs.Requests.{key_of};
 ghost use Rattle.rr_request.specs.Words.{words_of, parts, function_of, resolution_of, second_of};
 
 use crate::fault::RequestFault;
-use rr_base::ConsolidationFunction;
 use rr_key::{KeyFault, SeriesKey};
+use rr_schema::ConsolidationFunction;
 use rr_text::bytes::SPACE;
 use rr_text::limits::MAX_SECOND;
 use rr_text::text::{cut, integer, number};

@@ -8,7 +8,7 @@ ghost use Rattle.rr_ring.specs.Blocks.{items_in, has_room_in, IsChanged};
 use crate::stored_row::StoredRow;
 use rr_archive::Entry;
 use rr_archive::change::Change;
-use rr_base::Origin;
+use rr_schema::Origin;
 use std::alloc::{AllocError, Global};
 
 /// The rows of a block; the last block of a ring may have fewer.

@@ -7,7 +7,7 @@ ghost use Rattle.rr_ring.specs.StoredRows.{items_of, has_room};
 use rr_archive::Entry;
 use rr_archive::change::{Change, contribution_after};
 use rr_archive::row::change_entry;
-use rr_base::Origin;
+use rr_schema::Origin;
 use std::alloc::{AllocError, Global};
 use std::slice;
 

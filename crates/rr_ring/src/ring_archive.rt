@@ -15,8 +15,8 @@ use rr_archive::change::Change;
 use rr_archive::live_slots::{is_live, later};
 use rr_archive::row::first_after;
 use rr_archive::{Archive, Entry, NewSample};
-use rr_base::Origin;
 use rr_contrib::Contribution;
+use rr_schema::Origin;
 use std::alloc::{AllocError, Global};
 
 /// The cells of one archive of one series, as a ring of rows.

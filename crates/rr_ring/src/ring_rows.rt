@@ -9,7 +9,7 @@ use crate::block::{BLOCK_ROWS, Block};
 use crate::ring::Ring;
 use rr_archive::Entry;
 use rr_archive::change::Change;
-use rr_base::Origin;
+use rr_schema::Origin;
 use std::alloc::{AllocError, Global};
 
 impl Ring {

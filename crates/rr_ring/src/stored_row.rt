@@ -7,7 +7,7 @@ ghost use Rattle.rr_ring.specs.StoredRows.{items_at, has_room_at, is_blank, slot
 use crate::entries::Entries;
 use rr_archive::Entry;
 use rr_archive::change::Change;
-use rr_base::Origin;
+use rr_schema::Origin;
 use std::alloc::{AllocError, Global};
 
 /// A slot and its entries, until another slot of the same position is written.

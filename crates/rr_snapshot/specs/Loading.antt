@@ -3,7 +3,7 @@ use Rattle.std.specs.Prelude.{◌≡◌, ◌⊎◌, ℕ, Bool, false, ◌||◌, 
 use Rattle.std.specs.FinMap.{empty}
 use Rattle.std.specs.List.{list_any}
 use Rattle.rr_text.specs.Results.{◌>>=◌, unless}
-use Rattle.rr_base.specs.Schema.{Layout}
+use Rattle.rr_schema.specs.Schema.{Layout}
 use Rattle.rr_cells.specs.CellBounds.{NamedCell}
 use Rattle.rr_cells.specs.Holding.{Holding}
 use Rattle.rr_cells.specs.Joins.{join_cells}

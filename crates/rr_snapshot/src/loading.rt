@@ -2,8 +2,8 @@
 ghost use Rattle.std.specs.Prelude.{◌≡◌, ◌≤◌, Err, None, IfSome, IfOk, OnOk};
 ghost use Rattle.std.specs.Io.KnownBytes.{IsAtEnd};
 ghost use Rattle.std.specs.Option.{option_map};
-ghost use Rattle.rr_base.specs.Counted.{inner_of, failures_of, HasRisen};
-ghost use Rattle.rr_base.specs.Stream.{ConsumesSome};
+ghost use Rattle.rr_io.specs.Counted.{inner_of, failures_of, HasRisen};
+ghost use Rattle.rr_io.specs.Stream.{ConsumesSome};
 ghost use Rattle.rr_page.specs.PageReading.{is_after, cells_at};
 ghost use Rattle.rr_cells.specs.Listing.{owned_cell};
 ghost use Rattle.rr_replica.specs.Standing.{held};
@@ -12,11 +12,12 @@ ghost use Rattle.rr_parts.specs.Stream.{Digests, StreamMakes};
 ghost use Rattle.rr_snapshot.specs.Loading.{HasJoined, GivesIfRead, loaded_at};
 
 use rr_archive::Archive;
-use rr_base::{Counted, Origin, Schema};
 use rr_cells::Cell;
+use rr_io::Counted;
 use rr_page::{Version, follows};
 use rr_parts::{LoadFault, MAX_CELL_LEN, cell_from, digest_from, end_from, head_from};
 use rr_replica::Replica;
+use rr_schema::{Origin, Schema};
 use sha2::{Digest, Sha256};
 use std::alloc::Global;
 use std::io::Read;

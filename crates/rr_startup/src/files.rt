@@ -1,11 +1,12 @@
 //! The files that a node begins with.
 
-use rr_base::{Counted, Origin, Schema};
 use rr_config::{Config, ConfigFault};
+use rr_io::Counted;
 use rr_process::Ending;
 use rr_replica::Replica;
 use rr_report::ToolFault;
 use rr_ring::RingArchive;
+use rr_schema::{Origin, Schema};
 use rr_snapshot::{LoadFault, load};
 use std::fs;
 use std::io::BufReader;

@@ -8,7 +8,8 @@
 //! says that it has no node and ends with status 2.
 #![tactic(auto)]
 
-use rr_orders::{Ending, obey, read_order};
+use rr_cluster::Simulator;
+use rr_process::{Ending, obey, read_order};
 use rr_words::Order;
 use std::process::ExitCode;
 
@@ -22,7 +23,7 @@ fn refuse_to_serve(rt: &impl Eprint) -> ExitCode {
 fn main(rt: HostRuntime) -> ExitCode {
     let ending = match read_order(&rt) {
         Ok(Order::Serve { .. }) => return refuse_to_serve(&rt),
-        Ok(order) => match obey(&rt, &order) {
+        Ok(order) => match obey(&rt, &Simulator, &order) {
             Ok(ending) => ending,
             Err(fault) => Ending::Failed(fault),
         },

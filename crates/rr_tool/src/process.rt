@@ -1,14 +1,15 @@
 //! An order obeyed, and a node served over TCP.
 
-use rr_base::Origin;
+use rr_cluster::Simulator;
 use rr_desk::{Keeper, Reader, open};
 use rr_node::{
     Calling, Config, FileShelf, Listening, OpenGate, Seat, SystemClock, TcpSeats, serve_node,
 };
-use rr_orders::{Ending, obey, read_order};
+use rr_process::{Ending, obey, read_order};
 use rr_replica::Replica;
 use rr_report::ToolFault;
 use rr_ring::RingArchive;
+use rr_schema::Origin;
 use rr_startup::{first_replica, read_config};
 use rr_words::Order;
 use std::alloc::AllocError;
@@ -222,7 +223,7 @@ where
         save,
     } = &order
     else {
-        return match obey(rt, &order) {
+        return match obey(rt, &Simulator, &order) {
             Ok(ending) => ending,
             Err(fault) => Ending::Failed(fault),
         };

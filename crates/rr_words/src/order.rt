@@ -1,7 +1,7 @@
 //! What a command line asks for.
 
-use rr_base::Origin;
 use rr_line::Precision;
+use rr_schema::Origin;
 
 /// What the words of a command line ask for.
 #[derive(Debug, Drop, PartialEq, Eq)]

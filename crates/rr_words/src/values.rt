@@ -5,8 +5,8 @@ ghost use Rattle.clap.specs.Words.{found_of, first_of, rows_of};
 ghost use Rattle.rr_words.specs.Words.{moment_at, origin_in, precision_at};
 
 use clap::ArgMatches;
-use rr_base::Origin;
 use rr_line::Precision;
+use rr_schema::Origin;
 use rr_text::text::{integer, number};
 use std::alloc::{AllocError, Global};
 

@@ -6,7 +6,7 @@ use Rattle.std.specs.List.{AllByRecursion}
 use Rattle.std.specs.Ordering.{eq_by_cmp}
 use Rattle.std.proofs.lemmas.Bool.{eqb-true, leb-true}
 use Rattle.rr_archive.specs.declared.archive.Archive.{Ghosts}
-use Rattle.rr_base.specs.Schema.{Layout, IsLayout}
+use Rattle.rr_schema.specs.Schema.{Layout, IsLayout}
 use Rattle.rr_contrib.specs.declared.contribution.Contribution.{Contribution}
 use Rattle.rr_join.specs.Maps.{trimmed}
 use Rattle.rr_join.proofs.Booleans.{and_first, and_second}

@@ -9,7 +9,7 @@ use Rattle.std.proofs.lemmas.List.Elements.{All-map}
 use Rattle.std.proofs.lemmas.List.{drop-map, length-map, length-take, take-map, take_all}
 use Rattle.rr_text.specs.declared.limits.TheConstants.{MAX_PAGE_CELLS}
 use Rattle.rr_text.specs.Results.{check}
-use Rattle.rr_base.specs.Schema.{Layout, IsLayout}
+use Rattle.rr_schema.specs.Schema.{Layout, IsLayout}
 use Rattle.rr_delta.specs.Difference.{IsSummary, newer_cells}
 use Rattle.rr_delta.specs.declared.name.Name.{Name}
 use Rattle.rr_delta.specs.Names.{named_version, owned_name, versions_of}

@@ -6,7 +6,7 @@ use Rattle.std.specs.FinMap as map
 use Rattle.rr_archive.specs.declared.archive.Archive.{Ghosts}
 use Rattle.rr_text.specs.declared.limits.TheConstants.{MAX_PAGE_CELLS}
 use Rattle.rr_text.specs.Results.{check}
-use Rattle.rr_base.specs.Schema.{Layout}
+use Rattle.rr_schema.specs.Schema.{Layout}
 use Rattle.rr_join.specs.Values.{map_values}
 use Rattle.rr_join.proofs.ValuesLemmas.{insert_cases, map_values-insert}
 use Rattle.rr_model.specs.Knowledge.{Knowledge, part}

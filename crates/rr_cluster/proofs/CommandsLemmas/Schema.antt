@@ -2,10 +2,10 @@
 use Rattle.std.proofs.Common.{◌≡◌, ℕ, List, Some, None, Option, refl, sym, ◌∙◌}
 use Rattle.std.specs.Prelude.{ok_or}
 use Rattle.std.specs.FinMap.{get-empty}
-use Rattle.rr_base.specs.declared.fault.SchemaFault.{SchemaFault}
-use Rattle.rr_base.specs.Check.{schema_fault}
-use Rattle.rr_base.specs.Schema.{Layout, IsLayout}
-use Rattle.rr_base.proofs.Checked.{checked_layout}
+use Rattle.rr_schema.specs.declared.fault.SchemaFault.{SchemaFault}
+use Rattle.rr_schema.specs.Check.{schema_fault}
+use Rattle.rr_schema.specs.Schema.{Layout, IsLayout}
+use Rattle.rr_schema.proofs.Checked.{checked_layout}
 use Rattle.rr_cells.specs.Cells.{Cells}
 use Rattle.rr_cells.specs.State.{state}
 use Rattle.rr_text.specs.Bytes.{bytes_cmp}

@@ -3,7 +3,7 @@ use Rattle.std.specs.Prelude.{ℕ, List, [], ◌∷◌, ◌++◌, Result, Ok, ok
 use Rattle.std.specs.FinMap.{get, entries}
 use Rattle.hex.specs.Hex.{encode_lower}
 use Rattle.rr_text.specs.declared.bytes.TheConstants.{LINE_FEED}
-use Rattle.rr_base.specs.Schema.{Layout}
+use Rattle.rr_schema.specs.Schema.{Layout}
 use Rattle.rr_page.specs.Page.{page_text}
 use Rattle.rr_page.specs.Version.{latest}
 use Rattle.rr_cells.specs.Cells.{Cells}

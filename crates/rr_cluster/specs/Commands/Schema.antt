@@ -1,8 +1,8 @@
 -- schema STEP S:R:N/D ..
 use Rattle.std.specs.Prelude.{ℕ, List, Option, None, Some, Result, Ok, Err, ok_or}
-use Rattle.rr_base.specs.declared.fault.SchemaFault.{SchemaFault}
-use Rattle.rr_base.specs.Schema.{Layout}
-use Rattle.rr_base.specs.Check.{schema_fault}
+use Rattle.rr_schema.specs.declared.fault.SchemaFault.{SchemaFault}
+use Rattle.rr_schema.specs.Schema.{Layout}
+use Rattle.rr_schema.specs.Check.{schema_fault}
 use Rattle.rr_cluster.specs.declared.fault.CommandFault.{CommandFault}
 use Rattle.rr_cluster.specs.declared.fault.CommandFault.TheVariants.{BadNumber, Schema}
 use Rattle.rr_cluster.specs.declared.words.TheConstants.{MAX_U32}

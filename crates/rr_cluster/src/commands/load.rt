@@ -11,8 +11,9 @@ use crate::fault::CommandFault;
 use crate::stop::Stop;
 use crate::words::{is_name, origin_of};
 use rr_archive::Archive;
-use rr_base::{Counted, Origin, Schema};
+use rr_io::Counted;
 use rr_replica::Replica;
+use rr_schema::{Origin, Schema};
 use rr_snapshot::{LoadFault, load};
 use std::alloc::Global;
 

@@ -12,7 +12,7 @@ use crate::fault::CommandFault;
 use crate::stop::Stop;
 use crate::words::is_name;
 use rr_archive::Archive;
-use rr_base::Counted;
+use rr_io::Counted;
 use rr_replica::Replica;
 use rr_snapshot::save;
 use std::alloc::Global;

@@ -1,7 +1,8 @@
 //! The program as a process: its words and streams, and how it ends.
 
 use crate::tests::fake_process::Process;
-use rr_orders::{Ending, obey, read_order};
+use rr_cluster::Simulator;
+use rr_process::{Ending, obey, read_order};
 use std::fs;
 use std::test::Fail;
 
@@ -11,7 +12,7 @@ const SCRIPT: &[u8] =
 /// Obeys the order of a process's words, and says how that ended.
 fn run(process: &Process<'_>) -> Ending {
     match read_order(process) {
-        Ok(order) => match obey(process, &order) {
+        Ok(order) => match obey(process, &Simulator, &order) {
             Ok(ending) => ending,
             Err(fault) => Ending::Failed(fault),
         },

@@ -1,10 +1,11 @@
 //! Lines checked from a stream to another: where a stream fails, or holds bytes back.
 
 use rr_base::Counted;
+use rr_cluster::Simulator;
 use rr_fakes::holding::Holding;
 use rr_fakes::pieces::{failing_after, in_pieces};
 use rr_line::Precision;
-use rr_orders::obey_order;
+use rr_process::obey_order;
 use rr_report::{ToolFault, check_lines};
 use rr_words::Order;
 use std::alloc::Global;
@@ -39,7 +40,13 @@ fn passed_on(alloc: Global, order: &Order, input: &[u8]) -> Result<Vec<u8>, Fail
         held: Vec::new(alloc),
         passed: &mut passed,
     });
-    let done = obey_order(alloc, order, &mut in_pieces(input, 100), &mut output);
+    let done = obey_order(
+        alloc,
+        &Simulator,
+        order,
+        &mut in_pieces(input, 100),
+        &mut output,
+    );
     drop(output);
     done?;
     Ok(passed)

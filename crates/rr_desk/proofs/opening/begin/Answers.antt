@@ -1,6 +1,6 @@
 use Rattle.std.proofs.Common.{rules, ◌≡◌, All, subst}
 use Rattle.left_right.specs.Sides.{view}
-use Rattle.rr_base.specs.Schema.{Layout}
+use Rattle.rr_schema.specs.Schema.{Layout}
 use Rattle.rr_replica.specs.Standing.{held}
 use Rattle.rr_copies.specs.declared.rule.View.{View}
 use Rattle.rr_copies.specs.Rule.{keeper_of}

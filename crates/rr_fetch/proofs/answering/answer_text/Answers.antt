@@ -1,7 +1,7 @@
 use Rattle.std.proofs.Common.{◌≡◌, ◌+ℤ◌, ◌*ℤ◌, ◌++◌, List, ℕ, pos, sym, ap, ◌∙◌, subst, rules}
 use Rattle.std.proofs.Math.Facts.{to_z-of_z}
 use Rattle.std.specs.Int.{w64}
-use Rattle.rr_base.specs.Schema.{span}
+use Rattle.rr_schema.specs.Schema.{span}
 use Rattle.rr_model.specs.FetchText.{record_text}
 use Rattle.rr_cells.specs.Cells.{row_at, rows_at}
 use Rattle.rr_fetch.specs.Answers.{value_of_cells}

@@ -1,6 +1,6 @@
 use Rattle.std.proofs.Common.{sym, ap, ◌∙◌}
 use Rattle.std.proofs.lemmas.Result.{err_from_is_err_and}
-use Rattle.rr_base.specs.Counted.{inner_of}
+use Rattle.rr_io.specs.Counted.{inner_of}
 use Rattle.rr_gossip.specs.declared.fault.GossipFault.TheVariants.{WriteFailed}
 use Rattle.rr_gossip.specs.declared.giver.Giver.{Giver}
 use Rattle.rr_gossip.specs.Giver.{giver_takes}

@@ -2,7 +2,7 @@ use Rattle.std.proofs.Common.{◌++◌, ◌∷◌, [], refl, sym, subst, ◌∙�
 use Rattle.std.specs.Io.KnownBytes.{Appends}
 use Rattle.std.proofs.KnownBytes.{Appends-kept, Appends-nil, Appends-trans}
 use Rattle.std.proofs.lemmas.Result.{err_from_is_err_and}
-use Rattle.rr_base.proofs.StreamLemmas.{prefix_kept}
+use Rattle.rr_io.proofs.StreamLemmas.{prefix_kept}
 use Rattle.rr_gossip.specs.Session.{reply_left}
 use Rattle.rr_gossip.proofs.GivingLemmas.{all_replied, cannot_reply, first_replies, one_replied, reply_unwritten}
 use Rattle.rr_gossip.proofs.SendLemmas.{concat_more, frames_before, frames_front, frames_whole}

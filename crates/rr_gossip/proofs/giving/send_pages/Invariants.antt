@@ -1,7 +1,7 @@
 use Rattle.std.proofs.Common.{◌≡◌, ◌≤◌, ◌-◌, List, ℕ}
 use Rattle.std.specs.Io.KnownBytes.{Appends}
 use Rattle.std.specs.List.{concat}
-use Rattle.rr_base.specs.Counted.{inner_of, failures_of}
+use Rattle.rr_io.specs.Counted.{inner_of, failures_of}
 use Rattle.rr_gossip.specs.Session.{reply_left}
 use Rattle.rr_gossip.proofs.GivingLemmas.{Replies}
 use Rattle.rr_gossip.proofs.giving.send_pages.Given as goal

@@ -1,6 +1,6 @@
 use Rattle.std.proofs.Common.{◌++◌, ◌∷◌, [], drop, refl, sym, ap, subst, ◌∙◌, inl, inr, arith}
 use Rattle.std.proofs.lemmas.Result.{err_from_is_err_and}
-use Rattle.rr_base.specs.Counted.{inner_of}
+use Rattle.rr_io.specs.Counted.{inner_of}
 use Rattle.rr_gossip.specs.Stream.{WasRead}
 use Rattle.rr_gossip.specs.declared.fault.GossipFault.TheVariants.{Ended, Memory, ReadFailed}
 use Rattle.rr_gossip.proofs.GivingLemmas.{none_heard, frame_heard, giver_moves, giver_stops, hears_of_frame}

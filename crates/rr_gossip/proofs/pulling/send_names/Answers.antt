@@ -2,7 +2,7 @@ use Rattle.std.proofs.Common.{◌++◌, ◌∷◌, [], sym, subst, ◌∙◌, ar
 use Rattle.std.specs.Io.KnownBytes.{Appends}
 use Rattle.std.proofs.KnownBytes.{Appends-kept, Appends-nil, Appends-trans}
 use Rattle.std.proofs.lemmas.Result.{err_from_is_err_and}
-use Rattle.rr_base.proofs.StreamLemmas.{prefix_kept}
+use Rattle.rr_io.proofs.StreamLemmas.{prefix_kept}
 use Rattle.rr_gossip.proofs.SendLemmas.{all_sent, cannot_send, concat_more, first_sends, frames_before, frames_front, frames_whole, not_written, one_sent}
 use Rattle.rr_gossip.proofs.StepLemmas.{err_is}
 use Rattle.rr_gossip.proofs.pulling.send_names.Goals as goal

@@ -1,5 +1,5 @@
 use Rattle.std.proofs.Common.{◌≡◌, ◌≤◌, ◌-◌, [], List, ℕ, Ok, length}
-use Rattle.rr_base.specs.Counted.{inner_of, failures_of}
+use Rattle.rr_io.specs.Counted.{inner_of, failures_of}
 use Rattle.rr_gossip.specs.Stream.{WasRead}
 use Rattle.rr_gossip.specs.Transcript.{contents, puller_after}
 use Rattle.rr_gossip.proofs.pulling.take_pages.Given as goal

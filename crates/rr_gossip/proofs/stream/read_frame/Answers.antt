@@ -1,5 +1,5 @@
 use Rattle.std.proofs.lemmas.Result.{err_from_is_err_and}
-use Rattle.rr_base.specs.Counted.{inner_of}
+use Rattle.rr_io.specs.Counted.{inner_of}
 use Rattle.rr_gossip.proofs.StreamLemmas.{breaks_off_length, breaks_off_long, frame_after, off_after}
 use Rattle.rr_gossip.proofs.stream.read_frame.Goals as goal
 

@@ -1,7 +1,7 @@
 use Rattle.std.proofs.Common.{◌++◌, ◌≤◌, refl, inl, length, take, arith}
 use Rattle.std.proofs.lemmas.List.{length-append, length-take}
 use Rattle.std.proofs.lemmas.Result.{err_from_is_err_and}
-use Rattle.rr_base.proofs.StreamLemmas.{added_more}
+use Rattle.rr_io.proofs.StreamLemmas.{added_more}
 use Rattle.rr_gossip.proofs.stream.read_until.Goals as goal
 
 pub returns-in_err-extend_from_slice-clause-stopped : goal.returns-in_err-extend_from_slice-clause-stopped

@@ -1,5 +1,5 @@
 use Rattle.std.proofs.Common.{◌-◌, ◌≤◌, length}
-use Rattle.rr_base.specs.Counted.{inner_of, failures_of}
+use Rattle.rr_io.specs.Counted.{inner_of, failures_of}
 use Rattle.rr_gossip.specs.Stream.{Grows}
 use Rattle.rr_gossip.proofs.stream.read_until.Given as goal
 

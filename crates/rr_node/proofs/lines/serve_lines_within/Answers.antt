@@ -1,8 +1,8 @@
 use Rattle.std.proofs.Common.{◌≡◌, [], ◌++◌, false, take, ap, ◌∙◌, arith, rules}
 use Rattle.std.proofs.KnownBytes.{Consumes-nil, Consumes-trans, Appends-nil, Appends-trans}
 use Rattle.std.proofs.lemmas.Result.{err_from_is_err_and}
-use Rattle.rr_base.proofs.CountLemmas.{no_call, HasRisenBy-more, one_more_at_most}
-use Rattle.rr_base.specs.Counted.{inner_of}
+use Rattle.rr_io.proofs.CountLemmas.{no_call, HasRisenBy-more, one_more_at_most}
+use Rattle.rr_io.specs.Counted.{inner_of}
 use Rattle.rr_feed.specs.Feed.{FeedState}
 use Rattle.rr_node.specs.Lines.{Run}
 use Rattle.rr_host.proofs.ClockLemmas.{HasGiven-nil, HasGiven-trans}

@@ -1,5 +1,5 @@
 use Rattle.std.proofs.Common.{◌≡◌, ◌+◌, ◌≤◌, false}
-use Rattle.rr_base.specs.Counted.{inner_of, failures_of, reads_of, HasRisenBy}
+use Rattle.rr_io.specs.Counted.{inner_of, failures_of, reads_of, HasRisenBy}
 use Rattle.rr_node.specs.Lines.{rules_of}
 use Rattle.rr_node.proofs.LinesLemmas.{IsServing}
 use Rattle.rr_node.proofs.lines.serve_lines_within.Given as goal

@@ -1,5 +1,5 @@
 use Rattle.std.proofs.Common.{◌≤◌, length}
-use Rattle.rr_base.specs.Counted.{inner_of, failures_of}
+use Rattle.rr_io.specs.Counted.{inner_of, failures_of}
 use Rattle.rr_node.specs.Answering.{HasWritten}
 use Rattle.rr_node.specs.Fetches.{sight}
 use Rattle.rr_node.proofs.reader.answer_items.Given as goal

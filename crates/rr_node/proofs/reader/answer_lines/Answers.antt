@@ -1,7 +1,7 @@
 use Rattle.std.proofs.Common.{◌∷◌, ◌++◌, [], ap, ◌∙◌, arith, rules}
 use Rattle.std.proofs.lemmas.Result.{on_err_weaker}
-use Rattle.rr_base.proofs.CountLemmas.{no_call, HasRisenBy-more}
-use Rattle.rr_base.specs.Counted.{inner_of}
+use Rattle.rr_io.proofs.CountLemmas.{no_call, HasRisenBy-more}
+use Rattle.rr_io.specs.Counted.{inner_of}
 use Rattle.rr_feed.specs.Feed.{FeedState}
 use Rattle.rr_node.specs.Fetches.{sight, HasAnswered, HasAnsweredSome}
 use Rattle.rr_node.proofs.FetchesLemmas.{on_either, on_err, on_ok_both, seen_more, seen_same}

@@ -1,5 +1,5 @@
 use Rattle.std.proofs.Common.{◌≡◌, ◌≤◌, false}
-use Rattle.rr_base.specs.Counted.{inner_of, failures_of, reads_of, HasRisenBy}
+use Rattle.rr_io.specs.Counted.{inner_of, failures_of, reads_of, HasRisenBy}
 use Rattle.rr_node.specs.Fetches.{sight}
 use Rattle.rr_node.proofs.ServingLemmas.{SoFar}
 use Rattle.rr_node.proofs.reader.answer_lines.Given as goal

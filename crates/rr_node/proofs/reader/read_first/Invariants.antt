@@ -1,6 +1,6 @@
 use Rattle.std.proofs.Common.{◌≤◌, []}
 use Rattle.std.specs.Io.KnownBytes.{Consumes}
-use Rattle.rr_base.specs.Counted.{inner_of, failures_of, reads_of, HasRisenBy}
+use Rattle.rr_io.specs.Counted.{inner_of, failures_of, reads_of, HasRisenBy}
 use Rattle.rr_node.proofs.reader.read_first.Given as goal
 
 -- only interrupted reads were made

@@ -3,7 +3,7 @@ use Rattle.std.specs.Prelude.{nat_eq, not}
 use Rattle.std.specs.Cmp.Lexicographic.{pointwise}
 use Rattle.std.proofs.lemmas.List.{length-take}
 use Rattle.std.proofs.lemmas.Result.{err_from_is_err_and}
-use Rattle.rr_base.specs.Counted.{inner_of}
+use Rattle.rr_io.specs.Counted.{inner_of}
 use Rattle.rr_text.specs.Results.{unless}
 use Rattle.rr_page.specs.Reading.{front_at}
 use Rattle.rr_page.proofs.FrontLemmas.{IsFront-field}

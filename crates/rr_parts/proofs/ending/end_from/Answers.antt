@@ -1,6 +1,6 @@
 use Rattle.std.proofs.Common.{rules, ◌≡◌, take, length, arith, inr}
 use Rattle.std.proofs.lemmas.List.{length-take}
-use Rattle.rr_base.specs.Counted.{inner_of}
+use Rattle.rr_io.specs.Counted.{inner_of}
 use Rattle.rr_parts.proofs.ChainLemmas.{bytes_left, none_left_over}
 use Rattle.rr_parts.proofs.ending.end_from.Goals as goal
 

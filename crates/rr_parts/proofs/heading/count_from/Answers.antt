@@ -2,7 +2,7 @@ use Rattle.std.proofs.Common.{rules, ◌≡◌, ◌≤◌, take, length, arith, 
 use Rattle.std.specs.Int.{w32}
 use Rattle.std.proofs.lemmas.List.{length-take}
 use Rattle.std.proofs.lemmas.Result.{err_from_is_err_and}
-use Rattle.rr_base.specs.Counted.{inner_of}
+use Rattle.rr_io.specs.Counted.{inner_of}
 use Rattle.rr_page.specs.Reading.{number_at}
 use Rattle.rr_page.proofs.FrontLemmas.{IsFront-number}
 use Rattle.rr_parts.proofs.PieceLemmas.{piece_ok, piece_err}

@@ -1,7 +1,7 @@
 use Rattle.std.proofs.Common.{rules, ◌≡◌, ◌+◌, ◌≤◌, take, length, arith, inr}
 use Rattle.std.proofs.lemmas.List.{length-take}
 use Rattle.std.proofs.lemmas.Result.{err_from_is_err_and}
-use Rattle.rr_base.specs.Counted.{inner_of}
+use Rattle.rr_io.specs.Counted.{inner_of}
 use Rattle.rr_parts.specs.SnapshotReading.{start_at}
 use Rattle.rr_parts.proofs.PieceLemmas.{piece_ok, piece_err, IsFront-start, HasWidth-start}
 use Rattle.rr_parts.proofs.heading.start_into.Goals as goal

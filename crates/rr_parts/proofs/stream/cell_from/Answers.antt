@@ -2,7 +2,7 @@ use Rattle.std.proofs.Common.{◌≡◌, ap, take, length, arith, inl, inr}
 use Rattle.rr_parts.specs.Fault.{load_fault}
 use Rattle.std.proofs.lemmas.List.{length-take}
 use Rattle.std.proofs.lemmas.Result.{err_from_is_err_and}
-use Rattle.rr_base.specs.Counted.{inner_of}
+use Rattle.rr_io.specs.Counted.{inner_of}
 use Rattle.rr_cells.specs.Listing.{owned_cell}
 use Rattle.rr_parts.proofs.FrontLemmas.{read_then}
 use Rattle.rr_parts.proofs.StreamLemmas.{stream_ok, stream_err}

@@ -1,6 +1,6 @@
 use Rattle.std.proofs.Common.{rules, ◌≡◌, ◌<◌, ◌++◌, ◌∷◌, [], length, map, ap, sym, ◌∙◌, subst, get_or}
 use Rattle.std.specs.FinMap as fin
-use Rattle.rr_base.specs.declared.archive.ArchiveSpec.{ArchiveSpec}
+use Rattle.rr_schema.specs.declared.archive.ArchiveSpec.{ArchiveSpec}
 use Rattle.rr_replica.specs.Archives.{Each}
 use Rattle.rr_replica.proofs.Each.{each_more, map_more, take_more}
 use Rattle.rr_replica.proofs.archives.empty_archives.Goals as goal

@@ -1,7 +1,7 @@
 use Rattle.std.proofs.Common.{rules, ◌≡◌, ◌<◌, sym, ap, ◌∙◌, Some, slice_get, length, to_z, of_z, w64, arith}
 use Rattle.std.proofs.lemmas.Option.{slice_get-get_or}
 use Rattle.std.proofs.lemmas.Result.{on_ok_weaker, on_err_weaker}
-use Rattle.rr_base.specs.Schema.{slot_of}
+use Rattle.rr_schema.specs.Schema.{slot_of}
 use Rattle.rr_cells.proofs.Slots.{slot_is}
 use Rattle.rr_replica.proofs.Each.{map-set_same, sized_many}
 use Rattle.rr_replica.proofs.OneArchive.{same_at, joined_at}

@@ -1,7 +1,7 @@
 use Rattle.std.proofs.Common.{rules, ◌≡◌, ◌<◌, sym, ap, ◌∙◌, Some, slice_get, length, to_z, of_z, w64, arith}
 use Rattle.std.proofs.lemmas.Option.{slice_get-get_or}
 use Rattle.std.proofs.lemmas.Result.{on_ok_weaker}
-use Rattle.rr_base.specs.Schema.{slot_of}
+use Rattle.rr_schema.specs.Schema.{slot_of}
 use Rattle.rr_cells.proofs.Slots.{slot_is}
 use Rattle.rr_replica.proofs.Each.{map-set_same, sized_many, same_more, same_itself, ready_set}
 use Rattle.rr_replica.proofs.archives.make_cell_ready.Goals as goal

@@ -1,7 +1,7 @@
 use Rattle.std.proofs.Common.{rules, ◌≡◌, true, true≢false, length, Some, slice_get, sym, ◌∙◌, subst, arith, to_z, of_z, w64}
 use Rattle.std.specs.Prelude.{IsOk}
 use Rattle.std.proofs.lemmas.Option.{slice_get_within}
-use Rattle.rr_base.specs.Schema.{slot_of}
+use Rattle.rr_schema.specs.Schema.{slot_of}
 use Rattle.rr_archive.specs.CellSlots.{cell_slot}
 use Rattle.rr_cells.proofs.Slots.{slot_is}
 use Rattle.rr_replica.proofs.Each.{found_at, map-set_same, readied_none, readied_more, same_more, before_set}

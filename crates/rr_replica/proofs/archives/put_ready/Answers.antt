@@ -1,7 +1,7 @@
 use Rattle.std.proofs.Common.{rules, ⊎_elim, ◌≡◌, true≢false, length, Some, slice_get, sym, ◌∙◌, subst, arith, to_z, of_z, w64}
 use Rattle.std.specs.Prelude.{IsOk}
 use Rattle.std.proofs.lemmas.Bool.{cases_lt}
-use Rattle.rr_base.specs.Schema.{slot_of, place_of}
+use Rattle.rr_schema.specs.Schema.{slot_of, place_of}
 use Rattle.rr_cells.proofs.Slots.{slot_is}
 use Rattle.rr_replica.proofs.Each.{on_err_from, found_at, map-set_same, put_none, put_failed, put_more, put_all}
 use Rattle.rr_replica.proofs.archives.put_ready.Goals as goal

@@ -4,9 +4,9 @@ use Rattle.std.specs.Int.{w64}
 use Rattle.std.proofs.KnownBytes.{Consumes-nil, Consumes-trans, Appends-nil, Appends-trans}
 use Rattle.std.proofs.lemmas.Result.{on_ok_weaker, IfOk-weaker}
 use Rattle.std.specs.Io.KnownBytes.{Appends}
-use Rattle.rr_base.proofs.CountLemmas.{no_call, HasRisenBy-more, one_more_at_most}
-use Rattle.rr_base.specs.Counted.{inner_of}
-use Rattle.rr_base.specs.Stream.{AppendsPrefix}
+use Rattle.rr_io.proofs.CountLemmas.{no_call, HasRisenBy-more, one_more_at_most}
+use Rattle.rr_io.specs.Counted.{inner_of}
+use Rattle.rr_io.specs.Stream.{AppendsPrefix}
 use Rattle.rr_feed.specs.Feed.{FeedState}
 use Rattle.rr_report.specs.Report.{report_of, refused_count}
 use Rattle.rr_report.proofs.ReportLemmas.{HasReported-push}

@@ -1,5 +1,5 @@
 use Rattle.std.proofs.Common.{◌≡◌, ◌+◌, ◌≤◌, false}
-use Rattle.rr_base.specs.Counted.{inner_of, failures_of, reads_of, HasRisenBy}
+use Rattle.rr_io.specs.Counted.{inner_of, failures_of, reads_of, HasRisenBy}
 use Rattle.rr_report.proofs.StreamLemmas.{HasWritten}
 use Rattle.rr_report.proofs.check.check_lines_within.Given as goal
 

@@ -2,7 +2,7 @@ use Rattle.std.proofs.Common.{◌≡◌, ◌<◌, ◌≤◌, pos, neg_ℤ, ◌-�
 use Rattle.std.specs.Prelude.{unsigned_abs}
 use Rattle.std.specs.Int.{w64, int_div_euclid}
 use Rattle.std.proofs.Math.Facts.{to_z-of_z}
-use Rattle.rr_base.specs.Schema.{span}
+use Rattle.rr_schema.specs.Schema.{span}
 use Rattle.rr_text.specs.declared.limits.TheConstants.{MAX_FETCH_ROWS, MAX_SECOND}
 use Rattle.rr_request.proofs.RequestLemmas.{few, many, floor_below_ceil, some_rows}
 use Rattle.rr_request.proofs.request.rows_of.Goals as goal

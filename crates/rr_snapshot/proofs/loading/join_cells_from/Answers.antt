@@ -3,7 +3,7 @@ use Rattle.std.specs.Prelude.{◌==◌}
 use Rattle.std.proofs.KnownBytes.{Consumes-nil, Consumes-trans}
 use Rattle.std.proofs.lemmas.Result.{err_from_is_err_and}
 use Rattle.sha2.specs.Hashers.{Holds256}
-use Rattle.rr_base.specs.Counted.{inner_of}
+use Rattle.rr_io.specs.Counted.{inner_of}
 use Rattle.rr_model.specs.CellNames.{CellName}
 use Rattle.rr_page.specs.PageReading.{is_after, last_name}
 use Rattle.rr_page.proofs.LoopLemmas.{last_name_push}

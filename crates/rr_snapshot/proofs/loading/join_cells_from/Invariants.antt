@@ -1,7 +1,7 @@
 use Rattle.std.proofs.Common.{◌≡◌, ◌≤◌, List}
 use Rattle.std.specs.Option.{option_map}
-use Rattle.rr_base.specs.Counted.{inner_of, failures_of}
-use Rattle.rr_base.specs.Stream.{ConsumesSome}
+use Rattle.rr_io.specs.Counted.{inner_of, failures_of}
+use Rattle.rr_io.specs.Stream.{ConsumesSome}
 use Rattle.rr_page.specs.PageReading.{last_name}
 use Rattle.rr_cells.specs.CellBounds.{NamedCell}
 use Rattle.rr_cells.specs.Listing.{owned_cell}

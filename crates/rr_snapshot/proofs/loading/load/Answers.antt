@@ -2,8 +2,8 @@ use Rattle.std.proofs.Common.{ℕ, ◌≡◌, ◌⊎◌, ◌∙◌, ◌||◌, Bo
 use Rattle.std.specs.Prelude.{◌==◌}
 use Rattle.std.proofs.lemmas.Bool.{or_left, or_right, or_from}
 use Rattle.std.proofs.lemmas.Result.{err_from_is_err_and}
-use Rattle.rr_base.specs.Counted.{inner_of}
-use Rattle.rr_base.specs.Schema.{Layout}
+use Rattle.rr_io.specs.Counted.{inner_of}
+use Rattle.rr_schema.specs.Schema.{Layout}
 use Rattle.rr_page.specs.PageReading.{cells_at}
 use Rattle.rr_cells.specs.Holding.{Holding}
 use Rattle.rr_replica.specs.Standing.{held}

@@ -4,7 +4,7 @@ use Rattle.std.specs.Io.KnownBytes.{Appends}
 use Rattle.std.specs.List.{flat_map}
 use Rattle.std.specs.Option.{option_map}
 use Rattle.sha2.specs.Hashers.{Holds256}
-use Rattle.rr_base.specs.Counted.{inner_of, failures_of}
+use Rattle.rr_io.specs.Counted.{inner_of, failures_of}
 use Rattle.rr_page.specs.CellText.{cell_text}
 use Rattle.rr_page.specs.Version.{latest}
 use Rattle.rr_cells.specs.Listing.{seen_cell}

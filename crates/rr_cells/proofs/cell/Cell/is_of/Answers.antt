@@ -1,5 +1,5 @@
 use Rattle.std.proofs.Common.{rules, ◌≡◌, to_z, of_z, w64}
-use Rattle.rr_base.specs.Origin.{IsOrigin}
+use Rattle.rr_schema.specs.Origin.{IsOrigin}
 use Rattle.rr_key.specs.Series.{IsKeyText}
 use Rattle.rr_cells.proofs.cell.Cell.is_of.Goals as goal
 

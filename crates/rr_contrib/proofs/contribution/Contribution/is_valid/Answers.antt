@@ -1,7 +1,7 @@
 use Rattle.std.proofs.Common.{rules, ◌≡◌, List, get_or, ap, ◌∙◌}
 use Rattle.std.proofs.lemmas.List.{get_or_default}
-use Rattle.rr_base.specs.declared.archive.ArchiveSpec.{ArchiveSpec}
-use Rattle.rr_base.specs.Schema.{slot_of, archive_at, place_of}
+use Rattle.rr_schema.specs.declared.archive.ArchiveSpec.{ArchiveSpec}
+use Rattle.rr_schema.specs.Schema.{slot_of, archive_at, place_of}
 use Rattle.rr_contrib.specs.Validity.{IsBounded}
 use Rattle.rr_contrib.proofs.contribution.Contribution.is_valid.Goals as goal
 use Rattle.rr_contrib.proofs.contribution.Contribution.is_valid.Goals.{then-is_bounded, else-is_bounded}

@@ -1,5 +1,5 @@
 use Rattle.std.proofs.Common.{true, ◌≡◌, ap, sym, subst}
-use Rattle.rr_base.specs.Schema.{Layout}
+use Rattle.rr_schema.specs.Schema.{Layout}
 use Rattle.rr_cells.specs.declared.cell.Cell.{Cell}
 use Rattle.rr_cells.specs.CellBounds.{is_cell_of}
 use Rattle.rr_cells.specs.Listing.{owned_cell}

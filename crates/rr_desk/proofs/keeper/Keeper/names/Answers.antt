@@ -1,5 +1,5 @@
 use Rattle.std.proofs.Common.{◌≡◌, All, IfOk, drop, map, subst, take, ap, ◌∙◌}
-use Rattle.rr_base.specs.Schema.{Layout}
+use Rattle.rr_schema.specs.Schema.{Layout}
 use Rattle.rr_cells.specs.Cells.{Cells}
 use Rattle.rr_delta.specs.Names.{IsNameOf, owned_name, versions_of}
 use Rattle.rr_copies.specs.Standing.{cells_of}

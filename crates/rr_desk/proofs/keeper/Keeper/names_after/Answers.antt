@@ -1,6 +1,6 @@
 use Rattle.std.proofs.Common.{◌≡◌, All, IfOk, map, subst, take, ap, ◌∙◌}
 use Rattle.std.specs.FinMap.{entries}
-use Rattle.rr_base.specs.Schema.{Layout}
+use Rattle.rr_schema.specs.Schema.{Layout}
 use Rattle.rr_cells.specs.Cells.{Cells}
 use Rattle.rr_delta.specs.Names.{IsNameOf, name_in, named_version, owned_name}
 use Rattle.rr_delta.specs.Summaries.{cells_after}

@@ -1,8 +1,8 @@
 use Rattle.std.proofs.Common.{◌≡◌, ◌<◌, ◌↔◌, Err, OnOk, subst, ap, ◌∙◌}
 use Rattle.std.specs.FinMap.{entries, len}
 use Rattle.std.specs.Io.KnownBytes.{Appends}
-use Rattle.rr_base.specs.Counted.{inner_of}
-use Rattle.rr_base.specs.Stream.{AppendsPrefix}
+use Rattle.rr_io.specs.Counted.{inner_of}
+use Rattle.rr_io.specs.Stream.{AppendsPrefix}
 use Rattle.rr_page.specs.Version.{latest}
 use Rattle.rr_cells.specs.Cells.{Cells}
 use Rattle.rr_cells.specs.Holding.{Holding}

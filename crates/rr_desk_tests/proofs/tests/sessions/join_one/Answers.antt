@@ -1,5 +1,5 @@
 use Rattle.std.proofs.Common.{subst}
-use Rattle.rr_base.specs.Schema.{Layout}
+use Rattle.rr_schema.specs.Schema.{Layout}
 use Rattle.rr_cells.specs.CellBounds.{IsCellOf}
 use Rattle.rr_cells.specs.Listing.{owned_cell}
 use Rattle.rr_desk_tests.proofs.tests.sessions.join_one.Goals as goal

@@ -1,5 +1,5 @@
 use Rattle.std.proofs.Common.{◌<◌, length, sym, ap, ◌∙◌, subst}
-use Rattle.rr_base.specs.SchemaBytes.{schema_bytes}
+use Rattle.rr_schema.specs.SchemaBytes.{schema_bytes}
 use Rattle.rr_gossip.specs.declared.frame.TheConstants.{MAX_FRAME_LEN}
 use Rattle.rr_gossip.specs.declared.summary.TheConstants.{MAX_ENTRIES}
 use Rattle.rr_gossip.proofs.LengthLemmas.{schema_fits, few_listed, summary_fits}

@@ -1,7 +1,7 @@
 use Rattle.std.proofs.Common.{[], refl, ap, ◌∙◌}
 use Rattle.std.proofs.lemmas.List.{append-nil}
 use Rattle.std.proofs.KnownBytes.{Appends-kept}
-use Rattle.rr_base.proofs.StreamLemmas.{prefix_kept}
+use Rattle.rr_io.proofs.StreamLemmas.{prefix_kept}
 use Rattle.rr_feed.specs.Feed.{FeedState}
 use Rattle.rr_report.proofs.ReportLemmas.{HasReported-all, HasReported-end}
 use Rattle.rr_report.proofs.StreamLemmas.{report_of_all}

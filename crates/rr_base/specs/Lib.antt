@@ -1,9 +1,0 @@
-pub mod Origin
-pub mod Schema
-pub mod Fault
-pub mod Check
-pub mod Choice
-pub mod Counted
-pub mod Stream
-pub mod Document
-pub mod SchemaBytes

@@ -1,0 +1,22 @@
+use Rattle.std.proofs.Common.{◌-◌, ◌≤◌, length, drop, arith, rules, length-drop, length-take-le}
+use Rattle.std.proofs.KnownBytes.{Consumes-trans}
+use Rattle.rr_io.proofs.StreamLemmas.{filled_more}
+use borrow.Rule.Slice.PartMut.{same_len_mid}
+use Rattle.rr_io.proofs.stream.fill.Goals as goal
+
+pub loop-filled-preserved : goal.loop-filled-preserved
+loop-filled-preserved g c =
+    let old = c.loop-filled.buf in
+    let new = c.read_some.new.buf in
+    let at = c.loop-filled.filled in
+    let given = c.in_ok-given.given in
+    let bound : given ≤ length new = c.in_ok-given.ensures.bound.0 in
+    let part = length-take-le (length old - at) (drop at old) (omega (arith, length-drop at old)) in
+    let same = same_len_mid at (length old - at) old new (c.read_some.auto.buf) in
+    let front = filled_more old new at given (omega arith) bound in
+    let taken = Consumes-trans _ _ _ _ _ c.loop-filled.invariant.taken (c.in_ok-given.ensures.bytes.0) in
+    record {
+      within = omega (arith, same, part, c.read_some.auto.buf);
+      taken = rw (front) taken;
+      count = search rules;
+    }

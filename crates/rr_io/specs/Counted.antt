@@ -1,0 +1,33 @@
+-- What a counted stream shows, and what a failed call does to its count.
+use Rattle.std.specs.Prelude.{◌≡◌, ℕ, ◌+◌, ◌-◌, ◌^◌, ◌<◌, Bool, true, not, ◌&&◌, ◌==◌, min, Result, Ok, Err, ◌⊎◌, if◌then◌else◌}
+use Rattle.rr_io.specs.declared.counted.Counted.{Counted}
+
+-- the reader or writer inside
+abbrev pub inner_of : {S : Type 0} → Counted S → S
+inner_of c = c.inner
+
+-- how many times it was read, up to the greatest number of 64 bits
+abbrev pub reads_of : {S : Type 0} → Counted S → ℕ
+reads_of c = c.reads
+
+-- how many of its calls failed, up to the greatest number of 64 bits
+abbrev pub failures_of : {S : Type 0} → Counted S → ℕ
+failures_of c = c.failures
+
+-- one call more: the greatest number stays
+abbrev pub one_more : ℕ → ℕ
+one_more n = if n == 2 ^ 64 - 1 then n else n + 1
+
+-- a write of a piece of this length failed: it says so, or took no byte of a piece that isn't empty
+abbrev pub is_failed_write : {E : Type 0} → Result ℕ E → ℕ → Bool
+is_failed_write (Ok taken) len = (taken == 0) && not (len == 0)
+is_failed_write (Err e) len = true
+
+-- a call failed since the count was `old`, as far as counts can tell: it rose, or is at its greatest value
+abbrev pub HasRisen : ℕ → ℕ → Type 0
+HasRisen old new = (old < new) ⊎ (new ≡ 2 ^ 64 - 1)
+
+-- this many calls were made since the count was `old`, a number of 64 bits: it rose by them, up to
+-- the greatest one
+abbrev pub HasRisenBy : ℕ → ℕ → ℕ → Type 0
+HasRisenBy n old new = old < 2 ^ 64 → new ≡ min (old + n) (2 ^ 64 - 1)

@@ -1,0 +1,279 @@
+//! Reads and writes of counted streams.
+//!
+//! A call that a signal interrupted is made again, so that a signal ends no connection, but at most
+//! [`MAX_INTERRUPTS`] times in a row, or, where the reads of an input are limited, within that
+//! limit. A stream that is never done then ends with its fault. Each of these calls counts as
+//! failed, and each read counts as a read.
+//!
+//! Whoever reads an input to its end in pieces of its own calls [`read_once`] in a loop of at most
+//! as many turns as the input may take reads, as [`read_to_end_within`] does.
+
+ghost use Rattle.std.specs.Prelude.{◌≡◌, ◌<◌, ◌≤◌, ◌+◌, ◌++◌, Ok, Err, None, Some, length, take, IfSome, IfOk, OnOk, OnErr};
+ghost use Rattle.std.specs.Io.{ReadsAtMost, WritesAtMost};
+ghost use Rattle.std.specs.Io.KnownBytes.{Appends, Consumes, IsAtEnd, Keeps, ReadConsumes, WriteAppends};
+ghost use Rattle.rr_io.specs.Counted.{inner_of, failures_of, reads_of, one_more, HasRisen, HasRisenBy};
+ghost use Rattle.rr_text.specs.declared.limits.TheConstants.{MAX_READS};
+ghost use Rattle.rr_io.specs.Stream.{AddsFront, AppendsPrefix, ConsumesSome, ReadsOnce};
+
+use crate::counted::Counted;
+use rr_text::limits::MAX_READS;
+use std::alloc::AllocError;
+use std::fmt;
+use std::io::{ErrorKind, Read, Write};
+use thiserror::Error;
+
+/// How many times in a row a call is made that signals interrupt.
+pub const MAX_INTERRUPTS: u32 = 16;
+
+/// How many bytes a read of a whole input asks for.
+const PIECE: usize = 4_096;
+
+/// A reader failed.
+#[derive(Clone, Copy, Debug, PartialEq, Eq, Error)]
+#[error("the input could not be read")]
+pub struct ReadFailed;
+
+/// A writer failed, or took nothing.
+#[derive(Clone, Copy, Debug, PartialEq, Eq, Error)]
+#[error("the output could not be written")]
+pub struct WriteFailed;
+
+/// Makes one read into the front of `buf`, and answers how many bytes it gave: none only at the end
+/// of the input, or where `buf` is empty. `None` is a read that a signal interrupted, and that is to
+/// be made again. Such a read, and one that failed, took no byte of the input.
+pub fn read_once<R: Read>(
+    input: &mut Counted<R>,
+    buf: &mut [u8],
+) -> Result<Option<usize>, ReadFailed>
+    ensures bytes { ReadsOnce (R.remaining (inner_of input.old))
+        (R.remaining (inner_of input.new)) result buf.new }
+    ensures reads { reads_of input.new ≡ one_more (reads_of input.old) }
+    ensures count { failures_of input.old ≤ failures_of input.new }
+    ensures interrupted { result ≡ Ok None
+        → HasRisen (failures_of input.old) (failures_of input.new) }
+    ensures failed { OnErr result (HasRisen (failures_of input.old) (failures_of input.new)) }
+{
+    match input.read(buf) {
+        Ok(given) => Ok(Some(given)),
+        Err(error) => {
+            if error.kind() != ErrorKind::Interrupted {
+                return Err(ReadFailed);
+            }
+            Ok(None)
+        }
+    }
+}
+
+/// Reads some bytes into the front of `buf`, and answers how many: none only at the end of the
+/// input, or where `buf` is empty. A read that failed took no byte of the input.
+pub fn read_some<R: Read>(input: &mut Counted<R>, buf: &mut [u8]) -> Result<usize, ReadFailed>
+    ensures bound { ReadsAtMost result buf.new }
+    ensures bytes { ReadConsumes (R.remaining (inner_of input.old))
+        (R.remaining (inner_of input.new)) result buf.new }
+    ensures count { failures_of input.old ≤ failures_of input.new }
+    ensures failed { OnErr result (HasRisen (failures_of input.old) (failures_of input.new)) }
+{
+    for _ in 0..MAX_INTERRUPTS {
+        if let Some(given) = read_once(input, buf)? {
+            return Ok(given);
+        }
+    }
+    Err(ReadFailed)
+}
+
+/// Reads until `buf` is full or the input ends, and answers how many bytes it put into the front of
+/// `buf`. After a failure some bytes may have been taken from the input.
+pub fn fill<R: Read>(input: &mut Counted<R>, buf: &mut [u8]) -> Result<usize, ReadFailed>
+    ensures bound { IfOk result (λ filled. filled ≤ length buf.new) }
+    ensures bytes { IfOk result (λ filled. Consumes (R.remaining (inner_of input.old))
+        (R.remaining (inner_of input.new)) (take filled buf.new)) }
+    ensures end { IfOk result (λ filled. filled < length buf.new
+        → IsAtEnd (R.remaining (inner_of input.new))) }
+    ensures front { ConsumesSome (R.remaining (inner_of input.old))
+        (R.remaining (inner_of input.new)) }
+    ensures count { failures_of input.old ≤ failures_of input.new }
+    ensures failed { OnErr result (HasRisen (failures_of input.old) (failures_of input.new)) }
+{
+    let mut filled = 0;
+    while filled < buf.len() {
+        let given = read_some(input, &mut buf[filled..])?;
+        if given == 0 {
+            return Ok(filled);
+        }
+        filled += given;
+    }
+    Ok(filled)
+}
+
+/// Why an input can't be read to its end.
+#[derive(Clone, Copy, Debug, PartialEq, Eq, Error)]
+pub enum ReadFault {
+    /// The reader failed.
+    ReadFailed,
+    /// The input didn't end within the reads that it may take.
+    TooManyReads,
+    /// Memory ran out.
+    Memory,
+}
+
+impl ReadFault {
+    ghost use Rattle.rr_io.specs.Fault.{read_fault_name};
+
+    /// The printed name.
+    pub fn name(&self) -> &'static str
+        ensures { result.now ≡ read_fault_name self.now }
+    {
+        match self {
+            ReadFault::ReadFailed => "ReadFailed",
+            ReadFault::TooManyReads => "TooManyReads",
+            ReadFault::Memory => "Memory",
+        }
+    }
+
+    fn sentence(&self) -> &'static str {
+        match self {
+            ReadFault::ReadFailed => "the input could not be read",
+            ReadFault::TooManyReads => "the input did not end within the reads that it may take",
+            ReadFault::Memory => "out of memory",
+        }
+    }
+}
+
+impl fmt::Display for ReadFault {
+    fn fmt<W: fmt::Write>(&self, f: &mut fmt::Formatter<W>) -> fmt::Result {
+        f.write_str(self.sentence())
+    }
+}
+
+impl From<ReadFailed> for ReadFault {
+    ghost use Rattle.rr_io.specs.declared.stream.ReadFault.TheVariants.{ReadFailed};
+
+    ghost from_gives = { λ _ e. e ≡ ReadFailed };
+
+    fn from(_e: ReadFailed) -> ReadFault {
+        ReadFault::ReadFailed
+    }
+}
+
+impl From<AllocError> for ReadFault {
+    ghost use Rattle.rr_io.specs.declared.stream.ReadFault.TheVariants.{Memory};
+
+    ghost from_gives = { λ _ e. e ≡ Memory };
+
+    fn from(_e: AllocError) -> ReadFault {
+        ReadFault::Memory
+    }
+}
+
+/// Adds all that the input still has to `bytes`, as [`read_to_end_within`] the most reads that an
+/// input may take, [`MAX_READS`].
+pub fn read_to_end<R: Read>(input: &mut Counted<R>, bytes: &mut Vec<u8>) -> Result<(), ReadFault>
+    ensures whole { OnOk result (IfSome (R.remaining (inner_of input.old))
+        (λ rest. bytes.new.items ≡ bytes.old.items ++ rest)) }
+    ensures consumed { OnOk result (IfSome (R.remaining (inner_of input.old))
+        (Consumes (R.remaining (inner_of input.old)) (R.remaining (inner_of input.new)))) }
+    ensures front { AddsFront (R.remaining (inner_of input.old)) bytes.old.items bytes.new.items }
+    ensures count { failures_of input.old ≤ failures_of input.new }
+    ensures failed { result ≡ Err ReadFault.ReadFailed
+        → HasRisen (failures_of input.old) (failures_of input.new) }
+    ensures limit { reads_of input.new ≤ reads_of input.old + MAX_READS }
+    ensures too_many { result ≡ Err ReadFault.TooManyReads
+        → HasRisenBy MAX_READS (reads_of input.old) (reads_of input.new) }
+{
+    read_to_end_within(input, bytes, MAX_READS)
+}
+
+/// Adds all that the input still has to `bytes`, within a limit of reads.
+///
+/// Each call of the reader is a read: one that a signal interrupted, and the one that gives no byte,
+/// which is the end. `TooManyReads` is answered after `reads` calls that did not reach the end, and
+/// no further call is made. After a refusal a front of the input was added.
+pub fn read_to_end_within<R: Read>(
+    input: &mut Counted<R>,
+    bytes: &mut Vec<u8>,
+    reads: u32,
+) -> Result<(), ReadFault>
+    ensures whole { OnOk result (IfSome (R.remaining (inner_of input.old))
+        (λ rest. bytes.new.items ≡ bytes.old.items ++ rest)) }
+    ensures consumed { OnOk result (IfSome (R.remaining (inner_of input.old))
+        (Consumes (R.remaining (inner_of input.old)) (R.remaining (inner_of input.new)))) }
+    ensures front { AddsFront (R.remaining (inner_of input.old)) bytes.old.items bytes.new.items }
+    ensures count { failures_of input.old ≤ failures_of input.new }
+    ensures failed { result ≡ Err ReadFault.ReadFailed
+        → HasRisen (failures_of input.old) (failures_of input.new) }
+    ensures limit { reads_of input.new ≤ reads_of input.old + reads }
+    ensures too_many { result ≡ Err ReadFault.TooManyReads
+        → HasRisenBy reads (reads_of input.old) (reads_of input.new) }
+{
+    let mut buffer = [0u8; PIECE];
+    for _ in 0..reads {
+        let Some(given) = read_once(input, &mut buffer)? else {
+            continue;
+        };
+        if given == 0 {
+            return Ok(());
+        }
+        bytes.extend_from_slice(&buffer[..given])?;
+    }
+    Err(ReadFault::TooManyReads)
+}
+
+/// Writes some bytes from the front of a piece that has some, and answers how many.
+fn write_some<W: Write>(output: &mut Counted<W>, piece: &[u8]) -> Result<usize, WriteFailed>
+    requires { 0 < length piece.now }
+    ensures some_taken { IfOk result (λ taken. 0 < taken) }
+    ensures bound { WritesAtMost result piece.now }
+    ensures bytes { WriteAppends (W.contents (inner_of output.old))
+        (W.contents (inner_of output.new)) result piece.now }
+    ensures count { failures_of output.old ≤ failures_of output.new }
+    ensures failed { OnErr result (HasRisen (failures_of output.old) (failures_of output.new)) }
+{
+    for _ in 0..MAX_INTERRUPTS {
+        match output.write(piece) {
+            Ok(0) => return Err(WriteFailed),
+            Ok(taken) => return Ok(taken),
+            Err(error) => {
+                if error.kind() != ErrorKind::Interrupted {
+                    return Err(WriteFailed);
+                }
+            }
+        }
+    }
+    Err(WriteFailed)
+}
+
+/// Writes the text whole. Where that fails, a front of it was written.
+pub fn write_all<W: Write>(output: &mut Counted<W>, text: &[u8]) -> Result<(), WriteFailed>
+    ensures whole { OnOk result (Appends (W.contents (inner_of output.old))
+        (W.contents (inner_of output.new)) text.now) }
+    ensures front { AppendsPrefix (W.contents (inner_of output.old))
+        (W.contents (inner_of output.new)) text.now }
+    ensures count { failures_of output.old ≤ failures_of output.new }
+    ensures failed { OnErr result (HasRisen (failures_of output.old) (failures_of output.new)) }
+{
+    let mut rest = text;
+    while !rest.is_empty() {
+        let taken = write_some(output, rest)?;
+        rest = &rest[taken..];
+    }
+    Ok(())
+}
+
+/// Has the writer pass on what it holds back.
+pub fn flush<W: Write>(output: &mut Counted<W>) -> Result<(), WriteFailed>
+    ensures bytes { Keeps (W.contents (inner_of output.old)) (W.contents (inner_of output.new)) }
+    ensures count { failures_of output.old ≤ failures_of output.new }
+    ensures failed { OnErr result (HasRisen (failures_of output.old) (failures_of output.new)) }
+{
+    for _ in 0..MAX_INTERRUPTS {
+        match output.flush() {
+            Ok(()) => return Ok(()),
+            Err(error) => {
+                if error.kind() != ErrorKind::Interrupted {
+                    return Err(WriteFailed);
+                }
+            }
+        }
+    }
+    Err(WriteFailed)
+}

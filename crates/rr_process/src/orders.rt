@@ -1,0 +1,59 @@
+//! An order, obeyed over two streams.
+
+ghost use Rattle.std.specs.Prelude.{◌≡◌, ◌+◌, ◌≤◌, Err, IfSome, IfOk, OnOk};
+ghost use Rattle.std.specs.Io.KnownBytes.{Appends};
+ghost use Rattle.rr_io.specs.Counted.{inner_of, failures_of, reads_of, HasRisen, HasRisenBy};
+ghost use Rattle.rr_io.specs.Stream.{AppendsPrefix};
+ghost use Rattle.rr_text.specs.declared.limits.TheConstants.{MAX_READS};
+ghost use Rattle.rr_process.specs.Orders.{ending_of, output_of};
+ghost use Rattle.rr_words.specs.Words.{asked_by};
+
+use crate::ending::Ending;
+use crate::script::run_script;
+use rr_io::Counted;
+use rr_report::{ToolFault, check_lines};
+use rr_script::RunScript;
+use rr_words::Order;
+use std::alloc::Global;
+use std::io::{Read, Write};
+
+/// Obeys an order over two streams: its script, which `scripts` runs, or its lines are what `input` still
+/// has, and what they print is written to `output`. An order to serve has no such streams: nothing is
+/// read or written.
+///
+/// What is written is a front of that wherever a run ends.
+pub fn obey_order<S: RunScript, R: Read, W: Write>(
+    alloc: Global,
+    scripts: &S,
+    order: &Order,
+    input: &mut Counted<R>,
+    output: &mut Counted<W>,
+) -> Result<Ending, ToolFault>
+    ensures printed { OnOk result (IfSome (R.remaining (inner_of input.old))
+        (λ bytes. Appends (W.contents (inner_of output.old)) (W.contents (inner_of output.new)) (output_of S.output (asked_by order.now) bytes))) }
+    ensures ending { IfOk result (λ ending. IfSome (R.remaining (inner_of input.old))
+        (λ bytes. ending ≡ ending_of (asked_by order.now) bytes)) }
+
+    // What is written however the run ends.
+    ensures front { IfSome (R.remaining (inner_of input.old))
+        (λ bytes. AppendsPrefix (W.contents (inner_of output.old)) (W.contents (inner_of output.new)) (output_of S.output (asked_by order.now) bytes)) }
+
+    // When a stream is to blame.
+    ensures read_failed { result ≡ Err ToolFault.ReadFailed → HasRisen (failures_of input.old) (failures_of input.new) }
+    ensures limit { reads_of input.new ≤ reads_of input.old + MAX_READS }
+    ensures too_many { result ≡ Err ToolFault.TooManyReads
+        → HasRisenBy MAX_READS (reads_of input.old) (reads_of input.new) }
+    ensures write_failed { result ≡ Err ToolFault.WriteFailed → HasRisen (failures_of output.old) (failures_of output.new) }
+{
+    match order {
+        Order::Sim { file: _ } => {
+            run_script(alloc, scripts, input, output)?;
+            Ok(Ending::Done)
+        }
+        Order::CheckLines { precision, now } => {
+            let refused = check_lines(alloc, input, output, *precision, *now)?;
+            Ok(Ending::of_lines(refused))
+        }
+        Order::Serve { .. } => Ok(Ending::Done),
+    }
+}

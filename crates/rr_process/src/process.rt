@@ -1,0 +1,45 @@
+//! The streams of a process.
+
+use crate::ending::Ending;
+use crate::orders::obey_order;
+use rr_io::Counted;
+use rr_report::ToolFault;
+use rr_script::RunScript;
+use rr_words::Order;
+use std::rt::Files;
+use std::{fs, io};
+
+/// Obeys an order that has streams. The output goes to standard output, and the input comes from standard input, or
+/// from the script's file where one is named. A file that can't be opened is named on standard
+/// error.
+pub fn obey(
+    rt: &(impl AllocGlobal + Files + Input + Print + Eprint),
+    scripts: &impl RunScript,
+    order: &Order,
+) -> Result<Ending, ToolFault> {
+    let alloc = rt.alloc();
+    let mut output = Counted::new(io::writer(rt));
+    let Order::Sim { file: Some(file) } = order else {
+        return obey_order(
+            alloc,
+            scripts,
+            order,
+            &mut Counted::new(rt.reader()),
+            &mut output,
+        );
+    };
+    match fs::open(rt, file.as_str()) {
+        Ok(script) => obey_order(
+            alloc,
+            scripts,
+            order,
+            &mut Counted::new(script),
+            &mut output,
+        ),
+        Err(error) => {
+            // Where this can't be printed, the status still says that reading failed.
+            let _printed = eprintln!(rt; "rr: {file}: {error}");
+            Err(ToolFault::ReadFailed)
+        }
+    }
+}

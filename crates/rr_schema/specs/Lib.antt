@@ -1,0 +1,7 @@
+pub mod Origin
+pub mod Schema
+pub mod Fault
+pub mod Check
+pub mod Choice
+pub mod Document
+pub mod SchemaBytes
