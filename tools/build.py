@@ -32,6 +32,9 @@ TREES = TOP / ".build"
 # Memory that the proof of one crate may take, in bytes.
 CRATE_MEMORY = 4 * 1024**3
 
+# A way up to the program is short below this part of the longest.
+SHORT = 0.65
+
 # Seconds between two lines of progress.
 INTERVAL = 15
 
@@ -134,14 +137,13 @@ class Build:
                     shutil.copytree(source, tree / "crates" / it / part, copy_function=link)
         return tree / "crates" / name
 
-    def prove(self, name, jobs, longest):
-        """Proves a library over those below it, which are proved; one that isn't on the longest way gives
-        way to those that are."""
+    def prove(self, name, jobs, gives_way):
+        """Proves a library over those below it, which are proved; others may come before it."""
         folder, kept = self.plant(name, TREES / name), TOP / "crates" / name / "out"
         if kept.exists():
             kept.rename(folder / "out")
         try:
-            priority = [] if longest else ["nice"]
+            priority = ["nice"] if gives_way else []
             self.run(folder, *priority, "rt", "lib", "--jobs", str(jobs))
         finally:
             self.give_back(name)
@@ -160,16 +162,18 @@ class Build:
         return {name: way for name, way in ways.items() if name not in self.proved}
 
     def begin(self, pool, most):
-        """Begins the proofs that can begin, first those of the longest ways; the longest of all takes
-        two jobs at least, and all together as many as there are cores."""
+        """Begins the proofs that can begin, first those of the longest ways. All together have as many
+        jobs as there are cores, since a further job costs more than it gains; those of ways that are much
+        shorter than the longest give way."""
         ways, running = self.ways(), {*self.running.values()}
         ready = [it for it in self.libraries if it in ways and it not in running and not ways.keys() & self.uses[it]]
         begins = sorted(ready, key=ways.get, reverse=True)[: most - len(running)]
-        jobs = max(1, most // max(1, len(begins) + len(running)))
+        longest = max(ways.values())
+        jobs, left = divmod(most, max(1, len(begins) + len(running)))
         for name in begins:
-            longest = ways[name] == max(ways.values())
-            number = max(2, jobs) if longest else min(2, jobs)
-            self.running[pool.submit(self.prove, name, number, longest)] = name
+            more = left > 0 and ways[name] == longest
+            gives_way = ways[name] < SHORT * longest
+            self.running[pool.submit(self.prove, name, jobs + more, gives_way)] = name
 
     def prove_all(self):
         most = most_proofs()
