@@ -46,9 +46,13 @@ serve_app = with_rule (with_rule bare_serve_app load_rule) save_rule
 abbrev pub bare_app : App
 bare_app = record { top = record (new_app (codes "rr")).top { no_binary_name = true }; subs = [] }
 
+-- with the command of scripts
+abbrev pub script_command_app : App
+script_command_app = with_subcommand bare_app sim_app.top
+
 -- with the commands over two streams
 abbrev pub stream_commands_app : App
-stream_commands_app = with_subcommand (with_subcommand bare_app sim_app.top) check_lines_app.top
+stream_commands_app = with_subcommand script_command_app check_lines_app.top
 
 abbrev pub program_app : App
 program_app = with_subcommand stream_commands_app serve_app.top

@@ -3,7 +3,7 @@
 ghost use Rattle.std.specs.Prelude.{◌≡◌, false, IfOk};
 ghost use Rattle.clap.specs.Words.{app_of, rule_of};
 ghost use Rattle.clap.specs.declared.builder.command.Command.TheViews.{out-Command as fields_of};
-ghost use Rattle.rr_words.specs.Program.{sim_app, precision_rule, now_rule, check_lines_app, config_rule, origin_rule, load_rule, save_rule, bare_serve_app, serve_app, bare_app, stream_commands_app, program_app};
+ghost use Rattle.rr_words.specs.Program.{sim_app, precision_rule, now_rule, check_lines_app, config_rule, origin_rule, load_rule, save_rule, bare_serve_app, serve_app, bare_app, script_command_app, stream_commands_app, program_app};
 
 use clap::{Arg, Command};
 use std::alloc::{AllocError, Global};
@@ -126,13 +126,18 @@ fn bare<'a>(alloc: Global) -> Result<Command<'a>, AllocError>
     Ok(program)
 }
 
+/// The program with the subcommand that runs scripts.
+fn script_command<'a>(alloc: Global) -> Result<Command<'a>, AllocError>
+    ensures { IfOk result (λ c. app_of c ≡ script_command_app) }
+{
+    bare(alloc)?.subcommand(sim(alloc)?)
+}
+
 /// The program with the subcommands that read one stream and write another.
 fn stream_commands<'a>(alloc: Global) -> Result<Command<'a>, AllocError>
     ensures { IfOk result (λ c. app_of c ≡ stream_commands_app) }
 {
-    bare(alloc)?
-        .subcommand(sim(alloc)?)?
-        .subcommand(check_lines(alloc)?)
+    script_command(alloc)?.subcommand(check_lines(alloc)?)
 }
 
 /// The program and its subcommands.
