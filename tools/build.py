@@ -46,10 +46,14 @@ class Failed(Exception):
     """A command of `rt` failed; has what it printed."""
 
 
+def room_for_proofs():
+    """How many crates memory has room to prove side by side."""
+    return max(1, os.sysconf("SC_PAGE_SIZE") * os.sysconf("SC_PHYS_PAGES") // CRATE_MEMORY)
+
+
 def most_proofs():
-    """How many crates are proved side by side."""
-    memory = os.sysconf("SC_PAGE_SIZE") * os.sysconf("SC_PHYS_PAGES")
-    return max(1, min(len(os.sched_getaffinity(0)), memory // CRATE_MEMORY))
+    """How many crates are proved side by side, each on a core of its own."""
+    return min(len(os.sched_getaffinity(0)), room_for_proofs())
 
 
 def link(source, target):
@@ -74,6 +78,7 @@ class Build:
         self.sizes = {name: self.size(name) for name in self.uses}
         self.proved = []
         self.running = {}
+        self.giving_way = set()
         self.commands = set()
         self.stopped = threading.Event()
         self.ended = threading.Event()
@@ -162,22 +167,35 @@ class Build:
         return {name: way for name, way in ways.items() if name not in self.proved}
 
     def begin(self, pool, most):
-        """Begins the proofs that can begin, first those of the longest ways. All together have as many
-        jobs as there are cores, since a further job costs more than it gains; those of ways that are much
-        shorter than the longest give way."""
+        """Begins the proofs that can begin, first those of the longest ways. Each has a core. Those of ways
+        that are much shorter than the longest give way, and no other waits for them. Cores that are left are
+        further jobs, which cost more than they gain while other crates wait; once all others are proved or
+        being proved, those that give way count no more."""
         ways, running = self.ways(), {*self.running.values()}
         ready = [it for it in self.libraries if it in ways and it not in running and not ways.keys() & self.uses[it]]
-        begins = sorted(ready, key=ways.get, reverse=True)[: most - len(running)]
+        ready.sort(key=ways.get, reverse=True)
         longest = max(ways.values())
-        jobs, left = divmod(most, max(1, len(begins) + len(running)))
-        for name in begins:
-            more = left > 0 and ways[name] == longest
+        begins = []
+        for name in ready:
             gives_way = ways[name] < SHORT * longest
-            self.running[pool.submit(self.prove, name, jobs + more, gives_way)] = name
+            before = len(begins) + len(running if gives_way else running - self.giving_way)
+            if before < most and len(begins) + len(running) < room_for_proofs():
+                begins.append(name)
+                if gives_way:
+                    self.giving_way.add(name)
+        sharing = running | {*begins}
+        if not ways.keys() - sharing - {self.program}:
+            sharing -= self.giving_way
+        jobs, left = divmod(most, max(1, len(sharing)))
+        for name in begins:
+            gives_way = name in self.giving_way
+            more = left > 0 and ways[name] == longest
+            prove = pool.submit(self.prove, name, 1 if gives_way else max(1, jobs + more), gives_way)
+            self.running[prove] = name
 
     def prove_all(self):
         most = most_proofs()
-        with concurrent.futures.ThreadPoolExecutor(most) as pool:
+        with concurrent.futures.ThreadPoolExecutor(room_for_proofs()) as pool:
             try:
                 while len(self.proved) < len(self.libraries):
                     self.begin(pool, most)
@@ -197,8 +215,9 @@ class Build:
         """Proves and builds the program, over the libraries."""
         self.say("proving and building the program")
         folder = TOP / "crates" / self.program
-        # To run it on the empty script builds it, and prints nothing.
-        self.run(folder, "rt", "run", "--jobs", str(min(2, most_proofs())))
+        # To run it on the empty script builds it, and prints nothing. It waits for loading alone, so a
+        # second job would gain nothing.
+        self.run(folder, "rt", "run", "--jobs", "1")
         # It may be built already, and older than a source of another crate.
         (folder / "out" / self.program).touch()
 
