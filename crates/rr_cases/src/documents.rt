@@ -1,6 +1,6 @@
 //! Schemas as TOML texts. A line `---` stands between two of them.
 
-use rr_base::Schema;
+use rr_base::{FromToml, Schema};
 use std::alloc::{AllocError, Global};
 use std::mem::replace;
 

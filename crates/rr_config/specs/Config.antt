@@ -4,7 +4,7 @@ use Rattle.std.specs.String.{string_bytes}
 use Rattle.toml.specs.Data.{Members, get_member}
 use Rattle.rr_schema.specs.declared.fault.SchemaFault.{SchemaFault}
 use Rattle.rr_schema.specs.declared.fault.SchemaFault.TheVariants.{BadToml}
-use Rattle.rr_schema.specs.Document.{layout_in, table_of}
+use Rattle.rr_document.specs.Document.{layout_in, table_of}
 use Rattle.rr_text.specs.Results.{◌>>=◌}
 use Rattle.rr_schema.specs.Schema.{Layout}
 use Rattle.rr_line.specs.declared.precision.Precision.{Precision}

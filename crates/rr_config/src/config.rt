@@ -14,6 +14,7 @@ ghost use Rattle.rr_config.specs.Values.{if_there, count_of, some_count_of, some
 use crate::fault::ConfigFault;
 use crate::value;
 use crate::value::{find, readers_of, text_of, value_at};
+use rr_document::FromToml;
 use rr_line::Precision;
 use rr_schema::{Schema, SchemaFault};
 use std::alloc::Global;
@@ -126,7 +127,7 @@ impl Config {
 
     /// The configuration that a TOML text writes.
     ///
-    /// The keys are those of [`Schema::from_toml`], and `lines`, an address; `fetch`, an array of 1 to
+    /// The keys are those of [`FromToml::from_toml`], and `lines`, an address; `fetch`, an array of 1 to
     /// 16 addresses; `peers`, an array of addresses; `rounds` and `visits`, numbers from 0; `lead`, a
     /// number of nanoseconds from 0; `precision`, one of `ns`, `us`, `ms` and `s`; and `idle`, a number of
     /// seconds from 1 to 86,400. All but `lines` and `fetch` may be missing. Other keys are ignored.

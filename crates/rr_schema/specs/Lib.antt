@@ -3,5 +3,4 @@ pub mod Schema
 pub mod Fault
 pub mod Check
 pub mod Choice
-pub mod Document
 pub mod SchemaBytes

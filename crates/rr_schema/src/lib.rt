@@ -1,7 +1,6 @@
 //! Origins, the schema of archives, and where a time falls in them.
 //!
-//! A [`Schema`] is checked once, by [`Schema::new`] or, of a TOML text, by [`Schema::from_toml`],
-//! and is within its limits from then on. It says in which slot of an archive a time falls
+//! A [`Schema`] is checked once, by [`Schema::new`], and is within its limits from then on. It says in which slot of an archive a time falls
 //! ([`Schema::slot`]), at which place of that slot ([`Schema::place`]), whether a row has enough
 //! known places ([`Schema::known_enough`]), and which archive answers a fetch
 //! ([`Schema::choose`]).
@@ -12,7 +11,6 @@
 
 mod archive;
 mod consolidation;
-mod document;
 mod fault;
 pub mod laws;
 mod origin;

@@ -1,7 +1,7 @@
 use Rattle.std.proofs.Common.{◌≡◌, drop}
 use Rattle.toml.specs.View.{items_view}
-use Rattle.rr_schema.specs.Document.{are_tables}
-use Rattle.rr_schema.proofs.document.are_tables.Given as goal
+use Rattle.rr_document.specs.Document.{are_tables}
+use Rattle.rr_document.proofs.document.are_tables.Given as goal
 
 -- the values that are left decide
 abbrev pub invariant-loop-value : goal.invariant-loop-value

@@ -9,7 +9,7 @@ use Rattle.toml.proofs.Views.{items_view-drop}
 use Rattle.rr_schema.specs.declared.archive.ArchiveSpec.{ArchiveSpec}
 use Rattle.rr_schema.specs.declared.fault.SchemaFault.{SchemaFault}
 use Rattle.rr_schema.specs.declared.fault.SchemaFault.TheVariants.{WrongKind}
-use Rattle.rr_schema.specs.Document.{archive_in, archives_in}
+use Rattle.rr_document.specs.Document.{archive_in, archives_in}
 use Rattle.rr_text.specs.Results.{◌>>=◌}
 
 -- the archives so far, and those of the tables that are left

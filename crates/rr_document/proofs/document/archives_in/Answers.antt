@@ -1,7 +1,7 @@
 use Rattle.std.proofs.lemmas.Result.{err_from_is_err_and}
 use Rattle.std.proofs.Common.{inr}
-use Rattle.rr_schema.proofs.DocumentLemmas.{next_value, no_table, no_archive, one_more_archive, no_more}
-use Rattle.rr_schema.proofs.document.archives_in.Goals as goal
+use Rattle.rr_document.proofs.DocumentLemmas.{next_value, no_table, no_archive, one_more_archive, no_more}
+use Rattle.rr_document.proofs.document.archives_in.Goals as goal
 
 pub returns-in-None : goal.returns-in-None
 returns-in-None c =

@@ -1,8 +1,8 @@
 use Rattle.std.proofs.Common.{◌≡◌, drop}
 use Rattle.toml.specs.View.{items_view}
-use Rattle.rr_schema.specs.Document.{archives_in}
-use Rattle.rr_schema.proofs.DocumentLemmas.{with_front}
-use Rattle.rr_schema.proofs.document.archives_in.Given as goal
+use Rattle.rr_document.specs.Document.{archives_in}
+use Rattle.rr_document.proofs.DocumentLemmas.{with_front}
+use Rattle.rr_document.proofs.document.archives_in.Given as goal
 
 -- the archives so far and those of the tables that are left are all archives
 abbrev pub invariant-loop-value : goal.invariant-loop-value

@@ -1,7 +1,7 @@
 use Rattle.std.proofs.Common.{Some, None, ap}
 use Rattle.toml.proofs.Views.{table_get}
-use Rattle.rr_schema.specs.Document.{needed}
-use Rattle.rr_schema.proofs.document.value_at.Goals as goal
+use Rattle.rr_document.specs.Document.{needed}
+use Rattle.rr_document.proofs.document.value_at.Goals as goal
 
 pub returns-in-Some : goal.returns-in-Some
 returns-in-Some c = ap needed (table_get (Some c.in-Some.value) c.args.key.now c.args.table.now.entries c.in-Some.ensures.value)
