@@ -168,7 +168,7 @@ class Build:
 
     def begin(self, pool, most):
         """Begins the proofs that can begin, first those of the longest ways. Each has a core. Those of ways
-        that are much shorter than the longest give way, and no other waits for them. Cores that are left are
+        that are much shorter than the longest give way: others wait for them only for memory. Cores left over are
         further jobs, which cost more than they gain while other crates wait; once all others are proved or
         being proved, those that give way count no more."""
         ways, running = self.ways(), {*self.running.values()}
