@@ -1,5 +1,5 @@
 -- How each command is read from its words, one word too many, and that a line's command writes one line.
-use Rattle.std.proofs.Common.{◌≡◌, ℕ, eqb, List, [], ◌∷◌, None, Some, IfSome, option_map, refl, sym, ap, ◌∙◌}
+use Rattle.std.proofs.Common.{◌≡◌, ℕ, false, eqb, List, [], ◌∷◌, None, Some, IfSome, option_map, refl, sym, ap, ◌∙◌}
 use Rattle.std.specs.List.{list_any}
 use Rattle.std.proofs.lemmas.Bool.{or_parts}
 use Rattle.std.proofs.lemmas.List.Folds.{list_any-append}
@@ -9,7 +9,7 @@ use Rattle.rr_text.specs.declared.bytes.TheConstants.{LINE_FEED, SPACE}
 use Rattle.rr_request.specs.Words.{words_of as request_words}
 use Rattle.rr_script.specs.Command.{write, fetch, IsOneLine}
 use Rattle.rr_script.specs.Commands.{schema_command, node_command, now_command, write_command, page_command, delta_command, deliver_command, bytes_command, save_command, load_command, fetch_command}
-use Rattle.rr_script.specs.Words.{text_of, words_of}
+use Rattle.rr_script.specs.Words.{are_three, text_of, words_of}
 use Rattle.rr_script.proofs.WordsLemmas.{Cuts, cut_parts, some_parts, text_of-words}
 
 -- ---- schema
@@ -63,9 +63,13 @@ write_is_one_line name (node ∷ line ∷ rest) none = rest_has_none node line r
 
 -- ---- page
 
--- five words are too many
-pub page_command-more : (name node from count rest : List ℕ) → page_command (name ∷ node ∷ from ∷ count ∷ words_of rest) ≡ None
-page_command-more name node from count rest = let some = some_parts SPACE rest in rw some.2 refl
+-- three words follow the name
+pub page_command-none : (name : List ℕ) (words : List (List ℕ)) → are_three words ≡ false → page_command (name ∷ words) ≡ None
+page_command-none name [] other = refl
+page_command-none name (a ∷ []) other = refl
+page_command-none name (a ∷ b ∷ []) other = refl
+page_command-none name (a ∷ b ∷ c ∷ []) other = (cc)
+page_command-none name (a ∷ b ∷ c ∷ d ∷ rest) other = refl
 
 pub page_is_one_line : (words : List (List ℕ)) → IfSome (page_command words) IsOneLine
 page_is_one_line [] = tt
@@ -77,9 +81,13 @@ page_is_one_line (a ∷ b ∷ c ∷ d ∷ e ∷ rest) = tt
 
 -- ---- delta
 
--- six words are too many
-pub delta_command-more : (name giver taker from count rest : List ℕ) → delta_command (name ∷ giver ∷ taker ∷ from ∷ count ∷ words_of rest) ≡ None
-delta_command-more name giver taker from count rest = let some = some_parts SPACE rest in rw some.2 refl
+-- three words follow the name and the giver
+pub delta_command-none : (name giver : List ℕ) (words : List (List ℕ)) → are_three words ≡ false → delta_command (name ∷ giver ∷ words) ≡ None
+delta_command-none name giver [] other = refl
+delta_command-none name giver (a ∷ []) other = refl
+delta_command-none name giver (a ∷ b ∷ []) other = refl
+delta_command-none name giver (a ∷ b ∷ c ∷ []) other = (cc)
+delta_command-none name giver (a ∷ b ∷ c ∷ d ∷ rest) other = refl
 
 pub delta_is_one_line : (words : List (List ℕ)) → IfSome (delta_command words) IsOneLine
 delta_is_one_line [] = tt
@@ -127,9 +135,12 @@ save_is_one_line (name ∷ node ∷ more ∷ rest) = tt
 
 -- ---- load
 
--- four words are too many
-pub load_command-more : (name node origin rest : List ℕ) → load_command (name ∷ node ∷ origin ∷ words_of rest) ≡ None
-load_command-more name node origin rest = let some = some_parts SPACE rest in rw some.2 refl
+pub load_command-none : (words : List (List ℕ)) → are_three words ≡ false → load_command words ≡ None
+load_command-none [] other = refl
+load_command-none (a ∷ []) other = refl
+load_command-none (a ∷ b ∷ []) other = refl
+load_command-none (a ∷ b ∷ c ∷ []) other = (cc)
+load_command-none (a ∷ b ∷ c ∷ d ∷ rest) other = refl
 
 pub load_is_one_line : (words : List (List ℕ)) → IfSome (load_command words) IsOneLine
 load_is_one_line [] = tt

@@ -4,7 +4,7 @@ use Rattle.std.proofs.lemmas.Bool.{cases_Bool}
 use Rattle.std.proofs.lemmas.List.Splits.{join_with_byte-slice_split}
 use Rattle.rr_text.specs.Text.{cut_at}
 use Rattle.rr_text.specs.declared.bytes.TheConstants.{SPACE}
-use Rattle.rr_script.specs.Words.{parts_of, text_of, words_of}
+use Rattle.rr_script.specs.Words.{are_three, parts_of, text_of, words_of}
 
 -- what a cut says of the parts
 abbrev pub Cuts : ℕ → List ℕ → Option (List ℕ × List ℕ) → Type 0
@@ -56,3 +56,7 @@ cut_is_shorter c text f (Some x) e = subst (λ (o : Option (List ℕ × List ℕ
 -- the words of a text make it
 pub text_of-words : (text first : List ℕ) (rest : List (List ℕ)) → words_of text ≡ first ∷ rest → text_of (first ∷ rest) ≡ text
 text_of-words text first rest e = ap text_of (sym e) ∙ join_with_byte-slice_split SPACE text
+
+-- four words are too many
+pub are_three-more : (first second third rest : List ℕ) → are_three (first ∷ second ∷ third ∷ words_of rest) ≡ false
+are_three-more first second third rest = let some = some_parts SPACE rest in rw some.2 refl

@@ -61,6 +61,17 @@ fetch_command (name ∷ function ∷ resolution ∷ start ∷ end ∷ key ∷ re
     Some (fetch name (record { function = function; resolution = resolution; start = start; end = end; key = text_of (key ∷ rest) }))
 fetch_command _ = None
 
+-- the command of its name and the words after it, if it is one that copies or prints what nodes have
+abbrev pub copying_command : List ℕ → List (List ℕ) → Option Command
+copying_command name words =
+    if pointwise nat_eq name (codes "page") then page_command words
+    else (if pointwise nat_eq name (codes "delta") then delta_command words
+    else (if pointwise nat_eq name (codes "deliver") then deliver_command words
+    else (if pointwise nat_eq name (codes "bytes") then bytes_command words
+    else (if pointwise nat_eq name (codes "save") then save_command words
+    else (if pointwise nat_eq name (codes "load") then load_command words
+    else (if pointwise nat_eq name (codes "fetch") then fetch_command words else None))))))
+
 -- the command of a line's words, the first of which is its name
 abbrev pub command_of : List (List ℕ) → Option Command
 command_of [] = None
@@ -68,11 +79,4 @@ command_of (name ∷ words) =
     if pointwise nat_eq name (codes "schema") then schema_command words
     else (if pointwise nat_eq name (codes "node") then node_command words
     else (if pointwise nat_eq name (codes "now") then now_command words
-    else (if pointwise nat_eq name (codes "write") then write_command words
-    else (if pointwise nat_eq name (codes "page") then page_command words
-    else (if pointwise nat_eq name (codes "delta") then delta_command words
-    else (if pointwise nat_eq name (codes "deliver") then deliver_command words
-    else (if pointwise nat_eq name (codes "bytes") then bytes_command words
-    else (if pointwise nat_eq name (codes "save") then save_command words
-    else (if pointwise nat_eq name (codes "load") then load_command words
-    else (if pointwise nat_eq name (codes "fetch") then fetch_command words else None))))))))))
+    else (if pointwise nat_eq name (codes "write") then write_command words else copying_command name words)))

@@ -1,5 +1,5 @@
 -- A text, cut into its lines and words.
-use Rattle.std.specs.Prelude.{ℕ, ◌==◌, List}
+use Rattle.std.specs.Prelude.{ℕ, ◌==◌, List, [], ◌∷◌, Bool, true, false}
 use Rattle.std.specs.List.{slice_split, join_with_byte}
 use Rattle.rr_text.specs.declared.bytes.TheConstants.{SPACE}
 
@@ -14,3 +14,8 @@ words_of text = parts_of SPACE text
 -- the text of these words
 abbrev pub text_of : List (List ℕ) → List ℕ
 text_of words = join_with_byte SPACE words
+
+-- three words, no fewer and no more
+abbrev pub are_three : List (List ℕ) → Bool
+are_three (first ∷ second ∷ third ∷ []) = true
+are_three _ = false

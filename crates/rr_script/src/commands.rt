@@ -2,11 +2,11 @@
 
 ghost use Rattle.std.specs.Prelude.{◌≡◌, Some, option_map};
 ghost use Rattle.rr_script.specs.Command.{view_of};
-ghost use Rattle.rr_script.specs.Commands.{command_of, schema_command, node_command, now_command, write_command, page_command, delta_command, deliver_command, bytes_command, save_command, load_command, fetch_command};
+ghost use Rattle.rr_script.specs.Commands.{command_of, copying_command, schema_command, node_command, now_command, write_command, page_command, delta_command, deliver_command, bytes_command, save_command, load_command, fetch_command};
 ghost use Rattle.rr_script.specs.Words.{words_of};
 
 use crate::event::Event;
-use crate::words::first_word;
+use crate::words::{first_word, three_words};
 use rr_request::request_words;
 
 /// The command of a line. Every command has at least two words.
@@ -22,7 +22,17 @@ pub(crate) fn command_of(line: &[u8]) -> Option<Event<'_>>
         now_command(words)
     } else if name == b"write".as_slice() {
         write_command(words)
-    } else if name == b"page".as_slice() {
+    } else {
+        copying_command(name, words)
+    }
+}
+
+/// The command of its name and the words after it, if it is one that copies or prints what nodes
+/// have.
+fn copying_command<'a>(name: &[u8], words: &'a [u8]) -> Option<Event<'a>>
+    ensures { option_map view_of result ≡ copying_command name.now (words_of words.now) }
+{
+    if name == b"page".as_slice() {
         page_command(words)
     } else if name == b"delta".as_slice() {
         delta_command(words)
@@ -100,17 +110,13 @@ fn page_command(words: &[u8]) -> Option<Event<'_>>
     ensures { option_map view_of result ≡ page_command (words_of words.now) }
 {
     let (name, rest) = first_word(words)?;
-    let (node, rest) = first_word(rest)?;
-    let (from, count) = first_word(rest)?;
-    match first_word(count) {
-        Some(_) => None,
-        None => Some(Event::Page {
-            name,
-            node,
-            from,
-            count,
-        }),
-    }
+    let (node, from, count) = three_words(rest)?;
+    Some(Event::Page {
+        name,
+        node,
+        from,
+        count,
+    })
 }
 
 /// The command of the words after `delta`.
@@ -119,18 +125,14 @@ fn delta_command(words: &[u8]) -> Option<Event<'_>>
 {
     let (name, rest) = first_word(words)?;
     let (giver, rest) = first_word(rest)?;
-    let (taker, rest) = first_word(rest)?;
-    let (from, count) = first_word(rest)?;
-    match first_word(count) {
-        Some(_) => None,
-        None => Some(Event::Delta {
-            name,
-            giver,
-            taker,
-            from,
-            count,
-        }),
-    }
+    let (taker, from, count) = three_words(rest)?;
+    Some(Event::Delta {
+        name,
+        giver,
+        taker,
+        from,
+        count,
+    })
 }
 
 /// The command of the words after `deliver`.
@@ -169,12 +171,8 @@ fn save_command(words: &[u8]) -> Option<Event<'_>>
 fn load_command(words: &[u8]) -> Option<Event<'_>>
     ensures { option_map view_of result ≡ load_command (words_of words.now) }
 {
-    let (name, rest) = first_word(words)?;
-    let (node, origin) = first_word(rest)?;
-    match first_word(origin) {
-        Some(_) => None,
-        None => Some(Event::Load { name, node, origin }),
-    }
+    let (name, node, origin) = three_words(words)?;
+    Some(Event::Load { name, node, origin })
 }
 
 /// The command of the words after `fetch`; the key is all that follows the end.

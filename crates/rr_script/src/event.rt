@@ -4,7 +4,7 @@ use crate::fault::SyntaxFault;
 use rr_request::RequestWords;
 
 /// A command, with its words as the bytes of the script.
-#[derive(Clone, Copy, Debug, PartialEq, Eq)]
+#[derive(Clone, Copy)]
 pub enum Event<'a> {
     /// `schema STEP S:R:N/D ..`: sets the schema, once.
     Schema {
@@ -71,7 +71,7 @@ pub enum Event<'a> {
 }
 
 /// A line of a script that isn't skipped.
-#[derive(Clone, Copy, Debug, PartialEq, Eq)]
+#[derive(Clone, Copy)]
 pub struct ScriptLine<'a> {
     /// Its number, from 1. Skipped lines count.
     pub number: u64,

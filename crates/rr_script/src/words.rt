@@ -1,7 +1,7 @@
 //! A text, cut into its lines and words.
 
-ghost use Rattle.std.specs.Prelude.{◌≡◌, ◌<◌, length, [], ◌∷◌, MatchOption, IfSome};
-ghost use Rattle.rr_script.specs.Words.{parts_of, words_of};
+ghost use Rattle.std.specs.Prelude.{◌≡◌, ◌<◌, length, false, [], ◌∷◌, MatchOption, IfSome};
+ghost use Rattle.rr_script.specs.Words.{are_three, parts_of, words_of};
 
 use rr_text::bytes::SPACE;
 use rr_text::text::cut;
@@ -22,4 +22,17 @@ pub fn first_word(words: &[u8]) -> Option<(&[u8], &[u8])>
     ensures shorter { IfSome result (λ cut. length cut.1.now < length words.now) }
 {
     first_part(SPACE, words)
+}
+
+/// The words of a text, if there are three.
+pub(crate) fn three_words(words: &[u8]) -> Option<(&[u8], &[u8], &[u8])>
+    ensures { MatchOption result (are_three (words_of words.now) ≡ false)
+        (λ three. words_of words.now ≡ three.0.now ∷ three.1.now ∷ three.2.now ∷ []) }
+{
+    let (first, rest) = first_word(words)?;
+    let (second, third) = first_word(rest)?;
+    match first_word(third) {
+        Some(_) => None,
+        None => Some((first, second, third)),
+    }
 }

@@ -1,8 +1,6 @@
 use Rattle.std.proofs.Common.{sym}
-use Rattle.rr_script.proofs.CommandsLemmas.{load_command-more}
+use Rattle.rr_script.proofs.CommandsLemmas.{load_command-none}
 use Rattle.rr_script.proofs.commands.load_command.Goals as goal
 
-pub returns-in-Some : goal.returns-in-Some
-returns-in-Some c =
-    rw (c.in_ok-name.ensures.words, c.in_ok-node.ensures.words, c.in-Some.ensures.words)
-    (sym (load_command-more c.in_ok-name.name.now c.in_ok-node.node.now c.in-Some.field-0.0.now c.in-Some.field-0.1.now))
+pub returns-in_err-name : goal.returns-in_err-name
+returns-in_err-name c = rw c.from_residual.ensures (sym (load_command-none _ c.in_err-name.ensures))

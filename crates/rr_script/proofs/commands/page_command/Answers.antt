@@ -1,8 +1,7 @@
 use Rattle.std.proofs.Common.{sym}
-use Rattle.rr_script.proofs.CommandsLemmas.{page_command-more}
+use Rattle.rr_script.proofs.CommandsLemmas.{page_command-none}
 use Rattle.rr_script.proofs.commands.page_command.Goals as goal
 
-pub returns-in-Some : goal.returns-in-Some
-returns-in-Some c =
-    rw (c.in_ok-name.ensures.words, c.in_ok-node.ensures.words, c.in_ok-from.ensures.words, c.in-Some.ensures.words)
-    (sym (page_command-more c.in_ok-name.name.now c.in_ok-node.node.now c.in_ok-from.from.now c.in-Some.field-0.0.now c.in-Some.field-0.1.now))
+pub returns-in_err-node : goal.returns-in_err-node
+returns-in_err-node c =
+    rw (c.from_residual-in_err-node.ensures, c.in_ok-name.ensures.words) (sym (page_command-none c.in_ok-name.name.now _ c.in_err-node.ensures))
