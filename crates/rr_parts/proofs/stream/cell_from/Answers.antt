@@ -5,7 +5,7 @@ use Rattle.std.proofs.lemmas.Result.{err_from_is_err_and}
 use Rattle.rr_io.specs.Counted.{inner_of}
 use Rattle.rr_cells.specs.Listing.{owned_cell}
 use Rattle.rr_parts.proofs.FrontLemmas.{read_then}
-use Rattle.rr_parts.proofs.StreamLemmas.{stream_ok, stream_err}
+use Rattle.rr_parts.proofs.StreamLemmas.{stream_ok, stream_err, stream_took}
 use Rattle.rr_parts.proofs.stream.cell_from.Goals as goal
 
 pub returns-clause-read : goal.returns-clause-read
@@ -62,3 +62,8 @@ returns-in_err-cell-clause-front g c =
 pub returns-clause-front : goal.returns-clause-front
 returns-clause-front g c =
     read_then (g.R.Read.remaining (inner_of c.args.input.now)) (g.R.Read.remaining (inner_of c.fill_up_to.new.input)) (g.R.Read.remaining (inner_of c.fill_up_to-2.new.input)) c.fill_up_to.ensures.front c.fill_up_to-2.ensures.front
+
+pub returns-clause-bytes : goal.returns-clause-bytes
+returns-clause-bytes g c =
+    stream_took (g.R.Read.remaining (inner_of c.args.input.now)) (g.R.Read.remaining (inner_of c.fill_up_to.new.input)) (g.R.Read.remaining (inner_of c.fill_up_to-2.new.input)) (take c.in_ok-head.head c.fill_up_to.new.buffer) (take c.in_ok-got.got c.fill_up_to-2.new.buffer)
+    c.in_ok-head.ensures.bytes c.in_ok-got.ensures.bytes

@@ -3,7 +3,8 @@ use Rattle.std.specs.FinMap.{entries, entries_sorted, len-entries}
 use Rattle.std.specs.Io.KnownBytes.{Appends}
 use Rattle.std.specs.List.{flat_map}
 use Rattle.std.specs.Option.{option_map}
-use Rattle.std.proofs.KnownBytes.{Appends-trans}
+use Rattle.std.proofs.KnownBytes.{Appends-nil, Appends-trans}
+use Rattle.std.proofs.lemmas.List.{append-nil}
 use Rattle.sha2.specs.Hashers.{Holds256}
 use Rattle.rr_io.specs.Counted.{inner_of}
 use Rattle.rr_page.specs.CellText.{cell_text}
@@ -33,6 +34,14 @@ returns-in_err-write_cell-clause-front g c =
     let all = entries c.args.replica.now.cells in
     let at : slice_get all c.loop.counter ≡ Some (seen_cell c.in-Some.cell) = sym c.loop.invariant.next ∙ ap (option_map seen_cell) c.in-Some.is in
     cells_front (cell_text latest) all c.loop.counter (seen_cell c.in-Some.cell) (g.W.Write.contents (inner_of c.args.output.now)) (g.W.Write.contents (inner_of c.loop.output)) (g.W.Write.contents (inner_of c.write_cell.new.output)) at c.loop.invariant.written c.in_err-write_cell.ensures.front
+
+pub loop-init : goal.loop-init
+loop-init g c = record {
+  next = c.cell_at-next.ensures.listed;
+  written = Appends-nil (g.W.Write.contents (inner_of c.args.output.now));
+  digest = λ m h. subst (Holds256 c.args.hasher.now) (sym (append-nil m)) h;
+  count = search rules;
+}
 
 pub loop-preserved : goal.loop-preserved
 loop-preserved g c =
