@@ -5,15 +5,18 @@ usage: build.py [PROGRAM]
 
 PROGRAM is a crate of the repository that is a program: rr_tool, if missing.
 
-While `rt` works on a crate, it lets no other run work on a crate below it. So that crates are proved
-side by side, each is proved in a tree of its own: its sources and the libraries below it are hard
-links, and what `rt` keeps in its folder out/ is moved there and back. What an interrupted run has
-proved is kept. Ends with status 1 where a proof or the build fails, with what `rt` printed about it.
+Each library is proved from nothing and handed on as the gate does it, by its statements: `rt lib` hands on
+the proofs too, which each crate above would load. A library is kept in its folder out/ until a source changes,
+so a run that was interrupted goes on with the crates that it lacked. Ends with status 1 where a proof or the
+build fails, with what was printed about it.
 """
 
 import concurrent.futures
 import fcntl
+import functools
+import hashlib
 import os
+import pathlib
 import shutil
 import signal
 import subprocess
@@ -21,13 +24,13 @@ import sys
 import threading
 import time
 
-from crates import TOP, lines_of, listed, with_those_below
+from crates import TOP, lines, listed, with_those_below
 
 # The program with all words.
 WHOLE = "rr_tool"
 
-# Where the trees are while crates are proved.
-TREES = TOP / ".build"
+# The toolchain, whose command is KIT/bin/rt.
+KIT = pathlib.Path(shutil.which("rt") or sys.exit("build.py: no command rt")).resolve().parents[1]
 
 # Memory that the proof of one crate may take, in bytes.
 CRATE_MEMORY = 4 * 1024**3
@@ -43,7 +46,7 @@ SOURCES = ("src", "specs", "proofs")
 
 
 class Failed(Exception):
-    """A command of `rt` failed; has what it printed."""
+    """A command failed; has what it printed."""
 
 
 def room_for_proofs():
@@ -56,12 +59,63 @@ def most_proofs():
     return min(len(os.sched_getaffinity(0)), room_for_proofs())
 
 
-def link(source, target):
-    """A file once more, without a copy where the file system has hard links."""
-    try:
-        os.link(source, target)
-    except OSError:
-        shutil.copy2(source, target)
+def sources(name):
+    """The files of a crate that a proof reads."""
+    found = (file for part in SOURCES for file in (TOP / "crates" / name / part).rglob("*"))
+    return sorted(file for file in found if file.is_file())
+
+
+def out(name):
+    """Where what is made of a crate is kept."""
+    return TOP / "crates" / name / "out"
+
+
+def library(name):
+    """Where a library's statements are, with its interface and its code."""
+    return out(name) / "statements" / f"{name}.rlib"
+
+
+def kept_sum(name):
+    """The file that says of which sources a library was made."""
+    return out(name) / "statements/sum"
+
+
+class Crates:
+    """The crates of a program, lowest first, and how each is proved."""
+
+    def __init__(self, program):
+        listing = listed()
+        if program not in listing:
+            sys.exit(f"build.py: crates.txt has no crate {program}")
+        self.lines = lines()
+        self.uses = {name: listing[name] for name in with_those_below(listing, [program])}
+
+    @functools.cache
+    def sum(self, name):
+        """What tells whether a crate, or what it stands on, is as it was."""
+        sum = hashlib.sha256((KIT / "KIT-ID").read_bytes() + self.lines[name].encode())
+        for it in self.uses[name]:
+            sum.update(self.sum(it).encode())
+        for file in sources(name):
+            sum.update(f"\n{file.relative_to(TOP)}\n".encode() + file.read_bytes())
+        return sum.hexdigest()
+
+    def is_proved(self, name):
+        kept = kept_sum(name)
+        return library(name).is_dir() and kept.is_file() and kept.read_text() == self.sum(name)
+
+    def words(self, name):
+        """The words by which a crate is proved and built, over the libraries below it."""
+        used = dict.fromkeys(["std", *self.lines[name].partition("#")[0].partition(":")[2].split()])
+        folder = TOP / "crates" / name / "src"
+        words = ["--crate-name", name, next(it for it in (folder / "main.rt", folder / "lib.rt") if it.exists())]
+        for it in used:
+            words += ["--extern", f"{it}={library(it) if it in self.lines else KIT / 'rlibs' / f'{it}.rlib'}"]
+        below = with_those_below(self.uses, self.uses[name])
+        for it in (KIT / "rlibs", *(library(it).parent for it in below)):
+            words += ["-L", f"dependency={it}"]
+        words += ["--antt-project", KIT / "rattle/logic/antt-project.json", "--logic-built", KIT / "logic_built"]
+        return [KIT / "bin/rattle", "build", *words, "--links", f"{name}="]
 
 
 class Build:
@@ -70,12 +124,10 @@ class Build:
     def __init__(self, program):
         self.began = time.monotonic()
         self.program = program
-        listing = listed()
-        if program not in listing:
-            sys.exit(f"build.py: crates.txt has no crate {program}")
-        self.uses = {name: listing[name] for name in with_those_below(listing, [program])}
+        self.crates = Crates(program)
+        self.uses = self.crates.uses
         self.libraries = [name for name in self.uses if name != program]
-        self.sizes = {name: self.size(name) for name in self.uses}
+        self.sizes = {name: sum(file.stat().st_size for file in sources(name)) for name in self.uses}
         self.proved = []
         self.running = {}
         self.giving_way = set()
@@ -94,11 +146,11 @@ class Build:
             if names:
                 self.say(f"proving {names}")
 
-    def run(self, folder, *command):
-        """Runs a command of `rt`, which ends with this run."""
+    def run(self, *command):
+        """Runs a command, which ends with this run."""
         process = subprocess.Popen(
             command,
-            cwd=folder,
+            cwd=TOP,
             stdin=subprocess.DEVNULL,
             stdout=subprocess.PIPE,
             stderr=subprocess.STDOUT,
@@ -113,6 +165,8 @@ class Build:
             said, _ = process.communicate()
         finally:
             self.commands.discard(process)
+        if process.returncode < 0:
+            said += f"{command[0]} was ended by signal {-process.returncode}; 9 is most likely for memory\n"
         if process.returncode != 0:
             raise Failed(said)
 
@@ -122,41 +176,16 @@ class Build:
         for process in list(self.commands):
             os.killpg(process.pid, signal.SIGTERM)
 
-    def give_back(self, name):
-        """Moves what `rt` keeps of a crate back from its tree, and removes the tree."""
-        found, kept = TREES / name / "crates" / name / "out", TOP / "crates" / name / "out"
-        if found.exists() and not kept.exists():
-            found.rename(kept)
-        shutil.rmtree(TREES / name)
-
-    def plant(self, name, tree):
-        """Makes the tree in which a crate is proved, and returns the crate's folder there."""
-        names = with_those_below(self.uses, [name])
-        (tree / "crates").mkdir(parents=True)
-        (tree / "crates.txt").write_text(lines_of(names))
-        for it in names:
-            parts = SOURCES if it == name else (*SOURCES, "out/rlib")
-            for part in parts:
-                source = TOP / "crates" / it / part
-                if source.is_dir():
-                    shutil.copytree(source, tree / "crates" / it / part, copy_function=link)
-        return tree / "crates" / name
-
     def prove(self, name, jobs, gives_way):
         """Proves a library over those below it, which are proved; others may come before it."""
-        folder, kept = self.plant(name, TREES / name), TOP / "crates" / name / "out"
-        if kept.exists():
-            kept.rename(folder / "out")
-        try:
-            priority = ["nice"] if gives_way else []
-            self.run(folder, *priority, "rt", "lib", "--jobs", str(jobs))
-        finally:
-            self.give_back(name)
-
-    def size(self, name):
-        """The bytes of what a proof reads of a crate, which go with the time that it takes."""
-        files = (file for part in SOURCES for file in (TOP / "crates" / name / part).rglob("*"))
-        return sum(file.stat().st_size for file in files if file.is_file())
+        if self.crates.is_proved(name):
+            return
+        kept = kept_sum(name)
+        kept.parent.mkdir(parents=True, exist_ok=True)
+        kept.unlink(missing_ok=True)
+        priority = ["nice"] if gives_way else []
+        self.run(*priority, *self.crates.words(name), "--statements", "--jobs", str(jobs), "-o", library(name))
+        kept.write_text(self.crates.sum(name))
 
     def ways(self):
         """For each crate that isn't proved, the size of the longest way from it up to the program."""
@@ -214,12 +243,16 @@ class Build:
     def build(self):
         """Proves and builds the program, over the libraries."""
         self.say("proving and building the program")
-        folder = TOP / "crates" / self.program
-        # To run it on the empty script builds it, and prints nothing. It waits for loading alone, so a
-        # second job would gain nothing.
-        self.run(folder, "rt", "run", "--jobs", "1")
-        # It may be built already, and older than a source of another crate.
-        (folder / "out" / self.program).touch()
+        compiler = "rattle" if "backend=rattle" in self.crates.lines[self.program] else "llvm"
+        made = out(self.program) / f"{self.program}.o"
+        linked = made.with_suffix(".new")
+        made.parent.mkdir(exist_ok=True)
+        toolchain = ["--toolchain", KIT / "toolchain"]
+        self.run(*self.crates.words(self.program), *toolchain, "--backend", compiler, "-o", made)
+        words = ["--target", "x86_64-unknown-linux-gnu", *toolchain, "-o", linked, made]
+        self.run(KIT / "bin/rattle-link", *words, KIT / "c/libos_c.a", KIT / "c/liblibc_c.a")
+        made.unlink()
+        linked.replace(made.with_suffix(""))
 
 
 def wait_for_others():
@@ -232,11 +265,7 @@ def main():
     build = Build(sys.argv[1] if len(sys.argv) > 1 else WHOLE)
     threading.Thread(target=build.remind, daemon=True).start()
     try:
-        TREES.mkdir(exist_ok=True)
-        for left in TREES.iterdir():
-            build.give_back(left.name)
         build.prove_all()
-        TREES.rmdir()
         build.build()
     except KeyboardInterrupt:
         build.stop()
