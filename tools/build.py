@@ -75,9 +75,9 @@ def library(name):
     return out(name) / "statements" / f"{name}.rlib"
 
 
-def kept_sum(name):
-    """The file that says of which sources a library was made."""
-    return out(name) / "statements/sum"
+def kept_digest(name):
+    """The file with the digest of what a library was made of."""
+    return out(name) / "statements/digest"
 
 
 class Crates:
@@ -91,18 +91,18 @@ class Crates:
         self.uses = {name: listing[name] for name in with_those_below(listing, [program])}
 
     @functools.cache
-    def sum(self, name):
-        """What tells whether a crate, or what it stands on, is as it was."""
-        sum = hashlib.sha256((KIT / "KIT-ID").read_bytes() + self.lines[name].encode())
+    def digest(self, name):
+        """Of the sources of a crate, of what it stands on, and of the toolchain."""
+        digest = hashlib.sha256((KIT / "KIT-ID").read_bytes() + self.lines[name].encode())
         for it in self.uses[name]:
-            sum.update(self.sum(it).encode())
+            digest.update(self.digest(it).encode())
         for file in sources(name):
-            sum.update(f"\n{file.relative_to(TOP)}\n".encode() + file.read_bytes())
-        return sum.hexdigest()
+            digest.update(f"\n{file.relative_to(TOP)}\n".encode() + file.read_bytes())
+        return digest.hexdigest()
 
     def is_proved(self, name):
-        kept = kept_sum(name)
-        return library(name).is_dir() and kept.is_file() and kept.read_text() == self.sum(name)
+        kept = kept_digest(name)
+        return library(name).is_dir() and kept.is_file() and kept.read_text() == self.digest(name)
 
     def words(self, name):
         """The words by which a crate is proved and built, over the libraries below it."""
@@ -180,12 +180,12 @@ class Build:
         """Proves a library over those below it, which are proved; others may come before it."""
         if self.crates.is_proved(name):
             return
-        kept = kept_sum(name)
+        kept = kept_digest(name)
         kept.parent.mkdir(parents=True, exist_ok=True)
         kept.unlink(missing_ok=True)
         priority = ["nice"] if gives_way else []
         self.run(*priority, *self.crates.words(name), "--statements", "--jobs", str(jobs), "-o", library(name))
-        kept.write_text(self.crates.sum(name))
+        kept.write_text(self.crates.digest(name))
 
     def ways(self):
         """For each crate that isn't proved, the size of the longest way from it up to the program."""

@@ -15,11 +15,6 @@ def lines(top=TOP):
     return crates
 
 
-def lines_of(names):
-    """A crates.txt of these crates."""
-    return "".join(f"{line}\n" for name, line in lines().items() if name in names)
-
-
 def listed(top=TOP):
     """The crates, lowest first, each with the crates of the repository that it uses."""
     crates = lines(top)
