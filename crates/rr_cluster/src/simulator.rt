@@ -2,7 +2,7 @@
 
 use crate::fault::RunFault;
 use crate::running::run;
-use rr_script::RunScript;
+use rr_command::RunScript;
 use std::alloc::{AllocError, Global};
 
 /// Runs each script as [`run`] does.

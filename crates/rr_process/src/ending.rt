@@ -2,7 +2,7 @@
 
 ghost use Rattle.std.specs.Prelude.{◌≡◌};
 
-use rr_report::ToolFault;
+use rr_command::ToolFault;
 use rr_words::WordsFault;
 use std::io;
 

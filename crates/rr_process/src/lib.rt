@@ -7,7 +7,7 @@
 //! [`read_order`] reads the words of a process, and [`obey`] picks its streams, both by the traits of a
 //! runtime, so that a test can stand in for the process. [`obey_order`] runs a script or checks lines,
 //! from a reader to a writer, and its contract says what is written. What runs scripts is handed in, as
-//! an `rr_script::RunScript`, so that all of this stands below it. Streams are counted, so that one is blamed
+//! an `rr_command::RunScript`, so that all of this stands below it. Streams are counted, so that one is blamed
 //! only where a call of it failed.
 //!
 //! A run ends with status 0 where it is done, 1 where lines were refused, 2 where the command line is, or
@@ -18,13 +18,9 @@
 mod ending;
 mod orders;
 mod process;
-mod script;
-mod streams;
 mod words;
 
 pub use ending::Ending;
 pub use orders::obey_order;
 pub use process::obey;
-pub use script::run_script;
-pub use streams::{read_script, write_text};
 pub use words::read_order;

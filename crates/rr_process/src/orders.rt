@@ -9,10 +9,9 @@ ghost use Rattle.rr_process.specs.Orders.{ending_of, output_of};
 ghost use Rattle.rr_words.specs.Words.{asked_by};
 
 use crate::ending::Ending;
-use crate::script::run_script;
+use rr_command::{RunScript, ToolFault, run_script};
 use rr_io::Counted;
-use rr_report::{ToolFault, check_lines};
-use rr_script::RunScript;
+use rr_report::check_lines;
 use rr_words::Order;
 use std::alloc::Global;
 use std::io::{Read, Write};

@@ -2,9 +2,8 @@
 
 use crate::ending::Ending;
 use crate::orders::obey_order;
+use rr_command::{RunScript, ToolFault};
 use rr_io::Counted;
-use rr_report::ToolFault;
-use rr_script::RunScript;
 use rr_words::Order;
 use std::rt::Files;
 use std::{fs, io};

@@ -1,3 +1,2 @@
-pub mod Fault
 pub mod Report
 pub mod Checker

@@ -8,7 +8,7 @@ ghost use Rattle.rr_text.specs.declared.limits.TheConstants.{MAX_READS};
 ghost use Rattle.rr_report.specs.Report.{refused_count, report_of};
 
 use crate::checker::Checker;
-use crate::fault::ToolFault;
+use rr_command::ToolFault;
 use rr_io::Counted;
 use rr_io::stream::read_once;
 use rr_line::Precision;

@@ -8,8 +8,8 @@ ghost use Rattle.rr_feed.specs.Feed.{items_left, empty_feed, MayCome};
 ghost use Rattle.rr_report.specs.declared.check.TheConstants.{PIECE};
 ghost use Rattle.rr_report.specs.Report.{refused_count, report_of};
 
-use crate::fault::ToolFault;
 use crate::report::push_item;
+use rr_command::ToolFault;
 use rr_feed::Feed;
 use rr_io::Counted;
 use rr_io::stream::{flush, write_all};

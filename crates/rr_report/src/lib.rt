@@ -13,8 +13,7 @@
 
 mod check;
 mod checker;
-mod fault;
 mod report;
 
 pub use check::{check_lines, check_lines_within};
-pub use fault::ToolFault;
+pub use rr_command::ToolFault;

@@ -4,7 +4,7 @@ use rr_config::{Config, ConfigFault};
 use rr_io::Counted;
 use rr_process::Ending;
 use rr_replica::Replica;
-use rr_report::ToolFault;
+use rr_command::ToolFault;
 use rr_ring::RingArchive;
 use rr_schema::{Origin, Schema};
 use rr_snapshot::{LoadFault, load};

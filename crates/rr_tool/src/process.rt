@@ -7,7 +7,7 @@ use rr_node::{
 };
 use rr_process::{Ending, obey, read_order};
 use rr_replica::Replica;
-use rr_report::ToolFault;
+use rr_command::ToolFault;
 use rr_ring::RingArchive;
 use rr_schema::Origin;
 use rr_startup::{first_replica, read_config};

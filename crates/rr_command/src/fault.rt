@@ -25,7 +25,7 @@ pub enum ToolFault {
 }
 
 impl ToolFault {
-    ghost use Rattle.rr_report.specs.Fault.{message_of, tool_fault_name};
+    ghost use Rattle.rr_command.specs.Fault.{message_of, tool_fault_name};
 
     /// The printed name.
     pub fn name(&self) -> &'static str
@@ -53,7 +53,7 @@ impl ToolFault {
 }
 
 impl From<ReadFault> for ToolFault {
-    ghost use Rattle.rr_report.specs.Fault.{of_read_fault};
+    ghost use Rattle.rr_command.specs.Fault.{of_read_fault};
 
     ghost from_gives = { λ fault e. e ≡ of_read_fault fault };
 
@@ -67,7 +67,7 @@ impl From<ReadFault> for ToolFault {
 }
 
 impl From<stream::ReadFailed> for ToolFault {
-    ghost use Rattle.rr_report.specs.declared.fault.ToolFault.TheVariants.{ReadFailed};
+    ghost use Rattle.rr_command.specs.declared.fault.ToolFault.TheVariants.{ReadFailed};
 
     ghost from_gives = { λ _ e. e ≡ ReadFailed };
 
@@ -77,7 +77,7 @@ impl From<stream::ReadFailed> for ToolFault {
 }
 
 impl From<stream::WriteFailed> for ToolFault {
-    ghost use Rattle.rr_report.specs.declared.fault.ToolFault.TheVariants.{WriteFailed};
+    ghost use Rattle.rr_command.specs.declared.fault.ToolFault.TheVariants.{WriteFailed};
 
     ghost from_gives = { λ _ e. e ≡ WriteFailed };
 
@@ -87,7 +87,7 @@ impl From<stream::WriteFailed> for ToolFault {
 }
 
 impl From<AllocError> for ToolFault {
-    ghost use Rattle.rr_report.specs.declared.fault.ToolFault.TheVariants.{Memory};
+    ghost use Rattle.rr_command.specs.declared.fault.ToolFault.TheVariants.{Memory};
 
     ghost from_gives = { λ _ e. e ≡ Memory };
 

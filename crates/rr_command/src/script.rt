@@ -6,10 +6,10 @@ ghost use Rattle.rr_io.specs.Counted.{inner_of, failures_of, reads_of, HasRisen,
 ghost use Rattle.rr_io.specs.Stream.{AppendsPrefix};
 ghost use Rattle.rr_text.specs.declared.limits.TheConstants.{MAX_READS};
 
+use crate::fault::ToolFault;
+use crate::runner::RunScript;
 use crate::streams::{read_script, write_text};
 use rr_io::Counted;
-use rr_report::ToolFault;
-use rr_script::RunScript;
 use std::alloc::Global;
 use std::io::{Read, Write};
 

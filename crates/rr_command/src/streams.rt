@@ -6,9 +6,9 @@ ghost use Rattle.rr_io.specs.Counted.{inner_of, failures_of, reads_of, HasRisen,
 ghost use Rattle.rr_io.specs.Stream.{AppendsPrefix};
 ghost use Rattle.rr_text.specs.declared.limits.TheConstants.{MAX_READS};
 
+use crate::fault::ToolFault;
 use rr_io::Counted;
 use rr_io::stream::{flush, read_to_end, write_all};
-use rr_report::ToolFault;
 use std::alloc::Global;
 use std::io::{Read, Write};
 

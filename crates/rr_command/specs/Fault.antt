@@ -2,8 +2,8 @@
 use Rattle.std.specs.Prelude.{ℕ, List, codes}
 use Rattle.rr_io.specs.declared.stream.ReadFault.{ReadFault}
 use Rattle.rr_io.specs.declared.stream.ReadFault.TheVariants as read
-use Rattle.rr_report.specs.declared.fault.ToolFault.{ToolFault}
-use Rattle.rr_report.specs.declared.fault.ToolFault.TheVariants.{ReadFailed, WriteFailed, TooManyReads, Memory}
+use Rattle.rr_command.specs.declared.fault.ToolFault.{ToolFault}
+use Rattle.rr_command.specs.declared.fault.ToolFault.TheVariants.{ReadFailed, WriteFailed, TooManyReads, Memory}
 
 -- the printed name is the variant's
 abbrev pub tool_fault_name : ToolFault → List ℕ
