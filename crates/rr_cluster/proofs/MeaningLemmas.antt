@@ -1,5 +1,5 @@
 -- Which state a cluster represents after a step, and the nodes of a state by the replicas of its cluster.
-use Rattle.std.proofs.Common.{◌≡◌, ℕ, pos, Bool, true, false, cond, List, [], Option, Some, None, refl, sym, ap, subst, ◌∙◌}
+use Rattle.std.proofs.Common.{◌≡◌, ℕ, pos, Bool, true, false, cond, List, [], Option, Some, None, Result, Ok, Err, ◌++◌, refl, sym, ap, subst, ◌∙◌, append-nil}
 use Rattle.std.specs.Option.{is_some, option_map}
 use Rattle.std.specs.Ordering.{eq_by_cmp}
 use Rattle.std.specs.Cmp.Lexicographic.{nat_list_cmp_total}
@@ -16,9 +16,14 @@ use Rattle.rr_cells.specs.Cells.{Cells}
 use Rattle.rr_replica.specs.Standing.{Standing}
 use Rattle.rr_text.specs.Bytes.{bytes_cmp}
 use Rattle.rr_cluster.specs.declared.cluster.Cluster.{Cluster}
+use Rattle.rr_cluster.specs.declared.fault.CommandFault.{CommandFault}
+use Rattle.rr_cluster.specs.declared.stop.Stop.{Stop}
+use Rattle.rr_cluster.specs.declared.stop.Stop.TheVariants.{Refused, Memory}
+use Rattle.rr_cluster.specs.Commands.{on_ok, printing}
 use Rattle.rr_cluster.specs.Commands.Bytes.{bytes_of_page}
-use Rattle.rr_cluster.specs.Meaning.{node_in, bytes_at, bytes_of_snapshot, replica_at, HasPageText, HasSnapshotText, OptionRepresents, Represents}
+use Rattle.rr_cluster.specs.Meaning.{node_in, bytes_at, bytes_of_snapshot, replica_at, HasPageText, HasSnapshotText, Obeys, OptionRepresents, Represents}
 use Rattle.rr_cluster.specs.State.{Node, Snapshot, State, first_state}
+use Rattle.rr_cluster.specs.Stop.{Matches}
 use Rattle.rr_cluster.proofs.StepLemmas.{names_apart}
 
 abbrev pub Replicas : Type 0
@@ -188,3 +193,10 @@ module _ {A : Type 0} {g : Ghosts A} where
     snapshot_there name bytes there =
         let x = some_there bytes_of_snapshot (map.get m.snapshots name) bytes (sym there ∙ is.snapshots name) in
         (x.0, x.1, record { kept = is.are_kept name x.0 x.1; text = x.2 })
+
+  -- an answer that was printed obeys the command that asks for it
+  pub obeys_printing : (c : Cluster A g) (m : State Cells) (before after : List ℕ) (due : Result (List ℕ) CommandFault) (result : Result (Unit {0}) Stop) → Represents c m
+      → Matches (λ _ said. after ≡ before ++ said) (after ≡ before) result due → Obeys (Some c) (Some m) before after result (on_ok (printing m) due)
+  obeys_printing c m before after due (Ok done) is h = ((Some m, h.0), ap (on_ok (printing m)) h.1, (h.2, is))
+  obeys_printing c m before after due (Err (Refused fault)) is h = (ap (on_ok (printing m)) h.0, (h.1 ∙ sym (append-nil before), is))
+  obeys_printing c m before after due (Err Memory) is h = tt

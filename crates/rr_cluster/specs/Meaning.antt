@@ -4,7 +4,7 @@ use Rattle.std.specs.List.{list_any}
 use Rattle.std.specs.Option.{option_map}
 use Rattle.std.specs.Ordering.{nat_cmp}
 use Rattle.std.specs.BTreeMap.{BTreeMap}
-use Rattle.std.specs.BTreeSet.{contains}
+use Rattle.std.specs.BTreeSet.{BTreeSet, contains}
 use Rattle.std.specs.Global.{Vec}
 use Rattle.std.specs.FinMap.{get, entries}
 use Rattle.rr_archive.specs.declared.archive.Archive.{Ghosts}
@@ -90,6 +90,10 @@ abbrev pub Joins : Holding → Holding → Result (Unit {0}) Stop → Cells → 
 Joins old new (Ok done) cells = node_of new ≡ with_joined (node_of old) cells
 Joins old new (Err stop) cells = stop ≡ Memory
 
+-- a set has these origins
+abbrev pub HasOrigins : BTreeSet ℕ → List ℕ → Type 0
+HasOrigins set origins = (origin : ℕ) → contains nat_cmp set origin ≡ list_any (λ used. used == origin) origins
+
 module _ {A : Type 0} {g : Ghosts A} where
   -- a cluster has the schema, clock, nodes, pages, snapshots and origins of a state; the nodes have the schema of all, and
   -- each page and each snapshot is kept as its bytes
@@ -103,7 +107,7 @@ module _ {A : Type 0} {g : Ghosts A} where
     pub are_pages : (name : List ℕ) (page : Cells) → get m.pages name ≡ Some page → IsPage m.schema (entries page)
     pub snapshots : (name : List ℕ) → bytes_at c.snapshots name ≡ option_map bytes_of_snapshot (get m.snapshots name)
     pub are_kept : (name : List ℕ) (x : Snapshot Cells) → get m.snapshots name ≡ Some x → IsKept m.schema x
-    pub origins : (origin : ℕ) → contains nat_cmp c.origins origin ≡ list_any (λ used. used == origin) m.origins
+    pub origins : HasOrigins c.origins m.origins
 
   -- there is a cluster once there is a state
   abbrev pub OptionRepresents : Option (Cluster A g) → Option (State Cells) → Type 0

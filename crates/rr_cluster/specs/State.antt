@@ -1,6 +1,6 @@
 -- What a script has made so far, in either model.
-use Rattle.std.specs.Prelude.{ℕ, ℤ, pos, List, [], Option, None}
-use Rattle.std.specs.FinMap.{FinMap, empty}
+use Rattle.std.specs.Prelude.{ℕ, ℤ, pos, List, [], ◌∷◌, Option, None}
+use Rattle.std.specs.FinMap.{FinMap, empty, insert}
 use Rattle.rr_text.specs.Bytes.{bytes_cmp}
 use Rattle.rr_schema.specs.Schema.{Layout}
 use Rattle.rr_model.specs.World.{World}
@@ -33,3 +33,11 @@ pub record State (K : Type 0) : Type 0 where
 -- once the schema is set
 abbrev pub first_state : {K : Type 0} → Layout → State K
 first_state s = record { schema = s; clock = pos 0; lead = None; nodes = empty; pages = empty; snapshots = empty; origins = []; world = empty }
+
+-- with a node under a name, whose origin is used from then on; it takes the place of one of that name
+abbrev pub with_node : {K : Type 0} → State K → List ℕ → Node K → State K
+with_node m name n = record m { nodes = insert m.nodes name n; origins = n.origin ∷ m.origins }
+
+-- with a page under a name; it takes the place of one of that name
+abbrev pub with_page : {K : Type 0} → State K → List ℕ → K → State K
+with_page m name page = record m { pages = insert m.pages name page }

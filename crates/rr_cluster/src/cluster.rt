@@ -2,6 +2,7 @@
 
 ghost use Rattle.rr_schema.specs.Schema.{IsLayout};
 
+use crate::stop::Stop;
 use rr_archive::Archive;
 use rr_replica::Replica;
 use rr_schema::Schema;
@@ -29,8 +30,10 @@ pub(crate) struct Cluster<A: Archive> {
 }
 
 impl<A: Archive> Cluster<A> {
-    ghost use Rattle.rr_cluster.specs.Meaning.{Represents};
-    ghost use Rattle.rr_cluster.specs.State.{first_state};
+    ghost use Rattle.std.specs.Prelude.{◌≡◌, Ok};
+    ghost use Rattle.rr_cells.specs.Cells.{Cells};
+    ghost use Rattle.rr_cluster.specs.Meaning.{node_in, HasPageText, Leaves, Represents};
+    ghost use Rattle.rr_cluster.specs.State.{State, first_state, with_node, with_page};
 
     /// A cluster without nodes, pages and snapshots.
     pub(crate) fn new(alloc: Global, schema: Schema) -> Cluster<A>
@@ -47,5 +50,29 @@ impl<A: Archive> Cluster<A> {
             snapshots: BTreeMap::new(alloc),
             origins: BTreeSet::new(alloc),
         }
+    }
+
+    /// Makes a replica the node of a name, and its origin one that was used. A node of that name is
+    /// replaced.
+    pub(crate) fn put_node(&mut self, name: &[u8], replica: Replica<A>) -> Result<(), Stop>
+        ensures { (m : State Cells) → Represents self.old m → replica.schema ≡ self.old.schema
+            → Leaves self.new m result (Ok (with_node m name.now (node_in replica))) }
+    {
+        let number = replica.origin().get();
+        let name = Vec::from_slice(self.alloc, name)?;
+        self.nodes.insert(name, replica)?;
+        self.origins.insert(number)?;
+        Ok(())
+    }
+
+    /// Keeps the bytes of a page under a name. A page of that name is replaced.
+    pub(crate) fn put_page(&mut self, name: &[u8], page: Vec<u8>) -> Result<(), Stop>
+        ensures { (m : State Cells) (cells : Cells) → Represents self.old m
+            → HasPageText m.schema cells page.items
+            → Leaves self.new m result (Ok (with_page m name.now cells)) }
+    {
+        let name = Vec::from_slice(self.alloc, name)?;
+        self.pages.insert(name, page)?;
+        Ok(())
     }
 }

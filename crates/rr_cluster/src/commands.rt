@@ -1,12 +1,14 @@
 //! The commands. Each has a file of its own, with what it does.
 
-ghost use Rattle.std.specs.Prelude.{Option, None, Some};
+ghost use Rattle.std.specs.Prelude.{◌≡◌, ℕ, List, ◌++◌, Option, None, Some, Result};
 ghost use Rattle.rr_cells.specs.Cells.{Cells};
 ghost use Rattle.rr_script.specs.Command.{view_of, IsOneLine};
 ghost use Rattle.rr_cluster.specs.Commands.{step};
 ghost use Rattle.rr_cluster.specs.Meaning.{Begins, OptionRepresents, Obeys, Represents};
 ghost use Rattle.rr_cluster.specs.Model.{cell_model};
 ghost use Rattle.rr_cluster.specs.State.{State};
+ghost use Rattle.rr_cluster.specs.Stop.{Gives, Matches};
+ghost use Rattle.rr_cluster.specs.declared.fault.CommandFault.{CommandFault};
 
 pub(crate) mod bytes;
 pub(crate) mod deliver;
@@ -105,17 +107,23 @@ fn obey_later<A: Archive>(
             count,
         } => add_delta(cluster, name, giver, taker, from, count),
         Event::Deliver { name, node } => deliver(cluster, name, node),
-        Event::Bytes { name } => {
-            let line = hex_of_page(cluster, name)?;
-            text.extend_from_slice(line.as_slice())?;
-            Ok(())
-        }
+        Event::Bytes { name } => print(hex_of_page(cluster, name), text),
         Event::Save { name, node } => save_node(cluster, name, node),
         Event::Load { name, node, origin } => load_node(cluster, name, node, origin),
-        Event::Fetch { node, request } => {
-            let answer = answer_to(cluster, node, &request)?;
+        Event::Fetch { node, request } => print(answer_to(cluster, node, &request), text),
+    }
+}
+
+/// Adds an answer to the text, unless there is none.
+fn print(answer: Result<Vec<u8>, Stop>, text: &mut Vec<u8>) -> Result<(), Stop>
+    ensures { (due : Result (List ℕ) CommandFault) → Gives (λ said. said.items) answer due
+        → Matches (λ _ said. text.new.items ≡ text.old.items ++ said) (text.new.items ≡ text.old.items) result due }
+{
+    match answer {
+        Ok(answer) => {
             text.extend_from_slice(answer.as_slice())?;
             Ok(())
         }
+        Err(stop) => Err(stop),
     }
 }

@@ -1,6 +1,6 @@
 -- delta NAME GIVER TAKER FROM COUNT
 use Rattle.std.proofs.Common.{◌≡◌, ℕ, ◌<◌, ◌≤◌, true, false, T, take, drop, length, List, [], ◌∷◌, map as each, Some, None, Ok, Err, refl, sym, ap, subst, ◌∙◌, arith}
-use Rattle.std.specs.Prelude.{IsTrue, ok_or}
+use Rattle.std.specs.Prelude.{IsTrue}
 use Rattle.std.specs.FinMap as map
 use Rattle.std.specs.FinMap.Entries.{below_all}
 use Rattle.std.specs.List.{All}
@@ -27,15 +27,15 @@ use Rattle.rr_cells.specs.declared.cell.Cell.{Cell}
 use Rattle.rr_cells.specs.Listing.{owned_cell}
 use Rattle.rr_cells.specs.State.{state}
 use Rattle.rr_cluster.specs.declared.fault.CommandFault.{CommandFault}
-use Rattle.rr_cluster.specs.declared.fault.CommandFault.TheVariants.{BadName, NoNode, BadNumber}
-use Rattle.rr_cluster.specs.declared.words.TheConstants.{MAX_U32}
+use Rattle.rr_cluster.specs.declared.fault.CommandFault.TheVariants.{BadName, NoNode}
 use Rattle.rr_cluster.specs.Agreement.{in_cells, node_in_cells}
 use Rattle.rr_cluster.specs.Commands.Delta.{after_delta}
+use Rattle.rr_cluster.specs.Commands.Page.{place_and_count}
 use Rattle.rr_cluster.specs.Meaning.{HasPageText}
 use Rattle.rr_cluster.specs.Model.{Model, cell_model, sample_model, part_of_difference, newer_part_of}
 use Rattle.rr_cluster.specs.Soundness.{IsSound}
-use Rattle.rr_cluster.specs.State.{Node, State}
-use Rattle.rr_cluster.specs.Words.{is_name, number_within}
+use Rattle.rr_cluster.specs.State.{Node, State, with_page}
+use Rattle.rr_cluster.specs.Words.{is_name}
 use Rattle.rr_cluster.proofs.CommandsLemmas.Page.{with_page_agrees}
 use Rattle.rr_cluster.proofs.EntriesLemmas.{entries-of_part, from_entries-entries, part_is_page}
 use Rattle.rr_cluster.proofs.SoundnessLemmas.{with_page_is_sound}
@@ -59,19 +59,14 @@ module _ {K : Type 0} (model : Model K) (m : State K) (name giver taker from cou
       no_taker e = rw (named, here, e) refl
 
       module _ (t : Node K) (there : map.get m.nodes taker ≡ Some t) where
-        pub bad_from : (fault : CommandFault) → ok_or (number_within 0 MAX_U32 from) BadNumber ≡ Err fault → after_delta model m name giver taker from count ≡ Err fault
+        pub bad_number : (fault : CommandFault) → place_and_count from count ≡ Err fault → after_delta model m name giver taker from count ≡ Err fault
         unfolding after_delta
-        bad_from fault e = rw (named, here, there, e) refl
+        bad_number fault e = rw (named, here, there, e) refl
 
-        module _ (first : ℕ) (is : ok_or (number_within 0 MAX_U32 from) BadNumber ≡ Ok first) where
-          pub bad_count : (fault : CommandFault) → ok_or (number_within 1 MAX_PAGE_CELLS count) BadNumber ≡ Err fault → after_delta model m name giver taker from count ≡ Err fault
-          unfolding after_delta
-          bad_count fault e = rw (named, here, there, is, e) refl
-
-          pub delta_is_made : (most : ℕ) → ok_or (number_within 1 MAX_PAGE_CELLS count) BadNumber ≡ Ok most
-              → after_delta model m name giver taker from count ≡ Ok (record m { pages = map.insert m.pages name (model.part_of_newer g.schema g.contents t.contents first most) })
-          unfolding after_delta
-          delta_is_made most e = rw (named, here, there, is, e) refl
+        pub delta_is_made : (first most : ℕ) → place_and_count from count ≡ Ok (first, most)
+            → after_delta model m name giver taker from count ≡ Ok (with_page m name (model.part_of_newer g.schema g.contents t.contents first most))
+        unfolding after_delta
+        delta_is_made first most e = rw (named, here, there, e) refl
 
 -- ---- the summary of all cells
 
@@ -142,6 +137,6 @@ module _ (m : State Knowledge) (sound : IsSound m) (giver taker : List ℕ) (g t
 pub delta_agrees : (m : State Knowledge) → IsSound m → (name giver taker from count : List ℕ) → Agrees in_cells IsSound (after_delta cell_model (in_cells m) name giver taker from count) (after_delta sample_model m name giver taker from count)
 unfolding after_delta
 delta_agrees m sound name giver taker from count =
-    then_agree in_cells IsSound (check (is_name name) BadName) _ _ (λ named is. found_agree in_cells IsSound node_in_cells m.nodes giver NoNode _ _ (λ g here. found_agree in_cells IsSound node_in_cells m.nodes taker NoNode _ _ (λ t there. then_agree in_cells IsSound (ok_or (number_within 0 MAX_U32 from) BadNumber) _ _ (λ first read. then_agree in_cells IsSound (ok_or (number_within 1 MAX_PAGE_CELLS count) BadNumber) _ _ (λ most also.
-    done_agrees in_cells IsSound _ _ (with_page_agrees m name _ (part_of_difference g.schema g.contents t.contents first most) (newer_agrees m sound giver taker g t here there first most))
-    (with_page_is_sound m sound name (part_of_difference g.schema g.contents t.contents first most) (newer_is_closed m sound giver taker g t here there first most)))))))
+    then_agree in_cells IsSound (check (is_name name) BadName) _ _ (λ named is. found_agree in_cells IsSound node_in_cells m.nodes giver NoNode _ _ (λ g here. found_agree in_cells IsSound node_in_cells m.nodes taker NoNode _ _ (λ t there. then_agree in_cells IsSound (place_and_count from count) _ _ (λ asked read.
+    done_agrees in_cells IsSound _ _ (with_page_agrees m name _ (part_of_difference g.schema g.contents t.contents asked.0 asked.1) (newer_agrees m sound giver taker g t here there asked.0 asked.1))
+    (with_page_is_sound m sound name (part_of_difference g.schema g.contents t.contents asked.0 asked.1) (newer_is_closed m sound giver taker g t here there asked.0 asked.1))))))

@@ -1,9 +1,5 @@
 -- load NAME NODE ORIGIN
-use Rattle.std.proofs.Common.{◌≡◌, ◌⊎◌, ℕ, Bool, true, false, not, cond, inl, inr, List, ◌∷◌, Some, None, Result, Ok, Err, refl, sym, ap, subst, ◌∙◌}
-use Rattle.std.specs.Prelude.{◌==◌}
-use Rattle.std.specs.List.{list_any}
-use Rattle.std.specs.Ordering.{nat_cmp, is_eq}
-use Rattle.std.specs.BTreeSet.{contains}
+use Rattle.std.proofs.Common.{◌≡◌, ◌⊎◌, ℕ, Bool, true, false, not, inl, inr, List, ◌∷◌, Some, None, Result, Ok, Err, refl, sym, ap, subst, ◌∙◌}
 use Rattle.std.specs.FinMap as map
 use Rattle.rr_archive.specs.declared.archive.Archive.{Ghosts}
 use Rattle.rr_text.specs.Results.{check, unless}
@@ -24,16 +20,16 @@ use Rattle.rr_cluster.specs.declared.stop.Stop.{Stop}
 use Rattle.rr_cluster.specs.declared.stop.Stop.TheVariants.{Refused}
 use Rattle.rr_cluster.specs.Agreement.{in_cells, snapshot_in_cells}
 use Rattle.rr_cluster.specs.Commands.Load.{loaded_node, has_origin, after_load}
-use Rattle.rr_cluster.specs.Meaning.{node_of, bytes_at, HasSnapshotText, Leaves, Loads, Represents}
+use Rattle.rr_cluster.specs.Commands.Node.{unused_origin}
+use Rattle.rr_cluster.specs.Meaning.{node_in, node_of, bytes_at, HasSnapshotText, Leaves, Loads, Represents}
 use Rattle.rr_cluster.specs.Model.{Model, cell_model, sample_model}
 use Rattle.rr_cluster.specs.Soundness.{IsSound}
-use Rattle.rr_cluster.specs.State.{Node, Snapshot, State}
-use Rattle.rr_cluster.specs.Words.{is_name, origin_of}
-use Rattle.rr_cluster.proofs.CommandsLemmas.Node.{represents_with_node, with_node_agrees}
-use Rattle.rr_cluster.proofs.MeaningLemmas.{HasPut, snapshot_there}
-use Rattle.rr_cluster.proofs.LimitLemmas.{origin_is}
+use Rattle.rr_cluster.specs.State.{Node, Snapshot, State, with_node}
+use Rattle.rr_cluster.specs.Words.{is_name}
+use Rattle.rr_cluster.proofs.CommandsLemmas.Node.{origin_is_unused, with_node_agrees}
+use Rattle.rr_cluster.proofs.MeaningLemmas.{snapshot_there}
 use Rattle.rr_cluster.proofs.SoundnessLemmas.{with_node_is_sound, starting_is_sound}
-use Rattle.rr_cluster.proofs.StepLemmas.{Agrees, then_agree, found_agree, done_agrees, not_true}
+use Rattle.rr_cluster.proofs.StepLemmas.{Agrees, then_agree, found_agree, done_agrees}
 
 -- ---- check by check
 
@@ -48,24 +44,18 @@ module _ {K : Type 0} (model : Model K) (m : State K) (name node origin : List �
     bad_name e = rw (here, e) refl
 
     module _ (named : is_name node ≡ true) where
-      pub bad_origin : (fault : CommandFault) → origin_of origin ≡ Err fault → after_load model m name node origin ≡ Err fault
+      pub bad_origin : (fault : CommandFault) → unused_origin m.origins origin ≡ Err fault → after_load model m name node origin ≡ Err fault
       unfolding after_load
       bad_origin fault e = rw (here, named, e) refl
 
-      module _ (number : ℕ) (is : origin_of origin ≡ Ok number) where
-        pub used_origin : list_any (λ used. used == number) m.origins ≡ true → after_load model m name node origin ≡ Err OriginUsed
+      module _ (number : ℕ) (is : unused_origin m.origins origin ≡ Ok number) where
+        pub held_origin : has_origin model x number ≡ true → after_load model m name node origin ≡ Err OriginUsed
         unfolding after_load
-        used_origin e = rw (here, named, is, e) refl
+        held_origin e = rw (here, named, is, e) refl
 
-        module _ (unused : list_any (λ used. used == number) m.origins ≡ false) where
-          pub held_origin : has_origin model x number ≡ true → after_load model m name node origin ≡ Err OriginUsed
-          unfolding after_load
-          held_origin e = rw (here, named, is, unused, e) refl
-
-          pub node_is_loaded : has_origin model x number ≡ false
-              → after_load model m name node origin ≡ Ok (record m { nodes = map.insert m.nodes node (loaded_node x number); origins = number ∷ m.origins })
-          unfolding after_load
-          node_is_loaded e = rw (here, named, is, unused, e) refl
+        pub node_is_loaded : has_origin model x number ≡ false → after_load model m name node origin ≡ Ok (with_node m node (loaded_node x number))
+        unfolding after_load
+        node_is_loaded e = rw (here, named, is, e) refl
 
 -- ---- the replica of a snapshot
 
@@ -127,42 +117,34 @@ module _ {A : Type 0} {g : Ghosts A} (c : Cluster A g) (m : State Cells) (is : R
   bad_name_here = bad_name cell_model m name node origin x here
 
   module _ (named : is_name node ≡ true) where
-    pub bad_origin_here : (fault : CommandFault) → origin_of origin ≡ Err fault → after_load cell_model m name node origin ≡ Err fault
+    pub bad_origin_here : (fault : CommandFault) → unused_origin m.origins origin ≡ Err fault → after_load cell_model m name node origin ≡ Err fault
     bad_origin_here = bad_origin cell_model m name node origin x here named
 
-    module _ (number : ℕ) (read : origin_of origin ≡ Ok number) where
-      pub used_origin_here : list_any (λ used. used == number) m.origins ≡ true → after_load cell_model m name node origin ≡ Err OriginUsed
-      used_origin_here = used_origin cell_model m name node origin x here named number read
+    module _ (number : ℕ) (read : unused_origin m.origins origin ≡ Ok number) where
+      -- an origin that the snapshot has is refused
+      pub load_is_refused : (stop : Stop) → ((y : Snapshot Cells) → HasSnapshotText c.schema y bytes → Loads (Err stop) y number) → (new : Cluster A g) → Represents new m → Leaves new m (Err stop) (after_load cell_model m name node origin)
+      load_is_refused stop loads new same = by (loads x text)
+        where
+          by : Loads (Err stop) x number → Leaves new m (Err stop) (after_load cell_model m name node origin)
+          by (inl e) = rw e tt
+          by (inr (e, has)) = rw e (held_origin cell_model m name node origin x here named number read has, same)
 
-      module _ (unused : list_any (λ used. used == number) m.origins ≡ false) where
-        -- an origin that the snapshot has is refused
-        pub load_is_refused : (stop : Stop) → ((y : Snapshot Cells) → HasSnapshotText c.schema y bytes → Loads (Err stop) y number) → (new : Cluster A g) → Represents new m → Leaves new m (Err stop) (after_load cell_model m name node origin)
-        load_is_refused stop loads new same = by (loads x text)
-          where
-            by : Loads (Err stop) x number → Leaves new m (Err stop) (after_load cell_model m name node origin)
-            by (inl e) = rw e tt
-            by (inr (e, has)) = rw e (held_origin cell_model m name node origin x here named number read unused has, same)
-
-        module _ (new : Cluster A g) (h : Standing) (loads : (y : Snapshot Cells) → HasSnapshotText c.schema y bytes → Loads (Ok h) y number) where
-          pub leaves_loaded : new.schema ≡ c.schema → new.clock ≡ c.clock → new.lead ≡ c.lead → new.pages ≡ c.pages → new.snapshots ≡ c.snapshots → HasPut c.nodes new.nodes node h
-              → ((q : ℕ) → contains nat_cmp new.origins q ≡ cond (is_eq (nat_cmp number q)) true (contains nat_cmp c.origins q))
-              → Leaves new m (Ok tt) (after_load cell_model m name node origin)
-          leaves_loaded schema clock lead pages snapshots put origins =
-              let shared = (is.are_kept name x here).shared ∙ sym is.schema in
-              let loaded = loads x text in (
-                _,
-                node_is_loaded cell_model m name node origin x here named number read unused loaded.0,
-                represents_with_node c new m node h (loaded_node x number) number is schema clock lead pages snapshots put loaded.1 (ap (λ (n : Node Cells). n.schema) loaded.1 ∙ shared) origins,
-              )
+      -- and else the replica is a node of the cluster's schema
+      pub replica_is_loaded : (h : Standing) → ((y : Snapshot Cells) → HasSnapshotText c.schema y bytes → Loads (Ok h) y number) → (h.schema ≡ c.schema) × (after_load cell_model m name node origin ≡ Ok (with_node m node (node_in h)))
+      replica_is_loaded h loads =
+          let loaded = loads x text in (
+            ap (λ (n : Node Cells). n.schema) loaded.1 ∙ (is.are_kept name x here).shared ∙ sym is.schema,
+            node_is_loaded cell_model m name node origin x here named number read loaded.0 ∙ ap (λ (n : Node Cells). Ok (with_node m node n)) (sym loaded.1),
+          )
 
 -- ---- the models agree
 
 pub load_agrees : (m : State Knowledge) → IsSound m → (name node origin : List ℕ) → Agrees in_cells IsSound (after_load cell_model (in_cells m) name node origin) (after_load sample_model m name node origin)
 unfolding after_load
 load_agrees m sound name node origin =
-    found_agree in_cells IsSound snapshot_in_cells m.snapshots name NoSnapshot _ _ (λ x here. then_agree in_cells IsSound (check (is_name node) BadName) _ _ (λ named is. then_agree in_cells IsSound (origin_of origin) _ _ (λ number read. then_agree in_cells IsSound (check (not (list_any (λ used. used == number) m.origins)) OriginUsed) _ _ (λ unused yes. then_agree in_cells IsSound (check (not (has_origin sample_model x number)) OriginUsed) _ _ (λ absent so.
-    let none = not_true _ _ unused yes in
+    found_agree in_cells IsSound snapshot_in_cells m.snapshots name NoSnapshot _ _ (λ x here. then_agree in_cells IsSound (check (is_name node) BadName) _ _ (λ named is. then_agree in_cells IsSound (unused_origin m.origins origin) _ _ (λ number read. then_agree in_cells IsSound (check (not (has_origin sample_model x number)) OriginUsed) _ _ (λ absent so.
+    let unused = origin_is_unused m.origins origin number read in
     let before = sound.snapshots name x here in
     let closed = subst (λ (s : Layout). IsClosed s m.world x.contents) (sym before.shared) before.closed in
     done_agrees in_cells IsSound _ _ (with_node_agrees m node (loaded_node (snapshot_in_cells x) number) (loaded_node x number) (number ∷ m.origins) m.world refl)
-    (with_node_is_sound m sound node (loaded_node x number) before.shared (starting_is_sound m sound x.schema number x.contents closed none) (origin_is origin number read) none))))))
+    (with_node_is_sound m sound node (loaded_node x number) before.shared (starting_is_sound m sound x.schema number x.contents closed unused.1) unused.0 unused.1)))))

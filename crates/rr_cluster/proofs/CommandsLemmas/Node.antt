@@ -1,5 +1,5 @@
 -- node NAME ORIGIN
-use Rattle.std.proofs.Common.{◌≡◌, ℕ, Bool, true, false, not, cond, option_map, subst, ◌&&◌, ◌||◌, List, ◌∷◌, Ok, Err, refl, sym, ap, ◌∙◌, eq-eqb}
+use Rattle.std.proofs.Common.{◌≡◌, ℕ, Bool, true, false, not, cond, subst, ◌&&◌, ◌||◌, List, ◌∷◌, Result, Ok, Err, refl, sym, ap, ◌∙◌, eq-eqb}
 use Rattle.std.specs.Prelude.{◌==◌}
 use Rattle.std.specs.List.{list_any}
 use Rattle.std.proofs.lemmas.Bool.{eqb-true}
@@ -10,6 +10,7 @@ use Rattle.std.specs.BTreeSet.{contains}
 use Rattle.std.specs.FinMap as map
 use Rattle.std.specs.FinMap.{nat_cmp-IsAntisymmetric}
 use Rattle.rr_archive.specs.declared.archive.Archive.{Ghosts}
+use Rattle.rr_schema.specs.Origin.{IsOrigin}
 use Rattle.rr_schema.specs.Schema.{Layout}
 use Rattle.rr_join.specs.Values.{map_values}
 use Rattle.rr_join.proofs.Booleans.{same_test}
@@ -30,17 +31,17 @@ use Rattle.rr_cluster.specs.declared.cluster.Cluster.{Cluster}
 use Rattle.rr_cluster.specs.declared.fault.CommandFault.{CommandFault}
 use Rattle.rr_cluster.specs.declared.fault.CommandFault.TheVariants.{BadName, NameUsed, OriginUsed}
 use Rattle.rr_cluster.specs.Agreement.{in_cells, node_in_cells}
-use Rattle.rr_text.specs.Results.{check}
-use Rattle.rr_cluster.specs.Commands.Node.{new_node, after_node}
-use Rattle.rr_cluster.specs.Meaning.{node_of, node_in, replica_at, Represents}
+use Rattle.rr_text.specs.Results.{◌>>=◌, check}
+use Rattle.rr_cluster.specs.Commands.Node.{new_node, after_node, unused_origin}
+use Rattle.rr_cluster.specs.Meaning.{node_of, node_in, Represents}
 use Rattle.rr_cluster.specs.Model.{Model, cell_model, sample_model}
 use Rattle.rr_cluster.specs.Soundness.{IsSound}
-use Rattle.rr_cluster.specs.State.{Node, State}
+use Rattle.rr_cluster.specs.State.{Node, State, with_node}
 use Rattle.rr_cluster.specs.Words.{is_name, origin_of}
 use Rattle.rr_cluster.proofs.LimitLemmas.{origin_is}
 use Rattle.rr_cluster.proofs.MeaningLemmas.{HasPut, nodes_put, each_put}
 use Rattle.rr_cluster.proofs.SoundnessLemmas.{with_node_is_sound, starting_is_sound}
-use Rattle.rr_cluster.proofs.StepLemmas.{names_apart, Agrees, then_agree, done_agrees, not_true}
+use Rattle.rr_cluster.proofs.StepLemmas.{names_apart, Agrees, then_agree, done_agrees}
 
 -- ---- check by check
 
@@ -55,19 +56,29 @@ module _ {K : Type 0} (model : Model K) (m : State K) (name origin : List ℕ) w
     used_name e = rw (named, e) refl
 
     module _ (free : map.contains_key m.nodes name ≡ false) where
-      pub bad_origin : (fault : CommandFault) → origin_of origin ≡ Err fault → after_node model m name origin ≡ Err fault
+      pub bad_origin : (fault : CommandFault) → unused_origin m.origins origin ≡ Err fault → after_node model m name origin ≡ Err fault
       unfolding after_node
       bad_origin fault e = rw (named, free, e) refl
 
-      module _ (number : ℕ) (is : origin_of origin ≡ Ok number) where
-        pub used_origin : list_any (λ used. used == number) m.origins ≡ true → after_node model m name origin ≡ Err OriginUsed
-        unfolding after_node
-        used_origin e = rw (named, free, is, e) refl
+      pub node_is_new : (number : ℕ) → unused_origin m.origins origin ≡ Ok number → after_node model m name origin ≡ Ok (with_node m name (new_node model m.schema number))
+      unfolding after_node
+      node_is_new number e = rw (named, free, e) refl
 
-        pub node_is_new : list_any (λ used. used == number) m.origins ≡ false
-            → after_node model m name origin ≡ Ok (record m { nodes = map.insert m.nodes name (new_node model m.schema number); origins = number ∷ m.origins })
-        unfolding after_node
-        node_is_new e = rw (named, free, is, e) refl
+-- an origin that is unused is an origin
+pub origin_is_unused : (origins word : List ℕ) (number : ℕ) → unused_origin origins word ≡ Ok number → IsOrigin number × (list_any (λ used. used == number) origins ≡ false)
+origin_is_unused origins word number = by (origin_of word) refl
+  where
+    at : (n : ℕ) → origin_of word ≡ Ok n → (used : Bool) → list_any (λ other. other == n) origins ≡ used → (check (not used) OriginUsed >>= λ unused. Ok n) ≡ Ok number
+        → IsOrigin number × (list_any (λ other. other == number) origins ≡ false)
+    at n read true is e = absurd cc
+    at n read false is e =
+        let same : n ≡ number = cc in
+        subst (λ (k : ℕ). IsOrigin k × (list_any (λ other. other == k) origins ≡ false)) same (origin_is word n read, is)
+
+    by : (r : Result ℕ CommandFault) → origin_of word ≡ r → (r >>= λ n. check (not (list_any (λ used. used == n) origins)) OriginUsed >>= λ unused. Ok n) ≡ Ok number
+        → IsOrigin number × (list_any (λ used. used == number) origins ≡ false)
+    by (Err fault) read e = absurd cc
+    by (Ok n) read e = at n read (list_any (λ used. used == n) origins) refl e
 
 -- ---- the cluster with the node
 
@@ -87,22 +98,21 @@ used_more number origin before has e =
     ap (λ (b : Bool). cond b true has) (same_number number origin) ∙ either_one (number == origin) has (list_any (λ used. used == origin) before) e
 
 module _ {A : Type 0} {g : Ghosts A} where
-  pub represents_with_node : (old new : Cluster A g) (m : State Cells) (name : List ℕ) (h : Standing) (n : Node Cells) (number : ℕ) → Represents old m
+  pub represents_with_node : (old new : Cluster A g) (m : State Cells) (name : List ℕ) (h : Standing) → Represents old m
       → new.schema ≡ old.schema → new.clock ≡ old.clock → new.lead ≡ old.lead → new.pages ≡ old.pages → new.snapshots ≡ old.snapshots → HasPut old.nodes new.nodes name h
-      → node_in h ≡ n → h.schema ≡ old.schema
-      → ((q : ℕ) → contains nat_cmp new.origins q ≡ cond (is_eq (nat_cmp number q)) true (contains nat_cmp old.origins q))
-      → Represents new (record m { nodes = map.insert m.nodes name n; origins = number ∷ m.origins })
-  represents_with_node old new m name h n number is schema clock lead pages snapshots put same shared origins = record {
+      → h.schema ≡ old.schema → ((q : ℕ) → contains nat_cmp new.origins q ≡ cond (is_eq (nat_cmp h.origin q)) true (contains nat_cmp old.origins q))
+      → Represents new (with_node m name (node_in h))
+  represents_with_node old new m name h is schema clock lead pages snapshots put shared origins = record {
     schema = schema ∙ is.schema;
     clock = clock ∙ is.clock;
     lead = lead ∙ is.lead;
-    nodes = subst (λ (x : Node Cells). (q : List ℕ) → map.get (map.insert m.nodes name x) q ≡ option_map node_in (replica_at new.nodes q)) same (nodes_put old.nodes new.nodes m.nodes name h is.nodes put);
+    nodes = nodes_put old.nodes new.nodes m.nodes name h is.nodes put;
     shared = rw schema (each_put (λ g. g.schema ≡ old.schema) old.nodes new.nodes name h put shared is.shared);
     pages = λ q. rw pages (is.pages q);
     are_pages = is.are_pages;
     snapshots = λ q. rw snapshots (is.snapshots q);
     are_kept = is.are_kept;
-    origins = λ origin. origins origin ∙ used_more number origin m.origins (contains nat_cmp old.origins origin) (is.origins origin);
+    origins = λ origin. origins origin ∙ used_more h.origin origin m.origins (contains nat_cmp old.origins origin) (is.origins origin);
   }
 
 module _ {A : Type 0} {g : Ghosts A} where
@@ -132,7 +142,7 @@ with_node_agrees m name c n origins w e =
 pub node_agrees : (m : State Knowledge) → IsSound m → (name origin : List ℕ) → Agrees in_cells IsSound (after_node cell_model (in_cells m) name origin) (after_node sample_model m name origin)
 unfolding after_node
 node_agrees m sound name origin =
-    rw (is_some-map_values nat_list_cmp_total names_apart node_in_cells m.nodes name) (then_agree in_cells IsSound (check (is_name name) BadName) _ _ (λ named is. then_agree in_cells IsSound (check (not (map.contains_key m.nodes name)) NameUsed) _ _ (λ free new. then_agree in_cells IsSound (origin_of origin) _ _ (λ number read. then_agree in_cells IsSound (check (not (list_any (λ used. used == number) m.origins)) OriginUsed) _ _ (λ unused yes.
-    let none = not_true _ _ unused yes in
+    rw (is_some-map_values nat_list_cmp_total names_apart node_in_cells m.nodes name) (then_agree in_cells IsSound (check (is_name name) BadName) _ _ (λ named is. then_agree in_cells IsSound (check (not (map.contains_key m.nodes name)) NameUsed) _ _ (λ free new. then_agree in_cells IsSound (unused_origin m.origins origin) _ _ (λ number read.
+    let unused = origin_is_unused m.origins origin number read in
     done_agrees in_cells IsSound _ _ (with_node_agrees m name (new_node cell_model m.schema number) (new_node sample_model m.schema number) (number ∷ m.origins) m.world (new_nodes_agree m.schema number))
-    (with_node_is_sound m sound name (new_node sample_model m.schema number) refl (starting_is_sound m sound m.schema number _ (nothing_is_closed m.schema m.world) none) (origin_is origin number read) none))))))
+    (with_node_is_sound m sound name (new_node sample_model m.schema number) refl (starting_is_sound m sound m.schema number _ (nothing_is_closed m.schema m.world) unused.1) unused.0 unused.1)))))

@@ -1,6 +1,5 @@
 -- page NAME NODE FROM COUNT
 use Rattle.std.proofs.Common.{◌≡◌, ℕ, ◌≤◌, take, drop, List, Some, None, Ok, Err, true, false, refl, sym, ap, subst, ◌∙◌}
-use Rattle.std.specs.Prelude.{ok_or}
 use Rattle.std.specs.Cmp.Lexicographic.{nat_list_cmp_total}
 use Rattle.std.specs.FinMap as map
 use Rattle.rr_archive.specs.declared.archive.Archive.{Ghosts}
@@ -21,16 +20,15 @@ use Rattle.rr_cells.specs.State.{state}
 use Rattle.rr_cells.proofs.Parting.{parts_are_cut}
 use Rattle.rr_cluster.specs.declared.cluster.Cluster.{Cluster}
 use Rattle.rr_cluster.specs.declared.fault.CommandFault.{CommandFault}
-use Rattle.rr_cluster.specs.declared.fault.CommandFault.TheVariants.{BadName, NoNode, BadNumber}
-use Rattle.rr_cluster.specs.declared.words.TheConstants.{MAX_U32}
+use Rattle.rr_cluster.specs.declared.fault.CommandFault.TheVariants.{BadName, NoNode}
 use Rattle.rr_cluster.specs.Agreement.{in_cells, node_in_cells}
-use Rattle.rr_cluster.specs.Commands.Page.{after_page}
+use Rattle.rr_cluster.specs.Commands.Page.{after_page, place_and_count}
 use Rattle.rr_cluster.specs.Commands.Bytes.{bytes_of_page}
 use Rattle.rr_cluster.specs.Meaning.{replica_at, HasPageText, Represents}
 use Rattle.rr_cluster.specs.Model.{Model, cell_model, sample_model, part_of}
 use Rattle.rr_cluster.specs.Soundness.{IsSound}
-use Rattle.rr_cluster.specs.State.{Node, State}
-use Rattle.rr_cluster.specs.Words.{is_name, number_within}
+use Rattle.rr_cluster.specs.State.{Node, State, with_page}
+use Rattle.rr_cluster.specs.Words.{is_name}
 use Rattle.rr_cluster.proofs.CommandsLemmas.Write.{layout_at}
 use Rattle.rr_cluster.proofs.EntriesLemmas.{entries-part_of, from_entries-entries, part_of_is_page}
 use Rattle.rr_cluster.proofs.MeaningLemmas.{HasPutBytes, texts_put}
@@ -50,19 +48,13 @@ module _ {K : Type 0} (model : Model K) (m : State K) (name node from count : Li
     no_node e = rw (named, e) refl
 
     module _ (n : Node K) (here : map.get m.nodes node ≡ Some n) where
-      pub bad_from : (fault : CommandFault) → ok_or (number_within 0 MAX_U32 from) BadNumber ≡ Err fault → after_page model m name node from count ≡ Err fault
+      pub bad_number : (fault : CommandFault) → place_and_count from count ≡ Err fault → after_page model m name node from count ≡ Err fault
       unfolding after_page
-      bad_from fault e = rw (named, here, e) refl
+      bad_number fault e = rw (named, here, e) refl
 
-      module _ (first : ℕ) (is : ok_or (number_within 0 MAX_U32 from) BadNumber ≡ Ok first) where
-        pub bad_count : (fault : CommandFault) → ok_or (number_within 1 MAX_PAGE_CELLS count) BadNumber ≡ Err fault → after_page model m name node from count ≡ Err fault
-        unfolding after_page
-        bad_count fault e = rw (named, here, is, e) refl
-
-        pub page_is_made : (most : ℕ) → ok_or (number_within 1 MAX_PAGE_CELLS count) BadNumber ≡ Ok most
-            → after_page model m name node from count ≡ Ok (record m { pages = map.insert m.pages name (model.part n.schema n.contents first most) })
-        unfolding after_page
-        page_is_made most e = rw (named, here, is, e) refl
+      pub page_is_made : (first most : ℕ) → place_and_count from count ≡ Ok (first, most) → after_page model m name node from count ≡ Ok (with_page m name (model.part n.schema n.contents first most))
+      unfolding after_page
+      page_is_made first most e = rw (named, here, e) refl
 
 -- ---- the bytes of a page
 
@@ -79,7 +71,7 @@ module _ (h : Holding) (is : IsHolding h) (from count : ℕ) (fits : count ≤ M
 
 module _ {A : Type 0} {g : Ghosts A} (old new : Cluster A g) (m : State Cells) (name bytes : List ℕ) (page : Cells) (is : Represents old m)
     (schema : new.schema ≡ old.schema) (clock : new.clock ≡ old.clock) (lead : new.lead ≡ old.lead) (nodes : new.nodes ≡ old.nodes) (snapshots : new.snapshots ≡ old.snapshots) (origins : new.origins ≡ old.origins) where
-  pub represents_with_page : HasPutBytes old.pages new.pages name bytes → HasPageText m.schema page bytes → Represents new (record m { pages = map.insert m.pages name page })
+  pub represents_with_page : HasPutBytes old.pages new.pages name bytes → HasPageText m.schema page bytes → Represents new (with_page m name page)
   represents_with_page put has = record {
     schema = schema ∙ is.schema;
     clock = clock ∙ is.clock;
@@ -125,6 +117,6 @@ with_page_agrees m name c k e =
 pub page_agrees : (m : State Knowledge) → IsSound m → (name node from count : List ℕ) → Agrees in_cells IsSound (after_page cell_model (in_cells m) name node from count) (after_page sample_model m name node from count)
 unfolding after_page
 page_agrees m sound name node from count =
-    then_agree in_cells IsSound (check (is_name name) BadName) _ _ (λ named is. found_agree in_cells IsSound node_in_cells m.nodes node NoNode _ _ (λ n here. then_agree in_cells IsSound (ok_or (number_within 0 MAX_U32 from) BadNumber) _ _ (λ first read. then_agree in_cells IsSound (ok_or (number_within 1 MAX_PAGE_CELLS count) BadNumber) _ _ (λ most also.
-    done_agrees in_cells IsSound _ _ (with_page_agrees m name _ (part n.schema n.contents first most) (part_agrees m sound node n here first most))
-    (with_page_is_sound m sound name (part n.schema n.contents first most) (part_is_closed m sound node n here first most))))))
+    then_agree in_cells IsSound (check (is_name name) BadName) _ _ (λ named is. found_agree in_cells IsSound node_in_cells m.nodes node NoNode _ _ (λ n here. then_agree in_cells IsSound (place_and_count from count) _ _ (λ asked read.
+    done_agrees in_cells IsSound _ _ (with_page_agrees m name _ (part n.schema n.contents asked.0 asked.1) (part_agrees m sound node n here asked.0 asked.1))
+    (with_page_is_sound m sound name (part n.schema n.contents asked.0 asked.1) (part_is_closed m sound node n here asked.0 asked.1)))))

@@ -1,14 +1,14 @@
 -- load NAME NODE ORIGIN
-use Rattle.std.specs.Prelude.{ℕ, Bool, not, ◌==◌, List, ◌∷◌, Result, Ok, ok_or}
-use Rattle.std.specs.List.{list_any}
-use Rattle.std.specs.FinMap.{get, insert, entries}
+use Rattle.std.specs.Prelude.{ℕ, Bool, not, List, Result, Ok, ok_or}
+use Rattle.std.specs.FinMap.{get, entries}
 use Rattle.rr_snapshot.specs.Loading.{is_used}
 use Rattle.rr_cluster.specs.declared.fault.CommandFault.{CommandFault}
 use Rattle.rr_cluster.specs.declared.fault.CommandFault.TheVariants.{NoSnapshot, BadName, OriginUsed}
 use Rattle.rr_text.specs.Results.{◌>>=◌, check}
+use Rattle.rr_cluster.specs.Commands.Node.{unused_origin}
 use Rattle.rr_cluster.specs.Model.{Model}
-use Rattle.rr_cluster.specs.State.{Node, Snapshot, State}
-use Rattle.rr_cluster.specs.Words.{is_name, origin_of}
+use Rattle.rr_cluster.specs.State.{Node, Snapshot, State, with_node}
+use Rattle.rr_cluster.specs.Words.{is_name}
 
 -- the node that a snapshot is loaded as, under a new origin
 abbrev pub loaded_node : {K : Type 0} → Snapshot K → ℕ → Node K
@@ -24,7 +24,6 @@ module _ {K : Type 0} (model : Model K) where
   after_load m name node origin = do
     x ← ok_or (get m.snapshots name) NoSnapshot
     named ← check (is_name node) BadName
-    number ← origin_of origin
-    unused ← check (not (list_any (λ used. used == number) m.origins)) OriginUsed
+    number ← unused_origin m.origins origin
     absent ← check (not (has_origin x number)) OriginUsed
-    Ok (record m { nodes = insert m.nodes node (loaded_node x number); origins = number ∷ m.origins })
+    Ok (with_node m node (loaded_node x number))

@@ -9,9 +9,10 @@ ghost use Rattle.rr_cluster.specs.Model.{cell_model, newer_part_of};
 ghost use Rattle.rr_cluster.specs.State.{State};
 
 use crate::cluster::Cluster;
+use crate::commands::page::place_and_count;
 use crate::fault::CommandFault;
 use crate::stop::Stop;
-use crate::words::{cell_count, is_name, number_u32};
+use crate::words::is_name;
 use rr_archive::Archive;
 use rr_delta::{difference, part, summary};
 use rr_page::encode;
@@ -40,12 +41,9 @@ pub(crate) fn add_delta<A: Archive>(
     let Some(taker) = cluster.nodes.get(taker) else {
         return Err(Stop::Refused(CommandFault::NoNode));
     };
-    let from = number_u32(from).ok_or(CommandFault::BadNumber)?;
-    let count = cell_count(count).ok_or(CommandFault::BadNumber)?;
-    let page = newer_page(cluster.alloc, giver, taker, from as usize, count)?;
-    let name = Vec::from_slice(cluster.alloc, name)?;
-    cluster.pages.insert(name, page)?;
-    Ok(())
+    let (from, count) = place_and_count(from, count)?;
+    let page = newer_page(cluster.alloc, giver, taker, from, count)?;
+    cluster.put_page(name, page)
 }
 
 /// The bytes of a page of the cells that one replica has and another lacks or has with a smaller

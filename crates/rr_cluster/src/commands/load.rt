@@ -9,7 +9,7 @@ ghost use Rattle.rr_cluster.specs.State.{Snapshot, State};
 use crate::cluster::Cluster;
 use crate::fault::CommandFault;
 use crate::stop::Stop;
-use crate::words::{is_name, origin_of};
+use crate::words::{is_name, unused_origin};
 use rr_archive::Archive;
 use rr_io::Counted;
 use rr_replica::Replica;
@@ -35,16 +35,9 @@ pub(crate) fn load_node<A: Archive>(
     if !is_name(node) {
         return Err(Stop::Refused(CommandFault::BadName));
     }
-    let origin = origin_of(origin)?;
-    let number = origin.get();
-    if cluster.origins.contains(&number) {
-        return Err(Stop::Refused(CommandFault::OriginUsed));
-    }
+    let origin = unused_origin(&cluster.origins, origin)?;
     let replica = loaded(cluster.alloc, snapshot, &cluster.schema, origin)?;
-    let node = Vec::from_slice(cluster.alloc, node)?;
-    cluster.nodes.insert(node, replica)?;
-    cluster.origins.insert(number)?;
-    Ok(())
+    cluster.put_node(node, replica)
 }
 
 /// The replica of the snapshot of these bytes, under a new origin. A script has only snapshots that

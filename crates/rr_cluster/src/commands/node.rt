@@ -9,7 +9,7 @@ ghost use Rattle.rr_cluster.specs.State.{State};
 use crate::cluster::Cluster;
 use crate::fault::CommandFault;
 use crate::stop::Stop;
-use crate::words::{is_name, origin_of};
+use crate::words::{is_name, unused_origin};
 use rr_archive::Archive;
 use rr_replica::Replica;
 
@@ -28,14 +28,7 @@ pub(crate) fn add_node<A: Archive>(
     if cluster.nodes.contains_key(name) {
         return Err(Stop::Refused(CommandFault::NameUsed));
     }
-    let origin = origin_of(origin)?;
-    let number = origin.get();
-    if cluster.origins.contains(&number) {
-        return Err(Stop::Refused(CommandFault::OriginUsed));
-    }
-    let name = Vec::from_slice(cluster.alloc, name)?;
+    let origin = unused_origin(&cluster.origins, origin)?;
     let replica = Replica::new(cluster.alloc, &cluster.schema, origin)?;
-    cluster.nodes.insert(name, replica)?;
-    cluster.origins.insert(number)?;
-    Ok(())
+    cluster.put_node(name, replica)
 }

@@ -1,9 +1,9 @@
 //! `page NAME NODE FROM COUNT`: makes a page of a node's cells.
 
-ghost use Rattle.std.specs.Prelude.{◌≤◌, IfOk};
+ghost use Rattle.std.specs.Prelude.{◌≡◌, ◌≤◌, IfOk};
 ghost use Rattle.rr_text.specs.declared.limits.TheConstants.{MAX_PAGE_CELLS};
 ghost use Rattle.rr_cells.specs.Cells.{Cells};
-ghost use Rattle.rr_cluster.specs.Commands.Page.{after_page};
+ghost use Rattle.rr_cluster.specs.Commands.Page.{after_page, place_and_count};
 ghost use Rattle.rr_cluster.specs.Meaning.{HasPageText, Leaves, Represents};
 ghost use Rattle.rr_cluster.specs.Model.{cell_model, part_of};
 ghost use Rattle.rr_cluster.specs.State.{State};
@@ -35,12 +35,19 @@ pub(crate) fn add_page<A: Archive>(
     let Some(replica) = cluster.nodes.get(node) else {
         return Err(Stop::Refused(CommandFault::NoNode));
     };
+    let (from, count) = place_and_count(from, count)?;
+    let page = page_of(cluster.alloc, replica, from, count)?;
+    cluster.put_page(name, page)
+}
+
+/// The place of a page's first cell, and the most cells: `BadNumber` unless both are in their range.
+pub(crate) fn place_and_count(from: &[u8], count: &[u8]) -> Result<(usize, usize), CommandFault>
+    ensures value { result ≡ place_and_count from.now count.now }
+    ensures fits { IfOk result (λ asked. asked.1 ≤ MAX_PAGE_CELLS) }
+{
     let from = number_u32(from).ok_or(CommandFault::BadNumber)?;
     let count = cell_count(count).ok_or(CommandFault::BadNumber)?;
-    let page = page_of(cluster.alloc, replica, from as usize, count)?;
-    let name = Vec::from_slice(cluster.alloc, name)?;
-    cluster.pages.insert(name, page)?;
-    Ok(())
+    Ok((from as usize, count))
 }
 
 /// The bytes of a page of a replica's cells from a place on, as many as there are up to a count.

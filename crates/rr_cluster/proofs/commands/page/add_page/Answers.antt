@@ -1,9 +1,9 @@
-use Rattle.std.proofs.Common.{None, Some, refl, sym}
+use Rattle.std.proofs.Common.{None, Some, sym}
 use Rattle.std.proofs.lemmas.Result.{err_from_is_err_and}
 use Rattle.rr_cluster.specs.Meaning.{node_in}
 use Rattle.rr_cluster.specs.Model.{cell_model, part_of}
-use Rattle.rr_cluster.proofs.CommandsLemmas.Page.{bad_name, no_node, bad_from, bad_count, page_is_made, page_of_node, represents_with_page}
-use Rattle.rr_cluster.proofs.MeaningLemmas.{bytes_inserted, node_at}
+use Rattle.rr_cluster.proofs.CommandsLemmas.Page.{bad_name, no_node, bad_number, page_is_made, page_of_node}
+use Rattle.rr_cluster.proofs.MeaningLemmas.{node_at}
 use Rattle.rr_cluster.proofs.commands.page.add_page.Goals as goal
 
 pub returns-then-not-is_name : goal.returns-then-not-is_name
@@ -19,18 +19,8 @@ pub returns-in_err-from : goal.returns-in_err-from
 returns-in_err-from g c = λ m is.
     let h = c.in-Some.replica.now in
     let here = node_at c.args.cluster.now m is c.args.node.now (Some h) (sym c.in-Some.ensures.value) in
-    let refused = sym (rw c.number_u32.ensures at c.in_err-from.ensures.value) in
     let p = err_from_is_err_and c.from_residual.result c.from_residual.ensures.1 in
-    rw (p.1, p.2) (bad_from cell_model m c.args.name.now c.args.node.now c.args.from.now c.args.count.now (sym c.if-not-is_name.ensures) (node_in h) here c.in_err-from.field-0.0 refused, is)
-
-pub returns-in_err-count : goal.returns-in_err-count
-returns-in_err-count g c = λ m is.
-    let h = c.in-Some.replica.now in
-    let here = node_at c.args.cluster.now m is c.args.node.now (Some h) (sym c.in-Some.ensures.value) in
-    let first = sym (rw c.number_u32.ensures at c.in_ok-from.ensures.value) in
-    let refused = sym (rw c.cell_count.ensures at c.in_err-count.ensures.value) in
-    let p = err_from_is_err_and c.from_residual-in_err-count.result c.from_residual-in_err-count.ensures.1 in
-    rw (p.1, p.2) (bad_count cell_model m c.args.name.now c.args.node.now c.args.from.now c.args.count.now (sym c.if-not-is_name.ensures) (node_in h) here c.in_ok-from.from first c.in_err-count.field-0.0 refused, is)
+    rw (p.1, p.2) (bad_number cell_model m c.args.name.now c.args.node.now c.args.from.now c.args.count.now (sym c.if-not-is_name.ensures) (node_in h) here c.in_err-from.field-0.0 (sym c.in_err-from.ensures.value), is)
 
 pub returns : goal.returns
 returns g c = λ m is.
@@ -39,12 +29,8 @@ returns g c = λ m is.
     let node = c.args.node.now in
     let h = c.in-Some.replica.now in
     let replica = sym c.in-Some.ensures.value in
-    let first = sym (rw c.number_u32.ensures at c.in_ok-from.ensures.value) in
-    let most = sym (rw c.cell_count.ensures at c.in_ok-count.ensures.value) in
-    let page = part_of h.cells c.in_ok-from.from c.in_ok-count.count in
-    let put = rw c.in_ok-name.ensures.items at (bytes_inserted old.pages c.insert.new.self c.in_ok-name.name c.in_ok-page.page c.in_ok-insert.ensures.entries) in
-    let has = page_of_node old m is node h replica page c.in_ok-page.page.items c.in_ok-page.ensures in (
-      _,
-      page_is_made cell_model m name node c.args.from.now c.args.count.now (sym c.if-not-is_name.ensures) (node_in h) (node_at old m is node (Some h) replica) c.in_ok-from.from first c.in_ok-count.count most,
-      represents_with_page old _ m name c.in_ok-page.page.items page is refl refl refl refl refl refl put has,
-    )
+    let first = c.in_ok-from.from in
+    let most = c.in_ok-from.count in
+    let due = page_is_made cell_model m name node c.args.from.now c.args.count.now (sym c.if-not-is_name.ensures) (node_in h) (node_at old m is node (Some h) replica) first most (sym c.in_ok-from.ensures.value) in
+    let page = part_of h.cells first most in
+    rw due (c.put_page.ensures m page is (page_of_node old m is node h replica page c.in_ok-page.page.items c.in_ok-page.ensures))
