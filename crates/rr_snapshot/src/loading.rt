@@ -1,5 +1,6 @@
 //! A replica from a snapshot, read cell by cell.
 ghost use Rattle.std.specs.Prelude.{◌≡◌, ◌≤◌, Err, None, IfSome, IfOk, OnOk};
+ghost use Rattle.std.specs.FinMap.{empty};
 ghost use Rattle.std.specs.Io.KnownBytes.{IsAtEnd};
 ghost use Rattle.std.specs.Option.{option_map};
 ghost use Rattle.rr_io.specs.Counted.{inner_of, failures_of, HasRisen};
@@ -71,6 +72,39 @@ fn join_cells_from<A: Archive, R: Read>(
     Ok(has_own)
 }
 
+/// Reads the snapshot that all of the input is, of the replica's schema, into a replica that holds
+/// no cell. `load` alone owns a replica, so that only there it is dropped where the load is refused.
+fn load_into<A: Archive, R: Read>(
+    alloc: Global,
+    input: &mut Counted<R>,
+    replica: &mut Replica<A>,
+) -> Result<(), LoadFault>
+    requires next { replica.old.next ≡ 1 }
+    requires cells { replica.old.cells ≡ empty }
+    ensures read { IfSome (R.remaining (inner_of input.old)) (λ bytes.
+        GivesIfRead (λ _. held replica.new) result
+        (loaded_at replica.old.schema replica.old.origin bytes)) }
+    ensures schema { OnOk result (replica.new.schema ≡ replica.old.schema) }
+    ensures origin { OnOk result (replica.new.origin ≡ replica.old.origin) }
+    ensures next { OnOk result (replica.new.next ≡ 1) }
+    ensures end { OnOk result (IsAtEnd (R.remaining (inner_of input.new))) }
+    ensures front { ConsumesSome (R.remaining (inner_of input.old))
+        (R.remaining (inner_of input.new)) }
+    ensures count { failures_of input.old ≤ failures_of input.new }
+    ensures failed { result ≡ Err LoadFault.ReadFailed
+        → HasRisen (failures_of input.old) (failures_of input.new) }
+{
+    let mut hasher = Sha256::new();
+    let (version, saver, count) = head_from(alloc, input, replica.schema(), &mut hasher)?;
+    let has_own = join_cells_from(alloc, input, version, count, replica, &mut hasher)?;
+    digest_from(input, &hasher.finalize())?;
+    end_from(input)?;
+    if saver == replica.origin() || has_own {
+        return Err(LoadFault::OriginUsed);
+    }
+    Ok(())
+}
+
 /// Reads the snapshot that all of the input is, of the reader's own schema, into a replica of a new
 /// origin, whose next number is 1. Of the snapshot one cell's bytes are in memory at a time.
 ///
@@ -102,14 +136,7 @@ pub fn load<A: Archive, R: Read>(
     ensures failed { result ≡ Err LoadFault.ReadFailed
         → HasRisen (failures_of input.old) (failures_of input.new) }
 {
-    let mut hasher = Sha256::new();
-    let (version, saver, count) = head_from(alloc, input, schema, &mut hasher)?;
     let mut replica = Replica::new(alloc, schema, new_origin)?;
-    let has_own = join_cells_from(alloc, input, version, count, &mut replica, &mut hasher)?;
-    digest_from(input, &hasher.finalize())?;
-    end_from(input)?;
-    if saver == new_origin || has_own {
-        return Err(LoadFault::OriginUsed);
-    }
+    load_into(alloc, input, &mut replica)?;
     Ok(replica)
 }
