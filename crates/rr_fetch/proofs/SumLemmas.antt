@@ -1,9 +1,9 @@
 -- Sums of values of 64 bits, and how many entries a row can have.
 use Rattle.std.proofs.Common.{◌≡◌, ℕ, suc, ◌+◌, ◌*◌, ◌-◌, ◌^◌, ◌<◌, ◌≤◌, ℤ, pos, negsuc, neg_ℤ, ◌+ℤ◌, ◌*ℤ◌, ◌≤ℤ◌, true, List, [], ◌∷◌, length, get_or, arith, ltb, zero}
-use Rattle.std.specs.Int.{w64}
+use Rattle.std.specs.Int.{w64, w128}
 use Rattle.std.specs.Prelude.{FitsSigned}
 use Rattle.std.proofs.lemmas.Bool.{ltb-true}
-use Rattle.std.proofs.lemmas.Int.{ints}
+use Rattle.std.proofs.lemmas.Int.{ints, fits_signed_from_abs}
 use Rattle.std.proofs.Math.Nat.{mul-le-mul_left}
 use Rattle.rr_join.proofs.Booleans.{and_first, and_second}
 use Rattle.rr_archive.specs.declared.entry.Entry.{Entry}
@@ -31,6 +31,10 @@ bounded_with count more total sum least most is least_fits most_fits low high =
     let below = times_low more least least_fits in
     let above = times_high more most most_fits in
     record { least = omega (arith, ints, is.least); most = omega (arith, ints, is.most) }
+
+-- the sum of a row's samples, and of as many as one contribution may have, fits in 128 bits
+pub bounded_fits : (count : ℕ) (total : ℤ) → count ≤ 65537 * 2 ^ 40 → IsBounded count total → FitsSigned w128 total
+bounded_fits count total few is = fits_signed_from_abs w128 total (omega (arith, ints, is.least, is.most))
 
 -- an origin of an ascending list is at least its place
 ascends_from-place : (below : ℕ) (es : List Entry) (i : ℕ) (d : Entry) → ascends_from below es ≡ true → i < length es → below + suc i ≤ (get_or es i d).origin
