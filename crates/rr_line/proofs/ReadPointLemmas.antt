@@ -1,40 +1,60 @@
--- A point is read as its steps say, but for keys that are too long.
-use Rattle.std.proofs.Common.{◌≡◌, ℕ, ◌+◌, Bool, true, false, ltb, List, length, Option, Ok, Err, ℤ, refl, ◌∙◌}
+-- A point is read as its steps say: the measurement, the tags, and the body after them.
+use Rattle.std.proofs.Common.{◌≡◌, ℕ, ◌+◌, ◌-◌, Bool, true, false, ltb, List, length, Option, Result, Ok, Err, ℤ, refl, sym, ◌∙◌}
 use Rattle.std.specs.List.{list_any}
+use Rattle.rr_text.specs.Bytes.{HasNoLineFeed}
+use Rattle.rr_text.specs.Results.{◌>>=◌, unless}
 use Rattle.rr_text.specs.declared.limits.TheConstants.{MAX_KEY_TEXT}
 use Rattle.rr_key.specs.declared.class.Class.TheVariants.{Measurement}
+use Rattle.rr_line.specs.declared.fault.LineFault.{LineFault}
 use Rattle.rr_line.specs.declared.fault.LineFault.TheVariants.{NoMeasurement, KeyTooLong}
 use Rattle.rr_line.specs.declared.precision.Precision.{Precision}
-use Rattle.rr_point.specs.declared.point.Field as line_field
 use Rattle.rr_line.specs.Field.{Field}
+use Rattle.rr_line.specs.Grammar.{is_nothing}
 use Rattle.rr_point.specs.Key.{has_long_key}
-use Rattle.rr_point.specs.Point.{PointView, fields_view}
+use Rattle.rr_point.specs.Point.{PointView}
 use Rattle.rr_line.specs.Part.{skip_spaces}
-use Rattle.rr_line.specs.Reading.{name_at, all_tags_at, fields_text_of, all_fields_at, ending_at, unless_long, point_at}
+use Rattle.rr_line.specs.Reading.{name_at, all_tags_at, fields_text_of, all_fields_at, ending_at, body_at, point_at}
 use Rattle.rr_line.specs.Tag.{Tag}
+use Rattle.rr_line.proofs.FrontLemmas.{long_of_steps}
 
 abbrev pub point_of : List ℕ → List Tag → List Field → Option ℤ → PointView
 point_of measurement tags fields time = record { measurement = measurement; tags = tags; fields = fields; time = time }
 
-steps_are : (precision : Precision) (text : List ℕ) (measurement : List ℕ × List ℕ) (tags : List Tag × List ℕ) (fields_text : List ℕ) (fields : List Field × List ℕ) (time : Option ℤ)
-    → name_at Measurement NoMeasurement text ≡ Ok measurement → all_tags_at measurement.1 ≡ Ok tags → fields_text_of tags.1 ≡ Ok fields_text → all_fields_at fields_text ≡ Ok fields → ending_at precision (skip_spaces fields.1) ≡ Ok time
-    → point_at precision text ≡ unless_long (point_of measurement.0 tags.0 fields.0 time)
-unfolding point_at
-steps_are precision text measurement tags fields_text fields time name are gap have ends = rw (name, are, gap, have, ends) refl
+-- the same steps, the first of which succeeded
+same_after : {A B : Type 0} (step : Result A LineFault) (next other : A → Result B LineFault) → ((x : A) → step ≡ Ok x → next x ≡ other x) → (step >>= next) ≡ (step >>= other)
+same_after (Ok x) next other same = same x refl
+same_after (Err fault) next other same = refl
 
-pub point_too_long : (precision : Precision) (text : List ℕ) (measurement : List ℕ × List ℕ) (tags : List Tag × List ℕ) (fields_text : List ℕ) (fields : List Field × List ℕ) (time : Option ℤ)
-    → name_at Measurement NoMeasurement text ≡ Ok measurement → all_tags_at measurement.1 ≡ Ok tags → fields_text_of tags.1 ≡ Ok fields_text → all_fields_at fields_text ≡ Ok fields → ending_at precision (skip_spaces fields.1) ≡ Ok time
-    → has_long_key (point_of measurement.0 tags.0 fields.0 time) ≡ true → point_at precision text ≡ Err KeyTooLong
-point_too_long precision text measurement tags fields_text fields time name are gap have ends long = steps_are precision text measurement tags fields_text fields time name are gap have ends ∙ rw long refl
+regroup : {A B C : Type 0} (step : Result A LineFault) (next : A → Result B LineFault) (last : B → Result C LineFault) → ((step >>= next) >>= last) ≡ (step >>= λ x. next x >>= last)
+regroup (Ok x) next last = refl
+regroup (Err fault) next last = refl
 
-pub point_is_read : (precision : Precision) (text : List ℕ) (measurement : List ℕ × List ℕ) (tags : List Tag × List ℕ) (fields_text : List ℕ) (fields : List Field × List ℕ) (time : Option ℤ)
-    → name_at Measurement NoMeasurement text ≡ Ok measurement → all_tags_at measurement.1 ≡ Ok tags → fields_text_of tags.1 ≡ Ok fields_text → all_fields_at fields_text ≡ Ok fields → ending_at precision (skip_spaces fields.1) ≡ Ok time
-    → has_long_key (point_of measurement.0 tags.0 fields.0 time) ≡ false → point_at precision text ≡ Ok (point_of measurement.0 tags.0 fields.0 time)
-point_is_read precision text measurement tags fields_text fields time name are gap have ends short = steps_are precision text measurement tags fields_text fields time name are gap have ends ∙ rw short refl
+regroup_unless : {A B : Type 0} (fault : LineFault) (refused : Bool) (x : A) (last : A → Result B LineFault) → (unless fault refused (Ok x) >>= last) ≡ unless fault refused (last x)
+regroup_unless fault true x last = refl
+regroup_unless fault false x last = refl
 
--- fields as they are held, and whether a key of them is too long
-abbrev pub HeldField : Type 0
-HeldField = line_field.Field
+first_succeeds : {A B : Type 0} (step : Result A LineFault) (next : A → Result B LineFault) (y : B) → (step >>= next) ≡ Ok y → (x : A) × (step ≡ Ok x)
+first_succeeds (Ok x) next y e = (x, refl)
+first_succeeds (Err fault) next y e = absurd cc
 
-abbrev pub tests_of : ℕ → List HeldField → Bool
-tests_of front fields = list_any (λ field. ltb MAX_KEY_TEXT (front + 1 + length field.0)) (fields_view fields)
+-- a body has fields
+pub has_fields_text : (precision : Precision) (front : ℕ) (gap : List ℕ) (body : List Field × Option ℤ) → body_at precision front gap ≡ Ok body → (text : List ℕ) × (fields_text_of gap ≡ Ok text)
+unfolding body_at
+has_fields_text precision front gap body e = first_succeeds (fields_text_of gap) _ body e
+
+-- the point is what precedes the body, and the body
+pub point_of_body : (precision : Precision) (text : List ℕ) (measurement : List ℕ × List ℕ) (tags : List Tag × List ℕ) (front : ℕ) → HasNoLineFeed text → is_nothing text ≡ false
+    → name_at Measurement NoMeasurement text ≡ Ok measurement → all_tags_at measurement.1 ≡ Ok tags → front ≡ length text - length tags.1
+    → point_at precision text ≡ (body_at precision front tags.1 >>= λ body. Ok (point_of measurement.0 tags.0 body.0 body.1))
+unfolding point_at body_at
+point_of_body precision text measurement tags front none said name are is =
+    let all : List Field × Option ℤ → Result PointView LineFault = λ body. Ok (point_of measurement.0 tags.0 body.0 body.1) in
+    rw (name, are) (
+    same_after (fields_text_of tags.1) _ _ (λ fields_text gap.
+    same_after (all_fields_at fields_text) _ _ (λ fields have.
+    same_after (ending_at precision (skip_spaces fields.1)) _ _ (λ time ends.
+    rw (long_of_steps text measurement tags fields_text fields time front none said name are gap have is) (
+    sym (regroup_unless KeyTooLong (list_any (λ field. ltb MAX_KEY_TEXT (front + 1 + length field.0)) fields.0) (fields.0, time) all)))
+    ∙ sym (regroup (ending_at precision (skip_spaces fields.1)) _ all))
+    ∙ sym (regroup (all_fields_at fields_text) _ all))
+    ∙ sym (regroup (fields_text_of tags.1) _ all))

@@ -1,11 +1,12 @@
 -- The reading, as a function of the bytes of a line: part by part, up to the first fault.
-use Rattle.std.specs.Prelude.{ℕ, zero, suc, ℤ, ◌||◌, not, ◌==◌, List, [], ◌∷◌, ◌++◌, length, take, drop, Option, None, Some, Result, Ok, Err, ok_or, if◌then◌else◌}
+use Rattle.std.specs.Prelude.{ℕ, zero, suc, ◌+◌, nat_lt, ℤ, ◌||◌, not, ◌==◌, List, [], ◌∷◌, ◌++◌, length, take, drop, Option, None, Some, Result, Ok, Err, ok_or, if◌then◌else◌}
+use Rattle.std.specs.List.{list_any}
 use Rattle.rr_text.specs.Bytes.{strip, begins}
 use Rattle.rr_text.specs.Results.{◌>>=◌, unless}
 use Rattle.rr_text.specs.Text.{is_digits, unsigned, fits_i64}
 use Rattle.rr_key.specs.declared.class.Class.{Class}
 use Rattle.rr_key.specs.declared.class.Class.TheVariants.{Measurement, Other}
-use Rattle.rr_text.specs.declared.limits.TheConstants.{MAX_TAGS, MAX_FIELDS}
+use Rattle.rr_text.specs.declared.limits.TheConstants.{MAX_TAGS, MAX_FIELDS, MAX_KEY_TEXT}
 use Rattle.rr_key.specs.Unit.{name_len}
 use Rattle.rr_text.specs.declared.bytes.TheConstants.{COMMA, EQUALS}
 use Rattle.rr_line.specs.declared.mark.TheConstants.{QUOTE}
@@ -96,6 +97,15 @@ abbrev pub ending_at : Precision → List ℕ → Result (Option ℤ) LineFault
 ending_at precision text =
     if length text == 0 then Ok None
     else (word_time precision (take (word_len text) text) (drop (word_len text) text) >>= λ time. Ok (Some time))
+
+-- the fields and the time after this many bytes, unless a key text, which is that long, a space and the field's key, is
+-- too long
+unfoldable pub body_at : Precision → ℕ → List ℕ → Result (List Field × Option ℤ) LineFault
+body_at precision front gap = do
+  fields_text ← fields_text_of gap
+  fields ← all_fields_at fields_text
+  time ← ending_at precision (skip_spaces fields.1)
+  unless KeyTooLong (list_any (λ field. nat_lt MAX_KEY_TEXT (front + 1 + length field.0)) fields.0) (Ok (fields.0, time))
 
 -- a point, unless a key of it is too long
 abbrev pub unless_long : PointView → Result PointView LineFault

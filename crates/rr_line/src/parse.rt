@@ -10,7 +10,7 @@ ghost use Rattle.rr_line.specs.Key.{LineHasKeys, LineHasFewFields};
 ghost use Rattle.rr_point.specs.Point.{point_view, fields_view};
 ghost use Rattle.rr_line.specs.Line.{LineView, line_view};
 ghost use Rattle.rr_line.specs.Part.{content};
-ghost use Rattle.rr_line.specs.Reading.{fields_text_of, name_at, point_at, reading};
+ghost use Rattle.rr_line.specs.Reading.{body_at, fields_text_of, name_at, point_at, reading};
 ghost use Rattle.rr_key.specs.declared.class.Class.TheVariants.{Measurement};
 ghost use Rattle.rr_line.specs.declared.fault.LineFault.TheVariants.{NoMeasurement};
 
@@ -95,14 +95,29 @@ fn read_point<'a>(
     let (measurement, rest) = read_name(Class::Measurement, LineFault::NoMeasurement, text)?;
     let (tags, gap) = read_tags(alloc, rest)?;
     let front = &text[..text.len() - gap.len()];
-    let fields_text = skip_gap(gap)?;
-    let (fields, ending) = read_fields(alloc, fields_text)?;
+    let (fields, time) = read_body(alloc, front, gap, precision)?;
+    let front = key_front(front, tags.as_slice());
+    Ok(Point::new(measurement, tags, fields, time, front))
+}
+
+/// The fields after what precedes them, and the time.
+#[tactic(auto, unfolding(crate::specs::Reading::body_at))]
+fn read_body<'a>(
+    alloc: Global,
+    front: &[u8],
+    gap: &'a [u8],
+    precision: Precision,
+) -> Result<(Vec<Field<'a>>, Option<i64>), LineFault>
+    ensures { GivesUnless LineFault.Memory (λ body. (fields_view body.0.items, body.1))
+        result (body_at precision (length front.now) gap.now) }
+{
+    let text = skip_gap(gap)?;
+    let (fields, ending) = read_fields(alloc, text)?;
     let time = read_ending(precision, ending)?;
     if has_long_key(front, &fields) {
         return Err(LineFault::KeyTooLong);
     }
-    let front = key_front(front, tags.as_slice());
-    Ok(Point::new(measurement, tags, fields, time, front))
+    Ok((fields, time))
 }
 
 /// The text of the fields, after the spaces that precede them.
