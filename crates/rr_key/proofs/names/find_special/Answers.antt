@@ -11,8 +11,8 @@ joined : (test : ℕ → Bool) (text : List ℕ) (i near at : ℕ) → near ≤ 
 joined test text i near at le none later k low lt here = elim (cases_lt k near) [
   | inl before ↦ none k low (omega arith) here
   | inr after ↦
-    let n : near + (k - near) ≡ k = omega arith in
-    later (k - near) (omega arith) (omega arith) (ap test (get_or-drop near text (k - near) 0 ∙ ap (λ i. get_or text i 0) n) ∙ here)
+      let n : near + (k - near) ≡ k = omega arith in
+      later (k - near) (omega arith) (omega arith) (ap test (get_or-drop near text (k - near) 0 ∙ ap (λ i. get_or text i 0) n) ∙ here)
 ]
 
 pub returns-in-Some : goal.returns-in-Some

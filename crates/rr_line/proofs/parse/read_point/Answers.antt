@@ -25,7 +25,7 @@ returns-in_err-fields-clause-read c =
     let len : length (take (length text - length tags.1) text) ≡ length text - length tags.1 = length-take-le (length text - length tags.1) text (omega arith) in
     let fault = c.in_err-fields.field-0.0 in
     let whole = point_of_body c.args.precision text (c.in_ok-measurement.measurement.now, c.in_ok-measurement.rest.now) tags _ c.requires.one_line c.requires.said c.in_ok-measurement.ensures c.in_ok-tags.ensures len in
-    let said : (fault ≡ Memory) ⊎ (point_at c.args.precision text ≡ Err fault) = elim c.in_err-fields.ensures [ | inl out ↦ inl out | inr is ↦ inr (whole ∙ rw is refl) ] in
+    let said : (fault ≡ Memory) ⊎ (point_at c.args.precision text ≡ Err fault) = elim c.in_err-fields.ensures [ inl out ↦ inl out | inr is ↦ inr (whole ∙ rw is refl) ] in
     search rules
 
 pub returns-clause-read : goal.returns-clause-read
