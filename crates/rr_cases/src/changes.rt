@@ -12,15 +12,20 @@ pub(crate) fn variants(alloc: Global, input: &[u8]) -> Result<Vec<Vec<u8>>> {
     let bytes = hex::decode(alloc, lines.next().context("an empty file")?)?;
     let mut variants = Vec::new(alloc);
     for line in lines {
-        let (at, change) = line.split_once(' ').context("a line without a space")?;
-        variants.push(with_change(alloc, &bytes, at.parse::<usize>()?, change)?)?;
+        variants.push(with_change(alloc, &bytes, line)?)?;
     }
     variants.insert(0, bytes)?;
     Ok(variants)
 }
 
+/// The bytes with the change of a line.
+fn with_change(alloc: Global, bytes: &[u8], line: &str) -> Result<Vec<u8>> {
+    let (at, change) = line.split_once(' ').context("a line without a space")?;
+    changed_at(alloc, bytes, at.parse()?, change)
+}
+
 /// The bytes with some changed from a place on.
-fn with_change(alloc: Global, bytes: &[u8], at: usize, change: &str) -> Result<Vec<u8>> {
+fn changed_at(alloc: Global, bytes: &[u8], at: usize, change: &str) -> Result<Vec<u8>> {
     let (front, back) = bytes.split_at_checked(at).context("a place past the end")?;
     let mut changed = Vec::from_slice(alloc, front)?;
     if change == "end" {

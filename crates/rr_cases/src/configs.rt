@@ -25,6 +25,11 @@ fn push_config(output: &mut String, config: &Config) -> Result<(), AllocError> {
     push_texts(output, "peers", &config.peers)?;
     let (rounds, visits) = (config.rounds, config.visits);
     write!(output, "; rounds {rounds}; visits {visits}")?;
+    push_times(output, config)
+}
+
+/// Adds what a configuration says of times.
+fn push_times(output: &mut String, config: &Config) -> Result<(), AllocError> {
     if let Some(lead) = config.lead {
         write!(output, "; lead {lead}")?;
     }

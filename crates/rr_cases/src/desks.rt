@@ -31,7 +31,7 @@ use rr_fakes::replicas::minutes;
 use rr_fakes::room::with_room;
 use rr_line::Precision;
 use rr_node::{Moments, OpenGate, pull_peer, serve_lines, serve_lines_within, serve_reader};
-use std::alloc::Global;
+use std::alloc::{AllocError, Global};
 use std::sync::Wait;
 
 /// What the calls answer.
@@ -41,7 +41,7 @@ pub(crate) fn answers<A: Archive, T: Wait>(alloc: Global, rt: &T, input: &[u8]) 
         bail!("no desk");
     };
     let output = match readers.pop() {
-        Some(reader) => answers_at(alloc, rt, &mut keeper, reader, &calls),
+        Some(mut reader) => answers_at(alloc, rt, &mut keeper, &mut reader, &calls),
         None => Ok(Vec::new(alloc)),
     };
     keeper.close(rt);
@@ -53,16 +53,22 @@ fn answers_at<A: Archive, T: Wait>(
     alloc: Global,
     rt: &T,
     keeper: &mut Keeper<A>,
-    mut reader: Reader<A>,
+    reader: &mut Reader<A>,
     calls: &[Vec<u8>],
 ) -> Result<Vec<u8>> {
     let mut output = Vec::new(alloc);
     for call in calls {
-        let (ending, written) = answer(alloc, rt, keeper, &mut reader, call)?;
-        output.extend_from_slice(&written)?;
-        output.extend_from_slice(format!(in alloc; "== {}\n", ending.as_str())?.as_bytes())?;
+        push_answer(&mut output, &answer(alloc, rt, keeper, reader, call)?)?;
     }
     Ok(output)
+}
+
+/// Adds what a call wrote, and a line with how it did.
+fn push_answer(output: &mut Vec<u8>, (ending, written): &Answer) -> Result<(), AllocError> {
+    output.extend_from_slice(written)?;
+    output.extend_from_slice(b"== ")?;
+    output.extend_from_slice(ending.as_bytes())?;
+    Ok(output.push(b'\n')?)
 }
 
 /// How a call did, and what it wrote.

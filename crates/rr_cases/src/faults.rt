@@ -18,18 +18,18 @@ use std::fmt::Display;
 /// For each of the faults a line, its name and its sentence.
 pub(crate) fn answers(alloc: Global, input: &[u8]) -> Result<Vec<u8>> {
     let mut output = String::new(alloc);
-    match input {
-        b"schema\n" => push_schema(&mut output)?,
-        b"read\n" => push_read(&mut output)?,
-        b"key\n" => push_key(&mut output)?,
-        b"line\n" => push_line(&mut output)?,
-        b"page\n" => push_page(&mut output)?,
-        b"gossip\n" => push_gossip(&mut output)?,
-        b"request\n" => push_request(&mut output)?,
-        b"write\n" => push_write(&mut output)?,
-        b"command\n" => push_command(&mut output)?,
-        b"tool\n" => push_tool(&mut output)?,
-        b"others\n" => push_others(&mut output)?,
+    match str::from_utf8(input)? {
+        "schema\n" => push_schema(&mut output)?,
+        "read\n" => push_read(&mut output)?,
+        "key\n" => push_key(&mut output)?,
+        "line\n" => push_line(&mut output)?,
+        "page\n" => push_page(&mut output)?,
+        "gossip\n" => push_gossip(&mut output)?,
+        "request\n" => push_request(&mut output)?,
+        "write\n" => push_write(&mut output)?,
+        "command\n" => push_command(&mut output)?,
+        "tool\n" => push_tool(&mut output)?,
+        "others\n" => push_others(&mut output)?,
         _ => bail!("unknown faults"),
     }
     Ok(output.into_bytes())

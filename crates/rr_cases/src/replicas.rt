@@ -54,19 +54,22 @@ const ARCHIVES: [ArchiveSpec; 2] = [
 
 /// What the calls answer.
 pub(crate) fn answers<A: Archive>(alloc: Global, input: &[u8]) -> Result<Vec<u8>> {
-    let text = str::from_utf8(input)?;
-    let mut lines = text.lines();
-    let count = lines.next().context("an empty file")?.parse::<usize>()?;
-    let archives = ARCHIVES
-        .get(..count)
-        .context("a replica has one archive or two")?;
-    let schema = Schema::new(alloc, 60, archives)?;
-    let replica: Replica<A> = Replica::new(alloc, &schema, Origin::new(1)?)?;
-    let mut calls = Calls::new(alloc, replica);
+    let mut lines = str::from_utf8(input)?.lines();
+    let count = lines.next().context("an empty file")?;
+    let mut calls: Calls<A> = Calls::new(alloc, replica_of(alloc, count)?);
     for line in lines {
         calls.push_answer(line)?;
     }
     Ok(calls.output.into_bytes())
+}
+
+/// A replica with as many archives as a text says.
+fn replica_of<A: Archive>(alloc: Global, count: &str) -> Result<Replica<A>> {
+    let archives = ARCHIVES
+        .get(..count.parse::<usize>()?)
+        .context("a replica has one archive or two")?;
+    let schema = Schema::new(alloc, 60, archives)?;
+    Ok(Replica::new(alloc, &schema, Origin::new(1)?)?)
 }
 
 /// A replica, and what its calls have answered.

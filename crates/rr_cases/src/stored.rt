@@ -4,7 +4,7 @@ use crate::sessions::limit;
 use anyhow::{Context, Result};
 use rr_archive::Archive;
 use rr_base::{Counted, Origin, Schema};
-use rr_fakes::pieces::failing_after;
+use rr_fakes::pieces::{Pieces, failing_after};
 use rr_replica::Replica;
 use rr_snapshot::{load, save};
 use std::alloc::Global;
@@ -36,7 +36,18 @@ pub(crate) fn loaded<A: Archive>(
     let reads = limit(words.next())?.map_or(u64::MAX, u64::from);
     let bytes = hex::decode(alloc, words.next().context("a load without bytes")?)?;
     let mut input = failing_after(&bytes, size, reads);
-    match load(alloc, &mut input, schema, origin) {
+    loaded_from(alloc, schema, origin, &mut input, answer)
+}
+
+/// The replica that an input is loaded as, if it is one; and adds how that ended.
+fn loaded_from<A: Archive>(
+    alloc: Global,
+    schema: &Schema,
+    origin: Origin,
+    input: &mut Counted<Pieces<'_>>,
+    answer: &mut String,
+) -> Result<Option<Replica<A>>> {
+    match load(alloc, input, schema, origin) {
         Ok(replica) => {
             let (origin, next) = (replica.origin().get(), replica.next_number());
             write!(answer, "loaded as {origin}, next {next}\n")?;

@@ -26,6 +26,21 @@ pub fn minutes<A: Archive>(alloc: Global, origin: u16, rows: u32) -> Result<Repl
     Ok(Replica::new(alloc, &schema(alloc, rows)?, Origin::new(origin)?)?)
 }
 
+/// Puts 7 at the beginning of each of the first minutes, `count` of them, of the key `m v`.
+fn fill<A: Archive>(replica: &mut Replica<A>, key: &SeriesKey, count: u32) -> Result<()> {
+    for minute in 0..count {
+        replica.put(key, i64::from(minute).saturating_mul(MINUTE), 7)?;
+    }
+    Ok(())
+}
+
+/// One that holds 7 at the beginning of each of the first minutes, `count` of them, of the key `m v`.
+pub fn filled<A: Archive>(alloc: Global, origin: u16, rows: u32, count: u32) -> Result<Replica<A>> {
+    let mut replica = minutes(alloc, origin, rows)?;
+    fill(&mut replica, &SeriesKey::parse_text(alloc, b"m v")?, count)?;
+    Ok(replica)
+}
+
 /// One with three rows that holds 7 at a minute after the epoch, of the key `m v`.
 pub fn one_sample<A: Archive>(alloc: Global, origin: u16) -> Result<Replica<A>> {
     let mut replica = minutes(alloc, origin, 3)?;

@@ -4,9 +4,8 @@ use rr_archive::PlainArchive;
 use rr_base::{Counted, Schema};
 use rr_cells::Cell;
 use rr_delta::Name;
-use rr_fakes::replicas::{MINUTE, minutes};
+use rr_fakes::replicas::filled;
 use rr_gossip::{GossipFault, Target, give, pull};
-use rr_key::SeriesKey;
 use rr_replica::Replica;
 use std::alloc::{AllocError, Global};
 use std::cell;
@@ -35,37 +34,41 @@ fn given<R: Read>(
     Ok(output.into_inner())
 }
 
-/// A replica of 600 rows of a minute that holds `cells` cells of the key `m v`.
-fn filled(alloc: Global, origin: u16, cells: u16) -> Result<Replica<PlainArchive>, Fail> {
-    let mut replica = minutes(alloc, origin, 600)?;
-    let key = SeriesKey::parse_text(alloc, b"m v")?;
-    for minute in 0..cells {
-        replica.put(&key, i64::from(minute) * MINUTE, 7)?;
-    }
-    Ok(replica)
+/// What a target asks for, which gets no answer.
+fn asked(alloc: Global, target: &mut Replica<PlainArchive>) -> (Option<GossipFault>, Vec<u8>) {
+    let mut output = Counted::new(Vec::new(alloc));
+    let ended = pull(alloc, &mut Counted::new([].as_slice()), &mut output, target).err();
+    (ended, output.into_inner())
+}
+
+/// What a source answers to what a target asks for, which then pulls from it.
+fn exchanged(
+    alloc: Global,
+    sent: &[u8],
+    source: &mut Replica<PlainArchive>,
+    target: &mut Replica<PlainArchive>,
+) -> Result<Vec<u8>, Fail> {
+    let reply = given(alloc, &mut Counted::new(sent), source)?;
+    pulled(alloc, &mut Counted::new(reply.as_slice()), target)?;
+    Ok(reply)
+}
+
+/// Whether two pages of 256 cells and one of 88 are in an answer. A cell has 88 bytes, and a frame 26
+/// besides those of its cells, whose number ends its head.
+fn are_pages(reply: &[u8]) -> bool {
+    reply.get(24..26) == Some([1, 0].as_slice())
+        && reply.get(22_578..22_580) == Some([1, 0].as_slice())
+        && reply.get(45_132..45_134) == Some([0, 88].as_slice())
 }
 
 #[test]
 fn a_long_answer_comes_in_pages(rt: HostRuntime) -> Result<(), Fail> {
-    let mut source = filled(rt.alloc(), 1, 600)?;
-    let mut target = filled(rt.alloc(), 2, 0)?;
-    let mut output = Counted::new(Vec::new(rt.alloc()));
-    let ended = pull(
-        rt.alloc(),
-        &mut Counted::new([].as_slice()),
-        &mut output,
-        &mut target,
-    )
-    .err();
-    let sent = output.into_inner();
-    let reply = given(rt.alloc(), &mut Counted::new(sent.as_slice()), &mut source)?;
-    pulled(rt.alloc(), &mut Counted::new(reply.as_slice()), &mut target)?;
-    // A cell has 88 bytes, and a frame 26 besides those of its cells, whose number ends its head.
-    let pages = reply.get(24..26) == Some([1, 0].as_slice())
-        && reply.get(22_578..22_580) == Some([1, 0].as_slice())
-        && reply.get(45_132..45_134) == Some([0, 88].as_slice());
+    let mut source = filled(rt.alloc(), 1, 600, 600)?;
+    let mut target = filled(rt.alloc(), 2, 600, 0)?;
+    let (ended, sent) = asked(rt.alloc(), &mut target);
+    let reply = exchanged(rt.alloc(), &sent, &mut source, &mut target)?;
     assert_eq!(rt;
-        (ended, reply.len(), target.cell_count(), pages),
+        (ended, reply.len(), target.cell_count(), are_pages(&reply)),
         (Some(GossipFault::Ended), 52_883, 600, true)
     );
     Ok(())
@@ -118,7 +121,7 @@ impl Target for Watched {
 #[test]
 fn names_are_asked_for_as_they_are_written(rt: HostRuntime) -> Result<(), Fail> {
     let mut target = Watched {
-        replica: filled(rt.alloc(), 2, 600)?,
+        replica: filled(rt.alloc(), 2, 600, 600)?,
         given: cell::Cell::new(0),
     };
     // Room for the schema's frame alone.

@@ -1,6 +1,6 @@
 //! Records of CSV, and refusals.
 
-use rr_records::{Records, push_refusal};
+use rr_records::Records;
 use std::alloc::{AllocError, Global};
 use std::test::Fail;
 
@@ -28,13 +28,5 @@ fn fields_are_quoted_where_they_have_to_be(rt: HostRuntime) -> Result<(), Fail> 
         line 18446744073709551615: NoFields\n"
         .as_slice();
     assert!(rt; text.as_slice() == want);
-    Ok(())
-}
-
-#[test]
-fn a_refusal_has_its_number_and_name(rt: HostRuntime) -> Result<(), Fail> {
-    let mut text = Vec::from_slice(rt.alloc(), b"m v,0,U\n")?;
-    push_refusal(&mut text, 7, "BadKey")?;
-    assert!(rt; text.as_slice() == b"m v,0,U\nline 7: BadKey\n".as_slice());
     Ok(())
 }

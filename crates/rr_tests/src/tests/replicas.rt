@@ -1,7 +1,7 @@
 //! Replicas: what cases of calls can't show.
 
 use rr_archive::{Archive, PlainArchive};
-use rr_fakes::replicas::{MINUTE, minutes};
+use rr_fakes::replicas::{filled, one_sample};
 use rr_key::SeriesKey;
 use rr_replica::Replica;
 use rr_ring::RingArchive;
@@ -18,11 +18,7 @@ fn slot_of<A: Archive>(replica: &Replica<A>, i: usize) -> i64 {
 
 /// How many cells a million samples leave, a minute apart, and the slots of the first and the tenth.
 fn left_of_a_million<A: Archive>(alloc: Global) -> Result<(usize, i64, i64), Fail> {
-    let mut replica = minutes::<A>(alloc, 1, 10)?;
-    let key = SeriesKey::parse_text(alloc, b"m v")?;
-    for k in 0..1_000_000u32 {
-        replica.put(&key, i64::from(k) * MINUTE, 7)?;
-    }
+    let replica = filled::<A>(alloc, 1, 10, 1_000_000)?;
     Ok((
         replica.cell_count(),
         slot_of(&replica, 0),
@@ -46,10 +42,9 @@ fn a_million_samples_leave_ten_rows_of_a_ring(rt: HostRuntime) -> Result<(), Fai
 
 #[test]
 fn a_replica_lends_the_archives_of_a_series(rt: HostRuntime) -> Result<(), Fail> {
-    let mut replica = minutes::<PlainArchive>(rt.alloc(), 1, 10)?;
+    let replica = one_sample::<PlainArchive>(rt.alloc(), 1)?;
     let key = SeriesKey::parse_text(rt.alloc(), b"m v")?;
     let other = SeriesKey::parse_text(rt.alloc(), b"m w")?;
-    replica.put(&key, 0, 5)?;
     let count = replica.archive(&key, 0).map_or(0, |it| it.cell_count());
     let past = replica.archive(&key, 1).is_none();
     let unknown = replica.archive(&other, 0).is_none();

@@ -1,37 +1,14 @@
-//! Lines checked from a stream to another: where a stream fails, or holds bytes back.
+//! Scripts run and lines checked from a stream to another that holds bytes back.
 
 use rr_base::Counted;
 use rr_cluster::Simulator;
 use rr_fakes::holding::Holding;
-use rr_fakes::pieces::{failing_after, in_pieces};
+use rr_fakes::pieces::in_pieces;
 use rr_line::Precision;
 use rr_process::obey_order;
-use rr_report::{ToolFault, check_lines};
 use rr_words::Order;
 use std::alloc::Global;
 use std::test::Fail;
-
-/// Six lines, two of which are refused.
-const LINES: &[u8] =
-    b"m v=1\nm v=1i\n# note\n\n  m  v=1i   5  \r\nw,host=a in=3i,out=-4i 9\nm v=\"x, y\"\n";
-
-const REPORT: &[u8] =
-    b"line 1: FloatField\nm v,1,0\nm v,1,5\n\"w,host=a in\",3,9\n\"w,host=a out\",-4,9\nline 7: TextField\n";
-
-#[test]
-fn a_failed_read_leaves_a_front(rt: HostRuntime) {
-    for calls in 0..3 {
-        let mut report = Vec::new(rt.alloc());
-        let mut output = Counted::new(&mut report);
-        let mut input = failing_after(LINES, 30, calls);
-        let done = check_lines(rt.alloc(), &mut input, &mut output, Precision::Ns, 0);
-        let is_front = REPORT.starts_with(&report) && report.is_empty() == (calls == 0);
-        assert_eq!(rt;
-            (done, input.failures(), is_front),
-            (Err(ToolFault::ReadFailed), 1, true)
-        );
-    }
-}
 
 /// What a writer has passed on once an order is obeyed.
 fn passed_on(alloc: Global, order: &Order, input: &[u8]) -> Result<Vec<u8>, Fail> {

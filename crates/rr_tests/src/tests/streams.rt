@@ -6,41 +6,47 @@ use rr_base::stream::{
     read_to_end_within, write_all,
 };
 use rr_fakes::failing::failing_first;
-use rr_fakes::pieces::in_pieces;
+use rr_fakes::pieces::{failing_after, in_pieces};
+use std::alloc::Global;
 use std::io;
 use std::io::{ErrorKind, Read, Write};
 use std::test::Fail;
 
+/// How many bytes a read gives, if it doesn't fail.
+fn given<R: Read>(input: &mut R, buf: &mut [u8]) -> Option<usize> {
+    input.read(buf).ok()
+}
+
+/// How many bytes a write takes, if it doesn't fail.
+fn taken<W: Write>(output: &mut W, bytes: &[u8]) -> Option<usize> {
+    output.write(bytes).ok()
+}
+
+// What comes after the failures is whole, and the end of the input isn't a failure.
 #[test]
 fn failed_reads_are_counted(rt: HostRuntime) {
     let mut buf = [0u8; 4];
     let mut input = failing_first(2, ErrorKind::ConnectionReset, b"abc".as_slice());
-    let failed = (input.read(&mut buf).is_err(), input.read(&mut buf).is_err());
-    assert_eq!(rt; (failed, input.failures()), ((true, true), 2));
-    // What comes after the failures is whole, and the end of the input isn't a failure.
-    let given = (input.read(&mut buf).ok(), input.read(&mut buf).ok());
-    assert_eq!(rt;
-        (given, input.failures(), input.reads()),
-        ((Some(3), Some(0)), 2, 4)
-    );
-    assert_eq!(rt; &buf[..3], b"abc".as_slice());
+    let failed = (given(&mut input, &mut buf), given(&mut input, &mut buf));
+    let whole = (given(&mut input, &mut buf), given(&mut input, &mut buf));
+    assert_eq!(rt; (failed, whole), ((None, None), (Some(3), Some(0))));
+    let counts = (input.failures(), input.reads(), buf.starts_with(b"abc"));
+    assert_eq!(rt; counts, (2, 4, true));
 }
 
+// A write that takes no byte of some is a failure, and one of no bytes isn't.
 #[test]
 fn failed_writes_are_counted(rt: HostRuntime) {
     let mut room = [0u8; 3];
     let mut output = failing_first(1, ErrorKind::BrokenPipe, room.as_mut_slice());
-    let failed = (output.write(b"ab").is_err(), output.failures());
-    assert_eq!(rt; failed, (true, 1));
-    let taken = (
-        output.write(b"abcd").ok(),
-        output.write(b"").ok(),
-        output.failures(),
+    let first = (taken(&mut output, b"ab"), taken(&mut output, b"abcd"));
+    let counted = output.failures();
+    let full = (taken(&mut output, b""), taken(&mut output, b"d"));
+    assert_eq!(rt;
+        (first, counted, full),
+        ((None, Some(3)), 1, (Some(0), Some(0)))
     );
-    assert_eq!(rt; taken, (Some(3), Some(0), 1));
-    // A write that takes no byte of some is a failure.
-    let full = (output.write(b"d").ok(), output.failures());
-    assert_eq!(rt; (full, output.flush().is_ok()), ((Some(0), 2), true));
+    assert_eq!(rt; (output.failures(), output.flush().is_ok()), (2, true));
 }
 
 #[test]
@@ -48,9 +54,10 @@ fn a_text_is_written_whole_or_a_front_of_it(rt: HostRuntime) {
     let mut room = [0u8; 5];
     let mut output = Counted::new(room.as_mut_slice());
     let whole = (write_all(&mut output, b"abc"), write_all(&mut output, b""));
-    assert_eq!(rt; (whole, output.failures()), ((Ok(()), Ok(())), 0));
     let cut = (write_all(&mut output, b"def"), write_all(&mut output, b""));
-    assert_eq!(rt; (cut, output.failures()), ((Err(WriteFailed), Ok(())), 1));
+    let failures = output.failures();
+    assert_eq!(rt; (whole, failures), ((Ok(()), Ok(())), 1));
+    assert_eq!(rt; cut, (Err(WriteFailed), Ok(())));
     assert_eq!(rt; room.as_slice(), b"abcde".as_slice());
 }
 
@@ -79,12 +86,14 @@ fn an_input_is_read_to_its_end(rt: HostRuntime) -> Result<(), Fail> {
 
 #[test]
 fn a_failed_read_leaves_a_front(rt: HostRuntime) {
-    let broken = failing_first(1, ErrorKind::ConnectionReset, b"lost".as_slice());
     let mut bytes = Vec::new(rt.alloc());
-    let mut input = Counted::new(b"ab".as_slice().chain(broken));
+    let mut input = failing_after(b"abc", 2, 1);
     let read = read_to_end(&mut input, &mut bytes);
-    assert_eq!(rt; (read, input.failures()), (Err(ReadFault::ReadFailed), 1));
-    assert_eq!(rt; bytes.as_slice(), b"ab".as_slice());
+    let is_front = bytes.as_slice() == b"ab".as_slice();
+    assert_eq!(rt;
+        (read, input.failures(), is_front),
+        (Err(ReadFault::ReadFailed), 1, true)
+    );
 }
 
 #[test]
@@ -118,6 +127,20 @@ fn an_interrupted_read_is_made_again(rt: HostRuntime) {
     }
 }
 
+/// How a text is written to a writer that fails at the first calls, and how many of them failed; and how such a
+/// one is flushed.
+fn written(
+    alloc: Global,
+    calls: u32,
+    kind: ErrorKind,
+) -> (Result<(), WriteFailed>, u64, Result<(), WriteFailed>) {
+    let mut output = failing_first(calls, kind, Vec::new(alloc));
+    let written = write_all(&mut output, b"ab");
+    let failures = output.failures();
+    let mut held = failing_first(calls, kind, Vec::new(alloc));
+    (written, failures, flush(&mut held))
+}
+
 #[test]
 fn an_interrupted_write_is_made_again(rt: HostRuntime) {
     for (calls, kind, want) in [
@@ -126,11 +149,9 @@ fn an_interrupted_write_is_made_again(rt: HostRuntime) {
         (MAX_INTERRUPTS, ErrorKind::Interrupted, Err(WriteFailed)),
         (1, ErrorKind::ConnectionReset, Err(WriteFailed)),
     ] {
-        let mut output = failing_first(calls, kind, Vec::new(rt.alloc()));
-        let written = write_all(&mut output, b"ab");
-        let mut held = failing_first(calls, kind, Vec::new(rt.alloc()));
-        let flushed = flush(&mut held);
-        assert_eq!(rt; (written, flushed), (want, want));
-        assert_eq!(rt; held.failures(), u64::from(calls));
+        assert_eq!(rt;
+            written(rt.alloc(), calls, kind),
+            (want, u64::from(calls), want)
+        );
     }
 }
