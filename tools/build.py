@@ -35,8 +35,8 @@ KIT = pathlib.Path(shutil.which("rt") or sys.exit("build.py: no command rt")).re
 # Memory that the proof of one crate may take, in bytes.
 CRATE_MEMORY = 4 * 1024**3
 
-# A way up to the program is short below this part of the longest.
-SHORT = 0.65
+# A way up to the program is long from this part of the longest on.
+LONG = 0.95
 
 # Seconds between two lines of progress.
 INTERVAL = 15
@@ -130,7 +130,6 @@ class Build:
         self.sizes = {name: sum(file.stat().st_size for file in sources(name)) for name in self.uses}
         self.proved = []
         self.running = {}
-        self.giving_way = set()
         self.commands = set()
         self.stopped = threading.Event()
         self.ended = threading.Event()
@@ -196,35 +195,23 @@ class Build:
         return {name: way for name, way in ways.items() if name not in self.proved}
 
     def begin(self, pool, most):
-        """Begins the proofs that can begin, first those of the longest ways. Each has a core. Those of ways
-        that are much shorter than the longest give way: others wait for them only for memory. Cores left over are
-        further jobs, which cost more than they gain while other crates wait; once all others are proved or
-        being proved, those that give way count no more."""
+        """Begins the proofs that can begin, as many as there are cores, first those of the longest ways. A crate on
+        a long way has half of the cores, and all of them where no other can be proved meanwhile, since all wait
+        for it; further jobs cost more than they gain elsewhere, and what isn't waited for gives way."""
         ways, running = self.ways(), {*self.running.values()}
         ready = [it for it in self.libraries if it in ways and it not in running and not ways.keys() & self.uses[it]]
         ready.sort(key=ways.get, reverse=True)
+        begins = ready[: most - len(running)]
+        shared = max(1, most // 2) if len(running) + len(begins) > 1 else most
         longest = max(ways.values())
-        begins = []
-        for name in ready:
-            gives_way = ways[name] < SHORT * longest
-            before = len(begins) + len(running if gives_way else running - self.giving_way)
-            if before < most and len(begins) + len(running) < room_for_proofs():
-                begins.append(name)
-                if gives_way:
-                    self.giving_way.add(name)
-        sharing = running | {*begins}
-        if not ways.keys() - sharing - {self.program}:
-            sharing -= self.giving_way
-        jobs, left = divmod(most, max(1, len(sharing)))
         for name in begins:
-            gives_way = name in self.giving_way
-            more = left > 0 and ways[name] == longest
-            prove = pool.submit(self.prove, name, 1 if gives_way else max(1, jobs + more), gives_way)
+            is_long = ways[name] >= LONG * longest
+            prove = pool.submit(self.prove, name, shared if is_long else 1, not is_long)
             self.running[prove] = name
 
     def prove_all(self):
         most = most_proofs()
-        with concurrent.futures.ThreadPoolExecutor(room_for_proofs()) as pool:
+        with concurrent.futures.ThreadPoolExecutor(most) as pool:
             try:
                 while len(self.proved) < len(self.libraries):
                     self.begin(pool, most)
