@@ -6,6 +6,7 @@ the gate's last line; what the gate printed goes to the file that is named, if o
 from /proc twice a second, so up to half a second of each command is missed.
 """
 
+import argparse
 import collections
 import os
 import pathlib
@@ -75,10 +76,13 @@ def print_table(names, sums):
 
 
 def main():
+    parser = argparse.ArgumentParser(description=__doc__, formatter_class=argparse.RawDescriptionHelpFormatter)
+    parser.add_argument("log", nargs="?", help="the file for what the gate prints")
+    log = parser.parse_args().log
     with tempfile.TemporaryDirectory(prefix="rr-gate-") as room:
         clone = pathlib.Path(room) / "rr"
         subprocess.run(["git", "clone", "-q", str(TOP), str(clone)], check=True)
-        said = pathlib.Path(sys.argv[1] if len(sys.argv) > 1 else f"{room}/said").resolve()
+        said = pathlib.Path(log or f"{room}/said").resolve()
         began = time.monotonic()
         with said.open("w") as output:
             gate = subprocess.Popen(
