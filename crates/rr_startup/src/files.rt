@@ -1,10 +1,10 @@
 //! The files that a node begins with.
 
+use rr_command::ToolFault;
 use rr_config::{Config, ConfigFault};
 use rr_io::Counted;
 use rr_process::Ending;
 use rr_replica::Replica;
-use rr_command::ToolFault;
 use rr_ring::RingArchive;
 use rr_schema::{Origin, Schema};
 use rr_snapshot::{LoadFault, load};

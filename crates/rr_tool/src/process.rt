@@ -1,13 +1,13 @@
 //! An order obeyed, and a node served over TCP.
 
 use rr_cluster::Simulator;
+use rr_command::ToolFault;
 use rr_desk::{Keeper, Reader, open};
 use rr_node::{
     Calling, Config, FileShelf, Listening, OpenGate, Seat, SystemClock, TcpSeats, serve_node,
 };
 use rr_process::{Ending, obey, read_order};
 use rr_replica::Replica;
-use rr_command::ToolFault;
 use rr_ring::RingArchive;
 use rr_schema::Origin;
 use rr_startup::{first_replica, read_config};
