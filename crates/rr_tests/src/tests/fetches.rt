@@ -22,8 +22,8 @@ fn an_answer_has_at_most_100_000_rows(rt: HostRuntime) -> Result<(), Fail> {
     Ok(())
 }
 
-/// How an answer of two rows ended: whether so many bytes of theirs are written as there was room for, how
-/// many writes failed, and the fault.
+/// How an answer of two rows ended: whether a front of it fills the room that there was, how many writes
+/// failed, and the fault.
 type Outcome = (bool, u64, Option<AnswerFault>);
 
 fn outcome(output: Counted<Room>, room: usize, fault: Option<AnswerFault>) -> Outcome {
