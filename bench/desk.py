@@ -17,8 +17,8 @@ import tempfile
 
 from store import TOP, run
 
-CRATE = TOP / "crates/rr_desk_bench"
-PROGRAM = str(CRATE / "out/rr_desk_bench")
+CRATE = TOP / "crates/rr_bench"
+PROGRAM = str(CRATE / "out/rr_bench")
 
 
 def told(folder, *work):
@@ -45,11 +45,11 @@ def main():
     parser.add_argument("--series", type=int, default=1_000)
     parser.add_argument("--minutes", type=int, default=1_000)
     words = parser.parse_args()
-    subprocess.run(["rt", "run"], cwd=CRATE, check=True)
+    subprocess.run(["rt", "run", "--", "ring", "fill", "1", "1"], cwd=CRATE, check=True)
     with tempfile.TemporaryDirectory() as room:
         folder = pathlib.Path(room)
-        lines, seconds, memory = told(folder, "replica", words.series, words.minutes)
-        cells = int(lines[0][1])
+        lines, seconds, memory = told(folder, "ring", "fill", words.series, words.minutes)
+        cells = int(lines[0][0])
         print(f"a replica alone: {cells / seconds:,.0f} puts a second, {memory:,.0f} MB at most")
         for readers in [0, 1, 4]:
             report(folder, words.series, words.minutes, readers)

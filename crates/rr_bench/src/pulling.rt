@@ -1,16 +1,12 @@
 //! A pull between two replicas, over memory.
 
+use crate::replicas::{keys, put_minutes, replica};
 use anyhow::{Result, bail};
 use rr_archive::Archive;
-use rr_base::{ArchiveSpec, Counted, Origin, Schema};
+use rr_base::Counted;
 use rr_gossip::{GossipFault, give, pull};
-use rr_key::SeriesKey;
 use rr_replica::Replica;
-use rr_text::limits::MAX_ROWS;
 use std::alloc::Global;
-
-/// The nanoseconds of a minute.
-const MINUTE: i64 = 60_000_000_000;
 
 /// How many series have how many readings, a minute apart, and how many steps of pulls are made.
 #[derive(Clone, Copy)]
@@ -18,26 +14,6 @@ pub(crate) struct Pulls {
     pub(crate) series: u32,
     pub(crate) minutes: u32,
     pub(crate) steps: u32,
-}
-
-/// A replica that holds nothing, with a row for each minute.
-fn replica<A: Archive>(alloc: Global, minutes: u32, origin: u16) -> Result<Replica<A>> {
-    let rows = ArchiveSpec {
-        steps: 1,
-        rows: minutes.clamp(1, MAX_ROWS),
-        num: 0,
-        den: 1,
-    };
-    let schema = Schema::new(alloc, 60, &[rows])?;
-    Ok(Replica::new(alloc, &schema, Origin::new(origin)?)?)
-}
-
-/// Puts a reading into a series in each minute.
-fn put_minutes<A: Archive>(replica: &mut Replica<A>, key: &SeriesKey, minutes: u32) -> Result<()> {
-    for minute in 0..minutes {
-        replica.put(key, i64::from(minute).saturating_mul(MINUTE), 1)?;
-    }
-    Ok(())
 }
 
 /// What a target sends, as to one that is gone.
@@ -63,33 +39,55 @@ fn pull_from<A: Archive>(alloc: Global, reply: &[u8], target: &mut Replica<A>) -
     Ok(())
 }
 
-/// Makes the steps, and answers how many bytes or cells the last one made.
-pub(crate) fn count_pulled<A: Archive>(alloc: Global, work: &Pulls) -> Result<usize> {
-    let mut source: Replica<A> = replica(alloc, work.minutes, 1)?;
-    for one in 0..work.series {
-        let text = format!(in alloc; "meter,host=h{one} v")?;
-        let key = SeriesKey::parse_text(alloc, text.as_bytes())?;
-        put_minutes(&mut source, &key, work.minutes)?;
-    }
-    let mut target: Replica<A> = replica(alloc, work.minutes, 2)?;
-    let mut sent = Vec::new(alloc);
-    let mut reply = Vec::new(alloc);
-    let mut made = 0;
-    for step in 0..work.steps {
-        match step % 3 {
-            0 => {
-                sent = names_of(alloc, &mut target)?;
-                made = sent.len();
-            }
-            1 => {
-                reply = answer_to(alloc, &sent, &mut source)?;
-                made = reply.len();
-            }
-            _ => {
-                pull_from(alloc, &reply, &mut target)?;
-                made = target.cell_count();
-            }
+/// What the target and the source sent last.
+#[derive(Drop)]
+struct Sent {
+    names: Vec<u8>,
+    answer: Vec<u8>,
+}
+
+/// Makes a step of a pull, and answers how many bytes or cells it made.
+fn make_step<A: Archive>(
+    alloc: Global,
+    step: u32,
+    source: &mut Replica<A>,
+    target: &mut Replica<A>,
+    sent: &mut Sent,
+) -> Result<usize> {
+    match step % 3 {
+        0 => {
+            sent.names = names_of(alloc, target)?;
+            Ok(sent.names.len())
+        }
+        1 => {
+            sent.answer = answer_to(alloc, &sent.names, source)?;
+            Ok(sent.answer.len())
+        }
+        _ => {
+            pull_from(alloc, &sent.answer, target)?;
+            Ok(target.cell_count())
         }
     }
+}
+
+/// Makes the steps, and answers how many bytes or cells the last one made.
+fn make_steps<A: Archive>(alloc: Global, source: &mut Replica<A>, work: &Pulls) -> Result<usize> {
+    let mut target = replica(alloc, work.minutes, 2)?;
+    let mut sent = Sent {
+        names: Vec::new(alloc),
+        answer: Vec::new(alloc),
+    };
+    let mut made = 0;
+    for step in 0..work.steps {
+        made = make_step(alloc, step, source, &mut target, &mut sent)?;
+    }
     Ok(made)
+}
+
+/// Fills a source, makes the steps, and answers how many bytes or cells the last one made.
+pub(crate) fn count_pulled<A: Archive>(alloc: Global, work: &Pulls) -> Result<usize> {
+    let keys = keys(alloc, work.series)?;
+    let mut source: Replica<A> = replica(alloc, work.minutes, 1)?;
+    put_minutes(&mut source, &keys, work.minutes)?;
+    make_steps(alloc, &mut source, work)
 }
