@@ -5,25 +5,35 @@ use rr_text::limits::MAX_KEY_TEXT;
 use std::alloc::{AllocError, Global};
 use std::test::Fail;
 
+/// The tags of names, the key and the value of each.
+fn tags_of<'a>(alloc: Global, names: &[&'a str]) -> Result<Vec<(&'a [u8], &'a [u8])>, AllocError> {
+    let mut tags: Vec<(&'a [u8], &'a [u8])> = Vec::new(alloc);
+    for tag in names.chunks(2) {
+        if let [key, value] = tag {
+            tags.push((key.as_bytes(), value.as_bytes()))?;
+        }
+    }
+    Ok(tags)
+}
+
+/// The text of a key, or the name of the fault.
+fn text_of(alloc: Global, made: Result<SeriesKey, KeyFault>) -> Result<Vec<u8>, AllocError> {
+    match made {
+        Ok(key) => Vec::from_slice(alloc, key.text()),
+        Err(fault) => Vec::from_slice(alloc, fault.name().as_bytes()),
+    }
+}
+
 /// The text of the key of some names, or the name of the fault. The names are a measurement, the
 /// key and the value of each tag, and a field, with a `|` between two of them.
 fn spelled(alloc: Global, names: &str) -> Result<Vec<u8>, AllocError> {
     let names: Vec<&str> = names.split('|').collect(alloc)?;
-    let mut tags: Vec<(&[u8], &[u8])> = Vec::new(alloc);
-    match names.as_slice() {
-        [measurement, rest @ .., field] => {
-            for tag in rest.chunks(2) {
-                if let [key, value] = tag {
-                    tags.push((key.as_bytes(), value.as_bytes()))?;
-                }
-            }
-            match SeriesKey::new(alloc, measurement.as_bytes(), &tags, field.as_bytes()) {
-                Ok(key) => Vec::from_slice(alloc, key.text()),
-                Err(fault) => Vec::from_slice(alloc, fault.name().as_bytes()),
-            }
-        }
-        _ => Ok(Vec::new(alloc)),
-    }
+    let [measurement, rest @ .., field] = names.as_slice() else {
+        return Ok(Vec::new(alloc));
+    };
+    let tags = tags_of(alloc, rest)?;
+    let made = SeriesKey::new(alloc, measurement.as_bytes(), &tags, field.as_bytes());
+    text_of(alloc, made)
 }
 
 /// Names and the text of their key, or why they make none, with a ` -> ` between the two and a `;`
@@ -90,16 +100,23 @@ fn escapes_are_undone_by_class(rt: HostRuntime) -> Result<(), Fail> {
         (Class::Other, b"a,b\\", b"a,b\\"),
     ];
     for (class, raw, name) in raw_names {
-        assert_eq!(rt; unescape(alloc, class, raw)?.as_slice(), name);
+        assert!(rt; unescape(alloc, class, raw)?.as_slice() == name);
     }
-    let escaped = escape(alloc, Class::Other, b"a=,")?;
-    assert_eq!(rt; escaped.as_slice(), b"a\\=\\,".as_slice());
-    let lengths = (
-        name_len(Class::Other, b"a\\=b=1"),
-        name_len(Class::Measurement, b"a=b"),
-    );
-    assert_eq!(rt; lengths, (4, 3));
     Ok(())
+}
+
+#[test]
+fn a_name_is_escaped(rt: HostRuntime) -> Result<(), Fail> {
+    let escaped = escape(rt.alloc(), Class::Other, b"a=,")?;
+    assert!(rt; escaped.as_slice() == b"a\\=\\,".as_slice());
+    Ok(())
+}
+
+#[test]
+fn a_name_ends_before_a_special_byte_of_its_class(rt: HostRuntime) {
+    let tag = name_len(Class::Other, b"a\\=b=1");
+    let measurement = name_len(Class::Measurement, b"a=b");
+    assert_eq!(rt; (tag, measurement), (4, 3));
 }
 
 /// Takes what several threads may hold.

@@ -61,16 +61,31 @@ fn are_pages(reply: &[u8]) -> bool {
         && reply.get(45_132..45_134) == Some([0, 88].as_slice())
 }
 
+/// What a source of 600 cells answers to a target that holds nothing, and how many cells the target has
+/// then.
+fn exchanged_600(alloc: Global) -> Result<(Vec<u8>, usize), Fail> {
+    let mut source = filled(alloc, 1, 600, 600)?;
+    let mut target = filled(alloc, 2, 600, 0)?;
+    let (_, sent) = asked(alloc, &mut target);
+    let reply = exchanged(alloc, &sent, &mut source, &mut target)?;
+    Ok((reply, target.cell_count()))
+}
+
 #[test]
 fn a_long_answer_comes_in_pages(rt: HostRuntime) -> Result<(), Fail> {
-    let mut source = filled(rt.alloc(), 1, 600, 600)?;
-    let mut target = filled(rt.alloc(), 2, 600, 0)?;
-    let (ended, sent) = asked(rt.alloc(), &mut target);
-    let reply = exchanged(rt.alloc(), &sent, &mut source, &mut target)?;
+    let (reply, count) = exchanged_600(rt.alloc())?;
     assert_eq!(rt;
-        (ended, reply.len(), target.cell_count(), are_pages(&reply)),
-        (Some(GossipFault::Ended), 52_883, 600, true)
+        (reply.len(), count, are_pages(&reply)),
+        (52_883, 600, true)
     );
+    Ok(())
+}
+
+#[test]
+fn a_pull_without_an_answer_is_ended(rt: HostRuntime) -> Result<(), Fail> {
+    let mut target = filled(rt.alloc(), 2, 600, 0)?;
+    let (ended, _) = asked(rt.alloc(), &mut target);
+    assert!(rt; ended == Some(GossipFault::Ended));
     Ok(())
 }
 

@@ -40,14 +40,18 @@ fn a_million_samples_leave_ten_rows_of_a_ring(rt: HostRuntime) -> Result<(), Fai
     Ok(())
 }
 
+/// How many cells an archive of a series has, where a replica of one sample of `m v` lends it.
+fn lent(alloc: Global, key: &[u8], archive: u8) -> Result<Option<usize>, Fail> {
+    let replica = one_sample::<PlainArchive>(alloc, 1)?;
+    let key = SeriesKey::parse_text(alloc, key)?;
+    Ok(replica.archive(&key, archive).map(|it| it.cell_count()))
+}
+
 #[test]
 fn a_replica_lends_the_archives_of_a_series(rt: HostRuntime) -> Result<(), Fail> {
-    let replica = one_sample::<PlainArchive>(rt.alloc(), 1)?;
-    let key = SeriesKey::parse_text(rt.alloc(), b"m v")?;
-    let other = SeriesKey::parse_text(rt.alloc(), b"m w")?;
-    let count = replica.archive(&key, 0).map_or(0, |it| it.cell_count());
-    let past = replica.archive(&key, 1).is_none();
-    let unknown = replica.archive(&other, 0).is_none();
-    assert_eq!(rt; (count, past, unknown), (1, true, true));
+    let found = lent(rt.alloc(), b"m v", 0)?;
+    let past = lent(rt.alloc(), b"m v", 1)?;
+    let unknown = lent(rt.alloc(), b"m w", 0)?;
+    assert_eq!(rt; (found, past, unknown), (Some(1), None, None));
     Ok(())
 }

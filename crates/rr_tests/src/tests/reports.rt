@@ -30,18 +30,19 @@ fn passed_on(alloc: Global, order: &Order, input: &[u8]) -> Result<Vec<u8>, Fail
 }
 
 #[test]
-fn what_the_writer_holds_back_is_passed_on(rt: HostRuntime) -> Result<(), Fail> {
-    let sim = Order::Sim { file: None };
-    let output = passed_on(rt.alloc(), &sim, b"frob")?;
+fn what_a_script_prints_is_passed_on(rt: HostRuntime) -> Result<(), Fail> {
+    let output = passed_on(rt.alloc(), &Order::Sim { file: None }, b"frob")?;
+    assert!(rt; output.as_slice() == b"line 1: BadCommand\n".as_slice());
+    Ok(())
+}
+
+#[test]
+fn a_report_is_passed_on(rt: HostRuntime) -> Result<(), Fail> {
     let check_lines = Order::CheckLines {
         precision: Precision::Ns,
         now: 0,
     };
     let report = passed_on(rt.alloc(), &check_lines, b"m v=1i")?;
-    let are_whole = (
-        output.as_slice() == b"line 1: BadCommand\n".as_slice(),
-        report.as_slice() == b"m v,1,0\n".as_slice(),
-    );
-    assert_eq!(rt; are_whole, (true, true));
+    assert!(rt; report.as_slice() == b"m v,1,0\n".as_slice());
     Ok(())
 }
