@@ -10,18 +10,19 @@ use rr_replica::WriteFault;
 use std::alloc::Global;
 use std::test::Fail;
 
-/// What a keeper answers to a line at the moment 0; nothing where the line is no point.
-fn written(
+/// Whether a keeper answers so to a line at the moment 0.
+fn is_written(
     alloc: Global,
     keeper: &mut Keeper<PlainArchive>,
     line: &[u8],
     lead: Option<u64>,
-) -> Option<Result<u32, WriteFault>>
+    answer: Result<u32, WriteFault>,
+) -> bool
     requires { HasNoLineFeed line.now }
 {
     match parse_line(alloc, line, Precision::Ns) {
-        Ok(Line::Point(point)) => Some(keeper.write(&point, 0, lead)),
-        _ => None,
+        Ok(Line::Point(point)) => keeper.write(&point, 0, lead) == answer,
+        _ => false,
     }
 }
 
@@ -31,12 +32,12 @@ fn a_point_is_a_put_for_each_field(rt: HostRuntime) -> Result<(), Fail> {
     let Ok((mut keeper, _readers)) = open(rt.alloc(), &rt, replica, 1) else {
         panic!(&rt; "no desk");
     };
-    let two = written(rt.alloc(), &mut keeper, b"m a=1i,b=2i 9", None);
-    let ahead = written(rt.alloc(), &mut keeper, b"m a=1i 9", Some(8));
-    let one = written(rt.alloc(), &mut keeper, b"m a=3i 9", Some(9));
+    let is_ahead = Err(WriteFault::AheadOfClock);
+    let two = is_written(rt.alloc(), &mut keeper, b"m a=1i,b=2i 9", None, Ok(2));
+    let ahead = is_written(rt.alloc(), &mut keeper, b"m a=1i 9", Some(8), is_ahead);
+    let one = is_written(rt.alloc(), &mut keeper, b"m a=3i 9", Some(9), Ok(1));
     let own = keeper.close(&rt);
-    assert_eq!(rt; (two, one), (Some(Ok(2)), Some(Ok(1))));
-    assert_eq!(rt; ahead, Some(Err(WriteFault::AheadOfClock)));
-    assert_eq!(rt; (own.cell_count(), own.next_number()), (2, 4));
+    let counts = (own.cell_count(), own.next_number());
+    assert_eq!(rt; (two, ahead, one, counts), (true, true, true, (2, 4)));
     Ok(())
 }

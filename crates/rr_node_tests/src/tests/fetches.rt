@@ -73,6 +73,27 @@ fn a_connection_that_fails_counts(rt: HostRuntime) -> Result<(), Fail> {
     Ok(())
 }
 
+/// A connection to a listener of this process.
+fn connected<R: Net<Listener = TcpListener, Stream = TcpStream>>(
+    rt: &R,
+    listener: &TcpListener,
+) -> Option<TcpStream> {
+    TcpStream::connect(rt, listener.local_addr().ok()?).ok()
+}
+
+/// Sends the requests over a connection, and then nothing more.
+fn send_requests(stream: &mut TcpStream) -> Option<()> {
+    stream.write_all(REQUESTS).ok()?;
+    stream.shutdown(Shutdown::Write).ok()
+}
+
+/// All that comes over a connection.
+fn received(alloc: Global, stream: &mut TcpStream) -> Option<Vec<u8>> {
+    let mut answer = Vec::new(alloc);
+    stream.read_to_end(&mut answer).ok()?;
+    Some(answer)
+}
+
 /// What a seat answers over TCP to a connection that comes after a silent one. Both ends are here.
 fn answer_over_tcp<R: Net<Listener = TcpListener, Stream = TcpStream>>(
     rt: &R,
@@ -80,21 +101,17 @@ fn answer_over_tcp<R: Net<Listener = TcpListener, Stream = TcpStream>>(
     reader: Reader<PlainArchive>,
 ) -> Option<Vec<u8>> {
     let listener = TcpListener::bind(rt, "127.0.0.1:0").ok()?;
-    let address = listener.local_addr().ok()?;
+    let silent = connected(rt, &listener)?;
+    let mut stream = connected(rt, &listener)?;
+    send_requests(&mut stream)?;
     let mut seat = Seat {
         reader,
         visits: Listening::new(alloc, listener, Some(1)),
         gate: OpenGate::new(),
     };
-    let silent = TcpStream::connect(rt, address).ok()?;
-    let mut stream = TcpStream::connect(rt, address).ok()?;
-    stream.write_all(REQUESTS).ok()?;
-    stream.shutdown(Shutdown::Write).ok()?;
     serve_seat(alloc, &mut seat, 2).ok()?;
     drop(silent);
-    let mut answer = Vec::new(alloc);
-    stream.read_to_end(&mut answer).ok()?;
-    Some(answer)
+    received(alloc, &mut stream)
 }
 
 #[test]

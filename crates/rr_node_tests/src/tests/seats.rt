@@ -183,6 +183,39 @@ fn written(seat: Meeting) -> Option<Vec<u8>> {
     visits.answer
 }
 
+/// Two seats whose gates meet each other.
+fn two_seats(
+    clock: &HostRuntime,
+    alloc: Global,
+    readers: (Reader<PlainArchive>, Reader<PlainArchive>),
+) -> Option<Two> {
+    let first = Arc::new(alloc, AtomicU64::new(0)).ok()?;
+    let second = Arc::new(alloc, AtomicU64::new(0)).ok()?;
+    let one = seat(clock, alloc, readers.0, &first, &second)?;
+    let two = seat(clock, alloc, readers.1, &second, &first)?;
+    Some(Two {
+        seats: Vec::from_array(alloc, [one, two]).ok()?,
+    })
+}
+
+/// Serves a node with these seats.
+fn serve_both<R: Threads + Wait + Sync>(
+    rt: &R,
+    alloc: Global,
+    keeper: &mut Keeper<PlainArchive>,
+    both: &mut Two,
+    config: &Config,
+) -> Option<()> {
+    let mut lines = Asked::new(alloc, false);
+    let mut dial = Peers::new(alloc, b"");
+    let mut shelf = Saves::new(alloc);
+    let mut clock = Moments::new(Vec::new(alloc));
+    serve_node(
+        alloc, keeper, &mut lines, &mut dial, &mut shelf, both, &mut clock, config, rt,
+    )
+    .ok()
+}
+
 /// What both seats of a node answer to a request.
 fn answers_of_both<R: Threads + Wait + Sync>(
     rt: &R,
@@ -190,46 +223,33 @@ fn answers_of_both<R: Threads + Wait + Sync>(
     alloc: Global,
     keeper: &mut Keeper<PlainArchive>,
     readers: (Reader<PlainArchive>, Reader<PlainArchive>),
-    config: &Config,
 ) -> Option<(Vec<u8>, Vec<u8>)> {
-    let first = Arc::new(alloc, AtomicU64::new(0)).ok()?;
-    let second = Arc::new(alloc, AtomicU64::new(0)).ok()?;
-    let one = seat(clock, alloc, readers.0, &first, &second)?;
-    let two = seat(clock, alloc, readers.1, &second, &first)?;
-    let mut both = Two {
-        seats: Vec::from_array(alloc, [one, two]).ok()?,
-    };
-    let mut lines = Asked::new(alloc, false);
-    let mut dial = Peers::new(alloc, b"");
-    let mut shelf = Saves::new(alloc);
-    let mut clock = Moments::new(Vec::new(alloc));
-    serve_node(
-        alloc, keeper, &mut lines, &mut dial, &mut shelf, &mut both, &mut clock, config, rt,
-    )
-    .ok()?;
+    let config = Config::from_toml(alloc, CONFIG).ok()?;
+    let mut both = two_seats(clock, alloc, readers)?;
+    serve_both(rt, alloc, keeper, &mut both, &config)?;
     let Two { mut seats } = both;
     Some((written(seats.pop()?)?, written(seats.pop()?)?))
 }
 
-#[test]
-fn seats_answer_beside_each_other(rt: HostRuntime) -> Result<(), Fail> {
-    let config = Config::from_toml(rt.alloc(), CONFIG)?;
-    let Ok((mut keeper, mut readers)) = open(
-        rt.alloc(),
-        &rt,
-        minutes::<PlainArchive>(rt.alloc(), 1, 3)?,
-        2,
-    ) else {
-        panic!(&rt; "no desk");
-    };
+/// What both seats of a node answer whose desk is opened for them.
+fn answers_of_a_desk<R: Threads + Wait + Sync>(
+    rt: &R,
+    clock: &HostRuntime,
+    alloc: Global,
+) -> Option<(Vec<u8>, Vec<u8>)> {
+    let replica = minutes::<PlainArchive>(alloc, 1, 3).ok()?;
+    let (mut keeper, mut readers) = open(alloc, rt, replica, 2).ok()?;
     let both = match (readers.pop(), readers.pop()) {
-        (Some(one), Some(two)) => {
-            answers_of_both(&rt, &rt, rt.alloc(), &mut keeper, (one, two), &config)
-        }
+        (Some(one), Some(two)) => answers_of_both(rt, clock, alloc, &mut keeper, (one, two)),
         _ => None,
     };
-    keeper.close(&rt);
-    let Some((one, two)) = both else {
+    keeper.close(rt);
+    both
+}
+
+#[test]
+fn seats_answer_beside_each_other(rt: HostRuntime) -> Result<(), Fail> {
+    let Some((one, two)) = answers_of_a_desk(&rt, &rt, rt.alloc()) else {
         panic!(&rt; "no answers");
     };
     let rows = b"m v,0,U\nm v,60,U\n\n".as_slice();
