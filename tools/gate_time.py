@@ -2,8 +2,9 @@
 """Runs the gate and says what it cost, crate by crate, in seconds of processor time.
 
 Takes the commit that is checked out, in a fresh clone, and prints a table, the time of the whole and
-the gate's last line; what the gate printed goes to the file that is named, if one is. Times are read
-from /proc twice a second, so up to half a second of each command is missed.
+the gate's last line; what the gate printed goes to the file that is named, if one is. Nothing that an
+earlier gate proved on this machine is taken. Times are read from /proc twice a second, so up to half a
+second of each command is missed.
 """
 
 import argparse
@@ -86,7 +87,7 @@ def main():
         began = time.monotonic()
         with said.open("w") as output:
             gate = subprocess.Popen(
-                [".ci/run"], cwd=clone, stdout=output, stderr=subprocess.STDOUT, start_new_session=True
+                ["rt", "ci", "--anew"], cwd=clone, stdout=output, stderr=subprocess.STDOUT, start_new_session=True
             )
             times = Times(gate.pid)
             while gate.poll() is None:
