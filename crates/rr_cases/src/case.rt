@@ -3,7 +3,7 @@
 use crate::files::EXPECTED;
 use crate::kind::Kind;
 use anyhow::{Context, Result};
-use rr_archive::PlainArchive;
+use rr_archive::{Archive, PlainArchive};
 use rr_ring::RingArchive;
 use std::rt::Files;
 use std::sync::Wait;
@@ -43,22 +43,53 @@ fn report(
     println!(rt; "{file} over {archive}: expected in line {number} '{wanted}', got '{found}'")
 }
 
-/// Whether the case of a file of input holds over both kinds of archive; where it doesn't, the first
-/// difference is printed.
-pub(crate) fn holds(rt: &(impl Files + AllocGlobal + Print + Wait), file: &str) -> Result<bool> {
-    let alloc = rt.alloc();
+/// A case: what its input is, its bytes, and the output that is expected of them.
+#[derive(Drop)]
+struct Case {
+    kind: Kind,
+    input: Vec<u8>,
+    expected: Vec<u8>,
+}
+
+/// What is expected of the input of a file, which is named without its ending.
+fn expected_of(rt: &(impl Files + AllocGlobal), stem: &str) -> Result<Vec<u8>> {
+    let file = format!(in rt.alloc(); "{stem}{EXPECTED}")?;
+    fs::read(rt, file.as_str()).context("no expected output")
+}
+
+/// The case of a file of input.
+fn case_of(rt: &(impl Files + AllocGlobal), file: &str) -> Result<Case> {
     let (stem, ending) = file.rsplit_once('.').context("a file without an ending")?;
     let kind = Kind::of_ending(ending).context("a file with another ending")?;
     let input = fs::read(rt, file).context(file)?;
-    let expected_file = format!(in alloc; "{stem}{EXPECTED}")?;
-    let expected = fs::read(rt, expected_file.as_str()).context("no expected output")?;
-    let rings = kind.output::<RingArchive, _>(alloc, rt, &input)?;
-    let maps = kind.output::<PlainArchive, _>(alloc, rt, &input)?;
-    for (archive, got) in [("rings", &rings), ("ordered maps", &maps)] {
-        if got.as_slice() != expected.as_slice() {
-            report(rt, file, archive, &expected, got)?;
-            return Ok(false);
-        }
+    let expected = expected_of(rt, stem)?;
+    Ok(Case {
+        kind,
+        input,
+        expected,
+    })
+}
+
+/// Whether a case holds over a kind of archive; where it doesn't, the first difference is printed.
+fn holds_over<A: Archive, R: AllocGlobal + Print + Wait>(
+    rt: &R,
+    case: &Case,
+    file: &str,
+    archive: &str,
+) -> Result<bool> {
+    let got = case.kind.output::<A, R>(rt.alloc(), rt, &case.input)?;
+    if got.as_slice() == case.expected.as_slice() {
+        return Ok(true);
     }
-    Ok(true)
+    report(rt, file, archive, &case.expected, &got)?;
+    Ok(false)
+}
+
+/// Whether the case of a file of input holds over both kinds of archive.
+pub(crate) fn holds<R: Files + AllocGlobal + Print + Wait>(rt: &R, file: &str) -> Result<bool> {
+    let case = case_of(rt, file)?;
+    Ok(
+        holds_over::<RingArchive, R>(rt, &case, file, "rings")?
+            && holds_over::<PlainArchive, R>(rt, &case, file, "ordered maps")?,
+    )
 }

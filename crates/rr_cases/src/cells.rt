@@ -4,7 +4,7 @@ use crate::changes;
 use anyhow::Result;
 use rr_base::{ArchiveSpec, Schema, SchemaFault};
 use rr_cells::{Cell, CellRef};
-use rr_page::{PageFault, cell_bytes, read_cell};
+use rr_page::{cell_bytes, read_cell};
 use std::alloc::{AllocError, Global};
 
 /// Three rows of one step, all of which must be known.
@@ -26,7 +26,7 @@ pub(crate) fn answers(alloc: Global, input: &[u8]) -> Result<Vec<u8>> {
     let schema = minutes(alloc)?;
     let mut output = String::new(alloc);
     for bytes in &changes::variants(alloc, input)? {
-        push_answer(alloc, &mut output, bytes, read_cell(alloc, bytes, &schema))?;
+        push_answer(alloc, &mut output, bytes, &schema)?;
     }
     Ok(output.into_bytes())
 }
@@ -35,22 +35,26 @@ fn push_answer(
     alloc: Global,
     output: &mut String,
     bytes: &[u8],
-    read: Result<(Cell, usize), PageFault>,
+    schema: &Schema,
 ) -> Result<(), AllocError> {
-    match read {
-        Ok((cell, len)) => {
-            push_fields(output, &cell)?;
-            let again = cell_bytes(alloc, as_ref(&cell))?;
-            let which = if bytes.get(..len) == Some(again.as_slice()) {
-                "the same"
-            } else {
-                "other"
-            };
-            write!(output, ": {len} bytes, {which} again")?;
-        }
+    match read_cell(alloc, bytes, schema) {
+        Ok((cell, len)) => push_read(alloc, output, &cell, bytes.split_at(len).0)?,
         Err(fault) => output.push_str(fault.name())?,
     }
     output.push('\n')
+}
+
+/// The fields of a cell that was read from these bytes, and whether it is written as them.
+fn push_read(
+    alloc: Global,
+    output: &mut String,
+    cell: &Cell,
+    bytes: &[u8],
+) -> Result<(), AllocError> {
+    push_fields(output, cell)?;
+    let is_same = cell_bytes(alloc, as_ref(cell))?.as_slice() == bytes;
+    let which = if is_same { "the same" } else { "other" };
+    write!(output, ": {} bytes, {which} again", bytes.len())
 }
 
 /// A cell as it is lent.

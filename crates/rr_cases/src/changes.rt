@@ -27,12 +27,10 @@ fn with_change(alloc: Global, bytes: &[u8], line: &str) -> Result<Vec<u8>> {
 /// The bytes with some changed from a place on.
 fn changed_at(alloc: Global, bytes: &[u8], at: usize, change: &str) -> Result<Vec<u8>> {
     let (front, back) = bytes.split_at_checked(at).context("a place past the end")?;
-    let mut changed = Vec::from_slice(alloc, front)?;
     if change == "end" {
-        return Ok(changed);
+        return Ok(Vec::from_slice(alloc, front)?);
     }
     let change = hex::decode(alloc, change)?;
-    changed.extend_from_slice(&change)?;
-    changed.extend_from_slice(back.get(change.len()..).unwrap_or(&[]))?;
-    Ok(changed)
+    let rest = back.get(change.len()..).unwrap_or(&[]);
+    Ok([front, change.as_slice(), rest].concat(alloc)?)
 }

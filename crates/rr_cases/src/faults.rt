@@ -19,19 +19,19 @@ use std::fmt::Display;
 pub(crate) fn answers(alloc: Global, input: &[u8]) -> Result<Vec<u8>> {
     let mut output = String::new(alloc);
     match str::from_utf8(input)? {
-        "schema\n" => push_schema(&mut output)?,
-        "read\n" => push_read(&mut output)?,
-        "key\n" => push_key(&mut output)?,
-        "line\n" => push_line(&mut output)?,
-        "page\n" => push_page(&mut output)?,
-        "gossip\n" => push_gossip(&mut output)?,
-        "request\n" => push_request(&mut output)?,
-        "write\n" => push_write(&mut output)?,
-        "command\n" => push_command(&mut output)?,
-        "tool\n" => push_tool(&mut output)?,
-        "others\n" => push_others(&mut output)?,
+        "schema\n" => push_schema(&mut output),
+        "read\n" => push_read(&mut output),
+        "key\n" => push_key(&mut output),
+        "line\n" => push_line(&mut output),
+        "page\n" => push_page(&mut output),
+        "gossip\n" => push_gossip(&mut output),
+        "request\n" => push_request(&mut output),
+        "write\n" => push_write(&mut output),
+        "command\n" => push_command(&mut output),
+        "tool\n" => push_tool(&mut output),
+        "others\n" => push_others(&mut output),
         _ => bail!("unknown faults"),
-    }
+    }?;
     Ok(output.into_bytes())
 }
 

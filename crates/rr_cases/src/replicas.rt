@@ -125,8 +125,9 @@ impl<A: Archive> Calls<A> {
 
     fn put(&mut self, words: &str) -> Result<()> {
         let (time, value) = first_word(words);
+        let (time, value) = (time.parse::<i64>()?, value.parse::<i64>()?);
         let key = SeriesKey::parse_text(self.alloc, b"m v")?;
-        match self.replica.put(&key, time.parse()?, value.parse()?) {
+        match self.replica.put(&key, time, value) {
             Ok(number) => Ok(write!(self.output, "{number}\n")?),
             Err(fault) => Ok(write!(self.output, "{}\n", fault.name())?),
         }
@@ -245,12 +246,10 @@ impl<A: Archive> Calls<A> {
         let (archive, words) = first_word(words);
         let (slot, words) = first_word(words);
         let (origin, key) = first_word(words);
-        let key = SeriesKey::parse_text(self.alloc, key.as_bytes())?;
+        let (archive, slot) = (archive.parse::<u8>()?, slot.parse::<i64>()?);
         let origin = Origin::new(origin.parse()?)?;
-        match self
-            .replica
-            .next_cell(&key, archive.parse()?, slot.parse()?, origin)
-        {
+        let key = SeriesKey::parse_text(self.alloc, key.as_bytes())?;
+        match self.replica.next_cell(&key, archive, slot, origin) {
             Some(cell) => Ok(push_cell(&mut self.output, cell)?),
             None => Ok(self.output.push_str("none\n")?),
         }
