@@ -7,7 +7,7 @@ use rr_words::WordsFault;
 use std::io;
 
 /// How a run of the program ends.
-#[derive(Debug, Drop, PartialEq, Eq)]
+#[derive(Drop)]
 pub enum Ending {
     /// The order is obeyed.
     Done,

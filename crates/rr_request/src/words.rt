@@ -14,7 +14,7 @@ use std::alloc::Global;
 
 /// The words of a request, `CF RESOLUTION START END KEY`, cut apart and not yet read. The key is all
 /// that follows the fourth space, so that its spaces are its own.
-#[derive(Clone, Copy, Debug, PartialEq, Eq)]
+#[derive(Clone, Copy)]
 pub struct RequestWords<'a> {
     pub(crate) function: &'a [u8],
     pub(crate) resolution: &'a [u8],

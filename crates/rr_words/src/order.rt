@@ -4,7 +4,7 @@ use rr_line::Precision;
 use rr_schema::Origin;
 
 /// What the words of a command line ask for.
-#[derive(Debug, Drop, PartialEq, Eq)]
+#[derive(Drop)]
 pub enum Order {
     /// To run a script.
     Sim {
