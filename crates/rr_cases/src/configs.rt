@@ -9,13 +9,17 @@ use std::alloc::{AllocError, Global};
 pub(crate) fn answers(alloc: Global, input: &[u8]) -> Result<Vec<u8>, AllocError> {
     let mut output = String::new(alloc);
     for text in &texts(alloc, input)? {
-        match Config::from_toml(alloc, text) {
-            Ok(config) => push_config(&mut output, &config)?,
-            Err(fault) => output.push_str(fault.name())?,
-        }
+        push_answer(alloc, &mut output, text)?;
         output.push('\n')?;
     }
     Ok(output.into_bytes())
+}
+
+fn push_answer(alloc: Global, output: &mut String, text: &[u8]) -> Result<(), AllocError> {
+    match Config::from_toml(alloc, text) {
+        Ok(config) => push_config(output, &config),
+        Err(fault) => output.push_str(fault.name()),
+    }
 }
 
 fn push_config(output: &mut String, config: &Config) -> Result<(), AllocError> {

@@ -7,6 +7,7 @@ use crate::settings::Settings;
 use anyhow::{Result, bail};
 use rr_fakes::pieces::failing_after;
 use rr_fakes::room::with_room;
+use rr_line::Precision;
 use rr_report::{check_lines, check_lines_within};
 use rr_words::{Order, read_words};
 use std::alloc::Global;
@@ -28,12 +29,18 @@ pub(crate) fn answers(alloc: Global, input: &[u8]) -> Result<Vec<u8>> {
     }
 }
 
+/// The precision and the moment that words ask for.
+fn options(alloc: Global, words: &str) -> Result<(Precision, i64)> {
+    let words: Vec<&str> = words.split(' ').collect(alloc)?;
+    match read_words(alloc, &words)? {
+        Order::CheckLines { precision, now } => Ok((precision, now)),
+        _ => bail!("the words of the first line aren't those of check-lines"),
+    }
+}
+
 /// The report of the lines over streams with some limits.
 fn report(alloc: Global, words: &str, settings: &Settings, lines: &[u8]) -> Result<Vec<u8>> {
-    let words: Vec<&str> = words.split(' ').collect(alloc)?;
-    let Order::CheckLines { precision, now } = read_words(alloc, &words)? else {
-        bail!("the words of the first line aren't those of check-lines");
-    };
+    let (precision, now) = options(alloc, words)?;
     let mut source = failing_after(lines, settings.size, settings.calls);
     let mut sink = with_room(alloc, settings.room);
     let checked = match settings.reads {

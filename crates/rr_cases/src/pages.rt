@@ -4,6 +4,7 @@ use crate::cells::{minutes, push_fields};
 use crate::changes;
 use anyhow::Result;
 use rr_base::Schema;
+use rr_cells::Cell;
 use rr_page::{decode, encode};
 use std::alloc::{AllocError, Global};
 
@@ -24,21 +25,20 @@ fn push_answer(
     bytes: &[u8],
     schema: &Schema,
 ) -> Result<(), AllocError> {
-    let cells = match decode(alloc, bytes, schema) {
-        Ok(cells) => cells,
-        Err(fault) => {
-            output.push_str(fault.name())?;
-            return output.push('\n');
+    match decode(alloc, bytes, schema) {
+        Ok(cells) => {
+            let is_same = encode(alloc, schema, &cells)?.as_slice() == bytes;
+            push_cells(output, &cells, is_same)
         }
-    };
-    let again = encode(alloc, schema, &cells)?;
-    let which = if again.as_slice() == bytes {
-        "the same"
-    } else {
-        "other"
-    };
+        Err(fault) => write!(output, "{}\n", fault.name()),
+    }
+}
+
+/// How many cells were read, whether they are written as the same bytes, and their fields.
+fn push_cells(output: &mut String, cells: &[Cell], is_same: bool) -> Result<(), AllocError> {
+    let which = if is_same { "the same" } else { "other" };
     write!(output, "{} cells, {which} bytes again\n", cells.len())?;
-    for cell in &cells {
+    for cell in cells {
         push_fields(output, cell)?;
         output.push('\n')?;
     }

@@ -24,16 +24,21 @@ fn text_of(alloc: Global, made: Result<SeriesKey, KeyFault>) -> Result<Vec<u8>, 
     }
 }
 
-/// The text of the key of some names, or the name of the fault. The names are a measurement, the
-/// key and the value of each tag, and a field, with a `|` between two of them.
-fn spelled(alloc: Global, names: &str) -> Result<Vec<u8>, AllocError> {
-    let names: Vec<&str> = names.split('|').collect(alloc)?;
-    let [measurement, rest @ .., field] = names.as_slice() else {
+/// The text of the key of a measurement, the key and the value of each tag, and a field, or the name of
+/// the fault.
+fn text_of_names(alloc: Global, names: &[&str]) -> Result<Vec<u8>, AllocError> {
+    let [measurement, rest @ .., field] = names else {
         return Ok(Vec::new(alloc));
     };
     let tags = tags_of(alloc, rest)?;
     let made = SeriesKey::new(alloc, measurement.as_bytes(), &tags, field.as_bytes());
     text_of(alloc, made)
+}
+
+/// The same of names with a `|` between two of them.
+fn spelled(alloc: Global, names: &str) -> Result<Vec<u8>, AllocError> {
+    let names: Vec<&str> = names.split('|').collect(alloc)?;
+    text_of_names(alloc, &names)
 }
 
 /// Names and the text of their key, or why they make none, with a ` -> ` between the two and a `;`
