@@ -1,0 +1,112 @@
+//! A stream of which one call fails.
+
+ghost use Rattle.std.specs.Prelude.{◌≡◌, Some, true, IsErr};
+ghost use Rattle.std.specs.Io.{ReadsAtMost, WritesAtMost};
+ghost use Rattle.std.specs.Io.KnownBytes.{Keeps, ReadConsumes, WriteAppends};
+ghost use Rattle.rr_base.specs.Failing.{stream_in, calls_left, one_call_less, fails_next};
+
+use std::io;
+use std::io::{ErrorKind, Read, Write};
+
+/// A reader or a writer of which one call fails. The calls before it and those after it are passed on;
+/// the one that fails moves no byte.
+///
+/// It stands in for a stream in tests: whoever opens a stream anew with a greater number of calls each
+/// time meets each of its failures in turn, and in the end none.
+#[derive(Drop)]
+pub struct Failing<S> {
+    inner: S,
+    left: Option<u64>,
+}
+
+impl<S> Failing<S> {
+    /// This stream, of which `calls` calls are passed on before one fails.
+    pub fn new(stream: S, calls: u64) -> Failing<S>
+        ensures inner { stream_in result ≡ stream }
+        ensures calls { calls_left result ≡ Some calls }
+    {
+        Failing {
+            inner: stream,
+            left: Some(calls),
+        }
+    }
+
+    /// The stream inside.
+    pub fn into_inner(self) -> S
+        ensures { result ≡ stream_in self }
+    {
+        self.inner
+    }
+
+    /// Counts a call, and answers whether it is the one that fails.
+    fn is_due(&mut self) -> bool
+        ensures inner { stream_in self.new ≡ stream_in self.old }
+        ensures calls { calls_left self.new ≡ one_call_less (calls_left self.old) }
+        ensures due { result ≡ fails_next (calls_left self.old) }
+    {
+        match self.left {
+            None => false,
+            Some(0) => {
+                self.left = None;
+                true
+            }
+            Some(left) => {
+                self.left = Some(left - 1);
+                false
+            }
+        }
+    }
+}
+
+/// The failure of a call.
+fn failure() -> io::Error {
+    io::Error::from(ErrorKind::Other)
+}
+
+impl<R: Read> Read for Failing<R> {
+    ghost remaining = { λ f. R.remaining (stream_in f) };
+
+    fn read(&mut self, buf: &mut [u8]) -> io::Result<usize>
+        ensures bound { ReadsAtMost result buf.new }
+        ensures bytes { ReadConsumes (R.remaining (stream_in self.old))
+            (R.remaining (stream_in self.new)) result buf.new }
+        ensures calls { calls_left self.new ≡ one_call_less (calls_left self.old) }
+        ensures fails { fails_next (calls_left self.old) ≡ true → IsErr result }
+        ensures kept { fails_next (calls_left self.old) ≡ true → stream_in self.new ≡ stream_in self.old }
+    {
+        if self.is_due() {
+            return Err(failure());
+        }
+        self.inner.read(buf)
+    }
+}
+
+impl<W: Write> Write for Failing<W> {
+    ghost contents = { λ f. W.contents (stream_in f) };
+
+    fn write(&mut self, buf: &[u8]) -> io::Result<usize>
+        ensures bound { WritesAtMost result buf.now }
+        ensures bytes { WriteAppends (W.contents (stream_in self.old))
+            (W.contents (stream_in self.new)) result buf.now }
+        ensures calls { calls_left self.new ≡ one_call_less (calls_left self.old) }
+        ensures fails { fails_next (calls_left self.old) ≡ true → IsErr result }
+        ensures kept { fails_next (calls_left self.old) ≡ true → stream_in self.new ≡ stream_in self.old }
+    {
+        if self.is_due() {
+            return Err(failure());
+        }
+        self.inner.write(buf)
+    }
+
+    fn flush(&mut self) -> io::Result<()>
+        ensures bytes { Keeps (W.contents (stream_in self.old)) (W.contents (stream_in self.new)) }
+        ensures calls { calls_left self.new ≡ one_call_less (calls_left self.old) }
+        ensures fails { fails_next (calls_left self.old) ≡ true → IsErr result }
+        ensures kept { fails_next (calls_left self.old) ≡ true → stream_in self.new ≡ stream_in self.old }
+    {
+        if self.is_due() {
+            return Err(failure());
+        }
+        self.inner.flush()
+    }
+}
