@@ -3,9 +3,9 @@
 //!
 //! The first line of a call has its words, and what follows is its input. Of a line `*N TEXT` of it there
 //! are N, and a line `+N TEXT` is one that has the text N times. The words after the first limit the
-//! streams and set the clock: `size=N`, how many bytes a read gives; `calls=N`, how many reads there are
-//! before one fails; `reads=N`, how many there may be; `room=N`, how many bytes can be written; `lead=N`
-//! and `now=T,T,..`.
+//! streams and set the clock: `size=N`, how many bytes a read gives and a write takes; `read-fails=N` and
+//! `write-fails=N`, how many reads or writes there are before one fails; `reads=N`, how many reads there
+//! may be; `room=N`, how many bytes can be written; `lead=N` and `now=T,T,..`.
 //!
 //! | Call | Answer |
 //! |---|---|
@@ -22,13 +22,11 @@
 use crate::cells::as_ref;
 use crate::documents::texts;
 use crate::replicas::push_cell;
-use crate::settings::Settings;
+use crate::settings::{Settings, written};
 use anyhow::{Context, Result, bail};
 use rr_archive::Archive;
 use rr_desk::{Keeper, Reader, open};
-use rr_fakes::pieces::failing_after;
 use rr_fakes::replicas::minutes;
-use rr_fakes::room::with_room;
 use rr_line::Precision;
 use rr_node::{Moments, OpenGate, pull_peer, serve_lines, serve_lines_within, serve_reader};
 use std::alloc::{AllocError, Global};
@@ -150,8 +148,8 @@ fn lines<A: Archive, T: Wait>(
     settings: Settings,
     input: &[u8],
 ) -> Result<Answer> {
-    let mut source = failing_after(input, settings.size, settings.calls);
-    let mut sink = with_room(alloc, settings.room);
+    let mut source = settings.source(input);
+    let mut sink = settings.sink(alloc);
     let (reads, lead) = (settings.reads, settings.lead);
     let mut clock = Moments::new(settings.moments);
     let unit = Precision::Ns;
@@ -185,7 +183,7 @@ fn lines<A: Archive, T: Wait>(
         }
         Err(fault) => text_of(alloc, fault.name())?,
     };
-    Ok((ending, sink.into_inner().into_written()))
+    Ok((ending, written(sink)))
 }
 
 fn fetches<A: Archive>(
@@ -194,14 +192,14 @@ fn fetches<A: Archive>(
     settings: &Settings,
     input: &[u8],
 ) -> Result<Answer> {
-    let mut source = failing_after(input, settings.size, settings.calls);
-    let mut sink = with_room(alloc, settings.room);
+    let mut source = settings.source(input);
+    let mut sink = settings.sink(alloc);
     let mut gate = OpenGate::new();
     let ending = match serve_reader(alloc, &mut source, &mut sink, reader, &mut gate) {
         Ok(()) => "done",
         Err(fault) => fault.name(),
     };
-    Ok((text_of(alloc, ending)?, sink.into_inner().into_written()))
+    Ok((text_of(alloc, ending)?, written(sink)))
 }
 
 /// The bytes of a line in hexadecimal.
@@ -234,13 +232,13 @@ fn pull<A: Archive, T: Wait>(
     input: &[u8],
 ) -> Result<Answer> {
     let bytes = bytes_of(alloc, input)?;
-    let mut source = failing_after(&bytes, settings.size, settings.calls);
-    let mut sink = with_room(alloc, settings.room);
+    let mut source = settings.source(&bytes);
+    let mut sink = settings.sink(alloc);
     let ending = match pull_peer(alloc, &mut source, &mut sink, keeper, rt) {
         Ok(()) => "done",
         Err(fault) => fault.name(),
     };
-    let written = hex_line(alloc, &sink.into_inner().into_written())?;
+    let written = hex_line(alloc, &written(sink))?;
     Ok((text_of(alloc, ending)?, written))
 }
 

@@ -1,10 +1,16 @@
 //! The kinds of cases.
 
 use crate::{cells, configs, desks, documents, faults, keys, lines, pages, replicas};
-use anyhow::Result;
+use anyhow::{Result, bail};
 use rr_archive::Archive;
 use std::alloc::Global;
 use std::sync::Wait;
+
+/// What stands in a file of input for each number in turn.
+const TURN: &str = "{n}";
+
+/// A number that no call of a stream comes to.
+const LAST: u32 = 60_000;
 
 /// What a file of input is.
 #[derive(Clone, Copy)]
@@ -49,8 +55,61 @@ impl Kind {
         }
     }
 
-    /// What the libraries answer to a file's bytes, with archives of a kind where it speaks of any.
+    /// What the libraries answer to a file's bytes, with archives of a kind where it speaks of any. Where
+    /// the file has `{n}`, that is what they answer with 0, 1, 2 and so on in its place, without answers that
+    /// are like the one before, up to the one that no number changes any more. A line `---` stands between
+    /// two.
     pub(crate) fn output<A: Archive, T: Wait>(
+        self,
+        alloc: Global,
+        rt: &T,
+        input: &[u8],
+    ) -> Result<Vec<u8>> {
+        match str::from_utf8(input) {
+            Ok(text) if text.contains(TURN) => self.outputs_in_turn::<A, T>(alloc, rt, text),
+            _ => self.output_of::<A, T>(alloc, rt, input),
+        }
+    }
+
+    fn outputs_in_turn<A: Archive, T: Wait>(
+        self,
+        alloc: Global,
+        rt: &T,
+        text: &str,
+    ) -> Result<Vec<u8>> {
+        let whole = self.output_at::<A, T>(alloc, rt, text, LAST)?;
+        let mut outputs = Vec::new(alloc);
+        let mut before = Vec::new(alloc);
+        for number in 0..LAST {
+            let output = self.output_at::<A, T>(alloc, rt, text, number)?;
+            if output == whole {
+                outputs.extend_from_slice(&whole)?;
+                return Ok(outputs);
+            }
+            if output != before {
+                outputs.extend_from_slice(&output)?;
+                outputs.extend_from_slice(b"---\n")?;
+                before = output;
+            }
+        }
+        bail!("the answers go on to change")
+    }
+
+    /// What they answer to a text with a number in turn.
+    fn output_at<A: Archive, T: Wait>(
+        self,
+        alloc: Global,
+        rt: &T,
+        text: &str,
+        number: u32,
+    ) -> Result<Vec<u8>> {
+        let number = format!(in alloc; "{number}")?;
+        let text = text.replace(alloc, TURN, number.as_str())?;
+        self.output_of::<A, T>(alloc, rt, text.as_bytes())
+    }
+
+    /// What they answer to bytes as they are.
+    fn output_of<A: Archive, T: Wait>(
         self,
         alloc: Global,
         rt: &T,

@@ -3,10 +3,8 @@
 //! lines and texts may be in it several times as they are there.
 
 use crate::desks::expanded;
-use crate::settings::Settings;
+use crate::settings::{Settings, written};
 use anyhow::{Result, bail};
-use rr_fakes::pieces::failing_after;
-use rr_fakes::room::with_room;
 use rr_line::Precision;
 use rr_report::{check_lines, check_lines_within};
 use rr_words::{Order, read_words};
@@ -41,13 +39,13 @@ fn options(alloc: Global, words: &str) -> Result<(Precision, i64)> {
 /// The report of the lines over streams with some limits.
 fn report(alloc: Global, words: &str, settings: &Settings, lines: &[u8]) -> Result<Vec<u8>> {
     let (precision, now) = options(alloc, words)?;
-    let mut source = failing_after(lines, settings.size, settings.calls);
-    let mut sink = with_room(alloc, settings.room);
+    let mut source = settings.source(lines);
+    let mut sink = settings.sink(alloc);
     let checked = match settings.reads {
         None => check_lines(alloc, &mut source, &mut sink, precision, now),
         Some(reads) => check_lines_within(alloc, &mut source, &mut sink, precision, now, reads),
     };
-    let mut output = sink.into_inner().into_written();
+    let mut output = written(sink);
     if let Err(fault) = checked {
         output.extend_from_slice(format!(in alloc; "== {}\n", fault.name())?.as_bytes())?;
     }

@@ -12,7 +12,7 @@
 //! | `cells` | a line for each cell: key, archive, slot, origin, version, count, last value |
 //! | `pull`, `give`, `give-after` and words | what a session over streams wrote and left, and how it ended ([`crate::sessions`]) |
 //! | `after ARCHIVE SLOT ORIGIN KEY` | the first cell after a name, or `none` |
-//! | `save` | the bytes of a snapshot in hexadecimal |
+//! | `save SIZE WRITES` | the bytes of a snapshot that are written, in hexadecimal, and how that ended ([`crate::stored`]) |
 //! | `load ORIGIN SIZE READS BYTES` | how a snapshot is loaded in the place of the replica ([`crate::stored`]) |
 //! | `copy CALL` | what the call of a copy answers, and then a line for each cell of the copy |
 
@@ -115,7 +115,7 @@ impl<A: Archive> Calls<A> {
             "give" => self.hold(Session::Give, words),
             "give-after" => self.hold(Session::GiveAfter, words),
             "after" => self.push_after(words),
-            "save" => push_saved(self.alloc, &self.replica, &mut self.output),
+            "save" => push_saved(self.alloc, &self.replica, words, &mut self.output),
             "load" => self.load(words),
             "next" => Ok(write!(self.output, "{}\n", self.replica.next_number())?),
             "cells" => Ok(self.push_cells()?),

@@ -6,7 +6,7 @@
 
 use anyhow::{Context, Result};
 use rr_archive::Archive;
-use rr_base::Counted;
+use rr_base::{Counted, Failing};
 use rr_fakes::pieces::{Pieces, failing_after};
 use rr_gossip::{GossipFault, give, give_after, give_after_within, give_within, pull, pull_within};
 use rr_replica::Replica;
@@ -33,7 +33,7 @@ impl Words {
     }
 
     /// The input after its first `from` bytes.
-    fn input(&self, from: usize) -> Result<Counted<Pieces<'_>>> {
+    fn input(&self, from: usize) -> Result<Counted<Failing<Pieces<'_>>>> {
         Ok(failing_after(
             self.bytes.get(from..).context("no first byte")?,
             self.size.map_or(usize::MAX, usize::from),
@@ -97,11 +97,11 @@ fn push_ending(
     alloc: Global,
     answer: &mut String,
     written: &[u8],
-    input: Counted<Pieces<'_>>,
+    input: Counted<Failing<Pieces<'_>>>,
     ended: Result<(), GossipFault>,
 ) -> Result<()> {
     let failures = input.failures();
-    let left = input.into_inner().left();
+    let left = input.into_inner().into_inner().left();
     let written = hex::encode(alloc, written)?;
     let ending = match &ended {
         Ok(()) => "done",

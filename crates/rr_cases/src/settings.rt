@@ -1,19 +1,24 @@
 //! What the words of a desk's call set.
 
 use anyhow::{Context, Result, bail};
+use rr_base::{Counted, Failing};
+use rr_fakes::pieces::{Pieces, failing_after};
+use rr_fakes::room::{Room, failing_room};
 use std::alloc::Global;
 
 /// The limits of a call's streams, and its clock.
 #[derive(Drop)]
 pub(crate) struct Settings {
-    /// How many bytes a read gives at most.
-    pub(crate) size: usize,
+    /// How many bytes a read gives at most, and a write takes.
+    size: usize,
     /// How many reads there are before one fails.
-    pub(crate) calls: u64,
+    read_fails: u64,
+    /// How many writes there are before one fails.
+    write_fails: u64,
+    /// How many bytes can be written.
+    room: usize,
     /// How many reads there may be.
     pub(crate) reads: Option<u32>,
-    /// How many bytes can be written.
-    pub(crate) room: usize,
     /// How far ahead of the clock a point may be.
     pub(crate) lead: Option<u64>,
     /// What the clock gives, one after the other.
@@ -25,9 +30,10 @@ impl Settings {
     pub(crate) fn of(alloc: Global, words: &str) -> Result<Settings> {
         let mut settings = Settings {
             size: usize::MAX,
-            calls: u64::MAX,
-            reads: None,
+            read_fails: u64::MAX,
+            write_fails: u64::MAX,
             room: usize::MAX,
+            reads: None,
             lead: None,
             moments: Vec::new(alloc),
         };
@@ -43,9 +49,10 @@ impl Settings {
         let (name, value) = word.split_once('=').context("a word without a value")?;
         match name {
             "size" => self.size = value.parse()?,
-            "calls" => self.calls = value.parse()?,
-            "reads" => self.reads = Some(value.parse()?),
+            "read-fails" => self.read_fails = value.parse()?,
+            "write-fails" => self.write_fails = value.parse()?,
             "room" => self.room = value.parse()?,
+            "reads" => self.reads = Some(value.parse()?),
             "lead" => self.lead = Some(value.parse()?),
             "now" => {
                 for moment in value.split(',') {
@@ -56,4 +63,18 @@ impl Settings {
         }
         Ok(())
     }
+    /// A reader of an input, within these limits.
+    pub(crate) fn source<'a>(&self, input: &'a [u8]) -> Counted<Failing<Pieces<'a>>> {
+        failing_after(input, self.size, self.read_fails)
+    }
+
+    /// A writer within these limits.
+    pub(crate) fn sink(&self, alloc: Global) -> Counted<Failing<Room>> {
+        failing_room(alloc, self.size, self.room, self.write_fails)
+    }
+}
+
+/// What a writer took.
+pub(crate) fn written(sink: Counted<Failing<Room>>) -> Vec<u8> {
+    sink.into_inner().into_inner().into_written()
 }

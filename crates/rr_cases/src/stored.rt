@@ -3,22 +3,32 @@
 use crate::sessions::limit;
 use anyhow::{Context, Result};
 use rr_archive::Archive;
-use rr_base::{Counted, Origin, Schema};
+use rr_base::{Counted, Failing, Origin, Schema};
 use rr_fakes::pieces::{Pieces, failing_after};
+use rr_fakes::room::failing_room;
 use rr_replica::Replica;
 use rr_snapshot::{load, save};
 use std::alloc::Global;
 
-/// Adds the bytes that a replica is saved as, in hexadecimal.
+/// Adds the bytes that were written as a replica was saved, in hexadecimal, and how that ended. The words
+/// are how many bytes a write takes, and how many writes there are before one fails.
 pub(crate) fn push_saved<A: Archive>(
     alloc: Global,
     replica: &Replica<A>,
+    words: &str,
     answer: &mut String,
 ) -> Result<()> {
-    let mut bytes = Vec::new(alloc);
-    save(alloc, replica, &mut Counted::new(&mut bytes))?;
-    answer.push_str(&hex::encode(alloc, &bytes)?)?;
-    Ok(answer.push('\n')?)
+    let mut words = words.split(' ');
+    let size = limit(words.next())?.map_or(usize::MAX, usize::from);
+    let writes = limit(words.next())?.map_or(u64::MAX, u64::from);
+    let mut output = failing_room(alloc, size, usize::MAX, writes);
+    let saved = save(alloc, replica, &mut output);
+    let bytes = hex::encode(alloc, &output.into_inner().into_inner().into_written())?;
+    write!(answer, "{}\n", bytes.as_str())?;
+    if let Err(fault) = saved {
+        write!(answer, "{}\n", fault.name())?;
+    }
+    Ok(())
 }
 
 /// The replica that the bytes of some words are loaded as, if they are one; and adds how that ended. The
@@ -44,7 +54,7 @@ fn loaded_from<A: Archive>(
     alloc: Global,
     schema: &Schema,
     origin: Origin,
-    input: &mut Counted<Pieces<'_>>,
+    input: &mut Counted<Failing<Pieces<'_>>>,
     answer: &mut String,
 ) -> Result<Option<Replica<A>>> {
     match load(alloc, input, schema, origin) {

@@ -6,22 +6,22 @@ use std::io::{ErrorKind, Read, Write};
 
 /// A stream whose first calls fail.
 #[derive(Drop)]
-pub struct Failing<S> {
+pub struct FailingFirst<S> {
     calls: u32,
     kind: ErrorKind,
     stream: S,
 }
 
 /// A counted stream whose first `calls` calls fail with an error of this kind.
-pub fn failing_first<S>(calls: u32, kind: ErrorKind, stream: S) -> Counted<Failing<S>> {
-    Counted::new(Failing {
+pub fn failing_first<S>(calls: u32, kind: ErrorKind, stream: S) -> Counted<FailingFirst<S>> {
+    Counted::new(FailingFirst {
         calls,
         kind,
         stream,
     })
 }
 
-impl<S> Failing<S> {
+impl<S> FailingFirst<S> {
     fn next_call(&mut self) -> io::Result<()> {
         if self.calls > 0 {
             self.calls -= 1;
@@ -31,14 +31,14 @@ impl<S> Failing<S> {
     }
 }
 
-impl<R: Read> Read for Failing<R> {
+impl<R: Read> Read for FailingFirst<R> {
     fn read(&mut self, buf: &mut [u8]) -> io::Result<usize> {
         self.next_call()?;
         self.stream.read(buf)
     }
 }
 
-impl<W: Write> Write for Failing<W> {
+impl<W: Write> Write for FailingFirst<W> {
     fn write(&mut self, buf: &[u8]) -> io::Result<usize> {
         self.next_call()?;
         self.stream.write(buf)

@@ -5,10 +5,10 @@
 //!
 //! | Module | Stands for |
 //! |---|---|
-//! | [`pieces`] | a reader that gives little at a time, and fails after some calls |
+//! | [`pieces`] | a reader that gives little at a time, of which a call may fail |
 //! | [`failing`] | a stream whose first calls fail |
 //! | [`holding`] | a writer that holds bytes back until it is flushed |
-//! | [`room`] | a writer that has room for some bytes |
+//! | [`room`] | a writer that takes little at a time and has room for some bytes, of which a call may fail |
 //! | [`replicas`] | replicas with rows of a minute, without a sample or with one |
 #![tactic(auto)]
 

@@ -1,30 +1,25 @@
-//! A reader that gives little at a time, and fails after some calls.
+//! A reader that gives little at a time.
 
-use rr_base::Counted;
+use rr_base::{Counted, Failing};
 use std::io;
-use std::io::{ErrorKind, Read};
+use std::io::Read;
 
-/// A reader that gives at most `size` bytes of a text at each call, and fails after `calls` calls.
+/// A reader that gives at most `size` bytes of a text at each call.
 #[derive(Drop)]
 pub struct Pieces<'a> {
     rest: &'a [u8],
     size: usize,
-    calls: u64,
 }
 
 /// A counted reader that gives at most `size` bytes of a text at each call.
 pub fn in_pieces(text: &[u8], size: usize) -> Counted<Pieces<'_>> {
-    failing_after(text, size, u64::MAX)
+    Counted::new(Pieces { rest: text, size })
 }
 
-/// A counted reader that gives at most `size` bytes of a text at each of `calls` calls, and at each
-/// later one fails as a connection that was reset.
-pub fn failing_after(text: &[u8], size: usize, calls: u64) -> Counted<Pieces<'_>> {
-    Counted::new(Pieces {
-        rest: text,
-        size,
-        calls,
-    })
+/// A counted reader that gives at most `size` bytes of a text at each call but the one after `calls`
+/// calls, which fails.
+pub fn failing_after(text: &[u8], size: usize, calls: u64) -> Counted<Failing<Pieces<'_>>> {
+    Counted::new(Failing::new(Pieces { rest: text, size }, calls))
 }
 
 impl Pieces<'_> {
@@ -36,10 +31,6 @@ impl Pieces<'_> {
 
 impl Read for Pieces<'_> {
     fn read(&mut self, buf: &mut [u8]) -> io::Result<usize> {
-        if self.calls == 0 {
-            return Err(io::Error::from(ErrorKind::ConnectionReset));
-        }
-        self.calls -= 1;
         let mut rest = self.rest;
         let piece = buf.len().min(self.size);
         let given = rest.read(&mut buf[..piece])?;

@@ -1,26 +1,39 @@
-//! A writer that has room for some bytes.
+//! A writer that has room for some bytes, and takes little at a time.
 
-use rr_base::Counted;
+use rr_base::{Counted, Failing};
 use std::alloc::Global;
 use std::io;
 use std::io::Write;
 
-/// A writer that has room for `left` more bytes, and takes none after them.
+/// A writer that takes at most `size` bytes at each call, has room for `left` more, and takes none
+/// after them.
 #[derive(Drop)]
 pub struct Room {
     written: Vec<u8>,
+    size: usize,
     left: usize,
 }
 
 /// A counted writer with room for `left` bytes.
 pub fn with_room(alloc: Global, left: usize) -> Counted<Room> {
-    Counted::new(Room {
-        written: Vec::new(alloc),
-        left,
-    })
+    Counted::new(Room::new(alloc, usize::MAX, left))
+}
+
+/// A counted writer with room for `left` bytes that takes at most `size` bytes at each call but the one
+/// after `calls` calls, which fails.
+pub fn failing_room(alloc: Global, size: usize, left: usize, calls: u64) -> Counted<Failing<Room>> {
+    Counted::new(Failing::new(Room::new(alloc, size, left), calls))
 }
 
 impl Room {
+    fn new(alloc: Global, size: usize, left: usize) -> Room {
+        Room {
+            written: Vec::new(alloc),
+            size,
+            left,
+        }
+    }
+
     /// What it took.
     pub fn into_written(self) -> Vec<u8> {
         self.written
@@ -29,7 +42,7 @@ impl Room {
 
 impl Write for Room {
     fn write(&mut self, buf: &[u8]) -> io::Result<usize> {
-        let taken = buf.len().min(self.left);
+        let taken = buf.len().min(self.size).min(self.left);
         self.written.extend_from_slice(&buf[..taken])?;
         self.left -= taken;
         Ok(taken)
