@@ -1,10 +1,10 @@
 //! Counted streams: reads and writes that are short, fail, or are interrupted.
 
-use rr_base::Counted;
 use rr_base::stream::{
     MAX_INTERRUPTS, ReadFailed, ReadFault, WriteFailed, fill, flush, read_some, read_to_end,
     read_to_end_within, write_all,
 };
+use rr_base::{Counted, Failing};
 use rr_fakes::failing::failing_first;
 use rr_fakes::pieces::{failing_after, in_pieces};
 use std::alloc::Global;
@@ -34,11 +34,12 @@ fn failed_reads_are_counted(rt: HostRuntime) {
     assert_eq!(rt; counts, (2, 4, true));
 }
 
-// A write that takes no byte of some is a failure, and one of no bytes isn't.
+// A write that takes no byte of some is a failure, and one of no bytes isn't. After the one that is made to fail
+// the writer goes on.
 #[test]
 fn failed_writes_are_counted(rt: HostRuntime) {
     let mut room = [0u8; 3];
-    let mut output = failing_first(1, ErrorKind::BrokenPipe, room.as_mut_slice());
+    let mut output = Counted::new(Failing::new(room.as_mut_slice(), 0));
     let first = (taken(&mut output, b"ab"), taken(&mut output, b"abcd"));
     let counted = output.failures();
     let full = (taken(&mut output, b""), taken(&mut output, b"d"));
