@@ -1,4 +1,4 @@
-//! The words of the program's command line, read with `clap`.
+//! The words of the program's command line, as `clap` reads them by `rr_cli`.
 //!
 //! ```text
 //! none, sim [FILE]                                        Order::Sim
@@ -8,13 +8,12 @@
 //!
 //! [`read_words`] makes an [`Order`] of them, or a [`WordsFault`] with the text for whoever wrote
 //! them. In `specs/` what words ask for is a function of the words and of clap's rules for the
-//! program's command line (`specs/Program.antt`); [`laws`] says what it makes of written-out ones.
+//! program's command line (`Program.antt` of `rr_cli`); [`laws`] says what it makes of written-out ones.
 #![tactic(auto)]
 
 mod fault;
 pub mod laws;
 mod order;
-mod program;
 mod values;
 mod words;
 

@@ -6,10 +6,10 @@ ghost use Rattle.rr_words.specs.Words.{asked_at, asked_by, asked_of, lines_asked
 
 use crate::fault::WordsFault;
 use crate::order::Order;
-use crate::program::program;
 use crate::values::{moment_of, origin_of, owned, precision_of, value_of};
 use clap::error::ErrorKind;
 use clap::{ArgMatches, Command, Error};
+use rr_cli::program;
 use std::alloc::Global;
 
 const BAD_PRECISION: &str = "invalid value for '--precision <P>': it must be ns, us, ms or s";

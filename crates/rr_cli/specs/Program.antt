@@ -1,22 +1,18 @@
 -- The command line of the program, by the rules that clap has for it.
 use Rattle.std.specs.Prelude.{[], Some, true, codes}
-use Rattle.clap.specs.Words.{App, Rule, new_app, new_rule, with_rule, with_subcommand}
+use Rattle.clap.specs.Words.{App, Rule, Text, new_app, new_rule, with_rule, with_subcommand}
 
 -- sim [FILE]
 abbrev pub sim_app : App
 sim_app = with_rule (new_app (codes "sim")) (new_rule (codes "FILE"))
 
--- --precision P
-abbrev pub precision_rule : Rule
-precision_rule = record (new_rule (codes "precision")) { long = Some (codes "precision"); value_names = 1 }
-
--- --now T
-abbrev pub now_rule : Rule
-now_rule = record (new_rule (codes "now")) { long = Some (codes "now"); value_names = 1 }
+-- --NAME VALUE
+abbrev pub option_rule : Text → Rule
+option_rule name = record (new_rule name) { long = Some name; value_names = 1 }
 
 -- check-lines [--precision P] [--now T]
 abbrev pub check_lines_app : App
-check_lines_app = with_rule (with_rule (new_app (codes "check-lines")) precision_rule) now_rule
+check_lines_app = with_rule (with_rule (new_app (codes "check-lines")) (option_rule (codes "precision"))) (option_rule (codes "now"))
 
 -- CONFIG
 abbrev pub config_rule : Rule
@@ -24,15 +20,7 @@ config_rule = record (new_rule (codes "CONFIG")) { required = true }
 
 -- --origin N
 abbrev pub origin_rule : Rule
-origin_rule = record (new_rule (codes "origin")) { long = Some (codes "origin"); value_names = 1; required = true }
-
--- --load FILE
-abbrev pub load_rule : Rule
-load_rule = record (new_rule (codes "load")) { long = Some (codes "load"); value_names = 1 }
-
--- --save FILE
-abbrev pub save_rule : Rule
-save_rule = record (new_rule (codes "save")) { long = Some (codes "save"); value_names = 1 }
+origin_rule = record (option_rule (codes "origin")) { required = true }
 
 -- serve CONFIG --origin N
 abbrev pub bare_serve_app : App
@@ -40,7 +28,7 @@ bare_serve_app = with_rule (with_rule (new_app (codes "serve")) config_rule) ori
 
 -- serve CONFIG --origin N [--load FILE] [--save FILE]
 abbrev pub serve_app : App
-serve_app = with_rule (with_rule bare_serve_app load_rule) save_rule
+serve_app = with_rule (with_rule bare_serve_app (option_rule (codes "load"))) (option_rule (codes "save"))
 
 -- the words are those after the program's name
 abbrev pub bare_app : App

@@ -3,10 +3,21 @@
 ghost use Rattle.std.specs.Prelude.{◌≡◌, false, IfOk};
 ghost use Rattle.clap.specs.Words.{app_of, rule_of};
 ghost use Rattle.clap.specs.declared.builder.command.Command.TheViews.{out-Command as fields_of};
-ghost use Rattle.rr_words.specs.Program.{sim_app, precision_rule, now_rule, check_lines_app, config_rule, origin_rule, load_rule, save_rule, bare_serve_app, serve_app, bare_app, script_command_app, stream_commands_app, program_app};
+ghost use Rattle.rr_cli.specs.Program.{sim_app, option_rule, check_lines_app, config_rule, origin_rule, bare_serve_app, serve_app, bare_app, script_command_app, stream_commands_app, program_app};
 
 use clap::{Arg, Command};
 use std::alloc::{AllocError, Global};
+
+/// `--NAME VALUE`.
+fn option<'a>(alloc: Global, name: &'a str, value: &'a str, help: &'a str) -> Arg<'a>
+    ensures rule { rule_of result ≡ option_rule name.entry.now }
+    ensures local { result.global ≡ false }
+{
+    Arg::new(alloc, name)
+        .long(name)
+        .value_name(value)
+        .help(help)
+}
 
 /// `sim [FILE]`.
 fn sim<'a>(alloc: Global) -> Result<Command<'a>, AllocError>
@@ -19,27 +30,6 @@ fn sim<'a>(alloc: Global) -> Result<Command<'a>, AllocError>
         .arg(file)
 }
 
-/// `--precision P`.
-fn precision_arg<'a>(alloc: Global) -> Arg<'a>
-    ensures rule { rule_of result ≡ precision_rule }
-    ensures local { result.global ≡ false }
-{
-    Arg::new(alloc, "precision")
-        .long("precision")
-        .value_name("P")
-        .help("The unit of times: ns, us, ms or s [default: ns]")
-}
-
-/// `--now T`.
-fn now_arg<'a>(alloc: Global) -> Arg<'a>
-    ensures rule { rule_of result ≡ now_rule }
-    ensures local { result.global ≡ false }
-{
-    Arg::new(alloc, "now").long("now").value_name("T").help(
-        "The time of lines without one, in nanoseconds; below zero as --now=T [default: 0]",
-    )
-}
-
 /// `check-lines [--precision P] [--now T]`.
 fn check_lines<'a>(alloc: Global) -> Result<Command<'a>, AllocError>
     ensures app { IfOk result (λ c. app_of c ≡ check_lines_app) }
@@ -47,8 +37,18 @@ fn check_lines<'a>(alloc: Global) -> Result<Command<'a>, AllocError>
 {
     Command::new(alloc, "check-lines")
         .about("Checks lines on standard input and prints their samples")
-        .arg(precision_arg(alloc))?
-        .arg(now_arg(alloc))
+        .arg(option(
+            alloc,
+            "precision",
+            "P",
+            "The unit of times: ns, us, ms or s [default: ns]",
+        ))?
+        .arg(option(
+            alloc,
+            "now",
+            "T",
+            "The time of lines without one, in nanoseconds; below zero as --now=T [default: 0]",
+        ))
 }
 
 /// `CONFIG`.
@@ -66,32 +66,13 @@ fn origin_arg<'a>(alloc: Global) -> Arg<'a>
     ensures rule { rule_of result ≡ origin_rule }
     ensures local { result.global ≡ false }
 {
-    Arg::new(alloc, "origin")
-        .long("origin")
-        .value_name("N")
-        .required(true)
-        .help("The origin of this node's samples, 1 to 65535: another one at each start")
-}
-
-/// `--load FILE`.
-fn load_arg<'a>(alloc: Global) -> Arg<'a>
-    ensures rule { rule_of result ≡ load_rule }
-    ensures local { result.global ≡ false }
-{
-    Arg::new(alloc, "load")
-        .long("load")
-        .value_name("FILE")
-        .help("A snapshot to begin with")
-}
-
-/// `--save FILE`.
-fn save_arg<'a>(alloc: Global) -> Arg<'a>
-    ensures rule { rule_of result ≡ save_rule }
-    ensures local { result.global ≡ false }
-{
-    Arg::new(alloc, "save").long("save").value_name("FILE").help(
-        "The file that a snapshot is saved to after each line connection",
+    option(
+        alloc,
+        "origin",
+        "N",
+        "The origin of this node's samples, 1 to 65535: another one at each start",
     )
+    .required(true)
 }
 
 /// `serve CONFIG --origin N`.
@@ -111,8 +92,13 @@ fn serve<'a>(alloc: Global) -> Result<Command<'a>, AllocError>
     ensures local { IfOk result (λ c. (fields_of c).has_globals ≡ false) }
 {
     bare_serve(alloc)?
-        .arg(load_arg(alloc))?
-        .arg(save_arg(alloc))
+        .arg(option(alloc, "load", "FILE", "A snapshot to begin with"))?
+        .arg(option(
+            alloc,
+            "save",
+            "FILE",
+            "The file that a snapshot is saved to after each line connection",
+        ))
 }
 
 /// The program without subcommands; its words are those after its name.
@@ -140,8 +126,8 @@ fn stream_commands<'a>(alloc: Global) -> Result<Command<'a>, AllocError>
     script_command(alloc)?.subcommand(check_lines(alloc)?)
 }
 
-/// The program and its subcommands.
-pub(crate) fn program<'a>(alloc: Global) -> Result<Command<'a>, AllocError>
+/// The program and its subcommands, by the names of arguments that the module docs list. `Err` where memory ran out.
+pub fn program<'a>(alloc: Global) -> Result<Command<'a>, AllocError>
     ensures { IfOk result (λ c. app_of c ≡ program_app) }
 {
     stream_commands(alloc)?.subcommand(serve(alloc)?)
