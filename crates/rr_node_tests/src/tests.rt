@@ -1,3 +1,4 @@
+mod desk;
 mod faults;
 mod fetches;
 mod loopback;

@@ -1,3 +1,5 @@
+//! Desks: a keeper and its readers, on one thread and on several.
+
 ghost use Rattle.std.specs.Prelude.{◌≡◌};
 
 mod opening;
