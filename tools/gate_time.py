@@ -5,12 +5,18 @@ Takes the commit that is checked out, in a fresh clone, and prints a table, the 
 the gate's last line; what the gate printed goes to the file that is named, if one is. Nothing that an
 earlier gate proved on this machine is taken. Times are read from /proc twice a second, so up to half a
 second of each command is missed.
+
+Processor time is no fixed measure: a processor is slower while its neighbours work, which on a virtual machine
+may be those of others. So a fixed piece of work is timed now and then, and its shortest, median and longest
+times are printed beside the table.
 """
 
 import argparse
 import collections
+import itertools
 import os
 import pathlib
+import statistics
 import subprocess
 import sys
 import tempfile
@@ -21,6 +27,21 @@ from crates import TOP, listed
 PARTS = ("proof", "tests", "edits")
 
 TICKS = os.sysconf("SC_CLK_TCK")
+
+# Seconds between two readings of the times.
+INTERVAL = 0.5
+
+# Readings between two timings of the fixed piece of work.
+BETWEEN = 60
+
+
+def fixed_work():
+    """Seconds of processor time that a fixed piece of work takes now."""
+    began = time.process_time()
+    last = {}
+    for number in range(2_000_000):
+        last[number * number & 0xFFFF] = number
+    return time.process_time() - began
 
 
 def part_of(process):
@@ -90,11 +111,18 @@ def main():
                 ["rt", "ci", "--anew"], cwd=clone, stdout=output, stderr=subprocess.STDOUT, start_new_session=True
             )
             times = Times(gate.pid)
-            while gate.poll() is None:
+            works = [fixed_work()]
+            for reading in itertools.count(1):
+                if gate.poll() is not None:
+                    break
                 times.read()
-                time.sleep(0.5)
+                if reading % BETWEEN == 0:
+                    works.append(fixed_work())
+                time.sleep(INTERVAL)
         print_table(listed(clone), times.seconds())
-        print(f"\n{(time.monotonic() - began) / 60:.0f} minutes; {said.read_text().splitlines()[-1]}")
+        taken = ", ".join(f"{it:.2f}" for it in (min(works), statistics.median(works), max(works)))
+        print(f"\na fixed piece of work took {taken} seconds (least, median, most)")
+        print(f"{(time.monotonic() - began) / 60:.0f} minutes; {said.read_text().splitlines()[-1]}")
     return gate.returncode
 
 
