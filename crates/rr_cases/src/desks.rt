@@ -1,11 +1,9 @@
 //! Calls of a desk of origin 2 with three rows of a minute and one reader, over streams in memory. A
 //! line `---` stands between two calls.
 //!
-//! The first line of a call has its words, and what follows is its input. Of a line `*N TEXT` of it there
-//! are N, and a line `+N TEXT` is one that has the text N times. The words after the first limit the
-//! streams and set the clock: `size=N`, how many bytes a read gives and a write takes; `read-fails=N` and
-//! `write-fails=N`, how many reads or writes there are before one fails; `reads=N`, how many reads there
-//! may be; `room=N`, how many bytes can be written; `lead=N` and `now=T,T,..`.
+//! The first line of a call has its words, and what follows is its input, in which lines and texts may be
+//! several times ([`crate::repeats`]). The words after the first limit the streams and set the clock
+//! ([`crate::settings`]).
 //!
 //! | Call | Answer |
 //! |---|---|
@@ -21,6 +19,7 @@
 
 use crate::cells::as_ref;
 use crate::documents::texts;
+use crate::repeats::expanded;
 use crate::replicas::push_cell;
 use crate::settings::{Settings, written};
 use anyhow::{Context, Result, bail};
@@ -104,36 +103,6 @@ fn first_line(text: &[u8]) -> Result<(&str, &[u8])> {
     let line = text.get(..end).context("no line")?;
     let rest = text.get(end..).context("nothing after it")?;
     Ok((str::from_utf8(line)?, rest.get(1..).unwrap_or(b"")))
-}
-
-/// The input of a call, with the lines and texts that are in it several times.
-pub(crate) fn expanded(alloc: Global, input: &[u8]) -> Result<Vec<u8>> {
-    let mut bytes = Vec::new(alloc);
-    for line in input.split_inclusive(|byte| *byte == b'\n') {
-        match line.first() {
-            Some(b'*') => push_times(&mut bytes, line, line.len())?,
-            Some(b'+') => {
-                push_times(&mut bytes, line, line.len().saturating_sub(1))?;
-                bytes.push(b'\n')?;
-            }
-            _ => bytes.extend_from_slice(line)?,
-        }
-    }
-    Ok(bytes)
-}
-
-/// Adds the text between a line's count and a place in it, as often as the count says.
-fn push_times(bytes: &mut Vec<u8>, line: &[u8], end: usize) -> Result<()> {
-    let space = line
-        .iter()
-        .position(|byte| *byte == b' ')
-        .context("a count without a text")?;
-    let count = line.get(1..space).context("no count")?;
-    let text = line.get(space.saturating_add(1)..end).context("no text")?;
-    for _ in 0..str::from_utf8(count)?.parse::<u32>()? {
-        bytes.extend_from_slice(text)?;
-    }
-    Ok(())
 }
 
 /// The name of a fault as a text.

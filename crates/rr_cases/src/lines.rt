@@ -1,8 +1,8 @@
 //! Lines of the line protocol. A first line `# check-lines ..` has the words of the command line; what
-//! follows a `;` in it limits the streams, by the words of a desk's call ([`crate::desks`]), and then
-//! lines and texts may be in it several times as they are there.
+//! follows a `;` in it limits the streams ([`crate::settings`]), and then lines and texts may be in it
+//! several times ([`crate::repeats`]).
 
-use crate::desks::expanded;
+use crate::repeats::expanded;
 use crate::settings::{Settings, written};
 use anyhow::{Result, bail};
 use rr_line::Precision;

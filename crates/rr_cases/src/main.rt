@@ -20,10 +20,12 @@ mod keys;
 mod kind;
 mod lines;
 mod pages;
+mod repeats;
 mod replicas;
 mod sessions;
 mod settings;
 mod stored;
+mod words;
 
 use anyhow::Result;
 use std::process::ExitCode;

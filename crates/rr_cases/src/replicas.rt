@@ -22,6 +22,7 @@ ghost use Rattle.rr_cells.specs.Listing.{owned_cell};
 
 use crate::sessions::{Session, push_session};
 use crate::stored::{loaded, push_saved};
+use crate::words::Words;
 use anyhow::{Context, Result, bail};
 use rr_archive::Archive;
 use rr_base::{ArchiveSpec, Origin, Schema};
@@ -104,8 +105,8 @@ impl<A: Archive> Calls<A> {
 
     /// Makes a call other than `copy`.
     fn push_call(&mut self, line: &str) -> Result<()> {
-        let (call, words) = first_word(line);
-        match call {
+        let mut words = Words::of(line);
+        match words.next() {
             "put" => self.put(words),
             "write" => self.write_line(words),
             "join" => self.join(words),
@@ -123,9 +124,8 @@ impl<A: Archive> Calls<A> {
         }
     }
 
-    fn put(&mut self, words: &str) -> Result<()> {
-        let (time, value) = first_word(words);
-        let (time, value) = (time.parse::<i64>()?, value.parse::<i64>()?);
+    fn put(&mut self, mut words: Words<'_>) -> Result<()> {
+        let (time, value) = (words.number()?, words.number()?);
         let key = SeriesKey::parse_text(self.alloc, b"m v")?;
         match self.replica.put(&key, time, value) {
             Ok(number) => Ok(write!(self.output, "{number}\n")?),
@@ -133,15 +133,10 @@ impl<A: Archive> Calls<A> {
         }
     }
 
-    fn write_line(&mut self, words: &str) -> Result<()> {
-        let (now, words) = first_word(words);
-        let (lead, line) = first_word(words);
-        let lead = match lead {
-            "-" => None,
-            number => Some(number.parse::<u64>()?),
-        };
-        let now = now.parse::<i64>()?;
-        match self.write_point(line.as_bytes(), now, lead)? {
+    fn write_line(&mut self, mut words: Words<'_>) -> Result<()> {
+        let now = words.number()?;
+        let lead = words.limit()?;
+        match self.write_point(words.rest().as_bytes(), now, lead)? {
             Ok(fields) => Ok(write!(self.output, "{fields}\n")?),
             Err(fault) => Ok(write!(self.output, "{}\n", fault.name())?),
         }
@@ -163,51 +158,36 @@ impl<A: Archive> Calls<A> {
         }
     }
 
-    fn join(&mut self, words: &str) -> Result<()> {
-        let (origin, words) = first_word(words);
-        let (number, words) = first_word(words);
-        let (slot, value) = first_word(words);
-        let number = number.parse::<u64>()?.clamp(1, MAX_NUMBER);
-        let slot = slot.parse::<i64>()?.clamp(-9, 9);
-        let sample = Contribution::first(number, 0, slot * MINUTE, value.parse()?);
-        let cell = cell_of(
-            self.alloc,
-            self.replica.schema(),
-            origin.parse()?,
-            slot,
-            sample,
-        )?;
+    fn join(&mut self, mut words: Words<'_>) -> Result<()> {
+        let origin = words.origin()?;
+        let number = words.number::<u64>()?.clamp(1, MAX_NUMBER);
+        let slot = words.number::<i64>()?.clamp(-9, 9);
+        let sample = Contribution::first(number, 0, slot * MINUTE, words.number()?);
+        let cell = cell_of(self.alloc, self.replica.schema(), origin, slot, sample)?;
         self.replica.join_cell(&cell)?;
         Ok(self.output.push_str("joined\n")?)
     }
 
-    fn apply_sample(&mut self, words: &str) -> Result<()> {
-        let (origin, words) = first_word(words);
-        let (number, words) = first_word(words);
-        let (time, value) = first_word(words);
+    fn apply_sample(&mut self, mut words: Words<'_>) -> Result<()> {
         let sample = Sample {
-            origin: Origin::new(origin.parse()?)?,
-            number: number.parse()?,
+            origin: words.origin()?,
+            number: words.number()?,
             key: SeriesKey::parse_text(self.alloc, b"m v")?,
-            time: time.parse()?,
-            value: value.parse()?,
+            time: words.number()?,
+            value: words.number()?,
         };
         self.push_taken(&Op::Put(sample))
     }
 
-    fn apply_cell(&mut self, words: &str) -> Result<()> {
-        let (archive, words) = first_word(words);
-        let (origin, words) = first_word(words);
-        let (number, words) = first_word(words);
-        let (slot, words) = first_word(words);
-        let (time, value) = first_word(words);
-        let number = number.parse::<u64>()?.clamp(1, MAX_NUMBER);
+    fn apply_cell(&mut self, mut words: Words<'_>) -> Result<()> {
+        let (archive, origin) = (words.number()?, words.origin()?);
+        let number = words.number::<u64>()?.clamp(1, MAX_NUMBER);
         let cell = Cell {
             key: SeriesKey::parse_text(self.alloc, b"m v")?,
-            archive: archive.parse()?,
-            slot: slot.parse()?,
-            origin: Origin::new(origin.parse()?)?,
-            contribution: Contribution::first(number, 0, time.parse()?, value.parse()?),
+            archive,
+            slot: words.number()?,
+            origin,
+            contribution: Contribution::first(number, 0, words.number()?, words.number()?),
         };
         self.push_taken(&Op::Join(cell))
     }
@@ -223,7 +203,7 @@ impl<A: Archive> Calls<A> {
         )
     }
 
-    fn load(&mut self, words: &str) -> Result<()> {
+    fn load(&mut self, words: Words<'_>) -> Result<()> {
         let schema = self.replica.schema();
         if let Some(replica) = loaded(self.alloc, schema, words, &mut self.output)? {
             self.replica = replica;
@@ -231,7 +211,7 @@ impl<A: Archive> Calls<A> {
         Ok(())
     }
 
-    fn hold(&mut self, session: Session, words: &str) -> Result<()> {
+    fn hold(&mut self, session: Session, words: Words<'_>) -> Result<()> {
         push_session(
             self.alloc,
             session,
@@ -242,13 +222,10 @@ impl<A: Archive> Calls<A> {
     }
 
     /// Adds the first cell after a name.
-    fn push_after(&mut self, words: &str) -> Result<()> {
-        let (archive, words) = first_word(words);
-        let (slot, words) = first_word(words);
-        let (origin, key) = first_word(words);
-        let (archive, slot) = (archive.parse::<u8>()?, slot.parse::<i64>()?);
-        let origin = Origin::new(origin.parse()?)?;
-        let key = SeriesKey::parse_text(self.alloc, key.as_bytes())?;
+    fn push_after(&mut self, mut words: Words<'_>) -> Result<()> {
+        let (archive, slot) = (words.number()?, words.number()?);
+        let origin = words.origin()?;
+        let key = SeriesKey::parse_text(self.alloc, words.rest().as_bytes())?;
         match self.replica.next_cell(&key, archive, slot, origin) {
             Some(cell) => Ok(push_cell(&mut self.output, cell)?),
             None => Ok(self.output.push_str("none\n")?),
@@ -266,16 +243,11 @@ impl<A: Archive> Calls<A> {
     }
 }
 
-/// The first word, and the words after it.
-fn first_word(words: &str) -> (&str, &str) {
-    words.split_once(' ').unwrap_or((words, ""))
-}
-
 /// The cell of a contribution, as it is read from its bytes.
 fn cell_of(
     alloc: Global,
     schema: &Schema,
-    origin: u16,
+    origin: Origin,
     slot: i64,
     contribution: Contribution,
 ) -> Result<Cell>
@@ -286,7 +258,7 @@ fn cell_of(
         key: &key,
         archive: 0,
         slot,
-        origin: Origin::new(origin)?,
+        origin,
         contribution,
     };
     let bytes = cell_bytes(alloc, cell)?;

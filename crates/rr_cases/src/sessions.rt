@@ -4,6 +4,7 @@
 //! many frames the session may have, each `-` where it is without a limit, and the input in
 //! hexadecimal.
 
+use crate::words::Words;
 use anyhow::{Context, Result};
 use rr_archive::Archive;
 use rr_base::{Counted, Failing};
@@ -12,23 +13,23 @@ use rr_gossip::{GossipFault, give, give_after, give_after_within, give_within, p
 use rr_replica::Replica;
 use std::alloc::{AllocError, Global};
 
-/// The words of a call.
+/// The input of a session, and its limits.
 #[derive(Drop)]
-struct Words {
-    size: Option<u16>,
-    reads: Option<u16>,
+struct Setting {
+    size: usize,
+    reads: u64,
+    /// Any number of 16 bits is one that a session may have.
     frames: Option<u16>,
     bytes: Vec<u8>,
 }
 
-impl Words {
-    fn of(alloc: Global, words: &str) -> Result<Words> {
-        let mut words = words.split(' ');
-        Ok(Words {
-            size: limit(words.next())?,
-            reads: limit(words.next())?,
-            frames: limit(words.next())?,
-            bytes: hex::decode(alloc, words.next().context("a call without bytes")?)?,
+impl Setting {
+    fn of(alloc: Global, mut words: Words<'_>) -> Result<Setting> {
+        Ok(Setting {
+            size: words.limit()?.unwrap_or(usize::MAX),
+            reads: words.limit()?.unwrap_or(u64::MAX),
+            frames: words.limit()?,
+            bytes: hex::decode(alloc, words.next())?,
         })
     }
 
@@ -36,17 +37,9 @@ impl Words {
     fn input(&self, from: usize) -> Result<Counted<Failing<Pieces<'_>>>> {
         Ok(failing_after(
             self.bytes.get(from..).context("no first byte")?,
-            self.size.map_or(usize::MAX, usize::from),
-            self.reads.map_or(u64::MAX, u64::from),
+            self.size,
+            self.reads,
         ))
-    }
-}
-
-/// A limit, or that there is none.
-pub(crate) fn limit(word: Option<&str>) -> Result<Option<u16>> {
-    match word.context("a call without a limit")? {
-        "-" => Ok(None),
-        number => Ok(Some(number.parse::<u16>()?)),
     }
 }
 
@@ -66,25 +59,25 @@ pub(crate) fn push_session<A: Archive>(
     alloc: Global,
     session: Session,
     replica: &mut Replica<A>,
-    words: &str,
+    words: Words<'_>,
     answer: &mut String,
 ) -> Result<()> {
-    let words = Words::of(alloc, words)?;
-    let frames = words.frames.map(u32::from);
+    let setting = Setting::of(alloc, words)?;
+    let frames = setting.frames.map(u32::from);
     let mut output = Counted::new(Vec::new(alloc));
     let apart = usize::from(session == Session::GiveAfter);
-    let mut input = words.input(apart)?;
+    let mut input = setting.input(apart)?;
     let ended = match (session, frames) {
         (Session::Pull, None) => pull(alloc, &mut input, &mut output, replica),
         (Session::Pull, Some(most)) => pull_within(alloc, &mut input, &mut output, replica, most),
         (Session::Give, None) => give(alloc, &mut input, &mut output, replica),
         (Session::Give, Some(most)) => give_within(alloc, &mut input, &mut output, replica, most),
         (Session::GiveAfter, None) => {
-            let first = *words.bytes.first().context("no first byte")?;
+            let first = *setting.bytes.first().context("no first byte")?;
             give_after(alloc, first, &mut input, &mut output, replica)
         }
         (Session::GiveAfter, Some(most)) => {
-            let first = *words.bytes.first().context("no first byte")?;
+            let first = *setting.bytes.first().context("no first byte")?;
             give_after_within(alloc, first, &mut input, &mut output, replica, most)
         }
     };

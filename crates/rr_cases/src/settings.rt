@@ -1,4 +1,13 @@
-//! What the words of a desk's call set.
+//! What the words of a call set, each `NAME=VALUE`.
+//!
+//! | Name | Value |
+//! |---|---|
+//! | `size` | how many bytes a read gives and a write takes |
+//! | `read-fails`, `write-fails` | how many reads or writes there are before one fails |
+//! | `reads` | how many reads there may be |
+//! | `room` | how many bytes can be written |
+//! | `lead` | how far ahead of the clock a point may be, in nanoseconds |
+//! | `now` | what the clock gives, one after the other, with a comma between two |
 
 use anyhow::{Context, Result, bail};
 use rr_base::{Counted, Failing};
@@ -26,7 +35,7 @@ pub(crate) struct Settings {
 }
 
 impl Settings {
-    /// The settings of some words, each `NAME=VALUE`; what they don't set is without a limit.
+    /// The settings of some words; what they don't set is without a limit.
     pub(crate) fn of(alloc: Global, words: &str) -> Result<Settings> {
         let mut settings = Settings {
             size: usize::MAX,
@@ -63,6 +72,7 @@ impl Settings {
         }
         Ok(())
     }
+
     /// A reader of an input, within these limits.
     pub(crate) fn source<'a>(&self, input: &'a [u8]) -> Counted<Failing<Pieces<'a>>> {
         failing_after(input, self.size, self.read_fails)

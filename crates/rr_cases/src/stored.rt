@@ -1,7 +1,7 @@
 //! Snapshots of a replica, as calls of it ([`crate::replicas`]).
 
-use crate::sessions::limit;
-use anyhow::{Context, Result};
+use crate::words::Words;
+use anyhow::Result;
 use rr_archive::Archive;
 use rr_base::{Counted, Failing, Origin, Schema};
 use rr_fakes::pieces::{Pieces, failing_after};
@@ -15,12 +15,11 @@ use std::alloc::Global;
 pub(crate) fn push_saved<A: Archive>(
     alloc: Global,
     replica: &Replica<A>,
-    words: &str,
+    mut words: Words<'_>,
     answer: &mut String,
 ) -> Result<()> {
-    let mut words = words.split(' ');
-    let size = limit(words.next())?.map_or(usize::MAX, usize::from);
-    let writes = limit(words.next())?.map_or(u64::MAX, u64::from);
+    let size = words.limit()?.unwrap_or(usize::MAX);
+    let writes = words.limit()?.unwrap_or(u64::MAX);
     let mut output = failing_room(alloc, size, usize::MAX, writes);
     let saved = save(alloc, replica, &mut output);
     let bytes = hex::encode(alloc, &output.into_inner().into_inner().into_written())?;
@@ -37,14 +36,13 @@ pub(crate) fn push_saved<A: Archive>(
 pub(crate) fn loaded<A: Archive>(
     alloc: Global,
     schema: &Schema,
-    words: &str,
+    mut words: Words<'_>,
     answer: &mut String,
 ) -> Result<Option<Replica<A>>> {
-    let mut words = words.split(' ');
-    let origin = Origin::new(words.next().context("a load without an origin")?.parse()?)?;
-    let size = limit(words.next())?.map_or(usize::MAX, usize::from);
-    let reads = limit(words.next())?.map_or(u64::MAX, u64::from);
-    let bytes = hex::decode(alloc, words.next().context("a load without bytes")?)?;
+    let origin = words.origin()?;
+    let size = words.limit()?.unwrap_or(usize::MAX);
+    let reads = words.limit()?.unwrap_or(u64::MAX);
+    let bytes = hex::decode(alloc, words.next())?;
     let mut input = failing_after(&bytes, size, reads);
     loaded_from(alloc, schema, origin, &mut input, answer)
 }
