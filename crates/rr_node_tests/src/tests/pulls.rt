@@ -1,16 +1,14 @@
 //! A keeper that pulls from a peer.
 ghost use Rattle.std.specs.Prelude.{◌≡◌};
 
+use super::desk::{SEVEN, answers, saved};
 use super::rounds::{REPLY, SENT};
 use rr_archive::PlainArchive;
-use rr_base::{Counted, Origin};
+use rr_base::Counted;
 use rr_desk::{Keeper, Reader, open};
 use rr_fakes::replicas::minutes;
-use rr_fetch::parse_request;
 use rr_gossip::GossipFault;
 use rr_node::pull_peer;
-use rr_replica::Replica;
-use rr_snapshot::load;
 use std::alloc::Global;
 use std::sync::Wait;
 use std::test::Fail;
@@ -36,17 +34,6 @@ fn names_of(alloc: Global, keeper: &Keeper<PlainArchive>) -> Option<usize> {
     Some(keeper.names(alloc, 0, 256).ok()?.len())
 }
 
-/// Whether a reader answers the averages of three minutes by this text.
-fn answers(alloc: Global, reader: &mut Reader<PlainArchive>, text: &[u8]) -> bool {
-    let Ok(request) = parse_request(alloc, b"AVERAGE 60 0 180 m v", reader.schema()) else {
-        return false;
-    };
-    match reader.fetch(alloc, &request) {
-        Ok(answer) => answer.as_slice() == text,
-        Err(_) => false,
-    }
-}
-
 /// How many cells a reader gives to one that has none, and how many of them are the sample's.
 fn given(alloc: Global, reader: &mut Reader<PlainArchive>) -> Option<(usize, usize)> {
     let cells = reader.difference(alloc, &[]).ok()?;
@@ -55,17 +42,6 @@ fn given(alloc: Global, reader: &mut Reader<PlainArchive>) -> Option<(usize, usi
         .filter(|cell| cell.origin.get() == 1 && cell.contribution.last_value == 7)
         .count();
     Some((cells.len(), count))
-}
-
-/// The cells that a keeper saves, loaded under another origin.
-fn saved(alloc: Global, keeper: &Keeper<PlainArchive>) -> Option<usize> {
-    let mut output = Counted::new(Vec::new(alloc));
-    keeper.save(alloc, &mut output).ok()?;
-    let bytes = output.into_inner();
-    let mut input = Counted::new(bytes.as_slice());
-    let origin = Origin::new(9).ok()?;
-    let loaded: Replica<PlainArchive> = load(alloc, &mut input, keeper.schema(), origin).ok()?;
-    Some(loaded.cell_count())
 }
 
 #[test]
@@ -77,11 +53,7 @@ fn a_pull_is_published(rt: HostRuntime) -> Result<(), Fail> {
     let none = names_of(rt.alloc(), &keeper);
     let pull = pulled(&rt, rt.alloc(), &mut keeper, &REPLY);
     let learned = readers[0].learn(keeper.tell()).is_ok();
-    let is_seen = answers(
-        rt.alloc(),
-        &mut readers[0],
-        b"m v,0,U\nm v,60,7\nm v,120,U\n",
-    );
+    let is_seen = answers(rt.alloc(), &mut readers[0], SEVEN);
     let cells = given(rt.alloc(), &mut readers[0]);
     let saved = saved(rt.alloc(), &keeper);
     keeper.close(&rt);

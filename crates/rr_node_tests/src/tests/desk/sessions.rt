@@ -1,14 +1,11 @@
 //! A keeper and a reader as the sides of a session, and snapshots of a keeper.
 
-use super::{SEVEN, answers};
+use super::{SEVEN, answers, saved};
 use rr_archive::PlainArchive;
-use rr_base::{Counted, Origin};
 use rr_cells::Cell;
 use rr_delta::{Source, Target};
 use rr_desk::{Keeper, open};
 use rr_fakes::replicas::{minutes, one_sample};
-use rr_replica::Replica;
-use rr_snapshot::load;
 use std::alloc::Global;
 use std::sync::Wait;
 use std::test::Fail;
@@ -36,17 +33,6 @@ fn names_of(alloc: Global, keeper: &Keeper<PlainArchive>) -> Option<(usize, usiz
     let names = keeper.names(alloc, 0, 256).ok()?;
     let after = keeper.names_after(alloc, names.first(), 256).ok()?;
     Some((names.len(), after.len()))
-}
-
-/// How many cells there are of what a keeper saves, once it is loaded under another origin.
-fn saved(alloc: Global, keeper: &Keeper<PlainArchive>) -> Option<usize> {
-    let mut output = Counted::new(Vec::new(alloc));
-    keeper.save(alloc, &mut output).ok()?;
-    let bytes = output.into_inner();
-    let mut input = Counted::new(bytes.as_slice());
-    let origin = Origin::new(9).ok()?;
-    let loaded: Replica<PlainArchive> = load(alloc, &mut input, keeper.schema(), origin).ok()?;
-    Some(loaded.cell_count())
 }
 
 /// The cells that a reader gives, of a desk with one sample, where the other side has none.
