@@ -15,3 +15,4 @@ pub mod Differing
 pub mod CellByCell
 pub mod Parting
 pub mod OperationsLemmas
+pub mod JoiningLemmas

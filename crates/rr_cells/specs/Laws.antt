@@ -7,6 +7,9 @@ use Rattle.rr_contrib.specs.declared.contribution.Contribution.{Contribution}
 use Rattle.rr_archive.specs.Cells.{put_row, join_rows}
 use Rattle.rr_model.specs.CellNames.{CellName, cell_name_cmp, is_slot_live}
 use Rattle.rr_model.specs.Samples.{Sample, Mark, name_of}
+use Rattle.rr_cells.specs.declared.cell.Cell.{Cell}
+use Rattle.rr_cells.specs.Holding.{Holding}
+use Rattle.rr_cells.specs.Joining.{with_cells}
 use Rattle.rr_cells.specs.Cells.{Cells, IsTrimmed, cell_slot_of, rows_at}
 use Rattle.rr_model.specs.Knowledge.{Knowledge, union, live, cells_where, part, difference}
 use Rattle.rr_model.specs.World.{World, IsClosed}
@@ -113,3 +116,9 @@ abbrev pub DifferenceIsByVersions : Type 0
 DifferenceIsByVersions =
     (s : Layout) (w : World) (k l : Knowledge) → IsLayout s → IsClosed s w k → IsClosed s w l
     → newer_names (state s k) (state s l) ≡ difference s k l
+
+-- ---- joins that were broken off
+
+-- to join the first cells and then the rest is to join them all
+abbrev pub JoiningGoesOn : Type 0
+JoiningGoesOn = (h : Holding) (cells : List Cell) (n : ℕ) → with_cells (with_cells h (take n cells)) (drop n cells) ≡ with_cells h cells

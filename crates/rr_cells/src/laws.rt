@@ -1,6 +1,6 @@
 //! The laws of puts, joins and differences, with no work to do: each function has an empty body.
 ghost use Rattle.rr_cells.specs.State.{PutIsOneSampleMore};
-ghost use Rattle.rr_cells.specs.Laws.{PutGoesByArchives, PutLeavesOtherKeys, PutIsTrimmed, DeadLeaveNoTrace, CellsAreFew, JoinIsCommutative, JoinIsAssociative, JoinIsIdempotent, JoinIsTrimmed, JoinGoesByArchives, JoinUnites, JoinGoesByCells, JoinCellUnites, PartsAreCutFromEntries, WholeCellsMakeTheirCells, LiveMakesTheSame, StateIsOfTheLive, DifferenceIsByVersions};
+ghost use Rattle.rr_cells.specs.Laws.{PutGoesByArchives, PutLeavesOtherKeys, PutIsTrimmed, DeadLeaveNoTrace, CellsAreFew, JoinIsCommutative, JoinIsAssociative, JoinIsIdempotent, JoinIsTrimmed, JoinGoesByArchives, JoinUnites, JoinGoesByCells, JoinCellUnites, PartsAreCutFromEntries, WholeCellsMakeTheirCells, LiveMakesTheSame, StateIsOfTheLive, DifferenceIsByVersions, JoiningGoesOn};
 
 /// To put a sample is to put it into each archive of its key alone; where it is past the horizon it
 /// leaves no trace.
@@ -47,6 +47,11 @@ pub fn whole_cells_make_their_cells()
     ensures cut { PartsAreCutFromEntries }
     ensures live { LiveMakesTheSame }
     ensures live_alone { StateIsOfTheLive }
+{}
+
+/// To join some cells, and then the rest of them where memory ran out, is to join them all.
+pub fn joining_goes_on()
+    ensures { JoiningGoesOn }
 {}
 
 /// What one closed knowledge has and another lacks is read from the versions of their cells.

@@ -1,17 +1,21 @@
 -- Fields put one after the other.
-use Rattle.std.proofs.Common.{◌≡◌, ℕ, zero, suc, ◌<◌, ℤ, true, false, Result, Ok, Err, List, [], ◌∷◌, ◌++◌, length, map, take, get_or, refl, ap, arith}
+use Rattle.std.proofs.Common.{◌≡◌, ℕ, zero, suc, ◌<◌, ℤ, true, false, Result, Ok, Err, List, [], ◌∷◌, ◌++◌, length, map, take, drop, get_or, refl, sym, ap, ◌∙◌, arith}
+use Rattle.std.proofs.lemmas.List.{take-append-drop}
 use Rattle.std.specs.Prelude.{OnOk, OnErr}
 use Rattle.std.specs.Result.{is_err}
 use Rattle.std.specs.List.{AllByRecursion}
 use Rattle.rr_point.specs.Key.{key_text}
 use Rattle.rr_point.specs.Point.{PointView}
 use Rattle.rr_cells.specs.Holding.{Holding, with_put}
-use Rattle.rr_replica.specs.Writing.{with_fields}
+use Rattle.rr_replica.specs.Writing.{with_fields, WritingGoesOn}
 
--- one field more is one put more
-pub with_fields-more : (h : Holding) (p : PointView) (time : ℤ) (fields : List (List ℕ × ℤ)) (field : List ℕ × ℤ) → with_fields h p time (fields ++ field ∷ []) ≡ with_put (with_fields h p time fields) (key_text p field.0) time field.1
-with_fields-more h p time [] field = refl
-with_fields-more h p time (other ∷ fields) field = with_fields-more (with_put h (key_text p other.0) time other.1) p time fields field
+-- fields and then others
+pub with_fields-append : (h : Holding) (p : PointView) (time : ℤ) (fields others : List (List ℕ × ℤ)) → with_fields h p time (fields ++ others) ≡ with_fields (with_fields h p time fields) p time others
+with_fields-append h p time [] others = refl
+with_fields-append h p time (field ∷ fields) others = with_fields-append (with_put h (key_text p field.0) time field.1) p time fields others
+
+pub writing_goes_on : WritingGoesOn
+writing_goes_on h p time fields n = sym (with_fields-append h p time (take n fields) (drop n fields)) ∙ ap (with_fields h p time) (take-append-drop n fields)
 
 -- what holds of each field of a point holds of the one at a place
 pub field_at : {A B : Type 0} (P : B → Type 0) (view : A → B) (xs : List A) (i : ℕ) (d : A) → AllByRecursion P (map view xs) → i < length xs → P (view (get_or xs i d))

@@ -1,5 +1,5 @@
 -- A cell joined into the archives of its key is joined into the map of all cells.
-use Rattle.std.proofs.Common.{◌≡◌, ◌≢◌, ℕ, ◌+◌, ◌<◌, ◌≤◌, Bool, true, false, cond, ◌&&◌, List, [], ◌∷◌, ◌++◌, length, slice_get, refl, sym, ap, ◌∙◌, subst, arith, true≢false, Option, Some, None, is_some, unwrap_or, ⊎_elim, ◌⊎◌, inl, inr}
+use Rattle.std.proofs.Common.{◌≡◌, ◌≢◌, ℕ, ◌+◌, ◌<◌, ◌≤◌, Bool, true, false, cond, ◌&&◌, List, length, slice_get, refl, sym, ap, ◌∙◌, subst, arith, true≢false, Option, Some, None, is_some, unwrap_or, ⊎_elim, ◌⊎◌, inl, inr}
 use Rattle.std.specs.Prelude.{nat_eq, nat_le, ◌==◌}
 use Rattle.std.specs.Global.{Vec}
 use Rattle.std.specs.List.Sorted.{IsStrictlySortedBy}
@@ -33,7 +33,7 @@ use Rattle.rr_replica.specs.Archives.{Each, AreSized, AreSame, HaveJoined}
 use Rattle.rr_cells.specs.CellBounds.{IsCellOf}
 use Rattle.rr_cells.specs.Cells.{Cells, IsTrimmed, cell_slot_of, rows_at}
 use Rattle.rr_cells.specs.Joins.{join_cell}
-use Rattle.rr_cells.specs.Joining.{next_after, with_cell, with_cells}
+use Rattle.rr_cells.specs.Joining.{next_after}
 use Rattle.rr_cells.specs.Holding.{IsHolding, Holding}
 use Rattle.rr_replica.specs.Held.{AreAllSized, IsHeld, held_series, archives_of, holding_of}
 use Rattle.rr_cells.specs.Listing.{owned_cell}
@@ -192,10 +192,3 @@ kept_joined cells limit s origin next c old new kept cell joined sized ordered =
   sized = sized;
   ordered = ordered;
 }
-
--- ---- cells one after the other
-
--- one cell more is one join more
-pub with_cells-more : (h : Holding) (cs : List Cell) (c : Cell) → with_cells h (cs ++ c ∷ []) ≡ with_cell (with_cells h cs) c
-with_cells-more h [] c = refl
-with_cells-more h (d ∷ cs) c = with_cells-more (with_cell h d) cs c

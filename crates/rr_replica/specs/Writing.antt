@@ -1,5 +1,5 @@
 -- What a point makes of a replica.
-use Rattle.std.specs.Prelude.{◌≡◌, ℕ, ◌+◌, ◌-◌, ℤ, pos, ◌+ℤ◌, Bool, false, int_lt, nat_lt, List, [], ◌∷◌, take, Option, None, Some}
+use Rattle.std.specs.Prelude.{◌≡◌, ℕ, ◌+◌, ◌-◌, ℤ, pos, ◌+ℤ◌, Bool, false, int_lt, nat_lt, List, [], ◌∷◌, take, drop, Option, None, Some}
 use Rattle.rr_text.specs.declared.limits.TheConstants.{MAX_NUMBER}
 use Rattle.rr_point.specs.Key.{key_text}
 use Rattle.rr_point.specs.Point.{PointView}
@@ -11,6 +11,12 @@ use Rattle.rr_cells.specs.Holding.{Holding, with_put}
 abbrev pub with_fields : Holding → PointView → ℤ → List (List ℕ × ℤ) → Holding
 with_fields h p time [] = h
 with_fields h p time (field ∷ fields) = with_fields (with_put h (key_text p field.0) time field.1) p time fields
+
+-- to put the first of some fields and then the rest is to put them all
+abbrev pub WritingGoesOn : Type 0
+WritingGoesOn =
+    (h : Holding) (p : PointView) (time : ℤ) (fields : List (List ℕ × ℤ)) (n : ℕ)
+    → with_fields (with_fields h p time (take n fields)) p time (drop n fields) ≡ with_fields h p time fields
 
 -- whether a point's own time is later than the clock's by more than the lead
 abbrev pub is_ahead : Option ℤ → ℤ → Option ℕ → Bool

@@ -7,7 +7,7 @@ use Rattle.rr_cells.specs.Joining.{with_cell, with_cells}
 use Rattle.rr_cells.specs.Listing.{owned_cell}
 use Rattle.rr_replica.specs.Standing.{held}
 use Rattle.rr_replica.proofs.FieldLemmas.{passed}
-use Rattle.rr_replica.proofs.JoinedCell.{with_cells-more}
+use Rattle.rr_cells.proofs.JoiningLemmas.{with_cells-append}
 use Rattle.rr_replica.proofs.replica.Replica.join_cells.Goals as goal
 
 pub join_cell-requires : goal.join_cell-requires
@@ -30,5 +30,5 @@ loop-cell-preserved g c =
     record {
       counted = omega (arith, c.loop-cell.invariant.counted);
       schema = ap (λ (h : Holding). h.schema) written ∙ c.loop-cell.invariant.schema;
-      joined = written ∙ ap (λ h. with_cell h cell) c.loop-cell.invariant.joined ∙ sym (with_cells-more (held c.args.self.now) (take i cells) cell) ∙ ap (with_cells (held c.args.self.now)) (sym more);
+      joined = written ∙ ap (λ h. with_cell h cell) c.loop-cell.invariant.joined ∙ sym (with_cells-append (held c.args.self.now) (take i cells) (cell ∷ [])) ∙ ap (with_cells (held c.args.self.now)) (sym more);
     }

@@ -1,5 +1,5 @@
 -- The fields so far are put, each one under the next number.
-use Rattle.std.proofs.Common.{◌≡◌, ℕ, ℤ, pos, List, [], map, take, get_or, None, refl, sym, ap, subst, ◌∙◌, arith, rules}
+use Rattle.std.proofs.Common.{◌≡◌, ℕ, ℤ, pos, List, [], ◌∷◌, map, take, get_or, None, refl, sym, ap, subst, ◌∙◌, arith, rules}
 use Rattle.std.proofs.Math.Facts.{to_z-of_z}
 use Rattle.std.proofs.lemmas.List.{map_more}
 use Rattle.std.specs.Int.{w64}
@@ -11,7 +11,7 @@ use Rattle.rr_point.specs.declared.point.Field.{Field}
 use Rattle.rr_cells.specs.Holding.{Holding, with_put}
 use Rattle.rr_replica.specs.Writing.{with_fields}
 use Rattle.rr_replica.specs.Standing.{held}
-use Rattle.rr_replica.proofs.FieldLemmas.{with_fields-more, field_at, take-view, failed, passed}
+use Rattle.rr_replica.proofs.FieldLemmas.{with_fields-append, field_at, take-view, failed, passed}
 use Rattle.rr_replica.proofs.replica.Replica.write_fields.Goals as goal
 
 pub write_field-requires-clause-keyed : goal.write_field-requires-clause-keyed
@@ -49,5 +49,5 @@ loop-field-preserved g c =
     record {
       counted = omega (arith, c.loop-field.invariant.counted);
       numbered = omega (arith, next, c.loop-field.invariant.numbered);
-      put = rw back (written ∙ ap (λ (h : Holding). with_put h (key_text p field.0) c.args.time field.1) state ∙ sym (with_fields-more (held c.args.self.now) p c.args.time before field) ∙ ap (with_fields (held c.args.self.now) p c.args.time) (sym more));
+      put = rw back (written ∙ ap (λ (h : Holding). with_put h (key_text p field.0) c.args.time field.1) state ∙ sym (with_fields-append (held c.args.self.now) p c.args.time before (field ∷ [])) ∙ ap (with_fields (held c.args.self.now) p c.args.time) (sym more));
     }
