@@ -9,6 +9,7 @@ pub mod Values
 pub mod States
 pub mod OneSampleMore
 pub mod Uniting
+pub mod Agreeing
 pub mod JoinLaws
 pub mod WholeCells
 pub mod Differing

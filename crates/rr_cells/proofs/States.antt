@@ -9,6 +9,7 @@ use Rattle.rr_join.proofs.Booleans.{same_test, and_first, and_second}
 use Rattle.rr_join.proofs.Members.{is_in, same_from_tie, tie_from_same, head_in, any_from, found_of}
 use Rattle.rr_join.proofs.Lookups.{get-map_of_all, get-trimmed, is_in-keys, is_in-set_of}
 use Rattle.rr_join.proofs.Horizons.{live_by_members, live-trimmed}
+use Rattle.rr_join.proofs.Joining.{trimmed-trimmed}
 use Rattle.rr_contrib.specs.declared.contribution.Contribution.{Contribution}
 use Rattle.rr_model.specs.CellNames.{CellName, cell_name_cmp, is_live}
 use Rattle.rr_model.specs.Samples.{Mark, mark_cmp, name_of, names_of}
@@ -16,7 +17,7 @@ use Rattle.rr_model.specs.Knowledge.{Knowledge, knows, is_live_in, live, cell, n
 use Rattle.rr_model.proofs.Orders.{cell_name_cmp_total, cell_name_cmp-IsAntisymmetric, mark_cmp_total, mark_cmp-IsAntisymmetric}
 use Rattle.rr_model.proofs.Horizon.{live_horizon}
 use Rattle.rr_model.proofs.Knowing.{same_knowledge, is_in-keys_of, knows-retain, no_keys, is_in-names_of, name_from_tie, knows-live, knows-cell}
-use Rattle.rr_cells.specs.Cells.{Cells}
+use Rattle.rr_cells.specs.Cells.{Cells, IsTrimmed}
 use Rattle.rr_cells.specs.State.{value_of, state}
 
 -- what a set of marks contributes
@@ -163,3 +164,9 @@ module _ (s : Layout) (is : IsLayout s) where
   live_state k n =
       ap (λ m. is_live s (keys m) n) (state_is_trimmed_full k)
       ∙ live-trimmed cell_name_cmp_total cell_name_cmp-IsAntisymmetric (live_horizon s is) (full s k) n ∙ live_full k n
+
+  pub state_is_trimmed : (k : Knowledge) → IsTrimmed s (state s k)
+  state_is_trimmed k =
+      ap (trimmed (is_live s)) (state_is_trimmed_full k)
+      ∙ trimmed-trimmed cell_name_cmp_total cell_name_cmp-IsAntisymmetric (live_horizon s is) (full s k)
+      ∙ sym (state_is_trimmed_full k)

@@ -23,8 +23,11 @@ use Rattle.rr_cells.specs.Cells.{Cells}
 use Rattle.rr_cells.specs.Joins.{join_cells}
 use Rattle.rr_cells.specs.State.{state}
 use Rattle.rr_cells.specs.Versions.{is_newer, newer_names}
+use Rattle.rr_cells.proofs.Agreeing.{closed_agree}
 use Rattle.rr_cells.proofs.CellByCell.{join_goes_by_cells}
 use Rattle.rr_cells.proofs.Differing.{difference_is_by_versions}
+use Rattle.rr_cells.proofs.JoinLaws.{join_unites}
+use Rattle.rr_cells.proofs.States.{state_is_trimmed}
 use Rattle.rr_cells.proofs.WholeCells.{state_where}
 use Rattle.rr_delta.specs.Names.{named_version, versions_of}
 use Rattle.rr_delta.specs.Difference.{is_newer_than, newer_cells}
@@ -227,3 +230,13 @@ difference_brings_the_join s m n is kept agree =
     ap (join_cells s n) (sym (entries-from_sorted cell_name_cmp d sorted))
     ∙ join_goes_by_cells s n (from_sorted d) is kept
     ∙ ap (trimmed (is_live s)) (newer_merged m n agree)
+
+-- ---- closed knowledges
+
+pub knowledges_agree : laws.KnowledgesAgree
+knowledges_agree s w k l is ck cl = closed_agree s is w k l ck cl
+
+pub difference_unites : laws.DifferenceUnites
+difference_unites s w k l is ck cl =
+    difference_brings_the_join s (state s k) (state s l) is (state_is_trimmed s is l) (knowledges_agree s w k l is ck cl)
+    ∙ join_unites s w l k is cl ck

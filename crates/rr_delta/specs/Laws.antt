@@ -4,7 +4,7 @@ use Rattle.std.specs.FinMap.{get, entries}
 use Rattle.rr_schema.specs.Schema.{Layout, IsLayout}
 use Rattle.rr_contrib.specs.declared.contribution.Contribution.{Contribution}
 use Rattle.rr_model.specs.CellNames.{CellName}
-use Rattle.rr_model.specs.Knowledge.{Knowledge, cells_named, difference}
+use Rattle.rr_model.specs.Knowledge.{Knowledge, cells_named, difference, union}
 use Rattle.rr_model.specs.World.{World, IsClosed}
 use Rattle.rr_cells.specs.Cells.{Cells, IsTrimmed}
 use Rattle.rr_cells.specs.Joins.{join, join_cells}
@@ -32,6 +32,18 @@ abbrev pub DifferenceBringsTheJoin : Type 0
 DifferenceBringsTheJoin =
     (s : Layout) (m n : Cells) → IsLayout s → IsTrimmed s n → AgreeAtVersions m n
     → join_cells s n (newer_cells (versions_of n) (entries m)) ≡ join s n m
+
+-- of closed knowledges they do
+abbrev pub KnowledgesAgree : Type 0
+KnowledgesAgree =
+    (s : Layout) (w : World) (k l : Knowledge) → IsLayout s → IsClosed s w k → IsClosed s w l
+    → AgreeAtVersions (state s k) (state s l)
+
+-- so to join the difference of these is to know what either knows
+abbrev pub DifferenceUnites : Type 0
+DifferenceUnites =
+    (s : Layout) (w : World) (k l : Knowledge) → IsLayout s → IsClosed s w k → IsClosed s w l
+    → join_cells s (state s l) (newer_cells (versions_of (state s l)) (entries (state s k))) ≡ state s (union l k)
 
 -- the cells of a part of the difference of closed knowledges are those from a place on, as many as there are up to a
 -- count

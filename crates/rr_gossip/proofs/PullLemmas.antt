@@ -11,13 +11,16 @@ use Rattle.rr_delta.specs.Difference.{IsSummary, newer_cells}
 use Rattle.rr_delta.specs.Names.{IsNameOf, NamedVersion, versions_of}
 use Rattle.rr_delta.proofs.DifferenceLemmas.{newer_held, newer_sorted}
 use Rattle.rr_delta.proofs.HeldLemmas.{named_all}
-use Rattle.rr_delta.proofs.LawLemmas.{difference_brings_the_join}
+use Rattle.rr_delta.proofs.LawLemmas.{difference_brings_the_join, knowledges_agree}
 use Rattle.rr_delta.proofs.Walks.{sorted_versions}
 use Rattle.rr_join.proofs.Booleans.{true_from_T}
 use Rattle.rr_model.specs.CellNames.{cell_name_cmp}
 use Rattle.rr_cells.specs.CellBounds.{NamedCell, IsCellOf}
 use Rattle.rr_cells.specs.Cells.{Cells}
 use Rattle.rr_cells.specs.Joins.{join_cells}
+use Rattle.rr_cells.specs.State.{state}
+use Rattle.rr_cells.proofs.JoinLaws.{join_unites}
+use Rattle.rr_cells.proofs.States.{state_is_trimmed}
 use Rattle.rr_gossip.specs.declared.fault.GossipFault.{GossipFault}
 use Rattle.rr_gossip.specs.declared.fault.GossipFault.TheVariants as why
 use Rattle.rr_gossip.specs.declared.frame.Kind.{Kind}
@@ -33,7 +36,7 @@ use Rattle.rr_gossip.specs.Giver.{first_giver, giver_takes}
 use Rattle.rr_gossip.specs.Pages.{AreLeft}
 use Rattle.rr_gossip.specs.Puller as pulling
 use Rattle.rr_gossip.specs.Puller.{puller_takes}
-use Rattle.rr_gossip.specs.Session.{GivesAnswer, HasPulled, PullsBringTheJoin, PullsJoin, is_giving, replied_by, sent_by}
+use Rattle.rr_gossip.specs.Session.{GivesAnswer, HasPulled, PullsBringTheJoin, PullsJoin, PullsUnite, is_giving, replied_by, sent_by}
 use Rattle.rr_gossip.specs.Stream.{IsFrame, WasRead}
 use Rattle.rr_gossip.specs.Transcript.{contents, giver_after, puller_after, reply, frames_of_names, waiting}
 use Rattle.rr_gossip.proofs.GivingLemmas as giver
@@ -213,3 +216,8 @@ pulls_bring_the_join s m given after limit limit_given answer more more_given le
     let text : answer ≡ concat (reply s es) = answered.0 ∙ answer_text s vs given in
     let joined = pulls_join s m after es (length (frames_of_names s vs)) limit more left is fits (subst (λ (t : List ℕ). HasPulled s (waiting (length (frames_of_names s vs)) 0 limit) m after (Some (t ++ more)) left) text pulled) in
     joined.0 ∙ difference_brings_the_join s given m is trimmed agree
+
+pub pulls_unite : PullsUnite
+pulls_unite s w k given after limit limit_given answer more more_given left left_given is ck cg each each_given gave pulled =
+    pulls_bring_the_join s (state s k) (state s given) after limit limit_given answer more more_given left left_given is (state_is_trimmed s is k) each each_given (knowledges_agree s w given k is cg ck) gave pulled
+    ∙ join_unites s w k given is ck cg

@@ -11,6 +11,9 @@ use Rattle.rr_delta.specs.Names.{NamedVersion, IsNameOf, versions_of}
 use Rattle.rr_cells.specs.CellBounds.{NamedCell, IsCellOf}
 use Rattle.rr_cells.specs.Cells.{Cells, IsTrimmed}
 use Rattle.rr_cells.specs.Joins.{join, join_cells}
+use Rattle.rr_cells.specs.State.{state}
+use Rattle.rr_model.specs.Knowledge.{Knowledge, union}
+use Rattle.rr_model.specs.World.{World, IsClosed}
 use Rattle.rr_gossip.specs.declared.fault.GossipFault.{GossipFault}
 use Rattle.rr_gossip.specs.declared.fault.GossipFault.TheVariants.{TooManyFrames, WriteFailed, Memory}
 use Rattle.rr_gossip.specs.declared.giver.Giver.{Giver}
@@ -153,3 +156,12 @@ PullsBringTheJoin =
     → HasGiven limit_given s given [] (Some (concat (sent_by s m) ++ more_given)) left_given (Some []) (Some answer)
     → HasPulled s (waiting (length (sent_by s m)) 0 limit) m after (Some (answer ++ more)) left
     → after ≡ join s m given
+
+-- so where both sides have the cells of closed knowledges, the target has those of what either knew
+abbrev pub PullsUnite : Type 0
+PullsUnite =
+    (s : Layout) (w : World) (k given : Knowledge) (after : Cells) (limit limit_given : ℕ) (answer more more_given : List ℕ) (left left_given : Option (List ℕ))
+    → IsLayout s → IsClosed s w k → IsClosed s w given → All (IsCellOf s) (entries (state s k)) → All (IsCellOf s) (entries (state s given))
+    → HasGiven limit_given s (state s given) [] (Some (concat (sent_by s (state s k)) ++ more_given)) left_given (Some []) (Some answer)
+    → HasPulled s (waiting (length (sent_by s (state s k))) 0 limit) (state s k) after (Some (answer ++ more)) left
+    → after ≡ state s (union k given)

@@ -1,6 +1,6 @@
 //! The laws of the bytes of frames, with no work to do: the functions have empty bodies.
 ghost use Rattle.rr_gossip.specs.Laws.{FramesAreTheirText, SummariesAreTheirText};
-ghost use Rattle.rr_gossip.specs.Session.{GivesAnswer, PullsBringTheJoin, PullsJoin};
+ghost use Rattle.rr_gossip.specs.Session.{GivesAnswer, PullsBringTheJoin, PullsJoin, PullsUnite};
 ghost use Rattle.rr_gossip.specs.Transcript.{GiversReply, GiversTake, PullersSend, PullersTake, SessionsBringTheJoin};
 
 /// A frame is read exactly where it is the text of a kind and a body, and not too long.
@@ -60,4 +60,10 @@ pub fn pulls_join()
 /// the cells of both sides, where equal versions of one cell mean equal contents.
 pub fn pulls_bring_the_join()
     ensures { PullsBringTheJoin }
+{}
+
+/// So where each side has the cells of what it knows, without gaps, the target has the cells of what
+/// either knew.
+pub fn pulls_unite()
+    ensures { PullsUnite }
 {}

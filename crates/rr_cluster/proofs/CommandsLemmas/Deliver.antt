@@ -8,16 +8,12 @@ use Rattle.std.proofs.lemmas.Bool.{eqb-true, leb-true}
 use Rattle.rr_archive.specs.declared.archive.Archive.{Ghosts}
 use Rattle.rr_schema.specs.Schema.{Layout, IsLayout}
 use Rattle.rr_contrib.specs.declared.contribution.Contribution.{Contribution}
-use Rattle.rr_join.specs.Maps.{trimmed}
 use Rattle.rr_join.proofs.Booleans.{and_first, and_second}
-use Rattle.rr_join.proofs.Joining.{trimmed-trimmed}
-use Rattle.rr_model.specs.CellNames.{CellName, cell_name_cmp, is_live}
+use Rattle.rr_model.specs.CellNames.{CellName, cell_name_cmp}
 use Rattle.rr_model.specs.Knowledge.{Knowledge, knows, is_live_in, cell}
 use Rattle.rr_model.specs.Samples.{name_of}
 use Rattle.rr_model.specs.World.{World, IsClosed}
-use Rattle.rr_model.proofs.Horizon.{live_horizon}
 use Rattle.rr_model.proofs.Knowing.{knows-cell, is_in-keys_of, name_from_tie}
-use Rattle.rr_model.proofs.Orders.{cell_name_cmp_total, cell_name_cmp-IsAntisymmetric}
 use Rattle.rr_model.proofs.Writes.{union_is_closed, union_holds_own}
 use Rattle.rr_page.specs.declared.fault.PageFault.{PageFault}
 use Rattle.rr_cells.specs.CellBounds.{NamedCell}
@@ -27,11 +23,11 @@ use Rattle.rr_replica.specs.Standing.{Standing, held}
 use Rattle.rr_cells.specs.Joining.{with_cell, with_cells, next_past}
 use Rattle.rr_cells.specs.Joins.{join_cells}
 use Rattle.rr_cells.specs.Listing.{owned_cell}
-use Rattle.rr_cells.specs.Cells.{Cells, IsTrimmed}
+use Rattle.rr_cells.specs.Cells.{Cells}
 use Rattle.rr_cells.specs.State.{state}
 use Rattle.rr_cells.proofs.CellByCell.{join_goes_by_cells}
 use Rattle.rr_cells.proofs.JoinLaws.{join_unites}
-use Rattle.rr_cells.proofs.States.{get-state, full, state_is_trimmed_full}
+use Rattle.rr_cells.proofs.States.{get-state, state_is_trimmed}
 use Rattle.rr_cells.proofs.Uniting.{value_top}
 use Rattle.rr_cluster.specs.declared.cluster.Cluster.{Cluster}
 use Rattle.rr_cluster.specs.declared.fault.CommandFault.TheVariants.{NoNode, NoPage}
@@ -133,12 +129,6 @@ module _ (w : World) (n : Node Knowledge) (is : IsSoundNode w n) (k : Knowledge)
   next_is_same = next_stays n.origin n.next (fin.entries (state s k)) (all_entries (λ e. e.0.origin ≡ n.origin → e.1.version < n.next) (state s k) versions_are_below)
 
 -- ---- the models agree
-
-state_is_trimmed : (s : Layout) → IsLayout s → (k : Knowledge) → IsTrimmed s (state s k)
-state_is_trimmed s is k =
-    ap (trimmed (is_live s)) (state_is_trimmed_full s is k)
-    ∙ trimmed-trimmed cell_name_cmp_total cell_name_cmp-IsAntisymmetric (live_horizon s is) (full s k)
-    ∙ sym (state_is_trimmed_full s is k)
 
 -- to join the cells of a page is to know its marks too
 joined_agrees : (w : World) (n : Node Knowledge) → IsLayout n.schema → IsSoundNode w n → (k : Knowledge) → IsClosed n.schema w k
