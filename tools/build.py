@@ -17,6 +17,7 @@ import functools
 import hashlib
 import os
 import pathlib
+import re
 import shutil
 import signal
 import subprocess
@@ -40,6 +41,9 @@ LONG = 0.95
 
 # Seconds between two lines of progress.
 INTERVAL = 15
+
+# What a proof prints of what is well, and of how far it is.
+WELL = re.compile(r"(fn|impl|struct|enum) \S+: proved|(checked \S+,|so far:) \d+ of \d+|statements \w+: ")
 
 # What a proof reads of a crate.
 SOURCES = ("src", "specs", "proofs")
@@ -259,8 +263,8 @@ def main():
         print("rr: interrupted; what is proved is kept", file=sys.stderr)
         return 130
     except Failed as failed:
-        lines = str(failed).splitlines(keepends=True)
-        print("".join(lines[-60:]), "rr: the program isn't built", sep="", file=sys.stderr)
+        said = [line for line in str(failed).splitlines(keepends=True) if not WELL.match(line)]
+        print("".join(said[-60:]), "rr: the program isn't built", sep="", file=sys.stderr)
         return 1
     finally:
         build.ended.set()
