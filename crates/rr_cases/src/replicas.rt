@@ -106,7 +106,7 @@ impl<A: Archive> Calls<A> {
     /// Makes a call other than `copy`.
     fn push_call(&mut self, line: &str) -> Result<()> {
         let mut words = Words::of(line);
-        match words.next() {
+        match words.word() {
             "put" => self.put(words),
             "write" => self.write_line(words),
             "join" => self.join(words),

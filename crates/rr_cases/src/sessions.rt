@@ -15,7 +15,7 @@ use std::alloc::{AllocError, Global};
 
 /// The input of a session, and its limits.
 #[derive(Drop)]
-struct Setting {
+struct LimitedInput {
     size: usize,
     reads: u64,
     /// Any number of 16 bits is one that a session may have.
@@ -23,18 +23,18 @@ struct Setting {
     bytes: Vec<u8>,
 }
 
-impl Setting {
-    fn of(alloc: Global, mut words: Words<'_>) -> Result<Setting> {
-        Ok(Setting {
+impl LimitedInput {
+    fn of(alloc: Global, mut words: Words<'_>) -> Result<LimitedInput> {
+        Ok(LimitedInput {
             size: words.limit()?.unwrap_or(usize::MAX),
             reads: words.limit()?.unwrap_or(u64::MAX),
             frames: words.limit()?,
-            bytes: hex::decode(alloc, words.next())?,
+            bytes: hex::decode(alloc, words.word())?,
         })
     }
 
     /// The input after its first `from` bytes.
-    fn input(&self, from: usize) -> Result<Counted<Failing<Pieces<'_>>>> {
+    fn after(&self, from: usize) -> Result<Counted<Failing<Pieces<'_>>>> {
         Ok(failing_after(
             self.bytes.get(from..).context("no first byte")?,
             self.size,
@@ -62,22 +62,22 @@ pub(crate) fn push_session<A: Archive>(
     words: Words<'_>,
     answer: &mut String,
 ) -> Result<()> {
-    let setting = Setting::of(alloc, words)?;
-    let frames = setting.frames.map(u32::from);
+    let given = LimitedInput::of(alloc, words)?;
+    let frames = given.frames.map(u32::from);
     let mut output = Counted::new(Vec::new(alloc));
     let apart = usize::from(session == Session::GiveAfter);
-    let mut input = setting.input(apart)?;
+    let mut input = given.after(apart)?;
     let ended = match (session, frames) {
         (Session::Pull, None) => pull(alloc, &mut input, &mut output, replica),
         (Session::Pull, Some(most)) => pull_within(alloc, &mut input, &mut output, replica, most),
         (Session::Give, None) => give(alloc, &mut input, &mut output, replica),
         (Session::Give, Some(most)) => give_within(alloc, &mut input, &mut output, replica, most),
         (Session::GiveAfter, None) => {
-            let first = *setting.bytes.first().context("no first byte")?;
+            let first = *given.bytes.first().context("no first byte")?;
             give_after(alloc, first, &mut input, &mut output, replica)
         }
         (Session::GiveAfter, Some(most)) => {
-            let first = *setting.bytes.first().context("no first byte")?;
+            let first = *given.bytes.first().context("no first byte")?;
             give_after_within(alloc, first, &mut input, &mut output, replica, most)
         }
     };

@@ -42,7 +42,7 @@ pub(crate) fn loaded<A: Archive>(
     let origin = words.origin()?;
     let size = words.limit()?.unwrap_or(usize::MAX);
     let reads = words.limit()?.unwrap_or(u64::MAX);
-    let bytes = hex::decode(alloc, words.next())?;
+    let bytes = hex::decode(alloc, words.word())?;
     let mut input = failing_after(&bytes, size, reads);
     loaded_from(alloc, schema, origin, &mut input, answer)
 }

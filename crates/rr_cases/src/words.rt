@@ -16,7 +16,7 @@ impl<'a> Words<'a> {
     }
 
     /// The next word; an empty one after the last.
-    pub(crate) fn next(&mut self) -> &'a str {
+    pub(crate) fn word(&mut self) -> &'a str {
         let (word, rest) = self.rest.split_once(' ').unwrap_or((self.rest, ""));
         self.rest = rest;
         word
@@ -27,7 +27,7 @@ impl<'a> Words<'a> {
     where
         N::Err: Drop,
     {
-        number_of(self.next())
+        number_of(self.word())
     }
 
     /// The next word as a number; `-` is none.
@@ -35,7 +35,7 @@ impl<'a> Words<'a> {
     where
         N::Err: Drop,
     {
-        match self.next() {
+        match self.word() {
             "-" => Ok(None),
             word => Ok(Some(number_of(word)?)),
         }
