@@ -33,13 +33,13 @@ DifferenceBringsTheJoin =
     (s : Layout) (m n : Cells) → IsLayout s → IsTrimmed s n → AgreeAtVersions m n
     → join_cells s n (newer_cells (versions_of n) (entries m)) ≡ join s n m
 
--- of closed knowledges they do
+-- of two closed knowledges equal versions of one cell mean equal contents
 abbrev pub KnowledgesAgree : Type 0
 KnowledgesAgree =
     (s : Layout) (w : World) (k l : Knowledge) → IsLayout s → IsClosed s w k → IsClosed s w l
     → AgreeAtVersions (state s k) (state s l)
 
--- so to join the difference of these is to know what either knows
+-- so to join the difference of the two is to know what either knows
 abbrev pub DifferenceUnites : Type 0
 DifferenceUnites =
     (s : Layout) (w : World) (k l : Knowledge) → IsLayout s → IsClosed s w k → IsClosed s w l
