@@ -11,6 +11,8 @@ use rr_text::limits::MAX_NUMBER;
 /// The most entries of a row: origins have 16 bits.
 pub(crate) const MAX_ENTRIES: usize = 65_536;
 
+const _: () = prove!(MAX_ENTRIES == 65_536);
+
 /// Samples, by their number and the sum of their values.
 #[derive(Clone, Copy, Debug)]
 pub(crate) struct Sum {

@@ -1,4 +1,4 @@
-//! The bytes that mark the value of a field.
+//! The bytes that mark the value of a field, pinned at the end as numbers of ASCII.
 
 /// Begins and ends a text value.
 pub(crate) const QUOTE: u8 = b'"';
@@ -20,3 +20,17 @@ pub(crate) const GREAT_EXPONENT_MARK: u8 = b'E';
 
 /// May precede an exponent's digits.
 pub(crate) const PLUS: u8 = b'+';
+
+const _: () = prove!(QUOTE == 34);
+
+const _: () = prove!(INTEGER_MARK == 105);
+
+const _: () = prove!(UNSIGNED_MARK == 117);
+
+const _: () = prove!(POINT == 46);
+
+const _: () = prove!(EXPONENT_MARK == 101);
+
+const _: () = prove!(GREAT_EXPONENT_MARK == 69);
+
+const _: () = prove!(PLUS == 43);

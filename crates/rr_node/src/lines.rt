@@ -23,6 +23,8 @@ use std::sync::Wait;
 /// How many bytes a read asks for.
 pub(crate) const PIECE: usize = 65_536;
 
+const _: () = prove!(PIECE == 65_536);
+
 /// Hands the lines that `input` still has to a keeper, answers to `output`, and reports what became
 /// of them.
 ///

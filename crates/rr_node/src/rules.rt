@@ -5,6 +5,8 @@ use rr_line::Precision;
 /// After how many lines all is published.
 pub(crate) const LINES_TO_PUBLISH: u64 = 1_000;
 
+const _: () = prove!(LINES_TO_PUBLISH == 1_000);
+
 /// How the lines of a connection are taken.
 #[derive(Clone, Copy)]
 pub(crate) struct Rules {

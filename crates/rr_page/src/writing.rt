@@ -15,6 +15,8 @@ use std::alloc::{AllocError, Global};
 /// How many bytes a cell of the latest version has besides its key text.
 pub const FIELDS_LEN: usize = 85;
 
+const _: () = prove!(FIELDS_LEN == 85);
+
 /// Adds how many samples a contribution has.
 #[tactic(auto, unfolding(crate::specs::CellText::sums_text))]
 fn push_sums(bytes: &mut Vec<u8>, contribution: &Contribution) -> Result<(), AllocError>

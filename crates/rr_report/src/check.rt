@@ -19,6 +19,8 @@ use std::io::{Read, Write};
 /// How many bytes a read asks for.
 const PIECE: usize = 65_536;
 
+const _: () = prove!(PIECE == 65_536);
+
 /// Writes the report of the lines that `input` still has, and answers how many of them are refused.
 ///
 /// For each field of a point it writes `KEY TEXT,VALUE,TIME` to `output`, with the time in

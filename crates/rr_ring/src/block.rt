@@ -14,6 +14,8 @@ use std::alloc::{AllocError, Global};
 /// The rows of a block; the last block of a ring may have fewer.
 pub(crate) const BLOCK_ROWS: usize = 64;
 
+const _: () = prove!(BLOCK_ROWS == 64);
+
 /// The stored rows of a block, by their number in it. Those at its end may not be made yet.
 #[derive(Drop)]
 pub(crate) struct Block {

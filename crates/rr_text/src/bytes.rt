@@ -1,4 +1,5 @@
-//! The bytes that divide lines, keys, scripts and requests, and texts that occur twice.
+//! The bytes that divide lines, keys, scripts and requests, and texts that occur twice. The bytes are
+//! pinned below as numbers, as ASCII has them.
 
 ghost use Rattle.std.specs.Prelude.{◌≡◌, ℕ, List, map, option_map};
 ghost use Rattle.rr_text.specs.Bytes.{begins, strip, is_among, has_repeat};
@@ -26,6 +27,22 @@ pub const HASH: u8 = b'#';
 
 /// The sign of a number below zero.
 pub const MINUS: u8 = b'-';
+
+const _: () = prove!(LINE_FEED == 10);
+
+const _: () = prove!(RETURN == 13);
+
+const _: () = prove!(SPACE == 32);
+
+const _: () = prove!(COMMA == 44);
+
+const _: () = prove!(EQUALS == 61);
+
+const _: () = prove!(BACKSLASH == 92);
+
+const _: () = prove!(HASH == 35);
+
+const _: () = prove!(MINUS == 45);
 
 /// Whether a byte is at the front of the text.
 pub fn begins(byte: u8, text: &[u8]) -> bool
