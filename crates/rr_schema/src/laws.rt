@@ -1,7 +1,16 @@
-//! The law of the bytes of schemas, with no work to do: the function has an empty body.
+//! Laws of schemas, with no work to do: each function has an empty body.
+ghost use Rattle.std.specs.Prelude.{ℕ};
+ghost use Rattle.rr_schema.specs.Schema.{Layout, IsLayout, choice};
+ghost use Rattle.rr_schema.specs.Choice.{IsChoice};
 ghost use Rattle.rr_schema.specs.SchemaBytes.{BytesTellTheSchema};
 
 /// The bytes of a schema determine the schema, whatever follows them.
 pub fn bytes_tell_the_schema()
     ensures { BytesTellTheSchema }
+{}
+
+/// The archive that answers a fetch is the one with the greatest span that is not above the
+/// resolution, else the one with the least span.
+pub fn choice_is_the_rule()
+    ensures { (s : Layout) (resolution : ℕ) → IsLayout s → IsChoice s resolution (choice s resolution) }
 {}
