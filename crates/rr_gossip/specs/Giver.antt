@@ -84,6 +84,12 @@ has_failed (Giving left) = false
 has_failed Done = false
 has_failed Failed = true
 
+-- a frame whose body is looked at next: of a kind that is due, and not one too many
+unfoldable pub frame_due : Giver → List ℕ → Result (Kind × List ℕ) GossipFault
+frame_due g content = do
+  frame ← unless why.Failed (has_failed g.stage) (content_at content)
+  unless why.UnexpectedFrame (not (is_due g.stage frame.0)) (unless why.TooManyFrames (nat_le g.limit g.taken) (Ok frame))
+
 -- what a giver of the cells m does with what follows the length of a frame
 unfoldable pub giver_takes : Cells → Layout → Giver → List ℕ → Result (Giver × Bool) GossipFault
 giver_takes m s g content = do

@@ -1,5 +1,5 @@
 //! Frames as bytes.
-ghost use Rattle.std.specs.Prelude.{◌≡◌, ◌≤◌, ◌<◌, ◌+◌, ◌^◌, length, IfOk};
+ghost use Rattle.std.specs.Prelude.{◌≡◌, ◌≢◌, Err, ◌≤◌, ◌<◌, ◌+◌, ◌^◌, length, IfOk};
 ghost use Rattle.std.specs.Option.{option_map};
 ghost use Rattle.rr_text.specs.Results.{Gives};
 ghost use Rattle.rr_gossip.specs.Frame.{kind_byte, kind_at, frame_text, content_at};
@@ -80,7 +80,8 @@ pub fn frame_bytes(alloc: Global, kind: Kind, body: &[u8]) -> Result<Vec<u8>, Al
 /// 300,000 bytes, and then as `BadFrame` where there is no byte, or the first is of no kind.
 #[tactic(auto, unfolding(crate::specs::Frame::content_at))]
 pub fn content_of(content: &[u8]) -> Result<(Kind, &[u8]), GossipFault>
-    ensures { Gives (λ x. (x.0, x.1.now)) result (content_at content.now) }
+    ensures read { Gives (λ x. (x.0, x.1.now)) result (content_at content.now) }
+    ensures no_memory { result ≢ Err GossipFault.Memory }
 {
     if content.len() > MAX_FRAME_LEN {
         return Err(GossipFault::FrameTooLong);

@@ -1,9 +1,10 @@
 //! The side of a session that gives cells.
-ghost use Rattle.std.specs.Prelude.{◌≡◌, ◌≤◌, IfOk, OnErr, IsTrue};
+ghost use Rattle.std.specs.Prelude.{◌≡◌, ◌≤◌, Err, IfOk, OnErr, IsTrue};
+ghost use Rattle.rr_gossip.specs.Session.{is_giving};
 ghost use Rattle.std.specs.Option.{option_map};
-ghost use Rattle.rr_text.specs.Results.{GivesUnless};
+ghost use Rattle.rr_text.specs.Results.{GivesUnless, NeedsMemoryAfter};
 ghost use Rattle.rr_gossip.specs.declared.frame.TheConstants.{MAX_FRAMES};
-ghost use Rattle.rr_gossip.specs.Giver.{HasFailed, first_giver, has_failed, is_due, is_listing, names_in, hello_taken, summary_taken, end_taken, body_taken, giver_takes, stage_sends, giver_sends};
+ghost use Rattle.rr_gossip.specs.Giver.{HasFailed, first_giver, has_failed, is_due, is_listing, names_in, hello_taken, summary_taken, end_taken, body_taken, frame_due, giver_takes, stage_sends, giver_sends};
 
 use crate::fault::GossipFault;
 use crate::frame::{Kind, MAX_FRAMES, content_of, frame_bytes};
@@ -132,8 +133,9 @@ impl Stage {
 
     /// The next frame, if one is due.
     fn next_frame(&mut self, alloc: Global) -> Result<Option<Vec<u8>>, GossipFault>
-        ensures { GivesUnless GossipFault.Memory (λ frame. (self.new, option_map (λ bytes. bytes.items) frame)) result
+        ensures sent { GivesUnless GossipFault.Memory (λ frame. (self.new, option_map (λ bytes. bytes.items) frame)) result
             (stage_sends self.old) }
+        ensures memory { result ≡ Err GossipFault.Memory → IsTrue (is_giving self.old) }
     {
         match self {
             Stage::Opening | Stage::Listing(_) | Stage::Done => Ok(None),
@@ -198,6 +200,7 @@ impl Giver {
     ) -> Result<bool, GossipFault>
         ensures taken { GivesUnless GossipFault.Memory (λ last. (self.new, last)) result
             (giver_takes (S.cells source.new) (S.layout source.old) self.old frame.now) }
+        ensures memory { NeedsMemoryAfter GossipFault.Memory (frame_due self.old frame.now) result }
         ensures failed { OnErr result (HasFailed self.new) }
         ensures schema { S.layout source.new ≡ S.layout source.old }
         ensures kept { S.may_become source.old source.new }
@@ -210,7 +213,7 @@ impl Giver {
     }
 
     /// Takes a frame; after a refusal the session is anywhere.
-    #[tactic(auto, unfolding(crate::specs::Giver::giver_takes))]
+    #[tactic(auto, unfolding(crate::specs::Giver::giver_takes, crate::specs::Giver::frame_due))]
     fn take_frame<S: Source>(
         &mut self,
         alloc: Global,
@@ -219,6 +222,7 @@ impl Giver {
     ) -> Result<bool, GossipFault>
         ensures taken { GivesUnless GossipFault.Memory (λ last. (self.new, last)) result
             (giver_takes (S.cells source.new) (S.layout source.old) self.old frame.now) }
+        ensures memory { NeedsMemoryAfter GossipFault.Memory (frame_due self.old frame.now) result }
         ensures schema { S.layout source.new ≡ S.layout source.old }
         ensures kept { S.may_become source.old source.new }
     {
@@ -249,6 +253,7 @@ impl Giver {
     ) -> Result<Option<Vec<u8>>, GossipFault>
         ensures sent { GivesUnless GossipFault.Memory (λ frame. (self.new, option_map (λ bytes. bytes.items) frame)) result
             (giver_sends self.old) }
+        ensures memory { result ≡ Err GossipFault.Memory → IsTrue (is_giving self.old.stage) }
         ensures failed { OnErr result (HasFailed self.new) }
         ensures unchanged { _source.new ≡ _source.old }
     {
@@ -262,8 +267,9 @@ impl Giver {
     /// The next frame; after a refusal the session is anywhere.
     #[tactic(auto, unfolding(crate::specs::Giver::giver_sends))]
     fn send_frame(&mut self, alloc: Global) -> Result<Option<Vec<u8>>, GossipFault>
-        ensures { GivesUnless GossipFault.Memory (λ frame. (self.new, option_map (λ bytes. bytes.items) frame)) result
+        ensures sent { GivesUnless GossipFault.Memory (λ frame. (self.new, option_map (λ bytes. bytes.items) frame)) result
             (giver_sends self.old) }
+        ensures memory { result ≡ Err GossipFault.Memory → IsTrue (is_giving self.old.stage) }
     {
         let Some(frame) = self.stage.next_frame(alloc)? else {
             return Ok(None);

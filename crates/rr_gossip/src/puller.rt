@@ -1,11 +1,11 @@
 //! The side of a session that pulls cells.
-ghost use Rattle.std.specs.Prelude.{◌≡◌, ◌≤◌, ◌<◌, length, map, IfOk, OnErr, IsTrue};
+ghost use Rattle.std.specs.Prelude.{◌≡◌, ◌≤◌, ◌<◌, Err, length, map, IfOk, OnErr, IsTrue};
 ghost use Rattle.std.specs.Option.{option_map};
-ghost use Rattle.rr_text.specs.Results.{GivesUnless};
+ghost use Rattle.rr_text.specs.Results.{GivesUnless, NeedsMemoryAfter};
 ghost use Rattle.rr_delta.specs.Names.{owned_name};
 ghost use Rattle.rr_gossip.specs.declared.frame.TheConstants.{MAX_FRAMES, MAX_FRAME_LEN};
 ghost use Rattle.rr_gossip.specs.declared.summary.TheConstants.{MAX_ENTRIES};
-ghost use Rattle.rr_gossip.specs.Puller.{HasFailed, Takes, first_puller, is_due, names_sent, stage_sends, puller_sends, body_taken, puller_takes};
+ghost use Rattle.rr_gossip.specs.Puller.{HasFailed, Takes, first_puller, is_due, names_sent, stage_sends, puller_sends, body_taken, frame_due, is_sending, puller_takes};
 ghost use Rattle.rr_gossip.specs.Summary.{summary_text};
 
 use crate::fault::GossipFault;
@@ -62,8 +62,9 @@ impl Stage {
         alloc: Global,
         target: &T,
     ) -> Result<Option<Vec<u8>>, GossipFault>
-        ensures { GivesUnless GossipFault.Memory (λ frame. (self.new, option_map (λ bytes. bytes.items) frame)) result
+        ensures sent { GivesUnless GossipFault.Memory (λ frame. (self.new, option_map (λ bytes. bytes.items) frame)) result
             (stage_sends (T.cells target.now) (T.layout target.now) self.old) }
+        ensures memory { result ≡ Err GossipFault.Memory → IsTrue (is_sending self.old) }
     {
         match self {
             Stage::Opening => {
@@ -162,6 +163,7 @@ impl Puller {
     ) -> Result<Option<Vec<u8>>, GossipFault>
         ensures sent { GivesUnless GossipFault.Memory (λ frame. (self.new, option_map (λ bytes. bytes.items) frame)) result
             (puller_sends (T.cells target.now) (T.layout target.now) self.old) }
+        ensures memory { result ≡ Err GossipFault.Memory → IsTrue (is_sending self.old.stage) }
         ensures failed { OnErr result (HasFailed self.new) }
     {
         let result = self.send_frame(alloc, target);
@@ -178,8 +180,9 @@ impl Puller {
         alloc: Global,
         target: &T,
     ) -> Result<Option<Vec<u8>>, GossipFault>
-        ensures { GivesUnless GossipFault.Memory (λ frame. (self.new, option_map (λ bytes. bytes.items) frame)) result
+        ensures sent { GivesUnless GossipFault.Memory (λ frame. (self.new, option_map (λ bytes. bytes.items) frame)) result
             (puller_sends (T.cells target.now) (T.layout target.now) self.old) }
+        ensures memory { result ≡ Err GossipFault.Memory → IsTrue (is_sending self.old.stage) }
     {
         let Some(frame) = self.stage.next_frame(alloc, target)? else {
             return Ok(None);
@@ -208,6 +211,7 @@ impl Puller {
     ) -> Result<bool, GossipFault>
         ensures taken { Takes (T.layout target.old) (T.cells target.old) (T.cells target.new) self.new result
             (puller_takes (T.layout target.old) self.old frame.now) }
+        ensures memory { NeedsMemoryAfter GossipFault.Memory (frame_due self.old frame.now) result }
         ensures failed { OnErr result (HasFailed self.new) }
         ensures schema { T.layout target.new ≡ T.layout target.old }
         ensures kept { T.may_become target.old target.new }
@@ -220,7 +224,7 @@ impl Puller {
     }
 
     /// Takes a frame; after a refusal the session is anywhere.
-    #[tactic(auto, unfolding(crate::specs::Puller::puller_takes))]
+    #[tactic(auto, unfolding(crate::specs::Puller::puller_takes, crate::specs::Puller::frame_due))]
     fn take_frame<T: Target>(
         &mut self,
         alloc: Global,
@@ -229,6 +233,7 @@ impl Puller {
     ) -> Result<bool, GossipFault>
         ensures taken { Takes (T.layout target.old) (T.cells target.old) (T.cells target.new) self.new result
             (puller_takes (T.layout target.old) self.old frame.now) }
+        ensures memory { NeedsMemoryAfter GossipFault.Memory (frame_due self.old frame.now) result }
         ensures schema { T.layout target.new ≡ T.layout target.old }
         ensures kept { T.may_become target.old target.new }
     {

@@ -1,5 +1,5 @@
 //! What a snapshot has after its cells.
-ghost use Rattle.std.specs.Prelude.{◌≡◌, ◌≤◌, Err, OnOk};
+ghost use Rattle.std.specs.Prelude.{◌≡◌, ◌≢◌, ◌≤◌, Err, OnOk};
 ghost use Rattle.std.specs.Io.KnownBytes.{IsAtEnd};
 ghost use Rattle.rr_io.specs.Counted.{inner_of, failures_of, HasRisen};
 ghost use Rattle.rr_io.specs.Stream.{ConsumesSome};
@@ -22,6 +22,7 @@ pub fn digest_from<R: Read>(
 ) -> Result<(), LoadFault>
     ensures read { StreamGives (λ x. x) result (R.remaining (inner_of input.old))
         (R.remaining (inner_of input.new)) (digest_at digest.now) }
+    ensures no_memory { result ≢ Err LoadFault.Memory }
     ensures front { ConsumesSome (R.remaining (inner_of input.old))
         (R.remaining (inner_of input.new)) }
     ensures count { failures_of input.old ≤ failures_of input.new }
@@ -42,6 +43,7 @@ pub fn end_from<R: Read>(input: &mut Counted<R>) -> Result<(), LoadFault>
     ensures read { StreamGives (λ x. x) result (R.remaining (inner_of input.old))
         (R.remaining (inner_of input.new)) end_at }
     ensures end { OnOk result (IsAtEnd (R.remaining (inner_of input.new))) }
+    ensures no_memory { result ≢ Err LoadFault.Memory }
     ensures front { ConsumesSome (R.remaining (inner_of input.old))
         (R.remaining (inner_of input.new)) }
     ensures count { failures_of input.old ≤ failures_of input.new }

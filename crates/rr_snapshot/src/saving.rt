@@ -1,7 +1,7 @@
 //! A replica's cells, written as a snapshot.
 ghost use Rattle.std.specs.Prelude.{◌≡◌, ◌≢◌, ◌↔◌, ◌≤◌, ◌<◌, ◌++◌, Err, OnOk, List, ℕ};
 ghost use Rattle.std.specs.FinMap.{entries, len};
-ghost use Rattle.std.specs.Io.KnownBytes.{Appends};
+ghost use Rattle.std.specs.Io.KnownBytes.{Appends, Keeps};
 ghost use Rattle.std.specs.List.{flat_map};
 ghost use Rattle.sha2.specs.Hashers.{Holds256};
 ghost use Rattle.rr_io.specs.Counted.{inner_of, failures_of, HasRisen};
@@ -74,6 +74,8 @@ pub fn save<A: Archive, W: Write>(
         (snapshot_text latest replica.now.schema replica.now.origin (entries replica.now.cells)) }
     ensures too_many { (result ≡ Err SaveFault.TooManyCells)
         ↔ (MAX_SNAPSHOT_CELLS < len replica.now.cells) }
+    ensures nothing_written { result ≡ Err SaveFault.TooManyCells
+        → Keeps (W.contents (inner_of output.old)) (W.contents (inner_of output.new)) }
     ensures holds { OnOk result (IsHolding (held replica.now)) }
     ensures count { failures_of output.old ≤ failures_of output.new }
     ensures failed { result ≡ Err SaveFault.WriteFailed
