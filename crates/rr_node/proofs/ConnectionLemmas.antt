@@ -273,6 +273,19 @@ answer_front c start k pushed text given later bytes has comes =
     let report = report_text (fold (with_item c.rules) s front.0).report in
     (more.0 ++ report, ap answer_of all ∙ ap (λ (t : List ℕ). t ++ report) more.1 ∙ append_assoc text more.0 report)
 
+-- so do the answers to all lines, before the report
+pub answers_front : (c : Connection) (start k : KeeperState) (pushed text : List ℕ) (given later : List ℤ) (bytes : List ℕ) → HasServed c start pushed given k text → ComesAfter c.feed pushed bytes
+    → (rest : List ℕ) × ((after c.rules start (given ++ later) (items true bytes)).answers ≡ text ++ rest)
+answers_front c start k pushed text given later bytes has comes =
+    let front = handed_front c.feed pushed bytes has.handed has.fed comes in
+    let s = standing c k text later in
+    let all : after c.rules start (given ++ later) (items true bytes) ≡ fold (with_item c.rules) s front.0 =
+    ap (after c.rules start (given ++ later)) front.1
+    ∙ fold-append (with_item c.rules) (served_at_start start (given ++ later)) has.handed front.0
+    ∙ ap (λ (x : Served). fold (with_item c.rules) x front.0) (has.served later) in
+    let more = answers_grow c.rules s front.0 in
+    (more.0, ap (λ (x : Served). x.answers) all ∙ more.1)
+
 -- once nothing is left, all of the stream is served
 pub served_all : (c : Connection) (start k : KeeperState) (pushed text : List ℕ) (given : List ℤ) → items_left c.feed ≡ [] → c.feed.ended ≡ true → HasServed c start pushed given k text
     → (length given ≡ count_by (asks_clock c.rules) (items true pushed)) × (after c.rules start given (items true pushed) ≡ standing c k text [])

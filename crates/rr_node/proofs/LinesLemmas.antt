@@ -22,7 +22,7 @@ use Rattle.rr_node.specs.Connection.{ComesAfter, EndsAtLast, Finishes, HasServed
 use Rattle.rr_node.specs.Lines.{Run, Served, Verdict, skipped, put, refused, after, served_at_start, first_of, HasStopped, IsServed, keeper_with, keeper_with_some, keeper_within, published_after, verdict_of, with_item}
 use Rattle.rr_host.proofs.ClockLemmas.{HasGiven-trans}
 use Rattle.rr_node.proofs.ConnectionLemmas.{ends_here}
-use Rattle.rr_node.proofs.StreamLemmas.{answered_in_part}
+use Rattle.rr_node.proofs.StreamLemmas.{answered_in_part, answers_in_part}
 
 -- ---- what readers may see
 
@@ -101,6 +101,7 @@ has_stopped rules run Comes moments each gave stops = record {
   ];
   keeper = elim (stops.ends.keeper) [ inl part ↦ inl part | inr all ↦ inr (all.0, each (λ bytes. stops.ends.lines ≡ items true bytes) all.1, all.2) ];
   answered = λ later. each _ (λ bytes comes. stops.answered bytes comes later);
+  reported = elim (stops.reported) [ inl all ↦ inl all | inr part ↦ inr (λ later. each _ (λ bytes comes. part bytes comes later)) ];
 }
 
 -- before the end of the input
@@ -141,6 +142,7 @@ stopped_between c run left going so_far =
     stopped_before c c.rules run so_far.taken left so_far.moments going so_far.consumed so_far.gave (record {
       ends = ends_here c run.old run.new so_far.taken so_far.text so_far.moments so_far.served;
       answered = λ bytes comes later. answered_in_part c run.old run.new so_far.taken so_far.text so_far.moments later bytes run.written run.written_since so_far.served comes (so_far.text, [], sym (append-nil so_far.text), so_far.appended);
+      reported = inr (λ bytes comes later. answers_in_part c run.old run.new so_far.taken so_far.text so_far.moments later bytes run.written run.written_since so_far.served comes (so_far.text, [], sym (append-nil so_far.text), so_far.appended));
     })
 
 -- how a connection stands when the read comes that tells the end, and what it then has

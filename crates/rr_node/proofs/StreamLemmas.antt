@@ -1,5 +1,5 @@
 -- Lines that are served while their stream is read.
-use Rattle.std.proofs.Common.{◌≡◌, ℕ, ℤ, true, List, [], ◌++◌, Option, refl, sym, ap, subst, ◌∙◌, append_assoc, inr}
+use Rattle.std.proofs.Common.{◌≡◌, ℕ, ℤ, true, List, [], ◌++◌, Option, refl, sym, ap, subst, ◌∙◌, append_assoc, inl, inr}
 use Rattle.std.proofs.lemmas.List.{append-nil}
 use Rattle.std.specs.Prelude.{count_by}
 use Rattle.std.specs.Io.KnownBytes.{Appends}
@@ -15,7 +15,7 @@ use Rattle.rr_node.specs.declared.report.Report.{Report}
 use Rattle.rr_node.specs.declared.rules.Rules.{Rules}
 use Rattle.rr_node.specs.Connection.{ComesAfter, Ends, HasServed, IsWhole, Serves, standing, Stops}
 use Rattle.rr_node.specs.Lines.{Served, after, answer_of, asks_clock, report_text}
-use Rattle.rr_node.proofs.ConnectionLemmas.{answer_front, comes_too, ends_here, ends_of, served_all}
+use Rattle.rr_node.proofs.ConnectionLemmas.{answer_front, answers_front, comes_too, ends_here, ends_of, served_all}
 
 -- a writer that has the answers so far has a front of the whole answer
 pub answered_so_far : (c : Connection) (start k : KeeperState) (pushed text : List ℕ) (given moments later : List ℤ) (bytes : List ℕ) (first written : Option (List ℕ)) → HasServed c start pushed given k text → ComesAfter c.feed pushed bytes → Appends first written text
@@ -31,12 +31,26 @@ answered_in_part c start k pushed text given later bytes first since has comes p
     let front = answer_front c start k pushed text given later bytes has comes in
     subst (AppendsPrefix first since) (sym front.1) (prefix_before first since text front.0 part)
 
+-- so it has of the answers alone
+pub answers_so_far : (c : Connection) (start k : KeeperState) (pushed text : List ℕ) (given moments later : List ℤ) (bytes : List ℕ) (first written : Option (List ℕ)) → HasServed c start pushed given k text → ComesAfter c.feed pushed bytes → Appends first written text
+    → AppendsPrefix first written (after c.rules start ((given ++ moments) ++ later) (items true bytes)).answers
+answers_so_far c start k pushed text given moments later bytes first written has comes appends =
+    let front = answers_front c start k pushed text given (moments ++ later) bytes has comes in
+    (text, front.0, ap (λ (m : List ℤ). (after c.rules start m (items true bytes)).answers) (append_assoc given moments later) ∙ front.1, appends)
+
+pub answers_in_part : (c : Connection) (start k : KeeperState) (pushed text : List ℕ) (given later : List ℤ) (bytes : List ℕ) (first since : Option (List ℕ)) → HasServed c start pushed given k text → ComesAfter c.feed pushed bytes → AppendsPrefix first since text
+    → AppendsPrefix first since (after c.rules start (given ++ later) (items true bytes)).answers
+answers_in_part c start k pushed text given later bytes first since has comes part =
+    let front = answers_front c start k pushed text given later bytes has comes in
+    subst (AppendsPrefix first since) (sym front.1) (prefix_before first since text front.0 part)
+
 -- memory ran out while lines were served, and nothing more was written
 pub stops_serving : (c : Connection) (start k now : KeeperState) (pushed text : List ℕ) (given moments : List ℤ) (first written : Option (List ℕ)) → Ends c k now moments → HasServed c start pushed given k text → Appends first written text
     → Stops c.rules start now (ComesAfter c.feed pushed) (given ++ moments) first written
 stops_serving c start k now pushed text given moments first written ends has appends = record {
   ends = ends start pushed given text has;
   answered = λ bytes comes later. answered_so_far c start k pushed text given moments later bytes first written has comes appends;
+  reported = inr (λ bytes comes later. answers_so_far c start k pushed text given moments later bytes first written has comes appends);
 }
 
 -- lines were served, and a front of the answers to them was written
@@ -49,14 +63,28 @@ stops_answering old new start k now pushed text more given moments first written
       ends = ends_of new.rules old.rules start now (ComesAfter new.feed pushed) (ComesAfter old.feed pushed) (given ++ moments) (given ++ moments) serves.rules refl comes (ends_here new start now pushed (text ++ more) (given ++ moments) served);
       answered = λ bytes coming later. subst (λ (r : Rules). AppendsPrefix first since (answer_of (after r start ((given ++ moments) ++ later) (items true bytes)))) serves.rules
           (answered_in_part new start now pushed (text ++ more) (given ++ moments) later bytes first since served (comes bytes coming) (prefix_after first written since text more appends part));
+      reported = inr (λ bytes coming later. subst (λ (r : Rules). AppendsPrefix first since (after r start ((given ++ moments) ++ later) (items true bytes)).answers) serves.rules
+          (answers_in_part new start now pushed (text ++ more) (given ++ moments) later bytes first since served (comes bytes coming) (prefix_after first written since text more appends part)));
     }
 
 -- the same, of fewer inputs and of rules that are the same
-pub stops_of : (rules same : Rules) (start now : KeeperState) (Comes Fewer : List ℕ → Type 0) (moments : List ℤ) (first since : Option (List ℕ)) → rules ≡ same → ((bytes : List ℕ) → Fewer bytes → Comes bytes) → Stops rules start now Comes moments first since → Stops same start now Fewer moments first since
-stops_of rules same start now Comes Fewer moments first since by_rules fewer stops = record {
-  ends = ends_of rules same start now Comes Fewer moments moments by_rules refl fewer stops.ends;
-  answered = λ bytes comes later. subst (λ (r : Rules). AppendsPrefix first since (answer_of (after r start (moments ++ later) (items true bytes)))) by_rules (stops.answered bytes (fewer bytes comes) later);
+stops_fewer : (rules : Rules) (start now : KeeperState) (Comes Fewer : List ℕ → Type 0) (moments : List ℤ) (first since : Option (List ℕ)) → ((bytes : List ℕ) → Fewer bytes → Comes bytes) → Stops rules start now Comes moments first since → Stops rules start now Fewer moments first since
+stops_fewer rules start now Comes Fewer moments first since fewer stops = record {
+  ends = record {
+    lines = stops.ends.lines;
+    last = stops.ends.last;
+    count = stops.ends.count;
+    input = λ bytes comes. stops.ends.input bytes (fewer bytes comes);
+    asked = stops.ends.asked;
+    keeper = elim (stops.ends.keeper) [ inl part ↦ inl part | inr all ↦ inr (all.0, λ bytes comes. all.1 bytes (fewer bytes comes), all.2) ];
+  };
+  answered = λ bytes comes later. stops.answered bytes (fewer bytes comes) later;
+  reported = elim (stops.reported) [ inl all ↦ inl all | inr part ↦ inr (λ bytes comes later. part bytes (fewer bytes comes) later) ];
 }
+
+pub stops_of : (rules same : Rules) (start now : KeeperState) (Comes Fewer : List ℕ → Type 0) (moments : List ℤ) (first since : Option (List ℕ)) → rules ≡ same → ((bytes : List ℕ) → Fewer bytes → Comes bytes) → Stops rules start now Comes moments first since → Stops same start now Fewer moments first since
+stops_of rules same start now Comes Fewer moments first since by_rules fewer stops =
+    subst (λ (r : Rules). Stops r start now Fewer moments first since) by_rules (stops_fewer rules start now Comes Fewer moments first since fewer stops)
 
 -- at the end of the input what was pushed is all of it
 pub comes_at_end : (feed : FeedState) (pushed bytes : List ℕ) → bytes ≡ pushed → ComesAfter feed pushed bytes
@@ -92,6 +120,7 @@ stops_reporting c start k now pushed text given first written since done publish
           let whole : answer_of (after c.rules start (given ++ later) (items true bytes)) ≡ text ++ report_text c.report =
           ap (λ (b : List ℕ). answer_of (after c.rules start (given ++ later) (items true b))) e ∙ ap answer_of (done_later c start k pushed text given later done) in
           subst (AppendsPrefix first since) (sym whole) (prefix_after first written since text (report_text c.report) appends part);
+      reported = inl (refl, published ∙ ap (λ (s : Served). with_all_published s.keeper) (sym all.1));
     }
 
 -- once it is written all is answered

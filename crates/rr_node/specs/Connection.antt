@@ -117,6 +117,9 @@ pub record Stops (rules : Rules) (start now : KeeperState) (Comes : List ℕ →
   pub ends : EndsWithin rules start now Comes moments
   pub answered : (bytes : List ℕ) → Comes bytes → (later : List ℤ)
       → AppendsPrefix written since (answer_of (after rules start (moments ++ later) (items true bytes)))
+  pub reported : ((ends.last ≡ []) × (now ≡ with_all_published (after rules start moments ends.lines).keeper))
+      ⊎ ((bytes : List ℕ) → Comes bytes → (later : List ℤ)
+      → AppendsPrefix written since (after rules start (moments ++ later) (items true bytes)).answers)
 
 -- memory ran out while items were served with these moments
 abbrev pub Ends : Connection → KeeperState → KeeperState → List ℤ → Type 0

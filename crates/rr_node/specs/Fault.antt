@@ -45,6 +45,10 @@ of_session_fault session.WriteFailed = node.Session session.WriteFailed
 of_session_fault session.Memory = node.Memory
 of_session_fault session.Failed = node.Session session.Failed
 
+-- the faults of a line connection
+abbrev pub IsOfLines : NodeFault → Type 0
+IsOfLines fault = (fault ≡ node.ReadFailed) ⊎ (fault ≡ node.WriteFailed) ⊎ (fault ≡ node.TooManyReads) ⊎ (fault ≡ node.Memory)
+
 -- the faults of a call that writes
 abbrev pub IsOfWriting : NodeFault → Type 0
 IsOfWriting fault = (fault ≡ node.WriteFailed) ⊎ (fault ≡ node.Memory)

@@ -197,3 +197,6 @@ pub record HasStopped (rules : Rules) (run : Run) : Type 0 where
   pub published : IsPrefix run.old.published run.new.published
   pub answered : (later : List ℤ) → IfSome run.input (λ bytes.
       AppendsPrefix run.written run.written_since (answer_of (after rules run.old (moments ++ later) (items true bytes))))
+  pub reported : ((last ≡ []) × (run.new ≡ with_all_published (after rules run.old moments lines).keeper))
+      ⊎ ((later : List ℤ) → IfSome run.input (λ bytes.
+      AppendsPrefix run.written run.written_since (after rules run.old (moments ++ later) (items true bytes)).answers))

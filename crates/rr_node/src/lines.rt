@@ -1,6 +1,7 @@
 //! Lines from a reader, handed to the keeper of a desk.
 
-ghost use Rattle.std.specs.Prelude.{◌≡◌, ◌+◌, ◌≤◌, Err, IfOk, OnErr};
+ghost use Rattle.std.specs.Prelude.{◌≡◌, ◌+◌, ◌≤◌, Err, IfErr, IfOk, OnErr};
+ghost use Rattle.rr_node.specs.Fault.{IsOfLines};
 ghost use Rattle.rr_io.specs.Counted.{inner_of, failures_of, reads_of, HasRisen, HasRisenBy};
 ghost use Rattle.rr_text.specs.declared.limits.TheConstants.{MAX_READS};
 ghost use Rattle.rr_node.specs.Lines.{rules_of, HasStopped, IsServed};
@@ -70,6 +71,7 @@ pub fn serve_lines<A: Archive, R: Read, W: Write, C: Clock, T: Wait>(
 
     // When a stream is to blame.
     ensures read_failed { result ≡ Err NodeFault.ReadFailed → HasRisen (failures_of input.old) (failures_of input.new) }
+    ensures faults { IfErr result IsOfLines }
     ensures limit { reads_of input.new ≤ reads_of input.old + MAX_READS }
     ensures too_many { result ≡ Err NodeFault.TooManyReads
         → HasRisenBy MAX_READS (reads_of input.old) (reads_of input.new) }
@@ -119,6 +121,7 @@ pub fn serve_lines_within<A: Archive, R: Read, W: Write, C: Clock, T: Wait>(
 
     // When a stream is to blame.
     ensures read_failed { result ≡ Err NodeFault.ReadFailed → HasRisen (failures_of input.old) (failures_of input.new) }
+    ensures faults { IfErr result IsOfLines }
     ensures limit { reads_of input.new ≤ reads_of input.old + reads }
     ensures too_many { result ≡ Err NodeFault.TooManyReads
         → HasRisenBy reads (reads_of input.old) (reads_of input.new) }

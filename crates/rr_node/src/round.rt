@@ -1,6 +1,6 @@
 //! A round of the keeper: the lines of a connection, the pulls from all peers, and a save.
 
-ghost use Rattle.std.specs.Prelude.{List};
+ghost use Rattle.std.specs.Prelude.{◌≡◌, IfErr, List};
 ghost use Rattle.rr_host.specs.Calls.{DialCall, Grows};
 ghost use Rattle.rr_node.specs.Shelf.{ShelfCall};
 ghost use Rattle.rr_node.specs.Round.{EndsLines, EndsRound, came_in};
@@ -70,12 +70,13 @@ pub fn keep_round<A: Archive, V: Visits, D: Dial, S: Shelf, C: Clock, T: Wait>(
     config: &Config,
     rt: &T,
 ) -> Result<bool, NodeFault>
-    ensures { (calls : List Call) × (dialed : List DialCall) × (shelved : List ShelfCall)
+    ensures round { (calls : List Call) × (dialed : List DialCall) × (shelved : List ShelfCall)
         × HasCalled (V.calls lines.old) (V.calls lines.new) calls
         × Grows (D.calls dial.old) (D.calls dial.new) dialed
         × Grows (S.calls shelf.old) (S.calls shelf.new) shelved
         × EndsRound config.now (came_in result) keeper.old keeper.new
         (C.given clock.old) (C.given clock.new) calls dialed shelved }
+    ensures memory { IfErr result (λ fault. fault ≡ NodeFault.Memory) }
 {
     if !take_lines(alloc, keeper, lines, clock, config, rt)? {
         return Ok(false);

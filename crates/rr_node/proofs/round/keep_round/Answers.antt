@@ -3,27 +3,27 @@ use Rattle.std.proofs.lemmas.Result.{err_from_is_err_and}
 use Rattle.rr_host.proofs.CallsLemmas.{grows_not, grows_on}
 use Rattle.rr_node.proofs.round.keep_round.Goals as goal
 
-pub returns-in_err-take_lines : goal.returns-in_err-take_lines
-returns-in_err-take_lines g c =
+pub returns-in_err-take_lines-clause-round : goal.returns-in_err-take_lines-clause-round
+returns-in_err-take_lines-clause-round g c =
     let e = err_from_is_err_and c.from_residual.result c.from_residual.ensures.1 in
     let p = c.in_err-take_lines.ensures in
     rw e.1 (p.0, [], [], p.1, grows_not _, grows_not _, inl (inr refl, p.2, refl, refl))
 
-pub returns-then-not-branch : goal.returns-then-not-branch
-returns-then-not-branch g c =
+pub returns-then-not-branch-clause-round : goal.returns-then-not-branch-clause-round
+returns-then-not-branch-clause-round g c =
     let p = c.in_ok-take_lines.ensures in
     (p.0, [], [], p.1, grows_not _, grows_not _, inl (inl refl, rw c.if-not-branch.true at p.2, refl, refl))
 
-pub returns-in_err-pull_peers : goal.returns-in_err-pull_peers
-returns-in_err-pull_peers g c =
+pub returns-in_err-pull_peers-clause-round : goal.returns-in_err-pull_peers-clause-round
+returns-in_err-pull_peers-clause-round g c =
     let e = err_from_is_err_and c.from_residual-in_err-pull_peers.result c.from_residual-in_err-pull_peers.ensures.1 in
     let p = c.in_ok-take_lines.ensures in
     let q = c.in_err-pull_peers.ensures in
     let pulled = rw c.deref.ensures.value at q.4 in
     rw e.1 (p.0, q.0, q.1, p.1, q.2, q.3, inr (_, rw c.if-not-branch.false at p.2, inl (refl, pulled)))
 
-pub returns-in_err-save_to : goal.returns-in_err-save_to
-returns-in_err-save_to g c =
+pub returns-in_err-save_to-clause-round : goal.returns-in_err-save_to-clause-round
+returns-in_err-save_to-clause-round g c =
     let e = err_from_is_err_and c.from_residual-in_err-save_to.result c.from_residual-in_err-save_to.ensures.1 in
     let p = c.in_ok-take_lines.ensures in
     let q = c.in_ok-pull_peers.ensures in
@@ -31,8 +31,8 @@ returns-in_err-save_to g c =
     let pulled = rw c.deref.ensures.value at q.4 in
     rw e.1 (p.0, q.0, q.1 ++ s.0, p.1, q.2, grows_on _ _ _ _ _ q.3 s.1, inr (_, rw c.if-not-branch.false at p.2, inr (q.1, s.0, pulled, inr (refl, s.2), refl)))
 
-pub returns : goal.returns
-returns g c =
+pub returns-clause-round : goal.returns-clause-round
+returns-clause-round g c =
     let p = c.in_ok-take_lines.ensures in
     let q = c.in_ok-pull_peers.ensures in
     let s = c.in_ok-save_to.ensures in
