@@ -1,0 +1,359 @@
+-- Deeds, one after the other: the nodes have the cells of the marks that reached them, and what they hold stays without
+-- gaps.
+use Rattle.std.proofs.Common.{◌≡◌, ◌≢◌, ℕ, zero, suc, ◌+◌, ◌<◌, ◌&&◌, ℤ, Bool, true, false, cond, IsTrue, List, [], ◌∷◌, map, fold, slice_get, refl, sym, ap, ◌∙◌, subst, arith, true≢false, ⊎_elim, Option, Some, None, is_some}
+use Rattle.std.specs.Prelude.{◌==◌, nat_le, if◌then◌else◌}
+use Rattle.std.specs.Option.{option_map}
+use Rattle.std.specs.List.{AllByRecursion}
+use Rattle.std.specs.Ordering.{nat_cmp, eq_by_cmp}
+use Rattle.std.specs.Cmp.{nat_cmp_total}
+use Rattle.std.specs.FinMap.{empty, get, insert, contains_key, retain_keys, get-empty, get-insert, get-retain_keys, same_map, nat_cmp-IsAntisymmetric}
+use Rattle.std.proofs.lemmas.Bool.{eqb-true, leb-true}
+use Rattle.rr_text.specs.declared.limits.TheConstants.{MAX_NUMBER}
+use Rattle.rr_text.specs.Options.{◌>>=◌}
+use Rattle.rr_schema.specs.Schema.{Layout, IsLayout}
+use Rattle.rr_contrib.specs.declared.contribution.Contribution.{Contribution}
+use Rattle.rr_join.proofs.Booleans.{and_first, and_second}
+use Rattle.rr_join.proofs.Members.{same_from_tie}
+use Rattle.rr_join.proofs.ValuesLemmas.{insert_cases, get-insert_itself, insert_there, get-map_values, is_some-map_values, map_values-empty, map_values-insert}
+use Rattle.rr_model.specs.CellNames.{CellName, cell_name_cmp}
+use Rattle.rr_model.specs.FetchText.{fetch_text}
+use Rattle.rr_model.specs.Samples.{Sample, name_of, marks_of}
+use Rattle.rr_model.specs.Knowledge.{Knowledge, IsAheadOf, knows, union, with_marks, live, cell, cells_where, is_live_in}
+use Rattle.rr_model.specs.World.{World, IsWritten, IsNext, IsClosed, HoldsAllOf, with_sample}
+use Rattle.rr_model.proofs.Knowing.{is_in-keys_of, knows-cell, knows-empty, name_from_tie}
+use Rattle.rr_model.proofs.Orders.{cell_name_cmp_total, cell_name_cmp-IsAntisymmetric}
+use Rattle.rr_model.proofs.WholeCells.{whole_cells_are_closed, live_is_closed}
+use Rattle.rr_model.proofs.Writes.{nothing_is_closed, others_stay_closed, others_hold_own, writer_stays_closed, writer_holds_own, union_is_closed, union_holds_own, written_now}
+use Rattle.rr_cells.specs.CellBounds.{NamedCell}
+use Rattle.rr_cells.specs.Cells.{Cells}
+use Rattle.rr_cells.specs.Joining.{next_after}
+use Rattle.rr_cells.specs.Joins.{join, join_cell}
+use Rattle.rr_cells.specs.Puts.{put_sample}
+use Rattle.rr_cells.specs.State.{state}
+use Rattle.rr_cells.proofs.CellByCell.{join_cell_unites, join_nothing}
+use Rattle.rr_cells.proofs.OneSampleMore.{put_is_one_sample_more}
+use Rattle.rr_cells.proofs.States.{get-state, no_value, state_is_trimmed}
+use Rattle.rr_cells.proofs.Uniting.{join_states, value_top}
+use Rattle.rr_cells.proofs.WholeCells.{live_makes_the_same, state_where}
+use Rattle.rr_fetch.specs.Answers.{cells_text}
+use Rattle.rr_fetch.proofs.RowLaws.{answer_of_state}
+use Rattle.rr_nodes.specs.Nodes.{Node, Nodes, Moment, Deed, opened, wrote, took, loaded, where_some, held_at, all_held, holding, with_new, written, taken, after, after_all}
+use Rattle.rr_nodes.specs.Models.{cell_model, sample_model}
+use Rattle.rr_nodes.specs.Laws.{node_in_cells, in_cells, IsSound, NodesAreOfSamples, FetchesAreOfSamples, MomentsAnswerAlike, PremisesAreKept}
+
+-- ---- what nodes hold, in cells
+
+slice_of_map : {X Y : Type 0} (f : X → Y) (xs : List X) (i : ℕ) → slice_get (map f xs) i ≡ option_map f (slice_get xs i)
+slice_of_map f [] i = refl
+slice_of_map f (x ∷ xs) zero = refl
+slice_of_map f (x ∷ xs) (suc i) = slice_of_map f xs i
+
+get_in_cells : (s : Layout) (ns : Nodes Knowledge) (origin : ℕ) → get (in_cells s ns) origin ≡ option_map (node_in_cells s) (get ns origin)
+get_in_cells s ns origin = get-map_values nat_cmp_total nat_cmp-IsAntisymmetric (node_in_cells s) ns origin
+
+pub held_in_cells : (s : Layout) (ns : Nodes Knowledge) (there : Moment) → held_at (in_cells s ns) there ≡ option_map (state s) (held_at ns there)
+held_in_cells s ns there = ap (λ (o : Option (Node Cells)). o >>= λ n. slice_get (all_held n) there.ago) (get_in_cells s ns there.origin) ∙ by (get ns there.origin)
+  where
+    by : (o : Option (Node Knowledge)) → (option_map (node_in_cells s) o >>= λ n. slice_get (all_held n) there.ago) ≡ option_map (state s) (o >>= λ n. slice_get (all_held n) there.ago)
+    by None = refl
+    by (Some n) = slice_of_map (state s) (all_held n) there.ago
+
+nothing_in_cells : (s : Layout) → empty ≡ state s empty
+nothing_in_cells s = same_map cell_name_cmp_total cell_name_cmp-IsAntisymmetric empty (state s empty) (λ n.
+    get-empty cell_name_cmp n ∙ sym (get-state s empty n ∙ no_value s (cell s empty n) (λ m.
+    knows-cell s empty n m ∙ ap (λ b. (b && is_live_in s empty (name_of s m)) && eq_by_cmp cell_name_cmp (name_of s m) n) (knows-empty m))))
+
+-- ---- a cell that is taken
+
+module _ (s : Layout) (is : IsLayout s) (w : World) (k l : Knowledge) (ck : IsClosed s w k) (cl : IsClosed s w l) (name : CellName) where
+  abbrev cell_there : Knowledge
+  cell_there = cells_where s l (eq_by_cmp cell_name_cmp name)
+
+  pub there_is_closed : IsClosed s w cell_there
+  there_is_closed = whole_cells_are_closed s w l (eq_by_cmp cell_name_cmp name) cl
+
+  -- where there is none, the marks of its name bring nothing
+  none_is_nothing : get (state s l) name ≡ None → retain_keys (state s l) (eq_by_cmp cell_name_cmp name) ≡ empty
+  none_is_nothing none = same_map cell_name_cmp_total cell_name_cmp-IsAntisymmetric (retain_keys (state s l) (eq_by_cmp cell_name_cmp name)) empty (λ q.
+      get-retain_keys (state s l) (eq_by_cmp cell_name_cmp name) q (λ x t. ap (eq_by_cmp cell_name_cmp name) (sym (cell_name_cmp-IsAntisymmetric q x t)))
+      ∙ elim (eq_by_cmp cell_name_cmp name q) as (λ b. eq_by_cmp cell_name_cmp name q ≡ b → cond b (get (state s l) q) None ≡ None) [
+        | true ↦ λ t. ap (get (state s l)) (sym (same_from_tie cell_name_cmp_total cell_name_cmp-IsAntisymmetric name q t)) ∙ none
+        | false ↦ λ t. refl
+      ] refl
+      ∙ sym (get-empty cell_name_cmp q))
+
+  none_is_taken : get (state s l) name ≡ None → state s k ≡ state s (union k cell_there)
+  none_is_taken none =
+      join_nothing s (state s k) (state_is_trimmed s is k)
+      ∙ ap (join s (state s k)) (sym (state_where s is l (eq_by_cmp cell_name_cmp name) ∙ none_is_nothing none))
+      ∙ join_states s is w k cell_there ck there_is_closed
+
+  pub cells_taken : (cell_model.with_cell) s (state s k) (state s l) name ≡ state s (union k cell_there)
+  cells_taken = elim (get (state s l) name) as (λ o. get (state s l) name ≡ o → where_some o (state s k) (λ c. join_cell s (state s k) name c) ≡ state s (union k cell_there)) [
+    | None ↦ λ e. none_is_taken e
+    | Some c ↦ λ e. join_cell_unites s w k l name c is ck cl e
+  ] refl
+
+-- ---- the next number stays
+
+next_after_earlier : (origin next : ℕ) (e : NamedCell) → (e.0.origin ≡ origin → e.1.version < next) → next_after origin next e ≡ next
+next_after_earlier origin next e earlier = by (e.0.origin == origin) (nat_le next e.1.version) refl refl
+  where
+    by : (a b : Bool) → (e.0.origin == origin) ≡ a → nat_le next e.1.version ≡ b → cond (a && b) (e.1.version + 1) next ≡ next
+    by true true t u = let below = earlier (eqb-true e.0.origin origin t) in let past = leb-true next e.1.version u in omega (arith, below, past)
+    by true false t u = refl
+    by false b t u = refl
+
+module _ (s : Layout) (w : World) (origin next : ℕ) (past : (x : Sample) → IsWritten w x → x.origin ≡ origin → x.number < next) (l : Knowledge) (cl : IsClosed s w l) where
+  -- a version is the number of one of the cell's marks
+  versions_are_below : (c : CellName) (v : Contribution) → get (state s l) c ≡ Some v → c.origin ≡ origin → v.version < next
+  versions_are_below c v at own =
+      let top = value_top s (cell s l c) v (sym (get-state s l c) ∙ at) in
+      let known_so = knows l top.mark && is_live_in s l (name_of s top.mark) in
+      let named_so = eq_by_cmp cell_name_cmp (name_of s top.mark) c in
+      let here = sym (knows-cell s l c top.mark) ∙ sym (is_in-keys_of (cell s l c) top.mark) ∙ top.known in
+      let known = and_first (knows l top.mark) (is_live_in s l (name_of s top.mark)) (and_first known_so named_so here) in
+      let name = name_from_tie s top.mark c (and_second known_so named_so here) in
+      subst (λ (number : ℕ). number < next) top.number (past top.mark.sample (cl.written top.mark known).0 (ap (λ (q : CellName). q.origin) name ∙ own))
+
+  pub next_stays : (name : CellName) → (cell_model.next_past) origin next (state s l) name ≡ next
+  next_stays name = elim (get (state s l) name) as (λ o. get (state s l) name ≡ o → where_some o next (λ c. next_after origin next (name, c)) ≡ next) [
+    | None ↦ λ e. refl
+    | Some c ↦ λ e. next_after_earlier origin next (name, c) (versions_are_below name c e)
+  ] refl
+
+-- ---- sound nodes
+
+each_closed : (s : Layout) (w v : World) (ks : List Knowledge) → ((k : Knowledge) → IsClosed s w k → IsClosed s v k) → AllByRecursion (IsClosed s w) ks → AllByRecursion (IsClosed s v) ks
+each_closed s w v [] f all = tt
+each_closed s w v (k ∷ ks) f all = (f k all.0, each_closed s w v ks f all.1)
+
+at_slice : (P : Knowledge → Type 0) (ks : List Knowledge) (i : ℕ) (k : Knowledge) → AllByRecursion P ks → slice_get ks i ≡ Some k → P k
+at_slice P [] i k all e = absurd cc
+at_slice P (l ∷ ks) zero k all e = let same : l ≡ k = cc in subst P same all.0
+at_slice P (l ∷ ks) (suc i) k all e = at_slice P ks i k all.1 e
+
+pub held_is_closed : (s : Layout) (w : World) (ns : Nodes Knowledge) → IsSound s w ns → (there : Moment) (k : Knowledge) → held_at ns there ≡ Some k → IsClosed s w k
+held_is_closed s w ns sound there k = by (get ns there.origin) refl
+  where
+    by : (o : Option (Node Knowledge)) → get ns there.origin ≡ o → (o >>= λ n. slice_get (all_held n) there.ago) ≡ Some k → IsClosed s w k
+    by None e h = absurd cc
+    by (Some n) e h = at_slice (IsClosed s w) (all_held n) there.ago k (sound.closed there.origin n e) h
+
+put_cases : {P : Type 0} (ns : Nodes Knowledge) (origin : ℕ) (n : Node Knowledge) (q : ℕ) (o : Node Knowledge) → get (insert ns origin n) q ≡ Some o → (q ≡ origin → n ≡ o → P) → (q ≢ origin → get ns q ≡ Some o → P) → P
+put_cases ns origin n q o = insert_cases nat_cmp_total nat_cmp-IsAntisymmetric ns origin n q o
+
+still_there : (ns : Nodes Knowledge) (origin : ℕ) (n : Node Knowledge) (q : ℕ) → IsTrue (is_some (get ns q)) → IsTrue (is_some (get (insert ns origin n) q))
+still_there ns origin n q there = subst (λ (o : Option (Node Knowledge)). IsTrue (is_some o)) (sym (get-insert nat_cmp_total ns origin n q)) (by (eq_by_cmp nat_cmp q origin))
+  where
+    by : (b : Bool) → IsTrue (is_some (cond b (Some n) (get ns q)))
+    by true = refl
+    by false = there
+
+module _ (s : Layout) (is : IsLayout s) (w : World) (ns : Nodes Knowledge) (sound : IsSound s w ns) (origin : ℕ) where
+  -- a node more
+  pub new_is_sound : (k : Knowledge) → IsClosed s w k → contains_key ns origin ≡ false → IsSound s w (insert ns origin (record { next = 1; now = k; before = [] }))
+  new_is_sound k ck unused =
+      let none : (x : Sample) → IsWritten w x → x.origin ≢ origin = λ x was same. true≢false (sym (sound.written x was) ∙ ap (λ (o : ℕ). is_some (get ns o)) same ∙ unused) in
+      let new : Node Knowledge = record { next = 1; now = k; before = [] } in
+      record {
+        closed = λ q o e. put_cases ns origin new q o e
+            (λ at same. subst (λ (n : Node Knowledge). AllByRecursion (IsClosed s w) (all_held n)) same (ck, tt))
+            (λ other here. sound.closed q o here);
+        own = λ q o e. put_cases ns origin new q o e
+            (λ at same m of is. absurd (none m.sample of.0 (is ∙ at)))
+            (λ other here. sound.own q o here);
+        past = λ q o e x was is. put_cases ns origin new q o e
+            (λ at same. absurd (none x was (is ∙ at)))
+            (λ other here. sound.past q o here x was is);
+        written = λ x was. still_there ns origin new x.origin (sound.written x was);
+      }
+
+  module _ (n : Node Knowledge) (here : get ns origin ≡ Some n) where
+    -- a node that takes in what has no gaps
+    pub taken_is_sound : (k : Knowledge) → IsClosed s w k → IsSound s w (insert ns origin (holding n n.next (union n.now k)))
+    taken_is_sound k ck =
+        let all = sound.closed origin n here in
+        let new = holding n n.next (union n.now k) in
+        record {
+          closed = λ q o e. put_cases ns origin new q o e
+              (λ at same. subst (λ (n : Node Knowledge). AllByRecursion (IsClosed s w) (all_held n)) same (union_is_closed s w n.now k is all.0 ck, all))
+              (λ other there. sound.closed q o there);
+          own = λ q o e. put_cases ns origin new q o e
+              (λ at same. subst (λ (y : ℕ × Node Knowledge). HoldsAllOf s w y.1.now y.0) (λ i. (sym at i, same i)) (union_holds_own s w n.now k origin (sound.own origin n here)))
+              (λ other there. sound.own q o there);
+          past = λ q o e x was is. put_cases ns origin new q o e
+              (λ at same. subst (λ (y : Node Knowledge). x.number < y.next) same (sound.past origin n here x was (is ∙ at)))
+              (λ other there. sound.past q o there x was is);
+          written = λ x was. still_there ns origin new x.origin (sound.written x was);
+        }
+
+    -- a node that writes
+    module _ (key : List ℕ) (time value : ℤ) where
+      abbrev x : Sample
+      x = record { time = time; origin = origin; number = n.next; key = key; value = value }
+
+      pub is_next : IsNext w x
+      is_next y was same = sound.past origin n here y was same
+
+      pub is_ahead : IsAheadOf x n.now
+      is_ahead m known same = is_next m.sample ((sound.closed origin n here).0.written m known).0 same
+
+      abbrev writer : Node Knowledge
+      writer = holding n (n.next + 1) (with_marks n.now (marks_of s x))
+
+      closed_then : (k : Knowledge) → IsClosed s w k → IsClosed s (with_sample w x) k
+      closed_then k ck = others_stay_closed s w k x ck is_next
+
+      pub written_is_sound : IsSound s (with_sample w x) (insert ns origin writer)
+      written_is_sound =
+          let all = sound.closed origin n here in
+          let own = sound.own origin n here in
+          record {
+            closed = λ q o e. put_cases ns origin writer q o e
+                (λ at same. subst (λ (n : Node Knowledge). AllByRecursion (IsClosed s (with_sample w x)) (all_held n)) same (writer_stays_closed s w n.now x is all.0 is_next own, each_closed s w (with_sample w x) (all_held n) closed_then all))
+                (λ other there. each_closed s w (with_sample w x) (all_held o) closed_then (sound.closed q o there));
+            own = λ q o e. put_cases ns origin writer q o e
+                (λ at same. subst (λ (y : ℕ × Node Knowledge). HoldsAllOf s (with_sample w x) y.1.now y.0) (λ i. (sym at i, same i)) (writer_holds_own s w n.now x own))
+                (λ other there. others_hold_own s w o.now x q other (sound.own q o there));
+            past = λ q o e y was is. put_cases ns origin writer q o e
+                (λ at same. subst (λ (z : Node Knowledge). y.number < z.next) same (⊎_elim
+                (λ (t : y ≡ x). let number : y.number ≡ n.next = ap (λ (z : Sample). z.number) t in omega (arith, number))
+                (λ (old : IsWritten w y). let below : y.number < n.next = sound.past origin n here y old (is ∙ at) in omega (arith, below))
+                (written_now w x y was)))
+                (λ other there. ⊎_elim
+                (λ (t : y ≡ x). absurd (other (sym is ∙ ap (λ (z : Sample). z.origin) t)))
+                (λ (old : IsWritten w y). sound.past q o there y old is)
+                (written_now w x y was));
+            written = λ y was. ⊎_elim
+                (λ (t : y ≡ x). subst (λ (q : ℕ). IsTrue (is_some (get (insert ns origin writer) q))) (sym (ap (λ (z : Sample). z.origin) t)) (ap is_some (get-insert_itself nat_cmp_total nat_cmp-IsAntisymmetric ns origin writer)))
+                (λ (old : IsWritten w y). still_there ns origin writer y.origin (sound.written y old))
+                (written_now w x y was);
+          }
+
+-- ---- one deed
+
+-- the nodes of the two models agree, and those of samples are sound
+record Agree (s : Layout) (cells : Nodes Cells) (ns : Nodes Knowledge) : Type 0 where
+  same : cells ≡ in_cells s ns
+  w : World
+  sound : IsSound s w ns
+
+place_agrees : (s : Layout) (ns : Nodes Knowledge) (origin : ℕ) (c : Node Cells) (n : Node Knowledge) → c ≡ node_in_cells s n → insert (in_cells s ns) origin c ≡ in_cells s (insert ns origin n)
+place_agrees s ns origin c n e = ap (insert (in_cells s ns) origin) e ∙ sym (map_values-insert nat_cmp_total nat_cmp-IsAntisymmetric (node_in_cells s) ns origin n)
+
+module _ (s : Layout) (is : IsLayout s) (w : World) (ns : Nodes Knowledge) (sound : IsSound s w ns) where
+  unchanged : Agree s (in_cells s ns) ns
+  unchanged = record { same = refl; w = w; sound = sound }
+
+  -- what is there in one model is there in the other
+  where_agrees : {X Y : Type 0} (view : X → Y) (o : Option X) (p : Option Y) (g : Y → Nodes Cells) (h : X → Nodes Knowledge) → p ≡ option_map view o
+      → ((x : X) → o ≡ Some x → Agree s (g (view x)) (h x)) → Agree s (where_some p (in_cells s ns) g) (where_some o ns h)
+  where_agrees {X} {Y} view o p g h e each = subst (λ (y : Option Y). Agree s (where_some y (in_cells s ns) g) (where_some o ns h)) (sym e) (by o each)
+    where
+      by : (z : Option X) → ((x : X) → z ≡ Some x → Agree s (g (view x)) (h x)) → Agree s (where_some (option_map view z) (in_cells s ns) g) (where_some z ns h)
+      by None each = unchanged
+      by (Some x) each = each x refl
+
+  new_agrees : (origin : ℕ) (m : Cells) (k : Knowledge) → IsClosed s w k → m ≡ state s k → Agree s (with_new (in_cells s ns) origin m) (with_new ns origin k)
+  new_agrees origin m k ck e = subst (λ (b : Bool). Agree s (if b then in_cells s ns else insert (in_cells s ns) origin (record { next = 1; now = m; before = [] })) (with_new ns origin k)) (sym (is_some-map_values nat_cmp_total nat_cmp-IsAntisymmetric (node_in_cells s) ns origin)) (by (contains_key ns origin) refl)
+    where
+      by : (b : Bool) → contains_key ns origin ≡ b → Agree s (if b then in_cells s ns else insert (in_cells s ns) origin (record { next = 1; now = m; before = [] })) (if b then ns else insert ns origin (record { next = 1; now = k; before = [] }))
+      by true t = unchanged
+      by false t = record {
+        same = place_agrees s ns origin (record { next = 1; now = m; before = [] }) (record { next = 1; now = k; before = [] }) (λ i. record { next = 1; now = e i; before = [] });
+        w = w;
+        sound = new_is_sound s is w ns sound origin k ck t;
+      }
+
+  write_agrees : (origin : ℕ) (key : List ℕ) (time value : ℤ) (n : Node Knowledge) → get ns origin ≡ Some n
+      → Agree s (insert (in_cells s ns) origin (written cell_model s origin (node_in_cells s n) key time value)) (insert ns origin (written sample_model s origin n key time value))
+  write_agrees origin key time value n here = by (nat_le n.next MAX_NUMBER)
+    where
+      y : Sample
+      y = record { time = time; origin = origin; number = n.next; key = key; value = value }
+
+      by : (b : Bool) → Agree s (insert (in_cells s ns) origin (if b then holding (node_in_cells s n) (n.next + 1) (put_sample s (state s n.now) y) else node_in_cells s n)) (insert ns origin (if b then holding n (n.next + 1) (with_marks n.now (marks_of s y)) else n))
+      by true = record {
+        same = place_agrees s ns origin _ (holding n (n.next + 1) (with_marks n.now (marks_of s y)))
+            (ap (λ (m : Cells). holding (node_in_cells s n) (n.next + 1) m) (put_is_one_sample_more s n.now y is (is_ahead s is w ns sound origin n here key time value)));
+        w = with_sample w y;
+        sound = written_is_sound s is w ns sound origin n here key time value;
+      }
+      by false = record {
+        same = place_agrees s ns origin (node_in_cells s n) n refl;
+        w = w;
+        sound = subst (IsSound s w) (sym (insert_there nat_cmp_total nat_cmp-IsAntisymmetric ns origin n here)) sound;
+      }
+
+  take_agrees : (origin : ℕ) (name : CellName) (n : Node Knowledge) (k : Knowledge) → get ns origin ≡ Some n → IsClosed s w k
+      → Agree s (insert (in_cells s ns) origin (taken cell_model s origin (node_in_cells s n) (state s k) name)) (insert ns origin (taken sample_model s origin n k name))
+  take_agrees origin name n k here ck =
+      let cells = cells_taken s is w n.now k (sound.closed origin n here).0 ck name in
+      let next = next_stays s w origin n.next (sound.past origin n here) k ck name in
+      record {
+        same = place_agrees s ns origin _ (taken sample_model s origin n k name) (λ i. holding (node_in_cells s n) (next i) (cells i));
+        w = w;
+        sound = taken_is_sound s is w ns sound origin n here (cells_where s k (eq_by_cmp cell_name_cmp name)) (there_is_closed s is w n.now k (sound.closed origin n here).0 ck name);
+      }
+
+  deed_agrees : (d : Deed) → Agree s (after cell_model s (in_cells s ns) d) (after sample_model s ns d)
+  deed_agrees (opened origin) = new_agrees origin empty empty (nothing_is_closed s w) (nothing_in_cells s)
+  deed_agrees (wrote origin key time value) =
+      where_agrees (node_in_cells s) (get ns origin) (get (in_cells s ns) origin) _ _ (get_in_cells s ns origin) (λ n here. write_agrees origin key time value n here)
+  deed_agrees (took origin there name) =
+      where_agrees (node_in_cells s) (get ns origin) (get (in_cells s ns) origin) _ _ (get_in_cells s ns origin) (λ n here.
+      where_agrees (state s) (held_at ns there) (held_at (in_cells s ns) there) _ _ (held_in_cells s ns there) (λ k was.
+      take_agrees origin name n k here (held_is_closed s w ns sound there k was)))
+  deed_agrees (loaded origin there) =
+      where_agrees (state s) (held_at ns there) (held_at (in_cells s ns) there) _ _ (held_in_cells s ns there) (λ k was.
+      new_agrees origin (state s k) (live s k) (live_is_closed s w k (held_is_closed s w ns sound there k was)) (sym (live_makes_the_same s k is)))
+
+-- ---- all deeds
+
+deeds_agree : (s : Layout) → IsLayout s → (w : World) (ns : Nodes Knowledge) → IsSound s w ns → (deeds : List Deed) → Agree s (fold (after cell_model s) (in_cells s ns) deeds) (fold (after sample_model s) ns deeds)
+deeds_agree s is w ns sound [] = unchanged s is w ns sound
+deeds_agree s is w ns sound (d ∷ deeds) =
+    let one = deed_agrees s is w ns sound d in
+    subst (λ (m : Nodes Cells). Agree s (fold (after cell_model s) m deeds) (fold (after sample_model s) (after sample_model s ns d) deeds)) (sym one.same)
+    (deeds_agree s is one.w (after sample_model s ns d) one.sound deeds)
+
+nothing_is_sound : (s : Layout) → IsSound s empty empty
+nothing_is_sound s =
+    let no_node : (origin : ℕ) (n : Node Knowledge) → ◌≢◌ {A = Option (Node Knowledge)} (get {R = nat_cmp} empty origin) (Some n) = λ origin n e. true≢false (sym (ap is_some e) ∙ ap is_some (get-empty nat_cmp origin)) in
+    record {
+      closed = λ origin n e. absurd (no_node origin n e);
+      own = λ origin n e. absurd (no_node origin n e);
+      past = λ origin n e. absurd (no_node origin n e);
+      written = λ x was. absurd (true≢false (sym (ap is_some was) ∙ ap is_some (get-empty _ (x.origin, x.number))));
+    }
+
+from_nothing : (s : Layout) → IsLayout s → (deeds : List Deed) → Agree s (after_all cell_model s deeds) (after_all sample_model s deeds)
+from_nothing s is deeds =
+    subst (λ (m : Nodes Cells). Agree s (fold (after cell_model s) m deeds) (after_all sample_model s deeds)) (map_values-empty nat_cmp_total nat_cmp-IsAntisymmetric (node_in_cells s))
+    (deeds_agree s is empty empty (nothing_is_sound s) deeds)
+
+pub nodes_are_of_samples : NodesAreOfSamples
+nodes_are_of_samples s deeds is = (from_nothing s is deeds).same
+
+pub premises_are_kept : PremisesAreKept
+premises_are_kept s deeds is = let all = from_nothing s is deeds in (all.w, all.sound)
+
+-- what is held in cells at a moment
+pub held_then : (s : Layout) (deeds : List Deed) (at : Moment) → IsLayout s → held_at (after_all cell_model s deeds) at ≡ option_map (state s) (held_at (after_all sample_model s deeds) at)
+held_then s deeds at is = ap (λ (m : Nodes Cells). held_at m at) (nodes_are_of_samples s deeds is) ∙ held_in_cells s (after_all sample_model s deeds) at
+
+pub fetches_are_of_samples : FetchesAreOfSamples
+fetches_are_of_samples s deeds at q is = ap (option_map (λ m. cells_text s m q)) (held_then s deeds at is) ∙ by (held_at (after_all sample_model s deeds) at)
+  where
+    by : (o : Option Knowledge) → option_map (λ m. cells_text s m q) (option_map (state s) o) ≡ option_map (λ k. fetch_text s k q) o
+    by None = refl
+    by (Some k) = ap Some (answer_of_state s is k q)
+
+pub moments_answer_alike : MomentsAnswerAlike
+moments_answer_alike s deeds a b is same =
+    held_then s deeds a is ∙ by_live (held_at (after_all sample_model s deeds) a) ∙ ap (option_map (state s)) same ∙ sym (by_live (held_at (after_all sample_model s deeds) b)) ∙ sym (held_then s deeds b is)
+  where
+    by_live : (o : Option Knowledge) → option_map (state s) o ≡ option_map (state s) (option_map (live s) o)
+    by_live None = refl
+    by_live (Some k) = ap Some (sym (live_makes_the_same s k is))

@@ -1,0 +1,63 @@
+//! The laws of several nodes, with no work to do: the functions have empty bodies.
+ghost use Rattle.rr_nodes.specs.Laws.{NodesAreOfSamples, FetchesAreOfSamples, MomentsAnswerAlike, PremisesAreKept};
+ghost use Rattle.rr_nodes.specs.Keepers.{OpeningIsANode, PutIsADeed, JoinIsADeed, PageIsDeeds, PublishIsNone, ReadersSeeMoments, ReadersAnswerFromSamples, ReadersAnswerAlike};
+ghost use Rattle.rr_nodes.specs.Calls.{CallsAnswerFromSamples};
+ghost use Rattle.rr_nodes.specs.Giving.{GivenAreThere, UnusedHaveNoCells, SavedIsLoadedElsewhere};
+ghost use Rattle.rr_nodes.specs.Models.{cell_model, sample_model};
+ghost use Rattle.rr_nodes.specs.Pulls.{TakesAreInOrder, PullsBringAll};
+
+/// Whatever is done at however many nodes, in whatever order: at each moment each node has the cells of
+/// the marks that reached it, so a fetch is answered by exactly these; and who knows the same live marks
+/// has the same cells.
+pub fn nodes_answer_from_samples()
+    ensures cells { NodesAreOfSamples }
+    ensures fetches { FetchesAreOfSamples }
+    ensures alike { MomentsAnswerAlike }
+{}
+
+/// What is done keeps the premises by itself: what a node held at any moment has no gaps, and it has all
+/// marks of its own origin, whose next number is past them.
+pub fn premises_are_kept()
+    ensures { PremisesAreKept }
+{}
+
+/// What the calls of a keeper do is what deeds do at its node: to open a desk, to put a sample, to join a
+/// cell of what another node held, or a page of them; to publish does nothing there.
+pub fn keepers_are_nodes()
+    ensures opening { OpeningIsANode }
+    ensures put { PutIsADeed }
+    ensures join { JoinIsADeed }
+    ensures page { PageIsDeeds }
+    ensures publish { PublishIsNone }
+{}
+
+/// What a reader has seen is what its node held when it had as many operations, so whatever was done at all
+/// nodes, it answers by exactly the marks that had reached its node then; and by the same live marks alike.
+pub fn readers_answer_from_samples()
+    ensures moments { ReadersSeeMoments }
+    ensures answers { ReadersAnswerFromSamples }
+    ensures alike { ReadersAnswerAlike }
+{}
+
+/// Cells of one moment are taken in order, whatever else that node does; and a node that has taken all cells
+/// that it lacked has the live marks of what either knew.
+pub fn pulls_bring_all()
+    ensures cells { TakesAreInOrder cell_model }
+    ensures marks { TakesAreInOrder sample_model }
+    ensures all { PullsBringAll }
+{}
+
+/// Each cell that a reader gives is there, so whoever joins it takes it; and what a keeper saves is loaded,
+/// under an origin that no node has, as a replica that holds what its node does.
+pub fn cells_given_are_there()
+    ensures given { GivenAreThere }
+    ensures unused { UnusedHaveNoCells }
+    ensures loaded { SavedIsLoadedElsewhere }
+{}
+
+/// Whatever calls the keepers of several desks make, of one schema and each under an origin of its own,
+/// joining cells and loading snapshots of what desks have had: each reader of each desk answers by exactly
+/// the marks that had reached its node when it had the operations that the reader has seen.
+pub fn calls_are_deeds()
+    ensures { CallsAnswerFromSamples }
+{}
