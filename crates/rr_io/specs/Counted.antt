@@ -1,5 +1,5 @@
 -- What a counted stream shows, and what a failed call does to its count.
-use Rattle.std.specs.Prelude.{◌≡◌, ℕ, ◌+◌, ◌-◌, ◌^◌, ◌<◌, Bool, true, not, ◌&&◌, ◌==◌, min, Result, Ok, Err, ◌⊎◌, if◌then◌else◌}
+use Rattle.std.specs.Prelude.{◌≡◌, ℕ, ◌+◌, ◌-◌, ◌^◌, ◌<◌, Bool, true, false, not, ◌&&◌, ◌==◌, min, Result, Ok, Err, ◌⊎◌, if◌then◌else◌}
 use Rattle.rr_io.specs.declared.counted.Counted.{Counted}
 
 -- the reader or writer inside
@@ -10,6 +10,14 @@ inner_of c = c.inner
 abbrev pub reads_of : {S : Type 0} → Counted S → ℕ
 reads_of c = c.reads
 
+-- how many of its reads told the end, up to the greatest number of 64 bits
+abbrev pub ends_of : {S : Type 0} → Counted S → ℕ
+ends_of c = c.ends
+
+-- nothing was written since it last passed on what it held back
+abbrev pub is_flushed : {S : Type 0} → Counted S → Bool
+is_flushed c = c.flushed
+
 -- how many of its calls failed, up to the greatest number of 64 bits
 abbrev pub failures_of : {S : Type 0} → Counted S → ℕ
 failures_of c = c.failures
@@ -17,6 +25,11 @@ failures_of c = c.failures
 -- one call more: the greatest number stays
 abbrev pub one_more : ℕ → ℕ
 one_more n = if n == 2 ^ 64 - 1 then n else n + 1
+
+-- a read into a buffer of this length told the end: it gave no byte, though there was room
+abbrev pub is_end_read : {E : Type 0} → Result ℕ E → ℕ → Bool
+is_end_read (Ok given) room = (given == 0) && not (room == 0)
+is_end_read (Err e) room = false
 
 -- a write of a piece of this length failed: it says so, or took no byte of a piece that isn't empty
 abbrev pub is_failed_write : {E : Type 0} → Result ℕ E → ℕ → Bool

@@ -1,23 +1,27 @@
 //! Readers and writers that count their calls.
 
-ghost use Rattle.std.specs.Prelude.{◌≡◌, length, MatchResult, if◌then◌else◌};
+ghost use Rattle.std.specs.Prelude.{◌≡◌, length, true, false, MatchResult, if◌then◌else◌};
 ghost use Rattle.std.specs.Io.{ReadsAtMost, WritesAtMost};
 ghost use Rattle.std.specs.Io.KnownBytes.{Keeps, ReadConsumes, WriteAppends};
-ghost use Rattle.rr_io.specs.Counted.{inner_of, failures_of, reads_of, one_more, is_failed_write};
+ghost use Rattle.rr_io.specs.Counted.{inner_of, failures_of, reads_of, ends_of, is_flushed, one_more, is_end_read, is_failed_write};
 
 use std::io;
 use std::io::{Read, Write};
 
-/// A reader or a writer, with the number of its calls that failed and the number of its reads.
+/// A reader or a writer, with the number of its calls that failed, the number of its reads and of
+/// those that told the end, and whether it has passed on what was written.
 ///
 /// Code that answers that a stream failed can be held to it: the number of failures has then risen,
-/// or is at its greatest value. Code that reads within a limit can be held to that too. The bytes
-/// are those of the stream inside.
+/// or is at its greatest value. Code that reads within a limit can be held to that too, and to what
+/// it was told; and code that answers a writer, to have it pass on the answer. The bytes are those
+/// of the stream inside.
 #[derive(Drop)]
 pub struct Counted<S> {
     inner: S,
     failures: u64,
     reads: u64,
+    ends: u64,
+    flushed: bool,
 }
 
 impl<S> Counted<S> {
@@ -26,11 +30,15 @@ impl<S> Counted<S> {
         ensures inner { inner_of result ≡ stream }
         ensures failures { failures_of result ≡ 0 }
         ensures reads { reads_of result ≡ 0 }
+        ensures ends { ends_of result ≡ 0 }
+        ensures flushed { is_flushed result ≡ true }
     {
         Counted {
             inner: stream,
             failures: 0,
             reads: 0,
+            ends: 0,
+            flushed: true,
         }
     }
 
@@ -49,6 +57,21 @@ impl<S> Counted<S> {
         self.reads
     }
 
+    /// How many of its reads told the end: they gave no byte, though there was room. The number
+    /// stops at its greatest value.
+    pub fn ends(&self) -> u64
+        ensures { result ≡ ends_of self.now }
+    {
+        self.ends
+    }
+
+    /// Whether nothing was written since it was last made to pass on what it holds back, and did.
+    pub fn is_flushed(&self) -> bool
+        ensures { result ≡ is_flushed self.now }
+    {
+        self.flushed
+    }
+
     /// The stream inside.
     pub fn into_inner(self) -> S
         ensures { result ≡ inner_of self }
@@ -59,9 +82,21 @@ impl<S> Counted<S> {
     fn count_failure(&mut self)
         ensures inner { inner_of self.new ≡ inner_of self.old }
         ensures reads { reads_of self.new ≡ reads_of self.old }
+        ensures ends { ends_of self.new ≡ ends_of self.old }
+        ensures flushed { is_flushed self.new ≡ is_flushed self.old }
         ensures count { failures_of self.new ≡ one_more (failures_of self.old) }
     {
         self.failures = self.failures.saturating_add(1);
+    }
+}
+
+/// Whether a read into a buffer of `room` bytes told the end: it gave none, though there was room.
+fn is_end_read(given: &io::Result<usize>, room: usize) -> bool
+    ensures { result ≡ is_end_read given.now room }
+{
+    match given {
+        Ok(given) => *given == 0 && room != 0,
+        Err(_) => false,
     }
 }
 
@@ -85,9 +120,14 @@ impl<R: Read> Read for Counted<R> {
         ensures count { MatchResult result (λ _. failures_of self.new ≡ failures_of self.old)
             (λ _. failures_of self.new ≡ one_more (failures_of self.old)) }
         ensures reads { reads_of self.new ≡ one_more (reads_of self.old) }
+        ensures ends { ends_of self.new ≡ (if is_end_read result (length buf.new)
+            then one_more (ends_of self.old) else ends_of self.old) }
     {
         self.reads = self.reads.saturating_add(1);
         let given = self.inner.read(buf);
+        if is_end_read(&given, buf.len()) {
+            self.ends = self.ends.saturating_add(1);
+        }
         if given.is_err() {
             self.count_failure();
         }
@@ -104,7 +144,9 @@ impl<W: Write> Write for Counted<W> {
             (W.contents (inner_of self.new)) result buf.now }
         ensures count { failures_of self.new ≡ (if is_failed_write result (length buf.now)
             then one_more (failures_of self.old) else failures_of self.old) }
+        ensures flushed { is_flushed self.new ≡ false }
     {
+        self.flushed = false;
         let taken = self.inner.write(buf);
         if is_failed_write(&taken, buf.len()) {
             self.count_failure();
@@ -116,10 +158,13 @@ impl<W: Write> Write for Counted<W> {
         ensures bytes { Keeps (W.contents (inner_of self.old)) (W.contents (inner_of self.new)) }
         ensures count { MatchResult result (λ _. failures_of self.new ≡ failures_of self.old)
             (λ _. failures_of self.new ≡ one_more (failures_of self.old)) }
+        ensures flushed { MatchResult result (λ _. is_flushed self.new ≡ true)
+            (λ _. is_flushed self.new ≡ is_flushed self.old) }
     {
         let flushed = self.inner.flush();
-        if flushed.is_err() {
-            self.count_failure();
+        match &flushed {
+            Ok(()) => self.flushed = true,
+            Err(_) => self.count_failure(),
         }
         flushed
     }

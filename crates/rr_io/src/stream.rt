@@ -8,12 +8,12 @@
 //! Whoever reads an input to its end in pieces of its own calls [`read_once`] in a loop of at most
 //! as many turns as the input may take reads, as [`read_to_end_within`] does.
 
-ghost use Rattle.std.specs.Prelude.{◌≡◌, ◌<◌, ◌≤◌, ◌+◌, ◌++◌, Ok, Err, None, Some, length, take, IfSome, IfOk, OnOk, OnErr};
+ghost use Rattle.std.specs.Prelude.{◌≡◌, ◌<◌, ◌≤◌, ◌+◌, ◌++◌, Ok, Err, None, Some, length, take, true, IfSome, IfOk, OnOk, OnErr, if◌then◌else◌};
 ghost use Rattle.std.specs.Io.{ReadsAtMost, WritesAtMost};
 ghost use Rattle.std.specs.Io.KnownBytes.{Appends, Consumes, IsAtEnd, Keeps, ReadConsumes, WriteAppends};
-ghost use Rattle.rr_io.specs.Counted.{inner_of, failures_of, reads_of, one_more, HasRisen, HasRisenBy};
+ghost use Rattle.rr_io.specs.Counted.{inner_of, failures_of, reads_of, ends_of, is_flushed, one_more, HasRisen, HasRisenBy};
 ghost use Rattle.rr_text.specs.declared.limits.TheConstants.{MAX_READS};
-ghost use Rattle.rr_io.specs.Stream.{AddsFront, AppendsPrefix, ConsumesSome, ReadsOnce};
+ghost use Rattle.rr_io.specs.Stream.{AddsFront, AppendsPrefix, ConsumesSome, ReadsOnce, TakesMore, tells_end};
 
 use crate::counted::Counted;
 use rr_text::limits::MAX_READS;
@@ -48,6 +48,8 @@ pub fn read_once<R: Read>(
     ensures bytes { ReadsOnce (R.remaining (inner_of input.old))
         (R.remaining (inner_of input.new)) result buf.new }
     ensures reads { reads_of input.new ≡ one_more (reads_of input.old) }
+    ensures ends { ends_of input.new ≡ (if tells_end result (length buf.new)
+        then one_more (ends_of input.old) else ends_of input.old) }
     ensures count { failures_of input.old ≤ failures_of input.new }
     ensures interrupted { result ≡ Ok None
         → HasRisen (failures_of input.old) (failures_of input.new) }
@@ -179,6 +181,9 @@ pub fn read_to_end<R: Read>(input: &mut Counted<R>, bytes: &mut Vec<u8>) -> Resu
     ensures limit { reads_of input.new ≤ reads_of input.old + MAX_READS }
     ensures too_many { result ≡ Err ReadFault.TooManyReads
         → HasRisenBy MAX_READS (reads_of input.old) (reads_of input.new) }
+    ensures no_end { result ≡ Err ReadFault.TooManyReads → ends_of input.new ≡ ends_of input.old }
+    ensures memory { result ≡ Err ReadFault.Memory → TakesMore (R.remaining (inner_of input.old))
+        (R.remaining (inner_of input.new)) bytes.old.items bytes.new.items }
 {
     read_to_end_within(input, bytes, MAX_READS)
 }
@@ -204,6 +209,9 @@ pub fn read_to_end_within<R: Read>(
     ensures limit { reads_of input.new ≤ reads_of input.old + reads }
     ensures too_many { result ≡ Err ReadFault.TooManyReads
         → HasRisenBy reads (reads_of input.old) (reads_of input.new) }
+    ensures no_end { result ≡ Err ReadFault.TooManyReads → ends_of input.new ≡ ends_of input.old }
+    ensures memory { result ≡ Err ReadFault.Memory → TakesMore (R.remaining (inner_of input.old))
+        (R.remaining (inner_of input.new)) bytes.old.items bytes.new.items }
 {
     let mut buffer = [0u8; PIECE];
     for _ in 0..reads {
@@ -261,6 +269,7 @@ pub fn write_all<W: Write>(output: &mut Counted<W>, text: &[u8]) -> Result<(), W
 
 /// Has the writer pass on what it holds back.
 pub fn flush<W: Write>(output: &mut Counted<W>) -> Result<(), WriteFailed>
+    ensures flushed { OnOk result (is_flushed output.new ≡ true) }
     ensures bytes { Keeps (W.contents (inner_of output.old)) (W.contents (inner_of output.new)) }
     ensures count { failures_of output.old ≤ failures_of output.new }
     ensures failed { OnErr result (HasRisen (failures_of output.old) (failures_of output.new)) }

@@ -13,4 +13,5 @@ loop-preserved g c =
       added = added_more _ _ _ _ _ _ _ c.loop.invariant.added read.1 c.in_ok-extend_from_slice.ensures.items;
       count = search rules;
       reads = search rules;
+      ends = search rules;
     }
