@@ -3,7 +3,7 @@
 //! A series is named by a measurement, tags and a field. Its key is a text of these names, and each
 //! series has one text only: [`SeriesKey::new`] writes it, with the tags in the order of their
 //! keys, and [`SeriesKey::parse_text`] takes such texts and no others. So keys are compared, sorted
-//! and sent as bytes.
+//! and sent as bytes. [`is_key_text`] tells which bytes are one, and takes no memory.
 //!
 //! ```text
 //! key text = measurement { "," tag key "=" tag value } " " field key
@@ -36,4 +36,5 @@ pub use escapes::{escape, unescape};
 pub use fault::KeyFault;
 pub use key::SeriesKey;
 pub use names::name_len;
+pub use reading::is_key_text;
 pub use rr_text::limits::MAX_TAGS;

@@ -15,7 +15,7 @@ use rr_text::bytes::{COMMA, EQUALS, SPACE, strip};
 use rr_text::limits::{MAX_KEY_TEXT, MAX_TAGS};
 
 /// Whether the bytes are a key text. One pass, and no memory.
-pub(crate) fn is_key_text(text: &[u8]) -> bool
+pub fn is_key_text(text: &[u8]) -> bool
     ensures { IsTrue result ↔ IsKeyText text.now }
 {
     if text.len() > MAX_KEY_TEXT {

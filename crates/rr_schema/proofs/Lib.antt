@@ -3,3 +3,4 @@ pub mod ChoiceLemmas
 pub mod PlaceLemmas
 pub mod Checked
 pub mod SchemaBytesLemmas
+pub mod AfterLemmas

@@ -1,5 +1,5 @@
 -- A schema as bytes: each number big-endian, the highest byte first.
-use Rattle.std.specs.Prelude.{◌≡◌, ℕ, List, ◌∷◌, ◌++◌, length}
+use Rattle.std.specs.Prelude.{◌≡◌, ◌≢◌, ℕ, List, ◌∷◌, ◌++◌, length, Option, None, Some}
 use Rattle.std.specs.Int.{w16, w32, to_be_bytes}
 use Rattle.std.specs.List.{flat_map}
 use Rattle.rr_schema.specs.declared.archive.ArchiveSpec.{ArchiveSpec}
@@ -12,6 +12,11 @@ archive_bytes a = a.steps ∷ to_be_bytes w32 a.rows ++ to_be_bytes w16 a.num ++
 -- the step in four bytes, how many archives there are in one, and the archives
 unfoldable pub schema_bytes : Layout → List ℕ
 schema_bytes s = to_be_bytes w32 s.step ++ length s.archives ∷ flat_map archive_bytes s.archives
+
+-- what follows a piece at the front of bytes, or nothing where they do not begin with it
+abbrev pub IsAfter : List ℕ → List ℕ → Option (List ℕ) → Type 0
+IsAfter piece bytes (Some rest) = bytes ≡ piece ++ rest
+IsAfter piece bytes None = (rest : List ℕ) → bytes ≢ piece ++ rest
 
 -- schemas within their limits have the same bytes only where they are the same, and no schema's bytes
 -- are the beginning of another's

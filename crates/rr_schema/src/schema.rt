@@ -1,6 +1,7 @@
 //! The schema of a store.
 
-ghost use Rattle.std.specs.Prelude.{◌≡◌, ◌<◌, ◌≤◌, ◌*◌, pos, length, unsigned_abs, unwrap_or, IfOk, IfErr, OnOk};
+ghost use Rattle.std.specs.Prelude.{◌≡◌, ◌<◌, ◌≤◌, ◌*◌, nat_eq, pos, length, unsigned_abs, unwrap_or, IfOk, IfErr, OnOk};
+ghost use Rattle.std.specs.Cmp.Lexicographic.{pointwise};
 ghost use Rattle.std.specs.Int.{int_div_euclid, int_rem_euclid};
 ghost use Rattle.std.specs.Result.{result_err};
 ghost use Rattle.rr_schema.specs.Schema.{IsLayout, archive_at, span, slot_of, place_of, is_known_enough, last_within, choice};
@@ -11,7 +12,7 @@ ghost use Rattle.rr_schema.specs.SchemaBytes.{schema_bytes};
 
 use crate::archive::ArchiveSpec;
 use crate::fault::SchemaFault;
-use crate::schema_bytes::{ARCHIVE_LEN, push_archives};
+use crate::schema_bytes::{ARCHIVE_LEN, are_of_schema, push_archives};
 use rr_text::limits::{MAX_ARCHIVES, MAX_ROWS, MAX_STEP, MAX_STEPS, MAX_XFF_DEN, NANOSECONDS};
 use std::alloc::{AllocError, Global};
 use std::marker::Model;
@@ -176,6 +177,14 @@ impl Schema {
         bytes.push(self.archives.len() as u8)?;
         push_archives(&mut bytes, &self.archives)?;
         Ok(bytes)
+    }
+
+    /// Whether these are the bytes. No memory is taken; the cost is linear in the archives.
+    #[tactic(auto, unfolding(crate::specs::SchemaBytes::schema_bytes))]
+    pub fn has_bytes(&self, bytes: &[u8]) -> bool
+        ensures { result ≡ pointwise nat_eq bytes.now (schema_bytes self.now) }
+    {
+        are_of_schema(self.step, &self.archives, bytes)
     }
 
     /// How many bytes these are.

@@ -1,8 +1,9 @@
 //! The archives of a schema as bytes.
-ghost use Rattle.std.specs.Prelude.{◌≡◌, ◌++◌, All, OnOk};
+ghost use Rattle.std.specs.Prelude.{◌≡◌, ◌++◌, ◌↔◌, ◌<◌, [], ◌∷◌, length, option_map, All, IsTrue, OnOk};
+ghost use Rattle.std.specs.Int.{w32, to_be_bytes};
 ghost use Rattle.std.specs.List.{flat_map};
 ghost use Rattle.rr_schema.specs.Schema.{IsArchive};
-ghost use Rattle.rr_schema.specs.SchemaBytes.{archive_bytes};
+ghost use Rattle.rr_schema.specs.SchemaBytes.{archive_bytes, IsAfter};
 
 use crate::archive::ArchiveSpec;
 use std::alloc::AllocError;
@@ -33,4 +34,61 @@ pub(crate) fn push_archives(bytes: &mut Vec<u8>, archives: &[ArchiveSpec]) -> Re
         push_archive(bytes, archive)?;
     }
     Ok(())
+}
+
+/// What follows a piece, if the bytes begin with it.
+fn after<'a>(piece: &[u8], bytes: &'a [u8]) -> Option<&'a [u8]>
+    ensures { IsAfter piece.now bytes.now (option_map (λ rest. rest.now) result) }
+{
+    bytes.strip_prefix(piece)
+}
+
+/// What follows the bytes of an archive, if the bytes begin with them.
+#[tactic(auto, unfolding(crate::specs::SchemaBytes::archive_bytes))]
+fn after_archive<'a>(archive: &ArchiveSpec, bytes: &'a [u8]) -> Option<&'a [u8]>
+    requires { IsArchive archive.now }
+    ensures { IsAfter (archive_bytes archive.now) bytes.now
+        (option_map (λ rest. rest.now) result) }
+{
+    let Some(rest) = after(&[archive.steps as u8], bytes) else {
+        return None;
+    };
+    let Some(rest) = after(&archive.rows.to_be_bytes(), rest) else {
+        return None;
+    };
+    let Some(rest) = after(&(archive.num as u16).to_be_bytes(), rest) else {
+        return None;
+    };
+    after(&(archive.den as u16).to_be_bytes(), rest)
+}
+
+/// Whether the bytes are those of archives, in order. No memory is taken.
+fn are_archives(archives: &[ArchiveSpec], bytes: &[u8]) -> bool
+    requires { All IsArchive archives.now }
+    ensures { IsTrue result ↔ (bytes.now ≡ flat_map archive_bytes archives.now) }
+{
+    let mut left = bytes;
+    for archive in archives {
+        let Some(rest) = after_archive(archive, left) else {
+            return false;
+        };
+        left = rest;
+    }
+    left.is_empty()
+}
+
+/// Whether the bytes are a step, the number of archives and their bytes. No memory is taken.
+pub(crate) fn are_of_schema(step: u32, archives: &[ArchiveSpec], bytes: &[u8]) -> bool
+    requires few { length archives.now < 256 }
+    requires each { All IsArchive archives.now }
+    ensures { IsTrue result ↔ (bytes.now
+        ≡ to_be_bytes w32 step ++ length archives.now ∷ flat_map archive_bytes archives.now) }
+{
+    let Some(rest) = after(&step.to_be_bytes(), bytes) else {
+        return false;
+    };
+    match after(&[archives.len() as u8], rest) {
+        Some(rest) => are_archives(archives, rest),
+        None => false,
+    }
 }

@@ -1,0 +1,29 @@
+-- What follows pieces at the front of bytes.
+use Rattle.std.proofs.Common.{◌≡◌, ◌≢◌, ℕ, ◌+◌, ◌<◌, ◌↔◌, List, ◌++◌, length, drop, Option, None, Some, Bor, option_map, get_or, sym, ap, ◌∙◌, append_assoc}
+use Rattle.std.specs.Prelude.{MatchOption}
+use Rattle.std.specs.List.{flat_map}
+use Rattle.std.proofs.lemmas.List.{append_cancel_left, drop_more}
+use Rattle.rr_schema.specs.declared.archive.ArchiveSpec.{ArchiveSpec}
+use Rattle.rr_schema.specs.SchemaBytes.{archive_bytes, IsAfter}
+
+pub after_is : (piece bytes : List ℕ) (o : Option (Bor (List ℕ))) → MatchOption o ((rest : List ℕ) → bytes ≢ piece ++ rest) (λ rest. bytes ≡ piece ++ rest.now) → IsAfter piece bytes (option_map (λ rest. rest.now) o)
+after_is piece bytes None h = h
+after_is piece bytes (Some rest) h = h
+
+-- the first of two pieces is not there
+pub first_missing : (first second bytes : List ℕ) → IsAfter first bytes None → IsAfter (first ++ second) bytes None
+first_missing first second bytes h = λ rest e. h (second ++ rest) (e ∙ append_assoc first second rest)
+
+-- the first of two pieces is there
+pub second_after : (first second bytes rest : List ℕ) (o : Option (List ℕ)) → bytes ≡ first ++ rest → IsAfter second rest o → IsAfter (first ++ second) bytes o
+second_after first second bytes rest None e h = λ more q. h more (append_cancel_left first rest (second ++ more) (sym e ∙ q ∙ append_assoc first second more))
+second_after first second bytes rest (Some more) e h = e ∙ ap (λ (r : List ℕ). first ++ r) h ∙ sym (append_assoc first second more)
+
+-- bytes are a piece and others exactly where what follows the piece is the others
+pub same_after : (piece bytes rest others : List ℕ) → bytes ≡ piece ++ rest → (bytes ≡ piece ++ others) ↔ (rest ≡ others)
+same_after piece bytes rest others e =
+    ((λ q. append_cancel_left piece rest others (sym e ∙ q)), λ q. e ∙ ap (λ (r : List ℕ). piece ++ r) q)
+
+-- the archives that are left are one and those after it
+pub archives_left : (archives : List ArchiveSpec) (i : ℕ) (d : ArchiveSpec) → i < length archives → flat_map archive_bytes (drop i archives) ≡ archive_bytes (get_or archives i d) ++ flat_map archive_bytes (drop (i + 1) archives)
+archives_left archives i d within = ap (flat_map archive_bytes) (drop_more archives i d within)
