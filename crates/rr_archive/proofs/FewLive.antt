@@ -1,12 +1,12 @@
--- An archive of live cells has at most so many as its rows times its origins.
-use Rattle.std.proofs.Common.{◌≡◌, ℕ, suc, ◌+◌, ◌-◌, ◌*◌, ◌<◌, ◌≤◌, ℤ, pos, negsuc, ◌-ℤ◌, ◌≤ℤ◌, ◌<ℤ◌, true, false, cond, List, [], ◌∷◌, map, length, refl, sym, ap, ◌∙◌, subst, true≢false, arith, eqb, ne_eqb, mul_comm, Some, None, is_some, int_cmp}
-use Rattle.std.specs.Prelude.{int_lt, unsigned_abs}
+-- An archive of live cells has at most so many as its rows times the origins of its cells.
+use Rattle.std.proofs.Common.{◌≡◌, ℕ, zero, suc, ◌+◌, ◌-◌, ◌*◌, ◌<◌, ◌≤◌, ℤ, pos, negsuc, ◌-ℤ◌, ◌≤ℤ◌, ◌<ℤ◌, Bool, true, false, cond, List, [], ◌∷◌, map, length, slice_get, refl, sym, ap, ◌∙◌, subst, true≢false, arith, eqb, ne_eqb, mul_comm, Some, None, is_some, int_cmp}
+use Rattle.std.specs.Prelude.{int_lt, unsigned_abs, slice_index_or, Contains}
 use Rattle.std.specs.List.{list_any, AllByRecursion}
 use Rattle.std.specs.List as lists
 use Rattle.std.specs.Option.{unwrap_or}
 use Rattle.std.specs.Ordering.{eq_by_cmp, ord_max}
 use Rattle.std.specs.FinMap.{get, keys, contains_key, len-entries, entries}
-use Rattle.std.proofs.lemmas.Bool.{eqb-true, or_right, or_parts}
+use Rattle.std.proofs.lemmas.Bool.{eqb-true, eq-eqb, or_right, or_parts}
 use Rattle.std.proofs.lemmas.Int.{ints}
 use Rattle.std.proofs.lemmas.Nat.{mul-add-lt, same_from_place}
 use Rattle.std.proofs.lemmas.Map.Keys.{IsDistinct-cons}
@@ -79,34 +79,63 @@ length-map : {A B : Type 0} (f : A → B) (xs : List A) → length (map f xs) �
 length-map f [] = refl
 length-map f (x ∷ xs) = ap suc (length-map f xs)
 
+-- ---- the place of an origin in a list of them
+
+place_in : List ℕ → ℕ → ℕ
+place_in [] o = 0
+place_in (x ∷ xs) o = cond (eqb x o) 0 (suc (place_in xs o))
+
+record IsPlaceOf (os : List ℕ) (o : ℕ) : Type 0 where
+  within : place_in os o < length os
+  there : slice_get os (place_in os o) ≡ Some o
+
+-- behind another
+behind : (x : ℕ) (xs : List ℕ) (o : ℕ) → eqb x o ≡ false → Contains (x ∷ xs) o → Contains xs o
+behind x xs o e (zero, below, at) = absurd (true≢false (sym (eq-eqb x o at) ∙ e))
+behind x xs o e (suc k, below, at) = (k, omega (arith, below), at)
+
+place_at : (x : ℕ) (xs : List ℕ) (o : ℕ) (b : Bool) → eqb x o ≡ b → (b ≡ false → IsPlaceOf xs o) → IsPlaceOf (x ∷ xs) o
+unfolding place_in
+place_at x xs o true e rest = record {
+  within = rw (e) (omega arith);
+  there = rw (e) (ap Some (eqb-true x o e));
+}
+place_at x xs o false e rest = record {
+  within = rw (e) (let w = (rest refl).within in omega (arith, w));
+  there = rw (e) ((rest refl).there);
+}
+
+find_place : (os : List ℕ) (o : ℕ) → Contains os o → IsPlaceOf os o
+find_place [] o (k, below, at) = absurd (omega (arith, below))
+find_place (x ∷ xs) o has = place_at x xs o (eqb x o) refl (λ e. find_place xs o (behind x xs o e has))
+
 -- ---- a cell slot as a number below the rows times the origins
 
-code : ℕ → ℤ → CellSlot → ℕ
-code origins top p = unsigned_abs (top -ℤ p.slot) * origins + (p.origin - 1)
+code : List ℕ → ℤ → CellSlot → ℕ
+code origins top p = unsigned_abs (top -ℤ p.slot) * length origins + place_in origins p.origin
 
-record Fits (rows origins : ℕ) (top : ℤ) (p : CellSlot) : Type 0 where
-  least : 1 ≤ p.origin
-  most : p.origin ≤ origins
+record Fits (rows : ℕ) (origins : List ℕ) (top : ℤ) (p : CellSlot) : Type 0 where
+  listed : IsPlaceOf origins p.origin
   below : int_lt top p.slot ≡ false
   near : unsigned_abs (top -ℤ p.slot) < rows
 
-module _ (rows origins : ℕ) (top : ℤ) where
-  code_below : (p : CellSlot) → Fits rows origins top p → code origins top p < rows * origins
+module _ (rows : ℕ) (origins : List ℕ) (top : ℤ) where
+  code_below : (p : CellSlot) → Fits rows origins top p → code origins top p < rows * length origins
   unfolding code
   code_below p f =
-      let last : p.origin - 1 < origins = (let a = f.least in let b = f.most in omega arith) in
-      subst (λ n. unsigned_abs (top -ℤ p.slot) * origins + (p.origin - 1) < n) (mul_comm origins rows) (mul-add-lt (unsigned_abs (top -ℤ p.slot)) origins (p.origin - 1) rows f.near last)
+      subst (λ n. unsigned_abs (top -ℤ p.slot) * length origins + place_in origins p.origin < n) (mul_comm (length origins) rows)
+      (mul-add-lt (unsigned_abs (top -ℤ p.slot)) (length origins) (place_in origins p.origin) rows f.near f.listed.within)
 
   one_code : (p q : CellSlot) → Fits rows origins top p → Fits rows origins top q → code origins top p ≡ code origins top q → p ≡ q
   unfolding code
   one_code p q f g e =
-      let last_p : p.origin - 1 < origins = (let a = f.least in let b = f.most in omega arith) in
-      let last_q : q.origin - 1 < origins = (let a = g.least in let b = g.most in omega arith) in
-      let parts = same_from_place (unsigned_abs (top -ℤ p.slot)) (p.origin - 1) (unsigned_abs (top -ℤ q.slot)) (q.origin - 1) origins last_p last_q e in
+      let parts = same_from_place (unsigned_abs (top -ℤ p.slot)) (place_in origins p.origin) (unsigned_abs (top -ℤ q.slot)) (place_in origins q.origin) (length origins) f.listed.within g.listed.within e in
       let slots = same_distance top p.slot q.slot f.below g.below parts.0 in
-      let rest : p.origin - 1 ≡ q.origin - 1 = parts.1 in
-      let origins_are : p.origin ≡ q.origin = (let a = f.least in let b = g.least in omega arith) in
-      λ i. record { slot = slots i; origin = origins_are i }
+      let one : p.origin ≡ q.origin = Some_one p.origin q.origin (sym f.listed.there ∙ ap (slice_get origins) parts.1 ∙ g.listed.there) in
+      λ i. record { slot = slots i; origin = one i }
+    where
+      Some_one : (a b : ℕ) → Some a ≡ Some b → a ≡ b
+      Some_one a b e = ap (λ v. unwrap_or v a) e
 
   abbrev AllFit : List CellSlot → Type 0
   AllFit ps = (p : CellSlot) → is_in cell_slot_cmp ps p ≡ true → Fits rows origins top p
@@ -133,14 +162,14 @@ module _ (rows origins : ℕ) (top : ℤ) where
       (codes_apart p ps (head_fits p ps f) (rest_fits p ps f) apart)
       (codes_distinct ps d (rest_fits p ps f))
 
-  all_below : (ps : List CellSlot) → AllFit ps → (q : ℕ) → list_any (eqb q) (map (code origins top) ps) ≡ true → q < rows * origins
+  all_below : (ps : List CellSlot) → AllFit ps → (q : ℕ) → list_any (eqb q) (map (code origins top) ps) ≡ true → q < rows * length origins
   all_below [] f q e = absurd (true≢false (sym e))
   all_below (p ∷ ps) f q e = either_case (eqb q (code origins top p)) (list_any (eqb q) (map (code origins top) ps)) e
-      (λ t. subst (λ n. n < rows * origins) (sym (eqb-true q (code origins top p) t)) (code_below p (head_fits p ps f)))
+      (λ t. subst (λ n. n < rows * length origins) (sym (eqb-true q (code origins top p) t)) (code_below p (head_fits p ps f)))
       (λ h. all_below ps (rest_fits p ps f) q h)
 
-  few : (ps : List CellSlot) → IsDistinct cell_slot_cmp ps → AllFit ps → length ps ≤ rows * origins
-  few ps d f = subst (λ n. n ≤ rows * origins) (length-map (code origins top) ps) (length-le_from_distinct_below (map (code origins top) ps) (rows * origins) (codes_distinct ps d f) (all_below ps f))
+  few : (ps : List CellSlot) → IsDistinct cell_slot_cmp ps → AllFit ps → length ps ≤ rows * length origins
+  few ps d f = subst (λ n. n ≤ rows * length origins) (length-map (code origins top) ps) (length-le_from_distinct_below (map (code origins top) ps) (rows * length origins) (codes_distinct ps d f) (all_below ps f))
 
 -- ---- the cell slots of a trimmed map
 
@@ -159,11 +188,11 @@ nothing_long (x ∷ xs) n e = absurd (true≢false (sym (head_in cell_slot_cmp_t
 
 pub cells_are_few : CellsAreFew
 cells_are_few rows origins m kept of =
-    subst (λ n. n ≤ rows * origins) (length-map (λ e. e.0) (entries m) ∙ sym (len-entries m))
-    (elim (newest_of (keys m)) as (λ g. newest_of (keys m) ≡ g → length (keys m) ≤ rows * origins) [
-      | None ↦ λ e. nothing_long (keys m) (rows * origins) e
+    subst (λ n. n ≤ rows * length origins) (length-map (λ e. e.0) (entries m) ∙ sym (len-entries m))
+    (elim (newest_of (keys m)) as (λ g. newest_of (keys m) ≡ g → length (keys m) ≤ rows * length origins) [
+      | None ↦ λ e. nothing_long (keys m) (rows * length origins) e
       | Some top ↦ λ e. few rows origins top (keys m) (keys_distinct m) (λ p is.
           let here = sym (is_in-keys cell_slot_cmp_total cell_slot_cmp-IsAntisymmetric m p) ∙ is in
           let below = elim (int_lt top p.slot) as (λ b. int_lt top p.slot ≡ b → b ≡ false) [ true ↦ λ h. newest_is_last (keys m) top e p is h | false ↦ λ h. refl ] refl in
-          record { least = (of p here).0; most = (of p here).1; below = below; near = within_rows top p.slot rows (above_top rows (keys m) top p e (live_there rows m kept p here)) below })
+          record { listed = find_place origins p.origin (of p here); below = below; near = within_rows top p.slot rows (above_top rows (keys m) top p e (live_there rows m kept p here)) below })
     ] refl)

@@ -1,5 +1,5 @@
 -- The laws of merging and joining the cells of one archive.
-use Rattle.std.specs.Prelude.{◌≡◌, ℕ, ◌<◌, ◌≤◌, ◌*◌, IsTrue}
+use Rattle.std.specs.Prelude.{◌≡◌, ℕ, ◌<◌, ◌≤◌, ◌*◌, IsTrue, List, length, Contains}
 use Rattle.std.specs.FinMap.{contains_key, len}
 use Rattle.rr_archive.specs.CellSlots.{CellSlot}
 use Rattle.rr_archive.specs.Cells.{Rows, merge_rows, join_rows, IsTrimmed}
@@ -26,6 +26,6 @@ JoinIsIdempotent = (rows : ℕ) (m : Rows) → 0 < rows → IsTrimmed rows m →
 abbrev pub JoinIsTrimmed : Type 0
 JoinIsTrimmed = (rows : ℕ) (m n : Rows) → 0 < rows → IsTrimmed rows (join_rows rows m n)
 
--- live cells are at most as many as the rows times the origins
+-- live cells are at most as many as the rows times the origins that they are of
 abbrev pub CellsAreFew : Type 0
-CellsAreFew = (rows origins : ℕ) (m : Rows) → IsTrimmed rows m → ((p : CellSlot) → IsTrue (contains_key m p) → (1 ≤ p.origin) × (p.origin ≤ origins)) → len m ≤ rows * origins
+CellsAreFew = (rows : ℕ) (origins : List ℕ) (m : Rows) → IsTrimmed rows m → ((p : CellSlot) → IsTrue (contains_key m p) → Contains origins p.origin) → len m ≤ rows * length origins

@@ -13,7 +13,7 @@ use Rattle.rr_join.proofs.Horizons.{live_by_members, live-append}
 use Rattle.rr_model.specs.CellNames.{CellName, cell_name_cmp}
 use Rattle.rr_model.specs.Samples.{Mark, mark_cmp, name_of, names_of}
 use Rattle.rr_model.specs.Knowledge.{Knowledge, knows, union, with_marks, is_live_in, live, cell}
-use Rattle.rr_model.specs.Laws.{UnionIsCommutative, UnionIsAssociative, UnionIsIdempotent}
+use Rattle.rr_model.specs.Laws.{UnionIsCommutative, UnionIsAssociative, UnionIsIdempotent, DeadStayDead}
 use Rattle.rr_model.proofs.Orders.{cell_name_cmp_total, cell_name_cmp-IsAntisymmetric, mark_cmp_total, mark_cmp-IsAntisymmetric}
 use Rattle.rr_model.proofs.Horizon.{live_horizon}
 
@@ -103,6 +103,17 @@ pub live_in-union : (s : Layout) → IsLayout s → (k l : Knowledge) (n : CellN
 live_in-union s is k l n =
     live_by_members cell_name_cmp_total cell_name_cmp-IsAntisymmetric (live_horizon s is) (names_of s (keys (union k l))) (names_of s (keys k) ++ names_of s (keys l)) n (names_of_union s k l)
     ∙ live-append cell_name_cmp_total cell_name_cmp-IsAntisymmetric (live_horizon s is) (names_of s (keys k)) (names_of s (keys l)) n
+
+-- who knows as much knows both
+union_within : (k l : Knowledge) → ((m : Mark) → knows k m ≡ true → knows l m ≡ true) → union k l ≡ l
+union_within k l within = same_knowledge (union k l) l (λ m. knows-union k l m ∙ by m (knows k m) refl)
+  where
+    by : (m : Mark) (b : Bool) → knows k m ≡ b → (b || knows l m) ≡ knows l m
+    by m true e = sym (within m e)
+    by m false e = refl
+
+pub dead_stay_dead : DeadStayDead
+dead_stay_dead s k l n is within dead = ap (λ (j : Knowledge). is_live_in s j n) (sym (union_within k l within)) ∙ live_in-union s is k l n ∙ ap (λ b. b && is_live_in s l n) dead
 
 -- ---- live marks
 

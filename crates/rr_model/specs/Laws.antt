@@ -1,11 +1,11 @@
 -- The laws, each the contract of a function of `src/laws.rt`.
-use Rattle.std.specs.Prelude.{◌≡◌, ◌≢◌, ℕ, ℤ, List, Bool}
+use Rattle.std.specs.Prelude.{◌≡◌, ◌≢◌, ℕ, ℤ, List, Bool, IsTrue, IsFalse}
 use Rattle.std.specs.FinMap.{empty}
 use Rattle.rr_schema.specs.declared.consolidation.ConsolidationFunction.{ConsolidationFunction}
 use Rattle.rr_schema.specs.Schema.{Layout, IsLayout}
 use Rattle.rr_model.specs.CellNames.{CellName}
-use Rattle.rr_model.specs.Samples.{Sample, marks_of}
-use Rattle.rr_model.specs.Knowledge.{Knowledge, union, with_marks, live, names, cells_where, cells_named, difference}
+use Rattle.rr_model.specs.Samples.{Sample, Mark, marks_of}
+use Rattle.rr_model.specs.Knowledge.{Knowledge, knows, union, with_marks, is_live_in, live, names, cells_where, cells_named, difference}
 use Rattle.rr_model.specs.World.{World, with_sample, IsNext, IsClosed, HoldsAllOf}
 use Rattle.rr_model.specs.Rows.{row}
 use Rattle.rr_model.specs.FetchText.{Request, fetch_text}
@@ -46,6 +46,12 @@ UnionIsClosed = (s : Layout) (w : World) (k l : Knowledge) → IsLayout s → Is
 -- and holds all of an origin of which one of the two does
 abbrev pub UnionHoldsOwn : Type 0
 UnionHoldsOwn = (s : Layout) (w : World) (k l : Knowledge) (origin : ℕ) → HoldsAllOf s w k origin → HoldsAllOf s w (union k l) origin
+
+-- a cell that is past the horizon of what is known is past that of all who know as much
+abbrev pub DeadStayDead : Type 0
+DeadStayDead =
+    (s : Layout) (k l : Knowledge) (n : CellName) → IsLayout s → ((m : Mark) → IsTrue (knows k m) → IsTrue (knows l m)) → IsFalse (is_live_in s k n)
+    → IsFalse (is_live_in s l n)
 
 -- whole cells of a closed knowledge are closed
 abbrev pub WholeCellsAreClosed : Type 0

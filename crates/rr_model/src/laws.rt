@@ -1,5 +1,5 @@
 //! The laws of the model, with no work to do: each function has an empty body.
-ghost use Rattle.rr_model.specs.Laws.{UnionIsCommutative, UnionIsAssociative, UnionIsIdempotent, NothingIsClosed, WriterStaysClosed, WriterHoldsOwn, OthersStayClosed, OthersHoldOwn, UnionIsClosed, UnionHoldsOwn, WholeCellsAreClosed, LiveIsClosed, WholeCellsAreLive, LiveIsLive, NamesAreOfTheLive, DifferenceBringsAll, RowsAreOfTheLive, FetchesAreOfTheLive, LiveAnswersAlike};
+ghost use Rattle.rr_model.specs.Laws.{UnionIsCommutative, UnionIsAssociative, UnionIsIdempotent, NothingIsClosed, WriterStaysClosed, WriterHoldsOwn, OthersStayClosed, OthersHoldOwn, UnionIsClosed, UnionHoldsOwn, DeadStayDead, WholeCellsAreClosed, LiveIsClosed, WholeCellsAreLive, LiveIsLive, NamesAreOfTheLive, DifferenceBringsAll, RowsAreOfTheLive, FetchesAreOfTheLive, LiveAnswersAlike};
 
 /// What is known after deliveries: in any order, in any grouping, any number of times.
 pub fn union_is_a_join()
@@ -18,6 +18,11 @@ pub fn knowledge_stays_closed()
     ensures others_hold_own { OthersHoldOwn }
     ensures united { UnionIsClosed }
     ensures union_holds_own { UnionHoldsOwn }
+{}
+
+/// What is past the horizon never comes back: it is dead to all who know as much.
+pub fn the_dead_stay_dead()
+    ensures { DeadStayDead }
 {}
 
 /// Whole cells, as in a page, and all live marks, as in a snapshot, are closed and live.
