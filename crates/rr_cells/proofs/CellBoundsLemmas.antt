@@ -16,7 +16,7 @@ use Rattle.rr_cells.specs.CellBounds.{IsCellOf}
 
 -- ---- the sum
 
-abs_at_most : (z : ℤ) → FitsSigned w64 z → unsigned_abs z ≤ 2 ^ 63
+pub abs_at_most : (z : ℤ) → FitsSigned w64 z → unsigned_abs z ≤ 2 ^ 63
 abs_at_most (pos n) fits = omega (arith, ints)
 abs_at_most (negsuc n) fits = omega (arith, ints)
 

@@ -29,7 +29,7 @@ use Rattle.rr_cells.specs.Holding.{Holding, IsHolding}
 use Rattle.rr_cells.proofs.CellBoundsLemmas.{KnownHasBounds, bounds_with, bounds_of, cell_from}
 use Rattle.rr_cells.proofs.Slots.{slot_is}
 use Rattle.rr_cells.proofs.Local.{get-rows_at}
-use Rattle.rr_cells.proofs.PutLaws.{few_held}
+use Rattle.rr_cells.proofs.PutLaws.{cells_few}
 use Rattle.rr_cells.proofs.PutsLemmas.{mark, with_mark, puts_trimmed, put_at, put_past, put_other_key}
 
 -- a sample of a key text, with a time and a value of 64 bits
@@ -138,7 +138,7 @@ module _ (h : Holding) (holds : IsHolding h) (x : Sample) (number : x.number ≡
             (λ was. let below = holds.own n c was at in omega arith)
             (λ new. let version = ap (λ (d : Contribution). d.version) (sym new.comes) ∙ added_version (get h.cells n) (slot_sample_of h.schema (mark x n.archive)) in omega arith)
             (put_cases h.schema holds.layout h.cells holds.live x n c e);
-        few = few_held h.schema (put_sample h.schema h.cells x) holds.layout live cells;
+        few = λ key archive origins has. cells_few h.schema (put_sample h.schema h.cells x) key archive origins holds.layout live has;
       }
 
   -- the sample can be added where it falls

@@ -17,3 +17,5 @@ pub mod CellByCell
 pub mod Parting
 pub mod OperationsLemmas
 pub mod JoiningLemmas
+pub mod ValidStates
+pub mod WrittenCells

@@ -30,7 +30,7 @@ some_either : {V : Type 0} (b : Bool) (v : V) (x : Option V) → is_some (cond b
 some_either true v x = refl
 some_either false v x = refl
 
-knows-insert : (c : Knowledge) (m y : Mark) → knows (insert c m tt) y ≡ (eq_by_cmp mark_cmp y m || knows c y)
+pub knows-insert : (c : Knowledge) (m y : Mark) → knows (insert c m tt) y ≡ (eq_by_cmp mark_cmp y m || knows c y)
 knows-insert c m y = ap is_some (get-insert mark_cmp_total c m tt y) ∙ some_either (eq_by_cmp mark_cmp y m) tt (get c y)
 
 module _ (s : Layout) (is : IsLayout s) (k : Knowledge) (m : Mark) (fresh : (y : Mark) → knows k y ≡ true → name_of s y ≡ name_of s m → y.number < m.number) where

@@ -1,19 +1,17 @@
 -- The laws of puts.
-use Rattle.std.proofs.Common.{◌≡◌, ℕ, ◌*◌, ◌≤◌, List, true, refl, sym, ap, ◌∙◌, true≢false, Option, Some, None, is_some}
-use Rattle.std.specs.Prelude.{nat_eq}
+use Rattle.std.proofs.Common.{◌≡◌, true, refl, sym, ap, ◌∙◌, true≢false, Option, Some, None, is_some}
+use Rattle.std.specs.Prelude.{nat_eq, Contains}
 use Rattle.std.specs.Cmp.Lexicographic.{pointwise, bytes_decides}
-use Rattle.std.specs.FinMap.{get, len}
+use Rattle.std.specs.FinMap.{get}
 use Rattle.std.proofs.lemmas.Bool.{false_from_ne_true}
-use Rattle.rr_schema.specs.Schema.{Layout, IsLayout, archive_at}
+use Rattle.rr_schema.specs.Schema.{archive_at}
 use Rattle.rr_contrib.specs.declared.contribution.Contribution.{Contribution}
 use Rattle.rr_contrib.specs.Contributions.{contribution_with}
 use Rattle.rr_archive.specs.CellSlots.{CellSlot}
 use Rattle.rr_archive.proofs.Trimming.{trimmed_dead}
 use Rattle.rr_archive.proofs.FewLive.{cells_are_few}
-use Rattle.rr_model.specs.CellNames.{CellName}
 use Rattle.rr_model.specs.Samples.{name_of, marks_of}
-use Rattle.rr_cells.specs.CellBounds.{IsCellOf}
-use Rattle.rr_cells.specs.Cells.{Cells, IsTrimmed, name_at, cell_slot_of, rows_at}
+use Rattle.rr_cells.specs.Cells.{name_at, cell_slot_of, rows_at}
 use Rattle.rr_cells.specs.Puts.{slot_sample_of}
 use Rattle.rr_cells.specs.Laws.{PutGoesByArchives, PutLeavesOtherKeys, PutIsTrimmed, DeadLeaveNoTrace, CellsAreFew, mark_in}
 use Rattle.rr_cells.proofs.Local.{get-rows_at, live_local, trimmed_local}
@@ -43,11 +41,6 @@ cells_few s m key archive origins is kept of =
     (sym (trimmed_local key archive s is m) ∙ ap (λ c. rows_at c key archive) kept)
     (λ p h. by_cell p (get m (name_at key archive p)) refl (ap is_some (sym (get-rows_at key archive m p)) ∙ h))
   where
-    by_cell : (p : CellSlot) (o : Option Contribution) → get m (name_at key archive p) ≡ o → is_some o ≡ true → (1 ≤ p.origin) × (p.origin ≤ origins)
+    by_cell : (p : CellSlot) (o : Option Contribution) → get m (name_at key archive p) ≡ o → is_some o ≡ true → Contains origins p.origin
     by_cell p None e h = absurd (true≢false (sym h))
-    by_cell p (Some c) e h = of (name_at key archive p) c e
-
--- so of what a replica holds
-pub few_held : (s : Layout) (m : Cells) → IsLayout s → IsTrimmed s m → ((n : CellName) (c : Contribution) → get m n ≡ Some c → IsCellOf s (n, c))
-    → (key : List ℕ) (archive origins : ℕ) → ((n : CellName) (c : Contribution) → get m n ≡ Some c → n.origin ≤ origins) → len (rows_at m key archive) ≤ (archive_at s archive).rows * origins
-few_held s m is live cells key archive origins most = cells_few s m key archive origins is live (λ n c e. ((cells n c e).origin.at_least, most n c e))
+    by_cell p (Some c) e h = of (name_at key archive p) c e refl refl

@@ -1,12 +1,24 @@
--- The bounds that every cell of a schema keeps to.
-use Rattle.std.specs.Prelude.{◌<◌, nat_lt, Bool, ◌&&◌, length, FitsSigned}
+-- The bounds that samples, and all cells of a schema, keep to.
+use Rattle.std.specs.Prelude.{◌<◌, ◌≤◌, nat_lt, Bool, ◌&&◌, length, IsTrue, FitsSigned}
 use Rattle.std.specs.Int.{w64, w128}
+use Rattle.rr_text.specs.declared.limits.TheConstants.{MAX_NUMBER}
+use Rattle.rr_text.specs.Text.{fits_i64}
 use Rattle.rr_schema.specs.Origin.{IsOrigin}
 use Rattle.rr_schema.specs.Schema.{Layout}
 use Rattle.rr_contrib.specs.declared.contribution.Contribution.{Contribution}
 use Rattle.rr_contrib.specs.Validity.{IsValid, is_valid}
 use Rattle.rr_key.specs.Series.{IsKeyText}
 use Rattle.rr_model.specs.CellNames.{CellName}
+use Rattle.rr_model.specs.Samples.{Sample}
+
+-- a sample within the limits, of a key text, with a time and a value of 64 bits
+pub record IsSoundSample (x : Sample) : Type 0 where
+  pub origin : IsOrigin x.origin
+  pub some_number : 1 ≤ x.number
+  pub few_numbers : x.number ≤ MAX_NUMBER
+  pub key : IsKeyText x.key
+  pub time : IsTrue (fits_i64 x.time)
+  pub value : IsTrue (fits_i64 x.value)
 
 -- a name, and what its cell contributes
 abbrev pub NamedCell : Type 0

@@ -1,5 +1,5 @@
 -- The cells of a replica: a finite map from the names of cells, by key, archive, slot and origin.
-use Rattle.std.specs.Prelude.{◌≡◌, ℕ, ℤ, List, map}
+use Rattle.std.specs.Prelude.{◌≡◌, ℕ, ℤ, List, map, Some, Contains}
 use Rattle.std.specs.List.{filter}
 use Rattle.std.specs.FinMap.{FinMap, get, keys}
 use Rattle.rr_schema.specs.Schema.{Layout}
@@ -31,6 +31,10 @@ cell_slot_of n = cell_slot n.slot n.origin
 -- of all cells those of an archive of a key, by their cell slots
 unfoldable pub rows_at : Cells → List ℕ → ℕ → held.Rows
 rows_at m key archive = map_of (map cell_slot_of (filter (is_of key archive) (keys m))) (λ p. get m (name_at key archive p))
+
+-- each cell of it is of one of these origins
+abbrev pub HasOriginsIn : Cells → List ℕ → ℕ → List ℕ → Type 0
+HasOriginsIn m key archive origins = (n : CellName) (c : Contribution) → get m n ≡ Some c → n.key ≡ key → n.archive ≡ archive → Contains origins n.origin
 
 -- the entries of a slot of it, ascending by origin
 abbrev pub row_at : Cells → List ℕ → ℕ → ℤ → List Entry

@@ -1,5 +1,5 @@
 -- What a replica holds.
-use Rattle.std.specs.Prelude.{◌≡◌, ℕ, ℤ, ◌+◌, ◌*◌, ◌<◌, ◌≤◌, List, Some, refl}
+use Rattle.std.specs.Prelude.{◌≡◌, ℕ, ℤ, ◌+◌, ◌*◌, ◌<◌, ◌≤◌, List, length, Some, refl}
 use Rattle.std.specs.FinMap as fin
 use Rattle.std.specs.FinMap.{get, len}
 use Rattle.std.specs.Coded.{Coded, code_by, coded×, coded_ℕ, coded_ℤ, coded_list}
@@ -12,7 +12,7 @@ use Rattle.rr_archive.specs.Codes.{coded_contribution}
 use Rattle.rr_model.specs.CellNames.{CellName}
 use Rattle.rr_model.specs.Samples.{Sample}
 use Rattle.rr_cells.specs.CellBounds.{IsCellOf}
-use Rattle.rr_cells.specs.Cells.{Cells, IsTrimmed, rows_at}
+use Rattle.rr_cells.specs.Cells.{Cells, IsTrimmed, HasOriginsIn, rows_at}
 use Rattle.rr_cells.specs.Puts.{put_sample}
 
 -- a schema, an origin, the number that its next sample takes, and cells
@@ -41,7 +41,7 @@ with_put h key time value = with_sample h (next_sample h key time value)
 
 -- a next number is left or was the last, no cell is past the horizon, each is one of the schema's and within bounds,
 -- those of the replica's own origin are of earlier numbers, and in each archive of each key there are at most as many
--- as its rows times the origins
+-- as its rows times the origins that have one there
 pub record IsHolding (h : Holding) : Type 0 where
   pub layout : IsLayout h.schema
   pub origin : IsOrigin h.origin
@@ -50,7 +50,7 @@ pub record IsHolding (h : Holding) : Type 0 where
   pub live : IsTrimmed h.schema h.cells
   pub cells : (n : CellName) (c : Contribution) → get h.cells n ≡ Some c → IsCellOf h.schema (n, c)
   pub own : (n : CellName) (c : Contribution) → get h.cells n ≡ Some c → n.origin ≡ h.origin → c.version < h.next
-  pub few : (key : List ℕ) (archive origins : ℕ) → ((n : CellName) (c : Contribution) → get h.cells n ≡ Some c → n.origin ≤ origins) → len (rows_at h.cells key archive) ≤ (archive_at h.schema archive).rows * origins
+  pub few : (key : List ℕ) (archive : ℕ) (origins : List ℕ) → HasOriginsIn h.cells key archive origins → len (rows_at h.cells key archive) ≤ (archive_at h.schema archive).rows * length origins
 
 -- ---- codes, which show that holdings are a set
 

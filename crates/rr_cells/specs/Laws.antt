@@ -1,18 +1,22 @@
 -- The laws of puts and joins, each the contract of a function of `src/laws.rt`.
-use Rattle.std.specs.Prelude.{◌≡◌, ◌≢◌, Bool, ℕ, ◌*◌, ◌<◌, ◌≤◌, List, length, Some, IsFalse, take, drop}
+use Rattle.std.specs.Prelude.{◌≡◌, ◌≢◌, Bool, ℕ, ◌*◌, ◌^◌, ◌<◌, ◌≤◌, unsigned_abs, List, length, map, Some, All, IsFalse, take, drop}
 use Rattle.std.specs.Ordering.{eq_by_cmp}
 use Rattle.std.specs.FinMap.{get, keys, len, entries, retain_keys}
+use Rattle.rr_text.specs.declared.limits.TheConstants.{MAX_ORIGIN}
 use Rattle.rr_schema.specs.Schema.{Layout, IsLayout, archive_at, slot_of}
+use Rattle.rr_join.specs.Sums.{int_sum}
 use Rattle.rr_contrib.specs.declared.contribution.Contribution.{Contribution}
 use Rattle.rr_archive.specs.Cells.{put_row, join_rows}
 use Rattle.rr_model.specs.CellNames.{CellName, cell_name_cmp, is_slot_live}
 use Rattle.rr_model.specs.Samples.{Sample, Mark, name_of}
 use Rattle.rr_cells.specs.declared.cell.Cell.{Cell}
+use Rattle.rr_cells.specs.CellBounds.{NamedCell, IsCellOf, IsSoundSample}
 use Rattle.rr_cells.specs.Holding.{Holding}
-use Rattle.rr_cells.specs.Joining.{with_cells}
-use Rattle.rr_cells.specs.Cells.{Cells, IsTrimmed, cell_slot_of, rows_at}
+use Rattle.rr_cells.specs.Joining.{next_past, with_cells}
+use Rattle.rr_cells.specs.Operations.{joins_of, outcome_of, AllAccepted}
+use Rattle.rr_cells.specs.Cells.{Cells, IsTrimmed, HasOriginsIn, cell_slot_of, rows_at}
 use Rattle.rr_model.specs.Knowledge.{Knowledge, union, live, cells_where, part, difference}
-use Rattle.rr_model.specs.World.{World, IsClosed}
+use Rattle.rr_model.specs.World.{World, IsWritten, IsClosed}
 use Rattle.rr_cells.specs.Puts.{slot_sample_of, put_sample}
 use Rattle.rr_cells.specs.Joins.{join, join_cell, join_cells}
 use Rattle.rr_cells.specs.State.{state}
@@ -46,12 +50,11 @@ DeadLeaveNoTrace =
 abbrev pub PutIsTrimmed : Type 0
 PutIsTrimmed = (s : Layout) (m : Cells) (x : Sample) → IsLayout s → IsTrimmed s m → IsTrimmed s (put_sample s m x)
 
--- in each archive of each key the live cells are at most as many as its rows times the origins
+-- in each archive of each key the live cells are at most as many as its rows times the origins that have one there
 abbrev pub CellsAreFew : Type 0
 CellsAreFew =
-    (s : Layout) (m : Cells) (key : List ℕ) (archive origins : ℕ) → IsLayout s → IsTrimmed s m
-    → ((n : CellName) (c : Contribution) → get m n ≡ Some c → (1 ≤ n.origin) × (n.origin ≤ origins))
-    → len (rows_at m key archive) ≤ (archive_at s archive).rows * origins
+    (s : Layout) (m : Cells) (key : List ℕ) (archive : ℕ) (origins : List ℕ) → IsLayout s → IsTrimmed s m → HasOriginsIn m key archive origins
+    → len (rows_at m key archive) ≤ (archive_at s archive).rows * length origins
 
 -- ---- joins
 
@@ -116,6 +119,38 @@ abbrev pub DifferenceIsByVersions : Type 0
 DifferenceIsByVersions =
     (s : Layout) (w : World) (k l : Knowledge) → IsLayout s → IsClosed s w k → IsClosed s w l
     → newer_names (state s k) (state s l) ≡ difference s k l
+
+-- ---- cells of what was written
+
+-- the cells of samples within the limits are cells of the schema
+abbrev pub StatesAreValid : Type 0
+StatesAreValid = (s : Layout) (w : World) (k : Knowledge) → IsLayout s → IsClosed s w k → ((x : Sample) → IsWritten w x → IsSoundSample x) → All (IsCellOf s) (entries (state s k))
+
+-- a cell's version is the number of a sample that its origin wrote
+abbrev pub VersionsAreNumbers : Type 0
+VersionsAreNumbers =
+    (s : Layout) (w : World) (k : Knowledge) (n : CellName) (c : Contribution) → IsClosed s w k → get (state s k) n ≡ Some c
+    → (x : Sample) × IsWritten w x × (x.origin ≡ n.origin) × (x.number ≡ c.version)
+
+-- so a next number that is past all that its origin wrote stays, whichever of the cells are joined
+abbrev pub NextStays : Type 0
+NextStays =
+    (s : Layout) (w : World) (k : Knowledge) (origin next : ℕ) (es : List NamedCell) → IsClosed s w k → ((x : Sample) → IsWritten w x → x.origin ≡ origin → x.number < next)
+    → All (λ e. get (state s k) e.0 ≡ Some e.1) es → next_past origin next es ≡ next
+
+-- the sums of as many cells as there are origins stay below 2^119
+abbrev pub SumsAreSmall : Type 0
+SumsAreSmall = (s : Layout) (es : List NamedCell) → All (IsCellOf s) es → length es ≤ MAX_ORIGIN → unsigned_abs (int_sum (map (λ e. e.1.sum) es)) < 2 ^ 119
+
+-- ---- operations
+
+-- to join each cell of a map, from none, makes the map
+abbrev pub JoinsMakeTheirCells : Type 0
+JoinsMakeTheirCells = (s : Layout) (m : Cells) → IsLayout s → IsTrimmed s m → outcome_of s (joins_of m) ≡ m
+
+-- a replica takes each of these operations, where the cells are of its schema
+abbrev pub JoinsAreTaken : Type 0
+JoinsAreTaken = (h : Holding) (m : Cells) → All (IsCellOf h.schema) (entries m) → AllAccepted h (joins_of m)
 
 -- ---- joins that were broken off
 

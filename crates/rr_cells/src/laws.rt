@@ -1,6 +1,6 @@
 //! The laws of puts, joins and differences, with no work to do: each function has an empty body.
 ghost use Rattle.rr_cells.specs.State.{PutIsOneSampleMore};
-ghost use Rattle.rr_cells.specs.Laws.{PutGoesByArchives, PutLeavesOtherKeys, PutIsTrimmed, DeadLeaveNoTrace, CellsAreFew, JoinIsCommutative, JoinIsAssociative, JoinIsIdempotent, JoinIsTrimmed, JoinGoesByArchives, JoinUnites, JoinGoesByCells, JoinCellUnites, PartsAreCutFromEntries, WholeCellsMakeTheirCells, LiveMakesTheSame, StateIsOfTheLive, DifferenceIsByVersions, JoiningGoesOn};
+ghost use Rattle.rr_cells.specs.Laws.{PutGoesByArchives, PutLeavesOtherKeys, PutIsTrimmed, DeadLeaveNoTrace, CellsAreFew, JoinIsCommutative, JoinIsAssociative, JoinIsIdempotent, JoinIsTrimmed, JoinGoesByArchives, JoinUnites, JoinGoesByCells, JoinCellUnites, PartsAreCutFromEntries, WholeCellsMakeTheirCells, LiveMakesTheSame, StateIsOfTheLive, DifferenceIsByVersions, StatesAreValid, VersionsAreNumbers, NextStays, SumsAreSmall, JoinsMakeTheirCells, JoinsAreTaken, JoiningGoesOn};
 
 /// To put a sample is to put it into each archive of its key alone; where it is past the horizon it
 /// leaves no trace.
@@ -11,8 +11,8 @@ pub fn puts_go_by_archives()
     ensures trimmed { PutIsTrimmed }
 {}
 
-/// An archive of a key has at most as many live cells as its rows times the origins, whatever was
-/// written.
+/// An archive of a key has at most as many live cells as its rows times the origins that have one
+/// there, whatever was written.
 pub fn live_cells_are_few()
     ensures { CellsAreFew }
 {}
@@ -57,4 +57,21 @@ pub fn joining_goes_on()
 /// What one closed knowledge has and another lacks is read from the versions of their cells.
 pub fn a_difference_is_by_versions()
     ensures { DifferenceIsByVersions }
+{}
+
+/// What is known of samples within the limits makes cells of the schema. Their versions are numbers that
+/// their origins wrote, so joined at one of these origins they leave its next number; and no sum of a row
+/// comes near the end of its type.
+pub fn cells_of_samples_are_valid()
+    ensures valid { StatesAreValid }
+    ensures versions { VersionsAreNumbers }
+    ensures next { NextStays }
+    ensures sums { SumsAreSmall }
+{}
+
+/// One join for each cell of a map makes the map, from no cell, and a replica of their schema takes each
+/// of them.
+pub fn joins_make_their_cells()
+    ensures made { JoinsMakeTheirCells }
+    ensures taken { JoinsAreTaken }
 {}
