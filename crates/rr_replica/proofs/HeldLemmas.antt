@@ -25,7 +25,7 @@ use Rattle.rr_replica.specs.Series.{cells_of}
 use Rattle.rr_replica.specs.Archives.{cell_slot_for, Each, AreSized, CanTake, AreSame, HavePut}
 use Rattle.rr_cells.specs.Holding.{IsHolding}
 use Rattle.rr_replica.specs.Held.{AreAllSized, held_series, archives_of, keyed_sample, holding_of, IsHeld}
-use Rattle.rr_cells.proofs.PutLaws.{few_held}
+use Rattle.rr_cells.proofs.PutLaws.{cells_few}
 use Rattle.rr_cells.proofs.Local.{get-rows_at}
 use Rattle.rr_replica.proofs.Shown.{held_at, items_of, rows_shown, cells_same, cells_put, held_same, held_put}
 use Rattle.rr_cells.proofs.CellByCell.{trimmed_none}
@@ -106,7 +106,7 @@ kept_none cells limit s origin entries is in_range none = subst (IsHeld cells li
     live = trimmed_none s;
     cells = λ n c e. absurd (true≢false (sym (ap is_some (sym (get-empty cell_name_cmp n) ∙ e))));
     own = λ n c e. absurd (true≢false (sym (ap is_some (sym (get-empty cell_name_cmp n) ∙ e))));
-    few = few_held s empty is (trimmed_none s) (λ n c e. absurd (true≢false (sym (ap is_some (sym (get-empty cell_name_cmp n) ∙ e)))));
+    few = λ key archive origins has. cells_few s empty key archive origins is (trimmed_none s) has;
   };
   sized = λ key archives e. absurd (true≢false (sym (ap is_some e)));
   ordered = tt;

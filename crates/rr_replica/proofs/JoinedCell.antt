@@ -42,7 +42,7 @@ use Rattle.rr_replica.specs.Series.{cells_of}
 use Rattle.rr_cells.proofs.CellByCell.{join_nothing}
 use Rattle.rr_replica.proofs.Each.{sized_at}
 use Rattle.rr_cells.proofs.JoinLaws.{join_trims, join_goes_by_archives}
-use Rattle.rr_cells.proofs.PutLaws.{few_held}
+use Rattle.rr_cells.proofs.PutLaws.{cells_few}
 use Rattle.rr_cells.proofs.Local.{get-rows_at, insert_here, insert_elsewhere, same_cells}
 use Rattle.rr_replica.proofs.SeriesLemmas.{bytes_cmp-IsAntisymmetric}
 use Rattle.rr_replica.proofs.Shown.{there, held_at, items_of, rows_shown, at_key, at_other, same_key, cells_same, held_same}
@@ -182,7 +182,7 @@ module _ (h : Holding) (holds : IsHolding h) (c : Cell) (cell : IsCellOf h.schem
             (λ was. let below = holds.own n d was at in let more = bounds.0 in omega arith)
             (λ new. subst (λ (x : Contribution). x.version < next) new.1 (own_is (c.origin == h.origin) (nat_le h.next c.contribution.version) refl refl (sym (ap (λ (m : CellName). m.origin) new.0) ∙ at)))
             (join_cases h.schema holds.layout h.cells (owned_cell c).0 c.contribution n d e);
-        few = few_held h.schema (join_cell h.schema h.cells (owned_cell c).0 c.contribution) holds.layout live cells;
+        few = λ key archive origins has. cells_few h.schema (join_cell h.schema h.cells (owned_cell c).0 c.contribution) key archive origins holds.layout live has;
       }
 
 -- with a cell joined in a replica keeps to the same

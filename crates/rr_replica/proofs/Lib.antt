@@ -9,6 +9,7 @@ pub mod InTurn
 pub mod FieldLemmas
 pub mod OneArchive
 pub mod JoinedCell
+pub mod JoinedMap
 pub mod Lending
 pub mod IndexedLemmas
 pub mod WalkLemmas

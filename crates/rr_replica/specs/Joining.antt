@@ -1,11 +1,19 @@
--- What a refused join leaves.
-use Rattle.std.specs.Prelude.{◌≡◌, List, take}
+-- What a join of several cells leaves.
+use Rattle.std.specs.Prelude.{◌≡◌, List, map, take}
+use Rattle.std.specs.FinMap.{entries}
 use Rattle.rr_cells.specs.declared.cell.Cell.{Cell}
+use Rattle.rr_cells.specs.Cells.{Cells}
 use Rattle.rr_cells.specs.Holding.{Holding}
 use Rattle.rr_cells.specs.Joining.{with_cells}
+use Rattle.rr_cells.specs.Joins.{join}
+use Rattle.rr_cells.specs.Listing.{owned_cell}
 use Rattle.rr_replica.specs.declared.fault.JoinFault.{JoinFault}
 use Rattle.rr_replica.specs.declared.fault.JoinFault.TheVariants as why
 
 -- where memory ran out, the first cells are joined, as many as the fault says
 abbrev pub IsAfterJoined : Holding → Holding → List Cell → JoinFault → Type 0
 IsAfterJoined old new cells (why.Memory joined) = new ≡ with_cells old (take joined cells)
+
+-- where the cells are all those of a map, the join with this map
+abbrev pub IsJoinedWith : Holding → Holding → List Cell → Type 0
+IsJoinedWith old new cells = (m : Cells) → map owned_cell cells ≡ entries m → new.cells ≡ join old.schema old.cells m

@@ -338,7 +338,7 @@ impl<A: Archive> Replica<A> {
 
 impl<A: Archive> Replica<A> {
     ghost use Rattle.rr_cells.specs.Joining.{with_cell, with_cells};
-    ghost use Rattle.rr_replica.specs.Joining.{IsAfterJoined};
+    ghost use Rattle.rr_replica.specs.Joining.{IsAfterJoined, IsJoinedWith};
 
     /// Joins a cell from elsewhere, which is valid under the schema: of it and what stands at its
     /// name the greater stays, and then only the live cells. A cell of the replica's own origin,
@@ -358,14 +358,18 @@ impl<A: Archive> Replica<A> {
         Ok(())
     }
 
-    /// Joins cells from elsewhere, in order, each as `join_cell` does. Where memory runs out,
-    /// `Memory` says how many cells, from the first on, were joined.
+    /// Joins cells from elsewhere, in order, each as `join_cell` does. All cells of a map, joined so,
+    /// are the join with that map. Where memory runs out, `Memory` says how many cells, from the
+    /// first on, were joined.
     pub fn join_cells(&mut self, cells: &[Cell]) -> Result<(), JoinFault>
         requires { All (λ c. IsCellOf self.old.schema (owned_cell c)) cells.now }
         ensures joined { OnOk result (held self.new ≡ with_cells (held self.old) cells.now) }
+        ensures whole { OnOk result (IsJoinedWith (held self.old) (held self.new) cells.now) }
         ensures stopped { IfErr result (IsAfterJoined (held self.old) (held self.new) cells.now) }
         ensures cells_left { (joined : ℕ) → result ≡ Err (JoinFault.Memory joined) → joined < length cells.now }
     {
+        // The proof needs what the replica keeps to, which `schema` ensures.
+        let _schema = self.schema();
         let mut joined = 0;
         for cell in cells {
             if self.join_cell(cell).is_err() {

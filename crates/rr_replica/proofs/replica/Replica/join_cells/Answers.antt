@@ -1,5 +1,6 @@
 -- The cells so far are joined, each to what the ones before left.
-use Rattle.std.proofs.Common.{rules, ◌≡◌, ◌∙◌, [], ◌∷◌, ◌++◌, take, get_or, sym, ap, subst, arith}
+use Rattle.std.proofs.Common.{rules, ◌≡◌, ◌∙◌, ℕ, [], ◌∷◌, ◌++◌, length, take, get_or, sym, ap, subst, arith}
+use Rattle.std.proofs.Math.Seq.{take-length}
 use Rattle.std.proofs.lemmas.List.{take_more}
 use Rattle.rr_cells.specs.Holding.{Holding}
 use Rattle.rr_cells.specs.CellBounds.{IsCellOf}
@@ -8,6 +9,7 @@ use Rattle.rr_cells.specs.Listing.{owned_cell}
 use Rattle.rr_replica.specs.Standing.{held}
 use Rattle.rr_replica.proofs.FieldLemmas.{passed}
 use Rattle.rr_cells.proofs.JoiningLemmas.{with_cells-append}
+use Rattle.rr_replica.proofs.JoinedMap.{joined_with_map}
 use Rattle.rr_replica.proofs.replica.Replica.join_cells.Goals as goal
 
 pub join_cell-requires : goal.join_cell-requires
@@ -32,3 +34,10 @@ loop-cell-preserved g c =
       schema = ap (λ (h : Holding). h.schema) written ∙ c.loop-cell.invariant.schema;
       joined = written ∙ ap (λ h. with_cell h cell) c.loop-cell.invariant.joined ∙ sym (with_cells-append (held c.args.self.now) (take i cells) (cell ∷ [])) ∙ ap (with_cells (held c.args.self.now)) (sym more);
     }
+
+pub returns-clause-whole : goal.returns-clause-whole
+returns-clause-whole g c =
+    let cells = c.args.cells.now in
+    let last : c.loop-cell.cell-index ≡ length cells = omega (arith, c.loop-cell-test.false, c.loop-cell.auto.cell-index-end) in
+    let all : take c.loop-cell.cell-index cells ≡ cells = ap (λ (i : ℕ). take i cells) last ∙ take-length cells in
+    joined_with_map (held c.args.self.now) (held c.loop-cell.self) cells c.schema-schema.ensures.holds (c.loop-cell.invariant.joined ∙ ap (with_cells (held c.args.self.now)) all)
