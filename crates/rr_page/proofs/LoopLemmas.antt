@@ -19,6 +19,10 @@ use Rattle.rr_page.specs.Reading.{cell_at}
 abbrev pub with_front : List NamedCell → Result (List NamedCell × List ℕ) PageFault → Result (List NamedCell × List ℕ) PageFault
 with_front front read = read >>= λ x. Ok (front ++ x.0, x.1)
 
+pub with_nothing : (read : Result (List NamedCell × List ℕ) PageFault) → with_front [] read ≡ read
+with_nothing (Ok x) = refl
+with_nothing (Err f) = refl
+
 regroup : (front : List NamedCell) (e : NamedCell) (read : Result (List NamedCell × List ℕ) PageFault) → with_front front (read >>= λ x. Ok (e ∷ x.0, x.1)) ≡ with_front (front ++ e ∷ []) read
 regroup front e (Ok x) = ap (λ (es : List NamedCell). Ok (es, x.1)) (simp append_assoc)
 regroup front e (Err f) = refl

@@ -5,3 +5,4 @@ pub mod Reading
 pub mod Page
 pub mod PageReading
 pub mod Laws
+pub mod Found

@@ -1,15 +1,16 @@
 //! The cells of a page, from its bytes.
-ghost use Rattle.std.specs.Prelude.{◌≡◌, List, All, IfOk, Ok, None, Some, map};
+ghost use Rattle.std.specs.Prelude.{◌≡◌, ◌≢◌, List, All, IfErr, IfOk, IsOk, OnOk, Ok, Err, None, Some, map, option_map};
 ghost use Rattle.rr_schema.specs.Schema.{IsLayout};
 ghost use Rattle.rr_text.specs.Results.{GivesUnless, NeedsMemoryAfter};
 ghost use Rattle.rr_page.specs.Page.{IsPage, IsPageText};
-ghost use Rattle.rr_page.specs.PageReading.{is_after, last_name, schema_at, cells_at, page_at};
+ghost use Rattle.rr_page.specs.PageReading.{is_after, last_name, cells_at, page_at};
+ghost use Rattle.rr_page.specs.Found.{found_cell};
 ghost use Rattle.rr_cells.specs.CellBounds.{NamedCell, IsCellOf};
 ghost use Rattle.rr_cells.specs.Listing.{owned_cell};
 
 use crate::fault::PageFault;
 use crate::heading::head_of;
-use crate::reading::read_cell_in;
+use crate::reading::{FoundCell, find_cell, read_cell_in};
 use crate::version::Version;
 use rr_cells::Cell;
 use rr_schema::Schema;
@@ -64,19 +65,91 @@ fn cells_of<'a>(
     Ok((cells, rest))
 }
 
-/// The cells of the page that all of the bytes are.
+/// The cells of the page that all of the bytes are, each copied as it is read.
 #[tactic(auto, unfolding(crate::specs::PageReading::page_at, crate::specs::PageReading::front_page_at))]
-fn page_of(alloc: Global, bytes: &[u8], schema: &Schema) -> Result<Vec<Cell>, PageFault>
-    ensures read { GivesUnless PageFault.Memory (λ cells. map owned_cell cells.items) result
+fn copied_page(alloc: Global, bytes: &[u8], schema: &Schema) -> Result<Vec<Cell>, PageFault>
+    ensures { GivesUnless PageFault.Memory (λ cells. map owned_cell cells.items) result
         (page_at schema.now bytes.now) }
-    ensures memory { NeedsMemoryAfter PageFault.Memory (schema_at schema.now bytes.now) result }
 {
-    let (version, count, rest) = head_of(alloc, bytes, schema)?;
+    let (version, count, rest) = head_of(bytes, schema)?;
     let (cells, rest) = cells_of(alloc, version, count, rest, schema)?;
     if !rest.is_empty() {
         return Err(PageFault::TrailingBytes);
     }
     Ok(cells)
+}
+
+/// Whether the name of a cell is greater than that of the one before it, if there is one.
+fn may_follow(before: &Option<FoundCell>, cell: &FoundCell) -> bool
+    ensures { result ≡ is_after (option_map (λ c. (found_cell c).0) before.now)
+        (found_cell cell.now).0 }
+{
+    match before {
+        None => true,
+        Some(before) => cell.is_after(before),
+    }
+}
+
+/// What follows `count` cells. No memory is taken.
+fn after_cells<'a>(
+    version: Version,
+    count: u16,
+    bytes: &'a [u8],
+    schema: &Schema,
+) -> Result<&'a [u8], PageFault>
+    ensures read { IfOk result (λ rest. (es : List NamedCell)
+        × (cells_at version schema.now None count bytes.now ≡ Ok (es, rest.now))) }
+    ensures refused { IfErr result (λ fault.
+        cells_at version schema.now None count bytes.now ≡ Err fault) }
+    ensures no_memory { result ≢ Err PageFault.Memory }
+{
+    let mut before = None;
+    let mut rest = bytes;
+    for _ in 0..count {
+        let (cell, after) = match find_cell(rest, schema, version) {
+            Ok(found) => found,
+            Err(fault) => return Err(fault),
+        };
+        if !may_follow(&before, &cell) {
+            return Err(PageFault::OutOfOrder);
+        }
+        before = Some(cell);
+        rest = after;
+    }
+    Ok(rest)
+}
+
+/// Refuses bytes that are no page, as [`decode`] does. No memory is taken.
+#[tactic(auto, unfolding(crate::specs::PageReading::page_at, crate::specs::PageReading::front_page_at))]
+fn check_page(bytes: &[u8], schema: &Schema) -> Result<(), PageFault>
+    ensures good { OnOk result (IsOk (page_at schema.now bytes.now)) }
+    ensures refused { IfErr result (λ fault. page_at schema.now bytes.now ≡ Err fault) }
+    ensures no_memory { result ≢ Err PageFault.Memory }
+{
+    let (version, count, rest) = head_of(bytes, schema)?;
+    let rest = after_cells(version, count, rest, schema)?;
+    if !rest.is_empty() {
+        return Err(PageFault::TrailingBytes);
+    }
+    Ok(())
+}
+
+/// The cells of the page that all of the bytes are. Where memory runs out, what is left is still
+/// checked, so that `Memory` hides no other fault.
+fn page_of(alloc: Global, bytes: &[u8], schema: &Schema) -> Result<Vec<Cell>, PageFault>
+    ensures read { GivesUnless PageFault.Memory (λ cells. map owned_cell cells.items) result
+        (page_at schema.now bytes.now) }
+    ensures memory { NeedsMemoryAfter PageFault.Memory (page_at schema.now bytes.now) result }
+{
+    match copied_page(alloc, bytes, schema) {
+        Ok(cells) => Ok(cells),
+        Err(fault) => {
+            if fault == PageFault::Memory {
+                check_page(bytes, schema)?;
+            }
+            Err(fault)
+        }
+    }
 }
 
 /// The cells of the page that the bytes are, each one of the schema's and valid there, ascending by
@@ -86,7 +159,8 @@ fn page_of(alloc: Global, bytes: &[u8], schema: &Schema) -> Result<Vec<Cell>, Pa
 /// `BadMagic`; `BadVersion`; `SchemaDiffers`, once as many bytes are read as the schema has;
 /// `TooManyCells` above 256; for each cell those of [`read_cell`](crate::read_cell), and then
 /// `OutOfOrder` where its name is not greater than the one before; and last `TrailingBytes`. `Memory`
-/// comes only once the bytes of the schema are read. The cost is linear in the bytes.
+/// comes only where the bytes are a page: where memory runs out, what is left is still checked. The cost
+/// is linear in the bytes.
 pub fn decode(alloc: Global, bytes: &[u8], schema: &Schema) -> Result<Vec<Cell>, PageFault>
     // What is found is a page of the schema, and the bytes are its text.
     ensures found { IfOk result (λ cells. IsPage schema.now (map owned_cell cells.items)
@@ -98,7 +172,7 @@ pub fn decode(alloc: Global, bytes: &[u8], schema: &Schema) -> Result<Vec<Cell>,
     // Which fault is answered.
     ensures exact { GivesUnless PageFault.Memory (λ cells. map owned_cell cells.items) result
         (page_at schema.now bytes.now) }
-    ensures memory { NeedsMemoryAfter PageFault.Memory (schema_at schema.now bytes.now) result }
+    ensures memory { NeedsMemoryAfter PageFault.Memory (page_at schema.now bytes.now) result }
     ensures cells { IfOk result (λ cells. All (λ c. IsCellOf schema.now (owned_cell c)) cells.items) }
 {
     let _archives = schema.archives(); // their contract says that the schema is within its limits

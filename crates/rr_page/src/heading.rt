@@ -1,6 +1,6 @@
 //! What a page has before its cells.
-ghost use Rattle.std.specs.Prelude.{◌≡◌, ◌≢◌, Err, ◌++◌, IsOk, IfOk, OnOk};
-ghost use Rattle.rr_text.specs.Results.{Gives, GivesUnless, NeedsMemoryAfter};
+ghost use Rattle.std.specs.Prelude.{◌≡◌, ◌≢◌, Err, ◌++◌, OnOk};
+ghost use Rattle.rr_text.specs.Results.{Gives};
 ghost use Rattle.rr_page.specs.Page.{head_text};
 ghost use Rattle.rr_page.specs.PageReading.{version_at, start_at, schema_at, head_at};
 ghost use Rattle.rr_page.specs.Version.{latest};
@@ -56,21 +56,17 @@ fn schema_of<'a>(
     Ok((version, field, rest))
 }
 
-/// The version and the number of cells, and what follows them.
+/// The version and the number of cells, and what follows them. No memory is taken.
 #[tactic(auto, unfolding(crate::specs::PageReading::head_at))]
 pub(crate) fn head_of<'a>(
-    alloc: Global,
     bytes: &'a [u8],
     schema: &Schema,
 ) -> Result<(Version, u16, &'a [u8]), PageFault>
-    ensures read { GivesUnless PageFault.Memory (λ x. ((x.0, x.1), x.2.now)) result
-        (head_at schema.now bytes.now) }
-    ensures schema_read { IfOk result (λ x. IsOk (schema_at schema.now bytes.now)) }
-    ensures memory { NeedsMemoryAfter PageFault.Memory (schema_at schema.now bytes.now) result }
+    ensures read { Gives (λ x. ((x.0, x.1), x.2.now)) result (head_at schema.now bytes.now) }
+    ensures no_memory { result ≢ Err PageFault.Memory }
 {
     let (version, field, rest) = schema_of(bytes, schema)?;
-    let own = schema.bytes(alloc)?;
-    if field != own.as_slice() {
+    if !schema.has_bytes(field) {
         return Err(PageFault::SchemaDiffers);
     }
     let (count, rest) = u16_at(rest)?;

@@ -1,9 +1,12 @@
 //! A cell from its bytes.
-ghost use Rattle.std.specs.Prelude.{◌≡◌, ◌++◌, ◌<◌, length, drop, IfOk};
+ghost use Rattle.std.specs.Prelude.{◌≡◌, ◌≢◌, ◌++◌, ◌<◌, Err, Some, length, drop, IfOk};
 ghost use Rattle.rr_schema.specs.Schema.{IsLayout};
 ghost use Rattle.rr_text.specs.Results.{Gives, GivesUnless, NeedsMemoryAfter};
+ghost use Rattle.rr_key.specs.Series.{IsKeyText};
 ghost use Rattle.rr_page.specs.CellText.{cell_text};
 ghost use Rattle.rr_page.specs.Reading.{number_at, key_at, archive_at, contribution_at, cell_at};
+ghost use Rattle.rr_page.specs.Found.{found_cell};
+ghost use Rattle.rr_page.specs.PageReading.{is_after};
 ghost use Rattle.rr_page.specs.Version.{latest, mask_width};
 ghost use Rattle.rr_cells.specs.CellBounds.{IsCellOf};
 ghost use Rattle.rr_cells.specs.Listing.{owned_cell};
@@ -13,16 +16,27 @@ use crate::fields::{bytes_at, i64_at, i128_at, u8_at, u16_at, u64_at};
 use crate::version::{LATEST, Version};
 use rr_cells::Cell;
 use rr_contrib::{Contribution, Mask};
-use rr_key::{KeyFault, SeriesKey};
+use rr_key::{SeriesKey, is_key_text};
 use rr_schema::{Origin, Schema};
 use rr_text::limits::MAX_KEY_TEXT;
-use std::alloc::Global;
+use std::alloc::{AllocError, Global};
 
-/// The key that the bytes begin with, as a length and a text, and what follows it.
+/// A cell whose key text is still in the bytes that it was read from.
+#[derive(Clone, Copy)]
+pub(crate) struct FoundCell<'a> {
+    key: &'a [u8],
+    archive: u8,
+    slot: i64,
+    origin: Origin,
+    contribution: Contribution,
+}
+
+/// The key text that the bytes begin with, after its length, and what follows it. No memory is taken.
 #[tactic(auto, unfolding(crate::specs::Reading::key_at))]
-pub fn key_of(alloc: Global, bytes: &[u8]) -> Result<(SeriesKey, &[u8]), PageFault>
-    ensures read { GivesUnless PageFault.Memory (λ x. (x.0, x.1.now)) result (key_at bytes.now) }
-    ensures memory { NeedsMemoryAfter PageFault.Memory (key_at bytes.now) result }
+fn key_text_of(bytes: &[u8]) -> Result<(&[u8], &[u8]), PageFault>
+    ensures read { Gives (λ x. (x.0.now, x.1.now)) result (key_at bytes.now) }
+    ensures grammar { IfOk result (λ x. IsKeyText x.0.now) }
+    ensures no_memory { result ≢ Err PageFault.Memory }
 {
     let (len, rest) = u16_at(bytes)?;
     let len = len as usize;
@@ -30,13 +44,20 @@ pub fn key_of(alloc: Global, bytes: &[u8]) -> Result<(SeriesKey, &[u8]), PageFau
         return Err(PageFault::BadKey);
     }
     let (text, rest) = bytes_at(rest, len)?;
-    match SeriesKey::parse_text(alloc, text) {
-        Ok(key) => Ok((key, rest)),
-        Err(fault) => match fault {
-            KeyFault::BadKey => Err(PageFault::BadKey),
-            _ => Err(PageFault::Memory),
-        },
+    if !is_key_text(text) {
+        return Err(PageFault::BadKey);
     }
+    Ok((text, rest))
+}
+
+/// The key that the bytes begin with, as a length and a text, and what follows it.
+pub fn key_of(alloc: Global, bytes: &[u8]) -> Result<(SeriesKey, &[u8]), PageFault>
+    ensures read { GivesUnless PageFault.Memory (λ x. (x.0, x.1.now)) result (key_at bytes.now) }
+    ensures memory { NeedsMemoryAfter PageFault.Memory (key_at bytes.now) result }
+{
+    let (text, rest) = key_text_of(bytes)?;
+    let key = SeriesKey::of_text(alloc, text)?;
+    Ok((key, rest))
 }
 
 /// The number of one of the schema's archives, and what follows it.
@@ -44,6 +65,7 @@ pub fn key_of(alloc: Global, bytes: &[u8]) -> Result<(SeriesKey, &[u8]), PageFau
 pub fn archive_of<'a>(bytes: &'a [u8], schema: &Schema) -> Result<(u8, &'a [u8]), PageFault>
     ensures read { Gives (λ x. (x.0, x.1.now)) result (archive_at schema.now bytes.now) }
     ensures within { IfOk result (λ x. x.0 < length schema.now.archives) }
+    ensures no_memory { result ≢ Err PageFault.Memory }
 {
     let (archive, rest) = u8_at(bytes)?;
     if archive as usize >= schema.archives().len() {
@@ -54,7 +76,9 @@ pub fn archive_of<'a>(bytes: &'a [u8], schema: &Schema) -> Result<(u8, &'a [u8])
 
 /// A mask, and what follows it.
 fn mask_of(bytes: &[u8], version: Version) -> Result<(Mask, &[u8]), PageFault>
-    ensures { Gives (λ x. (x.0, x.1.now)) result (number_at (mask_width version) bytes.now) }
+    ensures read { Gives (λ x. (x.0, x.1.now)) result
+        (number_at (mask_width version) bytes.now) }
+    ensures no_memory { result ≢ Err PageFault.Memory }
 {
     match version {
         Version::One => u64_at(bytes),
@@ -64,7 +88,8 @@ fn mask_of(bytes: &[u8], version: Version) -> Result<(Mask, &[u8]), PageFault>
 /// The fields of a contribution, and what follows them.
 #[tactic(auto, unfolding(crate::specs::Reading::contribution_at))]
 fn contribution_of(bytes: &[u8], format: Version) -> Result<(Contribution, &[u8]), PageFault>
-    ensures { Gives (λ x. (x.0, x.1.now)) result (contribution_at format bytes.now) }
+    ensures read { Gives (λ x. (x.0, x.1.now)) result (contribution_at format bytes.now) }
+    ensures no_memory { result ≢ Err PageFault.Memory }
 {
     let (version, rest) = u64_at(bytes)?;
     let (count, rest) = u64_at(rest)?;
@@ -88,20 +113,19 @@ fn contribution_of(bytes: &[u8], format: Version) -> Result<(Contribution, &[u8]
 }
 
 /// The cell at the front of the bytes, in a version, one of the schema's and valid there, and what
-/// follows it. Refusals and the cost are those of [`read_cell`].
+/// follows it. No memory is taken. Refusals are those of [`read_cell`].
 #[tactic(auto, unfolding(crate::specs::Reading::cell_at))]
-pub fn read_cell_in<'a>(
-    alloc: Global,
+pub(crate) fn find_cell<'a>(
     bytes: &'a [u8],
     schema: &Schema,
     version: Version,
-) -> Result<(Cell, &'a [u8]), PageFault>
-    ensures read { GivesUnless PageFault.Memory (λ x. (owned_cell x.0, x.1.now)) result
+) -> Result<(FoundCell<'a>, &'a [u8]), PageFault>
+    ensures read { Gives (λ x. (found_cell x.0, x.1.now)) result
         (cell_at version schema.now bytes.now) }
-    ensures memory { NeedsMemoryAfter PageFault.Memory (key_at bytes.now) result }
-    ensures cell { IfOk result (λ x. IsCellOf schema.now (owned_cell x.0)) }
+    ensures cell { IfOk result (λ x. IsCellOf schema.now (found_cell x.0)) }
+    ensures no_memory { result ≢ Err PageFault.Memory }
 {
-    let (key, rest) = key_of(alloc, bytes)?;
+    let (key, rest) = key_text_of(bytes)?;
     let (archive, rest) = archive_of(rest, schema)?;
     let (slot, rest) = i64_at(rest)?;
     let (origin, rest) = u16_at(rest)?;
@@ -113,14 +137,69 @@ pub fn read_cell_in<'a>(
     if !contribution.is_valid(schema, archive, slot) {
         return Err(PageFault::BadContribution);
     }
-    let cell = Cell {
+    let found = FoundCell {
         key,
         archive,
         slot,
         origin,
         contribution,
     };
-    Ok((cell, rest))
+    Ok((found, rest))
+}
+
+impl FoundCell<'_> {
+    /// The cell, with a key of its own.
+    fn to_cell(&self, alloc: Global) -> Result<Cell, AllocError>
+        requires { IsKeyText self.now.key.now }
+        ensures { IfOk result (λ cell. owned_cell cell ≡ found_cell self.now) }
+    {
+        let key = SeriesKey::of_text(alloc, self.key)?;
+        Ok(Cell {
+            key,
+            archive: self.archive,
+            slot: self.slot,
+            origin: self.origin,
+            contribution: self.contribution,
+        })
+    }
+
+    /// Whether its name is greater than that of another, so that it may follow it.
+    pub(crate) fn is_after(&self, before: &FoundCell) -> bool
+        ensures { result ≡ is_after (Some (found_cell before.now).0) (found_cell self.now).0 }
+    {
+        let slot = before
+            .slot
+            .cmp(&self.slot)
+            .then(before.origin.cmp(&self.origin));
+        let name = before
+            .key
+            .cmp(self.key)
+            .then(before.archive.cmp(&self.archive).then(slot));
+        name.is_lt()
+    }
+}
+
+/// The cell at the front of the bytes, in a version, one of the schema's and valid there, and what
+/// follows it. Refusals and the cost are those of [`read_cell`].
+pub fn read_cell_in<'a>(
+    alloc: Global,
+    bytes: &'a [u8],
+    schema: &Schema,
+    version: Version,
+) -> Result<(Cell, &'a [u8]), PageFault>
+    ensures read { GivesUnless PageFault.Memory (λ x. (owned_cell x.0, x.1.now)) result
+        (cell_at version schema.now bytes.now) }
+    ensures memory { NeedsMemoryAfter PageFault.Memory (cell_at version schema.now bytes.now)
+        result }
+    ensures cell { IfOk result (λ x. IsCellOf schema.now (owned_cell x.0)) }
+{
+    match find_cell(bytes, schema, version) {
+        Ok((found, rest)) => {
+            let cell = found.to_cell(alloc)?;
+            Ok((cell, rest))
+        }
+        Err(fault) => Err(fault),
+    }
 }
 
 /// The cell at the front of the bytes, in the latest version, one of the schema's and valid there,
@@ -129,11 +208,13 @@ pub fn read_cell_in<'a>(
 /// Refusals are those of the first bad field: `Short` where fewer bytes are left than a field has;
 /// `BadKey` where the length of the key is 0 or above 1,024, before its text is read, or the text is
 /// not a key text; `BadArchive`; and after the last field `BadContribution`, for the origin 0 too.
-/// `Memory` comes only where the key is good. The cost is linear in the key text.
+/// The key is copied last, so `Memory` comes only where a cell is there. The cost is linear in the key
+/// text.
 pub fn read_cell(alloc: Global, bytes: &[u8], schema: &Schema) -> Result<(Cell, usize), PageFault>
     ensures read { GivesUnless PageFault.Memory (λ x. (owned_cell x.0, drop x.1 bytes.now)) result
         (cell_at latest schema.now bytes.now) }
-    ensures memory { NeedsMemoryAfter PageFault.Memory (key_at bytes.now) result }
+    ensures memory { NeedsMemoryAfter PageFault.Memory (cell_at latest schema.now bytes.now)
+        result }
     ensures text { IfOk result (λ x.
         bytes.now ≡ cell_text latest (owned_cell x.0) ++ drop x.1 bytes.now) }
     ensures len { IfOk result (λ x. x.1 ≡ length (cell_text latest (owned_cell x.0))) }
