@@ -10,6 +10,10 @@ AppendsPrefix old new text = (front : List ℕ) × (rest : List ℕ) × (text �
 abbrev pub ConsumesSome : Option (List ℕ) → Option (List ℕ) → Type 0
 ConsumesSome old new = (bytes : List ℕ) × Consumes old new bytes
 
+-- where the bytes of a reader are known, at most so many were taken from their front
+abbrev pub TakesAtMost : ℕ → Option (List ℕ) → Option (List ℕ) → Type 0
+TakesAtMost n old new = (bytes : List ℕ) × (length bytes ≤ n) × Consumes old new bytes
+
 -- a front of what a reader had, where that is known, was added after the bytes that were there
 abbrev pub AddsFront : Option (List ℕ) → List ℕ → List ℕ → Type 0
 AddsFront known old new = (front : List ℕ) × (new ≡ old ++ front) × IfSome known (λ all. (rest : List ℕ) × (all ≡ front ++ rest))

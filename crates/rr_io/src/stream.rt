@@ -13,7 +13,7 @@ ghost use Rattle.std.specs.Io.{ReadsAtMost, WritesAtMost};
 ghost use Rattle.std.specs.Io.KnownBytes.{Appends, Consumes, IsAtEnd, Keeps, ReadConsumes, WriteAppends};
 ghost use Rattle.rr_io.specs.Counted.{inner_of, failures_of, reads_of, ends_of, is_flushed, one_more, HasRisen, HasRisenBy};
 ghost use Rattle.rr_text.specs.declared.limits.TheConstants.{MAX_READS};
-ghost use Rattle.rr_io.specs.Stream.{AddsFront, AppendsPrefix, ConsumesSome, ReadsOnce, TakesMore, tells_end};
+ghost use Rattle.rr_io.specs.Stream.{AddsFront, AppendsPrefix, ConsumesSome, ReadsOnce, TakesAtMost, TakesMore, tells_end};
 
 use crate::counted::Counted;
 use rr_text::limits::MAX_READS;
@@ -84,7 +84,7 @@ pub fn read_some<R: Read>(input: &mut Counted<R>, buf: &mut [u8]) -> Result<usiz
 }
 
 /// Reads until `buf` is full or the input ends, and answers how many bytes it put into the front of
-/// `buf`. After a failure some bytes may have been taken from the input.
+/// `buf`. After a failure some bytes may have been taken from the input, and no more than it holds.
 pub fn fill<R: Read>(input: &mut Counted<R>, buf: &mut [u8]) -> Result<usize, ReadFailed>
     ensures bound { IfOk result (λ filled. filled ≤ length buf.new) }
     ensures bytes { IfOk result (λ filled. Consumes (R.remaining (inner_of input.old))
@@ -92,6 +92,8 @@ pub fn fill<R: Read>(input: &mut Counted<R>, buf: &mut [u8]) -> Result<usize, Re
     ensures end { IfOk result (λ filled. filled < length buf.new
         → IsAtEnd (R.remaining (inner_of input.new))) }
     ensures front { ConsumesSome (R.remaining (inner_of input.old))
+        (R.remaining (inner_of input.new)) }
+    ensures most { TakesAtMost (length buf.new) (R.remaining (inner_of input.old))
         (R.remaining (inner_of input.new)) }
     ensures count { failures_of input.old ≤ failures_of input.new }
     ensures failed { OnErr result (HasRisen (failures_of input.old) (failures_of input.new)) }

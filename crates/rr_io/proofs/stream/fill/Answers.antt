@@ -1,6 +1,7 @@
-use Rattle.std.proofs.Common.{◌-◌, ◌≤◌, length, drop, arith, rules, length-drop, length-take-le}
+use Rattle.std.proofs.Common.{◌≡◌, ◌-◌, ◌≤◌, ◌++◌, length, drop, take, arith, rules, length-drop, length-take-le}
 use Rattle.std.proofs.KnownBytes.{Consumes-trans}
 use Rattle.rr_io.proofs.StreamLemmas.{filled_more}
+use Rattle.std.proofs.lemmas.List.{length-append, length-take}
 use borrow.Rule.Slice.PartMut.{same_len_mid}
 use Rattle.rr_io.proofs.stream.fill.Goals as goal
 
@@ -20,3 +21,13 @@ loop-filled-preserved g c =
       taken = rw (front) taken;
       count = search rules;
     }
+
+pub returns-then-given-eq0-clause-most : goal.returns-then-given-eq0-clause-most
+returns-then-given-eq0-clause-most g c =
+    let old = c.loop-filled.buf in
+    let new = c.read_some.new.buf in
+    let at = c.loop-filled.filled in
+    let given = c.in_ok-given.given in
+    let none : given ≡ 0 = c.if-given-eq0.true in
+    let same = same_len_mid at (length old - at) old new (c.read_some.auto.buf) in
+    (take at old ++ take given new, omega (arith, none, same, length-take at old, length-take given new, length-append (take at old) (take given new), c.loop-filled.invariant.within), Consumes-trans _ _ _ _ _ c.loop-filled.invariant.taken c.in_ok-given.ensures.bytes.0)
