@@ -1,22 +1,26 @@
 -- A cell from a stream: a buffer whose front grows, and what its bytes say of all that the stream has.
 use Rattle.std.proofs.Common.{◌≡◌, ℕ, ◌+◌, ◌<◌, ◌≤◌, Bool, true, false, List, [], ◌++◌, length, take, Option, None, Some, IfSome, Result, Ok, Err, refl, sym, ap, subst, ◌∙◌, ◌⊎◌, arith, inl, inr, append_assoc, length-take-le, take-add, take-take, take_at, drop_at}
+use Rattle.std.specs.Prelude.{IsOk, ◌-◌}
 use Rattle.std.specs.Int.{w16}
 use Rattle.std.specs.Io.KnownBytes.{Consumes, IsAtEnd}
 use Rattle.std.proofs.KnownBytes.{Consumes-trans}
 use Rattle.std.proofs.lemmas.List.{append-nil, nil_from_length, length-append}
 use Rattle.std.proofs.lemmas.Slice.{take-put_mid}
 use borrow.Rule.Slice.PartMut.{put_mid}
+use Rattle.rr_io.specs.Stream.{TakesAtMost}
 use Rattle.rr_schema.specs.Schema.{Layout}
 use Rattle.rr_cells.specs.CellBounds.{NamedCell}
 use Rattle.rr_page.specs.declared.fault.PageFault.{PageFault}
+use Rattle.rr_page.specs.declared.fault.PageFault.TheVariants as page
 use Rattle.rr_page.specs.declared.fault.PageFault.TheVariants.{Short}
 use Rattle.rr_page.specs.declared.version.Version.{Version}
 use Rattle.rr_page.specs.Version.{fields_len}
 use Rattle.rr_page.specs.Reading.{number_at, cell_at}
 use Rattle.rr_page.proofs.FrontLemmas.{IsFront-number, IsFront-cell, extended}
+use Rattle.rr_parts.specs.declared.fault.LoadFault.TheVariants as why
 use Rattle.rr_parts.specs.Fault.{load_fault}
 use Rattle.rr_parts.specs.SnapshotReading.{as_in_page}
-use Rattle.rr_parts.specs.Stream.{len_by, whole_len, Adds}
+use Rattle.rr_parts.specs.Stream.{len_by, whole_len, Adds, HasRead}
 use Rattle.rr_parts.proofs.WidthLemmas.{HasWidth-number, HasWidth-cell, is_bad_len, short_len, bad_len, good_len, number_err}
 
 -- the front of a buffer has n bytes more, once its part from a on is overwritten
@@ -135,10 +139,38 @@ unfolding Known
 known_err v s None new bytes fault k is = tt
 known_err v s (Some all) new bytes fault k is = ap (λ (l : List ℕ). as_in_page (cell_at v s l)) k.2 ∙ ap as_in_page (k.3.err fault is)
 
+known_some : (v : Version) (s : Layout) (old new : Option (List ℕ)) (bytes : List ℕ) (r : Result (NamedCell × List ℕ) PageFault) → IfSome old (λ all. Known v s new bytes all) → cell_at v s bytes ≡ r → IsOk r → HasRead old new (cell_at v s)
+unfolding Known
+known_some v s None new bytes r k e is = tt
+known_some v s (Some all) new bytes (Err fault) k e is = absurd (cc is)
+known_some v s (Some all) new bytes (Ok x) k e is = (x.0, k.0, k.1, ap (cell_at v s) k.2 ∙ k.3.ok x.0 x.1 e)
+
+-- only the faults of memory are faults of memory
+pub of_memory : (fault : PageFault) → load_fault fault ≡ why.Memory → fault ≡ page.Memory
+of_memory page.Memory e = refl
+of_memory page.Short e = absurd (cc e)
+of_memory page.BadMagic e = absurd (cc e)
+of_memory page.BadVersion e = absurd (cc e)
+of_memory page.SchemaDiffers e = absurd (cc e)
+of_memory page.TooManyCells e = absurd (cc e)
+of_memory page.BadKey e = absurd (cc e)
+of_memory page.BadArchive e = absurd (cc e)
+of_memory page.BadContribution e = absurd (cc e)
+of_memory page.OutOfOrder e = absurd (cc e)
+of_memory page.TrailingBytes e = absurd (cc e)
+
+-- the bytes in the buffer and those after them are at most so many
+pub took_at_most : (old mid new : Option (List ℕ)) (head : List ℕ) (len most : ℕ) → Adds old mid [] head → TakesAtMost (len - length head) mid new → length head ≤ len → len ≤ most → TakesAtMost most old new
+took_at_most old mid new head len most first second more fits =
+    (first.0 ++ second.0, omega (arith, length-append first.0 second.0, ap length first.1, second.1, more, fits), Consumes-trans old mid new first.0 second.0 first.2 second.2)
+
 module _ (v : Version) (s : Layout) (old mid new : Option (List ℕ)) (head bytes : List ℕ) (first : Adds old mid [] head) (second : Adds mid new head bytes)
     (end0 : length head < 2 → IsAtEnd mid) (end1 : length bytes < whole_len v head → IsAtEnd new) (few : length bytes ≤ whole_len v head) where
   pub stream_ok : (e : NamedCell) (r : List ℕ) → cell_at v s bytes ≡ Ok (e, r) → IfSome old (λ all. (rest : List ℕ) × (new ≡ Some rest) × (as_in_page (cell_at v s all) ≡ Ok (e, rest)))
   stream_ok e r is = known_ok v s old new bytes e r (known v s old mid new head bytes first second end0 end1 few) is
+
+  pub stream_some : IsOk (cell_at v s bytes) → HasRead old new (cell_at v s)
+  stream_some is = known_some v s old new bytes (cell_at v s bytes) (known v s old mid new head bytes first second end0 end1 few) refl is
 
   pub stream_err : (fault : PageFault) → cell_at v s bytes ≡ Err fault → IfSome old (λ all. as_in_page (cell_at v s all) ≡ Err (load_fault fault))
   stream_err fault is = known_err v s old new bytes fault (known v s old mid new head bytes first second end0 end1 few) is

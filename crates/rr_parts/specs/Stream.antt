@@ -32,6 +32,10 @@ abbrev pub StreamGives : {X Y : Type 0} → (X → Y) → Result X LoadFault →
 StreamGives view (Ok x) old new read = IfSome old (λ all. (rest : List ℕ) × (new ≡ Some rest) × (read all ≡ Ok (view x, rest)))
 StreamGives view (Err fault) old new read = (fault ≡ ReadFailed) ⊎ (fault ≡ Memory) ⊎ IfSome old (λ all. read all ≡ Err fault)
 
+-- where the bytes of a stream are known, something is read of them, and what follows it is left
+abbrev pub HasRead : {Y E : Type 0} → Option (List ℕ) → Option (List ℕ) → (List ℕ → Result (Y × List ℕ) E) → Type 0
+HasRead {Y} old new read = IfSome old (λ all. (x : Y) × (rest : List ℕ) × (new ≡ Some rest) × (read all ≡ Ok (x, rest)))
+
 -- the bytes that were taken from a reader were added to what is digested
 abbrev pub Digests : Option (List ℕ) → Option (List ℕ) → Sha256 → Sha256 → Type 0
 Digests old new before after = (taken : List ℕ) × Consumes old new taken × ((m : List ℕ) → Holds256 before m → Holds256 after (m ++ taken))

@@ -2,7 +2,7 @@
 ghost use Rattle.std.specs.Prelude.{◌≡◌, ◌≢◌, ◌≤◌, Err, OnOk};
 ghost use Rattle.std.specs.Io.KnownBytes.{IsAtEnd};
 ghost use Rattle.rr_io.specs.Counted.{inner_of, failures_of, HasRisen};
-ghost use Rattle.rr_io.specs.Stream.{ConsumesSome};
+ghost use Rattle.rr_io.specs.Stream.{ConsumesSome, TakesAtMost};
 ghost use Rattle.rr_parts.specs.SnapshotReading.{digest_at, end_at};
 ghost use Rattle.rr_parts.specs.Stream.{StreamGives};
 
@@ -15,6 +15,8 @@ use std::io::Read;
 /// How many bytes a digest has.
 const DIGEST_LEN: usize = 32;
 
+const _: () = prove!(DIGEST_LEN == 32);
+
 /// Reads a digest at the front of what the input has, which must be this one.
 pub fn digest_from<R: Read>(
     input: &mut Counted<R>,
@@ -24,6 +26,8 @@ pub fn digest_from<R: Read>(
         (R.remaining (inner_of input.new)) (digest_at digest.now) }
     ensures no_memory { result ≢ Err LoadFault.Memory }
     ensures front { ConsumesSome (R.remaining (inner_of input.old))
+        (R.remaining (inner_of input.new)) }
+    ensures most { TakesAtMost DIGEST_LEN (R.remaining (inner_of input.old))
         (R.remaining (inner_of input.new)) }
     ensures count { failures_of input.old ≤ failures_of input.new }
     ensures failed { result ≡ Err LoadFault.ReadFailed
@@ -45,6 +49,8 @@ pub fn end_from<R: Read>(input: &mut Counted<R>) -> Result<(), LoadFault>
     ensures end { OnOk result (IsAtEnd (R.remaining (inner_of input.new))) }
     ensures no_memory { result ≢ Err LoadFault.Memory }
     ensures front { ConsumesSome (R.remaining (inner_of input.old))
+        (R.remaining (inner_of input.new)) }
+    ensures most { TakesAtMost 1 (R.remaining (inner_of input.old))
         (R.remaining (inner_of input.new)) }
     ensures count { failures_of input.old ≤ failures_of input.new }
     ensures failed { result ≡ Err LoadFault.ReadFailed

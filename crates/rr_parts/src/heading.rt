@@ -2,7 +2,7 @@
 ghost use Rattle.std.specs.Prelude.{◌≡◌, ◌≢◌, ◌≤◌, ◌+◌, IfOk, OnOk, Err, length};
 ghost use Rattle.std.specs.Int.{w32};
 ghost use Rattle.rr_io.specs.Counted.{inner_of, failures_of, HasRisen};
-ghost use Rattle.rr_io.specs.Stream.{ConsumesSome};
+ghost use Rattle.rr_io.specs.Stream.{ConsumesSome, TakesAtMost};
 ghost use Rattle.rr_schema.specs.SchemaBytes.{schema_bytes};
 ghost use Rattle.rr_page.specs.Reading.{number_at};
 ghost use Rattle.rr_parts.specs.Stream.{Digests, StreamGives};
@@ -17,6 +17,7 @@ use rr_io::stream::fill;
 use rr_page::fields::{bytes_at, u16_at, u32_at};
 use rr_page::{LATEST, PageFault, Version, version_of};
 use rr_schema::{Origin, Schema};
+use rr_text::limits::MAX_ARCHIVES;
 use sha2::{Digest, Sha256};
 use std::alloc::{AllocError, Global};
 use std::io::Read;
@@ -31,6 +32,17 @@ const MAGIC: [u8; 4] = *b"RRSN";
 
 /// How many bytes the magic, the version and the origin have.
 const START_LEN: usize = 7;
+
+/// How many bytes these and a schema have at most: its step and the number of its archives in five,
+/// and nine for each archive.
+const MAX_START_LEN: usize = START_LEN + 5 + 9 * MAX_ARCHIVES;
+
+/// How many bytes the number of cells has.
+const COUNT_LEN: usize = 4;
+
+const _: () = prove!(START_LEN == 7);
+
+const _: () = prove!(COUNT_LEN == 4);
 
 /// What a snapshot of the latest version has before its cells.
 #[tactic(auto, unfolding(crate::specs::Snapshot::head_text))]
@@ -52,10 +64,11 @@ pub fn head_bytes(
     Ok(bytes)
 }
 
-/// The version and the origin, and what follows them. The schema has the bytes `own`.
+/// The version and the origin, and what follows them. No memory is taken.
 #[tactic(auto, unfolding(crate::specs::SnapshotReading::start_at))]
-fn start_of<'a>(own: &[u8], bytes: &'a [u8]) -> Result<(Version, u16, &'a [u8]), PageFault>
-    ensures read { Gives (λ x. ((x.0, x.1), x.2.now)) result (start_at own.now bytes.now) }
+fn start_of<'a>(schema: &Schema, bytes: &'a [u8]) -> Result<(Version, u16, &'a [u8]), PageFault>
+    ensures read { Gives (λ x. ((x.0, x.1), x.2.now)) result
+        (start_at (schema_bytes schema.now) bytes.now) }
     ensures no_memory { result ≢ Err PageFault.Memory }
 {
     let (start, rest) = bytes_at(bytes, MAGIC.len())?;
@@ -63,8 +76,8 @@ fn start_of<'a>(own: &[u8], bytes: &'a [u8]) -> Result<(Version, u16, &'a [u8]),
         return Err(PageFault::BadMagic);
     }
     let (version, rest) = version_of(rest)?;
-    let (field, rest) = bytes_at(rest, own.len())?;
-    if field != own {
+    let (field, rest) = bytes_at(rest, schema.byte_len())?;
+    if !schema.has_bytes(field) {
         return Err(PageFault::SchemaDiffers);
     }
     let (origin, rest) = u16_at(rest)?;
@@ -74,31 +87,43 @@ fn start_of<'a>(own: &[u8], bytes: &'a [u8]) -> Result<(Version, u16, &'a [u8]),
 /// The version and the origin at the front of what the input has, read into a buffer of their
 /// length.
 fn start_into<R: Read>(
-    own: &[u8],
+    schema: &Schema,
     input: &mut Counted<R>,
     buffer: &mut [u8],
     hasher: &mut Sha256,
 ) -> Result<(Version, u16), LoadFault>
-    requires { length buffer.old ≡ length own.now + START_LEN }
+    requires { length buffer.old ≡ length (schema_bytes schema.now) + START_LEN }
     ensures read { StreamGives (λ x. (x.0, x.1)) result (R.remaining (inner_of input.old))
-        (R.remaining (inner_of input.new)) (λ all. as_in_page (start_at own.now all)) }
+        (R.remaining (inner_of input.new))
+        (λ all. as_in_page (start_at (schema_bytes schema.now) all)) }
     ensures digest { OnOk result (Digests (R.remaining (inner_of input.old))
         (R.remaining (inner_of input.new)) hasher.old hasher.new) }
     ensures front { ConsumesSome (R.remaining (inner_of input.old))
         (R.remaining (inner_of input.new)) }
+    ensures most { TakesAtMost (length (schema_bytes schema.now) + START_LEN)
+        (R.remaining (inner_of input.old)) (R.remaining (inner_of input.new)) }
+    ensures no_memory { result ≢ Err LoadFault.Memory }
     ensures count { failures_of input.old ≤ failures_of input.new }
     ensures failed { result ≡ Err LoadFault.ReadFailed
         → HasRisen (failures_of input.old) (failures_of input.new) }
 {
     let got = fill(input, buffer)?;
-    let (version, origin, _) = start_of(own, &buffer[..got])?;
+    let (version, origin, _) = start_of(schema, &buffer[..got])?;
     hasher.update(&buffer[..got]);
     Ok((version, origin))
 }
 
+/// How many bytes come before the number of cells.
+fn start_len(schema: &Schema) -> usize
+    ensures value { result ≡ length (schema_bytes schema.now) + START_LEN }
+    ensures fits { result ≤ MAX_START_LEN }
+{
+    let _archives = schema.archives(); // their contract says that the schema is within its limits
+    schema.byte_len() + START_LEN
+}
+
 /// The version and the origin at the front of what the input has.
 fn start_from<R: Read>(
-    alloc: Global,
     input: &mut Counted<R>,
     schema: &Schema,
     hasher: &mut Sha256,
@@ -109,13 +134,16 @@ fn start_from<R: Read>(
         (R.remaining (inner_of input.new)) hasher.old hasher.new) }
     ensures front { ConsumesSome (R.remaining (inner_of input.old))
         (R.remaining (inner_of input.new)) }
+    ensures most { TakesAtMost (length (schema_bytes schema.now) + START_LEN)
+        (R.remaining (inner_of input.old)) (R.remaining (inner_of input.new)) }
+    ensures no_memory { result ≢ Err LoadFault.Memory }
     ensures count { failures_of input.old ≤ failures_of input.new }
     ensures failed { result ≡ Err LoadFault.ReadFailed
         → HasRisen (failures_of input.old) (failures_of input.new) }
 {
-    let own = schema.bytes(alloc)?;
-    let mut buffer = vec![in alloc; 0u8; own.len() + START_LEN]?;
-    start_into(&own, input, &mut buffer, hasher)
+    let mut buffer = [0u8; MAX_START_LEN];
+    let len = start_len(schema);
+    start_into(schema, input, &mut buffer[..len], hasher)
 }
 
 /// The number of cells at the front of what the input has.
@@ -126,20 +154,23 @@ fn count_from<R: Read>(input: &mut Counted<R>, hasher: &mut Sha256) -> Result<u3
         (R.remaining (inner_of input.new)) hasher.old hasher.new) }
     ensures front { ConsumesSome (R.remaining (inner_of input.old))
         (R.remaining (inner_of input.new)) }
+    ensures most { TakesAtMost COUNT_LEN (R.remaining (inner_of input.old))
+        (R.remaining (inner_of input.new)) }
+    ensures no_memory { result ≢ Err LoadFault.Memory }
     ensures count { failures_of input.old ≤ failures_of input.new }
     ensures failed { result ≡ Err LoadFault.ReadFailed
         → HasRisen (failures_of input.old) (failures_of input.new) }
 {
-    let mut buffer = [0u8; 4];
+    let mut buffer = [0u8; COUNT_LEN];
     let got = fill(input, &mut buffer)?;
     let (count, _) = u32_at(&buffer[..got])?;
     hasher.update(&buffer[..got]);
     Ok(count)
 }
 
-/// The version, the origin and the number of cells at the front of what the input has.
+/// The version, the origin and the number of cells at the front of what the input has. No memory is
+/// taken, and nothing is read after a bad origin.
 pub fn head_from<R: Read>(
-    alloc: Global,
     input: &mut Counted<R>,
     schema: &Schema,
     hasher: &mut Sha256,
@@ -150,11 +181,17 @@ pub fn head_from<R: Read>(
         (R.remaining (inner_of input.new)) hasher.old hasher.new) }
     ensures front { ConsumesSome (R.remaining (inner_of input.old))
         (R.remaining (inner_of input.new)) }
+    ensures most { TakesAtMost (length (schema_bytes schema.now) + START_LEN + COUNT_LEN)
+        (R.remaining (inner_of input.old)) (R.remaining (inner_of input.new)) }
+    ensures bad_origin { result ≡ Err LoadFault.BadOrigin
+        → TakesAtMost (length (schema_bytes schema.now) + START_LEN)
+        (R.remaining (inner_of input.old)) (R.remaining (inner_of input.new)) }
+    ensures no_memory { result ≢ Err LoadFault.Memory }
     ensures count { failures_of input.old ≤ failures_of input.new }
     ensures failed { result ≡ Err LoadFault.ReadFailed
         → HasRisen (failures_of input.old) (failures_of input.new) }
 {
-    let (version, origin) = start_from(alloc, input, schema, hasher)?;
+    let (version, origin) = start_from(input, schema, hasher)?;
     let origin = match Origin::new(origin) {
         Ok(origin) => origin,
         Err(_) => return Err(LoadFault::BadOrigin),

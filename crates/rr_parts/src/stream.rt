@@ -1,15 +1,15 @@
 //! A cell from a stream, in one buffer.
-ghost use Rattle.std.specs.Prelude.{◌≡◌, ◌++◌, ◌<◌, ◌≤◌, List, ℕ, IfOk, OnErr, Err, length, take};
+ghost use Rattle.std.specs.Prelude.{◌≡◌, ◌++◌, ◌<◌, ◌≤◌, ◌-◌, List, ℕ, IfOk, OnErr, Err, length, take};
 ghost use Rattle.std.specs.Io.KnownBytes.{Consumes, IsAtEnd};
 ghost use Rattle.rr_io.specs.Counted.{inner_of, failures_of, HasRisen};
-ghost use Rattle.rr_io.specs.Stream.{ConsumesSome};
+ghost use Rattle.rr_io.specs.Stream.{ConsumesSome, TakesAtMost};
 ghost use Rattle.rr_page.specs.Reading.{cell_at};
 ghost use Rattle.rr_page.specs.Version.{fields_len};
 ghost use Rattle.rr_page.specs.declared.writing.TheConstants.{FIELDS_LEN};
 ghost use Rattle.rr_cells.specs.CellBounds.{IsCellOf};
 ghost use Rattle.rr_cells.specs.Listing.{owned_cell};
 ghost use Rattle.rr_parts.specs.SnapshotReading.{as_in_page};
-ghost use Rattle.rr_parts.specs.Stream.{Adds, StreamGives, whole_len};
+ghost use Rattle.rr_parts.specs.Stream.{Adds, HasRead, StreamGives, whole_len};
 
 use crate::fault::LoadFault;
 use rr_cells::Cell;
@@ -71,6 +71,8 @@ fn fill_up_to<R: Read>(
     ensures buffer_len { length buffer.new ≡ length buffer.old }
     ensures front { ConsumesSome (R.remaining (inner_of input.old))
         (R.remaining (inner_of input.new)) }
+    ensures most { TakesAtMost (len - filled) (R.remaining (inner_of input.old))
+        (R.remaining (inner_of input.new)) }
     ensures count { failures_of input.old ≤ failures_of input.new }
     ensures failed { OnErr result (HasRisen (failures_of input.old) (failures_of input.new)) }
 {
@@ -79,7 +81,8 @@ fn fill_up_to<R: Read>(
 }
 
 /// The cell at the front of what the input has, and how many bytes it has, which are in the front of
-/// the buffer. The input is read in two pieces, and no byte after the cell is taken.
+/// the buffer. The input is read in two pieces, and no byte after the cell is taken. `Memory` comes only
+/// where a cell is there.
 pub fn cell_from<R: Read>(
     alloc: Global,
     input: &mut Counted<R>,
@@ -97,6 +100,10 @@ pub fn cell_from<R: Read>(
     ensures buffer_len { length buffer.new ≡ length buffer.old }
     ensures front { ConsumesSome (R.remaining (inner_of input.old))
         (R.remaining (inner_of input.new)) }
+    ensures most { TakesAtMost MAX_CELL_LEN (R.remaining (inner_of input.old))
+        (R.remaining (inner_of input.new)) }
+    ensures memory { result ≡ Err LoadFault.Memory → HasRead (R.remaining (inner_of input.old))
+        (R.remaining (inner_of input.new)) (cell_at version schema.now) }
     ensures count { failures_of input.old ≤ failures_of input.new }
     ensures failed { result ≡ Err LoadFault.ReadFailed
         → HasRisen (failures_of input.old) (failures_of input.new) }

@@ -1,4 +1,4 @@
-use Rattle.std.proofs.Common.{◌≡◌, ◌<◌, ◌∙◌, Bool, true, false, List, ℕ, zero, suc, Ok, Result, ap, sym, subst, refl, arith, inr}
+use Rattle.std.proofs.Common.{◌≡◌, ◌+◌, ◌<◌, ◌∙◌, length, Bool, true, false, List, ℕ, zero, suc, Ok, Result, ap, sym, subst, refl, arith, inr}
 use Rattle.std.specs.Prelude.{◌==◌}
 use Rattle.std.specs.Int.{w32}
 use Rattle.std.proofs.lemmas.Bool.{ne_eqb}
@@ -11,7 +11,7 @@ use Rattle.rr_page.specs.Reading.{number_at}
 use Rattle.rr_parts.specs.declared.fault.LoadFault.{LoadFault}
 use Rattle.rr_parts.specs.declared.fault.LoadFault.TheVariants.{BadOrigin}
 use Rattle.rr_parts.specs.SnapshotReading.{as_in_page, start_at, head_at}
-use Rattle.rr_parts.proofs.FrontLemmas.{read_then}
+use Rattle.rr_parts.proofs.FrontLemmas.{read_then, took_more}
 use Rattle.rr_parts.proofs.ChainLemmas.{Gave, passes, refuses, then_gave, then_refused, fails_then, then_fails, Digests-then}
 use Rattle.rr_parts.proofs.heading.head_from.Goals as goal
 
@@ -83,3 +83,13 @@ returns-in_err-count-clause-front g c =
 pub returns-clause-front : goal.returns-clause-front
 returns-clause-front g c =
     read_then (g.R.Read.remaining (inner_of c.args.input.now)) (g.R.Read.remaining (inner_of c.start_from.new.input)) (g.R.Read.remaining (inner_of c.count_from.new.input)) c.start_from.ensures.front c.count_from.ensures.front
+
+pub returns-in_err-count-clause-most : goal.returns-in_err-count-clause-most
+returns-in_err-count-clause-most g c =
+    let start = length (schema_bytes c.args.schema.now) + 7 in
+    took_more start 4 (start + 4) (g.R.Read.remaining (inner_of c.args.input.now)) (g.R.Read.remaining (inner_of c.start_from.new.input)) (g.R.Read.remaining (inner_of c.count_from.new.input)) c.start_from.ensures.most c.count_from.ensures.most (omega arith)
+
+pub returns-clause-most : goal.returns-clause-most
+returns-clause-most g c =
+    let start = length (schema_bytes c.args.schema.now) + 7 in
+    took_more start 4 (start + 4) (g.R.Read.remaining (inner_of c.args.input.now)) (g.R.Read.remaining (inner_of c.start_from.new.input)) (g.R.Read.remaining (inner_of c.count_from.new.input)) c.start_from.ensures.most c.count_from.ensures.most (omega arith)

@@ -2,13 +2,14 @@ use Rattle.std.proofs.Common.{rules, ◌≡◌, ◌+◌, ◌≤◌, take, length
 use Rattle.std.proofs.lemmas.List.{length-take}
 use Rattle.std.proofs.lemmas.Result.{err_from_is_err_and}
 use Rattle.rr_io.specs.Counted.{inner_of}
+use Rattle.rr_schema.specs.SchemaBytes.{schema_bytes}
 use Rattle.rr_parts.specs.SnapshotReading.{start_at}
 use Rattle.rr_parts.proofs.PieceLemmas.{piece_ok, piece_err, IsFront-start, HasWidth-start}
 use Rattle.rr_parts.proofs.heading.start_into.Goals as goal
 
 pub returns-clause-read : goal.returns-clause-read
 returns-clause-read g c =
-    let s = c.args.own.now in
+    let s = schema_bytes c.args.schema.now in
     let bytes = take c.in_ok-got.got c.fill.new.buf in
     let made : length c.fill.new.buf ≡ length s + 7 = search rules in
     let few : length bytes ≤ length s + 7 = omega (arith, length-take c.in_ok-got.got c.fill.new.buf, made, c.in_ok-got.ensures.bound) in
@@ -17,7 +18,7 @@ returns-clause-read g c =
 
 pub returns-in_err-version-clause-read : goal.returns-in_err-version-clause-read
 returns-in_err-version-clause-read g c =
-    let s = c.args.own.now in
+    let s = schema_bytes c.args.schema.now in
     let bytes = take c.in_ok-got.got c.fill.new.buf in
     let made : length c.fill.new.buf ≡ length s + 7 = search rules in
     let got_len = length-take c.in_ok-got.got c.fill.new.buf in
