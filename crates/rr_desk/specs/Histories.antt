@@ -15,8 +15,9 @@ use Rattle.rr_cells.specs.declared.sample.Sample.{Sample}
 use Rattle.rr_cells.specs.Cells.{IsTrimmed}
 use Rattle.rr_cells.specs.Holding.{Holding}
 use Rattle.rr_cells.specs.Listing.{owned_cell}
-use Rattle.rr_cells.specs.Operations.{joins_of, sample_of, AllAccepted}
+use Rattle.rr_cells.specs.Operations.{joins_of, sample_of, step, AllAccepted}
 use Rattle.rr_cells.specs.State.{state}
+use Rattle.rr_copies.specs.Standing.{KeeperState, holding_of}
 
 -- what happens next: another origin writes a sample, the keeper puts one, or it joins a cell of what someone knows
 pub data Turn : Type 0 where
@@ -83,3 +84,9 @@ list_of h turns = joins_of h.cells ++ ops_of turns
 -- what was written and is known then
 abbrev pub scene_after : Holding → Scene → List Turn → Scene
 scene_after h z turns = fold (next_scene h.schema) z turns
+
+-- a keeper to which this has happened since its desk was opened
+pub record HasHistory (h : Holding) (z : Scene) (turns : List Turn) (k : KeeperState) : Type 0 where
+  pub history : IsHistory h z turns
+  pub list : k.published ++ k.pending ≡ list_of h turns
+  pub holds : holding_of k ≡ fold step h (ops_of turns)

@@ -1,16 +1,32 @@
 -- The laws of a desk, each the contract of a function of `src/laws.rt`.
-use Rattle.std.specs.Prelude.{◌≡◌, List, All, fold}
-use Rattle.std.specs.FinMap.{entries}
+use Rattle.std.specs.Prelude.{◌≡◌, ◌≢◌, ℕ, ◌+◌, ◌≤◌, ℤ, List, [], ◌∷◌, ◌++◌, length, All, fold, Ok}
+use Rattle.std.specs.FinMap.{entries, len}
 use mathlib.Core.List.{IsPrefix}
+use Rattle.logbook.specs.Pages.{Book}
+use Rattle.rr_text.specs.declared.limits.TheConstants.{MAX_NUMBER}
+use Rattle.rr_point.specs.Point.{PointView}
 use Rattle.rr_model.specs.FetchText.{Request, fetch_text}
+use Rattle.rr_model.specs.Knowledge.{Knowledge}
+use Rattle.rr_model.specs.Samples.{Sample}
+use Rattle.rr_model.specs.World.{IsWritten}
+use Rattle.rr_cells.specs.declared.cell.Cell.{Cell}
 use Rattle.rr_cells.specs.declared.op.Op.{Op}
-use Rattle.rr_cells.specs.Holding.{Holding}
+use Rattle.rr_cells.specs.declared.op.Op.TheVariants.{Join}
+use Rattle.rr_cells.specs.CellBounds.{IsCellOf}
+use Rattle.rr_cells.specs.Holding.{Holding, IsHolding}
+use Rattle.rr_cells.specs.Listing.{owned_cell}
 use Rattle.rr_cells.specs.Operations.{outcome_of, joins_of, step, to_cell, AllAccepted}
 use Rattle.rr_cells.specs.State.{state}
+use Rattle.rr_copies.specs.Standing.{KeeperState, keeper_at_opening, with_all_published, with_pending}
 use Rattle.rr_delta.specs.Difference.{newer_cells}
 use Rattle.rr_delta.specs.Names.{NamedVersion}
 use Rattle.rr_fetch.specs.Answers.{cells_text}
-use Rattle.rr_desk.specs.Histories.{Turn, Scene, Knows, IsHistory, IsWhole, AreHonest, list_of, ops_of, scene_after}
+use Rattle.rr_page.specs.Version.{latest}
+use Rattle.rr_parts.specs.declared.heading.TheConstants.{MAX_SNAPSHOT_CELLS}
+use Rattle.rr_parts.specs.Snapshot.{snapshot_text}
+use Rattle.rr_snapshot.specs.Loading.{loaded_at}
+use Rattle.rr_desk.specs.Points.{with_put, with_puts}
+use Rattle.rr_desk.specs.Histories.{Turn, elsewhere, put, joined, Scene, Knows, IsHistory, HasHistory, IsHonest, IsWhole, AreHonest, list_of, ops_of, scene_after}
 
 -- a replica that takes samples of its own, and whole cells of closed knowledges, goes on to have the cells of a
 -- knowledge with no gaps
@@ -45,3 +61,44 @@ abbrev pub CellsSavedAreWhole : Type 0
 CellsSavedAreWhole =
     (h : Holding) (z : Scene) (turns : List Turn) → IsHistory h z turns
     → All (λ e. IsWhole h.schema (scene_after h z turns).world (scene_after h z turns).known (to_cell e)) (entries (outcome_of h.schema (list_of h turns)))
+
+-- ---- keepers
+
+-- `open`, of a replica that has the cells of such a knowledge, gives a keeper to which nothing has happened
+abbrev pub OpeningIsHistory : Type 0
+OpeningIsHistory = (h : Holding) (z : Scene) (b : Book) → Knows h z → HasHistory h z [] (keeper_at_opening h b)
+
+-- `put`, where a number is left, is a turn
+abbrev pub PutIsATurn : Type 0
+PutIsATurn =
+    (h : Holding) (z : Scene) (turns : List Turn) (k : KeeperState) (key : List ℕ) (time value : ℤ) → HasHistory h z turns k → k.next ≤ MAX_NUMBER
+    → HasHistory h z (turns ++ put (record { origin = k.origin; number = k.next; key = key; time = time; value = value }) ∷ []) (with_put k key time value)
+
+-- `write`, where as many numbers are left, is some turns
+abbrev pub WriteIsTurns : Type 0
+WriteIsTurns =
+    (h : Holding) (z : Scene) (turns : List Turn) (k : KeeperState) (p : PointView) (time : ℤ) (fields : List (List ℕ × ℤ)) → HasHistory h z turns k → k.next + length fields ≤ MAX_NUMBER + 1
+    → (more : List Turn) × HasHistory h z (turns ++ more) (with_puts k p time fields)
+
+-- `join_cell`, of a whole cell of the schema, is a turn
+abbrev pub JoinIsATurn : Type 0
+JoinIsATurn =
+    (h : Holding) (z : Scene) (turns : List Turn) (k : KeeperState) (known : Knowledge) (c : Cell) → HasHistory h z turns k → IsCellOf k.schema (owned_cell c)
+    → IsWhole h.schema (scene_after h z turns).world known c → HasHistory h z (turns ++ joined known c ∷ []) (with_pending k (Join c))
+
+-- `publish` is none
+abbrev pub PublishIsNoTurn : Type 0
+PublishIsNoTurn = (h : Holding) (z : Scene) (turns : List Turn) (k : KeeperState) → HasHistory h z turns k → HasHistory h z turns (with_all_published k)
+
+-- and what others write leaves the keeper
+abbrev pub OthersWrite : Type 0
+OthersWrite =
+    (h : Holding) (z : Scene) (turns : List Turn) (k : KeeperState) (x : Sample) → HasHistory h z turns k → IsHonest h.schema h.origin (scene_after h z turns) (elsewhere x)
+    → HasHistory h z (turns ++ elsewhere x ∷ []) k
+
+-- what a replica with the cells of such a knowledge was saved as is loaded, under an origin that wrote nothing, as one with
+-- these cells again
+abbrev pub LoadedIsKnown : Type 0
+LoadedIsKnown =
+    (h : Holding) (z : Scene) (origin : ℕ) → Knows h z → IsHolding h → len h.cells ≤ MAX_SNAPSHOT_CELLS → origin ≢ h.origin → ((x : Sample) → IsWritten z.world x → x.origin ≢ origin)
+    → (new : Holding) × (loaded_at h.schema origin (snapshot_text latest h.schema h.origin (entries h.cells)) ≡ Ok new) × Knows new z

@@ -1,5 +1,5 @@
 //! The laws of a desk, with no work to do: the functions have empty bodies.
-ghost use Rattle.rr_desk.specs.Laws.{OperationsAreKnown, ListsAreKnown, BeginningsAreHistories, AnswersAreOfSamples, CellsGivenAreWhole, CellsSavedAreWhole};
+ghost use Rattle.rr_desk.specs.Laws.{OperationsAreKnown, ListsAreKnown, BeginningsAreHistories, AnswersAreOfSamples, CellsGivenAreWhole, CellsSavedAreWhole, OpeningIsHistory, PutIsATurn, WriteIsTurns, JoinIsATurn, PublishIsNoTurn, OthersWrite, LoadedIsKnown};
 
 /// A desk is opened with a replica whose cells are those of a knowledge without gaps that has all marks of
 /// its own origin. Its keeper puts samples of its own, and joins whole live cells of such knowledges; others
@@ -18,4 +18,21 @@ pub fn readers_answer_from_samples()
     ensures answers { AnswersAreOfSamples }
     ensures given { CellsGivenAreWhole }
     ensures saved { CellsSavedAreWhole }
+{}
+
+/// What the calls of a keeper do is such a history, whatever their arguments are: what the laws above ask of
+/// its operations follows from the contracts of the calls.
+pub fn keepers_have_histories()
+    ensures opening { OpeningIsHistory }
+    ensures put { PutIsATurn }
+    ensures write { WriteIsTurns }
+    ensures join { JoinIsATurn }
+    ensures publish { PublishIsNoTurn }
+    ensures others { OthersWrite }
+{}
+
+/// A node that is loaded from the snapshot of such a node, under an origin that wrote nothing, is such a node
+/// again.
+pub fn loaded_nodes_are_known()
+    ensures { LoadedIsKnown }
 {}
