@@ -1,7 +1,6 @@
 -- What calls do is what deeds do.
-use Rattle.std.proofs.Common.{◌≡◌, ◌⊎◌, inl, inr, ℕ, suc, ◌+◌, ◌≤◌, Bool, List, [], ◌∷◌, ◌++◌, length, slice_get, append_assoc, refl, sym, ap, ◌∙◌, subst, Option, Some, None}
+use Rattle.std.proofs.Common.{◌≡◌, ◌⊎◌, inl, inr, ℕ, suc, ◌+◌, ◌≤◌, Bool, List, [], ◌∷◌, ◌++◌, length, slice_get, append_assoc, refl, sym, ap, ◌∙◌, subst, arith, Option, Some}
 use Rattle.std.specs.Prelude.{if◌then◌else◌}
-use Rattle.std.specs.Option.{option_map}
 use Rattle.std.specs.FinMap.{get}
 use Rattle.std.proofs.lemmas.Bool.{le-leb}
 use Rattle.std.proofs.lemmas.List.Elements.{All-head, All-tail}
@@ -11,7 +10,7 @@ use Rattle.rr_text.specs.declared.limits.TheConstants.{MAX_NUMBER}
 use Rattle.rr_text.specs.Options.{◌>>=◌}
 use Rattle.rr_schema.specs.Schema.{Layout}
 use Rattle.rr_contrib.specs.declared.contribution.Contribution.{Contribution}
-use Rattle.rr_model.specs.Knowledge.{Knowledge}
+use Rattle.rr_point.specs.Key.{key_text}
 use Rattle.rr_cells.specs.declared.cell.Cell.{Cell}
 use Rattle.rr_cells.specs.declared.op.Op.{Op}
 use Rattle.rr_cells.specs.declared.op.Op.TheVariants.{Join, Put}
@@ -21,18 +20,18 @@ use Rattle.rr_cells.specs.Joins.{join_cell}
 use Rattle.rr_cells.specs.Listing.{owned_cell}
 use Rattle.rr_cells.specs.Operations.{cell_step, joins_of, outcome_of, with_op}
 use Rattle.rr_cells.specs.Puts.{put_sample}
-use Rattle.rr_cells.specs.State.{state}
 use Rattle.rr_cells.proofs.OperationsLemmas.{outcome_of-joins, outcome_of-more}
 use Rattle.rr_copies.specs.Standing.{KeeperState, holding_of, with_pending}
 use Rattle.rr_copies.proofs.PrefixLemmas.{prefix_append, prefix_nil, prefix_refl, prefix_trans}
 use Rattle.rr_model.proofs.Fetches.{fetches_are_of_the_live}
 use Rattle.rr_fetch.specs.Answers.{cells_text}
 use Rattle.rr_fetch.proofs.RowLaws.{answer_of_state}
+use Rattle.rr_desk.specs.Points.{with_put}
 use Rattle.rr_desk.specs.Standing.{cells_seen}
-use Rattle.rr_nodes.specs.Nodes.{Node, Moment, all_held, held_at, holding, taken, where_some, after_all}
+use Rattle.rr_nodes.specs.Nodes.{Node, Moment, all_held, held_at, holding, taken, written, where_some, after_all}
 use Rattle.rr_nodes.specs.Models.{cell_model, sample_model}
-use Rattle.rr_nodes.specs.Keepers.{IsNode, OpeningIsANode, PutIsADeed, JoinIsADeed, PageIsDeeds, PublishIsNone, ReadersSeeMoments, ReadersAnswerFromSamples, ReadersAnswerAlike}
-use Rattle.rr_nodes.proofs.NodesLemmas.{held_then}
+use Rattle.rr_nodes.specs.Keepers.{IsNode, OpeningIsANode, PutIsADeed, WriteIsDeeds, ReopeningIsNone, JoinIsADeed, PageIsDeeds, PublishIsNone, ReadersSeeMoments, ReadersAnswerFromSamples, ReadersAnswerAlike}
+use Rattle.rr_nodes.proofs.DeedsLemmas.{from_cells, held_then}
 
 append_nothing : {A : Type 0} (xs : List A) → xs ++ [] ≡ xs
 append_nothing [] = refl
@@ -116,6 +115,13 @@ put_is_a_deed opening k n key time value few is =
     (ap (λ (i : ℕ). put_sample k.schema n.now (record { time = time; origin = k.origin; number = i; key = key; value = value })) is.next)
     (ap (λ (i : ℕ). i + 1) is.next))
 
+pub write_is_deeds : WriteIsDeeds
+write_is_deeds opening k n p time [] few is = is
+write_is_deeds opening k n p time (field ∷ fields) few is =
+    let key = key_text p field.0 in
+    write_is_deeds opening (with_put k key time field.1) (written cell_model k.schema k.origin n key time field.1) p time fields (omega (arith, few))
+    (put_is_a_deed opening k n key time field.1 (omega (arith, few)) is)
+
 pub join_is_a_deed : JoinIsADeed
 join_is_a_deed opening k n there c here is =
     let name = (owned_cell c).0 in
@@ -138,16 +144,14 @@ publish_is_none opening k n is =
       held = λ list later p q. is.held list later p (q ∙ append_nothing ops);
     }
 
+pub reopening_is_none : ReopeningIsNone
+reopening_is_none opening k n b holds is = opening_is_a_node (holding_of k) b n holds.layout holds.live is.next is.now
+
 -- ---- readers
 
 pub readers_see_moments : ReadersSeeMoments
 readers_see_moments opening k n r later is reads all =
     is.held r.list later reads.opened all ∙ ap (λ (s : Layout). Some (outcome_of s r.list)) (sym reads.schema)
-
--- the cells of some marks, where there are any
-pub from_cells : (s : Layout) (o : Option Knowledge) (m : Cells) → option_map (state s) o ≡ Some m → (known : Knowledge) × (o ≡ Some known) × (state s known ≡ m)
-from_cells s None m e = absurd cc
-from_cells s (Some known) m e = let same : state s known ≡ m = cc in (known, refl, same)
 
 pub readers_answer_from_samples : ReadersAnswerFromSamples
 readers_answer_from_samples s deeds origin opening k n r later q is there schema node reads all =

@@ -1,45 +1,34 @@
--- Deeds, one after the other: the nodes have the cells of the marks that reached them, and what they hold stays without
--- gaps.
-use Rattle.std.proofs.Common.{◌≡◌, ◌≢◌, ℕ, zero, suc, ◌+◌, ◌<◌, ◌&&◌, ℤ, Bool, true, false, cond, IsTrue, List, [], ◌∷◌, map, fold, slice_get, refl, sym, ap, ◌∙◌, subst, arith, true≢false, ⊎_elim, Option, Some, None, is_some}
-use Rattle.std.specs.Prelude.{◌==◌, nat_le, if◌then◌else◌}
+-- Nodes that hold cells, and nodes that hold marks: what stands at them, and how it stays without gaps.
+use Rattle.std.proofs.Common.{◌≡◌, ◌≢◌, ℕ, zero, suc, ◌+◌, ◌<◌, ◌≤◌, ◌&&◌, ℤ, Bool, true, false, cond, IsTrue, List, [], ◌∷◌, map, slice_get, refl, sym, ap, ◌∙◌, subst, arith, true≢false, ⊎_elim, Option, Some, None, is_some}
 use Rattle.std.specs.Option.{option_map}
 use Rattle.std.specs.List.{AllByRecursion}
 use Rattle.std.specs.Ordering.{nat_cmp, eq_by_cmp}
 use Rattle.std.specs.Cmp.{nat_cmp_total}
 use Rattle.std.specs.FinMap.{empty, get, insert, contains_key, retain_keys, get-empty, get-insert, get-retain_keys, same_map, nat_cmp-IsAntisymmetric}
-use Rattle.std.proofs.lemmas.Bool.{eqb-true, leb-true}
-use Rattle.rr_text.specs.declared.limits.TheConstants.{MAX_NUMBER}
 use Rattle.rr_text.specs.Options.{◌>>=◌}
 use Rattle.rr_schema.specs.Schema.{Layout, IsLayout}
-use Rattle.rr_contrib.specs.declared.contribution.Contribution.{Contribution}
-use Rattle.rr_join.proofs.Booleans.{and_first, and_second}
 use Rattle.rr_join.proofs.Members.{same_from_tie}
-use Rattle.rr_join.proofs.ValuesLemmas.{insert_cases, get-insert_itself, insert_there, get-map_values, is_some-map_values, map_values-empty, map_values-insert}
+use Rattle.rr_join.proofs.ValuesLemmas.{insert_cases, get-insert_itself, get-map_values}
 use Rattle.rr_model.specs.CellNames.{CellName, cell_name_cmp}
-use Rattle.rr_model.specs.FetchText.{fetch_text}
 use Rattle.rr_model.specs.Samples.{Sample, name_of, marks_of}
-use Rattle.rr_model.specs.Knowledge.{Knowledge, IsAheadOf, knows, union, with_marks, live, cell, cells_where, is_live_in}
+use Rattle.rr_model.specs.Knowledge.{Knowledge, IsAheadOf, union, with_marks, cell, cells_where, is_live_in}
 use Rattle.rr_model.specs.World.{World, IsWritten, IsNext, IsClosed, HoldsAllOf, with_sample}
-use Rattle.rr_model.proofs.Knowing.{is_in-keys_of, knows-cell, knows-empty, name_from_tie}
+use Rattle.rr_model.proofs.Knowing.{knows-cell, knows-empty}
 use Rattle.rr_model.proofs.Orders.{cell_name_cmp_total, cell_name_cmp-IsAntisymmetric}
-use Rattle.rr_model.proofs.WholeCells.{whole_cells_are_closed, live_is_closed}
-use Rattle.rr_model.proofs.Writes.{nothing_is_closed, others_stay_closed, others_hold_own, writer_stays_closed, writer_holds_own, union_is_closed, union_holds_own, written_now}
-use Rattle.rr_cells.specs.CellBounds.{NamedCell}
+use Rattle.rr_model.proofs.WholeCells.{whole_cells_are_closed}
+use Rattle.rr_model.proofs.Writes.{others_stay_closed, others_hold_own, writer_stays_closed, writer_holds_own, union_is_closed, union_holds_own, written_now}
 use Rattle.rr_cells.specs.Cells.{Cells}
 use Rattle.rr_cells.specs.Joining.{next_after}
 use Rattle.rr_cells.specs.Joins.{join, join_cell}
-use Rattle.rr_cells.specs.Puts.{put_sample}
 use Rattle.rr_cells.specs.State.{state}
 use Rattle.rr_cells.proofs.CellByCell.{join_cell_unites, join_nothing}
-use Rattle.rr_cells.proofs.OneSampleMore.{put_is_one_sample_more}
 use Rattle.rr_cells.proofs.States.{get-state, no_value, state_is_trimmed}
-use Rattle.rr_cells.proofs.Uniting.{join_states, value_top}
-use Rattle.rr_cells.proofs.WholeCells.{live_makes_the_same, state_where}
-use Rattle.rr_fetch.specs.Answers.{cells_text}
-use Rattle.rr_fetch.proofs.RowLaws.{answer_of_state}
-use Rattle.rr_nodes.specs.Nodes.{Node, Nodes, Moment, Deed, opened, wrote, took, loaded, where_some, held_at, all_held, holding, with_new, written, taken, after, after_all}
-use Rattle.rr_nodes.specs.Models.{cell_model, sample_model}
-use Rattle.rr_nodes.specs.Laws.{node_in_cells, in_cells, IsSound, NodesAreOfSamples, FetchesAreOfSamples, MomentsAnswerAlike, PremisesAreKept}
+use Rattle.rr_cells.proofs.Uniting.{join_states}
+use Rattle.rr_cells.proofs.WholeCells.{state_where}
+use Rattle.rr_cells.proofs.WrittenCells.{next_after_earlier, versions_are_below}
+use Rattle.rr_nodes.specs.Nodes.{Node, Nodes, Moment, where_some, held_at, all_held, holding}
+use Rattle.rr_nodes.specs.Models.{cell_model}
+use Rattle.rr_nodes.specs.Laws.{node_in_cells, in_cells, IsSound}
 
 -- ---- what nodes hold, in cells
 
@@ -48,7 +37,7 @@ slice_of_map f [] i = refl
 slice_of_map f (x ∷ xs) zero = refl
 slice_of_map f (x ∷ xs) (suc i) = slice_of_map f xs i
 
-get_in_cells : (s : Layout) (ns : Nodes Knowledge) (origin : ℕ) → get (in_cells s ns) origin ≡ option_map (node_in_cells s) (get ns origin)
+pub get_in_cells : (s : Layout) (ns : Nodes Knowledge) (origin : ℕ) → get (in_cells s ns) origin ≡ option_map (node_in_cells s) (get ns origin)
 get_in_cells s ns origin = get-map_values nat_cmp_total nat_cmp-IsAntisymmetric (node_in_cells s) ns origin
 
 pub held_in_cells : (s : Layout) (ns : Nodes Knowledge) (there : Moment) → held_at (in_cells s ns) there ≡ option_map (state s) (held_at ns there)
@@ -58,7 +47,7 @@ held_in_cells s ns there = ap (λ (o : Option (Node Cells)). o >>= λ n. slice_g
     by None = refl
     by (Some n) = slice_of_map (state s) (all_held n) there.ago
 
-nothing_in_cells : (s : Layout) → empty ≡ state s empty
+pub nothing_in_cells : (s : Layout) → empty ≡ state s empty
 nothing_in_cells s = same_map cell_name_cmp_total cell_name_cmp-IsAntisymmetric empty (state s empty) (λ n.
     get-empty cell_name_cmp n ∙ sym (get-state s empty n ∙ no_value s (cell s empty n) (λ m.
     knows-cell s empty n m ∙ ap (λ b. (b && is_live_in s empty (name_of s m)) && eq_by_cmp cell_name_cmp (name_of s m) n) (knows-empty m))))
@@ -96,30 +85,11 @@ module _ (s : Layout) (is : IsLayout s) (w : World) (k l : Knowledge) (ck : IsCl
 
 -- ---- the next number stays
 
-next_after_earlier : (origin next : ℕ) (e : NamedCell) → (e.0.origin ≡ origin → e.1.version < next) → next_after origin next e ≡ next
-next_after_earlier origin next e earlier = by (e.0.origin == origin) (nat_le next e.1.version) refl refl
-  where
-    by : (a b : Bool) → (e.0.origin == origin) ≡ a → nat_le next e.1.version ≡ b → cond (a && b) (e.1.version + 1) next ≡ next
-    by true true t u = let below = earlier (eqb-true e.0.origin origin t) in let past = leb-true next e.1.version u in omega (arith, below, past)
-    by true false t u = refl
-    by false b t u = refl
-
 module _ (s : Layout) (w : World) (origin next : ℕ) (past : (x : Sample) → IsWritten w x → x.origin ≡ origin → x.number < next) (l : Knowledge) (cl : IsClosed s w l) where
-  -- a version is the number of one of the cell's marks
-  versions_are_below : (c : CellName) (v : Contribution) → get (state s l) c ≡ Some v → c.origin ≡ origin → v.version < next
-  versions_are_below c v at own =
-      let top = value_top s (cell s l c) v (sym (get-state s l c) ∙ at) in
-      let known_so = knows l top.mark && is_live_in s l (name_of s top.mark) in
-      let named_so = eq_by_cmp cell_name_cmp (name_of s top.mark) c in
-      let here = sym (knows-cell s l c top.mark) ∙ sym (is_in-keys_of (cell s l c) top.mark) ∙ top.known in
-      let known = and_first (knows l top.mark) (is_live_in s l (name_of s top.mark)) (and_first known_so named_so here) in
-      let name = name_from_tie s top.mark c (and_second known_so named_so here) in
-      subst (λ (number : ℕ). number < next) top.number (past top.mark.sample (cl.written top.mark known).0 (ap (λ (q : CellName). q.origin) name ∙ own))
-
   pub next_stays : (name : CellName) → (cell_model.next_past) origin next (state s l) name ≡ next
   next_stays name = elim (get (state s l) name) as (λ o. get (state s l) name ≡ o → where_some o next (λ c. next_after origin next (name, c)) ≡ next) [
     | None ↦ λ e. refl
-    | Some c ↦ λ e. next_after_earlier origin next (name, c) (versions_are_below name c e)
+    | Some c ↦ λ e. next_after_earlier origin next (name, c) (versions_are_below s w l origin next cl past name c e)
   ] refl
 
 -- ---- sound nodes
@@ -166,6 +136,9 @@ module _ (s : Layout) (is : IsLayout s) (w : World) (ns : Nodes Knowledge) (soun
         past = λ q o e x was is. put_cases ns origin new q o e
             (λ at same. absurd (none x was (is ∙ at)))
             (λ other here. sound.past q o here x was is);
+        some_number = λ q o e. put_cases ns origin new q o e
+            (λ at same. subst (λ (n : Node Knowledge). 1 ≤ n.next) same (omega arith))
+            (λ other here. sound.some_number q o here);
         written = λ x was. still_there ns origin new x.origin (sound.written x was);
       }
 
@@ -185,6 +158,9 @@ module _ (s : Layout) (is : IsLayout s) (w : World) (ns : Nodes Knowledge) (soun
           past = λ q o e x was is. put_cases ns origin new q o e
               (λ at same. subst (λ (y : Node Knowledge). x.number < y.next) same (sound.past origin n here x was (is ∙ at)))
               (λ other there. sound.past q o there x was is);
+          some_number = λ q o e. put_cases ns origin new q o e
+              (λ at same. subst (λ (y : Node Knowledge). 1 ≤ y.next) same (sound.some_number origin n here))
+              (λ other there. sound.some_number q o there);
           written = λ x was. still_there ns origin new x.origin (sound.written x was);
         }
 
@@ -225,135 +201,11 @@ module _ (s : Layout) (is : IsLayout s) (w : World) (ns : Nodes Knowledge) (soun
                 (λ (t : y ≡ x). absurd (other (sym is ∙ ap (λ (z : Sample). z.origin) t)))
                 (λ (old : IsWritten w y). sound.past q o there y old is)
                 (written_now w x y was));
+            some_number = λ q o e. put_cases ns origin writer q o e
+                (λ at same. subst (λ (z : Node Knowledge). 1 ≤ z.next) same (omega arith))
+                (λ other there. sound.some_number q o there);
             written = λ y was. ⊎_elim
                 (λ (t : y ≡ x). subst (λ (q : ℕ). IsTrue (is_some (get (insert ns origin writer) q))) (sym (ap (λ (z : Sample). z.origin) t)) (ap is_some (get-insert_itself nat_cmp_total nat_cmp-IsAntisymmetric ns origin writer)))
                 (λ (old : IsWritten w y). still_there ns origin writer y.origin (sound.written y old))
                 (written_now w x y was);
           }
-
--- ---- one deed
-
--- the nodes of the two models agree, and those of samples are sound
-record Agree (s : Layout) (cells : Nodes Cells) (ns : Nodes Knowledge) : Type 0 where
-  same : cells ≡ in_cells s ns
-  w : World
-  sound : IsSound s w ns
-
-place_agrees : (s : Layout) (ns : Nodes Knowledge) (origin : ℕ) (c : Node Cells) (n : Node Knowledge) → c ≡ node_in_cells s n → insert (in_cells s ns) origin c ≡ in_cells s (insert ns origin n)
-place_agrees s ns origin c n e = ap (insert (in_cells s ns) origin) e ∙ sym (map_values-insert nat_cmp_total nat_cmp-IsAntisymmetric (node_in_cells s) ns origin n)
-
-module _ (s : Layout) (is : IsLayout s) (w : World) (ns : Nodes Knowledge) (sound : IsSound s w ns) where
-  unchanged : Agree s (in_cells s ns) ns
-  unchanged = record { same = refl; w = w; sound = sound }
-
-  -- what is there in one model is there in the other
-  where_agrees : {X Y : Type 0} (view : X → Y) (o : Option X) (p : Option Y) (g : Y → Nodes Cells) (h : X → Nodes Knowledge) → p ≡ option_map view o
-      → ((x : X) → o ≡ Some x → Agree s (g (view x)) (h x)) → Agree s (where_some p (in_cells s ns) g) (where_some o ns h)
-  where_agrees {X} {Y} view o p g h e each = subst (λ (y : Option Y). Agree s (where_some y (in_cells s ns) g) (where_some o ns h)) (sym e) (by o each)
-    where
-      by : (z : Option X) → ((x : X) → z ≡ Some x → Agree s (g (view x)) (h x)) → Agree s (where_some (option_map view z) (in_cells s ns) g) (where_some z ns h)
-      by None each = unchanged
-      by (Some x) each = each x refl
-
-  new_agrees : (origin : ℕ) (m : Cells) (k : Knowledge) → IsClosed s w k → m ≡ state s k → Agree s (with_new (in_cells s ns) origin m) (with_new ns origin k)
-  new_agrees origin m k ck e = subst (λ (b : Bool). Agree s (if b then in_cells s ns else insert (in_cells s ns) origin (record { next = 1; now = m; before = [] })) (with_new ns origin k)) (sym (is_some-map_values nat_cmp_total nat_cmp-IsAntisymmetric (node_in_cells s) ns origin)) (by (contains_key ns origin) refl)
-    where
-      by : (b : Bool) → contains_key ns origin ≡ b → Agree s (if b then in_cells s ns else insert (in_cells s ns) origin (record { next = 1; now = m; before = [] })) (if b then ns else insert ns origin (record { next = 1; now = k; before = [] }))
-      by true t = unchanged
-      by false t = record {
-        same = place_agrees s ns origin (record { next = 1; now = m; before = [] }) (record { next = 1; now = k; before = [] }) (λ i. record { next = 1; now = e i; before = [] });
-        w = w;
-        sound = new_is_sound s is w ns sound origin k ck t;
-      }
-
-  write_agrees : (origin : ℕ) (key : List ℕ) (time value : ℤ) (n : Node Knowledge) → get ns origin ≡ Some n
-      → Agree s (insert (in_cells s ns) origin (written cell_model s origin (node_in_cells s n) key time value)) (insert ns origin (written sample_model s origin n key time value))
-  write_agrees origin key time value n here = by (nat_le n.next MAX_NUMBER)
-    where
-      y : Sample
-      y = record { time = time; origin = origin; number = n.next; key = key; value = value }
-
-      by : (b : Bool) → Agree s (insert (in_cells s ns) origin (if b then holding (node_in_cells s n) (n.next + 1) (put_sample s (state s n.now) y) else node_in_cells s n)) (insert ns origin (if b then holding n (n.next + 1) (with_marks n.now (marks_of s y)) else n))
-      by true = record {
-        same = place_agrees s ns origin _ (holding n (n.next + 1) (with_marks n.now (marks_of s y)))
-            (ap (λ (m : Cells). holding (node_in_cells s n) (n.next + 1) m) (put_is_one_sample_more s n.now y is (is_ahead s is w ns sound origin n here key time value)));
-        w = with_sample w y;
-        sound = written_is_sound s is w ns sound origin n here key time value;
-      }
-      by false = record {
-        same = place_agrees s ns origin (node_in_cells s n) n refl;
-        w = w;
-        sound = subst (IsSound s w) (sym (insert_there nat_cmp_total nat_cmp-IsAntisymmetric ns origin n here)) sound;
-      }
-
-  take_agrees : (origin : ℕ) (name : CellName) (n : Node Knowledge) (k : Knowledge) → get ns origin ≡ Some n → IsClosed s w k
-      → Agree s (insert (in_cells s ns) origin (taken cell_model s origin (node_in_cells s n) (state s k) name)) (insert ns origin (taken sample_model s origin n k name))
-  take_agrees origin name n k here ck =
-      let cells = cells_taken s is w n.now k (sound.closed origin n here).0 ck name in
-      let next = next_stays s w origin n.next (sound.past origin n here) k ck name in
-      record {
-        same = place_agrees s ns origin _ (taken sample_model s origin n k name) (λ i. holding (node_in_cells s n) (next i) (cells i));
-        w = w;
-        sound = taken_is_sound s is w ns sound origin n here (cells_where s k (eq_by_cmp cell_name_cmp name)) (there_is_closed s is w n.now k (sound.closed origin n here).0 ck name);
-      }
-
-  deed_agrees : (d : Deed) → Agree s (after cell_model s (in_cells s ns) d) (after sample_model s ns d)
-  deed_agrees (opened origin) = new_agrees origin empty empty (nothing_is_closed s w) (nothing_in_cells s)
-  deed_agrees (wrote origin key time value) =
-      where_agrees (node_in_cells s) (get ns origin) (get (in_cells s ns) origin) _ _ (get_in_cells s ns origin) (λ n here. write_agrees origin key time value n here)
-  deed_agrees (took origin there name) =
-      where_agrees (node_in_cells s) (get ns origin) (get (in_cells s ns) origin) _ _ (get_in_cells s ns origin) (λ n here.
-      where_agrees (state s) (held_at ns there) (held_at (in_cells s ns) there) _ _ (held_in_cells s ns there) (λ k was.
-      take_agrees origin name n k here (held_is_closed s w ns sound there k was)))
-  deed_agrees (loaded origin there) =
-      where_agrees (state s) (held_at ns there) (held_at (in_cells s ns) there) _ _ (held_in_cells s ns there) (λ k was.
-      new_agrees origin (state s k) (live s k) (live_is_closed s w k (held_is_closed s w ns sound there k was)) (sym (live_makes_the_same s k is)))
-
--- ---- all deeds
-
-deeds_agree : (s : Layout) → IsLayout s → (w : World) (ns : Nodes Knowledge) → IsSound s w ns → (deeds : List Deed) → Agree s (fold (after cell_model s) (in_cells s ns) deeds) (fold (after sample_model s) ns deeds)
-deeds_agree s is w ns sound [] = unchanged s is w ns sound
-deeds_agree s is w ns sound (d ∷ deeds) =
-    let one = deed_agrees s is w ns sound d in
-    subst (λ (m : Nodes Cells). Agree s (fold (after cell_model s) m deeds) (fold (after sample_model s) (after sample_model s ns d) deeds)) (sym one.same)
-    (deeds_agree s is one.w (after sample_model s ns d) one.sound deeds)
-
-nothing_is_sound : (s : Layout) → IsSound s empty empty
-nothing_is_sound s =
-    let no_node : (origin : ℕ) (n : Node Knowledge) → ◌≢◌ {A = Option (Node Knowledge)} (get {R = nat_cmp} empty origin) (Some n) = λ origin n e. true≢false (sym (ap is_some e) ∙ ap is_some (get-empty nat_cmp origin)) in
-    record {
-      closed = λ origin n e. absurd (no_node origin n e);
-      own = λ origin n e. absurd (no_node origin n e);
-      past = λ origin n e. absurd (no_node origin n e);
-      written = λ x was. absurd (true≢false (sym (ap is_some was) ∙ ap is_some (get-empty _ (x.origin, x.number))));
-    }
-
-from_nothing : (s : Layout) → IsLayout s → (deeds : List Deed) → Agree s (after_all cell_model s deeds) (after_all sample_model s deeds)
-from_nothing s is deeds =
-    subst (λ (m : Nodes Cells). Agree s (fold (after cell_model s) m deeds) (after_all sample_model s deeds)) (map_values-empty nat_cmp_total nat_cmp-IsAntisymmetric (node_in_cells s))
-    (deeds_agree s is empty empty (nothing_is_sound s) deeds)
-
-pub nodes_are_of_samples : NodesAreOfSamples
-nodes_are_of_samples s deeds is = (from_nothing s is deeds).same
-
-pub premises_are_kept : PremisesAreKept
-premises_are_kept s deeds is = let all = from_nothing s is deeds in (all.w, all.sound)
-
--- what is held in cells at a moment
-pub held_then : (s : Layout) (deeds : List Deed) (at : Moment) → IsLayout s → held_at (after_all cell_model s deeds) at ≡ option_map (state s) (held_at (after_all sample_model s deeds) at)
-held_then s deeds at is = ap (λ (m : Nodes Cells). held_at m at) (nodes_are_of_samples s deeds is) ∙ held_in_cells s (after_all sample_model s deeds) at
-
-pub fetches_are_of_samples : FetchesAreOfSamples
-fetches_are_of_samples s deeds at q is = ap (option_map (λ m. cells_text s m q)) (held_then s deeds at is) ∙ by (held_at (after_all sample_model s deeds) at)
-  where
-    by : (o : Option Knowledge) → option_map (λ m. cells_text s m q) (option_map (state s) o) ≡ option_map (λ k. fetch_text s k q) o
-    by None = refl
-    by (Some k) = ap Some (answer_of_state s is k q)
-
-pub moments_answer_alike : MomentsAnswerAlike
-moments_answer_alike s deeds a b is same =
-    held_then s deeds a is ∙ by_live (held_at (after_all sample_model s deeds) a) ∙ ap (option_map (state s)) same ∙ sym (by_live (held_at (after_all sample_model s deeds) b)) ∙ sym (held_then s deeds b is)
-  where
-    by_live : (o : Option Knowledge) → option_map (state s) o ≡ option_map (state s) (option_map (live s) o)
-    by_live None = refl
-    by_live (Some k) = ap Some (sym (live_makes_the_same s k is))

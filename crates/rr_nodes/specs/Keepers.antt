@@ -1,22 +1,24 @@
 -- Keepers and readers of desks are nodes and moments of them: what their calls do is what deeds do.
-use Rattle.std.specs.Prelude.{◌≡◌, ℕ, ◌≤◌, ℤ, List, ◌++◌, length, fold, slice_get, All, Some}
+use Rattle.std.specs.Prelude.{◌≡◌, ℕ, ◌+◌, ◌≤◌, ℤ, List, ◌++◌, length, fold, slice_get, All, Some}
 use Rattle.std.specs.FinMap.{get}
 use mathlib.Core.List.{IsPrefix}
 use Rattle.logbook.specs.Pages.{Book}
 use Rattle.rr_text.specs.declared.limits.TheConstants.{MAX_NUMBER}
 use Rattle.rr_schema.specs.Schema.{Layout, IsLayout}
+use Rattle.rr_point.specs.Key.{key_text}
+use Rattle.rr_point.specs.Point.{PointView}
 use Rattle.rr_model.specs.FetchText.{Request, fetch_text}
 use Rattle.rr_model.specs.Knowledge.{Knowledge, live}
 use Rattle.rr_cells.specs.declared.cell.Cell.{Cell}
 use Rattle.rr_cells.specs.declared.op.Op.{Op}
 use Rattle.rr_cells.specs.declared.op.Op.TheVariants.{Join}
 use Rattle.rr_cells.specs.Cells.{Cells, IsTrimmed}
-use Rattle.rr_cells.specs.Holding.{Holding}
+use Rattle.rr_cells.specs.Holding.{Holding, IsHolding}
 use Rattle.rr_cells.specs.Listing.{owned_cell}
 use Rattle.rr_cells.specs.Operations.{joins_of, outcome_of}
-use Rattle.rr_copies.specs.Standing.{KeeperState, cells_of, keeper_at_opening, with_all_published, with_pending}
+use Rattle.rr_copies.specs.Standing.{KeeperState, cells_of, holding_of, keeper_at_opening, with_all_published, with_pending}
 use Rattle.rr_fetch.specs.Answers.{cells_text}
-use Rattle.rr_desk.specs.Points.{with_put}
+use Rattle.rr_desk.specs.Points.{with_put, with_puts}
 use Rattle.rr_desk.specs.Standing.{ReaderState, cells_seen, with_joined}
 use Rattle.rr_nodes.specs.Nodes.{Node, Moment, Deed, all_held, held_at, written, taken, after_all}
 use Rattle.rr_nodes.specs.Models.{cell_model, sample_model}
@@ -44,6 +46,13 @@ PutIsADeed =
     (opening : List Op) (k : KeeperState) (n : Node Cells) (key : List ℕ) (time value : ℤ) → k.next ≤ MAX_NUMBER → IsNode opening k n
     → IsNode opening (with_put k key time value) (written cell_model k.schema k.origin n key time value)
 
+-- `write`, where as many numbers are left as a point has fields, is a sample for each field, in order; where memory ran
+-- out, for the first fields
+abbrev pub WriteIsDeeds : Type 0
+WriteIsDeeds =
+    (opening : List Op) (k : KeeperState) (n : Node Cells) (p : PointView) (time : ℤ) (fields : List (List ℕ × ℤ)) → k.next + length fields ≤ MAX_NUMBER + 1 → IsNode opening k n
+    → IsNode opening (with_puts k p time fields) (fold (λ o field. written cell_model k.schema k.origin o (key_text p field.0) time field.1) n fields)
+
 -- `join_cell`, of a cell among others, is that cell of theirs taken
 abbrev pub JoinIsADeed : Type 0
 JoinIsADeed =
@@ -59,6 +68,12 @@ PageIsDeeds =
 -- `publish` leaves the node
 abbrev pub PublishIsNone : Type 0
 PublishIsNone = (opening : List Op) (k : KeeperState) (n : Node Cells) → IsNode opening k n → IsNode opening (with_all_published k) n
+
+-- `close` gives a replica of which the desk that is opened next is the same node
+abbrev pub ReopeningIsNone : Type 0
+ReopeningIsNone =
+    (opening : List Op) (k : KeeperState) (n : Node Cells) (b : Book) → IsHolding (holding_of k) → IsNode opening k n
+    → IsNode (joins_of (cells_of k)) (keeper_at_opening (holding_of k) b) n
 
 -- ---- the calls of a reader
 

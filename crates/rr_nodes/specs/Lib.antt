@@ -5,3 +5,5 @@ pub mod Keepers
 pub mod Calls
 pub mod Giving
 pub mod Pulls
+pub mod Sessions
+pub mod Example

@@ -1,10 +1,12 @@
 //! The laws of several nodes, with no work to do: the functions have empty bodies.
-ghost use Rattle.rr_nodes.specs.Laws.{NodesAreOfSamples, FetchesAreOfSamples, MomentsAnswerAlike, PremisesAreKept};
-ghost use Rattle.rr_nodes.specs.Keepers.{OpeningIsANode, PutIsADeed, JoinIsADeed, PageIsDeeds, PublishIsNone, ReadersSeeMoments, ReadersAnswerFromSamples, ReadersAnswerAlike};
-ghost use Rattle.rr_nodes.specs.Calls.{CallsAnswerFromSamples};
+ghost use Rattle.rr_nodes.specs.Laws.{NodesAreOfSamples, FetchesAreOfSamples, MomentsAnswerAlike, PremisesAreKept, HeldAreOfTheSchema};
+ghost use Rattle.rr_nodes.specs.Keepers.{OpeningIsANode, PutIsADeed, WriteIsDeeds, JoinIsADeed, PageIsDeeds, PublishIsNone, ReopeningIsNone, ReadersSeeMoments, ReadersAnswerFromSamples, ReadersAnswerAlike};
+ghost use Rattle.rr_nodes.specs.Example.{ThreeAnswer};
+ghost use Rattle.rr_nodes.specs.Calls.{CallsAnswerFromSamples, WritesArePuts, PagesAreJoins};
 ghost use Rattle.rr_nodes.specs.Giving.{GivenAreThere, UnusedHaveNoCells, SavedIsLoadedElsewhere};
 ghost use Rattle.rr_nodes.specs.Models.{cell_model, sample_model};
 ghost use Rattle.rr_nodes.specs.Pulls.{TakesAreInOrder, PullsBringAll};
+ghost use Rattle.rr_nodes.specs.Sessions.{SessionsBringWhatIsLacking, SessionsAreDeeds, PullIsDeeds};
 
 /// Whatever is done at however many nodes, in whatever order: at each moment each node has the cells of
 /// the marks that reached it, so a fetch is answered by exactly these; and who knows the same live marks
@@ -16,19 +18,24 @@ pub fn nodes_answer_from_samples()
 {}
 
 /// What is done keeps the premises by itself: what a node held at any moment has no gaps, and it has all
-/// marks of its own origin, whose next number is past them.
+/// marks of its own origin, whose next number is past them. Only deeds write, so within the limits all
+/// that is held are cells of the schema.
 pub fn premises_are_kept()
-    ensures { PremisesAreKept }
+    ensures kept { PremisesAreKept }
+    ensures of_schema { HeldAreOfTheSchema }
 {}
 
-/// What the calls of a keeper do is what deeds do at its node: to open a desk, to put a sample, to join a
-/// cell of what another node held, or a page of them; to publish does nothing there.
+/// What the calls of a keeper do is what deeds do at its node: to open a desk, to put a sample or those of
+/// a point, to join a cell of what another node held, or a page of them. To publish does nothing there, nor
+/// to close the desk and open one again of its replica.
 pub fn keepers_are_nodes()
     ensures opening { OpeningIsANode }
     ensures put { PutIsADeed }
+    ensures write { WriteIsDeeds }
     ensures join { JoinIsADeed }
     ensures page { PageIsDeeds }
     ensures publish { PublishIsNone }
+    ensures reopening { ReopeningIsNone }
 {}
 
 /// What a reader has seen is what its node held when it had as many operations, so whatever was done at all
@@ -47,6 +54,14 @@ pub fn pulls_bring_all()
     ensures all { PullsBringAll }
 {}
 
+/// A session over bytes, which a reader of one node gives and the keeper of another pulls, brings exactly
+/// the cells that were lacking, in order; so it is deeds, after which the node has the live marks of both.
+pub fn sessions_are_deeds()
+    ensures bytes { SessionsBringWhatIsLacking }
+    ensures deeds { SessionsAreDeeds }
+    ensures keeper { PullIsDeeds }
+{}
+
 /// Each cell that a reader gives is there, so whoever joins it takes it; and what a keeper saves is loaded,
 /// under an origin that no node has, as a replica that holds what its node does.
 pub fn cells_given_are_there()
@@ -57,7 +72,16 @@ pub fn cells_given_are_there()
 
 /// Whatever calls the keepers of several desks make, of one schema and each under an origin of its own,
 /// joining cells and loading snapshots of what desks have had: each reader of each desk answers by exactly
-/// the marks that had reached its node when it had the operations that the reader has seen.
+/// the marks that had reached its node when it had the operations that the reader has seen. To write a point
+/// is to put its samples, and to take a page is to join its cells.
 pub fn calls_are_deeds()
-    ensures { CallsAnswerFromSamples }
+    ensures answers { CallsAnswerFromSamples }
+    ensures writes { WritesArePuts }
+    ensures pages { PagesAreJoins }
+{}
+
+/// Three nodes, of which one took a page twice and one the first cell of it alone: each answers by what
+/// reached it.
+pub fn three_nodes_by_example()
+    ensures { ThreeAnswer }
 {}

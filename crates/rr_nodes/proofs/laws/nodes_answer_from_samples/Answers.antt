@@ -1,4 +1,4 @@
-use Rattle.rr_nodes.proofs.NodesLemmas as nodes
+use Rattle.rr_nodes.proofs.DeedsLemmas as nodes
 use Rattle.rr_nodes.proofs.laws.nodes_answer_from_samples.Goals as goal
 
 pub returns : goal.returns

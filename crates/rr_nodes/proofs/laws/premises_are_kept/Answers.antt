@@ -1,5 +1,5 @@
-use Rattle.rr_nodes.proofs.NodesLemmas as nodes
+use Rattle.rr_nodes.proofs.DeedsLemmas.{premises_are_kept, held_are_of_the_schema}
 use Rattle.rr_nodes.proofs.laws.premises_are_kept.Goals as goal
 
 pub returns : goal.returns
-returns c = nodes.premises_are_kept
+returns c = record { kept = premises_are_kept; of_schema = held_are_of_the_schema }
