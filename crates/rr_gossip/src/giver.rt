@@ -1,8 +1,8 @@
 //! The side of a session that gives cells.
-ghost use Rattle.std.specs.Prelude.{◌≡◌, ◌≤◌, Err, IfOk, OnErr, IsTrue};
+ghost use Rattle.std.specs.Prelude.{◌≡◌, ◌≢◌, ◌≤◌, ◌<◌, Err, IfOk, OnErr, IsTrue};
 ghost use Rattle.rr_gossip.specs.Session.{is_giving};
 ghost use Rattle.std.specs.Option.{option_map};
-ghost use Rattle.rr_text.specs.Results.{GivesUnless, NeedsMemoryAfter};
+ghost use Rattle.rr_text.specs.Results.{Gives, GivesUnless, NeedsMemoryAfter};
 ghost use Rattle.rr_gossip.specs.declared.frame.TheConstants.{MAX_FRAMES};
 ghost use Rattle.rr_gossip.specs.Giver.{HasFailed, first_giver, has_failed, is_due, is_listing, names_in, hello_taken, summary_taken, end_taken, body_taken, frame_due, giver_takes, stage_sends, giver_sends};
 
@@ -29,13 +29,13 @@ pub(crate) enum Stage {
     Failed,
 }
 
-/// The stage after the Hello, whose body has to be the bytes of the schema.
+/// The stage after the Hello, whose body has to be the bytes of the schema. No memory is taken.
 #[tactic(auto, unfolding(crate::specs::Giver::hello_taken))]
 fn after_hello(alloc: Global, body: &[u8], schema: &Schema) -> Result<Stage, GossipFault>
-    ensures { GivesUnless GossipFault.Memory (λ stage. stage) result (hello_taken schema.now body.now) }
+    ensures taken { Gives (λ stage. stage) result (hello_taken schema.now body.now) }
+    ensures no_memory { result ≢ Err GossipFault.Memory }
 {
-    let own = schema.bytes(alloc)?;
-    if body != own.as_slice() {
+    if !schema.has_bytes(body) {
         return Err(GossipFault::SchemaDiffers);
     }
     Ok(Stage::Listing(Names::new(alloc)))
@@ -111,6 +111,7 @@ impl Stage {
         requires { IsTrue (is_due self.old kind) }
         ensures taken { GivesUnless GossipFault.Memory (λ last. (self.new, last)) result
             (body_taken (S.cells source.new) (S.layout source.old) self.old kind body.now) }
+        ensures listing { result ≡ Err GossipFault.Memory → IsTrue (is_listing self.old) }
         ensures schema { S.layout source.new ≡ S.layout source.old }
         ensures kept { S.may_become source.old source.new }
     {
@@ -129,6 +130,13 @@ impl Stage {
             }
             Kind::Page | Kind::PageEnd => Err(GossipFault::UnexpectedFrame),
         }
+    }
+
+    /// Whether frames are still to be sent.
+    fn is_giving(&self) -> bool
+        ensures { result ≡ is_giving self.now }
+    {
+        matches!(self, Stage::Giving(_))
     }
 
     /// The next frame, if one is due.
@@ -201,6 +209,7 @@ impl Giver {
         ensures taken { GivesUnless GossipFault.Memory (λ last. (self.new, last)) result
             (giver_takes (S.cells source.new) (S.layout source.old) self.old frame.now) }
         ensures memory { NeedsMemoryAfter GossipFault.Memory (frame_due self.old frame.now) result }
+        ensures listing { result ≡ Err GossipFault.Memory → IsTrue (is_listing self.old.stage) }
         ensures failed { OnErr result (HasFailed self.new) }
         ensures schema { S.layout source.new ≡ S.layout source.old }
         ensures kept { S.may_become source.old source.new }
@@ -223,6 +232,7 @@ impl Giver {
         ensures taken { GivesUnless GossipFault.Memory (λ last. (self.new, last)) result
             (giver_takes (S.cells source.new) (S.layout source.old) self.old frame.now) }
         ensures memory { NeedsMemoryAfter GossipFault.Memory (frame_due self.old frame.now) result }
+        ensures listing { result ≡ Err GossipFault.Memory → IsTrue (is_listing self.old.stage) }
         ensures schema { S.layout source.new ≡ S.layout source.old }
         ensures kept { S.may_become source.old source.new }
     {
@@ -244,8 +254,8 @@ impl Giver {
     /// The next frame, whole, if one is due: none before the other side's last frame, and none after
     /// the end of the pages.
     ///
-    /// Refused as `Failed` after a fault, as `TooManyFrames`, and as `Memory`. After a refusal the
-    /// session has failed. The cost is linear in the frame.
+    /// Refused as `Failed` after a fault; as `TooManyFrames`, before a frame is made; and as `Memory`.
+    /// After a refusal the session has failed. The cost is linear in the frame.
     pub fn next_frame<S: Source>(
         &mut self,
         alloc: Global,
@@ -254,6 +264,7 @@ impl Giver {
         ensures sent { GivesUnless GossipFault.Memory (λ frame. (self.new, option_map (λ bytes. bytes.items) frame)) result
             (giver_sends self.old) }
         ensures memory { result ≡ Err GossipFault.Memory → IsTrue (is_giving self.old.stage) }
+        ensures within { result ≡ Err GossipFault.Memory → self.old.sent < self.old.limit }
         ensures failed { OnErr result (HasFailed self.new) }
         ensures unchanged { _source.new ≡ _source.old }
     {
@@ -270,14 +281,16 @@ impl Giver {
         ensures sent { GivesUnless GossipFault.Memory (λ frame. (self.new, option_map (λ bytes. bytes.items) frame)) result
             (giver_sends self.old) }
         ensures memory { result ≡ Err GossipFault.Memory → IsTrue (is_giving self.old.stage) }
+        ensures within { result ≡ Err GossipFault.Memory → self.old.sent < self.old.limit }
     {
-        let Some(frame) = self.stage.next_frame(alloc)? else {
-            return Ok(None);
-        };
+        if !self.stage.is_giving() {
+            return self.stage.next_frame(alloc);
+        }
         if self.sent >= self.limit {
             return Err(GossipFault::TooManyFrames);
         }
+        let frame = self.stage.next_frame(alloc)?;
         self.sent += 1;
-        Ok(Some(frame))
+        Ok(frame)
     }
 }

@@ -1,8 +1,8 @@
 //! The answer to a pull, over streams.
-ghost use Rattle.std.specs.Prelude.{◌≡◌, ◌≤◌, [], ◌∷◌, Err, IfErr, IsTrue, OnOk, length};
+ghost use Rattle.std.specs.Prelude.{◌≡◌, ◌≤◌, [], ◌∷◌, Err, true, IfErr, IsTrue, OnOk, length};
 ghost use Rattle.std.specs.Io.KnownBytes.{Appends, IsAtEnd};
 ghost use Rattle.std.specs.List.{concat};
-ghost use Rattle.rr_io.specs.Counted.{inner_of, failures_of, HasRisen};
+ghost use Rattle.rr_io.specs.Counted.{inner_of, failures_of, is_flushed, HasRisen};
 ghost use Rattle.rr_io.specs.Stream.{AppendsPrefix};
 ghost use Rattle.rr_gossip.specs.declared.frame.TheConstants.{MAX_FRAMES};
 ghost use Rattle.rr_gossip.specs.Session.{CannotSend, HasFailedToGive, HasGiven, HasHeard, HasStoppedHearing, is_giving, reply_left};
@@ -52,7 +52,8 @@ fn take_names<S: Source, R: Read>(
     }
 }
 
-/// Writes the frames that a giver still sends, each before the next is made, and passes them on.
+/// Writes the frames that a giver still sends, each before the next is made, and has the writer pass
+/// them on.
 fn send_pages<S: Source, W: Write>(
     alloc: Global,
     giver: &mut Giver,
@@ -66,6 +67,7 @@ fn send_pages<S: Source, W: Write>(
     ensures front { AppendsPrefix (W.contents (inner_of output.old))
         (W.contents (inner_of output.new)) (concat (reply_left giver.old.stage)) }
     ensures refused { IfErr result (CannotSend giver.old.limit (reply_left giver.old.stage)) }
+    ensures flushed { OnOk result (is_flushed output.new ≡ true) }
     ensures unchanged { source.new ≡ source.old }
     ensures count { failures_of output.old ≤ failures_of output.new }
     ensures failed { result ≡ Err GossipFault.WriteFailed
@@ -93,6 +95,7 @@ fn give_from<S: Source, R: Read, W: Write>(
         (S.layout source.old) (S.cells source.new) before.now
         (R.remaining (inner_of input.old)) (R.remaining (inner_of input.new))
         (W.contents (inner_of output.old)) (W.contents (inner_of output.new))) }
+    ensures flushed { OnOk result (is_flushed output.new ≡ true) }
     ensures stopped { IfErr result (HasFailedToGive frames
         (S.layout source.old) (S.cells source.new) before.now
         (R.remaining (inner_of input.old)) (R.remaining (inner_of input.new))
@@ -137,6 +140,7 @@ pub fn give<S: Source, R: Read, W: Write>(
         (S.layout source.old) (S.cells source.new) []
         (R.remaining (inner_of input.old)) (R.remaining (inner_of input.new))
         (W.contents (inner_of output.old)) (W.contents (inner_of output.new))) }
+    ensures flushed { OnOk result (is_flushed output.new ≡ true) }
     ensures stopped { IfErr result (HasFailedToGive MAX_FRAMES
         (S.layout source.old) (S.cells source.new) []
         (R.remaining (inner_of input.old)) (R.remaining (inner_of input.new))
@@ -169,6 +173,7 @@ pub fn give_within<S: Source, R: Read, W: Write>(
         (S.layout source.old) (S.cells source.new) []
         (R.remaining (inner_of input.old)) (R.remaining (inner_of input.new))
         (W.contents (inner_of output.old)) (W.contents (inner_of output.new))) }
+    ensures flushed { OnOk result (is_flushed output.new ≡ true) }
     ensures stopped { IfErr result (HasFailedToGive frames
         (S.layout source.old) (S.cells source.new) []
         (R.remaining (inner_of input.old)) (R.remaining (inner_of input.new))
@@ -200,6 +205,7 @@ pub fn give_after<S: Source, R: Read, W: Write>(
         (S.layout source.old) (S.cells source.new) (first ∷ [])
         (R.remaining (inner_of input.old)) (R.remaining (inner_of input.new))
         (W.contents (inner_of output.old)) (W.contents (inner_of output.new))) }
+    ensures flushed { OnOk result (is_flushed output.new ≡ true) }
     ensures stopped { IfErr result (HasFailedToGive MAX_FRAMES
         (S.layout source.old) (S.cells source.new) (first ∷ [])
         (R.remaining (inner_of input.old)) (R.remaining (inner_of input.new))
@@ -233,6 +239,7 @@ pub fn give_after_within<S: Source, R: Read, W: Write>(
         (S.layout source.old) (S.cells source.new) (first ∷ [])
         (R.remaining (inner_of input.old)) (R.remaining (inner_of input.new))
         (W.contents (inner_of output.old)) (W.contents (inner_of output.new))) }
+    ensures flushed { OnOk result (is_flushed output.new ≡ true) }
     ensures stopped { IfErr result (HasFailedToGive frames
         (S.layout source.old) (S.cells source.new) (first ∷ [])
         (R.remaining (inner_of input.old)) (R.remaining (inner_of input.new))

@@ -3,6 +3,7 @@ ghost use Rattle.std.specs.Prelude.{◌≡◌, ℕ, All, OnOk, OnErr, map, take}
 ghost use Rattle.rr_cells.specs.CellBounds.{IsCellOf};
 ghost use Rattle.rr_cells.specs.Joins.{join_cells};
 ghost use Rattle.rr_cells.specs.Listing.{owned_cell};
+ghost use Rattle.rr_text.specs.Results.{NeedsMemoryAfter};
 ghost use Rattle.rr_gossip.specs.Puller.{Takes, page_taken};
 
 use crate::fault::GossipFault;
@@ -37,6 +38,8 @@ pub(crate) fn take_page<T: Target>(
 ) -> Result<bool, GossipFault>
     ensures taken { Takes (T.layout target.old) (T.cells target.old) (T.cells target.new) Stage.Waiting result
         (page_taken (T.layout target.old) body.now) }
+    ensures memory { NeedsMemoryAfter GossipFault.Memory (page_taken (T.layout target.old) body.now)
+        result }
     ensures schema { T.layout target.new ≡ T.layout target.old }
     ensures kept { T.may_become target.old target.new }
 {

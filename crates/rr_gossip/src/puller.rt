@@ -5,7 +5,7 @@ ghost use Rattle.rr_text.specs.Results.{GivesUnless, NeedsMemoryAfter};
 ghost use Rattle.rr_delta.specs.Names.{owned_name};
 ghost use Rattle.rr_gossip.specs.declared.frame.TheConstants.{MAX_FRAMES, MAX_FRAME_LEN};
 ghost use Rattle.rr_gossip.specs.declared.summary.TheConstants.{MAX_ENTRIES};
-ghost use Rattle.rr_gossip.specs.Puller.{HasFailed, Takes, first_puller, is_due, names_sent, stage_sends, puller_sends, body_taken, frame_due, is_sending, puller_takes};
+ghost use Rattle.rr_gossip.specs.Puller.{HasFailed, Takes, first_puller, is_due, names_sent, stage_sends, puller_sends, body_taken, is_sending, puller_takes};
 ghost use Rattle.rr_gossip.specs.Summary.{summary_text};
 
 use crate::fault::GossipFault;
@@ -56,6 +56,13 @@ impl Stage {
         }
     }
 
+    /// Whether frames are still to be sent.
+    fn is_sending(&self) -> bool
+        ensures { result ≡ is_sending self.now }
+    {
+        matches!(self, Stage::Opening | Stage::Listing(_))
+    }
+
     /// The next frame, if one is due.
     fn next_frame<T: Target>(
         &mut self,
@@ -98,6 +105,8 @@ impl Stage {
         requires { IsTrue (is_due self.old kind) }
         ensures taken { Takes (T.layout target.old) (T.cells target.old) (T.cells target.new) self.new result
             (body_taken (T.layout target.old) kind body.now) }
+        ensures memory { NeedsMemoryAfter GossipFault.Memory (body_taken (T.layout target.old) kind body.now)
+            result }
         ensures schema { T.layout target.new ≡ T.layout target.old }
         ensures kept { T.may_become target.old target.new }
     {
@@ -154,8 +163,9 @@ impl Puller {
     /// The next frame, whole, if one is due: none after the end of the names. Names are asked of the
     /// target 256 at a time, from the last one on.
     ///
-    /// Refused as `Failed` after a fault, as `TooManyFrames`, and as `Memory`. After a refusal the
-    /// session has failed. The cost is that of `Target::names_after`, and linear in the frame.
+    /// Refused as `Failed` after a fault; as `TooManyFrames`, before any name is asked for; and as
+    /// `Memory`. After a refusal the session has failed. The cost is that of `Target::names_after`, and
+    /// linear in the frame.
     pub fn next_frame<T: Target>(
         &mut self,
         alloc: Global,
@@ -164,6 +174,7 @@ impl Puller {
         ensures sent { GivesUnless GossipFault.Memory (λ frame. (self.new, option_map (λ bytes. bytes.items) frame)) result
             (puller_sends (T.cells target.now) (T.layout target.now) self.old) }
         ensures memory { result ≡ Err GossipFault.Memory → IsTrue (is_sending self.old.stage) }
+        ensures within { result ≡ Err GossipFault.Memory → self.old.sent < self.old.limit }
         ensures failed { OnErr result (HasFailed self.new) }
     {
         let result = self.send_frame(alloc, target);
@@ -183,15 +194,17 @@ impl Puller {
         ensures sent { GivesUnless GossipFault.Memory (λ frame. (self.new, option_map (λ bytes. bytes.items) frame)) result
             (puller_sends (T.cells target.now) (T.layout target.now) self.old) }
         ensures memory { result ≡ Err GossipFault.Memory → IsTrue (is_sending self.old.stage) }
+        ensures within { result ≡ Err GossipFault.Memory → self.old.sent < self.old.limit }
     {
-        let Some(frame) = self.stage.next_frame(alloc, target)? else {
-            return Ok(None);
-        };
+        if !self.stage.is_sending() {
+            return self.stage.next_frame(alloc, target);
+        }
         if self.sent >= self.limit {
             return Err(GossipFault::TooManyFrames);
         }
+        let frame = self.stage.next_frame(alloc, target)?;
         self.sent += 1;
-        Ok(Some(frame))
+        Ok(frame)
     }
 
     /// Takes what follows the length of a frame, joins the cells of a page, and answers whether it was
@@ -200,8 +213,8 @@ impl Puller {
     /// Refused, in this order, as `Failed` after a fault; as `FrameTooLong` above 300,000 bytes; as
     /// `BadFrame` where it is of no kind; as `UnexpectedFrame` where that kind is not due, which is so
     /// until the end of the names is sent; as `TooManyFrames`; and by its body, as `SchemaDiffers` for a
-    /// page of another schema and as `BadFrame` for any other. Then nothing is joined. Where memory runs
-    /// out, some cells of the page may be joined, from the first on. After a refusal the session has
+    /// page of another schema and as `BadFrame` for any other. Then nothing is joined. `Memory` comes only
+    /// where the frame is a good one; some cells of the page may then be joined, from the first on. After a refusal the session has
     /// failed. The cost is linear in the frame, and that of `Target::join_cell` for each cell.
     pub fn take<T: Target>(
         &mut self,
@@ -211,7 +224,8 @@ impl Puller {
     ) -> Result<bool, GossipFault>
         ensures taken { Takes (T.layout target.old) (T.cells target.old) (T.cells target.new) self.new result
             (puller_takes (T.layout target.old) self.old frame.now) }
-        ensures memory { NeedsMemoryAfter GossipFault.Memory (frame_due self.old frame.now) result }
+        ensures memory { NeedsMemoryAfter GossipFault.Memory
+            (puller_takes (T.layout target.old) self.old frame.now) result }
         ensures failed { OnErr result (HasFailed self.new) }
         ensures schema { T.layout target.new ≡ T.layout target.old }
         ensures kept { T.may_become target.old target.new }
@@ -224,7 +238,7 @@ impl Puller {
     }
 
     /// Takes a frame; after a refusal the session is anywhere.
-    #[tactic(auto, unfolding(crate::specs::Puller::puller_takes, crate::specs::Puller::frame_due))]
+    #[tactic(auto, unfolding(crate::specs::Puller::puller_takes))]
     fn take_frame<T: Target>(
         &mut self,
         alloc: Global,
@@ -233,7 +247,8 @@ impl Puller {
     ) -> Result<bool, GossipFault>
         ensures taken { Takes (T.layout target.old) (T.cells target.old) (T.cells target.new) self.new result
             (puller_takes (T.layout target.old) self.old frame.now) }
-        ensures memory { NeedsMemoryAfter GossipFault.Memory (frame_due self.old frame.now) result }
+        ensures memory { NeedsMemoryAfter GossipFault.Memory
+            (puller_takes (T.layout target.old) self.old frame.now) result }
         ensures schema { T.layout target.new ≡ T.layout target.old }
         ensures kept { T.may_become target.old target.new }
     {

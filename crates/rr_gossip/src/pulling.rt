@@ -1,8 +1,8 @@
 //! A pull over streams.
-ghost use Rattle.std.specs.Prelude.{◌≡◌, ◌≤◌, Err, IfErr, OnOk, length};
+ghost use Rattle.std.specs.Prelude.{◌≡◌, ◌≤◌, Err, true, IfErr, OnOk, length};
 ghost use Rattle.std.specs.Io.KnownBytes.{Appends, IsAtEnd};
 ghost use Rattle.std.specs.List.{concat};
-ghost use Rattle.rr_io.specs.Counted.{inner_of, failures_of, HasRisen};
+ghost use Rattle.rr_io.specs.Counted.{inner_of, failures_of, is_flushed, HasRisen};
 ghost use Rattle.rr_io.specs.Stream.{AppendsPrefix};
 ghost use Rattle.rr_gossip.specs.declared.frame.TheConstants.{MAX_FRAMES};
 ghost use Rattle.rr_gossip.specs.Puller.{first_puller};
@@ -19,7 +19,7 @@ use rr_io::stream::{flush, write_all};
 use std::alloc::Global;
 use std::io::{Read, Write};
 
-/// Writes the frames of a puller, each before the next is made, and passes them on.
+/// Writes the frames of a puller, each before the next is made, and has the writer pass them on.
 fn send_names<T: Target, W: Write>(
     alloc: Global,
     puller: &mut Puller,
@@ -37,6 +37,7 @@ fn send_names<T: Target, W: Write>(
         ≡ waiting (length (sent_by (T.layout target.now) (T.cells target.now))) 0 puller.old.limit) }
     ensures refused { IfErr result (CannotSend puller.old.limit
         (sent_by (T.layout target.now) (T.cells target.now))) }
+    ensures flushed { OnOk result (is_flushed output.new ≡ true) }
     ensures count { failures_of output.old ≤ failures_of output.new }
     ensures failed { result ≡ Err GossipFault.WriteFailed
         → HasRisen (failures_of output.old) (failures_of output.new) }
@@ -105,6 +106,7 @@ pub fn pull<T: Target, R: Read, W: Write>(
     ensures front { AppendsPrefix (W.contents (inner_of output.old))
         (W.contents (inner_of output.new))
         (concat (sent_by (T.layout target.old) (T.cells target.old))) }
+    ensures flushed { OnOk result (is_flushed output.new ≡ true) }
 
     // What is read and joined.
     ensures pulled { OnOk result (HasPulled (T.layout target.old)
@@ -146,6 +148,7 @@ pub fn pull_within<T: Target, R: Read, W: Write>(
     ensures front { AppendsPrefix (W.contents (inner_of output.old))
         (W.contents (inner_of output.new))
         (concat (sent_by (T.layout target.old) (T.cells target.old))) }
+    ensures flushed { OnOk result (is_flushed output.new ≡ true) }
 
     // What is read and joined.
     ensures pulled { OnOk result (HasPulled (T.layout target.old)

@@ -95,7 +95,7 @@ fn load_into<A: Archive, R: Read>(
         → HasRisen (failures_of input.old) (failures_of input.new) }
 {
     let mut hasher = Sha256::new();
-    let (version, saver, count) = head_from(alloc, input, replica.schema(), &mut hasher)?;
+    let (version, saver, count) = head_from(input, replica.schema(), &mut hasher)?;
     let has_own = join_cells_from(alloc, input, version, count, replica, &mut hasher)?;
     digest_from(input, &hasher.finalize())?;
     end_from(input)?;
