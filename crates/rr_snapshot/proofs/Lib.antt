@@ -2,3 +2,4 @@ pub mod WriteLemmas
 pub mod JoinedLemmas
 pub mod LoadLemmas
 pub mod SavedLemmas
+pub mod MemoryLemmas

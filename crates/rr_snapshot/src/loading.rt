@@ -10,7 +10,7 @@ ghost use Rattle.rr_cells.specs.Listing.{owned_cell};
 ghost use Rattle.rr_replica.specs.Standing.{held};
 ghost use Rattle.rr_parts.specs.SnapshotReading.{as_in_page};
 ghost use Rattle.rr_parts.specs.Stream.{Digests, StreamMakes};
-ghost use Rattle.rr_snapshot.specs.Loading.{HasJoined, GivesIfRead, loaded_at};
+ghost use Rattle.rr_snapshot.specs.Loading.{HasJoined, GivesIfRead, StopsAmong, StopsBeforeDigest, loaded_at};
 
 use rr_archive::Archive;
 use rr_cells::Cell;
@@ -51,6 +51,8 @@ fn join_cells_from<A: Archive, R: Read>(
         (R.remaining (inner_of input.new)) hasher.old hasher.new) }
     ensures front { ConsumesSome (R.remaining (inner_of input.old))
         (R.remaining (inner_of input.new)) }
+    ensures memory { result ≡ Err LoadFault.Memory → StopsAmong version replica.old.schema count
+        (R.remaining (inner_of input.old)) (R.remaining (inner_of input.new)) }
     ensures count { failures_of input.old ≤ failures_of input.new }
     ensures failed { result ≡ Err LoadFault.ReadFailed
         → HasRisen (failures_of input.old) (failures_of input.new) }
@@ -90,6 +92,8 @@ fn load_into<A: Archive, R: Read>(
     ensures end { OnOk result (IsAtEnd (R.remaining (inner_of input.new))) }
     ensures front { ConsumesSome (R.remaining (inner_of input.old))
         (R.remaining (inner_of input.new)) }
+    ensures memory { result ≡ Err LoadFault.Memory → StopsBeforeDigest replica.old.schema
+        (R.remaining (inner_of input.old)) (R.remaining (inner_of input.new)) }
     ensures count { failures_of input.old ≤ failures_of input.new }
     ensures failed { result ≡ Err LoadFault.ReadFailed
         → HasRisen (failures_of input.old) (failures_of input.new) }
@@ -113,9 +117,9 @@ fn load_into<A: Archive, R: Read>(
 /// once as many bytes are read as the schema has; `BadOrigin`; for each cell those of
 /// [`read_cell`](rr_page::read_cell), and then `OutOfOrder` where its name is not greater than the
 /// one before; `BadDigest`; `TrailingBytes`; and last `OriginUsed` where the new origin is that of
-/// the snapshot or of one of its cells, those past the horizon too. A refused load gives no replica,
-/// and a front of the input has been read. The cost is that of joining the cells, and linear
-/// in the bytes.
+/// the snapshot or of one of its cells, those past the horizon too. `Memory` comes before the digest is
+/// read. A refused load gives no replica, and a front of the input has been read. The cost is that of
+/// joining the cells, and linear in the bytes.
 pub fn load<A: Archive, R: Read>(
     alloc: Global,
     input: &mut Counted<R>,
@@ -132,6 +136,8 @@ pub fn load<A: Archive, R: Read>(
     ensures end { OnOk result (IsAtEnd (R.remaining (inner_of input.new))) }
     ensures front { ConsumesSome (R.remaining (inner_of input.old))
         (R.remaining (inner_of input.new)) }
+    ensures memory { result ≡ Err LoadFault.Memory → StopsBeforeDigest schema.now
+        (R.remaining (inner_of input.old)) (R.remaining (inner_of input.new)) }
     ensures count { failures_of input.old ≤ failures_of input.new }
     ensures failed { result ≡ Err LoadFault.ReadFailed
         → HasRisen (failures_of input.old) (failures_of input.new) }

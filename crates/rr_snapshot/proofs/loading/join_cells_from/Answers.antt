@@ -1,10 +1,14 @@
-use Rattle.std.proofs.Common.{rules, ◌≡◌, ◌++◌, ◌∷◌, [], ◌∙◌, sym, ap, subst, take, true, false, Option, ℕ, append_assoc, append-nil, inr, refl}
+use Rattle.std.proofs.Common.{rules, ◌≡◌, Err, ◌++◌, ◌∷◌, [], ◌∙◌, sym, ap, subst, take, true, false, Option, ℕ, append_assoc, append-nil, inr, refl}
 use Rattle.std.specs.Prelude.{◌==◌}
 use Rattle.std.proofs.KnownBytes.{Consumes-nil, Consumes-trans}
 use Rattle.std.proofs.lemmas.Result.{err_from_is_err_and}
 use Rattle.sha2.specs.Hashers.{Holds256}
 use Rattle.rr_io.specs.Counted.{inner_of}
+use Rattle.rr_schema.specs.Schema.{Layout}
 use Rattle.rr_model.specs.CellNames.{CellName}
+use Rattle.rr_page.specs.Reading.{cell_at}
+use Rattle.rr_parts.specs.declared.fault.LoadFault.TheVariants.{Memory}
+use Rattle.rr_parts.specs.Stream.{HasRead}
 use Rattle.rr_page.specs.PageReading.{is_after, last_name}
 use Rattle.rr_page.proofs.LoopLemmas.{last_name_push}
 use Rattle.rr_cells.specs.Listing.{owned_cell}
@@ -12,6 +16,7 @@ use Rattle.rr_replica.specs.Standing.{held}
 use Rattle.rr_parts.proofs.FrontLemmas.{none_read, read_then}
 use Rattle.rr_parts.proofs.CellsLemmas.{nothing_yet, goes_on_stream, falls_stream, passed_made, done_stream, same_schema, same_schema_read}
 use Rattle.rr_snapshot.specs.Loading.{HasJoined}
+use Rattle.rr_snapshot.proofs.MemoryLemmas.{has_read, stops_among}
 use Rattle.rr_snapshot.proofs.JoinedLemmas.{HasJoined-none, HasJoined-more}
 use Rattle.rr_snapshot.proofs.loading.join_cells_from.Goals as goal
 
@@ -88,3 +93,28 @@ returns-then-not-is_after-clause-front g c =
 pub returns-in_err-join_cell-clause-front : goal.returns-in_err-join_cell-clause-front
 returns-in_err-join_cell-clause-front g c =
     read_then (g.R.Read.remaining (inner_of c.args.input.now)) (g.R.Read.remaining (inner_of c.loop.input)) (g.R.Read.remaining (inner_of c.cell_from.new.input)) c.loop.invariant.front c.cell_from.ensures.front
+
+pub returns-in_err-cell-clause-memory : goal.returns-in_err-cell-clause-memory
+returns-in_err-cell-clause-memory g c =
+    let so_far = c.loop.invariant.cells in
+    let s = c.args.replica.now.schema in
+    let old = g.R.Read.remaining (inner_of c.args.input.now) in
+    let now = g.R.Read.remaining (inner_of c.loop.input) in
+    let new = g.R.Read.remaining (inner_of c.cell_from.new.input) in
+    let p = err_from_is_err_and c.from_residual.result c.from_residual.ensures.1 in
+    rw (p.1, p.2)
+    (λ e.
+    let memory : c.in_err-cell.field-0.0 ≡ Memory = cc e in
+    stops_among c.args.version s so_far.0 c.args.count c.loop.counter old now new c.loop-test.true so_far.1
+    (subst (λ (u : Layout). HasRead now new (cell_at c.args.version u)) (c.schema.ensures.value ∙ so_far.3.schema) (c.in_err-cell.ensures.memory (ap (λ f. Err f) memory))))
+
+pub returns-in_err-join_cell-clause-memory : goal.returns-in_err-join_cell-clause-memory
+returns-in_err-join_cell-clause-memory g c = λ e.
+    let so_far = c.loop.invariant.cells in
+    let s = c.args.replica.now.schema in
+    let cell = owned_cell c.in_ok-cell.cell in
+    let old = g.R.Read.remaining (inner_of c.args.input.now) in
+    let now = g.R.Read.remaining (inner_of c.loop.input) in
+    let new = g.R.Read.remaining (inner_of c.cell_from.new.input) in
+    let read = same_schema_read c.args.version c.schema.result.now s cell now new (c.schema.ensures.value ∙ so_far.3.schema) c.in_ok-cell.ensures.read in
+    stops_among c.args.version s so_far.0 c.args.count c.loop.counter old now new c.loop-test.true so_far.1 (has_read c.args.version s cell now new read)

@@ -1,4 +1,4 @@
-use Rattle.std.proofs.Common.{arith, ℕ, ◌≡◌, ◌⊎◌, ◌∙◌, ◌||◌, Bool, true, false, Err, None, IfSome, ap, sym, subst, refl, inl, inr}
+use Rattle.std.proofs.Common.{arith, ℕ, ◌≡◌, ◌⊎◌, ◌∙◌, ◌||◌, Bool, true, false, Err, IfSome, ap, sym, subst, refl, inl, inr}
 use Rattle.std.specs.Prelude.{◌==◌}
 use Rattle.std.specs.FinMap.{empty}
 use Rattle.std.proofs.lemmas.Bool.{or_left, or_right, or_from}
@@ -12,6 +12,7 @@ use Rattle.rr_parts.specs.declared.fault.LoadFault.TheVariants.{ReadFailed, Memo
 use Rattle.rr_parts.proofs.FrontLemmas.{read_then}
 use Rattle.rr_parts.proofs.BodyLemmas.{HeadRead, body_read}
 use Rattle.rr_snapshot.specs.Loading.{is_among}
+use Rattle.rr_snapshot.proofs.MemoryLemmas.{stops_in_snapshot}
 use Rattle.rr_snapshot.proofs.JoinedLemmas.{joined_replica}
 use Rattle.rr_snapshot.proofs.LoadLemmas.{head_failed, cells_failed, digest_failed, end_failed, all_read, used_origin, new_origin}
 use Rattle.rr_snapshot.proofs.loading.load_into.Goals as goal
@@ -135,3 +136,17 @@ returns-then-eq-clause-count g c = omega (arith, c.head_from.ensures.count, c.jo
 
 pub returns-clause-count : goal.returns-clause-count
 returns-clause-count g c = omega (arith, c.head_from.ensures.count, c.join_cells_from.ensures.count, c.digest_from.ensures.count, c.end_from.ensures.count)
+
+pub returns-in_err-has_own-clause-memory : goal.returns-in_err-has_own-clause-memory
+returns-in_err-has_own-clause-memory g c =
+    let old = g.R.Read.remaining (inner_of c.args.input.now) in
+    let now = g.R.Read.remaining (inner_of c.head_from.new.input) in
+    let new = g.R.Read.remaining (inner_of c.join_cells_from.new.input) in
+    let h = c.in_ok-version in
+    let s = c.args.replica.now.schema in
+    let p = err_from_is_err_and c.from_residual-in_err-has_own.result c.from_residual-in_err-has_own.ensures.1 in
+    let head = subst (λ (t : Layout). HeadRead t h.version h.saver h.count old now) c.schema.ensures.value h.ensures.read in
+    rw (p.1, p.2)
+    (λ e.
+    let memory : c.in_err-has_own.field-0.0 ≡ Memory = cc e in
+    inr (stops_in_snapshot s h.version h.saver h.count old now new head (c.in_err-has_own.ensures.memory (ap (λ f. Err f) memory))))
