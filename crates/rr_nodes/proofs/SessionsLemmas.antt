@@ -1,6 +1,6 @@
 -- What the bytes of a session bring.
 use Rattle.std.proofs.Common.{◌≡◌, ℕ, List, [], ◌∷◌, ◌++◌, map, fold, append_assoc, slice_get, refl, sym, ap, ◌∙◌, subst, Option, None, Some}
-use Rattle.std.specs.List.{AllByRecursion, concat}
+use Rattle.std.specs.List.{All, AllByRecursion, concat}
 use Rattle.std.specs.Option.{option_map}
 use Rattle.std.specs.Cmp.{nat_cmp_total}
 use Rattle.std.specs.FinMap.{empty, get, insert, entries, entries_sorted, is_sorted, nat_cmp-IsAntisymmetric}
@@ -18,6 +18,7 @@ use Rattle.rr_cells.specs.CellBounds.{NamedCell, IsCellOf}
 use Rattle.rr_cells.specs.Cells.{Cells}
 use Rattle.rr_cells.specs.Joins.{join_cell, join_cells}
 use Rattle.rr_cells.specs.Listing.{owned_cell}
+use Rattle.rr_cells.specs.Operations.{outcome_of}
 use Rattle.rr_copies.specs.Standing.{cells_of}
 use Rattle.rr_delta.specs.Difference.{IsSummary}
 use Rattle.rr_delta.specs.Names.{IsNameOf, NamedVersion, versions_of}
@@ -35,9 +36,10 @@ use Rattle.rr_nodes.specs.Nodes.{Node, Nodes, all_held, held_at, after, after_al
 use Rattle.rr_nodes.specs.Models.{cell_model, sample_model}
 use Rattle.rr_nodes.specs.Keepers.{IsNode}
 use Rattle.rr_nodes.specs.Pulls.{takes}
-use Rattle.rr_nodes.specs.Sessions.{lacking, names_lacking, now_at, SessionsBringWhatIsLacking, SessionsAreDeeds, PullIsDeeds}
+use Rattle.rr_nodes.specs.Sessions.{lacking, names_lacking, now_at, SessionsBringWhatIsLacking, SessionsAreDeeds, PullIsDeeds, PullsAreJoins}
 use Rattle.rr_nodes.proofs.GivingLemmas.{given_are_there}
 use Rattle.rr_nodes.proofs.KeepersLemmas.{page_is_deeds}
+use Rattle.rr_nodes.proofs.CallsLemmas.{pages_are_joins}
 use Rattle.rr_nodes.proofs.DeedsLemmas.{from_cells, held_are_of_the_schema, held_then, premises_are_kept}
 use Rattle.rr_nodes.proofs.NodesLemmas.{held_is_closed}
 use Rattle.rr_nodes.proofs.PullsLemmas.{pulls_bring_all, takes_are_in_order}
@@ -148,11 +150,19 @@ all_there : (given : Cells) (cells : List Cell) → AllByRecursion (λ (e : Name
 all_there given [] all = tt
 all_there given (c ∷ cells) all = (all.0, all_there given cells all.1)
 
+-- each cell that was lacking is there
+lacked_there : (given had : Cells) (cells : List Cell) → map owned_cell cells ≡ lacking given had → All (λ (c : Cell). get given (owned_cell c).0 ≡ Some c.contribution) cells
+lacked_there given had cells lacks =
+    let has : NamedCell → Type 0 = λ e. get given e.0 ≡ Some e.1 in
+    All-from_recursion (λ (c : Cell). get given (owned_cell c).0 ≡ Some c.contribution) cells
+    (all_there given cells (subst (AllByRecursion has) (sym lacks) (recursion_from_All has (lacking given had) (given_are_there given (versions_of had)))))
+
 pub pull_is_deeds : PullIsDeeds
 pull_is_deeds opening k n given cells is lacks =
-    let has : NamedCell → Type 0 = λ e. get given e.0 ≡ Some e.1 in
-    let lacked = subst (AllByRecursion has) (sym lacks) (recursion_from_All has (lacking given (cells_of k)) (given_are_there given (versions_of (cells_of k)))) in
-    let each = All-from_recursion (λ (c : Cell). get given (owned_cell c).0 ≡ Some c.contribution) cells (all_there given cells lacked) in
     subst (IsNode opening (with_joined k cells))
     (taken_by_name k.schema k.origin given n cells ∙ ap (λ (es : List NamedCell). fold (λ o name. taken cell_model k.schema k.origin o given name) n (map (λ e. e.0) es)) lacks)
-    (page_is_deeds opening k n given cells each is)
+    (page_is_deeds opening k n given cells (lacked_there given (cells_of k) cells lacks) is)
+
+pub pulls_are_joins : PullsAreJoins
+pulls_are_joins s ds origin there d list cells here other begun lacks =
+    pages_are_joins s ds origin there d list cells here other begun (lacked_there (outcome_of s list) (cells_of d.keeper) cells lacks)

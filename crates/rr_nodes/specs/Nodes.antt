@@ -8,8 +8,8 @@ use Rattle.rr_schema.specs.Schema.{Layout}
 use Rattle.rr_model.specs.CellNames.{CellName}
 use Rattle.rr_model.specs.Samples.{Sample}
 
--- a node, which is one opening of a desk: the number of its next sample, what it holds, and all that it held before,
--- the newest first
+-- a node, which is a replica from when it is made or loaded on: the number of its next sample, what it holds, and all that
+-- it held before, the newest first
 pub record Node (K : Type 0) : Type 0 where
   pub next : ℕ
   pub now : K

@@ -1,7 +1,7 @@
 -- Sessions, by their bytes: the keeper of one node pulls from a reader of another.
 use Rattle.std.specs.Prelude.{◌≡◌, ◌≢◌, ℕ, List, [], ◌++◌, map, fold, length, Option, Some, All}
 use Rattle.std.specs.Option.{option_map}
-use Rattle.std.specs.FinMap.{entries}
+use Rattle.std.specs.FinMap.{get, entries}
 use Rattle.std.specs.List.{concat}
 use Rattle.rr_schema.specs.Schema.{Layout, IsLayout}
 use Rattle.rr_model.specs.CellNames.{CellName}
@@ -12,6 +12,7 @@ use Rattle.rr_cells.specs.CellBounds.{NamedCell, IsCellOf}
 use Rattle.rr_cells.specs.Cells.{Cells}
 use Rattle.rr_cells.specs.Joins.{join_cells}
 use Rattle.rr_cells.specs.Listing.{owned_cell}
+use Rattle.rr_cells.specs.Operations.{outcome_of}
 use Rattle.rr_copies.specs.Standing.{KeeperState, cells_of}
 use Rattle.rr_delta.specs.Difference.{newer_cells}
 use Rattle.rr_delta.specs.Names.{versions_of}
@@ -22,6 +23,7 @@ use Rattle.rr_nodes.specs.Nodes.{Node, Moment, Deed, held_at, after_all, taken}
 use Rattle.rr_nodes.specs.Models.{cell_model, sample_model}
 use Rattle.rr_nodes.specs.Laws.{IsWithinLimits}
 use Rattle.rr_nodes.specs.Keepers.{IsNode}
+use Rattle.rr_nodes.specs.Calls.{Desk, Desks, HasBegun, Leave, joins_of_page}
 use Rattle.rr_nodes.specs.Pulls.{takes}
 
 -- the cells of one side that another lacks or has with a smaller version, in order
@@ -78,3 +80,9 @@ abbrev pub PullIsDeeds : Type 0
 PullIsDeeds =
     (opening : List Op) (k : KeeperState) (n : Node Cells) (given : Cells) (cells : List Cell) → IsNode opening k n → map owned_cell cells ≡ lacking given (cells_of k)
     → IsNode opening (with_joined k cells) (fold (λ o name. taken cell_model k.schema k.origin o given name) n (names_lacking given (cells_of k)))
+
+-- so among several desks such a pull, of what a reader of another has seen, is a join for each cell that was lacking
+abbrev pub PullsAreJoins : Type 0
+PullsAreJoins =
+    (s : Layout) (ds : Desks) (origin there : ℕ) (d : Desk) (list : List Op) (cells : List Cell) → get ds origin ≡ Some d → there ≢ origin → HasBegun ds there list
+    → map owned_cell cells ≡ lacking (outcome_of s list) (cells_of d.keeper) → Leave s ds origin d (joins_of_page origin there list cells) (with_joined d.keeper cells)

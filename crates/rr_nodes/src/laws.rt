@@ -6,7 +6,7 @@ ghost use Rattle.rr_nodes.specs.Calls.{CallsAnswerFromSamples, WritesArePuts, Pa
 ghost use Rattle.rr_nodes.specs.Giving.{GivenAreThere, UnusedHaveNoCells, SavedIsLoadedElsewhere};
 ghost use Rattle.rr_nodes.specs.Models.{cell_model, sample_model};
 ghost use Rattle.rr_nodes.specs.Pulls.{TakesAreInOrder, PullsBringAll};
-ghost use Rattle.rr_nodes.specs.Sessions.{SessionsBringWhatIsLacking, SessionsAreDeeds, PullIsDeeds};
+ghost use Rattle.rr_nodes.specs.Sessions.{SessionsBringWhatIsLacking, SessionsAreDeeds, PullIsDeeds, PullsAreJoins};
 
 /// Whatever is done at however many nodes, in whatever order: at each moment each node has the cells of
 /// the marks that reached it, so a fetch is answered by exactly these; and who knows the same live marks
@@ -60,6 +60,7 @@ pub fn sessions_are_deeds()
     ensures bytes { SessionsBringWhatIsLacking }
     ensures deeds { SessionsAreDeeds }
     ensures keeper { PullIsDeeds }
+    ensures calls { PullsAreJoins }
 {}
 
 /// Each cell that a reader gives is there, so whoever joins it takes it; and what a keeper saves is loaded,
