@@ -21,7 +21,7 @@ use Rattle.rr_cluster.specs.declared.fault.CommandFault.TheVariants.{BadNumber, 
 use Rattle.rr_text.specs.declared.limits.TheConstants.{MAX_ORIGIN}
 use Rattle.rr_cluster.specs.Commands.Write.{samples_of}
 use Rattle.rr_schema.specs.Origin.{IsOrigin}
-use Rattle.rr_cluster.specs.Soundness.{IsSoundSample}
+use Rattle.rr_cells.specs.CellBounds.{IsSoundSample}
 use Rattle.rr_cluster.specs.Words.{number_within, origin_of, moment_of}
 
 is_there : {A E : Type 0} (o : Option A) (fault : E) (x : A) → ok_or o fault ≡ Ok x → o ≡ Some x

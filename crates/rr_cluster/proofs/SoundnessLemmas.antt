@@ -12,7 +12,8 @@ use Rattle.rr_model.specs.Knowledge.{Knowledge}
 use Rattle.rr_model.specs.Samples.{Sample}
 use Rattle.rr_model.specs.World.{World, IsWritten, IsClosed}
 use Rattle.rr_schema.specs.Origin.{IsOrigin}
-use Rattle.rr_cluster.specs.Soundness.{IsSoundSample, IsSound, IsSoundNode, IsSoundSnapshot, IsUsed}
+use Rattle.rr_cells.specs.CellBounds.{IsSoundSample}
+use Rattle.rr_cluster.specs.Soundness.{IsSound, IsSoundNode, IsSoundSnapshot, IsUsed}
 use Rattle.rr_cluster.specs.State.{Node, Snapshot, State}
 use Rattle.rr_cluster.proofs.StepLemmas.{names_apart}
 

@@ -7,7 +7,7 @@ use Rattle.rr_text.specs.declared.limits.TheConstants.{MAX_NUMBER}
 use Rattle.rr_schema.specs.Origin.{IsOrigin}
 use Rattle.rr_schema.specs.Schema.{Layout, IsLayout}
 use Rattle.rr_text.specs.Text.{fits_i64}
-use Rattle.rr_key.specs.Series.{IsKeyText}
+use Rattle.rr_cells.specs.CellBounds.{IsSoundSample}
 use Rattle.rr_model.specs.Samples.{Sample}
 use Rattle.rr_model.specs.Knowledge.{Knowledge}
 use Rattle.rr_model.specs.World.{World, IsWritten, IsClosed, HoldsAllOf}
@@ -18,15 +18,6 @@ use Rattle.rr_cluster.specs.Model.{sample_model}
 use Rattle.rr_cluster.specs.Output.{after_line}
 use Rattle.rr_script.specs.Script.{commands_of}
 use Rattle.rr_cluster.specs.State.{Node, Snapshot, State, first_state}
-
--- a sample within the limits, of a key text, with a time and a value of 64 bits
-pub record IsSoundSample (x : Sample) : Type 0 where
-  pub origin : IsOrigin x.origin
-  pub some_number : 1 ≤ x.number
-  pub few_numbers : x.number ≤ MAX_NUMBER
-  pub key : IsKeyText x.key
-  pub time : IsTrue (fits_i64 x.time)
-  pub value : IsTrue (fits_i64 x.value)
 
 -- what a node knows has no gaps, it knows all that was written under its origin, and its next number is past those;
 -- where no number is left, the next is past the last

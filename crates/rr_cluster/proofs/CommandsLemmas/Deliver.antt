@@ -1,19 +1,11 @@
 -- deliver NAME NODE
-use Rattle.std.proofs.Common.{◌≡◌, ℕ, ◌+◌, ◌<◌, Bool, true, false, cond, ◌&&◌, List, [], ◌∷◌, map, Some, None, Result, Ok, Err, refl, sym, ap, subst, ◌∙◌, arith}
-use Rattle.std.specs.Prelude.{◌==◌, nat_le}
+use Rattle.std.proofs.Common.{◌≡◌, List, [], ◌∷◌, map, ℕ, Some, None, Result, Ok, Err, refl, sym, ap, subst, ◌∙◌}
 use Rattle.std.specs.FinMap as fin
-use Rattle.std.specs.List.{AllByRecursion}
-use Rattle.std.specs.Ordering.{eq_by_cmp}
-use Rattle.std.proofs.lemmas.Bool.{eqb-true, leb-true}
+use Rattle.std.proofs.lemmas.List.Elements.{All-from_recursion}
 use Rattle.rr_archive.specs.declared.archive.Archive.{Ghosts}
 use Rattle.rr_schema.specs.Schema.{Layout, IsLayout}
-use Rattle.rr_contrib.specs.declared.contribution.Contribution.{Contribution}
-use Rattle.rr_join.proofs.Booleans.{and_first, and_second}
-use Rattle.rr_model.specs.CellNames.{CellName, cell_name_cmp}
-use Rattle.rr_model.specs.Knowledge.{Knowledge, knows, is_live_in, cell}
-use Rattle.rr_model.specs.Samples.{name_of}
+use Rattle.rr_model.specs.Knowledge.{Knowledge}
 use Rattle.rr_model.specs.World.{World, IsClosed}
-use Rattle.rr_model.proofs.Knowing.{knows-cell, is_in-keys_of, name_from_tie}
 use Rattle.rr_model.proofs.Writes.{union_is_closed, union_holds_own}
 use Rattle.rr_page.specs.declared.fault.PageFault.{PageFault}
 use Rattle.rr_cells.specs.CellBounds.{NamedCell}
@@ -27,8 +19,8 @@ use Rattle.rr_cells.specs.Cells.{Cells}
 use Rattle.rr_cells.specs.State.{state}
 use Rattle.rr_cells.proofs.CellByCell.{join_goes_by_cells}
 use Rattle.rr_cells.proofs.JoinLaws.{join_unites}
-use Rattle.rr_cells.proofs.States.{get-state, state_is_trimmed}
-use Rattle.rr_cells.proofs.Uniting.{value_top}
+use Rattle.rr_cells.proofs.States.{state_is_trimmed}
+use Rattle.rr_cells.proofs.WrittenCells.{next_stays}
 use Rattle.rr_cluster.specs.declared.cluster.Cluster.{Cluster}
 use Rattle.rr_cluster.specs.declared.fault.CommandFault.TheVariants.{NoNode, NoPage}
 use Rattle.rr_cluster.specs.declared.stop.Stop.{Stop}
@@ -99,34 +91,10 @@ module _ {A : Type 0} {g : Ghosts A} (old : Cluster A g) (m : State Cells) (is :
 
 -- ---- a delivery never moves the next number of a node
 
--- cells of earlier numbers leave it
-next_stays : (origin next : ℕ) (es : List NamedCell) → AllByRecursion (λ e. e.0.origin ≡ origin → e.1.version < next) es → next_past origin next es ≡ next
-next_stays origin next [] all = refl
-next_stays origin next (e ∷ es) all =
-    ap (λ (k : ℕ). next_past origin k es) (by (e.0.origin == origin) (nat_le next e.1.version) refl refl) ∙ next_stays origin next es all.1
-  where
-    by : (a b : Bool) → (e.0.origin == origin) ≡ a → nat_le next e.1.version ≡ b → cond (a && b) (e.1.version + 1) next ≡ next
-    by true true t u = let below = all.0 (eqb-true e.0.origin origin t) in let past = leb-true next e.1.version u in omega (arith, below, past)
-    by true false t u = refl
-    by false b t u = refl
-
-module _ (w : World) (n : Node Knowledge) (is : IsSoundNode w n) (k : Knowledge) (closed : IsClosed n.schema w k) where
-  abbrev s : Layout
-  s = n.schema
-
-  -- a version is the number of one of the cell's marks, and the next number of its origin is greater
-  versions_are_below : (c : CellName) (v : Contribution) → fin.get (state s k) c ≡ Some v → c.origin ≡ n.origin → v.version < n.next
-  versions_are_below c v at own =
-      let top = value_top s (cell s k c) v (sym (get-state s k c) ∙ at) in
-      let known_so = knows k top.mark && is_live_in s k (name_of s top.mark) in
-      let named_so = eq_by_cmp cell_name_cmp (name_of s top.mark) c in
-      let here = sym (knows-cell s k c top.mark) ∙ sym (is_in-keys_of (cell s k c) top.mark) ∙ top.known in
-      let known = and_first (knows k top.mark) (is_live_in s k (name_of s top.mark)) (and_first known_so named_so here) in
-      let name = name_from_tie s top.mark c (and_second known_so named_so here) in
-      subst (λ (number : ℕ). number < n.next) top.number (is.numbered top.mark.sample (closed.written top.mark known).0 (ap (λ (q : CellName). q.origin) name ∙ own))
-
-  next_is_same : next_past n.origin n.next (fin.entries (state s k)) ≡ n.next
-  next_is_same = next_stays n.origin n.next (fin.entries (state s k)) (all_entries (λ e. e.0.origin ≡ n.origin → e.1.version < n.next) (state s k) versions_are_below)
+next_is_same : (w : World) (n : Node Knowledge) → IsSoundNode w n → (k : Knowledge) → IsClosed n.schema w k → next_past n.origin n.next (fin.entries (state n.schema k)) ≡ n.next
+next_is_same w n is k closed =
+    let m = state n.schema k in
+    next_stays n.schema w k n.origin n.next (fin.entries m) closed is.numbered (All-from_recursion _ (fin.entries m) (all_entries (λ e. fin.get m e.0 ≡ Some e.1) m (λ c v e. e)))
 
 -- ---- the models agree
 

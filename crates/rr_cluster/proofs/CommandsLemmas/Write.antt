@@ -43,7 +43,8 @@ use Rattle.rr_cluster.specs.Commands.Write.{line_of, samples_of, samples_at, sam
 use Rattle.rr_cluster.specs.Meaning.{node_of, replica_at, Represents, Leaves, Writes, node_in}
 use Rattle.rr_cluster.specs.Model.{Model, cell_model, sample_model}
 use Rattle.rr_schema.specs.Origin.{IsOrigin}
-use Rattle.rr_cluster.specs.Soundness.{IsSoundSample, IsSound, IsSoundNode, IsUsed}
+use Rattle.rr_cells.specs.CellBounds.{IsSoundSample}
+use Rattle.rr_cluster.specs.Soundness.{IsSound, IsSoundNode, IsUsed}
 use Rattle.rr_cluster.specs.State.{Node, State}
 use Rattle.rr_cluster.specs.Stop.{IsStopOf, IsStopOfWrite}
 use Rattle.rr_cluster.proofs.CommandsLemmas.Node.{with_node_agrees}
