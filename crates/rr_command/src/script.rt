@@ -1,8 +1,8 @@
 //! A script, from a reader's bytes to a writer's.
 
-ghost use Rattle.std.specs.Prelude.{◌≡◌, ◌≢◌, ◌+◌, ◌≤◌, Err, IfSome, OnOk, IfErr};
+ghost use Rattle.std.specs.Prelude.{◌≡◌, ◌≢◌, ◌+◌, ◌≤◌, Err, true, IfSome, OnOk, IfErr};
 ghost use Rattle.std.specs.Io.KnownBytes.{Appends};
-ghost use Rattle.rr_io.specs.Counted.{inner_of, failures_of, reads_of, HasRisen, HasRisenBy};
+ghost use Rattle.rr_io.specs.Counted.{inner_of, failures_of, reads_of, ends_of, is_flushed, HasRisen, HasRisenBy};
 ghost use Rattle.rr_io.specs.Stream.{AppendsPrefix};
 ghost use Rattle.rr_text.specs.declared.limits.TheConstants.{MAX_READS};
 
@@ -24,6 +24,7 @@ pub fn run_script<S: RunScript, R: Read, W: Write>(
 ) -> Result<(), ToolFault>
     ensures done { OnOk result (IfSome (R.remaining (inner_of input.old))
         (λ script. Appends (W.contents (inner_of output.old)) (W.contents (inner_of output.new)) (S.output script))) }
+    ensures passed_on { OnOk result (is_flushed output.new ≡ true) }
 
     // What is written after a fault.
     ensures unwritten { IfErr result (λ fault. fault ≢ ToolFault.WriteFailed → output.new ≡ output.old) }
@@ -35,6 +36,7 @@ pub fn run_script<S: RunScript, R: Read, W: Write>(
     ensures limit { reads_of input.new ≤ reads_of input.old + MAX_READS }
     ensures too_many { result ≡ Err ToolFault.TooManyReads
         → HasRisenBy MAX_READS (reads_of input.old) (reads_of input.new) }
+    ensures no_end { result ≡ Err ToolFault.TooManyReads → ends_of input.new ≡ ends_of input.old }
     ensures write_failed { result ≡ Err ToolFault.WriteFailed → HasRisen (failures_of output.old) (failures_of output.new) }
 {
     let script = read_script(alloc, input)?;

@@ -2,7 +2,7 @@
 
 ghost use Rattle.std.specs.Prelude.{◌≡◌, ◌+◌, ◌≤◌, Err, IfSome, IfOk, OnOk};
 ghost use Rattle.std.specs.Io.KnownBytes.{Appends};
-ghost use Rattle.rr_io.specs.Counted.{inner_of, failures_of, reads_of, HasRisen, HasRisenBy};
+ghost use Rattle.rr_io.specs.Counted.{inner_of, failures_of, reads_of, ends_of, HasRisen, HasRisenBy};
 ghost use Rattle.rr_io.specs.Stream.{AppendsPrefix};
 ghost use Rattle.rr_text.specs.declared.limits.TheConstants.{MAX_READS};
 ghost use Rattle.rr_process.specs.Orders.{ending_of, output_of};
@@ -42,6 +42,7 @@ pub fn obey_order<S: RunScript, R: Read, W: Write>(
     ensures limit { reads_of input.new ≤ reads_of input.old + MAX_READS }
     ensures too_many { result ≡ Err ToolFault.TooManyReads
         → HasRisenBy MAX_READS (reads_of input.old) (reads_of input.new) }
+    ensures no_end { result ≡ Err ToolFault.TooManyReads → ends_of input.new ≡ ends_of input.old }
     ensures write_failed { result ≡ Err ToolFault.WriteFailed → HasRisen (failures_of output.old) (failures_of output.new) }
 {
     match order {

@@ -1,8 +1,8 @@
 //! Lines from a reader, reported to a writer.
 
-ghost use Rattle.std.specs.Prelude.{◌≡◌, ◌+◌, ◌≤◌, Err, IfSome, IfOk, OnOk};
+ghost use Rattle.std.specs.Prelude.{◌≡◌, ◌+◌, ◌≤◌, Err, true, IfSome, IfOk, OnOk};
 ghost use Rattle.std.specs.Io.KnownBytes.{Appends};
-ghost use Rattle.rr_io.specs.Counted.{inner_of, failures_of, reads_of, HasRisen, HasRisenBy};
+ghost use Rattle.rr_io.specs.Counted.{inner_of, failures_of, reads_of, ends_of, is_flushed, HasRisen, HasRisenBy};
 ghost use Rattle.rr_io.specs.Stream.{AppendsPrefix};
 ghost use Rattle.rr_text.specs.declared.limits.TheConstants.{MAX_READS};
 ghost use Rattle.rr_report.specs.Report.{refused_count, report_of};
@@ -41,6 +41,7 @@ pub fn check_lines<R: Read, W: Write>(
         (λ bytes. Appends (W.contents (inner_of output.old)) (W.contents (inner_of output.new)) (report_of precision now bytes))) }
     ensures refused { IfOk result (λ refused. IfSome (R.remaining (inner_of input.old))
         (λ bytes. refused ≡ refused_count precision bytes)) }
+    ensures passed_on { OnOk result (is_flushed output.new ≡ true) }
 
     // What is written however the call ends.
     ensures front { IfSome (R.remaining (inner_of input.old))
@@ -51,6 +52,7 @@ pub fn check_lines<R: Read, W: Write>(
     ensures limit { reads_of input.new ≤ reads_of input.old + MAX_READS }
     ensures too_many { result ≡ Err ToolFault.TooManyReads
         → HasRisenBy MAX_READS (reads_of input.old) (reads_of input.new) }
+    ensures no_end { result ≡ Err ToolFault.TooManyReads → ends_of input.new ≡ ends_of input.old }
     ensures write_failed { result ≡ Err ToolFault.WriteFailed → HasRisen (failures_of output.old) (failures_of output.new) }
 {
     check_lines_within(alloc, input, output, precision, now, MAX_READS)
@@ -73,6 +75,7 @@ pub fn check_lines_within<R: Read, W: Write>(
         (λ bytes. Appends (W.contents (inner_of output.old)) (W.contents (inner_of output.new)) (report_of precision now bytes))) }
     ensures refused { IfOk result (λ refused. IfSome (R.remaining (inner_of input.old))
         (λ bytes. refused ≡ refused_count precision bytes)) }
+    ensures passed_on { OnOk result (is_flushed output.new ≡ true) }
 
     // What is written however the call ends.
     ensures front { IfSome (R.remaining (inner_of input.old))
@@ -83,6 +86,7 @@ pub fn check_lines_within<R: Read, W: Write>(
     ensures limit { reads_of input.new ≤ reads_of input.old + reads }
     ensures too_many { result ≡ Err ToolFault.TooManyReads
         → HasRisenBy reads (reads_of input.old) (reads_of input.new) }
+    ensures no_end { result ≡ Err ToolFault.TooManyReads → ends_of input.new ≡ ends_of input.old }
     ensures write_failed { result ≡ Err ToolFault.WriteFailed → HasRisen (failures_of output.old) (failures_of output.new) }
 {
     let mut checker = Checker::new(alloc, precision, now);

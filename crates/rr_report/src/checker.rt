@@ -2,7 +2,7 @@
 
 ghost use Rattle.std.specs.Prelude.{◌≡◌, ◌⊎◌, ◌+◌, ◌*◌, ◌<◌, ◌≤◌, ◌^◌, ◌++◌, ℕ, List, Option, true, false, [], Err, length, IfOk, IfErr, OnOk};
 ghost use Rattle.std.specs.Io.KnownBytes.{Appends};
-ghost use Rattle.rr_io.specs.Counted.{inner_of, failures_of, HasRisen};
+ghost use Rattle.rr_io.specs.Counted.{inner_of, failures_of, is_flushed, HasRisen};
 ghost use Rattle.rr_io.specs.Stream.{AppendsPrefix};
 ghost use Rattle.rr_feed.specs.Feed.{items_left, empty_feed, MayCome};
 ghost use Rattle.rr_report.specs.declared.check.TheConstants.{PIECE};
@@ -131,6 +131,7 @@ impl Checker {
         ensures front { (pushed before : List ℕ) (start : Option (List ℕ))
             → HasReported self.old pushed before → Appends start (W.contents (inner_of output.old)) before
             → AppendsPrefix start (W.contents (inner_of output.new)) (report_of self.old.precision self.old.now pushed) }
+        ensures passed_on { OnOk result (is_flushed output.new ≡ true) }
         ensures count { failures_of output.old ≤ failures_of output.new }
         ensures failed { result ≡ Err ToolFault.WriteFailed → HasRisen (failures_of output.old) (failures_of output.new) }
         ensures faults { IfErr result (λ fault. (fault ≡ ToolFault.WriteFailed) ⊎ (fault ≡ ToolFault.Memory)) }

@@ -1,4 +1,4 @@
-use Rattle.std.proofs.Common.{◌≡◌, [], ◌++◌, false, take, List, ℕ, ap, ◌∙◌, arith, rules}
+use Rattle.std.proofs.Common.{◌≡◌, refl, [], ◌++◌, false, take, List, ℕ, ap, ◌∙◌, arith, rules}
 use Rattle.std.proofs.Math.Facts.{to_z-of_z}
 use Rattle.std.specs.Int.{w64}
 use Rattle.std.proofs.KnownBytes.{Consumes-nil, Consumes-trans, Appends-nil, Appends-trans}
@@ -69,6 +69,7 @@ loop-init g c = record {
   now = c.new-checker.ensures.now;
   pieces = omega (arith, c.new-checker.ensures.pieces);
   made = no_call _;
+  ends = refl;
   few = omega arith;
   in_count = omega arith;
   out_count = omega arith;
@@ -95,6 +96,7 @@ loop-preserved g c =
       now = more.1.now ∙ takes.now ∙ c.loop.invariant.now;
       pieces = omega (arith, more.1.pieces, takes.pieces, c.loop.invariant.pieces);
       made = HasRisenBy-more c.loop.counter _ _ _ c.loop.invariant.made c.in_ok-given.ensures.reads;
+      ends = search rules;
       few = one_more_at_most c.loop.counter _ _ _ c.loop.invariant.few c.in_ok-given.ensures.reads;
       in_count = omega (arith, c.loop.invariant.in_count, c.in_ok-given.ensures.count);
       out_count = omega (arith, c.loop.invariant.out_count, c.in_ok-write_items.ensures.count);

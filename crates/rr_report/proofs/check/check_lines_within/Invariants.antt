@@ -1,5 +1,5 @@
 use Rattle.std.proofs.Common.{◌≡◌, ◌+◌, ◌≤◌, false}
-use Rattle.rr_io.specs.Counted.{inner_of, failures_of, reads_of, HasRisenBy}
+use Rattle.rr_io.specs.Counted.{inner_of, failures_of, reads_of, ends_of, HasRisenBy}
 use Rattle.rr_report.proofs.StreamLemmas.{HasWritten}
 use Rattle.rr_report.proofs.check.check_lines_within.Given as goal
 
@@ -12,6 +12,7 @@ invariant-loop g l = record {
   now : l.checker.now ≡ l.fn.now;
   pieces : l.checker.pieces ≤ l.counter;
   made : HasRisenBy l.counter (reads_of l.initial.input) (reads_of l.input);
+  ends : ends_of l.input ≡ ends_of l.initial.input;
   few : reads_of l.input ≤ reads_of l.initial.input + l.counter;
   in_count : failures_of l.initial.input ≤ failures_of l.input;
   out_count : failures_of l.initial.output ≤ failures_of l.output;
