@@ -1,9 +1,7 @@
 mod contributions;
-mod fake_process;
 mod feeds;
 mod fetches;
 mod keys;
-mod process;
 mod pulls;
 mod records;
 mod replicas;

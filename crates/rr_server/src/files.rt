@@ -14,14 +14,16 @@ use std::rt::Files;
 
 /// A file that can't be read is named on standard error.
 fn unread(rt: &impl Eprint, file: &str, error: &std::io::Error) -> Ending {
-    // Where this can't be printed, the status still says that reading failed.
+    // If this can't be printed, the status still says that reading failed.
     let _printed = eprintln!(rt; "rr: {file}: {error}");
     Ending::Failed(ToolFault::ReadFailed)
 }
 
-/// The configuration in a file. The ending says why there is none; a file that can't be read is named on
-/// standard error.
-pub fn read_config(rt: &(impl AllocGlobal + Files + Eprint), file: &str) -> Result<Config, Ending> {
+/// The configuration in a file. The ending says why there is none.
+pub(crate) fn read_config(
+    rt: &(impl AllocGlobal + Files + Eprint),
+    file: &str,
+) -> Result<Config, Ending> {
     let text = match fs::read(rt, file) {
         Ok(text) => text,
         Err(error) => return Err(unread(rt, file, &error)),
@@ -56,9 +58,9 @@ fn load_replica(
     }
 }
 
-/// The replica that a node begins with: that of a snapshot in a file, or an empty one. The ending says why
-/// there is none; a file that can't be read is named on standard error.
-pub fn first_replica(
+/// The replica that a node begins with: that of a snapshot in a file, or an empty one if no file is named. The
+/// ending says why there is none.
+pub(crate) fn first_replica(
     rt: &(impl AllocGlobal + Files + Eprint),
     schema: &Schema,
     origin: Origin,

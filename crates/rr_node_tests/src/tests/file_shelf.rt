@@ -1,0 +1,36 @@
+//! Snapshots in a file.
+
+use rr_node::{FileShelf, Opening, Shelf};
+use std::fs;
+use std::io::Write;
+use std::rt::Files;
+use std::test::Fail;
+
+/// Hands a shelf back a writer to which a text was written, as whole or not.
+fn put_back(
+    rt: &(impl AllocGlobal + Files + Eprint),
+    file: &str,
+    text: &[u8],
+    whole: bool,
+) -> Option<()> {
+    let mut shelf = FileShelf::new(rt, rt.alloc(), Some(file)).ok()?;
+    match shelf.open() {
+        Opening::Writer(mut output) => {
+            let written = output.write_all(text);
+            shelf.take_back(output, whole);
+            written.ok()
+        }
+        Opening::Unwanted | Opening::Failed => None,
+    }
+}
+
+#[test]
+fn a_cut_snapshot_leaves_the_last_one(rt: HostRuntime) -> Result<(), Fail> {
+    let whole = put_back(&rt, "shelf.snapshot", b"whole", true);
+    let cut = put_back(&rt, "shelf.snapshot", b"cu", false);
+    let left = fs::read(&rt, "shelf.snapshot")?;
+    fs::remove_file(&rt, "shelf.snapshot")?;
+    fs::remove_file(&rt, "shelf.snapshot.new")?;
+    assert!(rt; (whole, cut, left.as_slice()) == (Some(()), Some(()), b"whole".as_slice()));
+    Ok(())
+}

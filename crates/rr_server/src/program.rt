@@ -1,0 +1,63 @@
+//! The order of a process's words, obeyed.
+
+use crate::server::Server;
+use rr_cluster::Simulator;
+use rr_process::{Ending, obey, read_order};
+use rr_words::Order;
+use std::env::Env;
+use std::net::{Net, TcpListener, TcpStream};
+use std::rt::Files;
+use std::sync::Wait;
+use std::thread::Threads;
+use std::time::Clock;
+
+/// The text of an argument that may be missing.
+fn lent(text: &Option<String>) -> Option<&str> {
+    match text {
+        Some(text) => Some(text.as_str()),
+        None => None,
+    }
+}
+
+/// Obeys the order of the process's own words, and says how that ended.
+///
+/// A node's configuration is read first, then the snapshot to begin with, then it listens on its addresses; the first
+/// fault ends it. A file that can't be read is named on standard error.
+pub fn run<R>(rt: &R) -> Ending
+where
+    R: AllocGlobal
+        + Env
+        + Files
+        + Input
+        + Print
+        + Eprint
+        + Net<Listener = TcpListener, Stream = TcpStream>
+        + Clock
+        + Threads
+        + Wait
+        + Sync,
+{
+    let order = match read_order(rt) {
+        Ok(order) => order,
+        Err(fault) => return Ending::from(fault),
+    };
+    let Order::Serve {
+        config,
+        origin,
+        load,
+        save,
+    } = &order
+    else {
+        return match obey(rt, &Simulator, &order) {
+            Ok(ending) => ending,
+            Err(fault) => Ending::Failed(fault),
+        };
+    };
+    let served = match Server::new(rt, config.as_str(), lent(save)) {
+        Ok(server) => server.serve(*origin, lent(load)),
+        Err(ending) => Err(ending),
+    };
+    match served {
+        Ok(ending) | Err(ending) => ending,
+    }
+}
