@@ -1,3 +1,4 @@
+mod archives;
 mod contributions;
 mod feeds;
 mod fetches;

@@ -68,3 +68,10 @@ fn a_schema_has_what_it_was_made_of(rt: HostRuntime) -> Result<(), Fail> {
     );
     Ok(())
 }
+
+#[test]
+fn a_schema_has_bytes(rt: HostRuntime) -> Result<(), Fail> {
+    let bytes = Schema::new(rt.alloc(), 60, &[MINUTE])?.bytes(rt.alloc())?;
+    assert!(rt; bytes.as_slice() == [0, 0, 0, 0x3c, 1, 1, 0, 0, 0, 3, 0, 0, 0, 1].as_slice());
+    Ok(())
+}
