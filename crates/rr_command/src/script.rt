@@ -24,7 +24,7 @@ pub fn run_script<S: RunScript, R: Read, W: Write>(
 ) -> Result<(), ToolFault>
     ensures done { OnOk result (IfSome (R.remaining (inner_of input.old))
         (λ script. Appends (W.contents (inner_of output.old)) (W.contents (inner_of output.new)) (S.output script))) }
-    ensures passed_on { OnOk result (is_flushed output.new ≡ true) }
+    ensures flushed { OnOk result (is_flushed output.new ≡ true) }
 
     // What is written after a fault.
     ensures unwritten { IfErr result (λ fault. fault ≢ ToolFault.WriteFailed → output.new ≡ output.old) }

@@ -30,7 +30,7 @@ pub fn read_script<R: Read>(alloc: Global, input: &mut Counted<R>) -> Result<Vec
 /// Writes the text whole, and has the writer pass on what it holds back of it.
 pub fn write_text<W: Write>(output: &mut Counted<W>, text: &[u8]) -> Result<(), ToolFault>
     ensures whole { OnOk result (Appends (W.contents (inner_of output.old)) (W.contents (inner_of output.new)) text.now) }
-    ensures passed_on { OnOk result (is_flushed output.new ≡ true) }
+    ensures flushed { OnOk result (is_flushed output.new ≡ true) }
     ensures front { AppendsPrefix (W.contents (inner_of output.old)) (W.contents (inner_of output.new)) text.now }
     ensures failed { IfErr result (λ fault. fault ≡ ToolFault.WriteFailed) }
     ensures write_failed { result ≡ Err ToolFault.WriteFailed → HasRisen (failures_of output.old) (failures_of output.new) }

@@ -41,7 +41,7 @@ pub fn check_lines<R: Read, W: Write>(
         (λ bytes. Appends (W.contents (inner_of output.old)) (W.contents (inner_of output.new)) (report_of precision now bytes))) }
     ensures refused { IfOk result (λ refused. IfSome (R.remaining (inner_of input.old))
         (λ bytes. refused ≡ refused_count precision bytes)) }
-    ensures passed_on { OnOk result (is_flushed output.new ≡ true) }
+    ensures flushed { OnOk result (is_flushed output.new ≡ true) }
 
     // What is written however the call ends.
     ensures front { IfSome (R.remaining (inner_of input.old))
@@ -75,7 +75,7 @@ pub fn check_lines_within<R: Read, W: Write>(
         (λ bytes. Appends (W.contents (inner_of output.old)) (W.contents (inner_of output.new)) (report_of precision now bytes))) }
     ensures refused { IfOk result (λ refused. IfSome (R.remaining (inner_of input.old))
         (λ bytes. refused ≡ refused_count precision bytes)) }
-    ensures passed_on { OnOk result (is_flushed output.new ≡ true) }
+    ensures flushed { OnOk result (is_flushed output.new ≡ true) }
 
     // What is written however the call ends.
     ensures front { IfSome (R.remaining (inner_of input.old))

@@ -131,7 +131,7 @@ impl Checker {
         ensures front { (pushed before : List ℕ) (start : Option (List ℕ))
             → HasReported self.old pushed before → Appends start (W.contents (inner_of output.old)) before
             → AppendsPrefix start (W.contents (inner_of output.new)) (report_of self.old.precision self.old.now pushed) }
-        ensures passed_on { OnOk result (is_flushed output.new ≡ true) }
+        ensures flushed { OnOk result (is_flushed output.new ≡ true) }
         ensures count { failures_of output.old ≤ failures_of output.new }
         ensures failed { result ≡ Err ToolFault.WriteFailed → HasRisen (failures_of output.old) (failures_of output.new) }
         ensures faults { IfErr result (λ fault. (fault ≡ ToolFault.WriteFailed) ⊎ (fault ≡ ToolFault.Memory)) }
