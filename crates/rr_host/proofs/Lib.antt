@@ -1,3 +1,4 @@
 pub mod ClockLemmas
 pub mod CallsLemmas
 pub mod VisitsLemmas
+pub mod PeersLemmas

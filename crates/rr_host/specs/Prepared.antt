@@ -1,18 +1,41 @@
--- The calls of prepared connections.
-use Rattle.std.specs.Prelude.{List, [], map, Option, None, Some, if◌then◌else◌}
-use Rattle.rr_io.specs.Counted.{inner_of}
+-- Connections over memory, and their calls.
+use Rattle.std.specs.Prelude.{ℕ, ◌+◌, ◌*◌, ◌-◌, ◌^◌, nat_lt, min, List, [], length, slice_get, Option, None, Some, if◌then◌else◌}
 use Rattle.rr_host.specs.declared.prepared.Entry.{Entry}
 use Rattle.rr_host.specs.declared.prepared.Entry.TheVariants as entry
-use Rattle.rr_host.specs.declared.prepared.Prepared.{Prepared}
+use Rattle.rr_host.specs.Log.{Log}
+use Rattle.rr_host.specs.Streams.{new_stream, stream_of}
 use Rattle.rr_host.specs.Visits.{Call, Gave, Failed, Over, TookBack}
+
+-- connections that are prepared: the bytes that each brings, or none for one that fails; which comes next; and the calls
+pub record PreparedState : Type 0 where
+  pub inputs : List (Option (List ℕ))
+  pub place : ℕ
+  pub log : Log Call
+
+-- before the first call: there is room for those of each connection and one more
+abbrev pub at_start : List (Option (List ℕ)) → PreparedState
+at_start inputs = record {
+  inputs = inputs;
+  place = 0;
+  log = record { calls = Some []; room = min (length inputs * 2 + 1) (2 ^ 64 - 1) };
+}
+
+-- the call that gives the connection at a place
+abbrev pub giving : Option (Option (List ℕ)) → Call
+giving (Some (Some bytes)) = Gave (new_stream bytes)
+giving (Some None) = Failed
+giving None = Over
+
+abbrev pub next_call : PreparedState → Call
+next_call p = giving (slice_get p.inputs p.place)
+
+-- the place after that
+abbrev pub next_place : PreparedState → ℕ
+next_place p = if nat_lt p.place (length p.inputs) then p.place + 1 else p.place
 
 -- a call that was noted
 abbrev pub noted_call : Entry → Call
-noted_call (entry.Gave input) = Gave (Some input.now) (Some [])
+noted_call (entry.Gave input) = Gave (new_stream input.now)
 noted_call entry.Failed = Failed
 noted_call entry.Over = Over
-noted_call (entry.TookBack input output) = TookBack (Some (inner_of input).now) (Some (inner_of output).items)
-
--- the calls, as long as each could be noted
-abbrev pub calls_of : Prepared → Option (List Call)
-calls_of p = if p.is_full then None else Some (map noted_call p.calls.items)
+noted_call (entry.TookBack input output) = TookBack (stream_of (λ r. Some r.now) (λ w. Some w.items) input output)

@@ -42,7 +42,8 @@ impl<'a, R: Net<Stream = TcpStream>> Calling<'a, R> {
 
 impl<R: Net<Stream = TcpStream>> Dial for Calling<'_, R> {
     ghost use Rattle.std.specs.Prelude.{[], ◌∷◌, None};
-    ghost use Rattle.rr_host.specs.Calls.{Grows, handed_back, stream};
+    ghost use Rattle.rr_host.specs.Calls.{Grows, handed_back};
+    ghost use Rattle.rr_host.specs.Streams.{stream_of};
 
     type Input = Half;
 
@@ -58,7 +59,7 @@ impl<R: Net<Stream = TcpStream>> Dial for Calling<'_, R> {
     }
 
     fn take_back(&mut self, input: Counted<Half>, output: Counted<Half>)
-        ensures { Grows None None (handed_back (stream None None) ∷ []) }
+        ensures { Grows None None (handed_back (stream_of (λ _. None) (λ _. None) input output) ∷ []) }
     {
         drop(input);
         drop(output);

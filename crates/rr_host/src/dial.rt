@@ -10,8 +10,8 @@ use std::io::{Read, Write};
 /// It is seen as the list of its calls, where that is known.
 pub trait Dial {
     ghost use Rattle.std.specs.Prelude.{List, [], ◌∷◌, Option};
-    ghost use Rattle.rr_io.specs.Counted.{inner_of};
-    ghost use Rattle.rr_host.specs.Calls.{DialCall, Grows, handed_back, reached, stream, unreached};
+    ghost use Rattle.rr_host.specs.Calls.{DialCall, Grows, handed_back, reached, unreached};
+    ghost use Rattle.rr_host.specs.Streams.{stream_of};
 
     /// What peers send.
     type Input: Read;
@@ -24,11 +24,11 @@ pub trait Dial {
     /// A stream to the peer at an address; none where it can't be reached.
     fn open(&mut self, address: &str) -> Option<(Counted<Self::Input>, Counted<Self::Output>)>
         ensures reached { IfSome result (λ s. Grows (calls self.old) (calls self.new)
-            (reached address.now (stream (Self.Input.remaining (inner_of s.0)) (Self.Output.contents (inner_of s.1))) ∷ [])) }
+            (reached address.now (stream_of Self.Input.remaining Self.Output.contents s.0 s.1) ∷ [])) }
         ensures unreached { result ≡ None → Grows (calls self.old) (calls self.new) (unreached address.now ∷ []) };
 
     /// Takes back a stream that is done with.
     fn take_back(&mut self, input: Counted<Self::Input>, output: Counted<Self::Output>)
         ensures { Grows (calls self.old) (calls self.new)
-            (handed_back (stream (Self.Input.remaining (inner_of input)) (Self.Output.contents (inner_of output))) ∷ []) };
+            (handed_back (stream_of Self.Input.remaining Self.Output.contents input output) ∷ []) };
 }

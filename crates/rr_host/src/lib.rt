@@ -1,25 +1,28 @@
 //! What a node asks of its host: the time, and connections.
 //!
 //! Each stands behind a small trait, which is seen as the list of its calls. [`Visits`] gives the
-//! connections that come, over TCP ([`Listening`]) or over memory ([`Prepared`]); a [`Dial`] reaches peers
-//! ([`Calling`]); a [`Clock`] gives moments, the system's ([`SystemClock`]) or those of a list
-//! ([`Moments`]).
+//! connections that come, over TCP ([`Listening`]) or over memory ([`Prepared`]); a [`Dial`] reaches peers,
+//! over TCP ([`Calling`]) or over memory ([`PreparedDial`]); a [`Clock`] gives moments, the system's
+//! ([`SystemClock`]) or those of a list ([`Moments`]).
 //!
 //! ```text
-//! Listening, Prepared ── next ──> Visit: an input and an output ── take_back ──> closed, or kept
-//! Calling ────────────── open ──> an input and an output ───────── take_back ──> closed
-//! SystemClock, Moments ─ now ───> a moment
+//! Listening, Prepared ─── next ──> Visit: an input and an output ── take_back ──> closed, or kept
+//! Calling, PreparedDial ─ open ──> an input and an output ───────── take_back ──> closed, or kept
+//! SystemClock, Moments ── now ───> a moment
 //! ```
 //!
-//! In `specs/` the calls of each are values (`Visits.antt`, `Calls.antt`, `Clock.antt`). Over memory they
-//! are known, as long as there is memory to note them; of sockets and of the system's clock nothing is
-//! known.
+//! In `specs/` the calls of each are values (`Visits.antt`, `Calls.antt`, `Clock.antt`). A stream is told with
+//! its bytes, where they are known, and with how often it was read and how many of its calls failed
+//! (`Streams.antt`). Over memory the calls are known, as long as there is memory to note them
+//! ([`CallLog`]); of sockets and of the system's clock nothing is known.
 #![tactic(auto)]
 
 mod calling;
 mod clock;
 mod dial;
 mod listening;
+mod log;
+mod peers;
 mod prepared;
 mod visits;
 
@@ -27,5 +30,7 @@ pub use calling::Calling;
 pub use clock::{Clock, Moments, SystemClock};
 pub use dial::Dial;
 pub use listening::{Half, Listening, halves};
+pub use log::CallLog;
+pub use peers::{PreparedDial, PreparedPeer};
 pub use prepared::Prepared;
 pub use visits::{Visit, Visits};

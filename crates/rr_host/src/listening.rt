@@ -92,6 +92,7 @@ impl Listening {
 
 impl Visits for Listening {
     ghost use Rattle.std.specs.Prelude.{[], ◌∷◌, None};
+    ghost use Rattle.rr_host.specs.Streams.{stream_of};
     ghost use Rattle.rr_host.specs.Visits.{HasCalled, TookBack};
 
     type Input = Half;
@@ -108,7 +109,7 @@ impl Visits for Listening {
     }
 
     fn take_back(&mut self, input: Counted<Half>, output: Counted<Half>)
-        ensures { HasCalled None None (TookBack None None ∷ []) }
+        ensures { HasCalled None None (TookBack (stream_of (λ _. None) (λ _. None) input output) ∷ []) }
     {
         drop(input);
         drop(output);

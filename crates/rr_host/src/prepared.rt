@@ -1,12 +1,14 @@
 //! Connections over memory.
 
-ghost use Rattle.std.specs.Prelude.{[], ◌∷◌};
-ghost use Rattle.rr_host.specs.Prepared.{calls_of, noted_call};
-ghost use Rattle.rr_host.specs.Visits.{HasCalled};
+ghost use Rattle.std.specs.Prelude.{◌≡◌, IfOk, map, option_map};
+ghost use Rattle.rr_host.specs.Log.{HasNoted};
+ghost use Rattle.rr_host.specs.Prepared.{at_start, noted_call};
 
+use crate::log::CallLog;
 use crate::visits::{Visit, Visits};
 use rr_io::Counted;
 use std::alloc::{AllocError, Global};
+use std::marker::Model;
 
 /// What a call of prepared connections was.
 #[derive(Drop)]
@@ -30,30 +32,42 @@ pub(crate) enum Entry<'a> {
 pub struct Prepared<'a> {
     alloc: Global,
     inputs: &'a [Option<&'a [u8]>],
-    /// How many were given.
-    given: usize,
-    calls: Vec<Entry<'a>>,
-    /// Whether a call could not be noted.
-    is_full: bool,
+    /// Which of them comes next.
+    place: usize,
+    log: CallLog<Entry<'a>>,
+}
+
+impl<'a> Model for Prepared<'a> {
+    ghost use Rattle.std.specs.Prelude.{map, option_map};
+    ghost use Rattle.rr_host.specs.Log.{map_log};
+    ghost use Rattle.rr_host.specs.Prepared.{PreparedState, noted_call};
+
+    ghost Value = { PreparedState };
+
+    ghost view = { λ p. record {
+      inputs = map (option_map (λ bytes. bytes.now)) p.inputs.now;
+      place = p.place;
+      log = map_log noted_call p.log;
+    } };
 }
 
 impl<'a> Prepared<'a> {
     /// Connections of these inputs, in order.
-    pub fn new(alloc: Global, inputs: &'a [Option<&'a [u8]>]) -> Result<Prepared<'a>, AllocError> {
+    pub fn new(alloc: Global, inputs: &'a [Option<&'a [u8]>]) -> Result<Prepared<'a>, AllocError>
+        ensures { IfOk result (λ p. p ≡ at_start (map (option_map (λ bytes. bytes.now)) inputs.now)) }
+    {
         let room = inputs.len().saturating_mul(2).saturating_add(1);
         Ok(Prepared {
             alloc,
             inputs,
-            given: 0,
-            calls: Vec::with_capacity(alloc, room)?,
-            is_full: false,
+            place: 0,
+            log: CallLog::new(alloc, room)?,
         })
     }
 
     /// What was written to the connection that was handed back last, if that was the last call.
     pub fn into_last(self) -> Option<Vec<u8>> {
-        let mut calls = self.calls;
-        match calls.pop()? {
+        match self.log.into_last()? {
             Entry::TookBack(_, output) => Some(output.into_inner()),
             _ => None,
         }
@@ -61,48 +75,55 @@ impl<'a> Prepared<'a> {
 
     /// Notes a call.
     fn note(&mut self, call: Entry<'a>)
-        ensures { HasCalled (calls_of self.old) (calls_of self.new) (noted_call call.entry ∷ []) }
+        ensures noted { HasNoted (noted_call call.entry) self.old.log self.new.log }
+        ensures inputs { self.new.inputs ≡ self.old.inputs }
+        ensures place { self.new.place ≡ self.old.place }
     {
-        if self.calls.push(call).is_err() {
-            self.is_full = true;
-        }
+        self.log.note(call);
     }
 }
 
 impl<'a> Visits for Prepared<'a> {
-    ghost use Rattle.std.specs.Prelude.{[], ◌∷◌, Some};
-    ghost use Rattle.rr_io.specs.Counted.{inner_of};
-    ghost use Rattle.rr_host.specs.Prepared.{calls_of};
-    ghost use Rattle.rr_host.specs.Visits.{HasCalled, TookBack};
+    ghost use Rattle.std.specs.Prelude.{◌≡◌, [], ◌∷◌, Some};
+    ghost use Rattle.rr_host.specs.Log.{HasNoted};
+    ghost use Rattle.rr_host.specs.Prepared.{next_call, next_place};
+    ghost use Rattle.rr_host.specs.Streams.{stream_of};
+    ghost use Rattle.rr_host.specs.Visits.{HasCalled, TookBack, call_of};
 
     type Input = &'a [u8];
 
     type Output = Vec<u8>;
 
-    ghost calls = { calls_of };
+    ghost calls = { λ p. p.log.calls };
 
-    fn next(&mut self) -> Visit<&'a [u8], Vec<u8>> {
-        let next = self.inputs.get(self.given).copied();
-        self.given = self.given.saturating_add(1);
-        match next {
-            Some(Some(input)) => {
-                self.note(Entry::Gave(input));
-                Visit::Stream(Counted::new(input), Counted::new(Vec::new(self.alloc)))
-            }
-            Some(None) => {
-                self.note(Entry::Failed);
-                Visit::Failed
-            }
-            None => {
-                self.note(Entry::Over);
-                Visit::Over
-            }
-        }
+    fn next(&mut self) -> Visit<&'a [u8], Vec<u8>>
+        ensures called { HasCalled self.old.log.calls self.new.log.calls
+            (call_of (λ r. Some r.now) (λ w. Some w.items) result ∷ []) }
+        ensures given { call_of (λ r. Some r.now) (λ w. Some w.items) result ≡ next_call self.old }
+        ensures noted { HasNoted (next_call self.old) self.old.log self.new.log }
+        ensures inputs { self.new.inputs ≡ self.old.inputs }
+        ensures place { self.new.place ≡ next_place self.old }
+    {
+        let Some(input) = self.inputs.get(self.place).copied() else {
+            self.note(Entry::Over);
+            return Visit::Over;
+        };
+        self.place += 1;
+        let Some(bytes) = input else {
+            self.note(Entry::Failed);
+            return Visit::Failed;
+        };
+        self.note(Entry::Gave(bytes));
+        Visit::Stream(Counted::new(bytes), Counted::new(Vec::new(self.alloc)))
     }
 
     fn take_back(&mut self, input: Counted<&'a [u8]>, output: Counted<Vec<u8>>)
-        ensures { HasCalled (calls_of self.old) (calls_of self.new)
-            (TookBack (Some (inner_of input.entry).now) (Some (inner_of output).items) ∷ []) }
+        ensures called { HasCalled self.old.log.calls self.new.log.calls
+            (TookBack (stream_of (λ r. Some r.now) (λ w. Some w.items) input.entry output) ∷ []) }
+        ensures noted { HasNoted (TookBack (stream_of (λ r. Some r.now) (λ w. Some w.items) input.entry output))
+            self.old.log self.new.log }
+        ensures inputs { self.new.inputs ≡ self.old.inputs }
+        ensures place { self.new.place ≡ self.old.place }
     {
         self.note(Entry::TookBack(input, output));
     }

@@ -18,7 +18,7 @@ pub enum Visit<R, W> {
 /// It is seen as the list of its calls, where that is known.
 pub trait Visits {
     ghost use Rattle.std.specs.Prelude.{[], ◌∷◌, List, Option};
-    ghost use Rattle.rr_io.specs.Counted.{inner_of};
+    ghost use Rattle.rr_host.specs.Streams.{stream_of};
     ghost use Rattle.rr_host.specs.Visits.{Call, HasCalled, TookBack, call_of};
 
     /// What a connection's bytes come from.
@@ -37,5 +37,5 @@ pub trait Visits {
     /// Takes back a connection that was given.
     fn take_back(&mut self, input: Counted<Self::Input>, output: Counted<Self::Output>)
         ensures { HasCalled (calls self.old) (calls self.new)
-            (TookBack (Self.Input.remaining (inner_of input)) (Self.Output.contents (inner_of output)) ∷ []) };
+            (TookBack (stream_of Self.Input.remaining Self.Output.contents input output) ∷ []) };
 }
