@@ -1,2 +1,3 @@
+pub mod GateLemmas
 pub mod PointsLemmas
 pub mod HistoriesLemmas

@@ -1,5 +1,6 @@
 pub mod Standing
 pub mod Points
 pub mod Fault
+pub mod Gate
 pub mod Histories
 pub mod Laws

@@ -1,6 +1,6 @@
 //! Gates, which a reader asks while it holds its copy.
 
-/// What a gate was asked last.
+/// A call of a gate.
 #[derive(Clone, Copy, Debug, PartialEq, Eq)]
 pub enum GateCall {
     /// Whether an answer may be made; it answered so.
@@ -11,20 +11,21 @@ pub enum GateCall {
 
 /// Whoever decides whether an answer is made.
 ///
-/// It is seen as the last call that it had.
+/// It is seen as the list of its calls, where that is known.
 pub trait Gate {
-    ghost use Rattle.std.specs.Prelude.{◌≡◌, true, Option, Some};
+    ghost use Rattle.std.specs.Prelude.{true, List, [], ◌∷◌, Option};
+    ghost use Rattle.rr_desk.specs.Gate.{WasAsked, WasAskedLast};
     ghost use Rattle.rr_desk.specs.declared.gate.GateCall.{GateCall};
     ghost use Rattle.rr_desk.specs.declared.gate.GateCall.TheVariants.{After, Before};
 
-    ghost last: { Self → Option GateCall };
+    ghost calls: { Self → Option (List GateCall) };
 
     /// Called while the reader holds its copy: whether the answer may be made.
     fn before(&mut self) -> bool
-        ensures { last self.new ≡ Some (Before result) };
+        ensures { WasAsked (calls self.old) (calls self.new) (Before result ∷ []) };
 
     /// Called when the answer is made, which it is only where `before` answered true.
     fn after(&mut self)
-        requires { last self.old ≡ Some (Before true) }
-        ensures { last self.new ≡ Some After };
+        requires { WasAskedLast (calls self.old) (Before true) }
+        ensures { WasAsked (calls self.old) (calls self.new) (After ∷ []) };
 }

@@ -1,5 +1,5 @@
 //! The readers of a desk, which never wait.
-ghost use Rattle.std.specs.Prelude.{◌≡◌, All, Some, false, IfOk, IsTrue, MatchResult, map};
+ghost use Rattle.std.specs.Prelude.{◌≡◌, All, IfOk, IsTrue, map};
 ghost use Rattle.std.specs.FinMap.{entries, is_sorted};
 ghost use mathlib.Core.List.{IsPrefix};
 ghost use Rattle.rr_schema.specs.Schema.{IsLayout};
@@ -11,11 +11,10 @@ ghost use Rattle.rr_delta.specs.Difference.{IsSummary, newer_cells};
 ghost use Rattle.rr_fetch.specs.Answers.{cells_text};
 ghost use Rattle.rr_request.specs.Requests.{request_view, IsFetchable};
 ghost use Rattle.rr_desk.specs.Standing.{cells_seen, HasSeenMore};
-ghost use Rattle.rr_desk.specs.declared.fault.FetchFault.TheVariants.{GateShut};
-ghost use Rattle.rr_desk.specs.declared.gate.GateCall.TheVariants.{After, Before};
+ghost use Rattle.rr_desk.specs.Gate.{LetsPass};
 
 use crate::fault::FetchFault;
-use crate::gate::{Gate, GateCall};
+use crate::gate::Gate;
 use crate::note::Note;
 use crate::reading::{answer, lacking};
 use rr_archive::Archive;
@@ -53,21 +52,18 @@ impl<A: Archive> Model for Reader<A> {
 
 /// A gate that is always open.
 #[derive(Drop)]
-struct Open {
-    last: Option<GateCall>,
-}
+struct Open;
 
 impl Gate for Open {
-    ghost last = { λ g. g.last };
+    ghost use Rattle.std.specs.Prelude.{None};
+
+    ghost calls = { λ _. None };
 
     fn before(&mut self) -> bool {
-        self.last = Some(GateCall::Before(true));
         true
     }
 
-    fn after(&mut self) {
-        self.last = Some(GateCall::After);
-    }
+    fn after(&mut self) {}
 }
 
 impl<A: Archive> Reader<A> {
@@ -104,7 +100,7 @@ impl<A: Archive> Reader<A> {
         ensures answer { IfOk result (λ text. text.items
             ≡ cells_text self.new.schema (cells_seen self.new) (request_view request.now)) }
     {
-        let mut gate = Open { last: None };
+        let mut gate = Open;
         match self.fetch_through(alloc, request, &mut gate) {
             Ok(text) => Ok(text),
             Err(_) => Err(AllocError),
@@ -123,9 +119,7 @@ impl<A: Archive> Reader<A> {
         ensures seen { HasSeenMore self.old self.new }
         ensures answer { IfOk result (λ text. text.items
             ≡ cells_text self.new.schema (cells_seen self.new) (request_view request.now)) }
-        ensures gate { MatchResult result
-            (λ _. G.last gate.new ≡ Some After)
-            (λ fault. fault ≡ GateShut → G.last gate.new ≡ Some (Before false)) }
+        ensures gate { LetsPass result (G.calls gate.old) (G.calls gate.new) }
     {
         let Some(seat) = self.seat.take() else {
             unreachable!();

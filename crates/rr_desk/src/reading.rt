@@ -1,5 +1,5 @@
 //! What readers make of the copies, each under the rule.
-ghost use Rattle.std.specs.Prelude.{◌≡◌, true, false, All, Some, IfOk, IsTrue, MatchResult, map};
+ghost use Rattle.std.specs.Prelude.{◌≡◌, true, All, IfOk, IsTrue, map};
 ghost use Rattle.std.specs.FinMap.{entries, is_sorted};
 ghost use Rattle.left_right.specs.Sides.{view};
 ghost use Rattle.rr_model.specs.CellNames.{cell_name_cmp};
@@ -11,8 +11,7 @@ ghost use Rattle.rr_delta.specs.Difference.{IsSummary, newer_cells};
 ghost use Rattle.rr_fetch.specs.Answers.{cells_text};
 ghost use Rattle.rr_request.specs.Requests.{request_view, IsFetchable};
 ghost use Rattle.rr_copies.specs.Rule.{Saw};
-ghost use Rattle.rr_desk.specs.declared.fault.FetchFault.TheVariants.{GateShut};
-ghost use Rattle.rr_desk.specs.declared.gate.GateCall.TheVariants.{After, Before};
+ghost use Rattle.rr_desk.specs.Gate.{LetsPass};
 
 use crate::fault::FetchFault;
 use crate::gate::Gate;
@@ -35,9 +34,7 @@ pub fn answer<A: Archive, G: Gate>(
     ensures seen { Saw (view seat.place) (view result.0.place) }
     ensures answer { IfOk result.1 (λ text. text.items ≡ cells_text (view seat.place).schema
         (outcome_of (view seat.place).schema (view result.0.place).seen) (request_view request.now)) }
-    ensures gate { MatchResult result.1
-        (λ _. G.last gate.new ≡ Some After)
-        (λ fault. fault ≡ GateShut → G.last gate.new ≡ Some (Before false)) }
+    ensures gate { LetsPass result.1 (G.calls gate.old) (G.calls gate.new) }
 {
     let reading = match seat.enter_as::<Enters>() {
         Ok(reading) => reading,
