@@ -1,3 +1,4 @@
+pub mod BlameLemmas
 pub mod PeersLemmas
 pub mod FetchesLemmas
 pub mod ServingLemmas
@@ -7,6 +8,7 @@ pub mod RefusalLemmas
 pub mod ConnectionLemmas
 pub mod StreamLemmas
 pub mod LinesLemmas
+pub mod EndsLemmas
 pub mod SeatsLemmas
 pub mod RoundsLemmas
 pub mod PullsLemmas

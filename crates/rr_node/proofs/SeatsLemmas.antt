@@ -1,21 +1,31 @@
 -- Visits that are served one after the other.
-use Rattle.std.proofs.Common.{ℕ, zero, suc, ◌+◌, ◌<◌, false, List, [], ◌∷◌, ◌++◌, Option, Some, None, Result, Ok, Err, refl, sym, ap, subst, ◌∙◌, append_assoc, add-one, inr}
+use Rattle.std.proofs.Common.{◌≡◌, ℕ, zero, suc, ◌+◌, ◌<◌, false, List, [], ◌∷◌, ◌++◌, Option, Some, None, Result, Ok, Err, refl, sym, ap, subst, ◌∙◌, append_assoc, add-one, inr}
 use Rattle.std.proofs.lemmas.List.{append-nil}
+use Rattle.std.specs.Prelude.{IfErr}
 use Rattle.rr_node.specs.declared.fault.NodeFault.{NodeFault}
+use Rattle.rr_node.specs.declared.fault.NodeFault.TheVariants.{Memory, Session}
+use Rattle.rr_node.specs.Fault.{IsOfReader}
 use Rattle.rr_node.specs.Fetches.{Sight, IsServed}
 use Rattle.rr_node.specs.Seats.{AreVisits, HasServedSeat, HasVisited, IsStreamServed, IsVisit}
+use Rattle.rr_node.proofs.BlameLemmas.{LinesTell, SessionTells, blamed}
 use Rattle.rr_host.proofs.VisitsLemmas.{called_more}
+use Rattle.rr_host.specs.Streams.{Stream}
 use Rattle.rr_host.specs.Visits.{Call, Gave, HasCalled, TookBack}
 
 -- a connection that was given and handed back
-pub stream_served : (result : Result (Unit {0}) NodeFault) (a b c : Option (List Call)) (had left before after : Option (List ℕ)) (old new : Sight)
-    → HasCalled a b (Gave had before ∷ []) → HasCalled b c (TookBack left after ∷ []) → IsServed result had left before after old new
+pub stream_served : (result : Result (Unit {0}) NodeFault) (a b c : Option (List Call)) (before after : Stream) (old new : Sight)
+    → HasCalled a b (Gave before ∷ []) → HasCalled b c (TookBack after ∷ []) → IsServed result before.input.left after.input.left before.output.written after.output.written old new
+    → IfErr result IsOfReader → LinesTell result before after → SessionTells result Session before after
     → (calls : List Call) × HasCalled a c calls × IsStreamServed result calls old new
-stream_served result a b c had left before after old new gave took served = (
-  Gave had before ∷ TookBack left after ∷ [],
-  called_more a b c (Gave had before ∷ []) (TookBack left after ∷ []) gave took,
-  record { had = had; left = left; before = before; after = after; made = refl; served = served },
+stream_served result a b c before after old new gave took served faults lines given = (
+  Gave before ∷ TookBack after ∷ [],
+  called_more a b c (Gave before ∷ []) (TookBack after ∷ []) gave took,
+  record { before = before; after = after; made = refl; served = served; faults = faults; blamed = blamed result before after lines given },
 )
+
+-- memory ran out in it
+pub served_out : (result : Result (Unit {0}) NodeFault) (calls : List Call) (old new : Sight) → result ≡ Err Memory → IsStreamServed result calls old new → IsStreamServed (Err Memory) calls old new
+served_out result calls old new out served = subst (λ (r : Result (Unit {0}) NodeFault). IsStreamServed r calls old new) out served
 
 -- one visit more
 visits_suc : (n : ℕ) (xs ys : List Call) (a b c : Sight) → AreVisits n xs a b → IsVisit ys b c → AreVisits (suc n) (xs ++ ys) a c

@@ -10,7 +10,7 @@ use Rattle.rr_gossip.specs.declared.frame.TheConstants.{MAX_FRAMES}
 use Rattle.rr_gossip.specs.Session.{HasGiven}
 use Rattle.rr_node.specs.declared.fault.NodeFault.{NodeFault}
 use Rattle.rr_node.specs.declared.fault.NodeFault.TheVariants.{ReadFailed, Session, TooManyReads}
-use Rattle.rr_node.specs.Fault.{of_session_fault}
+use Rattle.rr_node.specs.Fault.{IsOfLines, of_session_fault}
 use Rattle.rr_node.specs.Fetches.{Sight, HasAnswered, HasAnsweredSome, HasFailedSession, HasNotGiven, IsServed, is_pull}
 use Rattle.rr_node.proofs.FetchesLemmas.{seen_same}
 use Rattle.rr_node.proofs.ServingLemmas.{none_answered}
@@ -70,6 +70,7 @@ served_nothing {X} x had left out at consumed end = record {
   answered = ok_known (Ok x) had (λ bytes. is_pull bytes ≡ false → HasAnswered bytes at at out out)
       (λ y bytes e is pull. subst (λ bs. HasAnswered bs at at out out) (sym (empty had left bytes consumed end is)) (record { text = []; answered = (refl, refl); written = Appends-nil out }));
   front = tt;
+  faults = tt;
   given = ok_known (Ok x) had (λ bytes. is_pull bytes ≡ true → HasGiven MAX_FRAMES at.reader.schema (cells_seen at.reader) (0 ∷ []) (Some (drop 1 bytes)) left out out)
       (λ y bytes e is pull. let none : is_pull bytes ≡ false = ap is_pull (empty had left bytes consumed end is) in absurd cc);
   stopped = tt;
@@ -80,12 +81,17 @@ served_nothing {X} x had left out at consumed end = record {
     empty (Some xs) None bytes consumed end e = absurd consumed
     empty (Some xs) (Some ys) bytes consumed end e = cc
 
+of_first : (fault : NodeFault) → (fault ≡ ReadFailed) ⊎ (fault ≡ TooManyReads) → IsOfLines fault
+of_first fault (inl e) = inl e
+of_first fault (inr e) = inr (inr (inl e))
+
 -- the first byte was not read
 pub served_unread : {X : Type 0} (fault : NodeFault) (had left out : Option (List ℕ)) (at : Sight) → (fault ≡ ReadFailed) ⊎ (fault ≡ TooManyReads) → IsServed {X = X} (Err fault) had left out out at at
 served_unread {X} fault had left out at why = record {
   seen = seen_same at.reader;
   answered = tt;
   front = err_known {X = X} (Err fault) had (λ bytes. is_pull bytes ≡ false → HasAnsweredSome bytes at at.reader out out) (λ f bytes e is pull. none_answered bytes at out);
+  faults = fault_known {X = X} (Err fault) had (λ f bytes. is_pull bytes ≡ false → IsOfLines f) (λ f bytes e is pull. let same : fault ≡ f = cc in subst IsOfLines same (of_first fault why));
   given = tt;
   stopped = fault_known {X = X} (Err fault) had (λ f bytes. is_pull bytes ≡ true → HasNotGiven f at.reader.schema (cells_seen at.reader) bytes left out out)
       (λ f bytes e is pull. let same : fault ≡ f = cc in inl (subst (λ (n : NodeFault). (n ≡ ReadFailed) ⊎ (n ≡ TooManyReads)) same why, refl));
@@ -94,8 +100,9 @@ served_unread {X} fault had left out at why = record {
 -- lines were answered
 pub served_lines : {X : Type 0} (result : Result X NodeFault) (had mid left before after : Option (List ℕ)) (old new : Sight) (first : ℕ) → Consumes had mid (first ∷ []) → (first == 0) ≡ false
     → OnOk result (IfSome mid (λ rest. HasAnswered (first ∷ rest) old new before after)) → OnErr result (IfSome mid (λ rest. HasAnsweredSome (first ∷ rest) old new.reader before after)) → HasSeenMore old.reader new.reader
-    → IsServed result had left before after old new
-served_lines result had mid left before after old new first consumed other answered some seen = record {
+    → IfErr result IsOfLines → IsServed result had left before after old new
+served_lines result had mid left before after old new first consumed other answered some seen faults = record {
+  faults = fault_known result had (λ f bytes. is_pull bytes ≡ false → IsOfLines f) (λ f bytes e is pull. at_fault result IsOfLines f faults e);
   seen = seen;
   answered = ok_known result had (λ bytes. is_pull bytes ≡ false → HasAnswered bytes old new before after)
       (λ x bytes e is pull. let r = rest_of had mid bytes first consumed is in
@@ -120,6 +127,7 @@ served_session result had mid left before after old new consumed given stopped s
   seen = seen;
   answered = ok_known result had (λ bytes. is_pull bytes ≡ false → HasAnswered bytes old new before after) (λ x bytes e is pull. absurd (a_pull bytes is pull));
   front = err_known result had (λ bytes. is_pull bytes ≡ false → HasAnsweredSome bytes old new.reader before after) (λ f bytes e is pull. absurd (a_pull bytes is pull));
+  faults = fault_known result had (λ f bytes. is_pull bytes ≡ false → IsOfLines f) (λ f bytes e is pull. absurd (a_pull bytes is pull));
   given = ok_known result had (λ bytes. is_pull bytes ≡ true → HasGiven MAX_FRAMES old.reader.schema (cells_seen new.reader) (0 ∷ []) (Some (drop 1 bytes)) left before after)
       (λ x bytes e is pull. subst (λ m. HasGiven MAX_FRAMES old.reader.schema (cells_seen new.reader) (0 ∷ []) m left before after) (rest bytes is) (at_ok result _ x given e));
   stopped = fault_known result had (λ f bytes. is_pull bytes ≡ true → HasNotGiven f old.reader.schema (cells_seen new.reader) bytes left before after)

@@ -1,10 +1,13 @@
 -- The faults of connections, and their printed names.
-use Rattle.std.specs.Prelude.{◌≡◌, ◌⊎◌, ℕ, Bool, true, false, List, codes}
+use Rattle.std.specs.Prelude.{◌≡◌, ⊤, ◌⊎◌, ℕ, Bool, true, false, not, List, codes, Result, Ok, Err}
+use Rattle.rr_text.specs.declared.limits.TheConstants.{MAX_READS}
+use Rattle.rr_io.specs.Counted.{HasRisen, HasRisenBy}
 use Rattle.rr_io.specs.declared.stream.ReadFault.{ReadFault}
 use Rattle.rr_io.specs.declared.stream.ReadFault.TheVariants as read
 use Rattle.rr_gossip.specs.declared.fault.GossipFault.{GossipFault}
 use Rattle.rr_gossip.specs.declared.fault.GossipFault.TheVariants as session
 use Rattle.rr_gossip.specs.Fault.{gossip_fault_name}
+use Rattle.rr_host.specs.Streams.{Stream}
 use Rattle.rr_node.specs.declared.fault.NodeFault.{NodeFault}
 use Rattle.rr_node.specs.declared.fault.NodeFault.TheVariants as node
 
@@ -49,6 +52,38 @@ of_session_fault session.Failed = node.Session session.Failed
 abbrev pub IsOfLines : NodeFault → Type 0
 IsOfLines fault = (fault ≡ node.ReadFailed) ⊎ (fault ≡ node.WriteFailed) ⊎ (fault ≡ node.TooManyReads) ⊎ (fault ≡ node.Memory)
 
+-- those of a session
+abbrev pub IsOfSession : NodeFault → Type 0
+IsOfSession fault = (why : GossipFault) × (fault ≡ of_session_fault why)
+
+-- those of a fetch connection
+abbrev pub IsOfReader : NodeFault → Type 0
+IsOfReader fault = IsOfLines fault ⊎ IsOfSession fault
+
 -- the faults of a call that writes
 abbrev pub IsOfWriting : NodeFault → Type 0
 IsOfWriting fault = (fault ≡ node.WriteFailed) ⊎ (fault ≡ node.Memory)
+
+abbrev pub is_memory : NodeFault → Bool
+is_memory node.ReadFailed = false
+is_memory node.WriteFailed = false
+is_memory node.TooManyReads = false
+is_memory node.BadAddress = false
+is_memory (node.Session fault) = false
+is_memory node.Memory = true
+
+-- whether what serves connections, one after the other, goes on after this one: memory alone ends it
+abbrev pub goes_on : {X : Type 0} → Result X NodeFault → Bool
+goes_on (Ok x) = true
+goes_on (Err fault) = not (is_memory fault)
+
+-- where a stream is to blame for the fault of its connection, its calls tell it
+abbrev pub IsToBlame : Stream → Stream → NodeFault → Type 0
+IsToBlame before after node.ReadFailed = HasRisen before.input.failures after.input.failures
+IsToBlame before after node.WriteFailed = HasRisen before.output.failures after.output.failures
+IsToBlame before after node.TooManyReads = HasRisenBy MAX_READS before.input.reads after.input.reads
+IsToBlame before after node.BadAddress = ⊤
+IsToBlame before after (node.Session session.ReadFailed) = HasRisen before.input.failures after.input.failures
+IsToBlame before after (node.Session session.WriteFailed) = HasRisen before.output.failures after.output.failures
+IsToBlame before after (node.Session fault) = ⊤
+IsToBlame before after node.Memory = ⊤

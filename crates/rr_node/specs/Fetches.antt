@@ -17,13 +17,14 @@ use Rattle.rr_request.specs.Fault.{request_fault_name}
 use Rattle.rr_request.specs.Requests.{request_of_words}
 use Rattle.rr_desk.specs.declared.gate.GateCall.{GateCall}
 use Rattle.rr_desk.specs.declared.gate.GateCall.TheVariants.{After, Before}
+use Rattle.rr_desk.specs.Gate.{WasAsked}
 use Rattle.rr_desk.specs.Standing.{ReaderState, HasSeenMore, cells_seen}
 use Rattle.rr_gossip.specs.declared.fault.GossipFault.{GossipFault}
 use Rattle.rr_gossip.specs.declared.frame.TheConstants.{MAX_FRAMES}
 use Rattle.rr_gossip.specs.Session.{HasGiven, HasFailedToGive}
 use Rattle.rr_node.specs.declared.fault.NodeFault.{NodeFault}
 use Rattle.rr_node.specs.declared.fault.NodeFault.TheVariants.{ReadFailed, TooManyReads}
-use Rattle.rr_node.specs.Fault.{of_session_fault}
+use Rattle.rr_node.specs.Fault.{IsOfLines, of_session_fault}
 
 -- ---- one line
 
@@ -55,21 +56,21 @@ text_by s m passes (Err name) = error_text name
 text_by s m true (Ok q) = cells_text s m q
 text_by s m false (Ok q) = error_text (codes "GateShut")
 
--- the last call of the gate, which is asked before an answer is made from cells, and told after it
-abbrev pub call_by : Option GateCall → Bool → Result Request (List ℕ) → Option GateCall
-call_by call passes (Err name) = call
-call_by call true (Ok q) = Some After
-call_by call false (Ok q) = Some (Before false)
+-- the calls of the gate, which is asked before an answer is made from cells, and told after it
+abbrev pub calls_by : Bool → Result Request (List ℕ) → List GateCall
+calls_by passes (Err name) = []
+calls_by true (Ok q) = Before true ∷ After ∷ []
+calls_by false (Ok q) = Before false ∷ []
 
 -- ---- one line after the other
 
--- a reader, and the last call of its gate
+-- a reader, and the calls of its gate, where they are known
 pub record Sight : Type 0 where
   pub reader : ReaderState
-  pub call : Option GateCall
+  pub calls : Option (List GateCall)
 
-abbrev pub sight : ReaderState → Option GateCall → Sight
-sight reader call = record { reader = reader; call = call }
+abbrev pub sight : ReaderState → Option (List GateCall) → Sight
+sight reader calls = record { reader = reader; calls = calls }
 
 -- what is asked is answered by this text, after the operations that the reader has then seen, which begin with those
 -- that it had seen before
@@ -77,7 +78,7 @@ pub record IsAnswer (request_of_item : Result Request (List ℕ)) (old new : Sig
   pub seen : HasSeenMore old.reader new.reader
   pub passes : Bool
   pub by_cells : text ≡ text_by new.reader.schema (cells_seen new.reader) passes request_of_item
-  pub call : new.call ≡ call_by old.call passes request_of_item
+  pub asked : WasAsked old.calls new.calls (calls_by passes request_of_item)
 
 -- an item is answered: its answer, and an empty line
 pub record IsAnswered (item : Item) (old new : Sight) (text : List ℕ) : Type 0 where
@@ -132,6 +133,7 @@ pub record IsServed {X : Type 0} (result : Result X NodeFault) (had left before 
   pub seen : HasSeenMore old.reader new.reader
   pub answered : OnOk result (IfSome had (λ bytes. is_pull bytes ≡ false → HasAnswered bytes old new before after))
   pub front : OnErr result (IfSome had (λ bytes. is_pull bytes ≡ false → HasAnsweredSome bytes old new.reader before after))
+  pub faults : IfErr result (λ fault. IfSome had (λ bytes. is_pull bytes ≡ false → IsOfLines fault))
   pub given : OnOk result (IfSome had (λ bytes. is_pull bytes ≡ true
       → HasGiven MAX_FRAMES old.reader.schema (cells_seen new.reader) (0 ∷ []) (Some (drop 1 bytes)) left before after))
   pub stopped : IfErr result (λ fault. IfSome had (λ bytes. is_pull bytes ≡ true

@@ -4,9 +4,10 @@ use Rattle.rr_copies.specs.Standing.{KeeperState}
 use Rattle.rr_gossip.specs.declared.fault.GossipFault.{GossipFault}
 use Rattle.rr_node.specs.declared.fault.NodeFault.{NodeFault}
 use Rattle.rr_node.specs.declared.fault.NodeFault.TheVariants.{BadAddress, Memory}
-use Rattle.rr_host.specs.Calls.{DialCall, Stream, handed_back, reached, unreached}
+use Rattle.rr_host.specs.Calls.{DialCall, handed_back, reached, unreached}
+use Rattle.rr_host.specs.Streams.{Stream}
 use Rattle.rr_node.specs.Shelf.{ShelfCall, peer_failed}
-use Rattle.rr_node.specs.Fault.{of_session_fault}
+use Rattle.rr_node.specs.Fault.{IsToBlame, of_session_fault}
 use Rattle.rr_node.specs.Pull.{HasPulledAll, HasStoppedPulling}
 
 -- the fault that ended something, if one did
@@ -17,10 +18,10 @@ fault_in (Err fault) = Some fault
 -- over a stream all was pulled, or a fault ended the session
 abbrev pub EndsSession : KeeperState → KeeperState → Stream → Stream → Option NodeFault → Type 0
 EndsSession old new before after None =
-    HasPulledAll old new before.left after.left before.written after.written
+    HasPulledAll old new before.input.left after.input.left before.output.written after.output.written
 EndsSession old new before after (Some fault) =
-    (why : GossipFault) × (fault ≡ of_session_fault why)
-    × HasStoppedPulling old new before.left after.left before.written after.written why
+    (why : GossipFault) × (fault ≡ of_session_fault why) × IsToBlame before after fault
+    × HasStoppedPulling old new before.input.left after.input.left before.output.written after.output.written why
 
 -- the peer at an address can't be reached; or it is, and its stream is handed back when the session is over
 abbrev pub EndsPull : List ℕ → KeeperState → KeeperState → List DialCall → Option NodeFault → Type 0

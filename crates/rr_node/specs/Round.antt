@@ -1,11 +1,14 @@
 -- How a round of a keeper goes: the lines of a connection, the pulls from all peers, and a save.
-use Rattle.std.specs.Prelude.{◌≡◌, ◌⊎◌, ℕ, ℤ, Bool, true, false, List, [], ◌∷◌, ◌++◌, map, Option, None, Some, Result, Ok, Err}
+use Rattle.std.specs.Prelude.{◌≡◌, ◌⊎◌, ℕ, ℤ, Bool, true, false, List, [], ◌∷◌, ◌++◌, map, Option, None, Some, Result, Ok, Err, IfOk, IfErr, OnErr, if◌then◌else◌}
 use Rattle.std.specs.String.{string_bytes}
 use Rattle.rr_copies.specs.Standing.{KeeperState}
 use Rattle.rr_config.specs.declared.config.Config.{Config}
+use Rattle.rr_node.specs.declared.fault.NodeFault.{NodeFault}
 use Rattle.rr_node.specs.declared.report.Report.{Report}
 use Rattle.rr_node.specs.declared.rules.Rules.{Rules}
 use Rattle.rr_host.specs.Calls.{DialCall}
+use Rattle.rr_host.specs.Streams.{Stream}
+use Rattle.rr_node.specs.Fault.{IsOfLines, IsToBlame, goes_on}
 use Rattle.rr_node.specs.Shelf.{ShelfCall}
 use Rattle.rr_node.specs.Lines.{Run, IsServed, HasStopped, rules_of}
 use Rattle.rr_node.specs.Peers.{EndsPulls}
@@ -17,25 +20,34 @@ abbrev pub came_in : {F : Type 0} → Result Bool F → Option Bool
 came_in (Ok came) = Some came
 came_in (Err fault) = None
 
--- the lines of a connection were served to the end, or up to a fault, which may be that memory ran out
-abbrev pub EndsConnection : Rules → Run → Option Bool → Type 0
-EndsConnection rules run came =
-    ((came ≡ Some true) × (counted : Report) × IsServed rules run counted)
-    ⊎ (((came ≡ Some true) ⊎ (came ≡ None)) × HasStopped rules run)
+-- what the keeper and the clock were before a connection and are after it, and its stream
+abbrev pub run_of : KeeperState → KeeperState → Option (List ℤ) → Option (List ℤ) → Stream → Stream → Run
+run_of old new given since before after = record {
+  old = old;
+  new = new;
+  given = given;
+  given_since = since;
+  input = before.input.left;
+  written = before.output.written;
+  written_since = after.output.written;
+}
 
--- what the keeper and the clock were before a connection and are after it, with the bytes of its stream
-abbrev pub run_of : KeeperState → KeeperState → Option (List ℤ) → Option (List ℤ) → Option (List ℕ) → Option (List ℕ) → Option (List ℕ) → Run
-run_of old new given since input written written_since =
-    record { old = old; new = new; given = given; given_since = since; input = input; written = written; written_since = written_since }
+-- the lines of a connection were served to the end, or up to a fault; the round goes on unless that is Memory
+pub record EndsConnection (rules : Rules) (run : Run) (before after : Stream) (came : Option Bool) : Type 0 where
+  pub result : Result Report NodeFault
+  pub served : IfOk result (IsServed rules run)
+  pub stopped : OnErr result (HasStopped rules run)
+  pub faults : IfErr result IsOfLines
+  pub blamed : IfErr result (IsToBlame before after)
+  pub going : came ≡ (if goes_on result then Some true else None)
 
 -- the next connection: none will come; or it failed; or it is handed back when its lines are served
 abbrev pub EndsLines : Config → Option Bool → KeeperState → KeeperState → Option (List ℤ) → Option (List ℤ) → List Call → Type 0
 EndsLines config came old new given since calls =
     ((calls ≡ Over ∷ []) × (came ≡ Some false) × (new ≡ old) × (since ≡ given))
     ⊎ ((calls ≡ Failed ∷ []) × (came ≡ Some true) × (new ≡ old) × (since ≡ given))
-    ⊎ ((input written left written_since : Option (List ℕ))
-    × (calls ≡ Gave input written ∷ TookBack left written_since ∷ [])
-    × EndsConnection (rules_of config.precision config.lead) (run_of old new given since input written written_since) came)
+    ⊎ ((before after : Stream) × (calls ≡ Gave before ∷ TookBack after ∷ [])
+    × EndsConnection (rules_of config.precision config.lead) (run_of old new given since before after) before after came)
 
 -- the addresses of the peers
 abbrev pub peers_of : Config → List (List ℕ)

@@ -1,18 +1,20 @@
 -- The connections that a seat serves.
-use Rattle.std.specs.Prelude.{◌≡◌, ◌≢◌, ◌⊎◌, ℕ, zero, suc, ◌<◌, ◌==◌, ◌-◌, ◌^◌, Bool, true, false, List, [], ◌∷◌, ◌++◌, Option, Result, Ok, Err, if◌then◌else◌}
+use Rattle.std.specs.Prelude.{◌≡◌, ◌≢◌, ◌⊎◌, ℕ, zero, suc, ◌<◌, ◌==◌, ◌-◌, ◌^◌, Bool, true, false, List, [], ◌∷◌, ◌++◌, Result, Ok, Err, IfErr, if◌then◌else◌}
 use Rattle.rr_node.specs.declared.fault.NodeFault.{NodeFault}
 use Rattle.rr_node.specs.declared.fault.NodeFault.TheVariants.{Memory}
+use Rattle.rr_node.specs.Fault.{IsOfReader, IsToBlame}
 use Rattle.rr_node.specs.Fetches.{Sight, IsServed}
+use Rattle.rr_host.specs.Streams.{Stream}
 use Rattle.rr_host.specs.Visits.{Call, Gave, Failed, Over, TookBack}
 
 -- a connection was given, served with this result, and handed back
 pub record IsStreamServed (result : Result (Unit {0}) NodeFault) (calls : List Call) (old new : Sight) : Type 0 where
-  pub had : Option (List ℕ)
-  pub left : Option (List ℕ)
-  pub before : Option (List ℕ)
-  pub after : Option (List ℕ)
-  pub made : calls ≡ Gave had before ∷ TookBack left after ∷ []
-  pub served : IsServed result had left before after old new
+  pub before : Stream
+  pub after : Stream
+  pub made : calls ≡ Gave before ∷ TookBack after ∷ []
+  pub served : IsServed result before.input.left after.input.left before.output.written after.output.written old new
+  pub faults : IfErr result IsOfReader
+  pub blamed : IfErr result (IsToBlame before after)
 
 -- one visit: it failed, or a connection was served, with or without a fault other than Memory
 abbrev pub IsVisit : List Call → Sight → Sight → Type 0
@@ -44,3 +46,11 @@ HasServedSeat most (Ok x) calls old new =
 HasServedSeat most (Err fault) calls old new =
     (fault ≡ Memory) × (n : ℕ) × (n < most) × (visits last : List Call) × (mid : Sight)
     × AreVisits n visits old mid × IsStreamServed (Err Memory) last mid new × (calls ≡ visits ++ last)
+
+-- a call that served all seats of a node: for how many connections each, and whether memory sufficed in all of them
+pub record SeatsCall : Type 0 where
+  pub visits : ℕ
+  pub sufficed : Bool
+
+abbrev pub served : ℕ → Bool → SeatsCall
+served visits sufficed = record { visits = visits; sufficed = sufficed }

@@ -56,7 +56,7 @@ fn answer_request<A: Archive, G: Gate>(
     requires { IsFetchable reader.old.schema (request_view request.now) }
     ensures seen { HasSeenMore reader.old reader.new }
     ensures answered { IfOk result (λ text. IsAnswer (Ok (request_view request.now))
-        (sight reader.old (G.last gate.old)) (sight reader.new (G.last gate.new)) text.items) }
+        (sight reader.old (G.calls gate.old)) (sight reader.new (G.calls gate.new)) text.items) }
 {
     match reader.fetch_through(alloc, request, gate) {
         Ok(text) => Ok(text),
@@ -74,7 +74,7 @@ fn answer_line<A: Archive, G: Gate>(
 ) -> Result<Vec<u8>, AllocError>
     ensures seen { HasSeenMore reader.old reader.new }
     ensures answered { IfOk result (λ text. IsAnswer (by_name (request_in reader.old.schema line.now))
-        (sight reader.old (G.last gate.old)) (sight reader.new (G.last gate.new)) text.items) }
+        (sight reader.old (G.calls gate.old)) (sight reader.new (G.calls gate.new)) text.items) }
 {
     match request_in(alloc, line, reader.schema()) {
         Ok(request) => answer_request(alloc, &request, reader, gate),
@@ -92,7 +92,7 @@ fn answer_item<A: Archive, G: Gate>(
 ) -> Result<Vec<u8>, AllocError>
     ensures seen { HasSeenMore reader.old reader.new }
     ensures answered { IfOk result (λ text. IsAnswered (item_view item.entry)
-        (sight reader.old (G.last gate.old)) (sight reader.new (G.last gate.new)) text.items) }
+        (sight reader.old (G.calls gate.old)) (sight reader.new (G.calls gate.new)) text.items) }
 {
     let mut text = match item {
         FeedLine::Line(line) => answer_line(alloc, line, reader, gate)?,
@@ -111,7 +111,7 @@ pub(crate) fn next_answer<A: Archive, G: Gate>(
 ) -> Result<Option<Vec<u8>>, AllocError>
     ensures { (item : Option Item) × HandsOut feed.old item feed.new
         × Next (λ text. text.items) item
-        (sight reader.old (G.last gate.old)) (sight reader.new (G.last gate.new)) result }
+        (sight reader.old (G.calls gate.old)) (sight reader.new (G.calls gate.new)) result }
 {
     match feed.next_line() {
         Some(item) => Ok(Some(answer_item(alloc, item, reader, gate)?)),

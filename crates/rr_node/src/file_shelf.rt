@@ -72,6 +72,7 @@ impl<'a, R: Files + Eprint> FileShelf<'a, R> {
 impl<R: Files + Eprint> Shelf for FileShelf<'_, R> {
     ghost use Rattle.std.specs.Prelude.{[], ◌∷◌, None};
     ghost use Rattle.rr_host.specs.Calls.{Grows};
+    ghost use Rattle.rr_host.specs.Streams.{output_of};
     ghost use Rattle.rr_node.specs.Shelf.{put_back};
 
     type Output = BufWriter<R::File>;
@@ -89,7 +90,7 @@ impl<R: Files + Eprint> Shelf for FileShelf<'_, R> {
     }
 
     fn take_back(&mut self, output: Counted<BufWriter<R::File>>, whole: bool)
-        ensures { Grows None None (put_back None whole ∷ []) }
+        ensures { Grows None None (put_back (output_of (λ _. None) output) whole ∷ []) }
     {
         if !whole {
             drop(output);

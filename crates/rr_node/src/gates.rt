@@ -1,29 +1,26 @@
 //! Gates of a node.
 
-use rr_desk::{Gate, GateCall};
+use rr_desk::Gate;
 
-/// A gate that is always open.
+/// A gate that is always open. Nothing is known of its calls.
 #[derive(Debug, Drop)]
-pub struct OpenGate {
-    last: Option<GateCall>,
-}
+pub struct OpenGate;
 
 impl OpenGate {
     /// A gate that was not asked yet.
     pub fn new() -> OpenGate {
-        OpenGate { last: None }
+        OpenGate
     }
 }
 
 impl Gate for OpenGate {
-    ghost last = { λ g. g.last };
+    ghost use Rattle.std.specs.Prelude.{None};
+
+    ghost calls = { λ _. None };
 
     fn before(&mut self) -> bool {
-        self.last = Some(GateCall::Before(true));
         true
     }
 
-    fn after(&mut self) {
-        self.last = Some(GateCall::After);
-    }
+    fn after(&mut self) {}
 }

@@ -1,7 +1,10 @@
 //! A node: one keeper, and readers on threads of their own.
 
-ghost use Rattle.std.specs.Prelude.{◌≡◌, Bool, true, is_ok, IfErr, OnErr, OnOk};
+ghost use Rattle.std.specs.Prelude.{◌≡◌, ◌&&◌, [], ◌∷◌, Bool, true, false, is_ok, IfErr, OnErr, OnOk};
+ghost use Rattle.std.specs.Thread.{IsSync};
+ghost use Rattle.rr_host.specs.Calls.{Grows};
 ghost use Rattle.rr_node.specs.Rounds.{HasKept, post};
+ghost use Rattle.rr_node.specs.Seats.{served};
 
 use crate::fault::NodeFault;
 use crate::rounds::keep_rounds;
@@ -15,13 +18,21 @@ use std::sync::Wait;
 use std::thread::{Threads, join_mut};
 
 /// The seats of a node, each of which is served on a thread of its own.
+///
+/// They are seen as the list of their calls, where that is known.
 pub trait Seats {
+    ghost use Rattle.std.specs.Prelude.{List, [], ◌∷◌, Option};
     ghost use Rattle.std.specs.Thread.{IsSync};
+    ghost use Rattle.rr_host.specs.Calls.{Grows};
+    ghost use Rattle.rr_node.specs.Seats.{SeatsCall, served};
+
+    ghost calls: { Self → Option (List SeatsCall) };
 
     /// Serves each seat as [`crate::serve_seat`] does, for so many connections, and answers whether memory
     /// sufficed in all of them. It ends when all seats have.
     fn serve<T: Threads + Sync>(&mut self, rt: &T, alloc: Global, visits: u64) -> bool
-        requires { IsSync T.row };
+        requires { IsSync T.row }
+        ensures { Grows (calls self.old) (calls self.new) (served visits result ∷ []) };
 }
 
 /// Serves as a node. On the calling thread rounds are kept ([`crate::keep_round`]) until no line
@@ -52,13 +63,19 @@ pub fn serve_node<
     ensures rounds { OnOk result (HasKept config.now true (V.calls lines.old) (V.calls lines.new)
         (D.calls dial.old) (D.calls dial.new) (S.calls shelf.old) (S.calls shelf.new)
         (post keeper.old (C.given clock.old)) (post keeper.new (C.given clock.new))) }
-    ensures rounds_so_far { OnErr result ((whole : Bool) × HasKept config.now whole (V.calls lines.old) (V.calls lines.new)
+    ensures seats { OnOk result (Grows (Q.calls seats.old) (Q.calls seats.new) (served config.now.visits true ∷ [])) }
+    ensures so_far { OnErr result ((kept sufficed : Bool) × ((kept && sufficed) ≡ false)
+        × HasKept config.now kept (V.calls lines.old) (V.calls lines.new)
         (D.calls dial.old) (D.calls dial.new) (S.calls shelf.old) (S.calls shelf.new)
-        (post keeper.old (C.given clock.old)) (post keeper.new (C.given clock.new))) }
+        (post keeper.old (C.given clock.old)) (post keeper.new (C.given clock.new))
+        × Grows (Q.calls seats.old) (Q.calls seats.new) (served config.now.visits sufficed ∷ [])) }
     ensures memory { IfErr result (λ fault. fault ≡ NodeFault.Memory) }
 {
     let visits = config.visits;
-    let mut seating = || seats.serve(rt, alloc, visits);
+    let mut seating = || -> bool
+        requires { IsSync T.row }
+        ensures { Grows (Q.calls seats.entry.now) (Q.calls seats.exit.now) (served visits result ∷ []) }
+    { seats.serve(rt, alloc, visits) };
     let mut keeping = || -> Result<(), NodeFault>
         ensures { HasKept config.entry.now (is_ok result) (V.calls lines.entry.now) (V.calls lines.exit.now)
             (D.calls dial.entry.now) (D.calls dial.exit.now) (S.calls shelf.entry.now) (S.calls shelf.exit.now)

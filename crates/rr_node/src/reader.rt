@@ -1,6 +1,6 @@
 //! The connections of a reader: fetches, or one session in which a peer pulls.
 
-ghost use Rattle.std.specs.Prelude.{◌≡◌, ◌⊎◌, ◌≤◌, ◌∷◌, ◌++◌, [], false, true, Err, None, IfErr, IfOk, IfSome, OnErr, OnOk, option_to_list};
+ghost use Rattle.std.specs.Prelude.{◌≡◌, ◌⊎◌, ◌+◌, ◌≤◌, ◌∷◌, ◌++◌, [], false, true, Err, None, IfErr, IfOk, IfSome, OnErr, OnOk, option_to_list};
 ghost use Rattle.std.specs.Io.KnownBytes.{Consumes, IsAtEnd};
 ghost use Rattle.rr_io.specs.Counted.{inner_of, failures_of, reads_of, HasRisen, HasRisenBy};
 ghost use Rattle.rr_text.specs.declared.limits.TheConstants.{MAX_READS};
@@ -9,8 +9,8 @@ ghost use Rattle.rr_gossip.specs.declared.frame.TheConstants.{MAX_FRAMES};
 ghost use Rattle.rr_gossip.specs.Session.{HasGiven};
 ghost use Rattle.rr_desk.specs.Standing.{cells_seen, HasSeenMore};
 ghost use Rattle.rr_node.specs.Answering.{HasWritten, HasWrittenSome};
-ghost use Rattle.rr_node.specs.Fault.{is_of_session};
-ghost use Rattle.rr_node.specs.Fetches.{sight, HasAnswered, HasAnsweredSome, HasFailedSession, IsServed};
+ghost use Rattle.rr_node.specs.Fault.{IsOfLines, IsOfReader, IsOfSession, is_of_session};
+ghost use Rattle.rr_node.specs.Fetches.{sight, is_pull, HasAnswered, HasAnsweredSome, HasFailedSession, IsServed};
 
 use crate::answering::next_answer;
 use crate::fault::NodeFault;
@@ -33,7 +33,9 @@ fn read_first<R: Read>(input: &mut Counted<R>) -> Result<(Option<u8>, u32), Node
         (R.remaining (inner_of input.new)) (option_to_list first.0)) }
     ensures end { IfOk result (λ first. first.0 ≡ None → IsAtEnd (R.remaining (inner_of input.new))) }
     ensures reads { IfOk result (λ first. (first.1 ≤ MAX_READS)
-        × HasRisenBy first.1 (reads_of input.old) (reads_of input.new)) }
+        × HasRisenBy first.1 (reads_of input.old) (reads_of input.new)
+        × (reads_of input.new ≤ reads_of input.old + first.1)) }
+    ensures limit { reads_of input.new ≤ reads_of input.old + MAX_READS }
     ensures faults { IfErr result (λ fault. (fault ≡ NodeFault.ReadFailed) ⊎ (fault ≡ NodeFault.TooManyReads)) }
     ensures count { failures_of input.old ≤ failures_of input.new }
     ensures failed { result ≡ Err NodeFault.ReadFailed → HasRisen (failures_of input.old) (failures_of input.new) }
@@ -68,11 +70,11 @@ fn answer_items<A: Archive, W: Write, G: Gate>(
     gate: &mut G,
 ) -> Result<(), NodeFault>
     ensures answered { OnOk result (HasWritten feed.old feed.new
-        (sight reader.old (G.last gate.old)) (sight reader.new (G.last gate.new))
+        (sight reader.old (G.calls gate.old)) (sight reader.new (G.calls gate.new))
         (W.contents (inner_of output.old)) (W.contents (inner_of output.new))) }
     ensures all_taken { OnOk result (items_left feed.new ≡ []) }
     ensures part_written { OnErr result (HasWrittenSome feed.old feed.new
-        (sight reader.old (G.last gate.old)) reader.new
+        (sight reader.old (G.calls gate.old)) reader.new
         (W.contents (inner_of output.old)) (W.contents (inner_of output.new))) }
     ensures count { failures_of output.old ≤ failures_of output.new }
     ensures failed { result ≡ Err NodeFault.WriteFailed → HasRisen (failures_of output.old) (failures_of output.new) }
@@ -96,10 +98,10 @@ fn answer_lines<A: Archive, R: Read, W: Write, G: Gate>(
     reads: u32,
 ) -> Result<(), NodeFault>
     ensures answered { OnOk result (IfSome (R.remaining (inner_of input.old)) (λ rest.
-        HasAnswered (first ∷ rest) (sight reader.old (G.last gate.old)) (sight reader.new (G.last gate.new))
+        HasAnswered (first ∷ rest) (sight reader.old (G.calls gate.old)) (sight reader.new (G.calls gate.new))
         (W.contents (inner_of output.old)) (W.contents (inner_of output.new)))) }
     ensures part_written { OnErr result (IfSome (R.remaining (inner_of input.old)) (λ rest.
-        HasAnsweredSome (first ∷ rest) (sight reader.old (G.last gate.old)) reader.new
+        HasAnsweredSome (first ∷ rest) (sight reader.old (G.calls gate.old)) reader.new
         (W.contents (inner_of output.old)) (W.contents (inner_of output.new)))) }
     ensures seen { HasSeenMore reader.old reader.new }
     ensures read_failed { result ≡ Err NodeFault.ReadFailed → HasRisen (failures_of input.old) (failures_of input.new) }
@@ -107,7 +109,9 @@ fn answer_lines<A: Archive, R: Read, W: Write, G: Gate>(
         → HasRisenBy reads (reads_of input.old) (reads_of input.new) }
     ensures write_failed { result ≡ Err NodeFault.WriteFailed
         → HasRisen (failures_of output.old) (failures_of output.new) }
-    ensures faults { IfErr result (λ fault. is_of_session fault ≡ false) }
+    ensures faults { IfErr result IsOfLines }
+    ensures no_session { IfErr result (λ fault. is_of_session fault ≡ false) }
+    ensures limit { reads_of input.new ≤ reads_of input.old + reads }
 {
     let mut feed = Feed::new(alloc);
     push(&mut feed, &[first])?;
@@ -140,6 +144,7 @@ fn give_session<A: Archive, R: Read, W: Write>(
         (R.remaining (inner_of input.old)) (R.remaining (inner_of input.new))
         (W.contents (inner_of output.old)) (W.contents (inner_of output.new))) }
     ensures seen { HasSeenMore reader.old reader.new }
+    ensures faults { IfErr result IsOfSession }
     ensures read_failed { result ≡ Err (NodeFault.Session GossipFault.ReadFailed)
         → HasRisen (failures_of input.old) (failures_of input.new) }
     ensures write_failed { result ≡ Err (NodeFault.Session GossipFault.WriteFailed)
@@ -173,9 +178,14 @@ pub fn serve_reader<A: Archive, R: Read, W: Write, G: Gate>(
     ensures served { IsServed result
         (R.remaining (inner_of input.old)) (R.remaining (inner_of input.new))
         (W.contents (inner_of output.old)) (W.contents (inner_of output.new))
-        (sight reader.old (G.last gate.old)) (sight reader.new (G.last gate.new)) }
+        (sight reader.old (G.calls gate.old)) (sight reader.new (G.calls gate.new)) }
+
+    // Within which reads lines are answered.
+    ensures limit { IfSome (R.remaining (inner_of input.old)) (λ bytes. is_pull bytes ≡ false
+        → reads_of input.new ≤ reads_of input.old + MAX_READS) }
 
     // When a stream is to blame.
+    ensures faults { IfErr result IsOfReader }
     ensures read_failed { result ≡ Err NodeFault.ReadFailed → HasRisen (failures_of input.old) (failures_of input.new) }
     ensures too_many { result ≡ Err NodeFault.TooManyReads
         → HasRisenBy MAX_READS (reads_of input.old) (reads_of input.new) }

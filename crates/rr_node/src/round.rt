@@ -1,7 +1,8 @@
 //! A round of the keeper: the lines of a connection, the pulls from all peers, and a save.
 
-ghost use Rattle.std.specs.Prelude.{◌≡◌, IfErr, List};
+ghost use Rattle.std.specs.Prelude.{◌≡◌, IfErr, List, is_ok};
 ghost use Rattle.rr_host.specs.Calls.{DialCall, Grows};
+ghost use Rattle.rr_node.specs.Fault.{goes_on};
 ghost use Rattle.rr_node.specs.Shelf.{ShelfCall};
 ghost use Rattle.rr_node.specs.Round.{EndsLines, EndsRound, came_in};
 ghost use Rattle.rr_host.specs.Visits.{Call, HasCalled};
@@ -9,6 +10,7 @@ ghost use Rattle.rr_host.specs.Visits.{Call, HasCalled};
 use crate::fault::NodeFault;
 use crate::lines::serve_lines;
 use crate::peers::pull_peers;
+use crate::report::Report;
 use crate::saving::save_to;
 use crate::shelf::Shelf;
 use rr_archive::Archive;
@@ -17,6 +19,16 @@ use rr_desk::Keeper;
 use rr_host::{Clock, Dial, Visit, Visits};
 use std::alloc::{AllocError, Global};
 use std::sync::Wait;
+
+/// Goes on after the lines of a connection, whatever its fault, unless memory ran out.
+fn goes_on(served: Result<Report, NodeFault>) -> Result<(), AllocError>
+    ensures { is_ok result ≡ goes_on served }
+{
+    match served {
+        Err(NodeFault::Memory) => Err(AllocError),
+        _ => Ok(()),
+    }
+}
 
 /// Serves the lines of the next connection, and answers whether there was one: one that failed is.
 fn take_lines<A: Archive, V: Visits, C: Clock, T: Wait>(
@@ -47,10 +59,8 @@ fn take_lines<A: Archive, V: Visits, C: Clock, T: Wait>(
         rt,
     );
     lines.take_back(input, output);
-    match served {
-        Err(NodeFault::Memory) => Err(AllocError),
-        _ => Ok(true),
-    }
+    goes_on(served)?;
+    Ok(true)
 }
 
 /// One round of the keeper of a node: it serves the lines of the next connection, pulls from each peer

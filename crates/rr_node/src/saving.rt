@@ -1,15 +1,30 @@
 //! The save of a round.
 
-ghost use Rattle.std.specs.Prelude.{List, is_ok};
+ghost use Rattle.std.specs.Prelude.{◌≡◌, List, is_ok};
 ghost use Rattle.rr_host.specs.Calls.{Grows};
 ghost use Rattle.rr_node.specs.Shelf.{ShelfCall};
-ghost use Rattle.rr_node.specs.Saving.{EndsSave};
+ghost use Rattle.rr_node.specs.Saving.{EndsSave, sufficed, told_of_save};
 
 use crate::shelf::{Opening, Shelf};
 use rr_archive::Archive;
 use rr_desk::Keeper;
 use rr_snapshot::SaveFault;
 use std::alloc::{AllocError, Global};
+
+/// Tells the shelf that a save failed, unless memory ran out.
+fn tell<S: Shelf>(shelf: &mut S, saved: Result<(), SaveFault>) -> Result<(), AllocError>
+    ensures told { Grows (S.calls shelf.old) (S.calls shelf.new) (told_of_save saved) }
+    ensures memory { is_ok result ≡ sufficed saved }
+{
+    match saved {
+        Ok(()) => Ok(()),
+        Err(SaveFault::Memory) => Err(AllocError),
+        Err(fault) => {
+            shelf.save_failed(fault);
+            Ok(())
+        }
+    }
+}
 
 /// Saves a snapshot of the keeper's replica, where the shelf wants one. A fault other than `Memory` is
 /// told to the shelf.
@@ -31,16 +46,5 @@ pub(crate) fn save_to<A: Archive, S: Shelf>(
     };
     let saved = keeper.save(alloc, &mut output);
     shelf.take_back(output, saved.is_ok());
-    match saved {
-        Ok(()) => Ok(()),
-        Err(SaveFault::Memory) => Err(AllocError),
-        Err(SaveFault::WriteFailed) => {
-            shelf.save_failed(SaveFault::WriteFailed);
-            Ok(())
-        }
-        Err(SaveFault::TooManyCells) => {
-            shelf.save_failed(SaveFault::TooManyCells);
-            Ok(())
-        }
-    }
+    tell(shelf, saved)
 }

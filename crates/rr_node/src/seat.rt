@@ -40,7 +40,7 @@ fn serve_visit<A: Archive, V: Visits, G: Gate>(
 ) -> Result<bool, NodeFault>
     ensures { (calls : List Call) × HasCalled (V.calls seat.old.visits) (V.calls seat.new.visits) calls
         × HasVisited result calls
-        (sight seat.old.reader (G.last seat.old.gate)) (sight seat.new.reader (G.last seat.new.gate)) }
+        (sight seat.old.reader (G.calls seat.old.gate)) (sight seat.new.reader (G.calls seat.new.gate)) }
 {
     match seat.visits.next() {
         Visit::Stream(input, output) => {
@@ -81,7 +81,7 @@ pub fn serve_seat<A: Archive, V: Visits, G: Gate>(
 ) -> Result<(), NodeFault>
     ensures { (calls : List Call) × HasCalled (V.calls seat.old.visits) (V.calls seat.new.visits) calls
         × HasServedSeat (visits_of visits) result calls
-        (sight seat.old.reader (G.last seat.old.gate)) (sight seat.new.reader (G.last seat.new.gate)) }
+        (sight seat.old.reader (G.calls seat.old.gate)) (sight seat.new.reader (G.calls seat.new.gate)) }
 {
     for _ in 0..most_visits(visits) {
         if !serve_visit(alloc, seat)? {

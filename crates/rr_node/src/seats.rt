@@ -17,6 +17,10 @@ pub struct TcpSeats {
 }
 
 impl Seats for TcpSeats {
+    ghost use Rattle.std.specs.Prelude.{None};
+
+    ghost calls = { λ _. None };
+
     fn serve<T: Threads + Sync>(&mut self, rt: &T, alloc: Global, visits: u64) -> bool {
         if self.seats.is_empty() {
             return true;

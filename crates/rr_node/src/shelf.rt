@@ -22,8 +22,8 @@ pub enum Opening<W> {
 /// It is seen as the list of its calls, where that is known.
 pub trait Shelf {
     ghost use Rattle.std.specs.Prelude.{List, [], ◌∷◌, Option};
-    ghost use Rattle.rr_io.specs.Counted.{inner_of};
     ghost use Rattle.rr_host.specs.Calls.{Grows};
+    ghost use Rattle.rr_host.specs.Streams.{output_of};
     ghost use Rattle.rr_node.specs.Shelf.{ShelfCall, opened, peer_failed, put_back, save_failed, unopened, unwanted};
     ghost use Rattle.rr_node.specs.declared.shelf.Opening.TheVariants as opening;
 
@@ -35,14 +35,14 @@ pub trait Shelf {
     /// Opens a writer for a snapshot, where one is wanted.
     fn open(&mut self) -> Opening<Self::Output>
         ensures opened { (writer : _) → result ≡ opening.Writer writer → Grows (calls self.old) (calls self.new)
-            (opened (Self.Output.contents (inner_of writer)) ∷ []) }
+            (opened (output_of Self.Output.contents writer) ∷ []) }
         ensures unwanted { result ≡ opening.Unwanted → Grows (calls self.old) (calls self.new) (unwanted ∷ []) }
         ensures failed { result ≡ opening.Failed → Grows (calls self.old) (calls self.new) (unopened ∷ []) };
 
     /// Takes back the writer of a snapshot, which is written whole or not.
     fn take_back(&mut self, output: Counted<Self::Output>, whole: bool)
         ensures { Grows (calls self.old) (calls self.new)
-            (put_back (Self.Output.contents (inner_of output)) whole ∷ []) };
+            (put_back (output_of Self.Output.contents output) whole ∷ []) };
 
     /// Is told that the pull of a peer failed, by its number from 1.
     fn peer_failed(&mut self, number: usize, fault: NodeFault)

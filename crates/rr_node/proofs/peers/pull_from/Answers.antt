@@ -1,12 +1,14 @@
 use Rattle.std.proofs.Common.{inr, refl}
 use Rattle.std.proofs.lemmas.Result.{err_from_is_err_and}
 use Rattle.rr_host.proofs.CallsLemmas.{grows_on}
+use Rattle.rr_node.proofs.EndsLemmas.{pull_over}
 use Rattle.rr_node.proofs.peers.pull_from.Goals as goal
 
 pub returns-in_err-pulled : goal.returns-in_err-pulled
 returns-in_err-pulled g c =
     let p = err_from_is_err_and c.from_residual.result c.from_residual.ensures.1 in
-    rw (p.1, p.2) (_, grows_on _ _ _ _ _ c.in-Some.ensures.reached c.take_back.ensures, inr (_, _, refl, (_, refl, c.in_err-pulled.ensures.stopped)))
+    let e = c.in_err-pulled.ensures in
+    rw (p.1, p.2) (pull_over _ _ _ _ _ _ _ _ _ c.in-Some.ensures.reached c.take_back.ensures (record { read = e.read_failed; write = e.write_failed }) e.stopped)
 
 pub returns : goal.returns
 returns g c = (_, grows_on _ _ _ _ _ c.in-Some.ensures.reached c.take_back.ensures, inr (_, _, refl, c.in_ok-pulled.ensures.pulled))

@@ -1,6 +1,6 @@
 use Rattle.std.proofs.Common.{◌∷◌, ◌++◌, [], ap, ◌∙◌, arith, rules}
 use Rattle.std.proofs.lemmas.Result.{on_err_weaker}
-use Rattle.rr_io.proofs.CountLemmas.{no_call, HasRisenBy-more}
+use Rattle.rr_io.proofs.CountLemmas.{no_call, HasRisenBy-more, one_more_at_most}
 use Rattle.rr_io.specs.Counted.{inner_of}
 use Rattle.rr_feed.specs.Feed.{FeedState}
 use Rattle.rr_node.specs.Fetches.{sight, HasAnswered, HasAnsweredSome}
@@ -11,7 +11,7 @@ use Rattle.rr_node.proofs.reader.answer_lines.Goals as goal
 pub returns-in_err-push-clause-part_written : goal.returns-in_err-push-clause-part_written
 returns-in_err-push-clause-part_written g c =
     on_err c.from_residual.result _ (of_each (g.R.Read.remaining (inner_of c.args.input.now)) _
-    (λ rest. none_answered (c.args.first ∷ rest) (sight c.args.reader.now (g.G.Gate.last c.args.gate.now)) _))
+    (λ rest. none_answered (c.args.first ∷ rest) (sight c.args.reader.now (g.G.Gate.calls c.args.gate.now)) _))
 
 pub loop-init : goal.loop-init
 loop-init g c =
@@ -20,6 +20,7 @@ loop-init g c =
       so_far = so_far_first c.args.first _ _ _ _ is;
       going = ap (λ (s : FeedState). s.ended) is;
       made = no_call _;
+      few = omega arith;
       in_count = omega arith;
       out_count = omega arith;
     }
@@ -50,6 +51,7 @@ loop-preserved-in_default g c =
       so_far = so_far_same c.args.first _ _ _ _ _ _ _ _ now keeps;
       going = answered.handed.ended ∙ c.loop.invariant.going;
       made = HasRisenBy-more c.loop.counter _ _ _ c.loop.invariant.made c.in_ok-given.ensures.reads;
+      few = one_more_at_most c.loop.counter _ _ _ c.loop.invariant.few c.in_ok-given.ensures.reads;
       in_count = omega (arith, c.loop.invariant.in_count, c.in_ok-given.ensures.count);
       out_count = omega (arith, c.loop.invariant.out_count, c.in_ok-answer_items.ensures.count);
     }
@@ -57,8 +59,8 @@ loop-preserved-in_default g c =
 pub returns-then-given-eq0-clause-answered : goal.returns-then-given-eq0-clause-answered
 returns-then-given-eq0-clause-answered g c =
     let last = c.answer_items-then-given-eq0 in
-    let old = sight c.args.reader.now (g.G.Gate.last c.args.gate.now) in
-    let new = sight last.new.reader (g.G.Gate.last last.new.gate) in
+    let old = sight c.args.reader.now (g.G.Gate.calls c.args.gate.now) in
+    let new = sight last.new.reader (g.G.Gate.calls last.new.gate) in
     let before = g.W.Write.contents (inner_of c.args.output.now) in
     let after = g.W.Write.contents (inner_of last.new.output) in
     let read = rw c.in-Some.is at c.in_ok-given.ensures.bytes in
@@ -71,7 +73,7 @@ returns-then-given-eq0-clause-answered g c =
 pub returns-then-given-eq0-clause-part_written : goal.returns-then-given-eq0-clause-part_written
 returns-then-given-eq0-clause-part_written g c =
     let last = c.answer_items-then-given-eq0 in
-    let old = sight c.args.reader.now (g.G.Gate.last c.args.gate.now) in
+    let old = sight c.args.reader.now (g.G.Gate.calls c.args.gate.now) in
     let before = g.W.Write.contents (inner_of c.args.output.now) in
     let after = g.W.Write.contents (inner_of last.new.output) in
     let read = rw c.in-Some.is at c.in_ok-given.ensures.bytes in
@@ -105,6 +107,7 @@ loop-preserved g c =
       so_far = so_far_pushed c.args.first _ _ _ _ _ _ _ _ _ _ now going read.1 c.in_ok-push-2.ensures;
       going = ap (λ (s : FeedState). s.ended) c.in_ok-push-2.ensures ∙ going;
       made = HasRisenBy-more c.loop.counter _ _ _ c.loop.invariant.made c.in_ok-given.ensures.reads;
+      few = one_more_at_most c.loop.counter _ _ _ c.loop.invariant.few c.in_ok-given.ensures.reads;
       in_count = omega (arith, c.loop.invariant.in_count, c.in_ok-given.ensures.count);
       out_count = omega (arith, c.loop.invariant.out_count, c.in_ok-answer_items.ensures.count);
     }

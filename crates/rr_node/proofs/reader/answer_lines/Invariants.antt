@@ -1,4 +1,4 @@
-use Rattle.std.proofs.Common.{◌≡◌, ◌≤◌, false}
+use Rattle.std.proofs.Common.{◌≡◌, ◌+◌, ◌≤◌, false}
 use Rattle.rr_io.specs.Counted.{inner_of, failures_of, reads_of, HasRisenBy}
 use Rattle.rr_node.specs.Fetches.{sight}
 use Rattle.rr_node.proofs.ServingLemmas.{SoFar}
@@ -7,9 +7,10 @@ use Rattle.rr_node.proofs.reader.answer_lines.Given as goal
 -- what was handed out of the bytes that were taken is answered, by one read at each turn
 abbrev pub invariant-loop : goal.invariant-loop
 invariant-loop g l = record {
-  so_far : SoFar l.first l.feed (g.R.Read.remaining (inner_of l.initial.input)) (g.R.Read.remaining (inner_of l.input)) (g.W.Write.contents (inner_of l.initial.output)) (g.W.Write.contents (inner_of l.output)) (sight l.initial.reader (g.G.Gate.last l.initial.gate)) (sight l.reader (g.G.Gate.last l.gate));
+  so_far : SoFar l.first l.feed (g.R.Read.remaining (inner_of l.initial.input)) (g.R.Read.remaining (inner_of l.input)) (g.W.Write.contents (inner_of l.initial.output)) (g.W.Write.contents (inner_of l.output)) (sight l.initial.reader (g.G.Gate.calls l.initial.gate)) (sight l.reader (g.G.Gate.calls l.gate));
   going : l.feed.ended ≡ false;
   made : HasRisenBy l.counter (reads_of l.initial.input) (reads_of l.input);
+  few : reads_of l.input ≤ reads_of l.initial.input + l.counter;
   in_count : failures_of l.initial.input ≤ failures_of l.input;
   out_count : failures_of l.initial.output ≤ failures_of l.output;
 }
