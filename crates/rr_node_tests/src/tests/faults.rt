@@ -47,6 +47,7 @@ struct NoRoom {
 impl Shelf for NoRoom {
     ghost use Rattle.std.specs.Prelude.{[], ◌∷◌, None};
     ghost use Rattle.rr_host.specs.Calls.{Grows};
+    ghost use Rattle.rr_host.specs.Streams.{output_of};
     ghost use Rattle.rr_node.specs.Shelf.{put_back};
 
     type Output = Full;
@@ -61,9 +62,10 @@ impl Shelf for NoRoom {
         }
     }
 
-    fn take_back(&mut self, _output: Counted<Full>, whole: bool)
-        ensures { Grows None None (put_back None whole ∷ []) }
+    fn take_back(&mut self, output: Counted<Full>, whole: bool)
+        ensures { Grows None None (put_back (output_of (λ _. None) output) whole ∷ []) }
     {
+        drop(output);
         self.whole = Some(whole);
     }
 

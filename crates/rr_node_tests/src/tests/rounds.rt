@@ -55,7 +55,8 @@ impl Peers {
 
 impl Dial for Peers {
     ghost use Rattle.std.specs.Prelude.{[], ◌∷◌, None};
-    ghost use Rattle.rr_host.specs.Calls.{Grows, handed_back, stream};
+    ghost use Rattle.rr_host.specs.Calls.{Grows, handed_back};
+    ghost use Rattle.rr_host.specs.Streams.{stream_of};
 
     type Input = &'static [u8];
 
@@ -71,9 +72,10 @@ impl Dial for Peers {
         Some((input, Counted::new(Vec::new(self.alloc))))
     }
 
-    fn take_back(&mut self, _input: Counted<&'static [u8]>, output: Counted<Vec<u8>>)
-        ensures { Grows None None (handed_back (stream None None) ∷ []) }
+    fn take_back(&mut self, input: Counted<&'static [u8]>, output: Counted<Vec<u8>>)
+        ensures { Grows None None (handed_back (stream_of (λ _. None) (λ _. None) input.entry output) ∷ []) }
     {
+        drop(input);
         self.sent = Some(output.into_inner());
     }
 }
@@ -101,6 +103,7 @@ impl Saves {
 impl Shelf for Saves {
     ghost use Rattle.std.specs.Prelude.{[], ◌∷◌, None};
     ghost use Rattle.rr_host.specs.Calls.{Grows};
+    ghost use Rattle.rr_host.specs.Streams.{output_of};
     ghost use Rattle.rr_node.specs.Shelf.{put_back};
 
     type Output = Vec<u8>;
@@ -112,7 +115,7 @@ impl Shelf for Saves {
     }
 
     fn take_back(&mut self, output: Counted<Vec<u8>>, whole: bool)
-        ensures { Grows None None (put_back None whole ∷ []) }
+        ensures { Grows None None (put_back (output_of (λ _. None) output) whole ∷ []) }
     {
         self.saved = if whole {
             Some(output.into_inner())
@@ -135,6 +138,10 @@ struct NoSeats {
 }
 
 impl Seats for NoSeats {
+    ghost use Rattle.std.specs.Prelude.{None};
+
+    ghost calls = { λ _. None };
+
     fn serve<T: Threads + Sync>(&mut self, _rt: &T, _alloc: Global, _visits: u64) -> bool {
         self.suffices
     }

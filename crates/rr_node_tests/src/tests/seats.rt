@@ -3,7 +3,7 @@
 use super::rounds::{Peers, Saves};
 use rr_archive::PlainArchive;
 use rr_base::Counted;
-use rr_desk::{Gate, GateCall, Keeper, Reader, open};
+use rr_desk::{Gate, Keeper, Reader, open};
 use rr_fakes::replicas::minutes;
 use rr_node::{Config, Moments, Seat, Seats, Visit, Visits, serve_node, serve_seat};
 use std::alloc::Global;
@@ -65,6 +65,7 @@ impl Asked {
 
 impl Visits for Asked {
     ghost use Rattle.std.specs.Prelude.{[], ◌∷◌, None};
+    ghost use Rattle.rr_host.specs.Streams.{stream_of};
     ghost use Rattle.rr_host.specs.Visits.{HasCalled, TookBack};
 
     type Input = Request;
@@ -82,9 +83,10 @@ impl Visits for Asked {
         Visit::Stream(Counted::new(request), Counted::new(Vec::new(self.alloc)))
     }
 
-    fn take_back(&mut self, _input: Counted<Request>, output: Counted<Vec<u8>>)
-        ensures { HasCalled None None (TookBack None None ∷ []) }
+    fn take_back(&mut self, input: Counted<Request>, output: Counted<Vec<u8>>)
+        ensures { HasCalled None None (TookBack (stream_of (λ _. None) (λ _. None) input output) ∷ []) }
     {
+        drop(input);
         self.answer = Some(output.into_inner());
     }
 }
@@ -95,11 +97,12 @@ struct Meets {
     clock: HostRuntime,
     mine: Arc<AtomicU64>,
     other: Arc<AtomicU64>,
-    last: Option<GateCall>,
 }
 
 impl Gate for Meets {
-    ghost last = { λ g. g.last };
+    ghost use Rattle.std.specs.Prelude.{None};
+
+    ghost calls = { λ _. None };
 
     fn before(&mut self) -> bool {
         self.mine.store(1, Ordering::SeqCst);
@@ -111,13 +114,10 @@ impl Gate for Meets {
             }
             sleep(&self.clock, Duration::from_micros(1));
         }
-        self.last = Some(GateCall::Before(is_set));
         is_set
     }
 
-    fn after(&mut self) {
-        self.last = Some(GateCall::After);
-    }
+    fn after(&mut self) {}
 }
 
 /// A seat over memory whose gate meets the other one's.
@@ -135,6 +135,10 @@ fn is_served(alloc: Global, seat: &mut Meeting, visits: u64) -> bool {
 }
 
 impl Seats for Two {
+    ghost use Rattle.std.specs.Prelude.{None};
+
+    ghost calls = { λ _. None };
+
     fn serve<T: Threads + Sync>(&mut self, rt: &T, alloc: Global, visits: u64) -> bool {
         let served = AtomicU64::new(0);
         let count = &served;
@@ -164,7 +168,6 @@ fn seat(
         clock: *clock,
         mine: Arc::try_clone(mine).ok()?,
         other: Arc::try_clone(other).ok()?,
-        last: None,
     };
     Some(Seat {
         reader,

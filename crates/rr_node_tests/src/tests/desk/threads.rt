@@ -2,7 +2,7 @@
 
 use super::{NOTHING, answers, fetched, key};
 use rr_archive::PlainArchive;
-use rr_desk::{FetchFault, Gate, GateCall, Keeper, Reader, open};
+use rr_desk::{FetchFault, Gate, Keeper, Reader, open};
 use rr_fakes::replicas::{MINUTE, minutes};
 use rr_fetch::parse_request;
 use std::alloc::Global;
@@ -14,21 +14,18 @@ use std::time::{Clock, Duration};
 
 /// A gate that answers false.
 #[derive(Drop)]
-struct Shut {
-    last: Option<GateCall>,
-}
+struct Shut;
 
 impl Gate for Shut {
-    ghost last = { λ g. g.last };
+    ghost use Rattle.std.specs.Prelude.{None};
+
+    ghost calls = { λ _. None };
 
     fn before(&mut self) -> bool {
-        self.last = Some(GateCall::Before(false));
         false
     }
 
-    fn after(&mut self) {
-        self.last = Some(GateCall::After);
-    }
+    fn after(&mut self) {}
 }
 
 /// A gate that looks until a flag is set, and answers false if it never was.
@@ -36,11 +33,12 @@ impl Gate for Shut {
 struct Waits<'a, R: Clock> {
     rt: &'a R,
     flag: &'a AtomicU64,
-    last: Option<GateCall>,
 }
 
 impl<'a, R: Clock> Gate for Waits<'a, R> {
-    ghost last = { λ g. g.last };
+    ghost use Rattle.std.specs.Prelude.{None};
+
+    ghost calls = { λ _. None };
 
     fn before(&mut self) -> bool {
         let mut is_set = false;
@@ -51,33 +49,29 @@ impl<'a, R: Clock> Gate for Waits<'a, R> {
             }
             sleep(self.rt, Duration::from_micros(1));
         }
-        self.last = Some(GateCall::Before(is_set));
         is_set
     }
 
-    fn after(&mut self) {
-        self.last = Some(GateCall::After);
-    }
+    fn after(&mut self) {}
 }
 
 /// A gate that is open, and sets a flag when the answer is made.
 #[derive(Drop)]
 struct Sets<'a> {
     flag: &'a AtomicU64,
-    last: Option<GateCall>,
 }
 
 impl<'a> Gate for Sets<'a> {
-    ghost last = { λ g. g.last };
+    ghost use Rattle.std.specs.Prelude.{None};
+
+    ghost calls = { λ _. None };
 
     fn before(&mut self) -> bool {
-        self.last = Some(GateCall::Before(true));
         true
     }
 
     fn after(&mut self) {
         self.flag.store(1, Ordering::SeqCst);
-        self.last = Some(GateCall::After);
     }
 }
 
@@ -108,7 +102,7 @@ fn a_shut_gate_shuts_one_fetch(rt: HostRuntime) -> Result<(), Fail> {
     let Ok((keeper, mut readers)) = open(rt.alloc(), &rt, replica, 1) else {
         panic!(&rt; "no desk");
     };
-    let mut gate = Shut { last: None };
+    let mut gate = Shut;
     let is_shut = matches!(
         fetched_through(rt.alloc(), &mut readers[0], &mut gate),
         Some(Err(FetchFault::GateShut))
@@ -132,18 +126,11 @@ fn fetch_both<R: Threads + Clock + Sync>(
     join(
         rt,
         move || {
-            let mut gate = Waits {
-                rt,
-                flag: shared,
-                last: None,
-            };
+            let mut gate = Waits { rt, flag: shared };
             passes(alloc, &mut one, &mut gate)
         },
         move || {
-            let mut gate = Sets {
-                flag: shared,
-                last: None,
-            };
+            let mut gate = Sets { flag: shared };
             passes(alloc, &mut two, &mut gate)
         },
     )
