@@ -5,9 +5,7 @@ use crate::listeners::Listeners;
 use rr_command::ToolFault;
 use rr_config::Config;
 use rr_desk::{Keeper, Reader, open};
-use rr_node::{
-    Calling, FileShelf, Listening, OpenGate, Seat, SystemClock, TcpSeats, serve_node,
-};
+use rr_node::{Calling, FileShelf, Listening, OpenGate, Seat, SystemClock, TcpSeats, serve_node};
 use rr_process::Ending;
 use rr_replica::Replica;
 use rr_ring::RingArchive;
