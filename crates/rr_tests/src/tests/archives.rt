@@ -16,7 +16,10 @@ fn copied<A: Archive>(alloc: Global) -> Result<(usize, Option<i64>, Option<i64>)
     archive.put(1, origin, 1, 0, 60_000_000_000, 7)?;
     archive.join_cell(2, origin, &Contribution::first(2, 0, 120_000_000_000, 9))?;
     let copy = archive.copy(alloc)?;
-    let last = copy.row(2).first().map(|entry| entry.contribution.last_value);
+    let last = copy
+        .row(2)
+        .first()
+        .map(|entry| entry.contribution.last_value);
     Ok((copy.cell_count(), copy.newest(), last))
 }
 
@@ -24,6 +27,9 @@ fn copied<A: Archive>(alloc: Global) -> Result<(usize, Option<i64>, Option<i64>)
 fn an_archive_takes_samples_and_cells(rt: HostRuntime) -> Result<(), Fail> {
     let plain = copied::<PlainArchive>(rt.alloc())?;
     let ring = copied::<RingArchive>(rt.alloc())?;
-    assert_eq!(rt; (plain, ring), ((2, Some(2), Some(9)), (2, Some(2), Some(9))));
+    assert_eq!(rt;
+        (plain, ring),
+        ((2, Some(2), Some(9)), (2, Some(2), Some(9)))
+    );
     Ok(())
 }

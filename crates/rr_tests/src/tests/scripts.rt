@@ -32,7 +32,13 @@ fn lines_of(alloc: Global, script: &[u8]) -> Result<(Vec<u64>, bool, bool), Fail
     let last = lines.last().map(|line| line.said);
     Ok((
         numbers,
-        matches!(first, Some(Ok(Event::Now { time: b"5", lead: None }))),
+        matches!(
+            first,
+            Some(Ok(Event::Now {
+                time: b"5",
+                lead: None
+            }))
+        ),
         matches!(last, Some(Err(SyntaxFault::BadCommand))),
     ))
 }
