@@ -1,12 +1,8 @@
-mod cut;
 mod desk;
 mod faults;
 mod fetches;
 mod file_shelf;
 mod loopback;
-mod process;
-mod program;
 mod pulls;
 mod rounds;
 mod seats;
-mod server;
