@@ -4,3 +4,4 @@ pub mod PlaceLemmas
 pub mod Checked
 pub mod SchemaBytesLemmas
 pub mod AfterLemmas
+pub mod AddedLemmas

@@ -4,7 +4,7 @@ use Rattle.std.specs.List.Sorted.{IsStrictlyIncreasing}
 use Rattle.std.proofs.lemmas.List.{get_or-map, length-map}
 use Rattle.rr_schema.specs.declared.archive.ArchiveSpec.{ArchiveSpec}
 
-abbrev past : ArchiveSpec
+abbrev pub past : ArchiveSpec
 past = record { steps = 1; rows = 1; num = 0; den = 1 }
 
 abbrev pub steps_at : List ArchiveSpec → ℕ → ℕ
@@ -13,7 +13,7 @@ steps_at archives i = (get_or archives i past).steps
 abbrev pub Rise : List ArchiveSpec → Type 0
 Rise archives = IsStrictlyIncreasing (map (λ a. a.steps) archives)
 
-next_above : (archives : List ArchiveSpec) → Rise archives → (i : ℕ) → i + 1 < length archives → steps_at archives i < steps_at archives (i + 1)
+pub next_above : (archives : List ArchiveSpec) → Rise archives → (i : ℕ) → i + 1 < length archives → steps_at archives i < steps_at archives (i + 1)
 next_above archives rising i lt =
     let here = get_or-map (λ a. a.steps) archives i past 0 (omega arith) in
     let next = get_or-map (λ a. a.steps) archives (i + 1) past 0 lt in

@@ -4,3 +4,4 @@ pub mod Fault
 pub mod Check
 pub mod Choice
 pub mod SchemaBytes
+pub mod Added

@@ -3,6 +3,7 @@ ghost use Rattle.std.specs.Prelude.{ℕ};
 ghost use Rattle.rr_schema.specs.Schema.{Layout, IsLayout, choice};
 ghost use Rattle.rr_schema.specs.Choice.{IsChoice};
 ghost use Rattle.rr_schema.specs.SchemaBytes.{BytesTellTheSchema};
+ghost use Rattle.rr_schema.specs.Added.{OneIsAdded, OneLessIsLayout};
 
 /// The bytes of a schema determine the schema, whatever follows them.
 pub fn bytes_tell_the_schema()
@@ -13,4 +14,11 @@ pub fn bytes_tell_the_schema()
 /// resolution, else the one with the least span.
 pub fn choice_is_the_rule()
     ensures { (s : Layout) (resolution : ℕ) → IsLayout s → IsChoice s resolution (choice s resolution) }
+{}
+
+/// At most one archive of a schema is the one that it has more than another, and without it a schema
+/// is within the limits.
+pub fn one_archive_is_added()
+    ensures one { OneIsAdded }
+    ensures less { OneLessIsLayout }
 {}

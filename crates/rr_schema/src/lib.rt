@@ -9,6 +9,7 @@
 //! round to the floor, so times before the epoch fall into slots as those after it do.
 #![tactic(auto)]
 
+mod added;
 mod archive;
 mod consolidation;
 mod fault;

@@ -1,6 +1,6 @@
 //! The schema of a store.
 
-ghost use Rattle.std.specs.Prelude.{◌≡◌, ◌<◌, ◌≤◌, ◌*◌, nat_eq, pos, length, unsigned_abs, unwrap_or, IfOk, IfErr, OnOk};
+ghost use Rattle.std.specs.Prelude.{◌≡◌, ◌<◌, ◌≤◌, ◌*◌, nat_eq, pos, length, unsigned_abs, unwrap_or, IfOk, IfErr, OnOk, IfSome, IfNone, ℕ};
 ghost use Rattle.std.specs.Cmp.Lexicographic.{pointwise};
 ghost use Rattle.std.specs.Int.{int_div_euclid, int_rem_euclid};
 ghost use Rattle.std.specs.Result.{result_err};
@@ -9,7 +9,9 @@ ghost use Rattle.rr_schema.specs.Check.{archive_fault, archives_fault, schema_fa
 ghost use Rattle.rr_schema.specs.Choice.{IsChoice};
 ghost use Rattle.rr_text.specs.declared.limits.TheConstants.{MAX_STEPS};
 ghost use Rattle.rr_schema.specs.SchemaBytes.{schema_bytes};
+ghost use Rattle.rr_schema.specs.Added.{HasAdded};
 
+use crate::added::{archives_without, number_of_added};
 use crate::archive::ArchiveSpec;
 use crate::fault::SchemaFault;
 use crate::schema_bytes::{ARCHIVE_LEN, are_of_schema, push_archives};
@@ -159,6 +161,34 @@ impl Schema {
         ensures within { IfOk result IsLayout }
     {
         let archives = Vec::from_slice(alloc, &self.archives)?;
+        Ok(Schema {
+            step: self.step,
+            archives,
+        })
+    }
+
+    /// The number of the archive that this schema has more than an older one, where it has the step
+    /// and the archives of the older one, in their order, and one more. No memory is taken; the cost
+    /// is quadratic in the archives, of which there are few.
+    pub fn added(&self, old: &Schema) -> Option<u8>
+        ensures some { IfSome result (λ i. HasAdded i self.now old.now) }
+        ensures none { IfNone result ((i : ℕ) → HasAdded i self.now old.now → ⊥) }
+    {
+        if self.step != old.step {
+            return None;
+        }
+        number_of_added(&self.archives, &old.archives).map(|number: usize| number as u8)
+    }
+
+    /// The schema without the archive that has a number, of a schema that has others. The cost is
+    /// linear in the archives.
+    pub fn without(&self, alloc: Global, number: u8) -> Result<Schema, AllocError>
+        requires is_there { number < length self.now.archives }
+        requires others { 2 ≤ length self.now.archives }
+        ensures made { IfOk result (λ s. HasAdded number self.now s) }
+        ensures within { IfOk result IsLayout }
+    {
+        let archives = archives_without(alloc, number as usize, &self.archives)?;
         Ok(Schema {
             step: self.step,
             archives,
