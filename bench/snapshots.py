@@ -18,7 +18,7 @@ from store import TOP, best, key, writes
 
 # The bytes of a snapshot besides its cells, and of a cell besides its key text.
 HEAD_AND_DIGEST = 57
-FIELDS = 85
+FIELDS = 93
 
 
 def length(series, minutes):

@@ -2,6 +2,7 @@
 
 use rr_contrib::Contribution;
 use rr_schema::Origin;
+use std::mem::size_of;
 
 /// What one origin contributes to a row.
 #[derive(Clone, Copy, Debug, PartialEq, Eq)]
@@ -11,3 +12,5 @@ pub struct Entry {
     /// What they come to.
     pub contribution: Contribution,
 }
+
+const _: () = prove!(size_of::<Entry>() == 96);

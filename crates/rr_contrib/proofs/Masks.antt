@@ -11,7 +11,7 @@ use Rattle.std.proofs.lemmas.Nat.Bits.{bit_at_or, bit_at-pow_same, bit_at-lt, bi
 
 -- the bits of a mask
 abbrev pub width : ℕ
-width = 64
+width = 128
 
 -- ---- halves of a mask
 

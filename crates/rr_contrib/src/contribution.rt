@@ -9,9 +9,10 @@ ghost use Rattle.rr_contrib.specs.Validity.{IsBounded, IsValid, StartsValid, Kee
 use rr_join::{Join, join_max};
 use rr_schema::Schema;
 use rr_text::limits::{MAX_NUMBER, MAX_STEPS};
+use std::mem::size_of;
 
 /// A set of places of a slot, place `p` as bit `p`.
-pub type Mask = u64;
+pub type Mask = u128;
 
 const _: () = prove!(MAX_STEPS <= Mask::BITS);
 
@@ -32,9 +33,11 @@ pub struct Contribution {
     pub last_time: i64,
     /// The value of the last sample by time, and at one time by number.
     pub last_value: i64,
-    /// The places that the samples fell in.
+    /// The places that the samples fell in. Last, since its sixteen bytes leave no padding so.
     pub mask: Mask,
 }
+
+const _: () = prove!(size_of::<Contribution>() == 80);
 
 fn has_place(mask: Mask, place: u32) -> bool
     ensures { IsTrue result ↔ (bit_at mask place ≡ 1) }
@@ -72,7 +75,7 @@ impl Contribution {
     /// The contribution of one sample: its number, its place in the slot, its time in nanoseconds
     /// since the Unix epoch and its value.
     ///
-    /// The number is from 1 to 2^40, the place below 64.
+    /// The number is from 1 to 2^40, the place below 128.
     pub fn first(number: u64, place: u32, time: i64, value: i64) -> Contribution
         requires some_number { 1 ≤ number }
         requires known_number { number ≤ MAX_NUMBER }

@@ -7,6 +7,7 @@ use Rattle.rr_text.specs.Results.{◌>>=◌, unless}
 use Rattle.rr_schema.specs.Schema.{Layout, IsLayout}
 use Rattle.rr_page.specs.Page.{IsPage, page_text}
 use Rattle.rr_page.specs.Version.{latest}
+use Rattle.rr_page.proofs.HeadLemmas.{masks_wide}
 use Rattle.rr_page.proofs.PageLemmas.{page_again}
 use Rattle.rr_cells.specs.CellBounds.{NamedCell, IsCellOf}
 use Rattle.rr_cells.specs.Cells.{Cells}
@@ -68,7 +69,7 @@ module _ (s : Layout) (is : IsLayout s) (before limit : ℕ) where
 
   page : (es : List NamedCell) → IsPage s es → body_taken s kind.Page (page_text latest s es) ≡ Ok ((Waiting, es), false)
   unfolding page_taken
-  page es h = ap (λ r. as_body r >>= λ (fs : List NamedCell). Ok ((Waiting, fs), false)) (page_again s (page_text latest s es) es is h (record { version = latest; text = refl }))
+  page es h = ap (λ r. as_body r >>= λ (fs : List NamedCell). Ok ((Waiting, fs), false)) (page_again s (page_text latest s es) es is h (record { version = latest; wide = masks_wide s is; text = refl }))
 
   page_end : body_taken s kind.PageEnd [] ≡ Ok ((Done, []), true)
   unfolding end_taken

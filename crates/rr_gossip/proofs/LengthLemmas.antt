@@ -22,7 +22,7 @@ use Rattle.rr_gossip.specs.declared.summary.TheConstants.{MAX_ENTRIES}
 use Rattle.rr_gossip.specs.Summary.{entry_text, summary_text}
 use Rattle.rr_gossip.specs.declared.frame.TheConstants.{MAX_FRAME_LEN}
 
-cells_len : (s : Layout) (es : List NamedCell) → AllByRecursion (IsCellOf s) es → length (flat_map (cell_text latest) es) ≤ 1109 * length es
+cells_len : (s : Layout) (es : List NamedCell) → AllByRecursion (IsCellOf s) es → length (flat_map (cell_text latest) es) ≤ 1117 * length es
 cells_len s [] all = omega arith
 cells_len s (e ∷ es) all =
     let key = (some_text e.0.key all.0.key).1 in

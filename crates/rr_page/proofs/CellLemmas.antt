@@ -21,7 +21,7 @@ use Rattle.rr_key.proofs.DecisionLemmas.{Decides-is_key_text}
 use Rattle.rr_page.specs.declared.fault.PageFault.{PageFault}
 use Rattle.rr_page.specs.declared.fault.PageFault.TheVariants.{BadKey, BadArchive, BadContribution}
 use Rattle.rr_page.specs.declared.version.Version.{Version}
-use Rattle.rr_page.specs.declared.version.Version.TheVariants.{One}
+use Rattle.rr_page.specs.declared.version.Version.TheVariants.{One, Two}
 use Rattle.rr_page.specs.Version.{mask_width, HasMasksFor}
 use Rattle.rr_cells.specs.CellBounds.{NamedCell, IsCellOf}
 use Rattle.rr_page.specs.CellText.{signed_bytes, sums_text, values_text, name_text, cell_text}
@@ -35,6 +35,7 @@ use Rattle.rr_page.proofs.FieldLemmas.{not_false, and_then, bind_ok, unless_ok, 
 
 mask_wide : (v : Version) → IsWide (mask_width v)
 mask_wide One = wide64
+mask_wide Two = wide128
 
 -- ---- the key
 

@@ -1,6 +1,6 @@
 -- More bytes after those that are read change no answer but Short, so the front of a page is Short.
 use Rattle.std.proofs.Common.{◌≡◌, ℕ, zero, suc, ◌≤◌, Bool, true, false, ◌||◌, ltb, List, [], ◌∷◌, ◌++◌, length, Option, None, Some, Result, Ok, Err, refl, sym, ap, ◌∙◌, arith, inl, inr}
-use Rattle.std.specs.Prelude.{◌⊎◌, nat_lt, nat_eq, not, ◌==◌}
+use Rattle.std.specs.Prelude.{◌⊎◌, nat_lt, nat_eq, not, ◌==◌, ok_or}
 use Rattle.std.specs.Cmp.Lexicographic.{pointwise}
 use Rattle.std.specs.Int.{Width, w8, w16, w64, w128, byte_len, from_be_bytes, cast_signed}
 use Rattle.std.proofs.lemmas.Bool.{ltb-false, le-ltb}
@@ -17,12 +17,11 @@ use Rattle.rr_cells.specs.CellBounds.{NamedCell}
 use Rattle.rr_page.specs.declared.fault.PageFault.{PageFault}
 use Rattle.rr_page.specs.declared.fault.PageFault.TheVariants.{Short, BadMagic, BadVersion, SchemaDiffers, TooManyCells, BadKey, BadArchive, BadContribution, OutOfOrder, TrailingBytes}
 use Rattle.rr_page.specs.declared.version.Version.{Version}
-use Rattle.rr_page.specs.declared.version.Version.TheVariants.{One}
 use Rattle.rr_page.specs.Laws.{FrontsAreShort}
 use Rattle.rr_page.specs.Page.{magic, page_text}
-use Rattle.rr_page.specs.PageReading.{is_after, version_at, start_at, schema_at, head_at, cells_at, front_page_at, page_at}
+use Rattle.rr_page.specs.PageReading.{is_after, version_at, start_at, schema_at, is_schema, head_at, cells_at, front_page_at, page_at}
 use Rattle.rr_page.specs.Reading.{front_at, number_at, signed_at, key_at, archive_at, contribution_at, cell_at}
-use Rattle.rr_page.specs.Version.{mask_width}
+use Rattle.rr_page.specs.Version.{mask_width, named_version, latest}
 use Rattle.rr_page.proofs.FieldLemmas.{ok_is}
 use Rattle.rr_page.proofs.PageLemmas.{front_page_again}
 
@@ -130,7 +129,11 @@ IsFront-cells v s before (suc n) =
 
 pub IsFront-version : IsFront version_at
 unfolding version_at
-IsFront-version = IsFront-then (number_at w8) _ (IsFront-number w8) (λ n. IsFront-unless BadVersion (not (n == 1)) (λ bytes. Ok (One, bytes)) (IsFront-done One))
+IsFront-version = IsFront-then (number_at w8) _ (IsFront-number w8) (λ n. named (named_version n))
+  where
+    named : (o : Option Version) → IsFront (λ bytes. ok_or o BadVersion >>= λ (v : Version). Ok (v, bytes))
+    named None = IsFront-unless BadVersion true (λ bytes. Ok (latest, bytes)) (IsFront-done latest)
+    named (Some v) = IsFront-done v
 
 IsFront-start : IsFront start_at
 unfolding start_at
@@ -146,8 +149,8 @@ IsFront-head : (s : Layout) → IsFront (head_at s)
 unfolding head_at
 IsFront-head s =
     IsFront-then (schema_at s) _ (IsFront-schema s) (λ field.
-    IsFront-then (λ bytes. unless SchemaDiffers (not (pointwise nat_eq field.1 (schema_bytes s))) (number_at w16 bytes)) _
-    (IsFront-unless SchemaDiffers (not (pointwise nat_eq field.1 (schema_bytes s))) (number_at w16) (IsFront-number w16))
+    IsFront-then (λ bytes. unless SchemaDiffers (not (is_schema field.0 s field.1)) (number_at w16 bytes)) _
+    (IsFront-unless SchemaDiffers (not (is_schema field.0 s field.1)) (number_at w16) (IsFront-number w16))
     (λ count. IsFront-unless TooManyCells (nat_lt MAX_PAGE_CELLS count) (λ bytes. Ok ((field.0, count), bytes)) (IsFront-done (field.0, count))))
 
 IsFront-page : (s : Layout) → IsFront (front_page_at s)

@@ -6,7 +6,7 @@ use Rattle.rr_contrib.specs.declared.contribution.Contribution.{Contribution}
 use Rattle.rr_model.specs.CellNames.{CellName}
 use Rattle.rr_cells.specs.CellBounds.{NamedCell}
 use Rattle.rr_page.specs.declared.version.Version.{Version}
-use Rattle.rr_page.specs.declared.version.Version.TheVariants.{One}
+use Rattle.rr_page.specs.declared.version.Version.TheVariants.{One, Two}
 use Rattle.rr_page.specs.CellText.{signed_bytes, sums_text, values_text, name_text, cell_text}
 use Rattle.rr_page.specs.Version.{fields_len}
 
@@ -27,6 +27,7 @@ sums_len c = refl
 values_len : (v : Version) (c : Contribution) → 45 + length (values_text v c) ≡ fields_len v
 unfolding values_text
 values_len One c = refl
+values_len Two c = refl
 
 pub cell_len : (v : Version) (e : NamedCell) → length (cell_text v e) ≡ fields_len v + length e.0.key
 unfolding cell_text

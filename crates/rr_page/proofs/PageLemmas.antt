@@ -18,7 +18,6 @@ use Rattle.rr_cells.specs.Listing.{owned_cell}
 use Rattle.rr_page.specs.declared.fault.PageFault.{PageFault}
 use Rattle.rr_page.specs.declared.fault.PageFault.TheVariants.{TrailingBytes, Memory}
 use Rattle.rr_page.specs.declared.version.Version.{Version}
-use Rattle.rr_page.specs.declared.version.Version.TheVariants.{One}
 use Rattle.rr_page.specs.CellText.{cell_text}
 use Rattle.rr_page.specs.Laws.{AreBytes, PagesAreTheirText, NoPageBeginsAnother}
 use Rattle.rr_page.specs.Page.{IsPage, IsPageText, magic, head_text, page_text}
@@ -29,13 +28,10 @@ use Rattle.rr_page.proofs.FieldLemmas.{not_false, and_then, unless_ok, ok_is, Ta
 use Rattle.rr_page.proofs.HeadLemmas.{head_takes, head_again, start_again}
 use Rattle.rr_page.proofs.OrderLemmas.{rising_sorted, sorted_rising}
 
--- the masks of every version are wide enough for every schema within the limits
-pub masks_wide : (v : Version) (s : Layout) → IsLayout s → HasMasksFor v s
-masks_wide One s is = λ k d h. (is.each k d h).few_steps
-
 pub record IsRead (s : Layout) (bytes : List ℕ) (es : List NamedCell) (rest : List ℕ) : Type 0 where
   pub page : IsPage s es
   pub version : Version
+  pub wide : HasMasksFor version s
   pub takes : Takes bytes (page_text version s es) rest
 
 front_page_takes : (s : Layout) (bytes : List ℕ) (x : List NamedCell × List ℕ) → AreBytes bytes → front_page_at s bytes ≡ Ok x → IsRead s bytes x.0 x.1
@@ -47,6 +43,7 @@ front_page_takes s bytes x fits e =
     record {
       page = record { count_fits = subst (λ (n : ℕ). n ≤ MAX_PAGE_CELLS) (sym t1.many) t0.1; cells = All-from_recursion (IsCellOf s) x.0 t1.each; names_ascend = rising_sorted None x.0 t1.rising };
       version = head.0.0;
+      wide = t0.2;
       takes = and_then (subst (λ (n : ℕ). Takes bytes (head_text head.0.0 s n) head.1) (sym t1.many) t0.0) t1.takes;
     })
 
@@ -54,7 +51,7 @@ pub front_page_again : (v : Version) (s : Layout) (es : List NamedCell) (rest : 
 unfolding front_page_at page_text
 front_page_again v s es rest layout wide page =
     ap (front_page_at s) (append_assoc (head_text v s (length es)) (flat_map (cell_text v) es) rest)
-    ∙ step _ (head_again s v (length es) (flat_map (cell_text v) es ++ rest) page.count_fits)
+    ∙ step _ (head_again s v (length es) (flat_map (cell_text v) es ++ rest) page.count_fits wide)
     ∙ cells_again v s None es rest layout wide (recursion_from_All (IsCellOf s) es page.cells) (sorted_rising es page.names_ascend)
 
 pub page_takes : (s : Layout) (bytes : List ℕ) (es : List NamedCell) → AreBytes bytes → page_at s bytes ≡ Ok es → IsPage s es × IsPageText s es bytes
@@ -65,12 +62,12 @@ page_takes s bytes es fits e =
     let t = front_page_takes s bytes cells fits i in
     let nothing : cells.1 ≡ [] = nil_from_length cells.1 (eqb-true _ _ (not_false (length cells.1 == 0) g.0)) in
     let whole : bytes ≡ page_text t.version s cells.0 = t.takes.parts ∙ ap (λ (l : List ℕ). page_text t.version s cells.0 ++ l) nothing ∙ append-nil (page_text t.version s cells.0) in
-    subst (λ (fs : List NamedCell). IsPage s fs × IsPageText s fs bytes) (ok_is cells.0 es g.1) (t.page, record { version = t.version; text = whole }))
+    subst (λ (fs : List NamedCell). IsPage s fs × IsPageText s fs bytes) (ok_is cells.0 es g.1) (t.page, record { version = t.version; wide = t.wide; text = whole }))
 
 pub page_again : (s : Layout) (bytes : List ℕ) (es : List NamedCell) → IsLayout s → IsPage s es → IsPageText s es bytes → page_at s bytes ≡ Ok es
 unfolding page_at
 page_again s bytes es layout page text =
-    ap (page_at s) (text.text ∙ sym (append-nil (page_text text.version s es))) ∙ step _ (front_page_again text.version s es [] layout (masks_wide text.version s layout) page)
+    ap (page_at s) (text.text ∙ sym (append-nil (page_text text.version s es))) ∙ step _ (front_page_again text.version s es [] layout text.wide page)
 
 pub pages_are_their_text : PagesAreTheirText
 pages_are_their_text s bytes es layout fits = ((λ e. page_takes s bytes es fits e), (λ p. page_again s bytes es layout p.0 p.1))

@@ -10,7 +10,7 @@ use Rattle.rr_model.specs.CellNames.{cell_name_cmp}
 use Rattle.rr_cells.specs.CellBounds.{NamedCell, IsCellOf}
 use Rattle.rr_page.specs.declared.version.Version.{Version}
 use Rattle.rr_page.specs.CellText.{cell_text}
-use Rattle.rr_page.specs.Version.{version_byte}
+use Rattle.rr_page.specs.Version.{version_byte, HasMasksFor}
 
 -- at most 256 cells of the schema, strictly ascending by their names
 pub record IsPage (s : Layout) (es : List NamedCell) : Type 0 where
@@ -30,7 +30,8 @@ head_text v s count = magic ++ (version_byte v ∷ (schema_bytes s ++ to_be_byte
 unfoldable pub page_text : Version → Layout → List NamedCell → List ℕ
 page_text v s es = head_text v s (length es) ++ flat_map (cell_text v) es
 
--- the bytes are the text of these cells, in some version
+-- the bytes are the text of these cells, in some version that has masks for the schema
 pub record IsPageText (s : Layout) (es : List NamedCell) (bytes : List ℕ) : Type 0 where
   pub version : Version
+  pub wide : HasMasksFor version s
   pub text : bytes ≡ page_text version s es

@@ -1,5 +1,5 @@
 -- The reading of a page, as a function of the bytes: field by field, up to the first fault.
-use Rattle.std.specs.Prelude.{ℕ, zero, suc, nat_lt, Bool, true, not, ◌==◌, nat_eq, List, [], ◌∷◌, length, map, Result, Ok, Option, None, Some}
+use Rattle.std.specs.Prelude.{ℕ, zero, suc, nat_lt, Bool, true, not, ◌==◌, nat_eq, List, [], ◌∷◌, length, map, Result, Ok, ok_or, Option, None, Some, ◌&&◌}
 use Rattle.std.specs.Cmp.Lexicographic.{pointwise}
 use Rattle.std.specs.Int.{w8, w16}
 use Rattle.std.specs.List.{last_or}
@@ -13,8 +13,8 @@ use Rattle.rr_cells.specs.CellBounds.{NamedCell}
 use Rattle.rr_page.specs.declared.fault.PageFault.{PageFault}
 use Rattle.rr_page.specs.declared.fault.PageFault.TheVariants.{BadMagic, BadVersion, SchemaDiffers, TooManyCells, OutOfOrder, TrailingBytes}
 use Rattle.rr_page.specs.declared.version.Version.{Version}
-use Rattle.rr_page.specs.declared.version.Version.TheVariants.{One}
 use Rattle.rr_page.specs.Page.{magic}
+use Rattle.rr_page.specs.Version.{named_version, has_masks_for}
 use Rattle.rr_page.specs.Reading.{front_at, number_at, cell_at}
 
 -- ---- what a page has before its cells
@@ -22,8 +22,9 @@ use Rattle.rr_page.specs.Reading.{front_at, number_at, cell_at}
 -- a version, and what follows it
 unfoldable pub version_at : List ℕ → Result (Version × List ℕ) PageFault
 version_at bytes = do
-  version ← number_at w8 bytes
-  unless BadVersion (not (version.0 == 1)) (Ok (One, version.1))
+  byte ← number_at w8 bytes
+  version ← ok_or (named_version byte.0) BadVersion
+  Ok (version, byte.1)
 
 -- the bytes that every page begins with, then its version, and what follows it
 unfoldable pub start_at : List ℕ → Result (Version × List ℕ) PageFault
@@ -38,11 +39,15 @@ schema_at s bytes = do
   field ← front_at (length (schema_bytes s)) version.1
   Ok ((version.0, field.0), field.1)
 
+-- whether these bytes are those of a schema for which the version has masks
+abbrev pub is_schema : Version → Layout → List ℕ → Bool
+is_schema v s field = has_masks_for v s && pointwise nat_eq field (schema_bytes s)
+
 -- the version and the number of cells, and what follows them
 unfoldable pub head_at : Layout → List ℕ → Result ((Version × ℕ) × List ℕ) PageFault
 head_at s bytes = do
   field ← schema_at s bytes
-  count ← unless SchemaDiffers (not (pointwise nat_eq field.0.1 (schema_bytes s))) (number_at w16 field.1)
+  count ← unless SchemaDiffers (not (is_schema field.0.0 s field.0.1)) (number_at w16 field.1)
   unless TooManyCells (nat_lt MAX_PAGE_CELLS count.0) (Ok ((field.0.0, count.0), count.1))
 
 -- ---- the cells

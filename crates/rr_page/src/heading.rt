@@ -22,11 +22,12 @@ pub fn version_of(bytes: &[u8]) -> Result<(Version, &[u8]), PageFault>
     ensures read { Gives (λ x. (x.0, x.1.now)) result (version_at bytes.now) }
     ensures no_memory { result ≢ Err PageFault.Memory }
 {
-    let (version, rest) = u8_at(bytes)?;
-    if version != Version::One.byte() {
-        return Err(PageFault::BadVersion);
+    let (byte, rest) = u8_at(bytes)?;
+    match byte {
+        1 => Ok((Version::One, rest)),
+        2 => Ok((Version::Two, rest)),
+        _ => Err(PageFault::BadVersion),
     }
-    Ok((Version::One, rest))
 }
 
 /// The bytes that every page begins with, then its version, and what follows it.
@@ -66,7 +67,7 @@ pub(crate) fn head_of<'a>(
     ensures no_memory { result ≢ Err PageFault.Memory }
 {
     let (version, field, rest) = schema_of(bytes, schema)?;
-    if !schema.has_bytes(field) {
+    if !version.has_masks_for(schema) || !schema.has_bytes(field) {
         return Err(PageFault::SchemaDiffers);
     }
     let (count, rest) = u16_at(rest)?;

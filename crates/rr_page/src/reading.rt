@@ -7,13 +7,13 @@ ghost use Rattle.rr_page.specs.CellText.{cell_text};
 ghost use Rattle.rr_page.specs.Reading.{number_at, key_at, archive_at, contribution_at, cell_at};
 ghost use Rattle.rr_page.specs.Found.{found_cell};
 ghost use Rattle.rr_page.specs.PageReading.{is_after};
-ghost use Rattle.rr_page.specs.Version.{latest, mask_width};
+ghost use Rattle.rr_page.specs.Version.{mask_width};
 ghost use Rattle.rr_cells.specs.CellBounds.{IsCellOf};
 ghost use Rattle.rr_cells.specs.Listing.{owned_cell};
 
 use crate::fault::PageFault;
-use crate::fields::{bytes_at, i64_at, i128_at, u8_at, u16_at, u64_at};
-use crate::version::{LATEST, Version};
+use crate::fields::{bytes_at, i64_at, i128_at, u8_at, u16_at, u64_at, u128_at};
+use crate::version::Version;
 use rr_cells::Cell;
 use rr_contrib::{Contribution, Mask};
 use rr_key::{SeriesKey, is_key_text};
@@ -74,14 +74,18 @@ pub fn archive_of<'a>(bytes: &'a [u8], schema: &Schema) -> Result<(u8, &'a [u8])
     Ok((archive, rest))
 }
 
-/// A mask, and what follows it.
+/// A mask, and what follows it. The masks of version 1 have the places below 64.
 fn mask_of(bytes: &[u8], version: Version) -> Result<(Mask, &[u8]), PageFault>
     ensures read { Gives (λ x. (x.0, x.1.now)) result
         (number_at (mask_width version) bytes.now) }
     ensures no_memory { result ≢ Err PageFault.Memory }
 {
     match version {
-        Version::One => u64_at(bytes),
+        Version::One => {
+            let (mask, rest) = u64_at(bytes)?;
+            Ok((Mask::from(mask), rest))
+        }
+        Version::Two => u128_at(bytes),
     }
 }
 
@@ -202,25 +206,30 @@ pub fn read_cell_in<'a>(
     }
 }
 
-/// The cell at the front of the bytes, in the latest version, one of the schema's and valid there,
-/// and how many bytes it takes. Bytes may follow it.
+/// The cell at the front of the bytes, in a version, one of the schema's and valid there, and how
+/// many bytes it takes. Bytes may follow it.
 ///
 /// Refusals are those of the first bad field: `Short` where fewer bytes are left than a field has;
 /// `BadKey` where the length of the key is 0 or above 1,024, before its text is read, or the text is
 /// not a key text; `BadArchive`; and after the last field `BadContribution`, for the origin 0 too.
 /// The key is copied last, so `Memory` comes only where a cell is there. The cost is linear in the key
 /// text.
-pub fn read_cell(alloc: Global, bytes: &[u8], schema: &Schema) -> Result<(Cell, usize), PageFault>
+pub fn read_cell(
+    alloc: Global,
+    bytes: &[u8],
+    schema: &Schema,
+    version: Version,
+) -> Result<(Cell, usize), PageFault>
     ensures read { GivesUnless PageFault.Memory (λ x. (owned_cell x.0, drop x.1 bytes.now)) result
-        (cell_at latest schema.now bytes.now) }
-    ensures memory { NeedsMemoryAfter PageFault.Memory (cell_at latest schema.now bytes.now)
+        (cell_at version schema.now bytes.now) }
+    ensures memory { NeedsMemoryAfter PageFault.Memory (cell_at version schema.now bytes.now)
         result }
     ensures text { IfOk result (λ x.
-        bytes.now ≡ cell_text latest (owned_cell x.0) ++ drop x.1 bytes.now) }
-    ensures len { IfOk result (λ x. x.1 ≡ length (cell_text latest (owned_cell x.0))) }
+        bytes.now ≡ cell_text version (owned_cell x.0) ++ drop x.1 bytes.now) }
+    ensures len { IfOk result (λ x. x.1 ≡ length (cell_text version (owned_cell x.0))) }
     ensures cell { IfOk result (λ x. IsCellOf schema.now (owned_cell x.0)) }
 {
-    let (cell, rest) = read_cell_in(alloc, bytes, schema, LATEST)?;
+    let (cell, rest) = read_cell_in(alloc, bytes, schema, version)?;
     let len = bytes.len() - rest.len();
     Ok((cell, len))
 }

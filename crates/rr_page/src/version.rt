@@ -1,16 +1,22 @@
 //! The versions of the bytes of cells and pages.
 ghost use Rattle.std.specs.Prelude.{◌≡◌};
-ghost use Rattle.rr_page.specs.Version.{version_byte};
+ghost use Rattle.std.specs.Int.{Width};
+ghost use mir.Val.{bits};
+ghost use Rattle.rr_page.specs.Version.{version_byte, mask_width, has_masks_for};
+
+use rr_schema::{ArchiveSpec, Schema};
 
 /// How cells and pages are laid out as bytes.
 #[derive(Clone, Copy, Debug, PartialEq, Eq)]
 pub enum Version {
-    /// A mask has eight bytes.
+    /// A mask has eight bytes. It is read, and no longer written.
     One,
+    /// A mask has sixteen bytes.
+    Two,
 }
 
 /// The version that is written.
-pub const LATEST: Version = Version::One;
+pub const LATEST: Version = Version::Two;
 
 impl Version {
     /// The byte that a page has for it.
@@ -19,6 +25,28 @@ impl Version {
     {
         match self {
             Version::One => 1,
+            Version::Two => 2,
         }
+    }
+
+    /// How many bits a mask has.
+    fn mask_bits(self) -> u32
+        ensures { result ≡ bits (mask_width self) }
+    {
+        match self {
+            Version::One => u64::BITS,
+            Version::Two => u128::BITS,
+        }
+    }
+
+    /// Whether a mask has a bit for each step of each archive of a schema.
+    pub fn has_masks_for(self, schema: &Schema) -> bool
+        ensures { result ≡ has_masks_for self schema.now }
+    {
+        let bits = self.mask_bits();
+        schema
+            .archives()
+            .iter()
+            .all(|archive: &ArchiveSpec| archive.steps <= bits)
     }
 }

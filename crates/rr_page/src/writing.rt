@@ -13,9 +13,9 @@ use rr_schema::Origin;
 use std::alloc::{AllocError, Global};
 
 /// How many bytes a cell of the latest version has besides its key text.
-pub const FIELDS_LEN: usize = 85;
+pub const FIELDS_LEN: usize = 93;
 
-const _: () = prove!(FIELDS_LEN == 85);
+const _: () = prove!(FIELDS_LEN == 93);
 
 /// Adds how many samples a contribution has.
 #[tactic(auto, unfolding(crate::specs::CellText::sums_text))]
@@ -84,7 +84,7 @@ pub(crate) fn push_cell(
     Ok(())
 }
 
-/// A cell as bytes in the latest version: 85 bytes and the key text. The cost is linear in the key
+/// A cell as bytes in the latest version: 93 bytes and the key text. The cost is linear in the key
 /// text.
 pub fn cell_bytes(alloc: Global, cell: CellRef<'_>) -> Result<Vec<u8>, AllocError>
     ensures text { IfOk result (λ bytes. bytes.items ≡ cell_text latest (seen_cell cell.entry)) }

@@ -7,7 +7,6 @@ use Rattle.sha2.specs.Sha256.{sha256}
 use Rattle.sha2.specs.declared.Sha256.{Sha256}
 use Rattle.rr_text.specs.Results.{◌>>=◌}
 use Rattle.rr_schema.specs.Schema.{Layout}
-use Rattle.rr_schema.specs.SchemaBytes.{schema_bytes}
 use Rattle.rr_page.specs.declared.version.Version.{Version}
 use Rattle.rr_page.specs.PageReading.{cells_at}
 use Rattle.rr_cells.specs.CellBounds.{NamedCell}
@@ -35,7 +34,7 @@ pub of_rest : (P : List ℕ → Type 0) (o : Option (List ℕ)) (rest : List ℕ
 of_rest P o rest is h = subst (λ (x : Option (List ℕ)). IfSome x P) is h
 
 abbrev pub HeadRead : Layout → Version → ℕ → ℕ → Option (List ℕ) → Option (List ℕ) → Type 0
-HeadRead s v saver count old now = Gave (v, (saver, count)) old now (head_at (schema_bytes s))
+HeadRead s v saver count old now = Gave (v, (saver, count)) old now (head_at s)
 
 abbrev pub CellsRead : Layout → Version → ℕ → List NamedCell → Option (List ℕ) → Option (List ℕ) → Type 0
 CellsRead s v count es old now = Gave es old now (λ all. as_in_page (cells_at v s None count all))

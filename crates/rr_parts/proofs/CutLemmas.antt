@@ -63,11 +63,11 @@ module _ (v : Version) (s : Layout) (o : ℕ) (es : List NamedCell) (front rest 
   abbrev with_count : Result (ℕ × List ℕ) LoadFault → Result (ℕ × List NamedCell) LoadFault
   with_count r = (r >>= λ count. Ok ((v, (o, count.0)), count.1)) >>= after_head s front
 
-  start_whole : start_at (schema_bytes s) (front ++ rest) ≡ Ok ((v, o), counted)
+  start_whole : start_at s (front ++ rest) ≡ Ok ((v, o), counted)
   unfolding snapshot_text
-  start_whole = ap (start_at (schema_bytes s)) (sym whole ∙ by_schema v s o es digest) ∙ start_again (schema_bytes s) v o counted (omega (arith, is.origin_fits.at_most))
+  start_whole = ap (start_at s) (sym whole ∙ by_schema v s o es digest) ∙ start_again s v o counted wide (omega (arith, is.origin_fits.at_most))
 
-  by_cells : (left0 left1 : List ℕ) → start_at (schema_bytes s) front ≡ Ok ((v, o), left0) → number_at w32 left0 ≡ Ok (length es, left1) → Cut (cells_at v s None (length es)) left1 rest es digest
+  by_cells : (left0 left1 : List ℕ) → start_at s front ≡ Ok ((v, o), left0) → number_at w32 left0 ≡ Ok (length es, left1) → Cut (cells_at v s None (length es)) left1 rest es digest
       → snapshot_at s front ≡ as_in_page (cells_at v s None (length es) left1) >>= after_cells front o → snapshot_at s front ≡ Err Short
   by_cells left0 left1 e0 e1 (inl short) so_far = so_far ∙ ap (λ (r : Result (List NamedCell × List ℕ) PageFault). as_in_page r >>= after_cells front o) short
   by_cells left0 left1 e0 e1 (inr c) so_far =
@@ -76,13 +76,13 @@ module _ (v : Version) (s : Layout) (o : ℕ) (es : List NamedCell) (front rest 
       ∙ ap (λ (r : Result (List NamedCell × List ℕ) PageFault). as_in_page r >>= after_cells front o) c.1
       ∙ ap (λ (r : Result (Unit {0} × List ℕ) LoadFault). r >>= λ d. end_at d.1 >>= λ end. Ok (o, es)) (short_digest (sha256 (bytes_before c.0 front)) c.0 few)
 
-  by_count : (left0 : List ℕ) → start_at (schema_bytes s) front ≡ Ok ((v, o), left0) → Cut (number_at w32) left0 rest (length es) (cells ++ digest) → snapshot_at s front ≡ with_count (as_in_page (number_at w32 left0)) → snapshot_at s front ≡ Err Short
+  by_count : (left0 : List ℕ) → start_at s front ≡ Ok ((v, o), left0) → Cut (number_at w32) left0 rest (length es) (cells ++ digest) → snapshot_at s front ≡ with_count (as_in_page (number_at w32 left0)) → snapshot_at s front ≡ Err Short
   by_count left0 e0 (inl short) so_far = so_far ∙ ap (λ (r : Result (ℕ × List ℕ) PageFault). with_count (as_in_page r)) short
   by_count left0 e0 (inr c) so_far =
       by_cells left0 c.0 e0 c.1 (cut (cells_at v s None (length es)) c.0 rest es digest (IsFront-cells v s None (length es)) (ap (cells_at v s None (length es)) c.2 ∙ body_cells v s o es layout wide is digest))
       (so_far ∙ ap (λ (r : Result (ℕ × List ℕ) PageFault). with_count (as_in_page r)) c.1)
 
-  by_start : Cut (start_at (schema_bytes s)) front rest (v, o) counted → snapshot_at s front ≡ Err Short
+  by_start : Cut (start_at s) front rest (v, o) counted → snapshot_at s front ≡ Err Short
   unfolding snapshot_at head_at
   by_start (inl short) = ap (λ (r : Result ((Version × ℕ) × List ℕ) PageFault). (as_in_page r >>= λ start. unless BadOrigin (start.0.1 == 0) (as_in_page (number_at w32 start.1)) >>= λ count. Ok ((start.0.0, (start.0.1, count.0)), count.1)) >>= after_head s front) short
   by_start (inr c) =
@@ -92,7 +92,7 @@ module _ (v : Version) (s : Layout) (o : ℕ) (es : List NamedCell) (front rest 
       ∙ ap (λ (b : Bool). with_count (unless BadOrigin b (as_in_page (number_at w32 c.0)))) named)
 
   pub front_is_short : snapshot_at s front ≡ Err Short
-  front_is_short = by_start (cut (start_at (schema_bytes s)) front rest (v, o) counted (IsFront-start (schema_bytes s)) start_whole)
+  front_is_short = by_start (cut (start_at s) front rest (v, o) counted (IsFront-start s) start_whole)
 
 pub fronts_are_short : FrontsAreShort
 fronts_are_short v s o es front rest layout wide is whole some = front_is_short v s o es front rest is layout wide whole some

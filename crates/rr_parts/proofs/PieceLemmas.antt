@@ -1,15 +1,18 @@
 -- A piece of a known length, from a stream.
 use Rattle.std.proofs.Common.{◌≡◌, ℕ, ◌+◌, ◌<◌, ◌≤◌, Bool, true, false, List, [], ◌++◌, length, Option, None, Some, IfSome, Ok, Err, refl, sym, ap, subst, ◌∙◌, ◌⊎◌, arith, inl, inr, append-nil}
-use Rattle.std.specs.Prelude.{nat_eq, not, ◌==◌}
+use Rattle.std.specs.Prelude.{nat_eq, not, ◌==◌, ok_or}
 use Rattle.std.specs.Cmp.Lexicographic.{pointwise}
 use Rattle.std.specs.Int.{w8, w16}
 use Rattle.std.specs.Io.KnownBytes.{Consumes, IsAtEnd}
 use Rattle.std.proofs.lemmas.List.{nil_from_length}
 use Rattle.rr_page.specs.declared.fault.PageFault.{PageFault}
 use Rattle.rr_page.specs.declared.fault.PageFault.TheVariants.{Short, BadMagic, BadVersion, SchemaDiffers}
-use Rattle.rr_page.specs.declared.version.Version.TheVariants.{One}
-use Rattle.rr_text.specs.Results.{unless}
-use Rattle.rr_page.specs.PageReading.{version_at}
+use Rattle.rr_page.specs.declared.version.Version.{Version}
+use Rattle.rr_page.specs.Version.{named_version, latest}
+use Rattle.rr_schema.specs.Schema.{Layout}
+use Rattle.rr_schema.specs.SchemaBytes.{schema_bytes}
+use Rattle.rr_text.specs.Results.{◌>>=◌, unless}
+use Rattle.rr_page.specs.PageReading.{version_at, is_schema}
 use Rattle.rr_page.specs.Reading.{front_at, number_at}
 use Rattle.rr_page.proofs.FrontLemmas.{Reader, IsFront, IsFront-field, IsFront-then, IsFront-unless, IsFront-done, IsFront-number, IsFront-version, extended}
 use Rattle.rr_parts.specs.Fault.{load_fault}
@@ -49,30 +52,34 @@ HasWidth-unless k fault false r other p = p
 
 HasWidth-version : HasWidth 1 version_at
 unfolding version_at
-HasWidth-version = HasWidth-then 1 0 (number_at w8) _ (HasWidth-number w8) (λ n. HasWidth-last BadVersion (not (n == 1)) One (λ e. absurd (cc e)))
+HasWidth-version = HasWidth-then 1 0 (number_at w8) _ (HasWidth-number w8) (λ n. named (named_version n))
+  where
+    named : (o : Option Version) → HasWidth 0 (λ bytes. ok_or o BadVersion >>= λ (v : Version). Ok (v, bytes))
+    named None = HasWidth-last BadVersion true latest (λ e. absurd (cc e))
+    named (Some v) = HasWidth-done v
 
-module _ (schema : List ℕ) where
-  pub IsFront-start : IsFront (start_at schema)
+module _ (s : Layout) where
+  pub IsFront-start : IsFront (start_at s)
   unfolding start_at
   IsFront-start =
       IsFront-then (front_at (length magic)) _ (IsFront-field (length magic)) (λ start.
       IsFront-then (λ bytes. unless BadMagic (not (pointwise nat_eq start magic)) (version_at bytes)) _
       (IsFront-unless BadMagic (not (pointwise nat_eq start magic)) version_at IsFront-version) (λ version.
-      IsFront-then (front_at (length schema)) _ (IsFront-field (length schema)) (λ field.
-      IsFront-then (λ bytes. unless SchemaDiffers (not (pointwise nat_eq field schema)) (number_at w16 bytes)) _
-      (IsFront-unless SchemaDiffers (not (pointwise nat_eq field schema)) (number_at w16) (IsFront-number w16)) (λ origin.
+      IsFront-then (front_at (length (schema_bytes s))) _ (IsFront-field (length (schema_bytes s))) (λ field.
+      IsFront-then (λ bytes. unless SchemaDiffers (not (is_schema version s field)) (number_at w16 bytes)) _
+      (IsFront-unless SchemaDiffers (not (is_schema version s field)) (number_at w16) (IsFront-number w16)) (λ origin.
       IsFront-done (version, origin)))))
 
-  pub HasWidth-start : HasWidth (length schema + 7) (start_at schema)
+  pub HasWidth-start : HasWidth (length (schema_bytes s) + 7) (start_at s)
   unfolding start_at
   HasWidth-start = same
       (HasWidth-then 4 _ (front_at 4) _ (HasWidth-field 4) (λ start.
       HasWidth-then 1 _ (λ bytes. unless BadMagic (not (pointwise nat_eq start magic)) (version_at bytes)) _
       (HasWidth-unless 1 BadMagic (not (pointwise nat_eq start magic)) version_at (λ e. absurd (cc e)) HasWidth-version) (λ version.
-      HasWidth-then (length schema) _ (front_at (length schema)) _ (HasWidth-field (length schema)) (λ field.
-      HasWidth-then 2 0 (λ bytes. unless SchemaDiffers (not (pointwise nat_eq field schema)) (number_at w16 bytes)) _
-      (HasWidth-unless 2 SchemaDiffers (not (pointwise nat_eq field schema)) (number_at w16) (λ e. absurd (cc e)) (HasWidth-number w16)) (λ origin.
+      HasWidth-then (length (schema_bytes s)) _ (front_at (length (schema_bytes s))) _ (HasWidth-field (length (schema_bytes s))) (λ field.
+      HasWidth-then 2 0 (λ bytes. unless SchemaDiffers (not (is_schema version s field)) (number_at w16 bytes)) _
+      (HasWidth-unless 2 SchemaDiffers (not (is_schema version s field)) (number_at w16) (λ e. absurd (cc e)) (HasWidth-number w16)) (λ origin.
       HasWidth-done (version, origin))))))
     where
-      same : HasWidth (4 + (1 + (length schema + (2 + 0)))) (start_at schema) → HasWidth (length schema + 7) (start_at schema)
-      same p = subst (λ k. HasWidth k (start_at schema)) (omega arith) p
+      same : HasWidth (4 + (1 + (length (schema_bytes s) + (2 + 0)))) (start_at s) → HasWidth (length (schema_bytes s) + 7) (start_at s)
+      same p = subst (λ k. HasWidth k (start_at s)) (omega arith) p

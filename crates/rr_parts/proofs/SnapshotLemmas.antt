@@ -1,6 +1,6 @@
 -- A snapshot is read exactly where its text is.
 use Rattle.std.proofs.Common.{◌≡◌, ℕ, zero, suc, ◌≤◌, ◌<◌, ◌^◌, Bool, true, false, List, [], ◌∷◌, ◌++◌, length, drop, None, Result, Ok, Err, refl, sym, ap, subst, ◌∙◌, append_assoc, arith, drop_at}
-use Rattle.std.specs.Prelude.{nat_eq, not, ◌==◌}
+use Rattle.std.specs.Prelude.{nat_eq, not, ◌==◌, ◌&&◌}
 use Rattle.std.specs.Cmp.Lexicographic.{pointwise, bytes_decides}
 use Rattle.std.specs.Int.{w16, w32, to_be_bytes}
 use Rattle.std.specs.List.{flat_map}
@@ -17,19 +17,18 @@ use Rattle.rr_schema.proofs.SchemaBytesLemmas.{bytes_tell}
 use Rattle.rr_cells.specs.CellBounds.{NamedCell, IsCellOf}
 use Rattle.rr_page.specs.declared.fault.PageFault.TheVariants.{BadMagic, SchemaDiffers}
 use Rattle.rr_page.specs.declared.version.Version.{Version}
-use Rattle.rr_page.specs.declared.version.Version.TheVariants.{One}
+use Rattle.rr_page.specs.declared.version.Version.TheVariants.{One, Two}
 use Rattle.rr_page.specs.CellText.{cell_text}
 use Rattle.rr_page.specs.Laws.{AreBytes}
-use Rattle.rr_page.specs.PageReading.{version_at, cells_at}
+use Rattle.rr_page.specs.PageReading.{version_at, is_schema, cells_at}
 use Rattle.rr_page.specs.Reading.{front_at, number_at}
-use Rattle.rr_page.specs.Version.{version_byte, HasMasksFor}
+use Rattle.rr_page.specs.Version.{version_byte, HasMasksFor, has_masks_for}
 use Rattle.rr_page.proofs.CellsLemmas.{cells_take, cells_again}
 use Rattle.rr_page.proofs.FieldLemmas as field
 use Rattle.rr_page.proofs.FieldLemmas.{not_false, and_then, Takes, front_takes, front_again, number_takes, number_again}
-use Rattle.rr_page.proofs.HeadLemmas.{version_takes, version_again}
+use Rattle.rr_page.proofs.HeadLemmas.{both, masks_told, masks_tell, version_takes, version_again}
 use Rattle.rr_page.proofs.NumberLemmas.{wide16, wide32}
 use Rattle.rr_page.proofs.OrderLemmas.{rising_sorted, sorted_rising}
-use Rattle.rr_page.proofs.PageLemmas.{masks_wide}
 use Rattle.rr_parts.specs.declared.fault.LoadFault.{LoadFault}
 use Rattle.rr_parts.specs.declared.fault.LoadFault.TheVariants.{BadOrigin, BadDigest, TrailingBytes}
 use Rattle.rr_parts.specs.declared.heading.TheConstants.{MAX_SNAPSHOT_CELLS}
@@ -60,48 +59,49 @@ step f e = ap (λ r. r >>= f) e
 
 -- ---- from the bytes
 
-start_takes : (schema bytes : List ℕ) (v : Version) (o : ℕ) (rest : List ℕ) → AreBytes bytes → start_at schema bytes ≡ Ok ((v, o), rest)
-    → Takes bytes (magic ++ (version_byte v ∷ (schema ++ to_be_bytes w16 o))) rest × (o < 2 ^ 16)
+start_takes : (s : Layout) (bytes : List ℕ) (v : Version) (o : ℕ) (rest : List ℕ) → AreBytes bytes → start_at s bytes ≡ Ok ((v, o), rest)
+    → Takes bytes (magic ++ (version_byte v ∷ (schema_bytes s ++ to_be_bytes w16 o))) rest × (o < 2 ^ 16) × HasMasksFor v s
 unfolding start_at
-start_takes schema bytes v o rest fits e =
+start_takes s bytes v o rest fits e =
     field.with_ok (front_at 4 bytes) _ ((v, o), rest) e (λ start i0 e0.
     field.with_ok (unless BadMagic (not (pointwise nat_eq start.0 magic)) (version_at start.1)) _ ((v, o), rest) e0 (λ version i1 e1.
-    field.with_ok (front_at (length schema) version.1) _ ((v, o), rest) e1 (λ own i2 e2.
-    field.with_ok (unless SchemaDiffers (not (pointwise nat_eq own.0 schema)) (number_at w16 own.1)) _ ((v, o), rest) e2 (λ origin i3 e3.
+    field.with_ok (front_at (length (schema_bytes s)) version.1) _ ((v, o), rest) e1 (λ own i2 e2.
+    field.with_ok (unless SchemaDiffers (not (is_schema version.0 s own.0)) (number_at w16 own.1)) _ ((v, o), rest) e2 (λ origin i3 e3.
     let g1 = field.unless_ok BadMagic (not (pointwise nat_eq start.0 magic)) (version_at start.1) version i1 in
-    let g3 = field.unless_ok SchemaDiffers (not (pointwise nat_eq own.0 schema)) (number_at w16 own.1) origin i3 in
+    let g3 = field.unless_ok SchemaDiffers (not (is_schema version.0 s own.0)) (number_at w16 own.1) origin i3 in
+    let own_schema = both (has_masks_for version.0 s) (pointwise nat_eq own.0 (schema_bytes s)) (not_false (is_schema version.0 s own.0) g3.0) in
     let t0 = front_takes 4 bytes start.0 start.1 fits i0 in
     let same0 = (bytes_decides start.0 magic).0 (not_false (pointwise nat_eq start.0 magic) g1.0) in
     let t1 = version_takes start.1 version.0 version.1 t0.0.rest_fits g1.1 in
-    let t2 = front_takes (length schema) version.1 own.0 own.1 t1.rest_fits i2 in
-    let same2 = (bytes_decides own.0 schema).0 (not_false (pointwise nat_eq own.0 schema) g3.0) in
+    let t2 = front_takes (length (schema_bytes s)) version.1 own.0 own.1 t1.rest_fits i2 in
+    let same2 = (bytes_decides own.0 (schema_bytes s)).0 own_schema.1 in
     let t3 = number_takes w16 wide16 own.1 origin.0 origin.1 t2.0.rest_fits g3.1 in
     let first : Takes bytes magic start.1 = subst (λ (l : List ℕ). Takes bytes l start.1) same0 t0.0 in
-    let third : Takes version.1 schema own.1 = subst (λ (l : List ℕ). Takes version.1 l own.1) same2 t2.0 in
-    let whole : Takes bytes (magic ++ ((version_byte version.0 ∷ []) ++ (schema ++ to_be_bytes w16 origin.0))) origin.1 = and_then first (and_then t1 (and_then third t3.0)) in
-    subst (λ (p : (Version × ℕ) × List ℕ). Takes bytes (magic ++ (version_byte p.0.0 ∷ (schema ++ to_be_bytes w16 p.0.1))) p.1 × (p.0.1 < 2 ^ 16)) (field.ok_is ((version.0, origin.0), origin.1) ((v, o), rest) e3)
-    (whole, t3.1)))))
+    let third : Takes version.1 (schema_bytes s) own.1 = subst (λ (l : List ℕ). Takes version.1 l own.1) same2 t2.0 in
+    let whole : Takes bytes (magic ++ ((version_byte version.0 ∷ []) ++ (schema_bytes s ++ to_be_bytes w16 origin.0))) origin.1 = and_then first (and_then t1 (and_then third t3.0)) in
+    subst (λ (p : (Version × ℕ) × List ℕ). Takes bytes (magic ++ (version_byte p.0.0 ∷ (schema_bytes s ++ to_be_bytes w16 p.0.1))) p.1 × (p.0.1 < 2 ^ 16) × HasMasksFor p.0.0 s) (field.ok_is ((version.0, origin.0), origin.1) ((v, o), rest) e3)
+    (whole, t3.1, masks_told version.0 s own_schema.0)))))
 
 some_number : (n : ℕ) → (n == 0) ≡ false → 1 ≤ n
 some_number zero e = absurd (cc e)
 some_number (suc n) e = omega arith
 
-head_takes : (s : Layout) (bytes : List ℕ) (v : Version) (o n : ℕ) (rest : List ℕ) → AreBytes bytes → head_at (schema_bytes s) bytes ≡ Ok ((v, (o, n)), rest)
-    → Takes bytes (head_text v s o n) rest × IsOrigin o × (n ≤ MAX_SNAPSHOT_CELLS)
+head_takes : (s : Layout) (bytes : List ℕ) (v : Version) (o n : ℕ) (rest : List ℕ) → AreBytes bytes → head_at s bytes ≡ Ok ((v, (o, n)), rest)
+    → Takes bytes (head_text v s o n) rest × IsOrigin o × (n ≤ MAX_SNAPSHOT_CELLS) × HasMasksFor v s
 unfolding head_at head_text
 head_takes s bytes v o n rest fits e =
-    with_ok (as_in_page (start_at (schema_bytes s) bytes)) _ ((v, (o, n)), rest) e (λ start i0 e0.
+    with_ok (as_in_page (start_at s bytes)) _ ((v, (o, n)), rest) e (λ start i0 e0.
     with_ok (unless BadOrigin (start.0.1 == 0) (as_in_page (number_at w32 start.1))) _ ((v, (o, n)), rest) e0 (λ count i1 e1.
     let g = unless_ok BadOrigin (start.0.1 == 0) (as_in_page (number_at w32 start.1)) count i1 in
-    let t0 = start_takes (schema_bytes s) bytes start.0.0 start.0.1 start.1 fits (page_ok (start_at (schema_bytes s) bytes) start i0) in
+    let t0 = start_takes s bytes start.0.0 start.0.1 start.1 fits (page_ok (start_at s bytes) start i0) in
     let t1 = number_takes w32 wide32 start.1 count.0 count.1 t0.0.rest_fits (page_ok (number_at w32 start.1) count g.1) in
     let some = some_number start.0.1 g.0 in
     let whole = and_then t0.0 t1.0 in
     let regrouped : Takes bytes (magic ++ (version_byte start.0.0 ∷ (schema_bytes s ++ (to_be_bytes w16 start.0.1 ++ to_be_bytes w32 count.0)))) count.1 =
     subst (λ (l : List ℕ). Takes bytes (magic ++ (version_byte start.0.0 ∷ l)) count.1) (append_assoc (schema_bytes s) (to_be_bytes w16 start.0.1) (to_be_bytes w32 count.0)) whole in
-    subst (λ (p : (Version × (ℕ × ℕ)) × List ℕ). Takes bytes (magic ++ (version_byte p.0.0 ∷ (schema_bytes s ++ (to_be_bytes w16 p.0.1.0 ++ to_be_bytes w32 p.0.1.1)))) p.1 × IsOrigin p.0.1.0 × (p.0.1.1 ≤ MAX_SNAPSHOT_CELLS))
+    subst (λ (p : (Version × (ℕ × ℕ)) × List ℕ). Takes bytes (magic ++ (version_byte p.0.0 ∷ (schema_bytes s ++ (to_be_bytes w16 p.0.1.0 ++ to_be_bytes w32 p.0.1.1)))) p.1 × IsOrigin p.0.1.0 × (p.0.1.1 ≤ MAX_SNAPSHOT_CELLS) × HasMasksFor p.0.0 s)
     (ok_is ((start.0.0, (start.0.1, count.0)), count.1) ((v, (o, n)), rest) e1)
-    (regrouped, record { at_least = some; at_most = omega (arith, t0.1) }, omega (arith, t1.1))))
+    (regrouped, record { at_least = some; at_most = omega (arith, t0.1) }, omega (arith, t1.1), t0.2)))
 
 digest_takes : (digest bytes rest : List ℕ) → AreBytes bytes → digest_at digest bytes ≡ Ok (tt, rest) → bytes ≡ digest ++ rest
 unfolding digest_at
@@ -122,7 +122,7 @@ end_takes bytes rest e =
 pub snapshot_takes : (s : Layout) (bytes : List ℕ) (o : ℕ) (es : List NamedCell) → AreBytes bytes → snapshot_at s bytes ≡ Ok (o, es) → IsSnapshot s o es × IsSnapshotText s o es bytes
 unfolding snapshot_at body_text snapshot_text
 snapshot_takes s bytes o es fits e =
-    with_ok (head_at (schema_bytes s) bytes) _ (o, es) e (λ head i0 e0.
+    with_ok (head_at s bytes) _ (o, es) e (λ head i0 e0.
     with_ok (as_in_page (cells_at head.0.0 s None head.0.1.1 head.1)) _ (o, es) e0 (λ cells i1 e1.
     with_ok (digest_at (sha256 (bytes_before cells.1 bytes)) cells.1) _ (o, es) e1 (λ digest i2 e2.
     with_ok (end_at digest.1) _ (o, es) e2 (λ end i3 e3.
@@ -142,30 +142,30 @@ snapshot_takes s bytes o es fits e =
         cells = All-from_recursion (IsCellOf s) cells.0 t1.each;
         names_ascend = rising_sorted None cells.0 t1.rising;
       },
-      record { version = v; text = text },
+      record { version = v; wide = t0.3; text = text },
     )))))
 
 -- ---- from the text
 
-pub start_again : (schema : List ℕ) (v : Version) (o : ℕ) (rest : List ℕ) → o < 2 ^ 16 → start_at schema (magic ++ (version_byte v ∷ (schema ++ (to_be_bytes w16 o ++ rest)))) ≡ Ok ((v, o), rest)
+pub start_again : (s : Layout) (v : Version) (o : ℕ) (rest : List ℕ) → HasMasksFor v s → o < 2 ^ 16 → start_at s (magic ++ (version_byte v ∷ (schema_bytes s ++ (to_be_bytes w16 o ++ rest)))) ≡ Ok ((v, o), rest)
 unfolding start_at
-start_again schema v o rest lt =
+start_again s v o rest wide lt =
     let after = to_be_bytes w16 o ++ rest in
-    field.step _ (front_again 4 magic (version_byte v ∷ (schema ++ after)) refl)
-    ∙ field.step _ (version_again v (schema ++ after))
-    ∙ field.step _ (front_again (length schema) schema after refl)
-    ∙ ap (λ (b : Bool). unless SchemaDiffers (not b) (number_at w16 after) >>= λ (origin : ℕ × List ℕ). Ok ((v, origin.0), origin.1)) ((bytes_decides schema schema).1 refl)
+    field.step _ (front_again 4 magic (version_byte v ∷ (schema_bytes s ++ after)) refl)
+    ∙ field.step _ (version_again v (schema_bytes s ++ after))
+    ∙ field.step _ (front_again (length (schema_bytes s)) (schema_bytes s) after refl)
+    ∙ ap (λ (b : Bool). unless SchemaDiffers (not b) (number_at w16 after) >>= λ (origin : ℕ × List ℕ). Ok ((v, origin.0), origin.1)) (λ i. masks_tell v s wide i && (bytes_decides (schema_bytes s) (schema_bytes s)).1 refl i)
     ∙ field.step _ (number_again w16 wide16 o rest lt)
 
-pub head_again : (s : Layout) (v : Version) (o n : ℕ) (rest : List ℕ) → IsOrigin o → n ≤ MAX_SNAPSHOT_CELLS → head_at (schema_bytes s) (head_text v s o n ++ rest) ≡ Ok ((v, (o, n)), rest)
+pub head_again : (s : Layout) (v : Version) (o n : ℕ) (rest : List ℕ) → HasMasksFor v s → IsOrigin o → n ≤ MAX_SNAPSHOT_CELLS → head_at s (head_text v s o n ++ rest) ≡ Ok ((v, (o, n)), rest)
 unfolding head_at head_text
-head_again s v o n rest origin few =
+head_again s v o n rest wide origin few =
     let after = to_be_bytes w32 n ++ rest in
     let some : (o == 0) ≡ false = ne_eqb o 0 (λ e. absurd (omega (arith, e, origin.at_least))) in
     let low : o < 2 ^ 16 = omega (arith, origin.at_most) in
     let below : n < 2 ^ 32 = omega (arith, few) in
-    ap (λ (l : List ℕ). head_at (schema_bytes s) (magic ++ (version_byte v ∷ l))) (four (schema_bytes s) (to_be_bytes w16 o) (to_be_bytes w32 n) rest)
-    ∙ step _ (ap as_in_page (start_again (schema_bytes s) v o after low))
+    ap (λ (l : List ℕ). head_at s (magic ++ (version_byte v ∷ l))) (four (schema_bytes s) (to_be_bytes w16 o) (to_be_bytes w32 n) rest)
+    ∙ step _ (ap as_in_page (start_again s v o after wide low))
     ∙ ap (λ (b : Bool). unless BadOrigin b (as_in_page (number_at w32 after)) >>= λ (count : ℕ × List ℕ). Ok ((v, (o, count.0)), count.1)) some
     ∙ step _ (ap as_in_page (number_again w32 wide32 n rest below))
   where
@@ -183,10 +183,10 @@ nothing_left = refl
 
 module _ (v : Version) (s : Layout) (o : ℕ) (es : List NamedCell) (layout : IsLayout s) (wide : HasMasksFor v s) (is : IsSnapshot s o es) where
   -- the head and the cells, and what follows them
-  pub body_head : (rest : List ℕ) → head_at (schema_bytes s) (body_text v s o es ++ rest) ≡ Ok ((v, (o, length es)), flat_map (cell_text v) es ++ rest)
+  pub body_head : (rest : List ℕ) → head_at s (body_text v s o es ++ rest) ≡ Ok ((v, (o, length es)), flat_map (cell_text v) es ++ rest)
   unfolding body_text
   body_head rest =
-      ap (head_at (schema_bytes s)) (append_assoc (head_text v s o (length es)) (flat_map (cell_text v) es) rest) ∙ head_again s v o (length es) (flat_map (cell_text v) es ++ rest) is.origin_fits is.count_fits
+      ap (head_at s) (append_assoc (head_text v s o (length es)) (flat_map (cell_text v) es) rest) ∙ head_again s v o (length es) (flat_map (cell_text v) es ++ rest) wide is.origin_fits is.count_fits
 
   pub body_cells : (rest : List ℕ) → cells_at v s None (length es) (flat_map (cell_text v) es ++ rest) ≡ Ok (es, rest)
   body_cells rest = cells_again v s None es rest layout wide (recursion_from_All (IsCellOf s) es is.cells) (sorted_rising es is.names_ascend)
@@ -205,7 +205,7 @@ module _ (v : Version) (s : Layout) (o : ℕ) (es : List NamedCell) (layout : Is
 
 pub snapshots_are_their_text : SnapshotsAreTheirText
 snapshots_are_their_text s bytes o es layout fits =
-    ((λ e. snapshot_takes s bytes o es fits e), (λ p. ap (snapshot_at s) p.1.text ∙ snapshot_read p.1.version s o es layout (masks_wide p.1.version s layout) p.0))
+    ((λ e. snapshot_takes s bytes o es fits e), (λ p. ap (snapshot_at s) p.1.text ∙ snapshot_read p.1.version s o es layout p.1.wide p.0))
 
 -- ---- no snapshot begins another
 
@@ -222,6 +222,9 @@ by_schema v s o es x = ap (λ (l : List ℕ). magic ++ (version_byte v ∷ l)) (
 
 version_tells : (v w : Version) → version_byte v ≡ version_byte w → v ≡ w
 version_tells One One e = refl
+version_tells One Two e = absurd (omega (arith, e))
+version_tells Two One e = absurd (omega (arith, e))
+version_tells Two Two e = refl
 
 first_or_none : List ℕ → ℕ
 first_or_none [] = 0
@@ -237,7 +240,7 @@ no_snapshot_begins_another v w s t o p es fs x y layout other wide wide_too is s
     let versions = version_tells v w (ap (λ (l : List ℕ). first_or_none (drop 4 l)) starts) in
     let schemas = bytes_tell s t (after_schema v o es (d ++ x)) (after_schema w p fs (f ++ y)) layout other (ap (drop 5) starts) in
     let heads = ok_is ((v, (o, length es)), flat_map (cell_text v) es ++ (d ++ x)) ((w, (p, length fs)), flat_map (cell_text w) fs ++ (f ++ y))
-    (sym (body_head v s o es layout wide is (d ++ x)) ∙ (λ i. head_at (schema_bytes (schemas.0 i)) (whole i)) ∙ body_head w t p fs other wide_too second (f ++ y)) in
+    (sym (body_head v s o es layout wide is (d ++ x)) ∙ (λ i. head_at (schemas.0 i) (whole i)) ∙ body_head w t p fs other wide_too second (f ++ y)) in
     let origins : o ≡ p = ap (λ (h : (Version × (ℕ × ℕ)) × List ℕ). h.0.1.0) heads in
     let counts : length es ≡ length fs = ap (λ (h : (Version × (ℕ × ℕ)) × List ℕ). h.0.1.1) heads in
     let lefts : flat_map (cell_text v) es ++ (d ++ x) ≡ flat_map (cell_text w) fs ++ (f ++ y) = ap (λ (h : (Version × (ℕ × ℕ)) × List ℕ). h.1) heads in

@@ -10,7 +10,7 @@ use Rattle.rr_cells.specs.CellBounds.{NamedCell}
 use Rattle.rr_page.specs.declared.fault.PageFault.{PageFault}
 use Rattle.rr_page.specs.declared.fault.PageFault.TheVariants as page
 use Rattle.rr_page.specs.declared.version.Version.{Version}
-use Rattle.rr_page.specs.PageReading.{version_at, cells_at}
+use Rattle.rr_page.specs.PageReading.{version_at, is_schema, cells_at}
 use Rattle.rr_page.specs.Reading.{front_at, number_at}
 use Rattle.rr_parts.specs.declared.fault.LoadFault.{LoadFault}
 use Rattle.rr_parts.specs.declared.fault.LoadFault.TheVariants.{BadOrigin, BadDigest, TrailingBytes}
@@ -22,19 +22,19 @@ abbrev pub as_in_page : {A : Type 0} → Result A PageFault → Result A LoadFau
 as_in_page (Ok x) = Ok x
 as_in_page (Err fault) = Err (load_fault fault)
 
--- the version and the origin, and what follows them, where a schema has these bytes
-unfoldable pub start_at : List ℕ → List ℕ → Result ((Version × ℕ) × List ℕ) PageFault
-start_at schema bytes = do
+-- the version and the origin, and what follows them
+unfoldable pub start_at : Layout → List ℕ → Result ((Version × ℕ) × List ℕ) PageFault
+start_at s bytes = do
   start ← front_at (length magic) bytes
   version ← unless page.BadMagic (not (pointwise nat_eq start.0 magic)) (version_at start.1)
-  field ← front_at (length schema) version.1
-  origin ← unless page.SchemaDiffers (not (pointwise nat_eq field.0 schema)) (number_at w16 field.1)
+  field ← front_at (length (schema_bytes s)) version.1
+  origin ← unless page.SchemaDiffers (not (is_schema version.0 s field.0)) (number_at w16 field.1)
   Ok ((version.0, origin.0), origin.1)
 
 -- these and the number of cells, and what follows them
-unfoldable pub head_at : List ℕ → List ℕ → Result ((Version × (ℕ × ℕ)) × List ℕ) LoadFault
-head_at schema bytes = do
-  start ← as_in_page (start_at schema bytes)
+unfoldable pub head_at : Layout → List ℕ → Result ((Version × (ℕ × ℕ)) × List ℕ) LoadFault
+head_at s bytes = do
+  start ← as_in_page (start_at s bytes)
   count ← unless BadOrigin (start.0.1 == 0) (as_in_page (number_at w32 start.1))
   Ok ((start.0.0, (start.0.1, count.0)), count.1)
 
@@ -55,7 +55,7 @@ bytes_before rest bytes = take (length bytes - length rest) bytes
 -- the origin and the cells of the snapshot that all of the bytes are
 unfoldable pub snapshot_at : Layout → List ℕ → Result (ℕ × List NamedCell) LoadFault
 snapshot_at s bytes = do
-  head ← head_at (schema_bytes s) bytes
+  head ← head_at s bytes
   cells ← as_in_page (cells_at head.0.0 s None head.0.1.1 head.1)
   digest ← digest_at (sha256 (bytes_before cells.1 bytes)) cells.1
   end ← end_at digest.1

@@ -67,8 +67,7 @@ pub fn head_bytes(
 /// The version and the origin, and what follows them. No memory is taken.
 #[tactic(auto, unfolding(crate::specs::SnapshotReading::start_at))]
 fn start_of<'a>(schema: &Schema, bytes: &'a [u8]) -> Result<(Version, u16, &'a [u8]), PageFault>
-    ensures read { Gives (λ x. ((x.0, x.1), x.2.now)) result
-        (start_at (schema_bytes schema.now) bytes.now) }
+    ensures read { Gives (λ x. ((x.0, x.1), x.2.now)) result (start_at schema.now bytes.now) }
     ensures no_memory { result ≢ Err PageFault.Memory }
 {
     let (start, rest) = bytes_at(bytes, MAGIC.len())?;
@@ -77,7 +76,7 @@ fn start_of<'a>(schema: &Schema, bytes: &'a [u8]) -> Result<(Version, u16, &'a [
     }
     let (version, rest) = version_of(rest)?;
     let (field, rest) = bytes_at(rest, schema.byte_len())?;
-    if !schema.has_bytes(field) {
+    if !version.has_masks_for(schema) || !schema.has_bytes(field) {
         return Err(PageFault::SchemaDiffers);
     }
     let (origin, rest) = u16_at(rest)?;
@@ -94,8 +93,7 @@ fn start_into<R: Read>(
 ) -> Result<(Version, u16), LoadFault>
     requires { length buffer.old ≡ length (schema_bytes schema.now) + START_LEN }
     ensures read { StreamGives (λ x. (x.0, x.1)) result (R.remaining (inner_of input.old))
-        (R.remaining (inner_of input.new))
-        (λ all. as_in_page (start_at (schema_bytes schema.now) all)) }
+        (R.remaining (inner_of input.new)) (λ all. as_in_page (start_at schema.now all)) }
     ensures digest { OnOk result (Digests (R.remaining (inner_of input.old))
         (R.remaining (inner_of input.new)) hasher.old hasher.new) }
     ensures front { ConsumesSome (R.remaining (inner_of input.old))
@@ -129,7 +127,7 @@ fn start_from<R: Read>(
     hasher: &mut Sha256,
 ) -> Result<(Version, u16), LoadFault>
     ensures read { StreamGives (λ x. (x.0, x.1)) result (R.remaining (inner_of input.old))
-        (R.remaining (inner_of input.new)) (λ all. as_in_page (start_at (schema_bytes schema.now) all)) }
+        (R.remaining (inner_of input.new)) (λ all. as_in_page (start_at schema.now all)) }
     ensures digest { OnOk result (Digests (R.remaining (inner_of input.old))
         (R.remaining (inner_of input.new)) hasher.old hasher.new) }
     ensures front { ConsumesSome (R.remaining (inner_of input.old))
@@ -176,7 +174,7 @@ pub fn head_from<R: Read>(
     hasher: &mut Sha256,
 ) -> Result<(Version, Origin, u32), LoadFault>
     ensures read { StreamGives (λ x. (x.0, (x.1, x.2))) result (R.remaining (inner_of input.old))
-        (R.remaining (inner_of input.new)) (head_at (schema_bytes schema.now)) }
+        (R.remaining (inner_of input.new)) (head_at schema.now) }
     ensures digest { OnOk result (Digests (R.remaining (inner_of input.old))
         (R.remaining (inner_of input.new)) hasher.old hasher.new) }
     ensures front { ConsumesSome (R.remaining (inner_of input.old))

@@ -32,7 +32,8 @@ fn fields_len(version: Version) -> usize
     ensures at_most { result ≤ FIELDS_LEN }
 {
     match version {
-        Version::One => FIELDS_LEN,
+        Version::One => FIELDS_LEN - 8, // of the sixteen bytes of a mask
+        Version::Two => FIELDS_LEN,
     }
 }
 

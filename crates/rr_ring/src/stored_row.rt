@@ -9,6 +9,7 @@ use rr_archive::Entry;
 use rr_archive::change::Change;
 use rr_schema::Origin;
 use std::alloc::{AllocError, Global};
+use std::mem::size_of;
 
 /// A slot and its entries, until another slot of the same position is written.
 #[derive(Drop)]
@@ -16,6 +17,8 @@ pub(crate) struct StoredRow {
     slot: i64,
     entries: Entries,
 }
+
+const _: () = prove!(size_of::<StoredRow>() == 128);
 
 impl StoredRow {
     /// A row that holds no entry. It takes no memory.

@@ -91,7 +91,7 @@ impl SchemaFault {
             SchemaFault::BadStep => "the step must be from 1 to 86,400 seconds",
             SchemaFault::NoArchive => "the schema must have an archive",
             SchemaFault::TooManyArchives => "the schema may have at most 8 archives",
-            SchemaFault::BadSteps => "an archive must have from 1 to 64 steps in a row",
+            SchemaFault::BadSteps => "an archive must have from 1 to 128 steps in a row",
             SchemaFault::BadRows => "an archive must have from 1 to 100,000 rows",
             SchemaFault::BadXff =>
                 "the xff must be a fraction below 1, of a denominator up to 1,000",

@@ -3,7 +3,6 @@ use Rattle.std.proofs.Common.{◌≡◌, ◌⊎◌, ℕ, Bool, true, false, List
 use Rattle.sha2.specs.Sha256.{sha256}
 use Rattle.rr_text.specs.Results.{◌>>=◌, unless}
 use Rattle.rr_schema.specs.Schema.{Layout}
-use Rattle.rr_schema.specs.SchemaBytes.{schema_bytes}
 use Rattle.rr_page.specs.declared.version.Version.{Version}
 use Rattle.rr_page.specs.PageReading.{cells_at}
 use Rattle.rr_cells.specs.CellBounds.{NamedCell}
@@ -22,11 +21,11 @@ abbrev judged : Layout → ℕ → ℕ × List NamedCell → Result Holding Load
 judged s o x = unless OriginUsed (is_used o x) (Ok (replica_of s o x.1))
 
 module _ (s : Layout) (o : ℕ) (all : List ℕ) where
-  head_refused : (fault : LoadFault) → head_at (schema_bytes s) all ≡ Err fault → loaded_at s o all ≡ Err fault
+  head_refused : (fault : LoadFault) → head_at s all ≡ Err fault → loaded_at s o all ≡ Err fault
   unfolding loaded_at snapshot_at
   head_refused fault is = ap (λ (r : Result ((Version × (ℕ × ℕ)) × List ℕ) LoadFault). (r >>= after_head s all) >>= judged s o) is
 
-  module _ (v : Version) (saver count : ℕ) (after : List ℕ) (head : head_at (schema_bytes s) all ≡ Ok ((v, (saver, count)), after)) where
+  module _ (v : Version) (saver count : ℕ) (after : List ℕ) (head : head_at s all ≡ Ok ((v, (saver, count)), after)) where
     with_head : loaded_at s o all ≡ ((as_in_page (cells_at v s None count after) >>= after_cells all saver) >>= judged s o)
     unfolding loaded_at snapshot_at
     with_head = ap (λ (r : Result ((Version × (ℕ × ℕ)) × List ℕ) LoadFault). (r >>= after_head s all) >>= judged s o) head
@@ -50,7 +49,7 @@ module _ (s : Layout) (o : ℕ) (all : List ℕ) where
 
 -- ---- where they may be
 
-pub head_failed : (s : Layout) (o : ℕ) (fault : LoadFault) (old : Option (List ℕ)) → (fault ≡ ReadFailed) ⊎ (fault ≡ Memory) ⊎ IfSome old (λ all. head_at (schema_bytes s) all ≡ Err fault)
+pub head_failed : (s : Layout) (o : ℕ) (fault : LoadFault) (old : Option (List ℕ)) → (fault ≡ ReadFailed) ⊎ (fault ≡ Memory) ⊎ IfSome old (λ all. head_at s all ≡ Err fault)
     → IfSome old (λ all. GivesIfRead held (Err fault) (loaded_at s o all))
 head_failed s o fault None e = tt
 head_failed s o fault (Some all) (inl e) = inl e

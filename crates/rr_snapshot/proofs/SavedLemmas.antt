@@ -11,7 +11,7 @@ use Rattle.rr_contrib.specs.declared.contribution.Contribution.{Contribution}
 use Rattle.rr_join.proofs.Booleans.{true_from_T}
 use Rattle.rr_model.specs.CellNames.{CellName, cell_name_cmp}
 use Rattle.rr_page.specs.Version.{latest}
-use Rattle.rr_page.proofs.PageLemmas.{masks_wide}
+use Rattle.rr_page.proofs.HeadLemmas.{masks_wide}
 use Rattle.rr_cells.specs.CellBounds.{NamedCell, IsCellOf}
 use Rattle.rr_cells.specs.Cells.{Cells, IsTrimmed}
 use Rattle.rr_cells.specs.Holding.{IsHolding, Holding}
@@ -52,7 +52,7 @@ pub snapshot_is_loaded : (s : Layout) (o : ℕ) (m : Cells) (origin : ℕ) → I
     → loaded_at s origin (snapshot_text latest s o (entries m)) ≡ unless OriginUsed (is_used origin (o, entries m)) (Ok (record { schema = s; origin = origin; next = 1; cells = m }))
 unfolding loaded_at
 snapshot_is_loaded s o m origin layout is kept =
-    ap (λ (r : Result (ℕ × List NamedCell) LoadFault). r >>= λ (x : ℕ × List NamedCell). unless OriginUsed (is_used origin x) (Ok (replica_of s origin x.1))) (snapshot_read latest s o (entries m) layout (masks_wide latest s layout) is)
+    ap (λ (r : Result (ℕ × List NamedCell) LoadFault). r >>= λ (x : ℕ × List NamedCell). unless OriginUsed (is_used origin x) (Ok (replica_of s origin x.1))) (snapshot_read latest s o (entries m) layout (masks_wide s layout) is)
     ∙ ap (λ (l : Cells). unless OriginUsed (is_used origin (o, entries m)) (Ok (record { schema = s; origin = origin; next = 1; cells = l }))) (cells_again s m layout kept)
 
 pub saved_is_loaded : SavedIsLoaded

@@ -4,7 +4,6 @@ use Rattle.std.specs.FinMap.{empty}
 use Rattle.std.specs.List.{list_any}
 use Rattle.rr_text.specs.Results.{◌>>=◌, unless}
 use Rattle.rr_schema.specs.Schema.{Layout}
-use Rattle.rr_schema.specs.SchemaBytes.{schema_bytes}
 use Rattle.rr_model.specs.CellNames.{CellName}
 use Rattle.rr_page.specs.declared.version.Version.{Version}
 use Rattle.rr_page.specs.PageReading.{cells_at}
@@ -52,7 +51,7 @@ StopsAmong v s count old new =
 -- what follows the cells of the snapshot at the front, where they are good
 unfoldable pub behind_cells : Layout → List ℕ → Result (List ℕ) LoadFault
 behind_cells s bytes = do
-  head ← head_at (schema_bytes s) bytes
+  head ← head_at s bytes
   cells ← as_in_page (cells_at head.0.0 s None head.0.1.1 head.1)
   Ok cells.1
 

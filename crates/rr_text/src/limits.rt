@@ -15,7 +15,7 @@ pub const MAX_ARCHIVES: usize = 8;
 
 /// The most steps of one row of an archive, and so the least width of a mask that has a bit for each
 /// of them.
-pub const MAX_STEPS: u32 = 64;
+pub const MAX_STEPS: u32 = 128;
 
 /// The most rows of an archive.
 pub const MAX_ROWS: u32 = 100_000;
@@ -65,7 +65,7 @@ const _: () = prove!(MAX_STEP == 86_400);
 
 const _: () = prove!(MAX_ARCHIVES == 8);
 
-const _: () = prove!(MAX_STEPS == 64);
+const _: () = prove!(MAX_STEPS == 128);
 
 const _: () = prove!(MAX_ROWS == 100_000);
 

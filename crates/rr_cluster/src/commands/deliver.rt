@@ -41,7 +41,9 @@ fn join_page<A: Archive>(alloc: Global, replica: &mut Replica<A>, page: &[u8]) -
     ensures { (cells : Cells) → HasPageText replica.old.schema cells page.now
         → Joins (held replica.old) (held replica.new) result cells }
 {
-    let cells = match decode(alloc, page, replica.schema()) {
+    let schema = replica.schema();
+    let _archives = schema.archives(); // their contract says that the schema is within its limits
+    let cells = match decode(alloc, page, schema) {
         Ok(cells) => cells,
         Err(PageFault::Memory) => return Err(Stop::Memory),
         Err(_) => unreachable!(),

@@ -28,7 +28,7 @@ zero_is (suc n) none = absurd (none (omega arith))
 pub returns-in_err-version-clause-read : goal.returns-in_err-version-clause-read
 unfolding head_at
 returns-in_err-version-clause-read g c =
-    let s = schema_bytes c.args.schema.now in
+    let s = c.args.schema.now in
     let old = g.R.Read.remaining (inner_of c.args.input.now) in
     let mid = g.R.Read.remaining (inner_of c.start_from.new.input) in
     let p = err_from_is_err_and c.from_residual.result c.from_residual.ensures.1 in
@@ -37,7 +37,7 @@ returns-in_err-version-clause-read g c =
 pub returns-in-Err-clause-read : goal.returns-in-Err-clause-read
 unfolding head_at
 returns-in-Err-clause-read g c =
-    let s = schema_bytes c.args.schema.now in
+    let s = c.args.schema.now in
     let old = g.R.Read.remaining (inner_of c.args.input.now) in
     let mid = g.R.Read.remaining (inner_of c.start_from.new.input) in
     let none = zero_is c.in_ok-version.origin c.in-Err.ensures in
@@ -47,7 +47,7 @@ returns-in-Err-clause-read g c =
 pub returns-in_err-count-clause-read : goal.returns-in_err-count-clause-read
 unfolding head_at
 returns-in_err-count-clause-read g c =
-    let s = schema_bytes c.args.schema.now in
+    let s = c.args.schema.now in
     let old = g.R.Read.remaining (inner_of c.args.input.now) in
     let mid = g.R.Read.remaining (inner_of c.start_from.new.input) in
     let new = g.R.Read.remaining (inner_of c.count_from.new.input) in
@@ -61,7 +61,7 @@ returns-in_err-count-clause-read g c =
 pub returns-clause-read : goal.returns-clause-read
 unfolding head_at
 returns-clause-read g c =
-    let s = schema_bytes c.args.schema.now in
+    let s = c.args.schema.now in
     let old = g.R.Read.remaining (inner_of c.args.input.now) in
     let mid = g.R.Read.remaining (inner_of c.start_from.new.input) in
     let new = g.R.Read.remaining (inner_of c.count_from.new.input) in

@@ -9,22 +9,22 @@ use Rattle.rr_parts.proofs.heading.start_into.Goals as goal
 
 pub returns-clause-read : goal.returns-clause-read
 returns-clause-read g c =
-    let s = schema_bytes c.args.schema.now in
+    let s = c.args.schema.now in
     let bytes = take c.in_ok-got.got c.fill.new.buf in
-    let made : length c.fill.new.buf ≡ length s + 7 = search rules in
-    let few : length bytes ≤ length s + 7 = omega (arith, length-take c.in_ok-got.got c.fill.new.buf, made, c.in_ok-got.ensures.bound) in
-    piece_ok (length s + 7) (start_at s) (IsFront-start s) (HasWidth-start s) bytes few (g.R.Read.remaining (inner_of c.args.input.now)) (g.R.Read.remaining (inner_of c.fill.new.input)) (c.in_ok-version.version, c.in_ok-version.origin) _ c.in_ok-got.ensures.bytes
+    let made : length c.fill.new.buf ≡ length (schema_bytes s) + 7 = search rules in
+    let few : length bytes ≤ length (schema_bytes s) + 7 = omega (arith, length-take c.in_ok-got.got c.fill.new.buf, made, c.in_ok-got.ensures.bound) in
+    piece_ok (length (schema_bytes s) + 7) (start_at s) (IsFront-start s) (HasWidth-start s) bytes few (g.R.Read.remaining (inner_of c.args.input.now)) (g.R.Read.remaining (inner_of c.fill.new.input)) (c.in_ok-version.version, c.in_ok-version.origin) _ c.in_ok-got.ensures.bytes
     c.in_ok-version.ensures.read
 
 pub returns-in_err-version-clause-read : goal.returns-in_err-version-clause-read
 returns-in_err-version-clause-read g c =
-    let s = schema_bytes c.args.schema.now in
+    let s = c.args.schema.now in
     let bytes = take c.in_ok-got.got c.fill.new.buf in
-    let made : length c.fill.new.buf ≡ length s + 7 = search rules in
+    let made : length c.fill.new.buf ≡ length (schema_bytes s) + 7 = search rules in
     let got_len = length-take c.in_ok-got.got c.fill.new.buf in
-    let few : length bytes ≤ length s + 7 = omega (arith, got_len, made, c.in_ok-got.ensures.bound) in
+    let few : length bytes ≤ length (schema_bytes s) + 7 = omega (arith, got_len, made, c.in_ok-got.ensures.bound) in
     let p = err_from_is_err_and c.from_residual-in_err-version.result c.from_residual-in_err-version.ensures.1 in
     rw (p.1, p.2)
-    (inr (inr (piece_err (length s + 7) (start_at s) (IsFront-start s) (HasWidth-start s) bytes few (g.R.Read.remaining (inner_of c.args.input.now)) (g.R.Read.remaining (inner_of c.fill.new.input)) _ c.in_ok-got.ensures.bytes
+    (inr (inr (piece_err (length (schema_bytes s) + 7) (start_at s) (IsFront-start s) (HasWidth-start s) bytes few (g.R.Read.remaining (inner_of c.args.input.now)) (g.R.Read.remaining (inner_of c.fill.new.input)) _ c.in_ok-got.ensures.bytes
     (λ lt. c.in_ok-got.ensures.end (omega (arith, got_len, made, c.in_ok-got.ensures.bound, lt)))
     c.in_err-version.ensures.read)))

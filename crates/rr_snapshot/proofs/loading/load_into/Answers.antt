@@ -5,7 +5,6 @@ use Rattle.std.proofs.lemmas.Bool.{or_left, or_right, or_from}
 use Rattle.std.proofs.lemmas.Result.{err_from_is_err_and}
 use Rattle.rr_io.specs.Counted.{inner_of}
 use Rattle.rr_schema.specs.Schema.{Layout}
-use Rattle.rr_schema.specs.SchemaBytes.{schema_bytes}
 use Rattle.rr_replica.specs.Standing.{held}
 use Rattle.rr_parts.specs.SnapshotReading.{head_at}
 use Rattle.rr_parts.specs.declared.fault.LoadFault.TheVariants.{ReadFailed, Memory}
@@ -21,7 +20,7 @@ pub returns-in_err-version-clause-read : goal.returns-in_err-version-clause-read
 returns-in_err-version-clause-read g c =
     let old = g.R.Read.remaining (inner_of c.args.input.now) in
     let f = c.in_err-version.field-0.0 in
-    let e = subst (λ (s : Layout). (f ≡ ReadFailed) ⊎ (f ≡ Memory) ⊎ IfSome old (λ all. head_at (schema_bytes s) all ≡ Err f)) c.schema.ensures.value c.in_err-version.ensures.read in
+    let e = subst (λ (s : Layout). (f ≡ ReadFailed) ⊎ (f ≡ Memory) ⊎ IfSome old (λ all. head_at s all ≡ Err f)) c.schema.ensures.value c.in_err-version.ensures.read in
     let p = err_from_is_err_and c.from_residual.result c.from_residual.ensures.1 in
     rw (p.1, p.2) (head_failed c.args.replica.now.schema c.args.replica.now.origin f old e)
 
