@@ -1,14 +1,15 @@
 //! The side of a session that takes cells.
-ghost use Rattle.std.specs.Prelude.{◌≡◌, All, IfOk, OnOk, OnErr, map, take, drop, refl};
-ghost use Rattle.std.proofs.Common.{◌∙◌};
+ghost use Rattle.std.specs.Prelude.{◌≡◌, ◌++◌, ◌∷◌, [], List, All, IfOk, OnOk, OnErr, map, take, drop, refl};
 ghost use Rattle.std.specs.FinMap.{entries};
 ghost use Rattle.rr_schema.specs.Schema.{Layout, IsLayout};
-ghost use Rattle.rr_cells.specs.CellBounds.{IsCellOf};
+ghost use Rattle.rr_cells.specs.CellBounds.{IsCellOf, NamedCell};
 ghost use Rattle.rr_cells.specs.Cells.{Cells, IsTrimmed};
-ghost use Rattle.rr_cells.specs.Joins.{join_cell};
+ghost use Rattle.rr_cells.specs.Joins.{join_cells};
 ghost use Rattle.rr_cells.specs.Listing.{owned_cell};
+ghost use Rattle.rr_replica.specs.Standing.{held};
 ghost use Rattle.rr_delta.specs.Names.{IsNameOf, name_in, named_version, owned_name, versions_of};
 ghost use Rattle.rr_delta.specs.Difference.{IsSummary};
+ghost use Rattle.rr_delta.specs.Joining.{HasJoined, map_joined, then_joined};
 ghost use Rattle.rr_delta.specs.Summaries.{cells_after};
 
 use crate::listing::{summary, summary_after};
@@ -21,20 +22,22 @@ use std::alloc::{AllocError, Global};
 
 /// Whoever takes cells from elsewhere: it says which it has, and joins those that it is given.
 ///
-/// It is seen as a map of cells of a schema, none of them past the horizon, and by what it may become:
-/// a relation, of its own choice, between what stands before calls and after them.
+/// It is seen as a map of cells of a schema, none of them past the horizon, and by which cells it has
+/// joined: a relation, of its own choice, between what stands before calls, what stands after them, and
+/// these cells, one by one and in order. Whatever the relation, they are then joined into the map.
 pub trait Target {
     ghost layout: { Self → Layout };
 
     ghost cells: { Self → Cells };
 
-    ghost may_become: { Self → Self → Type 0 };
+    ghost has_joined: { Self → Self → List NamedCell → Type 0 };
 
     /// The schema of all cells. It never changes.
     fn schema(&self) -> &Schema
         ensures value { result.now ≡ layout self.now }
         ensures within { IsLayout (layout self.now) }
-        ensures live { IsTrimmed (layout self.now) (cells self.now) };
+        ensures live { IsTrimmed (layout self.now) (cells self.now) }
+        ensures of_schema { All (IsCellOf (layout self.now)) (entries (cells self.now)) };
 
     /// The names and versions of as many cells as `count` from a place on, in the order of the names;
     /// fewer where there are fewer.
@@ -62,15 +65,14 @@ pub trait Target {
     /// stays, and then only the live cells. After an error nothing has changed.
     fn join_cell(&mut self, cell: &Cell) -> Result<(), AllocError>
         requires { IsCellOf (layout self.old) (owned_cell cell.now) }
-        ensures joined { OnOk result (cells self.new
-            ≡ join_cell (layout self.old) (cells self.old) (owned_cell cell.now).0 cell.now.contribution) }
-        ensures unchanged { OnErr result (cells self.new ≡ cells self.old) }
-        ensures schema { layout self.new ≡ layout self.old }
-        ensures kept { may_become self.old self.new };
+        ensures joined { OnOk result (has_joined self.old self.new (owned_cell cell.now ∷ [])) }
+        ensures unchanged { OnErr result (has_joined self.old self.new []) };
 
-    ghost may_stay: { (x : Self) → may_become x x };
+    ghost joins_none: { (x : Self) → has_joined x x [] };
 
-    ghost may_go_on: { (x y z : Self) → may_become x y → may_become y z → may_become x z };
+    ghost joins_then: { (x y z : Self) (es fs : List NamedCell) → has_joined x y es → has_joined y z fs → has_joined x z (es ++ fs) };
+
+    ghost joins_in_map: { (x y : Self) (es : List NamedCell) → has_joined x y es → (layout y ≡ layout x) × (cells y ≡ join_cells (layout x) (cells x) es) };
 }
 
 impl<A: Archive> Target for Replica<A> {
@@ -78,11 +80,13 @@ impl<A: Archive> Target for Replica<A> {
 
     ghost cells = { λ r. r.cells };
 
-    ghost may_become = { λ r s. (s.schema ≡ r.schema) × (s.origin ≡ r.origin) };
+    ghost has_joined = { λ r s. HasJoined (held r) (held s) };
 
-    ghost may_stay = { λ r. (refl, refl) };
+    ghost joins_none = { λ r. refl };
 
-    ghost may_go_on = { λ r s t p q. (q.0 ∙ p.0, q.1 ∙ p.1) };
+    ghost joins_then = { λ r s t. then_joined (held r) (held s) (held t) };
+
+    ghost joins_in_map = { λ r s. map_joined (held r) (held s) };
 
     fn schema(&self) -> &Schema {
         Replica::schema(self)
