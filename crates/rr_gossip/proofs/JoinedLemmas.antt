@@ -1,5 +1,5 @@
 -- What the side that pulls has joined after the frames of a reply.
-use Rattle.std.proofs.Common.{◌≡◌, ℕ, zero, suc, ◌+◌, ◌<◌, ◌≤◌, Bool, true, false, not, List, [], ◌∷◌, ◌++◌, length, map, take, drop, Ok, refl, ap, ◌∙◌, arith}
+use Rattle.std.proofs.Common.{◌≡◌, ℕ, zero, suc, ◌+◌, ◌<◌, ◌≤◌, Bool, true, false, not, List, [], ◌∷◌, ◌++◌, length, map, take, drop, Ok, append_assoc, refl, ap, ◌∙◌, arith}
 use Rattle.std.specs.Prelude.{nat_le}
 use Rattle.std.proofs.lemmas.List.{length-drop, take-append-drop}
 use Rattle.rr_text.specs.declared.limits.TheConstants.{MAX_PAGE_CELLS}
@@ -10,8 +10,6 @@ use Rattle.rr_page.specs.Version.{latest}
 use Rattle.rr_page.proofs.HeadLemmas.{masks_wide}
 use Rattle.rr_page.proofs.PageLemmas.{page_again}
 use Rattle.rr_cells.specs.CellBounds.{NamedCell, IsCellOf}
-use Rattle.rr_cells.specs.Cells.{Cells}
-use Rattle.rr_cells.specs.Joins.{join_cell, join_cells}
 use Rattle.std.specs.FinMap.{entries, entries_sorted, is_sorted}
 use Rattle.std.proofs.lemmas.List.Elements.{All-from_recursion, recursion_from_All}
 use Rattle.rr_join.proofs.Booleans.{true_from_T}
@@ -42,10 +40,6 @@ use Rattle.rr_gossip.proofs.PagesLemmas.{left_page, left_after}
 use Rattle.rr_gossip.proofs.ReplyLemmas.{under, givers_reply}
 use Rattle.rr_gossip.proofs.TakenLemmas.{content_is, frame_read, givers_take}
 
-join_cells-append : (s : Layout) (m : Cells) (xs ys : List NamedCell) → join_cells s (join_cells s m xs) ys ≡ join_cells s m (xs ++ ys)
-join_cells-append s m [] ys = refl
-join_cells-append s m (x ∷ xs) ys = join_cells-append s (join_cell s m x.0 x.1) xs ys
-
 module _ (s : Layout) (is : IsLayout s) (before limit : ℕ) where
   at : Stage → ℕ → Puller
   at stage taken = record { stage = stage; sent = before; taken = taken; limit = limit }
@@ -59,12 +53,12 @@ module _ (s : Layout) (is : IsLayout s) (before limit : ℕ) where
       ∙ ap (λ b. unless why.TooManyFrames b (body_taken s k body) >>= λ (x : Taken). Ok ((record { stage = x.0.0; sent = before; taken = taken + 1; limit = limit }, x.0.1), x.1)) (under taken limit room)
       ∙ ap (λ r. r >>= λ (x : Taken). Ok ((record { stage = x.0.0; sent = before; taken = taken + 1; limit = limit }, x.0.1), x.1)) takes
 
-  then : (next : Stage) (es : List NamedCell) (k : Kind) (body : List ℕ) (last : Bool) (taken : ℕ) (m : Cells) (others : List (List ℕ)) (end : Puller × Cells) → is_due Waiting k ≡ true → taken < limit → length body < MAX_FRAME_LEN → body_taken s k body ≡ Ok ((next, es), last)
-      → puller_after s (at next (taken + 1)) (join_cells s m es) others ≡ Ok end → puller_after s (at Waiting taken) m (drop 4 (frame_text k body) ∷ others) ≡ Ok end
+  then : (next : Stage) (es : List NamedCell) (k : Kind) (body : List ℕ) (last : Bool) (taken : ℕ) (had : List NamedCell) (others : List (List ℕ)) (end : Puller × List NamedCell) → is_due Waiting k ≡ true → taken < limit → length body < MAX_FRAME_LEN → body_taken s k body ≡ Ok ((next, es), last)
+      → puller_after s (at next (taken + 1)) (had ++ es) others ≡ Ok end → puller_after s (at Waiting taken) had (drop 4 (frame_text k body) ∷ others) ≡ Ok end
   unfolding puller_after
-  then next es k body last taken m others end due room short takes rest =
-      ap (λ c. puller_takes s (at Waiting taken) c >>= λ (x : (Puller × List NamedCell) × Bool). puller_after s x.0.0 (join_cells s m x.0.1) others) (content_is k body)
-      ∙ ap (λ r. r >>= λ (x : (Puller × List NamedCell) × Bool). puller_after s x.0.0 (join_cells s m x.0.1) others) (one_taken next es k body last taken due room short takes)
+  then next es k body last taken had others end due room short takes rest =
+      ap (λ c. puller_takes s (at Waiting taken) c >>= λ (x : (Puller × List NamedCell) × Bool). puller_after s x.0.0 (had ++ x.0.1) others) (content_is k body)
+      ∙ ap (λ r. r >>= λ (x : (Puller × List NamedCell) × Bool). puller_after s x.0.0 (had ++ x.0.1) others) (one_taken next es k body last taken due room short takes)
       ∙ rest
 
   page : (es : List NamedCell) → IsPage s es → body_taken s kind.Page (page_text latest s es) ≡ Ok ((Waiting, es), false)
@@ -78,33 +72,33 @@ module _ (s : Layout) (is : IsLayout s) (before limit : ℕ) where
   abbrev pages : ℕ → List NamedCell → List (List ℕ)
   pages k es = map (λ piece. frame_text kind.Page (page_text latest s piece)) (pieces k MAX_PAGE_CELLS es) ++ frame_text kind.PageEnd [] ∷ []
 
-  nothing_more : (p : Puller) (m : Cells) → puller_after s p m [] ≡ Ok (p, m)
+  nothing_more : (p : Puller) (had : List NamedCell) → puller_after s p (had ++ []) [] ≡ Ok (p, had ++ [])
   unfolding puller_after
-  nothing_more p m = refl
+  nothing_more p had = refl
 
-  at_the_end : (m : Cells) (taken : ℕ) → taken + 1 ≤ limit → puller_after s (at Waiting taken) m (contents (frame_text kind.PageEnd [] ∷ [])) ≡ Ok (at Done (taken + 1), m)
-  at_the_end m taken room = then Done [] kind.PageEnd [] true taken m [] _ refl (omega arith) (omega arith) page_end (nothing_more (at Done (taken + 1)) m)
+  at_the_end : (had : List NamedCell) (taken : ℕ) → taken + 1 ≤ limit → puller_after s (at Waiting taken) had (contents (frame_text kind.PageEnd [] ∷ [])) ≡ Ok (at Done (taken + 1), had ++ [])
+  at_the_end had taken room = then Done [] kind.PageEnd [] true taken had [] _ refl (omega arith) (omega arith) page_end (nothing_more (at Done (taken + 1)) had)
 
-  takes_pages : (k : ℕ) (es : List NamedCell) (m : Cells) (taken : ℕ) → length es ≤ k → AreLeft (s, es) → taken + length (pages k es) ≤ limit → puller_after s (at Waiting taken) m (contents (pages k es)) ≡ Ok (at Done (taken + length (pages k es)), join_cells s m es)
+  takes_pages : (k : ℕ) (es had : List NamedCell) (taken : ℕ) → length es ≤ k → AreLeft (s, es) → taken + length (pages k es) ≤ limit → puller_after s (at Waiting taken) had (contents (pages k es)) ≡ Ok (at Done (taken + length (pages k es)), had ++ es)
   unfolding pieces
-  takes_pages zero [] m taken few left room = at_the_end m taken room
-  takes_pages zero (e ∷ es) m taken few left room = absurd (omega arith)
-  takes_pages (suc k) [] m taken few left room = at_the_end m taken room
-  takes_pages (suc k) (e ∷ es) m taken few left room =
+  takes_pages zero [] had taken few left room = at_the_end had taken room
+  takes_pages zero (e ∷ es) had taken few left room = absurd (omega arith)
+  takes_pages (suc k) [] had taken few left room = at_the_end had taken room
+  takes_pages (suc k) (e ∷ es) had taken few left room =
       let piece = take MAX_PAGE_CELLS (e ∷ es) in
       let others = drop MAX_PAGE_CELLS (e ∷ es) in
       let less = length-drop MAX_PAGE_CELLS (e ∷ es) in
       let is_page = left_page s (e ∷ es) left in
-      then Waiting piece kind.Page (page_text latest s piece) false taken m (contents (pages k others)) _ refl (omega arith) (page_fits s piece is is_page) (page piece is_page)
-      (takes_pages k others (join_cells s m piece) (taken + 1) (omega arith) (left_after s (e ∷ es) left) (omega arith)
-      ∙ (λ i. Ok (at Done (one_later taken (length (pages k others)) i), (join_cells-append s m piece others ∙ ap (join_cells s m) (take-append-drop MAX_PAGE_CELLS (e ∷ es))) i)))
+      then Waiting piece kind.Page (page_text latest s piece) false taken had (contents (pages k others)) _ refl (omega arith) (page_fits s piece is is_page) (page piece is_page)
+      (takes_pages k others (had ++ piece) (taken + 1) (omega arith) (left_after s (e ∷ es) left) (omega arith)
+      ∙ (λ i. Ok (at Done (one_later taken (length (pages k others)) i), (append_assoc had piece others ∙ ap (λ (l : List NamedCell). had ++ l) (take-append-drop MAX_PAGE_CELLS (e ∷ es))) i)))
     where
       one_later : (a b : ℕ) → a + 1 + b ≡ a + suc b
       one_later a b = omega arith
 
 pub pullers_take : PullersTake
 unfolding at
-pullers_take s m es before taken limit is left room = takes_pages s is before limit (length es) es m taken (omega arith) left room
+pullers_take s had es before taken limit is left room = takes_pages s is before limit (length es) es had taken (omega arith) left room
 
 pub sessions_bring_the_join : SessionsBringTheJoin
 sessions_bring_the_join s m given limit is trimmed each each_given agree room room_back =
@@ -115,15 +109,17 @@ sessions_bring_the_join s m given limit is trimmed each each_given agree room ro
     let left : AreLeft (s, es) = record {
       cells = All-from_recursion (IsCellOf s) es (newer_held s vs (entries given) (recursion_from_All (IsCellOf s) (entries given) each_given));
       names_ascend = true_from_T (is_sorted cell_name_cmp es) (newer_sorted vs (entries given) (entries_sorted given));
-    } in
-    record {
-      puller = waiting (length (frames_of_names s vs)) 0 limit;
-      frames = frames_of_names s vs;
-      is_sent = pullers_send s m limit limit room room;
-      giver = record { stage = Giving (s, es); sent = 0; taken = length (frames_of_names s vs); limit = limit };
-      is_heard = givers_take s given vs limit is (All-from_recursion (IsNameOf s) vs all) ascend room;
-      pages = reply s es;
-      is_replied = givers_reply s es 0 (length (frames_of_names s vs)) limit limit (omega (arith, room_back)) room_back;
-      last = record { stage = Done; sent = length (frames_of_names s vs); taken = 0 + length (reply s es); limit = limit };
-      is_joined = pullers_take s m es (length (frames_of_names s vs)) 0 limit is left (omega (arith, room_back)) ∙ ap (λ c. Ok (record { stage = Done; sent = length (frames_of_names s vs); taken = 0 + length (reply s es); limit = limit }, c)) (difference_brings_the_join s given m is trimmed agree);
-    }
+    } in (
+      record {
+        puller = waiting (length (frames_of_names s vs)) 0 limit;
+        frames = frames_of_names s vs;
+        is_sent = pullers_send s m limit limit room room;
+        giver = record { stage = Giving (s, es); sent = 0; taken = length (frames_of_names s vs); limit = limit };
+        is_heard = givers_take s given vs limit is (All-from_recursion (IsNameOf s) vs all) ascend room;
+        pages = reply s es;
+        is_replied = givers_reply s es 0 (length (frames_of_names s vs)) limit limit (omega (arith, room_back)) room_back;
+        last = record { stage = Done; sent = length (frames_of_names s vs); taken = 0 + length (reply s es); limit = limit };
+        is_taken = pullers_take s [] es (length (frames_of_names s vs)) 0 limit is left (omega (arith, room_back));
+      },
+      difference_brings_the_join s given m is trimmed agree,
+    )

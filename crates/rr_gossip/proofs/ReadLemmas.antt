@@ -12,13 +12,11 @@ use Rattle.rr_schema.specs.Schema.{Layout}
 use Rattle.rr_page.specs.declared.fault.PageFault.{PageFault}
 use Rattle.rr_page.specs.Reading.{number_at}
 use Rattle.rr_cells.specs.CellBounds.{NamedCell}
-use Rattle.rr_cells.specs.Cells.{Cells}
-use Rattle.rr_cells.specs.Joins.{join_cells}
 use Rattle.rr_gossip.specs.declared.fault.GossipFault.{GossipFault}
 use Rattle.rr_gossip.specs.declared.puller.Puller.{Puller}
 use Rattle.rr_gossip.specs.declared.fault.GossipFault.TheVariants.{ReadFailed, Ended, FrameTooLong, WriteFailed, Memory}
 use Rattle.rr_gossip.specs.declared.frame.TheConstants.{MAX_FRAME_LEN}
-use Rattle.rr_gossip.specs.Puller.{IsFrontJoined, Takes, puller_takes}
+use Rattle.rr_gossip.specs.Puller.{AreFront, Takes, puller_takes}
 use Rattle.rr_gossip.specs.Stream.{content_from, frame_at, Grows, IsFrame, Stops, WasRead}
 use Rattle.rr_gossip.specs.Transcript.{contents, puller_after}
 use Rattle.rr_gossip.proofs.StreamLemmas.{choice}
@@ -55,42 +53,42 @@ module _ (before : List ℕ) (had mid left : Option (List ℕ)) (frames : List (
 pub contents_more : (frames : List (List ℕ)) (frame : List ℕ) → contents (frames ++ frame ∷ []) ≡ contents frames ++ drop 4 frame ∷ []
 contents_more frames frame = map_push (drop 4) frames frame
 
-pub none_taken : (s : Layout) (p : Puller) (m : Cells) → puller_after s p m [] ≡ Ok (p, m)
+pub none_taken : (s : Layout) (p : Puller) (had : List NamedCell) → puller_after s p had [] ≡ Ok (p, had)
 unfolding puller_after
-none_taken s p m = refl
+none_taken s p had = refl
 
 -- one frame more
-pub one_more_taken : (s : Layout) (p q r : Puller) (m n : Cells) (cs : List (List ℕ)) (c : List ℕ) (es : List NamedCell) (last : Bool) → puller_after s p m cs ≡ Ok (q, n) → puller_takes s q c ≡ Ok ((r, es), last)
-    → puller_after s p m (cs ++ c ∷ []) ≡ Ok (r, join_cells s n es)
+pub one_more_taken : (s : Layout) (p q r : Puller) (had now : List NamedCell) (cs : List (List ℕ)) (c : List ℕ) (es : List NamedCell) (last : Bool) → puller_after s p had cs ≡ Ok (q, now) → puller_takes s q c ≡ Ok ((r, es), last)
+    → puller_after s p had (cs ++ c ∷ []) ≡ Ok (r, now ++ es)
 unfolding puller_after
-one_more_taken s p q r m n [] c es last before takes =
-    (λ i. puller_takes s (ok_is {E = GossipFault} (p, m) (q, n) before i).0 c >>= λ (next : (Puller × List NamedCell) × Bool). Ok (next.0.0, join_cells s (ok_is {E = GossipFault} (p, m) (q, n) before i).1 next.0.1))
-    ∙ ap (λ x. x >>= λ (next : (Puller × List NamedCell) × Bool). Ok (next.0.0, join_cells s n next.0.1)) takes
-one_more_taken s p q r m n (d ∷ ds) c es last before takes = by_first (puller_takes s p d) (λ next e. one_more_taken s next.0.0 q r (join_cells s m next.0.1) n ds c es last e takes) before
+one_more_taken s p q r had now [] c es last before takes =
+    (λ i. puller_takes s (ok_is {E = GossipFault} (p, had) (q, now) before i).0 c >>= λ (next : (Puller × List NamedCell) × Bool). Ok (next.0.0, (ok_is {E = GossipFault} (p, had) (q, now) before i).1 ++ next.0.1))
+    ∙ ap (λ x. x >>= λ (next : (Puller × List NamedCell) × Bool). Ok (next.0.0, now ++ next.0.1)) takes
+one_more_taken s p q r had now (d ∷ ds) c es last before takes = by_first (puller_takes s p d) (λ next e. one_more_taken s next.0.0 q r (had ++ next.0.1) now ds c es last e takes) before
   where
     by_first : (x : Result ((Puller × List NamedCell) × Bool) GossipFault)
-        → ((next : (Puller × List NamedCell) × Bool) → puller_after s next.0.0 (join_cells s m next.0.1) ds ≡ Ok (q, n) → puller_after s next.0.0 (join_cells s m next.0.1) (ds ++ c ∷ []) ≡ Ok (r, join_cells s n es))
-        → (x >>= λ (next : (Puller × List NamedCell) × Bool). puller_after s next.0.0 (join_cells s m next.0.1) ds) ≡ Ok (q, n)
-        → (x >>= λ (next : (Puller × List NamedCell) × Bool). puller_after s next.0.0 (join_cells s m next.0.1) (ds ++ c ∷ [])) ≡ Ok (r, join_cells s n es)
+        → ((next : (Puller × List NamedCell) × Bool) → puller_after s next.0.0 (had ++ next.0.1) ds ≡ Ok (q, now) → puller_after s next.0.0 (had ++ next.0.1) (ds ++ c ∷ []) ≡ Ok (r, now ++ es))
+        → (x >>= λ (next : (Puller × List NamedCell) × Bool). puller_after s next.0.0 (had ++ next.0.1) ds) ≡ Ok (q, now)
+        → (x >>= λ (next : (Puller × List NamedCell) × Bool). puller_after s next.0.0 (had ++ next.0.1) (ds ++ c ∷ [])) ≡ Ok (r, now ++ es)
     by_first (Ok next) later e = later next e
     by_first (Err fault) later e = absurd cc
 
 -- a frame more of those that were read, and then taken
-pub frame_taken : (s : Layout) (p q r : Puller) (m n : Cells) (frames : List (List ℕ)) (frame : List ℕ) (es : List NamedCell) (last : Bool) → puller_after s p m (contents frames) ≡ Ok (q, n) → puller_takes s q (drop 4 frame) ≡ Ok ((r, es), last)
-    → puller_after s p m (contents (frames ++ frame ∷ [])) ≡ Ok (r, join_cells s n es)
-frame_taken s p q r m n frames frame es last before takes =
-    ap (puller_after s p m) (contents_more frames frame) ∙ one_more_taken s p q r m n (contents frames) (drop 4 frame) es last before takes
+pub frame_taken : (s : Layout) (p q r : Puller) (had now : List NamedCell) (frames : List (List ℕ)) (frame : List ℕ) (es : List NamedCell) (last : Bool) → puller_after s p had (contents frames) ≡ Ok (q, now) → puller_takes s q (drop 4 frame) ≡ Ok ((r, es), last)
+    → puller_after s p had (contents (frames ++ frame ∷ [])) ≡ Ok (r, now ++ es)
+frame_taken s p q r had now frames frame es last before takes =
+    ap (puller_after s p had) (contents_more frames frame) ∙ one_more_taken s p q r had now (contents frames) (drop 4 frame) es last before takes
 
--- a frame that a puller refuses, or for which there is no memory
-pub puller_stops : (s : Layout) (p x : Puller) (pages new : Cells) (frame : List ℕ) (fault : GossipFault) → IsFrame frame → Takes s pages new x (Err fault) (puller_takes s p (drop 4 frame))
-    → Stops (puller_takes s p) frame fault × ((new ≡ pages) ⊎ ((fault ≡ Memory) × IsFrontJoined s pages new (puller_takes s p (drop 4 frame))))
-puller_stops s p x pages new frame fault whole (inl (memory, inl same)) = (inr (record { frame = whole; why = inl memory }), inl same)
-puller_stops s p x pages new frame fault whole (inl (memory, inr front)) = (inr (record { frame = whole; why = inl memory }), inr (memory, front))
-puller_stops s p x pages new frame fault whole (inr (refused, same)) = (inr (record { frame = whole; why = inr refused }), inl same)
+-- a frame that a puller refuses, or for which there is no memory: what is joined after the pages before it
+pub puller_stops : (s : Layout) (p x : Puller) (pages : List NamedCell) (joined all : List NamedCell → Type 0) (frame : List ℕ) (fault : GossipFault) → ((es : List NamedCell) → joined es → all (pages ++ es)) → IsFrame frame → Takes joined x (Err fault) (puller_takes s p (drop 4 frame))
+    → Stops (puller_takes s p) frame fault × ((cells : List NamedCell) × all cells × ((cells ≡ pages) ⊎ ((fault ≡ Memory) × IsFrame frame × ((es : List NamedCell) × AreFront es (puller_takes s p (drop 4 frame)) × (cells ≡ pages ++ es)))))
+puller_stops s p x pages joined all frame fault after whole (inl (memory, inl none)) = (inr (record { frame = whole; why = inl memory }), (pages ++ [], after [] none, inl (append-nil pages)))
+puller_stops s p x pages joined all frame fault after whole (inl (memory, inr (es, front, holds))) = (inr (record { frame = whole; why = inl memory }), (pages ++ es, after es holds, inr (memory, whole, (es, front, refl))))
+puller_stops s p x pages joined all frame fault after whole (inr (refused, none)) = (inr (record { frame = whole; why = inr refused }), (pages ++ [], after [] none, inl (append-nil pages)))
 
-pub takes_of_frame : (s : Layout) (p x : Puller) (old new : Cells) (content : List ℕ) (fault : GossipFault) → Takes s old new x (Err fault) (puller_takes s p content) → is_of_frame fault ≡ true
-takes_of_frame s p x old new content fault (inl (memory, joined)) = ap is_of_frame memory
-takes_of_frame s p x old new content fault (inr (refused, same)) = puller_fault s p content fault refused
+pub takes_of_frame : (s : Layout) (p x : Puller) (joined : List NamedCell → Type 0) (content : List ℕ) (fault : GossipFault) → Takes joined x (Err fault) (puller_takes s p content) → is_of_frame fault ≡ true
+takes_of_frame s p x joined content fault (inl (memory, some)) = ap is_of_frame memory
+takes_of_frame s p x joined content fault (inr (refused, none)) = puller_fault s p content fault refused
 
 -- no stream is to blame for such a fault
 pub not_of_frame : {A P : Type 0} (r : Result A GossipFault) (fault other : GossipFault) → is_of_frame fault ≡ true → is_of_frame other ≡ false → r ≡ Err fault → r ≡ Err other → P

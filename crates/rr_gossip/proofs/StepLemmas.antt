@@ -1,5 +1,5 @@
 -- What one frame does to a side of a session: the faults that it can have, and the count of frames.
-use Rattle.std.proofs.Common.{◌≡◌, ℕ, ◌+◌, ◌<◌, ◌≤◌, arith, Bool, true, false, not, List, [], ◌∷◌, length, Option, None, Some, Result, Ok, Err, refl, sym, ap, ◌∙◌}
+use Rattle.std.proofs.Common.{◌≡◌, ℕ, ◌+◌, ◌<◌, ◌≤◌, arith, Bool, true, false, not, List, [], ◌∷◌, ◌++◌, length, Option, None, Some, Result, Ok, Err, refl, sym, ap, ◌∙◌}
 use Rattle.std.specs.Prelude.{nat_le, ◌==◌}
 use Rattle.std.proofs.lemmas.Bool.{leb-false, lt-leb}
 use Rattle.rr_text.specs.Results.{◌>>=◌, unless}
@@ -8,8 +8,6 @@ use Rattle.rr_page.specs.declared.fault.PageFault.{PageFault}
 use Rattle.rr_page.specs.declared.fault.PageFault.TheVariants as page
 use Rattle.rr_page.specs.PageReading.{page_at}
 use Rattle.rr_cells.specs.CellBounds.{NamedCell}
-use Rattle.rr_cells.specs.Cells.{Cells}
-use Rattle.rr_cells.specs.Joins.{join_cells}
 use Rattle.rr_gossip.specs.declared.fault.GossipFault.{GossipFault}
 use Rattle.rr_gossip.specs.declared.fault.GossipFault.TheVariants.{ReadFailed, Ended, FrameTooLong, BadFrame, UnexpectedFrame, TooManyFrames, SchemaDiffers, WriteFailed, Memory, Failed}
 use Rattle.rr_gossip.specs.declared.frame.Kind.{Kind}
@@ -243,11 +241,11 @@ takes_raised n s p q content es last more e =
     rebuilt s (raised n p) content t.frame t.next t.read t.due (lt-leb n p.taken (omega (arith, room, more))) t.takes
     ∙ (λ i. Ok ((raised n (sym t.puller i), t.cells i), t.end i))
 
-pub after_raised : (n : ℕ) (s : Layout) (p : Puller) (m : Cells) (x : Puller × Cells) (cs : List (List ℕ)) → p.limit ≤ n → puller_after s p m cs ≡ Ok x → puller_after s (raised n p) m cs ≡ Ok (raised n x.0, x.1)
+pub after_raised : (n : ℕ) (s : Layout) (p : Puller) (had : List NamedCell) (x : Puller × List NamedCell) (cs : List (List ℕ)) → p.limit ≤ n → puller_after s p had cs ≡ Ok x → puller_after s (raised n p) had cs ≡ Ok (raised n x.0, x.1)
 unfolding puller_after
-after_raised n s p m x [] more e = ap (λ (y : Puller × Cells). Ok (raised n y.0, y.1)) (ok_is {E = GossipFault} (p, m) x e)
-after_raised n s p m x (c ∷ cs) more e =
-    let one = bind_ok (puller_takes s p c) (λ (next : (Puller × List NamedCell) × Bool). puller_after s next.0.0 (join_cells s m next.0.1) cs) x e in
+after_raised n s p had x [] more e = ap (λ (y : Puller × List NamedCell). Ok (raised n y.0, y.1)) (ok_is {E = GossipFault} (p, had) x e)
+after_raised n s p had x (c ∷ cs) more e =
+    let one = bind_ok (puller_takes s p c) (λ (next : (Puller × List NamedCell) × Bool). puller_after s next.0.0 (had ++ next.0.1) cs) x e in
     let same = (puller_moves s p one.0.0.0 c one.0.0.1 one.0.1 one.1).limit in
-    ap (λ y. y >>= λ (next : (Puller × List NamedCell) × Bool). puller_after s next.0.0 (join_cells s m next.0.1) cs) (takes_raised n s p one.0.0.0 c one.0.0.1 one.0.1 more one.1)
-    ∙ after_raised n s one.0.0.0 (join_cells s m one.0.0.1) x cs (omega (arith, same, more)) one.2
+    ap (λ y. y >>= λ (next : (Puller × List NamedCell) × Bool). puller_after s next.0.0 (had ++ next.0.1) cs) (takes_raised n s p one.0.0.0 c one.0.0.1 one.0.1 more one.1)
+    ∙ after_raised n s one.0.0.0 (had ++ one.0.0.1) x cs (omega (arith, same, more)) one.2

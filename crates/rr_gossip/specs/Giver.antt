@@ -17,7 +17,7 @@ use Rattle.rr_gossip.specs.declared.giver.Stage.{Stage}
 use Rattle.rr_gossip.specs.declared.giver.Stage.TheVariants.{Opening, Listing, Giving, Done, Failed}
 use Rattle.rr_gossip.specs.Fault.{as_body}
 use Rattle.rr_gossip.specs.Frame.{content_at, frame_text}
-use Rattle.rr_gossip.specs.Pages.{CellsLeft, next_page, after_page}
+use Rattle.rr_gossip.specs.Pages.{AreLeft, CellsLeft, next_page, after_page}
 use Rattle.rr_gossip.specs.SummaryReading.{summary_at}
 
 -- ---- which frames are due
@@ -125,6 +125,14 @@ giver_sends g = do
   next ← stage_sends g.stage
   unless why.TooManyFrames (is_some next.1 && nat_le g.limit g.sent)
       (Ok (record { stage = next.0; sent = count_with g.sent next.1; taken = g.taken; limit = g.limit }, next.1))
+
+-- cells that are still to be sent are cells of its schema, ascending by their names
+abbrev pub AreFit : Stage → Type 0
+AreFit Opening = Unit {0}
+AreFit (Listing vs) = Unit {0}
+AreFit (Giving left) = AreLeft left
+AreFit Done = Unit {0}
+AreFit Failed = Unit {0}
 
 -- a session that has failed answers Failed from then on
 abbrev pub HasFailed : Giver → Type 0

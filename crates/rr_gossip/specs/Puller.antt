@@ -12,7 +12,6 @@ use Rattle.rr_delta.specs.Summaries.{cells_after}
 use Rattle.rr_page.specs.PageReading.{page_at}
 use Rattle.rr_cells.specs.CellBounds.{NamedCell}
 use Rattle.rr_cells.specs.Cells.{Cells}
-use Rattle.rr_cells.specs.Joins.{join_cells}
 use Rattle.rr_gossip.specs.declared.fault.GossipFault.{GossipFault}
 use Rattle.rr_gossip.specs.declared.fault.GossipFault.TheVariants as why
 use Rattle.rr_gossip.specs.declared.frame.Kind.{Kind}
@@ -127,20 +126,20 @@ puller_takes s p content = do
 
 -- ---- what is joined
 
--- cells of the frame from the first on, perhaps all, perhaps none
-pub record IsFrontJoined {X : Type 0} (s : Layout) (old new : Cells) (read : Result ((X × List NamedCell) × Bool) GossipFault) : Type 0 where
+-- the first of the cells of a frame that is read, perhaps all, perhaps none
+pub record AreFront {X : Type 0} (es : List NamedCell) (read : Result ((X × List NamedCell) × Bool) GossipFault) : Type 0 where
   pub found : (X × List NamedCell) × Bool
   pub is_read : read ≡ Ok found
-  pub front : List NamedCell
   pub others : List NamedCell
-  pub parts : found.0.1 ≡ front ++ others
-  pub joined : new ≡ join_cells s old front
+  pub parts : found.0.1 ≡ es ++ others
 
--- a frame was taken: its cells are joined, or it is refused and nothing has changed, or memory ran out, and then its
--- first cells may be joined
-abbrev pub Takes : {X : Type 0} → Layout → Cells → Cells → X → Result Bool GossipFault → Result ((X × List NamedCell) × Bool) GossipFault → Type 0
-Takes s old new x (Ok last) read = (es : List NamedCell) × (read ≡ Ok ((x, es), last)) × (new ≡ join_cells s old es)
-Takes s old new x (Err fault) read = ((fault ≡ why.Memory) × ((new ≡ old) ⊎ IsFrontJoined s old new read)) ⊎ ((read ≡ Err fault) × (new ≡ old))
+-- a frame was taken: its cells are joined, one by one and in order; or it is refused and no cell is joined; or memory ran
+-- out, and then its first cells may be joined. `joined` says which cells a target has joined
+abbrev pub Takes : {X : Type 0} → (List NamedCell → Type 0) → X → Result Bool GossipFault → Result ((X × List NamedCell) × Bool) GossipFault → Type 0
+Takes joined x (Ok last) read = (es : List NamedCell) × (read ≡ Ok ((x, es), last)) × joined es
+Takes joined x (Err fault) read =
+    ((fault ≡ why.Memory) × (joined [] ⊎ ((es : List NamedCell) × AreFront es read × joined es)))
+    ⊎ ((read ≡ Err fault) × joined [])
 
 -- a session that has failed answers Failed from then on
 abbrev pub HasFailed : Puller → Type 0

@@ -3,6 +3,7 @@ use Rattle.std.specs.Prelude.{◌≡◌, ◌⊎◌, ℕ, ◌<◌, Bool, true, fa
 use Rattle.std.specs.FinMap.{entries}
 use Rattle.std.specs.Io.KnownBytes.{Appends}
 use Rattle.std.specs.List.{concat}
+use mathlib.Core.List.{IsPrefix}
 use Rattle.rr_schema.specs.Schema.{Layout, IsLayout}
 use Rattle.rr_io.specs.Stream.{AppendsPrefix}
 use Rattle.rr_delta.specs.Difference.{IsSummary, newer_cells}
@@ -23,8 +24,8 @@ use Rattle.rr_gossip.specs.declared.puller.Puller.{Puller}
 use Rattle.rr_gossip.specs.declared.puller.Stage.TheVariants as puller
 use Rattle.rr_gossip.specs.Giver.{first_giver, giver_takes}
 use Rattle.rr_gossip.specs.Pages.{AreLeft}
-use Rattle.rr_gossip.specs.Puller.{IsFrontJoined, puller_takes}
-use Rattle.rr_gossip.specs.Stream.{Stops, WasRead}
+use Rattle.rr_gossip.specs.Puller.{AreFront, puller_takes}
+use Rattle.rr_gossip.specs.Stream.{IsFrame, Stops, WasRead}
 use Rattle.rr_gossip.specs.Transcript.{contents, giver_after, puller_after, reply, frames_of_names, waiting}
 
 -- why not all of a side's frames were sent: the writer failed, memory ran out, or the session may not have as many
@@ -37,37 +38,37 @@ CannotSend limit frames fault = (fault ≡ WriteFailed) ⊎ (fault ≡ Memory) �
 unfoldable pub sent_by : Layout → Cells → List (List ℕ)
 sent_by s m = frames_of_names s (versions_of m)
 
--- it took frames to the end of the pages and nothing after them, and joined each page
-pub record HasPulled (s : Layout) (first : Puller) (old new : Cells) (had left : Option (List ℕ)) : Type 0 where
+-- it took frames to the end of the pages and nothing after them; these are the cells of the pages, in order
+pub record HasPulled (s : Layout) (first : Puller) (had left : Option (List ℕ)) (cells : List NamedCell) : Type 0 where
   pub frames : List (List ℕ)
   pub read : WasRead [] had left frames []
   pub last : Puller
-  pub taken : puller_after s first old (contents frames) ≡ Ok (last, new)
+  pub taken : puller_after s first [] (contents frames) ≡ Ok (last, cells)
   pub done : last.stage ≡ puller.Done
 
--- it took frames, and stopped at the next: the pages of those are joined, and where memory ran out perhaps cells of the
--- next page, from the first on
-pub record HasStoppedPulling (s : Layout) (first : Puller) (old new : Cells) (had left : Option (List ℕ)) (fault : GossipFault) : Type 0 where
+-- it took frames, and stopped at the next; these are the cells of the pages of those, in order, and where memory ran out
+-- perhaps the first cells of the next page
+pub record HasStoppedPulling (s : Layout) (first : Puller) (had left : Option (List ℕ)) (fault : GossipFault) (cells : List NamedCell) : Type 0 where
   pub frames : List (List ℕ)
   pub piece : List ℕ
   pub read : WasRead [] had left frames piece
   pub last : Puller
-  pub pages : Cells
-  pub taken : puller_after s first old (contents frames) ≡ Ok (last, pages)
+  pub pages : List NamedCell
+  pub taken : puller_after s first [] (contents frames) ≡ Ok (last, pages)
   pub stopped : Stops (puller_takes s last) piece fault
-  pub joined : (new ≡ pages) ⊎ ((fault ≡ Memory) × IsFrontJoined s pages new (puller_takes s last (drop 4 piece)))
+  pub joined : (cells ≡ pages) ⊎ ((fault ≡ Memory) × IsFrame piece × ((es : List NamedCell) × AreFront es (puller_takes s last (drop 4 piece)) × (cells ≡ pages ++ es)))
 
--- not all of its frames were sent, and it read and joined nothing
-pub record HasNotSent (limit : ℕ) (s : Layout) (old new : Cells) (had left : Option (List ℕ)) (fault : GossipFault) : Type 0 where
-  pub why : CannotSend limit (sent_by s old) fault
+-- not all frames of a target of the cells m were sent, and it read and joined nothing
+pub record HasNotSent (limit : ℕ) (s : Layout) (m : Cells) (had left : Option (List ℕ)) (fault : GossipFault) (cells : List NamedCell) : Type 0 where
+  pub why : CannotSend limit (sent_by s m) fault
   pub unread : left ≡ had
-  pub unchanged : new ≡ old
+  pub none : cells ≡ []
 
 -- a pull of a session of at most so many frames failed: before all was sent, or else among the pages
-abbrev pub HasFailedToPull : ℕ → Layout → Cells → Cells → Option (List ℕ) → Option (List ℕ) → Option (List ℕ) → Option (List ℕ) → GossipFault → Type 0
-HasFailedToPull limit s old new had left wrote written fault =
-    HasNotSent limit s old new had left fault
-    ⊎ (Appends wrote written (concat (sent_by s old)) × HasStoppedPulling s (waiting (length (sent_by s old)) 0 limit) old new had left fault)
+abbrev pub HasFailedToPull : ℕ → Layout → Cells → Option (List ℕ) → Option (List ℕ) → Option (List ℕ) → Option (List ℕ) → GossipFault → List NamedCell → Type 0
+HasFailedToPull limit s m had left wrote written fault cells =
+    HasNotSent limit s m had left fault cells
+    ⊎ (Appends wrote written (concat (sent_by s m)) × HasStoppedPulling s (waiting (length (sent_by s m)) 0 limit) had left fault cells)
 
 -- ---- the side that gives
 
@@ -91,13 +92,14 @@ is_giving stage.Done = false
 is_giving stage.Failed = false
 
 -- it took frames to the end of the names and nothing after them, of which some bytes may have been read before, and has
--- the difference of its source's cells m against all names to send
+-- the difference of its source's cells m against all names to send, which are cells of the schema
 pub record HasHeard (s : Layout) (m : Cells) (first last : Giver) (before : List ℕ) (had left : Option (List ℕ)) : Type 0 where
   pub frames : List (List ℕ)
   pub read : WasRead before had left frames []
   pub taken : giver_after m s first (contents frames) ≡ Ok last
   pub names : List NamedVersion
   pub giving : last.stage ≡ stage.Giving (s, newer_cells names (entries m))
+  pub fits : AreLeft (s, newer_cells names (entries m))
 
 -- it took frames, and stopped at the next
 pub record HasStoppedHearing (s : Layout) (m : Cells) (first : Giver) (before : List ℕ) (had left : Option (List ℕ)) (fault : GossipFault) : Type 0 where
@@ -129,39 +131,63 @@ HasFailedToGive limit s m before had left wrote written fault =
 
 -- ---- laws
 
--- a give that heard what a side sends for some names, and perhaps more behind it, wrote the answer to those names, and
--- left what is behind
+-- a give that heard what a side sends for some names, and perhaps more behind it, has the answer to those names to send
+abbrev pub GivesHearTheNames : Type 0
+GivesHearTheNames =
+    (s : Layout) (m : Cells) (names : List NamedVersion) (limit : ℕ) (last : Giver) (more : List ℕ) (left : Option (List ℕ))
+    → IsLayout s → All (IsNameOf s) names → IsSummary names
+    → (heard : HasHeard s m (first_giver limit) last [] (Some (concat (frames_of_names s names) ++ more)) left)
+    → (newer_cells heard.names (entries m) ≡ newer_cells names (entries m)) × (left ≡ Some more)
+
+-- so one that heard what a side sends for some names, and perhaps more behind it, wrote the answer to those names, of
+-- cells of the schema, and left what is behind
 abbrev pub GivesAnswer : Type 0
 GivesAnswer =
     (s : Layout) (m : Cells) (names : List NamedVersion) (limit : ℕ) (answer more : List ℕ) (left : Option (List ℕ))
     → IsLayout s → All (IsNameOf s) names → IsSummary names
     → HasGiven limit s m [] (Some (concat (frames_of_names s names) ++ more)) left (Some []) (Some answer)
-    → (answer ≡ concat (replied_by s names m)) × (left ≡ Some more)
+    → (answer ≡ concat (replied_by s names m)) × (left ≡ Some more) × AreLeft (s, newer_cells names (entries m))
 
--- a pull that read what a side replies of some cells, and perhaps more behind it, joined these cells, and left what is
--- behind
-abbrev pub PullsJoin : Type 0
-PullsJoin =
-    (s : Layout) (m after : Cells) (es : List NamedCell) (n limit : ℕ) (more : List ℕ) (left : Option (List ℕ))
+-- a pull that read what a side replies of some cells, and perhaps more behind it, has exactly these cells, in order, and
+-- left what is behind
+abbrev pub PullsTakeTheReply : Type 0
+PullsTakeTheReply =
+    (s : Layout) (es cells : List NamedCell) (n limit : ℕ) (more : List ℕ) (left : Option (List ℕ))
     → IsLayout s → AreLeft (s, es)
-    → HasPulled s (waiting n 0 limit) m after (Some (concat (reply s es) ++ more)) left
-    → (after ≡ join_cells s m es) × (left ≡ Some more)
+    → HasPulled s (waiting n 0 limit) (Some (concat (reply s es) ++ more)) left cells
+    → (cells ≡ es) × (left ≡ Some more)
 
--- where a give heard what a pull sent, and that pull read its answer, the target has the join of the cells of both
--- sides, where equal versions of one cell mean equal contents
+-- one that stopped, and could read a beginning of that at most, has the first of these cells, in order
+abbrev pub StoppedPullsTakeAFront : Type 0
+StoppedPullsTakeAFront =
+    (s : Layout) (es cells : List NamedCell) (n limit : ℕ) (came lost more : List ℕ) (left : Option (List ℕ)) (fault : GossipFault)
+    → IsLayout s → AreLeft (s, es) → came ++ lost ≡ concat (reply s es) ++ more
+    → HasStoppedPulling s (waiting n 0 limit) (Some came) left fault cells
+    → IsPrefix cells es
+
+-- where a give heard what a pull sent, and that pull read its answer, it has exactly what its side lacked, in order
+abbrev pub PullsBringTheDifference : Type 0
+PullsBringTheDifference =
+    (s : Layout) (m given : Cells) (cells : List NamedCell) (limit limit_given : ℕ) (answer more more_given : List ℕ) (left left_given : Option (List ℕ))
+    → IsLayout s → All (IsCellOf s) (entries m)
+    → HasGiven limit_given s given [] (Some (concat (sent_by s m) ++ more_given)) left_given (Some []) (Some answer)
+    → HasPulled s (waiting (length (sent_by s m)) 0 limit) (Some (answer ++ more)) left cells
+    → cells ≡ newer_cells (versions_of m) (entries given)
+
+-- to join that brings the join of the cells of both sides, where equal versions of one cell mean equal contents
 abbrev pub PullsBringTheJoin : Type 0
 PullsBringTheJoin =
-    (s : Layout) (m given after : Cells) (limit limit_given : ℕ) (answer more more_given : List ℕ) (left left_given : Option (List ℕ))
-    → IsLayout s → IsTrimmed s m → All (IsCellOf s) (entries m) → All (IsCellOf s) (entries given) → AgreeAtVersions given m
+    (s : Layout) (m given : Cells) (cells : List NamedCell) (limit limit_given : ℕ) (answer more more_given : List ℕ) (left left_given : Option (List ℕ))
+    → IsLayout s → IsTrimmed s m → All (IsCellOf s) (entries m) → AgreeAtVersions given m
     → HasGiven limit_given s given [] (Some (concat (sent_by s m) ++ more_given)) left_given (Some []) (Some answer)
-    → HasPulled s (waiting (length (sent_by s m)) 0 limit) m after (Some (answer ++ more)) left
-    → after ≡ join s m given
+    → HasPulled s (waiting (length (sent_by s m)) 0 limit) (Some (answer ++ more)) left cells
+    → join_cells s m cells ≡ join s m given
 
--- so where both sides have the cells of closed knowledges, the target has those of what either knew
+-- so where both sides have the cells of closed knowledges, it brings those of what either knew
 abbrev pub PullsUnite : Type 0
 PullsUnite =
-    (s : Layout) (w : World) (k given : Knowledge) (after : Cells) (limit limit_given : ℕ) (answer more more_given : List ℕ) (left left_given : Option (List ℕ))
-    → IsLayout s → IsClosed s w k → IsClosed s w given → All (IsCellOf s) (entries (state s k)) → All (IsCellOf s) (entries (state s given))
+    (s : Layout) (w : World) (k given : Knowledge) (cells : List NamedCell) (limit limit_given : ℕ) (answer more more_given : List ℕ) (left left_given : Option (List ℕ))
+    → IsLayout s → IsClosed s w k → IsClosed s w given → All (IsCellOf s) (entries (state s k))
     → HasGiven limit_given s (state s given) [] (Some (concat (sent_by s (state s k)) ++ more_given)) left_given (Some []) (Some answer)
-    → HasPulled s (waiting (length (sent_by s (state s k))) 0 limit) (state s k) after (Some (answer ++ more)) left
-    → after ≡ state s (union k given)
+    → HasPulled s (waiting (length (sent_by s (state s k))) 0 limit) (Some (answer ++ more)) left cells
+    → join_cells s (state s k) cells ≡ state s (union k given)

@@ -97,10 +97,10 @@ unfoldable pub giver_after : Cells → Layout → Giver → List (List ℕ) → 
 giver_after m s g [] = Ok g
 giver_after m s g (c ∷ cs) = giver_takes m s g c >>= λ next. giver_after m s next.0 cs
 
--- a puller after frames, and the cells of its target, which were m
-unfoldable pub puller_after : Layout → Puller → Cells → List (List ℕ) → Result (Puller × Cells) GossipFault
-puller_after s p m [] = Ok (p, m)
-puller_after s p m (c ∷ cs) = puller_takes s p c >>= λ next. puller_after s next.0.0 (join_cells s m next.0.1) cs
+-- a puller after frames, and the cells to join: those that it had before them, and then those of each frame, in order
+unfoldable pub puller_after : Layout → Puller → List NamedCell → List (List ℕ) → Result (Puller × List NamedCell) GossipFault
+puller_after s p had [] = Ok (p, had)
+puller_after s p had (c ∷ cs) = puller_takes s p c >>= λ next. puller_after s next.0.0 (had ++ next.0.1) cs
 
 -- a giver that takes what a puller sends then has the difference against it to send
 abbrev pub GiversTake : Type 0
@@ -109,16 +109,16 @@ GiversTake =
     → giver_after m s (first_giver limit) (contents (frames_of_names s vs))
     ≡ Ok (record { stage = giver.Giving (s, newer_cells vs (entries m)); sent = 0; taken = length (frames_of_names s vs); limit = limit })
 
--- a puller that takes what a giver replies joins all of it, in order, and is done
+-- a puller that takes what a giver replies has all of it to join, in order, and is done
 abbrev pub PullersTake : Type 0
 PullersTake =
-    (s : Layout) (m : Cells) (es : List NamedCell) (sent taken limit : ℕ) → IsLayout s → AreLeft (s, es) → taken + length (reply s es) ≤ limit
-    → puller_after s (waiting sent taken limit) m (contents (reply s es))
-    ≡ Ok (record { stage = puller.Done; sent = sent; taken = taken + length (reply s es); limit = limit }, join_cells s m es)
+    (s : Layout) (had es : List NamedCell) (sent taken limit : ℕ) → IsLayout s → AreLeft (s, es) → taken + length (reply s es) ≤ limit
+    → puller_after s (waiting sent taken limit) had (contents (reply s es))
+    ≡ Ok (record { stage = puller.Done; sent = sent; taken = taken + length (reply s es); limit = limit }, had ++ es)
 
 -- a whole session of at most so many frames each way: a puller of the cells m sends its frames, a giver of the cells
--- `given` takes them and replies, and the puller takes the reply
-pub record IsSession (s : Layout) (m given : Cells) (limit : ℕ) (after : Cells) : Type 0 where
+-- `given` takes them and replies, and the puller takes the reply, which has these cells
+pub record IsSession (s : Layout) (m given : Cells) (limit : ℕ) (cells : List NamedCell) : Type 0 where
   pub puller : Puller
   pub frames : List (List ℕ)
   pub is_sent : puller_frames limit m s (first_puller limit) ≡ Ok (puller, frames)
@@ -127,11 +127,12 @@ pub record IsSession (s : Layout) (m given : Cells) (limit : ℕ) (after : Cells
   pub pages : List (List ℕ)
   pub is_replied : giver_frames limit giver ≡ Ok pages
   pub last : Puller
-  pub is_joined : puller_after s puller m (contents pages) ≡ Ok (last, after)
+  pub is_taken : puller_after s puller [] (contents pages) ≡ Ok (last, cells)
 
--- it leaves the join of both sides' cells, where equal versions of one cell mean equal contents
+-- it brings what the puller lacks, in order, and so the join of both sides' cells, where equal versions of one cell mean
+-- equal contents
 abbrev pub SessionsBringTheJoin : Type 0
 SessionsBringTheJoin =
     (s : Layout) (m given : Cells) (limit : ℕ) → IsLayout s → IsTrimmed s m → All (IsCellOf s) (entries m) → All (IsCellOf s) (entries given) → AgreeAtVersions given m
     → length (frames_of_names s (versions_of m)) ≤ limit → length (reply s (newer_cells (versions_of m) (entries given))) ≤ limit
-    → IsSession s m given limit (join s m given)
+    → IsSession s m given limit (newer_cells (versions_of m) (entries given)) × (join_cells s m (newer_cells (versions_of m) (entries given)) ≡ join s m given)

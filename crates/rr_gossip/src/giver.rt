@@ -1,10 +1,10 @@
 //! The side of a session that gives cells.
-ghost use Rattle.std.specs.Prelude.{◌≡◌, ◌≢◌, ◌≤◌, ◌<◌, Err, IfOk, OnErr, IsTrue};
+ghost use Rattle.std.specs.Prelude.{◌≡◌, ◌≢◌, ◌≤◌, ◌<◌, Err, IfOk, OnErr, OnOk, IsTrue};
 ghost use Rattle.rr_gossip.specs.Session.{is_giving};
 ghost use Rattle.std.specs.Option.{option_map};
 ghost use Rattle.rr_text.specs.Results.{Gives, GivesUnless, NeedsMemoryAfter};
 ghost use Rattle.rr_gossip.specs.declared.frame.TheConstants.{MAX_FRAMES};
-ghost use Rattle.rr_gossip.specs.Giver.{HasFailed, first_giver, has_failed, is_due, is_listing, names_in, hello_taken, summary_taken, end_taken, body_taken, frame_due, giver_takes, stage_sends, giver_sends};
+ghost use Rattle.rr_gossip.specs.Giver.{AreFit, HasFailed, first_giver, has_failed, is_due, is_listing, names_in, hello_taken, summary_taken, end_taken, body_taken, frame_due, giver_takes, stage_sends, giver_sends};
 
 use crate::fault::GossipFault;
 use crate::frame::{Kind, MAX_FRAMES, content_of, frame_bytes};
@@ -33,6 +33,7 @@ pub(crate) enum Stage {
 #[tactic(auto, unfolding(crate::specs::Giver::hello_taken))]
 fn after_hello(alloc: Global, body: &[u8], schema: &Schema) -> Result<Stage, GossipFault>
     ensures taken { Gives (λ stage. stage) result (hello_taken schema.now body.now) }
+    ensures fit { IfOk result AreFit }
     ensures no_memory { result ≢ Err GossipFault.Memory }
 {
     if !schema.has_bytes(body) {
@@ -62,8 +63,9 @@ impl Stage {
         schema: &Schema,
     ) -> Result<(), GossipFault>
         requires { IsTrue (is_listing self.old) }
-        ensures { GivesUnless GossipFault.Memory (λ _. self.new) result
+        ensures taken { GivesUnless GossipFault.Memory (λ _. self.new) result
             (summary_taken schema.now (names_in self.old) body.now) }
+        ensures fit { OnOk result (AreFit self.new) }
     {
         match self {
             Stage::Listing(names) => {
@@ -85,6 +87,7 @@ impl Stage {
         requires { IsTrue (is_listing self.old) }
         ensures taken { GivesUnless GossipFault.Memory (λ _. self.new) result
             (end_taken (S.cells source.new) (S.layout source.old) (names_in self.old) body.now) }
+        ensures fit { OnOk result (AreFit self.new) }
         ensures schema { S.layout source.new ≡ S.layout source.old }
         ensures kept { S.may_become source.old source.new }
     {
@@ -111,6 +114,7 @@ impl Stage {
         requires { IsTrue (is_due self.old kind) }
         ensures taken { GivesUnless GossipFault.Memory (λ last. (self.new, last)) result
             (body_taken (S.cells source.new) (S.layout source.old) self.old kind body.now) }
+        ensures fit { OnOk result (AreFit self.new) }
         ensures listing { result ≡ Err GossipFault.Memory → IsTrue (is_listing self.old) }
         ensures schema { S.layout source.new ≡ S.layout source.old }
         ensures kept { S.may_become source.old source.new }
@@ -208,6 +212,7 @@ impl Giver {
     ) -> Result<bool, GossipFault>
         ensures taken { GivesUnless GossipFault.Memory (λ last. (self.new, last)) result
             (giver_takes (S.cells source.new) (S.layout source.old) self.old frame.now) }
+        ensures fit { OnOk result (AreFit self.new.stage) }
         ensures memory { NeedsMemoryAfter GossipFault.Memory (frame_due self.old frame.now) result }
         ensures listing { result ≡ Err GossipFault.Memory → IsTrue (is_listing self.old.stage) }
         ensures failed { OnErr result (HasFailed self.new) }
@@ -231,6 +236,7 @@ impl Giver {
     ) -> Result<bool, GossipFault>
         ensures taken { GivesUnless GossipFault.Memory (λ last. (self.new, last)) result
             (giver_takes (S.cells source.new) (S.layout source.old) self.old frame.now) }
+        ensures fit { OnOk result (AreFit self.new.stage) }
         ensures memory { NeedsMemoryAfter GossipFault.Memory (frame_due self.old frame.now) result }
         ensures listing { result ≡ Err GossipFault.Memory → IsTrue (is_listing self.old.stage) }
         ensures schema { S.layout source.new ≡ S.layout source.old }

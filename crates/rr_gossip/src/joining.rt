@@ -1,7 +1,6 @@
 //! The cells of a page, joined into a target.
-ghost use Rattle.std.specs.Prelude.{◌≡◌, ℕ, All, OnOk, OnErr, map, take};
+ghost use Rattle.std.specs.Prelude.{ℕ, All, OnOk, OnErr, map, take};
 ghost use Rattle.rr_cells.specs.CellBounds.{IsCellOf};
-ghost use Rattle.rr_cells.specs.Joins.{join_cells};
 ghost use Rattle.rr_cells.specs.Listing.{owned_cell};
 ghost use Rattle.rr_text.specs.Results.{NeedsMemoryAfter};
 ghost use Rattle.rr_gossip.specs.Puller.{Takes, page_taken};
@@ -16,12 +15,9 @@ use std::alloc::{AllocError, Global};
 /// Joins cells, in order. Where memory runs out, some of them from the first on are joined.
 fn join_all<T: Target>(cells: &[Cell], target: &mut T) -> Result<(), AllocError>
     requires { All (λ c. IsCellOf (T.layout target.old) (owned_cell c)) cells.now }
-    ensures joined { OnOk result (T.cells target.new
-        ≡ join_cells (T.layout target.old) (T.cells target.old) (map owned_cell cells.now)) }
-    ensures front { OnErr result ((n : ℕ) × (T.cells target.new
-        ≡ join_cells (T.layout target.old) (T.cells target.old) (take n (map owned_cell cells.now)))) }
-    ensures schema { T.layout target.new ≡ T.layout target.old }
-    ensures kept { T.may_become target.old target.new }
+    ensures joined { OnOk result (T.has_joined target.old target.new (map owned_cell cells.now)) }
+    ensures front { OnErr result ((n : ℕ)
+        × T.has_joined target.old target.new (take n (map owned_cell cells.now))) }
 {
     for cell in cells {
         target.join_cell(cell)?;
@@ -36,12 +32,10 @@ pub(crate) fn take_page<T: Target>(
     body: &[u8],
     target: &mut T,
 ) -> Result<bool, GossipFault>
-    ensures taken { Takes (T.layout target.old) (T.cells target.old) (T.cells target.new) Stage.Waiting result
+    ensures taken { Takes (T.has_joined target.old target.new) Stage.Waiting result
         (page_taken (T.layout target.old) body.now) }
     ensures memory { NeedsMemoryAfter GossipFault.Memory (page_taken (T.layout target.old) body.now)
         result }
-    ensures schema { T.layout target.new ≡ T.layout target.old }
-    ensures kept { T.may_become target.old target.new }
 {
     let cells = decode(alloc, body, target.schema())?;
     join_all(&cells, target)?;

@@ -1,6 +1,6 @@
 //! The laws of the bytes of frames, with no work to do: the functions have empty bodies.
 ghost use Rattle.rr_gossip.specs.Laws.{FramesAreTheirText, SummariesAreTheirText};
-ghost use Rattle.rr_gossip.specs.Session.{GivesAnswer, PullsBringTheJoin, PullsJoin, PullsUnite};
+ghost use Rattle.rr_gossip.specs.Session.{GivesAnswer, GivesHearTheNames, PullsBringTheDifference, PullsBringTheJoin, PullsTakeTheReply, PullsUnite, StoppedPullsTakeAFront};
 ghost use Rattle.rr_gossip.specs.Transcript.{GiversReply, GiversTake, PullersSend, PullersTake, SessionsBringTheJoin};
 
 /// A frame is read exactly where it is the text of a kind and a body, and not too long.
@@ -33,37 +33,42 @@ pub fn givers_take()
 {}
 
 /// Frame by frame, from the end of the names on, a puller that takes what a giver replies joins all of
-/// it, in order.
+/// it, one by one and in order.
 pub fn pullers_take()
     ensures { PullersTake }
 {}
 
-/// A whole session leaves the join of the cells of both sides, where equal versions of one cell mean
-/// equal contents, and the session may have as many frames.
+/// A whole session brings what one side lacks, in order, where it may have as many frames; and to join
+/// that brings the join of the cells of both, where equal versions of one cell mean equal contents.
 pub fn sessions_bring_the_join()
     ensures { SessionsBringTheJoin }
 {}
 
-/// A `give` that heard what a side sends for some names and versions wrote the pages of the difference
-/// against them, and left unread what is behind.
+/// A `give` that heard what a side sends for some names and versions has the difference against them to
+/// send, and left unread what is behind; one that succeeds wrote the pages of that, of cells of the schema.
 pub fn gives_answer()
-    ensures { GivesAnswer }
+    ensures heard { GivesHearTheNames }
+    ensures answer { GivesAnswer }
 {}
 
-/// A `pull` that read what a side replies of some cells joined them, in order, and left unread what is
-/// behind.
-pub fn pulls_join()
-    ensures { PullsJoin }
+/// A `pull` that read what a side replies of some cells took exactly these, in order, and left unread what
+/// is behind. One that stopped, where not all of it came or memory ran out, took the first of them, in
+/// order.
+pub fn pulls_take_the_reply()
+    ensures whole { PullsTakeTheReply }
+    ensures stopped { StoppedPullsTakeAFront }
 {}
 
-/// Where a `give` heard what a `pull` sent, and that `pull` read its answer, the target has the join of
-/// the cells of both sides, where equal versions of one cell mean equal contents.
+/// Where a `give` heard what a `pull` sent, and that `pull` read its answer, it took exactly what its
+/// target lacked, in order; and to join that brings the join of the cells of both sides, where equal
+/// versions of one cell mean equal contents.
 pub fn pulls_bring_the_join()
-    ensures { PullsBringTheJoin }
+    ensures difference { PullsBringTheDifference }
+    ensures join { PullsBringTheJoin }
 {}
 
-/// So where each side has the cells of what it knows, without gaps, the target has the cells of what
-/// either knew.
+/// So where each side has the cells of what it knows, without gaps, a `pull` brings the target the cells of
+/// what either knew.
 pub fn pulls_unite()
     ensures { PullsUnite }
 {}

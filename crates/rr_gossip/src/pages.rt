@@ -6,7 +6,7 @@ ghost use Rattle.rr_model.specs.CellNames.{cell_name_cmp};
 ghost use Rattle.rr_cells.specs.CellBounds.{IsCellOf};
 ghost use Rattle.rr_cells.specs.Listing.{owned_cell};
 ghost use Rattle.rr_gossip.specs.declared.frame.TheConstants.{MAX_FRAME_LEN};
-ghost use Rattle.rr_gossip.specs.Pages.{next_page, after_page};
+ghost use Rattle.rr_gossip.specs.Pages.{AreLeft, next_page, after_page};
 
 use rr_cells::Cell;
 use rr_delta::part;
@@ -44,7 +44,8 @@ impl Pages {
     pub(crate) fn new(schema: Schema, cells: Vec<Cell>) -> Pages
         requires of_schema { All (λ c. IsCellOf schema (owned_cell c)) cells.items }
         requires ascending { IsTrue (is_sorted cell_name_cmp (map owned_cell cells.items)) }
-        ensures { result ≡ (schema, map owned_cell cells.items) }
+        ensures all { result ≡ (schema, map owned_cell cells.items) }
+        ensures fits { AreLeft result }
     {
         Pages {
             schema,

@@ -103,12 +103,10 @@ impl Stage {
         target: &mut T,
     ) -> Result<bool, GossipFault>
         requires { IsTrue (is_due self.old kind) }
-        ensures taken { Takes (T.layout target.old) (T.cells target.old) (T.cells target.new) self.new result
+        ensures taken { Takes (T.has_joined target.old target.new) self.new result
             (body_taken (T.layout target.old) kind body.now) }
         ensures memory { NeedsMemoryAfter GossipFault.Memory (body_taken (T.layout target.old) kind body.now)
             result }
-        ensures schema { T.layout target.new ≡ T.layout target.old }
-        ensures kept { T.may_become target.old target.new }
     {
         match kind {
             Kind::Page => {
@@ -207,28 +205,27 @@ impl Puller {
         Ok(frame)
     }
 
-    /// Takes what follows the length of a frame, joins the cells of a page, and answers whether it was
-    /// the other side's last.
+    /// Takes what follows the length of a frame, joins the cells of a page, one by one and in
+    /// order, and answers whether it was the other side's last.
     ///
     /// Refused, in this order, as `Failed` after a fault; as `FrameTooLong` above 300,000 bytes; as
     /// `BadFrame` where it is of no kind; as `UnexpectedFrame` where that kind is not due, which is so
     /// until the end of the names is sent; as `TooManyFrames`; and by its body, as `SchemaDiffers` for a
     /// page of another schema and as `BadFrame` for any other. Then nothing is joined. `Memory` comes only
-    /// where the frame is a good one; some cells of the page may then be joined, from the first on. After a refusal the session has
-    /// failed. The cost is linear in the frame, and that of `Target::join_cell` for each cell.
+    /// where the frame is a good one; some cells of the page may then be joined, from the first on. After
+    /// a refusal the session has failed. The cost is linear in the frame, and that of
+    /// `Target::join_cell` for each cell.
     pub fn take<T: Target>(
         &mut self,
         alloc: Global,
         frame: &[u8],
         target: &mut T,
     ) -> Result<bool, GossipFault>
-        ensures taken { Takes (T.layout target.old) (T.cells target.old) (T.cells target.new) self.new result
+        ensures taken { Takes (T.has_joined target.old target.new) self.new result
             (puller_takes (T.layout target.old) self.old frame.now) }
         ensures memory { NeedsMemoryAfter GossipFault.Memory
             (puller_takes (T.layout target.old) self.old frame.now) result }
         ensures failed { OnErr result (HasFailed self.new) }
-        ensures schema { T.layout target.new ≡ T.layout target.old }
-        ensures kept { T.may_become target.old target.new }
     {
         let result = self.take_frame(alloc, frame, target);
         if result.is_err() {
@@ -245,12 +242,10 @@ impl Puller {
         frame: &[u8],
         target: &mut T,
     ) -> Result<bool, GossipFault>
-        ensures taken { Takes (T.layout target.old) (T.cells target.old) (T.cells target.new) self.new result
+        ensures taken { Takes (T.has_joined target.old target.new) self.new result
             (puller_takes (T.layout target.old) self.old frame.now) }
         ensures memory { NeedsMemoryAfter GossipFault.Memory
             (puller_takes (T.layout target.old) self.old frame.now) result }
-        ensures schema { T.layout target.new ≡ T.layout target.old }
-        ensures kept { T.may_become target.old target.new }
     {
         if matches!(&self.stage, Stage::Failed) {
             return Err(GossipFault::Failed);

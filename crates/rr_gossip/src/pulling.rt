@@ -1,7 +1,8 @@
 //! A pull over streams.
-ghost use Rattle.std.specs.Prelude.{◌≡◌, ◌≤◌, Err, true, IfErr, OnOk, length};
+ghost use Rattle.std.specs.Prelude.{◌≡◌, ◌≤◌, Err, List, true, IfErr, OnOk, length};
 ghost use Rattle.std.specs.Io.KnownBytes.{Appends, IsAtEnd};
 ghost use Rattle.std.specs.List.{concat};
+ghost use Rattle.rr_cells.specs.CellBounds.{NamedCell};
 ghost use Rattle.rr_io.specs.Counted.{inner_of, failures_of, is_flushed, HasRisen};
 ghost use Rattle.rr_io.specs.Stream.{AppendsPrefix};
 ghost use Rattle.rr_gossip.specs.declared.frame.TheConstants.{MAX_FRAMES};
@@ -57,14 +58,12 @@ fn take_pages<T: Target, R: Read>(
     input: &mut Counted<R>,
     target: &mut T,
 ) -> Result<(), GossipFault>
-    ensures pulled { OnOk result (HasPulled (T.layout target.old) puller.old
-        (T.cells target.old) (T.cells target.new)
-        (R.remaining (inner_of input.old)) (R.remaining (inner_of input.new))) }
-    ensures stopped { IfErr result (HasStoppedPulling (T.layout target.old) puller.old
-        (T.cells target.old) (T.cells target.new)
-        (R.remaining (inner_of input.old)) (R.remaining (inner_of input.new))) }
-    ensures schema { T.layout target.new ≡ T.layout target.old }
-    ensures kept { T.may_become target.old target.new }
+    ensures pulled { OnOk result ((cells : List NamedCell) × T.has_joined target.old target.new cells
+        × HasPulled (T.layout target.old) puller.old
+        (R.remaining (inner_of input.old)) (R.remaining (inner_of input.new)) cells) }
+    ensures stopped { IfErr result (λ fault. (cells : List NamedCell) × T.has_joined target.old target.new cells
+        × HasStoppedPulling (T.layout target.old) puller.old
+        (R.remaining (inner_of input.old)) (R.remaining (inner_of input.new)) fault cells) }
     ensures ended { result ≡ Err GossipFault.Ended → IsAtEnd (R.remaining (inner_of input.new)) }
     ensures count { failures_of input.old ≤ failures_of input.new }
     ensures failed { result ≡ Err GossipFault.ReadFailed
@@ -81,7 +80,7 @@ fn take_pages<T: Target, R: Read>(
 }
 
 /// Pulls cells from the other side of a stream: sends the schema of a target and the names and versions
-/// of all its cells, and joins the cells that the other side answers, page by page.
+/// of all its cells, and joins the cells that the other side answers, page by page, each in its order.
 ///
 /// Names are asked of the target 256 at a time, and each frame is written before the next is made; of
 /// the answer one frame is in memory at a time. No byte after the end of the pages is read.
@@ -108,17 +107,15 @@ pub fn pull<T: Target, R: Read, W: Write>(
         (concat (sent_by (T.layout target.old) (T.cells target.old))) }
     ensures flushed { OnOk result (is_flushed output.new ≡ true) }
 
-    // What is read and joined.
-    ensures pulled { OnOk result (HasPulled (T.layout target.old)
+    // What is read, and which cells are joined, one by one and in order.
+    ensures pulled { OnOk result ((cells : List NamedCell) × T.has_joined target.old target.new cells
+        × HasPulled (T.layout target.old)
         (waiting (length (sent_by (T.layout target.old) (T.cells target.old))) 0 MAX_FRAMES)
-        (T.cells target.old) (T.cells target.new)
-        (R.remaining (inner_of input.old)) (R.remaining (inner_of input.new))) }
-    ensures stopped { IfErr result (HasFailedToPull MAX_FRAMES (T.layout target.old)
-        (T.cells target.old) (T.cells target.new)
+        (R.remaining (inner_of input.old)) (R.remaining (inner_of input.new)) cells) }
+    ensures stopped { IfErr result (λ fault. (cells : List NamedCell) × T.has_joined target.old target.new cells
+        × HasFailedToPull MAX_FRAMES (T.layout target.old) (T.cells target.old)
         (R.remaining (inner_of input.old)) (R.remaining (inner_of input.new))
-        (W.contents (inner_of output.old)) (W.contents (inner_of output.new))) }
-    ensures schema { T.layout target.new ≡ T.layout target.old }
-    ensures kept { T.may_become target.old target.new }
+        (W.contents (inner_of output.old)) (W.contents (inner_of output.new)) fault cells) }
 
     // When a stream is to blame.
     ensures ended { result ≡ Err GossipFault.Ended → IsAtEnd (R.remaining (inner_of input.new)) }
@@ -150,17 +147,15 @@ pub fn pull_within<T: Target, R: Read, W: Write>(
         (concat (sent_by (T.layout target.old) (T.cells target.old))) }
     ensures flushed { OnOk result (is_flushed output.new ≡ true) }
 
-    // What is read and joined.
-    ensures pulled { OnOk result (HasPulled (T.layout target.old)
+    // What is read, and which cells are joined, one by one and in order.
+    ensures pulled { OnOk result ((cells : List NamedCell) × T.has_joined target.old target.new cells
+        × HasPulled (T.layout target.old)
         (waiting (length (sent_by (T.layout target.old) (T.cells target.old))) 0 frames)
-        (T.cells target.old) (T.cells target.new)
-        (R.remaining (inner_of input.old)) (R.remaining (inner_of input.new))) }
-    ensures stopped { IfErr result (HasFailedToPull frames (T.layout target.old)
-        (T.cells target.old) (T.cells target.new)
+        (R.remaining (inner_of input.old)) (R.remaining (inner_of input.new)) cells) }
+    ensures stopped { IfErr result (λ fault. (cells : List NamedCell) × T.has_joined target.old target.new cells
+        × HasFailedToPull frames (T.layout target.old) (T.cells target.old)
         (R.remaining (inner_of input.old)) (R.remaining (inner_of input.new))
-        (W.contents (inner_of output.old)) (W.contents (inner_of output.new))) }
-    ensures schema { T.layout target.new ≡ T.layout target.old }
-    ensures kept { T.may_become target.old target.new }
+        (W.contents (inner_of output.old)) (W.contents (inner_of output.new)) fault cells) }
 
     // When a stream is to blame.
     ensures ended { result ≡ Err GossipFault.Ended → IsAtEnd (R.remaining (inner_of input.new)) }

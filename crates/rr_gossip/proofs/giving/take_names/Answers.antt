@@ -1,6 +1,7 @@
 use Rattle.std.proofs.Common.{◌++◌, ◌∷◌, [], drop, refl, sym, ap, subst, ◌∙◌, inl, inr, arith}
 use Rattle.std.proofs.lemmas.Result.{err_from_is_err_and}
 use Rattle.rr_io.specs.Counted.{inner_of}
+use Rattle.rr_gossip.specs.Giver.{AreFit}
 use Rattle.rr_gossip.specs.Stream.{WasRead}
 use Rattle.rr_gossip.specs.declared.fault.GossipFault.TheVariants.{Ended, Memory, ReadFailed}
 use Rattle.rr_gossip.proofs.GivingLemmas.{none_heard, frame_heard, giver_moves, giver_stops, hears_of_frame}
@@ -97,6 +98,7 @@ returns-then-branch-clause-heard g c =
       taken = frame_heard m s c.args.giver.now c.loop-frame.giver c.take.new.self so_far.frames frame c.in_ok-take.field-0 (so_far.taken m) takes;
       names = done.0;
       giving = done.1;
+      fits = subst AreFit done.1 c.in_ok-take.ensures.fit;
     }
 
 pub returns-then-branch-clause-sent : goal.returns-then-branch-clause-sent

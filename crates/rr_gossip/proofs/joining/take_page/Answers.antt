@@ -1,7 +1,6 @@
-use Rattle.std.proofs.Common.{rules, ◌≡◌, Ok, Err, All, map, take, sym, ap, ◌∙◌, subst}
+use Rattle.std.proofs.Common.{rules, ◌≡◌, Ok, Err, All, map, take, sym, subst}
 use Rattle.rr_page.specs.PageReading.{page_at}
 use Rattle.rr_cells.specs.CellBounds.{IsCellOf}
-use Rattle.rr_cells.specs.Joins.{join_cells}
 use Rattle.rr_cells.specs.Listing.{owned_cell}
 use Rattle.rr_gossip.specs.declared.fault.GossipFault.TheVariants.{Memory}
 use Rattle.rr_gossip.specs.declared.puller.Stage.TheVariants.{Waiting}
@@ -17,12 +16,11 @@ join_all-requires g c =
 pub returns-in_err-join_all-clause-taken : goal.returns-in_err-join_all-clause-taken
 returns-in_err-join_all-clause-taken g c =
     let s = g.T.Target.layout c.args.target.now in
-    let old = g.T.Target.cells c.args.target.now in
-    let new = g.T.Target.cells c.join_all.new.target in
+    let joined = g.T.Target.has_joined c.args.target.now c.join_all.new.target in
     let body = c.args.body.now in
     let es = map owned_cell c.in_ok-cells.cells.items in
     let read : page_at s body ≡ Ok es = subst (λ l. page_at l body ≡ Ok es) c.schema.ensures.value c.in_ok-cells.ensures.exact in
     let front = c.in_err-join_all.ensures.front in
     let memory : c.from_residual-in_err-join_all.result ≡ Err Memory = search rules in
-    memory_taken s old new Waiting c.from_residual-in_err-join_all.result (page_taken s body) memory
-    (page_front s body es old new front.0 read (front.1 ∙ ap (λ l. join_cells s old (take front.0 (map owned_cell l))) c.deref.ensures.value))
+    memory_taken joined Waiting c.from_residual-in_err-join_all.result (page_taken s body) (take front.0 es) memory (page_front s body es front.0 read)
+    (subst (λ l. joined (take front.0 (map owned_cell l))) c.deref.ensures.value front.1)

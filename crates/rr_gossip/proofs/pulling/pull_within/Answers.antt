@@ -8,5 +8,5 @@ use Rattle.rr_gossip.proofs.pulling.pull_within.Goals as goal
 pub returns-clause-write_failed : goal.returns-clause-write_failed
 returns-clause-write_failed g c = λ e.
     let s = g.T.Target.layout c.args.target.now in
-    let stopped = rw e at c.take_pages.ensures.stopped in
+    let stopped = (rw e at c.take_pages.ensures.stopped).2 in
     absurd (stops_unwritten (puller_takes s stopped.last) stopped.piece WriteFailed (λ content. puller_fault s stopped.last content WriteFailed) stopped.stopped refl)

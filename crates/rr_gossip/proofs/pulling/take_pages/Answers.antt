@@ -1,4 +1,4 @@
-use Rattle.std.proofs.Common.{◌++◌, ◌∷◌, [], drop, refl, sym, ap, subst, ◌∙◌, inl, arith}
+use Rattle.std.proofs.Common.{◌++◌, ◌∷◌, [], drop, sym, ap, subst, ◌∙◌, inl, arith, refl}
 use Rattle.std.proofs.lemmas.Result.{err_from_is_err_and}
 use Rattle.rr_io.specs.Counted.{inner_of}
 use Rattle.rr_gossip.specs.Stream.{WasRead}
@@ -16,9 +16,9 @@ loop-frame-init g c =
       frames = [];
       read = subst (WasRead [] had had []) (sym none) (nothing_read [] had);
       few = rw none (omega arith);
-      taken = none_taken s c.args.puller.now (g.T.Target.cells c.args.target.now);
-      schema = refl;
-      kept = g.met.T.Target.may_stay c.args.target.now;
+      cells = [];
+      taken = none_taken s c.args.puller.now [];
+      joined = g.met.T.Target.joins_none c.args.target.now;
       count = omega arith;
     }
 
@@ -27,61 +27,74 @@ returns-in_err-read_frame-clause-stopped g c =
     let so_far = c.loop-frame.invariant in
     let p = err_from_is_err_and c.from_residual.result c.from_residual.ensures.1 in
     let off = c.in_err-read_frame.ensures.stopped in
-    rw (p.1, p.2)
-    (record {
-      frames = so_far.frames;
-      piece = off.0;
-      read = piece_more [] _ _ _ so_far.frames c.loop-frame.frame.items off.0 so_far.read off.1;
-      last = c.loop-frame.puller;
-      pages = g.T.Target.cells c.loop-frame.target;
-      taken = so_far.taken;
-      stopped = inl off.2;
-      joined = inl refl;
-    })
+    rw (p.1, p.2) (
+      so_far.cells,
+      so_far.joined,
+      record {
+        frames = so_far.frames;
+        piece = off.0;
+        read = piece_more [] _ _ _ so_far.frames c.loop-frame.frame.items off.0 so_far.read off.1;
+        last = c.loop-frame.puller;
+        pages = so_far.cells;
+        taken = so_far.taken;
+        stopped = inl off.2;
+        joined = inl refl;
+      },
+    )
 
 pub returns-in_err-take-clause-stopped : goal.returns-in_err-take-clause-stopped
 returns-in_err-take-clause-stopped g c =
     let so_far = c.loop-frame.invariant in
+    let s = g.T.Target.layout c.args.target.now in
+    let kept = g.met.T.Target.joins_in_map _ _ _ so_far.joined in
     let p = err_from_is_err_and c.from_residual-in_err-take.result c.from_residual-in_err-take.ensures.1 in
     let frame = c.read_frame.new.frame.items in
-    let takes = rw (c.content.ensures, c.deref.ensures.value, so_far.schema) at c.in_err-take.ensures.taken in
-    let stops = puller_stops (g.T.Target.layout c.args.target.now) c.loop-frame.puller c.take.new.self (g.T.Target.cells c.loop-frame.target) (g.T.Target.cells c.take.new.target) frame _ c.in_ok-read_frame.ensures.whole takes in
-    rw (p.1, p.2)
-    (record {
-      frames = so_far.frames;
-      piece = frame;
-      read = piece_more [] _ _ _ so_far.frames c.loop-frame.frame.items frame so_far.read c.in_ok-read_frame.ensures.read;
-      last = c.loop-frame.puller;
-      pages = g.T.Target.cells c.loop-frame.target;
-      taken = so_far.taken;
-      stopped = stops.0;
-      joined = stops.1;
-    })
+    let takes = rw (c.content.ensures, c.deref.ensures.value, kept.0) at c.in_err-take.ensures.taken in
+    let stops = puller_stops s c.loop-frame.puller c.take.new.self so_far.cells (g.T.Target.has_joined c.loop-frame.target c.take.new.target) (g.T.Target.has_joined c.args.target.now c.take.new.target) frame _
+    (λ es holds. g.met.T.Target.joins_then _ _ _ so_far.cells es so_far.joined holds) c.in_ok-read_frame.ensures.whole takes in
+    rw (p.1, p.2) (
+      stops.1.0,
+      stops.1.1,
+      record {
+        frames = so_far.frames;
+        piece = frame;
+        read = piece_more [] _ _ _ so_far.frames c.loop-frame.frame.items frame so_far.read c.in_ok-read_frame.ensures.read;
+        last = c.loop-frame.puller;
+        pages = so_far.cells;
+        taken = so_far.taken;
+        stopped = stops.0;
+        joined = stops.1.2;
+      },
+    )
 
 pub returns-in_err-take-clause-ended : goal.returns-in_err-take-clause-ended
 returns-in_err-take-clause-ended g c = λ e.
     let p = err_from_is_err_and c.from_residual-in_err-take.result c.from_residual-in_err-take.ensures.1 in
-    not_of_frame c.from_residual-in_err-take.result p.0 Ended (ap is_of_frame p.2 ∙ takes_of_frame _ c.loop-frame.puller c.take.new.self _ _ _ _ c.in_err-take.ensures.taken) refl p.1 e
+    not_of_frame c.from_residual-in_err-take.result p.0 Ended (ap is_of_frame p.2 ∙ takes_of_frame _ c.loop-frame.puller c.take.new.self _ _ _ c.in_err-take.ensures.taken) refl p.1 e
 
 pub returns-in_err-take-clause-failed : goal.returns-in_err-take-clause-failed
 returns-in_err-take-clause-failed g c = λ e.
     let p = err_from_is_err_and c.from_residual-in_err-take.result c.from_residual-in_err-take.ensures.1 in
-    not_of_frame c.from_residual-in_err-take.result p.0 ReadFailed (ap is_of_frame p.2 ∙ takes_of_frame _ c.loop-frame.puller c.take.new.self _ _ _ _ c.in_err-take.ensures.taken) refl p.1 e
+    not_of_frame c.from_residual-in_err-take.result p.0 ReadFailed (ap is_of_frame p.2 ∙ takes_of_frame _ c.loop-frame.puller c.take.new.self _ _ _ c.in_err-take.ensures.taken) refl p.1 e
 
 pub returns-then-branch-clause-pulled : goal.returns-then-branch-clause-pulled
 returns-then-branch-clause-pulled g c =
     let so_far = c.loop-frame.invariant in
     let s = g.T.Target.layout c.args.target.now in
+    let kept = g.met.T.Target.joins_in_map _ _ _ so_far.joined in
     let frame = c.read_frame.new.frame.items in
-    let takes = rw (c.content.ensures, c.deref.ensures.value, so_far.schema) at c.in_ok-take.ensures.taken in
-    let moves = puller_moves s c.loop-frame.puller c.take.new.self (drop 4 frame) takes.0 c.in_ok-take.field-0 takes.1 in
-    record {
-      frames = so_far.frames ++ frame ∷ [];
-      read = frame_more [] _ _ _ so_far.frames c.loop-frame.frame.items frame so_far.read c.in_ok-read_frame.ensures.read c.in_ok-read_frame.ensures.whole;
-      last = c.take.new.self;
-      taken = rw takes.2 (frame_taken s c.args.puller.now c.loop-frame.puller c.take.new.self _ _ so_far.frames frame takes.0 c.in_ok-take.field-0 so_far.taken takes.1);
-      done = (moves.done c.if-branch.true).0;
-    }
+    let takes = rw (c.content.ensures, c.deref.ensures.value, kept.0) at c.in_ok-take.ensures.taken in
+    let moves = puller_moves s c.loop-frame.puller c.take.new.self (drop 4 frame) takes.0 c.in_ok-take.field-0 takes.1 in (
+      so_far.cells ++ takes.0,
+      g.met.T.Target.joins_then _ _ _ so_far.cells takes.0 so_far.joined takes.2,
+      record {
+        frames = so_far.frames ++ frame ∷ [];
+        read = frame_more [] _ _ _ so_far.frames c.loop-frame.frame.items frame so_far.read c.in_ok-read_frame.ensures.read c.in_ok-read_frame.ensures.whole;
+        last = c.take.new.self;
+        taken = frame_taken s c.args.puller.now c.loop-frame.puller c.take.new.self [] so_far.cells so_far.frames frame takes.0 c.in_ok-take.field-0 so_far.taken takes.1;
+        done = (moves.done c.if-branch.true).0;
+      },
+    )
 
 pub loop-frame-smaller : goal.loop-frame-smaller
 loop-frame-smaller g c =
@@ -93,15 +106,16 @@ pub loop-frame-preserved : goal.loop-frame-preserved
 loop-frame-preserved g c =
     let so_far = c.loop-frame.invariant in
     let s = g.T.Target.layout c.args.target.now in
+    let kept = g.met.T.Target.joins_in_map _ _ _ so_far.joined in
     let frame = c.read_frame.new.frame.items in
-    let takes = rw (c.content.ensures, c.deref.ensures.value, so_far.schema) at c.in_ok-take.ensures.taken in
+    let takes = rw (c.content.ensures, c.deref.ensures.value, kept.0) at c.in_ok-take.ensures.taken in
     let none = c.clear.ensures.items in
     record {
       frames = so_far.frames ++ frame ∷ [];
       read = subst (WasRead [] _ _ (so_far.frames ++ frame ∷ [])) (sym none) (frame_more [] _ _ _ so_far.frames c.loop-frame.frame.items frame so_far.read c.in_ok-read_frame.ensures.read c.in_ok-read_frame.ensures.whole);
       few = rw none (omega arith);
-      taken = rw takes.2 (frame_taken s c.args.puller.now c.loop-frame.puller c.take.new.self _ _ so_far.frames frame takes.0 c.in_ok-take.field-0 so_far.taken takes.1);
-      schema = c.in_ok-take.ensures.schema ∙ so_far.schema;
-      kept = g.met.T.Target.may_go_on _ _ _ so_far.kept c.in_ok-take.ensures.kept;
+      cells = so_far.cells ++ takes.0;
+      taken = frame_taken s c.args.puller.now c.loop-frame.puller c.take.new.self [] so_far.cells so_far.frames frame takes.0 c.in_ok-take.field-0 so_far.taken takes.1;
+      joined = g.met.T.Target.joins_then _ _ _ so_far.cells takes.0 so_far.joined takes.2;
       count = omega (arith, so_far.count, c.in_ok-read_frame.ensures.count);
     }

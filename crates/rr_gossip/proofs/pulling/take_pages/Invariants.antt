@@ -1,4 +1,5 @@
 use Rattle.std.proofs.Common.{◌≡◌, ◌≤◌, ◌-◌, [], List, ℕ, Ok, length}
+use Rattle.rr_cells.specs.CellBounds.{NamedCell}
 use Rattle.rr_io.specs.Counted.{inner_of, failures_of}
 use Rattle.rr_gossip.specs.Stream.{WasRead}
 use Rattle.rr_gossip.specs.Transcript.{contents, puller_after}
@@ -10,9 +11,9 @@ invariant-loop-frame g l = record {
   frames : List (List ℕ);
   read : WasRead [] (g.R.Read.remaining (inner_of l.initial.input)) (g.R.Read.remaining (inner_of l.input)) frames l.frame.items;
   few : length l.frame.items ≤ 4;
-  taken : puller_after (g.T.Target.layout l.initial.target) l.initial.puller (g.T.Target.cells l.initial.target) (contents frames) ≡ Ok (l.puller, g.T.Target.cells l.target);
-  schema : g.T.Target.layout l.target ≡ g.T.Target.layout l.initial.target;
-  kept : g.T.Target.may_become l.initial.target l.target;
+  cells : List NamedCell;
+  taken : puller_after (g.T.Target.layout l.initial.target) l.initial.puller [] (contents frames) ≡ Ok (l.puller, cells);
+  joined : g.T.Target.has_joined l.initial.target l.target cells;
   count : failures_of l.initial.input ≤ failures_of l.input;
 }
 
