@@ -1,4 +1,5 @@
 pub mod Standing
+pub mod Joining
 pub mod Points
 pub mod Fault
 pub mod Gate

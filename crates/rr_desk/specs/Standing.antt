@@ -1,13 +1,14 @@
 -- What contracts see of a reader and a note, and of a keeper that joins cells.
-use Rattle.std.specs.Prelude.{◌≡◌, true, Option, Some, None, List, fold}
+use Rattle.std.specs.Prelude.{◌≡◌, true, Option, Some, None, List, map, fold}
 use mathlib.Core.List.{IsPrefix}
 use Rattle.logbook.specs.Pages.{Book}
 use Rattle.rr_schema.specs.Schema.{Layout}
 use Rattle.rr_cells.specs.declared.cell.Cell.{Cell}
 use Rattle.rr_cells.specs.declared.op.Op.{Op}
 use Rattle.rr_cells.specs.declared.op.Op.TheVariants.{Join}
+use Rattle.rr_cells.specs.CellBounds.{NamedCell}
 use Rattle.rr_cells.specs.Cells.{Cells}
-use Rattle.rr_cells.specs.Operations.{outcome_of}
+use Rattle.rr_cells.specs.Operations.{outcome_of, to_cell}
 use Rattle.rr_copies.specs.declared.rule.View.{View}
 use Rattle.rr_copies.specs.Rule.{newcomer}
 use Rattle.rr_copies.specs.Standing.{KeeperState, with_pending}
@@ -16,9 +17,9 @@ use Rattle.rr_copies.specs.Standing.{KeeperState, with_pending}
 abbrev pub with_joined : KeeperState → List Cell → KeeperState
 with_joined k cells = fold (λ k c. with_pending k (Join c)) k cells
 
--- a keeper that has joined cells, and is else as before
-abbrev pub HasJoined : KeeperState → KeeperState → Type 0
-HasJoined old new = (cells : List Cell) × (new ≡ with_joined old cells)
+-- a keeper that has joined these cells, one by one and in order, and is else as before
+abbrev pub HasJoined : KeeperState → KeeperState → List NamedCell → Type 0
+HasJoined old new cells = new ≡ with_joined old (map to_cell cells)
 
 -- a reader: its desk, the schema, and the operations that it has seen
 pub record ReaderState : Type 0 where

@@ -9,25 +9,22 @@ use rr_schema::Schema;
 use std::alloc::{AllocError, Global};
 
 impl<A: Archive> Target for Keeper<A> {
-    ghost use Rattle.std.specs.Prelude.{[], ◌∷◌, ◌++◌, fold, refl};
-    ghost use Rattle.std.proofs.Common.{◌∙◌, ap, sym};
-    ghost use Rattle.std.proofs.lemmas.List.Sums.{fold-append};
-    ghost use Rattle.rr_cells.specs.declared.op.Op.TheVariants.{Join};
-    ghost use Rattle.rr_desk.specs.Standing.{HasJoined, with_joined};
-    ghost use Rattle.rr_copies.specs.Standing.{cells_of, with_pending};
+    ghost use Rattle.std.specs.Prelude.{refl};
+    ghost use Rattle.rr_copies.specs.Standing.{cells_of};
+    ghost use Rattle.rr_desk.specs.Joining.{map_joined, then_joined};
+    ghost use Rattle.rr_desk.specs.Standing.{HasJoined};
 
     ghost layout = { λ k. k.schema };
 
     ghost cells = { cells_of };
 
-    ghost may_become = { HasJoined };
+    ghost has_joined = { HasJoined };
 
-    ghost may_stay = { λ k. ([], refl) };
+    ghost joins_none = { λ k. refl };
 
-    ghost may_go_on = { λ a b c p q. (
-      p.0 ++ q.0,
-      q.1 ∙ ap (λ k. with_joined k q.0) p.1 ∙ sym (fold-append (λ k c. with_pending k (Join c)) a p.0 q.0),
-    ) };
+    ghost joins_then = { then_joined };
+
+    ghost joins_in_map = { map_joined };
 
     fn schema(&self) -> &Schema {
         Keeper::schema(self)
