@@ -12,7 +12,8 @@
 //! [`pull`] and [`give`] run a machine over a reader and a writer, a frame at a time: frames are read by
 //! their length alone (`specs/Stream.antt`), and each call is held to the frames that it read and wrote
 //! (`specs/Session.antt`). [`laws`] says which frames a side sends in a row (`specs/Transcript.antt`),
-//! and that a pull that completes leaves the join of the cells of both sides.
+//! that a pull that completes joins exactly what its target lacked, in order, and one that stops the first
+//! of that, and that this brings the join of the cells of both sides.
 #![tactic(auto)]
 
 mod fault;

@@ -3,21 +3,24 @@ use Rattle.std.specs.Prelude.{◌≡◌, ◌≢◌, ℕ, List, [], ◌++◌, map
 use Rattle.std.specs.Option.{option_map}
 use Rattle.std.specs.FinMap.{get, entries}
 use Rattle.std.specs.List.{concat}
+use mathlib.Core.List.{IsPrefix}
 use Rattle.rr_schema.specs.Schema.{Layout, IsLayout}
 use Rattle.rr_model.specs.CellNames.{CellName}
 use Rattle.rr_model.specs.Knowledge.{Knowledge, union, live}
-use Rattle.rr_cells.specs.declared.cell.Cell.{Cell}
 use Rattle.rr_cells.specs.declared.op.Op.{Op}
 use Rattle.rr_cells.specs.CellBounds.{NamedCell, IsCellOf}
 use Rattle.rr_cells.specs.Cells.{Cells}
+use Rattle.rr_cells.specs.Holding.{IsHolding}
 use Rattle.rr_cells.specs.Joins.{join_cells}
-use Rattle.rr_cells.specs.Listing.{owned_cell}
-use Rattle.rr_cells.specs.Operations.{outcome_of}
-use Rattle.rr_copies.specs.Standing.{KeeperState, cells_of}
+use Rattle.rr_cells.specs.Operations.{outcome_of, to_cell}
+use Rattle.rr_copies.specs.Standing.{KeeperState, cells_of, holding_of}
 use Rattle.rr_delta.specs.Difference.{newer_cells}
 use Rattle.rr_delta.specs.Names.{versions_of}
-use Rattle.rr_desk.specs.Standing.{with_joined}
-use Rattle.rr_gossip.specs.Session.{HasGiven, HasPulled, sent_by}
+use Rattle.rr_desk.specs.Standing.{HasJoined}
+use Rattle.rr_gossip.specs.declared.fault.GossipFault.{GossipFault}
+use Rattle.rr_gossip.specs.declared.giver.Giver.{Giver}
+use Rattle.rr_gossip.specs.Giver.{first_giver}
+use Rattle.rr_gossip.specs.Session.{HasGiven, HasHeard, HasPulled, HasStoppedPulling, replied_by, sent_by}
 use Rattle.rr_gossip.specs.Transcript.{waiting}
 use Rattle.rr_nodes.specs.Nodes.{Node, Moment, Deed, held_at, after_all, taken}
 use Rattle.rr_nodes.specs.Models.{cell_model, sample_model}
@@ -34,8 +37,9 @@ abbrev pub names_lacking : Cells → Cells → List CellName
 names_lacking given had = map (λ e. e.0) (lacking given had)
 
 -- a whole session of two sides: the one that gives heard what the other sends, of which it may have read the first bytes
--- before, and the one that pulls read what that wrote; more may come behind in either direction
-pub record IsSession (s : Layout) (had given after : Cells) : Type 0 where
+-- before, and the one that pulls read what that wrote, of which these are the cells; more may come behind in either
+-- direction
+pub record IsSession (s : Layout) (had given : Cells) (cells : List NamedCell) : Type 0 where
   pub before : List ℕ
   pub heard : List ℕ
   pub more_heard : List ℕ
@@ -47,13 +51,39 @@ pub record IsSession (s : Layout) (had given after : Cells) : Type 0 where
   pub more : List ℕ
   pub limit : ℕ
   pub left : Option (List ℕ)
-  pub pulled : HasPulled s (waiting (length (sent_by s had)) 0 limit) had after (Some (answer ++ more)) left
+  pub pulled : HasPulled s (waiting (length (sent_by s had)) 0 limit) (Some (answer ++ more)) left cells
 
--- the side that pulls has then joined exactly what it lacked, in order
+-- these are exactly what the side that pulls lacked, in order
 abbrev pub SessionsBringWhatIsLacking : Type 0
 SessionsBringWhatIsLacking =
-    (s : Layout) (had given after : Cells) → IsLayout s → All (IsCellOf s) (entries had) → All (IsCellOf s) (entries given) → IsSession s had given after
-    → after ≡ join_cells s had (lacking given had)
+    (s : Layout) (had given : Cells) (cells : List NamedCell) → IsLayout s → All (IsCellOf s) (entries had) → IsSession s had given cells
+    → cells ≡ lacking given had
+
+-- a session that is cut: the side that gives heard the same, and of its answer, which it may not have written whole, the
+-- side that pulls could read a beginning, and stopped; these are the cells that it had by then
+pub record IsCutSession (s : Layout) (had given : Cells) (cells : List NamedCell) : Type 0 where
+  pub before : List ℕ
+  pub heard : List ℕ
+  pub more_heard : List ℕ
+  pub is_sent : before ++ heard ≡ concat (sent_by s had) ++ more_heard
+  pub limit_given : ℕ
+  pub left_given : Option (List ℕ)
+  pub last : Giver
+  pub hears : HasHeard s given (first_giver limit_given) last before (Some heard) left_given
+  pub came : List ℕ
+  pub lost : List ℕ
+  pub more : List ℕ
+  pub is_answer : came ++ lost ≡ concat (replied_by s hears.names given) ++ more
+  pub limit : ℕ
+  pub left : Option (List ℕ)
+  pub fault : GossipFault
+  pub stopped : HasStoppedPulling s (waiting (length (sent_by s had)) 0 limit) (Some came) left fault cells
+
+-- these are the first of what the side that pulls lacked, in order
+abbrev pub CutSessionsBringAFront : Type 0
+CutSessionsBringAFront =
+    (s : Layout) (had given : Cells) (cells : List NamedCell) → IsLayout s → All (IsCellOf s) (entries had) → IsCutSession s had given cells
+    → IsPrefix cells (lacking given had)
 
 -- what an origin's node holds
 abbrev pub now_at : ℕ → Moment
@@ -71,18 +101,36 @@ pub record HasTakenAll (s : Layout) (deeds : List Deed) (origin : ℕ) (there : 
 -- so a session with what another node held at some moment, whatever was done before, is deeds that take all that was lacking
 abbrev pub SessionsAreDeeds : Type 0
 SessionsAreDeeds =
-    (s : Layout) (deeds : List Deed) (origin : ℕ) (there : Moment) (had given after : Cells) → IsLayout s → All IsWithinLimits deeds → there.origin ≢ origin
-    → held_at (after_all cell_model s deeds) (now_at origin) ≡ Some had → held_at (after_all cell_model s deeds) there ≡ Some given → IsSession s had given after
-    → HasTakenAll s deeds origin there (names_lacking given had) after
+    (s : Layout) (deeds : List Deed) (origin : ℕ) (there : Moment) (had given : Cells) (cells : List NamedCell) → IsLayout s → All IsWithinLimits deeds → there.origin ≢ origin
+    → held_at (after_all cell_model s deeds) (now_at origin) ≡ Some had → held_at (after_all cell_model s deeds) there ≡ Some given → IsSession s had given cells
+    → HasTakenAll s deeds origin there (names_lacking given had) (join_cells s had cells)
 
--- and a keeper that joins what was lacking, in order, does these deeds
+-- and these deeds are what a keeper did that pulled so, as the contracts of its `pull` and its `schema` have it
 abbrev pub PullIsDeeds : Type 0
 PullIsDeeds =
-    (opening : List Op) (k : KeeperState) (n : Node Cells) (given : Cells) (cells : List Cell) → IsNode opening k n → map owned_cell cells ≡ lacking given (cells_of k)
-    → IsNode opening (with_joined k cells) (fold (λ o name. taken cell_model k.schema k.origin o given name) n (names_lacking given (cells_of k)))
+    (opening : List Op) (old new : KeeperState) (n : Node Cells) (given : Cells) (cells : List NamedCell) → IsHolding (holding_of old) → IsNode opening old n
+    → IsSession old.schema (cells_of old) given cells → HasJoined old new cells
+    → IsNode opening new (fold (λ o name. taken cell_model old.schema old.origin o given name) n (names_lacking given (cells_of old)))
 
 -- so among several desks such a pull, of what a reader of another has seen, is a join for each cell that was lacking
 abbrev pub PullsAreJoins : Type 0
 PullsAreJoins =
-    (s : Layout) (ds : Desks) (origin there : ℕ) (d : Desk) (list : List Op) (cells : List Cell) → get ds origin ≡ Some d → there ≢ origin → HasBegun ds there list
-    → map owned_cell cells ≡ lacking (outcome_of s list) (cells_of d.keeper) → Leave s ds origin d (joins_of_page origin there list cells) (with_joined d.keeper cells)
+    (s : Layout) (ds : Desks) (origin there : ℕ) (d : Desk) (new : KeeperState) (list : List Op) (cells : List NamedCell) → get ds origin ≡ Some d → there ≢ origin → HasBegun ds there list
+    → IsHolding (holding_of d.keeper) → d.keeper.schema ≡ s → IsSession s (cells_of d.keeper) (outcome_of s list) cells → HasJoined d.keeper new cells
+    → Leave s ds origin d (joins_of_page origin there list (map to_cell cells)) new
+
+-- ---- a pull that is cut
+
+-- what it joined are deeds
+abbrev pub CutPullIsDeeds : Type 0
+CutPullIsDeeds =
+    (opening : List Op) (old new : KeeperState) (n : Node Cells) (given : Cells) (cells : List NamedCell) → IsHolding (holding_of old) → IsNode opening old n
+    → IsCutSession old.schema (cells_of old) given cells → HasJoined old new cells
+    → IsNode opening new (fold (λ o name. taken cell_model old.schema old.origin o given name) n (map (λ e. e.0) cells))
+
+-- and joins
+abbrev pub CutPullsAreJoins : Type 0
+CutPullsAreJoins =
+    (s : Layout) (ds : Desks) (origin there : ℕ) (d : Desk) (new : KeeperState) (list : List Op) (cells : List NamedCell) → get ds origin ≡ Some d → there ≢ origin → HasBegun ds there list
+    → IsHolding (holding_of d.keeper) → d.keeper.schema ≡ s → IsCutSession s (cells_of d.keeper) (outcome_of s list) cells → HasJoined d.keeper new cells
+    → Leave s ds origin d (joins_of_page origin there list (map to_cell cells)) new

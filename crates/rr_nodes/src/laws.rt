@@ -6,7 +6,7 @@ ghost use Rattle.rr_nodes.specs.Calls.{CallsAnswerFromSamples, WritesArePuts, Pa
 ghost use Rattle.rr_nodes.specs.Giving.{GivenAreThere, UnusedHaveNoCells, SavedIsLoadedElsewhere};
 ghost use Rattle.rr_nodes.specs.Models.{cell_model, sample_model};
 ghost use Rattle.rr_nodes.specs.Pulls.{TakesAreInOrder, PullsBringAll};
-ghost use Rattle.rr_nodes.specs.Sessions.{SessionsBringWhatIsLacking, SessionsAreDeeds, PullIsDeeds, PullsAreJoins};
+ghost use Rattle.rr_nodes.specs.Sessions.{SessionsBringWhatIsLacking, SessionsAreDeeds, PullIsDeeds, PullsAreJoins, CutSessionsBringAFront, CutPullIsDeeds, CutPullsAreJoins};
 
 /// Whatever is done at however many nodes, in whatever order: at each moment each node has the cells of
 /// the marks that reached it, so a fetch is answered by exactly these; and who knows the same live marks
@@ -55,12 +55,21 @@ pub fn pulls_bring_all()
 {}
 
 /// A session over bytes, which a reader of one node gives and the keeper of another pulls, brings exactly
-/// the cells that were lacking, in order; so it is deeds, after which the node has the live marks of both.
+/// the cells that were lacking, in order; so it is deeds, after which the node has the live marks of both. By
+/// the contracts of `pull` and `give` alone, the keeper has done these deeds.
 pub fn sessions_are_deeds()
     ensures bytes { SessionsBringWhatIsLacking }
     ensures deeds { SessionsAreDeeds }
     ensures keeper { PullIsDeeds }
     ensures calls { PullsAreJoins }
+{}
+
+/// A session that is cut, on either side, brings the first of these cells, in order; what the keeper has
+/// joined then are deeds as well.
+pub fn cut_sessions_are_deeds()
+    ensures bytes { CutSessionsBringAFront }
+    ensures keeper { CutPullIsDeeds }
+    ensures calls { CutPullsAreJoins }
 {}
 
 /// Each cell that a reader gives is there, so whoever joins it takes it; and what a keeper saves is loaded,

@@ -7,8 +7,8 @@
 //! other all marks that reached it. That both agree is the theorem (`specs/Laws.antt`).
 //!
 //! The calls of keepers are deeds (`specs/Keepers.antt`, and for several desks `specs/Calls.antt`), and
-//! so is a session by its bytes (`specs/Sessions.antt`). `specs/Example.antt` has three nodes, with their
-//! answers.
+//! so is a session by its bytes, whole or cut (`specs/Sessions.antt`). `specs/Example.antt` has three nodes,
+//! with their answers.
 #![tactic(auto)]
 
 pub mod laws;
