@@ -3,6 +3,7 @@ use Rattle.std.specs.Prelude.{◌≡◌, ◌⊎◌, ℕ, List, length, Option}
 use Rattle.std.specs.Io.KnownBytes.{Appends}
 use Rattle.std.specs.List.{concat}
 use Rattle.rr_io.specs.Stream.{AppendsPrefix}
+use Rattle.rr_cells.specs.CellBounds.{NamedCell}
 use Rattle.rr_copies.specs.Standing.{KeeperState, cells_of, with_all_published}
 use Rattle.rr_desk.specs.Standing.{HasJoined}
 use Rattle.rr_gossip.specs.declared.fault.GossipFault.{GossipFault}
@@ -15,10 +16,12 @@ use Rattle.rr_gossip.specs.Transcript.{waiting}
 abbrev pub frames_of : KeeperState → List (List ℕ)
 frames_of k = sent_by k.schema (cells_of k)
 
--- all of its frames were sent, and all that the peer answered is joined, as operations that are pending
+-- all of its frames were sent, and all cells that the peer answered are joined, one by one and in order, as operations
+-- that are pending
 pub record IsJoined (old joined : KeeperState) (had left : Option (List ℕ)) : Type 0 where
-  pub kept : HasJoined old joined
-  pub pulled : HasPulled old.schema (waiting (length (frames_of old)) 0 MAX_FRAMES) (cells_of old) (cells_of joined) had left
+  pub cells : List NamedCell
+  pub kept : HasJoined old joined cells
+  pub pulled : HasPulled old.schema (waiting (length (frames_of old)) 0 MAX_FRAMES) had left cells
 
 -- that was done, and then all that is pending was published
 pub record HasPulledAll (old new : KeeperState) (had left wrote written : Option (List ℕ)) : Type 0 where
@@ -27,9 +30,11 @@ pub record HasPulledAll (old new : KeeperState) (had left wrote written : Option
   pub pulled : IsJoined old joined had left
   pub published : new ≡ with_all_published joined
 
--- the session ended early, or memory ran out as all of it was to be published: what was joined is pending
+-- the session ended early, or memory ran out as all of it was to be published: the cells that were joined are pending,
+-- one by one and in order
 pub record HasStoppedPulling (old new : KeeperState) (had left wrote written : Option (List ℕ)) (fault : GossipFault) : Type 0 where
   pub sent : AppendsPrefix wrote written (concat (frames_of old))
-  pub kept : HasJoined old new
-  pub stopped : HasFailedToPull MAX_FRAMES old.schema (cells_of old) (cells_of new) had left wrote written fault
-      ⊎ ((fault ≡ Memory) × IsJoined old new had left)
+  pub cells : List NamedCell
+  pub kept : HasJoined old new cells
+  pub stopped : HasFailedToPull MAX_FRAMES old.schema (cells_of old) had left wrote written fault cells
+      ⊎ ((fault ≡ Memory) × HasPulled old.schema (waiting (length (frames_of old)) 0 MAX_FRAMES) had left cells)
