@@ -1,0 +1,5 @@
+pub mod Renaming
+pub mod Numbers
+pub mod Raised
+pub mod Joined
+pub mod Upgrading

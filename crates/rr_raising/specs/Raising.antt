@@ -1,0 +1,46 @@
+-- One archive more: where it has number i, the numbers of the archives from i on rise by one.
+use Rattle.std.specs.Prelude.{ℕ, suc, ◌+◌, nat_lt, List, [], ◌∷◌, map, if◌then◌else◌}
+use Rattle.std.specs.declared.cmp.Ordering.{Ordering}
+use Rattle.std.specs.FinMap.{FinMap, entries, from_entries}
+use Rattle.rr_schema.specs.declared.archive.ArchiveSpec.{ArchiveSpec}
+use Rattle.rr_model.specs.CellNames.{CellName}
+use Rattle.rr_model.specs.Samples.{Mark}
+use Rattle.rr_model.specs.Knowledge.{Knowledge}
+use Rattle.rr_cells.specs.CellBounds.{NamedCell}
+use Rattle.rr_cells.specs.Cells.{Cells}
+
+-- the number of an archive once there is one more
+abbrev pub raised : ℕ → ℕ → ℕ
+raised i archive = if nat_lt archive i then archive else archive + 1
+
+abbrev pub raised_name : ℕ → CellName → CellName
+raised_name i n = record { key = n.key; archive = raised i n.archive; slot = n.slot; origin = n.origin }
+
+abbrev pub raised_mark : ℕ → Mark → Mark
+raised_mark i m = record { sample = m.sample; archive = raised i m.archive }
+
+-- a map with each key renamed
+unfoldable pub renamed : {K X : Type 0} {R : K → K → Ordering} → (K → K) → FinMap R X → FinMap R X
+renamed f m = from_entries (map (λ e. (f e.0, e.1)) (entries m))
+
+-- what is known, with the number of each mark's archive raised
+abbrev pub raised_knowledge : ℕ → Knowledge → Knowledge
+raised_knowledge i k = renamed (raised_mark i) k
+
+-- a cell, with the number of its archive raised
+abbrev pub raised_cell : ℕ → NamedCell → NamedCell
+raised_cell i e = (raised_name i e.0, e.1)
+
+-- the cells, with the number of each one's archive raised
+abbrev pub raised_cells : ℕ → Cells → Cells
+raised_cells i m = renamed (raised_name i) m
+
+-- the archives with one more, before the first that has more steps
+abbrev pub with_archive : ArchiveSpec → List ArchiveSpec → List ArchiveSpec
+with_archive a [] = a ∷ []
+with_archive a (b ∷ bs) = if nat_lt a.steps b.steps then a ∷ b ∷ bs else b ∷ with_archive a bs
+
+-- and its number
+abbrev pub place_for : ArchiveSpec → List ArchiveSpec → ℕ
+place_for a [] = 0
+place_for a (b ∷ bs) = if nat_lt a.steps b.steps then 0 else suc (place_for a bs)
