@@ -1,3 +1,4 @@
+mod archives;
 mod contributions;
 mod fake_process;
 mod feeds;

@@ -1,7 +1,9 @@
 //! Replicas: what cases of calls can't show.
+ghost use Rattle.std.specs.Prelude.{◌≡◌};
 
 use rr_archive::{Archive, PlainArchive};
-use rr_fakes::replicas::{filled, one_sample};
+use rr_delta::{difference, summary};
+use rr_fakes::replicas::{MINUTE, filled, one_sample};
 use rr_key::SeriesKey;
 use rr_replica::Replica;
 use rr_ring::RingArchive;
@@ -53,5 +55,37 @@ fn a_replica_lends_the_archives_of_a_series(rt: HostRuntime) -> Result<(), Fail>
     let past = lent(rt.alloc(), b"m v", 1)?;
     let unknown = lent(rt.alloc(), b"m w", 0)?;
     assert_eq!(rt; (found, past, unknown), (Some(1), None, None));
+    Ok(())
+}
+
+/// Joins what a replica has and another of its schema lacks. Answers how many names that one listed, and how many cells
+/// it lacked.
+fn join_lacking<A: Archive>(
+    alloc: Global,
+    replica: &mut Replica<A>,
+    other: &Replica<A>,
+) -> Result<(usize, usize), Fail>
+    requires { replica.old.schema ≡ other.now.schema }
+{
+    let names = summary(alloc, replica, 0, 256)?;
+    let cells = difference(alloc, other, &names)?;
+    replica.join_cells(&cells)?;
+    Ok((names.len(), cells.len()))
+}
+
+/// How many names a copy lists, how many cells its original then has that it lacks, and how many the copy has
+/// once they are joined.
+fn joined(alloc: Global) -> Result<((usize, usize), usize), Fail> {
+    let mut replica = one_sample::<PlainArchive>(alloc, 1)?;
+    let mut copy = replica.copy(alloc)?;
+    replica.put(&SeriesKey::parse_text(alloc, b"m v")?, 2 * MINUTE, 9)?;
+    let counts = join_lacking(alloc, &mut copy, &replica)?;
+    Ok((counts, copy.cell_count()))
+}
+
+#[test]
+fn a_copy_takes_what_it_lacks(rt: HostRuntime) -> Result<(), Fail> {
+    let counts = joined(rt.alloc())?;
+    assert_eq!(rt; counts, ((1, 1), 2));
     Ok(())
 }
