@@ -97,18 +97,24 @@ struct Watched {
 }
 
 impl Target for Watched {
+    ghost use Rattle.std.specs.Prelude.{refl};
+    ghost use Rattle.rr_delta.specs.Joining.{HasJoined, map_joined, then_joined};
+    ghost use Rattle.rr_replica.specs.Standing.{held};
+
     ghost layout = { λ w. w.replica.schema };
 
     ghost cells = { λ w. w.replica.cells };
 
-    ghost may_become = { λ w x. Unit {0} };
+    ghost has_joined = { λ w x. HasJoined (held w.replica) (held x.replica) };
 
-    ghost may_stay = { λ w. tt };
+    ghost joins_none = { λ w. refl };
 
-    ghost may_go_on = { λ w x y p q. tt };
+    ghost joins_then = { λ w x y. then_joined (held w.replica) (held x.replica) (held y.replica) };
+
+    ghost joins_in_map = { λ w x. map_joined (held w.replica) (held x.replica) };
 
     fn schema(&self) -> &Schema {
-        self.replica.schema()
+        Target::schema(&self.replica)
     }
 
     fn names(&self, alloc: Global, from: usize, count: usize) -> Result<Vec<Name>, AllocError> {
