@@ -5,6 +5,7 @@ use mathlib.Core.List.{IsPrefix}
 use Rattle.std.specs.Option.{option_map}
 use Rattle.std.specs.Cmp.{nat_cmp_total}
 use Rattle.std.specs.FinMap.{empty, get, insert, entries, entries_sorted, is_sorted, nat_cmp-IsAntisymmetric}
+use Rattle.std.proofs.lemmas.List.{append-nil}
 use Rattle.std.proofs.lemmas.List.Elements.{All-from_recursion, recursion_from_All}
 use Rattle.std.proofs.lemmas.List.Sums.{fold-append}
 use Rattle.rr_text.specs.Options.{◌>>=◌}
@@ -42,7 +43,7 @@ use Rattle.rr_nodes.specs.Nodes.{Node, Nodes, all_held, held_at, after, after_al
 use Rattle.rr_nodes.specs.Models.{cell_model, sample_model}
 use Rattle.rr_nodes.specs.Keepers.{IsNode}
 use Rattle.rr_nodes.specs.Pulls.{takes}
-use Rattle.rr_nodes.specs.Sessions.{lacking, names_lacking, now_at, SessionsBringWhatIsLacking, SessionsAreDeeds, PullIsDeeds, PullsAreJoins, CutSessionsBringAFront, CutPullIsDeeds, CutPullsAreJoins}
+use Rattle.rr_nodes.specs.Sessions.{lacking, names_lacking, now_at, SessionsBringWhatIsLacking, SessionsAreDeeds, PullIsDeeds, PullsAreJoins, CutSessionsBringAFront, SilentSessionsBringNothing, CutPullIsDeeds, CutPullsAreJoins}
 use Rattle.rr_nodes.proofs.GivingLemmas.{given_are_there}
 use Rattle.rr_nodes.proofs.KeepersLemmas.{page_is_deeds}
 use Rattle.rr_nodes.specs.Calls.{Desk, Desks, HasBegun, Leave, joins_of_page}
@@ -107,6 +108,16 @@ cut_sessions_bring_a_front s had given cells is each cut =
     let fits : AreLeft (s, es) = subst (λ (l : List NamedCell). AreLeft (s, l)) due cut.hears.fits in
     stopped_pulls_take_a_front s es cells (length (sent_by s had)) cut.limit cut.came cut.lost cut.more cut.left cut.fault is fits
     (cut.is_answer ∙ ap (λ (l : List ℕ). l ++ cut.more) (answer_text s cut.hears.names given es due)) cut.stopped
+
+none_before_none : {X : Type 0} (xs : List X) → IsPrefix xs [] → xs ≡ []
+none_before_none [] p = refl
+none_before_none (x ∷ xs) p = absurd (cc (p.1))
+
+pub silent_sessions_bring_nothing : SilentSessionsBringNothing
+silent_sessions_bring_nothing s sent limit left fault cells is stopped =
+    let fits : AreLeft (s, []) = record { cells = All-from_recursion (IsCellOf s) [] tt; names_ascend = true_from_T (is_sorted {X = Contribution} cell_name_cmp []) tt } in
+    let none = concat (reply s []) in
+    none_before_none cells (stopped_pulls_take_a_front s [] cells sent limit [] none [] left fault is fits (sym (append-nil none)) stopped)
 
 -- ---- the deeds
 

@@ -85,6 +85,12 @@ CutSessionsBringAFront =
     (s : Layout) (had given : Cells) (cells : List NamedCell) → IsLayout s → All (IsCellOf s) (entries had) → IsCutSession s had given cells
     → IsPrefix cells (lacking given had)
 
+-- none where nothing came, as from a side that stopped before it heard all that was sent
+abbrev pub SilentSessionsBringNothing : Type 0
+SilentSessionsBringNothing =
+    (s : Layout) (sent limit : ℕ) (left : Option (List ℕ)) (fault : GossipFault) (cells : List NamedCell) → IsLayout s → HasStoppedPulling s (waiting sent 0 limit) (Some []) left fault cells
+    → cells ≡ []
+
 -- what an origin's node holds
 abbrev pub now_at : ℕ → Moment
 now_at origin = record { origin = origin; ago = 0 }
