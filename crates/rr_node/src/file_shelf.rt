@@ -62,6 +62,14 @@ impl<'a, R: Files + Eprint> FileShelf<'a, R> {
         fs::rename(self.rt, beside.as_str(), path.as_str())
     }
 
+    /// Removes the file beside, which is no whole snapshot.
+    fn remove_beside(&self) {
+        if let Some((_, beside)) = &self.paths {
+            // Where it can't be removed, the next save begins it anew.
+            let _removed = fs::remove_file(self.rt, beside.as_str());
+        }
+    }
+
     fn print_save(&self, fault: SaveFault) {
         let name = fault.name();
         // Where this can't be printed, there is no one to tell.
@@ -94,9 +102,11 @@ impl<R: Files + Eprint> Shelf for FileShelf<'_, R> {
     {
         if !whole {
             drop(output);
+            self.remove_beside();
             return;
         }
         if self.replace(output.into_inner()).is_err() {
+            self.remove_beside();
             self.print_save(SaveFault::WriteFailed);
         }
     }
