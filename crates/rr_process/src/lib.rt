@@ -22,5 +22,5 @@ mod words;
 
 pub use ending::Ending;
 pub use orders::obey_order;
-pub use process::obey;
+pub use process::{file_fault, obey};
 pub use words::read_order;

@@ -5,8 +5,21 @@ use crate::orders::obey_order;
 use rr_command::{RunScript, ToolFault};
 use rr_io::Counted;
 use rr_words::Order;
+use std::io::ErrorKind;
 use std::rt::Files;
 use std::{fs, io};
+
+/// The fault of a file that can't be opened or read: memory ran out, or it is named on standard error.
+pub fn file_fault(rt: &impl Eprint, file: &str, error: &io::Error) -> ToolFault {
+    match error.kind() {
+        ErrorKind::OutOfMemory => ToolFault::Memory,
+        _ => {
+            // If this can't be printed, the status still says that reading failed.
+            let _printed = eprintln!(rt; "rr: {file}: {error}");
+            ToolFault::ReadFailed
+        }
+    }
+}
 
 /// Obeys an order that has streams. The output goes to standard output, and the input comes from standard input, or
 /// from the script's file where one is named. A file that can't be opened is named on standard
@@ -35,10 +48,6 @@ pub fn obey(
             &mut Counted::new(script),
             &mut output,
         ),
-        Err(error) => {
-            // Where this can't be printed, the status still says that reading failed.
-            let _printed = eprintln!(rt; "rr: {file}: {error}");
-            Err(ToolFault::ReadFailed)
-        }
+        Err(error) => Err(file_fault(rt, file.as_str(), &error)),
     }
 }

@@ -3,7 +3,7 @@
 use rr_command::ToolFault;
 use rr_config::{Config, ConfigFault};
 use rr_io::Counted;
-use rr_process::Ending;
+use rr_process::{Ending, file_fault};
 use rr_replica::Replica;
 use rr_ring::RingArchive;
 use rr_schema::{Origin, Schema};
@@ -12,13 +12,6 @@ use std::fs;
 use std::io::BufReader;
 use std::rt::Files;
 
-/// A file that can't be read is named on standard error.
-fn unread(rt: &impl Eprint, file: &str, error: &std::io::Error) -> Ending {
-    // If this can't be printed, the status still says that reading failed.
-    let _printed = eprintln!(rt; "rr: {file}: {error}");
-    Ending::Failed(ToolFault::ReadFailed)
-}
-
 /// The configuration in a file. The ending says why there is none.
 pub(crate) fn read_config(
     rt: &(impl AllocGlobal + Files + Eprint),
@@ -26,7 +19,7 @@ pub(crate) fn read_config(
 ) -> Result<Config, Ending> {
     let text = match fs::read(rt, file) {
         Ok(text) => text,
-        Err(error) => return Err(unread(rt, file, &error)),
+        Err(error) => return Err(Ending::Failed(file_fault(rt, file, &error))),
     };
     match Config::from_toml(rt.alloc(), &text) {
         Ok(config) => Ok(config),
@@ -45,7 +38,7 @@ fn load_replica(
     let alloc = rt.alloc();
     let input = match fs::open(rt, file) {
         Ok(input) => input,
-        Err(error) => return Err(unread(rt, file, &error)),
+        Err(error) => return Err(Ending::Failed(file_fault(rt, file, &error))),
     };
     let Ok(input) = BufReader::new(alloc, input) else {
         return Err(Ending::Failed(ToolFault::Memory));

@@ -4,6 +4,7 @@ use rr_command::ToolFault;
 use rr_config::Config;
 use rr_node::Listening;
 use rr_process::Ending;
+use std::io::ErrorKind;
 use std::net::{Net, TcpListener, TcpStream};
 
 /// The listeners of a node: one for lines, and one for each reader.
@@ -38,6 +39,9 @@ fn listen(
 ) -> Result<Listening, Ending> {
     match TcpListener::bind(rt, address) {
         Ok(listener) => Ok(Listening::new(rt.alloc(), listener, idle)),
-        Err(_) => Err(Ending::BadAddress),
+        Err(error) => Err(match error.kind() {
+            ErrorKind::OutOfMemory => Ending::Failed(ToolFault::Memory),
+            _ => Ending::BadAddress,
+        }),
     }
 }
