@@ -1,0 +1,170 @@
+#!/usr/bin/env python3
+"""Refuses each growth of the built program in turn, and compares each run with one that was refused nothing.
+
+usage: refuse.py PROGRAM [WHAT ..]
+
+PROGRAM is the built program, crates/rr_tool/out/rr_tool. WHAT is `scripts`, `lines` or `node`; all of them, if missing.
+Of scripts and lines those of the cases are run, and a node serves one round (refuse_node.py). A growth is refused
+alone, and then with all after it, by a library that stands before the C library's (refuse.c).
+
+A run has to end as without, or with status 3, `rr: out of memory` as the one line on standard error and a front of the
+output; of a script nothing. Prints how many growths were refused, and ends with status 1 where a run ended in another
+way or nothing was refused. It takes some minutes on four cores.
+"""
+
+import argparse
+import collections
+import concurrent.futures
+import os
+import pathlib
+import struct
+import subprocess
+import sys
+import tempfile
+import typing
+
+import refuse_node
+from crates import TOP
+
+DATA = TOP / "crates/rr_cases/data"
+
+MEMORY = (3, b"rr: out of memory\n")
+
+# Seconds that a run may take.
+LONGEST = 20
+
+
+class Refuser:
+    """The library that refuses growths, built in a folder, and the runs that it was loaded for."""
+
+    def __init__(self, folder):
+        self.library = folder / "refuse.so"
+        source = TOP / "tools/refuse.c"
+        subprocess.run(["cc", "-O2", "-Wall", "-fPIC", "-shared", "-o", self.library, source], check=True)
+
+    def environment(self, log, nth, goes_on):
+        """The environment of a run whose growth of this number is refused, and those after it if it goes on; of 0 none."""
+        words = {"PATH": os.environ["PATH"], "LD_PRELOAD": str(self.library), "REFUSE_LOG": str(log)}
+        if nth:
+            words["REFUSE_NTH"] = str(nth)
+        if goes_on:
+            words["REFUSE_ON"] = "1"
+        return words
+
+
+def growths(log):
+    """How many growths a run made, and how many of them were refused."""
+    return struct.unpack("<QQ", pathlib.Path(log).read_bytes())
+
+
+class Case(typing.NamedTuple):
+    """The words after `rr` and the input of a run, and whether a front of its output may be written."""
+
+    name: str
+    words: list
+    given: bytes
+    has_fronts: bool
+
+
+class Ran(typing.NamedTuple):
+    """How a run ended, and how many growths it made and was refused."""
+
+    ended: tuple
+    made: int
+    refused: int
+
+
+def run(program, refuser, case, nth=0, goes_on=False):
+    """Runs a case, with a growth refused."""
+    with tempfile.NamedTemporaryFile() as log:
+        try:
+            it = subprocess.run(
+                [program, *case.words],
+                input=case.given,
+                capture_output=True,
+                env=refuser.environment(log.name, nth, goes_on),
+                timeout=LONGEST,
+            )
+        except subprocess.TimeoutExpired:
+            sys.exit(f"refuse.py: {case.name} didn't end, growth {nth} refused")
+        return Ran((it.returncode, it.stderr, it.stdout), *growths(log.name))
+
+
+def is_right(case, whole, ended):
+    """Whether a run ended as it may."""
+    if ended == whole:
+        return True
+    *how, output = ended
+    return tuple(how) == MEMORY and (output == b"" or case.has_fronts and whole[2].startswith(output))
+
+
+def try_case(program, refuser, case, goes_on):
+    """Refuses each growth of a case: how many were refused, how many runs ended as without, and those that ended wrong."""
+    whole = run(program, refuser, case)
+    refused, alike, wrong = 0, 0, []
+    for nth in range(1, whole.made + 1):
+        ran = run(program, refuser, case, nth, goes_on)
+        refused += ran.refused
+        alike += ran.ended == whole.ended
+        if not ran.refused or not is_right(case, whole.ended, ran.ended):
+            wrong.append(f"{case.name}, growth {nth}{' and on' if goes_on else ''}: {ran}")
+    return refused, alike, wrong
+
+
+def scripts():
+    """The scripts of the cases."""
+    for file in sorted(DATA.rglob("*.rr")):
+        text = file.read_bytes()
+        if b"{" not in text:
+            yield Case(file.name, ["sim"], text, False)
+
+
+def lines():
+    """The lines of the cases, where streams have no limits."""
+    for file in sorted(DATA.rglob("*.lines")):
+        text = file.read_bytes()
+        first, _, rest = text.partition(b"\n")
+        if b";" in first or b"{" in first or b"\n+" in b"\n" + rest:
+            continue
+        words = first.decode().split()[1:] if first.startswith(b"# check-lines") else ["check-lines"]
+        yield Case(file.name, words, text, True)
+
+
+def try_cases(program, refuser, what, cases):
+    """Refuses each growth of some cases, and says what came of it. Answers whether all is well."""
+    total = collections.Counter()
+    wrong = []
+    with concurrent.futures.ThreadPoolExecutor(os.cpu_count()) as pool:
+        waiting = [
+            pool.submit(try_case, program, refuser, case, goes_on) for case in cases for goes_on in (False, True)
+        ]
+        for it in concurrent.futures.as_completed(waiting):
+            refused, alike, faults = it.result()
+            total.update(cases=1, refused=refused, alike=alike)
+            wrong += faults
+    for line in wrong:
+        print(line)
+    print(f"{what}: {total['refused']} growths refused, {total['alike']} runs ended as without, {len(wrong)} wrong", flush=True)
+    return total["refused"] > 0 and not wrong
+
+
+def main():
+    parser = argparse.ArgumentParser(description=__doc__, formatter_class=argparse.RawDescriptionHelpFormatter)
+    parser.add_argument("program", type=pathlib.Path)
+    parser.add_argument("what", nargs="*", choices=("scripts", "lines", "node"), default=("scripts", "lines", "node"))
+    words = parser.parse_args()
+    program = words.program.resolve()
+    with tempfile.TemporaryDirectory() as folder:
+        refuser = Refuser(pathlib.Path(folder))
+        is_well = True
+        if "scripts" in words.what:
+            is_well &= try_cases(program, refuser, "scripts", scripts())
+        if "lines" in words.what:
+            is_well &= try_cases(program, refuser, "lines", lines())
+        if "node" in words.what:
+            is_well &= refuse_node.try_node(program, refuser)
+    sys.exit(0 if is_well else 1)
+
+
+if __name__ == "__main__":
+    main()

@@ -1,0 +1,218 @@
+"""A node that serves one round while growths are refused (refuse.py).
+
+It is sent lines, pulls a cell from a peer, saves, answers fetches, and gives to a peer that pulls. It may end with any of
+these undone. But each answer is a front of one that a node gives which was refused nothing, with the lines and the
+peer's cell or without either; so is the snapshot, or it is the last one; and the last line on standard error says that
+memory ran out exactly where the status does.
+"""
+
+import collections
+import concurrent.futures
+import os
+import pathlib
+import socket
+import struct
+import subprocess
+import tempfile
+import threading
+import time
+import typing
+
+# Nodes that are tried side by side: each waits more than it works.
+BESIDE = 2 * (os.cpu_count() or 1)
+
+# Seconds that a connection may be silent, of the node and of whoever calls it, and that a node may take to end.
+IDLE = 5
+LONGEST = 20
+
+CONFIG = """\
+step = 60
+lines = "127.0.0.1:{0}"
+fetch = ["127.0.0.1:{1}"]
+peers = ["127.0.0.1:{2}"]
+rounds = 1
+visits = 2
+idle = {idle}
+
+[[archive]]
+steps = 1
+rows = 3
+xff_num = 0
+xff_den = 1
+"""
+
+# What the snapshot's file has before the node saves.
+LAST = b"the last one"
+
+LINES = b"""\
+m v=1i 0
+m v=1
+w,host=a in=3i,out=-4i 60000000000
+
+# note
+w,host=b in=3i 9
+m v=2i 60000000001
+""" + b"".join(b"s%d,a=1 x=%di,y=2i 0\n" % (number, number) for number in range(9))
+
+FETCHES = b"fetch LAST 60 0 120 m v\nfetch MEDIAN 60 0 60 m v\nfetch MIN 60 0 120 w,host=a in\n"
+
+# What a side of this schema sends that holds nothing, and what one replies that holds 7 of origin 1 at the first minute.
+ASKS = bytes.fromhex("0000000f 01 0000003c 01 01 00000003 0000 0001 00000001 03")
+PAGE = bytes.fromhex(
+    "52525047 01 0000003c 01 01 00000003 0000 0001 0001 0003 6d2076 00 0000000000000001 0001 0000000000000001"
+    "0000000000000001 00000000000000000000000000000007 0000000000000007 0000000000000007 0000000df8475800"
+    "0000000000000007 0000000000000001"
+)
+REPLIES = struct.pack(">IB", len(PAGE) + 1, 4) + PAGE + bytes.fromhex("00000001 05")
+NAMES_END = bytes.fromhex("00000001 03")
+
+# What a node says of a peer and a save where memory is refused below them.
+FAILURES = {"peer 1: BadAddress", "save: WriteFailed"}
+OUT_OF_MEMORY = "rr: out of memory"
+
+
+class Served(typing.NamedTuple):
+    """How a node ended, what it said on standard error, what it answered to lines, to fetches and to a peer, its snapshot,
+    the files that it left beside, and how many growths it made and was refused."""
+
+    status: int
+    errors: list
+    answers: list
+    saved: bytes
+    left: list
+    made: int
+    refused: int
+
+
+def free_ports(count):
+    """Ports of this machine on which nothing listens."""
+    held = [socket.create_server(("127.0.0.1", 0)) for _ in range(count)]
+    ports = [it.getsockname()[1] for it in held]
+    for it in held:
+        it.close()
+    return ports
+
+
+def ask(port, text):
+    """What is answered to a text on a connection of its own, up to where it ends or fails."""
+    answer = b""
+    try:
+        with socket.create_connection(("127.0.0.1", port), timeout=IDLE) as stream:
+            stream.sendall(text)
+            stream.shutdown(socket.SHUT_WR)
+            while piece := stream.recv(65536):
+                answer += piece
+    except OSError:
+        pass
+    return answer
+
+
+def reply(listener):
+    """Gives its cell to each side that pulls, until the listener is closed."""
+    while True:
+        try:
+            stream, _ = listener.accept()
+        except OSError:
+            return
+        with stream:
+            stream.settimeout(IDLE)
+            heard = b""
+            try:
+                while not heard.endswith(NAMES_END) and (piece := stream.recv(4096)):
+                    heard += piece
+                stream.sendall(REPLIES)
+            except OSError:
+                pass
+
+
+def listens(ports):
+    """Whether each port has a listener."""
+    with open("/proc/net/tcp") as table:
+        rows = [row.split() for row in table.readlines()[1:]]
+    return set(ports) <= {int(row[1].split(":")[1], 16) for row in rows if row[3] == "0A"}
+
+
+def wait_until(is_so, seconds):
+    """Waits until something is so, at most for some seconds."""
+    end = time.monotonic() + seconds
+    while not is_so() and time.monotonic() < end:
+        time.sleep(0.002)
+
+
+def use(node, ports, saved, lines):
+    """Uses a node that has begun to listen: its answers to lines, to fetches after it has saved, and to a peer."""
+    wait_until(lambda: node.poll() is not None or listens(ports), LONGEST)
+    if node.poll() is not None:
+        return []
+    report = ask(ports[0], lines)
+    wait_until(lambda: node.poll() is not None or saved.read_bytes() != LAST, 0.5)
+    return [report, ask(ports[1], FETCHES), ask(ports[1], ASKS)]
+
+
+def serve(program, refuser, nth=0, goes_on=False, lines=LINES, has_peer=True):
+    """Has a node serve one round, with a growth refused."""
+    ports = free_ports(2)
+    with tempfile.TemporaryDirectory() as folder, socket.create_server(("127.0.0.1", 0)) as listener:
+        folder = pathlib.Path(folder)
+        if has_peer:
+            threading.Thread(target=reply, args=(listener,), daemon=True).start()
+        peer = listener.getsockname()[1] if has_peer else free_ports(1)[0]
+        (folder / "node.toml").write_text(CONFIG.format(*ports, peer, idle=IDLE))
+        saved = folder / "saved"
+        saved.write_bytes(LAST)
+        node = subprocess.Popen(
+            [program, "serve", "node.toml", "--origin", "2", "--save", "saved"],
+            cwd=folder,
+            env=refuser.environment(folder / "log", nth, goes_on),
+            stdin=subprocess.DEVNULL,
+            stdout=subprocess.DEVNULL,
+            stderr=subprocess.PIPE,
+            text=True,
+        )
+        answers = use(node, ports, saved, lines)
+        try:
+            _, errors = node.communicate(timeout=LONGEST)
+        except subprocess.TimeoutExpired:
+            node.kill()
+            _, errors = node.communicate()
+        made, refused = struct.unpack("<QQ", (folder / "log").read_bytes())
+        left = sorted({it.name for it in folder.iterdir()} - {"node.toml", "log", "saved"})
+        return Served(node.returncode, errors.splitlines(), answers, saved.read_bytes(), left, made, refused)
+
+
+def faults(it, wholes):
+    """What is wrong about a node that was refused a growth, beside those that were refused nothing."""
+    ended = it.errors[-1:] == [OUT_OF_MEMORY]
+    if it.status != (3 if ended else 0):
+        yield f"status {it.status}"
+    if not set(it.errors[:-1] if ended else it.errors) <= (FAILURES if it.answers else set()):
+        yield f"said {it.errors}"
+    if it.saved not in {LAST, *(whole.saved for whole in wholes)}:
+        yield f"saved {it.saved.hex()}"
+    if it.left:
+        yield f"left {it.left}"
+    for place, answer in enumerate(it.answers):
+        if not any(whole.answers[place].startswith(answer) for whole in wholes):
+            yield f"answered {answer}"
+
+
+def try_node(program, refuser):
+    """Refuses each growth of a node, and says what came of it. Answers whether all is well."""
+    whole = serve(program, refuser)
+    wholes = [whole] + [
+        serve(program, refuser, lines=lines, has_peer=has_peer)
+        for lines, has_peer in ((LINES, False), (b"", True), (b"", False))
+    ]
+    runs = [(nth, goes_on) for goes_on in (False, True) for nth in range(1, whole.made + 1)]
+    total = collections.Counter()
+    with concurrent.futures.ThreadPoolExecutor(BESIDE) as pool:
+        for (nth, goes_on), it in zip(runs, pool.map(lambda run: serve(program, refuser, *run), runs)):
+            wrong = list(faults(it, wholes))
+            total.update(refused=it.refused, wrong=bool(wrong), whole=it.answers == whole.answers)
+            for line in wrong:
+                print(f"node, growth {nth}{' and on' if goes_on else ''}: {line}")
+    print(
+        f"node: {total['refused']} growths refused, {total['whole']} answered as without, {total['wrong']} wrong",
+        flush=True,
+    )
+    return total["refused"] > 0 and not total["wrong"]
