@@ -1,10 +1,11 @@
-//! Cells as bytes in hexadecimal, and changes of them ([`crate::changes`]).
+//! Cells as bytes in hexadecimal, and changes of them ([`crate::changes`]). A first line `# version N`
+//! says in which version they are read, if not in the latest.
 
 use crate::changes;
-use anyhow::Result;
+use anyhow::{Result, bail};
 use rr_base::{ArchiveSpec, Schema, SchemaFault};
 use rr_cells::{Cell, CellRef};
-use rr_page::{cell_bytes, read_cell};
+use rr_page::{LATEST, Version, cell_bytes, read_cell};
 use std::alloc::{AllocError, Global};
 
 /// Three rows of one step, all of which must be known.
@@ -24,11 +25,22 @@ pub(crate) fn minutes(alloc: Global) -> Result<Schema, SchemaFault> {
 /// same bytes again.
 pub(crate) fn answers(alloc: Global, input: &[u8]) -> Result<Vec<u8>> {
     let schema = minutes(alloc)?;
+    let (version, text) = version_of(str::from_utf8(input)?)?;
     let mut output = String::new(alloc);
-    for bytes in &changes::variants(alloc, input)? {
-        push_answer(alloc, &mut output, bytes, &schema)?;
+    for bytes in &changes::variants(alloc, text)? {
+        push_answer(alloc, &mut output, bytes, &schema, version)?;
     }
     Ok(output.into_bytes())
+}
+
+/// The version that a text is in, and its lines.
+fn version_of(text: &str) -> Result<(Version, &str)> {
+    match changes::setting(text, "version") {
+        Some(("1", lines)) => Ok((Version::One, lines)),
+        Some(("2", lines)) => Ok((Version::Two, lines)),
+        Some(_) => bail!("an unknown version"),
+        None => Ok((LATEST, text)),
+    }
 }
 
 fn push_answer(
@@ -36,8 +48,9 @@ fn push_answer(
     output: &mut String,
     bytes: &[u8],
     schema: &Schema,
+    version: Version,
 ) -> Result<(), AllocError> {
-    match read_cell(alloc, bytes, schema) {
+    match read_cell(alloc, bytes, schema, version) {
         Ok((cell, len)) => push_read(alloc, output, &cell, bytes.split_at(len).0)?,
         Err(fault) => output.push_str(fault.name())?,
     }

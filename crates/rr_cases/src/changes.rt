@@ -1,13 +1,23 @@
-//! Bytes in hexadecimal, and changes of them. The first line of a file has the bytes; each further
+//! Bytes in hexadecimal, and changes of them. The first line of a text has the bytes; each further
 //! line a place from 0, a space, and the bytes that stand there instead, or `end` where the bytes end
-//! there.
+//! there. A line before these may set what the bytes are read as.
 
 use anyhow::{Context, Result};
 use std::alloc::Global;
 
+/// The value that the first line gives a name, as `# NAME VALUE`, and the lines after it.
+pub(crate) fn setting<'a>(text: &'a str, name: &str) -> Option<(&'a str, &'a str)> {
+    let (line, lines) = text.split_once('\n')?;
+    let (given, value) = line.strip_prefix("# ")?.split_once(' ')?;
+    if given == name {
+        Some((value, lines))
+    } else {
+        None
+    }
+}
+
 /// The bytes, and then the bytes with each of the changes.
-pub(crate) fn variants(alloc: Global, input: &[u8]) -> Result<Vec<Vec<u8>>> {
-    let text = str::from_utf8(input)?;
+pub(crate) fn variants(alloc: Global, text: &str) -> Result<Vec<Vec<u8>>> {
     let mut lines = text.lines();
     let bytes = hex::decode(alloc, lines.next().context("an empty file")?)?;
     let mut variants = Vec::new(alloc);

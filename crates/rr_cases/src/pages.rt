@@ -1,9 +1,10 @@
-//! Pages as bytes in hexadecimal, and changes of them ([`crate::changes`]).
+//! Pages as bytes in hexadecimal, and changes of them ([`crate::changes`]). They are of three rows a
+//! minute, or where a first line is `# steps N` of two rows of N steps of a second.
 
 use crate::cells::{minutes, push_fields};
 use crate::changes;
 use anyhow::Result;
-use rr_base::Schema;
+use rr_base::{ArchiveSpec, Schema, SchemaFault};
 use rr_cells::Cell;
 use rr_page::{decode, encode};
 use std::alloc::{AllocError, Global};
@@ -11,12 +12,37 @@ use std::alloc::{AllocError, Global};
 /// What each variant of the bytes is read as: its fault, or how many cells it has, whether they are
 /// written as the same bytes again, and their fields.
 pub(crate) fn answers(alloc: Global, input: &[u8]) -> Result<Vec<u8>> {
-    let schema = minutes(alloc)?;
+    let (steps, text) = steps_of(str::from_utf8(input)?)?;
+    let schema = schema_of(alloc, steps)?;
     let mut output = String::new(alloc);
-    for bytes in &changes::variants(alloc, input)? {
+    for bytes in &changes::variants(alloc, text)? {
         push_answer(alloc, &mut output, bytes, &schema)?;
     }
     Ok(output.into_bytes())
+}
+
+/// How many steps a row has that a text sets, if it sets them, and its lines.
+fn steps_of(text: &str) -> Result<(Option<u32>, &str)> {
+    match changes::setting(text, "steps") {
+        Some((steps, lines)) => Ok((Some(steps.parse()?), lines)),
+        None => Ok((None, text)),
+    }
+}
+
+/// The schema that the pages are of.
+fn schema_of(alloc: Global, steps: Option<u32>) -> Result<Schema, SchemaFault> {
+    match steps {
+        Some(steps) => {
+            let archive = ArchiveSpec {
+                steps,
+                rows: 2,
+                num: 0,
+                den: 1,
+            };
+            Schema::new(alloc, 1, &[archive])
+        }
+        None => minutes(alloc),
+    }
 }
 
 fn push_answer(

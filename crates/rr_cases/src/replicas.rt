@@ -30,7 +30,7 @@ use rr_cells::{Cell, CellRef, Op, Sample};
 use rr_contrib::Contribution;
 use rr_key::SeriesKey;
 use rr_line::{LINE_FEED, Line, Precision, parse_line};
-use rr_page::{cell_bytes, read_cell};
+use rr_page::{LATEST, cell_bytes, read_cell};
 use rr_replica::{Replica, WriteFault};
 use rr_text::limits::MAX_NUMBER;
 use std::alloc::{AllocError, Global};
@@ -262,7 +262,7 @@ fn cell_of(
         contribution,
     };
     let bytes = cell_bytes(alloc, cell)?;
-    let (cell, _) = read_cell(alloc, &bytes, schema)?;
+    let (cell, _) = read_cell(alloc, &bytes, schema, LATEST)?;
     Ok(cell)
 }
 
