@@ -1,4 +1,4 @@
-//! Schemas: slots and places, and what a copy has.
+//! Schemas: slots and places, what a copy has, and one archive more.
 
 use rr_base::{ArchiveSpec, Schema, SchemaFault};
 use std::alloc::Global;
@@ -65,6 +65,19 @@ fn a_schema_has_what_it_was_made_of(rt: HostRuntime) -> Result<(), Fail> {
     assert_eq!(rt;
         (copy.step(), copy.byte_len(), spans, are_same),
         (60, 32, (60, 300, 3_600), true)
+    );
+    Ok(())
+}
+
+#[test]
+fn the_archive_that_was_added_is_found(rt: HostRuntime) -> Result<(), Fail> {
+    let schema = three_archives(rt.alloc())?;
+    assert!(rt; schema.archives().len() == 3);
+    let old = schema.without(rt.alloc(), 1)?;
+    let is_left = old.archives() == [MINUTE, HOUR].as_slice();
+    assert_eq!(rt;
+        (old.step(), is_left, schema.added(&old), old.added(&schema)),
+        (60, true, Some(1), None)
     );
     Ok(())
 }
