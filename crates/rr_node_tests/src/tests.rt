@@ -3,6 +3,8 @@ mod faults;
 mod fetches;
 mod file_shelf;
 mod loopback;
+mod process;
+mod program;
 mod pulls;
 mod rounds;
 mod seats;

@@ -1,10 +1,8 @@
 mod archives;
 mod contributions;
-mod fake_process;
 mod feeds;
 mod fetches;
 mod keys;
-mod process;
 mod pulls;
 mod records;
 mod replicas;
