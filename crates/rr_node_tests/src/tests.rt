@@ -8,3 +8,4 @@ mod program;
 mod pulls;
 mod rounds;
 mod seats;
+mod server;

@@ -14,6 +14,7 @@ use std::rt::Files;
 use std::sync::Wait;
 use std::test::Fail;
 use std::thread::{Threads, join};
+use std::time::Duration;
 
 /// The configuration of a node of three rows a minute, which takes one line connection, and one connection
 /// at each of two readers.
@@ -54,7 +55,7 @@ fn listen_on_all<R: Net<Listener = TcpListener, Stream = TcpStream>>(
     Some((lines, fetch, (first, second, third)))
 }
 
-/// What is answered to a text on a connection of its own.
+/// What is answered to a text on a connection of its own, on which no read waits for longer than 20 seconds.
 fn answer<R: Net<Stream = TcpStream>>(
     rt: &R,
     alloc: Global,
@@ -62,6 +63,7 @@ fn answer<R: Net<Stream = TcpStream>>(
     text: &[u8],
 ) -> Option<Vec<u8>> {
     let mut stream = TcpStream::connect(rt, address).ok()?;
+    stream.set_read_timeout(Some(Duration::from_secs(20))).ok()?;
     stream.write_all(text).ok()?;
     stream.shutdown(Shutdown::Write).ok()?;
     let mut answer = Vec::new(alloc);
@@ -70,7 +72,7 @@ fn answer<R: Net<Stream = TcpStream>>(
 }
 
 /// Whether a text is answered by another.
-fn answers<R: Net<Stream = TcpStream>>(
+pub(crate) fn answers<R: Net<Stream = TcpStream>>(
     rt: &R,
     alloc: Global,
     address: SocketAddr,
