@@ -1,3 +1,4 @@
+mod cut;
 mod desk;
 mod faults;
 mod fetches;

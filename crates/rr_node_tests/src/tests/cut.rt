@@ -1,0 +1,139 @@
+//! Connections that fail in the middle, within a round and at a seat.
+
+use super::rounds::{CONFIG, Peers, Saves};
+use rr_archive::PlainArchive;
+use rr_base::{Counted, Failing};
+use rr_desk::{Keeper, Reader, open};
+use rr_fakes::replicas::minutes;
+use rr_fakes::room::{Room, with_room};
+use rr_node::{Config, Moments, OpenGate, Seat, Visit, Visits, keep_round, serve_seat};
+use std::alloc::Global;
+use std::io;
+use std::io::Read;
+use std::sync::Wait;
+use std::test::Fail;
+
+/// What each connection brings: lines that are refused, as points and as fetches.
+const TEXT: &[u8] = b"m\nm\n";
+
+/// The text, a byte at a time. It holds no reference, since the prover has no rules for a seat whose connections do.
+#[derive(Drop)]
+struct Trickle {
+    given: usize,
+}
+
+impl Read for Trickle {
+    ghost use Rattle.std.specs.Prelude.{None};
+
+    ghost remaining = { λ _. None };
+
+    fn read(&mut self, buf: &mut [u8]) -> io::Result<usize> {
+        let Some(mut rest) = TEXT.get(self.given..) else {
+            return Ok(0);
+        };
+        let piece = buf.len().min(1);
+        let given = rest.read(&mut buf[..piece])?;
+        self.given = self.given.saturating_add(given);
+        Ok(given)
+    }
+}
+
+/// Connections of which each brings the text a byte at a time, until the read after some of them fails, and
+/// has room for some bytes of its answer.
+#[derive(Drop)]
+struct Cut {
+    alloc: Global,
+    reads: u64,
+    room: usize,
+    /// How many were handed back.
+    done: u32,
+}
+
+impl Cut {
+    fn new(alloc: Global, reads: u64, room: usize) -> Cut {
+        Cut {
+            alloc,
+            reads,
+            room,
+            done: 0,
+        }
+    }
+}
+
+impl Visits for Cut {
+    ghost use Rattle.std.specs.Prelude.{[], ◌∷◌, None};
+    ghost use Rattle.rr_host.specs.Streams.{stream_of};
+    ghost use Rattle.rr_host.specs.Visits.{HasCalled, TookBack};
+
+    type Input = Failing<Trickle>;
+
+    type Output = Room;
+
+    ghost calls = { λ c. None };
+
+    fn next(&mut self) -> Visit<Failing<Trickle>, Room> {
+        Visit::Stream(
+            Counted::new(Failing::new(Trickle { given: 0 }, self.reads)),
+            with_room(self.alloc, self.room),
+        )
+    }
+
+    fn take_back(&mut self, input: Counted<Failing<Trickle>>, output: Counted<Room>)
+        ensures { HasCalled None None (TookBack (stream_of (λ _. None) (λ _. None) input output) ∷ []) }
+    {
+        drop(input);
+        drop(output);
+        self.done = self.done.saturating_add(1);
+    }
+}
+
+/// Whether a round goes on after such a connection, and hands it back.
+fn goes_on<R: Wait>(
+    rt: &R,
+    alloc: Global,
+    keeper: &mut Keeper<PlainArchive>,
+    mut lines: Cut,
+) -> Option<bool> {
+    let config = Config::from_toml(alloc, CONFIG).ok()?;
+    let mut dial = Peers::new(alloc, b"");
+    let mut shelf = Saves::new(alloc);
+    let mut clock = Moments::new(Vec::new(alloc));
+    let came = keep_round(
+        alloc, keeper, &mut lines, &mut dial, &mut shelf, &mut clock, &config, rt,
+    );
+    Some(came.ok()? && lines.done == 1)
+}
+
+/// Whether a seat goes on after such a connection, to another one.
+fn serves_both(alloc: Global, reader: Reader<PlainArchive>, visits: Cut) -> bool {
+    let mut seat = Seat {
+        reader,
+        visits,
+        gate: OpenGate::new(),
+    };
+    let served = serve_seat(alloc, &mut seat, 2);
+    let Seat {
+        reader: _,
+        visits,
+        gate: _,
+    } = seat;
+    served.is_ok() && visits.done == 2
+}
+
+/// Whether both go on after connections that fail after so many reads, or have so much room.
+fn go_on<R: Wait>(rt: &R, alloc: Global, reads: u64, room: usize) -> Option<bool> {
+    let replica = minutes::<PlainArchive>(alloc, 2, 3).ok()?;
+    let (mut keeper, mut readers) = open(alloc, rt, replica, 1).ok()?;
+    let round = goes_on(rt, alloc, &mut keeper, Cut::new(alloc, reads, room));
+    let seat = readers.pop().map(|reader| serves_both(alloc, reader, Cut::new(alloc, reads, room)));
+    keeper.close(rt);
+    Some(round? && seat?)
+}
+
+#[test]
+fn a_connection_that_fails_ends_nothing_else(rt: HostRuntime) -> Result<(), Fail> {
+    for (reads, room) in [(0, 99), (3, 99), (9, 0), (9, 5)] {
+        assert!(rt; go_on(&rt, rt.alloc(), reads, room) == Some(true));
+    }
+    Ok(())
+}
