@@ -30,6 +30,8 @@ DATA = TOP / "crates/rr_cases/data"
 
 MEMORY = (3, b"rr: out of memory\n")
 
+KINDS = {"scripts", "lines", "node"}
+
 # Seconds that a run may take.
 LONGEST = 20
 
@@ -151,17 +153,20 @@ def try_cases(program, refuser, what, cases):
 def main():
     parser = argparse.ArgumentParser(description=__doc__, formatter_class=argparse.RawDescriptionHelpFormatter)
     parser.add_argument("program", type=pathlib.Path)
-    parser.add_argument("what", nargs="*", choices=("scripts", "lines", "node"), default=("scripts", "lines", "node"))
+    parser.add_argument("what", nargs="*", help="scripts, lines or node")
     words = parser.parse_args()
+    what = set(words.what or KINDS)
+    if not what <= KINDS:
+        parser.error(f"unknown: {', '.join(sorted(what - KINDS))}")
     program = words.program.resolve()
     with tempfile.TemporaryDirectory() as folder:
         refuser = Refuser(pathlib.Path(folder))
         is_well = True
-        if "scripts" in words.what:
+        if "scripts" in what:
             is_well &= try_cases(program, refuser, "scripts", scripts())
-        if "lines" in words.what:
+        if "lines" in what:
             is_well &= try_cases(program, refuser, "lines", lines())
-        if "node" in words.what:
+        if "node" in what:
             is_well &= refuse_node.try_node(program, refuser)
     sys.exit(0 if is_well else 1)
 

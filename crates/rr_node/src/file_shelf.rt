@@ -93,7 +93,10 @@ impl<R: Files + Eprint> Shelf for FileShelf<'_, R> {
         };
         match self.create(beside.as_str()) {
             Ok(output) => Opening::Writer(Counted::new(output)),
-            Err(_) => Opening::Failed,
+            Err(_) => {
+                self.remove_beside();
+                Opening::Failed
+            }
         }
     }
 
