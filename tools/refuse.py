@@ -32,6 +32,9 @@ MEMORY = (3, b"rr: out of memory\n")
 
 KINDS = {"scripts", "lines", "node"}
 
+# Bytes that are shown of a wrong output.
+MOST_PRINTED = 200
+
 # Seconds that a run may take.
 LONGEST = 20
 
@@ -77,12 +80,14 @@ class Ran(typing.NamedTuple):
 
 
 def run(program, refuser, case, nth=0, goes_on=False):
-    """Runs a case, with a growth refused."""
-    with tempfile.NamedTemporaryFile() as log:
+    """Runs a case, with a growth refused. The input is a file, so that each run reads it in the same pieces."""
+    with tempfile.NamedTemporaryFile() as log, tempfile.TemporaryFile() as given:
+        given.write(case.given)
+        given.seek(0)
         try:
             it = subprocess.run(
                 [program, *case.words],
-                input=case.given,
+                stdin=given,
                 capture_output=True,
                 env=refuser.environment(log.name, nth, goes_on),
                 timeout=LONGEST,
@@ -109,7 +114,9 @@ def try_case(program, refuser, case, goes_on):
         refused += ran.refused
         alike += ran.ended == whole.ended
         if not ran.refused or not is_right(case, whole.ended, ran.ended):
-            wrong.append(f"{case.name}, growth {nth}{' and on' if goes_on else ''}: {ran}")
+            status, said, output = ran.ended
+            growth = f"growth {nth}{' and on' if goes_on else ''}"
+            wrong.append(f"{case.name}, {growth}: status {status}, said {said}, printed {output[:MOST_PRINTED]}")
     return refused, alike, wrong
 
 
