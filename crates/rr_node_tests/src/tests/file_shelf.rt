@@ -30,7 +30,6 @@ fn a_cut_snapshot_leaves_the_last_one(rt: HostRuntime) -> Result<(), Fail> {
     let cut = put_back(&rt, "shelf.snapshot", b"cu", false);
     let left = fs::read(&rt, "shelf.snapshot")?;
     fs::remove_file(&rt, "shelf.snapshot")?;
-    fs::remove_file(&rt, "shelf.snapshot.new")?;
     assert!(rt; (whole, cut, left.as_slice()) == (Some(()), Some(()), b"whole".as_slice()));
     Ok(())
 }

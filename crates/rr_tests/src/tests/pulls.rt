@@ -53,12 +53,12 @@ fn exchanged(
     Ok(reply)
 }
 
-/// Whether two pages of 256 cells and one of 88 are in an answer. A cell has 88 bytes, and a frame 26
+/// Whether two pages of 256 cells and one of 88 are in an answer. A cell has 96 bytes, and a frame 26
 /// besides those of its cells, whose number ends its head.
 fn are_pages(reply: &[u8]) -> bool {
     reply.get(24..26) == Some([1, 0].as_slice())
-        && reply.get(22_578..22_580) == Some([1, 0].as_slice())
-        && reply.get(45_132..45_134) == Some([0, 88].as_slice())
+        && reply.get(24_626..24_628) == Some([1, 0].as_slice())
+        && reply.get(49_228..49_230) == Some([0, 88].as_slice())
 }
 
 /// What a source of 600 cells answers to a target that holds nothing, and how many cells the target has
@@ -76,7 +76,7 @@ fn a_long_answer_comes_in_pages(rt: HostRuntime) -> Result<(), Fail> {
     let (reply, count) = exchanged_600(rt.alloc())?;
     assert_eq!(rt;
         (reply.len(), count, are_pages(&reply)),
-        (52_883, 600, true)
+        (57_683, 600, true)
     );
     Ok(())
 }
