@@ -62,10 +62,10 @@ impl<'a, R: Files + Eprint> FileShelf<'a, R> {
         fs::rename(self.rt, beside.as_str(), path.as_str())
     }
 
-    /// Removes the file beside, which is no whole snapshot.
+    /// Removes the file beside: it isn't a whole snapshot, or couldn't take the place of the last one.
     fn remove_beside(&self) {
         if let Some((_, beside)) = &self.paths {
-            // Where it can't be removed, the next save begins it anew.
+            // If it can't be removed, the next save begins it anew.
             let _removed = fs::remove_file(self.rt, beside.as_str());
         }
     }

@@ -30,7 +30,7 @@ keys-raised_cells i m = renaming.keys-renamed cell_name_cmp_total cell_name_cmp-
 get-raised_cells : (i : ℕ) (m : Cells) (n : CellName) → get (raised_cells i m) (raised_name i n) ≡ get m n
 get-raised_cells i m n = renaming.get-renamed cell_name_cmp_total cell_name_cmp-IsAntisymmetric (raised_name i) (raised_name_cmp i) m n
 
--- a name of the archive that was added is no raised one
+-- no raised name is in the archive that was added
 pub no_tie : (i : ℕ) (n : CellName) → n.archive ≡ i → (x : CellName) → eq_by_cmp cell_name_cmp n (raised_name i x) ≡ false
 no_tie i n e x = elim (eq_by_cmp cell_name_cmp n (raised_name i x)) as (λ b. eq_by_cmp cell_name_cmp n (raised_name i x) ≡ b → b ≡ false) [
   | true ↦ λ h. absurd (not_added i x.archive (sym (ap (λ (y : CellName). y.archive) (same_from_tie cell_name_cmp_total cell_name_cmp-IsAntisymmetric n (raised_name i x) h)) ∙ e))

@@ -29,7 +29,9 @@ fn a_cut_snapshot_leaves_the_last_one(rt: HostRuntime) -> Result<(), Fail> {
     let whole = put_back(&rt, "shelf.snapshot", b"whole", true);
     let cut = put_back(&rt, "shelf.snapshot", b"cu", false);
     let left = fs::read(&rt, "shelf.snapshot")?;
+    let beside = fs::read(&rt, "shelf.snapshot.new").is_ok();
     fs::remove_file(&rt, "shelf.snapshot")?;
-    assert!(rt; (whole, cut, left.as_slice()) == (Some(()), Some(()), b"whole".as_slice()));
+    assert!(rt; (whole, cut, beside) == (Some(()), Some(()), false));
+    assert!(rt; left.as_slice() == b"whole".as_slice());
     Ok(())
 }

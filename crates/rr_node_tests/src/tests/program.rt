@@ -118,7 +118,7 @@ fn column(line: &str, place: usize) -> &[u8] {
     }
 }
 
-/// What the process of a line is given. A word that is no text is written as one.
+/// What the process of a line is given. `no-text` stands for a word that isn't UTF-8, which no line can hold.
 fn given<'a>(line: &'a str, ports: &'a [TcpListener]) -> Given<'a> {
     let words = match column(line, 0) {
         b"rr no-text" => b"rr \xff",

@@ -9,6 +9,6 @@ use Rattle.rr_tests.proofs.tests.archives.put_first.Goals as goal
 none_there : (m : Rows) (q : CellSlot) (P : Contribution → Type 0) → m ≡ empty → IfSome (get m q) P
 none_there m q P none = subst (λ m. IfSome (get m q) P) (sym none) (subst (λ o. IfSome o P) (sym (get-empty cell_slot_cmp q)) tt)
 
--- there is no cell yet
+-- the archive holds no cell
 pub put-requires-clause-newer : goal.put-requires-clause-newer
 put-requires-clause-newer g c = none_there _ _ _ c.requires.empty
