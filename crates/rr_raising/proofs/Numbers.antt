@@ -10,26 +10,27 @@ use Rattle.rr_schema.specs.declared.archive.ArchiveSpec.{ArchiveSpec}
 use Rattle.rr_schema.specs.Schema.{Layout, archive_at, slot_of, place_of}
 use Rattle.rr_model.specs.CellNames.{CellName, cell_name_cmp}
 use Rattle.rr_model.specs.Samples.{Mark, mark_cmp, name_of}
+use Rattle.rr_schema.specs.declared.added.Addition.TheVariants.{Archive}
 use Rattle.rr_schema.specs.Added.{HasAdded, without}
 use Rattle.rr_raising.specs.Raising.{raised, raised_name, raised_mark}
 
 -- ---- numbers
 
-pub stays : (i a : ℕ) → a < i → raised i a ≡ a
+pub stays : (i a : ℕ) → a < i → raised (Archive i) a ≡ a
 stays i a h = ap (λ b. cond b a (a + 1)) (lt-ltb a i h)
 
-pub rises : (i a : ℕ) → i ≤ a → raised i a ≡ a + 1
+pub rises : (i a : ℕ) → i ≤ a → raised (Archive i) a ≡ a + 1
 rises i a h = ap (λ b. cond b a (a + 1)) (le-ltb a i h)
 
 -- none has the number of the one that was added
-pub not_added : (i a : ℕ) → raised i a ≡ i → ⊥
+pub not_added : (i a : ℕ) → raised (Archive i) a ≡ i → ⊥
 not_added i a e = elim (cases_lt a i) [
   | inl h ↦ absurd (omega (arith, h, stays i a h, e))
   | inr h ↦ absurd (omega (arith, h, rises i a h, e))
 ]
 
 -- numbers keep their order
-pub raised_cmp : (i a b : ℕ) → nat_cmp (raised i a) (raised i b) ≡ nat_cmp a b
+pub raised_cmp : (i a b : ℕ) → nat_cmp (raised (Archive i) a) (raised (Archive i) b) ≡ nat_cmp a b
 raised_cmp i a b = elim (cases_lt a i) [
   | inl p ↦ elim (cases_lt b i) [
     | inl q ↦ λ j. nat_cmp (stays i a p j) (stays i b q j)
@@ -50,7 +51,7 @@ raised_cmp i a b = elim (cases_lt a i) [
     both : (a b : ℕ) → nat_cmp (a + 1) (b + 1) ≡ nat_cmp a b
     both a b = grind arith
 
-pub raised_same : (i a b : ℕ) → raised i a ≡ raised i b → a ≡ b
+pub raised_same : (i a b : ℕ) → raised (Archive i) a ≡ raised (Archive i) b → a ≡ b
 raised_same i a b e = elim (cases_lt a i) [
   | inl p ↦ elim (cases_lt b i) [
     | inl q ↦ omega (arith, stays i a p, stays i b q, e)
@@ -62,10 +63,10 @@ raised_same i a b e = elim (cases_lt a i) [
   ]
 ]
 
-pub raised_eq : (i a b : ℕ) → (raised i a == raised i b) ≡ (a == b)
-raised_eq i a b = elim (a == b) as (λ t. (a == b) ≡ t → (raised i a == raised i b) ≡ t) [
-  | true ↦ λ t. eq-eqb (raised i a) (raised i b) (ap (raised i) (eqb-true a b t))
-  | false ↦ λ t. ne_eqb (raised i a) (raised i b) (λ e. absurd (other (raised_same i a b e) t))
+pub raised_eq : (i a b : ℕ) → (raised (Archive i) a == raised (Archive i) b) ≡ (a == b)
+raised_eq i a b = elim (a == b) as (λ t. (a == b) ≡ t → (raised (Archive i) a == raised (Archive i) b) ≡ t) [
+  | true ↦ λ t. eq-eqb (raised (Archive i) a) (raised (Archive i) b) (ap (raised (Archive i)) (eqb-true a b t))
+  | false ↦ λ t. ne_eqb (raised (Archive i) a) (raised (Archive i) b) (λ e. absurd (other (raised_same i a b e) t))
 ] refl
   where
     other : a ≡ b → (a == b) ≡ false → ⊥
@@ -75,20 +76,20 @@ raised_eq i a b = elim (a == b) as (λ t. (a == b) ≡ t → (raised i a == rais
 pub lowered : ℕ → ℕ → ℕ
 lowered i a = cond (nat_lt a i) a (a - 1)
 
-pub raised-lowered : (i a : ℕ) → (a ≡ i → ⊥) → raised i (lowered i a) ≡ a
+pub raised-lowered : (i a : ℕ) → (a ≡ i → ⊥) → raised (Archive i) (lowered i a) ≡ a
 unfolding lowered
 raised-lowered i a other = elim (cases_lt a i) [
-  | inl h ↦ ap (raised i) (ap (λ b. cond b a (a - 1)) (lt-ltb a i h)) ∙ stays i a h
-  | inr h ↦ ap (raised i) (ap (λ b. cond b a (a - 1)) (le-ltb a i h)) ∙ above h (cases_lt i a)
+  | inl h ↦ ap (raised (Archive i)) (ap (λ b. cond b a (a - 1)) (lt-ltb a i h)) ∙ stays i a h
+  | inr h ↦ ap (raised (Archive i)) (ap (λ b. cond b a (a - 1)) (le-ltb a i h)) ∙ above h (cases_lt i a)
 ]
   where
-    above : i ≤ a → (i < a) ⊎ (a ≤ i) → raised i (a - 1) ≡ a
+    above : i ≤ a → (i < a) ⊎ (a ≤ i) → raised (Archive i) (a - 1) ≡ a
     above h (inl more) = rises i (a - 1) (omega arith) ∙ omega arith
     above h (inr less) = absurd (other (omega arith))
 
 -- ---- lists
 
-pub get_or-without : {A : Type 0} (i a : ℕ) (xs : List A) (d : A) → i < length xs → get_or (without i xs) a d ≡ get_or xs (raised i a) d
+pub get_or-without : {A : Type 0} (i a : ℕ) (xs : List A) (d : A) → i < length xs → get_or (without i xs) a d ≡ get_or xs (raised (Archive i) a) d
 get_or-without i a xs d h =
     let front : length (take i xs) ≡ i = omega (arith, length-take i xs) in
     elim (cases_lt a i) [
@@ -100,25 +101,25 @@ get_or-without i a xs d h =
 -- ---- archives
 
 module _ (i : ℕ) (s t : Layout) (added : HasAdded i s t) where
-  pub archive_is_same : (a : ℕ) → archive_at s (raised i a) ≡ archive_at t a
+  pub archive_is_same : (a : ℕ) → archive_at s (raised (Archive i) a) ≡ archive_at t a
   archive_is_same a =
       let past : ArchiveSpec = record { steps = 1; rows = 1; num = 0; den = 1 } in
       sym (ap (λ xs. get_or xs a past) added.others ∙ get_or-without i a s.archives past added.number)
 
-  pub slot_is_same : (a : ℕ) (time : ℤ) → slot_of s (raised i a) time ≡ slot_of t a time
+  pub slot_is_same : (a : ℕ) (time : ℤ) → slot_of s (raised (Archive i) a) time ≡ slot_of t a time
   slot_is_same a time = λ j. int_div_euclid time (pos (sym added.step j * (archive_is_same a j).steps * 1_000_000_000))
 
-  pub place_is_same : (a : ℕ) (time : ℤ) → place_of s (raised i a) time ≡ place_of t a time
+  pub place_is_same : (a : ℕ) (time : ℤ) → place_of s (raised (Archive i) a) time ≡ place_of t a time
   unfolding place_of
   place_is_same a time = λ j. unsigned_abs (int_div_euclid time (pos (sym added.step j * 1_000_000_000)) -ℤ (slot_is_same a time j *ℤ pos (archive_is_same a j).steps))
 
-  pub name_is_raised : (m : Mark) → name_of s (raised_mark i m) ≡ raised_name i (name_of t m)
-  name_is_raised m = λ j. record { key = m.key; archive = raised i m.archive; slot = slot_is_same m.archive m.time j; origin = m.origin }
+  pub name_is_raised : (m : Mark) → name_of s (raised_mark (Archive i) m) ≡ raised_name (Archive i) (name_of t m)
+  name_is_raised m = λ j. record { key = m.key; archive = raised (Archive i) m.archive; slot = slot_is_same m.archive m.time j; origin = m.origin }
 
 -- ---- orders
 
-pub raised_name_cmp : (i : ℕ) (a b : CellName) → cell_name_cmp (raised_name i a) (raised_name i b) ≡ cell_name_cmp a b
+pub raised_name_cmp : (i : ℕ) (a b : CellName) → cell_name_cmp (raised_name (Archive i) a) (raised_name (Archive i) b) ≡ cell_name_cmp a b
 raised_name_cmp i a b = λ j. ordering_then (slice_cmp nat_cmp a.key b.key) (ordering_then (raised_cmp i a.archive b.archive j) (ordering_then (int_cmp a.slot b.slot) (nat_cmp a.origin b.origin)))
 
-pub raised_mark_cmp : (i : ℕ) (a b : Mark) → mark_cmp (raised_mark i a) (raised_mark i b) ≡ mark_cmp a b
+pub raised_mark_cmp : (i : ℕ) (a b : Mark) → mark_cmp (raised_mark (Archive i) a) (raised_mark (Archive i) b) ≡ mark_cmp a b
 raised_mark_cmp i a b = λ j. ordering_then (int_cmp a.time b.time) (ordering_then (nat_cmp a.origin b.origin) (ordering_then (nat_cmp a.number b.number) (ordering_then (raised_cmp i a.archive b.archive j) (ordering_then (slice_cmp nat_cmp a.key b.key) (int_cmp a.value b.value)))))

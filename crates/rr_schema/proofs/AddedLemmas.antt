@@ -42,7 +42,7 @@ get_or-without i a xs d h =
           ∙ ap (λ k. get_or xs k d) (let here : i + 1 + (a - i) ≡ a + 1 = omega (arith, p) in here ∙ sym (kept_after i a p))
     ]
 
-length-without : {A : Type 0} (i : ℕ) (xs : List A) → i < length xs → length (without i xs) + 1 ≡ length xs
+pub length-without : {A : Type 0} (i : ℕ) (xs : List A) → i < length xs → length (without i xs) + 1 ≡ length xs
 length-without i xs h = omega (arith, h, length-append (take i xs) (drop (i + 1) xs), length-take i xs, length-drop (i + 1) xs)
 
 -- a list is another without an element where its front and its rest are

@@ -1,10 +1,12 @@
 -- What follows pieces at the front of bytes.
-use Rattle.std.proofs.Common.{◌≡◌, ◌≢◌, ℕ, ◌+◌, ◌<◌, ◌↔◌, List, ◌++◌, length, drop, Option, None, Some, Bor, option_map, get_or, sym, ap, ◌∙◌, append_assoc}
+use Rattle.std.proofs.Common.{◌≡◌, ◌≢◌, ℕ, ◌+◌, ◌<◌, ◌↔◌, List, [], ◌++◌, length, take, drop, Option, None, Some, Bor, option_map, get_or, sym, ap, ◌∙◌, append_assoc, append-nil}
 use Rattle.std.specs.Prelude.{MatchOption}
 use Rattle.std.specs.List.{flat_map}
-use Rattle.std.proofs.lemmas.List.{append_cancel_left, drop_more}
+use Rattle.std.proofs.lemmas.Grind.{flat_map-append}
+use Rattle.std.proofs.lemmas.List.{append_cancel_left, take-append-drop}
 use Rattle.rr_schema.specs.declared.archive.ArchiveSpec.{ArchiveSpec}
 use Rattle.rr_schema.specs.SchemaBytes.{archive_bytes, IsAfter}
+use Rattle.rr_schema.proofs.SchemaBytesLemmas.{archives_more}
 
 pub after_is : (piece bytes : List ℕ) (o : Option (Bor (List ℕ))) → MatchOption o ((rest : List ℕ) → bytes ≢ piece ++ rest) (λ rest. bytes ≡ piece ++ rest.now) → IsAfter piece bytes (option_map (λ rest. rest.now) o)
 after_is piece bytes None h = h
@@ -24,6 +26,14 @@ pub same_after : (piece bytes rest others : List ℕ) → bytes ≡ piece ++ res
 same_after piece bytes rest others e =
     ((λ q. append_cancel_left piece rest others (sym e ∙ q)), λ q. e ∙ ap (λ (r : List ℕ). piece ++ r) q)
 
--- the archives that are left are one and those after it
-pub archives_left : (archives : List ArchiveSpec) (i : ℕ) (d : ArchiveSpec) → i < length archives → flat_map archive_bytes (drop i archives) ≡ archive_bytes (get_or archives i d) ++ flat_map archive_bytes (drop (i + 1) archives)
-archives_left archives i d within = ap (flat_map archive_bytes) (drop_more archives i d within)
+-- the archives up to a number and the one that has it are those up to the next
+pub archives_so_far : (archives : List ArchiveSpec) (i : ℕ) (d : ArchiveSpec) → i < length archives → flat_map archive_bytes (take i archives) ++ archive_bytes (get_or archives i d) ≡ flat_map archive_bytes (take (i + 1) archives)
+archives_so_far archives i d within = archives_more [] archives i d within
+
+-- and with those after it they are all
+pub all_archives : (archives : List ArchiveSpec) (i : ℕ) → flat_map archive_bytes (take i archives) ++ flat_map archive_bytes (drop i archives) ≡ flat_map archive_bytes archives
+all_archives archives i = sym (flat_map-append archive_bytes (take i archives) (drop i archives)) ∙ ap (flat_map archive_bytes) (take-append-drop i archives)
+
+-- a piece that is all of the bytes is there
+pub not_missing : {piece bytes : List ℕ} → IsAfter piece bytes None → bytes ≡ piece → ⊥
+not_missing {piece = piece} h e = h [] (e ∙ sym (append-nil piece))

@@ -5,3 +5,4 @@ pub mod Checked
 pub mod SchemaBytesLemmas
 pub mod AfterLemmas
 pub mod AddedLemmas
+pub mod AdditionLemmas

@@ -10,7 +10,7 @@ use Rattle.rr_schema.specs.declared.archive.ArchiveSpec.{ArchiveSpec}
 use Rattle.rr_schema.specs.Schema.{Layout, IsArchive}
 use Rattle.rr_schema.specs.SchemaBytes.{archive_bytes, schema_bytes, BytesTellTheSchema}
 
-archives_len : (archives : List ArchiveSpec) → length (flat_map archive_bytes archives) ≡ 9 * length archives
+pub archives_len : (archives : List ArchiveSpec) → length (flat_map archive_bytes archives) ≡ 9 * length archives
 unfolding archive_bytes
 archives_len [] = refl
 archives_len (a ∷ archives) = let rest = archives_len archives in omega arith
@@ -47,7 +47,7 @@ tell_archive a b x y p q e =
     let den = tell_2 a.den b.den x y (let few = p.fine in omega arith) (let few = q.fine in omega arith) num.1 in
     ((λ i. record { steps = steps.0 i; rows = rows.0 i; num = num.0 i; den = den.0 i }), den.1)
 
-tell_archives : (cs bs : List ArchiveSpec) (x y : List ℕ) → All IsArchive cs → All IsArchive bs → length cs ≡ length bs → flat_map archive_bytes cs ++ x ≡ flat_map archive_bytes bs ++ y → (cs ≡ bs) × (x ≡ y)
+pub tell_archives : (cs bs : List ArchiveSpec) (x y : List ℕ) → All IsArchive cs → All IsArchive bs → length cs ≡ length bs → flat_map archive_bytes cs ++ x ≡ flat_map archive_bytes bs ++ y → (cs ≡ bs) × (x ≡ y)
 tell_archives [] [] x y p q n e = (refl, e)
 tell_archives [] (b ∷ bs) x y p q n e = absurd (omega (arith, n))
 tell_archives (a ∷ cs) [] x y p q n e = absurd (omega (arith, n))

@@ -5,6 +5,15 @@ ghost use Rattle.rr_schema.specs.Added.{without};
 use crate::archive::ArchiveSpec;
 use std::alloc::{AllocError, Global};
 
+/// What a schema has more than an older one of the same step.
+#[derive(Clone, Copy, Debug, PartialEq, Eq)]
+pub enum Addition {
+    /// Nothing: the two are the same.
+    Nothing,
+    /// The archive with this number, from 0. The numbers of those after it were lower by one.
+    Archive(u8),
+}
+
 /// Whether the others are the archives without the one that has a number.
 fn are_without(number: usize, archives: &[ArchiveSpec], others: &[ArchiveSpec]) -> bool
     requires { number < length archives.now }

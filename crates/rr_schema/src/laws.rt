@@ -3,7 +3,7 @@ ghost use Rattle.std.specs.Prelude.{ℕ};
 ghost use Rattle.rr_schema.specs.Schema.{Layout, IsLayout, choice};
 ghost use Rattle.rr_schema.specs.Choice.{IsChoice};
 ghost use Rattle.rr_schema.specs.SchemaBytes.{BytesTellTheSchema};
-ghost use Rattle.rr_schema.specs.Added.{OneIsAdded, OneLessIsLayout};
+ghost use Rattle.rr_schema.specs.Added.{OneIsAdded, OneLessIsLayout, AdditionsAreFound};
 
 /// The bytes of a schema determine the schema, whatever follows them.
 pub fn bytes_tell_the_schema()
@@ -21,4 +21,9 @@ pub fn choice_is_the_rule()
 pub fn one_archive_is_added()
     ensures one { OneIsAdded }
     ensures less { OneLessIsLayout }
+{}
+
+/// What was added to an older schema is told by the bytes of its archives.
+pub fn bytes_tell_the_addition()
+    ensures { AdditionsAreFound }
 {}

@@ -18,6 +18,7 @@ mod origin;
 mod schema;
 mod schema_bytes;
 
+pub use added::Addition;
 pub use archive::ArchiveSpec;
 pub use consolidation::ConsolidationFunction;
 pub use fault::{OriginFault, SchemaFault};

@@ -9,12 +9,14 @@ ghost use Rattle.rr_schema.specs.Check.{archive_fault, archives_fault, schema_fa
 ghost use Rattle.rr_schema.specs.Choice.{IsChoice};
 ghost use Rattle.rr_text.specs.declared.limits.TheConstants.{MAX_STEPS};
 ghost use Rattle.rr_schema.specs.SchemaBytes.{schema_bytes};
-ghost use Rattle.rr_schema.specs.Added.{HasAdded};
+ghost use Rattle.rr_schema.specs.Added.{HasAdded, IsAddition, had_archives};
 
-use crate::added::{archives_without, number_of_added};
+use crate::added::{Addition, archives_without, number_of_added};
 use crate::archive::ArchiveSpec;
 use crate::fault::SchemaFault;
-use crate::schema_bytes::{ARCHIVE_LEN, are_of_schema, push_archives};
+use crate::schema_bytes::{
+    ARCHIVE_LEN, are_archives, are_archives_without, are_of_schema, push_archives,
+};
 use rr_text::limits::{MAX_ARCHIVES, MAX_ROWS, MAX_STEP, MAX_STEPS, MAX_XFF_DEN, NANOSECONDS};
 use std::alloc::{AllocError, Global};
 use std::marker::Model;
@@ -215,6 +217,20 @@ impl Schema {
         ensures { result ≡ pointwise nat_eq bytes.now (schema_bytes self.now) }
     {
         are_of_schema(self.step, &self.archives, bytes)
+    }
+
+    /// Whether these are the bytes of the archives that the schema had before an addition. No memory
+    /// is taken; the cost is linear in the archives.
+    pub fn had_archives(&self, addition: Addition, bytes: &[u8]) -> bool
+        requires { IsAddition self.now addition }
+        ensures { result ≡ had_archives self.now bytes.now addition }
+    {
+        match addition {
+            Addition::Nothing => are_archives(&self.archives, bytes),
+            Addition::Archive(number) => {
+                are_archives_without(number as usize, &self.archives, bytes)
+            }
+        }
     }
 
     /// How many bytes these are.

@@ -2,6 +2,7 @@
 ghost use Rattle.std.specs.Prelude.{◌≡◌, ◌++◌, ◌↔◌, ◌<◌, [], ◌∷◌, length, option_map, All, IsTrue, OnOk};
 ghost use Rattle.std.specs.Int.{w32, to_be_bytes};
 ghost use Rattle.std.specs.List.{flat_map};
+ghost use Rattle.rr_schema.specs.Added.{without};
 ghost use Rattle.rr_schema.specs.Schema.{IsArchive};
 ghost use Rattle.rr_schema.specs.SchemaBytes.{archive_bytes, IsAfter};
 
@@ -62,19 +63,44 @@ fn after_archive<'a>(archive: &ArchiveSpec, bytes: &'a [u8]) -> Option<&'a [u8]>
     after(&(archive.den as u16).to_be_bytes(), rest)
 }
 
-/// Whether the bytes are those of archives, in order. No memory is taken.
-fn are_archives(archives: &[ArchiveSpec], bytes: &[u8]) -> bool
+/// What follows the bytes of archives, in order, if the bytes begin with them.
+fn after_archives<'a>(archives: &[ArchiveSpec], bytes: &'a [u8]) -> Option<&'a [u8]>
     requires { All IsArchive archives.now }
-    ensures { IsTrue result ↔ (bytes.now ≡ flat_map archive_bytes archives.now) }
+    ensures { IsAfter (flat_map archive_bytes archives.now) bytes.now
+        (option_map (λ rest. rest.now) result) }
 {
     let mut left = bytes;
     for archive in archives {
         let Some(rest) = after_archive(archive, left) else {
-            return false;
+            return None;
         };
         left = rest;
     }
-    left.is_empty()
+    Some(left)
+}
+
+/// Whether the bytes are those of archives, in order. No memory is taken.
+pub(crate) fn are_archives(archives: &[ArchiveSpec], bytes: &[u8]) -> bool
+    requires { All IsArchive archives.now }
+    ensures { IsTrue result ↔ (bytes.now ≡ flat_map archive_bytes archives.now) }
+{
+    match after_archives(archives, bytes) {
+        Some(rest) => rest.is_empty(),
+        None => false,
+    }
+}
+
+/// Whether the bytes are those of archives without the one that has a number. No memory is taken.
+pub(crate) fn are_archives_without(number: usize, archives: &[ArchiveSpec], bytes: &[u8]) -> bool
+    requires is_there { number < length archives.now }
+    requires each { All IsArchive archives.now }
+    ensures { IsTrue result ↔ (bytes.now ≡ flat_map archive_bytes (without number archives.now)) }
+{
+    let (_, others) = archives.split_at(number + 1);
+    match after_archives(&archives[..number], bytes) {
+        Some(rest) => are_archives(others, rest),
+        None => false,
+    }
 }
 
 /// Whether the bytes are a step, the number of archives and their bytes. No memory is taken.
