@@ -10,7 +10,7 @@ use Rattle.rr_model.specs.Knowledge.{Knowledge}
 use Rattle.rr_cells.specs.Cells.{Cells}
 use Rattle.rr_cluster.specs.declared.fault.CommandFault.{CommandFault}
 use Rattle.rr_cluster.specs.Agreement.{in_cells, step_in_cells, CommandsAgree, ScriptsAgree}
-use Rattle.rr_script.specs.Command.{IsOneLine, Command, schema, node, now, write, page, delta, deliver, bytes, save, load, fetch}
+use Rattle.rr_script.specs.Command.{IsOneLine, Command, schema, upgrade, node, now, write, page, delta, deliver, bytes, save, load, fetch}
 use Rattle.rr_cluster.specs.Commands.{on_ok, step, silently, beginning, printing}
 use Rattle.rr_cluster.specs.Commands.Schema.{layout_of}
 use Rattle.rr_cluster.specs.Model.{cell_model, sample_model}
@@ -20,6 +20,7 @@ use Rattle.rr_script.specs.declared.fault.SyntaxFault.{SyntaxFault}
 use Rattle.rr_cluster.specs.Soundness.{IsSound, CommandsKeepSound, ScriptsAreSound, state_after}
 use Rattle.rr_cluster.specs.State.{State}
 use Rattle.rr_cluster.proofs.CommandsLemmas.Schema.{layout_is, first_states_agree, first_states_are_sound}
+use Rattle.rr_cluster.proofs.CommandsLemmas.Upgrade.{upgrade_agrees}
 use Rattle.rr_cluster.proofs.CommandsLemmas.Node.{node_agrees}
 use Rattle.rr_cluster.proofs.CommandsLemmas.Now.{now_agrees}
 use Rattle.rr_cluster.proofs.CommandsLemmas.Write.{write_agrees}
@@ -61,6 +62,7 @@ beginning_agrees command (Err fault) is = refl
 
 step_agrees : (m : Option (State Knowledge)) (command : Command) → IfSome m IsSound → StepAgrees command (step cell_model (option_map in_cells m) command) (step sample_model m command)
 step_agrees None (schema word archives) sound = beginning_agrees (schema word archives) (layout_of word archives) (layout_is word archives)
+step_agrees None (upgrade archive) sound = refusal_agrees (upgrade archive) _
 step_agrees None (node name origin) sound = refusal_agrees (node name origin) _
 step_agrees None (now time lead) sound = refusal_agrees (now time lead) _
 step_agrees None (write name line) sound = refusal_agrees (write name line) _
@@ -72,6 +74,7 @@ step_agrees None (save name at) sound = refusal_agrees (save name at) _
 step_agrees None (load name at origin) sound = refusal_agrees (load name at origin) _
 step_agrees None (fetch name request) sound = refusal_agrees (fetch name request) _
 step_agrees (Some m) (schema word archives) sound = refusal_agrees (schema word archives) _
+step_agrees (Some m) (upgrade archive) sound = silently_agrees (upgrade archive) IsSound (λ after is one. is) _ _ (upgrade_agrees m sound archive)
 step_agrees (Some m) (node name origin) sound = silently_agrees (node name origin) IsSound (λ after is one. is) _ _ (node_agrees m sound name origin)
 step_agrees (Some m) (now time lead) sound = silently_agrees (now time lead) IsSound (λ after is one. is) _ _ (now_agrees m sound time lead)
 step_agrees (Some m) (write name line) sound = silently_agrees (write name line) (λ after. HasNoLineFeed line → IsSound after) (λ after is one. is one) _ _ (write_agrees m sound name line)

@@ -1,5 +1,6 @@
 -- The lemmas on each command: what the code's step does, and that the models agree on it.
 pub mod Schema
+pub mod Upgrade
 pub mod Node
 pub mod Now
 pub mod Write

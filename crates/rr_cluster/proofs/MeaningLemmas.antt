@@ -189,7 +189,7 @@ module _ {A : Type 0} {g : Ghosts A} where
     pub no_snapshot_at : (name : List ℕ) → bytes_at c.snapshots name ≡ None → map.get m.snapshots name ≡ None
     no_snapshot_at name none = none_there bytes_of_snapshot (map.get m.snapshots name) (sym none ∙ is.snapshots name)
 
-    pub snapshot_there : (name bytes : List ℕ) → bytes_at c.snapshots name ≡ Some bytes → (x : Snapshot Cells) × (map.get m.snapshots name ≡ Some x) × HasSnapshotText m.schema x bytes
+    pub snapshot_there : (name bytes : List ℕ) → bytes_at c.snapshots name ≡ Some bytes → (x : Snapshot Cells) × (map.get m.snapshots name ≡ Some x) × HasSnapshotText x bytes
     snapshot_there name bytes there =
         let x = some_there bytes_of_snapshot (map.get m.snapshots name) bytes (sym there ∙ is.snapshots name) in
         (x.0, x.1, record { kept = is.are_kept name x.0 x.1; text = x.2 })

@@ -94,7 +94,7 @@ module _ (m : State Knowledge) (sound : IsSound m) (name : List ℕ) (n o : Node
   OthersStaySound = (p : Node Knowledge) → p.origin ≢ n.origin → IsSoundNode m.world p → IsSoundNode w p
 
   abbrev AllStayClosed : Type 0
-  AllStayClosed = (k : Knowledge) → IsClosed m.schema m.world k → IsClosed m.schema w k
+  AllStayClosed = (s : Layout) (k : Knowledge) → IsClosed s m.world k → IsClosed s w k
 
   pub place_is_sound : IsSoundNode w o → OthersStaySound → AllStayClosed → ((x : Sample) → IsWritten w x → IsUsed m x.origin) → ((x : Sample) → IsWritten w x → IsSoundSample x) → IsSound with_node_in_place
   place_is_sound itself others closed written samples = record {
@@ -106,8 +106,8 @@ module _ (m : State Knowledge) (sound : IsSound m) (name : List ℕ) (n o : Node
     nodes = λ q p e. put_cases m name o q p e
         (λ at same. subst (IsSoundNode w) same itself)
         (λ other there. others p (other_origin q p other there) (sound.nodes q p there));
-    pages = λ q k e. closed k (sound.pages q k e);
-    snapshots = λ q x e. let before = sound.snapshots q x e in record { shared = before.shared; closed = closed x.contents before.closed };
+    pages = λ q k e. closed m.schema k (sound.pages q k e);
+    snapshots = λ q x e. let before = sound.snapshots q x e in record { layout = before.layout; closed = closed x.schema x.contents before.closed };
     apart = λ a b p q e h same. put_cases m name o a p e
         (λ at is. put_cases m name o b q h
         (λ bt it. at ∙ sym bt)
@@ -144,7 +144,7 @@ with_page_is_sound m sound name k closed = record {
 
 -- ---- a snapshot more
 
-pub with_snapshot_is_sound : (m : State Knowledge) → IsSound m → (name : List ℕ) (x : Snapshot Knowledge) → IsSoundSnapshot m.schema m.world x → IsSound (record m { snapshots = insert m.snapshots name x })
+pub with_snapshot_is_sound : (m : State Knowledge) → IsSound m → (name : List ℕ) (x : Snapshot Knowledge) → IsSoundSnapshot m.world x → IsSound (record m { snapshots = insert m.snapshots name x })
 with_snapshot_is_sound m sound name x is = record {
   layout = sound.layout;
   clock = sound.clock;
@@ -152,7 +152,7 @@ with_snapshot_is_sound m sound name x is = record {
   nodes = sound.nodes;
   pages = sound.pages;
   snapshots = λ q y e. insert_cases nat_list_cmp_total names_apart m.snapshots name x q y e
-      (λ at same. subst (IsSoundSnapshot m.schema m.world) same is)
+      (λ at same. subst (IsSoundSnapshot m.world) same is)
       (λ other here. sound.snapshots q y here);
   apart = sound.apart;
   used = sound.used;

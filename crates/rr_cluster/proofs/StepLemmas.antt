@@ -53,6 +53,13 @@ unfolding Agrees
 then_agree f P (Ok x) next other h = h x refl
 then_agree f P (Err fault) next other h = refl
 
+-- answers that agree, and then what agrees
+pub both_agree : {A X B C : Type 0} (g : A → X) (Q : A → Type 0) (f : B → C) (P : B → Type 0) (r : Result X CommandFault) (t : Result A CommandFault) (next : X → Result C CommandFault) (other : A → Result B CommandFault)
+    → Agrees g Q r t → ((y : A) → Q y → Agrees f P (next (g y)) (other y)) → Agrees f P (r >>= next) (t >>= other)
+unfolding Agrees
+both_agree g Q f P r (Ok y) next other e h = subst (λ (q : Result _ CommandFault). Agrees f P (q >>= next) (Ok y >>= other)) (sym e.0) (h y e.1)
+both_agree g Q f P r (Err fault) next other e h = ap (λ (q : Result _ CommandFault). q >>= next) e
+
 option_agrees : {V W B C : Type 0} (f : B → C) (P : B → Type 0) (view : V → W) (fault : CommandFault) (next : W → Result C CommandFault) (other : V → Result B CommandFault) (o : Option V)
     → ((v : V) → o ≡ Some v → Agrees f P (next (view v)) (other v)) → Agrees f P (ok_or (option_map view o) fault >>= next) (ok_or o fault >>= other)
 unfolding Agrees

@@ -1,6 +1,7 @@
 -- The commands. Each has a file of its own, with what it does to a state: its checks, in their order, and then the
 -- change. The first check that fails refuses it.
 pub mod Schema
+pub mod Upgrade
 pub mod Node
 pub mod Now
 pub mod Write
@@ -16,8 +17,9 @@ use Rattle.std.specs.Cmp.Lexicographic.{pointwise}
 use Rattle.rr_schema.specs.Schema.{Layout}
 use Rattle.rr_cluster.specs.declared.fault.CommandFault.{CommandFault}
 use Rattle.rr_cluster.specs.declared.fault.CommandFault.TheVariants.{NoSchema, SchemaSet}
-use Rattle.rr_script.specs.Command.{Command, schema, node, now, write, page, delta, deliver, bytes, save, load, fetch}
+use Rattle.rr_script.specs.Command.{Command, schema, upgrade, node, now, write, page, delta, deliver, bytes, save, load, fetch}
 use Rattle.rr_cluster.specs.Commands.Schema.{layout_of}
+use Rattle.rr_cluster.specs.Commands.Upgrade.{after_upgrade}
 use Rattle.rr_cluster.specs.Commands.Node.{after_node}
 use Rattle.rr_cluster.specs.Commands.Now.{after_now}
 use Rattle.rr_cluster.specs.Commands.Write.{after_write}
@@ -55,6 +57,7 @@ module _ {K : Type 0} (model : Model K) where
   step None (schema seconds archives) = on_ok beginning (layout_of seconds archives)
   step None command = Err NoSchema
   step (Some m) (schema seconds archives) = Err SchemaSet
+  step (Some m) (upgrade archive) = on_ok silently (after_upgrade m archive)
   step (Some m) (node name origin) = on_ok silently (after_node model m name origin)
   step (Some m) (now time lead) = on_ok silently (after_now m time lead)
   step (Some m) (write name line) = on_ok silently (after_write model m name line)

@@ -1,5 +1,5 @@
 -- Which state of the cell model a cluster in memory represents.
-use Rattle.std.specs.Prelude.{◌≡◌, ◌⊎◌, ℕ, ◌<◌, true, false, ◌==◌, List, [], length, Option, None, Some, Result, Ok, Err, ◌++◌}
+use Rattle.std.specs.Prelude.{◌≡◌, ◌⊎◌, ℕ, ◌<◌, ◌==◌, List, [], length, Option, None, Some, Result, Ok, Err, ◌++◌}
 use Rattle.std.specs.List.{list_any}
 use Rattle.std.specs.Option.{option_map}
 use Rattle.std.specs.Ordering.{nat_cmp}
@@ -16,7 +16,7 @@ use Rattle.rr_replica.specs.Standing.{Standing, held}
 use Rattle.rr_text.specs.Bytes.{bytes_cmp}
 use Rattle.rr_schema.specs.Schema.{Layout, IsLayout}
 use Rattle.rr_cluster.specs.declared.fault.CommandFault.{CommandFault}
-use Rattle.rr_cluster.specs.declared.fault.CommandFault.TheVariants.{OriginUsed, Save}
+use Rattle.rr_cluster.specs.declared.fault.CommandFault.TheVariants.{Save}
 use Rattle.rr_cluster.specs.declared.cluster.Cluster.{Cluster}
 use Rattle.rr_cluster.specs.declared.stop.Stop.{Stop}
 use Rattle.rr_cluster.specs.declared.stop.Stop.TheVariants.{Refused, Memory}
@@ -26,7 +26,6 @@ use Rattle.rr_parts.specs.declared.fault.SaveFault.TheVariants.{TooManyCells}
 use Rattle.rr_parts.specs.declared.heading.TheConstants.{MAX_SNAPSHOT_CELLS}
 use Rattle.rr_parts.specs.Snapshot.{IsSnapshot, snapshot_text}
 use Rattle.rr_cluster.specs.Commands.Bytes.{bytes_of_page}
-use Rattle.rr_cluster.specs.Commands.Load.{has_origin, loaded_node}
 use Rattle.rr_cluster.specs.Commands.Save.{snapshot_of}
 use Rattle.rr_cluster.specs.Commands.Write.{with_all_written}
 use Rattle.rr_cluster.specs.Model.{cell_model, with_joined}
@@ -62,28 +61,21 @@ pub record HasPageText (s : Layout) (cells : Cells) (bytes : List ℕ) : Type 0 
 abbrev pub bytes_of_snapshot : Snapshot Cells → List ℕ
 bytes_of_snapshot x = snapshot_text latest x.schema x.origin (entries x.contents)
 
--- a snapshot of this schema that a replica made: no cell of it is past the horizon
-pub record IsKept (s : Layout) (x : Snapshot Cells) : Type 0 where
-  pub shared : x.schema ≡ s
+-- a snapshot that a replica made: no cell of it is past the horizon
+pub record IsKept (x : Snapshot Cells) : Type 0 where
   pub layout : IsLayout x.schema
   pub snapshot : IsSnapshot x.schema x.origin (entries x.contents)
   pub trimmed : IsTrimmed x.schema x.contents
 
--- the bytes are those of a snapshot of this schema
-pub record HasSnapshotText (s : Layout) (x : Snapshot Cells) (bytes : List ℕ) : Type 0 where
-  pub kept : IsKept s x
+-- the bytes are those of a snapshot that a replica made
+pub record HasSnapshotText (x : Snapshot Cells) (bytes : List ℕ) : Type 0 where
+  pub kept : IsKept x
   pub text : bytes ≡ bytes_of_snapshot x
 
 -- a replica was saved as the bytes of a snapshot, or has too many cells for one, unless memory ran out
 abbrev pub Saves : Holding → Result (Vec ℕ) Stop → Type 0
-Saves h (Ok bytes) = HasSnapshotText h.schema (snapshot_of cell_model (node_of h)) bytes.items
+Saves h (Ok bytes) = HasSnapshotText (snapshot_of cell_model (node_of h)) bytes.items
 Saves h (Err stop) = (stop ≡ Memory) ⊎ ((stop ≡ Refused (Save TooManyCells)) × (MAX_SNAPSHOT_CELLS < length (entries h.cells)))
-
--- a replica was loaded from a snapshot, or its origin is that of the snapshot or of one of its cells, unless memory
--- ran out
-abbrev pub Loads : Result Standing Stop → Snapshot Cells → ℕ → Type 0
-Loads (Ok r) x number = (has_origin cell_model x number ≡ false) × (node_in r ≡ loaded_node x number)
-Loads (Err stop) x number = (stop ≡ Memory) ⊎ ((stop ≡ Refused OriginUsed) × (has_origin cell_model x number ≡ true))
 
 -- a replica joined the cells of a page, as a node does, unless memory ran out
 abbrev pub Joins : Holding → Holding → Result (Unit {0}) Stop → Cells → Type 0
@@ -106,7 +98,7 @@ module _ {A : Type 0} {g : Ghosts A} where
     pub pages : (name : List ℕ) → bytes_at c.pages name ≡ option_map (bytes_of_page m.schema) (get m.pages name)
     pub are_pages : (name : List ℕ) (page : Cells) → get m.pages name ≡ Some page → IsPage m.schema (entries page)
     pub snapshots : (name : List ℕ) → bytes_at c.snapshots name ≡ option_map bytes_of_snapshot (get m.snapshots name)
-    pub are_kept : (name : List ℕ) (x : Snapshot Cells) → get m.snapshots name ≡ Some x → IsKept m.schema x
+    pub are_kept : (name : List ℕ) (x : Snapshot Cells) → get m.snapshots name ≡ Some x → IsKept x
     pub origins : HasOrigins c.origins m.origins
 
   -- there is a cluster once there is a state

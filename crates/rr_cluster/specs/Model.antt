@@ -2,6 +2,7 @@
 use Rattle.std.specs.Prelude.{ℕ, List, take, drop}
 use Rattle.std.specs.FinMap.{empty, entries, from_entries}
 use Rattle.rr_schema.specs.Schema.{Layout}
+use Rattle.rr_schema.specs.declared.added.Addition.{Addition}
 use Rattle.rr_model.specs.Samples.{Sample, marks_of}
 use Rattle.rr_model.specs.Knowledge.{Knowledge, union, with_marks, live, part, cells_named, difference}
 use Rattle.rr_model.specs.FetchText.{Request, fetch_text}
@@ -10,6 +11,7 @@ use Rattle.rr_cells.specs.Joining.{next_past}
 use Rattle.rr_cells.specs.Joins.{join_cells}
 use Rattle.rr_cells.specs.Puts.{put_sample}
 use Rattle.rr_cells.specs.State.{state}
+use Rattle.rr_raising.specs.Raising.{raised_knowledge, raised_cells}
 use Rattle.rr_delta.specs.Difference.{newer_cells}
 use Rattle.rr_delta.specs.Names.{versions_of}
 use Rattle.rr_fetch.specs.Answers.{cells_text}
@@ -18,7 +20,7 @@ use Rattle.rr_cluster.specs.State.{Node}
 -- what commands do with what a node holds: it starts with nothing, takes in a sample, and answers a request; a page is
 -- a part of it, or of what it has and another lacks, from a place on and up to a count of cells; a node takes in what a
 -- page holds; a snapshot keeps what
--- counts; and pages and snapshots are written as cells
+-- counts, and is loaded with the numbers of archives raised; and pages and snapshots are written as cells
 pub record Model (K : Type 0) : Type 0 where
   pub nothing : K
   pub with_one : Layout → K → Sample → K
@@ -27,6 +29,7 @@ pub record Model (K : Type 0) : Type 0 where
   pub part_of_newer : Layout → K → K → ℕ → ℕ → K
   pub with_page : Node K → K → Node K
   pub kept : Layout → K → K
+  pub raised : Addition → K → K
   pub cells : Layout → K → Cells
 
 -- ---- samples
@@ -49,6 +52,7 @@ sample_model = record {
   part_of_newer = part_of_difference;
   with_page = with_known;
   kept = live;
+  raised = raised_knowledge;
   cells = state;
 }
 
@@ -79,5 +83,6 @@ cell_model = record {
   part_of_newer = λ s. newer_part_of;
   with_page = with_joined;
   kept = λ s m. m;
+  raised = raised_cells;
   cells = λ s m. m;
 }

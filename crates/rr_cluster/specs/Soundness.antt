@@ -32,10 +32,10 @@ pub record IsSoundNode (w : World) (n : Node Knowledge) : Type 0 where
 abbrev pub IsUsed : State Knowledge → ℕ → Type 0
 IsUsed m origin = IsTrue (list_any (λ used. used == origin) m.origins)
 
--- a snapshot is of the schema, and what it holds has no gaps
-pub record IsSoundSnapshot (s : Layout) (w : World) (x : Snapshot Knowledge) : Type 0 where
-  pub shared : x.schema ≡ s
-  pub closed : IsClosed s w x.contents
+-- the schema of a snapshot is within its limits, and what it holds has no gaps under it
+pub record IsSoundSnapshot (w : World) (x : Snapshot Knowledge) : Type 0 where
+  pub layout : IsLayout x.schema
+  pub closed : IsClosed x.schema w x.contents
 
 -- the schema is within its limits, the nodes have it and are sound, and each has an origin of its own that the script
 -- used; what a page or a snapshot holds has no gaps; each sample that was written is sound, and of an origin that the script used
@@ -45,7 +45,7 @@ pub record IsSound (m : State Knowledge) : Type 0 where
   pub shared : (name : List ℕ) (n : Node Knowledge) → get m.nodes name ≡ Some n → n.schema ≡ m.schema
   pub nodes : (name : List ℕ) (n : Node Knowledge) → get m.nodes name ≡ Some n → IsSoundNode m.world n
   pub pages : (name : List ℕ) (k : Knowledge) → get m.pages name ≡ Some k → IsClosed m.schema m.world k
-  pub snapshots : (name : List ℕ) (x : Snapshot Knowledge) → get m.snapshots name ≡ Some x → IsSoundSnapshot m.schema m.world x
+  pub snapshots : (name : List ℕ) (x : Snapshot Knowledge) → get m.snapshots name ≡ Some x → IsSoundSnapshot m.world x
   pub apart : (a b : List ℕ) (n o : Node Knowledge) → get m.nodes a ≡ Some n → get m.nodes b ≡ Some o → n.origin ≡ o.origin → a ≡ b
   pub used : (name : List ℕ) (n : Node Knowledge) → get m.nodes name ≡ Some n → IsUsed m n.origin
   pub origins : (origin : ℕ) → IsUsed m origin → IsOrigin origin

@@ -20,6 +20,7 @@ pub(crate) mod now;
 pub(crate) mod page;
 pub(crate) mod save;
 pub(crate) mod schema;
+pub(crate) mod upgrade;
 pub(crate) mod write;
 
 use crate::cluster::Cluster;
@@ -38,6 +39,7 @@ use rr_script::Event;
 use save::save_node;
 use schema::schema_of;
 use std::alloc::Global;
+use upgrade::upgrade;
 use write::write_line;
 
 /// Obeys a command, and adds what it prints to the text. Until the schema is set there is no
@@ -90,6 +92,7 @@ fn obey_later<A: Archive>(
 {
     match event {
         Event::Schema { .. } => Err(Stop::Refused(CommandFault::SchemaSet)),
+        Event::Upgrade { archive } => upgrade(cluster, archive),
         Event::Node { name, origin } => add_node(cluster, name, origin),
         Event::Now { time, lead } => set_clock(cluster, time, lead),
         Event::Write { node, line } => write_line(cluster, node, line),

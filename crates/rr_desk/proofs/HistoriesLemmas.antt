@@ -46,9 +46,12 @@ use Rattle.rr_delta.specs.Names.{NamedVersion}
 use Rattle.rr_delta.proofs.HeldLemmas.{all_filtered}
 use Rattle.rr_fetch.specs.Answers.{cells_text}
 use Rattle.rr_fetch.proofs.RowLaws.{answer_of_state}
-use Rattle.rr_snapshot.proofs.SavedLemmas.{saved_is_loaded}
+use Rattle.rr_schema.proofs.AdditionLemmas.{additions_are_found}
+use Rattle.rr_raising.specs.Raising.{raised_cells}
+use Rattle.rr_raising.proofs.Raised.{raised_is_closed, raised_makes_raised_cells}
+use Rattle.rr_snapshot.proofs.SavedLemmas.{saved_is_loaded, saved_is_raised}
 use Rattle.rr_desk.specs.Histories.{Turn, elsewhere, put, joined, Scene, Knows, IsHistory, HasHistory, IsHonest, IsWhole, AreHonest, list_of, marks_in, next_scene, ops_of, scene_after}
-use Rattle.rr_desk.specs.Laws.{OpeningIsHistory, PutIsATurn, WriteIsTurns, JoinIsATurn, PublishIsNoTurn, OthersWrite, LoadedIsKnown}
+use Rattle.rr_desk.specs.Laws.{OpeningIsHistory, PutIsATurn, WriteIsTurns, JoinIsATurn, PublishIsNoTurn, OthersWrite, LoadedIsKnown, RaisedIsKnown}
 use Rattle.rr_desk.specs.Points.{with_put, with_puts}
 use Rattle.rr_copies.proofs.PrefixLemmas.{prefix_nil}
 
@@ -312,19 +315,36 @@ others_write h z turns k x has honest =
 
 -- ---- snapshots
 
+-- an origin under which nothing was written is that of no cell
+no_cell_of : (h : Holding) (z : Scene) (origin : ℕ) → Knows h z → ((x : model.Sample) → IsWritten z.world x → x.origin ≢ origin) → (n : CellName) (c : Contribution) → get h.cells n ≡ Some c → n.origin ≢ origin
+no_cell_of h z origin knows unused n c at same =
+    let x = versions_are_numbers h.schema z.world z.known n c knows.closed (ap (λ (m : Cells). get m n) (sym knows.cells) ∙ at) in
+    unused x.0 x.1 (x.2 ∙ same)
+
 pub loaded_is_known : LoadedIsKnown
-loaded_is_known h z origin knows holds few other unused =
-    let new : Holding = record { schema = h.schema; origin = origin; next = 1; cells = h.cells } in
-    let none : (n : CellName) (c : Contribution) → get h.cells n ≡ Some c → n.origin ≢ origin = λ n c at same.
-    (let x = versions_are_numbers h.schema z.world z.known n c knows.closed (ap (λ (m : Cells). get m n) (sym knows.cells) ∙ at) in
-    unused x.0 x.1 (x.2 ∙ same)) in (
-      new,
-      saved_is_loaded h origin holds few other none,
+loaded_is_known h z origin knows holds few other unused = (
+  record { schema = h.schema; origin = origin; next = 1; cells = h.cells },
+  saved_is_loaded h origin holds few other (no_cell_of h z origin knows unused),
+  record {
+    layout = knows.layout;
+    closed = knows.closed;
+    own = λ m of same. absurd (unused m.sample of.0 same);
+    past = λ x was same. absurd (unused x was same);
+    cells = knows.cells;
+  },
+)
+
+pub raised_is_known : RaisedIsKnown
+raised_is_known h z s a origin knows holds layout since few other unused =
+    let found = (additions_are_found s h.schema a layout knows.layout).0 since in (
+      record { schema = s; origin = origin; next = 1; cells = raised_cells a h.cells },
+      saved_is_raised h s a origin holds layout since few other (no_cell_of h z origin knows unused),
+      refl,
       record {
-        layout = knows.layout;
-        closed = knows.closed;
+        layout = layout;
+        closed = raised_is_closed a s z.world z.known found.0 (subst (λ (t : Layout). IsClosed t z.world z.known) found.1 knows.closed);
         own = λ m of same. absurd (unused m.sample of.0 same);
         past = λ x was same. absurd (unused x was same);
-        cells = knows.cells;
+        cells = ap (raised_cells a) (knows.cells ∙ ap (λ (t : Layout). state t z.known) found.1) ∙ sym (raised_makes_raised_cells a s z.known found.0);
       },
     )

@@ -1,9 +1,12 @@
 -- The laws of a desk, each the contract of a function of `src/laws.rt`.
-use Rattle.std.specs.Prelude.{◌≡◌, ◌≢◌, ℕ, ◌+◌, ◌≤◌, ℤ, List, [], ◌∷◌, ◌++◌, length, All, fold, Ok}
+use Rattle.std.specs.Prelude.{◌≡◌, ◌≢◌, ℕ, ◌+◌, ◌≤◌, ℤ, List, [], ◌∷◌, ◌++◌, length, All, fold, Some, Ok}
 use Rattle.std.specs.FinMap.{entries, len}
 use mathlib.Core.List.{IsPrefix}
 use Rattle.logbook.specs.Pages.{Book}
 use Rattle.rr_text.specs.declared.limits.TheConstants.{MAX_NUMBER}
+use Rattle.rr_schema.specs.Schema.{Layout, IsLayout}
+use Rattle.rr_schema.specs.Added.{addition_since}
+use Rattle.rr_schema.specs.declared.added.Addition.{Addition}
 use Rattle.rr_point.specs.Point.{PointView}
 use Rattle.rr_model.specs.FetchText.{Request, fetch_text}
 use Rattle.rr_model.specs.Knowledge.{Knowledge}
@@ -24,6 +27,7 @@ use Rattle.rr_fetch.specs.Answers.{cells_text}
 use Rattle.rr_page.specs.Version.{latest}
 use Rattle.rr_parts.specs.declared.heading.TheConstants.{MAX_SNAPSHOT_CELLS}
 use Rattle.rr_parts.specs.Snapshot.{snapshot_text}
+use Rattle.rr_raising.specs.Raising.{raised_knowledge}
 use Rattle.rr_snapshot.specs.Loading.{loaded_at}
 use Rattle.rr_desk.specs.Points.{with_put, with_puts}
 use Rattle.rr_desk.specs.Histories.{Turn, elsewhere, put, joined, Scene, Knows, IsHistory, HasHistory, IsHonest, IsWhole, AreHonest, list_of, ops_of, scene_after}
@@ -102,3 +106,12 @@ abbrev pub LoadedIsKnown : Type 0
 LoadedIsKnown =
     (h : Holding) (z : Scene) (origin : ℕ) → Knows h z → IsHolding h → len h.cells ≤ MAX_SNAPSHOT_CELLS → origin ≢ h.origin → ((x : Sample) → IsWritten z.world x → x.origin ≢ origin)
     → (new : Holding) × (loaded_at h.schema origin (snapshot_text latest h.schema h.origin (entries h.cells)) ≡ Ok new) × Knows new z
+
+-- and under a schema with one archive more as one of that schema, which has the cells of the same knowledge with the
+-- numbers of archives raised
+abbrev pub RaisedIsKnown : Type 0
+RaisedIsKnown =
+    (h : Holding) (z : Scene) (s : Layout) (a : Addition) (origin : ℕ) → Knows h z → IsHolding h → IsLayout s → addition_since s h.schema ≡ Some a
+    → len h.cells ≤ MAX_SNAPSHOT_CELLS → origin ≢ h.origin → ((x : Sample) → IsWritten z.world x → x.origin ≢ origin)
+    → (new : Holding) × (loaded_at s origin (snapshot_text latest h.schema h.origin (entries h.cells)) ≡ Ok new) × (new.schema ≡ s)
+    × Knows new (record { world = z.world; known = raised_knowledge a z.known })

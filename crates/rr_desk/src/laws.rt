@@ -1,5 +1,5 @@
 //! The laws of a desk, with no work to do: the functions have empty bodies.
-ghost use Rattle.rr_desk.specs.Laws.{OperationsAreKnown, ListsAreKnown, BeginningsAreHistories, AnswersAreOfSamples, CellsGivenAreWhole, CellsSavedAreWhole, OpeningIsHistory, PutIsATurn, WriteIsTurns, JoinIsATurn, PublishIsNoTurn, OthersWrite, LoadedIsKnown};
+ghost use Rattle.rr_desk.specs.Laws.{OperationsAreKnown, ListsAreKnown, BeginningsAreHistories, AnswersAreOfSamples, CellsGivenAreWhole, CellsSavedAreWhole, OpeningIsHistory, PutIsATurn, WriteIsTurns, JoinIsATurn, PublishIsNoTurn, OthersWrite, LoadedIsKnown, RaisedIsKnown};
 
 /// A desk is opened with a replica whose cells are those of a knowledge without gaps that has all marks of
 /// its own origin. Its keeper puts samples of its own, and joins whole live cells of such knowledges; others
@@ -32,7 +32,8 @@ pub fn keepers_have_histories()
 {}
 
 /// A node that is loaded from the snapshot of such a node, under an origin that wrote nothing, is such a node
-/// again.
+/// again, and under a schema with one archive more it is such a node of that schema.
 pub fn loaded_nodes_are_known()
-    ensures { LoadedIsKnown }
+    ensures loaded { LoadedIsKnown }
+    ensures raised { RaisedIsKnown }
 {}

@@ -1,10 +1,12 @@
 //! The versions of the bytes of cells and pages.
-ghost use Rattle.std.specs.Prelude.{◌≡◌};
+ghost use Rattle.std.specs.Prelude.{◌≡◌, nat_le};
 ghost use Rattle.std.specs.Int.{Width};
+ghost use Rattle.std.specs.List.{list_all};
 ghost use mir.Val.{bits};
+ghost use Rattle.rr_schema.specs.Added.{IsAddition, older};
 ghost use Rattle.rr_page.specs.Version.{version_byte, mask_width, has_masks_for};
 
-use rr_schema::{ArchiveSpec, Schema};
+use rr_schema::{Addition, ArchiveSpec, Schema};
 
 /// How cells and pages are laid out as bytes.
 #[derive(Clone, Copy, Debug, PartialEq, Eq)]
@@ -39,14 +41,35 @@ impl Version {
         }
     }
 
+    /// Whether a mask has a bit for each step of each of these archives.
+    fn has_masks_in(self, archives: &[ArchiveSpec]) -> bool
+        ensures { result ≡ list_all (λ a. nat_le a.steps (bits (mask_width self))) archives.now }
+    {
+        let bits = self.mask_bits();
+        archives
+            .iter()
+            .all(|archive: &ArchiveSpec| archive.steps <= bits)
+    }
+
     /// Whether a mask has a bit for each step of each archive of a schema.
     pub fn has_masks_for(self, schema: &Schema) -> bool
         ensures { result ≡ has_masks_for self schema.now }
     {
-        let bits = self.mask_bits();
-        schema
-            .archives()
-            .iter()
-            .all(|archive: &ArchiveSpec| archive.steps <= bits)
+        self.has_masks_in(schema.archives())
+    }
+
+    /// Whether it has one for each step of each archive that a schema had before an addition.
+    pub fn had_masks_for(self, schema: &Schema, addition: Addition) -> bool
+        requires { IsAddition schema.now addition }
+        ensures { result ≡ has_masks_for self (older schema.now addition) }
+    {
+        match addition {
+            Addition::Nothing => self.has_masks_for(schema),
+            Addition::Archive(number) => {
+                let archives = schema.archives();
+                let number = number as usize;
+                self.has_masks_in(&archives[..number]) && self.has_masks_in(&archives[number + 1..])
+            }
+        }
     }
 }

@@ -5,6 +5,7 @@ pub mod StreamLemmas
 pub mod PieceLemmas
 pub mod ChainLemmas
 pub mod CellsLemmas
+pub mod ToldLemmas
 pub mod BodyLemmas
 pub mod SnapshotLemmas
 pub mod CutLemmas

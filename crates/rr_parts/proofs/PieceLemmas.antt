@@ -1,8 +1,8 @@
 -- A piece of a known length, from a stream.
-use Rattle.std.proofs.Common.{◌≡◌, ℕ, ◌+◌, ◌<◌, ◌≤◌, Bool, true, false, List, [], ◌++◌, length, Option, None, Some, IfSome, Ok, Err, refl, sym, ap, subst, ◌∙◌, ◌⊎◌, arith, inl, inr, append-nil}
-use Rattle.std.specs.Prelude.{nat_eq, not, ◌==◌, ok_or}
+use Rattle.std.proofs.Common.{◌≡◌, ℕ, ◌+◌, ◌*◌, ◌<◌, ◌≤◌, Bool, true, false, List, [], ◌++◌, length, Option, None, Some, IfSome, Result, Ok, Err, refl, sym, ap, ◌∙◌, ◌⊎◌, arith, inl, inr, append-nil}
+use Rattle.std.specs.Prelude.{nat_eq, not, ok_or}
 use Rattle.std.specs.Cmp.Lexicographic.{pointwise}
-use Rattle.std.specs.Int.{w8, w16}
+use Rattle.std.specs.Int.{w8, w16, w32}
 use Rattle.std.specs.Io.KnownBytes.{Consumes, IsAtEnd}
 use Rattle.std.proofs.lemmas.List.{nil_from_length}
 use Rattle.rr_page.specs.declared.fault.PageFault.{PageFault}
@@ -10,14 +10,15 @@ use Rattle.rr_page.specs.declared.fault.PageFault.TheVariants.{Short, BadMagic, 
 use Rattle.rr_page.specs.declared.version.Version.{Version}
 use Rattle.rr_page.specs.Version.{named_version, latest}
 use Rattle.rr_schema.specs.Schema.{Layout}
-use Rattle.rr_schema.specs.SchemaBytes.{schema_bytes}
+use Rattle.rr_schema.specs.declared.added.Addition.{Addition}
+use Rattle.rr_schema.specs.declared.added.Addition.TheVariants.{Nothing}
 use Rattle.rr_text.specs.Results.{◌>>=◌, unless}
-use Rattle.rr_page.specs.PageReading.{version_at, is_schema}
+use Rattle.rr_page.specs.PageReading.{version_at}
 use Rattle.rr_page.specs.Reading.{front_at, number_at}
 use Rattle.rr_page.proofs.FrontLemmas.{Reader, IsFront, IsFront-field, IsFront-then, IsFront-unless, IsFront-done, IsFront-number, IsFront-version, extended}
 use Rattle.rr_parts.specs.Fault.{load_fault}
 use Rattle.rr_parts.specs.Snapshot.{magic}
-use Rattle.rr_parts.specs.SnapshotReading.{as_in_page, start_at}
+use Rattle.rr_parts.specs.SnapshotReading.{as_in_page, may_have_had, start_at, addition_told, archives_at}
 use Rattle.rr_parts.proofs.WidthLemmas.{HasWidth, HasWidth-field, HasWidth-then, HasWidth-done, HasWidth-last, HasWidth-number}
 
 module _ {A : Type 0} (k : ℕ) (r : Reader A) (front : IsFront r) (width : HasWidth k r) (bytes : List ℕ) (few : length bytes ≤ k) where
@@ -65,21 +66,44 @@ module _ (s : Layout) where
       IsFront-then (front_at (length magic)) _ (IsFront-field (length magic)) (λ start.
       IsFront-then (λ bytes. unless BadMagic (not (pointwise nat_eq start magic)) (version_at bytes)) _
       (IsFront-unless BadMagic (not (pointwise nat_eq start magic)) version_at IsFront-version) (λ version.
-      IsFront-then (front_at (length (schema_bytes s))) _ (IsFront-field (length (schema_bytes s))) (λ field.
-      IsFront-then (λ bytes. unless SchemaDiffers (not (is_schema version s field)) (number_at w16 bytes)) _
-      (IsFront-unless SchemaDiffers (not (is_schema version s field)) (number_at w16) (IsFront-number w16)) (λ origin.
-      IsFront-done (version, origin)))))
+      IsFront-then (number_at w32) _ (IsFront-number w32) (λ step.
+      IsFront-then (number_at w8) _ (IsFront-number w8) (λ number.
+      IsFront-unless SchemaDiffers (not (may_have_had s step number)) (λ bytes. Ok ((version, number), bytes)) (IsFront-done (version, number))))))
 
-  pub HasWidth-start : HasWidth (length (schema_bytes s) + 7) (start_at s)
+  pub HasWidth-start : HasWidth 10 (start_at s)
   unfolding start_at
-  HasWidth-start = same
-      (HasWidth-then 4 _ (front_at 4) _ (HasWidth-field 4) (λ start.
-      HasWidth-then 1 _ (λ bytes. unless BadMagic (not (pointwise nat_eq start magic)) (version_at bytes)) _
+  HasWidth-start =
+      HasWidth-then 4 6 (front_at 4) _ (HasWidth-field 4) (λ start.
+      HasWidth-then 1 5 (λ bytes. unless BadMagic (not (pointwise nat_eq start magic)) (version_at bytes)) _
       (HasWidth-unless 1 BadMagic (not (pointwise nat_eq start magic)) version_at (λ e. absurd (cc e)) HasWidth-version) (λ version.
-      HasWidth-then (length (schema_bytes s)) _ (front_at (length (schema_bytes s))) _ (HasWidth-field (length (schema_bytes s))) (λ field.
-      HasWidth-then 2 0 (λ bytes. unless SchemaDiffers (not (is_schema version s field)) (number_at w16 bytes)) _
-      (HasWidth-unless 2 SchemaDiffers (not (is_schema version s field)) (number_at w16) (λ e. absurd (cc e)) (HasWidth-number w16)) (λ origin.
-      HasWidth-done (version, origin))))))
-    where
-      same : HasWidth (4 + (1 + (length (schema_bytes s) + (2 + 0)))) (start_at s) → HasWidth (length (schema_bytes s) + 7) (start_at s)
-      same p = subst (λ k. HasWidth k (start_at s)) (omega arith) p
+      HasWidth-then 4 1 (number_at w32) _ (HasWidth-number w32) (λ step.
+      HasWidth-then 1 0 (number_at w8) _ (HasWidth-number w8) (λ number.
+      HasWidth-last SchemaDiffers (not (may_have_had s step number)) (version, number) (λ e. absurd (cc e))))))
+
+-- ---- the archives and the origin
+
+abbrev with_origin : Addition → List ℕ → Result ((Addition × ℕ) × List ℕ) PageFault
+with_origin a bytes = number_at w16 bytes >>= λ origin. Ok ((a, origin.0), origin.1)
+
+front_some : (a : Addition) → IsFront (with_origin a)
+front_some a = IsFront-then (number_at w16) _ (IsFront-number w16) (λ origin. IsFront-done (a, origin))
+
+width_some : (a : Addition) → HasWidth 2 (with_origin a)
+width_some a = HasWidth-then 2 0 (number_at w16) _ (HasWidth-number w16) (λ origin. HasWidth-done (a, origin))
+
+module _ (v : Version) (s : Layout) (number : ℕ) where
+  front_by : (o : Option Addition) → IsFront (λ bytes. ok_or o SchemaDiffers >>= λ (a : Addition). with_origin a bytes)
+  front_by None = IsFront-unless SchemaDiffers true (with_origin Nothing) (front_some Nothing)
+  front_by (Some a) = front_some a
+
+  pub IsFront-archives : IsFront (archives_at v s number)
+  unfolding archives_at
+  IsFront-archives = IsFront-then (front_at (9 * number)) _ (IsFront-field (9 * number)) (λ field. front_by (addition_told v s field))
+
+  width_by : (o : Option Addition) → HasWidth 2 (λ bytes. ok_or o SchemaDiffers >>= λ (a : Addition). with_origin a bytes)
+  width_by None = HasWidth-unless 2 SchemaDiffers true (with_origin Nothing) (λ e. absurd (cc e)) (width_some Nothing)
+  width_by (Some a) = width_some a
+
+  pub HasWidth-archives : HasWidth (9 * number + 2) (archives_at v s number)
+  unfolding archives_at
+  HasWidth-archives = HasWidth-then (9 * number) 2 (front_at (9 * number)) _ (HasWidth-field (9 * number)) (λ field. width_by (addition_told v s field))

@@ -1,10 +1,11 @@
 -- A snapshot is read exactly where its text is.
-use Rattle.std.proofs.Common.{◌≡◌, ℕ, zero, suc, ◌≤◌, ◌<◌, ◌^◌, Bool, true, false, List, [], ◌∷◌, ◌++◌, length, drop, None, Result, Ok, Err, refl, sym, ap, subst, ◌∙◌, append_assoc, arith, drop_at}
-use Rattle.std.specs.Prelude.{nat_eq, not, ◌==◌, ◌&&◌}
+use Rattle.std.proofs.Common.{◌≡◌, ℕ, zero, suc, ◌+◌, ◌*◌, ◌≤◌, ◌<◌, ◌^◌, Bool, true, false, List, [], ◌∷◌, ◌++◌, length, drop, Option, None, Some, Result, Ok, Err, refl, sym, ap, subst, ◌∙◌, append_assoc, arith, drop_at}
+use Rattle.std.specs.Prelude.{nat_eq, not, ◌==◌, ◌&&◌, ◌||◌, ok_or}
 use Rattle.std.specs.Cmp.Lexicographic.{pointwise, bytes_decides}
-use Rattle.std.specs.Int.{w16, w32, to_be_bytes}
+use Rattle.std.specs.Int.{w8, w16, w32, to_be_bytes}
 use Rattle.std.specs.List.{flat_map}
-use Rattle.std.proofs.lemmas.Bool.{eqb-true, ne_eqb}
+use Rattle.std.proofs.Math.Nat as nat
+use Rattle.std.proofs.lemmas.Bool.{eqb-true, eq-eqb, ne_eqb, or_left, or_right}
 use Rattle.std.proofs.lemmas.List.{append-nil, nil_from_length}
 use Rattle.std.proofs.lemmas.List.Elements.{All-from_recursion, recursion_from_All}
 use Rattle.sha2.specs.Sha256.{sha256}
@@ -12,31 +13,39 @@ use Rattle.sha2.proofs.Facts256.{length-sha256}
 use Rattle.rr_schema.specs.Origin.{IsOrigin}
 use Rattle.rr_text.specs.Results.{◌>>=◌, unless}
 use Rattle.rr_schema.specs.Schema.{Layout, IsLayout}
-use Rattle.rr_schema.specs.SchemaBytes.{schema_bytes}
-use Rattle.rr_schema.proofs.SchemaBytesLemmas.{bytes_tell}
+use Rattle.rr_schema.specs.SchemaBytes.{archive_bytes, schema_bytes}
+use Rattle.rr_schema.specs.Added.{IsAddition, older, had_archives}
+use Rattle.rr_schema.specs.declared.added.Addition.{Addition}
+use Rattle.rr_schema.specs.declared.added.Addition.TheVariants.{Nothing, Archive}
+use Rattle.rr_schema.proofs.AddedLemmas.{length-without}
+use Rattle.rr_schema.proofs.AdditionLemmas.{found_addition, found_is, addition_is_told, had_is_older, had_its_own, older_is_layout, older_step}
+use Rattle.rr_schema.proofs.SchemaBytesLemmas.{archives_len, bytes_tell}
 use Rattle.rr_cells.specs.CellBounds.{NamedCell, IsCellOf}
+use Rattle.rr_page.specs.declared.fault.PageFault.{PageFault}
 use Rattle.rr_page.specs.declared.fault.PageFault.TheVariants.{BadMagic, SchemaDiffers}
 use Rattle.rr_page.specs.declared.version.Version.{Version}
 use Rattle.rr_page.specs.declared.version.Version.TheVariants.{One, Two}
 use Rattle.rr_page.specs.CellText.{cell_text}
 use Rattle.rr_page.specs.Laws.{AreBytes}
-use Rattle.rr_page.specs.PageReading.{version_at, is_schema, cells_at}
+use Rattle.rr_page.specs.PageReading.{version_at, cells_at}
 use Rattle.rr_page.specs.Reading.{front_at, number_at}
 use Rattle.rr_page.specs.Version.{version_byte, HasMasksFor, has_masks_for}
 use Rattle.rr_page.proofs.CellsLemmas.{cells_take, cells_again}
 use Rattle.rr_page.proofs.FieldLemmas as field
 use Rattle.rr_page.proofs.FieldLemmas.{not_false, and_then, Takes, front_takes, front_again, number_takes, number_again}
 use Rattle.rr_page.proofs.HeadLemmas.{both, masks_told, masks_tell, version_takes, version_again}
-use Rattle.rr_page.proofs.NumberLemmas.{wide16, wide32}
+use Rattle.rr_page.proofs.NumberLemmas.{wide8, wide16, wide32}
 use Rattle.rr_page.proofs.OrderLemmas.{rising_sorted, sorted_rising}
 use Rattle.rr_parts.specs.declared.fault.LoadFault.{LoadFault}
+use Rattle.rr_parts.specs.declared.fault.LoadFault.TheVariants as why
 use Rattle.rr_parts.specs.declared.fault.LoadFault.TheVariants.{BadOrigin, BadDigest, TrailingBytes}
+use Rattle.rr_parts.specs.declared.heading.Head.{Head}
 use Rattle.rr_parts.specs.declared.heading.TheConstants.{MAX_SNAPSHOT_CELLS}
 use Rattle.rr_parts.specs.Laws.{SnapshotsAreTheirText, NoSnapshotBeginsAnother}
 use Rattle.rr_parts.specs.Snapshot.{IsSnapshot, IsSnapshotText, magic, head_text, body_text, snapshot_text}
-use Rattle.rr_parts.specs.SnapshotReading.{as_in_page, start_at, head_at, digest_at, end_at, bytes_before, snapshot_at}
+use Rattle.rr_parts.specs.SnapshotReading.{as_in_page, may_have_had, start_at, is_told, addition_told, archives_at, head_at, digest_at, end_at, bytes_before, cells_after, snapshot_at}
 use Rattle.rr_parts.proofs.CellsLemmas.{page_ok}
-use Rattle.rr_parts.proofs.BodyLemmas.{front_is}
+use Rattle.rr_parts.proofs.BodyLemmas.{after_archives, after_start, front_is}
 
 -- ---- steps that found no fault
 
@@ -59,49 +68,126 @@ step f e = ap (λ r. r >>= f) e
 
 -- ---- from the bytes
 
-start_takes : (s : Layout) (bytes : List ℕ) (v : Version) (o : ℕ) (rest : List ℕ) → AreBytes bytes → start_at s bytes ≡ Ok ((v, o), rest)
-    → Takes bytes (magic ++ (version_byte v ∷ (schema_bytes s ++ to_be_bytes w16 o))) rest × (o < 2 ^ 16) × HasMasksFor v s
+one_byte : (n : ℕ) → n < 2 ^ 8 → to_be_bytes w8 n ≡ n ∷ []
+one_byte n low = ap (λ (b : ℕ). b ∷ []) (nat.mod-eq_of_lt low)
+
+-- the step, and so many archives
+record MayHaveHad (s : Layout) (step number : ℕ) : Type 0 where
+  pub step_is : step ≡ s.step
+  pub some : 1 ≤ number
+
+had_told : (s : Layout) (seconds number : ℕ) → may_have_had s seconds number ≡ true → MayHaveHad s seconds number
+had_told s seconds number e =
+    let first = both (seconds == s.step && not (number == 0)) (number == length s.archives || number + 1 == length s.archives) e in
+    let same = both (seconds == s.step) (not (number == 0)) first.0 in
+    record { step_is = eqb-true seconds s.step same.0; some = some_number number (not_true (number == 0) same.1) }
+  where
+    not_true : (b : Bool) → not b ≡ true → b ≡ false
+    not_true true h = absurd (cc h)
+    not_true false h = refl
+
+    some_number : (n : ℕ) → (n == 0) ≡ false → 1 ≤ n
+    some_number zero h = absurd (cc h)
+    some_number (suc n) h = omega arith
+
+-- up to the archives
+abbrev start_text : Version → ℕ → ℕ → List ℕ
+start_text v step number = magic ++ (version_byte v ∷ (to_be_bytes w32 step ++ number ∷ []))
+
+start_takes : (s : Layout) (bytes : List ℕ) (v : Version) (n : ℕ) (rest : List ℕ) → AreBytes bytes → start_at s bytes ≡ Ok ((v, n), rest)
+    → Takes bytes (start_text v s.step n) rest × (1 ≤ n)
 unfolding start_at
-start_takes s bytes v o rest fits e =
-    field.with_ok (front_at 4 bytes) _ ((v, o), rest) e (λ start i0 e0.
-    field.with_ok (unless BadMagic (not (pointwise nat_eq start.0 magic)) (version_at start.1)) _ ((v, o), rest) e0 (λ version i1 e1.
-    field.with_ok (front_at (length (schema_bytes s)) version.1) _ ((v, o), rest) e1 (λ own i2 e2.
-    field.with_ok (unless SchemaDiffers (not (is_schema version.0 s own.0)) (number_at w16 own.1)) _ ((v, o), rest) e2 (λ origin i3 e3.
+start_takes s bytes v n rest fits e =
+    field.with_ok (front_at 4 bytes) _ ((v, n), rest) e (λ start i0 e0.
+    field.with_ok (unless BadMagic (not (pointwise nat_eq start.0 magic)) (version_at start.1)) _ ((v, n), rest) e0 (λ version i1 e1.
+    field.with_ok (number_at w32 version.1) _ ((v, n), rest) e1 (λ step i2 e2.
+    field.with_ok (number_at w8 step.1) _ ((v, n), rest) e2 (λ number i3 e3.
     let g1 = field.unless_ok BadMagic (not (pointwise nat_eq start.0 magic)) (version_at start.1) version i1 in
-    let g3 = field.unless_ok SchemaDiffers (not (is_schema version.0 s own.0)) (number_at w16 own.1) origin i3 in
-    let own_schema = both (has_masks_for version.0 s) (pointwise nat_eq own.0 (schema_bytes s)) (not_false (is_schema version.0 s own.0) g3.0) in
+    let g3 = field.unless_ok SchemaDiffers (not (may_have_had s step.0 number.0)) (Ok ((version.0, number.0), number.1)) ((v, n), rest) e3 in
+    let had = had_told s step.0 number.0 (not_false (may_have_had s step.0 number.0) g3.0) in
     let t0 = front_takes 4 bytes start.0 start.1 fits i0 in
     let same0 = (bytes_decides start.0 magic).0 (not_false (pointwise nat_eq start.0 magic) g1.0) in
     let t1 = version_takes start.1 version.0 version.1 t0.0.rest_fits g1.1 in
-    let t2 = front_takes (length (schema_bytes s)) version.1 own.0 own.1 t1.rest_fits i2 in
-    let same2 = (bytes_decides own.0 (schema_bytes s)).0 own_schema.1 in
-    let t3 = number_takes w16 wide16 own.1 origin.0 origin.1 t2.0.rest_fits g3.1 in
+    let t2 = number_takes w32 wide32 version.1 step.0 step.1 t1.rest_fits i2 in
+    let t3 = number_takes w8 wide8 step.1 number.0 number.1 t2.0.rest_fits i3 in
     let first : Takes bytes magic start.1 = subst (λ (l : List ℕ). Takes bytes l start.1) same0 t0.0 in
-    let third : Takes version.1 (schema_bytes s) own.1 = subst (λ (l : List ℕ). Takes version.1 l own.1) same2 t2.0 in
-    let whole : Takes bytes (magic ++ ((version_byte version.0 ∷ []) ++ (schema_bytes s ++ to_be_bytes w16 origin.0))) origin.1 = and_then first (and_then t1 (and_then third t3.0)) in
-    subst (λ (p : (Version × ℕ) × List ℕ). Takes bytes (magic ++ (version_byte p.0.0 ∷ (schema_bytes s ++ to_be_bytes w16 p.0.1))) p.1 × (p.0.1 < 2 ^ 16) × HasMasksFor p.0.0 s) (field.ok_is ((version.0, origin.0), origin.1) ((v, o), rest) e3)
-    (whole, t3.1, masks_told version.0 s own_schema.0)))))
+    let third : Takes version.1 (to_be_bytes w32 s.step) step.1 = subst (λ (m : ℕ). Takes version.1 (to_be_bytes w32 m) step.1) had.step_is t2.0 in
+    let fourth : Takes step.1 (number.0 ∷ []) number.1 = subst (λ (l : List ℕ). Takes step.1 l number.1) (one_byte number.0 t3.1) t3.0 in
+    let whole : Takes bytes (start_text version.0 s.step number.0) number.1 = and_then first (and_then t1 (and_then third fourth)) in
+    subst (λ (p : (Version × ℕ) × List ℕ). Takes bytes (start_text p.0.0 s.step p.0.1) p.1 × (1 ≤ p.0.1)) (field.ok_is ((version.0, number.0), number.1) ((v, n), rest) g3.1)
+    (whole, had.some)))))
+
+ok_or_is : {A : Type 0} (o : Option A) (fault : PageFault) (x : A) → ok_or o fault ≡ Ok x → o ≡ Some x
+ok_or_is None fault x e = absurd (cc e)
+ok_or_is (Some y) fault x e = ap Some (field.ok_is y x e)
+
+archives_takes : (v : Version) (s : Layout) (n : ℕ) (bytes : List ℕ) (a : Addition) (o : ℕ) (rest : List ℕ) → AreBytes bytes → archives_at v s n bytes ≡ Ok ((a, o), rest)
+    → Takes bytes (flat_map archive_bytes (older s a).archives ++ to_be_bytes w16 o) rest × (n ≡ length (older s a).archives) × (o < 2 ^ 16) × IsAddition s a × HasMasksFor v (older s a)
+unfolding archives_at
+archives_takes v s n bytes a o rest fits e =
+    field.with_ok (front_at (9 * n) bytes) _ ((a, o), rest) e (λ own i0 e0.
+    field.with_ok (ok_or (addition_told v s own.0) SchemaDiffers) _ ((a, o), rest) e0 (λ told i1 e1.
+    field.with_ok (number_at w16 own.1) _ ((a, o), rest) e1 (λ origin i2 e2.
+    let found = found_addition s (is_told v s own.0) told (ok_or_is (addition_told v s own.0) SchemaDiffers told i1) in
+    let is = both (has_masks_for v (older s told)) (had_archives s own.0 told) found.1 in
+    let archives = flat_map archive_bytes (older s told).archives in
+    let same : own.0 ≡ archives = (bytes_decides own.0 archives).0 is.1 in
+    let t0 = front_takes (9 * n) bytes own.0 own.1 fits i0 in
+    let t1 = number_takes w16 wide16 own.1 origin.0 origin.1 t0.0.rest_fits i2 in
+    let many : n ≡ length (older s told).archives = omega (arith, t0.1, ap length same, archives_len (older s told).archives) in
+    let first : Takes bytes archives own.1 = subst (λ (l : List ℕ). Takes bytes l own.1) same t0.0 in
+    subst (λ (p : (Addition × ℕ) × List ℕ). Takes bytes (flat_map archive_bytes (older s p.0.0).archives ++ to_be_bytes w16 p.0.1) p.1 × (n ≡ length (older s p.0.0).archives) × (p.0.1 < 2 ^ 16) × IsAddition s p.0.0 × HasMasksFor v (older s p.0.0))
+    (field.ok_is ((told, origin.0), origin.1) ((a, o), rest) e2)
+    (and_then first t1.0, many, t1.1, found.0, masks_told v (older s told) is.0))))
 
 some_number : (n : ℕ) → (n == 0) ≡ false → 1 ≤ n
 some_number zero e = absurd (cc e)
 some_number (suc n) e = omega arith
 
-head_takes : (s : Layout) (bytes : List ℕ) (v : Version) (o n : ℕ) (rest : List ℕ) → AreBytes bytes → head_at s bytes ≡ Ok ((v, (o, n)), rest)
-    → Takes bytes (head_text v s o n) rest × IsOrigin o × (n ≤ MAX_SNAPSHOT_CELLS) × HasMasksFor v s
-unfolding head_at head_text
-head_takes s bytes v o n rest fits e =
-    with_ok (as_in_page (start_at s bytes)) _ ((v, (o, n)), rest) e (λ start i0 e0.
-    with_ok (unless BadOrigin (start.0.1 == 0) (as_in_page (number_at w32 start.1))) _ ((v, (o, n)), rest) e0 (λ count i1 e1.
-    let g = unless_ok BadOrigin (start.0.1 == 0) (as_in_page (number_at w32 start.1)) count i1 in
+-- a head that is read: its bytes, and what it says
+record IsHeadOf (s : Layout) (h : Head) (bytes rest : List ℕ) : Type 0 where
+  pub takes : Takes bytes (head_text h.version (older s h.addition) h.origin h.count) rest
+  pub origin : IsOrigin h.origin
+  pub few : h.count ≤ MAX_SNAPSHOT_CELLS
+  pub addition : IsAddition s h.addition
+  pub some : 1 ≤ length (older s h.addition).archives
+  pub wide : HasMasksFor h.version (older s h.addition)
+
+-- the start, the archives and the number of cells are the text of a head
+head_parts : (v : Version) (t : Layout) (step o n : ℕ) → step ≡ t.step
+    → start_text v step (length t.archives) ++ ((flat_map archive_bytes t.archives ++ to_be_bytes w16 o) ++ to_be_bytes w32 n) ≡ head_text v t o n
+unfolding head_text schema_bytes
+head_parts v t step o n is =
+    let archives = flat_map archive_bytes t.archives in
+    ap (λ (l : List ℕ). magic ++ (version_byte v ∷ l))
+    (append_assoc (to_be_bytes w32 step) (length t.archives ∷ []) ((archives ++ to_be_bytes w16 o) ++ to_be_bytes w32 n)
+    ∙ ap (λ (l : List ℕ). to_be_bytes w32 step ++ (length t.archives ∷ l)) (append_assoc archives (to_be_bytes w16 o) (to_be_bytes w32 n))
+    ∙ sym (append_assoc (to_be_bytes w32 step) (length t.archives ∷ archives) (to_be_bytes w16 o ++ to_be_bytes w32 n))
+    ∙ ap (λ (m : ℕ). (to_be_bytes w32 m ++ (length t.archives ∷ archives)) ++ (to_be_bytes w16 o ++ to_be_bytes w32 n)) is)
+
+head_takes : (s : Layout) (bytes : List ℕ) (h : Head) (rest : List ℕ) → AreBytes bytes → head_at s bytes ≡ Ok (h, rest) → IsHeadOf s h bytes rest
+unfolding head_at
+head_takes s bytes h rest fits e =
+    with_ok (as_in_page (start_at s bytes)) _ (h, rest) e (λ start i0 e0.
+    with_ok (as_in_page (archives_at start.0.0 s start.0.1 start.1)) _ (h, rest) e0 (λ from i1 e1.
+    with_ok (unless BadOrigin (from.0.1 == 0) (as_in_page (number_at w32 from.1))) _ (h, rest) e1 (λ count i2 e2.
+    let g = unless_ok BadOrigin (from.0.1 == 0) (as_in_page (number_at w32 from.1)) count i2 in
     let t0 = start_takes s bytes start.0.0 start.0.1 start.1 fits (page_ok (start_at s bytes) start i0) in
-    let t1 = number_takes w32 wide32 start.1 count.0 count.1 t0.0.rest_fits (page_ok (number_at w32 start.1) count g.1) in
-    let some = some_number start.0.1 g.0 in
-    let whole = and_then t0.0 t1.0 in
-    let regrouped : Takes bytes (magic ++ (version_byte start.0.0 ∷ (schema_bytes s ++ (to_be_bytes w16 start.0.1 ++ to_be_bytes w32 count.0)))) count.1 =
-    subst (λ (l : List ℕ). Takes bytes (magic ++ (version_byte start.0.0 ∷ l)) count.1) (append_assoc (schema_bytes s) (to_be_bytes w16 start.0.1) (to_be_bytes w32 count.0)) whole in
-    subst (λ (p : (Version × (ℕ × ℕ)) × List ℕ). Takes bytes (magic ++ (version_byte p.0.0 ∷ (schema_bytes s ++ (to_be_bytes w16 p.0.1.0 ++ to_be_bytes w32 p.0.1.1)))) p.1 × IsOrigin p.0.1.0 × (p.0.1.1 ≤ MAX_SNAPSHOT_CELLS) × HasMasksFor p.0.0 s)
-    (ok_is ((start.0.0, (start.0.1, count.0)), count.1) ((v, (o, n)), rest) e1)
-    (regrouped, record { at_least = some; at_most = omega (arith, t0.1) }, omega (arith, t1.1), t0.2)))
+    let t1 = archives_takes start.0.0 s start.0.1 start.1 from.0.0 from.0.1 from.1 t0.0.rest_fits (page_ok (archives_at start.0.0 s start.0.1 start.1) from i1) in
+    let t2 = number_takes w32 wide32 from.1 count.0 count.1 t1.0.rest_fits (page_ok (number_at w32 from.1) count g.1) in
+    let t = older s from.0.0 in
+    let first : Takes bytes (start_text start.0.0 s.step (length t.archives)) start.1 = subst (λ (m : ℕ). Takes bytes (start_text start.0.0 s.step m) start.1) t1.1 t0.0 in
+    let whole = and_then first (and_then t1.0 t2.0) in
+    let some = some_number from.0.1 g.0 in
+    subst (λ (p : Head × List ℕ). IsHeadOf s p.0 bytes p.1) (ok_is (record { version = start.0.0; addition = from.0.0; origin = from.0.1; count = count.0 }, count.1) (h, rest) e2)
+    (record {
+      takes = subst (λ (l : List ℕ). Takes bytes l count.1) (head_parts start.0.0 t s.step from.0.1 count.0 (sym (older_step s from.0.0))) whole;
+      origin = record { at_least = some; at_most = omega (arith, t1.2) };
+      few = omega (arith, t2.1);
+      addition = t1.3;
+      some = omega (arith, t0.1, t1.1);
+      wide = t1.4;
+    }))))
 
 digest_takes : (digest bytes rest : List ℕ) → AreBytes bytes → digest_at digest bytes ≡ Ok (tt, rest) → bytes ≡ digest ++ rest
 unfolding digest_at
@@ -119,58 +205,98 @@ end_takes bytes rest e =
     let g = unless_ok TrailingBytes (not (length bytes == 0)) (Ok (tt, bytes)) (tt, rest) e in
     nil_from_length bytes (eqb-true (length bytes) 0 (not_false (length bytes == 0) g.0))
 
-pub snapshot_takes : (s : Layout) (bytes : List ℕ) (o : ℕ) (es : List NamedCell) → AreBytes bytes → snapshot_at s bytes ≡ Ok (o, es) → IsSnapshot s o es × IsSnapshotText s o es bytes
+pub snapshot_takes : (s : Layout) (bytes : List ℕ) (h : Head) (es : List NamedCell) → AreBytes bytes → snapshot_at s bytes ≡ Ok (h, es) → IsSnapshot (older s h.addition) h.origin es × IsSnapshotText s h es bytes
 unfolding snapshot_at body_text snapshot_text
-snapshot_takes s bytes o es fits e =
-    with_ok (head_at s bytes) _ (o, es) e (λ head i0 e0.
-    with_ok (as_in_page (cells_at head.0.0 s None head.0.1.1 head.1)) _ (o, es) e0 (λ cells i1 e1.
-    with_ok (digest_at (sha256 (bytes_before cells.1 bytes)) cells.1) _ (o, es) e1 (λ digest i2 e2.
-    with_ok (end_at digest.1) _ (o, es) e2 (λ end i3 e3.
-    let v = head.0.0 in
-    let t0 = head_takes s bytes v head.0.1.0 head.0.1.1 head.1 fits i0 in
-    let t1 = cells_take v s None head.0.1.1 head.1 cells t0.0.rest_fits (page_ok (cells_at v s None head.0.1.1 head.1) cells i1) in
-    let body : List ℕ = body_text v s head.0.1.0 cells.0 in
-    let t2 : Takes bytes body cells.1 = and_then (subst (λ (n : ℕ). Takes bytes (head_text v s head.0.1.0 n) head.1) (sym t1.many) t0.0) t1.takes in
+snapshot_takes s bytes h es fits e =
+    with_ok (head_at s bytes) _ (h, es) e (λ head i0 e0.
+    let v = head.0.version in
+    let t = older s head.0.addition in
+    let o = head.0.origin in
+    with_ok (cells_after s head.0 head.1) _ (h, es) e0 (λ cells i1 e1.
+    with_ok (digest_at (sha256 (bytes_before cells.1 bytes)) cells.1) _ (h, es) e1 (λ digest i2 e2.
+    with_ok (end_at digest.1) _ (h, es) e2 (λ end i3 e3.
+    let t0 = head_takes s bytes head.0 head.1 fits i0 in
+    let t1 = cells_take v t None head.0.count head.1 cells t0.takes.rest_fits (page_ok (cells_at v t None head.0.count head.1) cells i1) in
+    let body : List ℕ = body_text v t o cells.0 in
+    let t2 : Takes bytes body cells.1 = and_then (subst (λ (n : ℕ). Takes bytes (head_text v t o n) head.1) (sym t1.many) t0.takes) t1.takes in
     let before = front_is body cells.1 bytes t2.parts in
     let parts = digest_takes (sha256 (bytes_before cells.1 bytes)) cells.1 digest.1 t2.rest_fits i2 in
     let none = end_takes digest.1 end.1 i3 in
     let text : bytes ≡ body ++ sha256 body = t2.parts ∙ ap (λ (l : List ℕ). body ++ l) (parts ∙ (λ i. sha256 (before i) ++ none i) ∙ append-nil (sha256 body)) in
-    subst (λ (p : ℕ × List NamedCell). IsSnapshot s p.0 p.1 × IsSnapshotText s p.0 p.1 bytes) (ok_is (head.0.1.0, cells.0) (o, es) e3) (
+    subst (λ (p : Head × List NamedCell). IsSnapshot (older s p.0.addition) p.0.origin p.1 × IsSnapshotText s p.0 p.1 bytes) (ok_is (head.0, cells.0) (h, es) e3) (
       record {
-        origin_fits = t0.1;
-        count_fits = subst (λ (n : ℕ). n ≤ MAX_SNAPSHOT_CELLS) (sym t1.many) t0.2;
-        cells = All-from_recursion (IsCellOf s) cells.0 t1.each;
+        origin_fits = t0.origin;
+        count_fits = subst (λ (n : ℕ). n ≤ MAX_SNAPSHOT_CELLS) (sym t1.many) t0.few;
+        cells = All-from_recursion (IsCellOf t) cells.0 t1.each;
         names_ascend = rising_sorted None cells.0 t1.rising;
       },
-      record { version = v; wide = t0.3; text = text },
+      record { addition = t0.addition; some = t0.some; wide = t0.wide; count = sym t1.many; text = text },
     )))))
 
 -- ---- from the text
 
-pub start_again : (s : Layout) (v : Version) (o : ℕ) (rest : List ℕ) → HasMasksFor v s → o < 2 ^ 16 → start_at s (magic ++ (version_byte v ∷ (schema_bytes s ++ (to_be_bytes w16 o ++ rest)))) ≡ Ok ((v, o), rest)
+start_by : (s : Layout) (v : Version) (step number : ℕ) (rest : List ℕ) → step < 2 ^ 32 → number < 2 ^ 8
+    → start_at s (magic ++ (version_byte v ∷ (to_be_bytes w32 step ++ (number ∷ rest)))) ≡ unless SchemaDiffers (not (may_have_had s step number)) (Ok ((v, number), rest))
 unfolding start_at
-start_again s v o rest wide lt =
-    let after = to_be_bytes w16 o ++ rest in
-    field.step _ (front_again 4 magic (version_byte v ∷ (schema_bytes s ++ after)) refl)
-    ∙ field.step _ (version_again v (schema_bytes s ++ after))
-    ∙ field.step _ (front_again (length (schema_bytes s)) (schema_bytes s) after refl)
-    ∙ ap (λ (b : Bool). unless SchemaDiffers (not b) (number_at w16 after) >>= λ (origin : ℕ × List ℕ). Ok ((v, origin.0), origin.1)) (λ i. masks_tell v s wide i && (bytes_decides (schema_bytes s) (schema_bytes s)).1 refl i)
-    ∙ field.step _ (number_again w16 wide16 o rest lt)
+start_by s v step number rest short few =
+    field.step _ (front_again 4 magic (version_byte v ∷ (to_be_bytes w32 step ++ (number ∷ rest))) refl)
+    ∙ field.step _ (version_again v (to_be_bytes w32 step ++ (number ∷ rest)))
+    ∙ field.step _ (number_again w32 wide32 step (number ∷ rest) short)
+    ∙ field.step _ (ap (λ (l : List ℕ). number_at w8 (l ++ rest)) (sym (one_byte number few)) ∙ number_again w8 wide8 number rest few)
 
-pub head_again : (s : Layout) (v : Version) (o n : ℕ) (rest : List ℕ) → HasMasksFor v s → IsOrigin o → n ≤ MAX_SNAPSHOT_CELLS → head_at s (head_text v s o n ++ rest) ≡ Ok ((v, (o, n)), rest)
-unfolding head_at head_text
-head_again s v o n rest wide origin few =
-    let after = to_be_bytes w32 n ++ rest in
-    let some : (o == 0) ≡ false = ne_eqb o 0 (λ e. absurd (omega (arith, e, origin.at_least))) in
-    let low : o < 2 ^ 16 = omega (arith, origin.at_most) in
-    let below : n < 2 ^ 32 = omega (arith, few) in
-    ap (λ (l : List ℕ). head_at s (magic ++ (version_byte v ∷ l))) (four (schema_bytes s) (to_be_bytes w16 o) (to_be_bytes w32 n) rest)
-    ∙ step _ (ap as_in_page (start_again s v o after wide low))
-    ∙ ap (λ (b : Bool). unless BadOrigin b (as_in_page (number_at w32 after)) >>= λ (count : ℕ × List ℕ). Ok ((v, (o, count.0)), count.1)) some
-    ∙ step _ (ap as_in_page (number_again w32 wide32 n rest below))
-  where
-    four : (a b c d : List ℕ) → (a ++ (b ++ c)) ++ d ≡ a ++ (b ++ (c ++ d))
-    four a b c d = simp append_assoc
+-- the reader's schema is the snapshot's after an addition
+module _ (s : Layout) (a : Addition) (is : IsLayout s) (there : IsAddition s a) (some : 1 ≤ length (older s a).archives) where
+  may_have : may_have_had s s.step (length (older s a).archives) ≡ true
+  may_have = λ j. (eq-eqb s.step s.step refl j && not (ne_eqb (length (older s a).archives) 0 (λ e. absurd (omega (arith, e, some))) j)) && many a there j
+    where
+      many : (b : Addition) → IsAddition s b → (length (older s b).archives == length s.archives || length (older s b).archives + 1 == length s.archives) ≡ true
+      many Nothing h = or_left (length s.archives == length s.archives) (length s.archives + 1 == length s.archives) (eq-eqb (length s.archives) (length s.archives) refl)
+      many (Archive i) h = or_right (length (older s (Archive i)).archives == length s.archives) (length (older s (Archive i)).archives + 1 == length s.archives) (eq-eqb (length (older s (Archive i)).archives + 1) (length s.archives) (length-without i s.archives h))
+
+  pub start_again : (v : Version) (rest : List ℕ) → start_at s (magic ++ (version_byte v ∷ (to_be_bytes w32 s.step ++ (length (older s a).archives ∷ rest)))) ≡ Ok ((v, length (older s a).archives), rest)
+  start_again v rest =
+      start_by s v s.step (length (older s a).archives) rest (let most = is.short_step in omega (arith, most)) (let most = (older_is_layout s a is there some).few_archives in omega (arith, most))
+      ∙ ap (λ (b : Bool). unless SchemaDiffers (not b) (Ok ((v, length (older s a).archives), rest))) may_have
+
+  told : (v : Version) → HasMasksFor v (older s a) → addition_told v s (flat_map archive_bytes (older s a).archives) ≡ Some a
+  told v wide =
+      let field = flat_map archive_bytes (older s a).archives in
+      found_is s (is_told v s field) a there (λ j. masks_tell v (older s a) wide j && had_its_own s a j)
+      (λ b p e. addition_is_told s a b is there p (both (has_masks_for v (older s b)) (had_archives s field b) e).1)
+
+  pub archives_again : (v : Version) (o : ℕ) (rest : List ℕ) → HasMasksFor v (older s a) → o < 2 ^ 16
+      → archives_at v s (length (older s a).archives) (flat_map archive_bytes (older s a).archives ++ (to_be_bytes w16 o ++ rest)) ≡ Ok ((a, o), rest)
+  unfolding archives_at
+  archives_again v o rest wide low =
+      let archives = flat_map archive_bytes (older s a).archives in
+      field.step _ (front_again (9 * length (older s a).archives) archives (to_be_bytes w16 o ++ rest) (archives_len (older s a).archives))
+      ∙ ap (λ (t : Option Addition). ok_or t SchemaDiffers >>= λ (b : Addition). number_at w16 (to_be_bytes w16 o ++ rest) >>= λ (origin : ℕ × List ℕ). Ok ((b, origin.0), origin.1)) (told v wide)
+      ∙ field.step _ (number_again w16 wide16 o rest low)
+
+  -- what follows the magic and the version
+  pub schema_parted : (rest : List ℕ) → schema_bytes (older s a) ++ rest ≡ to_be_bytes w32 s.step ++ (length (older s a).archives ∷ (flat_map archive_bytes (older s a).archives ++ rest))
+  unfolding schema_bytes
+  schema_parted rest =
+      append_assoc (to_be_bytes w32 (older s a).step) (length (older s a).archives ∷ flat_map archive_bytes (older s a).archives) rest
+      ∙ ap (λ (m : ℕ). to_be_bytes w32 m ++ (length (older s a).archives ∷ (flat_map archive_bytes (older s a).archives ++ rest))) (older_step s a)
+
+  pub head_again : (v : Version) (o n : ℕ) (rest : List ℕ) → HasMasksFor v (older s a) → IsOrigin o → n ≤ MAX_SNAPSHOT_CELLS
+      → head_at s (head_text v (older s a) o n ++ rest) ≡ Ok (record { version = v; addition = a; origin = o; count = n }, rest)
+  unfolding head_at head_text
+  head_again v o n rest wide origin few =
+      let after = to_be_bytes w32 n ++ rest in
+      let from = to_be_bytes w16 o ++ after in
+      let named : (o == 0) ≡ false = ne_eqb o 0 (λ e. absurd (omega (arith, e, origin.at_least))) in
+      let low : o < 2 ^ 16 = omega (arith, origin.at_most) in
+      let below : n < 2 ^ 32 = omega (arith, few) in
+      ap (λ (l : List ℕ). head_at s (magic ++ (version_byte v ∷ l))) (four (schema_bytes (older s a)) (to_be_bytes w16 o) (to_be_bytes w32 n) rest ∙ schema_parted from)
+      ∙ step _ (ap as_in_page (start_again v (flat_map archive_bytes (older s a).archives ++ from)))
+      ∙ step _ (ap as_in_page (archives_again v o after wide low))
+      ∙ ap (λ (b : Bool). unless BadOrigin b (as_in_page (number_at w32 after)) >>= λ (count : ℕ × List ℕ). Ok (record { version = v; addition = a; origin = o; count = count.0 }, count.1)) named
+      ∙ step _ (ap as_in_page (number_again w32 wide32 n rest below))
+    where
+      four : (a b c d : List ℕ) → (a ++ (b ++ c)) ++ d ≡ a ++ (b ++ (c ++ d))
+      four a b c d = simp append_assoc
 
 digest_again : (digest rest : List ℕ) → length digest ≡ 32 → digest_at digest (digest ++ rest) ≡ Ok (tt, rest)
 unfolding digest_at
@@ -181,31 +307,38 @@ nothing_left : end_at [] ≡ Ok (tt, [])
 unfolding end_at
 nothing_left = refl
 
-module _ (v : Version) (s : Layout) (o : ℕ) (es : List NamedCell) (layout : IsLayout s) (wide : HasMasksFor v s) (is : IsSnapshot s o es) where
+module _ (s : Layout) (h : Head) (es : List NamedCell) (layout : IsLayout s) (there : IsAddition s h.addition) (some : 1 ≤ length (older s h.addition).archives) (wide : HasMasksFor h.version (older s h.addition)) (count : h.count ≡ length es) (is : IsSnapshot (older s h.addition) h.origin es) where
+  abbrev own : Layout
+  own = older s h.addition
+
   -- the head and the cells, and what follows them
-  pub body_head : (rest : List ℕ) → head_at s (body_text v s o es ++ rest) ≡ Ok ((v, (o, length es)), flat_map (cell_text v) es ++ rest)
+  pub body_head : (rest : List ℕ) → head_at s (body_text h.version (older s h.addition) h.origin es ++ rest) ≡ Ok (h, flat_map (cell_text h.version) es ++ rest)
   unfolding body_text
   body_head rest =
-      ap (head_at s) (append_assoc (head_text v s o (length es)) (flat_map (cell_text v) es) rest) ∙ head_again s v o (length es) (flat_map (cell_text v) es ++ rest) wide is.origin_fits is.count_fits
+      ap (head_at s) (append_assoc (head_text h.version own h.origin (length es)) (flat_map (cell_text h.version) es) rest)
+      ∙ head_again s h.addition layout there some h.version h.origin (length es) (flat_map (cell_text h.version) es ++ rest) wide is.origin_fits is.count_fits
+      ∙ ap (λ (n : ℕ). Ok (record { version = h.version; addition = h.addition; origin = h.origin; count = n }, flat_map (cell_text h.version) es ++ rest)) (sym count)
 
-  pub body_cells : (rest : List ℕ) → cells_at v s None (length es) (flat_map (cell_text v) es ++ rest) ≡ Ok (es, rest)
-  body_cells rest = cells_again v s None es rest layout wide (recursion_from_All (IsCellOf s) es is.cells) (sorted_rising es is.names_ascend)
+  pub body_cells : (rest : List ℕ) → cells_at h.version (older s h.addition) None h.count (flat_map (cell_text h.version) es ++ rest) ≡ Ok (es, rest)
+  body_cells rest =
+      ap (λ (n : ℕ). cells_at h.version own None n (flat_map (cell_text h.version) es ++ rest)) count
+      ∙ cells_again h.version own None es rest (older_is_layout s h.addition layout there some) wide (recursion_from_All (IsCellOf own) es is.cells) (sorted_rising es is.names_ascend)
 
-  pub snapshot_read : snapshot_at s (snapshot_text v s o es) ≡ Ok (o, es)
+  pub snapshot_read : snapshot_at s (snapshot_text h.version (older s h.addition) h.origin es) ≡ Ok (h, es)
   unfolding snapshot_at snapshot_text
   snapshot_read =
-      let body = body_text v s o es in
+      let body = body_text h.version own h.origin es in
       let digest = sha256 body in
       let last : digest_at digest digest ≡ Ok (tt, []) = ap (digest_at digest) (sym (append-nil digest)) ∙ digest_again digest [] (length-sha256 body) in
       step _ (body_head digest)
       ∙ step _ (ap as_in_page (body_cells digest))
-      ∙ ap (λ (l : List ℕ). digest_at (sha256 l) digest >>= λ (d : Unit {0} × List ℕ). end_at d.1 >>= λ end. Ok (o, es)) (front_is body digest (body ++ digest) refl)
+      ∙ ap (λ (l : List ℕ). digest_at (sha256 l) digest >>= λ (d : Unit {0} × List ℕ). end_at d.1 >>= λ end. Ok (h, es)) (front_is body digest (body ++ digest) refl)
       ∙ step _ last
       ∙ step _ nothing_left
 
 pub snapshots_are_their_text : SnapshotsAreTheirText
-snapshots_are_their_text s bytes o es layout fits =
-    ((λ e. snapshot_takes s bytes o es fits e), (λ p. ap (snapshot_at s) p.1.text ∙ snapshot_read p.1.version s o es layout p.1.wide p.0))
+snapshots_are_their_text s bytes h es layout fits =
+    ((λ e. snapshot_takes s bytes h es fits e), (λ p. ap (snapshot_at s) p.1.text ∙ snapshot_read s h es layout p.1.addition p.1.some p.1.wide p.1.count p.0))
 
 -- ---- no snapshot begins another
 
@@ -230,6 +363,10 @@ first_or_none : List ℕ → ℕ
 first_or_none [] = 0
 first_or_none (x ∷ xs) = x
 
+-- the head under its own schema
+abbrev pub own_head : Version → ℕ → List NamedCell → Head
+own_head v o es = record { version = v; addition = Nothing; origin = o; count = length es }
+
 pub no_snapshot_begins_another : NoSnapshotBeginsAnother
 unfolding snapshot_text first_or_none
 no_snapshot_begins_another v w s t o p es fs x y layout other wide wide_too is second e =
@@ -239,12 +376,14 @@ no_snapshot_begins_another v w s t o p es fs x y layout other wide wide_too is s
     let starts = sym (by_schema v s o es (d ++ x)) ∙ whole ∙ by_schema w t p fs (f ++ y) in
     let versions = version_tells v w (ap (λ (l : List ℕ). first_or_none (drop 4 l)) starts) in
     let schemas = bytes_tell s t (after_schema v o es (d ++ x)) (after_schema w p fs (f ++ y)) layout other (ap (drop 5) starts) in
-    let heads = ok_is ((v, (o, length es)), flat_map (cell_text v) es ++ (d ++ x)) ((w, (p, length fs)), flat_map (cell_text w) fs ++ (f ++ y))
-    (sym (body_head v s o es layout wide is (d ++ x)) ∙ (λ i. head_at (schemas.0 i) (whole i)) ∙ body_head w t p fs other wide_too second (f ++ y)) in
-    let origins : o ≡ p = ap (λ (h : (Version × (ℕ × ℕ)) × List ℕ). h.0.1.0) heads in
-    let counts : length es ≡ length fs = ap (λ (h : (Version × (ℕ × ℕ)) × List ℕ). h.0.1.1) heads in
-    let lefts : flat_map (cell_text v) es ++ (d ++ x) ≡ flat_map (cell_text w) fs ++ (f ++ y) = ap (λ (h : (Version × (ℕ × ℕ)) × List ℕ). h.1) heads in
-    let cells = field.ok_is (es, d ++ x) (fs, f ++ y) (sym (body_cells v s o es layout wide is (d ++ x)) ∙ (λ i. cells_at (versions i) (schemas.0 i) None (counts i) (lefts i)) ∙ body_cells w t p fs other wide_too second (f ++ y)) in
+    let one : Head = own_head v o es in
+    let two : Head = own_head w p fs in
+    let heads = ok_is (one, flat_map (cell_text v) es ++ (d ++ x)) (two, flat_map (cell_text w) fs ++ (f ++ y))
+    (sym (body_head s one es layout tt layout.some_archive wide refl is (d ++ x)) ∙ (λ i. head_at (schemas.0 i) (whole i)) ∙ body_head t two fs other tt other.some_archive wide_too refl second (f ++ y)) in
+    let origins : o ≡ p = ap (λ (h : Head × List ℕ). h.0.origin) heads in
+    let counts : length es ≡ length fs = ap (λ (h : Head × List ℕ). h.0.count) heads in
+    let lefts : flat_map (cell_text v) es ++ (d ++ x) ≡ flat_map (cell_text w) fs ++ (f ++ y) = ap (λ (h : Head × List ℕ). h.1) heads in
+    let cells = field.ok_is (es, d ++ x) (fs, f ++ y) (sym (body_cells s one es layout tt layout.some_archive wide refl is (d ++ x)) ∙ (λ i. cells_at (versions i) (schemas.0 i) None (counts i) (lefts i)) ∙ body_cells t two fs other tt other.some_archive wide_too refl second (f ++ y)) in
     let ends : d ++ x ≡ f ++ y = ap (λ (c : List NamedCell × List ℕ). c.1) cells in (
       versions,
       schemas.0,
@@ -252,3 +391,41 @@ no_snapshot_begins_another v w s t o p es fs x y layout other wide wide_too is s
       ap (λ (c : List NamedCell × List ℕ). c.0) cells,
       sym (drop_at d x 32 (length-sha256 (body_text v s o es))) ∙ ap (drop 32) ends ∙ drop_at f y 32 (length-sha256 (body_text w t p fs)),
     )
+
+-- ---- another schema
+
+module _ (s t : Layout) (v : Version) (o : ℕ) (es : List NamedCell) (layout : IsLayout s) (other : IsLayout t) (missed : (a : Addition) → IsAddition s a → t ≡ older s a → ⊥) where
+  abbrev from : List ℕ
+  from = after_schema v o es (sha256 (body_text v t o es))
+
+  abbrev archives : List ℕ
+  archives = flat_map archive_bytes t.archives
+
+  none_told : t.step ≡ s.step → addition_told v s archives ≡ None
+  none_told step = by_told (addition_told v s archives) refl
+    where
+      by_told : (found : Option Addition) → addition_told v s archives ≡ found → addition_told v s archives ≡ None
+      by_told None e = e
+      by_told (Some a) e =
+          let f = found_addition s (is_told v s archives) a e in
+          let same = (both (has_masks_for v (older s a)) (had_archives s archives a) f.1).1 in
+          absurd (missed a f.0 (had_is_older s t a layout other step same))
+
+  archives_differ : t.step ≡ s.step → archives_at v s (length t.archives) (archives ++ from) ≡ Err SchemaDiffers
+  unfolding archives_at
+  archives_differ step =
+      field.step _ (front_again (9 * length t.archives) archives from (archives_len t.archives))
+      ∙ ap (λ (found : Option Addition). ok_or found SchemaDiffers >>= λ (a : Addition). number_at w16 from >>= λ (origin : ℕ × List ℕ). Ok ((a, origin.0), origin.1)) (none_told step)
+
+  by_had : (b : Bool) → may_have_had s t.step (length t.archives) ≡ b → (as_in_page (unless SchemaDiffers (not b) (Ok ((v, length t.archives), archives ++ from))) >>= after_start s) ≡ Err why.SchemaDiffers
+  by_had false e = refl
+  by_had true e = ap (λ (r : Result ((Addition × ℕ) × List ℕ) PageFault). as_in_page r >>= after_archives v) (archives_differ (had_told s t.step (length t.archives) e).step_is)
+
+  pub other_schema : head_at s (snapshot_text v t o es) ≡ Err why.SchemaDiffers
+  unfolding head_at snapshot_text
+  other_schema =
+      let short : t.step < 2 ^ 32 = let most = other.short_step in omega (arith, most) in
+      let few : length t.archives < 2 ^ 8 = let most = other.few_archives in omega (arith, most) in
+      ap (head_at s) (by_schema v t o es (sha256 (body_text v t o es)) ∙ ap (λ (l : List ℕ). magic ++ (version_byte v ∷ l)) (schema_parted t Nothing other tt other.some_archive from))
+      ∙ ap (λ (r : Result ((Version × ℕ) × List ℕ) PageFault). as_in_page r >>= after_start s) (start_by s v t.step (length t.archives) (archives ++ from) short few)
+      ∙ by_had (may_have_had s t.step (length t.archives)) refl

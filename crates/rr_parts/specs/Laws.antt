@@ -1,19 +1,21 @@
 -- The laws of the texts of snapshots.
 use Rattle.std.specs.Prelude.{◌≡◌, ℕ, ◌≤◌, ◌↔◌, List, ◌++◌, length, Ok, Err}
 use Rattle.rr_schema.specs.Schema.{Layout, IsLayout}
+use Rattle.rr_schema.specs.Added.{older}
 use Rattle.rr_cells.specs.CellBounds.{NamedCell}
 use Rattle.rr_page.specs.declared.version.Version.{Version}
 use Rattle.rr_page.specs.Laws.{AreBytes}
 use Rattle.rr_page.specs.Version.{HasMasksFor}
 use Rattle.rr_parts.specs.declared.fault.LoadFault.TheVariants.{Short}
+use Rattle.rr_parts.specs.declared.heading.Head.{Head}
 use Rattle.rr_parts.specs.Snapshot.{IsSnapshot, IsSnapshotText, snapshot_text}
 use Rattle.rr_parts.specs.SnapshotReading.{snapshot_at}
 
--- a snapshot is read exactly where the bytes are the text of a snapshot of the schema
+-- a snapshot is read exactly where the bytes are the text of a snapshot of the schema, or of it before an addition
 abbrev pub SnapshotsAreTheirText : Type 0
 SnapshotsAreTheirText =
-    (s : Layout) (bytes : List ℕ) (origin : ℕ) (es : List NamedCell) → IsLayout s → AreBytes bytes
-    → (snapshot_at s bytes ≡ Ok (origin, es)) ↔ (IsSnapshot s origin es × IsSnapshotText s origin es bytes)
+    (s : Layout) (bytes : List ℕ) (head : Head) (es : List NamedCell) → IsLayout s → AreBytes bytes
+    → (snapshot_at s bytes ≡ Ok (head, es)) ↔ (IsSnapshot (older s head.addition) head.origin es × IsSnapshotText s head es bytes)
 
 -- no snapshot begins another: where the text of a snapshot, and bytes after it, are the text of a snapshot and bytes
 -- after it, the versions, the schemas, the origins, the cells and the bytes after them are the same
@@ -27,5 +29,6 @@ NoSnapshotBeginsAnother =
 -- the bytes of a snapshot without some at the end are Short
 abbrev pub FrontsAreShort : Type 0
 FrontsAreShort =
-    (v : Version) (s : Layout) (o : ℕ) (es : List NamedCell) (front rest : List ℕ) → IsLayout s → HasMasksFor v s
-    → IsSnapshot s o es → snapshot_text v s o es ≡ front ++ rest → 1 ≤ length rest → snapshot_at s front ≡ Err Short
+    (s : Layout) (head : Head) (es : List NamedCell) (bytes front rest : List ℕ) → IsLayout s
+    → IsSnapshot (older s head.addition) head.origin es → IsSnapshotText s head es bytes
+    → bytes ≡ front ++ rest → 1 ≤ length rest → snapshot_at s front ≡ Err Short

@@ -6,12 +6,14 @@ use Rattle.std.specs.List.{flat_map}
 use Rattle.sha2.specs.Sha256.{sha256}
 use Rattle.rr_schema.specs.Origin.{IsOrigin}
 use Rattle.rr_schema.specs.Schema.{Layout}
+use Rattle.rr_schema.specs.Added.{IsAddition, older}
 use Rattle.rr_schema.specs.SchemaBytes.{schema_bytes}
 use Rattle.rr_model.specs.CellNames.{cell_name_cmp}
 use Rattle.rr_cells.specs.CellBounds.{NamedCell, IsCellOf}
 use Rattle.rr_page.specs.declared.version.Version.{Version}
 use Rattle.rr_page.specs.CellText.{cell_text}
 use Rattle.rr_page.specs.Version.{version_byte, HasMasksFor}
+use Rattle.rr_parts.specs.declared.heading.Head.{Head}
 use Rattle.rr_parts.specs.declared.heading.TheConstants.{MAX_SNAPSHOT_CELLS}
 
 -- an origin, and at most 4,294,967,295 cells of the schema, strictly ascending by their names
@@ -38,8 +40,11 @@ body_text v s origin es = head_text v s origin (length es) ++ flat_map (cell_tex
 unfoldable pub snapshot_text : Version → Layout → ℕ → List NamedCell → List ℕ
 snapshot_text v s origin es = body_text v s origin es ++ sha256 (body_text v s origin es)
 
--- the bytes are the text of these cells under an origin, in some version that has masks for the schema
-pub record IsSnapshotText (s : Layout) (origin : ℕ) (es : List NamedCell) (bytes : List ℕ) : Type 0 where
-  pub version : Version
-  pub wide : HasMasksFor version s
-  pub text : bytes ≡ snapshot_text version s origin es
+-- the bytes are the text of these cells after a head that a schema's reader accepts: the schema is the reader's
+-- before an addition, has an archive, and the version has masks for it
+pub record IsSnapshotText (s : Layout) (head : Head) (es : List NamedCell) (bytes : List ℕ) : Type 0 where
+  pub addition : IsAddition s head.addition
+  pub some : 1 ≤ length (older s head.addition).archives
+  pub wide : HasMasksFor head.version (older s head.addition)
+  pub count : head.count ≡ length es
+  pub text : bytes ≡ snapshot_text head.version (older s head.addition) head.origin es

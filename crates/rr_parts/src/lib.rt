@@ -11,6 +11,7 @@
 
 mod ending;
 mod fault;
+mod fields;
 mod heading;
 pub mod laws;
 mod stream;
@@ -18,6 +19,6 @@ mod writing;
 
 pub use ending::{digest_from, end_from};
 pub use fault::{LoadFault, SaveFault};
-pub use heading::{MAX_SNAPSHOT_CELLS, head_bytes, head_from};
+pub use heading::{Head, MAX_SNAPSHOT_CELLS, head_bytes, head_from};
 pub use stream::{MAX_CELL_LEN, cell_from};
 pub use writing::{write_cell, write_piece};

@@ -8,7 +8,7 @@ use Rattle.rr_text.specs.Text.{cut_at}
 use Rattle.rr_text.specs.declared.bytes.TheConstants.{LINE_FEED, SPACE}
 use Rattle.rr_request.specs.Words.{words_of as request_words}
 use Rattle.rr_script.specs.Command.{write, fetch, IsOneLine}
-use Rattle.rr_script.specs.Commands.{schema_command, node_command, now_command, write_command, page_command, delta_command, deliver_command, bytes_command, save_command, load_command, fetch_command}
+use Rattle.rr_script.specs.Commands.{schema_command, upgrade_command, node_command, now_command, write_command, page_command, delta_command, deliver_command, bytes_command, save_command, load_command, fetch_command}
 use Rattle.rr_script.specs.Words.{are_three, text_of, words_of}
 use Rattle.rr_script.proofs.WordsLemmas.{Cuts, cut_parts, some_parts, text_of-words}
 
@@ -109,6 +109,17 @@ deliver_is_one_line [] = tt
 deliver_is_one_line (name ∷ []) = tt
 deliver_is_one_line (name ∷ node ∷ []) = tt
 deliver_is_one_line (name ∷ node ∷ more ∷ rest) = tt
+
+-- ---- upgrade
+
+-- two words are too many
+pub upgrade_command-more : (archive rest : List ℕ) → upgrade_command (archive ∷ words_of rest) ≡ None
+upgrade_command-more archive rest = let some = some_parts SPACE rest in rw some.2 refl
+
+pub upgrade_is_one_line : (words : List (List ℕ)) → IfSome (upgrade_command words) IsOneLine
+upgrade_is_one_line [] = tt
+upgrade_is_one_line (archive ∷ []) = tt
+upgrade_is_one_line (archive ∷ more ∷ rest) = tt
 
 -- ---- bytes
 

@@ -14,11 +14,11 @@ use Rattle.rr_script.specs.declared.fault.SyntaxFault.TheVariants.{LineTooLong, 
 use Rattle.rr_text.specs.declared.bytes.TheConstants.{LINE_FEED, SPACE}
 use Rattle.rr_script.specs.declared.event.ScriptLine.{ScriptLine}
 use Rattle.rr_script.specs.Command.{Command, IsOneLine}
-use Rattle.rr_script.specs.Commands.{command_of, schema_command, node_command, now_command, write_command, page_command, delta_command, deliver_command, bytes_command, save_command, load_command, fetch_command}
+use Rattle.rr_script.specs.Commands.{command_of, schema_command, upgrade_command, node_command, now_command, write_command, page_command, delta_command, deliver_command, bytes_command, save_command, load_command, fetch_command}
 use Rattle.rr_script.specs.Script.{line_view, said_view, said_by, is_skipped, numbered_lines, commands_of, SaysOneLine}
 use Rattle.rr_script.specs.Words.{parts_of, words_of, text_of}
 use Rattle.rr_script.proofs.WordsLemmas.{some_parts}
-use Rattle.rr_script.proofs.CommandsLemmas.{schema_is_one_line, node_is_one_line, now_is_one_line, write_is_one_line, page_is_one_line, delta_is_one_line, deliver_is_one_line, bytes_is_one_line, save_is_one_line, load_is_one_line, fetch_is_one_line}
+use Rattle.rr_script.proofs.CommandsLemmas.{schema_is_one_line, upgrade_is_one_line, node_is_one_line, now_is_one_line, write_is_one_line, page_is_one_line, delta_is_one_line, deliver_is_one_line, bytes_is_one_line, save_is_one_line, load_is_one_line, fetch_is_one_line}
 
 -- the first line, and then the others
 pub numbered_lines-first : (number : ℕ) (line : List ℕ) (lines : List (List ℕ)) → numbered_lines number (line ∷ lines) ≡ numbered_lines number (line ∷ []) ++ numbered_lines (number + 1) lines
@@ -65,6 +65,7 @@ command_is_one_line : (words : List (List ℕ)) → HasNoLineFeed (text_of words
 command_is_one_line [] none = tt
 command_is_one_line (name ∷ words) none =
     one_of (pointwise nat_eq name (codes "schema")) (schema_command words) _ (schema_is_one_line words)
+    (one_of (pointwise nat_eq name (codes "upgrade")) (upgrade_command words) _ (upgrade_is_one_line words)
     (one_of (pointwise nat_eq name (codes "node")) (node_command words) _ (node_is_one_line words)
     (one_of (pointwise nat_eq name (codes "now")) (now_command words) _ (now_is_one_line words)
     (one_of (pointwise nat_eq name (codes "write")) (write_command words) _ (write_is_one_line name words none)
@@ -74,7 +75,7 @@ command_is_one_line (name ∷ words) none =
     (one_of (pointwise nat_eq name (codes "bytes")) (bytes_command words) _ (bytes_is_one_line words)
     (one_of (pointwise nat_eq name (codes "save")) (save_command words) _ (save_is_one_line words)
     (one_of (pointwise nat_eq name (codes "load")) (load_command words) _ (load_is_one_line words)
-    (one_of (pointwise nat_eq name (codes "fetch")) (fetch_command words) None (fetch_is_one_line words) tt))))))))))
+    (one_of (pointwise nat_eq name (codes "fetch")) (fetch_command words) None (fetch_is_one_line words) tt)))))))))))
 
 said_is_one_line : (line : List ℕ) → HasNoLineFeed line → SaysOneLine (said_by line)
 said_is_one_line line none =

@@ -9,6 +9,7 @@ use Rattle.rr_script.specs.Words.{words_of}
 
 pub data Command : Type 0 where
   schema : (step : List ℕ) (archives : List (List ℕ)) → Command
+  upgrade : (archive : List ℕ) → Command
   node : (name origin : List ℕ) → Command
   now : (time : List ℕ) (lead : Option (List ℕ)) → Command
   write : (node line : List ℕ) → Command
@@ -38,6 +39,7 @@ word_of (Some word) = Some word.now
 -- the command of an event
 abbrev pub view_of : Event → Command
 view_of (event.Schema step archives) = schema step.now (archive_words archives)
+view_of (event.Upgrade archive) = upgrade archive.now
 view_of (event.Node name origin) = node name.now origin.now
 view_of (event.Now time lead) = now time.now (word_of lead)
 view_of (event.Write name line) = write name.now line.now

@@ -1,13 +1,18 @@
 -- How each command is read from the words after its name, and a line's words as a command.
 use Rattle.std.specs.Prelude.{ℕ, nat_eq, List, [], ◌∷◌, codes, Option, None, Some, if◌then◌else◌}
 use Rattle.std.specs.Cmp.Lexicographic.{pointwise}
-use Rattle.rr_script.specs.Command.{Command, schema, node, now, write, page, delta, deliver, bytes, save, load, fetch}
+use Rattle.rr_script.specs.Command.{Command, schema, upgrade, node, now, write, page, delta, deliver, bytes, save, load, fetch}
 use Rattle.rr_script.specs.Words.{text_of}
 
 -- schema STEP S:R:N/D ..
 abbrev pub schema_command : List (List ℕ) → Option Command
 schema_command [] = None
 schema_command (step ∷ archives) = Some (schema step archives)
+
+-- upgrade S:R:N/D
+abbrev pub upgrade_command : List (List ℕ) → Option Command
+upgrade_command (archive ∷ []) = Some (upgrade archive)
+upgrade_command _ = None
 
 -- node NAME ORIGIN
 abbrev pub node_command : List (List ℕ) → Option Command
@@ -77,6 +82,7 @@ abbrev pub command_of : List (List ℕ) → Option Command
 command_of [] = None
 command_of (name ∷ words) =
     if pointwise nat_eq name (codes "schema") then schema_command words
+    else (if pointwise nat_eq name (codes "upgrade") then upgrade_command words
     else (if pointwise nat_eq name (codes "node") then node_command words
     else (if pointwise nat_eq name (codes "now") then now_command words
-    else (if pointwise nat_eq name (codes "write") then write_command words else copying_command name words)))
+    else (if pointwise nat_eq name (codes "write") then write_command words else copying_command name words))))

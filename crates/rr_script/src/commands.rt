@@ -2,7 +2,7 @@
 
 ghost use Rattle.std.specs.Prelude.{◌≡◌, Some, option_map};
 ghost use Rattle.rr_script.specs.Command.{view_of};
-ghost use Rattle.rr_script.specs.Commands.{command_of, copying_command, schema_command, node_command, now_command, write_command, page_command, delta_command, deliver_command, bytes_command, save_command, load_command, fetch_command};
+ghost use Rattle.rr_script.specs.Commands.{command_of, copying_command, schema_command, upgrade_command, node_command, now_command, write_command, page_command, delta_command, deliver_command, bytes_command, save_command, load_command, fetch_command};
 ghost use Rattle.rr_script.specs.Words.{words_of};
 
 use crate::event::Event;
@@ -16,6 +16,8 @@ pub(crate) fn command_of(line: &[u8]) -> Option<Event<'_>>
     let (name, words) = first_word(line)?;
     if name == b"schema".as_slice() {
         Some(schema_command(words))
+    } else if name == b"upgrade".as_slice() {
+        upgrade_command(words)
     } else if name == b"node".as_slice() {
         node_command(words)
     } else if name == b"now".as_slice() {
@@ -64,6 +66,16 @@ fn schema_command(words: &[u8]) -> Event<'_>
             step: words,
             archives: None,
         },
+    }
+}
+
+/// The command of the word after `upgrade`.
+fn upgrade_command(words: &[u8]) -> Option<Event<'_>>
+    ensures { option_map view_of result ≡ upgrade_command (words_of words.now) }
+{
+    match first_word(words) {
+        Some(_) => None,
+        None => Some(Event::Upgrade { archive: words }),
     }
 }
 

@@ -12,6 +12,10 @@ pub enum Event<'a> {
         /// The words after the step, with a space between two, if there are any.
         archives: Option<&'a [u8]>,
     },
+    /// `upgrade S:R:N/D`: adds an archive to the schema; nodes and pages are gone, snapshots stay.
+    Upgrade {
+        archive: &'a [u8],
+    },
     /// `node NAME ORIGIN`: makes an empty replica.
     Node {
         name: &'a [u8],

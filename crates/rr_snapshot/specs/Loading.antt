@@ -1,9 +1,11 @@
 -- What is made of a snapshot that is read.
-use Rattle.std.specs.Prelude.{◌≡◌, ◌⊎◌, ℕ, Bool, false, ◌||◌, ◌==◌, List, Option, None, Some, IfSome, Result, Ok, Err}
+use Rattle.std.specs.Prelude.{◌≡◌, ◌⊎◌, ℕ, Bool, false, ◌||◌, ◌==◌, List, map, Option, Some, IfSome, Result, Ok, Err}
 use Rattle.std.specs.FinMap.{empty}
 use Rattle.std.specs.List.{list_any}
 use Rattle.rr_text.specs.Results.{◌>>=◌, unless}
 use Rattle.rr_schema.specs.Schema.{Layout}
+use Rattle.rr_schema.specs.Added.{older}
+use Rattle.rr_schema.specs.declared.added.Addition.{Addition}
 use Rattle.rr_model.specs.CellNames.{CellName}
 use Rattle.rr_page.specs.declared.version.Version.{Version}
 use Rattle.rr_page.specs.PageReading.{cells_at}
@@ -12,25 +14,27 @@ use Rattle.rr_cells.specs.Holding.{Holding}
 use Rattle.rr_cells.specs.Joins.{join_cells}
 use Rattle.rr_parts.specs.declared.fault.LoadFault.{LoadFault}
 use Rattle.rr_parts.specs.declared.fault.LoadFault.TheVariants.{ReadFailed, OriginUsed, Memory}
-use Rattle.rr_parts.specs.SnapshotReading.{as_in_page, head_at, snapshot_at}
+use Rattle.rr_parts.specs.declared.heading.Head.{Head}
+use Rattle.rr_parts.specs.SnapshotReading.{head_at, cells_after, snapshot_at}
+use Rattle.rr_raising.specs.Raising.{raised_cell}
 
 -- whether an origin is that of one of these cells
 abbrev pub is_among : ℕ → List NamedCell → Bool
 is_among origin es = list_any (λ e. e.0.origin == origin) es
 
--- whether it is that of a snapshot, which is an origin and cells, or of one of its cells
-abbrev pub is_used : ℕ → ℕ × List NamedCell → Bool
-is_used origin x = (x.0 == origin) || is_among origin x.1
+-- whether it is that under which a snapshot was saved, or of one of its cells
+abbrev pub is_used : ℕ → ℕ → List NamedCell → Bool
+is_used origin saver es = (saver == origin) || is_among origin es
 
--- the replica of an origin that has written nothing, with these cells joined in
-abbrev pub replica_of : Layout → ℕ → List NamedCell → Holding
-replica_of s origin es = record { schema = s; origin = origin; next = 1; cells = join_cells s empty es }
+-- the replica of an origin that has written nothing, with these cells, which are of before an addition, joined in
+abbrev pub replica_of : Layout → Addition → ℕ → List NamedCell → Holding
+replica_of s a origin es = record { schema = s; origin = origin; next = 1; cells = join_cells s empty (map (raised_cell a) es) }
 
 -- the replica of a new origin that is loaded from the snapshot that all of the bytes are
 unfoldable pub loaded_at : Layout → ℕ → List ℕ → Result Holding LoadFault
 loaded_at s origin bytes = do
   x ← snapshot_at s bytes
-  unless OriginUsed (is_used origin x) (Ok (replica_of s origin x.1))
+  unless OriginUsed (is_used origin x.0.origin x.1) (Ok (replica_of s x.0.addition origin x.1))
 
 -- the result is the definition's answer, unless the reader failed or memory ran out
 abbrev pub GivesIfRead : {A B : Type 0} → (A → B) → Result A LoadFault → Result B LoadFault → Type 0
@@ -42,31 +46,31 @@ abbrev pub HasBehind : Layout → List ℕ → List ℕ → Type 0
 HasBehind s left behind =
     (v : Version) × (before : Option CellName) × (n : ℕ) × (es : List NamedCell) × (cells_at v s before n left ≡ Ok (es, behind))
 
--- where the cells at the front of what a reader had are good, what follows them is left
-abbrev pub StopsAmong : Version → Layout → ℕ → Option (List ℕ) → Option (List ℕ) → Type 0
-StopsAmong v s count old new =
-    IfSome old (λ bytes. (es : List NamedCell) (behind : List ℕ) → cells_at v s None count bytes ≡ Ok (es, behind)
-    → (left : List ℕ) × (new ≡ Some left) × HasBehind s left behind)
+-- where the cells after a head are good, what follows them is left
+abbrev pub StopsAmong : Layout → Head → Option (List ℕ) → Option (List ℕ) → Type 0
+StopsAmong s head old new =
+    IfSome old (λ bytes. (es : List NamedCell) (behind : List ℕ) → cells_after s head bytes ≡ Ok (es, behind)
+    → (left : List ℕ) × (new ≡ Some left) × HasBehind (older s head.addition) left behind)
 
--- what follows the cells of the snapshot at the front, where they are good
-unfoldable pub behind_cells : Layout → List ℕ → Result (List ℕ) LoadFault
+-- the head of the snapshot at the front and what follows its cells, where they are good
+unfoldable pub behind_cells : Layout → List ℕ → Result (Head × List ℕ) LoadFault
 behind_cells s bytes = do
   head ← head_at s bytes
-  cells ← as_in_page (cells_at head.0.0 s None head.0.1.1 head.1)
-  Ok cells.1
+  cells ← cells_after s head.0 head.1
+  Ok (head.0, cells.1)
 
 -- nothing was read, or where the cells of the snapshot are good, what follows them is left
 abbrev pub StopsBeforeDigest : Layout → Option (List ℕ) → Option (List ℕ) → Type 0
 StopsBeforeDigest s old new =
     (new ≡ old)
-    ⊎ IfSome old (λ bytes. (behind : List ℕ) → behind_cells s bytes ≡ Ok behind
-    → (left : List ℕ) × (new ≡ Some left) × HasBehind s left behind)
+    ⊎ IfSome old (λ bytes. (head : Head) (behind : List ℕ) → behind_cells s bytes ≡ Ok (head, behind)
+    → (left : List ℕ) × (new ≡ Some left) × HasBehind (older s head.addition) left behind)
 
--- what a replica holds after these cells were joined into it, in order, and whether one is of its own origin: where
--- none is, its next number stays
-pub record HasJoined (old new : Holding) (own : Bool) (es : List NamedCell) : Type 0 where
+-- what a replica holds after these cells, which are of before an addition, were joined into it, in order, and whether
+-- one is of its own origin: where none is, its next number stays
+pub record HasJoined (a : Addition) (old new : Holding) (own : Bool) (es : List NamedCell) : Type 0 where
   pub schema : new.schema ≡ old.schema
   pub origin : new.origin ≡ old.origin
-  pub cells : new.cells ≡ join_cells old.schema old.cells es
+  pub cells : new.cells ≡ join_cells old.schema old.cells (map (raised_cell a) es)
   pub any : own ≡ is_among old.origin es
   pub next : own ≡ false → new.next ≡ old.next

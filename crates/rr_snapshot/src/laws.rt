@@ -1,8 +1,15 @@
-//! The law of what was saved, with no work to do: the function has an empty body.
-ghost use Rattle.rr_snapshot.specs.Laws.{SavedIsLoaded};
+//! The laws of what was saved, with no work to do: the functions have empty bodies.
+ghost use Rattle.rr_snapshot.specs.Laws.{SavedIsLoaded, SavedIsRaised, OtherSchemasDiffer};
 
 /// What a replica was saved as is loaded, under its schema and an origin that is neither its own nor
 /// that of one of its cells, as a replica of that origin with the same cells, whose next number is 1.
 pub fn saved_is_loaded()
     ensures { SavedIsLoaded }
+{}
+
+/// Under a schema with one archive more it is loaded with the same cells, the numbers of their
+/// archives raised; under any other schema it is refused.
+pub fn saved_is_raised()
+    ensures raised { SavedIsRaised }
+    ensures differs { OtherSchemasDiffer }
 {}

@@ -1,24 +1,27 @@
 //! A replica from a snapshot, read cell by cell.
-ghost use Rattle.std.specs.Prelude.{◌≡◌, ◌≤◌, Err, None, IfSome, IfOk, OnOk};
+ghost use Rattle.std.specs.Prelude.{◌≡◌, ◌≤◌, ◌<◌, length, Err, IfSome, IfOk, OnOk};
 ghost use Rattle.std.specs.FinMap.{empty};
 ghost use Rattle.std.specs.Io.KnownBytes.{IsAtEnd};
 ghost use Rattle.std.specs.Option.{option_map};
 ghost use Rattle.rr_io.specs.Counted.{inner_of, failures_of, HasRisen};
 ghost use Rattle.rr_io.specs.Stream.{ConsumesSome};
-ghost use Rattle.rr_page.specs.PageReading.{is_after, cells_at};
+ghost use Rattle.rr_schema.specs.Added.{IsAddition, older};
+ghost use Rattle.rr_page.specs.PageReading.{is_after};
 ghost use Rattle.rr_cells.specs.Listing.{owned_cell};
 ghost use Rattle.rr_replica.specs.Standing.{held};
-ghost use Rattle.rr_parts.specs.SnapshotReading.{as_in_page};
+ghost use Rattle.rr_raising.specs.Raising.{raised};
+ghost use Rattle.rr_parts.specs.SnapshotReading.{cells_after};
 ghost use Rattle.rr_parts.specs.Stream.{Digests, StreamMakes};
 ghost use Rattle.rr_snapshot.specs.Loading.{HasJoined, GivesIfRead, StopsAmong, StopsBeforeDigest, loaded_at};
 
 use rr_archive::Archive;
 use rr_cells::Cell;
 use rr_io::Counted;
-use rr_page::{Version, follows};
-use rr_parts::{LoadFault, MAX_CELL_LEN, cell_from, digest_from, end_from, head_from};
+use rr_page::follows;
+use rr_parts::{Head, LoadFault, MAX_CELL_LEN, cell_from, digest_from, end_from, head_from};
 use rr_replica::Replica;
-use rr_schema::{Origin, Schema};
+use rr_schema::{Addition, Origin, Schema};
+use rr_text::limits::MAX_ARCHIVES;
 use sha2::{Digest, Sha256};
 use std::alloc::Global;
 use std::io::Read;
@@ -34,36 +37,58 @@ fn is_after(before: &Option<Cell>, cell: &Cell) -> bool
     }
 }
 
-/// Joins `count` cells of the input into a replica, each after the one before it, and answers
-/// whether one of them is of the replica's own origin. No cell is kept but the last, for its name.
+/// The number that an archive has after an addition.
+fn raised(addition: Addition, archive: u8) -> u8
+    requires { archive < MAX_ARCHIVES }
+    ensures { result ≡ raised addition archive }
+{
+    match addition {
+        Addition::Nothing => archive,
+        Addition::Archive(added) => {
+            if archive < added {
+                archive
+            } else {
+                archive + 1
+            }
+        }
+    }
+}
+
+/// Joins the cells after a head into a replica, each after the one before it, and answers whether one
+/// of them is of the replica's own origin. They are of the schema before the head's addition. No cell
+/// is kept but the last, for its name.
 fn join_cells_from<A: Archive, R: Read>(
     alloc: Global,
     input: &mut Counted<R>,
-    version: Version,
-    count: u32,
+    head: Head,
+    own: &Schema,
     replica: &mut Replica<A>,
     hasher: &mut Sha256,
 ) -> Result<bool, LoadFault>
-    ensures read { StreamMakes (HasJoined (held replica.old) (held replica.new)) result
+    requires addition { IsAddition replica.old.schema head.addition }
+    requires own { own.now ≡ older replica.old.schema head.addition }
+    ensures read { StreamMakes (HasJoined head.addition (held replica.old) (held replica.new)) result
         (R.remaining (inner_of input.old)) (R.remaining (inner_of input.new))
-        (λ all. as_in_page (cells_at version replica.old.schema None count all)) }
+        (cells_after replica.old.schema head) }
     ensures digest { OnOk result (Digests (R.remaining (inner_of input.old))
         (R.remaining (inner_of input.new)) hasher.old hasher.new) }
     ensures front { ConsumesSome (R.remaining (inner_of input.old))
         (R.remaining (inner_of input.new)) }
-    ensures memory { result ≡ Err LoadFault.Memory → StopsAmong version replica.old.schema count
+    ensures memory { result ≡ Err LoadFault.Memory → StopsAmong replica.old.schema head
         (R.remaining (inner_of input.old)) (R.remaining (inner_of input.new)) }
     ensures count { failures_of input.old ≤ failures_of input.new }
     ensures failed { result ≡ Err LoadFault.ReadFailed
         → HasRisen (failures_of input.old) (failures_of input.new) }
 {
+    let _archives = own.archives(); // their contract says that they are few
     let origin = replica.origin();
     let mut buffer = [0u8; MAX_CELL_LEN];
     let mut before = None;
     let mut has_own = false;
-    for _ in 0..count {
-        let (cell, len) = cell_from(alloc, input, &mut buffer, replica.schema(), version)?;
+    for _ in 0..head.count {
+        let (mut cell, len) = cell_from(alloc, input, &mut buffer, own, head.version)?;
         hasher.update(&buffer[..len]);
+        cell.archive = raised(head.addition, cell.archive);
         if !is_after(&before, &cell) {
             return Err(LoadFault::OutOfOrder);
         }
@@ -74,47 +99,86 @@ fn join_cells_from<A: Archive, R: Read>(
     Ok(has_own)
 }
 
-/// Reads the snapshot that all of the input is, of the replica's schema, into a replica that holds
-/// no cell. `load` alone owns a replica, so that only there it is dropped where the load is refused.
+/// The same, with the schema before the addition made where there was one.
+fn join_cells_after<A: Archive, R: Read>(
+    alloc: Global,
+    input: &mut Counted<R>,
+    head: Head,
+    schema: &Schema,
+    replica: &mut Replica<A>,
+    hasher: &mut Sha256,
+) -> Result<bool, LoadFault>
+    requires schema { schema.now ≡ replica.old.schema }
+    requires addition { IsAddition schema.now head.addition }
+    requires some { 1 ≤ length (older schema.now head.addition).archives }
+    ensures read { StreamMakes (HasJoined head.addition (held replica.old) (held replica.new)) result
+        (R.remaining (inner_of input.old)) (R.remaining (inner_of input.new))
+        (cells_after schema.now head) }
+    ensures digest { OnOk result (Digests (R.remaining (inner_of input.old))
+        (R.remaining (inner_of input.new)) hasher.old hasher.new) }
+    ensures front { ConsumesSome (R.remaining (inner_of input.old))
+        (R.remaining (inner_of input.new)) }
+    ensures memory { result ≡ Err LoadFault.Memory → StopsAmong schema.now head
+        (R.remaining (inner_of input.old)) (R.remaining (inner_of input.new)) }
+    ensures count { failures_of input.old ≤ failures_of input.new }
+    ensures failed { result ≡ Err LoadFault.ReadFailed
+        → HasRisen (failures_of input.old) (failures_of input.new) }
+{
+    match head.addition {
+        Addition::Nothing => join_cells_from(alloc, input, head, schema, replica, hasher),
+        Addition::Archive(number) => {
+            let own = schema.without(alloc, number)?;
+            join_cells_from(alloc, input, head, &own, replica, hasher)
+        }
+    }
+}
+
+/// Reads the snapshot that all of the input is into a replica of the reader's schema that holds no
+/// cell. `load` alone owns a replica, so that only there it is dropped where the load is refused.
 fn load_into<A: Archive, R: Read>(
     alloc: Global,
     input: &mut Counted<R>,
+    schema: &Schema,
     replica: &mut Replica<A>,
 ) -> Result<(), LoadFault>
+    requires schema { replica.old.schema ≡ schema.now }
     requires next { replica.old.next ≡ 1 }
     requires cells { replica.old.cells ≡ empty }
     ensures read { IfSome (R.remaining (inner_of input.old)) (λ bytes.
         GivesIfRead (λ _. held replica.new) result
-        (loaded_at replica.old.schema replica.old.origin bytes)) }
-    ensures schema { OnOk result (replica.new.schema ≡ replica.old.schema) }
+        (loaded_at schema.now replica.old.origin bytes)) }
+    ensures schema { OnOk result (replica.new.schema ≡ schema.now) }
     ensures origin { OnOk result (replica.new.origin ≡ replica.old.origin) }
     ensures next { OnOk result (replica.new.next ≡ 1) }
     ensures end { OnOk result (IsAtEnd (R.remaining (inner_of input.new))) }
     ensures front { ConsumesSome (R.remaining (inner_of input.old))
         (R.remaining (inner_of input.new)) }
-    ensures memory { result ≡ Err LoadFault.Memory → StopsBeforeDigest replica.old.schema
+    ensures memory { result ≡ Err LoadFault.Memory → StopsBeforeDigest schema.now
         (R.remaining (inner_of input.old)) (R.remaining (inner_of input.new)) }
     ensures count { failures_of input.old ≤ failures_of input.new }
     ensures failed { result ≡ Err LoadFault.ReadFailed
         → HasRisen (failures_of input.old) (failures_of input.new) }
 {
     let mut hasher = Sha256::new();
-    let (version, saver, count) = head_from(input, replica.schema(), &mut hasher)?;
-    let has_own = join_cells_from(alloc, input, version, count, replica, &mut hasher)?;
+    let head = head_from(input, schema, &mut hasher)?;
+    let has_own = join_cells_after(alloc, input, head, schema, replica, &mut hasher)?;
     digest_from(input, &hasher.finalize())?;
     end_from(input)?;
-    if saver == replica.origin() || has_own {
+    if head.origin == replica.origin() || has_own {
         return Err(LoadFault::OriginUsed);
     }
     Ok(())
 }
 
-/// Reads the snapshot that all of the input is, of the reader's own schema, into a replica of a new
-/// origin, whose next number is 1. Of the snapshot one cell's bytes are in memory at a time.
+/// Reads the snapshot that all of the input is, of the reader's schema or of one with one archive
+/// less, into a replica of a new origin, whose next number is 1. An archive that the snapshot's schema
+/// lacks has no cells; the numbers of those after it are higher by one than in the snapshot. Of the
+/// snapshot one cell's bytes are in memory at a time.
 ///
 /// Refusals are those of the first fault from left to right: `ReadFailed` where a read fails;
 /// `Short` where fewer bytes are left than a field has; `BadMagic`; `BadVersion`; `SchemaDiffers`,
-/// once as many bytes are read as the schema has; `BadOrigin`; for each cell those of
+/// once the step and the number of archives are read, and again once the archives are, if not both are
+/// those of the reader's schema, or of it without one archive; `BadOrigin`; for each cell those of
 /// [`read_cell`](rr_page::read_cell), and then `OutOfOrder` where its name is not greater than the
 /// one before; `BadDigest`; `TrailingBytes`; and last `OriginUsed` where the new origin is that of
 /// the snapshot or of one of its cells, those past the horizon too. `Memory` comes before the digest is
@@ -143,6 +207,6 @@ pub fn load<A: Archive, R: Read>(
         → HasRisen (failures_of input.old) (failures_of input.new) }
 {
     let mut replica = Replica::new(alloc, schema, new_origin)?;
-    load_into(alloc, input, &mut replica)?;
+    load_into(alloc, input, schema, &mut replica)?;
     Ok(replica)
 }

@@ -128,4 +128,4 @@ deliver_agrees m sound name node =
     (ap (λ (s : Layout). with_joined (node_in_cells n) (state s k)) one ∙ joined_agrees m.world n layout (sound.nodes node n here) k closed))
     (place_is_sound m sound node n (with_known n k) here refl refl m.world
     (known_is_sound m.world n layout (sound.nodes node n here) k closed)
-    (λ o apart is. is) (λ l is. is) sound.written sound.samples)))
+    (λ o apart is. is) (λ s l is. is) sound.written sound.samples)))

@@ -7,11 +7,9 @@ use Rattle.std.specs.FinMap as map
 use Rattle.std.proofs.lemmas.Bool.{le-leb, leb-false, leb-true, lt-leb}
 use Rattle.rr_archive.specs.declared.archive.Archive.{Ghosts}
 use Rattle.rr_text.specs.Results.{check}
-use Rattle.rr_schema.specs.Schema.{Layout}
 use Rattle.rr_join.specs.Values.{map_values}
 use Rattle.rr_join.proofs.ValuesLemmas.{insert_cases, map_values-insert}
-use Rattle.rr_model.specs.Knowledge.{Knowledge, live}
-use Rattle.rr_model.specs.World.{IsClosed}
+use Rattle.rr_model.specs.Knowledge.{Knowledge}
 use Rattle.rr_model.proofs.WholeCells.{live_is_closed}
 use Rattle.rr_page.specs.Version.{latest}
 use Rattle.rr_cells.specs.Cells.{Cells}
@@ -65,9 +63,8 @@ module _ {K : Type 0} (model : Model K) (m : State K) (name node : List ℕ) whe
 -- ---- the bytes of a snapshot
 
 -- the cells of a replica make a snapshot, if they are not too many
-pub saved_is_kept : (h : Holding) → IsHolding h → map.len h.cells ≤ MAX_SNAPSHOT_CELLS → IsKept h.schema (snapshot_of cell_model (node_of h))
+pub saved_is_kept : (h : Holding) → IsHolding h → map.len h.cells ≤ MAX_SNAPSHOT_CELLS → IsKept (snapshot_of cell_model (node_of h))
 saved_is_kept h is few = record {
-  shared = refl;
   layout = is.layout;
   snapshot = holding_is_snapshot h is few;
   trimmed = is.live;
@@ -90,7 +87,7 @@ save_refused h Memory stop is many = inl is
 
 module _ {A : Type 0} {g : Ghosts A} (old new : Cluster A g) (m : State Cells) (name bytes : List ℕ) (x : Snapshot Cells) (is : Represents old m)
     (schema : new.schema ≡ old.schema) (clock : new.clock ≡ old.clock) (lead : new.lead ≡ old.lead) (nodes : new.nodes ≡ old.nodes) (pages : new.pages ≡ old.pages) (origins : new.origins ≡ old.origins) where
-  pub represents_with_snapshot : HasPutBytes old.snapshots new.snapshots name bytes → HasSnapshotText m.schema x bytes → Represents new (record m { snapshots = map.insert m.snapshots name x })
+  pub represents_with_snapshot : HasPutBytes old.snapshots new.snapshots name bytes → HasSnapshotText x bytes → Represents new (record m { snapshots = map.insert m.snapshots name x })
   represents_with_snapshot put has = record {
     schema = schema ∙ is.schema;
     clock = clock ∙ is.clock;
@@ -101,15 +98,10 @@ module _ {A : Type 0} {g : Ghosts A} (old new : Cluster A g) (m : State Cells) (
     are_pages = is.are_pages;
     snapshots = texts_put _ old.snapshots new.snapshots m.snapshots name bytes x is.snapshots put has.text;
     are_kept = λ q other e. insert_cases nat_list_cmp_total names_apart m.snapshots name x q other e
-        (λ at same. subst (IsKept m.schema) same has.kept)
+        (λ at same. subst IsKept same has.kept)
         (λ apart there. is.are_kept q other there);
     origins = λ origin. rw origins (is.origins origin);
   }
-
--- the snapshot of a node of the cluster is one of the schema
-pub snapshot_of_node : {A : Type 0} {g : Ghosts A} (c : Cluster A g) (m : State Cells) → Represents c m → (node : List ℕ) (h : Standing) → replica_at c.nodes node ≡ Some h
-    → (x : Snapshot Cells) (bytes : List ℕ) → HasSnapshotText h.schema x bytes → HasSnapshotText m.schema x bytes
-snapshot_of_node c m is node h here x bytes has = subst (λ (s : Layout). HasSnapshotText s x bytes) (is.shared node h here ∙ is.schema) has
 
 -- ---- the cluster after a save
 
@@ -132,10 +124,10 @@ module _ (m : State Knowledge) (sound : IsSound m) (name : List ℕ) (n : Node K
   snapshots_agree : snapshot_of cell_model (node_in_cells n) ≡ snapshot_in_cells (snapshot_of sample_model n)
   snapshots_agree = λ i. record { schema = n.schema; origin = n.origin; contents = sym (live_makes_the_same n.schema n.contents (layout_at m sound name n here)) i }
 
-  snapshot_is_sound : IsSoundSnapshot m.schema m.world (snapshot_of sample_model n)
+  snapshot_is_sound : IsSoundSnapshot m.world (snapshot_of sample_model n)
   snapshot_is_sound = record {
-    shared = sound.shared name n here;
-    closed = subst (λ (s : Layout). IsClosed s m.world (live n.schema n.contents)) (sound.shared name n here) (live_is_closed n.schema m.world n.contents (sound.nodes name n here).closed);
+    layout = layout_at m sound name n here;
+    closed = live_is_closed n.schema m.world n.contents (sound.nodes name n here).closed;
   }
 
 with_snapshot_agrees : (m : State Knowledge) (name : List ℕ) (c : Snapshot Cells) (x : Snapshot Knowledge) → c ≡ snapshot_in_cells x

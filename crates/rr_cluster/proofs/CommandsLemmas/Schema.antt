@@ -22,7 +22,7 @@ use Rattle.rr_cluster.proofs.StepLemmas.{names_apart, OfAnswer, then_holds}
 
 -- ---- the models agree
 
-unless_faulty-ok : (fault : Option SchemaFault) (layout : Layout) → (fault ≡ None → IsLayout layout) → OfAnswer IsLayout (unless_faulty fault layout)
+pub unless_faulty-ok : (fault : Option SchemaFault) (layout : Layout) → (fault ≡ None → IsLayout layout) → OfAnswer IsLayout (unless_faulty fault layout)
 unfolding OfAnswer
 unless_faulty-ok None layout is = is refl
 unless_faulty-ok (Some fault) layout is = tt

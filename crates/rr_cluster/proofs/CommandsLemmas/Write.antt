@@ -234,7 +234,7 @@ module _ (m : State Knowledge) (sound : IsSound m) (name : List ℕ) (n : Node K
       place_is_sound m sound name n (with_written sample_model n x) here refl refl (with_sample m.world x)
       (writer_is_sound m.world n is n_is_sound x ours next is_sound.few_numbers)
       (other_is_sound m.world n is n_is_sound x ours next is_sound.few_numbers)
-      (λ k closed. others_stay_closed m.schema m.world k x closed (is_next m.world n is n_is_sound x ours next is_sound.few_numbers))
+      (λ s k closed. others_stay_closed s m.world k x closed (is_next m.world n is n_is_sound x ours next is_sound.few_numbers))
       (λ y e. ⊎_elim
       (λ it. subst (IsUsed m) (sym (ap (λ (z : Sample). z.origin) it ∙ ours)) (sound.used name n here))
       (λ before. sound.written y before)

@@ -1,10 +1,12 @@
 //! `load NAME NODE ORIGIN`: makes a snapshot a node, under a new origin.
 
 ghost use Rattle.rr_cells.specs.Cells.{Cells};
-ghost use Rattle.rr_cluster.specs.Commands.Load.{after_load};
-ghost use Rattle.rr_cluster.specs.Meaning.{HasSnapshotText, Leaves, Loads, Represents};
+ghost use Rattle.rr_schema.specs.Schema.{IsLayout};
+ghost use Rattle.rr_cluster.specs.Commands.Load.{after_load, loaded_node};
+ghost use Rattle.rr_cluster.specs.Meaning.{node_in, HasSnapshotText, Leaves, Represents};
 ghost use Rattle.rr_cluster.specs.Model.{cell_model};
 ghost use Rattle.rr_cluster.specs.State.{Snapshot, State};
+ghost use Rattle.rr_cluster.specs.Stop.{Gives};
 
 use crate::cluster::Cluster;
 use crate::fault::CommandFault;
@@ -41,20 +43,22 @@ pub(crate) fn load_node<A: Archive>(
 }
 
 /// The replica of the snapshot of these bytes, under a new origin. A script has only snapshots that
-/// its own nodes made, so that the bytes are those of a snapshot of its schema.
+/// its own nodes made, of its schema or of one before an upgrade.
 fn loaded<A: Archive>(
     alloc: Global,
     snapshot: &[u8],
     schema: &Schema,
     origin: Origin,
 ) -> Result<Replica<A>, Stop>
-    requires { (x : Snapshot Cells) × HasSnapshotText schema.now x snapshot.now }
-    ensures { (x : Snapshot Cells) → HasSnapshotText schema.now x snapshot.now
-        → Loads result x origin }
+    requires layout { IsLayout schema.now }
+    requires snapshot { (x : Snapshot Cells) × HasSnapshotText x snapshot.now }
+    ensures { (x : Snapshot Cells) → HasSnapshotText x snapshot.now
+        → Gives node_in result (loaded_node cell_model schema.now x origin) }
 {
     // Bytes in memory are always read, and so no reader fails here.
     match load(alloc, &mut Counted::new(snapshot), schema, origin) {
         Ok(replica) => Ok(replica),
+        Err(LoadFault::SchemaDiffers) => Err(Stop::Refused(CommandFault::SchemaDiffers)),
         Err(LoadFault::OriginUsed) => Err(Stop::Refused(CommandFault::OriginUsed)),
         Err(LoadFault::ReadFailed | LoadFault::Memory) => Err(Stop::Memory),
         Err(_) => unreachable!(),

@@ -10,9 +10,9 @@ pub returns-in_err-load_into-clause-read : goal.returns-in_err-load_into-clause-
 returns-in_err-load_into-clause-read g c =
     let old = g.R.Read.remaining (inner_of c.args.input.now) in
     let p = err_from_is_err_and c.from_residual-in_err-load_into.result c.from_residual-in_err-load_into.ensures.1 in
-    rw (p.1, p.2) (subst (λ (h : Holding). IfSome old (λ bytes. GivesIfRead {A = Standing} held (Err c.in_err-load_into.field-0.0) (loaded_at h.schema h.origin bytes))) c.in_ok-replica.ensures c.in_err-load_into.ensures.read)
+    rw (p.1, p.2) (subst (λ (h : Holding). IfSome old (λ bytes. GivesIfRead {A = Standing} held (Err c.in_err-load_into.field-0.0) (loaded_at c.args.schema.now h.origin bytes))) c.in_ok-replica.ensures c.in_err-load_into.ensures.read)
 
 pub returns-clause-read : goal.returns-clause-read
 returns-clause-read g c =
     let old = g.R.Read.remaining (inner_of c.args.input.now) in
-    subst (λ (h : Holding). IfSome old (λ bytes. loaded_at h.schema h.origin bytes ≡ Ok (held c.load_into.new.replica))) c.in_ok-replica.ensures c.in_ok-load_into.ensures.read
+    subst (λ (h : Holding). IfSome old (λ bytes. loaded_at c.args.schema.now h.origin bytes ≡ Ok (held c.load_into.new.replica))) c.in_ok-replica.ensures c.in_ok-load_into.ensures.read

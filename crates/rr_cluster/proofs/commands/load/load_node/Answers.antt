@@ -1,7 +1,8 @@
 use Rattle.std.proofs.Common.{None, Some, refl, sym}
 use Rattle.std.proofs.lemmas.Result.{err_from_is_err_and}
+use Rattle.rr_cluster.specs.Meaning.{node_in}
 use Rattle.rr_cluster.specs.Model.{cell_model}
-use Rattle.rr_cluster.proofs.CommandsLemmas.Load.{no_snapshot, bad_name_here, bad_origin_here, load_is_refused, snapshot_of_schema, replica_is_loaded}
+use Rattle.rr_cluster.proofs.CommandsLemmas.Load.{no_snapshot, bad_name_here, bad_origin_here, load_is_refused, snapshot_of_script, replica_is_loaded}
 use Rattle.rr_cluster.proofs.MeaningLemmas.{bytes_found, no_snapshot_at, represents_same}
 use Rattle.rr_cluster.proofs.commands.load.load_node.Goals as goal
 
@@ -28,10 +29,13 @@ returns-in_err-origin g c = λ m is.
       represents_same c.args.cluster.now _ m (record { schema = refl; clock = refl; lead = refl; pages = refl; snapshots = refl; origins = refl }) is refl,
     )
 
-pub loaded-requires : goal.loaded-requires
-loaded-requires g c =
+pub loaded-requires-clause-layout : goal.loaded-requires-clause-layout
+loaded-requires-clause-layout g c = c.args.cluster.now.within
+
+pub loaded-requires-clause-snapshot : goal.loaded-requires-clause-snapshot
+loaded-requires-clause-snapshot g c =
     let kept = bytes_found c.args.cluster.now.snapshots c.args.name.now (Some c.in-Some.snapshot.now) c.in-Some.ensures.value in
-    rw c.deref.ensures.value (snapshot_of_schema c.args.cluster.now c.requires.0 c.requires.1 c.args.name.now c.args.node.now c.args.origin.now c.in-Some.snapshot.now.items kept)
+    rw c.deref.ensures.value (snapshot_of_script c.args.cluster.now c.requires.0 c.requires.1 c.args.name.now c.args.node.now c.args.origin.now c.in-Some.snapshot.now.items kept)
 
 pub returns-in_err-replica : goal.returns-in_err-replica
 returns-in_err-replica g c = λ m is.
@@ -40,7 +44,7 @@ returns-in_err-replica g c = λ m is.
     let same = represents_same old _ m (record { schema = refl; clock = refl; lead = refl; pages = refl; snapshots = refl; origins = refl }) is refl in
     let p = err_from_is_err_and c.from_residual-in_err-replica.result c.from_residual-in_err-replica.ensures.1 in
     let loads = rw c.deref.ensures.value at c.in_err-replica.ensures in
-    rw (p.1, p.2) (load_is_refused old m is c.args.name.now c.args.node.now c.args.origin.now c.in-Some.snapshot.now.items kept (sym c.if-not-is_name.ensures) c.in_ok-origin.origin (sym (c.in_ok-origin.ensures m.origins is.origins)) c.in_err-replica.field-0.0 loads _ same)
+    rw (p.1, p.2) (load_is_refused old m is c.args.name.now c.args.node.now c.args.origin.now c.in-Some.snapshot.now.items kept (sym c.if-not-is_name.ensures) c.in_ok-origin.origin (sym (c.in_ok-origin.ensures m.origins is.origins)) node_in c.in_err-replica.field-0.0 loads _ same)
 
 pub returns : goal.returns
 returns g c = λ m is.

@@ -3,7 +3,7 @@ use Rattle.std.proofs.lemmas.Result.{err_from_is_err_and}
 use Rattle.rr_cluster.specs.Commands.Save.{snapshot_of}
 use Rattle.rr_cluster.specs.Meaning.{node_in}
 use Rattle.rr_cluster.specs.Model.{cell_model}
-use Rattle.rr_cluster.proofs.CommandsLemmas.Save.{bad_name, no_node, node_is_saved, save_is_refused, snapshot_of_node, represents_with_snapshot}
+use Rattle.rr_cluster.proofs.CommandsLemmas.Save.{bad_name, no_node, node_is_saved, save_is_refused, represents_with_snapshot}
 use Rattle.rr_cluster.proofs.MeaningLemmas.{bytes_inserted, node_at}
 use Rattle.rr_cluster.proofs.commands.save.save_node.Goals as goal
 
@@ -32,7 +32,7 @@ returns g c = λ m is.
     let x = snapshot_of cell_model (node_in h) in
     let bytes = c.in_ok-snapshot.snapshot in
     let put = rw c.in_ok-name.ensures.items at (bytes_inserted old.snapshots c.insert.new.self c.in_ok-name.name bytes c.in_ok-insert.ensures.entries) in
-    let has = snapshot_of_node old m is node h here x bytes.items c.in_ok-snapshot.ensures in (
+    let has = c.in_ok-snapshot.ensures in (
       _,
       node_is_saved old m is name node named h here bytes c.in_ok-snapshot.ensures,
       represents_with_snapshot old _ m name bytes.items x is refl refl refl refl refl refl put has,

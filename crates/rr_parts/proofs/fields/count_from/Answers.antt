@@ -7,7 +7,7 @@ use Rattle.rr_page.specs.Reading.{number_at}
 use Rattle.rr_page.proofs.FrontLemmas.{IsFront-number}
 use Rattle.rr_parts.proofs.PieceLemmas.{piece_ok, piece_err}
 use Rattle.rr_parts.proofs.WidthLemmas.{HasWidth-number}
-use Rattle.rr_parts.proofs.heading.count_from.Goals as goal
+use Rattle.rr_parts.proofs.fields.count_from.Goals as goal
 
 pub returns-clause-read : goal.returns-clause-read
 returns-clause-read g c =
