@@ -1,9 +1,9 @@
 #!/usr/bin/env python3
 """Looks into a snapshot that `rr serve --save` wrote.
 
-usage: snapshot.py check FILE     its schema, origin and number of cells; status 1 if its digest is wrong
-       snapshot.py series FILE    a line a series: key, number of cells, time of the last sample in seconds
-       snapshot.py cells FILE     a record of CSV a cell
+usage: rr-snapshot check FILE     its schema, origin and number of cells; status 1 if its digest is wrong
+       rr-snapshot series FILE    a line a series: key, number of cells, time of the last sample in seconds
+       rr-snapshot cells FILE     a record of CSV a cell
 
 The bytes are those of docs/FORMATS.md, "Snapshot", in both versions.
 """
@@ -37,10 +37,10 @@ def read(path):
     data = pathlib.Path(path).read_bytes()
     body, digest = data[:-DIGEST_LEN], data[-DIGEST_LEN:]
     if body[:4] != b"RRSN" or hashlib.sha256(body).digest() != digest:
-        sys.exit(f"snapshot.py: {path} isn't a whole snapshot")
+        sys.exit(f"rr-snapshot: {path} isn't a whole snapshot")
     _, version, step, archives = HEAD.unpack_from(body)
     if version not in MASK_LEN:
-        sys.exit(f"snapshot.py: {path} is of version {version}")
+        sys.exit(f"rr-snapshot: {path} is of version {version}")
     at = HEAD.size
     schema = [str(step)]
     for steps, rows, num, den in ARCHIVE.iter_unpack(body[at : at + archives * ARCHIVE.size]):
