@@ -224,7 +224,10 @@ pub(crate) fn archives_from<R: Read>(
 }
 
 /// The number of cells at the front of what the input has.
-pub(crate) fn count_from<R: Read>(input: &mut Counted<R>, hasher: &mut Sha256) -> Result<u32, LoadFault>
+pub(crate) fn count_from<R: Read>(
+    input: &mut Counted<R>,
+    hasher: &mut Sha256,
+) -> Result<u32, LoadFault>
     ensures read { StreamGives (λ x. x) result (R.remaining (inner_of input.old))
         (R.remaining (inner_of input.new)) (λ all. as_in_page (number_at w32 all)) }
     ensures digest { OnOk result (Digests (R.remaining (inner_of input.old))
