@@ -30,12 +30,15 @@ TIMED_RUNS = 4
 # Files of librrd that are made at most.
 MOST_FILES = 100_000
 
-# Series and rows of the run that tells how large a cell is; and of that which tells how large a series is. The
-# latter has few rows, which a ring makes at the first put, and as many as a list has room for at first.
+# Series and rows of the run that tells how large a cell is; and of those which tell how large a series is. The
+# first of the latter has few rows, as many as a list has room for at first; the second has the minutes of a day,
+# of which one is written.
 CELL_SERIES = 1_000
 CELL_ROWS = 1_000
 MANY_SERIES = 1_000_000
 FEW_ROWS = 4
+DAY_SERIES = 100_000
+DAY_ROWS = 1_440
 
 
 def write_script(file, archives, rows, lines):
@@ -121,13 +124,13 @@ def cell_bytes(folder, program):
     return more / (CELL_SERIES * (CELL_ROWS - 1))
 
 
-def series_bytes(folder, program):
-    """A series with its few rows: as many lines of meters of their own, and of few meters."""
+def series_bytes(folder, program, rows, series):
+    """A series of so many rows, of which one is written: as many lines of meters of their own, and of few meters."""
     time = f"{second(0)}000000000"
-    own = (narrow(one, time) for one in range(MANY_SERIES))
-    same = (narrow(one % CELL_SERIES, time) for one in range(MANY_SERIES))
-    more = memory(folder, program, FEW_ROWS, own) - memory(folder, program, FEW_ROWS, same)
-    return more / (MANY_SERIES - CELL_SERIES)
+    own = (narrow(one, time) for one in range(series))
+    same = (narrow(one % CELL_SERIES, time) for one in range(series))
+    more = memory(folder, program, rows, own) - memory(folder, program, rows, same)
+    return more / (series - CELL_SERIES)
 
 
 def print_puts(folder, name, words, series, archives):
@@ -142,8 +145,10 @@ def print_puts(folder, name, words, series, archives):
 def print_memory(folder, program):
     cell = cell_bytes(folder, program)
     print(f"a cell of a full ring: {cell:.0f} bytes")
-    series = series_bytes(folder, program) - FEW_ROWS * cell
-    print(f"a series beside its rows: {series:.0f} bytes", flush=True)
+    series = series_bytes(folder, program, FEW_ROWS, MANY_SERIES) - FEW_ROWS * cell
+    print(f"a series beside its rows: {series:.0f} bytes")
+    series = series_bytes(folder, program, DAY_ROWS, DAY_SERIES)
+    print(f"a series of {DAY_ROWS:,} rows with one written: {series:.0f} bytes", flush=True)
 
 
 def main():

@@ -1,8 +1,8 @@
 -- Two live slots of one position are one.
-use Rattle.std.proofs.Common.{◌≡◌, ℕ, suc, ◌+◌, ◌*◌, ◌%◌, ◌/◌, ◌<◌, ◌≤◌, ℤ, pos, negsuc, ◌+ℤ◌, ◌-ℤ◌, ◌≤ℤ◌, ◌<ℤ◌, true, false, refl, sym, ap, ◌∙◌, arith, mul_comm, ⊎_elim}
+use Rattle.std.proofs.Common.{◌≡◌, ℕ, suc, ◌+◌, ◌*◌, ◌%◌, ◌/◌, ◌<◌, ◌≤◌, ℤ, pos, negsuc, ◌+ℤ◌, ◌-ℤ◌, ◌≤ℤ◌, ◌<ℤ◌, true, false, refl, sym, ap, ◌∙◌, subst, arith, mul_comm, ⊎_elim}
 use Rattle.std.specs.Prelude.{unsigned_abs, int_lt}
 use Rattle.std.proofs.Math.Nat.{mul-le-mul_left, mul-suc}
-use Rattle.std.proofs.lemmas.Nat.{div-add-mod'}
+use Rattle.std.proofs.lemmas.Nat.{div-add-mod', mod-mul-add}
 use Rattle.std.proofs.lemmas.Bool.{cases_lt}
 use Rattle.std.proofs.lemmas.Int.{ints, int_rem_euclid_is}
 use Rattle.rr_ring.specs.Positions.{position_of}
@@ -49,6 +49,27 @@ module _ (k n : ℕ) (some : 1 ≤ n) where
   position_is : (z : ℤ) → unsigned_abs z ≤ k → position_of n z ≡ ahead k n z % n
   unfolding position_of
   position_is z near = ap unsigned_abs (int_rem_euclid_is z (pos n) n k (ahead k n z) (omega arith) refl (ahead_is z near))
+
+-- the slot a few later has the position that is as many later, where the ring goes on so far
+pub position_on : (n : ℕ) (z : ℤ) (i : ℕ) → 1 ≤ n → position_of n z + i < n → position_of n (z +ℤ pos i) ≡ position_of n z + i
+position_on n z i some near =
+    let k = unsigned_abs z + unsigned_abs (z +ℤ pos i) in
+    let is = position_is k n some z (omega arith) in
+    let later = ahead_is k n some (z +ℤ pos i) (omega arith) in
+    let first = ahead_is k n some z (omega arith) in
+    let more : ahead k n (z +ℤ pos i) ≡ ahead k n z + i = further z (k * n) i (ahead k n z) (ahead k n (z +ℤ pos i)) first later in
+    position_is k n some (z +ℤ pos i) (omega arith)
+    ∙ ap (λ m. m % n) more
+    ∙ rest_on (ahead k n z) i n (subst (λ r. r + i < n) is near)
+    ∙ ap (λ r. r + i) (sym is)
+  where
+    further : (z : ℤ) (m i x y : ℕ) → z +ℤ pos m ≡ pos x → (z +ℤ pos i) +ℤ pos m ≡ pos y → y ≡ x + i
+    further z m i x y p q = omega (arith, ints)
+
+    rest_on : (m i n : ℕ) → m % n + i < n → (m + i) % n ≡ m % n + i
+    rest_on m i n near =
+        let parts = div-add-mod' m n in
+        ap (λ x. x % n) {y = m / n * n + (m % n + i)} (omega arith) ∙ mod-mul-add (m / n) n (m % n + i) near
 
 -- the positions of two slots, as the remainders of two naturals
 not_above : (n : ℕ) (a b : ℤ) → 1 ≤ n → position_of n a ≡ position_of n b → b <ℤ (a +ℤ pos n) → b ≤ℤ a

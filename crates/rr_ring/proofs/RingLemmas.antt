@@ -1,12 +1,12 @@
 -- What is stored of each slot, before and after a change of one row.
-use Rattle.std.proofs.Common.{◌≡◌, ℕ, zero, suc, ◌+◌, ◌*◌, ◌/◌, ◌%◌, ◌<◌, ℤ, true, false, cond, List, [], ◌∷◌, ◌++◌, map, length, set, refl, sym, ap, ◌∙◌, subst, Option, Some, None, IsTrue, arith, eqb, true≢false}
+use Rattle.std.proofs.Common.{◌≡◌, ℕ, zero, suc, ◌+◌, ◌*◌, ◌/◌, ◌%◌, ◌<◌, ◌≤◌, ℤ, true, false, cond, List, [], ◌∷◌, ◌++◌, map, length, set, refl, sym, ap, ◌∙◌, subst, Option, Some, None, IsTrue, arith, eqb, true≢false}
 use Rattle.std.specs.Prelude.{slice_get}
 use Rattle.std.specs.Option.{option_map}
 use Rattle.std.specs.Ordering.{int_eq}
 use Rattle.std.proofs.lemmas.Bool.{eqb-true}
 use Rattle.std.proofs.lemmas.Bool.Decides.{nat_tests}
-use Rattle.std.proofs.lemmas.Nat.{div-add-mod'}
-use Rattle.std.proofs.lemmas.Option.{slice_get-map, slice_get_within}
+use Rattle.std.proofs.lemmas.Nat.{div-add-mod', div-mul-add, mod-mul-add}
+use Rattle.std.proofs.lemmas.Option.{slice_get-map, slice_get_within, slice_get_past}
 use Rattle.rr_archive.specs.declared.entry.Entry.{Entry}
 use Rattle.rr_archive.specs.declared.change.Change.{Change}
 use Rattle.rr_archive.specs.Row.{with_entry}
@@ -18,7 +18,7 @@ use Rattle.rr_ring.specs.declared.ring.Ring.{Ring}
 use Rattle.rr_ring.specs.Positions.{position_of}
 use Rattle.rr_ring.specs.Ring.{row_at, IsRowChanged}
 use Rattle.rr_ring.specs.StoredRows.{items_of, items_at, has_room_at, is_blank, slot_and_entries}
-use Rattle.rr_ring.specs.Blocks.{items_in, items_of_block, items_by_position, has_room_in, block_has_room, has_room_by_position, IsChanged}
+use Rattle.rr_ring.specs.Blocks.{items_in, items_of_block, items_by_position, has_room_in, block_has_room, has_room_by_position, made_in, IsChanged}
 use Rattle.rr_ring.proofs.RingCellsLemmas.{empty_is}
 
 -- ---- lists
@@ -184,6 +184,20 @@ blocks_alike blocks b was block has same = λ i position s. (
       | true ↦ λ t. ap (λ f. f (position % BLOCK_ROWS) s) same ∙ sym (read_found blocks b position s was has (eqb-true b (position / BLOCK_ROWS) t))
       | false ↦ λ _. refl
     ] refl) i
+
+-- a position in the block of another, past the rows that are made there, stores nothing
+pub blocks_unmade : (blocks : List Block) (at i : ℕ) (s : ℤ) → made_in (slice_get blocks (at / BLOCK_ROWS)) ≤ at % BLOCK_ROWS + i → at % BLOCK_ROWS + i < BLOCK_ROWS → items_by_position blocks (at + i) s ≡ []
+unfolding items_by_position items_in
+blocks_unmade blocks at i s past within =
+    let parts = div-add-mod' at BLOCK_ROWS in
+    let is : at + i ≡ at / BLOCK_ROWS * BLOCK_ROWS + (at % BLOCK_ROWS + i) = omega arith in
+    let block : (at + i) / BLOCK_ROWS ≡ at / BLOCK_ROWS = ap (λ n. n / BLOCK_ROWS) is ∙ div-mul-add (at / BLOCK_ROWS) BLOCK_ROWS (at % BLOCK_ROWS + i) within in
+    let number : (at + i) % BLOCK_ROWS ≡ at % BLOCK_ROWS + i = ap (λ n. n % BLOCK_ROWS) is ∙ mod-mul-add (at / BLOCK_ROWS) BLOCK_ROWS (at % BLOCK_ROWS + i) within in
+    (λ j. items_of_block (slice_get blocks (block j)) (number j) s) ∙ unmade (slice_get blocks (at / BLOCK_ROWS)) (at % BLOCK_ROWS + i) past
+  where
+    unmade : (o : Option Block) (number : ℕ) → made_in o ≤ number → items_of_block o number s ≡ []
+    unmade None number past = refl
+    unmade (Some block) number past = ap (λ o. items_at o s) (slice_get_past block.rows.items number past)
 
 -- of two positions in one block, or in two
 positions_apart : (m n : ℕ) → eqb (n / BLOCK_ROWS) (m / BLOCK_ROWS) ≡ false → eqb m n ≡ false

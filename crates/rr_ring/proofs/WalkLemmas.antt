@@ -58,6 +58,21 @@ module _ (f : ℤ → List Entry) (z : ℤ) (n : ℕ) where
   pub length_step : (i : ℕ) → i < n → length (cells_left f z n i) ≡ length (f (z +ℤ pos i)) + length (cells_left f z n (i + 1))
   length_step i h = ap length (left_step i h) ∙ length-row (z +ℤ pos i) (f (z +ℤ pos i)) (cells_left f z n (i + 1))
 
+  skip : (i d : ℕ) → i + (d + 1) ≤ n → ((j : ℕ) → 1 ≤ j → j ≤ d → f ((z +ℤ pos i) +ℤ pos j) ≡ []) → cells_left f z n (i + 1) ≡ cells_left f z n (i + (d + 1))
+  skip i zero le none = ap (cells_left f z n) (omega arith)
+  skip i (suc d) le none =
+      skip i d (omega arith) (λ j some h. none j some (omega arith))
+      ∙ left_step (i + (d + 1)) (omega arith)
+      ∙ ap (λ es. row_cells (z +ℤ pos (i + (d + 1))) es ++ cells_left f z n ((i + (d + 1)) + 1)) (ap f (apart z i (d + 1)) ∙ none (d + 1) (omega arith) (omega arith))
+      ∙ ap (cells_left f z n) (omega arith)
+    where
+      apart : (z : ℤ) (i j : ℕ) → z +ℤ pos (i + j) ≡ (z +ℤ pos i) +ℤ pos j
+      apart z i j = omega (arith, ints)
+
+  -- rows without an entry are passed over
+  pub left_skip : (i d : ℕ) → 1 ≤ d → i + d ≤ n → ((j : ℕ) → 1 ≤ j → j < d → f ((z +ℤ pos i) +ℤ pos j) ≡ []) → cells_left f z n (i + 1) ≡ cells_left f z n (i + d)
+  left_skip i d some le none = skip i (d - 1) (omega arith) (λ j one h. none j one (omega arith)) ∙ ap (cells_left f z n) (omega arith)
+
   -- the slots before that of a cell slot have no cell after it
   pub find_skip : (p : CellSlot) (j : ℕ) → j ≤ n → (0 < j → (z +ℤ pos j) ≤ℤ p.slot) → find (is_past p) (cells_left f z n j) ≡ find (is_past p) (cells_left f z n 0)
   find_skip p zero h le = refl

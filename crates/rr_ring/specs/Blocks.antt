@@ -1,5 +1,5 @@
 -- What blocks store: the entries of a slot, by the number of a row in its block, and by position.
-use Rattle.std.specs.Prelude.{◌≡◌, ℕ, ℤ, ◌/◌, ◌%◌, ◌==◌, Bool, false, List, [], Option, Some, None, slice_get, if◌then◌else◌}
+use Rattle.std.specs.Prelude.{◌≡◌, ℕ, ℤ, ◌/◌, ◌%◌, ◌==◌, Bool, false, List, [], Option, Some, None, length, slice_get, if◌then◌else◌}
 use Rattle.std.specs.Ordering.{int_eq}
 use Rattle.rr_archive.specs.declared.entry.Entry.{Entry}
 use Rattle.rr_archive.specs.Row.{with_entry}
@@ -32,6 +32,11 @@ block_has_room (Some block) number slot origin = has_room_in block number slot o
 unfoldable pub has_room_by_position : List Block → ℕ → ℤ → ℕ → Bool
 has_room_by_position blocks position slot origin =
     block_has_room (slice_get blocks (position / BLOCK_ROWS)) (position % BLOCK_ROWS) slot origin
+
+-- how many rows of a block are made
+abbrev pub made_in : Option Block → ℕ
+made_in None = 0
+made_in (Some block) = length block.rows.items
 
 -- ---- a change
 

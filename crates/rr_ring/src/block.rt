@@ -44,7 +44,15 @@ impl Block {
         }
     }
 
-    /// Makes the rows up to a number, in a block that is to have `len` rows.
+    /// How many rows are made: those with a number from this one on have no entry.
+    pub(crate) fn rows_made(&self) -> usize
+        ensures { result ≡ length self.now.rows.items }
+    {
+        self.rows.len()
+    }
+
+    /// Makes the rows up to a number, in a block that is to have `len` rows. It takes memory as it
+    /// fills, for 4, 8, 16, 32 and 64 rows.
     fn make_rows(&mut self, number: usize, len: usize) -> Result<(), AllocError>
         ensures same { items_in self.new ≡ items_in self.old }
         ensures made { OnOk result (number < length self.new.rows.items) }
@@ -54,7 +62,8 @@ impl Block {
         if number < self.rows.len() {
             return Ok(());
         }
-        self.rows.reserve(len.saturating_sub(self.rows.len()))?;
+        let few = number.saturating_add(1).min(len);
+        self.rows.reserve(few.saturating_sub(self.rows.len()))?;
         while self.rows.len() <= number {
             self.rows.push(StoredRow::blank())?;
         }

@@ -1,5 +1,5 @@
 //! A ring of stored rows, and where a slot is in it.
-ghost use Rattle.std.specs.Prelude.{◌≡◌, ◌<◌, ◌≤◌};
+ghost use Rattle.std.specs.Prelude.{◌≡◌, ◌+◌, ◌%◌, ◌<◌, ◌≤◌};
 ghost use Rattle.rr_ring.specs.Positions.{position_of};
 
 use crate::block::{BLOCK_ROWS, Block};
@@ -26,7 +26,9 @@ impl Ring {
     /// How many rows the block of a position is to have.
     pub(crate) fn block_len(&self, position: usize) -> usize
         requires { position < self.now.rows }
-        ensures { result ≤ BLOCK_ROWS }
+        ensures at_most { result ≤ BLOCK_ROWS }
+        ensures has { position % BLOCK_ROWS < result }
+        ensures within { position + result ≤ self.now.rows + position % BLOCK_ROWS }
     {
         let start = position - position % BLOCK_ROWS;
         BLOCK_ROWS.min(self.rows as usize - start)

@@ -199,13 +199,15 @@ impl Archive for RingArchive {
         };
         let first = self.first_slot(newest);
         let mut left = i;
-        for k in 0..self.ring.rows {
+        let mut k = 0;
+        while k < self.ring.rows {
             let slot = first + i64::from(k);
             let row = self.ring.row(slot);
             if left < row.len() {
                 return Some((slot, row[left]));
             }
             left -= row.len();
+            k += self.ring.slots_on(slot, self.ring.rows - k);
         }
         None
     }
@@ -218,11 +220,13 @@ impl Archive for RingArchive {
         if newest < slot {
             return None;
         }
-        for k in rows_before(slot, first, self.ring.rows)..self.ring.rows {
+        let mut k = rows_before(slot, first, self.ring.rows);
+        while k < self.ring.rows {
             let at = first + i64::from(k);
             if let Some(entry) = first_after(self.ring.row(at), slot < at, origin) {
                 return Some((at, entry));
             }
+            k += self.ring.slots_on(at, self.ring.rows - k);
         }
         None
     }

@@ -1,8 +1,8 @@
 //! What is stored in a ring: read, changed and copied.
-ghost use Rattle.std.specs.Prelude.{◌≡◌, ◌<◌, ◌≤◌, ℤ, [], length, is_none, IsTrue, IsOk, OnOk, OnErr, IfOk};
+ghost use Rattle.std.specs.Prelude.{◌≡◌, ◌<◌, ◌≤◌, ◌+◌, ◌/◌, ◌+ℤ◌, ℕ, ℤ, pos, [], length, is_none, slice_get, IsTrue, IsOk, OnOk, OnErr, IfOk};
 ghost use Rattle.rr_archive.specs.Row.{entry_at};
 ghost use Rattle.rr_archive.specs.Changes.{Fits, entry_after};
-ghost use Rattle.rr_ring.specs.Blocks.{items_by_position};
+ghost use Rattle.rr_ring.specs.Blocks.{items_by_position, made_in};
 ghost use Rattle.rr_ring.specs.Ring.{row_at, has_room, IsRowChanged};
 
 use crate::block::{BLOCK_ROWS, Block};
@@ -35,6 +35,45 @@ impl Ring {
             Some(block) => block.entries(position % BLOCK_ROWS, slot),
             None => &[],
         }
+    }
+
+    /// How many rows of the block of a position are made.
+    fn rows_made(&self, position: usize) -> usize
+        ensures { result ≡ made_in (slice_get self.now.blocks.items (position / BLOCK_ROWS)) }
+    {
+        match self.blocks.get(position / BLOCK_ROWS) {
+            Some(block) => block.rows_made(),
+            None => 0,
+        }
+    }
+
+    /// How many positions on from one the next is that has a row, or the block ends: those between
+    /// store nothing.
+    fn positions_on(&self, position: usize) -> usize
+        requires { position < self.now.rows }
+        ensures some { 1 ≤ result }
+        ensures at_most { result ≤ BLOCK_ROWS }
+        ensures within { position + result ≤ self.now.rows }
+        ensures empty { (i : ℕ) (slot : ℤ)
+            → 1 ≤ i → i < result → items_by_position self.now.blocks.items (position + i) slot ≡ [] }
+    {
+        let number = position % BLOCK_ROWS;
+        if number + 1 < self.rows_made(position) {
+            return 1;
+        }
+        self.block_len(position) - number
+    }
+
+    /// How many slots on from one the next is to look at, at most `most`: nothing is stored of those
+    /// between. A block that isn't made is passed over in one step.
+    pub(crate) fn slots_on(&self, slot: i64, most: u32) -> u32
+        requires { 1 ≤ most }
+        ensures some { 1 ≤ result }
+        ensures at_most { result ≤ most }
+        ensures empty { (i : ℕ) → 1 ≤ i → i < result → row_at self.now (slot +ℤ pos i) ≡ [] }
+    {
+        let on = self.positions_on(self.position(slot));
+        most.min(on as u32)
     }
 
     /// Adds blocks up to a number; none of them takes memory for rows yet.

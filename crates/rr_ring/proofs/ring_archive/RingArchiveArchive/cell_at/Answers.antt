@@ -5,7 +5,7 @@ use Rattle.rr_archive.specs.declared.entry.Entry.{Entry}
 use Rattle.rr_archive.specs.Cells.{cell_of}
 use Rattle.rr_ring.specs.Ring.{row_at}
 use Rattle.rr_archive.proofs.RowCells.{cell_here, cell_later}
-use Rattle.rr_ring.proofs.WalkLemmas.{cells_left, left_step, left_none, entries_live, entries_none}
+use Rattle.rr_ring.proofs.WalkLemmas.{cells_left, left_step, left_none, left_skip, entries_live, entries_none}
 use Rattle.rr_ring.proofs.ring_archive.RingArchiveArchive.cell_at.Goals as goal
 
 pub returns-in_default : goal.returns-in_default
@@ -18,7 +18,7 @@ loop-k-init c =
     let a = c.args.self.now in
     let z = to_z w64 (of_z w64 c.first_slot-first.result) in
     let first : z ≡ ((c.in-Some.newest -ℤ pos a.ring.rows) +ℤ pos 1) = search rules in
-    ap (λ es. slice_get es c.args.i) (entries_live a.ring.rows a.newest (row_at a.ring) a.held.ascend c.in-Some.newest z c.in-Some.is first)
+    record { left = ap (λ es. slice_get es c.args.i) (entries_live a.ring.rows a.newest (row_at a.ring) a.held.ascend c.in-Some.newest z c.in-Some.is first); within = omega arith }
 
 pub returns-then-left-row : goal.returns-then-left-row
 returns-then-left-row c =
@@ -34,7 +34,7 @@ returns-then-left-row c =
     ∙ ap (λ (e : Entry). Some (at, e)) (c.index-row-left.is ∙ ap (λ es. get_or es c.loop-k.left d) row)
     ∙ sym (cell_here at (f at) (cells_left f z a.ring.rows (c.loop-k.k + 1)) c.loop-k.left d within)
     ∙ ap (λ es. option_map cell_of (slice_get es c.loop-k.left)) (sym (left_step f z a.ring.rows c.loop-k.k c.loop-k-test.true))
-    ∙ ap (option_map cell_of) c.loop-k.invariant
+    ∙ ap (option_map cell_of) c.loop-k.invariant.left
 
 pub loop-k-preserved : goal.loop-k-preserved
 loop-k-preserved c =
@@ -43,12 +43,20 @@ loop-k-preserved c =
     let z = to_z w64 (of_z w64 c.first_slot-first.result) in
     let row : c.row-row.result.now ≡ f (z +ℤ pos c.loop-k.k) = search rules in
     let at = z +ℤ pos c.loop-k.k in
+    let at_is : to_z w64 (of_z w64 (z +ℤ to_z w64 (of_z w64 c.from.result))) ≡ at = search rules in
     let rest = cells_left f z a.ring.rows (c.loop-k.k + 1) in
     let past : length (f at) ≤ c.loop-k.left = subst (λ es. length es ≤ c.loop-k.left) row c.if-left-row.false in
-    ap (λ es. slice_get rest (c.loop-k.left - length es)) row
-    ∙ sym (cell_later at (f at) rest c.loop-k.left past)
-    ∙ ap (λ es. slice_get es c.loop-k.left) (sym (left_step f z a.ring.rows c.loop-k.k c.loop-k-test.true))
-    ∙ c.loop-k.invariant
+    let within : c.loop-k.k < a.ring.rows = omega arith in
+    let skipped : rest ≡ cells_left f z a.ring.rows (c.loop-k.k + c.slots_on-k.result) = left_skip f z a.ring.rows c.loop-k.k c.slots_on-k.result c.slots_on-k.ensures.some (omega arith) (λ j some h. ap (λ y. f (y +ℤ pos j)) (sym at_is) ∙ c.slots_on-k.ensures.empty j some h) in
+    record {
+      left =
+          ap (λ es. slice_get es (c.loop-k.left - length c.row-row.result.now)) (sym skipped)
+          ∙ ap (λ es. slice_get rest (c.loop-k.left - length es)) row
+          ∙ sym (cell_later at (f at) rest c.loop-k.left past)
+          ∙ ap (λ es. slice_get es c.loop-k.left) (sym (left_step f z a.ring.rows c.loop-k.k within))
+          ∙ c.loop-k.invariant.left;
+      within = omega arith;
+    }
 
 pub returns : goal.returns
 returns c =
@@ -56,4 +64,4 @@ returns c =
     let f = row_at a.ring in
     let z = to_z w64 (of_z w64 c.first_slot-first.result) in
     let past : c.loop-k.k ≡ a.ring.rows = omega arith in
-    sym (ap (option_map cell_of) (sym c.loop-k.invariant ∙ ap (λ es. slice_get es c.loop-k.left) (ap (cells_left f z a.ring.rows) past ∙ left_none f z a.ring.rows)))
+    sym (ap (option_map cell_of) (sym c.loop-k.invariant.left ∙ ap (λ es. slice_get es c.loop-k.left) (ap (cells_left f z a.ring.rows) past ∙ left_none f z a.ring.rows)))

@@ -1,4 +1,4 @@
-use Rattle.std.proofs.Common.{◌≡◌}
+use Rattle.std.proofs.Common.{◌≡◌, ◌-◌, ◌≤◌}
 use Rattle.std.specs.List.{slice_get}
 use Rattle.std.specs.FinMap.{entries}
 use Rattle.rr_ring.specs.Ring.{row_at}
@@ -7,4 +7,10 @@ use Rattle.rr_ring.proofs.WalkLemmas.{cells_left}
 use Rattle.rr_ring.proofs.ring_archive.RingArchiveArchive.cell_at.Given as goal
 
 abbrev pub invariant-loop-k : goal.invariant-loop-k
-invariant-loop-k l = slice_get (cells_left (row_at l.self.ring) l.first l.self.ring.rows l.k) l.left ≡ slice_get (entries (cells_by l.self.ring.rows l.self.newest (row_at l.self.ring))) l.fn.i
+invariant-loop-k l = record {
+  left : slice_get (cells_left (row_at l.self.ring) l.first l.self.ring.rows l.k) l.left ≡ slice_get (entries (cells_by l.self.ring.rows l.self.newest (row_at l.self.ring))) l.fn.i;
+  within : l.k ≤ l.self.ring.rows;
+}
+
+abbrev pub decreases-loop-k : goal.decreases-loop-k
+decreases-loop-k l = l.self.ring.rows - l.k

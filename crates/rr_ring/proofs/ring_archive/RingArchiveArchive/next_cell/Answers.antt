@@ -1,4 +1,4 @@
-use Rattle.std.proofs.Common.{rules, ◌≡◌, ◌+◌, ◌≤◌, ℕ, ℤ, pos, ◌+ℤ◌, ◌-ℤ◌, ◌≤ℤ◌, false, sym, ap, ◌∙◌, Some, None, arith, to_z, of_z, w64}
+use Rattle.std.proofs.Common.{rules, ◌≡◌, ◌+◌, ◌<◌, ℕ, ℤ, pos, ◌+ℤ◌, ◌-ℤ◌, ◌≤ℤ◌, false, sym, ap, ◌∙◌, Some, None, arith, to_z, of_z, w64}
 use Rattle.std.specs.Prelude.{int_lt}
 use Rattle.std.specs.List.{find}
 use Rattle.std.specs.Option.{option_map}
@@ -11,7 +11,7 @@ use Rattle.rr_archive.specs.Cells.{cell_of}
 use Rattle.rr_ring.specs.Ring.{row_at}
 use Rattle.rr_ring.specs.RingCells.{cells_by}
 use Rattle.rr_archive.proofs.RowCells.{is_past}
-use Rattle.rr_ring.proofs.WalkLemmas.{cells_left, left_step, left_none, entries_live, entries_none, find_skip, past_found, past_none}
+use Rattle.rr_ring.proofs.WalkLemmas.{cells_left, left_step, left_none, left_skip, entries_live, entries_none, find_skip, past_found, past_none}
 use Rattle.rr_ring.proofs.ring_archive.RingArchiveArchive.next_cell.Goals as goal
 
 pub returns-in_default : goal.returns-in_default
@@ -39,11 +39,19 @@ loop-k-init c =
     let z = to_z w64 (of_z w64 c.first_slot-first.result) in
     let p = cell_slot (to_z w64 (of_z w64 c.args.slot)) c.args.origin in
     let first : z ≡ ((c.in-Some.newest -ℤ pos a.ring.rows) +ℤ pos 1) = search rules in
-    ap (option_map cell_of) (find_skip f z a.ring.rows p c.rows_before-k.result c.rows_before-k.ensures.at_most c.rows_before-k.ensures.before
-    ∙ ap (find (is_past p)) (entries_live a.ring.rows a.newest f a.held.ascend c.in-Some.newest z c.in-Some.is first))
+    record {
+      first =
+          ap (option_map cell_of) (find_skip f z a.ring.rows p c.rows_before-k.result c.rows_before-k.ensures.at_most c.rows_before-k.ensures.before
+          ∙ ap (find (is_past p)) (entries_live a.ring.rows a.newest f a.held.ascend c.in-Some.newest z c.in-Some.is first));
+      from = c.rows_before-k.ensures.from;
+      within = c.rows_before-k.ensures.at_most;
+    }
 
-not_before : (z slot : ℤ) (skipped k : ℕ) → slot ≤ℤ (z +ℤ pos skipped) → skipped ≤ k → int_lt (z +ℤ pos k) slot ≡ false
-not_before z slot skipped k h le = grind (arith, ints)
+not_before : (z slot : ℤ) (k : ℕ) → slot ≤ℤ (z +ℤ pos k) → int_lt (z +ℤ pos k) slot ≡ false
+not_before z slot k h = grind (arith, ints)
+
+further : (z slot : ℤ) (k d : ℕ) → slot ≤ℤ (z +ℤ pos k) → slot ≤ℤ (z +ℤ pos (k + d))
+further z slot k d h = omega (arith, ints)
 
 pub returns-in-Some-first_after : goal.returns-in-Some-first_after
 returns-in-Some-first_after c =
@@ -59,9 +67,9 @@ returns-in-Some-first_after c =
     let e : Entry = c.in-Some-first_after.entry in
     let some : find (is_after (int_lt slot at) c.args.origin) (f at) ≡ Some e = (λ i. find (is_after (int_lt slot (sym at_is i)) c.args.origin) (sym row i)) ∙ sym c.first_after.ensures ∙ c.in-Some-first_after.is in
     ap (λ y. Some (y, e)) at_is
-    ∙ sym (past_found slot at c.args.origin (f at) (cells_left f z a.ring.rows (c.loop-k.k + 1)) e (not_before z slot c.rows_before-k.result c.loop-k.k c.rows_before-k.ensures.from c.loop-k.auto.k) some)
+    ∙ sym (past_found slot at c.args.origin (f at) (cells_left f z a.ring.rows (c.loop-k.k + 1)) e (not_before z slot c.loop-k.k c.loop-k.invariant.from) some)
     ∙ ap (λ es. option_map cell_of (find (is_past p) es)) (sym (left_step f z a.ring.rows c.loop-k.k c.loop-k-test.true))
-    ∙ c.loop-k.invariant
+    ∙ c.loop-k.invariant.first
     ∙ ap (λ s. option_map cell_of (find (is_past (cell_slot s c.args.origin)) (entries (cells_by a.ring.rows a.newest f)))) back
 
 pub loop-k-preserved : goal.loop-k-preserved
@@ -74,9 +82,17 @@ loop-k-preserved c =
     let at_is : to_z w64 (of_z w64 (z +ℤ to_z w64 (of_z w64 c.from.result))) ≡ at = search rules in
     let row : c.row.result.now ≡ f at = search rules in
     let none : find (is_after (int_lt slot at) c.args.origin) (f at) ≡ None = (λ i. find (is_after (int_lt slot (sym at_is i)) c.args.origin) (sym row i)) ∙ sym c.first_after.ensures ∙ c.in_default-first_after.is in
-    past_none slot at c.args.origin (f at) (cells_left f z a.ring.rows (c.loop-k.k + 1)) (not_before z slot c.rows_before-k.result c.loop-k.k c.rows_before-k.ensures.from c.loop-k.auto.k) none
-    ∙ ap (λ es. option_map cell_of (find (is_past (cell_slot slot c.args.origin)) es)) (sym (left_step f z a.ring.rows c.loop-k.k c.loop-k-test.true))
-    ∙ c.loop-k.invariant
+    let within : c.loop-k.k < a.ring.rows = omega arith in
+    let skipped : cells_left f z a.ring.rows (c.loop-k.k + 1) ≡ cells_left f z a.ring.rows (c.loop-k.k + c.slots_on-k.result) = left_skip f z a.ring.rows c.loop-k.k c.slots_on-k.result c.slots_on-k.ensures.some (omega arith) (λ j some h. ap (λ y. f (y +ℤ pos j)) (sym at_is) ∙ c.slots_on-k.ensures.empty j some h) in
+    record {
+      first =
+          ap (λ es. option_map cell_of (find (is_past (cell_slot slot c.args.origin)) es)) (sym skipped)
+          ∙ past_none slot at c.args.origin (f at) (cells_left f z a.ring.rows (c.loop-k.k + 1)) (not_before z slot c.loop-k.k c.loop-k.invariant.from) none
+          ∙ ap (λ es. option_map cell_of (find (is_past (cell_slot slot c.args.origin)) es)) (sym (left_step f z a.ring.rows c.loop-k.k within))
+          ∙ c.loop-k.invariant.first;
+      from = further z slot c.loop-k.k c.slots_on-k.result c.loop-k.invariant.from;
+      within = omega arith;
+    }
 
 pub returns : goal.returns
 returns c =
@@ -86,5 +102,5 @@ returns c =
     let slot = to_z w64 (of_z w64 c.args.slot) in
     let back : slot ≡ c.args.slot = search rules in
     let past : c.loop-k.k ≡ a.ring.rows = omega arith in
-    let none = sym c.loop-k.invariant ∙ ap (λ es. option_map cell_of (find (is_past (cell_slot slot c.args.origin)) es)) (ap (cells_left f z a.ring.rows) past ∙ left_none f z a.ring.rows) in
+    let none = sym c.loop-k.invariant.first ∙ ap (λ es. option_map cell_of (find (is_past (cell_slot slot c.args.origin)) es)) (ap (cells_left f z a.ring.rows) past ∙ left_none f z a.ring.rows) in
     sym (ap (λ s. option_map cell_of (find (is_past (cell_slot s c.args.origin)) (entries (cells_by a.ring.rows a.newest f)))) (sym back) ∙ none)
