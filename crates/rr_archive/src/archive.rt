@@ -1,5 +1,5 @@
-//! What an archive of one series does.
-ghost use Rattle.std.specs.Prelude.{◌≡◌, ℕ, Bool, ◌<◌, ◌≤◌, IsTrue, IsFalse, IsOk, OnOk, OnErr, IfOk, IfSome, slice_get};
+//! What an archive of one series does: its cells, and its rows where they can be lent.
+ghost use Rattle.std.specs.Prelude.{◌≡◌, ℕ, Bool, ◌<◌, ◌≤◌, IsTrue, IsFalse, IsOk, OnOk, OnErr, IfOk, IfSome, [], length, slice_get, vec_capacity};
 ghost use Rattle.std.specs.Option.{option_map};
 ghost use Rattle.std.specs.FinMap as fin;
 ghost use Rattle.rr_contrib.specs.Contributions.{slot_sample};
@@ -17,8 +17,9 @@ use std::alloc::{AllocError, Global};
 ///
 /// It keeps the cells whose slots are live: above the newest slot less the rows of the archive. A
 /// cell of any other slot is past the horizon and leaves no trace. Slots are from -9,223,372,037 to
-/// 9,223,372,037. Only `ready`, `put`, `join_cell` and `copy` take memory.
-pub trait Archive: Drop {
+/// 9,223,372,037. Only `ready`, `put`, `join_cell` and `copy` take memory, and `entries_into` where the
+/// row that it is given has too little.
+pub trait Cells: Drop {
     ghost cells: { Self → Rows };
 
     ghost row_limit: { Self → ℕ };
@@ -102,9 +103,13 @@ pub trait Archive: Drop {
     fn newest(&self) -> Option<i64>
         ensures { result ≡ newest_of (fin.keys (cells self.now)) };
 
-    /// The entries of a slot, ascending by origin. The cost is at most logarithmic in the rows.
-    fn row(&self, slot: i64) -> &[Entry]
-        ensures { result.now ≡ row_of (cells self.now) slot };
+    /// Writes the entries of a slot, ascending by origin, over what a row has. An error leaves the row
+    /// empty; there is none where it has room for them. The cost is at most logarithmic in the rows, and
+    /// linear in the entries.
+    fn entries_into(&self, slot: i64, row: &mut Vec<Entry>) -> Result<(), AllocError>
+        ensures written { OnOk result (row.new.items ≡ row_of (cells self.now) slot) }
+        ensures emptied { OnErr result (row.new.items ≡ []) }
+        ensures room { length (row_of (cells self.now) slot) ≤ vec_capacity row.old → IsOk result };
 
     /// How many cells there are. The cost is at most linear in the rows.
     fn cell_count(&self) -> usize
@@ -125,4 +130,11 @@ pub trait Archive: Drop {
     fn copy(&self, alloc: Global) -> Result<Self, AllocError>
         ensures cells { IfOk result (λ a. cells a ≡ cells self.now) }
         ensures limit { IfOk result (λ a. row_limit a ≡ row_limit self.now) };
+}
+
+/// An archive that has its entries in memory as they are, and can lend them.
+pub trait Archive: Cells {
+    /// The entries of a slot, ascending by origin. The cost is at most logarithmic in the rows.
+    fn row(&self, slot: i64) -> &[Entry]
+        ensures { result.now ≡ row_of (Self.cells self.now) slot };
 }

@@ -1,11 +1,13 @@
 //! One archive of one series: what each origin contributes to each of its slots.
 //!
-//! An [`Archive`] is seen as a finite map from cell slots, each a slot and an origin, to
+//! An archive is seen, through [`Cells`], as a finite map from cell slots, each a slot and an origin, to
 //! contributions, in order (`specs/Cells.antt`). A sample is put at its cell slot, and a cell from
 //! elsewhere is joined: of two contributions at one cell slot the greater stays. Then only the live
 //! cells are kept, those whose slot is above the newest slot less the rows of the archive
 //! (`specs/CellSlots.antt`), so an archive never has more cells than its rows times the origins.
 //! Joined so, maps are the same in any order, in any grouping and any number of times (`laws`).
+//!
+//! An [`Archive`] lends the entries of a row besides; other kinds make them of less.
 //!
 //! [`PlainArchive`] keeps its rows in an ordered map. What it shares with other kinds of archive is
 //! public: which slots are live ([`live_slots`]), what a cell contributes after a sample or a join
@@ -23,7 +25,7 @@ mod plain;
 pub mod row;
 mod slots;
 
-pub use archive::Archive;
+pub use archive::{Archive, Cells};
 pub use entry::Entry;
 pub use new_sample::NewSample;
 pub use plain::PlainArchive;

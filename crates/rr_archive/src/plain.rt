@@ -10,7 +10,7 @@ ghost use Rattle.rr_archive.specs.Cells.{with_change};
 ghost use Rattle.rr_archive.specs.Codes.{coded_rows};
 ghost use Rattle.rr_archive.specs.Held.{IsHeld, cells_in, is_ready_in};
 
-use crate::archive::Archive;
+use crate::archive::{Archive, Cells};
 use crate::change::Change;
 use crate::entry::Entry;
 use crate::live_slots::{is_live, later};
@@ -60,7 +60,7 @@ impl PlainArchive {
     }
 }
 
-impl Archive for PlainArchive {
+impl Cells for PlainArchive {
     ghost cells = { λ a. cells_in a.slots.rows.entries };
 
     ghost row_limit = { λ a. a.rows };
@@ -121,11 +121,9 @@ impl Archive for PlainArchive {
         self.newest
     }
 
-    fn row(&self, slot: i64) -> &[Entry] {
-        match self.slots.rows.get(&slot) {
-            Some(row) => row.as_slice(),
-            None => &[],
-        }
+    fn entries_into(&self, slot: i64, row: &mut Vec<Entry>) -> Result<(), AllocError> {
+        row.clear();
+        row.extend_from_slice(self.row(slot))
     }
 
     fn cell_count(&self) -> usize {
@@ -148,5 +146,14 @@ impl Archive for PlainArchive {
             newest: self.newest,
             slots: self.slots.copy(alloc)?,
         })
+    }
+}
+
+impl Archive for PlainArchive {
+    fn row(&self, slot: i64) -> &[Entry] {
+        match self.slots.rows.get(&slot) {
+            Some(row) => row.as_slice(),
+            None => &[],
+        }
     }
 }

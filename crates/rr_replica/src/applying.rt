@@ -7,12 +7,12 @@ ghost use Rattle.rr_replica.specs.Standing.{held, IsReadyFor};
 use crate::hint::Hint;
 use crate::reading::Reading;
 use crate::replica::Replica;
-use rr_archive::Archive;
+use rr_archive::Cells;
 use rr_cells::Op;
 use rr_text::limits::MAX_NUMBER;
 use std::alloc::AllocError;
 
-impl<A: Archive> Replica<A> {
+impl<A: Cells> Replica<A> {
     /// Whether the replica takes an operation.
     pub(crate) fn accepts(&self, op: &Op) -> bool
         ensures accepted { result ≡ accepts (held self.now) op.now }

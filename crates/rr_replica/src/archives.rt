@@ -6,16 +6,13 @@ ghost use Rattle.rr_cells.specs.CellBounds.{IsCellOf};
 ghost use Rattle.rr_cells.specs.Listing.{owned_cell};
 
 use crate::reading::Reading;
-use rr_archive::Archive;
+use rr_archive::Cells;
 use rr_cells::{Cell, Op};
 use rr_schema::{Origin, Schema};
 use std::alloc::{AllocError, Global};
 
 /// An archive that holds no cell, for each of a schema's.
-pub(crate) fn empty_archives<A: Archive>(
-    alloc: Global,
-    schema: &Schema,
-) -> Result<Vec<A>, AllocError>
+pub(crate) fn empty_archives<A: Cells>(alloc: Global, schema: &Schema) -> Result<Vec<A>, AllocError>
     ensures of_schema { IfOk result (λ archives. AreOf A.row_limit schema.now archives.items) }
     ensures empty { IfOk result (λ archives. Each (λ i a. A.cells a ≡ fin.empty) archives.items) }
 {
@@ -28,7 +25,7 @@ pub(crate) fn empty_archives<A: Archive>(
 
 /// Makes room for a sample of a time and an origin in each archive from the one with a number on,
 /// and changes no cell.
-fn make_ready<A: Archive>(
+fn make_ready<A: Cells>(
     archives: &mut Vec<A>,
     schema: &Schema,
     time: i64,
@@ -51,7 +48,7 @@ fn make_ready<A: Archive>(
 
 /// Puts a sample into each archive, those after the first having room for it. Where the first can't
 /// take it, nothing has changed yet.
-fn put_ready<A: Archive>(
+fn put_ready<A: Cells>(
     archives: &mut Vec<A>,
     schema: &Schema,
     sample: &Reading,
@@ -80,7 +77,7 @@ fn put_ready<A: Archive>(
 }
 
 /// Puts a sample into each archive, or into none.
-pub(crate) fn put_into<A: Archive>(
+pub(crate) fn put_into<A: Cells>(
     archives: &mut Vec<A>,
     schema: &Schema,
     sample: &Reading,
@@ -97,7 +94,7 @@ pub(crate) fn put_into<A: Archive>(
 }
 
 /// Joins a cell into the archive that it is of, or into none.
-pub(crate) fn join_into<A: Archive>(
+pub(crate) fn join_into<A: Cells>(
     archives: &mut Vec<A>,
     schema: &Schema,
     cell: &Cell,
@@ -116,7 +113,7 @@ pub(crate) fn join_into<A: Archive>(
 }
 
 /// Makes room for a cell in the archive that it is of, and changes no cell.
-fn make_cell_ready<A: Archive>(
+fn make_cell_ready<A: Cells>(
     archives: &mut Vec<A>,
     schema: &Schema,
     cell: &Cell,
@@ -133,7 +130,7 @@ fn make_cell_ready<A: Archive>(
 }
 
 /// Makes room for an operation, and changes no cell.
-pub(crate) fn make_room<A: Archive>(
+pub(crate) fn make_room<A: Cells>(
     archives: &mut Vec<A>,
     schema: &Schema,
     op: &Op,

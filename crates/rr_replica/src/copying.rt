@@ -4,11 +4,11 @@ ghost use Rattle.rr_replica.specs.Held.{seen_archive, seen_at};
 ghost use Rattle.rr_replica.specs.SeriesMap.{entries_of, IsIndexed};
 
 use crate::series::SeriesMap;
-use rr_archive::Archive;
+use rr_archive::Cells;
 use std::alloc::{AllocError, Global};
 
 /// Archives with the same cells and rows, in the same order.
-fn copy_archives<A: Archive>(alloc: Global, archives: &[A]) -> Result<Vec<A>, AllocError>
+fn copy_archives<A: Cells>(alloc: Global, archives: &[A]) -> Result<Vec<A>, AllocError>
     ensures { IfOk result (λ new. map (seen_archive A.cells A.row_limit) new.items
         ≡ map (seen_archive A.cells A.row_limit) archives.now) }
 {
@@ -20,7 +20,7 @@ fn copy_archives<A: Archive>(alloc: Global, archives: &[A]) -> Result<Vec<A>, Al
 }
 
 /// The same archives for each key. The keys' texts are shared.
-pub(crate) fn copy_series<A: Archive>(
+pub(crate) fn copy_series<A: Cells>(
     alloc: Global,
     series: &SeriesMap<A>,
 ) -> Result<SeriesMap<A>, AllocError>

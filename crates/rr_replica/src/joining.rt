@@ -13,13 +13,13 @@ ghost use Rattle.rr_replica.specs.SeriesMap.{entries_of, IsIndexed};
 
 use crate::archives::{empty_archives, join_into};
 use crate::series::SeriesMap;
-use rr_archive::Archive;
+use rr_archive::Cells;
 use rr_cells::{Cell, Op};
 use rr_schema::{Origin, Schema};
 use std::alloc::{AllocError, Global};
 
 /// Joins a cell into the archives of its key, or into none.
-pub(crate) fn join_in<A: Archive>(
+pub(crate) fn join_in<A: Cells>(
     series: &mut SeriesMap<A>,
     alloc: Global,
     schema: &Schema,

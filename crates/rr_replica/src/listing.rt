@@ -15,14 +15,14 @@ ghost use Rattle.std.specs.FinMap as fin;
 ghost use Rattle.rr_cells.specs.Listing.{seen_cell, count_of, at_most_usize};
 
 use crate::series::SeriesMap;
-use rr_archive::{Archive, Entry};
+use rr_archive::{Cells, Entry};
 use rr_cells::CellRef;
 use rr_key::SeriesKey;
 use rr_text::limits::MAX_ARCHIVES;
 
 /// How many cells archives hold, added to others; the greatest value of the type, where it can't
 /// hold that many.
-pub(crate) fn count_in<A: Archive>(archives: &[A], others: usize) -> usize
+pub(crate) fn count_in<A: Cells>(archives: &[A], others: usize) -> usize
     ensures { result ≡ at_most_usize (others + count_of (map A.cells archives.now)) }
 {
     let mut count = others;
@@ -47,7 +47,7 @@ pub(crate) fn named(key: &SeriesKey, archive: u8, cell: (i64, Entry)) -> CellRef
 }
 
 /// The cell of an archive with a number. An archive that holds fewer is passed over by its count.
-fn nth_of<A: Archive>(archive: &A, number: usize) -> Option<(i64, Entry)>
+fn nth_of<A: Cells>(archive: &A, number: usize) -> Option<(i64, Entry)>
     ensures { result ≡ option_map cell_of (slice_get (fin.entries (A.cells archive.now)) number) }
 {
     if archive.cell_count() <= number {
@@ -58,7 +58,7 @@ fn nth_of<A: Archive>(archive: &A, number: usize) -> Option<(i64, Entry)>
 
 /// The cell with a number among those of a key's archives, or else what is left of the number after
 /// them.
-pub(crate) fn nth_in<'a, A: Archive>(
+pub(crate) fn nth_in<'a, A: Cells>(
     key: &'a SeriesKey,
     archives: &[A],
     number: usize,
@@ -78,7 +78,7 @@ pub(crate) fn nth_in<'a, A: Archive>(
 }
 
 /// How many cells all series hold, as `count_in` counts.
-pub(crate) fn count_cells<A: Archive>(series: &SeriesMap<A>) -> usize
+pub(crate) fn count_cells<A: Cells>(series: &SeriesMap<A>) -> usize
     requires { IsStrictlySortedBy bytes_cmp (keys_of (entries_of series.now)) }
     ensures { result ≡ at_most_usize (fin.len (cells_of (held_series A.cells (entries_of series.now)))) }
 {
@@ -90,7 +90,7 @@ pub(crate) fn count_cells<A: Archive>(series: &SeriesMap<A>) -> usize
 }
 
 /// The cell with a number among those of all series.
-pub(crate) fn nth_cell<A: Archive>(series: &SeriesMap<A>, number: usize) -> Option<CellRef<'_>>
+pub(crate) fn nth_cell<A: Cells>(series: &SeriesMap<A>, number: usize) -> Option<CellRef<'_>>
     requires ordered { IsStrictlySortedBy bytes_cmp (keys_of (entries_of series.now)) }
     requires few_archives { AllByRecursion (λ e. length e.1.items ≤ MAX_ARCHIVES) (entries_of series.now) }
     ensures { option_map seen_cell result

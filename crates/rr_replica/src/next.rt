@@ -14,7 +14,7 @@ ghost use Rattle.rr_replica.specs.Series.{cells_from, cells_of};
 
 use crate::listing::named;
 use crate::series::SeriesMap;
-use rr_archive::Archive;
+use rr_archive::Cells;
 use rr_cells::CellRef;
 use rr_key::SeriesKey;
 use rr_schema::Origin;
@@ -30,11 +30,7 @@ pub(crate) struct NameRef<'a> {
 }
 
 /// The first cell of a key's archives from the one with a number on.
-fn first_from<'a, A: Archive>(
-    key: &'a SeriesKey,
-    archives: &[A],
-    first: usize,
-) -> Option<CellRef<'a>>
+fn first_from<'a, A: Cells>(key: &'a SeriesKey, archives: &[A], first: usize) -> Option<CellRef<'a>>
     requires { length archives.now ≤ MAX_ARCHIVES }
     ensures { option_map seen_cell result
         ≡ slice_get (cells_from key.now first (drop first (map A.cells archives.now))) 0 }
@@ -48,7 +44,7 @@ fn first_from<'a, A: Archive>(
 }
 
 /// The first cell after a name among those of a key that is not before the name's.
-fn next_in<'a, A: Archive>(
+fn next_in<'a, A: Cells>(
     key: &'a SeriesKey,
     archives: &[A],
     name: &NameRef<'_>,
@@ -73,7 +69,7 @@ fn next_in<'a, A: Archive>(
 
 /// The first cell after a name among those of all series. No series before the name's key is walked
 /// over.
-pub(crate) fn next_cell<'a, A: Archive>(
+pub(crate) fn next_cell<'a, A: Cells>(
     series: &'a SeriesMap<A>,
     name: &NameRef<'_>,
 ) -> Option<CellRef<'a>>

@@ -9,14 +9,14 @@ use crate::archives::{empty_archives, put_into};
 use crate::hint::Hint;
 use crate::reading::Reading;
 use crate::series::SeriesMap;
-use rr_archive::Archive;
+use rr_archive::Cells;
 use rr_cells::Op;
 use rr_key::SeriesKey;
 use rr_schema::Schema;
 use std::alloc::{AllocError, Global};
 
 /// Puts a sample of a key into each of its archives, or into none.
-pub(crate) fn put_in<A: Archive>(
+pub(crate) fn put_in<A: Cells>(
     series: &mut SeriesMap<A>,
     alloc: Global,
     schema: &Schema,

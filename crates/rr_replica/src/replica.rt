@@ -23,7 +23,7 @@ use crate::putting::put_in;
 use crate::reading::Reading;
 use crate::room::make_room_in;
 use crate::series::SeriesMap;
-use rr_archive::{Archive, Entry};
+use rr_archive::{Archive, Cells, Entry};
 use rr_cells::{Cell, CellRef, Op};
 use rr_key::SeriesKey;
 use rr_point::{Field, Point};
@@ -39,7 +39,7 @@ use std::mem::replace;
 /// It writes samples under its origin, each with the next number. Its cells are live and valid at
 /// all times, and their number is bounded by the keys, rows and origins, whatever was written.
 #[derive(Drop)]
-pub struct Replica<A: Archive> {
+pub struct Replica<A: Cells> {
     alloc: Global,
     schema: Schema,
     origin: Origin,
@@ -49,7 +49,7 @@ pub struct Replica<A: Archive> {
     text: Vec<u8>,
 }
 
-impl<A: Archive> Model for Replica<A> {
+impl<A: Cells> Model for Replica<A> {
     ghost use Rattle.rr_replica.specs.Standing.{Standing, coded_standing, standing_of};
     ghost use Rattle.rr_replica.specs.Held.{IsHeld};
     ghost use Rattle.rr_replica.specs.SeriesMap.{entries_of, IsIndexed};
@@ -63,7 +63,7 @@ impl<A: Archive> Model for Replica<A> {
     ghost invariant = { λ r. IsHeld A.cells A.row_limit r.schema r.origin r.next (entries_of r.series) × IsIndexed r.series };
 }
 
-impl<A: Archive> Replica<A> {
+impl<A: Cells> Replica<A> {
     /// A replica that holds no cell, and whose first sample has number 1.
     pub fn new(alloc: Global, schema: &Schema, origin: Origin) -> Result<Replica<A>, AllocError>
         ensures { IfOk result (λ r.
@@ -222,20 +222,6 @@ impl<A: Archive> Replica<A> {
         }
     }
 
-    /// The entries of a slot of an archive of a key, ascending by origin. There are none past the
-    /// schema's last archive. The cost is one look-up of the key and one of the slot.
-    pub fn row(&self, key: &SeriesKey, archive: u8, slot: i64) -> &[Entry]
-        ensures { result.now ≡ row_at self.now.cells key.now archive slot }
-    {
-        match self.series.get(key) {
-            Some(archives) => match archives.get(archive as usize) {
-                Some(archive) => archive.row(slot),
-                None => &[],
-            },
-            None => &[],
-        }
-    }
-
     /// How many cells there are; the greatest value of the type, where it can't hold that many. The
     /// cost is linear in the series.
     pub fn cell_count(&self) -> usize
@@ -304,6 +290,22 @@ impl<A: Archive> Replica<A> {
 }
 
 impl<A: Archive> Replica<A> {
+    /// The entries of a slot of an archive of a key, ascending by origin. There are none past the
+    /// schema's last archive. The cost is one look-up of the key and one of the slot.
+    pub fn row(&self, key: &SeriesKey, archive: u8, slot: i64) -> &[Entry]
+        ensures { result.now ≡ row_at self.now.cells key.now archive slot }
+    {
+        match self.series.get(key) {
+            Some(archives) => match archives.get(archive as usize) {
+                Some(archive) => archive.row(slot),
+                None => &[],
+            },
+            None => &[],
+        }
+    }
+}
+
+impl<A: Cells> Replica<A> {
     /// Whether fewer numbers are left than these.
     pub fn lacks_numbers(&self, count: usize) -> bool
         ensures { result ≡ lacks_numbers (held self.now) count }
@@ -336,7 +338,7 @@ impl<A: Archive> Replica<A> {
     }
 }
 
-impl<A: Archive> Replica<A> {
+impl<A: Cells> Replica<A> {
     ghost use Rattle.rr_cells.specs.Joining.{with_cell, with_cells};
     ghost use Rattle.rr_replica.specs.Joining.{IsAfterJoined, IsJoinedWith};
 

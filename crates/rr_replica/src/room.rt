@@ -9,14 +9,14 @@ ghost use Rattle.rr_replica.specs.Held.{held_series, HasRoom, AreAllSized};
 use crate::archives::{empty_archives, make_room};
 use crate::hint::Hint;
 use crate::series::SeriesMap;
-use rr_archive::Archive;
+use rr_archive::Cells;
 use rr_cells::Op;
 use rr_schema::Schema;
 use std::alloc::{AllocError, Global};
 
 /// Makes room for an operation in the archives of its key, which are added where there are none. No
 /// cell changes.
-pub(crate) fn make_room_in<A: Archive>(
+pub(crate) fn make_room_in<A: Cells>(
     series: &mut SeriesMap<A>,
     alloc: Global,
     schema: &Schema,

@@ -8,10 +8,10 @@ ghost use Rattle.rr_replica.specs.Writing.{is_ahead};
 
 use crate::fault::WriteFault;
 use crate::replica::Replica;
-use rr_archive::Archive;
+use rr_archive::Cells;
 use rr_point::Point;
 
-impl<A: Archive> Replica<A> {
+impl<A: Cells> Replica<A> {
     ghost use Rattle.rr_replica.specs.Writing.{IsAfterRefusal, IsMemoryAfter, with_fields, is_ahead, lacks_numbers};
 
     /// Puts a sample of each field of a point, in the line's order, under as many numbers, and

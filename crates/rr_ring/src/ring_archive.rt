@@ -14,7 +14,7 @@ use crate::ring::Ring;
 use rr_archive::change::Change;
 use rr_archive::live_slots::{is_live, later};
 use rr_archive::row::first_after;
-use rr_archive::{Archive, Entry, NewSample};
+use rr_archive::{Archive, Cells, Entry, NewSample};
 use rr_contrib::Contribution;
 use rr_schema::Origin;
 use std::alloc::{AllocError, Global};
@@ -121,7 +121,7 @@ impl RingArchive {
     }
 }
 
-impl Archive for RingArchive {
+impl Cells for RingArchive {
     ghost cells = { λ a. cells_in a.newest a.ring };
 
     ghost row_limit = { λ a. a.ring.rows };
@@ -181,12 +181,9 @@ impl Archive for RingArchive {
         self.newest
     }
 
-    fn row(&self, slot: i64) -> &[Entry] {
-        if is_live(self.ring.rows, self.newest, slot) {
-            self.ring.row(slot)
-        } else {
-            &[]
-        }
+    fn entries_into(&self, slot: i64, row: &mut Vec<Entry>) -> Result<(), AllocError> {
+        row.clear();
+        row.extend_from_slice(self.row(slot))
     }
 
     fn cell_count(&self) -> usize {
@@ -237,5 +234,15 @@ impl Archive for RingArchive {
             count: self.count,
             ring: self.ring.copy(alloc)?,
         })
+    }
+}
+
+impl Archive for RingArchive {
+    fn row(&self, slot: i64) -> &[Entry] {
+        if is_live(self.ring.rows, self.newest, slot) {
+            self.ring.row(slot)
+        } else {
+            &[]
+        }
     }
 }

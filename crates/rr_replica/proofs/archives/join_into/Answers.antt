@@ -15,8 +15,8 @@ join_cell-requires g c =
 
 pub returns : goal.returns
 returns g c =
-    let cells = g.A.Archive.cells in
-    let limit = g.A.Archive.row_limit in
+    let cells = g.A.Cells.cells in
+    let limit = g.A.Cells.row_limit in
     let items = c.args.archives.now.items in
     let cell = c.args.cell.now in
     let was = c.index_mut-archive.result.now in

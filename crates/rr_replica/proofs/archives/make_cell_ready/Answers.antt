@@ -14,8 +14,8 @@ ready-requires g c =
 
 pub returns : goal.returns
 returns g c =
-    let cells = g.A.Archive.cells in
-    let limit = g.A.Archive.row_limit in
+    let cells = g.A.Cells.cells in
+    let limit = g.A.Cells.row_limit in
     let items = c.args.archives.now.items in
     let cell = c.args.cell.now in
     let was = c.index_mut-archive.result.now in
@@ -30,5 +30,5 @@ returns g c =
     record {
       unchanged = same_more cells cell.archive items items was new (same_itself cells items) at c.ready.ensures.cells;
       of_schema = record { layout = c.requires.of_schema.layout; sized = map-set_same limit items cell.archive was new at c.ready.ensures.limit ∙ c.requires.of_schema.sized };
-      room = on_ok_weaker c.ready.result (λ ready. ready_set g.A.Archive.is_ready items cell.archive new within ready) (rw (kept, slot) at c.ready.ensures.room);
+      room = on_ok_weaker c.ready.result (λ ready. ready_set g.A.Cells.is_ready items cell.archive new within ready) (rw (kept, slot) at c.ready.ensures.room);
     }

@@ -10,7 +10,7 @@ use Rattle.rr_replica.proofs.archives.make_ready.Goals as goal
 pub loop-i-init : goal.loop-i-init
 loop-i-init g c =
     let back : to_z w64 (of_z w64 c.args.time) ≡ c.args.time = search rules in
-    (search rules, rw back (readied_none g.A.Archive.cells g.A.Archive.row_limit g.A.Archive.is_ready c.args.schema.now c.args.time c.args.origin c.args.first c.args.archives.now.items c.requires.of_schema.sized))
+    (search rules, rw back (readied_none g.A.Cells.cells g.A.Cells.row_limit g.A.Cells.is_ready c.args.schema.now c.args.time c.args.origin c.args.first c.args.archives.now.items c.requires.of_schema.sized))
 
 pub ready-requires : goal.ready-requires
 ready-requires g c =
@@ -22,13 +22,13 @@ pub returns-in_err-ready-clause-unchanged : goal.returns-in_err-ready-clause-unc
 returns-in_err-ready-clause-unchanged g c =
     let items = c.loop-i.archives.items in
     let at = found_at items c.loop-i.i c.index_mut.result.now (search rules) c.index_mut.ensures.value in
-    let cells : g.A.Archive.cells c.ready.new.self ≡ g.A.Archive.cells c.index_mut.result.now = search rules in
-    same_more g.A.Archive.cells c.loop-i.i c.args.archives.now.items items c.index_mut.result.now c.ready.new.self c.loop-i.invariant.1.same at cells
+    let cells : g.A.Cells.cells c.ready.new.self ≡ g.A.Cells.cells c.index_mut.result.now = search rules in
+    same_more g.A.Cells.cells c.loop-i.i c.args.archives.now.items items c.index_mut.result.now c.ready.new.self c.loop-i.invariant.1.same at cells
 
 pub returns-in_err-ready-clause-before : goal.returns-in_err-ready-clause-before
 returns-in_err-ready-clause-before g c =
     let back : to_z w64 (of_z w64 c.args.time) ≡ c.args.time = search rules in
-    before_set g.A.Archive.cells g.A.Archive.row_limit g.A.Archive.is_ready c.args.schema.now c.args.time c.args.origin c.args.first c.loop-i.i c.args.archives.now.items c.loop-i.archives.items c.ready.new.self c.loop-i.invariant.0 (rw back at c.loop-i.invariant.1)
+    before_set g.A.Cells.cells g.A.Cells.row_limit g.A.Cells.is_ready c.args.schema.now c.args.time c.args.origin c.args.first c.loop-i.i c.args.archives.now.items c.loop-i.archives.items c.ready.new.self c.loop-i.invariant.0 (rw back at c.loop-i.invariant.1)
 
 pub returns-in_err-ready-clause-of_schema : goal.returns-in_err-ready-clause-of_schema
 returns-in_err-ready-clause-of_schema g c =
@@ -36,7 +36,7 @@ returns-in_err-ready-clause-of_schema g c =
     let at = found_at items c.loop-i.i c.index_mut.result.now (search rules) c.index_mut.ensures.value in
     record {
       layout = c.requires.of_schema.layout;
-      sized = map-set_same g.A.Archive.row_limit items c.loop-i.i c.index_mut.result.now c.ready.new.self at c.ready.ensures.limit ∙ c.loop-i.invariant.1.sized;
+      sized = map-set_same g.A.Cells.row_limit items c.loop-i.i c.index_mut.result.now c.ready.new.self at c.ready.ensures.limit ∙ c.loop-i.invariant.1.sized;
     }
 
 pub returns-in_err-ready-clause-kept : goal.returns-in_err-ready-clause-kept
@@ -55,13 +55,13 @@ loop-i-preserved g c =
     let back : to_z w64 (of_z w64 c.args.time) ≡ c.args.time = search rules in
     let items = c.loop-i.archives.items in
     let at = found_at items c.loop-i.i c.index_mut.result.now (search rules) c.index_mut.ensures.value in
-    let cells : g.A.Archive.cells c.ready.new.self ≡ g.A.Archive.cells c.index_mut.result.now = search rules in
-    let limit : g.A.Archive.row_limit c.ready.new.self ≡ g.A.Archive.row_limit c.index_mut.result.now = c.ready.ensures.limit in
+    let cells : g.A.Cells.cells c.ready.new.self ≡ g.A.Cells.cells c.index_mut.result.now = search rules in
+    let limit : g.A.Cells.row_limit c.ready.new.self ≡ g.A.Cells.row_limit c.index_mut.result.now = c.ready.ensures.limit in
     let kept : to_z w64 (of_z w64 c.slot-slot.result) ≡ c.slot-slot.result = search rules in
     let slot : c.slot-slot.result ≡ slot_of c.args.schema.now c.loop-i.i c.args.time = search rules in
-    let room : g.A.Archive.is_ready c.ready.new.self (cell_slot (to_z w64 (of_z w64 c.slot-slot.result)) c.args.origin) ≡ true = search rules in
+    let room : g.A.Cells.is_ready c.ready.new.self (cell_slot (to_z w64 (of_z w64 c.slot-slot.result)) c.args.origin) ≡ true = search rules in
     let from = c.loop-i.invariant.0 in
-    (omega (arith, from), rw back (readied_more g.A.Archive.cells g.A.Archive.row_limit g.A.Archive.is_ready c.args.schema.now c.args.time c.args.origin c.args.first c.loop-i.i c.args.archives.now.items items c.index_mut.result.now c.ready.new.self from (rw back at c.loop-i.invariant.1) at cells limit (rw (kept, slot) at room)))
+    (omega (arith, from), rw back (readied_more g.A.Cells.cells g.A.Cells.row_limit g.A.Cells.is_ready c.args.schema.now c.args.time c.args.origin c.args.first c.loop-i.i c.args.archives.now.items items c.index_mut.result.now c.ready.new.self from (rw back at c.loop-i.invariant.1) at cells limit (rw (kept, slot) at room)))
 
 pub returns-clause-ready : goal.returns-clause-ready
 returns-clause-ready g c = λ i a at from.

@@ -28,8 +28,8 @@ join_into-requires-clause-of_schema g c =
 
 pub returns-in-Some : goal.returns-in-Some
 returns-in-Some g c =
-    let cells = g.A.Archive.cells in
-    let limit = g.A.Archive.row_limit in
+    let cells = g.A.Cells.cells in
+    let limit = g.A.Cells.row_limit in
     let schema = c.args.schema.now in
     let cell = c.args.cell.now in
     let m = c.args.series.now in
@@ -52,14 +52,14 @@ returns-in-Some g c =
       joined = on_ok_weaker c.join_into.result (cells_joined cells limit schema c.requires.layout cell old new now sets ordered_before ordered c.requires.live was.items sized before within) c.join_into.ensures.joined;
       unchanged = on_err_weaker c.join_into.result (cells_unchanged cells limit schema c.requires.layout cell old new now sets ordered_before ordered c.requires.live was.items before) c.join_into.ensures.unchanged;
       sized = sized_with limit schema cell.key old new now c.requires.sized sets c.join_into.ensures.of_schema.sized;
-      room = λ h. c.join_into.ensures.room (room_found g.A.Archive.is_ready schema (Join cell) old was found h);
+      room = λ h. c.join_into.ensures.room (room_found g.A.Cells.is_ready schema (Join cell) old was found h);
       indexed = still;
     }
 
 pub returns-in_ok-insert-in-None-clause-joined : goal.returns-in_ok-insert-in-None-clause-joined
 returns-in_ok-insert-in-None-clause-joined g c =
-    let cells = g.A.Archive.cells in
-    let limit = g.A.Archive.row_limit in
+    let cells = g.A.Cells.cells in
+    let limit = g.A.Cells.row_limit in
     let schema = c.args.schema.now in
     let cell = c.args.cell.now in
     let m = c.args.series.now in
@@ -83,18 +83,18 @@ returns-in_err-archives-in-None-clause-room g c = λ h.
     let m = c.args.series.now in
     let unknown : None ≡ index_of m.indices.entries c.args.cell.now.key = c.in-None.ensures in
     let none = sym (archives_nowhere m.keys.items m.indices.entries m.archives.items c.requires.indexed c.args.cell.now.key unknown) in
-    absurd (room_nowhere g.A.Archive.is_ready c.args.schema.now (Join c.args.cell.now) (entries_of m) none h)
+    absurd (room_nowhere g.A.Cells.is_ready c.args.schema.now (Join c.args.cell.now) (entries_of m) none h)
 
 pub returns-in_err-join_into-in-None-clause-room : goal.returns-in_err-join_into-in-None-clause-room
 returns-in_err-join_into-in-None-clause-room g c = λ h.
     let m = c.args.series.now in
     let unknown : None ≡ index_of m.indices.entries c.args.cell.now.key = c.in-None.ensures in
     let none = sym (archives_nowhere m.keys.items m.indices.entries m.archives.items c.requires.indexed c.args.cell.now.key unknown) in
-    absurd (room_nowhere g.A.Archive.is_ready c.args.schema.now (Join c.args.cell.now) (entries_of m) none h)
+    absurd (room_nowhere g.A.Cells.is_ready c.args.schema.now (Join c.args.cell.now) (entries_of m) none h)
 
 pub returns-in_err-insert-in-None-clause-room : goal.returns-in_err-insert-in-None-clause-room
 returns-in_err-insert-in-None-clause-room g c = λ h.
     let m = c.args.series.now in
     let unknown : None ≡ index_of m.indices.entries c.args.cell.now.key = c.in-None.ensures in
     let none = sym (archives_nowhere m.keys.items m.indices.entries m.archives.items c.requires.indexed c.args.cell.now.key unknown) in
-    absurd (room_nowhere g.A.Archive.is_ready c.args.schema.now (Join c.args.cell.now) (entries_of m) none h)
+    absurd (room_nowhere g.A.Cells.is_ready c.args.schema.now (Join c.args.cell.now) (entries_of m) none h)

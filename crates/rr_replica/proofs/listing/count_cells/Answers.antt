@@ -10,7 +10,7 @@ use Rattle.rr_replica.proofs.listing.count_cells.Goals as goal
 
 pub loop-index-preserved : goal.loop-index-preserved
 loop-index-preserved g c =
-    let cells = g.A.Archive.cells in
+    let cells = g.A.Cells.cells in
     let archives = c.args.series.now.archives.items in
     let rest = c.next.new.self in
     let key = c.in-Some.field-0-0.now in
@@ -32,6 +32,6 @@ returns g c =
     let archives = c.args.series.now.archives.items in
     let none : c.loop-index.index-iterator ≡ [] = search rules in
     at_most-start c.loop-index.count c.loop-index.invariant.1
-    ∙ ap (λ es. at_most_usize (c.loop-index.count + length (all_cells (held_series g.A.Archive.cells (entries_at es archives))))) (sym none)
+    ∙ ap (λ es. at_most_usize (c.loop-index.count + length (all_cells (held_series g.A.Cells.cells (entries_at es archives))))) (sym none)
     ∙ c.loop-index.invariant.0
-    ∙ ap at_most_usize (sym (len-held_series g.A.Archive.cells (entries_of c.args.series.now) c.requires))
+    ∙ ap at_most_usize (sym (len-held_series g.A.Cells.cells (entries_of c.args.series.now) c.requires))

@@ -7,4 +7,4 @@ use Rattle.rr_replica.specs.Held.{held_series}
 use Rattle.rr_replica.proofs.listing.count_cells.Given as goal
 
 abbrev pub invariant-loop-index : goal.invariant-loop-index
-invariant-loop-index g l = (at_most_usize (l.count + length (all_cells (held_series g.A.Archive.cells (entries_at l.index-iterator l.series.archives.items)))) ≡ at_most_usize (length (all_cells (held_series g.A.Archive.cells (entries_of l.series))))) × (l.count ≡ at_most_usize l.count)
+invariant-loop-index g l = (at_most_usize (l.count + length (all_cells (held_series g.A.Cells.cells (entries_at l.index-iterator l.series.archives.items)))) ≡ at_most_usize (length (all_cells (held_series g.A.Cells.cells (entries_of l.series))))) × (l.count ≡ at_most_usize l.count)

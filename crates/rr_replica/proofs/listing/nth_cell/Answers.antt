@@ -17,7 +17,7 @@ nth_in-requires g c =
 
 pub returns-in-Ok : goal.returns-in-Ok
 returns-in-Ok g c =
-    let cells = g.A.Archive.cells in
+    let cells = g.A.Cells.cells in
     let archives = c.args.series.now.archives.items in
     let rest = c.next.new.self in
     let key = c.in-Some.key.now in
@@ -33,7 +33,7 @@ returns-in-Ok g c =
 
 pub loop-key-preserved : goal.loop-key-preserved
 loop-key-preserved g c =
-    let cells = g.A.Archive.cells in
+    let cells = g.A.Cells.cells in
     let archives = c.args.series.now.archives.items in
     let rest = c.next.new.self in
     let key = c.in-Some.key.now in
@@ -52,6 +52,6 @@ pub returns : goal.returns
 returns g c =
     let archives = c.args.series.now.archives.items in
     let none : c.loop-key.key-iterator ≡ [] = search rules in
-    ap (λ es. slice_get (all_cells (held_series g.A.Archive.cells (entries_at es archives))) c.loop-key.left) (sym none)
+    ap (λ es. slice_get (all_cells (held_series g.A.Cells.cells (entries_at es archives))) c.loop-key.left) (sym none)
     ∙ c.loop-key.invariant.0
-    ∙ ap (λ es. slice_get es c.args.number) (sym (entries-held_series g.A.Archive.cells (entries_of c.args.series.now) c.requires.ordered))
+    ∙ ap (λ es. slice_get es c.args.number) (sym (entries-held_series g.A.Cells.cells (entries_of c.args.series.now) c.requires.ordered))

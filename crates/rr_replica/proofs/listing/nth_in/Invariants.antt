@@ -2,4 +2,4 @@ use Rattle.rr_replica.proofs.Counted.{IsLeft}
 use Rattle.rr_replica.proofs.listing.nth_in.Given as goal
 
 abbrev pub invariant-loop-i : goal.invariant-loop-i
-invariant-loop-i g l = IsLeft g.A.Archive.cells l.key l.archives l.fn.number l.i l.left
+invariant-loop-i g l = IsLeft g.A.Cells.cells l.key l.archives l.fn.number l.i l.left

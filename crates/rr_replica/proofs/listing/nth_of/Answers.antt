@@ -7,6 +7,6 @@ use Rattle.rr_replica.proofs.listing.nth_of.Goals as goal
 
 pub returns-then-cell_count-number : goal.returns-then-cell_count-number
 returns-then-cell_count-number g c =
-    let cells = g.A.Archive.cells c.args.archive.now in
+    let cells = g.A.Cells.cells c.args.archive.now in
     let count = fin.len-entries cells in
     ap (option_map cell_of) (sym (slice_get_past (fin.entries cells) c.args.number (omega arith)))

@@ -35,7 +35,7 @@ put_into-requires-clause-newer g c =
     let at : Some c.in-Some.index ≡ index_of m.indices.entries c.args.key.now = c.in-Some.ensures in
     let was = c.index_mut.result.now in
     let found = element_found m.keys.items m.indices.entries m.archives.items c.requires.indexed c.args.key.now c.in-Some.index was at c.index_mut.ensures.value in
-    can_take g.A.Archive.cells g.A.Archive.row_limit c.args.schema.now c.args.key.now c.args.sample old c.requires.held c.args.sample.number_at_most was.items (before_found g.A.Archive.cells g.A.Archive.row_limit c.args.schema.now c.args.key.now c.args.sample old c.requires.held c.args.sample.number_at_most was found)
+    can_take g.A.Cells.cells g.A.Cells.row_limit c.args.schema.now c.args.key.now c.args.sample old c.requires.held c.args.sample.number_at_most was.items (before_found g.A.Cells.cells g.A.Cells.row_limit c.args.schema.now c.args.key.now c.args.sample old c.requires.held c.args.sample.number_at_most was found)
 
 pub put_into-requires-in-None-clause-newer : goal.put_into-requires-in-None-clause-newer
 put_into-requires-in-None-clause-newer g c =
@@ -44,12 +44,12 @@ put_into-requires-in-None-clause-newer g c =
     let unknown : None ≡ index_of m.indices.entries c.args.key.now = c.in-None.ensures in
     let none = sym (archives_nowhere m.keys.items m.indices.entries m.archives.items c.requires.indexed c.args.key.now unknown) in
     let fresh = c.in_ok-archives-in-None in
-    can_take g.A.Archive.cells g.A.Archive.row_limit c.args.schema.now c.args.key.now c.args.sample old c.requires.held c.args.sample.number_at_most fresh.archives.items (before_fresh g.A.Archive.cells g.A.Archive.row_limit c.args.schema.now c.args.key.now c.args.sample old c.requires.held c.args.sample.number_at_most fresh.archives.items none fresh.ensures.empty)
+    can_take g.A.Cells.cells g.A.Cells.row_limit c.args.schema.now c.args.key.now c.args.sample old c.requires.held c.args.sample.number_at_most fresh.archives.items (before_fresh g.A.Cells.cells g.A.Cells.row_limit c.args.schema.now c.args.key.now c.args.sample old c.requires.held c.args.sample.number_at_most fresh.archives.items none fresh.ensures.empty)
 
 pub returns-in-Some : goal.returns-in-Some
 returns-in-Some g c =
-    let cells = g.A.Archive.cells in
-    let limit = g.A.Archive.row_limit in
+    let cells = g.A.Cells.cells in
+    let limit = g.A.Cells.row_limit in
     let schema = c.args.schema.now in
     let m = c.args.series.now in
     let old = entries_of m in
@@ -72,13 +72,13 @@ returns-in-Some g c =
       unchanged = on_err_weaker c.put_into.result (cells_without cells limit schema c.args.key.now c.args.sample old c.requires.held c.args.sample.number_at_most new now sets ordered was.items before step.of_schema.sized) step.unchanged;
       held = on_err_weaker c.put_into.result (kept_without cells limit schema c.args.key.now c.args.sample old c.requires.held c.args.sample.number_at_most new now sets ordered was.items before step.of_schema.sized) step.unchanged;
       indexed = still;
-      room = λ h. step.room (room_found g.A.Archive.is_ready schema (Put (sample_of_reading c.args.key.now c.args.sample)) old was found h);
+      room = λ h. step.room (room_found g.A.Cells.is_ready schema (Put (sample_of_reading c.args.key.now c.args.sample)) old was found h);
     }
 
 pub returns-in_ok-insert-in-None : goal.returns-in_ok-insert-in-None
 returns-in_ok-insert-in-None g c =
-    let cells = g.A.Archive.cells in
-    let limit = g.A.Archive.row_limit in
+    let cells = g.A.Cells.cells in
+    let limit = g.A.Cells.row_limit in
     let schema = c.args.schema.now in
     let m = c.args.series.now in
     let old = entries_of m in
@@ -109,18 +109,18 @@ returns-in_err-archives-in-None-clause-room g c = λ h.
     let m = c.args.series.now in
     let unknown : None ≡ index_of m.indices.entries c.args.key.now = c.in-None.ensures in
     let none = sym (archives_nowhere m.keys.items m.indices.entries m.archives.items c.requires.indexed c.args.key.now unknown) in
-    absurd (room_nowhere g.A.Archive.is_ready c.args.schema.now (Put (sample_of_reading c.args.key.now c.args.sample)) (entries_of m) none h)
+    absurd (room_nowhere g.A.Cells.is_ready c.args.schema.now (Put (sample_of_reading c.args.key.now c.args.sample)) (entries_of m) none h)
 
 pub returns-in_err-put_into-in-None-clause-room : goal.returns-in_err-put_into-in-None-clause-room
 returns-in_err-put_into-in-None-clause-room g c = λ h.
     let m = c.args.series.now in
     let unknown : None ≡ index_of m.indices.entries c.args.key.now = c.in-None.ensures in
     let none = sym (archives_nowhere m.keys.items m.indices.entries m.archives.items c.requires.indexed c.args.key.now unknown) in
-    absurd (room_nowhere g.A.Archive.is_ready c.args.schema.now (Put (sample_of_reading c.args.key.now c.args.sample)) (entries_of m) none h)
+    absurd (room_nowhere g.A.Cells.is_ready c.args.schema.now (Put (sample_of_reading c.args.key.now c.args.sample)) (entries_of m) none h)
 
 pub returns-in_err-insert-in-None-clause-room : goal.returns-in_err-insert-in-None-clause-room
 returns-in_err-insert-in-None-clause-room g c = λ h.
     let m = c.args.series.now in
     let unknown : None ≡ index_of m.indices.entries c.args.key.now = c.in-None.ensures in
     let none = sym (archives_nowhere m.keys.items m.indices.entries m.archives.items c.requires.indexed c.args.key.now unknown) in
-    absurd (room_nowhere g.A.Archive.is_ready c.args.schema.now (Put (sample_of_reading c.args.key.now c.args.sample)) (entries_of m) none h)
+    absurd (room_nowhere g.A.Cells.is_ready c.args.schema.now (Put (sample_of_reading c.args.key.now c.args.sample)) (entries_of m) none h)

@@ -27,7 +27,7 @@ make_room-requires-clause-of_schema g c =
 
 pub returns-in-Some-clause-unchanged : goal.returns-in-Some-clause-unchanged
 returns-in-Some-clause-unchanged g c =
-    let cells = g.A.Archive.cells in
+    let cells = g.A.Cells.cells in
     let m = c.args.series.now in
     let old = entries_of m in
     let at : Some c.in-Some.index ≡ index_of m.indices.entries c.key-key.result.now = c.in-Some.ensures in
@@ -55,7 +55,7 @@ returns-in-Some-clause-sized g c =
     let still = still_indexed m.keys.items m.indices.entries m.archives.items c.requires.indexed c.in-Some.index now in
     let ordered_before = entries_ordered m.keys.items m.indices.entries m.archives.items c.requires.indexed in
     let ordered = entries_ordered m.keys.items m.indices.entries (set m.archives.items c.in-Some.index now) still in
-    sized_with g.A.Archive.row_limit c.args.schema.now c.key-key.result.now old new now c.requires.sized sets c.make_room.ensures.of_schema.sized
+    sized_with g.A.Cells.row_limit c.args.schema.now c.key-key.result.now old new now c.requires.sized sets c.make_room.ensures.of_schema.sized
 
 pub returns-in-Some-clause-room : goal.returns-in-Some-clause-room
 returns-in-Some-clause-room g c =
@@ -70,11 +70,11 @@ returns-in-Some-clause-room g c =
     let still = still_indexed m.keys.items m.indices.entries m.archives.items c.requires.indexed c.in-Some.index now in
     let ordered_before = entries_ordered m.keys.items m.indices.entries m.archives.items c.requires.indexed in
     let ordered = entries_ordered m.keys.items m.indices.entries (set m.archives.items c.in-Some.index now) still in
-    on_ok_weaker c.make_room.result (room_set g.A.Archive.is_ready c.args.schema.now c.args.op.now c.key-key.result.now c.key-key.ensures old new now sets) c.make_room.ensures.room
+    on_ok_weaker c.make_room.result (room_set g.A.Cells.is_ready c.args.schema.now c.args.op.now c.key-key.result.now c.key-key.ensures old new now sets) c.make_room.ensures.room
 
 pub returns-in_ok-insert-in-None-clause-unchanged : goal.returns-in_ok-insert-in-None-clause-unchanged
 returns-in_ok-insert-in-None-clause-unchanged g c =
-    let cells = g.A.Archive.cells in
+    let cells = g.A.Cells.cells in
     let m = c.args.series.now in
     let old = entries_of m in
     let unknown : None ≡ index_of m.indices.entries c.key-key.result.now = c.in-None.ensures in
@@ -102,4 +102,4 @@ returns-in_ok-insert-in-None-clause-room g c =
     let ordered_before = entries_ordered m.keys.items m.indices.entries m.archives.items c.requires.indexed in
     let ordered = entries_ordered next.keys.items next.indices.entries next.archives.items c.insert.ensures.indexed_now in
     let now = c.make_room-in-None.new.archives in
-    room_set g.A.Archive.is_ready c.args.schema.now c.args.op.now c.key-key.result.now c.key-key.ensures old new now sets c.in_ok-make_room-in-None.ensures.room
+    room_set g.A.Cells.is_ready c.args.schema.now c.args.op.now c.key-key.result.now c.key-key.ensures old new now sets c.in_ok-make_room-in-None.ensures.room

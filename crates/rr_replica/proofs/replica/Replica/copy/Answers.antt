@@ -10,8 +10,8 @@ use Rattle.rr_replica.proofs.replica.Replica.copy.Goals as goal
 pub invariant_of-result : goal.invariant_of-result
 invariant_of-result g c =
     let r = c.self.inside in
-    let cells = g.A.Archive.cells in
-    let limit = g.A.Archive.row_limit in
+    let cells = g.A.Cells.cells in
+    let limit = g.A.Cells.row_limit in
     let new = c.in_ok-copy_series.field-0 in
     let copied = entries_of new in
     let same = c.in_ok-copy_series.ensures in
@@ -24,8 +24,8 @@ invariant_of-result g c =
 pub returns : goal.returns
 returns g c =
     let r = c.self.inside in
-    let cells = g.A.Archive.cells in
-    let limit = g.A.Archive.row_limit in
+    let cells = g.A.Cells.cells in
+    let limit = g.A.Cells.row_limit in
     let new = c.in_ok-copy_series.field-0 in
     let copied = entries_of new in
     let same = c.in_ok-copy_series.ensures in

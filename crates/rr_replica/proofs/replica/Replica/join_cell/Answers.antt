@@ -18,7 +18,7 @@ invariant_of-self g c =
     let r = c.self.inside in
     let new = c.join_in.new.series in
     let e = c.in_err-join_in.ensures in (
-      kept_same g.A.Archive.cells g.A.Archive.row_limit r.schema r.origin r.next (entries_of r.series) (entries_of new) c.self.invariant.0 e.unchanged e.sized (entries_ordered new.keys.items new.indices.entries new.archives.items e.indexed),
+      kept_same g.A.Cells.cells g.A.Cells.row_limit r.schema r.origin r.next (entries_of r.series) (entries_of new) c.self.invariant.0 e.unchanged e.sized (entries_ordered new.keys.items new.indices.entries new.archives.items e.indexed),
       e.indexed,
     )
 
@@ -29,8 +29,8 @@ invariant_of-self-2 g c =
     let next : c.next_after-self-inside.result ≡ next_after r.origin r.next (owned_cell c.args.cell.now) = c.next_after-self-inside.ensures in
     let new = c.join_in.new.series in
     let e = c.in_ok-join_in.ensures in (
-      subst (λ n. IsHeld g.A.Archive.cells g.A.Archive.row_limit r.schema r.origin n (entries_of new)) (sym next)
-          (kept_joined g.A.Archive.cells g.A.Archive.row_limit r.schema r.origin r.next c.args.cell.now (entries_of r.series) (entries_of new) c.self.invariant.0 cell e.joined e.sized (entries_ordered new.keys.items new.indices.entries new.archives.items e.indexed)),
+      subst (λ n. IsHeld g.A.Cells.cells g.A.Cells.row_limit r.schema r.origin n (entries_of new)) (sym next)
+          (kept_joined g.A.Cells.cells g.A.Cells.row_limit r.schema r.origin r.next c.args.cell.now (entries_of r.series) (entries_of new) c.self.invariant.0 cell e.joined e.sized (entries_ordered new.keys.items new.indices.entries new.archives.items e.indexed)),
       e.indexed,
     )
 
@@ -39,6 +39,6 @@ returns-in_err-join_in-clause-room g c = λ h.
     let r = c.self.inside in
     let op = Join c.args.cell.now in
     let told = subst (λ (st : Standing). HasRoomFor st op) (sym c.self.view_is) h in
-    let there = room_there g.A.Archive.is_ready g.A.Archive.cells g.A.Archive.row_limit r.schema c.self.invariant.0.holds.layout r.origin r.next (entries_of r.series) c.self.invariant.0.sized op told in
+    let there = room_there g.A.Cells.is_ready g.A.Cells.cells g.A.Cells.row_limit r.schema c.self.invariant.0.holds.layout r.origin r.next (entries_of r.series) c.self.invariant.0.sized op told in
     let ok : IsOk c.join_in.result = c.join_in.ensures.room there in
     absurd (true≢false (sym (subst IsOk c.in_err-join_in.was ok)))

@@ -10,10 +10,10 @@ invariant_of-result g c =
     let none : (entries_of c.new.result) ≡ [] = c.new.ensures.none in
     let within : IsLayout c.in_ok-copy.field-0 = search rules in
     let in_range : IsOrigin c.args.origin = record { at_least = omega arith; at_most = omega arith } in
-    (kept_none g.A.Archive.cells g.A.Archive.row_limit c.in_ok-copy.field-0 c.args.origin (entries_of c.new.result) within in_range none, c.new.ensures.indexed)
+    (kept_none g.A.Cells.cells g.A.Cells.row_limit c.in_ok-copy.field-0 c.args.origin (entries_of c.new.result) within in_range none, c.new.ensures.indexed)
 
 pub returns : goal.returns
 returns g c =
     let none : (entries_of c.new.result) ≡ [] = c.new.ensures.none in
     let same : c.in_ok-copy.field-0 ≡ c.args.schema.now = search rules in
-    λ i. record { schema = same i; origin = c.args.origin; next = 1; cells = cells_none g.A.Archive.cells (entries_of c.new.result) none i }
+    λ i. record { schema = same i; origin = c.args.origin; next = 1; cells = cells_none g.A.Cells.cells (entries_of c.new.result) none i }

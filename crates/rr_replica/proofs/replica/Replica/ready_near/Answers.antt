@@ -15,7 +15,7 @@ invariant_of-self g c =
     let r = c.self.inside in
     let new = c.make_room_in.new.series in
     let e = c.make_room_in.ensures in (
-      kept_same g.A.Archive.cells g.A.Archive.row_limit r.schema r.origin r.next (entries_of r.series) (entries_of new) c.self.invariant.0 e.unchanged e.sized (entries_ordered new.keys.items new.indices.entries new.archives.items e.indexed),
+      kept_same g.A.Cells.cells g.A.Cells.row_limit r.schema r.origin r.next (entries_of r.series) (entries_of new) c.self.invariant.0 e.unchanged e.sized (entries_ordered new.keys.items new.indices.entries new.archives.items e.indexed),
       e.indexed,
     )
 
@@ -23,9 +23,9 @@ pub returns-clause-room : goal.returns-clause-room
 returns-clause-room g c =
     let r = c.self.inside in
     let op = c.args.op.now in
-    let cells = g.A.Archive.cells in
+    let cells = g.A.Cells.cells in
     let new = (entries_of c.make_room_in.new.series) in
     let of : IsOpOf r.schema op = subst (λ (st : Standing). IsOpOf st.schema op) (sym c.self.view_is) (c.accepts.ensures.op c.if-not-accepts.false) in
     let taken : accepts (holding_of cells r.schema r.origin r.next (entries_of r.series)) op ≡ true = subst (λ (st : Standing). accepts (held st) op ≡ true) (sym c.self.view_is) (sym c.accepts.ensures.accepted ∙ c.if-not-accepts.false) in
     let number = taken_origin (holding_of cells r.schema r.origin r.next (entries_of r.series)) op taken of c.self.invariant.0.holds.origin in
-    on_ok_weaker c.make_room_in.result (λ room. λ _. room_told g.A.Archive.is_ready cells g.A.Archive.row_limit r.schema c.self.invariant.0.holds.layout r.origin r.next new c.make_room_in.ensures.sized op of number room) c.make_room_in.ensures.room
+    on_ok_weaker c.make_room_in.result (λ room. λ _. room_told g.A.Cells.is_ready cells g.A.Cells.row_limit r.schema c.self.invariant.0.holds.layout r.origin r.next new c.make_room_in.ensures.sized op of number room) c.make_room_in.ensures.room

@@ -6,7 +6,7 @@ use Rattle.rr_archive.specs.Cells.{cell_of}
 use Rattle.rr_ring.specs.Ring.{row_at}
 use Rattle.rr_archive.proofs.RowCells.{cell_here, cell_later}
 use Rattle.rr_ring.proofs.WalkLemmas.{cells_left, left_step, left_none, left_skip, entries_live, entries_none}
-use Rattle.rr_ring.proofs.ring_archive.RingArchiveArchive.cell_at.Goals as goal
+use Rattle.rr_ring.proofs.ring_archive.RingArchiveCells.cell_at.Goals as goal
 
 pub returns-in_default : goal.returns-in_default
 returns-in_default c =

@@ -1,7 +1,7 @@
 use Rattle.std.proofs.Common.{rules, ◌≡◌, [], ap, ◌∙◌}
 use Rattle.rr_archive.specs.Held.{cells_in}
 use Rattle.rr_archive.proofs.Counting.{cells_in-none, held_none}
-use Rattle.rr_archive.proofs.plain.PlainArchiveArchive.new.Goals as goal
+use Rattle.rr_archive.proofs.plain.PlainArchiveCells.new.Goals as goal
 
 pub invariant_of-result : goal.invariant_of-result
 invariant_of-result c = let none : c.new.result.rows.entries ≡ [] = search rules in record { held = held_none c.args.rows c.new.result.rows.entries c.requires.rows_at_least none }

@@ -4,7 +4,7 @@ use Rattle.std.specs.FinMap.{entries}
 use Rattle.rr_ring.specs.Ring.{row_at}
 use Rattle.rr_ring.specs.RingCells.{cells_by}
 use Rattle.rr_ring.proofs.WalkLemmas.{cells_left}
-use Rattle.rr_ring.proofs.ring_archive.RingArchiveArchive.cell_at.Given as goal
+use Rattle.rr_ring.proofs.ring_archive.RingArchiveCells.cell_at.Given as goal
 
 abbrev pub invariant-loop-k : goal.invariant-loop-k
 invariant-loop-k l = record {

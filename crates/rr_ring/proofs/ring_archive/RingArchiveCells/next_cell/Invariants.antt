@@ -8,7 +8,7 @@ use Rattle.rr_ring.specs.Ring.{row_at}
 use Rattle.rr_ring.specs.RingCells.{cells_by}
 use Rattle.rr_archive.proofs.RowCells.{is_past}
 use Rattle.rr_ring.proofs.WalkLemmas.{cells_left}
-use Rattle.rr_ring.proofs.ring_archive.RingArchiveArchive.next_cell.Given as goal
+use Rattle.rr_ring.proofs.ring_archive.RingArchiveCells.next_cell.Given as goal
 
 abbrev pub invariant-loop-k : goal.invariant-loop-k
 invariant-loop-k l = record {

@@ -1,6 +1,6 @@
 use Rattle.rr_ring.specs.Ring.{row_at}
 use Rattle.rr_ring.proofs.RingChangeLemmas.{cells_none, held_none}
-use Rattle.rr_ring.proofs.ring_archive.RingArchiveArchive.new.Goals as goal
+use Rattle.rr_ring.proofs.ring_archive.RingArchiveCells.new.Goals as goal
 
 pub invariant_of-result : goal.invariant_of-result
 invariant_of-result c = record { held = held_none c.new.result.rows (row_at c.new.result) c.new.ensures.empty }

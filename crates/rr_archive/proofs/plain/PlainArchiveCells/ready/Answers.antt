@@ -3,7 +3,7 @@ use Rattle.std.proofs.Math.Facts.{to_z-of_z}
 use Rattle.std.specs.Int.{w64}
 use Rattle.std.proofs.lemmas.Bool.{or_right}
 use Rattle.std.proofs.lemmas.Result.{on_ok_weaker}
-use Rattle.rr_archive.proofs.plain.PlainArchiveArchive.ready.Goals as goal
+use Rattle.rr_archive.proofs.plain.PlainArchiveCells.ready.Goals as goal
 
 pub returns-clause-room : goal.returns-clause-room
 returns-clause-room c =

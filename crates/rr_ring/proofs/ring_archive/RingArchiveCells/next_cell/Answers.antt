@@ -12,7 +12,7 @@ use Rattle.rr_ring.specs.Ring.{row_at}
 use Rattle.rr_ring.specs.RingCells.{cells_by}
 use Rattle.rr_archive.proofs.RowCells.{is_past}
 use Rattle.rr_ring.proofs.WalkLemmas.{cells_left, left_step, left_none, left_skip, entries_live, entries_none, find_skip, past_found, past_none}
-use Rattle.rr_ring.proofs.ring_archive.RingArchiveArchive.next_cell.Goals as goal
+use Rattle.rr_ring.proofs.ring_archive.RingArchiveCells.next_cell.Goals as goal
 
 pub returns-in_default : goal.returns-in_default
 returns-in_default c =

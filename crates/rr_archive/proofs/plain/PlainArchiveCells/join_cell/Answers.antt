@@ -5,7 +5,7 @@ use Rattle.std.specs.Int.{w64}
 use Rattle.rr_archive.specs.CellSlots.{cell_slot}
 use Rattle.rr_archive.specs.Held.{cells_in}
 use Rattle.rr_archive.proofs.Counting.{join_cell-is}
-use Rattle.rr_archive.proofs.plain.PlainArchiveArchive.join_cell.Goals as goal
+use Rattle.rr_archive.proofs.plain.PlainArchiveCells.join_cell.Goals as goal
 
 pub returns-clause-joined : goal.returns-clause-joined
 returns-clause-joined c =
