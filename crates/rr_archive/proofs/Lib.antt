@@ -12,3 +12,7 @@ pub mod Listing
 pub mod Leaving
 pub mod Copying
 pub mod NextCell
+pub mod LiveRowsLemmas
+pub mod LiveChanges
+pub mod LiveWalks
+pub mod Lists

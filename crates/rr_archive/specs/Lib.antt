@@ -4,4 +4,6 @@ pub mod Changes
 pub mod Cells
 pub mod Codes
 pub mod Held
+pub mod LiveRows
+pub mod Entries
 pub mod Laws

@@ -11,11 +11,13 @@
 //!
 //! [`PlainArchive`] keeps its rows in an ordered map. What it shares with other kinds of archive is
 //! public: which slots are live ([`live_slots`]), what a cell contributes after a sample or a join
-//! ([`change`]), and the entries of one row ([`row`]).
+//! ([`change`]), the entries of one row ([`row`]), and how a row is kept that mostly has one
+//! ([`entries`]).
 #![tactic(auto)]
 
 mod archive;
 pub mod change;
+pub mod entries;
 mod entry;
 pub mod laws;
 mod leaving_rows;

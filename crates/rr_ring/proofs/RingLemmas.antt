@@ -17,27 +17,13 @@ use Rattle.rr_ring.specs.declared.block.TheConstants.{BLOCK_ROWS}
 use Rattle.rr_ring.specs.declared.ring.Ring.{Ring}
 use Rattle.rr_ring.specs.Positions.{position_of}
 use Rattle.rr_ring.specs.Ring.{row_at, IsRowChanged}
-use Rattle.rr_ring.specs.StoredRows.{items_of, items_at, has_room_at, is_blank, slot_and_entries}
+use Rattle.rr_archive.specs.Entries.{items_of}
+use Rattle.rr_ring.specs.StoredRows.{items_at, has_room_at, is_blank, slot_and_entries}
 use Rattle.rr_ring.specs.Blocks.{items_in, items_of_block, items_by_position, has_room_in, block_has_room, has_room_by_position, made_in, IsChanged}
-use Rattle.rr_ring.proofs.RingCellsLemmas.{empty_is}
+use Rattle.rr_archive.proofs.LiveRowsLemmas.{empty_is}
+use Rattle.rr_archive.proofs.Lists.{get_set, get_set_same}
 
 -- ---- lists
-
-get_set : {X : Type 0} (xs : List X) (i j : ℕ) (x : X) → i < length xs → slice_get (set xs i x) j ≡ cond (eqb i j) (Some x) (slice_get xs j)
-get_set [] i j x h = absurd (omega arith)
-get_set (y ∷ xs) zero zero x h = refl
-get_set (y ∷ xs) zero (suc j) x h = ap (λ b. cond b (Some x) (slice_get xs j)) (sym (apart j))
-  where
-    apart : (j : ℕ) → eqb 0 (suc j) ≡ false
-    apart j = grind (arith, nat_tests)
-get_set (y ∷ xs) (suc i) zero x h = ap (λ b. cond b (Some x) (Some y)) (sym (apart i))
-  where
-    apart : (i : ℕ) → eqb (suc i) 0 ≡ false
-    apart i = grind (arith, nat_tests)
-get_set (y ∷ xs) (suc i) (suc j) x h = get_set xs i j x (omega arith) ∙ ap (λ b. cond b (Some x) (slice_get xs j)) (before i j)
-  where
-    before : (i j : ℕ) → eqb i j ≡ eqb (suc i) (suc j)
-    before i j = grind (arith, nat_tests)
 
 -- one more reads the same where nothing is read as the last is
 get_push : {X Y : Type 0} (f : Option X → Y) (xs : List X) (x : X) (i : ℕ) → f (Some x) ≡ f None → f (slice_get (xs ++ (x ∷ [])) i) ≡ f (slice_get xs i)
@@ -51,9 +37,6 @@ itself n = grind (arith, nat_tests)
 
 swapped : (m n : ℕ) → eqb m n ≡ eqb n m
 swapped m n = grind (arith, nat_tests)
-
-get_set_same : {X : Type 0} (xs : List X) (i : ℕ) (x : X) → i < length xs → slice_get (set xs i x) i ≡ Some x
-get_set_same xs i x h = get_set xs i i x h ∙ ap (λ b. cond b (Some x) (slice_get xs i)) (itself i)
 
 -- ---- one stored row
 

@@ -1,50 +1,11 @@
 -- The cells that a ring holds: the entries of its live slots.
-use Rattle.std.specs.Prelude.{◌≡◌, ℕ, ℤ, pos, ◌+ℤ◌, ◌-ℤ◌, zero, suc, int_lt, Bool, true, not, ◌||◌, List, [], ◌++◌, map, Option, Some, None, IsTrue}
-use Rattle.std.specs.FinMap.{keys, len, from_sorted}
+use Rattle.std.specs.Prelude.{ℕ, ℤ, Bool, not, ◌||◌, Option}
 use Rattle.rr_join.specs.Horizon.{is_above}
-use Rattle.rr_contrib.specs.declared.contribution.Contribution.{Contribution}
-use Rattle.rr_archive.specs.declared.entry.Entry.{Entry}
-use Rattle.rr_archive.specs.CellSlots.{CellSlot, cell_slot, newest_of, IsSlot}
-use Rattle.rr_archive.specs.Cells.{Rows, AreInRange, IsTrimmed}
-use Rattle.rr_archive.specs.Row.{ascends}
+use Rattle.rr_archive.specs.CellSlots.{CellSlot}
+use Rattle.rr_archive.specs.Cells.{Rows}
+use Rattle.rr_archive.specs.LiveRows.{cells_by, IsHeldBy}
 use Rattle.rr_ring.specs.declared.ring.Ring.{Ring}
-use Rattle.rr_ring.specs.StoredRows.{is_empty}
 use Rattle.rr_ring.specs.Ring.{row_at, has_room}
-
--- ---- of a function that gives the entries of each slot
-
--- the cells of `n` slots from one on, in order
-abbrev pub cells_from : (ℤ → List Entry) → ℤ → ℕ → List (CellSlot × Contribution)
-cells_from row slot zero = []
-cells_from row slot (suc n) =
-    map (λ e. (cell_slot slot e.origin, e.contribution)) (row slot) ++ cells_from row (slot +ℤ pos 1) n
-
--- those of the last `rows` slots up to the newest
-abbrev pub live_cells : ℕ → Option ℤ → (ℤ → List Entry) → List (CellSlot × Contribution)
-live_cells rows None row = []
-live_cells rows (Some newest) row = cells_from row ((newest -ℤ pos rows) +ℤ pos 1) rows
-
--- as a map
-unfoldable pub cells_by : ℕ → Option ℤ → (ℤ → List Entry) → Rows
-cells_by rows newest row = from_sorted (live_cells rows newest row)
-
--- whether a slot is after the newest
-abbrev pub is_later : Option ℤ → ℤ → Bool
-is_later None slot = true
-is_later (Some newest) slot = int_lt newest slot
-
--- how many cells there are, the newest slot of one, what each keeps to, and that nothing is stored of
--- later slots
-pub record IsHeldBy (rows : ℕ) (newest : Option ℤ) (count : ℕ) (row : ℤ → List Entry) : Type 0 where
-  pub counted : count ≡ len (cells_by rows newest row)
-  pub latest : newest ≡ newest_of (keys (cells_by rows newest row))
-  pub live : IsTrimmed rows (cells_by rows newest row)
-  pub in_range : AreInRange (cells_by rows newest row)
-  pub is_slot : (top : ℤ) → newest ≡ Some top → IsSlot top
-  pub ascend : (slot : ℤ) → IsTrue (ascends (row slot))
-  pub none_later : (slot : ℤ) → IsTrue (is_later newest slot) → IsTrue (is_empty (row slot))
-
--- ---- of a ring
 
 abbrev pub cells_in : Option ℤ → Ring → Rows
 cells_in newest ring = cells_by ring.rows newest (row_at ring)

@@ -16,7 +16,6 @@
 #![tactic(auto)]
 
 mod block;
-mod entries;
 mod ring;
 mod ring_archive;
 mod ring_rows;

@@ -12,7 +12,7 @@ ghost use Rattle.rr_ring.specs.RingCells.{IsHeld, cells_in, is_ready_in};
 
 use crate::ring::Ring;
 use rr_archive::change::Change;
-use rr_archive::live_slots::{is_live, later};
+use rr_archive::live_slots::{first_live, is_live, later, rows_before};
 use rr_archive::row::first_after;
 use rr_archive::{Archive, Cells, Entry, NewSample};
 use rr_contrib::Contribution;
@@ -34,19 +34,6 @@ pub struct RingArchive {
     ghost held: { IsHeld newest count ring } by { Prim.hlevel (props, coded_rows) },
 }
 
-/// How many of `rows` rows from a first one on are before a slot.
-fn rows_before(slot: i64, first: i64, rows: u32) -> u32
-    requires { slot <ℤ (first +ℤ pos rows) }
-    ensures at_most { result ≤ rows }
-    ensures before { 0 < result → (first +ℤ pos result) ≤ℤ slot }
-    ensures from { slot ≤ℤ (first +ℤ pos result) }
-{
-    if slot < first {
-        return 0;
-    }
-    (slot - first) as u32
-}
-
 /// How many of `rows` rows are past the horizon as the newest slot moves on to a later one.
 fn rows_passed(newest: i64, top: i64, rows: u32) -> u32
     requires newest { IsSlot newest }
@@ -64,14 +51,6 @@ fn rows_passed(newest: i64, top: i64, rows: u32) -> u32
 }
 
 impl RingArchive {
-    /// The first slot of the live rows up to the newest.
-    fn first_slot(&self, newest: i64) -> i64
-        requires { Some newest ≡ self.now.newest }
-        ensures { result ≡ (newest -ℤ pos self.now.ring.rows) +ℤ pos 1 }
-    {
-        newest - i64::from(self.ring.rows) + 1
-    }
-
     /// How many cells are past the horizon once the newest slot is this one.
     fn dead_cells(&self, top: i64) -> usize
         requires slot { IsSlot top }
@@ -83,7 +62,7 @@ impl RingArchive {
         let Some(newest) = self.newest else {
             return 0;
         };
-        let first = self.first_slot(newest);
+        let first = first_live(self.ring.rows, newest);
         let mut dead = 0;
         for k in 0..rows_passed(newest, top, self.ring.rows) {
             dead += self.ring.row(first + i64::from(k)).len();
@@ -194,7 +173,7 @@ impl Cells for RingArchive {
         let Some(newest) = self.newest else {
             return None;
         };
-        let first = self.first_slot(newest);
+        let first = first_live(self.ring.rows, newest);
         let mut left = i;
         let mut k = 0;
         while k < self.ring.rows {
@@ -213,7 +192,7 @@ impl Cells for RingArchive {
         let Some(newest) = self.newest else {
             return None;
         };
-        let first = self.first_slot(newest);
+        let first = first_live(self.ring.rows, newest);
         if newest < slot {
             return None;
         }

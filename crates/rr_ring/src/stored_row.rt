@@ -4,9 +4,9 @@ ghost use Rattle.rr_archive.specs.Row.{entry_at, with_entry};
 ghost use Rattle.rr_archive.specs.Changes.{Fits, entry_after};
 ghost use Rattle.rr_ring.specs.StoredRows.{items_at, has_room_at, is_blank, slot_and_entries};
 
-use crate::entries::Entries;
 use rr_archive::Entry;
 use rr_archive::change::Change;
+use rr_archive::entries::Entries;
 use rr_schema::Origin;
 use std::alloc::{AllocError, Global};
 use std::mem::size_of;

@@ -2,8 +2,8 @@ use Rattle.std.proofs.Common.{rules, ◌≡◌, ◌<◌, pos, ◌+ℤ◌, ◌-�
 use Rattle.std.specs.FinMap.{len-entries}
 use Rattle.rr_archive.proofs.FewCells.{few_cells}
 use Rattle.rr_ring.specs.Ring.{row_at}
-use Rattle.rr_ring.specs.RingCells.{cells_by}
-use Rattle.rr_ring.proofs.WalkLemmas.{length_step, entries_live, dead_are, dead_none}
+use Rattle.rr_archive.specs.LiveRows.{cells_by}
+use Rattle.rr_archive.proofs.LiveWalks.{length_step, entries_live, dead_are, dead_none}
 use Rattle.rr_ring.proofs.ring_archive.RingArchive.dead_cells.Goals as goal
 
 pub returns-in_default : goal.returns-in_default
@@ -16,7 +16,7 @@ pub loop-k-init : goal.loop-k-init
 loop-k-init c =
     let a = c.args.self.now in
     let f = row_at a.ring in
-    let z = to_z w64 (of_z w64 c.first_slot-first.result) in
+    let z = to_z w64 (of_z w64 c.first_live-first.result) in
     let first : z ≡ ((c.in-Some.newest -ℤ pos a.ring.rows) +ℤ pos 1) = search rules in
     let all = ap length (entries_live a.ring.rows a.newest f a.held.ascend c.in-Some.newest z c.in-Some.is first) ∙ sym (len-entries (cells_by a.ring.rows a.newest f)) in
     omega arith
@@ -25,7 +25,7 @@ pub overflow_add-dead : goal.overflow_add-dead
 overflow_add-dead c =
     let a = c.args.self.now in
     let f = row_at a.ring in
-    let z = to_z w64 (of_z w64 c.first_slot-first.result) in
+    let z = to_z w64 (of_z w64 c.first_live-first.result) in
     let row : c.row.result.now ≡ f (z +ℤ pos c.loop-k.k) = search rules in
     let within : c.loop-k.k < a.ring.rows = omega arith in
     let step = length_step f z a.ring.rows c.loop-k.k within in
@@ -38,7 +38,7 @@ pub loop-k-preserved : goal.loop-k-preserved
 loop-k-preserved c =
     let a = c.args.self.now in
     let f = row_at a.ring in
-    let z = to_z w64 (of_z w64 c.first_slot-first.result) in
+    let z = to_z w64 (of_z w64 c.first_live-first.result) in
     let row : c.row.result.now ≡ f (z +ℤ pos c.loop-k.k) = search rules in
     let within : c.loop-k.k < a.ring.rows = omega arith in
     let step = length_step f z a.ring.rows c.loop-k.k within in
@@ -52,7 +52,7 @@ returns c =
     let f = row_at a.ring in
     let was = c.in-Some.newest in
     let k = c.loop-k.k in
-    let z = to_z w64 (of_z w64 c.first_slot-first.result) in
+    let z = to_z w64 (of_z w64 c.first_live-first.result) in
     let first : z ≡ ((was -ℤ pos a.ring.rows) +ℤ pos 1) = search rules in
     let top_is : to_z w64 (of_z w64 c.args.top) ≡ c.args.top = search rules in
     let was_is : to_z w64 (of_z w64 was) ≡ was = search rules in

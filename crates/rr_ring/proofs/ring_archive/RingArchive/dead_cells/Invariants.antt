@@ -1,8 +1,8 @@
 use Rattle.std.proofs.Common.{◌≡◌, ◌+◌, length}
 use Rattle.std.specs.FinMap.{len}
 use Rattle.rr_ring.specs.Ring.{row_at}
-use Rattle.rr_ring.specs.RingCells.{cells_by}
-use Rattle.rr_ring.proofs.WalkLemmas.{cells_left}
+use Rattle.rr_archive.specs.LiveRows.{cells_by}
+use Rattle.rr_archive.proofs.LiveWalks.{cells_left}
 use Rattle.rr_ring.proofs.ring_archive.RingArchive.dead_cells.Given as goal
 
 abbrev pub invariant-loop-k : goal.invariant-loop-k

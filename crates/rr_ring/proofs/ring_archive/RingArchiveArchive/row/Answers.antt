@@ -1,7 +1,7 @@
 use Rattle.std.proofs.Common.{rules, ◌≡◌, true, false, cond, [], sym, ap, ◌∙◌}
 use Rattle.rr_join.specs.Horizon.{is_above}
 use Rattle.rr_ring.specs.Ring.{row_at}
-use Rattle.rr_ring.proofs.RingCellsLemmas.{row_of-cells_by}
+use Rattle.rr_archive.proofs.LiveRowsLemmas.{row_of-cells_by}
 use Rattle.rr_ring.proofs.ring_archive.RingArchiveArchive.row.Goals as goal
 
 pub returns-then-is_live : goal.returns-then-is_live

@@ -5,7 +5,7 @@ use Rattle.rr_archive.specs.declared.entry.Entry.{Entry}
 use Rattle.rr_archive.specs.Cells.{cell_of}
 use Rattle.rr_ring.specs.Ring.{row_at}
 use Rattle.rr_archive.proofs.RowCells.{cell_here, cell_later}
-use Rattle.rr_ring.proofs.WalkLemmas.{cells_left, left_step, left_none, left_skip, entries_live, entries_none}
+use Rattle.rr_archive.proofs.LiveWalks.{cells_left, left_step, left_none, left_skip, entries_live, entries_none}
 use Rattle.rr_ring.proofs.ring_archive.RingArchiveCells.cell_at.Goals as goal
 
 pub returns-in_default : goal.returns-in_default
@@ -16,7 +16,7 @@ returns-in_default c =
 pub loop-k-init : goal.loop-k-init
 loop-k-init c =
     let a = c.args.self.now in
-    let z = to_z w64 (of_z w64 c.first_slot-first.result) in
+    let z = to_z w64 (of_z w64 c.first_live-first.result) in
     let first : z ≡ ((c.in-Some.newest -ℤ pos a.ring.rows) +ℤ pos 1) = search rules in
     record { left = ap (λ es. slice_get es c.args.i) (entries_live a.ring.rows a.newest (row_at a.ring) a.held.ascend c.in-Some.newest z c.in-Some.is first); within = omega arith }
 
@@ -24,7 +24,7 @@ pub returns-then-left-row : goal.returns-then-left-row
 returns-then-left-row c =
     let a = c.args.self.now in
     let f = row_at a.ring in
-    let z = to_z w64 (of_z w64 c.first_slot-first.result) in
+    let z = to_z w64 (of_z w64 c.first_live-first.result) in
     let d : Entry = c.index-row-left.result in
     let slot : to_z w64 (of_z w64 (z +ℤ to_z w64 (of_z w64 c.from.result))) ≡ z +ℤ pos c.loop-k.k = search rules in
     let at = z +ℤ pos c.loop-k.k in
@@ -40,7 +40,7 @@ pub loop-k-preserved : goal.loop-k-preserved
 loop-k-preserved c =
     let a = c.args.self.now in
     let f = row_at a.ring in
-    let z = to_z w64 (of_z w64 c.first_slot-first.result) in
+    let z = to_z w64 (of_z w64 c.first_live-first.result) in
     let row : c.row-row.result.now ≡ f (z +ℤ pos c.loop-k.k) = search rules in
     let at = z +ℤ pos c.loop-k.k in
     let at_is : to_z w64 (of_z w64 (z +ℤ to_z w64 (of_z w64 c.from.result))) ≡ at = search rules in
@@ -62,6 +62,6 @@ pub returns : goal.returns
 returns c =
     let a = c.args.self.now in
     let f = row_at a.ring in
-    let z = to_z w64 (of_z w64 c.first_slot-first.result) in
+    let z = to_z w64 (of_z w64 c.first_live-first.result) in
     let past : c.loop-k.k ≡ a.ring.rows = omega arith in
     sym (ap (option_map cell_of) (sym c.loop-k.invariant.left ∙ ap (λ es. slice_get es c.loop-k.left) (ap (cells_left f z a.ring.rows) past ∙ left_none f z a.ring.rows)))

@@ -2,8 +2,8 @@ use Rattle.std.proofs.Common.{◌≡◌, ◌-◌, ◌≤◌}
 use Rattle.std.specs.List.{slice_get}
 use Rattle.std.specs.FinMap.{entries}
 use Rattle.rr_ring.specs.Ring.{row_at}
-use Rattle.rr_ring.specs.RingCells.{cells_by}
-use Rattle.rr_ring.proofs.WalkLemmas.{cells_left}
+use Rattle.rr_archive.specs.LiveRows.{cells_by}
+use Rattle.rr_archive.proofs.LiveWalks.{cells_left}
 use Rattle.rr_ring.proofs.ring_archive.RingArchiveCells.cell_at.Given as goal
 
 abbrev pub invariant-loop-k : goal.invariant-loop-k

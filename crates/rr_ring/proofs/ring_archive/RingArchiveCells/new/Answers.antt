@@ -1,5 +1,5 @@
 use Rattle.rr_ring.specs.Ring.{row_at}
-use Rattle.rr_ring.proofs.RingChangeLemmas.{cells_none, held_none}
+use Rattle.rr_archive.proofs.LiveChanges.{cells_none, held_none}
 use Rattle.rr_ring.proofs.ring_archive.RingArchiveCells.new.Goals as goal
 
 pub invariant_of-result : goal.invariant_of-result

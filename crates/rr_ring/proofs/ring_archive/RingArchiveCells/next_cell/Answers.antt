@@ -9,9 +9,9 @@ use Rattle.rr_archive.specs.CellSlots.{cell_slot}
 use Rattle.rr_archive.specs.Row.{is_after}
 use Rattle.rr_archive.specs.Cells.{cell_of}
 use Rattle.rr_ring.specs.Ring.{row_at}
-use Rattle.rr_ring.specs.RingCells.{cells_by}
+use Rattle.rr_archive.specs.LiveRows.{cells_by}
 use Rattle.rr_archive.proofs.RowCells.{is_past}
-use Rattle.rr_ring.proofs.WalkLemmas.{cells_left, left_step, left_none, left_skip, entries_live, entries_none, find_skip, past_found, past_none}
+use Rattle.rr_archive.proofs.LiveWalks.{cells_left, left_step, left_none, left_skip, entries_live, entries_none, find_skip, past_found, past_none}
 use Rattle.rr_ring.proofs.ring_archive.RingArchiveCells.next_cell.Goals as goal
 
 pub returns-in_default : goal.returns-in_default
@@ -24,7 +24,7 @@ returns-then-newest-slot c =
     let a = c.args.self.now in
     let f = row_at a.ring in
     let p = cell_slot c.args.slot c.args.origin in
-    let z = to_z w64 (of_z w64 c.first_slot-first.result) in
+    let z = to_z w64 (of_z w64 c.first_live-first.result) in
     let first : z ≡ ((c.in-Some.newest -ℤ pos a.ring.rows) +ℤ pos 1) = search rules in
     let past : (z +ℤ pos a.ring.rows) ≤ℤ c.args.slot = omega (arith, ints) in
     sym (ap (option_map cell_of) (
@@ -36,7 +36,7 @@ pub loop-k-init : goal.loop-k-init
 loop-k-init c =
     let a = c.args.self.now in
     let f = row_at a.ring in
-    let z = to_z w64 (of_z w64 c.first_slot-first.result) in
+    let z = to_z w64 (of_z w64 c.first_live-first.result) in
     let p = cell_slot (to_z w64 (of_z w64 c.args.slot)) c.args.origin in
     let first : z ≡ ((c.in-Some.newest -ℤ pos a.ring.rows) +ℤ pos 1) = search rules in
     record {
@@ -57,7 +57,7 @@ pub returns-in-Some-first_after : goal.returns-in-Some-first_after
 returns-in-Some-first_after c =
     let a = c.args.self.now in
     let f = row_at a.ring in
-    let z = to_z w64 (of_z w64 c.first_slot-first.result) in
+    let z = to_z w64 (of_z w64 c.first_live-first.result) in
     let slot = to_z w64 (of_z w64 c.args.slot) in
     let back : slot ≡ c.args.slot = search rules in
     let p = cell_slot slot c.args.origin in
@@ -76,7 +76,7 @@ pub loop-k-preserved : goal.loop-k-preserved
 loop-k-preserved c =
     let a = c.args.self.now in
     let f = row_at a.ring in
-    let z = to_z w64 (of_z w64 c.first_slot-first.result) in
+    let z = to_z w64 (of_z w64 c.first_live-first.result) in
     let slot = to_z w64 (of_z w64 c.args.slot) in
     let at = z +ℤ pos c.loop-k.k in
     let at_is : to_z w64 (of_z w64 (z +ℤ to_z w64 (of_z w64 c.from.result))) ≡ at = search rules in
@@ -98,7 +98,7 @@ pub returns : goal.returns
 returns c =
     let a = c.args.self.now in
     let f = row_at a.ring in
-    let z = to_z w64 (of_z w64 c.first_slot-first.result) in
+    let z = to_z w64 (of_z w64 c.first_live-first.result) in
     let slot = to_z w64 (of_z w64 c.args.slot) in
     let back : slot ≡ c.args.slot = search rules in
     let past : c.loop-k.k ≡ a.ring.rows = omega arith in

@@ -5,9 +5,9 @@ use Rattle.std.specs.FinMap.{entries}
 use Rattle.rr_archive.specs.CellSlots.{cell_slot}
 use Rattle.rr_archive.specs.Cells.{cell_of}
 use Rattle.rr_ring.specs.Ring.{row_at}
-use Rattle.rr_ring.specs.RingCells.{cells_by}
+use Rattle.rr_archive.specs.LiveRows.{cells_by}
 use Rattle.rr_archive.proofs.RowCells.{is_past}
-use Rattle.rr_ring.proofs.WalkLemmas.{cells_left}
+use Rattle.rr_archive.proofs.LiveWalks.{cells_left}
 use Rattle.rr_ring.proofs.ring_archive.RingArchiveCells.next_cell.Given as goal
 
 abbrev pub invariant-loop-k : goal.invariant-loop-k

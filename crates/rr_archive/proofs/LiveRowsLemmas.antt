@@ -15,8 +15,7 @@ use Rattle.rr_archive.specs.Row.{entry_at, ascends}
 use Rattle.rr_join.specs.Horizon.{is_above}
 use Rattle.rr_archive.specs.CellSlots.{CellSlot, cell_slot, cell_slot_cmp}
 use Rattle.rr_archive.proofs.RowCells.{row_cells, below_later, below_append, sorted_first, find_row, at_slot, kept_row, dropped_row}
-use Rattle.rr_ring.specs.StoredRows.{is_empty}
-use Rattle.rr_ring.specs.RingCells.{cells_from, live_cells, cells_by, is_later}
+use Rattle.rr_archive.specs.LiveRows.{is_empty, cells_from, live_cells, cells_by, is_later}
 
 -- whether a slot is one of `n` from a slot on
 within : ℤ → ℕ → ℤ → Bool

@@ -1,19 +1,20 @@
-//! The entries of one row. Most rows are of one origin, and take no memory of their own.
+//! The entries of one row, for archives that keep many: most rows are of one origin, and take no memory
+//! of their own.
 ghost use Rattle.std.specs.Prelude.{◌≡◌, [], ◌∷◌, is_none, IsTrue, IsOk, OnOk, OnErr, IfOk};
 ghost use Rattle.rr_archive.specs.Row.{entry_at, with_entry};
 ghost use Rattle.rr_archive.specs.Changes.{Fits, entry_after};
-ghost use Rattle.rr_ring.specs.StoredRows.{items_of, has_room};
+ghost use Rattle.rr_archive.specs.Entries.{items_of, has_room};
 
-use rr_archive::Entry;
-use rr_archive::change::{Change, contribution_after};
-use rr_archive::row::change_entry;
+use crate::change::{Change, contribution_after};
+use crate::entry::Entry;
+use crate::row::change_entry;
 use rr_schema::Origin;
 use std::alloc::{AllocError, Global};
 use std::slice;
 
 /// The entries of a row, ascending by origin.
 #[derive(Drop)]
-pub(crate) enum Entries {
+pub enum Entries {
     Empty,
     One(Entry),
     Many(Vec<Entry>),
@@ -48,7 +49,8 @@ fn two_entries(
 }
 
 impl Entries {
-    pub(crate) fn as_slice(&self) -> &[Entry]
+    /// The entries, in order.
+    pub fn as_slice(&self) -> &[Entry]
         ensures { result.now ≡ items_of self.now }
     {
         match self {
@@ -59,7 +61,7 @@ impl Entries {
     }
 
     /// Changes the entry of an origin, and says whether it is a new one.
-    pub(crate) fn change(
+    pub fn change(
         &mut self,
         alloc: Global,
         origin: Origin,
@@ -91,7 +93,7 @@ impl Entries {
     }
 
     /// Holds the entry of an origin and a change to it alone, in the memory of those before.
-    pub(crate) fn restart(&mut self, origin: Origin, change: &Change)
+    pub fn restart(&mut self, origin: Origin, change: &Change)
         requires { Fits (entry_at [] origin) change.now }
         ensures { items_of self.new ≡ entry_after [] origin change.now ∷ [] }
     {
@@ -107,8 +109,8 @@ impl Entries {
         }
     }
 
-    /// Makes room for an entry of an origin.
-    pub(crate) fn make_room(&mut self, alloc: Global, origin: Origin) -> Result<(), AllocError>
+    /// Makes room for an entry of an origin, so that the next `change` of it can't fail.
+    pub fn make_room(&mut self, alloc: Global, origin: Origin) -> Result<(), AllocError>
         ensures items { items_of self.new ≡ items_of self.old }
         ensures room { OnOk result (IsTrue (has_room self.new origin)) }
         ensures kept { IsTrue (has_room self.old origin) → IsOk result }
@@ -128,7 +130,8 @@ impl Entries {
         }
     }
 
-    pub(crate) fn copy(&self, alloc: Global) -> Result<Entries, AllocError>
+    /// The same entries.
+    pub fn copy(&self, alloc: Global) -> Result<Entries, AllocError>
         ensures { IfOk result (λ new. items_of new ≡ items_of self.now) }
     {
         match self {

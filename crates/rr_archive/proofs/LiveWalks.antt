@@ -14,8 +14,8 @@ use Rattle.rr_archive.specs.Row.{ascends, is_after}
 use Rattle.rr_join.proofs.Keys.{entries-retain}
 use Rattle.rr_archive.proofs.CellSlotOrder.{cell_slot_cmp_total, cell_slot_cmp-IsAntisymmetric}
 use Rattle.rr_archive.proofs.RowCells.{row_cells, is_past, none_in_row, first_past}
-use Rattle.rr_ring.specs.RingCells.{cells_from, live_cells, cells_by}
-use Rattle.rr_ring.proofs.RingCellsLemmas.{entries-cells_by}
+use Rattle.rr_archive.specs.LiveRows.{cells_from, live_cells, cells_by}
+use Rattle.rr_archive.proofs.LiveRowsLemmas.{entries-cells_by}
 
 -- the cells of `n` slots from one on that are left from the i-th of them on
 pub cells_left : (ℤ → List Entry) → ℤ → ℕ → ℕ → List (CellSlot × Contribution)
@@ -146,7 +146,7 @@ above_left f bound z n d le before here = sym (above_skip f bound z n d le befor
     by_rest zero is = refl
     by_rest (suc m) is = above_all f bound (z +ℤ pos d) (suc m) (reaches (z +ℤ pos d) bound (here (omega arith)))
 
--- ---- the cells of a ring
+-- ---- the live cells
 
 module _ (limit : ℕ) (newest : Option ℤ) (f : ℤ → List Entry) (ascend : (slot : ℤ) → ascends (f slot) ≡ true) where
   pub entries_live : (top z : ℤ) → newest ≡ Some top → z ≡ (top -ℤ pos limit) +ℤ pos 1 → cells_left f z limit 0 ≡ entries (cells_by limit newest f)
