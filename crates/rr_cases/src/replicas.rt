@@ -1,5 +1,6 @@
 //! Calls of a replica of origin 1, a line each. The first line says how many archives it has: one of
-//! three rows of one step, or another too of two rows of five steps. A step is a minute.
+//! three rows of one step, or another too of two rows of five steps; or how many steps the rows of each
+//! have, of 1, 65 and 128, and it keeps three. A step is a minute.
 //!
 //! | Call | Answer |
 //! |---|---|
@@ -53,6 +54,28 @@ const ARCHIVES: [ArchiveSpec; 2] = [
     },
 ];
 
+/// Archives of which the last two have more steps than a mask of version 1 has bits.
+const WIDE: [ArchiveSpec; 3] = [
+    ArchiveSpec {
+        steps: 1,
+        rows: 3,
+        num: 0,
+        den: 1,
+    },
+    ArchiveSpec {
+        steps: 65,
+        rows: 3,
+        num: 0,
+        den: 1,
+    },
+    ArchiveSpec {
+        steps: 128,
+        rows: 3,
+        num: 0,
+        den: 1,
+    },
+];
+
 /// What the calls answer.
 pub(crate) fn answers<A: Archive>(alloc: Global, input: &[u8]) -> Result<Vec<u8>> {
     let mut lines = str::from_utf8(input)?.lines();
@@ -64,11 +87,21 @@ pub(crate) fn answers<A: Archive>(alloc: Global, input: &[u8]) -> Result<Vec<u8>
     Ok(calls.output.into_bytes())
 }
 
-/// A replica with as many archives as a text says.
-fn replica_of<A: Archive>(alloc: Global, count: &str) -> Result<Replica<A>> {
-    let archives = ARCHIVES
-        .get(..count.parse::<usize>()?)
-        .context("a replica has one archive or two")?;
+/// The archives that a text names.
+fn archives_of(name: &str) -> Option<&'static [ArchiveSpec]> {
+    match name {
+        "1" => ARCHIVES.get(..1),
+        "2" => ARCHIVES.get(..2),
+        "steps 1 65" => WIDE.get(..2),
+        "steps 65" => WIDE.get(1..2),
+        "steps 65 128" => WIDE.get(1..3),
+        _ => None,
+    }
+}
+
+/// A replica with the archives that a text names.
+fn replica_of<A: Archive>(alloc: Global, name: &str) -> Result<Replica<A>> {
+    let archives = archives_of(name).context("no such archives")?;
     let schema = Schema::new(alloc, 60, archives)?;
     Ok(Replica::new(alloc, &schema, Origin::new(1)?)?)
 }
