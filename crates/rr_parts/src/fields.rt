@@ -178,8 +178,8 @@ fn archives_into<R: Read>(
         (R.remaining (inner_of input.new)) hasher.old hasher.new) }
     ensures front { ConsumesSome (R.remaining (inner_of input.old))
         (R.remaining (inner_of input.new)) }
-    ensures most { TakesAtMost (ARCHIVE_LEN * number + ORIGIN_LEN) (R.remaining (inner_of input.old))
-        (R.remaining (inner_of input.new)) }
+    ensures most { TakesAtMost (ARCHIVE_LEN * number + ORIGIN_LEN)
+        (R.remaining (inner_of input.old)) (R.remaining (inner_of input.new)) }
     ensures no_memory { result ≢ Err LoadFault.Memory }
     ensures count { failures_of input.old ≤ failures_of input.new }
     ensures failed { result ≡ Err LoadFault.ReadFailed
@@ -210,8 +210,8 @@ pub(crate) fn archives_from<R: Read>(
         (R.remaining (inner_of input.new)) hasher.old hasher.new) }
     ensures front { ConsumesSome (R.remaining (inner_of input.old))
         (R.remaining (inner_of input.new)) }
-    ensures most { TakesAtMost (ARCHIVE_LEN * number + ORIGIN_LEN) (R.remaining (inner_of input.old))
-        (R.remaining (inner_of input.new)) }
+    ensures most { TakesAtMost (ARCHIVE_LEN * number + ORIGIN_LEN)
+        (R.remaining (inner_of input.old)) (R.remaining (inner_of input.new)) }
     ensures no_memory { result ≢ Err LoadFault.Memory }
     ensures count { failures_of input.old ≤ failures_of input.new }
     ensures failed { result ≡ Err LoadFault.ReadFailed

@@ -77,8 +77,8 @@ pub fn head_from<R: Read>(
         (R.remaining (inner_of input.new)) hasher.old hasher.new) }
     ensures front { ConsumesSome (R.remaining (inner_of input.old))
         (R.remaining (inner_of input.new)) }
-    ensures most { TakesAtMost (length (schema_bytes schema.now) + BESIDES_LEN) (R.remaining (inner_of input.old))
-        (R.remaining (inner_of input.new)) }
+    ensures most { TakesAtMost (length (schema_bytes schema.now) + BESIDES_LEN)
+        (R.remaining (inner_of input.old)) (R.remaining (inner_of input.new)) }
     ensures bad_origin { result ≡ Err LoadFault.BadOrigin
         → TakesAtMost (length (schema_bytes schema.now) + BESIDES_LEN - COUNT_LEN)
         (R.remaining (inner_of input.old)) (R.remaining (inner_of input.new)) }

@@ -31,9 +31,9 @@ pub found_addition : (s : Layout) (test : Addition → Bool) (a : Addition) → 
 found_addition s test a e = elim (test Nothing) as (λ b. test Nothing ≡ b → cond b (Some Nothing) (find test (archives_from 0 (length s.archives))) ≡ Some a → IsAddition s a × (test a ≡ true)) [
   | true ↦ λ t is. let same : Nothing ≡ a = cc is in (subst (IsAddition s) same tt, subst (λ x. test x ≡ true) same t)
   | false ↦ λ t is.
-    let rest = found_from test 0 (length s.archives) a is in
-    let there : rest.0 < length s.archives = let low = rest.2 in omega (arith, low) in
-    (subst (IsAddition s) (sym rest.1) there, rest.3)
+      let rest = found_from test 0 (length s.archives) a is in
+      let there : rest.0 < length s.archives = let low = rest.2 in omega (arith, low) in
+      (subst (IsAddition s) (sym rest.1) there, rest.3)
 ] refl e
 
 -- where none is found, none passes
@@ -136,8 +136,8 @@ additions_are_found s t a is other = (to, from)
     to : addition_since s t ≡ Some a → IsAddition s a × (t ≡ older s a)
     to e = elim (t.step == s.step) as (λ b. (t.step == s.step) ≡ b → since s t b ≡ Some a → IsAddition s a × (t ≡ older s a)) [
       | true ↦ λ h found.
-        let passed = found_addition s (had_archives s (flat_map archive_bytes t.archives)) a found in
-        (passed.0, had_is_older s t a is other (eqb-true t.step s.step h) passed.1)
+          let passed = found_addition s (had_archives s (flat_map archive_bytes t.archives)) a found in
+          (passed.0, had_is_older s t a is other (eqb-true t.step s.step h) passed.1)
       | false ↦ λ h none. absurd (cc none)
     ] refl e
 
