@@ -19,13 +19,18 @@ const FIRST: &[u8] = b"step = 60\nlines = \"127.0.0.1:1\"\n\
     rounds = 1\nvisits = 2\nidle = 3\nprecision = \"s\"\n\
     [[archive]]\nsteps = 1\nrows = 3\nxff_num = 0\nxff_den = 1\n";
 
-/// The same with one reader, whose one peer is at port 3, and with no line ahead of the clock.
+/// The same with one reader, whose one peer is at port 3, with no line ahead of the clock, and with rows of three
+/// minutes too, of which the snapshot of the first has none.
 const SECOND: &[u8] = b"step = 60\nlines = \"127.0.0.1:1\"\nfetch = [\"127.0.0.1:2\"]\n\
     peers = [\"127.0.0.1:3\"]\nrounds = 1\nvisits = 1\nidle = 3\nlead = 0\n\
-    [[archive]]\nsteps = 1\nrows = 3\nxff_num = 0\nxff_den = 1\n";
+    [[archive]]\nsteps = 1\nrows = 3\nxff_num = 0\nxff_den = 1\n\
+    [[archive]]\nsteps = 3\nrows = 2\nxff_num = 2\nxff_den = 3\n";
 
 /// Three minutes are asked for.
 const REQUEST: &[u8] = b"fetch LAST 60 0 180 m v\n";
+
+/// These, and the row of all three.
+const REQUESTS: &[u8] = b"fetch LAST 60 0 180 m v\nfetch LAST 180 0 180 m v\n";
 
 /// Listens on four ports of this machine.
 fn listen(
@@ -78,7 +83,8 @@ fn uses_first<R: Net<Stream = TcpStream>>(
     Some(is_taken && is_given && second && first)
 }
 
-/// Whether the second node takes a line at the epoch, since its clock can't be read, and no later one.
+/// Whether the second node takes a line at the epoch, since its clock can't be read, and no later one. That line's
+/// sample alone is in the archive that the snapshot lacked.
 fn uses_second<R: Net<Stream = TcpStream>>(
     host: &R,
     alloc: Global,
@@ -87,9 +93,9 @@ fn uses_second<R: Net<Stream = TcpStream>>(
     let lines = address(ports, 1)?;
     let one = address(ports, 2)?;
     let report = b"line 2: AheadOfClock\npoints 1 samples 1 refused 1\n";
-    let held = b"m v,0,9\nm v,60,7\nm v,120,4\n\n";
+    let held = b"m v,0,9\nm v,60,7\nm v,120,4\n\nm v,0,9\n\n";
     let is_taken = answers(host, alloc, lines, b"m v=9i\nm v=8i 1\n", report);
-    Some(is_taken && answers(host, alloc, one, REQUEST, held))
+    Some(is_taken && answers(host, alloc, one, REQUESTS, held))
 }
 
 /// What a node is given, of two that serve one after the other. The first loads a snapshot, and saves one. The second
