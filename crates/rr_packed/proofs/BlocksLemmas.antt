@@ -1,0 +1,188 @@
+-- What is stored of each slot, as blocks change, are added and leave.
+use Rattle.std.proofs.Common.{◌≡◌, ℕ, ◌+◌, ◌<◌, ℤ, pos, ◌+ℤ◌, true, false, cond, eqb, List, [], ◌∷◌, drop, refl, sym, ap, ◌∙◌, subst, ◌⊎◌, inr, Option, Some, None, Result, OnOk, IsTrue, Less, int_cmp, arith, true≢false}
+use Rattle.std.specs.Prelude.{int_lt}
+use Rattle.std.specs.List.{AllByRecursion}
+use Rattle.std.specs.List.Sorted.{IsStrictlySortedBy}
+use Rattle.std.specs.Map.{keys_of}
+use Rattle.std.specs.BTreeMap.{is_at}
+use Rattle.std.specs.Option.{option_map, option_or}
+use Rattle.std.specs.Ordering.{int_eq, is_eq}
+use Rattle.std.specs.Cmp.{int_cmp_total, eq_by_cmp_equiv}
+use Rattle.std.proofs.lemmas.Bool.{ne_eqb}
+use Rattle.std.proofs.lemmas.Bool.Decides.{nat_tests}
+use Rattle.std.proofs.lemmas.Int.{ints}
+use Rattle.rr_archive.specs.declared.entry.Entry.{Entry}
+use Rattle.rr_archive.specs.declared.change.Change.{Change}
+use Rattle.rr_archive.specs.Row.{with_entry}
+use Rattle.rr_archive.specs.Changes.{entry_after}
+use Rattle.std.proofs.lemmas.Result.{on_ok_weaker}
+use Rattle.rr_packed.specs.declared.block.Block.{Block}
+use Rattle.rr_packed.specs.declared.blocks.Blocks.{Blocks}
+use Rattle.rr_packed.specs.Slots.{block_of, row_of}
+use Rattle.rr_packed.specs.Blocks.{items_in, IsRowSet, block_at, items_of_block, items_by_slot, has_room_in, block_has_room, has_room_at, starts_before, IsSlotSet}
+use Rattle.rr_packed.proofs.SlotLemmas.{same_slot_by, block_on, row_on, before_block}
+
+same_number : (a b : ℤ) → is_at (int_cmp a) b ≡ true → a ≡ b
+same_number a b h = grind (arith, ints)
+
+number_same : (a : ℤ) → is_at (int_cmp a) a ≡ true
+number_same a = grind (arith, ints)
+
+same_slot : (a b : ℤ) → int_eq a b ≡ true → a ≡ b
+same_slot a b h = grind (arith, ints)
+
+other_slot : (a b : ℤ) → int_eq a b ≡ false → a ≡ b → ⊥
+other_slot a b h e = grind (arith, ints)
+
+-- a slot whose block is there, and of one that isn't
+pub slot_found : (blocks : List (ℤ × Block)) (slot : ℤ) (b : Block) → Some b ≡ block_at blocks (block_of slot) → items_by_slot blocks slot ≡ items_in b (row_of slot)
+unfolding items_by_slot
+slot_found blocks slot b has = ap (λ o. items_of_block o (row_of slot)) (sym has)
+
+pub slot_missing : (blocks : List (ℤ × Block)) (slot : ℤ) → None ≡ block_at blocks (block_of slot) → items_by_slot blocks slot ≡ []
+unfolding items_by_slot
+slot_missing blocks slot none = ap (λ o. items_of_block o (row_of slot)) (sym none)
+
+-- the slots that follow one in its block
+pub slots_after : (blocks : List (ℤ × Block)) (slot : ℤ) (i : ℕ) → row_of slot + i < 64 → items_by_slot blocks (slot +ℤ pos i) ≡ items_of_block (block_at blocks (block_of slot)) (row_of slot + i)
+unfolding items_by_slot
+slots_after blocks slot i near = λ j. items_of_block (block_at blocks (block_on slot i near j)) (row_on slot i near j)
+
+-- ---- a block set
+
+-- new blocks are the old ones, but for that of a number
+pub record SetsBlock (old new : List (ℤ × Block)) (number : ℤ) (b : Block) : Type 0 where
+  pub at : (q : ℤ) → block_at new q ≡ cond (is_at (int_cmp number) q) (Some b) (block_at old q)
+
+-- with a block that stores what the number's does
+pub blocks_alike : (old new : List (ℤ × Block)) (number : ℤ) (b : Block) → SetsBlock old new number b → items_in b ≡ items_of_block (block_at old number) → items_by_slot new ≡ items_by_slot old
+unfolding items_by_slot
+blocks_alike old new number b sets same = λ i s. (
+    ap (λ o. items_of_block o (row_of s)) (sets.at (block_of s))
+    ∙ elim (is_at (int_cmp number) (block_of s)) as (λ c. is_at (int_cmp number) (block_of s) ≡ c → items_of_block (cond c (Some b) (block_at old (block_of s))) (row_of s) ≡ items_of_block (block_at old (block_of s)) (row_of s)) [
+      | true ↦ λ t. ap (λ f. f (row_of s)) same ∙ ap (λ z. items_of_block (block_at old z) (row_of s)) (same_number number (block_of s) t)
+      | false ↦ λ _. refl
+    ] refl) i
+
+-- with a block in which an entry of the slot's row is set
+pub blocks_changed : (old new : List (ℤ × Block)) (slot : ℤ) (b : Block) (e : Entry) → SetsBlock old new (block_of slot) b → IsRowSet (row_of slot) (with_entry (items_by_slot old slot) e) (items_of_block (block_at old (block_of slot))) (items_in b) → IsSlotSet slot e (items_by_slot old) (items_by_slot new)
+unfolding items_by_slot
+blocks_changed old new slot b e sets set = λ s.
+    ap (λ o. items_of_block o (row_of s)) (sets.at (block_of s))
+    ∙ elim (is_at (int_cmp (block_of slot)) (block_of s)) as (λ c. is_at (int_cmp (block_of slot)) (block_of s) ≡ c → items_of_block (cond c (Some b) (block_at old (block_of s))) (row_of s) ≡ cond (int_eq slot s) (with_entry (items_of_block (block_at old (block_of slot)) (row_of slot)) e) (items_of_block (block_at old (block_of s)) (row_of s))) [
+      | true ↦ λ t.
+          let one = same_number (block_of slot) (block_of s) t in
+          set (row_of s)
+          ∙ elim (int_eq slot s) as (λ d. int_eq slot s ≡ d → cond (eqb (row_of s) (row_of slot)) (with_entry (items_of_block (block_at old (block_of slot)) (row_of slot)) e) (items_of_block (block_at old (block_of slot)) (row_of s)) ≡ cond d (with_entry (items_of_block (block_at old (block_of slot)) (row_of slot)) e) (items_of_block (block_at old (block_of s)) (row_of s))) [
+            | true ↦ λ is. ap (λ d. cond d (with_entry (items_of_block (block_at old (block_of slot)) (row_of slot)) e) (items_of_block (block_at old (block_of slot)) (row_of s))) (ap (λ z. eqb (row_of z) (row_of slot)) (sym (same_slot slot s is)) ∙ itself (row_of slot))
+            | false ↦ λ apart. ap (λ d. cond d (with_entry (items_of_block (block_at old (block_of slot)) (row_of slot)) e) (items_of_block (block_at old (block_of slot)) (row_of s))) (rows_apart (row_of s) (row_of slot) (λ r. other_slot slot s apart (same_slot_by slot s one (sym r)))) ∙ ap (λ z. items_of_block (block_at old z) (row_of s)) one
+          ] refl
+      | false ↦ λ t. ap (λ d. cond d (with_entry (items_of_block (block_at old (block_of slot)) (row_of slot)) e) (items_of_block (block_at old (block_of s)) (row_of s))) (sym (elsewhere s t))
+    ] refl
+  where
+    itself : (n : ℕ) → eqb n n ≡ true
+    itself n = grind (arith, nat_tests)
+
+    rows_apart : (m n : ℕ) → (m ≡ n → ⊥) → eqb m n ≡ false
+    rows_apart m n apart = ne_eqb m n apart
+
+    elsewhere : (s : ℤ) → is_at (int_cmp (block_of slot)) (block_of s) ≡ false → int_eq slot s ≡ false
+    elsewhere s t = elim (int_eq slot s) as (λ d. int_eq slot s ≡ d → d ≡ false) [
+      | true ↦ λ is. sym (sym t ∙ ap (λ z. is_at (int_cmp (block_of slot)) (block_of z)) (sym (same_slot slot s is)) ∙ number_same (block_of slot))
+      | false ↦ λ _. refl
+    ] refl
+
+-- with the entry of an origin changed in a block that is there
+pub change_there : (old new : List (ℤ × Block)) (slot : ℤ) (was b : Block) (origin : ℕ) (change : Change) → SetsBlock old new (block_of slot) b → Some was ≡ block_at old (block_of slot) → IsRowSet (row_of slot) (with_entry (items_in was (row_of slot)) (entry_after (items_in was (row_of slot)) origin change)) (items_in was) (items_in b) → IsSlotSet slot (entry_after (items_by_slot old slot) origin change) (items_by_slot old) (items_by_slot new)
+change_there old new slot was b origin change sets has changed =
+    let here = sym (slot_found old slot was has) in
+    blocks_changed old new slot b (entry_after (items_by_slot old slot) origin change) sets (λ n.
+    changed n ∙ (λ i. cond (eqb n (row_of slot)) (with_entry (here i) (entry_after (here i) origin change)) (items_of_block (has i) n)))
+
+-- and in a block that is new
+pub change_new : (old new : List (ℤ × Block)) (slot : ℤ) (was b : Block) (origin : ℕ) (change : Change) → SetsBlock old new (block_of slot) b → None ≡ block_at old (block_of slot) → ((n : ℕ) → items_in was n ≡ []) → IsRowSet (row_of slot) (with_entry (items_in was (row_of slot)) (entry_after (items_in was (row_of slot)) origin change)) (items_in was) (items_in b) → IsSlotSet slot (entry_after (items_by_slot old slot) origin change) (items_by_slot old) (items_by_slot new)
+change_new old new slot was b origin change sets none empty changed =
+    let here = empty (row_of slot) ∙ sym (slot_missing old slot none) in
+    blocks_changed old new slot b (entry_after (items_by_slot old slot) origin change) sets (λ n.
+    changed n
+    ∙ (λ i. cond (eqb n (row_of slot)) (with_entry (here i) (entry_after (here i) origin change)) (empty n i))
+    ∙ (λ i. cond (eqb n (row_of slot)) (with_entry (items_by_slot old slot) (entry_after (items_by_slot old slot) origin change)) (items_of_block (none i) n)))
+
+-- ---- room in the row of a slot
+
+pub room_found : (bs : Blocks) (slot : ℤ) (origin : ℕ) (b : Block) → Some b ≡ block_at bs.blocks.entries (block_of slot) → IsTrue (has_room_at bs slot origin) → IsTrue (has_room_in b (row_of slot) origin)
+unfolding has_room_at
+room_found bs slot origin b has room = subst (λ o. block_has_room o (row_of slot) origin ≡ true) (sym has) room
+
+pub room_missing : (bs : Blocks) (slot : ℤ) (origin : ℕ) → None ≡ block_at bs.blocks.entries (block_of slot) → IsTrue (has_room_at bs slot origin) → ⊥
+unfolding has_room_at
+room_missing bs slot origin none room = true≢false (sym (subst (λ o. block_has_room o (row_of slot) origin ≡ true) (sym none) room))
+
+pub room_set : {T E : Type 0} (r : Result T E) (old : List (ℤ × Block)) (new : Blocks) (slot : ℤ) (origin : ℕ) (b : Block) → SetsBlock old new.blocks.entries (block_of slot) b → OnOk r (IsTrue (has_room_in b (row_of slot) origin)) → OnOk r (IsTrue (has_room_at new slot origin))
+unfolding has_room_at
+room_set r old new slot origin b sets room = on_ok_weaker r (λ here. subst (λ o. block_has_room o (row_of slot) origin ≡ true) (sym (sets.at (block_of slot) ∙ ap (λ c. cond c (Some b) (block_at old (block_of slot))) (number_same (block_of slot)))) here) room
+
+-- a block without an entry, where there was none
+pub blocks_added : (old new : List (ℤ × Block)) (number : ℤ) (b : Block) → SetsBlock old new number b → None ≡ block_at old number → ((n : ℕ) → items_in b n ≡ []) → items_by_slot new ≡ items_by_slot old
+blocks_added old new number b sets none empty = blocks_alike old new number b sets (λ i n. (empty n ∙ ap (λ o. items_of_block o n) none) i)
+
+-- ---- the first block taken out
+
+none_later : (s q : ℤ) (bs : List (ℤ × Block)) → s ≡ q → AllByRecursion (λ t. int_cmp s t ≡ Less) (keys_of bs) → block_at bs q ≡ None
+none_later s q [] e h = refl
+none_later s q (b ∷ bs) e h = ap (λ c. cond c (Some b.1) (block_at bs q)) (ap (λ z. is_eq (int_cmp z b.0)) (sym e) ∙ ap is_eq h.0) ∙ none_later s q bs e h.1
+
+-- what is stored of each slot: what was, or nothing of a slot before this one
+abbrev pub IsLeft : ℤ → (ℤ → List Entry) → (ℤ → List Entry) → Type 0
+IsLeft slot old new = (s : ℤ) → (new s ≡ old s) ⊎ ((new s ≡ []) × IsTrue (int_lt s slot))
+
+pub first_left : (slot : ℤ) (bs : List (ℤ × Block)) (old : ℤ → List Entry) → IsStrictlySortedBy int_cmp (keys_of bs) → starts_before (block_of slot) bs ≡ true → IsLeft slot old (items_by_slot bs) → IsLeft slot old (items_by_slot (drop 1 bs))
+unfolding IsStrictlySortedBy items_by_slot
+first_left slot [] old sorted before left = absurd (true≢false (sym before))
+first_left slot (b ∷ bs) old sorted before left = λ s. elim (is_eq (int_cmp (block_of s) b.0)) as (λ c. is_eq (int_cmp (block_of s) b.0) ≡ c → (items_of_block (cond c (Some b.1) (block_at bs (block_of s))) (row_of s) ≡ old s) ⊎ ((items_of_block (cond c (Some b.1) (block_at bs (block_of s))) (row_of s) ≡ []) × IsTrue (int_lt s slot)) → (items_of_block (block_at bs (block_of s)) (row_of s) ≡ old s) ⊎ ((items_of_block (block_at bs (block_of s)) (row_of s) ≡ []) × IsTrue (int_lt s slot))) [
+  | true ↦ λ t _.
+      let is = same_number (block_of s) b.0 t in
+      inr (ap (λ o. items_of_block o (row_of s)) (none_later b.0 (block_of s) bs (sym is) sorted.0), before_block s slot (ap (λ z. int_lt z (block_of slot)) is ∙ before))
+  | false ↦ λ _ was. was
+] refl (left s)
+
+-- ---- blocks that are copied one by one
+
+-- what a block stores
+abbrev stored : List (ℤ × Block) → ℤ → Option (ℕ → List Entry)
+stored blocks number = option_map items_in (block_at blocks number)
+
+-- what is still to be copied and what has been are the blocks
+pub record Copied (blocks left new : List (ℤ × Block)) : Type 0 where
+  pub sorted : IsStrictlySortedBy int_cmp (keys_of left)
+  pub alike : (q : ℤ) → stored blocks q ≡ option_or (stored left q) (stored new q)
+  pub ordered : IsStrictlySortedBy int_cmp (keys_of new)
+
+pub copied_more : (blocks left rest new more : List (ℤ × Block)) (number : ℤ) (b copy : Block) → Copied blocks left new → left ≡ (number, b) ∷ rest → SetsBlock new more number copy → items_in copy ≡ items_in b → IsStrictlySortedBy int_cmp (keys_of more) → Copied blocks rest more
+unfolding IsStrictlySortedBy
+copied_more blocks left rest new more number b copy c is sets same ordered =
+    let sorted = subst (λ l. IsStrictlySortedBy int_cmp (keys_of l)) is c.sorted in
+    record {
+      sorted = sorted.1;
+      alike = λ q.
+          c.alike q ∙ ap (λ l. option_or (stored l q) (stored new q)) is
+          ∙ elim (is_eq (int_cmp q number)) as (λ d. is_eq (int_cmp q number) ≡ d → option_or (option_map items_in (cond d (Some b) (block_at rest q))) (stored new q) ≡ option_or (stored rest q) (option_map items_in (cond d (Some copy) (block_at new q)))) [
+            | true ↦ λ t. ap (λ f. Some f) (sym same) ∙ ap (λ o. option_or (option_map items_in o) (Some (items_in copy))) (sym (none_later number q rest (sym (same_number q number t)) sorted.0))
+            | false ↦ λ _. refl
+          ] refl
+          ∙ ap (λ d. option_or (stored rest q) (option_map items_in (cond d (Some copy) (block_at new q)))) ((eq_by_cmp_equiv int_cmp_total).symm q number)
+          ∙ ap (λ o. option_or (stored rest q) (option_map items_in o)) (sym (sets.at q));
+      ordered = ordered;
+    }
+
+pub copied_rows : (blocks left new : List (ℤ × Block)) → Copied blocks left new → left ≡ [] → items_by_slot new ≡ items_by_slot blocks
+unfolding items_by_slot
+copied_rows blocks left new c none = λ i s. (by_stored (block_at new (block_of s)) (row_of s) ∙ ap (λ o. read o (row_of s)) (sym (c.alike (block_of s) ∙ ap (λ l. option_or (stored l (block_of s)) (stored new (block_of s))) none)) ∙ sym (by_stored (block_at blocks (block_of s)) (row_of s))) i
+  where
+    read : Option (ℕ → List Entry) → ℕ → List Entry
+    read None n = []
+    read (Some f) n = f n
+
+    by_stored : (o : Option Block) (n : ℕ) → items_of_block o n ≡ read (option_map items_in o) n
+    by_stored None n = refl
+    by_stored (Some b) n = refl

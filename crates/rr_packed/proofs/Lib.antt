@@ -1,0 +1,5 @@
+pub mod SparseLemmas
+pub mod SlotLemmas
+pub mod BlockLemmas
+pub mod BlocksLemmas
+pub mod PackedLemmas

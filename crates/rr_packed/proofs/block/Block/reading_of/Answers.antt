@@ -1,0 +1,17 @@
+use Rattle.std.proofs.Common.{rules, ◌≡◌, refl, length, sym, ap, ◌∙◌}
+use Rattle.std.specs.Prelude.{vec_len}
+use Rattle.std.proofs.lemmas.Bool.{eqb-true}
+use Rattle.rr_packed.specs.Sparse.{item_at}
+use Rattle.rr_packed.proofs.SparseLemmas.{item_empty, empty_of}
+use Rattle.rr_packed.proofs.BlockLemmas.{block_sourced}
+use Rattle.rr_packed.proofs.block.Block.reading_of.Goals as goal
+
+pub returns-then-is_empty-clause-same : goal.returns-then-is_empty-clause-same
+returns-then-is_empty-clause-same c =
+    let b = c.args.self.now in
+    let zero : vec_len b.readings.items ≡ 0 = eqb-true (vec_len b.readings.items) 0 (sym c.is_empty.ensures ∙ c.if-is_empty.true) in
+    let none : length b.readings.items.items ≡ 0 = search rules in
+    let empty = empty_of b.readings.items.items none in
+    block_sourced b _ (λ n. refl)
+    (λ n. ap (λ xs. item_at b.readings.mask xs n) empty ∙ item_empty b.readings.mask n)
+    (λ n. ap (λ xs. item_at b.readings.mask xs n) empty ∙ item_empty b.readings.mask n)

@@ -1,0 +1,15 @@
+use Rattle.std.proofs.Common.{◌≡◌, ◌+◌, ◌-◌, ◌≤◌, length}
+use Rattle.std.specs.FinMap.{len}
+use Rattle.rr_archive.specs.LiveRows.{cells_by}
+use Rattle.rr_archive.proofs.LiveWalks.{cells_left}
+use Rattle.rr_packed.specs.Blocks.{row_at}
+use Rattle.rr_packed.proofs.packed_archive.PackedArchiveCells.cell_count.Given as goal
+
+abbrev pub invariant-loop-k : goal.invariant-loop-k
+invariant-loop-k l = record {
+  counted : l.count + length (cells_left (row_at l.self.blocks) l.first l.self.rows l.k) ≡ len (cells_by l.self.rows l.self.newest (row_at l.self.blocks));
+  within : l.k ≤ l.self.rows;
+}
+
+abbrev pub decreases-loop-k : goal.decreases-loop-k
+decreases-loop-k l = l.self.rows - l.k

@@ -1,0 +1,73 @@
+-- What blocks store: the entries of a row by its number in a block, and by its slot.
+use Rattle.std.specs.Prelude.{◌≡◌, ℕ, ℤ, ◌==◌, Bool, false, ◌&&◌, List, [], ◌∷◌, Option, Some, None, is_none, int_lt, if◌then◌else◌}
+use Rattle.std.specs.Map.{lookup}
+use Rattle.std.specs.BTreeMap.{is_at}
+use Rattle.std.specs.Ordering.{int_cmp, int_eq}
+use Rattle.rr_archive.specs.declared.entry.Entry.{Entry}
+use Rattle.rr_archive.specs.declared.entries.Entries.{Entries}
+use Rattle.rr_archive.specs.Entries.{items_of, has_room}
+use Rattle.rr_archive.specs.Row.{with_entry}
+use Rattle.rr_packed.specs.declared.block.Block.{Block}
+use Rattle.rr_packed.specs.declared.blocks.Blocks.{Blocks}
+use Rattle.rr_packed.specs.Sparse.{item_in, place_at}
+use Rattle.rr_packed.specs.Sparse.{has_room as has_spare}
+use Rattle.rr_packed.specs.Readings.{entries_read}
+use Rattle.rr_packed.specs.Slots.{block_of, row_of}
+
+-- ---- in one block, by the number of a row
+
+-- those that a row is held as; if there are none, those that its reading stands for
+abbrev pub items_held : Option Entries → List Entry → List Entry
+items_held None read = read
+items_held (Some es) read = items_of es
+
+unfoldable pub items_in : Block → ℕ → List Entry
+items_in b number = items_held (item_in b.rows number) (entries_read b.source (item_in b.readings number))
+
+abbrev pub room_held : Option Entries → Bool → ℕ → Bool
+room_held None free origin = free
+room_held (Some es) free origin = has_room es origin
+
+-- whether the entry of an origin takes no memory: in a row that is held as its entries there is room, or
+-- the row has no entry, and a row of either kind more has room
+unfoldable pub has_room_in : Block → ℕ → ℕ → Bool
+has_room_in b number origin =
+    room_held (item_in b.rows number) (is_none (place_at b.readings.mask number) && (has_spare b.readings && has_spare b.rows)) origin
+
+-- the entries of a row were set, and the others stay
+abbrev pub IsRowSet : ℕ → List Entry → (ℕ → List Entry) → (ℕ → List Entry) → Type 0
+IsRowSet number es old new = (n : ℕ) → new n ≡ (if n == number then es else old n)
+
+-- ---- in all blocks, by slot
+
+-- the block of a number, if it is there
+abbrev pub block_at : List (ℤ × Block) → ℤ → Option Block
+block_at blocks number = lookup (is_at (int_cmp number)) blocks
+
+abbrev pub items_of_block : Option Block → ℕ → List Entry
+items_of_block None number = []
+items_of_block (Some b) number = items_in b number
+
+unfoldable pub items_by_slot : List (ℤ × Block) → ℤ → List Entry
+items_by_slot blocks slot = items_of_block (block_at blocks (block_of slot)) (row_of slot)
+
+abbrev pub block_has_room : Option Block → ℕ → ℕ → Bool
+block_has_room None number origin = false
+block_has_room (Some b) number origin = has_room_in b number origin
+
+-- whether the first block is before that of a number
+abbrev pub starts_before : ℤ → List (ℤ × Block) → Bool
+starts_before number [] = false
+starts_before number (b ∷ bs) = int_lt b.0 number
+
+-- the entries that are stored of a slot, live or not
+abbrev pub row_at : Blocks → ℤ → List Entry
+row_at b = items_by_slot b.blocks.entries
+
+-- whether the entry of an origin in a slot takes no memory
+unfoldable pub has_room_at : Blocks → ℤ → ℕ → Bool
+has_room_at b slot origin = block_has_room (block_at b.blocks.entries (block_of slot)) (row_of slot) origin
+
+-- an entry was set in a slot, and other slots store what they did
+abbrev pub IsSlotSet : ℤ → Entry → (ℤ → List Entry) → (ℤ → List Entry) → Type 0
+IsSlotSet slot e old new = (s : ℤ) → new s ≡ (if int_eq slot s then with_entry (old slot) e else old s)

@@ -1,0 +1,244 @@
+//! The rows of 64 slots that follow one another.
+ghost use Rattle.std.specs.Prelude.{◌≡◌, ◌<◌, ◌≤◌, ◌+◌, ◌⊎◌, ℕ, None, Some, is_some, [], ◌∷◌, IfOk, IfSome, IsTrue, IsOk, OnOk, OnErr};
+ghost use Rattle.rr_archive.specs.Row.{entry_at, with_entry};
+ghost use Rattle.rr_archive.specs.Changes.{Fits, entry_after};
+ghost use Rattle.rr_packed.specs.Sparse.{place_at, item_in, has_room};
+ghost use Rattle.rr_packed.specs.Readings.{entries_of, entries_read};
+ghost use Rattle.rr_packed.specs.Blocks.{items_in, has_room_in, IsRowSet};
+
+use crate::reading::{Reading, Source};
+use crate::row::Row;
+use crate::sparse::Sparse;
+use rr_archive::Entry;
+use rr_archive::change::{Change, contribution_after};
+use rr_archive::entries::Entries;
+use rr_schema::Origin;
+use std::alloc::{AllocError, Global};
+
+/// How many slots a block is of.
+pub(crate) const BLOCK_ROWS: u32 = 64;
+
+const _: () = prove!(BLOCK_ROWS == 64);
+
+/// The rows of a block by their numbers in it, from 0 to 63.
+///
+/// A row of one sample is held as a reading, if its origin and place are those of the block's other
+/// readings; any other as its entries.
+#[derive(Drop)]
+pub(crate) struct Block {
+    alloc: Global,
+    source: Option<Source>,
+    readings: Sparse<Reading>,
+    rows: Sparse<Entries>,
+}
+
+impl Block {
+    /// A block without an entry. It takes no memory yet.
+    pub(crate) fn new(alloc: Global) -> Block
+        ensures { (number : ℕ) → items_in result number ≡ [] }
+    {
+        Block {
+            alloc,
+            source: None,
+            readings: Sparse::new(alloc),
+            rows: Sparse::new(alloc),
+        }
+    }
+
+    /// The entry of a row that is held as its sample, if it is held so.
+    fn entry_read(&self, number: u32) -> Option<Entry>
+        requires { number < 64 }
+        ensures found { IfSome result (λ e. entries_read self.now.source (item_in self.now.readings number) ≡ e ∷ []) }
+        ensures none { result ≡ None → entries_read self.now.source (item_in self.now.readings number) ≡ [] }
+    {
+        let Some(source) = self.source else {
+            return None;
+        };
+        match self.readings.get(number) {
+            Some(reading) => Some(reading.entry(&source)),
+            None => None,
+        }
+    }
+
+    /// The entries of a row.
+    pub(crate) fn row(&self, number: u32) -> Row<'_>
+        requires { number < 64 }
+        ensures { entries_of result ≡ items_in self.now number }
+    {
+        if let Some(entries) = self.rows.get(number) {
+            return Row::Lent(entries.as_slice());
+        }
+        match self.entry_read(number) {
+            Some(entry) => Row::Made(entry),
+            None => Row::Lent(&[]),
+        }
+    }
+
+    /// How many numbers on from one the next is that has a row, or the block ends: those between have
+    /// no entry.
+    pub(crate) fn rows_on(&self, number: u32) -> u32
+        requires { number < 64 }
+        ensures some { 1 ≤ result }
+        ensures within { number + result ≤ 64 }
+        ensures empty { (i : ℕ) → 1 ≤ i → i < result → items_in self.now (number + i) ≡ [] }
+    {
+        let rest = (self.readings.mask | self.rows.mask) >> number >> 1;
+        if rest == 0 {
+            return 64 - number;
+        }
+        1 + rest.trailing_zeros()
+    }
+
+    /// Whether a row is held as its entries.
+    fn has_entries(&self, number: u32) -> bool
+        requires { number < 64 }
+        ensures held { result ≡ is_some (item_in self.now.rows number) }
+        ensures placed { result ≡ is_some (place_at self.now.rows.mask number) }
+    {
+        match self.rows.find(number) {
+            Some(_at) => true,
+            None => false,
+        }
+    }
+
+    /// Holds the row of a number as its entries, beside the reading, if it is held as a reading.
+    fn add_entries(&mut self, number: u32) -> Result<(), AllocError>
+        requires { number < 64 }
+        ensures same { items_in self.new ≡ items_in self.old }
+        ensures source { self.new.source ≡ self.old.source }
+        ensures readings { self.new.readings ≡ self.old.readings }
+        ensures spare { OnOk result (entries_read self.new.source (item_in self.new.readings number) ≡ [] ⊎ IsTrue (is_some (item_in self.new.rows number))) }
+        ensures room { (origin : ℕ) → IsTrue (has_room_in self.old number origin) → IsOk result }
+        ensures kept { (origin : ℕ) → IsTrue (has_room_in self.old number origin) → self.new.rows ≡ self.old.rows }
+    {
+        if self.has_entries(number) {
+            return Ok(());
+        }
+        match self.entry_read(number) {
+            Some(entry) => self.rows.insert(number, Entries::One(entry)),
+            None => Ok(()),
+        }
+    }
+
+    /// Holds the row of a number as its entries, if it is held as a reading.
+    fn unpack(&mut self, number: u32) -> Result<(), AllocError>
+        requires { number < 64 }
+        ensures same { items_in self.new ≡ items_in self.old }
+        ensures unpacked { OnOk result (place_at self.new.readings.mask number ≡ None) }
+        ensures room { (origin : ℕ) → IsTrue (has_room_in self.old number origin) → IsOk result }
+        ensures kept { (origin : ℕ) → IsTrue (has_room_in self.old number origin) → IsTrue (has_room_in self.new number origin) }
+    {
+        self.add_entries(number)?;
+        self.readings.remove(number);
+        Ok(())
+    }
+
+    /// Makes room for an entry of an origin in a row.
+    pub(crate) fn make_room(&mut self, number: u32, origin: Origin) -> Result<(), AllocError>
+        requires { number < 64 }
+        ensures same { items_in self.new ≡ items_in self.old }
+        ensures room { OnOk result (IsTrue (has_room_in self.new number origin)) }
+        ensures kept { IsTrue (has_room_in self.old number origin) → IsOk result }
+    {
+        self.unpack(number)?;
+        if let Some(at) = self.rows.find(number) {
+            return self.rows.items[at].make_room(self.alloc, origin);
+        }
+        self.readings.make_room()?;
+        self.rows.make_room()
+    }
+
+    /// An entry as a reading of this block, if it can be one. The first reading of a block decides what
+    /// the others have in common with it.
+    fn reading_of(&mut self, entry: &Entry) -> Option<Reading>
+        ensures same { items_in self.new ≡ items_in self.old }
+        ensures readings { self.new.readings ≡ self.old.readings }
+        ensures rows { self.new.rows ≡ self.old.rows }
+        ensures read { IfSome result (λ r. entries_read self.new.source (Some r) ≡ entry.now ∷ []) }
+    {
+        let Some((source, reading)) = Reading::of(entry) else {
+            return None;
+        };
+        if self.readings.items.is_empty() {
+            self.source = Some(source);
+            return Some(reading);
+        }
+        match self.source {
+            Some(own) => {
+                if own.origin == source.origin && own.place == source.place {
+                    return Some(reading);
+                }
+                None
+            }
+            None => None,
+        }
+    }
+
+    /// Adds the entry of a row that has none.
+    fn add(&mut self, number: u32, entry: Entry) -> Result<(), AllocError>
+        requires number { number < 64 }
+        requires readings { place_at self.old.readings.mask number ≡ None }
+        requires rows { place_at self.old.rows.mask number ≡ None }
+        ensures added { OnOk result (IsRowSet number (entry ∷ []) (items_in self.old) (items_in self.new)) }
+        ensures unchanged { OnErr result (items_in self.new ≡ items_in self.old) }
+        ensures room { IsTrue (has_room self.old.readings) → IsTrue (has_room self.old.rows) → IsOk result }
+    {
+        match self.reading_of(&entry) {
+            Some(reading) => self.readings.insert(number, reading),
+            None => self.rows.insert(number, Entries::One(entry)),
+        }
+    }
+
+    /// Changes the entry of an origin in a row.
+    pub(crate) fn change(
+        &mut self,
+        number: u32,
+        origin: Origin,
+        change: &Change,
+    ) -> Result<(), AllocError>
+        requires number { number < 64 }
+        requires fits { Fits (entry_at (items_in self.old number) origin) change.now }
+        ensures changed { OnOk result (IsRowSet number
+            (with_entry (items_in self.old number) (entry_after (items_in self.old number) origin change.now))
+            (items_in self.old) (items_in self.new)) }
+        ensures unchanged { OnErr result (items_in self.new ≡ items_in self.old) }
+        ensures room { IsTrue (has_room_in self.old number origin) → IsOk result }
+    {
+        self.unpack(number)?;
+        if let Some(at) = self.rows.find(number) {
+            self.rows.items[at].change(self.alloc, origin, change)?;
+            return Ok(());
+        }
+        let contribution = contribution_after(None, change);
+        self.add(
+            number,
+            Entry {
+                origin,
+                contribution,
+            },
+        )
+    }
+
+    /// The same rows.
+    pub(crate) fn copy(&self, alloc: Global) -> Result<Block, AllocError>
+        ensures { IfOk result (λ new. items_in new ≡ items_in self.now) }
+    {
+        let readings = Vec::from_slice(alloc, &self.readings.items)?;
+        let mut rows = Vec::with_capacity(alloc, self.rows.items.len())?;
+        for entries in &self.rows.items {
+            rows.push(entries.copy(alloc)?)?;
+        }
+        Ok(Block {
+            alloc,
+            source: self.source,
+            readings: Sparse {
+                mask: self.readings.mask,
+                items: readings,
+            },
+            rows: Sparse {
+                mask: self.rows.mask,
+                items: rows,
+            },
+        })
+    }
+}

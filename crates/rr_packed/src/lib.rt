@@ -1,0 +1,25 @@
+//! One archive of one series, packed: a row of one sample takes no more memory than its sample.
+//!
+//! A [`PackedArchive`] holds the same cells as a `PlainArchive` or a `RingArchive`, and is seen as the
+//! same map. Its rows are kept in blocks of 64 slots that follow one another, in order of their
+//! numbers; a row that no sample came to takes nothing.
+//!
+//! ```text
+//! a slot ── its block's number ──> a block ── a bit of its masks ──> a reading, or the entries
+//! ```
+//!
+//! A row that one sample came to is held as that sample, a [`Reading`](reading::Reading), if its origin
+//! and its place are those of the block's other readings. It stands for what
+//! `Contribution::first` gives of it, so it is no second definition of a row. Any other row is held as
+//! its entries. What is stored of a slot is one function (`specs/Blocks.antt`), and the cells are what
+//! it gives of the live slots, in order.
+#![tactic(auto)]
+
+mod block;
+mod blocks;
+mod packed_archive;
+mod reading;
+mod row;
+mod sparse;
+
+pub use packed_archive::PackedArchive;

@@ -1,0 +1,203 @@
+//! An archive of packed rows.
+ghost use Rattle.std.specs.Prelude.{◌≡◌, ◌≤◌, IsTrue, IsFalse, IsOk, OnOk, OnErr};
+ghost use Rattle.std.proofs.Props.{props};
+ghost use Rattle.std.specs.FinMap as fin;
+ghost use Rattle.rr_join.specs.Maps.{trimmed};
+ghost use Rattle.rr_join.specs.Horizon.{is_above};
+ghost use Rattle.rr_archive.specs.CellSlots.{cell_slot, IsSlot, is_live_at};
+ghost use Rattle.rr_archive.specs.Changes.{Fits};
+ghost use Rattle.rr_archive.specs.Cells.{with_change};
+ghost use Rattle.rr_archive.specs.Codes.{coded_rows};
+ghost use Rattle.rr_packed.specs.PackedCells.{IsHeld, cells_in, is_ready_in};
+
+use crate::blocks::Blocks;
+use rr_archive::change::Change;
+use rr_archive::live_slots::{first_live, is_live, later, rows_before};
+use rr_archive::row::first_after;
+use rr_archive::{Cells, Entry, NewSample};
+use rr_contrib::Contribution;
+use rr_schema::Origin;
+use std::alloc::{AllocError, Global};
+
+/// The cells of one archive of one series, packed: 24 bytes for a row of one sample, and none for a row
+/// that no sample came to.
+///
+/// `ready`, `put` and `join_cell` are logarithmic in the blocks of 64 rows, and linear in the entries of
+/// the row and in the blocks that are past the horizon then. `ready` makes room for a row of either
+/// kind; a row of one sample that is to be changed is held as its entries from then on, 112 bytes for
+/// the first of them. `entries_into` is logarithmic in the blocks; `cell_count`, and `cell_at` up to the
+/// cell, are linear in the rows that have an entry, and in the blocks that aren't there; `next_cell` in
+/// these up to the cell.
+#[derive(Drop)]
+pub struct PackedArchive {
+    rows: u32,
+    newest: Option<i64>,
+    blocks: Blocks,
+    ghost some_row: { 1 ≤ rows },
+    ghost held: { IsHeld rows newest blocks } by { Prim.hlevel (props, coded_rows) },
+}
+
+impl PackedArchive {
+    /// Changes the cell of a slot and an origin. A change that is past the horizon is passed over.
+    fn change(&mut self, slot: i64, origin: Origin, change: &Change) -> Result<(), AllocError>
+        requires slot { IsSlot slot }
+        requires fits { Fits
+            (fin.get (cells_in self.old.rows self.old.newest self.old.blocks) (cell_slot slot origin)) change.now }
+        ensures changed { OnOk result (cells_in self.new.rows self.new.newest self.new.blocks
+            ≡ trimmed (is_live_at self.old.rows)
+            (with_change (cells_in self.old.rows self.old.newest self.old.blocks) (cell_slot slot origin) change.now)) }
+        ensures dead { IsFalse (is_above self.old.rows self.old.newest slot)
+            → cells_in self.new.rows self.new.newest self.new.blocks
+            ≡ cells_in self.old.rows self.old.newest self.old.blocks }
+        ensures unchanged { OnErr result (cells_in self.new.rows self.new.newest self.new.blocks
+            ≡ cells_in self.old.rows self.old.newest self.old.blocks) }
+        ensures limit { self.new.rows ≡ self.old.rows }
+        ensures room { IsTrue (is_ready_in self.old.rows self.old.newest self.old.blocks (cell_slot slot origin))
+            → IsOk result }
+    {
+        if !is_live(self.rows, self.newest, slot) {
+            return Ok(());
+        }
+        // The proof needs that the origin is from 1 to 65,535, which `get` ensures.
+        let _number = origin.get();
+        let newest = later(self.newest, slot);
+        self.blocks.change(slot, origin, change)?;
+        self.blocks.drop_before(first_live(self.rows, newest));
+        self.newest = Some(newest);
+        Ok(())
+    }
+}
+
+impl Cells for PackedArchive {
+    ghost cells = { λ a. cells_in a.rows a.newest a.blocks };
+
+    ghost row_limit = { λ a. a.rows };
+
+    ghost is_ready = { λ a p. is_ready_in a.rows a.newest a.blocks p };
+
+    ghost is_trimmed = { λ a. a.held.live };
+
+    ghost in_range = { λ a. a.held.in_range };
+
+    ghost has_rows = { λ a. a.some_row };
+
+    fn new(alloc: Global, rows: u32) -> PackedArchive {
+        PackedArchive {
+            rows,
+            newest: None,
+            blocks: Blocks::new(alloc),
+        }
+    }
+
+    fn ready(&mut self, slot: i64, origin: Origin) -> Result<(), AllocError> {
+        if is_live(self.rows, self.newest, slot) {
+            self.blocks.make_room(slot, origin)
+        } else {
+            Ok(())
+        }
+    }
+
+    fn put(
+        &mut self,
+        slot: i64,
+        origin: Origin,
+        number: u64,
+        place: u32,
+        time: i64,
+        value: i64,
+    ) -> Result<(), AllocError> {
+        let sample = NewSample {
+            number,
+            place,
+            time,
+            value,
+        };
+        self.change(slot, origin, &Change::Put(sample))
+    }
+
+    fn join_cell(
+        &mut self,
+        slot: i64,
+        origin: Origin,
+        contribution: &Contribution,
+    ) -> Result<(), AllocError> {
+        self.change(slot, origin, &Change::Join(*contribution))
+    }
+
+    fn newest(&self) -> Option<i64> {
+        self.newest
+    }
+
+    fn entries_into(&self, slot: i64, row: &mut Vec<Entry>) -> Result<(), AllocError> {
+        row.clear();
+        if !is_live(self.rows, self.newest, slot) {
+            return Ok(());
+        }
+        let entries = self.blocks.row(slot);
+        row.extend_from_slice(entries.as_slice())
+    }
+
+    fn cell_count(&self) -> usize {
+        let Some(newest) = self.newest else {
+            return 0;
+        };
+        let first = first_live(self.rows, newest);
+        let mut count = 0;
+        let mut k = 0;
+        while k < self.rows {
+            let slot = first + i64::from(k);
+            let row = self.blocks.row(slot);
+            count += row.as_slice().len();
+            k += self.blocks.slots_on(slot, self.rows - k);
+        }
+        count
+    }
+
+    fn cell_at(&self, i: usize) -> Option<(i64, Entry)> {
+        let Some(newest) = self.newest else {
+            return None;
+        };
+        let first = first_live(self.rows, newest);
+        let mut left = i;
+        let mut k = 0;
+        while k < self.rows {
+            let slot = first + i64::from(k);
+            let held = self.blocks.row(slot);
+            let row = held.as_slice();
+            if left < row.len() {
+                return Some((slot, row[left]));
+            }
+            left -= row.len();
+            k += self.blocks.slots_on(slot, self.rows - k);
+        }
+        None
+    }
+
+    fn next_cell(&self, slot: i64, origin: Origin) -> Option<(i64, Entry)> {
+        let Some(newest) = self.newest else {
+            return None;
+        };
+        let first = first_live(self.rows, newest);
+        if newest < slot {
+            return None;
+        }
+        let mut k = rows_before(slot, first, self.rows);
+        while k < self.rows {
+            let at = first + i64::from(k);
+            let held = self.blocks.row(at);
+            if let Some(entry) = first_after(held.as_slice(), slot < at, origin) {
+                return Some((at, entry));
+            }
+            k += self.blocks.slots_on(at, self.rows - k);
+        }
+        None
+    }
+
+    fn copy(&self, alloc: Global) -> Result<PackedArchive, AllocError> {
+        Ok(PackedArchive {
+            rows: self.rows,
+            newest: self.newest,
+            blocks: self.blocks.copy(alloc)?,
+        })
+    }
+}

@@ -1,0 +1,82 @@
+//! A sample, as a row that it alone came to is held.
+ghost use Rattle.std.specs.Prelude.{◌≡◌, ◌<◌, ◌≤◌, IsTrue, IfSome};
+ghost use Rattle.rr_text.specs.declared.limits.TheConstants.{MAX_NUMBER, MAX_STEPS};
+ghost use Rattle.rr_contrib.specs.Contributions.{of_one, slot_sample};
+
+use rr_archive::Entry;
+use rr_contrib::Contribution;
+use rr_schema::Origin;
+use rr_text::limits::{MAX_NUMBER, MAX_STEPS};
+use std::mem::size_of;
+
+/// A sample without its origin and its place.
+#[derive(Clone, Copy)]
+pub(crate) struct Reading {
+    pub(crate) number: u64,
+    pub(crate) time: i64,
+    pub(crate) value: i64,
+    ghost number_at_least: { 1 ≤ number },
+    ghost number_at_most: { number ≤ MAX_NUMBER },
+}
+
+const _: () = prove!(size_of::<Reading>() == 24);
+
+/// What the readings of a block have in common: their origin, and the place of each in its slot.
+#[derive(Clone, Copy)]
+pub(crate) struct Source {
+    pub(crate) origin: Origin,
+    pub(crate) place: u32,
+    ghost in_slot: { place < MAX_STEPS },
+}
+
+/// Whether a contribution is of one sample of a place.
+fn is_of_one(contribution: &Contribution, place: u32) -> bool
+    requires { place < MAX_STEPS }
+    ensures { IsTrue result → contribution.now
+        ≡ of_one (slot_sample contribution.now.version place contribution.now.last_time contribution.now.last_value) }
+{
+    contribution.count == 1
+        && contribution.sum == i128::from(contribution.last_value)
+        && contribution.min == contribution.last_value
+        && contribution.max == contribution.last_value
+        && contribution.mask == 1 << place
+}
+
+impl Reading {
+    ghost use Rattle.rr_packed.specs.Readings.{entry_of};
+
+    /// An entry as a reading with its source, if it is of one sample.
+    pub(crate) fn of(entry: &Entry) -> Option<(Source, Reading)>
+        ensures { IfSome result (λ r. entry_of r.0 r.1 ≡ entry.now) }
+    {
+        let contribution = entry.contribution;
+        let place = contribution.mask.trailing_zeros();
+        let number = contribution.version;
+        if place >= MAX_STEPS || number < 1 || number > MAX_NUMBER {
+            return None;
+        }
+        if !is_of_one(&contribution, place) {
+            return None;
+        }
+        let source = Source {
+            origin: entry.origin,
+            place,
+        };
+        let reading = Reading {
+            number,
+            time: contribution.last_time,
+            value: contribution.last_value,
+        };
+        Some((source, reading))
+    }
+
+    /// The entry of a row of this sample alone.
+    pub(crate) fn entry(&self, source: &Source) -> Entry
+        ensures { result ≡ entry_of source.now self.now }
+    {
+        Entry {
+            origin: source.origin,
+            contribution: Contribution::first(self.number, source.place, self.time, self.value),
+        }
+    }
+}

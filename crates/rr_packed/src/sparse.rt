@@ -1,0 +1,100 @@
+//! Items of some of 64 numbers.
+ghost use Rattle.std.specs.Prelude.{◌≡◌, ◌<◌, ◌≤◌, ℕ, None, Some, IfSome, IsTrue, IsOk, OnOk, OnErr, count_ones, vec_len};
+
+use std::alloc::{AllocError, Global};
+
+/// Items of some of the numbers from 0 to 63, in order: a bit of the mask for each number that has
+/// one.
+#[derive(Drop)]
+pub(crate) struct Sparse<T> {
+    pub(crate) mask: u64,
+    pub(crate) items: Vec<T>,
+    ghost counted: { count_ones mask ≡ vec_len items },
+}
+
+impl<T: Drop> Sparse<T> {
+    ghost use Rattle.std.specs.Option.{option_copied};
+    ghost use Rattle.rr_packed.specs.Sparse.{rank, place_at, item_in, has_room, IsItemSet};
+
+    /// No items. It takes no memory yet.
+    pub(crate) fn new(alloc: Global) -> Sparse<T>
+        ensures { (number : ℕ) → item_in result number ≡ None }
+    {
+        Sparse {
+            mask: 0,
+            items: Vec::new(alloc),
+        }
+    }
+
+    /// How many items are of numbers before this one.
+    fn rank(&self, number: u32) -> usize
+        requires { number < 64 }
+        ensures rank { result ≡ rank self.now.mask number }
+        ensures at_most { result ≤ vec_len self.now.items }
+    {
+        (self.mask & ((1 << number) - 1)).count_ones() as usize
+    }
+
+    /// Where in the list the item of a number is, if it has one.
+    pub(crate) fn find(&self, number: u32) -> Option<usize>
+        requires { number < 64 }
+        ensures place { result ≡ place_at self.now.mask number }
+        ensures within { IfSome result (λ at. at < vec_len self.now.items) }
+    {
+        if self.mask >> number & 1 == 0 {
+            return None;
+        }
+        Some(self.rank(number))
+    }
+
+    /// The item of a number, if it has one.
+    pub(crate) fn get(&self, number: u32) -> Option<&T>
+        requires { number < 64 }
+        ensures value { option_copied result ≡ item_in self.now number }
+    {
+        match self.find(number) {
+            Some(at) => Some(&self.items[at]),
+            None => None,
+        }
+    }
+
+    /// Makes room for one item more.
+    pub(crate) fn make_room(&mut self) -> Result<(), AllocError>
+        ensures same { item_in self.new ≡ item_in self.old }
+        ensures mask { self.new.mask ≡ self.old.mask }
+        ensures room { OnOk result (IsTrue (has_room self.new)) }
+        ensures kept { IsTrue (has_room self.old) → IsOk result }
+    {
+        self.items.reserve(1)
+    }
+
+    /// Adds the item of a number that has none.
+    pub(crate) fn insert(&mut self, number: u32, item: T) -> Result<(), AllocError>
+        requires number { number < 64 }
+        requires free { place_at self.old.mask number ≡ None }
+        ensures added { OnOk result (IsItemSet number (Some item) (item_in self.old) (item_in self.new)) }
+        ensures unchanged { OnErr result (item_in self.new ≡ item_in self.old) }
+        ensures room { IsTrue (has_room self.old) → IsOk result }
+    {
+        let at = self.rank(number);
+        let mask = self.mask | 1 << number;
+        self.items.insert(at, item)?;
+        self.mask = mask;
+        Ok(())
+    }
+
+    /// Takes the item of a number out, if it has one.
+    pub(crate) fn remove(&mut self, number: u32)
+        requires { number < 64 }
+        ensures removed { IsItemSet number None (item_in self.old) (item_in self.new) }
+        ensures free { place_at self.new.mask number ≡ None }
+        ensures absent { place_at self.old.mask number ≡ None → self.new ≡ self.old }
+    {
+        let Some(at) = self.find(number) else {
+            return;
+        };
+        let mask = self.mask & !(1 << number);
+        self.items.remove(at);
+        self.mask = mask;
+    }
+}
