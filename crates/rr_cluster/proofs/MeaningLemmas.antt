@@ -7,7 +7,7 @@ use Rattle.std.specs.BTreeMap.{BTreeMap, insert_entry}
 use Rattle.std.specs.Map.{set_value}
 use Rattle.std.specs.Global.{Vec}
 use Rattle.std.specs.FinMap as map
-use Rattle.rr_archive.specs.declared.archive.Archive.{Ghosts}
+use Rattle.rr_archive.specs.declared.archive.Cells.{Ghosts}
 use Rattle.rr_schema.specs.Schema.{Layout}
 use Rattle.rr_join.specs.Values.{get_called}
 use Rattle.rr_join.proofs.ValuesLemmas.{get_called-insert, get_called-set}

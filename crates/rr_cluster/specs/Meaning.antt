@@ -7,7 +7,7 @@ use Rattle.std.specs.BTreeMap.{BTreeMap}
 use Rattle.std.specs.BTreeSet.{BTreeSet, contains}
 use Rattle.std.specs.Global.{Vec}
 use Rattle.std.specs.FinMap.{get, entries}
-use Rattle.rr_archive.specs.declared.archive.Archive.{Ghosts}
+use Rattle.rr_archive.specs.declared.archive.Cells.{Ghosts}
 use Rattle.rr_join.specs.Values.{get_called}
 use Rattle.rr_model.specs.Samples.{Sample}
 use Rattle.rr_cells.specs.Cells.{Cells, IsTrimmed}

@@ -2,7 +2,7 @@
 use Rattle.std.proofs.Common.{◌≡◌, List, [], ◌∷◌, map, ℕ, Some, None, Result, Ok, Err, refl, sym, ap, subst, ◌∙◌}
 use Rattle.std.specs.FinMap as fin
 use Rattle.std.proofs.lemmas.List.Elements.{All-from_recursion}
-use Rattle.rr_archive.specs.declared.archive.Archive.{Ghosts}
+use Rattle.rr_archive.specs.declared.archive.Cells.{Ghosts}
 use Rattle.rr_schema.specs.Schema.{Layout, IsLayout}
 use Rattle.rr_model.specs.Knowledge.{Knowledge}
 use Rattle.rr_model.specs.World.{World, IsClosed}

@@ -1,7 +1,7 @@
 -- fetch NODE CF RESOLUTION START END KEY
 use Rattle.std.proofs.Common.{◌≡◌, inl, inr, ℕ, List, None, Some, Result, Ok, Err, refl, sym, ap, subst, ◌∙◌}
 use Rattle.std.specs.FinMap as map
-use Rattle.rr_archive.specs.declared.archive.Archive.{Ghosts}
+use Rattle.rr_archive.specs.declared.archive.Cells.{Ghosts}
 use Rattle.rr_fetch.specs.Answers.{cells_text}
 use Rattle.rr_request.specs.Requests.{read}
 use Rattle.rr_request.specs.Words.{Parts}

@@ -5,7 +5,7 @@ use Rattle.std.specs.FinMap as map
 use Rattle.std.specs.Cmp.Lexicographic.{nat_list_cmp_total}
 use Rattle.std.proofs.lemmas.Bool.{lt-ltb, le-ltb}
 use Rattle.std.proofs.lemmas.List.{drop_more}
-use Rattle.rr_archive.specs.declared.archive.Archive.{Ghosts}
+use Rattle.rr_archive.specs.declared.archive.Cells.{Ghosts}
 use Rattle.rr_schema.specs.declared.archive.ArchiveSpec.{ArchiveSpec}
 use Rattle.rr_schema.specs.Check.{schema_fault}
 use Rattle.rr_schema.specs.Schema.{Layout, IsLayout}

@@ -5,7 +5,7 @@ use Rattle.std.specs.List.{AllByRecursion}
 use Rattle.std.specs.Cmp.Lexicographic.{nat_list_cmp_total}
 use Rattle.std.specs.FinMap as map
 use Rattle.std.proofs.lemmas.Bool.{cases_Bool, ltb-false}
-use Rattle.rr_archive.specs.declared.archive.Archive.{Ghosts}
+use Rattle.rr_archive.specs.declared.archive.Cells.{Ghosts}
 use Rattle.rr_schema.specs.Schema.{IsLayout}
 use Rattle.rr_text.specs.Text.{fits_i64}
 use Rattle.rr_text.specs.declared.limits.TheConstants.{MAX_NUMBER}
