@@ -6,7 +6,8 @@
  * to which two numbers of 64 bits are kept: the calls that were counted, and those that were refused.
  *
  * The program may ask too, by blocks that are never there: one of 2^62 + N bytes has the Nth call from here refused (of 0:
- * none), and one of 2^62 + 2^61 bytes has the next call refused exactly where the call that was asked for came. */
+ * none). One of 2^62 + 2^61 bytes has none refused from here on, but the next call where one was since this was last
+ * asked: that call is the answer, and doesn't count. */
 #define _GNU_SOURCE
 #include <errno.h>
 #include <fcntl.h>
@@ -29,7 +30,8 @@ struct counts {
 
 static struct counts unnamed, *counts = &unnamed;
 static _Atomic uint64_t left; /* calls up to the one that is refused, that one too; 0: none is */
-static atomic_int came, goes_on;
+static atomic_int came, goes_on; /* whether a call was refused since it was asked; whether those after it are too */
+static atomic_int answer;        /* what the next call is told: 1 that none was refused, 2 that one was; 0: nothing */
 static uintptr_t from, to; /* where the program's code is */
 
 /* Notes where the code of the first object is, which is the program. */
@@ -77,9 +79,17 @@ static int is_refused(void *caller, size_t size)
     if ((uintptr_t)caller < from || (uintptr_t)caller >= to)
         return 0;
     if (size >= ASK) {
-        left = size == CAME ? (uint64_t)came : size - ASK;
-        came = 0;
+        left = size == CAME ? 0 : size - ASK;
+        if (size == CAME) {
+            answer = 1 + came;
+            came = 0;
+        }
         return 1;
+    }
+    if (answer) {
+        int is_yes = answer == 2;
+        answer = 0;
+        return is_yes;
     }
     counts->made++;
     if (!is_due())
