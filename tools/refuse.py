@@ -3,13 +3,16 @@
 
 usage: refuse.py PROGRAM [WHAT ..]
 
-PROGRAM is the built program, crates/rr_tool/out/rr_tool. WHAT is `scripts`, `lines` or `node`; all of them, if missing.
-Of scripts and lines those of the cases are run, and a node serves one round (refuse_node.py). A growth is refused
-alone, and then with all after it, by a library that stands before the C library's (refuse.c).
+PROGRAM is the built program, crates/rr_tool/out/rr_tool. WHAT is `calls`, `scripts`, `lines` or `node`; all of them, if
+missing. Of scripts and lines those of the cases are run, and a node serves one round (refuse_node.py). A growth is
+refused alone, and then with all after it, by a library that stands before the C library's (refuse.c).
 
 A run has to end as without, or with status 3, `rr: out of memory` as the one line on standard error and a front of the
-output; of a script nothing. Prints how many growths were refused, and ends with status 1 where a run ended in another
-way or nothing was refused. It takes some minutes on four cores.
+output; of a script nothing. The calls are those of the cases: their program, crates/rr_cases/out/rr_cases, asks the
+library itself for each growth of a call, compares what stands then, and has to end with status 0.
+
+Prints how many growths were refused, and ends with status 1 where a run ended in another way or nothing was refused. It
+takes some minutes on four cores.
 """
 
 import argparse
@@ -17,6 +20,7 @@ import collections
 import concurrent.futures
 import os
 import pathlib
+import re
 import struct
 import subprocess
 import sys
@@ -26,17 +30,19 @@ import typing
 import refuse_node
 from crates import TOP
 
-DATA = TOP / "crates/rr_cases/data"
+CASES = TOP / "crates/rr_cases"
+DATA = CASES / "data"
 
 MEMORY = (3, b"rr: out of memory\n")
 
-KINDS = {"scripts", "lines", "node"}
+KINDS = {"calls", "scripts", "lines", "node"}
 
 # Bytes that are shown of a wrong output.
 MOST_PRINTED = 200
 
-# Seconds that a run may take.
+# Seconds that a run may take, and the program of the cases.
 LONGEST = 20
+LONGEST_OF_CASES = 1200
 
 
 class Refuser:
@@ -157,18 +163,46 @@ def try_cases(program, refuser, what, cases):
     return total["refused"] > 0 and not wrong
 
 
+def try_calls(refuser, folder):
+    """Runs the program of the cases, which refuses each growth of their calls, and answers whether all is well."""
+    program = CASES / "out/rr_cases"
+    if not program.exists():
+        print(f"calls: there is no {program}; `rt run` in {CASES} builds it")
+        return False
+    try:
+        ran = subprocess.run(
+            [program],
+            cwd=CASES,
+            capture_output=True,
+            text=True,
+            env=refuser.environment(folder / "log", 0, False),
+            timeout=LONGEST_OF_CASES,
+        )
+    except subprocess.TimeoutExpired:
+        print("calls: the program of the cases didn't end")
+        return False
+    print(ran.stdout, ran.stderr, sep="", end="")
+    said = re.search(r"(\d+) growths refused$", ran.stdout)
+    refused = int(said[1]) if said else 0
+    print(f"calls: {refused} growths refused, status {ran.returncode}", flush=True)
+    return refused > 0 and ran.returncode == 0
+
+
 def main():
     parser = argparse.ArgumentParser(description=__doc__, formatter_class=argparse.RawDescriptionHelpFormatter)
     parser.add_argument("program", type=pathlib.Path)
-    parser.add_argument("what", nargs="*", help="scripts, lines or node")
+    parser.add_argument("what", nargs="*", help="calls, scripts, lines or node")
     words = parser.parse_args()
     what = set(words.what or KINDS)
     if not what <= KINDS:
         parser.error(f"unknown: {', '.join(sorted(what - KINDS))}")
     program = words.program.resolve()
-    with tempfile.TemporaryDirectory() as folder:
-        refuser = Refuser(pathlib.Path(folder))
+    with tempfile.TemporaryDirectory() as name:
+        folder = pathlib.Path(name)
+        refuser = Refuser(folder)
         is_well = True
+        if "calls" in what:
+            is_well &= try_calls(refuser, folder)
         if "scripts" in what:
             is_well &= try_cases(program, refuser, "scripts", scripts())
         if "lines" in what:

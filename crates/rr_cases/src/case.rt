@@ -1,6 +1,7 @@
 //! A case: a file of input and the file of its expected output.
 
 use crate::files::EXPECTED;
+use crate::growths;
 use crate::kind::Kind;
 use anyhow::{Context, Result};
 use rr_archive::{Archive, PlainArchive};
@@ -45,10 +46,10 @@ fn report(
 
 /// A case: what its input is, its bytes, and the output that is expected of them.
 #[derive(Drop)]
-struct Case {
-    kind: Kind,
+pub(crate) struct Case {
+    pub(crate) kind: Kind,
     input: Vec<u8>,
-    expected: Vec<u8>,
+    pub(crate) expected: Vec<u8>,
 }
 
 /// What is expected of the input of a file, which is named without its ending.
@@ -70,26 +71,47 @@ fn case_of(rt: &(impl Files + AllocGlobal), file: &str) -> Result<Case> {
     })
 }
 
+/// What a case gives over a kind of archive that isn't expected, if there is something. Counts the growths
+/// that are refused.
+fn unexpected<A: Archive, R: AllocGlobal + Wait>(
+    rt: &R,
+    case: &Case,
+    refused: &mut u32,
+) -> Result<Option<Vec<u8>>> {
+    if let Some(text) = growths::text_of(&case.input) {
+        return growths::unexpected::<A, R>(rt.alloc(), rt, case, text, refused);
+    }
+    let got = case.kind.output::<A, R>(rt.alloc(), rt, &case.input)?;
+    Ok((got.as_slice() != case.expected.as_slice()).then_some(got))
+}
+
 /// Whether a case holds over a kind of archive; where it doesn't, the first difference is printed.
 fn holds_over<A: Archive, R: AllocGlobal + Print + Wait>(
     rt: &R,
     case: &Case,
     file: &str,
     archive: &str,
+    refused: &mut u32,
 ) -> Result<bool> {
-    let got = case.kind.output::<A, R>(rt.alloc(), rt, &case.input)?;
-    if got.as_slice() == case.expected.as_slice() {
-        return Ok(true);
+    match unexpected::<A, R>(rt, case, refused)? {
+        Some(got) => {
+            report(rt, file, archive, &case.expected, &got)?;
+            Ok(false)
+        }
+        None => Ok(true),
     }
-    report(rt, file, archive, &case.expected, &got)?;
-    Ok(false)
 }
 
-/// Whether the case of a file of input holds over both kinds of archive.
-pub(crate) fn holds<R: Files + AllocGlobal + Print + Wait>(rt: &R, file: &str) -> Result<bool> {
+/// Whether the case of a file of input holds over both kinds of archive. Counts the growths that are
+/// refused.
+pub(crate) fn holds<R: Files + AllocGlobal + Print + Wait>(
+    rt: &R,
+    file: &str,
+    refused: &mut u32,
+) -> Result<bool> {
     let case = case_of(rt, file)?;
     Ok(
-        holds_over::<RingArchive, R>(rt, &case, file, "rings")?
-            && holds_over::<PlainArchive, R>(rt, &case, file, "ordered maps")?,
+        holds_over::<RingArchive, R>(rt, &case, file, "rings", refused)?
+            && holds_over::<PlainArchive, R>(rt, &case, file, "ordered maps", refused)?,
     )
 }

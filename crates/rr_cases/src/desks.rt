@@ -2,8 +2,8 @@
 //! line `---` stands between two calls.
 //!
 //! The first line of a call has its words, and what follows is its input, in which lines and texts may be
-//! several times ([`crate::repeats`]). The words after the first limit the streams and set the clock
-//! ([`crate::settings`]).
+//! several times ([`crate::repeats`]). The words after the first limit the streams and the memory, and set the
+//! clock ([`crate::settings`]).
 //!
 //! | Call | Answer |
 //! |---|---|
@@ -11,7 +11,10 @@
 //! | `fetches` | what is written as the reader serves the input |
 //! | `session` | the same, the bytes of both in hexadecimal |
 //! | `pull` | what is written as the keeper pulls from the input, the bytes of both in hexadecimal |
+//! | `put` | nothing: the keeper puts a value of `m v`, whose time and the value are the input |
+//! | `join` | nothing: it joins a cell, with the words of a call of a replica as its input ([`crate::replicas`]) |
 //! | `publish` | nothing |
+//! | `save` | what is written of a snapshot of the keeper, in hexadecimal |
 //! | `names` | how many cells the keeper has |
 //! | `cells` | a line for each cell that the reader gives to a side that has none |
 //!
@@ -19,13 +22,16 @@
 
 use crate::cells::as_ref;
 use crate::documents::texts;
+use crate::growths::{begin, end};
 use crate::repeats::expanded;
-use crate::replicas::push_cell;
+use crate::replicas::{cell_of, push_cell};
 use crate::settings::{Settings, written};
+use crate::words::Words;
 use anyhow::{Context, Result, bail};
 use rr_archive::Archive;
 use rr_desk::{Keeper, Reader, open};
 use rr_fakes::replicas::minutes;
+use rr_key::SeriesKey;
 use rr_line::Precision;
 use rr_node::{Moments, OpenGate, pull_peer, serve_lines, serve_lines_within, serve_reader};
 use std::alloc::{AllocError, Global};
@@ -87,9 +93,26 @@ fn answer<A: Archive, T: Wait>(
         "fetches" => fetches(alloc, reader, &settings, &expanded(alloc, input)?),
         "session" => session(alloc, reader, &settings, input),
         "pull" => pull(alloc, rt, keeper, &settings, input),
-        "publish" => publish(alloc, rt, keeper),
+        "publish" => publish(alloc, rt, keeper, &settings),
         "names" => names(alloc, keeper),
         "cells" => cells(alloc, reader),
+        _ => answer_of_keeper(alloc, keeper, name, &settings, input),
+    }
+}
+
+/// Makes one of the calls that the keeper answers alone.
+fn answer_of_keeper<A: Archive>(
+    alloc: Global,
+    keeper: &mut Keeper<A>,
+    name: &str,
+    settings: &Settings,
+    input: &[u8],
+) -> Result<Answer> {
+    let words = Words::of(str::from_utf8(input)?.trim_end());
+    match name {
+        "put" => put(alloc, keeper, settings, words),
+        "join" => join(alloc, keeper, settings, words),
+        "save" => save(alloc, keeper, settings),
         _ => bail!("an unknown call"),
     }
 }
@@ -105,6 +128,15 @@ fn first_line(text: &[u8]) -> Result<(&str, &[u8])> {
     Ok((str::from_utf8(line)?, rest.get(1..).unwrap_or(b"")))
 }
 
+/// How a call did that writes nothing, as a text.
+fn ending(alloc: Global, done: Result<(), AllocError>) -> Result<Answer> {
+    let word = match done {
+        Ok(()) => "done",
+        Err(AllocError) => "Memory",
+    };
+    Ok((text_of(alloc, word)?, Vec::new(alloc)))
+}
+
 /// The name of a fault as a text.
 fn text_of(alloc: Global, name: &str) -> Result<String> {
     Ok(String::from_str(alloc, name)?)
@@ -118,10 +150,11 @@ fn lines<A: Archive, T: Wait>(
     input: &[u8],
 ) -> Result<Answer> {
     let mut source = settings.source(input);
-    let mut sink = settings.sink(alloc);
-    let (reads, lead) = (settings.reads, settings.lead);
+    let mut sink = settings.sink(alloc)?;
+    let (reads, lead, growths) = (settings.reads, settings.lead, settings.growths);
     let mut clock = Moments::new(settings.moments);
     let unit = Precision::Ns;
+    begin(alloc, growths);
     let served = match reads {
         None => serve_lines(
             alloc,
@@ -145,6 +178,7 @@ fn lines<A: Archive, T: Wait>(
             reads,
         ),
     };
+    end(alloc, growths);
     let ending = match served {
         Ok(report) => {
             let (points, samples, refused) = (report.points, report.samples, report.refused);
@@ -162,9 +196,12 @@ fn fetches<A: Archive>(
     input: &[u8],
 ) -> Result<Answer> {
     let mut source = settings.source(input);
-    let mut sink = settings.sink(alloc);
+    let mut sink = settings.sink(alloc)?;
     let mut gate = OpenGate::new();
-    let ending = match serve_reader(alloc, &mut source, &mut sink, reader, &mut gate) {
+    begin(alloc, settings.growths);
+    let served = serve_reader(alloc, &mut source, &mut sink, reader, &mut gate);
+    end(alloc, settings.growths);
+    let ending = match served {
         Ok(()) => "done",
         Err(fault) => fault.name(),
     };
@@ -202,8 +239,11 @@ fn pull<A: Archive, T: Wait>(
 ) -> Result<Answer> {
     let bytes = bytes_of(alloc, input)?;
     let mut source = settings.source(&bytes);
-    let mut sink = settings.sink(alloc);
-    let ending = match pull_peer(alloc, &mut source, &mut sink, keeper, rt) {
+    let mut sink = settings.sink(alloc)?;
+    begin(alloc, settings.growths);
+    let pulled = pull_peer(alloc, &mut source, &mut sink, keeper, rt);
+    end(alloc, settings.growths);
+    let ending = match pulled {
         Ok(()) => "done",
         Err(fault) => fault.name(),
     };
@@ -211,9 +251,59 @@ fn pull<A: Archive, T: Wait>(
     Ok((text_of(alloc, ending)?, written))
 }
 
-fn publish<A: Archive, T: Wait>(alloc: Global, rt: &T, keeper: &mut Keeper<A>) -> Result<Answer> {
-    keeper.publish(rt)?;
-    Ok((text_of(alloc, "done")?, Vec::new(alloc)))
+fn publish<A: Archive, T: Wait>(
+    alloc: Global,
+    rt: &T,
+    keeper: &mut Keeper<A>,
+    settings: &Settings,
+) -> Result<Answer> {
+    begin(alloc, settings.growths);
+    let published = keeper.publish(rt);
+    end(alloc, settings.growths);
+    ending(alloc, published)
+}
+
+fn put<A: Archive>(
+    alloc: Global,
+    keeper: &mut Keeper<A>,
+    settings: &Settings,
+    mut words: Words<'_>,
+) -> Result<Answer> {
+    let (time, value) = (words.number()?, words.number()?);
+    let key = SeriesKey::parse_text(alloc, b"m v")?;
+    begin(alloc, settings.growths);
+    let put = keeper.put(&key, time, value);
+    end(alloc, settings.growths);
+    let ending = match put {
+        Ok(number) => format!(in alloc; "{number}")?,
+        Err(fault) => text_of(alloc, fault.name())?,
+    };
+    Ok((ending, Vec::new(alloc)))
+}
+
+fn join<A: Archive>(
+    alloc: Global,
+    keeper: &mut Keeper<A>,
+    settings: &Settings,
+    words: Words<'_>,
+) -> Result<Answer> {
+    let cell = cell_of(alloc, keeper.schema(), words)?;
+    begin(alloc, settings.growths);
+    let joined = keeper.join_cell(&cell);
+    end(alloc, settings.growths);
+    ending(alloc, joined)
+}
+
+fn save<A: Archive>(alloc: Global, keeper: &Keeper<A>, settings: &Settings) -> Result<Answer> {
+    let mut sink = settings.sink(alloc)?;
+    begin(alloc, settings.growths);
+    let saved = keeper.save(alloc, &mut sink);
+    end(alloc, settings.growths);
+    let ending = match saved {
+        Ok(()) => "done",
+        Err(fault) => fault.name(),
+    };
+    Ok((text_of(alloc, ending)?, hex_line(alloc, &written(sink))?))
 }
 
 fn names<A: Archive>(alloc: Global, keeper: &Keeper<A>) -> Result<Answer> {

@@ -1,6 +1,6 @@
 //! The kinds of cases.
 
-use crate::{cells, configs, desks, documents, faults, keys, lines, pages, replicas};
+use crate::{cells, configs, desks, documents, faults, keys, lines, pages, replicas, scripts};
 use anyhow::{Result, bail};
 use rr_archive::Archive;
 use std::alloc::Global;
@@ -9,8 +9,8 @@ use std::sync::Wait;
 /// What stands in a file of input for each number in turn.
 const TURN: &str = "{n}";
 
-/// A number that no call of a stream comes to.
-const LAST: u32 = 60_000;
+/// A number that no call of a stream comes to, nor a growth of a call.
+pub(crate) const LAST: u32 = 60_000;
 
 /// What a file of input is.
 #[derive(Clone, Copy)]
@@ -77,11 +77,11 @@ impl Kind {
         rt: &T,
         text: &str,
     ) -> Result<Vec<u8>> {
-        let whole = self.output_at::<A, T>(alloc, rt, text, LAST)?;
+        let whole = self.output_at::<A, T>(alloc, rt, text, TURN, LAST)?;
         let mut outputs = Vec::new(alloc);
         let mut before = Vec::new(alloc);
         for number in 0..LAST {
-            let output = self.output_at::<A, T>(alloc, rt, text, number)?;
+            let output = self.output_at::<A, T>(alloc, rt, text, TURN, number)?;
             if output == whole {
                 outputs.extend_from_slice(&whole)?;
                 return Ok(outputs);
@@ -95,16 +95,17 @@ impl Kind {
         bail!("the answers go on to change")
     }
 
-    /// What they answer to a text with a number in turn.
-    fn output_at<A: Archive, T: Wait>(
+    /// What they answer to a text with a number in the place of what stands for it.
+    pub(crate) fn output_at<A: Archive, T: Wait>(
         self,
         alloc: Global,
         rt: &T,
         text: &str,
+        turn: &str,
         number: u32,
     ) -> Result<Vec<u8>> {
         let number = format!(in alloc; "{number}")?;
-        let text = text.replace(alloc, TURN, number.as_str())?;
+        let text = text.replace(alloc, turn, number.as_str())?;
         self.output_of::<A, T>(alloc, rt, text.as_bytes())
     }
 
@@ -116,7 +117,7 @@ impl Kind {
         input: &[u8],
     ) -> Result<Vec<u8>> {
         match self {
-            Kind::Script => Ok(rr_cluster::run_on::<A>(alloc, input)?),
+            Kind::Script => scripts::answers::<A>(alloc, input),
             Kind::Lines => lines::answers(alloc, input),
             Kind::Documents => Ok(documents::answers(alloc, input)?),
             Kind::Configs => Ok(configs::answers(alloc, input)?),

@@ -2,6 +2,7 @@
 //! follows a `;` in it limits the streams ([`crate::settings`]), and then lines and texts may be in it
 //! several times ([`crate::repeats`]).
 
+use crate::growths::{begin, end};
 use crate::repeats::expanded;
 use crate::settings::{Settings, written};
 use anyhow::{Result, bail};
@@ -40,11 +41,13 @@ fn options(alloc: Global, words: &str) -> Result<(Precision, i64)> {
 fn report(alloc: Global, words: &str, settings: &Settings, lines: &[u8]) -> Result<Vec<u8>> {
     let (precision, now) = options(alloc, words)?;
     let mut source = settings.source(lines);
-    let mut sink = settings.sink(alloc);
+    let mut sink = settings.sink(alloc)?;
+    begin(alloc, settings.growths);
     let checked = match settings.reads {
         None => check_lines(alloc, &mut source, &mut sink, precision, now),
         Some(reads) => check_lines_within(alloc, &mut source, &mut sink, precision, now, reads),
     };
+    end(alloc, settings.growths);
     let mut output = written(sink);
     if let Err(fault) = checked {
         output.extend_from_slice(format!(in alloc; "== {}\n", fault.name())?.as_bytes())?;

@@ -4,8 +4,8 @@
 //! runs each file through the public calls of the libraries, and compares what they answer with the
 //! file of the same name that ends in `.out`. The ending of a file says what it is
 //! ([`kind::Kind`]). The program prints where the two first differ, and at the end how many cases
-//! there are, so that files that aren't found are noticed. It ends with status 1 where a case
-//! differs.
+//! there are, so that files that aren't found are noticed, and how many growths of their calls were refused
+//! ([`growths`]). It ends with status 1 where a case differs.
 #![tactic(auto)]
 
 mod case;
@@ -16,14 +16,18 @@ mod desks;
 mod documents;
 mod faults;
 mod files;
+mod growths;
 mod keys;
 mod kind;
 mod lines;
+mod operations;
 mod pages;
 mod repeats;
 mod replicas;
+mod scripts;
 mod sessions;
 mod settings;
+mod sides;
 mod stored;
 mod words;
 
@@ -33,14 +37,15 @@ use std::process::ExitCode;
 fn main(rt: HostRuntime) -> Result<ExitCode> {
     let mut count = 0usize;
     let mut wrong = 0usize;
+    let mut refused = 0u32;
     for folder in &files::folders(&rt)? {
         for input in &files::inputs(&rt, folder)? {
             count = count.saturating_add(1);
-            if !case::holds(&rt, input)? {
+            if !case::holds(&rt, input, &mut refused)? {
                 wrong = wrong.saturating_add(1);
             }
         }
     }
-    println!(rt; "{count} cases")?;
+    println!(rt; "{count} cases, {refused} growths refused")?;
     Ok(ExitCode::from(u8::from(wrong != 0)))
 }

@@ -7,32 +7,45 @@
 //! | `put TIME VALUE` | the number of the sample, which is of `m v` |
 //! | `write NOW LEAD LINE` | how many fields are put; the lead `-` is none |
 //! | `join ORIGIN NUMBER SLOT VALUE` | `joined`: a cell of one sample of `m v`, at the start of a slot of the first archive |
-//! | `apply ORIGIN NUMBER TIME VALUE` | `taken` or `not taken`: a sample of `m v`, after room was made for it |
+//! | `join-cells PAGE` | `joined`: the cells of a page in hexadecimal |
+//! | `apply ORIGIN NUMBER TIME VALUE` | `taken` or `not taken`: a sample of `m v` |
 //! | `apply-cell ARCHIVE ORIGIN NUMBER SLOT TIME VALUE` | the same of a cell of one sample at a time, whatever its slot |
+//! | `ready CALL` | `ready`: room is made for the operation of a call `apply` or `apply-cell` |
 //! | `next` | the number of the next sample |
 //! | `cells` | a line for each cell: key, archive, slot, origin, version, count, last value |
 //! | `pull`, `give`, `give-after` and words | what a session over streams wrote and left, and how it ended ([`crate::sessions`]) |
+//! | `puller`, `giver` and words | what one side of a session answers, frame by frame ([`crate::sides`]) |
+//! | `answer SIZE WRITES REQUEST` | the answer to a request, written as `save` writes, and how that ended |
 //! | `after ARCHIVE SLOT ORIGIN KEY` | the first cell after a name, or `none` |
 //! | `save SIZE WRITES` | the bytes of a snapshot that are written, in hexadecimal, and how that ended ([`crate::stored`]) |
 //! | `load ORIGIN SIZE READS BYTES` | how a snapshot is loaded in the place of the replica ([`crate::stored`]) |
 //! | `copy CALL` | what the call of a copy answers, and then a line for each cell of the copy |
+//! | `refuse N CALL` | what the call answers where the growth after N of them is refused |
+//!
+//! Where memory runs out a call answers `Memory`, of `write` and `join-cells` with how many fields or cells were done.
 
 ghost use Rattle.std.specs.Prelude.{IfOk};
 ghost use Rattle.rr_cells.specs.CellBounds.{IsCellOf};
 ghost use Rattle.rr_cells.specs.Listing.{owned_cell};
 
+use crate::growths::{begin, end};
+use crate::operations::op_of;
 use crate::sessions::{Session, push_session};
+use crate::settings::written;
+use crate::sides::{Side, giver, puller, push_steps};
 use crate::stored::{loaded, push_saved};
 use crate::words::Words;
 use anyhow::{Context, Result, bail};
 use rr_archive::Archive;
 use rr_base::{ArchiveSpec, Origin, Schema};
-use rr_cells::{Cell, CellRef, Op, Sample};
+use rr_cells::{Cell, CellRef};
 use rr_contrib::Contribution;
+use rr_fakes::room::failing_room;
+use rr_fetch::{answer, parse_request};
 use rr_key::SeriesKey;
 use rr_line::{LINE_FEED, Line, Precision, parse_line};
-use rr_page::{LATEST, cell_bytes, read_cell};
-use rr_replica::{Replica, WriteFault};
+use rr_page::{LATEST, cell_bytes, decode, read_cell};
+use rr_replica::{JoinFault, Replica, WriteFault};
 use rr_text::limits::MAX_NUMBER;
 use std::alloc::{AllocError, Global};
 
@@ -125,30 +138,44 @@ impl<A: Archive> Calls<A> {
 
     /// Makes the call of a line.
     fn push_answer(&mut self, line: &str) -> Result<()> {
-        match line.strip_prefix("copy ") {
-            Some(call) => {
-                let mut copy = Calls::new(self.alloc, self.replica.copy(self.alloc)?);
-                copy.push_call(call)?;
-                copy.push_cells()?;
-                Ok(self.output.push_str(&copy.output)?)
-            }
-            None => self.push_call(line),
+        match line.split_once(' ') {
+            Some(("copy", call)) => self.push_of_copy(call),
+            Some(("refuse", call)) => self.push_call(Words::refusing(call)?),
+            _ => self.push_call(Words::of(line)),
         }
     }
 
+    /// Makes a call of a copy.
+    fn push_of_copy(&mut self, call: &str) -> Result<()> {
+        let mut copy = Calls::new(self.alloc, self.replica.copy(self.alloc)?);
+        copy.push_call(Words::of(call))?;
+        copy.push_cells()?;
+        Ok(self.output.push_str(&copy.output)?)
+    }
+
     /// Makes a call other than `copy`.
-    fn push_call(&mut self, line: &str) -> Result<()> {
-        let mut words = Words::of(line);
+    fn push_call(&mut self, call: Words<'_>) -> Result<()> {
+        let mut words = call;
         match words.word() {
             "put" => self.put(words),
             "write" => self.write_line(words),
             "join" => self.join(words),
-            "apply" => self.apply_sample(words),
-            "apply-cell" => self.apply_cell(words),
+            "join-cells" => self.join_cells(words),
+            "ready" => self.ready(words),
+            "apply" | "apply-cell" => self.apply(call),
+            name => self.push_other(name, words),
+        }
+    }
+
+    /// Makes a call of another name, with the words after it.
+    fn push_other(&mut self, name: &str, words: Words<'_>) -> Result<()> {
+        match name {
             "pull" => self.hold(Session::Pull, words),
             "give" => self.hold(Session::Give, words),
             "give-after" => self.hold(Session::GiveAfter, words),
+            "puller" | "giver" => self.take_steps(name, words),
             "after" => self.push_after(words),
+            "answer" => self.answer(words),
             "save" => push_saved(self.alloc, &self.replica, words, &mut self.output),
             "load" => self.load(words),
             "next" => Ok(write!(self.output, "{}\n", self.replica.next_number())?),
@@ -157,10 +184,18 @@ impl<A: Archive> Calls<A> {
         }
     }
 
+    /// Adds the word that a call answers, or that memory ran out.
+    fn push_word(&mut self, word: Result<&str, AllocError>) -> Result<()> {
+        Ok(write!(self.output, "{}\n", word.unwrap_or("Memory"))?)
+    }
+
     fn put(&mut self, mut words: Words<'_>) -> Result<()> {
         let (time, value) = (words.number()?, words.number()?);
         let key = SeriesKey::parse_text(self.alloc, b"m v")?;
-        match self.replica.put(&key, time, value) {
+        begin(self.alloc, words.growths);
+        let put = self.replica.put(&key, time, value);
+        end(self.alloc, words.growths);
+        match put {
             Ok(number) => Ok(write!(self.output, "{number}\n")?),
             Err(fault) => Ok(write!(self.output, "{}\n", fault.name())?),
         }
@@ -169,71 +204,86 @@ impl<A: Archive> Calls<A> {
     fn write_line(&mut self, mut words: Words<'_>) -> Result<()> {
         let now = words.number()?;
         let lead = words.limit()?;
-        match self.write_point(words.rest().as_bytes(), now, lead)? {
+        match self.write_point(words, now, lead)? {
             Ok(fields) => Ok(write!(self.output, "{fields}\n")?),
+            Err(WriteFault::Memory { put }) => Ok(write!(self.output, "Memory {put}\n")?),
             Err(fault) => Ok(write!(self.output, "{}\n", fault.name())?),
         }
     }
 
-    /// Writes the point of a line.
+    /// Writes the point of the line that the words are.
     fn write_point(
         &mut self,
-        line: &[u8],
+        words: Words<'_>,
         now: i64,
         lead: Option<u64>,
     ) -> Result<Result<u32, WriteFault>> {
+        let line = words.rest().as_bytes();
         if line.contains(&LINE_FEED) {
             bail!("more than a line");
         }
-        match parse_line(self.alloc, line, Precision::Ns)? {
-            Line::Point(point) => Ok(self.replica.write(&point, now, lead)),
-            Line::Nothing => bail!("a line without a point"),
+        let Line::Point(point) = parse_line(self.alloc, line, Precision::Ns)? else {
+            bail!("a line without a point");
+        };
+        begin(self.alloc, words.growths);
+        let written = self.replica.write(&point, now, lead);
+        end(self.alloc, words.growths);
+        Ok(written)
+    }
+
+    fn join(&mut self, words: Words<'_>) -> Result<()> {
+        let cell = cell_of(self.alloc, self.replica.schema(), words)?;
+        begin(self.alloc, words.growths);
+        let joined = self.replica.join_cell(&cell);
+        end(self.alloc, words.growths);
+        self.push_word(joined.map(|_| "joined"))
+    }
+
+    fn join_cells(&mut self, mut words: Words<'_>) -> Result<()> {
+        let page = hex::decode(self.alloc, words.word())?;
+        let cells = decode(self.alloc, &page, self.replica.schema())?;
+        begin(self.alloc, words.growths);
+        let joined = self.replica.join_cells(&cells);
+        end(self.alloc, words.growths);
+        match joined {
+            Ok(()) => Ok(self.output.push_str("joined\n")?),
+            Err(JoinFault::Memory { joined }) => Ok(write!(self.output, "Memory {joined}\n")?),
         }
     }
 
-    fn join(&mut self, mut words: Words<'_>) -> Result<()> {
-        let origin = words.origin()?;
-        let number = words.number::<u64>()?.clamp(1, MAX_NUMBER);
-        let slot = words.number::<i64>()?.clamp(-9, 9);
-        let sample = Contribution::first(number, 0, slot * MINUTE, words.number()?);
-        let cell = cell_of(self.alloc, self.replica.schema(), origin, slot, sample)?;
-        self.replica.join_cell(&cell)?;
-        Ok(self.output.push_str("joined\n")?)
+    /// Makes room for the operation of a call.
+    fn ready(&mut self, words: Words<'_>) -> Result<()> {
+        let op = op_of(self.alloc, words)?;
+        begin(self.alloc, words.growths);
+        let done = self.replica.ready(&op);
+        end(self.alloc, words.growths);
+        self.push_word(done.map(|_| "ready"))
     }
 
-    fn apply_sample(&mut self, mut words: Words<'_>) -> Result<()> {
-        let sample = Sample {
-            origin: words.origin()?,
-            number: words.number()?,
-            key: SeriesKey::parse_text(self.alloc, b"m v")?,
-            time: words.number()?,
-            value: words.number()?,
+    /// Applies a copy of an operation.
+    fn apply(&mut self, words: Words<'_>) -> Result<()> {
+        let op = op_of(self.alloc, words)?.copy()?;
+        begin(self.alloc, words.growths);
+        let taken = self.replica.apply(&op);
+        end(self.alloc, words.growths);
+        self.push_word(taken.map(|taken| if taken { "taken" } else { "not taken" }))
+    }
+
+    fn answer(&mut self, mut words: Words<'_>) -> Result<()> {
+        let size = words.limit()?.unwrap_or(usize::MAX);
+        let writes = words.limit()?.unwrap_or(u64::MAX);
+        let mut output = failing_room(self.alloc, size, usize::MAX, writes)?;
+        let request = parse_request(self.alloc, words.rest().as_bytes(), self.replica.schema())?;
+        begin(self.alloc, words.growths);
+        let answered = answer(self.alloc, &self.replica, &request, &mut output);
+        end(self.alloc, words.growths);
+        let ending = match &answered {
+            Ok(()) => "done",
+            Err(fault) => fault.name(),
         };
-        self.push_taken(&Op::Put(sample))
-    }
-
-    fn apply_cell(&mut self, mut words: Words<'_>) -> Result<()> {
-        let (archive, origin) = (words.number()?, words.origin()?);
-        let number = words.number::<u64>()?.clamp(1, MAX_NUMBER);
-        let cell = Cell {
-            key: SeriesKey::parse_text(self.alloc, b"m v")?,
-            archive,
-            slot: words.number()?,
-            origin,
-            contribution: Contribution::first(number, 0, words.number()?, words.number()?),
-        };
-        self.push_taken(&Op::Join(cell))
-    }
-
-    /// Makes room for a copy of an operation and applies it, and adds whether it was taken.
-    fn push_taken(&mut self, op: &Op) -> Result<()> {
-        let op = op.copy()?;
-        self.replica.ready(&op)?;
-        let taken = self.replica.apply(&op)?;
-        Ok(
-            self.output
-                .push_str(if taken { "taken\n" } else { "not taken\n" })?,
-        )
+        let text = written(output);
+        self.output.push_str(str::from_utf8(&text)?)?;
+        Ok(write!(self.output, "== {ending}\n")?)
     }
 
     fn load(&mut self, words: Words<'_>) -> Result<()> {
@@ -242,6 +292,17 @@ impl<A: Archive> Calls<A> {
             self.replica = replica;
         }
         Ok(())
+    }
+
+    /// Takes the steps of a side of a session.
+    fn take_steps(&mut self, name: &str, mut words: Words<'_>) -> Result<()> {
+        let frames = words.limit()?;
+        let side = if name == "giver" {
+            giver(frames)
+        } else {
+            puller(frames)
+        };
+        push_steps(self.alloc, side, &mut self.replica, words, &mut self.output)
     }
 
     fn hold(&mut self, session: Session, words: Words<'_>) -> Result<()> {
@@ -276,23 +337,20 @@ impl<A: Archive> Calls<A> {
     }
 }
 
-/// The cell of a contribution, as it is read from its bytes.
-fn cell_of(
-    alloc: Global,
-    schema: &Schema,
-    origin: Origin,
-    slot: i64,
-    contribution: Contribution,
-) -> Result<Cell>
+/// The cell of a `join`, as it is read from its bytes.
+pub(crate) fn cell_of(alloc: Global, schema: &Schema, mut words: Words<'_>) -> Result<Cell>
     ensures { IfOk result (λ cell. IsCellOf schema.now (owned_cell cell)) }
 {
+    let origin = words.origin()?;
+    let number = words.number::<u64>()?.clamp(1, MAX_NUMBER);
+    let slot = words.number::<i64>()?.clamp(-9, 9);
     let key = SeriesKey::parse_text(alloc, b"m v")?;
     let cell = CellRef {
         key: &key,
         archive: 0,
         slot,
         origin,
-        contribution,
+        contribution: Contribution::first(number, 0, slot * MINUTE, words.number()?),
     };
     let bytes = cell_bytes(alloc, cell)?;
     let (cell, _) = read_cell(alloc, &bytes, schema, LATEST)?;

@@ -1,45 +1,61 @@
 //! Sessions of a replica over streams, as calls of it ([`crate::replicas`]).
 //!
-//! The words of a call are how many bytes a read gives, how many reads there are before one fails, how
-//! many frames the session may have, each `-` where it is without a limit, and the input in
-//! hexadecimal.
+//! The words of a call are how many bytes a read gives and a write takes, how many reads there are before one
+//! fails, how many frames the session may have, each `-` where it is without a limit, the input in
+//! hexadecimal, and where it has a limit how many writes there are before one fails.
 
+use crate::growths::{begin, end};
+use crate::settings::written;
 use crate::words::Words;
 use anyhow::{Context, Result};
 use rr_archive::Archive;
 use rr_base::{Counted, Failing};
 use rr_fakes::pieces::{Pieces, failing_after};
+use rr_fakes::room::{Room, failing_room};
 use rr_gossip::{GossipFault, give, give_after, give_after_within, give_within, pull, pull_within};
 use rr_replica::Replica;
 use std::alloc::{AllocError, Global};
 
-/// The input of a session, and its limits.
+type Input<'a> = Counted<Failing<Pieces<'a>>>;
+
+type Output = Counted<Failing<Room>>;
+
+/// What a session is given: its input, and its limits.
 #[derive(Drop)]
-struct LimitedInput {
+struct Given {
     size: usize,
     reads: u64,
     /// Any number of 16 bits is one that a session may have.
     frames: Option<u16>,
     bytes: Vec<u8>,
+    writes: u64,
 }
 
-impl LimitedInput {
-    fn of(alloc: Global, mut words: Words<'_>) -> Result<LimitedInput> {
-        Ok(LimitedInput {
+impl Given {
+    fn of(alloc: Global, mut words: Words<'_>) -> Result<Given> {
+        Ok(Given {
             size: words.limit()?.unwrap_or(usize::MAX),
             reads: words.limit()?.unwrap_or(u64::MAX),
             frames: words.limit()?,
             bytes: hex::decode(alloc, words.word())?,
+            writes: words.limit()?.unwrap_or(u64::MAX),
         })
     }
 
-    /// The input after its first `from` bytes.
-    fn after(&self, from: usize) -> Result<Counted<Failing<Pieces<'_>>>> {
-        Ok(failing_after(
-            self.bytes.get(from..).context("no first byte")?,
-            self.size,
-            self.reads,
-        ))
+    /// The first byte of the input.
+    fn first(&self) -> u8 {
+        self.bytes.first().copied().unwrap_or(0)
+    }
+
+    /// The input, after its first byte where that is handed over apart from it.
+    fn input(&self, session: Session) -> Result<Input<'_>> {
+        let apart = usize::from(session == Session::GiveAfter);
+        let bytes = self.bytes.get(apart..).context("no first byte")?;
+        Ok(failing_after(bytes, self.size, self.reads))
+    }
+
+    fn output(&self, alloc: Global) -> Result<Output, AllocError> {
+        failing_room(alloc, self.size, usize::MAX, self.writes)
     }
 }
 
@@ -54,6 +70,49 @@ pub(crate) enum Session {
     GiveAfter,
 }
 
+/// Pulls, within a limit of frames if there is one.
+fn pull_some<A: Archive>(
+    alloc: Global,
+    frames: Option<u16>,
+    input: &mut Input<'_>,
+    output: &mut Output,
+    replica: &mut Replica<A>,
+) -> Result<(), GossipFault> {
+    match frames {
+        None => pull(alloc, input, output, replica),
+        Some(most) => pull_within(alloc, input, output, replica, u32::from(most)),
+    }
+}
+
+/// Gives, within a limit of frames if there is one.
+fn give_some<A: Archive>(
+    alloc: Global,
+    frames: Option<u16>,
+    input: &mut Input<'_>,
+    output: &mut Output,
+    replica: &mut Replica<A>,
+) -> Result<(), GossipFault> {
+    match frames {
+        None => give(alloc, input, output, replica),
+        Some(most) => give_within(alloc, input, output, replica, u32::from(most)),
+    }
+}
+
+/// Gives after a first byte, within a limit of frames if there is one.
+fn give_some_after<A: Archive>(
+    alloc: Global,
+    first: u8,
+    frames: Option<u16>,
+    input: &mut Input<'_>,
+    output: &mut Output,
+    replica: &mut Replica<A>,
+) -> Result<(), GossipFault> {
+    match frames {
+        None => give_after(alloc, first, input, output, replica),
+        Some(most) => give_after_within(alloc, first, input, output, replica, u32::from(most)),
+    }
+}
+
 /// Holds a session over the input that the words have, and adds its ending.
 pub(crate) fn push_session<A: Archive>(
     alloc: Global,
@@ -62,26 +121,21 @@ pub(crate) fn push_session<A: Archive>(
     words: Words<'_>,
     answer: &mut String,
 ) -> Result<()> {
-    let given = LimitedInput::of(alloc, words)?;
-    let frames = given.frames.map(u32::from);
-    let mut output = Counted::new(Vec::new(alloc));
-    let apart = usize::from(session == Session::GiveAfter);
-    let mut input = given.after(apart)?;
-    let ended = match (session, frames) {
-        (Session::Pull, None) => pull(alloc, &mut input, &mut output, replica),
-        (Session::Pull, Some(most)) => pull_within(alloc, &mut input, &mut output, replica, most),
-        (Session::Give, None) => give(alloc, &mut input, &mut output, replica),
-        (Session::Give, Some(most)) => give_within(alloc, &mut input, &mut output, replica, most),
-        (Session::GiveAfter, None) => {
-            let first = *given.bytes.first().context("no first byte")?;
-            give_after(alloc, first, &mut input, &mut output, replica)
-        }
-        (Session::GiveAfter, Some(most)) => {
-            let first = *given.bytes.first().context("no first byte")?;
-            give_after_within(alloc, first, &mut input, &mut output, replica, most)
+    let given = Given::of(alloc, words)?;
+    let mut input = given.input(session)?;
+    let mut output = given.output(alloc)?;
+    let frames = given.frames;
+    begin(alloc, words.growths);
+    let ended = match session {
+        Session::Pull => pull_some(alloc, frames, &mut input, &mut output, replica),
+        Session::Give => give_some(alloc, frames, &mut input, &mut output, replica),
+        Session::GiveAfter => {
+            let first = given.first();
+            give_some_after(alloc, first, frames, &mut input, &mut output, replica)
         }
     };
-    push_ending(alloc, answer, &output.into_inner(), input, ended)
+    end(alloc, words.growths);
+    push_ending(alloc, answer, &written(output), input, ended)
 }
 
 /// What was written, how many bytes of the input were left, how many calls of it failed, and how the
@@ -90,7 +144,7 @@ fn push_ending(
     alloc: Global,
     answer: &mut String,
     written: &[u8],
-    input: Counted<Failing<Pieces<'_>>>,
+    input: Input<'_>,
     ended: Result<(), GossipFault>,
 ) -> Result<()> {
     let failures = input.failures();

@@ -8,14 +8,15 @@
 //! | `room` | how many bytes can be written |
 //! | `lead` | how far ahead of the clock a point may be, in nanoseconds |
 //! | `now` | what the clock gives, one after the other, with a comma between two |
+//! | `growths` | how many growths of the call there are before one is refused |
 
 use anyhow::{Context, Result, bail};
 use rr_base::{Counted, Failing};
 use rr_fakes::pieces::{Pieces, failing_after};
 use rr_fakes::room::{Room, failing_room};
-use std::alloc::Global;
+use std::alloc::{AllocError, Global};
 
-/// The limits of a call's streams, and its clock.
+/// The limits of a call's streams and of its memory, and its clock.
 #[derive(Drop)]
 pub(crate) struct Settings {
     /// How many bytes a read gives at most, and a write takes.
@@ -32,6 +33,8 @@ pub(crate) struct Settings {
     pub(crate) lead: Option<u64>,
     /// What the clock gives, one after the other.
     pub(crate) moments: Vec<i64>,
+    /// How many growths there are before one is refused, if one is.
+    pub(crate) growths: Option<u32>,
 }
 
 impl Settings {
@@ -45,6 +48,7 @@ impl Settings {
             reads: None,
             lead: None,
             moments: Vec::new(alloc),
+            growths: None,
         };
         for word in words.split(' ') {
             if !word.is_empty() {
@@ -63,6 +67,7 @@ impl Settings {
             "room" => self.room = value.parse()?,
             "reads" => self.reads = Some(value.parse()?),
             "lead" => self.lead = Some(value.parse()?),
+            "growths" => self.growths = Some(value.parse()?),
             "now" => {
                 for moment in value.split(',') {
                     self.moments.push(moment.parse()?)?;
@@ -79,7 +84,7 @@ impl Settings {
     }
 
     /// A writer within these limits.
-    pub(crate) fn sink(&self, alloc: Global) -> Counted<Failing<Room>> {
+    pub(crate) fn sink(&self, alloc: Global) -> Result<Counted<Failing<Room>>, AllocError> {
         failing_room(alloc, self.size, self.room, self.write_fails)
     }
 }

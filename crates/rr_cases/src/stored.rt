@@ -1,13 +1,15 @@
 //! Snapshots of a replica, as calls of it ([`crate::replicas`]).
 
+use crate::growths::{begin, end};
+use crate::settings::written;
 use crate::words::Words;
 use anyhow::Result;
 use rr_archive::Archive;
-use rr_base::{Counted, Failing, Origin, Schema};
-use rr_fakes::pieces::{Pieces, failing_after};
+use rr_base::Schema;
+use rr_fakes::pieces::failing_after;
 use rr_fakes::room::failing_room;
 use rr_replica::Replica;
-use rr_snapshot::{load, save};
+use rr_snapshot::{LoadFault, load, save};
 use std::alloc::Global;
 
 /// Adds the bytes that were written as a replica was saved, in hexadecimal, and how that ended. The words
@@ -20,9 +22,11 @@ pub(crate) fn push_saved<A: Archive>(
 ) -> Result<()> {
     let size = words.limit()?.unwrap_or(usize::MAX);
     let writes = words.limit()?.unwrap_or(u64::MAX);
-    let mut output = failing_room(alloc, size, usize::MAX, writes);
+    let mut output = failing_room(alloc, size, usize::MAX, writes)?;
+    begin(alloc, words.growths);
     let saved = save(alloc, replica, &mut output);
-    let bytes = hex::encode(alloc, &output.into_inner().into_inner().into_written())?;
+    end(alloc, words.growths);
+    let bytes = hex::encode(alloc, &written(output))?;
     write!(answer, "{}\n", bytes.as_str())?;
     if let Err(fault) = saved {
         write!(answer, "{}\n", fault.name())?;
@@ -44,25 +48,26 @@ pub(crate) fn loaded<A: Archive>(
     let reads = words.limit()?.unwrap_or(u64::MAX);
     let bytes = hex::decode(alloc, words.word())?;
     let mut input = failing_after(&bytes, size, reads);
-    loaded_from(alloc, schema, origin, &mut input, answer)
+    begin(alloc, words.growths);
+    let replica = load(alloc, &mut input, schema, origin);
+    end(alloc, words.growths);
+    ending_of(replica, input.failures(), answer)
 }
 
-/// The replica that an input is loaded as, if it is one; and adds how that ended.
-fn loaded_from<A: Archive>(
-    alloc: Global,
-    schema: &Schema,
-    origin: Origin,
-    input: &mut Counted<Failing<Pieces<'_>>>,
+/// The replica that was loaded, if one was; and adds how that ended, with how many reads failed.
+fn ending_of<A: Archive>(
+    replica: Result<Replica<A>, LoadFault>,
+    failures: u64,
     answer: &mut String,
 ) -> Result<Option<Replica<A>>> {
-    match load(alloc, input, schema, origin) {
+    match replica {
         Ok(replica) => {
             let (origin, next) = (replica.origin().get(), replica.next_number());
             write!(answer, "loaded as {origin}, next {next}\n")?;
             Ok(Some(replica))
         }
         Err(fault) => {
-            let (name, failures) = (fault.name(), input.failures());
+            let name = fault.name();
             write!(answer, "{name}, {failures} failed\n")?;
             Ok(None)
         }

@@ -8,11 +8,23 @@ use std::str::FromStr;
 #[derive(Clone, Copy)]
 pub(crate) struct Words<'a> {
     rest: &'a str,
+    /// How many growths of the call there are before one is refused, if one is.
+    pub(crate) growths: Option<u32>,
 }
 
 impl<'a> Words<'a> {
     pub(crate) fn of(rest: &'a str) -> Words<'a> {
-        Words { rest }
+        Words {
+            rest,
+            growths: None,
+        }
+    }
+
+    /// The words of a call after a first one, which says how many growths there are before one is refused.
+    pub(crate) fn refusing(rest: &'a str) -> Result<Words<'a>> {
+        let mut words = Words::of(rest);
+        words.growths = Some(words.number()?);
+        Ok(words)
     }
 
     /// The next word; an empty one after the last.
@@ -30,13 +42,13 @@ impl<'a> Words<'a> {
         number_of(self.word())
     }
 
-    /// The next word as a number; `-` is none.
+    /// The next word as a number; `-` is none, and so are no more words.
     pub(crate) fn limit<N: FromStr>(&mut self) -> Result<Option<N>>
     where
         N::Err: Drop,
     {
         match self.word() {
-            "-" => Ok(None),
+            "-" | "" => Ok(None),
             word => Ok(Some(number_of(word)?)),
         }
     }

@@ -1,9 +1,12 @@
 //! A writer that has room for some bytes, and takes little at a time.
 
 use rr_base::{Counted, Failing};
-use std::alloc::Global;
+use std::alloc::{AllocError, Global};
 use std::io;
 use std::io::Write;
+
+/// How many bytes a writer has memory for beforehand, so that it takes none as they are written.
+const BEFOREHAND: usize = 1 << 16;
 
 /// A writer that takes at most `size` bytes at each call, has room for `left` more, and takes none
 /// after them.
@@ -14,26 +17,32 @@ pub struct Room {
     left: usize,
 }
 
-/// A counted writer with room for `left` bytes.
+/// A counted writer with room for `left` bytes, for which it takes memory as they are written.
 pub fn with_room(alloc: Global, left: usize) -> Counted<Room> {
-    Counted::new(Room::new(alloc, usize::MAX, left))
+    Counted::new(Room {
+        written: Vec::new(alloc),
+        size: usize::MAX,
+        left,
+    })
 }
 
 /// A counted writer with room for `left` bytes that takes at most `size` bytes at each call but the one
-/// after `calls` calls, which fails.
-pub fn failing_room(alloc: Global, size: usize, left: usize, calls: u64) -> Counted<Failing<Room>> {
-    Counted::new(Failing::new(Room::new(alloc, size, left), calls))
+/// after `calls` calls, which fails. It takes its memory beforehand, so that none is refused to it.
+pub fn failing_room(
+    alloc: Global,
+    size: usize,
+    left: usize,
+    calls: u64,
+) -> Result<Counted<Failing<Room>>, AllocError> {
+    let room = Room {
+        written: Vec::with_capacity(alloc, left.min(BEFOREHAND))?,
+        size,
+        left,
+    };
+    Ok(Counted::new(Failing::new(room, calls)))
 }
 
 impl Room {
-    fn new(alloc: Global, size: usize, left: usize) -> Room {
-        Room {
-            written: Vec::new(alloc),
-            size,
-            left,
-        }
-    }
-
     /// What it took.
     pub fn into_written(self) -> Vec<u8> {
         self.written

@@ -1,0 +1,112 @@
+//! Cases in which each growth of a call is refused in turn.
+//!
+//! Their input has `{m}` for the number of growths before the one that is refused, and is run with 0, 1, 2
+//! and so on there, until none is refused. How many growths a call makes, and what is done before each, is
+//! its own affair. So what is expected are the answers that may come, in their order, with a line `---`
+//! between two: those that come have to be some of them, in that order. The last is that of a run in which
+//! nothing is refused. It has to come at the end, and may come before, where a call passes over what was
+//! refused.
+//!
+//! Where nobody refuses growths ([`rr_fakes::refusing`]), the last comes at once.
+
+use crate::case::Case;
+use crate::documents::texts;
+use crate::kind::LAST;
+use anyhow::{Result, bail};
+use rr_archive::Archive;
+use rr_fakes::refusing::{has_refused, refuse_after, refuse_none};
+use std::alloc::Global;
+use std::sync::Wait;
+
+/// What stands in an input for the number of growths before the one that is refused.
+const TURN: &str = "{m}";
+
+/// Before a call of which the growth after so many is refused, if one is.
+pub(crate) fn begin(alloc: Global, growths: Option<u32>) {
+    if let Some(growths) = growths {
+        refuse_after(alloc, growths);
+    }
+}
+
+/// After that call.
+pub(crate) fn end(alloc: Global, growths: Option<u32>) {
+    if growths.is_some() {
+        refuse_none(alloc);
+    }
+}
+
+/// The text of an input in which growths are refused.
+pub(crate) fn text_of(input: &[u8]) -> Option<&str> {
+    match str::from_utf8(input) {
+        Ok(text) if text.contains(TURN) => Some(text),
+        _ => None,
+    }
+}
+
+/// The answers that may come.
+#[derive(Drop)]
+struct Expected {
+    answers: Vec<Vec<u8>>,
+    /// The number of the first that may still come.
+    from: usize,
+}
+
+impl Expected {
+    /// Whether an answer is the last.
+    fn is_last(&self, answer: &[u8]) -> bool {
+        match self.answers.last() {
+            Some(last) => last.as_slice() == answer,
+            None => false,
+        }
+    }
+
+    /// The number of an answer, if it may still come.
+    fn number_of(&self, answer: &[u8]) -> Option<usize> {
+        for number in self.from..self.answers.len() {
+            if self.answers[number].as_slice() == answer {
+                return Some(number);
+            }
+        }
+        None
+    }
+
+    /// Whether an answer may come after those before it, where a growth was refused.
+    fn takes(&mut self, answer: &[u8]) -> bool {
+        if self.is_last(answer) {
+            return true;
+        }
+        match self.number_of(answer) {
+            Some(number) => {
+                self.from = number;
+                true
+            }
+            None => false,
+        }
+    }
+}
+
+/// The first answer of a case over a kind of archive that may not come, if there is one. Counts the
+/// growths that are refused.
+pub(crate) fn unexpected<A: Archive, T: Wait>(
+    alloc: Global,
+    rt: &T,
+    case: &Case,
+    text: &str,
+    refused: &mut u32,
+) -> Result<Option<Vec<u8>>> {
+    let mut expected = Expected {
+        answers: texts(alloc, &case.expected)?,
+        from: 0,
+    };
+    for growths in 0..LAST {
+        let answer = case.kind.output_at::<A, T>(alloc, rt, text, TURN, growths)?;
+        if !has_refused(alloc) {
+            return Ok((!expected.is_last(&answer)).then_some(answer));
+        }
+        *refused = refused.saturating_add(1);
+        if !expected.takes(&answer) {
+            return Ok(Some(answer));
+        }
+    }
+    bail!("the growths go on")
+}
