@@ -5,3 +5,4 @@ pub mod Visits
 pub mod Log
 pub mod Prepared
 pub mod Peers
+pub mod Halt

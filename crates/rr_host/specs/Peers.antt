@@ -1,5 +1,5 @@
 -- Peers over memory, and the calls of the dial that reaches them.
-use Rattle.std.specs.Prelude.{◌≡◌, ⊤, nat_eq, ℕ, List, [], ◌∷◌, Option, None, Some, option_map, if◌then◌else◌}
+use Rattle.std.specs.Prelude.{◌≡◌, nat_eq, ℕ, List, [], ◌∷◌, Option, None, Some, option_map, if◌then◌else◌}
 use Rattle.std.specs.Cmp.Lexicographic.{pointwise}
 use Rattle.rr_host.specs.declared.peers.Entry.{Entry}
 use Rattle.rr_host.specs.declared.peers.Entry.TheVariants as entry

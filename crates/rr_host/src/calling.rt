@@ -1,7 +1,8 @@
 //! Peers over TCP.
 
 use crate::dial::Dial;
-use crate::listening::{Half, halves, limit_idle};
+use crate::halt::HaltFlag;
+use crate::socket::{Half, halves};
 use rr_io::Counted;
 use std::alloc::Global;
 use std::net::{Net, TcpStream, ToSocketAddrs};
@@ -16,13 +17,19 @@ pub struct Calling<'a, R> {
     rt: &'a R,
     alloc: Global,
     idle: Option<u64>,
+    halt: HaltFlag,
 }
 
 impl<'a, R: Net<Stream = TcpStream>> Calling<'a, R> {
     /// Reaches peers by the network of a runtime. Each connection may move no byte for `idle` seconds, or
-    /// without end where that is missing.
-    pub fn new(rt: &'a R, alloc: Global, idle: Option<u64>) -> Calling<'a, R> {
-        Calling { rt, alloc, idle }
+    /// without end where that is missing; it fails where the flag is raised.
+    pub fn new(rt: &'a R, alloc: Global, idle: Option<u64>, halt: HaltFlag) -> Calling<'a, R> {
+        Calling {
+            rt,
+            alloc,
+            idle,
+            halt,
+        }
     }
 
     /// Connects to the first of a name's addresses that answers in time.
@@ -53,8 +60,7 @@ impl<R: Net<Stream = TcpStream>> Dial for Calling<'_, R> {
 
     fn open(&mut self, address: &str) -> Option<(Counted<Half>, Counted<Half>)> {
         let stream = self.connect(address)?;
-        limit_idle(&stream, self.idle).ok()?;
-        let (input, output) = halves(self.alloc, stream)?;
+        let (input, output) = halves(self.alloc, stream, self.idle, &self.halt)?;
         Some((Counted::new(input), Counted::new(output)))
     }
 

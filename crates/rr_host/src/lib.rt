@@ -3,34 +3,40 @@
 //! Each stands behind a small trait, which is seen as the list of its calls. [`Visits`] gives the
 //! connections that come, over TCP ([`Listening`]) or over memory ([`Prepared`]); a [`Dial`] reaches peers,
 //! over TCP ([`Calling`]) or over memory ([`PreparedDial`]); a [`Clock`] gives moments, the system's
-//! ([`SystemClock`]) or those of a list ([`Moments`]).
+//! ([`SystemClock`]) or those of a list ([`Moments`]). A [`Halt`] ends a node before its time: over TCP a flag
+//! that listeners and connections share ([`HaltFlag`]).
 //!
 //! ```text
 //! Listening, Prepared ─── next ──> Visit: an input and an output ── take_back ──> closed, or kept
 //! Calling, PreparedDial ─ open ──> an input and an output ───────── take_back ──> closed, or kept
 //! SystemClock, Moments ── now ───> a moment
+//! HaltFlag ────────────── halt ──> no connection is waited for any more
 //! ```
 //!
-//! In `specs/` the calls of each are values (`Visits.antt`, `Calls.antt`, `Clock.antt`). A stream is told with
-//! its bytes, where they are known, and with how often it was read and how many of its calls failed
+//! In `specs/` the calls of each are values (`Visits.antt`, `Calls.antt`, `Clock.antt`, `Halt.antt`). A stream
+//! is told with its bytes, where they are known, and with how often it was read and how many of its calls failed
 //! (`Streams.antt`). Over memory the calls are known, as long as there is memory to note them
-//! ([`CallLog`]); of sockets and of the system's clock nothing is known.
+//! ([`CallLog`]); of sockets, of the system's clock and of a flag nothing is known.
 #![tactic(auto)]
 
 mod calling;
 mod clock;
 mod dial;
+mod halt;
 mod listening;
 mod log;
 mod peers;
 mod prepared;
+mod socket;
 mod visits;
 
 pub use calling::Calling;
 pub use clock::{Clock, Moments, SystemClock};
 pub use dial::Dial;
-pub use listening::{Half, Listening, halves};
+pub use halt::{Halt, HaltFlag};
+pub use listening::Listening;
 pub use log::CallLog;
 pub use peers::{PreparedDial, PreparedPeer};
 pub use prepared::Prepared;
+pub use socket::{Half, halves};
 pub use visits::{Visit, Visits};

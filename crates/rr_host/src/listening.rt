@@ -1,92 +1,82 @@
 //! Connections over TCP.
 
+use crate::halt::HaltFlag;
+use crate::socket::{Half, halves, one_second};
 use crate::visits::{Visit, Visits};
+use libc::nanosleep;
+use libc::types::timespec;
 use rr_io::Counted;
 use std::alloc::Global;
 use std::io;
-use std::io::{Read, Write};
+use std::io::ErrorKind;
 use std::net::{TcpListener, TcpStream};
-use std::sync::Arc;
-use std::time::Duration;
+use std::os::fd::OwnedFd;
 
-/// One side of a TCP connection, which both share.
-#[derive(Drop)]
-pub struct Half {
-    stream: Arc<TcpStream>,
-}
+/// How long is waited after no connection could be taken, in nanoseconds: a tenth of a second.
+const PAUSE: i64 = 100_000_000;
 
-impl Read for Half {
-    ghost use Rattle.std.specs.Prelude.{None};
-
-    ghost remaining = { λ h. None };
-
-    fn read(&mut self, buf: &mut [u8]) -> io::Result<usize> {
-        let mut stream: &TcpStream = &self.stream;
-        stream.read(buf)
-    }
-}
-
-impl Write for Half {
-    ghost use Rattle.std.specs.Prelude.{None};
-
-    ghost contents = { λ h. None };
-
-    fn write(&mut self, buf: &[u8]) -> io::Result<usize> {
-        let mut stream: &TcpStream = &self.stream;
-        stream.write(buf)
-    }
-
-    fn flush(&mut self) -> io::Result<()> {
-        let mut stream: &TcpStream = &self.stream;
-        stream.flush()
-    }
-}
-
-/// The two halves of a connection: its input and its output. It is closed once both are let go.
-pub fn halves(alloc: Global, stream: TcpStream) -> Option<(Half, Half)> {
-    let input = Arc::new(alloc, stream).ok()?;
-    let output = Arc::try_clone(&input).ok()?;
-    Some((Half { stream: input }, Half { stream: output }))
-}
-
-/// Limits how long a connection may move no byte, where a number of seconds is given: a read or write
-/// that waits longer fails.
-pub(crate) fn limit_idle(stream: &TcpStream, idle: Option<u64>) -> io::Result<()> {
-    let Some(seconds) = idle else {
-        return Ok(());
+/// Waits before the next connection is taken, so that what fails at once, again and again, takes no processor.
+fn pause() {
+    let asked = timespec {
+        tv_sec: 0,
+        tv_nsec: PAUSE,
     };
-    let limit = Some(Duration::from_secs(seconds));
-    stream.set_read_timeout(limit)?;
-    stream.set_write_timeout(limit)
+    let mut left = asked;
+    // If a signal ends it early, the next connection is tried sooner.
+    let _ended = nanosleep(&asked, &mut left);
 }
 
-/// The connections that come to an address, without end. Nothing is known of them.
+/// A listener that waits for a second at most. Of a socket that limit is set as a stream's.
+fn with_limit(listener: TcpListener) -> io::Result<TcpListener> {
+    let socket = TcpStream::from(OwnedFd::from(listener));
+    socket.set_read_timeout(Some(one_second()))?;
+    Ok(TcpListener::from(OwnedFd::from(socket)))
+}
+
+/// The connections that come to an address, without end, but where the flag of its node is raised: then none
+/// will come any more. Nothing is known of them.
 ///
 /// One for which there is no memory fails. A read or write of one that moves no byte for the idle time
-/// fails too, so that no silent peer holds whoever serves it.
+/// fails too, so that no silent peer holds whoever serves it. Where none can be taken, as by a process that has
+/// no file descriptor left, one has failed, after a tenth of a second.
 #[derive(Drop)]
 pub struct Listening {
     alloc: Global,
     listener: TcpListener,
     idle: Option<u64>,
+    halt: HaltFlag,
 }
 
 impl Listening {
     /// The connections that come to a listener, each of which may move no byte for `idle` seconds, or
-    /// without end where that is missing.
-    pub fn new(alloc: Global, listener: TcpListener, idle: Option<u64>) -> Listening {
-        Listening {
+    /// without end where that is missing; they end where the flag is raised.
+    pub fn new(
+        alloc: Global,
+        listener: TcpListener,
+        idle: Option<u64>,
+        halt: HaltFlag,
+    ) -> io::Result<Listening> {
+        Ok(Listening {
             alloc,
-            listener,
+            listener: with_limit(listener)?,
             idle,
-        }
+            halt,
+        })
     }
 
-    /// Waits for the next connection, and takes its halves.
-    fn accept(&self) -> Option<(Half, Half)> {
-        let (stream, _) = self.listener.accept().ok()?;
-        limit_idle(&stream, self.idle).ok()?;
-        halves(self.alloc, stream)
+    /// Waits for the next connection; nothing once the node is halted.
+    fn accept(&self) -> io::Result<Option<TcpStream>> {
+        for _ in 0..u64::MAX {
+            if self.halt.is_raised() {
+                return Ok(None);
+            }
+            match self.listener.accept() {
+                Ok((stream, _)) => return Ok(Some(stream)),
+                Err(error) if error.kind() == ErrorKind::WouldBlock => {}
+                Err(error) => return Err(error),
+            }
+        }
+        Ok(None)
     }
 }
 
@@ -102,7 +92,15 @@ impl Visits for Listening {
     ghost calls = { λ l. None };
 
     fn next(&mut self) -> Visit<Half, Half> {
-        match self.accept() {
+        let stream = match self.accept() {
+            Ok(Some(stream)) => stream,
+            Ok(None) => return Visit::Over,
+            Err(_) => {
+                pause();
+                return Visit::Failed;
+            }
+        };
+        match halves(self.alloc, stream, self.idle, &self.halt) {
             Some((input, output)) => Visit::Stream(Counted::new(input), Counted::new(output)),
             None => Visit::Failed,
         }

@@ -1,8 +1,9 @@
 -- The rounds of a keeper, one after the other.
-use Rattle.std.specs.Prelude.{◌≡◌, ◌⊎◌, ℕ, zero, suc, ◌<◌, ◌==◌, ◌-◌, ◌^◌, ℤ, Bool, true, false, List, [], ◌++◌, Option, None, Some, if◌then◌else◌}
+use Rattle.std.specs.Prelude.{◌≡◌, ◌⊎◌, ℕ, zero, suc, ◌<◌, ◌==◌, ◌-◌, ◌^◌, ℤ, Bool, true, false, List, [], ◌∷◌, ◌++◌, Option, None, Some, if◌then◌else◌}
 use Rattle.rr_copies.specs.Standing.{KeeperState}
 use Rattle.rr_config.specs.declared.config.Config.{Config}
 use Rattle.rr_host.specs.Calls.{DialCall, Grows}
+use Rattle.rr_host.specs.Halt.{HaltCall, Halted}
 use Rattle.rr_node.specs.Shelf.{ShelfCall}
 use Rattle.rr_node.specs.Round.{EndsRound}
 use Rattle.rr_host.specs.Visits.{Call, HasCalled}
@@ -67,3 +68,8 @@ pub record HasKept (config : Config) (whole : Bool) (visits visits_since : Optio
   pub dialed : Grows dials dials_since log.dialed
   pub shelved : Grows shelves shelves_since log.shelved
   pub rounds : EndRounds (rounds_of config) config whole old new log
+
+-- the calls of a halt, by whether memory sufficed for the rounds: one where it ran out
+abbrev pub halts : Bool → List HaltCall
+halts true = []
+halts false = Halted ∷ []

@@ -8,8 +8,8 @@
 //! ```
 //!
 //! [`serve_node`] keeps rounds on one thread ([`keep_round`]) and serves each [`Seat`] on another. What is
-//! handed in stands behind small traits, each seen as the list of its calls: [`Visits`], a [`Dial`] and a
-//! [`Clock`] of [`rr_host`], and a [`Shelf`], which takes snapshots ([`FileShelf`]).
+//! handed in stands behind small traits, each seen as the list of its calls: [`Visits`], a [`Dial`], a [`Halt`]
+//! and a [`Clock`] of [`rr_host`], and a [`Shelf`], which takes snapshots ([`FileShelf`]).
 //!
 //! In `specs/` what lines make of a keeper, and what is answered, is a function of them and the clock's
 //! moments (`specs/Lines.antt`). The answer to a fetch is a function of the cells that the reader has seen
@@ -49,7 +49,8 @@ pub use report::Report;
 pub use round::keep_round;
 pub use rr_config::{Config, ConfigFault};
 pub use rr_host::{
-    Calling, Clock, Dial, Half, Listening, Moments, Prepared, SystemClock, Visit, Visits, halves,
+    Calling, Clock, Dial, Half, Halt, HaltFlag, Listening, Moments, Prepared, SystemClock, Visit,
+    Visits, halves,
 };
 pub use seat::{Seat, serve_seat};
 pub use seats::TcpSeats;

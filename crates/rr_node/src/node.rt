@@ -3,16 +3,16 @@
 ghost use Rattle.std.specs.Prelude.{◌≡◌, ◌&&◌, [], ◌∷◌, Bool, true, false, is_ok, IfErr, OnErr, OnOk};
 ghost use Rattle.std.specs.Thread.{IsSync};
 ghost use Rattle.rr_host.specs.Calls.{Grows};
-ghost use Rattle.rr_node.specs.Rounds.{HasKept, post};
+ghost use Rattle.rr_node.specs.Rounds.{HasKept, halts, post};
 ghost use Rattle.rr_node.specs.Seats.{served};
 
 use crate::fault::NodeFault;
-use crate::rounds::keep_rounds;
+use crate::rounds::keep_or_halt;
 use crate::shelf::Shelf;
 use rr_archive::Archive;
 use rr_config::Config;
 use rr_desk::Keeper;
-use rr_host::{Clock, Dial, Visits};
+use rr_host::{Clock, Dial, Halt, Visits};
 use std::alloc::Global;
 use std::sync::Wait;
 use std::thread::{Threads, join_mut};
@@ -30,6 +30,9 @@ pub trait Seats {
 
     /// Serves each seat as [`crate::serve_seat`] does, for so many connections, and answers whether memory
     /// sufficed in all of them. It ends when all seats have.
+    ///
+    /// Where memory runs out at one of them, and where the node is halted, the others are to end too, whatever they
+    /// wait for.
     fn serve<T: Threads + Sync>(&mut self, rt: &T, alloc: Global, visits: u64) -> bool
         requires { IsSync T.row }
         ensures { Grows (calls self.old) (calls self.new) (served visits result ∷ []) };
@@ -37,16 +40,18 @@ pub trait Seats {
 
 /// Serves as a node. On the calling thread rounds are kept ([`crate::keep_round`]) until no line
 /// connection will come, or until there were as many as the configuration says; each seat is served on
-/// a thread of its own ([`serve_seat`]), for as many connections as it says. It ends when all threads
+/// a thread of its own ([`crate::serve_seat`]), for as many connections as it says. It ends when all threads
 /// have.
 ///
-/// Refused as `Memory` alone, where it ran out on one of the threads, which then ended early.
+/// Refused as `Memory` alone, where it ran out on one of the threads, which then ended early. `halt` is called
+/// exactly where it ran out in the rounds, so that the seats end early too.
 pub fn serve_node<
     A: Archive,
     V: Visits,
     D: Dial,
     S: Shelf,
     Q: Seats + Send,
+    H: Halt,
     C: Clock,
     T: Threads + Wait + Sync,
 >(
@@ -56,6 +61,7 @@ pub fn serve_node<
     dial: &mut D,
     shelf: &mut S,
     seats: &mut Q,
+    halt: &mut H,
     clock: &mut C,
     config: &Config,
     rt: &T,
@@ -64,11 +70,13 @@ pub fn serve_node<
         (D.calls dial.old) (D.calls dial.new) (S.calls shelf.old) (S.calls shelf.new)
         (post keeper.old (C.given clock.old)) (post keeper.new (C.given clock.new))) }
     ensures seats { OnOk result (Grows (Q.calls seats.old) (Q.calls seats.new) (served config.now.visits true ∷ [])) }
+    ensures on { OnOk result (Grows (H.calls halt.old) (H.calls halt.new) []) }
     ensures so_far { OnErr result ((kept sufficed : Bool) × ((kept && sufficed) ≡ false)
         × HasKept config.now kept (V.calls lines.old) (V.calls lines.new)
         (D.calls dial.old) (D.calls dial.new) (S.calls shelf.old) (S.calls shelf.new)
         (post keeper.old (C.given clock.old)) (post keeper.new (C.given clock.new))
-        × Grows (Q.calls seats.old) (Q.calls seats.new) (served config.now.visits sufficed ∷ [])) }
+        × Grows (Q.calls seats.old) (Q.calls seats.new) (served config.now.visits sufficed ∷ [])
+        × Grows (H.calls halt.old) (H.calls halt.new) (halts kept)) }
     ensures memory { IfErr result (λ fault. fault ≡ NodeFault.Memory) }
 {
     let visits = config.visits;
@@ -79,8 +87,9 @@ pub fn serve_node<
     let mut keeping = || -> Result<(), NodeFault>
         ensures { HasKept config.entry.now (is_ok result) (V.calls lines.entry.now) (V.calls lines.exit.now)
             (D.calls dial.entry.now) (D.calls dial.exit.now) (S.calls shelf.entry.now) (S.calls shelf.exit.now)
-            (post keeper.entry.now (C.given clock.entry.now)) (post keeper.exit.now (C.given clock.exit.now)) }
-    { keep_rounds(alloc, keeper, lines, dial, shelf, clock, config, rt) };
+            (post keeper.entry.now (C.given clock.entry.now)) (post keeper.exit.now (C.given clock.exit.now))
+            × Grows (H.calls halt.entry.now) (H.calls halt.exit.now) (halts (is_ok result)) }
+    { keep_or_halt(alloc, keeper, lines, dial, shelf, halt, clock, config, rt) };
     let (served, kept) = join_mut(rt, &mut seating, &mut keeping);
     match kept {
         Ok(()) if served => Ok(()),

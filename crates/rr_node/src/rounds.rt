@@ -1,7 +1,8 @@
-//! The rounds of a keeper, one after the other.
+//! The rounds of a keeper, one after the other, and what follows where memory runs out in them.
 
 ghost use Rattle.std.specs.Prelude.{◌≡◌, is_ok};
-ghost use Rattle.rr_node.specs.Rounds.{HasKept, post, rounds_of};
+ghost use Rattle.rr_host.specs.Calls.{Grows};
+ghost use Rattle.rr_node.specs.Rounds.{HasKept, halts, post, rounds_of};
 
 use crate::fault::NodeFault;
 use crate::round::keep_round;
@@ -9,7 +10,7 @@ use crate::shelf::Shelf;
 use rr_archive::Archive;
 use rr_config::Config;
 use rr_desk::Keeper;
-use rr_host::{Clock, Dial, Visits};
+use rr_host::{Clock, Dial, Halt, Visits};
 use std::alloc::Global;
 use std::sync::Wait;
 
@@ -26,7 +27,7 @@ fn most_rounds(config: &Config) -> u64
 
 /// Keeps rounds, one after the other, until no connection will come, until memory runs out, or until
 /// there were as many as the configuration has.
-pub(crate) fn keep_rounds<A: Archive, V: Visits, D: Dial, S: Shelf, C: Clock, T: Wait>(
+fn keep_rounds<A: Archive, V: Visits, D: Dial, S: Shelf, C: Clock, T: Wait>(
     alloc: Global,
     keeper: &mut Keeper<A>,
     lines: &mut V,
@@ -46,4 +47,30 @@ pub(crate) fn keep_rounds<A: Archive, V: Visits, D: Dial, S: Shelf, C: Clock, T:
         }
     }
     Ok(())
+}
+
+/// Keeps rounds, and halts the node where memory runs out.
+pub(crate) fn keep_or_halt<A: Archive, V: Visits, D: Dial, S: Shelf, H: Halt, C: Clock, T: Wait>(
+    alloc: Global,
+    keeper: &mut Keeper<A>,
+    lines: &mut V,
+    dial: &mut D,
+    shelf: &mut S,
+    halt: &mut H,
+    clock: &mut C,
+    config: &Config,
+    rt: &T,
+) -> Result<(), NodeFault>
+    ensures kept { HasKept config.now (is_ok result) (V.calls lines.old) (V.calls lines.new)
+        (D.calls dial.old) (D.calls dial.new) (S.calls shelf.old) (S.calls shelf.new)
+        (post keeper.old (C.given clock.old)) (post keeper.new (C.given clock.new)) }
+    ensures halted { Grows (H.calls halt.old) (H.calls halt.new) (halts (is_ok result)) }
+{
+    match keep_rounds(alloc, keeper, lines, dial, shelf, clock, config, rt) {
+        Ok(()) => Ok(()),
+        Err(fault) => {
+            halt.halt();
+            Err(fault)
+        }
+    }
 }

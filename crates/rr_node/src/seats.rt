@@ -3,7 +3,7 @@
 use crate::gates::OpenGate;
 use crate::node::Seats;
 use crate::seat::{Seat, serve_seat};
-use rr_host::Listening;
+use rr_host::{HaltFlag, Listening};
 use rr_ring::RingArchive;
 use std::alloc::Global;
 use std::sync::atomic::{AtomicBool, Ordering};
@@ -14,6 +14,9 @@ use std::thread::{Threads, for_each_mut};
 pub struct TcpSeats {
     /// Each a reader with the address that it answers on.
     pub seats: Vec<Seat<RingArchive, Listening, OpenGate>>,
+    /// The flag that their connections, and those of the keeper, look at. It is raised where memory runs out at
+    /// one of the seats.
+    pub halt: HaltFlag,
 }
 
 impl Seats for TcpSeats {
@@ -27,6 +30,7 @@ impl Seats for TcpSeats {
         }
         let is_out = AtomicBool::new(false);
         let shared = &is_out;
+        let halt = &self.halt;
         let threads = self.seats.len();
         for_each_mut(
             rt,
@@ -35,6 +39,7 @@ impl Seats for TcpSeats {
             &|_, seat: &mut Seat<RingArchive, Listening, OpenGate>| {
                 if serve_seat(alloc, seat, visits).is_err() {
                     shared.store(true, Ordering::SeqCst);
+                    halt.raise();
                 }
             },
         );

@@ -5,7 +5,9 @@ use crate::listeners::Listeners;
 use rr_command::ToolFault;
 use rr_config::Config;
 use rr_desk::{Keeper, Reader, open};
-use rr_node::{Calling, FileShelf, Listening, OpenGate, Seat, SystemClock, TcpSeats, serve_node};
+use rr_node::{
+    Calling, FileShelf, HaltFlag, Listening, OpenGate, Seat, SystemClock, TcpSeats, serve_node,
+};
 use rr_process::Ending;
 use rr_replica::Replica;
 use rr_ring::RingArchive;
@@ -58,13 +60,17 @@ where
 
     /// Opens a desk over a replica, with a reader for each address of fetches, and serves at it.
     fn serve_replica(&self, replica: Replica<RingArchive>, listeners: Listeners) -> Ending {
-        let Listeners { lines, fetches } = listeners;
+        let Listeners {
+            lines,
+            fetches,
+            halt,
+        } = listeners;
         let Ok((mut keeper, readers)) = open(self.rt.alloc(), self.rt, replica, fetches.len())
         else {
             return OUT_OF_MEMORY;
         };
-        let ending = match self.seats(readers, fetches) {
-            Ok(mut seats) => self.serve_at(&mut keeper, lines, &mut seats),
+        let ending = match self.seats(readers, fetches, &halt) {
+            Ok(mut seats) => self.serve_at(&mut keeper, lines, &mut seats, halt),
             Err(_) => OUT_OF_MEMORY,
         };
         keeper.close(self.rt);
@@ -76,6 +82,7 @@ where
         &self,
         readers: Vec<Reader<RingArchive>>,
         fetches: Vec<Listening>,
+        halt: &HaltFlag,
     ) -> Result<TcpSeats, AllocError> {
         let mut seats = Vec::new(self.rt.alloc());
         for (reader, visits) in readers.into_iter().zip(fetches) {
@@ -86,21 +93,28 @@ where
                 gate,
             })?;
         }
-        Ok(TcpSeats { seats })
+        Ok(TcpSeats {
+            seats,
+            halt: halt.share()?,
+        })
     }
 
-    /// Serves with a keeper and its readers' seats.
+    /// Serves with a keeper and its readers' seats, until a flag is raised that they share.
     fn serve_at(
         &self,
         keeper: &mut Keeper<RingArchive>,
         mut lines: Listening,
         seats: &mut TcpSeats,
+        mut halt: HaltFlag,
     ) -> Ending {
         let alloc = self.rt.alloc();
         let Ok(mut shelf) = FileShelf::new(self.rt, alloc, self.save) else {
             return OUT_OF_MEMORY;
         };
-        let mut dial = Calling::new(self.rt, alloc, self.config.idle);
+        let Ok(shared) = halt.share() else {
+            return OUT_OF_MEMORY;
+        };
+        let mut dial = Calling::new(self.rt, alloc, self.config.idle, shared);
         let mut clock = SystemClock::new(self.rt);
         match serve_node(
             alloc,
@@ -109,6 +123,7 @@ where
             &mut dial,
             &mut shelf,
             seats,
+            &mut halt,
             &mut clock,
             &self.config,
             self.rt,

@@ -3,7 +3,7 @@
 use rr_archive::PlainArchive;
 use rr_desk::{Reader, open};
 use rr_fakes::replicas::minutes;
-use rr_node::{Listening, OpenGate, Prepared, Seat, serve_seat};
+use rr_node::{HaltFlag, Listening, OpenGate, Prepared, Seat, serve_seat};
 use std::alloc::Global;
 use std::io::{Read, Write};
 use std::net::{Net, Shutdown, TcpListener, TcpStream};
@@ -104,9 +104,10 @@ fn answer_over_tcp<R: Net<Listener = TcpListener, Stream = TcpStream>>(
     let silent = connected(rt, &listener)?;
     let mut stream = connected(rt, &listener)?;
     send_requests(&mut stream)?;
+    let halt = HaltFlag::new(alloc).ok()?;
     let mut seat = Seat {
         reader,
-        visits: Listening::new(alloc, listener, Some(1)),
+        visits: Listening::new(alloc, listener, Some(1), halt).ok()?,
         gate: OpenGate::new(),
     };
     serve_seat(alloc, &mut seat, 2).ok()?;

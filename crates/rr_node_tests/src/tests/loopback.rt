@@ -1,9 +1,10 @@
 //! A node over TCP, both ends of which are here.
 
+use rr_archive::Archive;
 use rr_base::Origin;
 use rr_desk::{Keeper, Reader, open};
 use rr_node::{
-    Calling, Config, FileShelf, Listening, Moments, OpenGate, Seat, TcpSeats, serve_node,
+    Calling, Config, FileShelf, HaltFlag, Listening, Moments, OpenGate, Seat, TcpSeats, serve_node,
 };
 use rr_replica::Replica;
 use rr_ring::RingArchive;
@@ -29,28 +30,31 @@ const REQUEST: &[u8] = b"fetch AVERAGE 60 0 180 m v\n";
 const ANSWER: &[u8] = b"m v,0,U\nm v,60,7\nm v,120,U\n\n";
 
 /// Where a node listens: for lines, and for each of two readers.
-type Addresses = (SocketAddr, SocketAddr, SocketAddr);
+pub(crate) type Addresses = (SocketAddr, SocketAddr, SocketAddr);
 
 /// Connections that come to a port of this machine, and its address.
 fn listening<R: Net<Listener = TcpListener, Stream = TcpStream>>(
     rt: &R,
     alloc: Global,
     config: &Config,
+    halt: &HaltFlag,
 ) -> Option<(Listening, SocketAddr)> {
     let listener = TcpListener::bind(rt, "127.0.0.1:0").ok()?;
     let address = listener.local_addr().ok()?;
-    Some((Listening::new(alloc, listener, config.idle), address))
+    let listening = Listening::new(alloc, listener, config.idle, halt.share().ok()?).ok()?;
+    Some((listening, address))
 }
 
 /// The connections that come to free ports of this machine: for lines, and for two readers.
-fn listen_on_all<R: Net<Listener = TcpListener, Stream = TcpStream>>(
+pub(crate) fn listen_on_all<R: Net<Listener = TcpListener, Stream = TcpStream>>(
     rt: &R,
     alloc: Global,
     config: &Config,
+    halt: &HaltFlag,
 ) -> Option<(Listening, Vec<Listening>, Addresses)> {
-    let (lines, first) = listening(rt, alloc, config)?;
-    let (one, second) = listening(rt, alloc, config)?;
-    let (two, third) = listening(rt, alloc, config)?;
+    let (lines, first) = listening(rt, alloc, config, halt)?;
+    let (one, second) = listening(rt, alloc, config, halt)?;
+    let (two, third) = listening(rt, alloc, config, halt)?;
     let fetch = Vec::from_array(alloc, [one, two]).ok()?;
     Some((lines, fetch, (first, second, third)))
 }
@@ -93,10 +97,11 @@ fn is_served<R: Net<Stream = TcpStream>>(rt: &R, alloc: Global, to: Addresses) -
 }
 
 /// The seats of two readers.
-fn seats(
+pub(crate) fn seats(
     alloc: Global,
     readers: Vec<Reader<RingArchive>>,
     fetch: Vec<Listening>,
+    halt: &HaltFlag,
 ) -> Option<TcpSeats> {
     let mut seats = Vec::new(alloc);
     for (reader, visits) in readers.into_iter().zip(fetch) {
@@ -108,30 +113,30 @@ fn seats(
         };
         seats.push(seat).ok()?;
     }
-    Some(TcpSeats { seats })
+    let halt = halt.share().ok()?;
+    Some(TcpSeats { seats, halt })
 }
 
-/// Serves as a node until its rounds and visits are done, and answers whether that was without a fault.
-fn serve<R>(
+/// Serves as a node until it ends, and answers whether that was without a fault.
+pub(crate) fn serve<A: Archive, R>(
     rt: &R,
     alloc: Global,
-    keeper: &mut Keeper<RingArchive>,
+    keeper: &mut Keeper<A>,
     lines: &mut Listening,
     seats: &mut TcpSeats,
     config: &Config,
-) -> bool
+) -> Option<bool>
 where
     R: Files + Eprint + Net<Listener = TcpListener, Stream = TcpStream> + Threads + Wait + Sync,
 {
-    let Ok(mut shelf) = FileShelf::new(rt, alloc, None) else {
-        return false;
-    };
-    let mut dial = Calling::new(rt, alloc, config.idle);
+    let mut halt = seats.halt.share().ok()?;
+    let mut shelf = FileShelf::new(rt, alloc, None).ok()?;
+    let mut dial = Calling::new(rt, alloc, config.idle, seats.halt.share().ok()?);
     let mut clock = Moments::new(Vec::new(alloc));
-    serve_node(
-        alloc, keeper, lines, &mut dial, &mut shelf, seats, &mut clock, config, rt,
-    )
-    .is_ok()
+    let served = serve_node(
+        alloc, keeper, lines, &mut dial, &mut shelf, seats, &mut halt, &mut clock, config, rt,
+    );
+    Some(served.is_ok())
 }
 
 /// Whether what a node answers is right, and whether it then ends without a fault.
@@ -141,12 +146,13 @@ fn served<R>(
     keeper: &mut Keeper<RingArchive>,
     readers: Vec<Reader<RingArchive>>,
     config: &Config,
-) -> Option<(bool, bool)>
+) -> Option<(bool, Option<bool>)>
 where
     R: Files + Eprint + Net<Listener = TcpListener, Stream = TcpStream> + Threads + Wait + Sync,
 {
-    let (mut lines, fetch, addresses) = listen_on_all(rt, alloc, config)?;
-    let mut seats = seats(alloc, readers, fetch)?;
+    let halt = HaltFlag::new(alloc).ok()?;
+    let (mut lines, fetch, addresses) = listen_on_all(rt, alloc, config, &halt)?;
+    let mut seats = seats(alloc, readers, fetch, &halt)?;
     Some(join(
         rt,
         move || is_served(rt, alloc, addresses),
@@ -163,6 +169,6 @@ fn a_node_serves_over_tcp(rt: HostRuntime) -> Result<(), Fail> {
     };
     let done = served(&rt, rt.alloc(), &mut keeper, readers, &config);
     keeper.close(&rt);
-    assert!(rt; done == Some((true, true)));
+    assert!(rt; done == Some((true, Some(true))));
     Ok(())
 }

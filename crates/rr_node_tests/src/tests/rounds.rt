@@ -5,7 +5,8 @@ use rr_base::{Counted, Origin};
 use rr_desk::{Keeper, open};
 use rr_fakes::replicas::minutes;
 use rr_node::{
-    Config, Dial, Moments, NodeFault, Opening, Prepared, Seats, Shelf, keep_round, serve_node,
+    Config, Dial, HaltFlag, Moments, NodeFault, Opening, Prepared, Seats, Shelf, keep_round,
+    serve_node,
 };
 use rr_replica::Replica;
 use rr_snapshot::{SaveFault, load};
@@ -194,9 +195,10 @@ fn kept<R: Wait + Threads + Sync>(
         .ok(),
         Some(suffices) => {
             let mut seats = NoSeats { suffices };
+            let mut halt = HaltFlag::new(alloc).ok()?;
             let served = serve_node(
-                alloc, keeper, &mut lines, &mut dial, &mut shelf, &mut seats, &mut clock, config,
-                rt,
+                alloc, keeper, &mut lines, &mut dial, &mut shelf, &mut seats, &mut halt,
+                &mut clock, config, rt,
             );
             Some(served != Err(NodeFault::Memory))
         }

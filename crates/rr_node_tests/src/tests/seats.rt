@@ -5,7 +5,7 @@ use rr_archive::PlainArchive;
 use rr_base::Counted;
 use rr_desk::{Gate, Keeper, Reader, open};
 use rr_fakes::replicas::minutes;
-use rr_node::{Config, Moments, Seat, Seats, Visit, Visits, serve_node, serve_seat};
+use rr_node::{Config, HaltFlag, Moments, Seat, Seats, Visit, Visits, serve_node, serve_seat};
 use std::alloc::Global;
 use std::io;
 use std::io::Read;
@@ -212,9 +212,10 @@ fn serve_both<R: Threads + Wait + Sync>(
     let mut lines = Asked::new(alloc, false);
     let mut dial = Peers::new(alloc, b"");
     let mut shelf = Saves::new(alloc);
+    let mut halt = HaltFlag::new(alloc).ok()?;
     let mut clock = Moments::new(Vec::new(alloc));
     serve_node(
-        alloc, keeper, &mut lines, &mut dial, &mut shelf, both, &mut clock, config, rt,
+        alloc, keeper, &mut lines, &mut dial, &mut shelf, both, &mut halt, &mut clock, config, rt,
     )
     .ok()
 }

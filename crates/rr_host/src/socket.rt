@@ -1,0 +1,125 @@
+//! The two sides of a connection over TCP.
+ghost use Rattle.std.specs.Prelude.{◌≡◌, IfSome};
+ghost use Rattle.std.specs.Io.{ReadsAtMost, WritesAtMost};
+
+use crate::halt::HaltFlag;
+use std::alloc::Global;
+use std::io;
+use std::io::{ErrorKind, Read, Write};
+use std::net::TcpStream;
+use std::sync::Arc;
+use std::time::Duration;
+
+/// For how long a connection or a listener waits at a time. Then it looks at the flag of its node.
+pub(crate) fn one_second() -> Duration {
+    Duration::from_secs(1)
+}
+
+/// A connection whose reads and writes wait for a second at most.
+#[derive(Drop)]
+struct Socket {
+    stream: TcpStream,
+    /// For how many seconds it may move no byte.
+    idle: u64,
+    halt: HaltFlag,
+}
+
+/// What a read or a write came to, unless it waited in vain.
+fn unless_in_vain(moved: io::Result<usize>) -> Option<io::Result<usize>>
+    ensures { IfSome result (λ same. same ≡ moved) }
+{
+    match moved {
+        Err(error) if error.kind() == ErrorKind::WouldBlock => None,
+        moved => Some(moved),
+    }
+}
+
+impl Socket {
+    /// One read, unless no byte comes within a second. It fails where the node is halted.
+    fn read(&self, buf: &mut [u8]) -> Option<io::Result<usize>>
+        ensures { IfSome result (λ given. ReadsAtMost given buf.new) }
+    {
+        if self.halt.is_raised() {
+            return Some(Err(io::Error::from(ErrorKind::ConnectionAborted)));
+        }
+        let mut stream: &TcpStream = &self.stream;
+        unless_in_vain(stream.read(buf))
+    }
+
+    /// One write, unless no byte is taken within a second. It fails where the node is halted.
+    fn write(&self, buf: &[u8]) -> Option<io::Result<usize>>
+        ensures { IfSome result (λ taken. WritesAtMost taken buf.now) }
+    {
+        if self.halt.is_raised() {
+            return Some(Err(io::Error::from(ErrorKind::ConnectionAborted)));
+        }
+        let mut stream: &TcpStream = &self.stream;
+        unless_in_vain(stream.write(buf))
+    }
+}
+
+/// One side of a TCP connection, which both share. A read or write of it fails where it moves no byte for as
+/// long as the connection may be silent, and where its node is halted.
+#[derive(Drop)]
+pub struct Half {
+    socket: Arc<Socket>,
+}
+
+impl Read for Half {
+    ghost use Rattle.std.specs.Prelude.{None};
+
+    ghost remaining = { λ h. None };
+
+    fn read(&mut self, buf: &mut [u8]) -> io::Result<usize> {
+        let socket: &Socket = &self.socket;
+        for _ in 0..socket.idle {
+            if let Some(given) = socket.read(buf) {
+                return given;
+            }
+        }
+        Err(io::Error::from(ErrorKind::TimedOut))
+    }
+}
+
+impl Write for Half {
+    ghost use Rattle.std.specs.Prelude.{None};
+
+    ghost contents = { λ h. None };
+
+    fn write(&mut self, buf: &[u8]) -> io::Result<usize> {
+        let socket: &Socket = &self.socket;
+        for _ in 0..socket.idle {
+            if let Some(taken) = socket.write(buf) {
+                return taken;
+            }
+        }
+        Err(io::Error::from(ErrorKind::TimedOut))
+    }
+
+    fn flush(&mut self) -> io::Result<()> {
+        let mut stream: &TcpStream = &self.socket.stream;
+        stream.flush()
+    }
+}
+
+/// The two halves of a connection: its input and its output. It is closed once both are let go.
+///
+/// It may move no byte for `idle` seconds, or without end where that is missing, and for no longer than until the
+/// flag of its node is raised.
+pub fn halves(
+    alloc: Global,
+    stream: TcpStream,
+    idle: Option<u64>,
+    halt: &HaltFlag,
+) -> Option<(Half, Half)> {
+    stream.set_read_timeout(Some(one_second())).ok()?;
+    stream.set_write_timeout(Some(one_second())).ok()?;
+    let socket = Socket {
+        stream,
+        idle: idle.unwrap_or(u64::MAX),
+        halt: halt.share().ok()?,
+    };
+    let input = Arc::new(alloc, socket).ok()?;
+    let output = Arc::try_clone(&input).ok()?;
+    Some((Half { socket: input }, Half { socket: output }))
+}
