@@ -5,14 +5,16 @@
 
 PROGRAM is the built program, crates/rr_tool/out/rr_tool. A node is started with an idle time of one second.
 Each thing is done to it over TCP: silence, half a line or frame, a frame of 4 GB, random bytes, an endless
-line, a reset, answers that nobody reads. After each the node has to take a line and to answer a fetch; while
-one reader is held, the keeper and the other reader have to go on at once. Ends with status 1 where something
-else comes.
+line, a reset, answers that nobody reads; and it is left no file descriptor. After each the node has to take a
+line and to answer a fetch; while one reader is held, the keeper and the other reader have to go on at once. Ends
+with status 1 where something else comes.
 """
 
 import concurrent.futures
+import os
 import pathlib
 import random
+import resource
 import socket
 import struct
 import subprocess
@@ -24,6 +26,8 @@ import time
 IDLE = 1
 # What the node may hold at most, in bytes.
 MOST_MEMORY = 64 * 1024**2
+# What it may work while it can take no connection, as a part of one processor.
+MOST_WORK = 0.2
 CONFIG = """\
 step = 60
 lines = "127.0.0.1:{0}"
@@ -195,6 +199,14 @@ class Node:
         words = dict(line.split(":", 1) for line in status.read_text().splitlines())
         return int(words["VmHWM"].split()[0]) * 1024
 
+    def work(self):
+        """The seconds that the node has worked, where the system says so."""
+        stat = pathlib.Path(f"/proc/{self.process.pid}/stat")
+        if not stat.exists():
+            return 0
+        words = stat.read_text().rpartition(")")[2].split()
+        return sum(map(int, words[11:13])) / os.sysconf("SC_CLK_TCK")
+
 
 def expect(what, got, want):
     if got != want:
@@ -256,6 +268,22 @@ def closes_at_once(port):
     reset(stream)
 
 
+def no_descriptor(node, port):
+    """Leaves the node no file descriptor while connections come. It may not try again and again to take one."""
+    pid, kind = node.process.pid, resource.RLIMIT_NOFILE
+    soft, hard = resource.prlimit(pid, kind)
+    resource.prlimit(pid, kind, (0, hard))
+    waiting = [connect(port) for _ in range(3)]
+    before, began = node.work(), time.monotonic()
+    time.sleep(3 * IDLE)
+    part = (node.work() - before) / (time.monotonic() - began)
+    resource.prlimit(pid, kind, (soft, hard))
+    for stream in waiting:
+        stream.close()
+    if part > MOST_WORK:
+        fail(f"the node works {part:.2f} of the time while it can take no connection")
+
+
 def frames(port):
     """Sessions of wrong frames end with no answer."""
     for text in (b"\0\xff\xff\xff", HELLO + HUGE, HELLO + HELLO, b"\0" * 1_000, b"\0" + NOISE):
@@ -288,6 +316,7 @@ def deeds(node):
         "lines: an endless line": lambda: endless_line(node.lines, too_long),
         "lines: random bytes": lambda: noise(node.lines, b"points 0 samples 0 refused "),
         "lines: nobody reads": lambda: nobody_reads(node, node.lines, b"x\n" * 65_536),
+        "lines: no descriptor": lambda: no_descriptor(node, node.lines),
         "fetches: silence": lambda: is_silent_after(node.fetch, b""),
         "fetches: half a line": lambda: is_silent_after(node.fetch, b"fetch LAST"),
         "fetches: half a frame": lambda: is_silent_after(node.fetch, HELLO[:9]),
@@ -296,6 +325,7 @@ def deeds(node):
         "fetches: random bytes": lambda: noise(node.fetch, b"error BadCommand"),
         "fetches: wrong frames": lambda: frames(node.fetch),
         "fetches: nobody reads": lambda: nobody_reads(node, node.fetch, big),
+        "fetches: no descriptor": lambda: no_descriptor(node, node.fetch),
         "a peer: silence": lambda: pulls(node, b"", True, "ReadFailed"),
         "a peer: half a frame": lambda: pulls(node, b"\0\0", False, "Ended"),
         "a peer: a frame of 4 GB": lambda: pulls(node, HUGE, True, "FrameTooLong"),

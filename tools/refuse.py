@@ -4,7 +4,7 @@
 usage: refuse.py PROGRAM [WHAT ..]
 
 PROGRAM is the built program, crates/rr_tool/out/rr_tool. WHAT is `calls`, `scripts`, `lines` or `node`; all of them, if
-missing. Of scripts and lines those of the cases are run, and a node serves one round (refuse_node.py). A growth is
+missing. Of scripts and lines those of the cases are run, and a node serves one round, or without end (refuse_node.py). A growth is
 refused alone, and then with all after it, by a library that stands before the C library's (refuse.c).
 
 A run has to end as without, or with status 3, `rr: out of memory` as the one line on standard error and a front of the
@@ -12,7 +12,7 @@ output; of a script nothing. The calls are those of the cases: their program, cr
 library itself for each growth of a call, compares what stands then, and has to end with status 0.
 
 Prints how many growths were refused, and ends with status 1 where a run ended in another way or nothing was refused. It
-takes some minutes on four cores.
+takes about a quarter of an hour on four cores.
 """
 
 import argparse

@@ -1,15 +1,19 @@
-"""A node that serves one round while growths are refused (refuse.py).
+"""A node that serves while growths are refused (refuse.py): one round, or without end.
 
 It is sent lines, pulls a cell from a peer, saves, answers fetches, and gives to a peer that pulls. It may end with any of
 these undone. But each answer is a front of one that a node gives which was refused nothing, with the lines and the
 peer's cell or without either; so is the snapshot, or it is the last one; and the last line on standard error says that
 memory ran out exactly where the status does.
+
+A node without end may go on only where its keeper and its reader both do: it takes a further line connection and
+answers a further fetch, and is then stopped. Else it has to end by itself, as memory ran out on one of its threads.
 """
 
 import collections
 import concurrent.futures
 import os
 import pathlib
+import signal
 import socket
 import struct
 import subprocess
@@ -25,13 +29,17 @@ BESIDE = 2 * (os.cpu_count() or 1)
 IDLE = 5
 LONGEST = 20
 
+# The rounds that a node keeps, and the connections that its reader takes: of one round, and of a node without end.
+ONE_ROUND = (1, 2)
+ENDLESS = (0, 0)
+
 CONFIG = """\
 step = 60
 lines = "127.0.0.1:{0}"
 fetch = ["127.0.0.1:{1}"]
 peers = ["127.0.0.1:{2}"]
-rounds = 1
-visits = 2
+rounds = {rounds}
+visits = {visits}
 idle = {idle}
 
 [[archive]]
@@ -40,6 +48,9 @@ rows = 3
 xff_num = 0
 xff_den = 1
 """
+
+# The report of an empty line connection.
+NO_LINES = b"points 0 samples 0 refused 0\n"
 
 # What the snapshot's file has before the node saves.
 LAST = b"the last one"
@@ -79,10 +90,11 @@ BESIDE_SAVED = "saved.new"
 
 
 class Served(typing.NamedTuple):
-    """How a node ended, what it said on standard error, what it answered to lines, to fetches and to a peer, its snapshot,
-    the files that it left beside, and how many growths it made and was refused."""
+    """How a node ended, or that it was stopped, what it said on standard error, what it answered to lines, to fetches and
+    to a peer, its snapshot, the files that it left beside, and how many growths it made and was refused."""
 
     status: int
+    stopped: bool
     errors: list
     answers: list
     saved: bytes
@@ -156,8 +168,13 @@ def use(node, ports, saved, lines):
     return [report, ask(ports[1], FETCHES), ask(ports[1], ASKS)]
 
 
+def goes_on(node, ports):
+    """Whether each thread of a node does its work still."""
+    return node.poll() is None and ask(ports[0], b"") == NO_LINES and ask(ports[1], FETCHES).endswith(b"\n\n")
+
+
 def serve(*how, **more):
-    """Has a node serve one round; again, with other ports, if another program took one of its ports meanwhile."""
+    """Has a node serve; again, with other ports, if another program took one of its ports meanwhile."""
     for _ in range(TRIES):
         it = serve_once(*how, **more)
         if it.errors != [BAD_ADDRESS]:
@@ -165,27 +182,31 @@ def serve(*how, **more):
     return it
 
 
-def serve_once(program, refuser, nth=0, goes_on=False, lines=LINES, has_peer=True):
-    """Has a node serve one round, with a growth refused."""
+def serve_once(program, refuser, limits, nth=0, and_on=False, lines=LINES, has_peer=True):
+    """Has a node serve within these limits, with a growth refused. A node without end is stopped if it goes on."""
     ports = free_ports(2)
     with tempfile.TemporaryDirectory() as folder, socket.create_server(("127.0.0.1", 0)) as listener:
         folder = pathlib.Path(folder)
         if has_peer:
             threading.Thread(target=reply, args=(listener,), daemon=True).start()
         peer = listener.getsockname()[1] if has_peer else free_ports(1)[0]
-        (folder / "node.toml").write_text(CONFIG.format(*ports, peer, idle=IDLE))
+        rounds, visits = limits
+        config = CONFIG.format(*ports, peer, rounds=rounds, visits=visits, idle=IDLE)
+        (folder / "node.toml").write_text(config)
         saved = folder / "saved"
         saved.write_bytes(LAST)
         node = subprocess.Popen(
             [program, "serve", "node.toml", "--origin", "2", "--save", "saved"],
             cwd=folder,
-            env=refuser.environment(folder / "log", nth, goes_on),
+            env=refuser.environment(folder / "log", nth, and_on),
             stdin=subprocess.DEVNULL,
             stdout=subprocess.DEVNULL,
             stderr=subprocess.PIPE,
             text=True,
         )
         answers = use(node, ports, saved, lines)
+        if limits == ENDLESS and goes_on(node, ports):
+            node.terminate()
         try:
             _, errors = node.communicate(timeout=LONGEST)
         except subprocess.TimeoutExpired:
@@ -193,43 +214,50 @@ def serve_once(program, refuser, nth=0, goes_on=False, lines=LINES, has_peer=Tru
             _, errors = node.communicate()
         made, refused = struct.unpack("<QQ", (folder / "log").read_bytes())
         left = sorted({it.name for it in folder.iterdir()} - {"node.toml", "log", "saved"})
-        return Served(node.returncode, errors.splitlines(), answers, saved.read_bytes(), left, made, refused)
+        status, stopped = node.returncode, node.returncode == -signal.SIGTERM
+        return Served(status, stopped, errors.splitlines(), answers, saved.read_bytes(), left, made, refused)
 
 
-def faults(it, wholes, goes_on):
-    """What is wrong about a node that was refused a growth, and those after it if it goes on, beside those that were
+def faults(it, wholes, and_on):
+    """What is wrong about a node that was refused a growth, and those after it if so asked, beside those that were
     refused nothing."""
     ended = it.errors[-1:] == [OUT_OF_MEMORY]
-    if it.status != (3 if ended else 0):
+    if it.status != (3 if ended and not it.stopped else wholes[0].status):
         yield f"status {it.status}"
     if not set(it.errors[:-1] if ended else it.errors) <= (FAILURES if it.answers else set()):
         yield f"said {it.errors}"
     if it.saved not in {LAST, *(whole.saved for whole in wholes)}:
         yield f"saved {it.saved.hex()}"
-    if it.left and not (goes_on and it.left == [BESIDE_SAVED]):
+    if it.left and not ((and_on or it.stopped) and it.left == [BESIDE_SAVED]):
         yield f"left {it.left}"
     for place, answer in enumerate(it.answers):
         if not any(whole.answers[place].startswith(answer) for whole in wholes):
             yield f"answered {answer}"
 
 
-def try_node(program, refuser):
-    """Refuses each growth of a node, and says what came of it. Answers whether all is well."""
-    whole = serve(program, refuser)
+def try_limits(program, refuser, limits, what):
+    """Refuses each growth of a node with these limits, and says what came of it. Answers whether all is well."""
+    whole = serve(program, refuser, limits)
     wholes = [whole] + [
-        serve(program, refuser, lines=lines, has_peer=has_peer)
+        serve(program, refuser, limits, lines=lines, has_peer=has_peer)
         for lines, has_peer in ((LINES, False), (b"", True), (b"", False))
     ]
-    runs = [(nth, goes_on) for goes_on in (False, True) for nth in range(1, whole.made + 1)]
+    runs = [(nth, and_on) for and_on in (False, True) for nth in range(1, whole.made + 1)]
     total = collections.Counter()
     with concurrent.futures.ThreadPoolExecutor(BESIDE) as pool:
-        for (nth, goes_on), it in zip(runs, pool.map(lambda run: serve(program, refuser, *run), runs)):
-            wrong = list(faults(it, wholes, goes_on))
+        for (nth, and_on), it in zip(runs, pool.map(lambda run: serve(program, refuser, limits, *run), runs)):
+            wrong = list(faults(it, wholes, and_on))
             total.update(refused=it.refused, wrong=bool(wrong), whole=it.answers == whole.answers)
             for line in wrong:
-                print(f"node, growth {nth}{' and on' if goes_on else ''}: {line}")
+                print(f"{what}, growth {nth}{' and on' if and_on else ''}: {line}")
     print(
-        f"node: {total['refused']} growths refused, {total['whole']} answered as without, {total['wrong']} wrong",
+        f"{what}: {total['refused']} growths refused, {total['whole']} answered as without, {total['wrong']} wrong",
         flush=True,
     )
     return total["refused"] > 0 and not total["wrong"]
+
+
+def try_node(program, refuser):
+    """Refuses each growth of a node of one round, and of one without end. Answers whether all is well."""
+    is_well = try_limits(program, refuser, ONE_ROUND, "node")
+    return try_limits(program, refuser, ENDLESS, "endless node") and is_well
