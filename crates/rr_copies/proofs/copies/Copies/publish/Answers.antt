@@ -30,7 +30,7 @@ invariant_of-self-in_err-replace_with g c =
     let b = c.mark.new.book in
     let desk = sym {a = w.desk} c.mark.ensures.same_copy in
     let h : (view n.desk.place ≡ view w.desk.place) × (n.desk.shown.value ≡ w.desk.shown.value) × (changes n ≡ changes w) = search rules in
-    let ready : IsReady (view w.desk.place) (held w.desk.shown.value.replica) w.desk.shown.value.front (changes w) = search rules in
+    let ready : IsReady (view w.desk.place) (held w.desk.shown.value.replica) w.desk.shown.value.front (changes w) = c.in_ok-mark.ensures.ready in
     let was : IsKeeper (view w.desk.place) (held w.desk.shown.value.replica) (held c.self.inside.own) w.desk.shown.value.front c.self.inside.book (changes o) c.self.inside.marked × Begins (flat b.editions) ((view w.desk.place).seen ++ ops_in (changes o)) =
     subst (λ (z : View × Holding × Sighting). IsKeeper z.0 z.1 (held c.self.inside.own) z.2 c.self.inside.book (changes o) c.self.inside.marked × Begins (flat b.editions) (z.0.seen ++ ops_in (changes o)))
     (λ i. (view (desk i).place, held (desk i).shown.value.replica, (desk i).shown.value.front)) (c.self.invariant, c.mark.ensures.begins) in
@@ -45,7 +45,7 @@ invariant_of-self-2 g c =
     let b = c.mark.new.book in
     let desk = sym {a = w.desk} c.mark.ensures.same_copy in
     let h : (view n.desk.place ≡ with_published (view w.desk.place) (ops_in (changes w))) × (changes n ≡ []) × (held n.desk.shown.value.replica ≡ fold step (held w.desk.shown.value.replica) (ops_in (changes w))) × (n.desk.shown.value.front ≡ mark_in w.desk.shown.value.front (changes w)) = search rules in
-    let ready : IsReady (view w.desk.place) (held w.desk.shown.value.replica) w.desk.shown.value.front (changes w) = search rules in
+    let ready : IsReady (view w.desk.place) (held w.desk.shown.value.replica) w.desk.shown.value.front (changes w) = c.in_ok-mark.ensures.ready in
     let was : IsKeeper (view w.desk.place) (held w.desk.shown.value.replica) (held c.self.inside.own) w.desk.shown.value.front c.self.inside.book (changes o) c.self.inside.marked × Begins (flat b.editions) ((view w.desk.place).seen ++ ops_in (changes o)) =
     subst (λ (z : View × Holding × Sighting). IsKeeper z.0 z.1 (held c.self.inside.own) z.2 c.self.inside.book (changes o) c.self.inside.marked × Begins (flat b.editions) (z.0.seen ++ ops_in (changes o)))
     (λ i. (view (desk i).place, held (desk i).shown.value.replica, (desk i).shown.value.front)) (c.self.invariant, c.mark.ensures.begins) in
