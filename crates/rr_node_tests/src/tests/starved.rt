@@ -1,7 +1,7 @@
 //! An archive without memory.
 ghost use Rattle.std.specs.Prelude.{false};
 
-use rr_archive::{Archive, Entry};
+use rr_archive::{Archive, Cells, Entry};
 use rr_base::Origin;
 use rr_contrib::Contribution;
 use std::alloc::{AllocError, Global};
@@ -12,7 +12,7 @@ pub(crate) struct Starved<A> {
     held: A,
 }
 
-impl<A: Archive> Archive for Starved<A> {
+impl<A: Cells> Cells for Starved<A> {
     ghost cells = { λ a. A.cells a.held };
 
     ghost row_limit = { λ a. A.row_limit a.held };
@@ -60,8 +60,8 @@ impl<A: Archive> Archive for Starved<A> {
         self.held.newest()
     }
 
-    fn row(&self, slot: i64) -> &[Entry] {
-        self.held.row(slot)
+    fn entries_into(&self, slot: i64, row: &mut Vec<Entry>) -> Result<(), AllocError> {
+        self.held.entries_into(slot, row)
     }
 
     fn cell_count(&self) -> usize {
@@ -80,5 +80,11 @@ impl<A: Archive> Archive for Starved<A> {
         Ok(Starved {
             held: self.held.copy(alloc)?,
         })
+    }
+}
+
+impl<A: Archive> Archive for Starved<A> {
+    fn row(&self, slot: i64) -> &[Entry] {
+        self.held.row(slot)
     }
 }

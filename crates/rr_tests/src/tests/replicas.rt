@@ -1,7 +1,7 @@
 //! Replicas: what cases of calls can't show.
 ghost use Rattle.std.specs.Prelude.{◌≡◌};
 
-use rr_archive::{Archive, PlainArchive};
+use rr_archive::{Archive, Cells, PlainArchive};
 use rr_delta::{difference, summary};
 use rr_fakes::replicas::{MINUTE, filled, one_sample};
 use rr_key::SeriesKey;
