@@ -21,14 +21,14 @@ use std::sync::Wait;
 /// What stands in an input for the number of growths before the one that is refused.
 const TURN: &str = "{m}";
 
-/// Before a call of which the growth after so many is refused, if one is.
+/// Has the growth after `growths` of them refused, from here to [`end`]; with `None` none is.
 pub(crate) fn begin(alloc: Global, growths: Option<u32>) {
     if let Some(growths) = growths {
         refuse_after(alloc, growths);
     }
 }
 
-/// After that call.
+/// Has no growth refused any more, after what [`begin`] asked for.
 pub(crate) fn end(alloc: Global, growths: Option<u32>) {
     if growths.is_some() {
         refuse_none(alloc);

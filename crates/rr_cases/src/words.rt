@@ -42,7 +42,7 @@ impl<'a> Words<'a> {
         number_of(self.word())
     }
 
-    /// The next word as a number; `-` is none, and so are no more words.
+    /// The next word as a number; `None` if it is `-` or there is none left.
     pub(crate) fn limit<N: FromStr>(&mut self) -> Result<Option<N>>
     where
         N::Err: Drop,

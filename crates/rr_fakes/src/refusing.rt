@@ -18,7 +18,7 @@ fn ask(alloc: Global, size: usize) {
     let _refused = Vec::<u8>::with_capacity(alloc, size);
 }
 
-/// Asks that the growth after so many is refused, of those from here on.
+/// Asks that of the growths from here on the one after `growths` others is refused.
 pub fn refuse_after(alloc: Global, growths: u32) {
     ask(alloc, REFUSE + 1 + growths as usize);
 }

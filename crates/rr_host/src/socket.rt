@@ -58,8 +58,8 @@ impl Socket {
     }
 }
 
-/// One side of a TCP connection, which both share. A read or write of it fails where it moves no byte for as
-/// long as the connection may be silent, and where its node is halted.
+/// One of the two halves of a TCP connection, which share its socket. A read or a write fails once it has moved no
+/// byte for as long as the connection may be silent, or once the node is halted.
 #[derive(Drop)]
 pub struct Half {
     socket: Arc<Socket>,

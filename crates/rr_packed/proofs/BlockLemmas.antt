@@ -42,7 +42,7 @@ pub block_same : (old new : Block) → ((n : ℕ) → item_in new.rows n ≡ ite
 unfolding items_in
 block_same old new rows source readings = λ i n. items_held (rows n i) (entries_read (source i) (readings n i))
 
--- the source may change where there is no reading
+-- in a block without readings the source may change
 pub block_sourced : (old new : Block) → ((n : ℕ) → item_in new.rows n ≡ item_in old.rows n) → ((n : ℕ) → item_in new.readings n ≡ None) → ((n : ℕ) → item_in old.readings n ≡ None) → items_in new ≡ items_in old
 unfolding items_in
 block_sourced old new rows none was = λ i n. (

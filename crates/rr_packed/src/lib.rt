@@ -8,10 +8,9 @@
 //! a slot ── its block's number ──> a block ── a bit of its masks ──> a reading, or the entries
 //! ```
 //!
-//! A row that one sample came to is held as that sample, a [`Reading`](reading::Reading), if its origin
-//! and its place are those of the block's other readings. It stands for what
-//! `Contribution::first` gives of it, so it is no second definition of a row. Any other row is held as
-//! its entries. What is stored of a slot is one function (`specs/Blocks.antt`), and the cells are what
+//! A row of a single sample is held as that sample, a [`Reading`](reading::Reading), if its origin and its
+//! place are those of the block's other readings. A reading stands for the contribution that
+//! `Contribution::first` makes of the sample. Any other row is held as its entries. What is stored of a slot is one function (`specs/Blocks.antt`), and the cells are what
 //! it gives of the live slots, in order.
 #![tactic(auto)]
 

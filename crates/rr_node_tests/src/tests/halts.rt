@@ -30,8 +30,8 @@ fn readers<R: Wait>(rt: &R, alloc: Global) -> Option<Vec<Reader<RingArchive>>> {
     Some(readers)
 }
 
-/// Whether a node ends for want of memory, once the text comes to its keeper or to its second reader. The other
-/// waits for a connection then, and the first reader for what a silent one sends.
+/// Whether a node ends when its keeper, or else its second reader, runs out of memory over the text. Meanwhile the
+/// other of the two waits for a connection, and the first reader for a sender that is silent.
 fn is_ended<R>(rt: &R, alloc: Global, to_keeper: bool) -> Option<bool>
 where
     R: Files + Eprint + Net<Listener = TcpListener, Stream = TcpStream> + Threads + Wait + Sync,

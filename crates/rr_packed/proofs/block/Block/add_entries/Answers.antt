@@ -24,7 +24,7 @@ returns-in-Some-clause-same c =
 pub insert-requires-clause-free : goal.insert-requires-clause-free
 insert-requires-clause-free c = none_from (place_at c.args.self.now.rows.mask c.args.number) (sym c.has_entries.ensures.placed ∙ c.if-has_entries.false)
 
--- in a row that has room and is not held as its entries there is no reading
+-- a row that has room has no reading, unless it is held as entries
 unread : (c : goal.After-insert) (origin : ℕ) → IsTrue (has_room_in c.args.self.now c.args.number origin) → ⊥
 unread c origin room =
     let b = c.args.self.now in
