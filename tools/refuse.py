@@ -4,8 +4,8 @@
 usage: refuse.py PROGRAM [WHAT ..]
 
 PROGRAM is the built program, crates/rr_tool/out/rr_tool. WHAT is `calls`, `scripts`, `lines` or `node`; all of them, if
-missing. Of scripts and lines those of the cases are run, and a node serves one round, or without end (refuse_node.py). A growth is
-refused alone, and then with all after it, by a library that stands before the C library's (refuse.c).
+missing. Of scripts and lines those of the cases are run, and a node serves one round, or without end (refuse_node.py).
+A growth is refused alone, and then with all after it, by a library that stands before the C library's (refuse.c).
 
 A run has to end as without, or with status 3, `rr: out of memory` as the one line on standard error and a front of the
 output; of a script nothing. The calls are those of the cases: their program, crates/rr_cases/out/rr_cases, asks the
