@@ -12,10 +12,10 @@ ghost use Rattle.rr_request.specs.Requests.{request_view, IsFetchable};
 use crate::consolidation::consolidate;
 use crate::fault::AnswerFault;
 use crate::record::push_row;
-use rr_archive::{Archive, Entry};
+use rr_archive::{Cells, Entry};
 use rr_io::Counted;
 use rr_io::stream::write_all;
-use rr_records::Records;
+use rr_records::front_of;
 use rr_replica::Replica;
 use rr_request::Request;
 use rr_text::limits::{MAX_FETCH_ROWS, MAX_SECOND, MAX_STEP, MAX_STEPS};
@@ -41,14 +41,21 @@ fn start_of(slot: i64, span: u32) -> i64
     slot * i64::from(span)
 }
 
-/// The entries of a slot; none if there is no archive.
-fn entries_at<A: Archive>(archive: Option<&A>, slot: i64) -> &[Entry]
+/// Writes the entries of a slot over those of a row; none if there is no archive.
+fn read_row<A: Cells>(
+    archive: Option<&A>,
+    slot: i64,
+    row: &mut Vec<Entry>,
+) -> Result<(), AllocError>
     ensures { (rows : Rows) → MatchOption archive.entry (rows ≡ empty) (λ a. A.cells a.now ≡ rows)
-        → result.now ≡ row_of rows slot }
+        → OnOk result (row.new.items ≡ row_of rows slot) }
 {
     match archive {
-        Some(archive) => archive.row(slot),
-        None => &[],
+        Some(archive) => archive.entries_into(slot, row),
+        None => {
+            row.clear();
+            Ok(())
+        }
     }
 }
 
@@ -58,7 +65,7 @@ fn entries_at<A: Archive>(archive: Option<&A>, slot: i64) -> &[Entry]
 /// The request's archive is one of the replica's schema, its first slot is at most
 /// [`MAX_SECOND`] either side of the epoch, and its rows are from 1 to [`MAX_FETCH_ROWS`]. The cost
 /// is one look-up of the key and, for each row, one look-up of its slot and a pass over its entries.
-pub fn answer_text<A: Archive>(
+pub fn answer_text<A: Cells>(
     alloc: Global,
     replica: &Replica<A>,
     request: &Request,
@@ -70,22 +77,24 @@ pub fn answer_text<A: Archive>(
     let schema = replica.schema();
     let span = schema.span(request.archive);
     let archive = replica.archive(&request.key, request.archive);
-    let mut records = Records::new(alloc);
+    let front = front_of(alloc, request.key.text())?;
+    let mut text = Vec::new(alloc);
+    let mut entries = Vec::new(alloc);
     for row in 0..request.rows {
         let slot = slot_of(request.first, row);
         let start = start_of(slot, span);
-        let entries = entries_at(archive, slot);
-        let value = consolidate(entries, schema, request.archive, request.cf);
-        push_row(&mut records, request.key.text(), start, value)?;
+        read_row(archive, slot, &mut entries)?;
+        let value = consolidate(&entries, schema, request.archive, request.cf);
+        push_row(&mut text, &front, start, value)?;
     }
-    records.into_text()
+    Ok(text)
 }
 
 /// Makes the answer to a request, as [`answer_text`] does, and then writes it.
 ///
 /// `Memory` writes nothing. `WriteFailed` leaves a prefix of the text written, and is answered only
 /// where a call of the writer failed.
-pub fn answer<A: Archive, W: Write>(
+pub fn answer<A: Cells, W: Write>(
     alloc: Global,
     replica: &Replica<A>,
     request: &Request,

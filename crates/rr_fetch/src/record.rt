@@ -1,30 +1,30 @@
 //! A row as a record of CSV.
 
-ghost use Rattle.std.specs.Prelude.{◌≡◌, ◌++◌, [], ◌∷◌, OnOk};
-ghost use Rattle.rr_model.specs.FetchText.{record_text, value_text};
-ghost use Rattle.rr_records.specs.Records as csv;
+ghost use Rattle.std.specs.Prelude.{◌≡◌, ◌++◌, [], ◌∷◌, ℕ, List, OnOk};
+ghost use Rattle.rr_model.specs.FetchText.{comma, field_text, record_text, value_text};
 
 use itoa::Buffer;
-use rr_records::Records;
+use rr_records::push_behind;
 use std::alloc::AllocError;
 
 /// What is written for an unknown value.
 const UNKNOWN: &[u8] = b"U";
 
-/// Adds the record of a row: its key, its start second and its value.
+/// Adds the record of a row: its start second and its value, behind what each row of its key begins with.
 pub(crate) fn push_row(
-    records: &mut Records,
-    key: &[u8],
+    text: &mut Vec<u8>,
+    front: &[u8],
     start: i64,
     value: Option<i64>,
 ) -> Result<(), AllocError>
-    ensures { OnOk result (records.new ≡ records.old ++ record_text key.now (start, value)) }
+    ensures { (key : List ℕ) → front.now ≡ field_text key ++ comma ∷ [] → OnOk result (text.new.items
+        ≡ text.old.items ++ record_text key (start, value)) }
 {
     let mut start_buffer = Buffer::new();
     let mut value_buffer = Buffer::new();
     let start = start_buffer.format(start).as_bytes();
     let value = value_text(&mut value_buffer, value);
-    push_three(records, key, start, value)
+    push_behind(text, front, start, value)
 }
 
 /// A value in decimal, or `U` for an unknown one.
@@ -35,17 +35,4 @@ fn value_text(buffer: &mut Buffer, value: Option<i64>) -> &[u8]
         Some(value) => buffer.format(value).as_bytes(),
         None => UNKNOWN,
     }
-}
-
-/// Adds a record of three fields.
-fn push_three<'a>(
-    records: &mut Records,
-    first: &'a [u8],
-    second: &'a [u8],
-    third: &'a [u8],
-) -> Result<(), AllocError>
-    ensures { OnOk result (records.new
-        ≡ records.old ++ csv.record_text (first.now ∷ second.now ∷ third.now ∷ [])) }
-{
-    records.push(&[first, second, third])
 }

@@ -1,1 +1,2 @@
 pub mod CsvLemmas
+pub mod PlainLemmas
