@@ -13,5 +13,6 @@ pub mod JoinedMap
 pub mod Lending
 pub mod IndexedLemmas
 pub mod WalkLemmas
+pub mod KnownKey
 pub mod CopyingLemmas
 pub mod RoomLemmas

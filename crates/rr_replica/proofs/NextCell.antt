@@ -201,7 +201,7 @@ module _ (key : List ℕ) (a : ℕ) (p : CellSlot) where
   pub later_cells : (l : List ℕ) (rs : List Rows) → bytes_cmp key l ≡ Less → find (is_past (name_at key a p)) (cells_from l 0 rs) ≡ slice_get (cells_from l 0 rs) 0
   later_cells l rs less = first_past (name_at key a p) (cells_from l 0 rs) (all_from (λ e. is_past (name_at key a p) e ≡ true) l 0 rs (λ i q c h. later_key key l a i p q less))
 
-  earlier_cells : (l : List ℕ) (rs : List Rows) → bytes_cmp key l ≡ Greater → find (is_past (name_at key a p)) (cells_from l 0 rs) ≡ None
+  pub earlier_cells : (l : List ℕ) (rs : List Rows) → bytes_cmp key l ≡ Greater → find (is_past (name_at key a p)) (cells_from l 0 rs) ≡ None
   earlier_cells l rs greater = none_past (name_at key a p) (cells_from l 0 rs) (all_from (λ e. is_past (name_at key a p) e ≡ false) l 0 rs (λ i q c h. ap (λ r. is_lt (ordering_then r (ordering_then (nat_cmp a i) (cell_slot_cmp p q)))) greater))
 
   module _ {X : Type 0} (cells : X → Rows) where

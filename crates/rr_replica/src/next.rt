@@ -1,5 +1,5 @@
 //! The first cell after a name.
-ghost use Rattle.std.specs.Prelude.{◌≡◌, ◌≤◌, length, map, drop, slice_get, IsTrue};
+ghost use Rattle.std.specs.Prelude.{◌≡◌, ◌≤◌, length, map, drop, slice_get, Some, IfSome, IsTrue};
 ghost use Rattle.std.specs.List.{AllByRecursion};
 ghost use Rattle.std.specs.List.Sorted.{IsStrictlySortedBy};
 ghost use Rattle.std.specs.Map.{keys_of};
@@ -7,7 +7,7 @@ ghost use Rattle.std.specs.Option.{option_map};
 ghost use Rattle.std.specs.Ordering.{is_le};
 ghost use Rattle.rr_text.specs.Bytes.{bytes_cmp};
 ghost use Rattle.rr_replica.specs.Held.{held_series};
-ghost use Rattle.rr_replica.specs.SeriesMap.{entries_of};
+ghost use Rattle.rr_replica.specs.SeriesMap.{entries_of, IsIndexed};
 ghost use Rattle.rr_cells.specs.Listing.{seen_cell, first_after, next_cell};
 ghost use Rattle.rr_replica.specs.Listing.{seen_name};
 ghost use Rattle.rr_replica.specs.Series.{cells_from, cells_of};
@@ -67,17 +67,40 @@ fn next_in<'a, A: Cells>(
     }
 }
 
+/// The first cell after a name in its own archive, if that has one: found by the hash of its key.
+fn next_in_own<'a, A: Cells>(
+    series: &'a SeriesMap<A>,
+    name: &NameRef<'_>,
+) -> Option<CellRef<'a>>
+    requires ordered { IsStrictlySortedBy bytes_cmp (keys_of (entries_of series.now)) }
+    requires indexed { IsIndexed series.now }
+    ensures { IfSome result (λ c. next_cell
+        (cells_of (held_series A.cells (entries_of series.now))) (seen_name name.now) ≡ Some (seen_cell c)) }
+{
+    let (key, archives) = series.known(name.key)?;
+    let own = name.archive as usize;
+    if own >= archives.len() {
+        return None;
+    }
+    let cell = archives[own].next_cell(name.slot, name.origin)?;
+    Some(named(key, name.archive, cell))
+}
+
 /// The first cell after a name among those of all series. No series before the name's key is walked
-/// over.
+/// over, and the tree of the keys is only asked where the name's archive has no further cell.
 pub(crate) fn next_cell<'a, A: Cells>(
     series: &'a SeriesMap<A>,
     name: &NameRef<'_>,
 ) -> Option<CellRef<'a>>
     requires ordered { IsStrictlySortedBy bytes_cmp (keys_of (entries_of series.now)) }
     requires few_archives { AllByRecursion (λ e. length e.1.items ≤ MAX_ARCHIVES) (entries_of series.now) }
+    requires indexed { IsIndexed series.now }
     ensures { option_map seen_cell result
         ≡ next_cell (cells_of (held_series A.cells (entries_of series.now))) (seen_name name.now) }
 {
+    if let Some(cell) = next_in_own(series, name) {
+        return Some(cell);
+    }
     for (key, index) in series.indices.range(name.key..) {
         if let Some(cell) = next_in(key, series.at(*index), name) {
             return Some(cell);

@@ -98,6 +98,22 @@ impl<A: Drop> SeriesMap<A> {
         }
     }
 
+    /// A key as it is known, and its archives, if it is known.
+    pub(crate) fn known(&self, key: &SeriesKey) -> Option<(&SeriesKey, &Vec<A>)>
+        requires { IsIndexed self.now }
+        ensures key { IfSome result (λ known. known.0.now ≡ key.now) }
+        ensures archives { IfSome result (λ known. archives_of (entries_of self.now) key.now ≡ Some known.1.now) }
+    {
+        match self.find(key) {
+            Some(index) => {
+                let known = &self.keys[index];
+                let archives = &self.archives[index];
+                Some((known, archives))
+            }
+            None => None,
+        }
+    }
+
     /// The archives at an index; none past the last.
     pub(crate) fn at(&self, index: usize) -> &[A]
         ensures { result.now ≡ items_of (slice_get self.now.archives.items index) }

@@ -29,8 +29,8 @@ next_in-requires g c =
     let name = c.args.name.now in
     let archives = c.args.series.now.archives.items in
     let rest = c.next.new.self in
-    let key = c.in-Some.key.now in
-    let index = c.in-Some.index.now in
+    let key = c.in-Some-2.key.now in
+    let index = c.in-Some-2.index.now in
     let more : c.loop-key.key-iterator ≡ (key, index) ∷ rest = search rules in
     let few = walk_few (key, index) rest archives (subst (λ es. AreFew (entries_at es archives)) more c.loop-key.invariant.1) in
     record { not_before = (subst (AreFrom name.key.now) more c.loop-key.invariant.2).0; few_archives = rw c.at.ensures few.0 }
@@ -40,8 +40,8 @@ returns-in-Some-next_in g c =
     let name = c.args.name.now in
     let m = c.args.series.now in
     let rest = c.next.new.self in
-    let key = c.in-Some.key.now in
-    let index = c.in-Some.index.now in
+    let key = c.in-Some-2.key.now in
+    let index = c.in-Some-2.index.now in
     let more : c.loop-key.key-iterator ≡ (key, index) ∷ rest = search rules in
     let left = subst (λ es. LeftFrom name.key.now name.archive (cell_slot name.slot name.origin) g.A.Cells.cells (entries_of m) (entries_at es m.archives.items)) more c.loop-key.invariant.0 in
     let found = sym (rw c.at.ensures at c.next_in.ensures) ∙ ap (option_map seen_cell) c.in-Some-next_in.is in
@@ -53,11 +53,11 @@ loop-key-preserved g c =
     let name = c.args.name.now in
     let m = c.args.series.now in
     let rest = c.next.new.self in
-    let key = c.in-Some.key.now in
-    let index = c.in-Some.index.now in
+    let key = c.in-Some-2.key.now in
+    let index = c.in-Some-2.index.now in
     let more : c.loop-key.key-iterator ≡ (key, index) ∷ rest = search rules in
     let left = subst (λ es. LeftFrom name.key.now name.archive (cell_slot name.slot name.origin) g.A.Cells.cells (entries_of m) (entries_at es m.archives.items)) more c.loop-key.invariant.0 in
-    let none = sym (rw c.at.ensures at c.next_in.ensures) ∙ ap (option_map seen_cell) c.in_default.is in (
+    let none = sym (rw c.at.ensures at c.next_in.ensures) ∙ ap (option_map seen_cell) c.in_default-next_in.is in (
       walk_more name.key.now name.archive (cell_slot name.slot name.origin) g.A.Cells.cells (entries_of m) (entries_at rest m.archives.items) key (slice_get m.archives.items index) left none,
       (walk_few (key, index) rest m.archives.items (subst (λ es. AreFew (entries_at es m.archives.items)) more c.loop-key.invariant.1)).1,
       (subst (AreFrom name.key.now) more c.loop-key.invariant.2).1,
