@@ -148,15 +148,16 @@ impl Block {
         self.rows.make_room()
     }
 
-    /// An entry as a reading of this block, if it can be one. The first reading of a block decides what
-    /// the others have in common with it.
-    fn reading_of(&mut self, entry: &Entry) -> Option<Reading>
+    /// What a change makes of a row without an entry, as a reading of this block, if it can be one. The first
+    /// reading of a block decides what the others have in common with it.
+    fn reading_of(&mut self, origin: Origin, change: &Change) -> Option<Reading>
+        requires { Fits (entry_at [] origin) change.now }
         ensures same { items_in self.new ≡ items_in self.old }
         ensures readings { self.new.readings ≡ self.old.readings }
         ensures rows { self.new.rows ≡ self.old.rows }
-        ensures read { IfSome result (λ r. entries_read self.new.source (Some r) ≡ entry.now ∷ []) }
+        ensures read { IfSome result (λ r. entries_read self.new.source (Some r) ≡ entry_after [] origin change.now ∷ []) }
     {
-        let Some((source, reading)) = Reading::of(entry) else {
+        let Some((source, reading)) = Reading::after(origin, change) else {
             return None;
         };
         if self.readings.items.is_empty() {
@@ -175,17 +176,25 @@ impl Block {
     }
 
     /// Adds the entry of a row that has none.
-    fn add(&mut self, number: u32, entry: Entry) -> Result<(), AllocError>
+    fn add(&mut self, number: u32, origin: Origin, change: &Change) -> Result<(), AllocError>
         requires number { number < 64 }
+        requires fits { Fits (entry_at [] origin) change.now }
         requires readings { place_at self.old.readings.mask number ≡ None }
         requires rows { place_at self.old.rows.mask number ≡ None }
-        ensures added { OnOk result (IsRowSet number (entry ∷ []) (items_in self.old) (items_in self.new)) }
+        ensures added { OnOk result (IsRowSet number (entry_after [] origin change.now ∷ []) (items_in self.old) (items_in self.new)) }
         ensures unchanged { OnErr result (items_in self.new ≡ items_in self.old) }
         ensures room { IsTrue (has_room self.old.readings) → IsTrue (has_room self.old.rows) → IsOk result }
     {
-        match self.reading_of(&entry) {
+        match self.reading_of(origin, change) {
             Some(reading) => self.readings.insert(number, reading),
-            None => self.rows.insert(number, Entries::One(entry)),
+            None => {
+                let contribution = contribution_after(None, change);
+                let entry = Entry {
+                    origin,
+                    contribution,
+                };
+                self.rows.insert(number, Entries::One(entry))
+            }
         }
     }
 
@@ -209,14 +218,7 @@ impl Block {
             self.rows.items[at].change(self.alloc, origin, change)?;
             return Ok(());
         }
-        let contribution = contribution_after(None, change);
-        self.add(
-            number,
-            Entry {
-                origin,
-                contribution,
-            },
-        )
+        self.add(number, origin, change)
     }
 
     /// The same rows.

@@ -1,9 +1,12 @@
 //! A sample, as a row that it alone came to is held.
-ghost use Rattle.std.specs.Prelude.{◌≡◌, ◌<◌, ◌≤◌, IsTrue, IfSome};
+ghost use Rattle.std.specs.Prelude.{◌≡◌, ◌<◌, ◌≤◌, [], IsTrue, IfSome};
+ghost use Rattle.rr_archive.specs.Changes.{Fits, entry_after};
+ghost use Rattle.rr_archive.specs.Row.{entry_at};
 ghost use Rattle.rr_text.specs.declared.limits.TheConstants.{MAX_NUMBER, MAX_STEPS};
 ghost use Rattle.rr_contrib.specs.Contributions.{of_one, slot_sample};
 
 use rr_archive::Entry;
+use rr_archive::change::Change;
 use rr_contrib::Contribution;
 use rr_schema::Origin;
 use rr_text::limits::{MAX_NUMBER, MAX_STEPS};
@@ -46,7 +49,7 @@ impl Reading {
     ghost use Rattle.rr_packed.specs.Readings.{entry_of};
 
     /// An entry as a reading with its source, if it is of one sample.
-    pub(crate) fn of(entry: &Entry) -> Option<(Source, Reading)>
+    fn of(entry: &Entry) -> Option<(Source, Reading)>
         ensures { IfSome result (λ r. entry_of r.0 r.1 ≡ entry.now) }
     {
         let contribution = entry.contribution;
@@ -68,6 +71,30 @@ impl Reading {
             value: contribution.last_value,
         };
         Some((source, reading))
+    }
+
+    /// What a change makes of a row without an entry, as a reading with its source, if it is of one sample.
+    pub(crate) fn after(origin: Origin, change: &Change) -> Option<(Source, Reading)>
+        requires { Fits (entry_at [] origin) change.now }
+        ensures { IfSome result (λ r. entry_of r.0 r.1 ≡ entry_after [] origin change.now) }
+    {
+        match change {
+            Change::Put(sample) => Some((
+                Source {
+                    origin,
+                    place: sample.place,
+                },
+                Reading {
+                    number: sample.number,
+                    time: sample.time,
+                    value: sample.value,
+                },
+            )),
+            Change::Join(contribution) => Reading::of(&Entry {
+                origin,
+                contribution: *contribution,
+            }),
+        }
     }
 
     /// The entry of a row of this sample alone.

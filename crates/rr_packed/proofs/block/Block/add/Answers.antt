@@ -1,6 +1,8 @@
 use Rattle.std.proofs.Common.{rules, ◌≡◌, [], ◌∷◌, refl, ap, ◌∙◌, cond, eqb, None, Some}
 use Rattle.std.proofs.lemmas.Result.{on_ok_weaker, on_err_weaker}
+use Rattle.rr_archive.specs.declared.entry.Entry.{Entry}
 use Rattle.rr_archive.specs.declared.entries.Entries.{Entries}
+use Rattle.rr_archive.specs.Changes.{entry_after}
 use Rattle.rr_archive.specs.declared.entries.Entries.TheVariants.{One}
 use Rattle.rr_packed.specs.declared.block.Block.{Block}
 use Rattle.rr_packed.specs.declared.sparse.Sparse.{Sparse}
@@ -16,9 +18,9 @@ returns-in-Some-clause-added c =
     let old = c.reading_of.new.self in
     let k = c.args.number in
     let none : item_in old.rows k ≡ None = ap (λ (r : Sparse Entries). item_in r k) c.reading_of.ensures.rows ∙ item_none was.rows.mask was.rows.items.items k c.requires.rows in
-    let read : entries_read old.source (Some c.in-Some.reading) ≡ c.args.entry ∷ [] = search rules in
+    let read : entries_read old.source (Some c.in-Some.reading) ≡ entry_after [] c.args.origin c.args.change.now ∷ [] = search rules in
     let new : Block = record { alloc = old.alloc; source = old.source; readings = c.insert.new.self; rows = old.rows } in
-    on_ok_weaker c.insert.result (λ added. λ n. reading_added old new k c.in-Some.reading c.args.entry (λ n. refl) none refl added read n ∙ ap (λ f. cond (eqb n k) (c.args.entry ∷ []) (f n)) c.reading_of.ensures.same) c.insert.ensures.added
+    on_ok_weaker c.insert.result (λ added. λ n. reading_added old new k c.in-Some.reading (entry_after [] c.args.origin c.args.change.now) (λ n. refl) none refl added read n ∙ ap (λ f. cond (eqb n k) (entry_after [] c.args.origin c.args.change.now ∷ []) (f n)) c.reading_of.ensures.same) c.insert.ensures.added
 
 pub returns-in-Some-clause-unchanged : goal.returns-in-Some-clause-unchanged
 returns-in-Some-clause-unchanged c =
@@ -28,8 +30,10 @@ pub returns-in-None-clause-added : goal.returns-in-None-clause-added
 returns-in-None-clause-added c =
     let old = c.reading_of.new.self in
     let k = c.args.number in
+    let entry : Entry = record { origin = c.args.origin; contribution = c.contribution_after-contribution.result } in
+    let is : (entry ∷ []) ≡ (entry_after [] c.args.origin c.args.change.now ∷ []) = (λ i. record { origin = c.args.origin; contribution = c.contribution_after-contribution.ensures i } ∷ []) in
     let new : Block = record { alloc = old.alloc; source = old.source; readings = old.readings; rows = c.insert-in-None.new.self } in
-    on_ok_weaker c.insert-in-None.result (λ added. λ n. entries_set old new k (One c.args.entry) added refl (λ n. refl) n ∙ ap (λ f. cond (eqb n k) (c.args.entry ∷ []) (f n)) c.reading_of.ensures.same) c.insert-in-None.ensures.added
+    on_ok_weaker c.insert-in-None.result (λ added. λ n. entries_set old new k (One entry) added refl (λ n. refl) n ∙ (λ i. cond (eqb n k) (is i) (c.reading_of.ensures.same i n))) c.insert-in-None.ensures.added
 
 pub returns-in-None-clause-unchanged : goal.returns-in-None-clause-unchanged
 returns-in-None-clause-unchanged c =

@@ -65,6 +65,15 @@ returns-in-Some-clause-changed c = λ n.
 
 -- ---- it has no entry
 
+pub add-requires-clause-fits : goal.add-requires-clause-fits
+add-requires-clause-fits c =
+    let mid = c.unpack.new.self in
+    let k = c.args.number in
+    let rows : item_in mid.rows k ≡ None = item_none mid.rows.mask mid.rows.items.items k (sym c.in_default.ensures.place) in
+    let unpacked : place_at mid.readings.mask k ≡ None = search rules in
+    let empty : items_in c.args.self.now k ≡ [] = sym (ap (λ f. f k) c.unpack.ensures.same) ∙ items_none mid k rows (item_none mid.readings.mask mid.readings.items.items k unpacked) in
+    subst (λ (es : List Entry). Fits (entry_at es c.args.origin) c.args.change.now) empty c.requires.fits
+
 pub returns-clause-changed : goal.returns-clause-changed
 returns-clause-changed c =
     let mid = c.unpack.new.self in
@@ -72,9 +81,7 @@ returns-clause-changed c =
     let rows : item_in mid.rows k ≡ None = item_none mid.rows.mask mid.rows.items.items k (sym c.in_default.ensures.place) in
     let unpacked : place_at mid.readings.mask k ≡ None = search rules in
     let empty : items_in c.args.self.now k ≡ [] = sym (ap (λ f. f k) c.unpack.ensures.same) ∙ items_none mid k rows (item_none mid.readings.mask mid.readings.items.items k unpacked) in
-    let entry : Entry = record { origin = c.args.origin; contribution = c.contribution_after-contribution.result } in
-    let is : (entry ∷ []) ≡ (entry_after [] c.args.origin c.args.change.now ∷ []) = (λ i. record { origin = c.args.origin; contribution = c.contribution_after-contribution.ensures i } ∷ []) in
-    on_ok_weaker c.add.result (λ added. λ n. added n ∙ (λ i. cond (eqb n k) ((is ∙ ap (λ l. with_entry l (entry_after l c.args.origin c.args.change.now)) (sym empty)) i) (c.unpack.ensures.same i n))) c.add.ensures.added
+    on_ok_weaker c.add.result (λ added. λ n. added n ∙ (λ i. cond (eqb n k) (ap (λ l. with_entry l (entry_after l c.args.origin c.args.change.now)) (sym empty) i) (c.unpack.ensures.same i n))) c.add.ensures.added
 
 pub returns-clause-room : goal.returns-clause-room
 returns-clause-room c = λ room.
