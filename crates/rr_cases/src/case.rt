@@ -4,7 +4,8 @@ use crate::files::EXPECTED;
 use crate::growths;
 use crate::kind::Kind;
 use anyhow::{Context, Result};
-use rr_archive::{Archive, PlainArchive};
+use rr_archive::{Cells, PlainArchive};
+use rr_packed::PackedArchive;
 use rr_ring::RingArchive;
 use std::rt::Files;
 use std::sync::Wait;
@@ -73,7 +74,7 @@ fn case_of(rt: &(impl Files + AllocGlobal), file: &str) -> Result<Case> {
 
 /// What a case gives over a kind of archive that isn't expected, if there is something. Counts the growths
 /// that are refused.
-fn unexpected<A: Archive, R: AllocGlobal + Wait>(
+fn unexpected<A: Cells, R: AllocGlobal + Wait>(
     rt: &R,
     case: &Case,
     refused: &mut u32,
@@ -86,7 +87,7 @@ fn unexpected<A: Archive, R: AllocGlobal + Wait>(
 }
 
 /// Whether a case holds over a kind of archive; where it doesn't, the first difference is printed.
-fn holds_over<A: Archive, R: AllocGlobal + Print + Wait>(
+fn holds_over<A: Cells, R: AllocGlobal + Print + Wait>(
     rt: &R,
     case: &Case,
     file: &str,
@@ -102,7 +103,7 @@ fn holds_over<A: Archive, R: AllocGlobal + Print + Wait>(
     }
 }
 
-/// Whether the case of a file of input holds over both kinds of archive. Counts the growths that are
+/// Whether the case of a file of input holds over each kind of archive. Counts the growths that are
 /// refused.
 pub(crate) fn holds<R: Files + AllocGlobal + Print + Wait>(
     rt: &R,
@@ -112,6 +113,7 @@ pub(crate) fn holds<R: Files + AllocGlobal + Print + Wait>(
     let case = case_of(rt, file)?;
     Ok(
         holds_over::<RingArchive, R>(rt, &case, file, "rings", refused)?
+            && holds_over::<PackedArchive, R>(rt, &case, file, "packed rows", refused)?
             && holds_over::<PlainArchive, R>(rt, &case, file, "ordered maps", refused)?,
     )
 }

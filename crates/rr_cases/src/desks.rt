@@ -28,7 +28,7 @@ use crate::replicas::{cell_of, push_cell};
 use crate::settings::{Settings, written};
 use crate::words::Words;
 use anyhow::{Context, Result, bail};
-use rr_archive::Archive;
+use rr_archive::Cells;
 use rr_desk::{Keeper, Reader, open};
 use rr_fakes::replicas::minutes;
 use rr_key::SeriesKey;
@@ -38,7 +38,7 @@ use std::alloc::{AllocError, Global};
 use std::sync::Wait;
 
 /// What the calls answer.
-pub(crate) fn answers<A: Archive, T: Wait>(alloc: Global, rt: &T, input: &[u8]) -> Result<Vec<u8>> {
+pub(crate) fn answers<A: Cells, T: Wait>(alloc: Global, rt: &T, input: &[u8]) -> Result<Vec<u8>> {
     let calls = texts(alloc, input)?;
     let Ok((mut keeper, mut readers)) = open(alloc, rt, minutes::<A>(alloc, 2, 3)?, 1) else {
         bail!("no desk");
@@ -52,7 +52,7 @@ pub(crate) fn answers<A: Archive, T: Wait>(alloc: Global, rt: &T, input: &[u8]) 
 }
 
 /// What the calls answer at a desk.
-fn answers_at<A: Archive, T: Wait>(
+fn answers_at<A: Cells, T: Wait>(
     alloc: Global,
     rt: &T,
     keeper: &mut Keeper<A>,
@@ -78,7 +78,7 @@ fn push_answer(output: &mut Vec<u8>, (ending, written): &Answer) -> Result<(), A
 type Answer = (String, Vec<u8>);
 
 /// Makes a call.
-fn answer<A: Archive, T: Wait>(
+fn answer<A: Cells, T: Wait>(
     alloc: Global,
     rt: &T,
     keeper: &mut Keeper<A>,
@@ -101,7 +101,7 @@ fn answer<A: Archive, T: Wait>(
 }
 
 /// Makes one of the calls that the keeper answers alone.
-fn answer_of_keeper<A: Archive>(
+fn answer_of_keeper<A: Cells>(
     alloc: Global,
     keeper: &mut Keeper<A>,
     name: &str,
@@ -142,7 +142,7 @@ fn text_of(alloc: Global, name: &str) -> Result<String> {
     Ok(String::from_str(alloc, name)?)
 }
 
-fn lines<A: Archive, T: Wait>(
+fn lines<A: Cells, T: Wait>(
     alloc: Global,
     rt: &T,
     keeper: &mut Keeper<A>,
@@ -189,7 +189,7 @@ fn lines<A: Archive, T: Wait>(
     Ok((ending, written(sink)))
 }
 
-fn fetches<A: Archive>(
+fn fetches<A: Cells>(
     alloc: Global,
     reader: &mut Reader<A>,
     settings: &Settings,
@@ -220,7 +220,7 @@ fn hex_line(alloc: Global, bytes: &[u8]) -> Result<Vec<u8>> {
     Ok(text.into_bytes())
 }
 
-fn session<A: Archive>(
+fn session<A: Cells>(
     alloc: Global,
     reader: &mut Reader<A>,
     settings: &Settings,
@@ -230,7 +230,7 @@ fn session<A: Archive>(
     Ok((ending, hex_line(alloc, &written)?))
 }
 
-fn pull<A: Archive, T: Wait>(
+fn pull<A: Cells, T: Wait>(
     alloc: Global,
     rt: &T,
     keeper: &mut Keeper<A>,
@@ -251,7 +251,7 @@ fn pull<A: Archive, T: Wait>(
     Ok((text_of(alloc, ending)?, written))
 }
 
-fn publish<A: Archive, T: Wait>(
+fn publish<A: Cells, T: Wait>(
     alloc: Global,
     rt: &T,
     keeper: &mut Keeper<A>,
@@ -263,7 +263,7 @@ fn publish<A: Archive, T: Wait>(
     ending(alloc, published)
 }
 
-fn put<A: Archive>(
+fn put<A: Cells>(
     alloc: Global,
     keeper: &mut Keeper<A>,
     settings: &Settings,
@@ -281,7 +281,7 @@ fn put<A: Archive>(
     Ok((ending, Vec::new(alloc)))
 }
 
-fn join<A: Archive>(
+fn join<A: Cells>(
     alloc: Global,
     keeper: &mut Keeper<A>,
     settings: &Settings,
@@ -294,7 +294,7 @@ fn join<A: Archive>(
     ending(alloc, joined)
 }
 
-fn save<A: Archive>(alloc: Global, keeper: &Keeper<A>, settings: &Settings) -> Result<Answer> {
+fn save<A: Cells>(alloc: Global, keeper: &Keeper<A>, settings: &Settings) -> Result<Answer> {
     let mut sink = settings.sink(alloc)?;
     begin(alloc, settings.growths);
     let saved = keeper.save(alloc, &mut sink);
@@ -306,12 +306,12 @@ fn save<A: Archive>(alloc: Global, keeper: &Keeper<A>, settings: &Settings) -> R
     Ok((text_of(alloc, ending)?, hex_line(alloc, &written(sink))?))
 }
 
-fn names<A: Archive>(alloc: Global, keeper: &Keeper<A>) -> Result<Answer> {
+fn names<A: Cells>(alloc: Global, keeper: &Keeper<A>) -> Result<Answer> {
     let count = keeper.names(alloc, 0, 256)?.len();
     Ok((format!(in alloc; "{count}")?, Vec::new(alloc)))
 }
 
-fn cells<A: Archive>(alloc: Global, reader: &mut Reader<A>) -> Result<Answer> {
+fn cells<A: Cells>(alloc: Global, reader: &mut Reader<A>) -> Result<Answer> {
     let Ok(cells) = reader.difference(alloc, &[]) else {
         bail!("out of memory");
     };

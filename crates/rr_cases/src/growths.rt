@@ -13,7 +13,7 @@ use crate::case::Case;
 use crate::documents::texts;
 use crate::kind::LAST;
 use anyhow::{Result, bail};
-use rr_archive::Archive;
+use rr_archive::Cells;
 use rr_fakes::refusing::{has_refused, refuse_after, refuse_none};
 use std::alloc::Global;
 use std::sync::Wait;
@@ -87,7 +87,7 @@ impl Expected {
 
 /// The first answer of a case over a kind of archive that may not come, if there is one. Counts the
 /// growths that are refused.
-pub(crate) fn unexpected<A: Archive, T: Wait>(
+pub(crate) fn unexpected<A: Cells, T: Wait>(
     alloc: Global,
     rt: &T,
     case: &Case,

@@ -2,7 +2,7 @@
 
 use crate::{cells, configs, desks, documents, faults, keys, lines, pages, replicas, scripts};
 use anyhow::{Result, bail};
-use rr_archive::Archive;
+use rr_archive::Cells;
 use std::alloc::Global;
 use std::sync::Wait;
 
@@ -59,7 +59,7 @@ impl Kind {
     /// the file has `{n}`, that is what they answer with 0, 1, 2 and so on in its place, without answers that
     /// are like the one before, up to the one that no number changes any more. A line `---` stands between
     /// two.
-    pub(crate) fn output<A: Archive, T: Wait>(
+    pub(crate) fn output<A: Cells, T: Wait>(
         self,
         alloc: Global,
         rt: &T,
@@ -71,7 +71,7 @@ impl Kind {
         }
     }
 
-    fn outputs_in_turn<A: Archive, T: Wait>(
+    fn outputs_in_turn<A: Cells, T: Wait>(
         self,
         alloc: Global,
         rt: &T,
@@ -96,7 +96,7 @@ impl Kind {
     }
 
     /// What they answer to a text with a number in the place of what stands for it.
-    pub(crate) fn output_at<A: Archive, T: Wait>(
+    pub(crate) fn output_at<A: Cells, T: Wait>(
         self,
         alloc: Global,
         rt: &T,
@@ -110,7 +110,7 @@ impl Kind {
     }
 
     /// What they answer to bytes as they are.
-    fn output_of<A: Archive, T: Wait>(
+    fn output_of<A: Cells, T: Wait>(
         self,
         alloc: Global,
         rt: &T,

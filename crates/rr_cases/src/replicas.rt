@@ -36,7 +36,7 @@ use crate::sides::{Side, giver, puller, push_steps};
 use crate::stored::{loaded, push_saved};
 use crate::words::Words;
 use anyhow::{Context, Result, bail};
-use rr_archive::Archive;
+use rr_archive::Cells;
 use rr_base::{ArchiveSpec, Origin, Schema};
 use rr_cells::{Cell, CellRef};
 use rr_contrib::Contribution;
@@ -90,7 +90,7 @@ const WIDE: [ArchiveSpec; 3] = [
 ];
 
 /// What the calls answer.
-pub(crate) fn answers<A: Archive>(alloc: Global, input: &[u8]) -> Result<Vec<u8>> {
+pub(crate) fn answers<A: Cells>(alloc: Global, input: &[u8]) -> Result<Vec<u8>> {
     let mut lines = str::from_utf8(input)?.lines();
     let count = lines.next().context("an empty file")?;
     let mut calls: Calls<A> = Calls::new(alloc, replica_of(alloc, count)?);
@@ -113,7 +113,7 @@ fn archives_of(name: &str) -> Option<&'static [ArchiveSpec]> {
 }
 
 /// A replica with the archives that a text names.
-fn replica_of<A: Archive>(alloc: Global, name: &str) -> Result<Replica<A>> {
+fn replica_of<A: Cells>(alloc: Global, name: &str) -> Result<Replica<A>> {
     let archives = archives_of(name).context("no such archives")?;
     let schema = Schema::new(alloc, 60, archives)?;
     Ok(Replica::new(alloc, &schema, Origin::new(1)?)?)
@@ -121,13 +121,13 @@ fn replica_of<A: Archive>(alloc: Global, name: &str) -> Result<Replica<A>> {
 
 /// A replica, and what its calls have answered.
 #[derive(Drop)]
-struct Calls<A: Archive> {
+struct Calls<A: Cells> {
     alloc: Global,
     replica: Replica<A>,
     output: String,
 }
 
-impl<A: Archive> Calls<A> {
+impl<A: Cells> Calls<A> {
     fn new(alloc: Global, replica: Replica<A>) -> Calls<A> {
         Calls {
             alloc,

@@ -3,12 +3,12 @@
 use crate::changes::setting;
 use crate::growths::{begin, end};
 use anyhow::Result;
-use rr_archive::Archive;
+use rr_archive::Cells;
 use rr_cluster::{RunFault, run_on};
 use std::alloc::Global;
 
 /// What a script prints; where memory runs out a line says so.
-pub(crate) fn answers<A: Archive>(alloc: Global, input: &[u8]) -> Result<Vec<u8>> {
+pub(crate) fn answers<A: Cells>(alloc: Global, input: &[u8]) -> Result<Vec<u8>> {
     let growths = growths_of(input)?;
     begin(alloc, growths);
     let output = run_on::<A>(alloc, input);

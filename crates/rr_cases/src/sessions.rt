@@ -8,7 +8,7 @@ use crate::growths::{begin, end};
 use crate::settings::written;
 use crate::words::Words;
 use anyhow::{Context, Result};
-use rr_archive::Archive;
+use rr_archive::Cells;
 use rr_base::{Counted, Failing};
 use rr_fakes::pieces::{Pieces, failing_after};
 use rr_fakes::room::{Room, failing_room};
@@ -71,7 +71,7 @@ pub(crate) enum Session {
 }
 
 /// Pulls, within a limit of frames if there is one.
-fn pull_some<A: Archive>(
+fn pull_some<A: Cells>(
     alloc: Global,
     frames: Option<u16>,
     input: &mut Input<'_>,
@@ -85,7 +85,7 @@ fn pull_some<A: Archive>(
 }
 
 /// Gives, within a limit of frames if there is one.
-fn give_some<A: Archive>(
+fn give_some<A: Cells>(
     alloc: Global,
     frames: Option<u16>,
     input: &mut Input<'_>,
@@ -99,7 +99,7 @@ fn give_some<A: Archive>(
 }
 
 /// Gives after a first byte, within a limit of frames if there is one.
-fn give_some_after<A: Archive>(
+fn give_some_after<A: Cells>(
     alloc: Global,
     first: u8,
     frames: Option<u16>,
@@ -114,7 +114,7 @@ fn give_some_after<A: Archive>(
 }
 
 /// Holds a session over the input that the words have, and adds its ending.
-pub(crate) fn push_session<A: Archive>(
+pub(crate) fn push_session<A: Cells>(
     alloc: Global,
     session: Session,
     replica: &mut Replica<A>,

@@ -11,7 +11,7 @@
 use crate::growths::{begin, end};
 use crate::words::Words;
 use anyhow::Result;
-use rr_archive::Archive;
+use rr_archive::Cells;
 use rr_gossip::{Giver, GossipFault, Puller};
 use rr_replica::Replica;
 use std::alloc::Global;
@@ -40,7 +40,7 @@ pub(crate) fn puller(frames: Option<u16>) -> Side {
 }
 
 impl Side {
-    fn next_frame<A: Archive>(
+    fn next_frame<A: Cells>(
         &mut self,
         alloc: Global,
         replica: &mut Replica<A>,
@@ -51,7 +51,7 @@ impl Side {
         }
     }
 
-    fn take<A: Archive>(
+    fn take<A: Cells>(
         &mut self,
         alloc: Global,
         frame: &[u8],
@@ -65,7 +65,7 @@ impl Side {
 }
 
 /// Does what the words say, one after the other, and adds a line for each.
-pub(crate) fn push_steps<A: Archive>(
+pub(crate) fn push_steps<A: Cells>(
     alloc: Global,
     mut side: Side,
     replica: &mut Replica<A>,

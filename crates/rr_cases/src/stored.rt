@@ -4,7 +4,7 @@ use crate::growths::{begin, end};
 use crate::settings::written;
 use crate::words::Words;
 use anyhow::Result;
-use rr_archive::Archive;
+use rr_archive::Cells;
 use rr_base::Schema;
 use rr_fakes::pieces::failing_after;
 use rr_fakes::room::failing_room;
@@ -14,7 +14,7 @@ use std::alloc::Global;
 
 /// Adds the bytes that were written as a replica was saved, in hexadecimal, and how that ended. The words
 /// are how many bytes a write takes, and how many writes there are before one fails.
-pub(crate) fn push_saved<A: Archive>(
+pub(crate) fn push_saved<A: Cells>(
     alloc: Global,
     replica: &Replica<A>,
     mut words: Words<'_>,
@@ -37,7 +37,7 @@ pub(crate) fn push_saved<A: Archive>(
 /// The replica that the bytes of some words are loaded as, if they are one; and adds how that ended. The
 /// words are its origin, how many bytes a read gives, how many reads there are before one fails, and
 /// the bytes.
-pub(crate) fn loaded<A: Archive>(
+pub(crate) fn loaded<A: Cells>(
     alloc: Global,
     schema: &Schema,
     mut words: Words<'_>,
@@ -55,7 +55,7 @@ pub(crate) fn loaded<A: Archive>(
 }
 
 /// The replica that was loaded, if one was; and adds how that ended, with how many reads failed.
-fn ending_of<A: Archive>(
+fn ending_of<A: Cells>(
     replica: Result<Replica<A>, LoadFault>,
     failures: u64,
     answer: &mut String,

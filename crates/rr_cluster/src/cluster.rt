@@ -3,7 +3,7 @@
 ghost use Rattle.rr_schema.specs.Schema.{IsLayout};
 
 use crate::stop::Stop;
-use rr_archive::Archive;
+use rr_archive::Cells;
 use rr_replica::Replica;
 use rr_schema::Schema;
 use std::alloc::Global;
@@ -11,7 +11,7 @@ use std::collections::{BTreeMap, BTreeSet};
 
 /// The replicas of a script whose schema is set.
 #[derive(Drop)]
-pub(crate) struct Cluster<A: Archive> {
+pub(crate) struct Cluster<A: Cells> {
     pub(crate) alloc: Global,
     pub(crate) schema: Schema,
     /// The time of a point that has none of its own, in nanoseconds since the Unix epoch.
@@ -29,7 +29,7 @@ pub(crate) struct Cluster<A: Archive> {
     ghost within: { IsLayout schema },
 }
 
-impl<A: Archive> Cluster<A> {
+impl<A: Cells> Cluster<A> {
     ghost use Rattle.std.specs.Prelude.{◌≡◌, Ok};
     ghost use Rattle.rr_cells.specs.Cells.{Cells};
     ghost use Rattle.rr_cluster.specs.Meaning.{node_in, HasPageText, Leaves, Represents};

@@ -34,7 +34,7 @@ use load::load_node;
 use node::add_node;
 use now::set_clock;
 use page::add_page;
-use rr_archive::Archive;
+use rr_archive::Cells;
 use rr_script::Event;
 use save::save_node;
 use schema::schema_of;
@@ -44,7 +44,7 @@ use write::write_line;
 
 /// Obeys a command, and adds what it prints to the text. Until the schema is set there is no
 /// cluster.
-pub(crate) fn obey<A: Archive>(
+pub(crate) fn obey<A: Cells>(
     alloc: Global,
     cluster: &mut Option<Cluster<A>>,
     event: Event<'_>,
@@ -66,7 +66,7 @@ pub(crate) fn obey<A: Archive>(
 }
 
 /// Obeys the first command, which has to be `schema`.
-fn begin<A: Archive>(alloc: Global, event: Event<'_>) -> Result<Cluster<A>, Stop>
+fn begin<A: Cells>(alloc: Global, event: Event<'_>) -> Result<Cluster<A>, Stop>
     ensures { Begins result (step cell_model None (view_of event.entry)) }
 {
     match event {
@@ -79,7 +79,7 @@ fn begin<A: Archive>(alloc: Global, event: Event<'_>) -> Result<Cluster<A>, Stop
 }
 
 /// Obeys a command once the schema is set.
-fn obey_later<A: Archive>(
+fn obey_later<A: Cells>(
     cluster: &mut Cluster<A>,
     event: Event<'_>,
     text: &mut Vec<u8>,

@@ -12,7 +12,7 @@ use crate::cluster::Cluster;
 use crate::commands::obey;
 use crate::fault::{CommandFault, RunFault};
 use crate::stop::Stop;
-use rr_archive::Archive;
+use rr_archive::Cells;
 use rr_records::push_refusal;
 use rr_ring::RingArchive;
 use rr_script::{ScriptLine, parse_script};
@@ -32,7 +32,7 @@ pub fn run(alloc: Global, script: &[u8]) -> Result<Vec<u8>, RunFault>
 }
 
 /// What a script prints, as [`run`] says, with the series of all nodes in archives of this kind.
-pub fn run_on<A: Archive>(alloc: Global, script: &[u8]) -> Result<Vec<u8>, RunFault>
+pub fn run_on<A: Cells>(alloc: Global, script: &[u8]) -> Result<Vec<u8>, RunFault>
     ensures cells { IfOk result (λ text. text.items ≡ output_of cell_model script.now) }
     ensures samples { IfOk result (λ text. text.items ≡ output_of sample_model script.now) }
 {
@@ -46,7 +46,7 @@ pub fn run_on<A: Archive>(alloc: Global, script: &[u8]) -> Result<Vec<u8>, RunFa
 }
 
 /// Obeys a line, and adds what it prints to the text.
-fn obey_line<A: Archive>(
+fn obey_line<A: Cells>(
     alloc: Global,
     cluster: &mut Option<Cluster<A>>,
     line: &ScriptLine<'_>,

@@ -14,7 +14,7 @@ use crate::shown::{Change, CopyState, Hinted, Shown};
 use crate::writing::{DeskWriter, mark, publish};
 use core::mem::replace_with;
 use left_right::Absorb;
-use rr_archive::Archive;
+use rr_archive::Cells;
 use rr_cells::Op;
 use rr_replica::{Hint, Replica};
 use std::alloc::AllocError;
@@ -25,7 +25,7 @@ use std::sync::Wait;
 /// turn, with what is published.
 ///
 /// It is not `Drop`: it ends by [`Copies::close`].
-pub struct Copies<A: Archive>
+pub struct Copies<A: Cells>
 where
     Shown<A>: Absorb<Change, State = CopyState>,
 {
@@ -36,7 +36,7 @@ where
     marked: bool,
 }
 
-impl<A: Archive> Model for Copies<A>
+impl<A: Cells> Model for Copies<A>
 where
     Shown<A>: Absorb<Change, State = CopyState>,
 {
@@ -63,7 +63,7 @@ where
         k.writer.desk.shown.value.front k.book (changes k.writer) k.marked };
 }
 
-impl<A: Archive> Copies<A> {
+impl<A: Cells> Copies<A> {
     /// A replica beside its two copies, which are opened, with their book.
     pub fn new(writer: DeskWriter<A>, own: Replica<A>, book: Editions) -> Copies<A>
         requires holds { IsHolding (held own) }

@@ -13,7 +13,7 @@ ghost use Rattle.rr_copies.specs.declared.shown.Change.TheVariants.{Mark};
 use crate::book::{Batch, Editions};
 use crate::shown::{Change, Shown};
 use crate::writing::{DeskWriter, start};
-use rr_archive::Archive;
+use rr_archive::Cells;
 use rr_replica::Replica;
 use rr_text::limits::MAX_READERS;
 use std::alloc::{AllocError, Global};
@@ -21,7 +21,7 @@ use std::marker::Brand;
 use std::sync::Wait;
 
 /// `first_edition`, of the operations that are picked.
-fn first_batch<A: Archive, K: Batch>(
+fn first_batch<A: Cells, K: Batch>(
     book: &mut Editions,
     replica: &Replica<A>,
 ) -> Result<(), AllocError>
@@ -35,7 +35,7 @@ fn first_batch<A: Archive, K: Batch>(
 }
 
 /// Adds the first edition, of one join for each cell of a replica.
-fn first_edition<A: Archive>(book: &mut Editions, replica: &Replica<A>) -> Result<(), AllocError>
+fn first_edition<A: Cells>(book: &mut Editions, replica: &Replica<A>) -> Result<(), AllocError>
     requires fresh { book.old.editions ≡ [] }
     ensures desk { book.new.desk ≡ book.old.desk }
     ensures added { OnOk result (flat book.new.editions ≡ joins_of replica.now.cells) }
@@ -44,7 +44,7 @@ fn first_edition<A: Archive>(book: &mut Editions, replica: &Replica<A>) -> Resul
 }
 
 /// A copy of a replica, which is not opened for readers yet.
-fn unopened<A: Archive>(
+fn unopened<A: Cells>(
     alloc: Global,
     replica: &Replica<A>,
     book: &Editions,
@@ -61,13 +61,13 @@ fn unopened<A: Archive>(
 }
 
 /// Lets a writer go whose desk isn't opened.
-pub fn discard<A: Archive, R: Wait>(writer: DeskWriter<A>, rt: &R) -> AllocError {
+pub fn discard<A: Cells, R: Wait>(writer: DeskWriter<A>, rt: &R) -> AllocError {
     drop(writer.take(rt));
     AllocError
 }
 
 /// A writer of two copies of a replica with room for `readers` readers, of which none can come yet.
-fn unopened_writer<A: Archive>(
+fn unopened_writer<A: Cells>(
     alloc: Global,
     replica: &Replica<A>,
     readers: usize,
@@ -85,7 +85,7 @@ fn unopened_writer<A: Archive>(
 }
 
 /// One whose pending change is a mark of the book, which gets its first edition.
-fn marked_writer<A: Archive, R: Wait>(
+fn marked_writer<A: Cells, R: Wait>(
     alloc: Global,
     rt: &R,
     replica: &Replica<A>,
@@ -109,7 +109,7 @@ fn marked_writer<A: Archive, R: Wait>(
 }
 
 /// A writer of two copies of a replica, to which up to `readers` readers may come.
-pub fn started_writer<A: Archive, R: Wait>(
+pub fn started_writer<A: Cells, R: Wait>(
     alloc: Global,
     rt: &R,
     replica: &Replica<A>,

@@ -9,14 +9,14 @@ use crate::book::Front;
 use crate::rule::{Enters, Published, View};
 use crate::shown::Shown;
 use left_right::reader::Reader;
-use rr_archive::Archive;
+use rr_archive::Cells;
 use std::alloc::AllocError;
 
 /// A reader's handle of the copies, which is at a seat of their table.
 pub type ReadHandle<A> = Reader<Shown<A>, View, Published>;
 
 /// Enters and leaves once.
-pub fn look<A: Archive>(seat: ReadHandle<A>) -> Result<ReadHandle<A>, ReadHandle<A>>
+pub fn look<A: Cells>(seat: ReadHandle<A>) -> Result<ReadHandle<A>, ReadHandle<A>>
     ensures { MatchResult result
         (λ s. Looked (view seat.place) (view s.place))
         (λ s. view s.place ≡ view seat.place) }
@@ -28,7 +28,7 @@ pub fn look<A: Archive>(seat: ReadHandle<A>) -> Result<ReadHandle<A>, ReadHandle
 }
 
 /// Enters and leaves once, and says whether what is then seen begins with what a front has.
-pub fn look_for<A: Archive>(
+pub fn look_for<A: Cells>(
     seat: ReadHandle<A>,
     front: &Front,
 ) -> (ReadHandle<A>, Result<(), AllocError>)

@@ -4,7 +4,7 @@ use crate::book::{Batch, DeskName};
 use crate::shown::Shown;
 use atomic_table::{Join, Split};
 use crossbeam_utils::rule::{Outcome, Protocol};
-use rr_archive::Archive;
+use rr_archive::Cells;
 use rr_cells::Op;
 use rr_schema::Schema;
 use std::collections::LinkedList;
@@ -29,7 +29,7 @@ pub struct View {
 /// The rule.
 pub struct Published;
 
-impl<A: Archive> Protocol<Shown<A>, View> for Published {
+impl<A: Cells> Protocol<Shown<A>, View> for Published {
     ghost use Rattle.rr_replica.specs.Standing.{held};
     ghost use Rattle.rr_copies.specs.Rule.{Keeps, newcomer};
 
@@ -41,7 +41,7 @@ impl<A: Archive> Protocol<Shown<A>, View> for Published {
 /// A reader enters.
 pub struct Enters;
 
-impl<A: Archive> Outcome<Shown<A>, View> for Enters {
+impl<A: Cells> Outcome<Shown<A>, View> for Enters {
     ghost use Rattle.rr_replica.specs.Standing.{held};
     ghost use Rattle.rr_copies.specs.Rule.{Sees};
 
@@ -51,7 +51,7 @@ impl<A: Archive> Outcome<Shown<A>, View> for Enters {
 /// The first publication: one join for each cell.
 pub struct Opens;
 
-impl<A: Archive> Outcome<Shown<A>, View> for Opens {
+impl<A: Cells> Outcome<Shown<A>, View> for Opens {
     ghost use Rattle.std.specs.Prelude.{◌≡◌};
     ghost use Rattle.rr_replica.specs.Standing.{held};
     ghost use Rattle.rr_copies.specs.Rule.{keeper_of};
@@ -64,7 +64,7 @@ pub struct Publishes<K> {
     of: PhantomData<K>,
 }
 
-impl<A: Archive, K: Batch> Outcome<Shown<A>, View> for Publishes<K> {
+impl<A: Cells, K: Batch> Outcome<Shown<A>, View> for Publishes<K> {
     ghost use Rattle.std.specs.Prelude.{◌≡◌};
     ghost use Rattle.rr_copies.specs.Rule.{with_published};
 

@@ -2,7 +2,7 @@
 
 use crate::book::Front;
 use left_right::Absorb;
-use rr_archive::Archive;
+use rr_archive::Cells;
 use rr_cells::Op;
 use rr_replica::{Hint, Replica};
 use rr_schema::{Origin, Schema};
@@ -37,7 +37,7 @@ pub enum Change {
 
 /// A copy of the replica, with the editions of the book that it has.
 #[derive(Drop)]
-pub struct Shown<A: Archive> {
+pub struct Shown<A: Cells> {
     /// The replica.
     pub replica: Replica<A>,
     /// Whether it has been opened for readers.
@@ -74,7 +74,7 @@ pub struct CopyState {
     pub front: Front,
 }
 
-impl<A: Archive> Absorb<Change> for Shown<A> {
+impl<A: Cells> Absorb<Change> for Shown<A> {
     ghost use Rattle.rr_copies.specs.Changes.{copy_after};
     ghost use Rattle.rr_replica.specs.Standing.{held};
 

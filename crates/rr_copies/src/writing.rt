@@ -17,7 +17,7 @@ use crate::read_handle::ReadHandle;
 use crate::rule::{Introduces, Opens, Published, Publishes, View};
 use crate::shown::{Change, Shown};
 use left_right::writer::Writer;
-use rr_archive::Archive;
+use rr_archive::Cells;
 use std::alloc::AllocError;
 use std::marker::Brand;
 use std::sync::Wait;
@@ -26,7 +26,7 @@ use std::sync::Wait;
 pub type DeskWriter<A> = Writer<Shown<A>, Change, View, Published>;
 
 /// The first publication: readers may come, and see one join for each cell. A mark alone is pending.
-pub fn start<A: Archive, R: Wait>(
+pub fn start<A: Cells, R: Wait>(
     rt: &R,
     writer: DeskWriter<A>,
     book: &Editions,
@@ -49,7 +49,7 @@ pub fn start<A: Archive, R: Wait>(
 }
 
 /// `publish`, of the operations that are picked.
-fn publish_batch<A: Archive, K: Batch, R: Wait>(
+fn publish_batch<A: Cells, K: Batch, R: Wait>(
     rt: &R,
     writer: DeskWriter<A>,
 ) -> (DeskWriter<A>, Result<(), AllocError>)
@@ -70,7 +70,7 @@ fn publish_batch<A: Archive, K: Batch, R: Wait>(
 }
 
 /// Shows readers all pending changes at one step. Where it is refused, they see what they saw.
-pub fn publish<A: Archive, R: Wait>(
+pub fn publish<A: Cells, R: Wait>(
     rt: &R,
     writer: DeskWriter<A>,
 ) -> (DeskWriter<A>, Result<(), AllocError>)
@@ -90,7 +90,7 @@ pub fn publish<A: Archive, R: Wait>(
 }
 
 /// `reach`, of the operations that are picked.
-fn reach_batch<A: Archive, K: Batch>(
+fn reach_batch<A: Cells, K: Batch>(
     book: &mut Editions,
     writer: &DeskWriter<A>,
 ) -> Result<(), AllocError>
@@ -109,7 +109,7 @@ fn reach_batch<A: Archive, K: Batch>(
 
 /// Adds an edition to the book of all that it lacks: it has what is published, and then all that is
 /// pending.
-fn reach<A: Archive>(book: &mut Editions, writer: &DeskWriter<A>) -> Result<(), AllocError>
+fn reach<A: Cells>(book: &mut Editions, writer: &DeskWriter<A>) -> Result<(), AllocError>
     requires begins { Begins (flat book.old.editions)
         ((view writer.now.desk.place).seen ++ ops_in (changes writer.now)) }
     ensures reached { OnOk result (flat book.new.editions
@@ -122,7 +122,7 @@ fn reach<A: Archive>(book: &mut Editions, writer: &DeskWriter<A>) -> Result<(), 
 
 /// Makes the pending changes ready to be published, unless they are `marked` already: the book has all
 /// of them, and the last is a mark of it.
-pub fn mark<A: Archive>(
+pub fn mark<A: Cells>(
     book: &mut Editions,
     writer: &mut DeskWriter<A>,
     marked: bool,
@@ -155,7 +155,7 @@ pub fn mark<A: Archive>(
 }
 
 /// Tells a new reader of the desk, and of what is published.
-pub fn introduce<A: Archive>(writer: &mut DeskWriter<A>, seat: &mut ReadHandle<A>)
+pub fn introduce<A: Cells>(writer: &mut DeskWriter<A>, seat: &mut ReadHandle<A>)
     requires { seat.old.place.table_id ≡ writer.old.desk.place.table_id }
     ensures told { view seat.new.place ≡ with_news (view seat.old.place) (view writer.old.desk.place) }
     ensures view { view writer.new.desk.place ≡ view writer.old.desk.place }

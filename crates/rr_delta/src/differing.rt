@@ -8,7 +8,7 @@ ghost use Rattle.rr_delta.specs.Names.{owned_name};
 ghost use Rattle.rr_delta.specs.Difference.{IsSummary, is_newer_than, newer_cell, newer_cells, names_from, first_version};
 
 use crate::name::Name;
-use rr_archive::Archive;
+use rr_archive::Cells;
 use rr_cells::{Cell, CellRef};
 use rr_replica::Replica;
 use std::alloc::{AllocError, Global};
@@ -73,7 +73,7 @@ fn push_newer(
 ///
 /// The replica and the summary are walked along side by side: the cost is that of
 /// `Replica::next_cell` for each cell, and linear in the summary.
-pub fn difference<A: Archive>(
+pub fn difference<A: Cells>(
     alloc: Global,
     replica: &Replica<A>,
     summary: &[Name],

@@ -7,13 +7,13 @@ ghost use Rattle.rr_delta.specs.Difference.{IsSummary};
 ghost use Rattle.rr_delta.specs.Summaries.{cells_after, cells_from};
 
 use crate::name::Name;
-use rr_archive::Archive;
+use rr_archive::Cells;
 use rr_cells::CellRef;
 use rr_replica::Replica;
 use std::alloc::{AllocError, Global};
 
 /// The names and versions of as many cells as `count` from one on; fewer where there are fewer.
-fn listed_from<'a, A: Archive>(
+fn listed_from<'a, A: Cells>(
     alloc: Global,
     replica: &'a Replica<A>,
     first: &CellRef<'a>,
@@ -45,7 +45,7 @@ fn listed_from<'a, A: Archive>(
 ///
 /// The cost is that of `Replica::cell_at` for the first, and for each further one that of
 /// `Replica::next_cell`.
-pub fn summary<A: Archive>(
+pub fn summary<A: Cells>(
     alloc: Global,
     replica: &Replica<A>,
     from: usize,
@@ -69,7 +69,7 @@ pub fn summary<A: Archive>(
 /// the name.
 ///
 /// The cost is that of `Replica::next_cell` for each of them.
-pub fn summary_after<A: Archive>(
+pub fn summary_after<A: Cells>(
     alloc: Global,
     replica: &Replica<A>,
     after: Option<&Name>,

@@ -12,7 +12,7 @@ ghost use Rattle.rr_delta.specs.Difference.{IsSummary, newer_cells};
 
 use crate::differing::difference;
 use crate::name::Name;
-use rr_archive::Archive;
+use rr_archive::Cells;
 use rr_cells::Cell;
 use rr_replica::Replica;
 use rr_schema::Schema;
@@ -50,7 +50,7 @@ pub trait Source {
     ghost may_go_on: { (x y z : Self) → may_become x y → may_become y z → may_become x z };
 }
 
-impl<A: Archive> Source for Replica<A> {
+impl<A: Cells> Source for Replica<A> {
     ghost layout = { λ r. r.schema };
 
     ghost cells = { λ r. r.cells };

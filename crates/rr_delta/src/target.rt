@@ -14,7 +14,7 @@ ghost use Rattle.rr_delta.specs.Summaries.{cells_after};
 
 use crate::listing::{summary, summary_after};
 use crate::name::Name;
-use rr_archive::Archive;
+use rr_archive::Cells;
 use rr_cells::Cell;
 use rr_replica::Replica;
 use rr_schema::Schema;
@@ -75,7 +75,7 @@ pub trait Target {
     ghost joins_in_map: { (x y : Self) (es : List NamedCell) → has_joined x y es → (layout y ≡ layout x) × (cells y ≡ join_cells (layout x) (cells x) es) };
 }
 
-impl<A: Archive> Target for Replica<A> {
+impl<A: Cells> Target for Replica<A> {
     ghost layout = { λ r. r.schema };
 
     ghost cells = { λ r. r.cells };

@@ -21,7 +21,7 @@ ghost use Rattle.rr_copies.specs.Standing.{cells_of, holding_of, with_all_publis
 
 use crate::note::Note;
 use left_right::Absorb;
-use rr_archive::Archive;
+use rr_archive::Cells;
 use rr_cells::{Cell, Op, Sample};
 use rr_copies::{Change, Copies, CopyState, Shown};
 use rr_delta::{Name, summary, summary_after};
@@ -39,7 +39,7 @@ use std::sync::Wait;
 /// The keeper of a desk. It has a replica of its own, with all operations, published or pending.
 ///
 /// It is not `Drop`: it ends by [`Keeper::close`].
-pub struct Keeper<A: Archive>
+pub struct Keeper<A: Cells>
 where
     Shown<A>: Absorb<Change, State = CopyState>,
 {
@@ -49,7 +49,7 @@ where
     pub(crate) text: Vec<u8>,
 }
 
-impl<A: Archive> Model for Keeper<A>
+impl<A: Cells> Model for Keeper<A>
 where
     Shown<A>: Absorb<Change, State = CopyState>,
 {
@@ -60,7 +60,7 @@ where
     ghost view = { λ k. k.copies };
 }
 
-impl<A: Archive> Keeper<A> {
+impl<A: Cells> Keeper<A> {
     /// The schema of all cells.
     pub fn schema(&self) -> &Schema
         ensures value { result.now ≡ self.now.schema }

@@ -15,7 +15,7 @@ ghost use Rattle.rr_desk.specs.declared.fault.OpenFault.TheVariants.{BadCount};
 use crate::fault::OpenFault;
 use crate::keeper::Keeper;
 use crate::reader::Reader;
-use rr_archive::Archive;
+use rr_archive::Cells;
 use rr_copies::{Copies, DeskWriter, Editions, discard, introduce, look, started_writer};
 use rr_replica::Replica;
 use rr_schema::Schema;
@@ -24,7 +24,7 @@ use std::alloc::{AllocError, Global};
 use std::sync::Wait;
 
 /// A reader that has seen what is published.
-fn seat<A: Archive>(
+fn seat<A: Cells>(
     writer: &mut DeskWriter<A>,
     alloc: Global,
     schema: &Schema,
@@ -50,7 +50,7 @@ fn seat<A: Archive>(
 }
 
 /// As many readers.
-fn seats<A: Archive>(
+fn seats<A: Cells>(
     writer: &mut DeskWriter<A>,
     alloc: Global,
     schema: &Schema,
@@ -73,7 +73,7 @@ fn seats<A: Archive>(
 }
 
 /// The two copies of a replica with all that a keeper needs besides, and their readers.
-fn begin<A: Archive, R: Wait>(
+fn begin<A: Cells, R: Wait>(
     alloc: Global,
     rt: &R,
     replica: &Replica<A>,
@@ -104,7 +104,7 @@ fn begin<A: Archive, R: Wait>(
 ///
 /// Refused as `BadCount` for another number of readers, and as `Memory`; a refusal hands the replica
 /// back unchanged. The cost is that of copying the replica twice.
-pub fn open<A: Archive, R: Wait>(
+pub fn open<A: Cells, R: Wait>(
     alloc: Global,
     rt: &R,
     replica: Replica<A>,

@@ -7,14 +7,14 @@ ghost use Rattle.rr_point.specs.Point.{point_view};
 ghost use Rattle.rr_copies.specs.Standing.{holding_of};
 
 use crate::keeper::Keeper;
-use rr_archive::Archive;
+use rr_archive::Cells;
 use rr_key::SeriesKey;
 use rr_point::{Field, Point};
 use rr_replica::{WriteFault, is_ahead};
 use std::alloc::AllocError;
 use std::mem::replace;
 
-impl<A: Archive> Keeper<A> {
+impl<A: Cells> Keeper<A> {
     ghost use Rattle.rr_replica.specs.Writing.{is_ahead, lacks_numbers};
     ghost use Rattle.rr_desk.specs.Points.{put_before, with_put, with_puts};
 

@@ -17,7 +17,7 @@ use crate::fault::FetchFault;
 use crate::gate::Gate;
 use crate::note::Note;
 use crate::reading::{answer, lacking};
-use rr_archive::Archive;
+use rr_archive::Cells;
 use rr_cells::Cell;
 use rr_copies::{ReadHandle, look_for};
 use rr_delta::Name;
@@ -29,12 +29,12 @@ use std::marker::Model;
 /// A reader of a desk. It answers from what the keeper has published, on any thread, and waits for
 /// nobody.
 #[derive(Drop)]
-pub struct Reader<A: Archive> {
+pub struct Reader<A: Cells> {
     pub(crate) schema: Schema,
     pub(crate) seat: Option<ReadHandle<A>>,
 }
 
-impl<A: Archive> Model for Reader<A> {
+impl<A: Cells> Model for Reader<A> {
     ghost use Rattle.rr_desk.specs.Standing.{ReaderState, IsSeated, view_in};
 
     ghost Value = { ReaderState };
@@ -66,7 +66,7 @@ impl Gate for Open {
     fn after(&mut self) {}
 }
 
-impl<A: Archive> Reader<A> {
+impl<A: Cells> Reader<A> {
     /// The schema of all cells.
     pub fn schema(&self) -> &Schema
         ensures value { result.now ≡ self.now.schema }

@@ -15,7 +15,7 @@ ghost use Rattle.rr_desk.specs.Gate.{LetsPass};
 
 use crate::fault::FetchFault;
 use crate::gate::Gate;
-use rr_archive::Archive;
+use rr_archive::Cells;
 use rr_cells::Cell;
 use rr_copies::{Enters, ReadHandle};
 use rr_delta::{Name, difference};
@@ -23,7 +23,7 @@ use rr_fetch::{Request, answer_text};
 use std::alloc::{AllocError, Global};
 
 /// The answer to a request from the copy that is shown, if the gate lets it be made.
-pub fn answer<A: Archive, G: Gate>(
+pub fn answer<A: Cells, G: Gate>(
     seat: ReadHandle<A>,
     alloc: Global,
     request: &Request,
@@ -53,7 +53,7 @@ pub fn answer<A: Archive, G: Gate>(
 }
 
 /// The cells of the copy that is shown which a summary lacks.
-pub fn lacking<A: Archive>(
+pub fn lacking<A: Cells>(
     seat: ReadHandle<A>,
     alloc: Global,
     summary: &[Name],

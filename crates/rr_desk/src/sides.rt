@@ -2,13 +2,13 @@
 
 use crate::keeper::Keeper;
 use crate::reader::Reader;
-use rr_archive::Archive;
+use rr_archive::Cells;
 use rr_cells::Cell;
 use rr_delta::{Name, Source, Target};
 use rr_schema::Schema;
 use std::alloc::{AllocError, Global};
 
-impl<A: Archive> Target for Keeper<A> {
+impl<A: Cells> Target for Keeper<A> {
     ghost use Rattle.std.specs.Prelude.{refl};
     ghost use Rattle.rr_copies.specs.Standing.{cells_of};
     ghost use Rattle.rr_desk.specs.Joining.{map_joined, then_joined};
@@ -48,7 +48,7 @@ impl<A: Archive> Target for Keeper<A> {
     }
 }
 
-impl<A: Archive> Source for Reader<A> {
+impl<A: Cells> Source for Reader<A> {
     ghost use Rattle.std.specs.Prelude.{[], ◌++◌, refl};
     ghost use Rattle.std.proofs.Common.{◌∙◌, append_assoc, ap, sym};
     ghost use Rattle.std.proofs.lemmas.List.{append-nil};

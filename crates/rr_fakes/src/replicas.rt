@@ -1,7 +1,7 @@
 //! Replicas with rows of a minute.
 
 use anyhow::Result;
-use rr_archive::Archive;
+use rr_archive::Cells;
 use rr_base::{ArchiveSpec, Origin, Schema};
 use rr_key::SeriesKey;
 use rr_replica::Replica;
@@ -22,12 +22,12 @@ pub fn schema(alloc: Global, rows: u32) -> Result<Schema> {
 }
 
 /// A replica of an origin with `rows` rows of a minute that holds nothing.
-pub fn minutes<A: Archive>(alloc: Global, origin: u16, rows: u32) -> Result<Replica<A>> {
+pub fn minutes<A: Cells>(alloc: Global, origin: u16, rows: u32) -> Result<Replica<A>> {
     Ok(Replica::new(alloc, &schema(alloc, rows)?, Origin::new(origin)?)?)
 }
 
 /// Puts 7 at the beginning of each of the first minutes, `count` of them, of the key `m v`.
-fn fill<A: Archive>(replica: &mut Replica<A>, key: &SeriesKey, count: u32) -> Result<()> {
+fn fill<A: Cells>(replica: &mut Replica<A>, key: &SeriesKey, count: u32) -> Result<()> {
     for minute in 0..count {
         replica.put(key, i64::from(minute).saturating_mul(MINUTE), 7)?;
     }
@@ -35,14 +35,14 @@ fn fill<A: Archive>(replica: &mut Replica<A>, key: &SeriesKey, count: u32) -> Re
 }
 
 /// One that holds 7 at the beginning of each of the first minutes, `count` of them, of the key `m v`.
-pub fn filled<A: Archive>(alloc: Global, origin: u16, rows: u32, count: u32) -> Result<Replica<A>> {
+pub fn filled<A: Cells>(alloc: Global, origin: u16, rows: u32, count: u32) -> Result<Replica<A>> {
     let mut replica = minutes(alloc, origin, rows)?;
     fill(&mut replica, &SeriesKey::parse_text(alloc, b"m v")?, count)?;
     Ok(replica)
 }
 
 /// One with three rows that holds 7 at a minute after the epoch, of the key `m v`.
-pub fn one_sample<A: Archive>(alloc: Global, origin: u16) -> Result<Replica<A>> {
+pub fn one_sample<A: Cells>(alloc: Global, origin: u16) -> Result<Replica<A>> {
     let mut replica = minutes(alloc, origin, 3)?;
     let key = SeriesKey::parse_text(alloc, b"m v")?;
     replica.put(&key, MINUTE, 7)?;

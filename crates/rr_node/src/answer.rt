@@ -13,7 +13,7 @@ ghost use Rattle.rr_node.specs.Lines.{refused, verdict_of_point};
 ghost use Rattle.rr_point.specs.Key.{IsWritable};
 
 use crate::rules::Rules;
-use rr_archive::Archive;
+use rr_archive::Cells;
 use rr_desk::Keeper;
 use rr_feed::{FeedLine, LINE_TOO_LONG};
 use rr_host::Clock;
@@ -33,7 +33,7 @@ pub(crate) enum Answer {
 }
 
 /// Writes a point at the moment that the clock gives.
-fn write_point<A: Archive, C: Clock>(
+fn write_point<A: Cells, C: Clock>(
     keeper: &mut Keeper<A>,
     clock: &mut C,
     point: &Point<'_>,
@@ -54,7 +54,7 @@ fn write_point<A: Archive, C: Clock>(
 }
 
 /// Writes the point of a line, if it has one.
-fn write_line<A: Archive, C: Clock>(
+fn write_line<A: Cells, C: Clock>(
     alloc: Global,
     keeper: &mut Keeper<A>,
     clock: &mut C,
@@ -85,7 +85,7 @@ fn refusal(fault: LineFault) -> Result<Answer, AllocError>
 }
 
 /// Writes the point of an item, if it has one.
-pub(crate) fn write_item<A: Archive, C: Clock>(
+pub(crate) fn write_item<A: Cells, C: Clock>(
     alloc: Global,
     keeper: &mut Keeper<A>,
     clock: &mut C,

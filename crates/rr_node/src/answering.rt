@@ -9,7 +9,7 @@ ghost use Rattle.rr_desk.specs.Standing.{HasSeenMore};
 ghost use Rattle.rr_node.specs.Answering.{Next};
 ghost use Rattle.rr_node.specs.Fetches.{after_fetch, by_name, error_text, request_in, sight, IsAnswer, IsAnswered};
 
-use rr_archive::Archive;
+use rr_archive::Cells;
 use rr_desk::{FetchFault, Gate, Reader};
 use rr_feed::{Feed, FeedLine, LINE_TOO_LONG};
 use rr_fetch::{Request, RequestFault, parse_request};
@@ -47,7 +47,7 @@ fn error_text(alloc: Global, name: &str) -> Result<Vec<u8>, AllocError>
 }
 
 /// The answer to a request through a gate.
-fn answer_request<A: Archive, G: Gate>(
+fn answer_request<A: Cells, G: Gate>(
     alloc: Global,
     request: &Request,
     reader: &mut Reader<A>,
@@ -66,7 +66,7 @@ fn answer_request<A: Archive, G: Gate>(
 }
 
 /// The answer to a line, or its refusal.
-fn answer_line<A: Archive, G: Gate>(
+fn answer_line<A: Cells, G: Gate>(
     alloc: Global,
     line: &[u8],
     reader: &mut Reader<A>,
@@ -84,7 +84,7 @@ fn answer_line<A: Archive, G: Gate>(
 }
 
 /// The answer to an item, and an empty line.
-fn answer_item<A: Archive, G: Gate>(
+fn answer_item<A: Cells, G: Gate>(
     alloc: Global,
     item: FeedLine<'_>,
     reader: &mut Reader<A>,
@@ -103,7 +103,7 @@ fn answer_item<A: Archive, G: Gate>(
 }
 
 /// The answer to the next item of a feed, if it can be handed out.
-pub(crate) fn next_answer<A: Archive, G: Gate>(
+pub(crate) fn next_answer<A: Cells, G: Gate>(
     alloc: Global,
     feed: &mut Feed,
     reader: &mut Reader<A>,

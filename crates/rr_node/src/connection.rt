@@ -16,7 +16,7 @@ use crate::answer::{Answer, write_item};
 use crate::fault::NodeFault;
 use crate::report::{Report, push_report};
 use crate::rules::{LINES_TO_PUBLISH, Rules};
-use rr_archive::Archive;
+use rr_archive::Cells;
 use rr_desk::Keeper;
 use rr_feed::Feed;
 use rr_host::Clock;
@@ -108,7 +108,7 @@ impl Connection {
     }
 
     /// Publishes what is pending after each 1,000 lines.
-    fn publish_in_turn<A: Archive, T: Wait>(
+    fn publish_in_turn<A: Cells, T: Wait>(
         &self,
         keeper: &mut Keeper<A>,
         rt: &T,
@@ -123,7 +123,7 @@ impl Connection {
     }
 
     /// Hands the lines that came to the keeper, and adds what is answered to them.
-    fn write_lines<A: Archive, C: Clock, T: Wait>(
+    fn write_lines<A: Cells, C: Clock, T: Wait>(
         &mut self,
         answers: &mut Vec<u8>,
         keeper: &mut Keeper<A>,
@@ -148,7 +148,7 @@ impl Connection {
     }
 
     /// Hands the lines that came to the keeper, and writes what is answered to them.
-    pub(crate) fn answer_lines<A: Archive, C: Clock, W: Write, T: Wait>(
+    pub(crate) fn answer_lines<A: Cells, C: Clock, W: Write, T: Wait>(
         &mut self,
         output: &mut Counted<W>,
         keeper: &mut Keeper<A>,
@@ -174,7 +174,7 @@ impl Connection {
     }
 
     /// Serves what is left once the input is at its end, publishes all, and writes the report.
-    pub(crate) fn finish<A: Archive, C: Clock, W: Write, T: Wait>(
+    pub(crate) fn finish<A: Cells, C: Clock, W: Write, T: Wait>(
         &mut self,
         output: &mut Counted<W>,
         keeper: &mut Keeper<A>,

@@ -10,7 +10,7 @@ use crate::connection::Connection;
 use crate::fault::NodeFault;
 use crate::report::Report;
 use crate::rules::Rules;
-use rr_archive::Archive;
+use rr_archive::Cells;
 use rr_desk::Keeper;
 use rr_host::Clock;
 use rr_io::Counted;
@@ -38,7 +38,7 @@ const _: () = prove!(PIECE == 65_536);
 /// However a call ends, what was put stays, published or pending, and what is written is a front of
 /// the whole answer. The cost is that of reading and writing each line; a piece of the input, one line
 /// and the answers to the lines of that piece are held.
-pub fn serve_lines<A: Archive, R: Read, W: Write, C: Clock, T: Wait>(
+pub fn serve_lines<A: Cells, R: Read, W: Write, C: Clock, T: Wait>(
     alloc: Global,
     input: &mut Counted<R>,
     output: &mut Counted<W>,
@@ -87,7 +87,7 @@ pub fn serve_lines<A: Archive, R: Read, W: Write, C: Clock, T: Wait>(
 /// Each call of the reader is a read: one that a signal interrupted, and the one that gives no byte
 /// and so tells the end. `TooManyReads` is answered after `reads` of them none of which told the
 /// end, and no further call is made.
-pub fn serve_lines_within<A: Archive, R: Read, W: Write, C: Clock, T: Wait>(
+pub fn serve_lines_within<A: Cells, R: Read, W: Write, C: Clock, T: Wait>(
     alloc: Global,
     input: &mut Counted<R>,
     output: &mut Counted<W>,

@@ -9,7 +9,7 @@ ghost use Rattle.rr_node.specs.Seats.{served};
 use crate::fault::NodeFault;
 use crate::rounds::keep_or_halt;
 use crate::shelf::Shelf;
-use rr_archive::Archive;
+use rr_archive::Cells;
 use rr_config::Config;
 use rr_desk::Keeper;
 use rr_host::{Clock, Dial, Halt, Visits};
@@ -46,7 +46,7 @@ pub trait Seats {
 /// Refused as `Memory` alone, where it ran out on one of the threads, which then ended early. `halt` is called
 /// exactly where it ran out in the rounds, so that the seats end early too.
 pub fn serve_node<
-    A: Archive,
+    A: Cells,
     V: Visits,
     D: Dial,
     S: Shelf,

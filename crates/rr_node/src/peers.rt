@@ -9,14 +9,14 @@ ghost use Rattle.rr_node.specs.Peers.{EndsPull, EndsPulls, fault_in};
 use crate::fault::NodeFault;
 use crate::pull::pull_peer;
 use crate::shelf::Shelf;
-use rr_archive::Archive;
+use rr_archive::Cells;
 use rr_desk::Keeper;
 use rr_host::Dial;
 use std::alloc::{AllocError, Global};
 use std::sync::Wait;
 
 /// Pulls from the peer at an address.
-fn pull_from<A: Archive, D: Dial, T: Wait>(
+fn pull_from<A: Cells, D: Dial, T: Wait>(
     alloc: Global,
     address: &str,
     dial: &mut D,
@@ -48,7 +48,7 @@ fn skipped(pulled: Result<(), NodeFault>) -> Result<Option<NodeFault>, AllocErro
 
 /// Pulls from each peer, in their order. A fault other than `Memory` is told to the shelf, and ends no
 /// other pull.
-pub(crate) fn pull_peers<A: Archive, D: Dial, S: Shelf, T: Wait>(
+pub(crate) fn pull_peers<A: Cells, D: Dial, S: Shelf, T: Wait>(
     alloc: Global,
     peers: &[String],
     dial: &mut D,

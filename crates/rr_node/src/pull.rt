@@ -5,7 +5,7 @@ ghost use Rattle.std.specs.Io.KnownBytes.{IsAtEnd};
 ghost use Rattle.rr_io.specs.Counted.{inner_of, failures_of, HasRisen};
 ghost use Rattle.rr_node.specs.Pull.{HasPulledAll, HasStoppedPulling};
 
-use rr_archive::Archive;
+use rr_archive::Cells;
 use rr_desk::Keeper;
 use rr_gossip::{GossipFault, pull};
 use rr_io::Counted;
@@ -20,7 +20,7 @@ use std::sync::Wait;
 /// The faults are those of `pull`. After one of them the joins of the cells so far stay pending, in order,
 /// to be published with what comes later; so they do where memory runs out for the publication, which is
 /// `Memory` too. It waits for readers as [`Keeper::publish`] does.
-pub fn pull_peer<A: Archive, R: Read, W: Write, T: Wait>(
+pub fn pull_peer<A: Cells, R: Read, W: Write, T: Wait>(
     alloc: Global,
     input: &mut Counted<R>,
     output: &mut Counted<W>,

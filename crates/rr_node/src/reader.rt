@@ -14,7 +14,7 @@ ghost use Rattle.rr_node.specs.Fetches.{sight, is_pull, HasAnswered, HasAnswered
 
 use crate::answering::next_answer;
 use crate::fault::NodeFault;
-use rr_archive::Archive;
+use rr_archive::Cells;
 use rr_desk::{Gate, Reader};
 use rr_feed::{Feed, FeedFault};
 use rr_gossip::{GossipFault, give_after};
@@ -62,7 +62,7 @@ fn push(feed: &mut Feed, piece: &[u8]) -> Result<(), AllocError>
 
 /// Writes the answers to the items that can be handed out, each before the next is made, and passes
 /// them on.
-fn answer_items<A: Archive, W: Write, G: Gate>(
+fn answer_items<A: Cells, W: Write, G: Gate>(
     alloc: Global,
     feed: &mut Feed,
     output: &mut Counted<W>,
@@ -88,7 +88,7 @@ fn answer_items<A: Archive, W: Write, G: Gate>(
 }
 
 /// Answers lines, of which the first byte is read already, within a number of reads.
-fn answer_lines<A: Archive, R: Read, W: Write, G: Gate>(
+fn answer_lines<A: Cells, R: Read, W: Write, G: Gate>(
     alloc: Global,
     first: u8,
     input: &mut Counted<R>,
@@ -131,7 +131,7 @@ fn answer_lines<A: Archive, R: Read, W: Write, G: Gate>(
 }
 
 /// Answers a session in which the other side pulls, after its first byte, which is 0.
-fn give_session<A: Archive, R: Read, W: Write>(
+fn give_session<A: Cells, R: Read, W: Write>(
     alloc: Global,
     input: &mut Counted<R>,
     output: &mut Counted<W>,
@@ -168,7 +168,7 @@ fn give_session<A: Archive, R: Read, W: Write>(
 /// The connection ends as `ReadFailed`, as `WriteFailed`, as `TooManyReads` after 4,294,967,295 reads
 /// that did not reach the end, and as `Memory`; a front of the answers is then written. The cost is
 /// that of the fetches, and linear in the bytes; a line, a piece of the input and one answer are held.
-pub fn serve_reader<A: Archive, R: Read, W: Write, G: Gate>(
+pub fn serve_reader<A: Cells, R: Read, W: Write, G: Gate>(
     alloc: Global,
     input: &mut Counted<R>,
     output: &mut Counted<W>,

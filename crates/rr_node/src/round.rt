@@ -13,7 +13,7 @@ use crate::peers::pull_peers;
 use crate::report::Report;
 use crate::saving::save_to;
 use crate::shelf::Shelf;
-use rr_archive::Archive;
+use rr_archive::Cells;
 use rr_config::Config;
 use rr_desk::Keeper;
 use rr_host::{Clock, Dial, Visit, Visits};
@@ -31,7 +31,7 @@ fn goes_on(served: Result<Report, NodeFault>) -> Result<(), AllocError>
 }
 
 /// Serves the lines of the next connection, and answers whether there was one: one that failed is.
-fn take_lines<A: Archive, V: Visits, C: Clock, T: Wait>(
+fn take_lines<A: Cells, V: Visits, C: Clock, T: Wait>(
     alloc: Global,
     keeper: &mut Keeper<A>,
     lines: &mut V,
@@ -70,7 +70,7 @@ fn take_lines<A: Archive, V: Visits, C: Clock, T: Wait>(
 /// A fault of the connection ends the connection alone. A peer that can't be reached or whose pull fails
 /// is passed over, and a save that fails too; both are told to the shelf. `Memory` ends the round there;
 /// there is no other fault. Each stream that was given is handed back.
-pub fn keep_round<A: Archive, V: Visits, D: Dial, S: Shelf, C: Clock, T: Wait>(
+pub fn keep_round<A: Cells, V: Visits, D: Dial, S: Shelf, C: Clock, T: Wait>(
     alloc: Global,
     keeper: &mut Keeper<A>,
     lines: &mut V,

@@ -7,7 +7,7 @@ ghost use Rattle.rr_node.specs.Rounds.{HasKept, halts, post, rounds_of};
 use crate::fault::NodeFault;
 use crate::round::keep_round;
 use crate::shelf::Shelf;
-use rr_archive::Archive;
+use rr_archive::Cells;
 use rr_config::Config;
 use rr_desk::Keeper;
 use rr_host::{Clock, Dial, Halt, Visits};
@@ -27,7 +27,7 @@ fn most_rounds(config: &Config) -> u64
 
 /// Keeps rounds, one after the other, until no connection will come, until memory runs out, or until
 /// there were as many as the configuration has.
-fn keep_rounds<A: Archive, V: Visits, D: Dial, S: Shelf, C: Clock, T: Wait>(
+fn keep_rounds<A: Cells, V: Visits, D: Dial, S: Shelf, C: Clock, T: Wait>(
     alloc: Global,
     keeper: &mut Keeper<A>,
     lines: &mut V,
@@ -50,7 +50,7 @@ fn keep_rounds<A: Archive, V: Visits, D: Dial, S: Shelf, C: Clock, T: Wait>(
 }
 
 /// Keeps rounds, and halts the node where memory runs out.
-pub(crate) fn keep_or_halt<A: Archive, V: Visits, D: Dial, S: Shelf, H: Halt, C: Clock, T: Wait>(
+pub(crate) fn keep_or_halt<A: Cells, V: Visits, D: Dial, S: Shelf, H: Halt, C: Clock, T: Wait>(
     alloc: Global,
     keeper: &mut Keeper<A>,
     lines: &mut V,

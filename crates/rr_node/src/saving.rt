@@ -6,7 +6,7 @@ ghost use Rattle.rr_node.specs.Shelf.{ShelfCall};
 ghost use Rattle.rr_node.specs.Saving.{EndsSave, sufficed, told_of_save};
 
 use crate::shelf::{Opening, Shelf};
-use rr_archive::Archive;
+use rr_archive::Cells;
 use rr_desk::Keeper;
 use rr_snapshot::SaveFault;
 use std::alloc::{AllocError, Global};
@@ -28,7 +28,7 @@ fn tell<S: Shelf>(shelf: &mut S, saved: Result<(), SaveFault>) -> Result<(), All
 
 /// Saves a snapshot of the keeper's replica, where the shelf wants one. A fault other than `Memory` is
 /// told to the shelf.
-pub(crate) fn save_to<A: Archive, S: Shelf>(
+pub(crate) fn save_to<A: Cells, S: Shelf>(
     alloc: Global,
     shelf: &mut S,
     keeper: &Keeper<A>,

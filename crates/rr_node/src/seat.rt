@@ -7,14 +7,14 @@ ghost use Rattle.rr_host.specs.Visits.{Call, HasCalled};
 
 use crate::fault::NodeFault;
 use crate::reader::serve_reader;
-use rr_archive::Archive;
+use rr_archive::Cells;
 use rr_desk::{Gate, Reader};
 use rr_host::{Visit, Visits};
 use std::alloc::{AllocError, Global};
 
 /// A reader of a desk, where its connections come from, and its gate.
 #[derive(Drop)]
-pub struct Seat<A: Archive, V: Visits, G: Gate> {
+pub struct Seat<A: Cells, V: Visits, G: Gate> {
     /// Who answers.
     pub reader: Reader<A>,
     /// The connections.
@@ -34,7 +34,7 @@ fn end_without_memory(served: Result<(), NodeFault>) -> Result<(), AllocError>
 }
 
 /// Serves the next connection, and answers whether another may come.
-fn serve_visit<A: Archive, V: Visits, G: Gate>(
+fn serve_visit<A: Cells, V: Visits, G: Gate>(
     alloc: Global,
     seat: &mut Seat<A, V, G>,
 ) -> Result<bool, NodeFault>
@@ -74,7 +74,7 @@ fn most_visits(visits: u64) -> u64
 ///
 /// It ends before that where no connection will come, and as `Memory`, where memory ran out; there is
 /// no other fault. Each connection that was given is handed back.
-pub fn serve_seat<A: Archive, V: Visits, G: Gate>(
+pub fn serve_seat<A: Cells, V: Visits, G: Gate>(
     alloc: Global,
     seat: &mut Seat<A, V, G>,
     visits: u64,

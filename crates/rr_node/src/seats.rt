@@ -4,7 +4,7 @@ use crate::gates::OpenGate;
 use crate::node::Seats;
 use crate::seat::{Seat, serve_seat};
 use rr_host::{HaltFlag, Listening};
-use rr_ring::RingArchive;
+use rr_packed::PackedArchive;
 use std::alloc::Global;
 use std::sync::atomic::{AtomicBool, Ordering};
 use std::thread::{Threads, for_each_mut};
@@ -13,7 +13,7 @@ use std::thread::{Threads, for_each_mut};
 #[derive(Drop)]
 pub struct TcpSeats {
     /// Each a reader with the address that it answers on.
-    pub seats: Vec<Seat<RingArchive, Listening, OpenGate>>,
+    pub seats: Vec<Seat<PackedArchive, Listening, OpenGate>>,
     /// The flag that their connections, and those of the keeper, look at. It is raised where memory runs out at
     /// one of the seats.
     pub halt: HaltFlag,
@@ -36,7 +36,7 @@ impl Seats for TcpSeats {
             rt,
             self.seats.as_mut_slice(),
             threads,
-            &|_, seat: &mut Seat<RingArchive, Listening, OpenGate>| {
+            &|_, seat: &mut Seat<PackedArchive, Listening, OpenGate>| {
                 if serve_seat(alloc, seat, visits).is_err() {
                     shared.store(true, Ordering::SeqCst);
                     halt.raise();

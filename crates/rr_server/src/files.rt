@@ -5,7 +5,7 @@ use rr_config::{Config, ConfigFault};
 use rr_io::Counted;
 use rr_process::{Ending, file_fault};
 use rr_replica::Replica;
-use rr_ring::RingArchive;
+use rr_packed::PackedArchive;
 use rr_schema::{Origin, Schema};
 use rr_snapshot::{LoadFault, load};
 use std::fs;
@@ -34,7 +34,7 @@ fn load_replica(
     file: &str,
     schema: &Schema,
     origin: Origin,
-) -> Result<Replica<RingArchive>, Ending> {
+) -> Result<Replica<PackedArchive>, Ending> {
     let alloc = rt.alloc();
     let input = match fs::open(rt, file) {
         Ok(input) => input,
@@ -58,7 +58,7 @@ pub(crate) fn first_replica(
     schema: &Schema,
     origin: Origin,
     file: Option<&str>,
-) -> Result<Replica<RingArchive>, Ending> {
+) -> Result<Replica<PackedArchive>, Ending> {
     match file {
         Some(file) => load_replica(rt, file, schema, origin),
         None => match Replica::new(rt.alloc(), schema, origin) {

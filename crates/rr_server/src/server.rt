@@ -10,7 +10,7 @@ use rr_node::{
 };
 use rr_process::Ending;
 use rr_replica::Replica;
-use rr_ring::RingArchive;
+use rr_packed::PackedArchive;
 use rr_schema::Origin;
 use std::alloc::AllocError;
 use std::net::{Net, TcpListener, TcpStream};
@@ -59,7 +59,7 @@ where
     }
 
     /// Opens a desk over a replica, with a reader for each address of fetches, and serves at it.
-    fn serve_replica(&self, replica: Replica<RingArchive>, listeners: Listeners) -> Ending {
+    fn serve_replica(&self, replica: Replica<PackedArchive>, listeners: Listeners) -> Ending {
         let Listeners {
             lines,
             fetches,
@@ -80,7 +80,7 @@ where
     /// A seat for each reader, with the connections of its address.
     fn seats(
         &self,
-        readers: Vec<Reader<RingArchive>>,
+        readers: Vec<Reader<PackedArchive>>,
         fetches: Vec<Listening>,
         halt: &HaltFlag,
     ) -> Result<TcpSeats, AllocError> {
@@ -102,7 +102,7 @@ where
     /// Serves with a keeper and its readers' seats, until a flag is raised that they share.
     fn serve_at(
         &self,
-        keeper: &mut Keeper<RingArchive>,
+        keeper: &mut Keeper<PackedArchive>,
         mut lines: Listening,
         seats: &mut TcpSeats,
         mut halt: HaltFlag,

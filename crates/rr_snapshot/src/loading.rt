@@ -14,7 +14,7 @@ ghost use Rattle.rr_parts.specs.SnapshotReading.{cells_after};
 ghost use Rattle.rr_parts.specs.Stream.{Digests, StreamMakes};
 ghost use Rattle.rr_snapshot.specs.Loading.{HasJoined, GivesIfRead, StopsAmong, StopsBeforeDigest, loaded_at};
 
-use rr_archive::Archive;
+use rr_archive::Cells;
 use rr_cells::Cell;
 use rr_io::Counted;
 use rr_page::follows;
@@ -57,7 +57,7 @@ fn raised(addition: Addition, archive: u8) -> u8
 /// Joins the cells after a head into a replica, each after the one before it, and answers whether one
 /// of them is of the replica's own origin. They are of the schema before the head's addition. No cell
 /// is kept but the last, for its name.
-fn join_cells_from<A: Archive, R: Read>(
+fn join_cells_from<A: Cells, R: Read>(
     alloc: Global,
     input: &mut Counted<R>,
     head: Head,
@@ -100,7 +100,7 @@ fn join_cells_from<A: Archive, R: Read>(
 }
 
 /// The same, with the schema before the addition made where there was one.
-fn join_cells_after<A: Archive, R: Read>(
+fn join_cells_after<A: Cells, R: Read>(
     alloc: Global,
     input: &mut Counted<R>,
     head: Head,
@@ -135,7 +135,7 @@ fn join_cells_after<A: Archive, R: Read>(
 
 /// Reads the snapshot that all of the input is into a replica of the reader's schema that holds no
 /// cell. `load` alone owns a replica, so that only there it is dropped where the load is refused.
-fn load_into<A: Archive, R: Read>(
+fn load_into<A: Cells, R: Read>(
     alloc: Global,
     input: &mut Counted<R>,
     schema: &Schema,
@@ -184,7 +184,7 @@ fn load_into<A: Archive, R: Read>(
 /// the snapshot or of one of its cells, those past the horizon too. `Memory` comes before the digest is
 /// read. A refused load gives no replica, and a front of the input has been read. The cost is that of
 /// joining the cells, and linear in the bytes.
-pub fn load<A: Archive, R: Read>(
+pub fn load<A: Cells, R: Read>(
     alloc: Global,
     input: &mut Counted<R>,
     schema: &Schema,

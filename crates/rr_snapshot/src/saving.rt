@@ -13,7 +13,7 @@ ghost use Rattle.rr_replica.specs.Standing.{held};
 ghost use Rattle.rr_parts.specs.Snapshot.{snapshot_text};
 ghost use Rattle.rr_parts.specs.declared.heading.TheConstants.{MAX_SNAPSHOT_CELLS};
 
-use rr_archive::Archive;
+use rr_archive::Cells;
 use rr_io::Counted;
 use rr_io::stream::write_all;
 use rr_parts::{MAX_SNAPSHOT_CELLS, SaveFault, head_bytes, write_cell, write_piece};
@@ -23,7 +23,7 @@ use std::alloc::Global;
 use std::io::Write;
 
 /// Writes the cells of a replica, in order, and adds their bytes to what is digested.
-fn write_cells<A: Archive, W: Write>(
+fn write_cells<A: Cells, W: Write>(
     alloc: Global,
     replica: &Replica<A>,
     count: u32,
@@ -61,7 +61,7 @@ fn write_cells<A: Archive, W: Write>(
 /// Refused as `TooManyCells` where there are more than 4,294,967,295 cells, and then nothing is
 /// written; as `WriteFailed` where the writer fails; and as `Memory`. After a refusal a front of the
 /// snapshot was written. The cost is linear in the series and in the bytes.
-pub fn save<A: Archive, W: Write>(
+pub fn save<A: Cells, W: Write>(
     alloc: Global,
     replica: &Replica<A>,
     output: &mut Counted<W>,

@@ -10,11 +10,11 @@ ghost use Rattle.rr_cluster.specs.Stop.{Gives};
 use crate::cluster::Cluster;
 use crate::fault::CommandFault;
 use crate::stop::Stop;
-use rr_archive::Archive;
+use rr_archive::Cells;
 use rr_text::bytes::LINE_FEED;
 
 /// The bytes of a page in lower-case hexadecimal, as a line.
-pub(crate) fn hex_of_page<A: Archive>(cluster: &Cluster<A>, name: &[u8]) -> Result<Vec<u8>, Stop>
+pub(crate) fn hex_of_page<A: Cells>(cluster: &Cluster<A>, name: &[u8]) -> Result<Vec<u8>, Stop>
     ensures { (m : State Cells) → Represents cluster.now m
         → Gives (λ text. text.items) result (hex_of_page cell_model m name.now) }
 {

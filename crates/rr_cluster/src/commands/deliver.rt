@@ -10,13 +10,13 @@ ghost use Rattle.rr_cluster.specs.State.{State};
 use crate::cluster::Cluster;
 use crate::fault::CommandFault;
 use crate::stop::Stop;
-use rr_archive::Archive;
+use rr_archive::Cells;
 use rr_page::{PageFault, decode};
 use rr_replica::Replica;
 use std::alloc::Global;
 
 /// Joins the cells of a page into a node.
-pub(crate) fn deliver<A: Archive>(
+pub(crate) fn deliver<A: Cells>(
     cluster: &mut Cluster<A>,
     name: &[u8],
     node: &[u8],
@@ -36,7 +36,7 @@ pub(crate) fn deliver<A: Archive>(
 
 /// Joins the cells of the page of these bytes into a replica. A script has only pages that its own
 /// nodes made, so that the bytes are those of a page of the replica's schema.
-fn join_page<A: Archive>(alloc: Global, replica: &mut Replica<A>, page: &[u8]) -> Result<(), Stop>
+fn join_page<A: Cells>(alloc: Global, replica: &mut Replica<A>, page: &[u8]) -> Result<(), Stop>
     requires { (cells : Cells) × HasPageText replica.old.schema cells page.now }
     ensures { (cells : Cells) → HasPageText replica.old.schema cells page.now
         → Joins (held replica.old) (held replica.new) result cells }

@@ -13,7 +13,7 @@ use crate::commands::page::place_and_count;
 use crate::fault::CommandFault;
 use crate::stop::Stop;
 use crate::words::is_name;
-use rr_archive::Archive;
+use rr_archive::Cells;
 use rr_delta::{difference, part, summary};
 use rr_page::encode;
 use rr_replica::Replica;
@@ -21,7 +21,7 @@ use std::alloc::{AllocError, Global};
 
 /// Makes a page of the cells that one node has and another lacks or has with a smaller version, from
 /// a place on, as many as there are up to a count. A page of that name is replaced.
-pub(crate) fn add_delta<A: Archive>(
+pub(crate) fn add_delta<A: Cells>(
     cluster: &mut Cluster<A>,
     name: &[u8],
     giver: &[u8],
@@ -48,7 +48,7 @@ pub(crate) fn add_delta<A: Archive>(
 
 /// The bytes of a page of the cells that one replica has and another lacks or has with a smaller
 /// version, from a place on, as many as there are up to a count.
-fn newer_page<A: Archive>(
+fn newer_page<A: Cells>(
     alloc: Global,
     giver: &Replica<A>,
     taker: &Replica<A>,

@@ -11,11 +11,11 @@ ghost use Rattle.rr_cluster.specs.Stop.{Gives};
 use crate::cluster::Cluster;
 use crate::fault::CommandFault;
 use crate::stop::Stop;
-use rr_archive::Archive;
+use rr_archive::Cells;
 use rr_fetch::{RequestWords, answer_text, read_request};
 
 /// The answer of a node to a request.
-pub(crate) fn answer_to<A: Archive>(
+pub(crate) fn answer_to<A: Cells>(
     cluster: &Cluster<A>,
     node: &[u8],
     request: &RequestWords<'_>,

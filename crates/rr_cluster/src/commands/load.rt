@@ -12,7 +12,7 @@ use crate::cluster::Cluster;
 use crate::fault::CommandFault;
 use crate::stop::Stop;
 use crate::words::{is_name, unused_origin};
-use rr_archive::Archive;
+use rr_archive::Cells;
 use rr_io::Counted;
 use rr_replica::Replica;
 use rr_schema::{Origin, Schema};
@@ -21,7 +21,7 @@ use std::alloc::Global;
 
 /// Makes a snapshot a node, under an origin that was not used. A node of that name is replaced, and
 /// its origin stays used.
-pub(crate) fn load_node<A: Archive>(
+pub(crate) fn load_node<A: Cells>(
     cluster: &mut Cluster<A>,
     name: &[u8],
     node: &[u8],
@@ -44,7 +44,7 @@ pub(crate) fn load_node<A: Archive>(
 
 /// The replica of the snapshot of these bytes, under a new origin. A script has only snapshots that
 /// its own nodes made, of its schema or of one before an upgrade.
-fn loaded<A: Archive>(
+fn loaded<A: Cells>(
     alloc: Global,
     snapshot: &[u8],
     schema: &Schema,

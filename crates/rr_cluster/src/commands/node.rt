@@ -10,11 +10,11 @@ use crate::cluster::Cluster;
 use crate::fault::CommandFault;
 use crate::stop::Stop;
 use crate::words::{is_name, unused_origin};
-use rr_archive::Archive;
+use rr_archive::Cells;
 use rr_replica::Replica;
 
 /// Makes a node that holds nothing.
-pub(crate) fn add_node<A: Archive>(
+pub(crate) fn add_node<A: Cells>(
     cluster: &mut Cluster<A>,
     name: &[u8],
     origin: &[u8],

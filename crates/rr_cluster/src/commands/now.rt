@@ -9,10 +9,10 @@ ghost use Rattle.rr_cluster.specs.State.{State};
 use crate::cluster::Cluster;
 use crate::stop::Stop;
 use crate::words::{lead_of, moment_of};
-use rr_archive::Archive;
+use rr_archive::Cells;
 
 /// Sets the clock, and the lead where one is given.
-pub(crate) fn set_clock<A: Archive>(
+pub(crate) fn set_clock<A: Cells>(
     cluster: &mut Cluster<A>,
     time: &[u8],
     lead: Option<&[u8]>,

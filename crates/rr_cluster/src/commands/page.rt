@@ -12,14 +12,14 @@ use crate::cluster::Cluster;
 use crate::fault::CommandFault;
 use crate::stop::Stop;
 use crate::words::{cell_count, is_name, number_u32};
-use rr_archive::Archive;
+use rr_archive::Cells;
 use rr_page::encode;
 use rr_replica::Replica;
 use std::alloc::{AllocError, Global};
 
 /// Makes a page of a node's cells from a place on, as many as there are up to a count. A page of
 /// that name is replaced.
-pub(crate) fn add_page<A: Archive>(
+pub(crate) fn add_page<A: Cells>(
     cluster: &mut Cluster<A>,
     name: &[u8],
     node: &[u8],
@@ -51,7 +51,7 @@ pub(crate) fn place_and_count(from: &[u8], count: &[u8]) -> Result<(usize, usize
 }
 
 /// The bytes of a page of a replica's cells from a place on, as many as there are up to a count.
-fn page_of<A: Archive>(
+fn page_of<A: Cells>(
     alloc: Global,
     replica: &Replica<A>,
     from: usize,

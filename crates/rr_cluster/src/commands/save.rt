@@ -11,14 +11,14 @@ use crate::cluster::Cluster;
 use crate::fault::CommandFault;
 use crate::stop::Stop;
 use crate::words::is_name;
-use rr_archive::Archive;
+use rr_archive::Cells;
 use rr_io::Counted;
 use rr_replica::Replica;
 use rr_snapshot::save;
 use std::alloc::Global;
 
 /// Makes a snapshot of a node. A snapshot of that name is replaced.
-pub(crate) fn save_node<A: Archive>(
+pub(crate) fn save_node<A: Cells>(
     cluster: &mut Cluster<A>,
     name: &[u8],
     node: &[u8],
@@ -39,7 +39,7 @@ pub(crate) fn save_node<A: Archive>(
 }
 
 /// The bytes of a snapshot of a replica.
-fn snapshot_of<A: Archive>(alloc: Global, replica: &Replica<A>) -> Result<Vec<u8>, Stop>
+fn snapshot_of<A: Cells>(alloc: Global, replica: &Replica<A>) -> Result<Vec<u8>, Stop>
     ensures { Saves (held replica.now) result }
 {
     let mut output = Counted::new(Vec::new(alloc));

@@ -13,14 +13,14 @@ use crate::cluster::Cluster;
 use crate::fault::CommandFault;
 use crate::stop::Stop;
 use crate::words::archive_of;
-use rr_archive::Archive;
+use rr_archive::Cells;
 use rr_schema::{ArchiveSpec, Schema};
 use std::alloc::{AllocError, Global};
 use std::collections::BTreeMap;
 
 /// Adds an archive to the schema. All nodes and pages are gone after it, and their names are free;
 /// snapshots stay, and origins stay used.
-pub(crate) fn upgrade<A: Archive>(cluster: &mut Cluster<A>, archive: &[u8]) -> Result<(), Stop>
+pub(crate) fn upgrade<A: Cells>(cluster: &mut Cluster<A>, archive: &[u8]) -> Result<(), Stop>
     ensures { (m : State Cells) → Represents cluster.old m
         → Leaves cluster.new m result (after_upgrade m archive.now) }
 {

@@ -13,13 +13,13 @@ ghost use Rattle.rr_cluster.specs.State.{State};
 use crate::cluster::Cluster;
 use crate::fault::CommandFault;
 use crate::stop::Stop;
-use rr_archive::Archive;
+use rr_archive::Cells;
 use rr_line::{Line, Point, Precision, parse_line};
 use rr_replica::Replica;
 use std::alloc::Global;
 
 /// Writes a line to a node.
-pub(crate) fn write_line<A: Archive>(
+pub(crate) fn write_line<A: Cells>(
     cluster: &mut Cluster<A>,
     node: &[u8],
     line: &[u8],
@@ -35,7 +35,7 @@ pub(crate) fn write_line<A: Archive>(
 }
 
 /// Writes the samples of a line at a moment, or none: a line that is refused changes nothing.
-fn write_to<A: Archive>(
+fn write_to<A: Cells>(
     alloc: Global,
     replica: &mut Replica<A>,
     clock: i64,
@@ -53,7 +53,7 @@ fn write_to<A: Archive>(
 }
 
 /// Writes the samples of a point, or none.
-fn write_point<A: Archive>(
+fn write_point<A: Cells>(
     replica: &mut Replica<A>,
     point: &Point<'_>,
     clock: i64,

@@ -8,7 +8,7 @@ mod sessions;
 mod threads;
 mod writing;
 
-use rr_archive::{Archive, PlainArchive};
+use rr_archive::{Cells, PlainArchive};
 use rr_base::{Counted, Origin};
 use rr_desk::{Keeper, Reader};
 use rr_fetch::parse_request;
@@ -32,7 +32,7 @@ fn key(alloc: Global) -> Option<SeriesKey> {
 }
 
 /// What a reader answers to a request of these words.
-fn fetched<A: Archive>(alloc: Global, reader: &mut Reader<A>, words: &[u8]) -> Option<Vec<u8>>
+fn fetched<A: Cells>(alloc: Global, reader: &mut Reader<A>, words: &[u8]) -> Option<Vec<u8>>
     ensures { reader.new.desk ≡ reader.old.desk }
 {
     let request = parse_request(alloc, words, reader.schema()).ok()?;
@@ -40,7 +40,7 @@ fn fetched<A: Archive>(alloc: Global, reader: &mut Reader<A>, words: &[u8]) -> O
 }
 
 /// Whether a reader answers the averages by this text.
-pub(crate) fn answers<A: Archive>(alloc: Global, reader: &mut Reader<A>, text: &[u8]) -> bool
+pub(crate) fn answers<A: Cells>(alloc: Global, reader: &mut Reader<A>, text: &[u8]) -> bool
     ensures { reader.new.desk ≡ reader.old.desk }
 {
     match fetched(alloc, reader, AVERAGES) {

@@ -6,7 +6,7 @@ use rr_archive::PlainArchive;
 use rr_desk::{Reader, open};
 use rr_fakes::replicas::minutes;
 use rr_node::{Config, HaltFlag};
-use rr_ring::RingArchive;
+use rr_packed::PackedArchive;
 use std::alloc::Global;
 use std::io::Write;
 use std::net::{Net, TcpListener, TcpStream};
@@ -23,8 +23,8 @@ const CONFIG: &[u8] = b"step = 60\nlines = \"l\"\nfetch = [\"f\", \"g\"]\n\
 const TEXT: &[u8] = b"m v=1i\nfetch LAST 60 0 60 m v\n";
 
 /// Two readers whose keeper has closed, so that they answer as if memory ran out.
-fn readers<R: Wait>(rt: &R, alloc: Global) -> Option<Vec<Reader<RingArchive>>> {
-    let replica = minutes::<RingArchive>(alloc, 1, 3).ok()?;
+fn readers<R: Wait>(rt: &R, alloc: Global) -> Option<Vec<Reader<PackedArchive>>> {
+    let replica = minutes::<PackedArchive>(alloc, 1, 3).ok()?;
     let (keeper, readers) = open(alloc, rt, replica, 2).ok()?;
     keeper.close(rt);
     Some(readers)

@@ -1,13 +1,13 @@
 //! A node over TCP, both ends of which are here.
 
-use rr_archive::Archive;
+use rr_archive::Cells;
 use rr_base::Origin;
 use rr_desk::{Keeper, Reader, open};
 use rr_node::{
     Calling, Config, FileShelf, HaltFlag, Listening, Moments, OpenGate, Seat, TcpSeats, serve_node,
 };
 use rr_replica::Replica;
-use rr_ring::RingArchive;
+use rr_packed::PackedArchive;
 use std::alloc::Global;
 use std::io::{Read, Write};
 use std::net::{Net, Shutdown, SocketAddr, TcpListener, TcpStream};
@@ -99,7 +99,7 @@ fn is_served<R: Net<Stream = TcpStream>>(rt: &R, alloc: Global, to: Addresses) -
 /// The seats of two readers.
 pub(crate) fn seats(
     alloc: Global,
-    readers: Vec<Reader<RingArchive>>,
+    readers: Vec<Reader<PackedArchive>>,
     fetch: Vec<Listening>,
     halt: &HaltFlag,
 ) -> Option<TcpSeats> {
@@ -118,7 +118,7 @@ pub(crate) fn seats(
 }
 
 /// Serves as a node until it ends, and answers whether that was without a fault.
-pub(crate) fn serve<A: Archive, R>(
+pub(crate) fn serve<A: Cells, R>(
     rt: &R,
     alloc: Global,
     keeper: &mut Keeper<A>,
@@ -143,8 +143,8 @@ where
 fn served<R>(
     rt: &R,
     alloc: Global,
-    keeper: &mut Keeper<RingArchive>,
-    readers: Vec<Reader<RingArchive>>,
+    keeper: &mut Keeper<PackedArchive>,
+    readers: Vec<Reader<PackedArchive>>,
     config: &Config,
 ) -> Option<(bool, Option<bool>)>
 where

@@ -83,7 +83,7 @@ impl<A: Cells> Cells for Starved<A> {
     }
 }
 
-impl<A: Archive> Archive for Starved<A> {
+impl<A: Cells> Archive for Starved<A> {
     fn row(&self, slot: i64) -> &[Entry] {
         self.held.row(slot)
     }

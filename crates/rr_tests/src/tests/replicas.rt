@@ -11,7 +11,7 @@ use std::alloc::Global;
 use std::test::Fail;
 
 /// The slot of the cell with a number; -1 where there is none.
-fn slot_of<A: Archive>(replica: &Replica<A>, i: usize) -> i64 {
+fn slot_of<A: Cells>(replica: &Replica<A>, i: usize) -> i64 {
     let Some(cell) = replica.cell_at(i) else {
         return -1;
     };
@@ -19,7 +19,7 @@ fn slot_of<A: Archive>(replica: &Replica<A>, i: usize) -> i64 {
 }
 
 /// How many cells a million samples leave, a minute apart, and the slots of the first and the tenth.
-fn left_of_a_million<A: Archive>(alloc: Global) -> Result<(usize, i64, i64), Fail> {
+fn left_of_a_million<A: Cells>(alloc: Global) -> Result<(usize, i64, i64), Fail> {
     let replica = filled::<A>(alloc, 1, 10, 1_000_000)?;
     Ok((
         replica.cell_count(),
@@ -60,7 +60,7 @@ fn a_replica_lends_the_archives_of_a_series(rt: HostRuntime) -> Result<(), Fail>
 
 /// Joins what a replica has and another of its schema lacks. Answers how many names that one listed, and how many cells
 /// it lacked.
-fn join_lacking<A: Archive>(
+fn join_lacking<A: Cells>(
     alloc: Global,
     replica: &mut Replica<A>,
     other: &Replica<A>,

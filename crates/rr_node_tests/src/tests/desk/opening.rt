@@ -4,7 +4,7 @@ use super::{SEVEN, answers};
 use rr_archive::PlainArchive;
 use rr_desk::{FetchFault, OpenFault, open};
 use rr_fakes::replicas::one_sample;
-use rr_ring::RingArchive;
+use rr_packed::PackedArchive;
 use std::alloc::Global;
 use std::sync::Wait;
 use std::test::Fail;
@@ -42,7 +42,7 @@ fn a_desk_has_from_1_to_16_readers(rt: HostRuntime) -> Result<(), Fail> {
 
 #[test]
 fn readers_have_seen_what_was_there(rt: HostRuntime) -> Result<(), Fail> {
-    let replica = one_sample::<RingArchive>(rt.alloc(), 1)?;
+    let replica = one_sample::<PackedArchive>(rt.alloc(), 1)?;
     let Ok((keeper, mut readers)) = open(rt.alloc(), &rt, replica, 1) else {
         panic!(&rt; "no desk");
     };

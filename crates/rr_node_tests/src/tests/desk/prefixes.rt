@@ -2,16 +2,16 @@
 ghost use Rattle.std.specs.Prelude.{◌≡◌};
 
 use super::{NOTHING, SEVEN, answers, key};
-use rr_archive::{Archive, PlainArchive};
+use rr_archive::{Cells, PlainArchive};
 use rr_desk::{Keeper, Note, Reader, open};
 use rr_fakes::replicas::{MINUTE, minutes};
-use rr_ring::RingArchive;
+use rr_packed::PackedArchive;
 use std::alloc::Global;
 use std::sync::Wait;
 use std::test::Fail;
 
 /// Puts 7 at a minute after the epoch.
-fn put_pending<A: Archive>(alloc: Global, keeper: &mut Keeper<A>) -> bool
+fn put_pending<A: Cells>(alloc: Global, keeper: &mut Keeper<A>) -> bool
     ensures { keeper.new.desk ≡ keeper.old.desk }
 {
     let Some(key) = key(alloc) else {
@@ -21,14 +21,14 @@ fn put_pending<A: Archive>(alloc: Global, keeper: &mut Keeper<A>) -> bool
 }
 
 /// Puts 7 at a minute after the epoch, and publishes it.
-fn put_seven<A: Archive, R: Wait>(alloc: Global, rt: &R, keeper: &mut Keeper<A>) -> bool
+fn put_seven<A: Cells, R: Wait>(alloc: Global, rt: &R, keeper: &mut Keeper<A>) -> bool
     ensures { keeper.new.desk ≡ keeper.old.desk }
 {
     put_pending(alloc, keeper) && keeper.publish(rt).is_ok()
 }
 
 /// Whether a reader learns a note and then answers by this text.
-fn learns<A: Archive>(alloc: Global, reader: &mut Reader<A>, note: Note, text: &[u8]) -> bool
+fn learns<A: Cells>(alloc: Global, reader: &mut Reader<A>, note: Note, text: &[u8]) -> bool
     requires { note.desk ≡ reader.old.desk }
     ensures { reader.new.desk ≡ reader.old.desk }
 {
@@ -37,7 +37,7 @@ fn learns<A: Archive>(alloc: Global, reader: &mut Reader<A>, note: Note, text: &
 
 #[test]
 fn readers_see_what_was_published(rt: HostRuntime) -> Result<(), Fail> {
-    let replica = minutes::<RingArchive>(rt.alloc(), 1, 3)?;
+    let replica = minutes::<PackedArchive>(rt.alloc(), 1, 3)?;
     let Ok((mut keeper, mut readers)) = open(rt.alloc(), &rt, replica, 2) else {
         panic!(&rt; "no desk");
     };
