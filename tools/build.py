@@ -247,12 +247,27 @@ class Build:
 
 
 def wait_for_others():
-    """Lets no other run build until this one ends."""
-    fcntl.flock(os.open(TOP, os.O_RDONLY), fcntl.LOCK_EX)
+    """Lets no other run build until this one ends; where one builds already, says so and waits for its end."""
+    folder = os.open(TOP, os.O_RDONLY)
+    try:
+        fcntl.flock(folder, fcntl.LOCK_EX | fcntl.LOCK_NB)
+    except BlockingIOError:
+        print("rr: another build is at work; this one goes on when it has ended", file=sys.stderr, flush=True)
+        fcntl.flock(folder, fcntl.LOCK_EX)
+
+
+def interrupt(number, frame):
+    """Ends the build, with all that it runs, as an interrupt from the keyboard does."""
+    raise KeyboardInterrupt
 
 
 def main():
-    wait_for_others()
+    signal.signal(signal.SIGTERM, interrupt)
+    signal.signal(signal.SIGHUP, interrupt)
+    try:
+        wait_for_others()
+    except KeyboardInterrupt:
+        return 130
     build = Build(sys.argv[1] if len(sys.argv) > 1 else WHOLE)
     threading.Thread(target=build.remind, daemon=True).start()
     try:
