@@ -20,6 +20,7 @@ ghost use Rattle.rr_desk.specs.Points.{with_put};
 ghost use Rattle.rr_copies.specs.Standing.{cells_of, holding_of, with_all_published, with_pending};
 
 use crate::note::Note;
+use crate::order::Order;
 use left_right::Absorb;
 use rr_archive::Cells;
 use rr_cells::{Cell, Op, Sample};
@@ -47,6 +48,7 @@ where
     pub(crate) copies: Copies<A>,
     /// Where key texts of points are written, one over the other.
     pub(crate) text: Vec<u8>,
+    pub(crate) order: Order,
 }
 
 impl<A: Cells> Model for Keeper<A>
@@ -74,8 +76,8 @@ impl<A: Cells> Keeper<A> {
     ///
     /// Refused as `NumbersSpent` where the next number is past 2^40. After a refusal nothing has
     /// changed. The cost is that of `Replica::put`, once here and once in each copy when it is
-    /// published, where the key is mostly found without a look-up. Where the row is in memory only the
-    /// list of pending operations grows.
+    /// published, where the key is mostly found without a look-up, and here too if series come in the order
+    /// in which they came before. Where the row is in memory only the list of pending operations grows.
     pub fn put(&mut self, key: &SeriesKey, time: i64, value: i64) -> Result<u64, PutFault>
         ensures number { IfOk result (λ number. number ≡ self.old.next) }
         ensures pending { OnOk result (self.new ≡ with_put self.old key.now time value) }
@@ -86,7 +88,7 @@ impl<A: Cells> Keeper<A> {
         if number > MAX_NUMBER {
             return Err(PutFault::NumbersSpent);
         }
-        let (key, hint) = self.copies.replica().known_key(key)?;
+        let (key, hint) = self.copies.replica().known_key_near(self.order.next(), key)?;
         let sample = Sample {
             origin: self.copies.replica().origin(),
             number,
@@ -95,7 +97,14 @@ impl<A: Cells> Keeper<A> {
             value,
         };
         self.copies.push(hint, Op::Put(sample))?;
+        self.order.note(hint);
         Ok(number)
+    }
+
+    /// The key of the series that is likely to be put to next, if there is one: that which came after the
+    /// last one the time before. No contract says which it is.
+    pub fn next_key(&self) -> Option<&SeriesKey> {
+        self.copies.replica().key_at(self.order.next())
     }
 
     /// Joins a cell from elsewhere, which is valid under the schema, as `Replica::join_cell` does.
@@ -181,6 +190,7 @@ impl<A: Cells> Keeper<A> {
             alloc: _,
             copies,
             text: _,
+            order: _,
         } = self;
         copies.close(rt)
     }

@@ -19,6 +19,7 @@ mod keeper;
 pub mod laws;
 mod note;
 mod opening;
+mod order;
 mod points;
 mod reader;
 mod reading;

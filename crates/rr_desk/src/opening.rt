@@ -14,6 +14,7 @@ ghost use Rattle.rr_desk.specs.declared.fault.OpenFault.TheVariants.{BadCount};
 
 use crate::fault::OpenFault;
 use crate::keeper::Keeper;
+use crate::order::Order;
 use crate::reader::Reader;
 use rr_archive::Cells;
 use rr_copies::{Copies, DeskWriter, Editions, discard, introduce, look, started_writer};
@@ -126,6 +127,7 @@ pub fn open<A: Cells, R: Wait>(
                 alloc,
                 copies: Copies::new(writer, replica, book),
                 text: Vec::new(alloc),
+                order: Order::new(alloc),
             };
             Ok((keeper, all))
         }

@@ -54,6 +54,36 @@ impl<A: Cells> Keeper<A> {
         self.put_fields(point, point.time.unwrap_or(now))
     }
 
+    /// Puts a sample of a key, as [`Keeper::write`] puts that of a point whose one field has this key.
+    ///
+    /// Refused as `AheadOfClock`, as `NumbersSpent` and as `Memory` as there; nothing has then changed. The
+    /// cost is that of the put.
+    pub fn write_sample(
+        &mut self,
+        key: &SeriesKey,
+        time: Option<i64>,
+        value: i64,
+        now: i64,
+        lead: Option<u64>,
+    ) -> Result<(), WriteFault>
+        ensures put { OnOk result (self.new ≡ with_put self.old key.now (unwrap_or time now) value) }
+        ensures ahead { (result ≡ Err WriteFault.AheadOfClock) ↔ IsTrue (is_ahead time now lead) }
+        ensures spent { (result ≡ Err WriteFault.NumbersSpent) ↔ (IsFalse (is_ahead time now lead)
+            × IsTrue (lacks_numbers (holding_of self.old) 1)) }
+        ensures unchanged { OnErr result (self.new ≡ self.old) }
+    {
+        if is_ahead(time, now, lead) {
+            return Err(WriteFault::AheadOfClock);
+        }
+        if self.copies.replica().lacks_numbers(1) {
+            return Err(WriteFault::NumbersSpent);
+        }
+        match self.put(key, time.unwrap_or(now), value) {
+            Ok(_) => Ok(()),
+            Err(_) => Err(WriteFault::Memory { put: 0 }),
+        }
+    }
+
     /// Puts a sample of each field of a point.
     fn put_fields(&mut self, point: &Point<'_>, time: i64) -> Result<u32, WriteFault>
         requires keyed { HasKeys (point_view point.now) }

@@ -14,4 +14,10 @@ impl Hint {
     pub fn none() -> Hint {
         Hint { index: usize::MAX }
     }
+
+    /// The index of the series, if a replica gave the hint: they are counted from 0 in the order in which
+    /// they came. The greatest value of the type, if nothing is known.
+    pub fn index(self) -> usize {
+        self.index
+    }
 }

@@ -202,12 +202,21 @@ impl<A: Cells> Replica<A> {
     /// The key, and where its series is. Of a series that is known the key shares its text with this
     /// one, so no memory is taken and a further look-up has the text at hand.
     ///
-    /// The cost is one look-up of the key.
-    pub fn known_key(&self, key: &SeriesKey) -> Result<(SeriesKey, Hint), AllocError>
+    /// The cost is one look-up of the key; if the hint is right, a comparison of two keys.
+    pub fn known_key_near(
+        &self,
+        hint: Hint,
+        key: &SeriesKey,
+    ) -> Result<(SeriesKey, Hint), AllocError>
         ensures { IfOk result (λ known. known.0 ≡ key.now) }
     {
-        let (known, index) = self.series.known_key(key);
+        let (known, index) = self.series.known_key(hint, key);
         Ok((known.copy()?, Hint { index }))
+    }
+
+    /// The key of the series at a hint, if one is there. No contract says which it is.
+    pub fn key_at(&self, hint: Hint) -> Option<&SeriesKey> {
+        self.series.keys.get(hint.index)
     }
 
     /// The archive of a key with a number, from 0. There is none where the key is unknown, nor past

@@ -76,12 +76,16 @@ impl<A: Drop> SeriesMap<A> {
     }
 
     /// The key as it is known, with its index; one that isn't known as it is, with the index that it
-    /// gets when it is added next.
-    pub(crate) fn known_key<'a>(&'a self, key: &'a SeriesKey) -> (&'a SeriesKey, usize)
+    /// gets when it is added next. The hint is tried first.
+    pub(crate) fn known_key<'a>(
+        &'a self,
+        hint: Hint,
+        key: &'a SeriesKey,
+    ) -> (&'a SeriesKey, usize)
         requires { IsIndexed self.now }
         ensures { result.0.now ≡ key.now }
     {
-        match self.find(key) {
+        match self.find_near(hint, key) {
             Some(index) => (&self.keys[index], index),
             None => (key, self.keys.len()),
         }

@@ -1,0 +1,53 @@
+//! The order in which series come.
+
+use rr_replica::Hint;
+use std::alloc::Global;
+
+/// For each series, the one that came after it the last time: whoever sends readings mostly sends them in one
+/// order.
+///
+/// These are hints, on which no answer depends. A series that memory is refused for has no successor.
+#[derive(Drop)]
+pub(crate) struct Order {
+    after: Vec<Hint>,
+    last: Hint,
+}
+
+impl Order {
+    /// No series came yet. Takes no memory.
+    pub(crate) fn new(alloc: Global) -> Order {
+        Order {
+            after: Vec::new(alloc),
+            last: Hint::none(),
+        }
+    }
+
+    /// Where the series is that is likely to come next.
+    pub(crate) fn next(&self) -> Hint {
+        match self.after.get(self.last.index()) {
+            Some(hint) => *hint,
+            None => Hint::none(),
+        }
+    }
+
+    /// Notes the series that came.
+    pub(crate) fn note(&mut self, hint: Hint) {
+        self.make_place(self.last.index());
+        if let Some(after) = self.after.get_mut(self.last.index()) {
+            *after = hint;
+        }
+        self.last = hint;
+    }
+
+    /// Makes a place for what comes after the series with an index.
+    fn make_place(&mut self, index: usize) {
+        let Some(len) = index.checked_add(1) else {
+            return;
+        };
+        for _ in self.after.len()..len {
+            if self.after.push(Hint::none()).is_err() {
+                return;
+            }
+        }
+    }
+}
