@@ -78,7 +78,7 @@ tags_spelled (tag ∷ tags) good plain =
     (tags_spelled tags good.1 is.others)
 
 -- what precedes the rest
-front_taken : (text front rest : List ℕ) → text ≡ front ++ rest → take (length text - length rest) text ≡ front
+pub front_taken : (text front rest : List ℕ) → text ≡ front ++ rest → take (length text - length rest) text ≡ front
 front_taken text front rest whole =
     let len : length text - length rest ≡ length front = omega (arith, ap length whole, length-append front rest) in
     ap₂ (λ (n : ℕ) (t : List ℕ). take n t) len whole ∙ take-append_seam front rest

@@ -7,6 +7,7 @@ pub mod ValueLemmas
 pub mod FieldLemmas
 pub mod FieldsLemmas
 pub mod IntegerLemmas
+pub mod NumberLemmas
 pub mod TimeLemmas
 pub mod PointLemmas
 pub mod RepeatLemmas
@@ -19,4 +20,6 @@ pub mod KeyFrontLemmas
 pub mod FrontLemmas
 pub mod ReadPointLemmas
 pub mod LineLemmas
+pub mod WrittenLemmas
+pub mod KnownLemmas
 pub mod SortedLemmas

@@ -106,7 +106,7 @@ found_none test text h =
     sym (position_or_len_is test text (length text) 0 (omega arith) (λ k lt. false_from_ne_true _ (h k (omega arith) lt)) (λ lt. absurd (omega (arith, lt))))
 
 -- the last byte of a text
-before_last_there : (byte : ℕ) (front : List ℕ) (last : ℕ) → before_last byte (front ++ last ∷ []) ≡ cond (eqb last byte) (Some front) None
+pub before_last_there : (byte : ℕ) (front : List ℕ) (last : ℕ) → before_last byte (front ++ last ∷ []) ≡ cond (eqb last byte) (Some front) None
 before_last_there byte [] last = refl
 before_last_there byte (first ∷ []) last = elim (cases_Bool (eqb last byte)) [ inl here ↦ rw here refl | inr other ↦ rw other refl ]
 before_last_there byte (first ∷ next ∷ front) last =

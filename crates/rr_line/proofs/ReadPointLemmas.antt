@@ -10,7 +10,6 @@ use Rattle.rr_line.specs.declared.fault.LineFault.TheVariants.{NoMeasurement, Ke
 use Rattle.rr_line.specs.declared.precision.Precision.{Precision}
 use Rattle.rr_line.specs.Field.{Field}
 use Rattle.rr_line.specs.Grammar.{is_nothing}
-use Rattle.rr_point.specs.Key.{has_long_key}
 use Rattle.rr_point.specs.Point.{PointView}
 use Rattle.rr_line.specs.Part.{skip_spaces}
 use Rattle.rr_line.specs.Reading.{name_at, all_tags_at, fields_text_of, all_fields_at, ending_at, body_at, point_at}

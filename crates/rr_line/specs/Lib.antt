@@ -3,6 +3,7 @@ pub mod Line
 pub mod Part
 pub mod Tag
 pub mod Value
+pub mod Integer
 pub mod Field
 pub mod Time
 pub mod Key
@@ -11,3 +12,4 @@ pub mod Reading
 pub mod Gathering
 pub mod Fault
 pub mod Answer
+pub mod Known

@@ -32,6 +32,9 @@
 mod fault;
 mod fields;
 mod front;
+mod integer;
+mod known;
+mod last_time;
 pub mod laws;
 mod line;
 mod mark;
@@ -44,6 +47,8 @@ mod time;
 mod value;
 
 pub use fault::LineFault;
+pub use known::read_known;
+pub use last_time::LastTime;
 pub use line::Line;
 pub use parse::parse_line;
 pub use precision::Precision;

@@ -70,7 +70,7 @@ pub fn parse_line<'a>(
 }
 
 /// Whether nothing is left, or a comment.
-fn is_nothing(text: &[u8]) -> bool
+pub(crate) fn is_nothing(text: &[u8]) -> bool
     ensures { result ≡ is_nothing text.now }
 {
     match text {
