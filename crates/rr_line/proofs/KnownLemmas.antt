@@ -1,8 +1,9 @@
 -- What was read by key texts is what the line says.
-use Rattle.std.proofs.Common.{◌≡◌, ℕ, ℤ, false, ltb, List, [], ◌∷◌, ◌++◌, length, Option, None, Ok, refl, sym, ap, ap₂, subst, ◌∙◌, arith}
+use Rattle.std.proofs.Common.{◌≡◌, ℕ, ℤ, true, false, ltb, List, [], ◌∷◌, ◌++◌, length, Option, None, Ok, refl, sym, ap, ap₂, subst, ◌∙◌, arith}
 use Rattle.std.proofs.lemmas.Bool.{le-ltb}
+use Rattle.std.specs.Ordering.{is_lt}
 use Rattle.std.proofs.lemmas.List.{append_assoc}
-use Rattle.rr_text.specs.Bytes.{begins}
+use Rattle.rr_text.specs.Bytes.{begins, bytes_cmp}
 use Rattle.rr_text.specs.declared.bytes.TheConstants.{COMMA, EQUALS, SPACE}
 use Rattle.rr_text.specs.declared.limits.TheConstants.{MAX_KEY_TEXT}
 use Rattle.rr_key.specs.declared.class.Class.TheVariants.{Measurement, Other}
@@ -10,42 +11,25 @@ use Rattle.rr_key.specs.Series.{IsKeyText}
 use Rattle.rr_key.specs.Unit.{escape, unescape}
 use Rattle.rr_key.proofs.EscapeLemmas.{unescape-escape}
 use Rattle.rr_point.specs.Front.{front_text}
-use Rattle.rr_point.specs.Key.{key_text, has_long_key}
+use Rattle.rr_point.specs.Key.{key_text}
 use Rattle.rr_point.specs.Point.{PointView}
 use Rattle.rr_line.specs.declared.precision.Precision.{Precision}
-use Rattle.rr_line.specs.Field.{Field, LeadTo, IsField, MayComeAfter}
-use Rattle.rr_line.specs.Grammar.{is_nothing, LeadsToFields}
-use Rattle.rr_line.specs.Known.{Sample, samples_of, SaysSamples}
+use Rattle.rr_line.specs.Known.{Sample, SaysSamples, HasFirst, BeginsWith}
 use Rattle.rr_line.specs.Line.{point}
 use Rattle.rr_line.specs.Part.{skip_spaces, content}
 use Rattle.rr_line.specs.Reading.{ending_at}
+use Rattle.rr_line.specs.Tag.{has_key}
 use Rattle.rr_line.specs.Time.{IsEnding}
-use Rattle.rr_line.specs.Value.{IsValue}
 use Rattle.rr_line.proofs.AgreeLemmas.{Holds}
 use Rattle.rr_line.proofs.LineLemmas.{line_only}
 use Rattle.rr_line.proofs.ReadPointLemmas.{point_of}
 use Rattle.rr_line.proofs.TimeLemmas.{ending_agrees}
-use Rattle.rr_line.proofs.WrittenLemmas.{written, name_written, is_written, front_of, key_split, front_kept, leads_to_field}
-
--- a line begins with fields of these samples; the rest follows the value of the last one
-pub record BeginsWith (line : List ℕ) (samples : List Sample) (rest : List ℕ) : Type 0 where
-  pub p : PointView
-  pub fields_text : List ℕ
-  pub before : List Field
-  pub last : Field
-  pub last_text : List ℕ
-  pub front : LeadsToFields (content line) p.measurement p.tags fields_text
-  pub leading : LeadTo [] fields_text before last_text
-  pub ends : IsField last_text last rest
-  pub new : MayComeAfter before last
-  pub all : p.fields ≡ before ++ last ∷ []
-  pub short : has_long_key p ≡ false
-  pub are : samples_of p ≡ samples
+use Rattle.rr_line.proofs.WrittenLemmas.{IsWritten, written, name_written, is_written, front_of, key_split, less_differs, front_kept, leads_to_field}
 
 -- a line whose fields end there says these samples
-pub says_samples : (precision : Precision) (line : List ℕ) (samples : List Sample) (rest : List ℕ) (time : Option ℤ) → BeginsWith line samples rest
+pub says_samples : (precision : Precision) (line : List ℕ) (samples : List Sample) (front field rest : List ℕ) (time : Option ℤ) → BeginsWith line samples front field rest
     → begins COMMA rest ≡ false → ending_at precision (skip_spaces rest) ≡ Ok time → SaysSamples precision line samples time
-says_samples precision line samples rest time h ended at =
+says_samples precision line samples front field rest time h ended at =
     let p = point_of h.p.measurement h.p.tags h.p.fields time in
     let agrees = ending_agrees precision rest in
     let is_ending : IsEnding precision rest time = subst (Holds (IsEnding precision rest) _) at agrees.holds in
@@ -55,7 +39,7 @@ says_samples precision line samples rest time h ended at =
         parts = record {
           fields_text = h.fields_text;
           ending = rest;
-          front = h.front;
+          front = h.leads;
           are_fields = record {
             front = h.before;
             last = h.last;
@@ -82,30 +66,43 @@ key_of_field p front field key same whole =
     simp append_assoc in
     regrouped ∙ ap₂ (λ (t name : List ℕ). t ++ SPACE ∷ escape Other name) same (unescape-escape Other field) ∙ sym whole
 
+-- the key of one field, and one above it
+above_one : (field : List ℕ) (value : ℤ) (key : List ℕ) → is_lt (bytes_cmp field key) ≡ true → has_key ((field, value) ∷ []) key ≡ false
+above_one field value key lt = rw (less_differs (bytes_cmp field key) lt) refl
+
 -- a line that begins with a key text and an equals begins with a sample of the series
-pub begins_with_one : (line key value_text rest : List ℕ) (value : ℤ) → IsKeyText key → is_nothing (content line) ≡ false
-    → content line ≡ key ++ EQUALS ∷ value_text → IsValue value_text value rest → BeginsWith line ((key, value) ∷ []) rest
-begins_with_one line key value_text rest value is said whole is_value =
-    let k = is_written key is in
+pub begins_with_first : (line key : List ℕ) (value : ℤ) (rest : List ℕ) (k : IsWritten key) → HasFirst line key value rest
+    → BeginsWith line ((key, value) ∷ []) (front_of key k) (escape Other k.field) rest
+begins_with_first line key value rest k h =
     let field = escape Other k.field in
     let p = point_of (escape Measurement k.measurement) (written k.tags) ((field, value) ∷ []) None in
     let kept : key_text p field ≡ key = key_of_field p (front_of key k) k.field key (front_kept key k) (key_split key k) in
     let short : ltb MAX_KEY_TEXT (length (key_text p field)) ≡ false = le-ltb _ _ (omega (arith, ap length kept, k.short)) in
     record {
       p = p;
-      fields_text = field ++ EQUALS ∷ value_text;
+      fields_text = field ++ EQUALS ∷ h.value_text;
       before = [];
       last = (field, value);
-      last_text = field ++ EQUALS ∷ value_text;
-      front = leads_to_field key (content line) value_text k said whole;
+      last_text = field ++ EQUALS ∷ h.value_text;
+      leads = leads_to_field key (content line) h.value_text k h.said h.whole;
       leading = refl;
       ends = record {
-        value_text = value_text;
-        key = name_written Other k.field (EQUALS ∷ value_text) k.field_named refl;
-        value = is_value;
+        value_text = h.value_text;
+        key = name_written Other k.field (EQUALS ∷ h.value_text) k.field_named refl;
+        value = h.is_value;
       };
       new = record { few = omega arith; other = refl };
       all = refl;
       short = rw short refl;
       are = ap (λ (t : List ℕ). (t, value) ∷ []) kept;
+      front_is = sym (front_kept key k);
+      field_is = refl;
+      rising = above_one field value;
     }
+
+-- a line that says the one sample of its first field
+pub says_first : (precision : Precision) (line key : List ℕ) (value : ℤ) (rest : List ℕ) (time : Option ℤ) → IsKeyText key → HasFirst line key value rest
+    → begins COMMA rest ≡ false → ending_at precision (skip_spaces rest) ≡ Ok time → SaysSamples precision line ((key, value) ∷ []) time
+says_first precision line key value rest time is h ended at =
+    let k = is_written key is in
+    says_samples precision line ((key, value) ∷ []) (front_of key k) (escape Other k.field) rest time (begins_with_first line key value rest k h) ended at

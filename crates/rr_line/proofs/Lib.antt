@@ -22,4 +22,6 @@ pub mod ReadPointLemmas
 pub mod LineLemmas
 pub mod WrittenLemmas
 pub mod KnownLemmas
+pub mod CutLemmas
+pub mod KnownLineLemmas
 pub mod SortedLemmas

@@ -72,7 +72,7 @@ equal Less e = absurd cc
 equal Equal e = refl
 equal Greater e = absurd cc
 
-less_differs : (o : Ordering) → is_lt o ≡ true → is_eq o ≡ false
+pub less_differs : (o : Ordering) → is_lt o ≡ true → is_eq o ≡ false
 less_differs Less e = refl
 less_differs Equal e = absurd cc
 less_differs Greater e = absurd cc

@@ -13,3 +13,4 @@ pub mod Gathering
 pub mod Fault
 pub mod Answer
 pub mod Known
+pub mod KnownLine

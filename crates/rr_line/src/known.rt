@@ -1,9 +1,12 @@
 //! Lines of a series that is known.
 
-ghost use Rattle.std.specs.Prelude.{◌≡◌, [], ◌∷◌, ◌++◌, IfSome};
+ghost use Rattle.std.specs.Prelude.{◌≡◌, false, [], ◌∷◌, ◌++◌, IfSome, OnSome, Ok};
 ghost use Rattle.rr_key.specs.Series.{IsKeyText};
-ghost use Rattle.rr_text.specs.declared.bytes.TheConstants.{EQUALS};
-ghost use Rattle.rr_line.specs.Known.{SaysSamples};
+ghost use Rattle.rr_text.specs.Bytes.{begins};
+ghost use Rattle.rr_text.specs.declared.bytes.TheConstants.{COMMA, EQUALS};
+ghost use Rattle.rr_line.specs.Known.{HasFirst, SaysSamples};
+ghost use Rattle.rr_line.specs.Part.{skip_spaces};
+ghost use Rattle.rr_line.specs.Reading.{ending_at};
 
 use crate::integer::read_integer;
 use crate::last_time::LastTime;
@@ -31,21 +34,25 @@ pub fn read_known(
     ensures { IfSome result (λ said.
         SaysSamples precision line.now ((key.now, said.0) ∷ []) said.1) }
 {
+    let (value, rest) = first_value(line, key)?;
+    let time = time_after(rest, precision, last)?;
+    Some((value, time))
+}
+
+/// The value of the first field, and what follows it, if the line begins with the key text.
+pub(crate) fn first_value<'a>(line: &'a [u8], key: &[u8]) -> Option<(i64, &'a [u8])>
+    ensures { IfSome result (λ value. HasFirst line.now key.now value.0 value.1.now) }
+{
     let text = content(line);
     if is_nothing(text) {
         return None;
     }
     let value_text = after_key(text, key)?;
-    let (value, ending) = read_integer(value_text)?;
-    if begins(COMMA, ending) {
-        return None;
-    }
-    let time = last.read(precision, ending)?;
-    Some((value, time))
+    read_integer(value_text)
 }
 
-/// What follows a key text and an equals at the front.
-fn after_key<'a>(text: &'a [u8], key: &[u8]) -> Option<&'a [u8]>
+/// What follows a key and an equals at the front.
+pub(crate) fn after_key<'a>(text: &'a [u8], key: &[u8]) -> Option<&'a [u8]>
     ensures { IfSome result (λ rest. text.now ≡ key.now ++ EQUALS ∷ rest.now) }
 {
     if text.len() < key.len() {
@@ -57,4 +64,19 @@ fn after_key<'a>(text: &'a [u8], key: &[u8]) -> Option<&'a [u8]>
     } else {
         None
     }
+}
+
+/// The time of what follows a field, if that is the last one.
+pub(crate) fn time_after(
+    rest: &[u8],
+    precision: Precision,
+    last: &mut LastTime,
+) -> Option<Option<i64>>
+    ensures ended { OnSome result (begins COMMA rest.now ≡ false) }
+    ensures time { IfSome result (λ time. ending_at precision (skip_spaces rest.now) ≡ Ok time) }
+{
+    if begins(COMMA, rest) {
+        return None;
+    }
+    last.read(precision, rest)
 }

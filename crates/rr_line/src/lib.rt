@@ -34,6 +34,7 @@ mod fields;
 mod front;
 mod integer;
 mod known;
+mod known_line;
 mod last_time;
 pub mod laws;
 mod line;
@@ -48,6 +49,7 @@ mod value;
 
 pub use fault::LineFault;
 pub use known::read_known;
+pub use known_line::KnownLine;
 pub use last_time::LastTime;
 pub use line::Line;
 pub use parse::parse_line;
