@@ -4,6 +4,7 @@ pub mod FetchesLemmas
 pub mod ServingLemmas
 pub mod ServedLemmas
 pub mod VerdictLemmas
+pub mod KnownLemmas
 pub mod RefusalLemmas
 pub mod ConnectionLemmas
 pub mod StreamLemmas

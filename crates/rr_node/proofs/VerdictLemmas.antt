@@ -17,19 +17,19 @@ use Rattle.rr_node.specs.declared.rules.Rules.{Rules}
 use Rattle.rr_node.specs.Lines.{Verdict, skipped, put, refused, verdict_by, verdict_of_point, verdict_of_line, verdict_of, is_point, asks_clock, keeper_with, keeper_with_some}
 
 -- when each of the two refusals of a point comes
-pub record Tells (ahead lacking : Bool) (result : Result ℕ WriteFault) : Type 0 where
+pub record Tells {X : Type 0} (ahead lacking : Bool) (result : Result X WriteFault) : Type 0 where
   pub is_ahead : (result ≡ Err why.AheadOfClock) ↔ IsTrue ahead
   pub lacks : (result ≡ Err why.NumbersSpent) ↔ (IsFalse ahead × IsTrue lacking)
 
 -- what isn't refused is put
-pub verdict_put : (ahead lacking : Bool) (p : PointView) (time : ℤ) (result : Result ℕ WriteFault) → Tells ahead lacking result
+pub verdict_put : {X : Type 0} (ahead lacking : Bool) (p : PointView) (time : ℤ) (result : Result X WriteFault) → Tells ahead lacking result
     → (result ≡ Err why.AheadOfClock → ⊥) → (result ≡ Err why.NumbersSpent → ⊥) → verdict_by ahead lacking p time ≡ put p time
 verdict_put true lacking p time result tells now_ahead spent = absurd (now_ahead (tells.is_ahead.1 refl))
 verdict_put false true p time result tells now_ahead spent = absurd (spent (tells.lacks.1 (refl, refl)))
 verdict_put false false p time result tells now_ahead spent = refl
 
 -- where a point has this many fields
-pub verdict_put_of : (lead : Option ℕ) (now : ℤ) (h : Holding) (p : PointView) (n : ℕ) (result : Result ℕ WriteFault) → length p.fields ≡ n
+pub verdict_put_of : {X : Type 0} (lead : Option ℕ) (now : ℤ) (h : Holding) (p : PointView) (n : ℕ) (result : Result X WriteFault) → length p.fields ≡ n
     → Tells (is_ahead p.time now lead) (lacks_numbers h n) result
     → (result ≡ Err why.AheadOfClock → ⊥) → (result ≡ Err why.NumbersSpent → ⊥) → verdict_of_point lead now h p ≡ put p (unwrap_or p.time now)
 verdict_put_of lead now h p n result same tells now_ahead spent =
@@ -41,7 +41,7 @@ verdict_spent true lacking p time e full = absurd cc
 verdict_spent false true p time e full = refl
 verdict_spent false false p time e full = absurd cc
 
-pub verdict_spent_of : (lead : Option ℕ) (now : ℤ) (h : Holding) (p : PointView) (n : ℕ) (result : Result ℕ WriteFault) → length p.fields ≡ n
+pub verdict_spent_of : {X : Type 0} (lead : Option ℕ) (now : ℤ) (h : Holding) (p : PointView) (n : ℕ) (result : Result X WriteFault) → length p.fields ≡ n
     → Tells (is_ahead p.time now lead) (lacks_numbers h n) result → result ≡ Err why.NumbersSpent → verdict_of_point lead now h p ≡ refused (codes "NumbersSpent")
 verdict_spent_of lead now h p n result same tells is =
     let both = tells.lacks.0 is in

@@ -22,6 +22,7 @@ use rr_feed::Feed;
 use rr_host::Clock;
 use rr_io::Counted;
 use rr_io::stream::{WriteFailed, flush, write_all};
+use rr_line::LastTime;
 use rr_records::push_refusal;
 use std::alloc::{AllocError, Global};
 use std::io::Write;
@@ -37,6 +38,8 @@ pub(crate) struct Connection {
     pieces: u32,
     lines: u64,
     report: Report,
+    /// The time of the last line that had one; most lines of a connection have that of the one before.
+    last: LastTime,
 
     ghost few: { report.points + report.refused ≤ lines },
     ghost few_samples: { report.samples ≤ lines * MAX_FIELDS },
@@ -64,6 +67,7 @@ impl Connection {
                 samples: 0,
                 refused: 0,
             },
+            last: LastTime::new(),
         }
     }
 
@@ -140,7 +144,7 @@ impl Connection {
             × Ends self.old keeper.old keeper.new moments) }
     {
         while let Some(item) = self.feed.next_line() {
-            let answer = write_item(self.alloc, keeper, clock, self.rules, item)?;
+            let answer = write_item(self.alloc, keeper, clock, self.rules, &mut self.last, item)?;
             self.count(answers, answer)?;
             self.publish_in_turn(keeper, rt)?;
         }

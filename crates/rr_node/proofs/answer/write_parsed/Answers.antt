@@ -1,5 +1,5 @@
 use Rattle.rr_node.proofs.RefusalLemmas.{takes_refusal}
-use Rattle.rr_node.proofs.answer.write_line.Goals as goal
+use Rattle.rr_node.proofs.answer.write_parsed.Goals as goal
 
 pub returns-in-Err-clause-taken : goal.returns-in-Err-clause-taken
 returns-in-Err-clause-taken g c =

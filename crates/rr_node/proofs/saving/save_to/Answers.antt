@@ -1,4 +1,4 @@
-use Rattle.std.proofs.Common.{◌≡◌, ◌∷◌, inl, inr, refl}
+use Rattle.std.proofs.Common.{inl, inr, refl}
 use Rattle.rr_host.proofs.CallsLemmas.{grows_on}
 use Rattle.rr_node.proofs.saving.save_to.Goals as goal
 

@@ -1,0 +1,90 @@
+-- A line that says one sample is taken as the sample is.
+use Rattle.std.proofs.Common.{◌≡◌, ℕ, ℤ, Bool, true, false, List, [], ◌∷◌, length, Option, Result, Ok, Err, Bor, refl, sym, ap, subst, ◌∙◌, inl}
+use Rattle.std.specs.Prelude.{codes, map, unwrap_or, IsTrue}
+use Rattle.std.specs.declared.alloc.AllocError.{AllocError}
+use Rattle.std.proofs.lemmas.List.{length-map}
+use Rattle.rr_feed.specs.Items.{Line}
+use Rattle.rr_line.specs.Known.{Sample, SaysSamples, samples_of}
+use Rattle.rr_point.specs.Key.{key_text}
+use Rattle.rr_point.specs.Point.{PointView}
+use Rattle.rr_cells.specs.Holding.{Holding}
+use Rattle.rr_replica.specs.Writing.{is_ahead, lacks_numbers}
+use Rattle.rr_replica.specs.declared.fault.WriteFault.{WriteFault}
+use Rattle.rr_replica.specs.declared.fault.WriteFault.TheVariants as why
+use Rattle.rr_copies.specs.Standing.{KeeperState, holding_of}
+use Rattle.rr_desk.specs.Points.{with_put, with_puts}
+use Rattle.rr_host.specs.Clock.{HasGiven}
+use Rattle.rr_node.specs.declared.answer.Answer.{Answer}
+use Rattle.rr_node.specs.declared.answer.Answer.TheVariants as says
+use Rattle.rr_node.specs.declared.rules.Rules.{Rules}
+use Rattle.rr_node.specs.Connection.{IsAnswer, IsTaken, TakesItem}
+use Rattle.rr_node.specs.Lines.{Verdict, skipped, put, refused, verdict_by, verdict_of_point, keeper_with, keeper_with_some}
+use Rattle.rr_node.proofs.VerdictLemmas.{Tells, verdict_put_of, verdict_spent_of}
+
+-- puts of samples, one after the other
+puts : KeeperState → ℤ → List Sample → KeeperState
+puts k time [] = k
+puts k time (sample ∷ samples) = puts (with_put k sample.0 time sample.1) time samples
+
+-- the fields of a point are put as its samples are
+puts_samples : (k : KeeperState) (p : PointView) (time : ℤ) (fields : List (List ℕ × ℤ)) → with_puts k p time fields ≡ puts k time (map (λ field. (key_text p field.0, field.1)) fields)
+unfolding puts
+puts_samples k p time [] = refl
+puts_samples k p time (field ∷ fields) = puts_samples (with_put k (key_text p field.0) time field.1) p time fields
+
+verdict_ahead : (ahead lacking : Bool) (p : PointView) (time : ℤ) → IsTrue ahead → verdict_by ahead lacking p time ≡ refused (codes "AheadOfClock")
+verdict_ahead true lacking p time e = refl
+verdict_ahead false lacking p time e = absurd cc
+
+module _ (p : PointView) (key : List ℕ) (value : ℤ) (are : samples_of p ≡ (key, value) ∷ []) where
+  puts_one : (k : KeeperState) (time : ℤ) → with_puts k p time p.fields ≡ with_put k key time value
+  unfolding puts
+  puts_one k time = puts_samples k p time p.fields ∙ ap (puts k time) are
+
+  alone : length p.fields ≡ 1
+  alone = sym (length-map p.fields (λ (field : List ℕ × ℤ). (key_text p field.0, field.1))) ∙ ap length are
+
+  module _ {X : Type 0} (lead : Option ℕ) (now : ℤ) (k new : KeeperState) (time : Option ℤ) (when : p.time ≡ time) where
+    -- what is told of the sample is told of its point
+    tells_point : (result : Result X WriteFault) → Tells (is_ahead time now lead) (lacks_numbers (holding_of k) 1) result
+        → Tells (is_ahead p.time now lead) (lacks_numbers (holding_of k) 1) result
+    tells_point result tells = subst (λ (t : Option ℤ). Tells (is_ahead t now lead) (lacks_numbers (holding_of k) 1) result) (sym when) tells
+
+    -- a sample that is put
+    pub takes_put : (x : X) → Tells (is_ahead time now lead) (lacks_numbers (holding_of k) 1) (Ok x)
+        → new ≡ with_put k key (unwrap_or time now) value → IsTaken (verdict_of_point lead now (holding_of k) p) k new (Ok (says.Put 1))
+    takes_put x tells is =
+        let verdict = verdict_put_of lead now (holding_of k) p 1 (Ok x) alone (tells_point (Ok x) tells) (λ e. cc) (λ e. cc) in
+        let put_at = is ∙ ap (λ (t : Option ℤ). with_put k key (unwrap_or t now) value) (sym when) ∙ sym (puts_one k (unwrap_or p.time now)) in
+        subst (λ (v : Verdict). (new ≡ keeper_with k v) × IsAnswer v (says.Put 1)) (sym verdict) (put_at, sym alone)
+
+    -- one that is refused
+    pub takes_spent : (text : Bor (List ℕ)) → text.now ≡ codes "NumbersSpent"
+        → Tells {X = X} (is_ahead time now lead) (lacks_numbers (holding_of k) 1) (Err why.NumbersSpent)
+        → new ≡ k → IsTaken (verdict_of_point lead now (holding_of k) p) k new (Ok (says.Refused text))
+    takes_spent text named tells same =
+        let verdict = verdict_spent_of {X = X} lead now (holding_of k) p 1 _ alone (tells_point _ tells) refl in
+        subst (λ (v : Verdict). (new ≡ keeper_with k v) × IsAnswer v (says.Refused text)) (sym verdict) (same, named)
+
+    pub takes_ahead : (text : Bor (List ℕ)) → text.now ≡ codes "AheadOfClock"
+        → Tells {X = X} (is_ahead time now lead) (lacks_numbers (holding_of k) 1) (Err why.AheadOfClock)
+        → new ≡ k → IsTaken (verdict_of_point lead now (holding_of k) p) k new (Ok (says.Refused text))
+    takes_ahead text named tells same =
+        let told = tells_point (Err why.AheadOfClock) tells in
+        let verdict = verdict_ahead (is_ahead p.time now lead) (lacks_numbers (holding_of k) (length p.fields)) p (unwrap_or p.time now) (told.is_ahead.0 refl) in
+        subst (λ (v : Verdict). (new ≡ keeper_with k v) × IsAnswer v (says.Refused text)) (sym verdict) (same, named)
+
+-- none of a verdict's operations, as where memory ran out before the first
+pub none_of : (k : KeeperState) (v : Verdict) → keeper_with_some k v 0 ≡ k
+none_of k skipped = refl
+none_of k (put p time) = refl
+none_of k (refused name) = refl
+
+-- what is taken of the samples is taken of the line that says them
+pub takes_known : (rules : Rules) (line : List ℕ) (samples : List Sample) (time : Option ℤ) (k new : KeeperState) (given since : Option (List ℤ)) (result : Result Answer AllocError)
+    → SaysSamples rules.precision line samples time
+    → ((p : PointView) → samples_of p ≡ samples → p.time ≡ time → (now : ℤ) × HasGiven given since (now ∷ []) × IsTaken (verdict_of_point rules.lead now (holding_of k) p) k new result)
+    → TakesItem rules (Line line) k new given since result
+takes_known rules line samples time k new given since result says taken =
+    let (now, gave, is) = taken says.p says.are says.when in
+    record { asked = now ∷ []; gave = gave; taken = inl (rw says.read refl, rw says.read is) }
