@@ -6,3 +6,4 @@ pub mod Log
 pub mod Prepared
 pub mod Peers
 pub mod Halt
+pub mod Pace

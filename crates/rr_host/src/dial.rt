@@ -1,6 +1,6 @@
 //! Dials, by which peers are reached.
 
-ghost use Rattle.std.specs.Prelude.{◌≡◌, IfSome, None};
+ghost use Rattle.std.specs.Prelude.{◌≡◌, IfSome, None, false, true};
 
 use rr_io::Counted;
 use std::io::{Read, Write};
@@ -10,7 +10,7 @@ use std::io::{Read, Write};
 /// It is seen as the list of its calls, where that is known.
 pub trait Dial {
     ghost use Rattle.std.specs.Prelude.{List, [], ◌∷◌, Option};
-    ghost use Rattle.rr_host.specs.Calls.{DialCall, Grows, handed_back, reached, unreached};
+    ghost use Rattle.rr_host.specs.Calls.{DialCall, Grows, handed_back, passed_over, reached, unreached};
     ghost use Rattle.rr_host.specs.Streams.{stream_of};
 
     /// What peers send.
@@ -20,6 +20,14 @@ pub trait Dial {
     type Output: Write;
 
     ghost calls: { Self → Option (List DialCall) };
+
+    /// Whether the peer at an address is to be called now; it is passed over if not.
+    fn is_due(&mut self, address: &str) -> bool
+        ensures due { result ≡ true → calls self.new ≡ calls self.old }
+        ensures passed { result ≡ false → Grows (calls self.old) (calls self.new) (passed_over address.now ∷ []) }
+    {
+        true
+    }
 
     /// A stream to the peer at an address; none where it can't be reached.
     fn open(&mut self, address: &str) -> Option<(Counted<Self::Input>, Counted<Self::Output>)>

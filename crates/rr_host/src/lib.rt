@@ -6,6 +6,9 @@
 //! ([`SystemClock`]) or those of a list ([`Moments`]). A [`Halt`] ends a node before its time: over TCP a flag
 //! that listeners and connections share ([`HaltFlag`]).
 //!
+//! What is done by turns has a [`Pace`]: a [`PacedDial`] calls each peer at most once in so many seconds, and a
+//! [`Listening`] by turns ends its wait after as many. A [`SaveFlag`] asks for a snapshot before its time.
+//!
 //! ```text
 //! Listening, Prepared ─── next ──> Visit: an input and an output ── take_back ──> closed, or kept
 //! Calling, PreparedDial ─ open ──> an input and an output ───────── take_back ──> closed, or kept
@@ -25,8 +28,11 @@ mod dial;
 mod halt;
 mod listening;
 mod log;
+mod pace;
+mod paced;
 mod peers;
 mod prepared;
+mod save_flag;
 mod socket;
 mod visits;
 
@@ -36,7 +42,10 @@ pub use dial::Dial;
 pub use halt::{Halt, HaltFlag};
 pub use listening::Listening;
 pub use log::CallLog;
+pub use pace::Pace;
+pub use paced::PacedDial;
 pub use peers::{PreparedDial, PreparedPeer};
 pub use prepared::Prepared;
+pub use save_flag::SaveFlag;
 pub use socket::{Half, halves};
 pub use visits::{Visit, Visits};

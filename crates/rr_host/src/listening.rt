@@ -1,6 +1,7 @@
 //! Connections over TCP.
 
 use crate::halt::HaltFlag;
+use crate::save_flag::SaveFlag;
 use crate::socket::{Half, halves, one_second};
 use crate::visits::{Visit, Visits};
 use libc::nanosleep;
@@ -38,13 +39,24 @@ fn with_limit(listener: TcpListener) -> io::Result<TcpListener> {
 ///
 /// One for which there is no memory fails. A read or write of one that moves no byte for the idle time
 /// fails too, so that no silent peer holds whoever serves it. Where none can be taken, as by a process that has
-/// no file descriptor left, one has failed, after a tenth of a second.
+/// no file descriptor left, one has failed, after a tenth of a second. So has one where none came in time, if the
+/// connections come by turns ([`Listening::by_turns`]).
 #[derive(Drop)]
 pub struct Listening {
     alloc: Global,
     listener: TcpListener,
     idle: Option<u64>,
     halt: HaltFlag,
+    turns: Option<Turns>,
+}
+
+/// What connections are waited for by turns.
+#[derive(Drop)]
+struct Turns {
+    /// For how many seconds one is waited for.
+    every: u64,
+    /// Raised for one that brought nothing.
+    wish: SaveFlag,
 }
 
 impl Listening {
@@ -61,22 +73,33 @@ impl Listening {
             listener: with_limit(listener)?,
             idle,
             halt,
+            turns: None,
         })
     }
 
-    /// Waits for the next connection; nothing once the node is halted.
-    fn accept(&self) -> io::Result<Option<TcpStream>> {
-        for _ in 0..u64::MAX {
-            if self.halt.is_raised() {
-                return Ok(None);
-            }
-            match self.listener.accept() {
-                Ok((stream, _)) => return Ok(Some(stream)),
-                Err(error) if error.kind() == ErrorKind::WouldBlock => {}
-                Err(error) => return Err(error),
-            }
+    /// The same connections, by turns: where none comes for `every` seconds, one has failed, so that whoever does
+    /// something after each connection does it then too. For each that brought no byte the flag is raised.
+    pub fn by_turns(self, every: u64, wish: SaveFlag) -> Listening {
+        Listening {
+            turns: Some(Turns { every, wish }),
+            ..self
         }
-        Ok(None)
+    }
+
+    /// For how many seconds a connection is waited for.
+    fn patience(&self) -> u64 {
+        match &self.turns {
+            Some(turns) => turns.every,
+            None => u64::MAX,
+        }
+    }
+
+    /// A connection that was taken.
+    fn visit(&self, stream: TcpStream) -> Visit<Half, Half> {
+        match halves(self.alloc, stream, self.idle, &self.halt) {
+            Some((input, output)) => Visit::Stream(Counted::new(input), Counted::new(output)),
+            None => Visit::Failed,
+        }
     }
 }
 
@@ -92,24 +115,30 @@ impl Visits for Listening {
     ghost calls = { λ l. None };
 
     fn next(&mut self) -> Visit<Half, Half> {
-        let stream = match self.accept() {
-            Ok(Some(stream)) => stream,
-            Ok(None) => return Visit::Over,
-            Err(_) => {
-                pause();
-                return Visit::Failed;
+        for _ in 0..self.patience() {
+            if self.halt.is_raised() {
+                return Visit::Over;
             }
-        };
-        match halves(self.alloc, stream, self.idle, &self.halt) {
-            Some((input, output)) => Visit::Stream(Counted::new(input), Counted::new(output)),
-            None => Visit::Failed,
+            match self.listener.accept() {
+                Ok((stream, _)) => return self.visit(stream),
+                Err(error) if error.kind() == ErrorKind::WouldBlock => {}
+                Err(_) => {
+                    pause();
+                    return Visit::Failed;
+                }
+            }
         }
+        Visit::Failed
     }
 
     fn take_back(&mut self, input: Counted<Half>, output: Counted<Half>)
         ensures { HasCalled None None (TookBack (stream_of (λ _. None) (λ _. None) input output) ∷ []) }
     {
-        drop(input);
+        if let Some(turns) = &self.turns
+            && !input.into_inner().has_given()
+        {
+            turns.wish.raise();
+        }
         drop(output);
     }
 }

@@ -63,6 +63,23 @@ impl Socket {
 #[derive(Drop)]
 pub struct Half {
     socket: Arc<Socket>,
+    /// Whether it gave a byte.
+    has_given: bool,
+}
+
+impl Half {
+    /// The half of a connection that gave nothing yet.
+    fn new(socket: Arc<Socket>) -> Half {
+        Half {
+            socket,
+            has_given: false,
+        }
+    }
+
+    /// Whether a byte was read from it.
+    pub(crate) fn has_given(&self) -> bool {
+        self.has_given
+    }
 }
 
 impl Read for Half {
@@ -74,6 +91,7 @@ impl Read for Half {
         let socket: &Socket = &self.socket;
         for _ in 0..socket.idle {
             if let Some(given) = socket.read(buf) {
+                self.has_given = self.has_given || matches!(given, Ok(1..));
                 return given;
             }
         }
@@ -121,5 +139,5 @@ pub fn halves(
     };
     let input = Arc::new(alloc, socket).ok()?;
     let output = Arc::try_clone(&input).ok()?;
-    Some((Half { socket: input }, Half { socket: output }))
+    Some((Half::new(input), Half::new(output)))
 }
