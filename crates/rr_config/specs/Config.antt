@@ -12,7 +12,7 @@ use Rattle.rr_line.specs.declared.precision.Precision.TheVariants.{Ns}
 use Rattle.rr_config.specs.declared.config.Config.{Config}
 use Rattle.rr_config.specs.declared.fault.ConfigFault.{ConfigFault}
 use Rattle.rr_config.specs.Fault.{of_schema_fault}
-use Rattle.rr_config.specs.Values.{needed, if_there, text_of, count_of, some_count_of, some_idle_of, texts_of, readers_of, precision_of}
+use Rattle.rr_config.specs.Values.{needed, if_there, text_of, count_of, some_count_of, some_seconds_of, texts_of, readers_of, precision_of}
 
 -- a configuration, with its texts by their bytes
 pub record ConfigView : Type 0 where
@@ -25,6 +25,7 @@ pub record ConfigView : Type 0 where
   pub lead : Option ℕ
   pub precision : Precision
   pub idle : Option ℕ
+  pub every : Option ℕ
 
 abbrev pub config_view : Config → ConfigView
 config_view c = record {
@@ -37,6 +38,7 @@ config_view c = record {
   lead = c.lead;
   precision = c.precision;
   idle = c.idle;
+  every = c.every;
 }
 
 -- a step of a schema as one of the configuration
@@ -57,8 +59,9 @@ config_in table = do
   visits ← if_there 0 count_of (get_member (codes "visits") table)
   lead ← if_there None some_count_of (get_member (codes "lead") table)
   precision ← if_there Ns precision_of (get_member (codes "precision") table)
-  idle ← if_there None some_idle_of (get_member (codes "idle") table)
-  Ok (record { schema = schema; lines = lines; fetch = fetch; peers = peers; rounds = rounds; visits = visits; lead = lead; precision = precision; idle = idle })
+  idle ← if_there None some_seconds_of (get_member (codes "idle") table)
+  every ← if_there None some_seconds_of (get_member (codes "every") table)
+  Ok (record { schema = schema; lines = lines; fetch = fetch; peers = peers; rounds = rounds; visits = visits; lead = lead; precision = precision; idle = idle; every = every })
 
 -- the configuration of a text
 abbrev pub config_of : List ℕ → Result ConfigView ConfigFault

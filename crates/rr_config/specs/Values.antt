@@ -68,10 +68,10 @@ abbrev pub precision_of : Data → Result Precision ConfigFault
 precision_of value = text_of value >>= precision_named
 
 -- a number of seconds from 1 to a day
-abbrev pub idle_of : Data → Result ℕ ConfigFault
-idle_of value = do
+abbrev pub seconds_of : Data → Result ℕ ConfigFault
+seconds_of value = do
   seconds ← count_of value
   unless BadCount (not (nat_le 1 seconds && nat_le seconds MAX_IDLE)) (Ok seconds)
 
-abbrev pub some_idle_of : Data → Result (Option ℕ) ConfigFault
-some_idle_of value = idle_of value >>= λ n. Ok (Some n)
+abbrev pub some_seconds_of : Data → Result (Option ℕ) ConfigFault
+some_seconds_of value = seconds_of value >>= λ n. Ok (Some n)

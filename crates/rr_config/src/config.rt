@@ -9,7 +9,7 @@ ghost use Rattle.rr_text.specs.Results.{GivesUnless};
 ghost use Rattle.rr_schema.specs.declared.fault.SchemaFault.TheVariants.{BadToml};
 ghost use Rattle.rr_line.specs.declared.precision.Precision.TheVariants.{Ns};
 ghost use Rattle.rr_config.specs.Config.{config_in, config_of, config_view};
-ghost use Rattle.rr_config.specs.Values.{if_there, count_of, some_count_of, some_idle_of, texts_of, precision_of};
+ghost use Rattle.rr_config.specs.Values.{if_there, count_of, some_count_of, some_seconds_of, texts_of, precision_of};
 
 use crate::fault::ConfigFault;
 use crate::value;
@@ -44,6 +44,9 @@ pub struct Config {
     /// For how many seconds a connection may move no byte, from 1 to 86,400; without end where it is
     /// missing.
     pub idle: Option<u64>,
+    /// At most once in how many seconds the peers are pulled and a snapshot is saved, and that also where no line
+    /// comes, from 1 to 86,400; after each line connection where it is missing.
+    pub every: Option<u64>,
 }
 
 /// The peers, none where the key is missing.
@@ -87,12 +90,12 @@ fn precision_in(table: &Table) -> Result<Precision, ConfigFault>
     }
 }
 
-/// The idle time, if the key is there.
-fn idle_in(table: &Table) -> Result<Option<u64>, ConfigFault>
-    ensures { result ≡ if_there None some_idle_of (get_member (codes "idle") (table_view table.now)) }
+/// A number of seconds, if the key is there.
+fn seconds_in(table: &Table, key: &str) -> Result<Option<u64>, ConfigFault>
+    ensures { result ≡ if_there None some_seconds_of (get_member key.now (table_view table.now)) }
 {
-    match find(table, "idle") {
-        Some(value) => Ok(Some(value::idle_of(value)?)),
+    match find(table, key) {
+        Some(value) => Ok(Some(value::seconds_of(value)?)),
         None => Ok(None),
     }
 }
@@ -111,7 +114,8 @@ impl Config {
         let visits = count_in(table, "visits")?;
         let lead = lead_in(table)?;
         let precision = precision_in(table)?;
-        let idle = idle_in(table)?;
+        let idle = seconds_in(table, "idle")?;
+        let every = seconds_in(table, "every")?;
         Ok(Config {
             schema,
             lines: String::from_str(alloc, lines)?,
@@ -122,6 +126,7 @@ impl Config {
             lead,
             precision,
             idle,
+            every,
         })
     }
 
@@ -129,8 +134,8 @@ impl Config {
     ///
     /// The keys are those of [`FromToml::from_toml`], and `lines`, an address; `fetch`, an array of 1 to
     /// 16 addresses; `peers`, an array of addresses; `rounds` and `visits`, numbers from 0; `lead`, a
-    /// number of nanoseconds from 0; `precision`, one of `ns`, `us`, `ms` and `s`; and `idle`, a number of
-    /// seconds from 1 to 86,400. All but `lines` and `fetch` may be missing. Other keys are ignored.
+    /// number of nanoseconds from 0; `precision`, one of `ns`, `us`, `ms` and `s`; and `idle` and `every`,
+    /// numbers of seconds from 1 to 86,400. All but `lines` and `fetch` may be missing. Other keys are ignored.
     ///
     /// Refusals, in this order: those of the schema; then key by key, in the order above,
     /// `MissingField`, `WrongKind`, and `BadCount` or `BadPrecision`. `Memory` is answered where

@@ -16,8 +16,8 @@ pub enum ConfigFault {
     MissingField,
     /// The value of a key is of another kind.
     WrongKind,
-    /// There are no addresses for fetches or too many, a number is negative, or the idle time is not
-    /// from 1 to 86,400 seconds.
+    /// There are no addresses for fetches or too many, a number is negative, or `idle` or `every` is
+    /// not from 1 to 86,400 seconds.
     BadCount,
     /// The precision is not one that lines have.
     BadPrecision,
@@ -52,7 +52,7 @@ impl fmt::Display for ConfigFault {
                 f.write_str("a value of the configuration is of the wrong kind")
             }
             ConfigFault::BadCount => f.write_str(
-                "fetch takes 1 to 16 addresses, idle 1 to 86,400 seconds, and no number may be negative",
+                "fetch takes 1 to 16 addresses, idle and every 1 to 86,400 seconds, and no number may be negative",
             ),
             ConfigFault::BadPrecision => f.write_str("the precision must be ns, us, ms or s"),
             ConfigFault::Memory => f.write_str("out of memory"),

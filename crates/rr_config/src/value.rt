@@ -6,7 +6,7 @@ ghost use Rattle.std.specs.String.{string_bytes};
 ghost use Rattle.toml.specs.Data.{get_member};
 ghost use Rattle.toml.specs.View.{view, table_view, array_view};
 ghost use Rattle.rr_text.specs.Results.{Gives, GivesUnless};
-ghost use Rattle.rr_config.specs.Values.{needed, text_of, count_of, texts_in, texts_of, readers_of, precision_named, precision_of, idle_of};
+ghost use Rattle.rr_config.specs.Values.{needed, text_of, count_of, texts_in, texts_of, readers_of, precision_named, precision_of, seconds_of};
 
 use crate::fault::ConfigFault;
 use rr_line::Precision;
@@ -101,9 +101,9 @@ pub(crate) fn precision_of(value: &Value) -> Result<Precision, ConfigFault>
     precision_named(text_of(value)?)
 }
 
-/// For how many seconds a connection may move no byte, from 1 to a day.
-pub(crate) fn idle_of(value: &Value) -> Result<u64, ConfigFault>
-    ensures { result ≡ idle_of (view value.now) }
+/// A number of seconds, from 1 to a day.
+pub(crate) fn seconds_of(value: &Value) -> Result<u64, ConfigFault>
+    ensures { result ≡ seconds_of (view value.now) }
 {
     let seconds = count_of(value)?;
     if seconds == 0 || seconds > MAX_IDLE {
