@@ -50,7 +50,7 @@ pub struct Config {
 }
 
 /// The peers, none where the key is missing.
-fn peers_in(alloc: Global, table: &Table) -> Result<Vec<String>, ConfigFault>
+pub(crate) fn peers_in(alloc: Global, table: &Table) -> Result<Vec<String>, ConfigFault>
     ensures { GivesUnless ConfigFault.Memory (λ texts. map string_bytes texts.items) result
         (if_there [] texts_of (get_member (codes "peers") (table_view table.now))) }
 {
@@ -61,7 +61,7 @@ fn peers_in(alloc: Global, table: &Table) -> Result<Vec<String>, ConfigFault>
 }
 
 /// A number, 0 where the key is missing.
-fn count_in(table: &Table, key: &str) -> Result<u64, ConfigFault>
+pub(crate) fn count_in(table: &Table, key: &str) -> Result<u64, ConfigFault>
     ensures { result ≡ if_there 0 count_of (get_member key.now (table_view table.now)) }
 {
     match find(table, key) {
@@ -71,7 +71,7 @@ fn count_in(table: &Table, key: &str) -> Result<u64, ConfigFault>
 }
 
 /// The lead, if the key is there.
-fn lead_in(table: &Table) -> Result<Option<u64>, ConfigFault>
+pub(crate) fn lead_in(table: &Table) -> Result<Option<u64>, ConfigFault>
     ensures { result ≡ if_there None some_count_of (get_member (codes "lead") (table_view table.now)) }
 {
     match find(table, "lead") {
@@ -81,7 +81,7 @@ fn lead_in(table: &Table) -> Result<Option<u64>, ConfigFault>
 }
 
 /// The precision, nanoseconds where the key is missing.
-fn precision_in(table: &Table) -> Result<Precision, ConfigFault>
+pub(crate) fn precision_in(table: &Table) -> Result<Precision, ConfigFault>
     ensures { result ≡ if_there Ns precision_of (get_member (codes "precision") (table_view table.now)) }
 {
     match find(table, "precision") {
@@ -91,7 +91,7 @@ fn precision_in(table: &Table) -> Result<Precision, ConfigFault>
 }
 
 /// A number of seconds, if the key is there.
-fn seconds_in(table: &Table, key: &str) -> Result<Option<u64>, ConfigFault>
+pub(crate) fn seconds_in(table: &Table, key: &str) -> Result<Option<u64>, ConfigFault>
     ensures { result ≡ if_there None some_seconds_of (get_member key.now (table_view table.now)) }
 {
     match find(table, key) {
@@ -103,7 +103,7 @@ fn seconds_in(table: &Table, key: &str) -> Result<Option<u64>, ConfigFault>
 impl Config {
     /// The configuration that a TOML table writes. Other keys are ignored.
     #[tactic(auto, unfolding(crate::specs::Config::config_in))]
-    fn from_table(alloc: Global, table: &Table) -> Result<Config, ConfigFault>
+    pub(crate) fn from_table(alloc: Global, table: &Table) -> Result<Config, ConfigFault>
         ensures { GivesUnless ConfigFault.Memory config_view result (config_in (table_view table.now)) }
     {
         let schema = Schema::from_table(alloc, table)?;

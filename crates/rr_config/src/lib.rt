@@ -1,7 +1,8 @@
 //! The configuration of a node: what an operator writes in TOML.
 //!
 //! A [`Config`] has the schema of the store, the addresses that the node listens on, its peers, how long
-//! it serves, and how the times of lines are taken. It is read by [`Config::from_toml`].
+//! it serves, and how the times of lines are taken. It is read by [`Config::from_toml`]; [`remarks`] tells an
+//! operator where a text is refused, and which of its keys are ignored.
 //!
 //! ```text
 //! TOML text ── toml ──> a table ── value, key by key ──> Config, or the first ConfigFault
@@ -13,7 +14,10 @@
 
 mod config;
 mod fault;
+mod place;
+mod remark;
 mod value;
 
 pub use config::Config;
 pub use fault::ConfigFault;
+pub use remark::remarks;

@@ -1,0 +1,173 @@
+//! Where in its text a configuration is refused.
+
+use crate::config::{count_in, lead_in, peers_in, precision_in, seconds_in};
+use crate::fault::ConfigFault;
+use crate::value::{find, readers_of, text_of, value_at};
+use rr_schema::{ArchiveSpec, Schema, SchemaFault};
+use std::alloc::Global;
+use std::fmt;
+use toml::{Table, Value};
+
+/// The keys of an archive.
+pub(crate) const ARCHIVE_KEYS: [&str; 4] = ["steps", "rows", "xff_num", "xff_den"];
+
+/// A key of a configuration.
+#[derive(Clone, Copy)]
+pub(crate) struct Place<'a> {
+    /// The key.
+    pub(crate) key: &'a str,
+    /// The archive that has it, from 1, unless it stands above all archives.
+    pub(crate) archive: Option<usize>,
+}
+
+impl fmt::Display for Place<'_> {
+    fn fmt<W: fmt::Write>(&self, f: &mut fmt::Formatter<W>) -> fmt::Result {
+        f.write_str(self.key)?;
+        match self.archive {
+            Some(number) => write!(f, " of archive {number}"),
+            None => Ok(()),
+        }
+    }
+}
+
+/// The place at which a table is refused, if it has one.
+pub(crate) fn place_of(alloc: Global, table: &Table, fault: ConfigFault) -> Option<Place<'static>> {
+    match fault {
+        ConfigFault::Schema(fault) => schema_place(alloc, table, fault),
+        _ => Some(Place {
+            key: refused_key(alloc, table)?,
+            archive: None,
+        }),
+    }
+}
+
+/// The first key of a node, but for those of its schema, whose value is refused.
+fn refused_key(alloc: Global, table: &Table) -> Option<&'static str> {
+    let refusals = [
+        ("lines", is_no_address(table)),
+        ("fetch", are_no_readers(alloc, table)),
+        ("peers", peers_in(alloc, table).is_err()),
+        ("rounds", count_in(table, "rounds").is_err()),
+        ("visits", count_in(table, "visits").is_err()),
+        ("lead", lead_in(table).is_err()),
+        ("precision", precision_in(table).is_err()),
+        ("idle", seconds_in(table, "idle").is_err()),
+        ("every", seconds_in(table, "every").is_err()),
+    ];
+    for (key, is_refused) in refusals {
+        if is_refused {
+            return Some(key);
+        }
+    }
+    None
+}
+
+/// Whether the address of lines is refused.
+fn is_no_address(table: &Table) -> bool {
+    match value_at(table, "lines") {
+        Ok(value) => text_of(value).is_err(),
+        Err(_) => true,
+    }
+}
+
+/// Whether the addresses of fetches are refused.
+fn are_no_readers(alloc: Global, table: &Table) -> bool {
+    match value_at(table, "fetch") {
+        Ok(value) => readers_of(alloc, value).is_err(),
+        Err(_) => true,
+    }
+}
+
+/// Where the schema of a table is refused.
+fn schema_place(alloc: Global, table: &Table, fault: SchemaFault) -> Option<Place<'static>> {
+    let key = match fault {
+        SchemaFault::MissingField | SchemaFault::WrongKind => return unread_place(table),
+        SchemaFault::BadStep => "step",
+        SchemaFault::NoArchive | SchemaFault::TooManyArchives => "archive",
+        SchemaFault::BadSteps | SchemaFault::StepsNotRising => "steps",
+        SchemaFault::BadRows => "rows",
+        SchemaFault::BadXff => "xff_num or xff_den",
+        SchemaFault::BadToml | SchemaFault::Memory => return None,
+    };
+    Some(Place {
+        key,
+        archive: refused_archive(alloc, table, fault),
+    })
+}
+
+/// Whether the value at a key is a whole number.
+fn is_whole(table: &Table, key: &str) -> bool {
+    match find(table, key) {
+        Some(value) => value.as_integer().is_some(),
+        None => false,
+    }
+}
+
+/// The archives of a table, if they are an array.
+pub(crate) fn archives_of(table: &Table) -> Option<&Vec<Value>> {
+    find(table, "archive")?.as_array()
+}
+
+/// The first key of a schema whose value is missing or of another kind.
+fn unread_place(table: &Table) -> Option<Place<'static>> {
+    if !is_whole(table, "step") {
+        return Some(Place {
+            key: "step",
+            archive: None,
+        });
+    }
+    let no_tables = Place {
+        key: "archive",
+        archive: None,
+    };
+    let Some(archives) = archives_of(table) else {
+        return Some(no_tables);
+    };
+    if archives.iter().any(|archive| archive.as_table().is_none()) {
+        return Some(no_tables);
+    }
+    for (place, archive) in archives.iter().enumerate() {
+        let Some(archive) = archive.as_table() else {
+            continue;
+        };
+        for key in ARCHIVE_KEYS {
+            if !is_whole(archive, key) {
+                return Some(Place {
+                    key,
+                    archive: Some(place + 1),
+                });
+            }
+        }
+    }
+    None
+}
+
+/// The whole number at a key; one that doesn't fit is past each limit.
+fn whole_at(table: &Table, key: &str) -> Option<u32> {
+    let number = find(table, key)?.as_integer()?;
+    Some(u32::try_from(number).unwrap_or(u32::MAX))
+}
+
+/// The archive of a table.
+fn spec_of(table: &Table) -> Option<ArchiveSpec> {
+    Some(ArchiveSpec {
+        steps: whole_at(table, "steps")?,
+        rows: whole_at(table, "rows")?,
+        num: whole_at(table, "xff_num")?,
+        den: whole_at(table, "xff_den")?,
+    })
+}
+
+/// The archive, from 1, with which those before it are refused so.
+fn refused_archive(alloc: Global, table: &Table, fault: SchemaFault) -> Option<usize> {
+    let step = whole_at(table, "step")?;
+    let mut specs = Vec::new(alloc);
+    for archive in archives_of(table)? {
+        specs.push(spec_of(archive.as_table()?)?).ok()?;
+        match Schema::new(alloc, step, specs.as_slice()) {
+            Err(why) if why == fault => return Some(specs.len()),
+            _ => {}
+        }
+    }
+    None
+}

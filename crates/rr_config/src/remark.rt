@@ -1,0 +1,115 @@
+//! What an operator is told of the text of a configuration.
+
+use crate::config::Config;
+use crate::fault::ConfigFault;
+use crate::place::{ARCHIVE_KEYS, Place, archives_of, place_of};
+use std::alloc::{AllocError, Global};
+use std::str;
+use toml::Table;
+
+/// The keys of a node.
+const NODE_KEYS: [&str; 11] = [
+    "step",
+    "archive",
+    "lines",
+    "fetch",
+    "peers",
+    "rounds",
+    "visits",
+    "lead",
+    "precision",
+    "idle",
+    "every",
+];
+
+/// What an operator is told of a text beside its configuration or its fault, a line each.
+///
+/// Of a text that is refused that is the place and the reason. Of any other it is each key that is ignored, and that
+/// there is no `lead`. The cost is that of reading the text twice.
+pub fn remarks(alloc: Global, text: &[u8]) -> Result<Vec<String>, AllocError> {
+    let mut lines = Vec::new(alloc);
+    let Ok(text) = str::from_utf8(text) else {
+        lines.push(String::from_str(alloc, "the text is not UTF-8")?)?;
+        return Ok(lines);
+    };
+    match toml::table_from_str(alloc, text) {
+        Ok(table) => push_remarks(alloc, &mut lines, &table)?,
+        Err(error) => lines.push(on_one_line(alloc, format!(in alloc; "{error}")?.as_str())?)?,
+    }
+    Ok(lines)
+}
+
+/// The lines of a text as one.
+fn on_one_line(alloc: Global, text: &str) -> Result<String, AllocError> {
+    let mut whole = String::new(alloc);
+    for line in text.lines() {
+        if !whole.is_empty() {
+            whole.push_str(": ")?;
+        }
+        whole.push_str(line)?;
+    }
+    Ok(whole)
+}
+
+/// Adds what is told of a table.
+fn push_remarks(alloc: Global, lines: &mut Vec<String>, table: &Table) -> Result<(), AllocError> {
+    match Config::from_table(alloc, table) {
+        Ok(config) => {
+            push_unknown(alloc, lines, table)?;
+            if config.lead.is_none() {
+                let text = "no lead: one point from far in the future ends its series";
+                lines.push(String::from_str(alloc, text)?)?;
+            }
+            Ok(())
+        }
+        Err(ConfigFault::Memory) => Err(AllocError),
+        Err(fault) => push_refusal(alloc, lines, table, fault),
+    }
+}
+
+/// Adds where and why a table is refused.
+fn push_refusal(
+    alloc: Global,
+    lines: &mut Vec<String>,
+    table: &Table,
+    fault: ConfigFault,
+) -> Result<(), AllocError> {
+    let line = match place_of(alloc, table, fault) {
+        Some(place) => format!(in alloc; "{place}: {fault}")?,
+        None => format!(in alloc; "{fault}")?,
+    };
+    lines.push(line)?;
+    Ok(())
+}
+
+/// Adds the keys of a table that are ignored, and those of its archives.
+fn push_unknown(alloc: Global, lines: &mut Vec<String>, table: &Table) -> Result<(), AllocError> {
+    push_others(alloc, lines, table, &NODE_KEYS, None)?;
+    let Some(archives) = archives_of(table) else {
+        return Ok(());
+    };
+    for (place, archive) in archives.iter().enumerate() {
+        if let Some(archive) = archive.as_table() {
+            push_others(alloc, lines, archive, &ARCHIVE_KEYS, Some(place + 1))?;
+        }
+    }
+    Ok(())
+}
+
+/// Adds the keys of a table that are none of these.
+fn push_others(
+    alloc: Global,
+    lines: &mut Vec<String>,
+    table: &Table,
+    keys: &[&str],
+    archive: Option<usize>,
+) -> Result<(), AllocError> {
+    for key in table.keys() {
+        let key = key.as_str();
+        if !keys.contains(&key) {
+            let place = Place { key, archive };
+            lines.push(format!(in alloc; "{place}: this key is unknown, and ignored")?)?;
+        }
+    }
+    Ok(())
+}
