@@ -1,5 +1,5 @@
 -- What the TOML text of a configuration says: the configuration, or the first fault, key by key.
-use Rattle.std.specs.Prelude.{ℕ, List, [], map, codes, Option, None, Some, Result, Ok, Err}
+use Rattle.std.specs.Prelude.{ℕ, Bool, false, List, [], map, codes, Option, None, Some, option_map, Result, Ok, Err}
 use Rattle.std.specs.String.{string_bytes}
 use Rattle.toml.specs.Data.{Members, get_member}
 use Rattle.rr_schema.specs.declared.fault.SchemaFault.{SchemaFault}
@@ -12,7 +12,7 @@ use Rattle.rr_line.specs.declared.precision.Precision.TheVariants.{Ns}
 use Rattle.rr_config.specs.declared.config.Config.{Config}
 use Rattle.rr_config.specs.declared.fault.ConfigFault.{ConfigFault}
 use Rattle.rr_config.specs.Fault.{of_schema_fault}
-use Rattle.rr_config.specs.Values.{needed, if_there, text_of, count_of, some_count_of, some_seconds_of, texts_of, readers_of, precision_of}
+use Rattle.rr_config.specs.Values.{needed, if_there, flag_of, text_of, some_text_of, count_of, some_count_of, some_seconds_of, texts_of, readers_of, precision_of}
 
 -- a configuration, with its texts by their bytes
 pub record ConfigView : Type 0 where
@@ -26,6 +26,8 @@ pub record ConfigView : Type 0 where
   pub precision : Precision
   pub idle : Option ℕ
   pub every : Option ℕ
+  pub quiet : Bool
+  pub status : Option (List ℕ)
 
 abbrev pub config_view : Config → ConfigView
 config_view c = record {
@@ -39,6 +41,8 @@ config_view c = record {
   precision = c.precision;
   idle = c.idle;
   every = c.every;
+  quiet = c.quiet;
+  status = option_map string_bytes c.status;
 }
 
 -- a step of a schema as one of the configuration
@@ -61,7 +65,9 @@ config_in table = do
   precision ← if_there Ns precision_of (get_member (codes "precision") table)
   idle ← if_there None some_seconds_of (get_member (codes "idle") table)
   every ← if_there None some_seconds_of (get_member (codes "every") table)
-  Ok (record { schema = schema; lines = lines; fetch = fetch; peers = peers; rounds = rounds; visits = visits; lead = lead; precision = precision; idle = idle; every = every })
+  quiet ← if_there false flag_of (get_member (codes "quiet") table)
+  status ← if_there None some_text_of (get_member (codes "status") table)
+  Ok (record { schema = schema; lines = lines; fetch = fetch; peers = peers; rounds = rounds; visits = visits; lead = lead; precision = precision; idle = idle; every = every; quiet = quiet; status = status })
 
 -- the configuration of a text
 abbrev pub config_of : List ℕ → Result ConfigView ConfigFault

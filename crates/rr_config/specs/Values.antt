@@ -1,7 +1,7 @@
 -- What the values of a configuration's keys are read as.
-use Rattle.std.specs.Prelude.{ℕ, ◌&&◌, nat_le, not, List, [], ◌∷◌, length, ℤ, pos, negsuc, codes, Option, None, Some, Result, Ok, Err, if◌then◌else◌}
+use Rattle.std.specs.Prelude.{Bool, ℕ, ◌&&◌, nat_le, not, List, [], ◌∷◌, length, ℤ, pos, negsuc, codes, Option, None, Some, Result, Ok, Err, if◌then◌else◌}
 use Rattle.std.specs.Str.{bytes_eq}
-use Rattle.toml.specs.Data.{Data, Items, no_items, item, as_integer, as_str, as_array}
+use Rattle.toml.specs.Data.{Data, Items, no_items, item, as_bool, as_integer, as_str, as_array}
 use Rattle.rr_text.specs.Results.{◌>>=◌, unless}
 use Rattle.rr_text.specs.declared.limits.TheConstants.{MAX_IDLE, MAX_READERS}
 use Rattle.rr_line.specs.declared.precision.Precision.{Precision}
@@ -27,6 +27,13 @@ of_kind (Some value) = Ok value
 -- a text
 abbrev pub text_of : Data → Result (List ℕ) ConfigFault
 text_of value = of_kind (as_str value)
+
+abbrev pub some_text_of : Data → Result (Option (List ℕ)) ConfigFault
+some_text_of value = text_of value >>= λ text. Ok (Some text)
+
+-- yes or no
+abbrev pub flag_of : Data → Result Bool ConfigFault
+flag_of value = of_kind (as_bool value)
 
 -- a whole number that isn't negative
 abbrev pub unsigned_of : ℤ → Result ℕ ConfigFault

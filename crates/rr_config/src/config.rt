@@ -1,6 +1,6 @@
 //! The configuration of a node.
 
-ghost use Rattle.std.specs.Prelude.{◌≡◌, Err, false, map, [], None, codes};
+ghost use Rattle.std.specs.Prelude.{◌≡◌, Err, false, map, [], None, codes, option_map};
 ghost use Rattle.std.specs.Str.{is_utf8};
 ghost use Rattle.std.specs.String.{string_bytes};
 ghost use Rattle.toml.specs.Data.{get_member};
@@ -9,7 +9,7 @@ ghost use Rattle.rr_text.specs.Results.{GivesUnless};
 ghost use Rattle.rr_schema.specs.declared.fault.SchemaFault.TheVariants.{BadToml};
 ghost use Rattle.rr_line.specs.declared.precision.Precision.TheVariants.{Ns};
 ghost use Rattle.rr_config.specs.Config.{config_in, config_of, config_view};
-ghost use Rattle.rr_config.specs.Values.{if_there, count_of, some_count_of, some_seconds_of, texts_of, precision_of};
+ghost use Rattle.rr_config.specs.Values.{if_there, count_of, flag_of, some_count_of, some_seconds_of, some_text_of, texts_of, precision_of};
 
 use crate::fault::ConfigFault;
 use crate::value;
@@ -47,6 +47,10 @@ pub struct Config {
     /// At most once in how many seconds the peers are pulled and a snapshot is saved, and that also where no line
     /// comes, from 1 to 86,400; after each line connection where it is missing.
     pub every: Option<u64>,
+    /// Whether nothing is said of a start that succeeds and of rounds.
+    pub quiet: bool,
+    /// The file that counts of what the node did are written to, if any.
+    pub status: Option<String>,
 }
 
 /// The peers, none where the key is missing.
@@ -100,6 +104,27 @@ pub(crate) fn seconds_in(table: &Table, key: &str) -> Result<Option<u64>, Config
     }
 }
 
+/// Whether a node is to say little, which it isn't where the key is missing.
+pub(crate) fn quiet_in(table: &Table) -> Result<bool, ConfigFault>
+    ensures { result ≡ if_there false flag_of (get_member (codes "quiet") (table_view table.now)) }
+{
+    match find(table, "quiet") {
+        Some(value) => value::flag_of(value),
+        None => Ok(false),
+    }
+}
+
+/// The file of counts, if the key is there.
+pub(crate) fn status_in(alloc: Global, table: &Table) -> Result<Option<String>, ConfigFault>
+    ensures { GivesUnless ConfigFault.Memory (option_map string_bytes) result
+        (if_there None some_text_of (get_member (codes "status") (table_view table.now))) }
+{
+    match find(table, "status") {
+        Some(value) => Ok(Some(String::from_str(alloc, text_of(value)?)?)),
+        None => Ok(None),
+    }
+}
+
 impl Config {
     /// The configuration that a TOML table writes. Other keys are ignored.
     #[tactic(auto, unfolding(crate::specs::Config::config_in))]
@@ -116,6 +141,8 @@ impl Config {
         let precision = precision_in(table)?;
         let idle = seconds_in(table, "idle")?;
         let every = seconds_in(table, "every")?;
+        let quiet = quiet_in(table)?;
+        let status = status_in(alloc, table)?;
         Ok(Config {
             schema,
             lines: String::from_str(alloc, lines)?,
@@ -127,6 +154,8 @@ impl Config {
             precision,
             idle,
             every,
+            quiet,
+            status,
         })
     }
 
@@ -134,8 +163,8 @@ impl Config {
     ///
     /// The keys are those of [`FromToml::from_toml`], and `lines`, an address; `fetch`, an array of 1 to
     /// 16 addresses; `peers`, an array of addresses; `rounds` and `visits`, numbers from 0; `lead`, a
-    /// number of nanoseconds from 0; `precision`, one of `ns`, `us`, `ms` and `s`; and `idle` and `every`,
-    /// numbers of seconds from 1 to 86,400. All but `lines` and `fetch` may be missing. Other keys are ignored.
+    /// number of nanoseconds from 0; `precision`, one of `ns`, `us`, `ms` and `s`; `idle` and `every`,
+    /// numbers of seconds from 1 to 86,400; `quiet`, true or false; and `status`, a text. All but `lines` and `fetch` may be missing. Other keys are ignored.
     ///
     /// Refusals, in this order: those of the schema; then key by key, in the order above,
     /// `MissingField`, `WrongKind`, and `BadCount` or `BadPrecision`. `Memory` is answered where

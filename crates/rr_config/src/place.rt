@@ -1,6 +1,6 @@
 //! Where in its text a configuration is refused.
 
-use crate::config::{count_in, lead_in, peers_in, precision_in, seconds_in};
+use crate::config::{count_in, lead_in, peers_in, precision_in, quiet_in, seconds_in, status_in};
 use crate::fault::ConfigFault;
 use crate::value::{find, readers_of, text_of, value_at};
 use rr_schema::{ArchiveSpec, Schema, SchemaFault};
@@ -53,6 +53,8 @@ fn refused_key(alloc: Global, table: &Table) -> Option<&'static str> {
         ("precision", precision_in(table).is_err()),
         ("idle", seconds_in(table, "idle").is_err()),
         ("every", seconds_in(table, "every").is_err()),
+        ("quiet", quiet_in(table).is_err()),
+        ("status", status_in(alloc, table).is_err()),
     ];
     for (key, is_refused) in refusals {
         if is_refused {

@@ -8,7 +8,7 @@ use std::str;
 use toml::Table;
 
 /// The keys of a node.
-const NODE_KEYS: [&str; 11] = [
+const NODE_KEYS: [&str; 13] = [
     "step",
     "archive",
     "lines",
@@ -20,6 +20,8 @@ const NODE_KEYS: [&str; 11] = [
     "precision",
     "idle",
     "every",
+    "quiet",
+    "status",
 ];
 
 /// What an operator is told of a text beside its configuration or its fault, a line each.

@@ -6,7 +6,7 @@ ghost use Rattle.std.specs.String.{string_bytes};
 ghost use Rattle.toml.specs.Data.{get_member};
 ghost use Rattle.toml.specs.View.{view, table_view, array_view};
 ghost use Rattle.rr_text.specs.Results.{Gives, GivesUnless};
-ghost use Rattle.rr_config.specs.Values.{needed, text_of, count_of, texts_in, texts_of, readers_of, precision_named, precision_of, seconds_of};
+ghost use Rattle.rr_config.specs.Values.{needed, text_of, flag_of, count_of, texts_in, texts_of, readers_of, precision_named, precision_of, seconds_of};
 
 use crate::fault::ConfigFault;
 use rr_line::Precision;
@@ -33,6 +33,13 @@ pub(crate) fn text_of(value: &Value) -> Result<&str, ConfigFault>
     ensures { Gives (λ text. text.now) result (text_of (view value.now)) }
 {
     value.as_str().ok_or(ConfigFault::WrongKind)
+}
+
+/// Yes or no.
+pub(crate) fn flag_of(value: &Value) -> Result<bool, ConfigFault>
+    ensures { result ≡ flag_of (view value.now) }
+{
+    value.as_bool().ok_or(ConfigFault::WrongKind)
 }
 
 /// A whole number that isn't negative.
