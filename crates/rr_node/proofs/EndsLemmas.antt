@@ -11,18 +11,19 @@ use Rattle.rr_host.proofs.CallsLemmas.{grows_on}
 use Rattle.rr_host.proofs.VisitsLemmas.{called_more}
 use Rattle.rr_node.specs.declared.fault.NodeFault.{NodeFault}
 use Rattle.rr_node.specs.declared.report.Report.{Report}
-use Rattle.rr_node.specs.Fault.{IsOfLines, goes_on, of_session_fault}
+use Rattle.rr_node.specs.declared.round.Lines.{Lines}
+use Rattle.rr_node.specs.Fault.{IsOfLines, of_session_fault}
 use Rattle.rr_node.specs.Lines.{HasStopped, IsServed, rules_of}
 use Rattle.rr_node.specs.Peers.{EndsPull}
 use Rattle.rr_node.specs.Pull.{HasStoppedPulling}
-use Rattle.rr_node.specs.Round.{EndsLines, run_of}
+use Rattle.rr_node.specs.Round.{EndsLines, going_on, run_of}
 use Rattle.rr_node.proofs.BlameLemmas.{LinesTell, SessionTells, lines_blamed, session_blamed}
 
 -- the lines of a connection, whatever ended them
-pub lines_over : (config : Config) (result : Result Report NodeFault) (came : Option Bool) (a b c : Option (List Call)) (before after : Stream) (old new : KeeperState) (given since : Option (List ℤ))
+pub lines_over : (config : Config) (result : Result Report NodeFault) (came : Option Lines) (a b c : Option (List Call)) (before after : Stream) (old new : KeeperState) (given since : Option (List ℤ))
     → HasCalled a b (Gave before ∷ []) → HasCalled b c (TookBack after ∷ [])
     → IfOk result (IsServed (rules_of config.precision config.lead) (run_of old new given since before after)) → OnErr result (HasStopped (rules_of config.precision config.lead) (run_of old new given since before after))
-    → LinesTell result before after → IfErr result IsOfLines → came ≡ (if goes_on result then Some true else None)
+    → LinesTell result before after → IfErr result IsOfLines → came ≡ going_on result
     → (calls : List Call) × HasCalled a c calls × EndsLines config came old new given since calls
 lines_over config result came a b c before after old new given since gave took served stopped tell faults going = (
   Gave before ∷ TookBack after ∷ [],
@@ -39,5 +40,5 @@ pub pull_over : (address : List ℕ) (why : GossipFault) (a b c : Option (List D
 pull_over address why a b c before after old new opened back tell stopped = (
   reached address before ∷ handed_back after ∷ [],
   grows_on a b c (reached address before ∷ []) (handed_back after ∷ []) opened back,
-  inr (before, after, refl, (why, refl, session_blamed why before after tell, stopped)),
+  inr (inr (before, after, refl, (why, refl, session_blamed why before after tell, stopped))),
 )

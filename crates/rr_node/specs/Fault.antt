@@ -1,5 +1,5 @@
 -- The faults of connections, and their printed names.
-use Rattle.std.specs.Prelude.{◌≡◌, ⊤, ◌⊎◌, ℕ, Bool, true, false, not, List, codes, Result, Ok, Err}
+use Rattle.std.specs.Prelude.{◌≡◌, ⊤, ◌⊎◌, ℕ, Bool, true, false, List, codes, Result, Ok, Err}
 use Rattle.rr_text.specs.declared.limits.TheConstants.{MAX_READS}
 use Rattle.rr_io.specs.Counted.{HasRisen, HasRisenBy}
 use Rattle.rr_io.specs.declared.stream.ReadFault.{ReadFault}
@@ -71,11 +71,6 @@ is_memory node.TooManyReads = false
 is_memory node.BadAddress = false
 is_memory (node.Session fault) = false
 is_memory node.Memory = true
-
--- whether what serves connections, one after the other, goes on after this one: memory alone ends it
-abbrev pub goes_on : {X : Type 0} → Result X NodeFault → Bool
-goes_on (Ok x) = true
-goes_on (Err fault) = not (is_memory fault)
 
 -- where a stream is to blame for the fault of its connection, its calls tell it
 abbrev pub IsToBlame : Stream → Stream → NodeFault → Type 0

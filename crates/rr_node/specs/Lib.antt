@@ -6,6 +6,7 @@ pub mod Saving
 pub mod Fetches
 pub mod Answering
 pub mod Lines
+pub mod Tally
 pub mod Connection
 pub mod Seats
 pub mod Round

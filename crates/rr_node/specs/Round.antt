@@ -8,17 +8,25 @@ use Rattle.rr_node.specs.declared.report.Report.{Report}
 use Rattle.rr_node.specs.declared.rules.Rules.{Rules}
 use Rattle.rr_host.specs.Calls.{DialCall}
 use Rattle.rr_host.specs.Streams.{Stream}
-use Rattle.rr_node.specs.Fault.{IsOfLines, IsToBlame, goes_on}
-use Rattle.rr_node.specs.Shelf.{ShelfCall}
+use Rattle.rr_node.specs.declared.round.Lines.{Lines}
+use Rattle.rr_node.specs.declared.round.Lines.TheVariants as lines
+use Rattle.rr_node.specs.Fault.{IsOfLines, IsToBlame, is_memory}
+use Rattle.rr_node.specs.Shelf.{ShelfCall, taken}
 use Rattle.rr_node.specs.Lines.{Run, IsServed, HasStopped, rules_of}
 use Rattle.rr_node.specs.Peers.{EndsPulls}
 use Rattle.rr_node.specs.Saving.{EndsSave}
 use Rattle.rr_host.specs.Visits.{Call, Failed, Gave, Over, TookBack}
 
--- whether a connection came; none where memory ran out
-abbrev pub came_in : {F : Type 0} → Result Bool F → Option Bool
+-- what came; nothing where memory ran out
+abbrev pub came_in : {A F : Type 0} → Result A F → Option A
 came_in (Ok came) = Some came
 came_in (Err fault) = None
+
+-- what a connection is, by what became of its lines: its report is told if they were served to the end, and memory alone
+-- ends the round
+abbrev pub going_on : Result Report NodeFault → Option Lines
+going_on (Ok report) = Some (lines.Taken (Some report))
+going_on (Err fault) = if is_memory fault then None else Some (lines.Taken None)
 
 -- what the keeper and the clock were before a connection and are after it, and its stream
 abbrev pub run_of : KeeperState → KeeperState → Option (List ℤ) → Option (List ℤ) → Stream → Stream → Run
@@ -33,19 +41,19 @@ run_of old new given since before after = record {
 }
 
 -- the lines of a connection were served to the end, or up to a fault; the round goes on unless that is Memory
-pub record EndsConnection (rules : Rules) (run : Run) (before after : Stream) (came : Option Bool) : Type 0 where
+pub record EndsConnection (rules : Rules) (run : Run) (before after : Stream) (came : Option Lines) : Type 0 where
   pub result : Result Report NodeFault
   pub served : IfOk result (IsServed rules run)
   pub stopped : OnErr result (HasStopped rules run)
   pub faults : IfErr result IsOfLines
   pub blamed : IfErr result (IsToBlame before after)
-  pub going : came ≡ (if goes_on result then Some true else None)
+  pub going : came ≡ going_on result
 
 -- the next connection: none will come; or it failed; or it is handed back when its lines are served
-abbrev pub EndsLines : Config → Option Bool → KeeperState → KeeperState → Option (List ℤ) → Option (List ℤ) → List Call → Type 0
+abbrev pub EndsLines : Config → Option Lines → KeeperState → KeeperState → Option (List ℤ) → Option (List ℤ) → List Call → Type 0
 EndsLines config came old new given since calls =
-    ((calls ≡ Over ∷ []) × (came ≡ Some false) × (new ≡ old) × (since ≡ given))
-    ⊎ ((calls ≡ Failed ∷ []) × (came ≡ Some true) × (new ≡ old) × (since ≡ given))
+    ((calls ≡ Over ∷ []) × (came ≡ Some lines.Over) × (new ≡ old) × (since ≡ given))
+    ⊎ ((calls ≡ Failed ∷ []) × (came ≡ Some (lines.Taken None)) × (new ≡ old) × (since ≡ given))
     ⊎ ((before after : Stream) × (calls ≡ Gave before ∷ TookBack after ∷ [])
     × EndsConnection (rules_of config.precision config.lead) (run_of old new given since before after) before after came)
 
@@ -61,8 +69,12 @@ EndsRest config came old new dialed shelved =
     × (((came ≡ Some true) × EndsSave true new saved) ⊎ ((came ≡ None) × EndsSave false new saved))
     × (shelved ≡ told ++ saved))
 
--- a whole round: where no connection will come, and where memory ran out in one, there is nothing else
+-- a whole round: where no connection will come, and where memory ran out in one, there is nothing else; else the shelf is
+-- told the connection's report first
 abbrev pub EndsRound : Config → Option Bool → KeeperState → KeeperState → Option (List ℤ) → Option (List ℤ) → List Call → List DialCall → List ShelfCall → Type 0
 EndsRound config came old new given since calls dialed shelved =
-    (((came ≡ Some false) ⊎ (came ≡ None)) × EndsLines config came old new given since calls × (dialed ≡ []) × (shelved ≡ []))
-    ⊎ ((mid : KeeperState) × EndsLines config (Some true) old mid given since calls × EndsRest config came mid new dialed shelved)
+    ((((came ≡ Some false) × EndsLines config (Some lines.Over) old new given since calls)
+    ⊎ ((came ≡ None) × EndsLines config None old new given since calls)) × (dialed ≡ []) × (shelved ≡ []))
+    ⊎ ((mid : KeeperState) × (report : Option Report) × (rest : List ShelfCall)
+    × EndsLines config (Some (lines.Taken report)) old mid given since calls × EndsRest config came mid new dialed rest
+    × (shelved ≡ taken report ∷ rest))

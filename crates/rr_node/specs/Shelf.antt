@@ -1,12 +1,15 @@
 -- The calls of a shelf, each told with what it gave and was handed back.
-use Rattle.std.specs.Prelude.{ℕ, Bool}
+use Rattle.std.specs.Prelude.{ℕ, Bool, Option}
 use Rattle.rr_host.specs.Streams.{Output}
 use Rattle.rr_node.specs.declared.fault.NodeFault.{NodeFault}
+use Rattle.rr_node.specs.declared.report.Report.{Report}
 use Rattle.rr_parts.specs.declared.fault.SaveFault.{SaveFault}
 
--- a call of a shelf: it opened a writer for a snapshot, or wants none, or can't open one; a writer was handed back, with
--- a whole snapshot or not; or it was told that the pull of a peer failed, or a save
+-- a call of a shelf: it was told the report of a connection, or that there is none; it opened a writer for a snapshot, or
+-- wants none, or can't open one; a writer was handed back, with a whole snapshot or not; or it was told that the pull of a
+-- peer failed, or a save
 pub data ShelfCall : Type 0 where
+  taken : Option Report → ShelfCall
   opened : Output → ShelfCall
   unwanted : ShelfCall
   unopened : ShelfCall

@@ -9,7 +9,7 @@
 //!
 //! [`serve_node`] keeps rounds on one thread ([`keep_round`]) and serves each [`Seat`] on another. What is
 //! handed in stands behind small traits, each seen as the list of its calls: [`Visits`], a [`Dial`], a [`Halt`]
-//! and a [`Clock`] of [`rr_host`], and a [`Shelf`], which takes snapshots ([`FileShelf`]).
+//! and a [`Clock`] of [`rr_host`], and a [`Shelf`], which takes snapshots ([`FileShelf`], by turns [`PacedShelf`]).
 //!
 //! In `specs/` what lines make of a keeper, and what is answered, is a function of them and the clock's
 //! moments (`specs/Lines.antt`). The answer to a fetch is a function of the cells that the reader has seen
@@ -26,32 +26,40 @@ mod file_shelf;
 mod gates;
 mod lines;
 mod node;
+mod paced_shelf;
 mod peers;
 mod pull;
 mod reader;
+mod replaced;
 mod report;
 mod round;
+mod round_log;
 mod rounds;
 mod rules;
+mod save_file;
 mod saving;
 mod seat;
 mod seats;
 mod shelf;
+mod tally;
 
 pub use fault::NodeFault;
 pub use file_shelf::FileShelf;
 pub use gates::OpenGate;
 pub use lines::{serve_lines, serve_lines_within};
 pub use node::{Seats, serve_node};
+pub use paced_shelf::PacedShelf;
 pub use pull::pull_peer;
 pub use reader::serve_reader;
 pub use report::Report;
 pub use round::keep_round;
+pub use round_log::RoundLog;
 pub use rr_config::{Config, ConfigFault};
 pub use rr_host::{
-    Calling, Clock, Dial, Half, Halt, HaltFlag, Listening, Moments, Prepared, SystemClock, Visit,
-    Visits, halves,
+    Calling, Clock, Dial, Half, Halt, HaltFlag, Listening, Moments, PacedDial, Prepared, SaveFlag,
+    SystemClock, Visit, Visits, halves,
 };
+pub use save_file::SaveFile;
 pub use seat::{Seat, serve_seat};
 pub use seats::TcpSeats;
 pub use shelf::{Opening, Shelf};

@@ -15,7 +15,7 @@ use rr_host::Dial;
 use std::alloc::{AllocError, Global};
 use std::sync::Wait;
 
-/// Pulls from the peer at an address.
+/// Pulls from the peer at an address, if it is due.
 fn pull_from<A: Cells, D: Dial, T: Wait>(
     alloc: Global,
     address: &str,
@@ -26,6 +26,9 @@ fn pull_from<A: Cells, D: Dial, T: Wait>(
     ensures { (dialed : List DialCall) × Grows (D.calls dial.old) (D.calls dial.new) dialed
         × EndsPull address.now keeper.old keeper.new dialed (fault_in result) }
 {
+    if !dial.is_due(address) {
+        return Ok(());
+    }
     let Some((mut input, mut output)) = dial.open(address) else {
         return Err(NodeFault::BadAddress);
     };
@@ -46,7 +49,7 @@ fn skipped(pulled: Result<(), NodeFault>) -> Result<Option<NodeFault>, AllocErro
     }
 }
 
-/// Pulls from each peer, in their order. A fault other than `Memory` is told to the shelf, and ends no
+/// Pulls from each peer that is due, in their order. A fault other than `Memory` is told to the shelf, and ends no
 /// other pull.
 pub(crate) fn pull_peers<A: Cells, D: Dial, S: Shelf, T: Wait>(
     alloc: Global,

@@ -1,10 +1,9 @@
 //! A round of the keeper: the lines of a connection, the pulls from all peers, and a save.
 
-ghost use Rattle.std.specs.Prelude.{◌≡◌, IfErr, List, is_ok};
+ghost use Rattle.std.specs.Prelude.{◌≡◌, IfErr, List};
 ghost use Rattle.rr_host.specs.Calls.{DialCall, Grows};
-ghost use Rattle.rr_node.specs.Fault.{goes_on};
 ghost use Rattle.rr_node.specs.Shelf.{ShelfCall};
-ghost use Rattle.rr_node.specs.Round.{EndsLines, EndsRound, came_in};
+ghost use Rattle.rr_node.specs.Round.{EndsLines, EndsRound, came_in, going_on};
 ghost use Rattle.rr_host.specs.Visits.{Call, HasCalled};
 
 use crate::fault::NodeFault;
@@ -20,17 +19,27 @@ use rr_host::{Clock, Dial, Visit, Visits};
 use std::alloc::{AllocError, Global};
 use std::sync::Wait;
 
+/// What came of waiting for a line connection.
+#[derive(Drop)]
+pub(crate) enum Lines {
+    /// None will come any more.
+    Over,
+    /// One came or failed, with the report of its lines if they were served to the end.
+    Taken(Option<Report>),
+}
+
 /// Goes on after the lines of a connection, whatever its fault, unless memory ran out.
-fn goes_on(served: Result<Report, NodeFault>) -> Result<(), AllocError>
-    ensures { is_ok result ≡ goes_on served }
+fn going_on(served: Result<Report, NodeFault>) -> Result<Lines, AllocError>
+    ensures { came_in result ≡ going_on served }
 {
     match served {
+        Ok(report) => Ok(Lines::Taken(Some(report))),
         Err(NodeFault::Memory) => Err(AllocError),
-        _ => Ok(()),
+        Err(_) => Ok(Lines::Taken(None)),
     }
 }
 
-/// Serves the lines of the next connection, and answers whether there was one: one that failed is.
+/// Serves the lines of the next connection.
 fn take_lines<A: Cells, V: Visits, C: Clock, T: Wait>(
     alloc: Global,
     keeper: &mut Keeper<A>,
@@ -38,14 +47,14 @@ fn take_lines<A: Cells, V: Visits, C: Clock, T: Wait>(
     clock: &mut C,
     config: &Config,
     rt: &T,
-) -> Result<bool, AllocError>
+) -> Result<Lines, AllocError>
     ensures { (calls : List Call) × HasCalled (V.calls lines.old) (V.calls lines.new) calls
         × EndsLines config.now (came_in result) keeper.old keeper.new (C.given clock.old) (C.given clock.new) calls }
 {
     let (mut input, mut output) = match lines.next() {
         Visit::Stream(input, output) => (input, output),
-        Visit::Failed => return Ok(true),
-        Visit::Over => return Ok(false),
+        Visit::Failed => return Ok(Lines::Taken(None)),
+        Visit::Over => return Ok(Lines::Over),
     };
     let (precision, lead) = (config.precision, config.lead);
     let served = serve_lines(
@@ -59,12 +68,11 @@ fn take_lines<A: Cells, V: Visits, C: Clock, T: Wait>(
         rt,
     );
     lines.take_back(input, output);
-    goes_on(served)?;
-    Ok(true)
+    going_on(served)
 }
 
-/// One round of the keeper of a node: it serves the lines of the next connection, pulls from each peer
-/// of the configuration, in their order, and saves a snapshot where the shelf wants one. The answer is
+/// One round of the keeper of a node: it serves the lines of the next connection, tells the shelf their report, pulls
+/// from each peer of the configuration that is due, in their order, and saves a snapshot where the shelf wants one. The answer is
 /// whether a connection came; where none will come any more, nothing else is done.
 ///
 /// A fault of the connection ends the connection alone. A peer that can't be reached or whose pull fails
@@ -88,9 +96,10 @@ pub fn keep_round<A: Cells, V: Visits, D: Dial, S: Shelf, C: Clock, T: Wait>(
         (C.given clock.old) (C.given clock.new) calls dialed shelved }
     ensures memory { IfErr result (λ fault. fault ≡ NodeFault.Memory) }
 {
-    if !take_lines(alloc, keeper, lines, clock, config, rt)? {
+    let Lines::Taken(report) = take_lines(alloc, keeper, lines, clock, config, rt)? else {
         return Ok(false);
-    }
+    };
+    shelf.lines_taken(report);
     pull_peers(alloc, &config.peers, dial, shelf, keeper, rt)?;
     save_to(alloc, shelf, keeper)?;
     Ok(true)

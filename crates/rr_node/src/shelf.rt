@@ -3,6 +3,7 @@
 ghost use Rattle.std.specs.Prelude.{◌≡◌};
 
 use crate::fault::NodeFault;
+use crate::report::Report;
 use rr_io::Counted;
 use rr_snapshot::SaveFault;
 use std::io::Write;
@@ -24,13 +25,18 @@ pub trait Shelf {
     ghost use Rattle.std.specs.Prelude.{List, [], ◌∷◌, Option};
     ghost use Rattle.rr_host.specs.Calls.{Grows};
     ghost use Rattle.rr_host.specs.Streams.{output_of};
-    ghost use Rattle.rr_node.specs.Shelf.{ShelfCall, opened, peer_failed, put_back, save_failed, unopened, unwanted};
+    ghost use Rattle.rr_node.specs.Shelf.{ShelfCall, opened, peer_failed, put_back, save_failed, taken, unopened, unwanted};
     ghost use Rattle.rr_node.specs.declared.shelf.Opening.TheVariants as opening;
 
     /// Where a snapshot is written.
     type Output: Write;
 
     ghost calls: { Self → Option (List ShelfCall) };
+
+    /// Is told what became of the lines of a round's connection, before its pulls: the report where they were served to
+    /// the end.
+    fn lines_taken(&mut self, report: Option<Report>)
+        ensures { Grows (calls self.old) (calls self.new) (taken report ∷ []) };
 
     /// Opens a writer for a snapshot, where one is wanted.
     fn open(&mut self) -> Opening<Self::Output>

@@ -8,7 +8,10 @@ pub returns-in_err-pulled : goal.returns-in_err-pulled
 returns-in_err-pulled g c =
     let p = err_from_is_err_and c.from_residual.result c.from_residual.ensures.1 in
     let e = c.in_err-pulled.ensures in
-    rw (p.1, p.2) (pull_over _ _ _ _ _ _ _ _ _ c.in-Some.ensures.reached c.take_back.ensures (record { read = e.read_failed; write = e.write_failed }) e.stopped)
+    let opened = rw (c.is_due.ensures.due c.if-not-is_due.false) at c.in-Some.ensures.reached in
+    rw (p.1, p.2) (pull_over _ _ _ _ _ _ _ _ _ opened c.take_back.ensures (record { read = e.read_failed; write = e.write_failed }) e.stopped)
 
 pub returns : goal.returns
-returns g c = (_, grows_on _ _ _ _ _ c.in-Some.ensures.reached c.take_back.ensures, inr (_, _, refl, c.in_ok-pulled.ensures.pulled))
+returns g c =
+    let opened = rw (c.is_due.ensures.due c.if-not-is_due.false) at c.in-Some.ensures.reached in
+    (_, grows_on _ _ _ _ _ opened c.take_back.ensures, inr (inr (_, _, refl, c.in_ok-pulled.ensures.pulled)))

@@ -1,0 +1,98 @@
+//! Snapshots by turns.
+
+use crate::fault::NodeFault;
+use crate::report::Report;
+use crate::round_log::RoundLog;
+use crate::shelf::{Opening, Shelf};
+use rr_host::{Pace, SaveFlag};
+use rr_io::Counted;
+use rr_snapshot::SaveFault;
+use std::rt::Files;
+use std::time::Clock;
+
+/// A shelf that wants a snapshot at most once in a turn of so many seconds, or when a flag was raised, and then hands
+/// it to another shelf. After each turn its log says what the rounds did. Nothing is known of its calls.
+#[derive(Drop)]
+pub struct PacedShelf<'a, R, S> {
+    rt: &'a R,
+    shelf: S,
+    pace: Pace,
+    wish: SaveFlag,
+    log: RoundLog<'a, R>,
+}
+
+impl<'a, R: Files + Eprint + Clock, S> PacedShelf<'a, R, S> {
+    /// Hands a snapshot to a shelf once in so many seconds, or whenever there is one where that is missing; the
+    /// flag asks for one before its time.
+    pub fn new(
+        rt: &'a R,
+        shelf: S,
+        every: Option<u64>,
+        wish: SaveFlag,
+        log: RoundLog<'a, R>,
+    ) -> PacedShelf<'a, R, S> {
+        PacedShelf {
+            rt,
+            shelf,
+            pace: Pace::new(every),
+            wish,
+            log,
+        }
+    }
+
+    /// Whether a snapshot is wanted now.
+    fn is_wanted(&self) -> bool {
+        // The flag is taken down by a snapshot that is due anyway.
+        let is_asked = self.wish.take();
+        is_asked || self.pace.is_due(self.rt)
+    }
+}
+
+impl<R: Files + Eprint + Clock, S: Shelf> Shelf for PacedShelf<'_, R, S> {
+    ghost use Rattle.std.specs.Prelude.{[], ◌∷◌, None};
+    ghost use Rattle.rr_host.specs.Calls.{Grows};
+    ghost use Rattle.rr_host.specs.Streams.{output_of};
+    ghost use Rattle.rr_node.specs.Shelf.{put_back};
+
+    type Output = S::Output;
+
+    ghost calls = { λ s. None };
+
+    fn lines_taken(&mut self, report: Option<Report>) {
+        self.log.lines_are_taken(report);
+        self.shelf.lines_taken(report);
+    }
+
+    fn open(&mut self) -> Opening<S::Output> {
+        self.log.pulls_are_over();
+        if !self.is_wanted() {
+            return Opening::Unwanted;
+        }
+        self.pace.done(self.rt);
+        match self.shelf.open() {
+            Opening::Writer(output) => Opening::Writer(output),
+            // No writer will be handed back, so the turn is over.
+            other => {
+                self.log.say();
+                other
+            }
+        }
+    }
+
+    fn take_back(&mut self, output: Counted<S::Output>, whole: bool)
+        ensures { Grows None None (put_back (output_of S.Output.contents output) whole ∷ []) }
+    {
+        self.shelf.take_back(output, whole);
+        self.pace.done(self.rt);
+        self.log.save_is_over();
+        self.log.say();
+    }
+
+    fn peer_failed(&mut self, number: usize, fault: NodeFault) {
+        self.shelf.peer_failed(number, fault);
+    }
+
+    fn save_failed(&mut self, fault: SaveFault) {
+        self.shelf.save_failed(fault);
+    }
+}

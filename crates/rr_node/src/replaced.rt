@@ -1,0 +1,63 @@
+//! Files whose content is replaced whole.
+
+use crate::save_file::SaveFile;
+use std::alloc::{AllocError, Global};
+use std::fs::OpenFile;
+use std::io::BufWriter;
+use std::rt::Files;
+use std::{fs, io};
+
+/// What the name of the file beside ends in, to which content is written before it takes the place of
+/// the last one.
+const BESIDE: &str = ".new";
+
+/// A file whose content is written to a file beside, whose name ends in `.new`, and which is then renamed. So the file
+/// has the last content or the new one, whatever ends the process.
+#[derive(Drop)]
+pub(crate) struct Replaced<'a, R> {
+    rt: &'a R,
+    alloc: Global,
+    path: String,
+    beside: String,
+}
+
+impl<'a, R: Files + Eprint> Replaced<'a, R> {
+    /// The file at a path.
+    pub(crate) fn new(rt: &'a R, alloc: Global, path: &str) -> Result<Replaced<'a, R>, AllocError> {
+        let mut beside = String::from_str(alloc, path)?;
+        beside.push_str(BESIDE)?;
+        Ok(Replaced {
+            rt,
+            alloc,
+            path: String::from_str(alloc, path)?,
+            beside,
+        })
+    }
+
+    /// Opens the file beside.
+    pub(crate) fn create(&self) -> io::Result<SaveFile<R::File>> {
+        let file = fs::create(self.rt, self.beside.as_str())?;
+        Ok(SaveFile::new(BufWriter::new(self.alloc, file)?))
+    }
+
+    /// Ends the file beside, and puts it in the place of the last one.
+    pub(crate) fn replace(&self, output: BufWriter<R::File>) -> io::Result<()> {
+        let file = output.into_inner()?;
+        file.sync_all()?;
+        drop(file);
+        fs::rename(self.rt, self.beside.as_str(), self.path.as_str())
+    }
+
+    /// Removes the file beside: it isn't whole, or couldn't take the place of the last one.
+    pub(crate) fn remove_beside(&self) {
+        // If it can't be removed, the next one begins it anew.
+        let _removed = fs::remove_file(self.rt, self.beside.as_str());
+    }
+
+    /// Prints why the file beside isn't written.
+    pub(crate) fn print_reason(&self, error: &io::Error) {
+        let beside = self.beside.as_str();
+        // Where this can't be printed, there is no one to tell.
+        let _printed = eprintln!(self.rt; "rr: {beside}: {error}");
+    }
+}

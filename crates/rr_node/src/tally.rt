@@ -1,0 +1,44 @@
+//! Counts of what became of line connections.
+
+ghost use Rattle.std.specs.Prelude.{◌≡◌};
+ghost use Rattle.rr_node.specs.Tally.{no_tally, tally_more};
+
+use crate::report::Report;
+
+/// Counts of the line connections whose lines were served to the end, and of their lines. Each stops at its greatest
+/// value.
+#[derive(Clone, Copy, Debug, PartialEq, Eq)]
+pub(crate) struct Tally {
+    /// The connections.
+    pub(crate) connections: u64,
+    /// The points that were written whole.
+    pub(crate) points: u64,
+    /// The samples that were put.
+    pub(crate) samples: u64,
+    /// The lines that were refused.
+    pub(crate) refused: u64,
+}
+
+impl Tally {
+    /// No connection.
+    pub(crate) fn new() -> Tally
+        ensures { result ≡ no_tally }
+    {
+        Tally {
+            connections: 0,
+            points: 0,
+            samples: 0,
+            refused: 0,
+        }
+    }
+
+    /// Counts a connection by its report.
+    pub(crate) fn add(&mut self, report: &Report)
+        ensures { self.new ≡ tally_more self.old report.now }
+    {
+        self.connections = self.connections.saturating_add(1);
+        self.points = self.points.saturating_add(report.points);
+        self.samples = self.samples.saturating_add(report.samples);
+        self.refused = self.refused.saturating_add(report.refused);
+    }
+}
