@@ -1,18 +1,35 @@
 //! The files that a node begins with.
 
 use rr_command::ToolFault;
-use rr_config::{Config, ConfigFault};
+use rr_config::{Config, ConfigFault, remarks};
 use rr_io::Counted;
+use rr_packed::PackedArchive;
 use rr_process::{Ending, file_fault};
 use rr_replica::Replica;
-use rr_packed::PackedArchive;
 use rr_schema::{Origin, Schema};
 use rr_snapshot::{LoadFault, load};
+use std::fmt::Display;
 use std::fs;
-use std::io::BufReader;
+use std::io::{BufReader, ErrorKind};
 use std::rt::Files;
 
-/// The configuration in a file. The ending says why there is none.
+/// Tells the operator what is to be said of a file. If this can't be printed, the node still does what it does.
+fn tell(rt: &impl Eprint, file: &str, text: impl Display + Drop) {
+    let _printed = eprintln!(rt; "rr: {file}: {text}");
+}
+
+/// Tells what is to be said of the text of a configuration: why it is refused, or what is ignored.
+fn tell_remarks(rt: &(impl AllocGlobal + Eprint), file: &str, text: &[u8]) {
+    // If there is no memory for them, they are left out.
+    let Ok(lines) = remarks(rt.alloc(), text) else {
+        return;
+    };
+    for line in &lines {
+        tell(rt, file, line.as_str());
+    }
+}
+
+/// The configuration in a file. The ending says why there is none. What is to be said of its text is told.
 pub(crate) fn read_config(
     rt: &(impl AllocGlobal + Files + Eprint),
     file: &str,
@@ -21,6 +38,7 @@ pub(crate) fn read_config(
         Ok(text) => text,
         Err(error) => return Err(Ending::Failed(file_fault(rt, file, &error))),
     };
+    tell_remarks(rt, file, &text);
     match Config::from_toml(rt.alloc(), &text) {
         Ok(config) => Ok(config),
         Err(ConfigFault::Memory) => Err(Ending::Failed(ToolFault::Memory)),
@@ -45,9 +63,14 @@ fn load_replica(
     };
     match load(alloc, &mut Counted::new(input), schema, origin) {
         Ok(replica) => Ok(replica),
-        Err(LoadFault::ReadFailed) => Err(Ending::Failed(ToolFault::ReadFailed)),
         Err(LoadFault::Memory) => Err(Ending::Failed(ToolFault::Memory)),
-        Err(fault) => Err(Ending::LoadRefused(fault.name())),
+        Err(fault) => {
+            tell(rt, file, fault);
+            Err(match fault {
+                LoadFault::ReadFailed => Ending::Failed(ToolFault::ReadFailed),
+                _ => Ending::LoadRefused(fault.name()),
+            })
+        }
     }
 }
 
@@ -65,5 +88,27 @@ pub(crate) fn first_replica(
             Ok(replica) => Ok(replica),
             Err(_) => Err(Ending::Failed(ToolFault::Memory)),
         },
+    }
+}
+
+/// Looks for the folder of a file, so that a node doesn't serve which couldn't save to it. If it can't be opened, that
+/// is told.
+pub(crate) fn check_folder(
+    rt: &(impl AllocGlobal + Files + Eprint),
+    file: &str,
+) -> Result<(), Ending> {
+    let (folder, _) = file.rsplit_once('/').unwrap_or((".", file));
+    let Ok(inside) = format!(in rt.alloc(); "{folder}/.") else {
+        return Err(Ending::Failed(ToolFault::Memory));
+    };
+    match fs::open(rt, inside.as_str()) {
+        Ok(_) => Ok(()),
+        Err(error) if error.kind() == ErrorKind::OutOfMemory => {
+            Err(Ending::Failed(ToolFault::Memory))
+        }
+        Err(error) => {
+            tell(rt, folder, error);
+            Err(Ending::Failed(ToolFault::WriteFailed))
+        }
     }
 }

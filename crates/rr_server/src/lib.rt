@@ -13,6 +13,7 @@
 #![tactic(auto)]
 
 mod files;
+mod greeting;
 mod listeners;
 mod program;
 mod server;

@@ -2,29 +2,35 @@
 
 use rr_command::ToolFault;
 use rr_config::Config;
-use rr_node::{HaltFlag, Listening};
+use rr_node::{HaltFlag, Listening, SaveFlag};
 use rr_process::Ending;
 use std::io;
 use std::io::ErrorKind;
 use std::net::{Net, TcpListener, TcpStream};
 
-/// The listeners of a node: one for lines, and one for each reader; and the flag that ends them.
+/// The listeners of a node: one for lines, and one for each reader; the flag that ends them, and the one by which an
+/// empty line connection asks for a snapshot.
 pub(crate) struct Listeners {
     pub(crate) lines: Listening,
     pub(crate) fetches: Vec<Listening>,
     pub(crate) halt: HaltFlag,
+    pub(crate) wish: SaveFlag,
 }
 
 impl Listeners {
     /// Listens on the addresses of a configuration, the one for lines first.
     pub(crate) fn bind(
-        rt: &(impl AllocGlobal + Net<Listener = TcpListener, Stream = TcpStream>),
+        rt: &(impl AllocGlobal + Eprint + Net<Listener = TcpListener, Stream = TcpStream>),
         config: &Config,
     ) -> Result<Listeners, Ending> {
         let Ok(halt) = HaltFlag::new(rt.alloc()) else {
             return Err(Ending::Failed(ToolFault::Memory));
         };
+        let Ok(wish) = SaveFlag::new(rt.alloc()) else {
+            return Err(Ending::Failed(ToolFault::Memory));
+        };
         let lines = listen(rt, config.lines.as_str(), config.idle, &halt)?;
+        let lines = by_turns(lines, config.every, &wish)?;
         let mut fetches = Vec::new(rt.alloc());
         for address in &config.fetch {
             let listening = listen(rt, address.as_str(), config.idle, &halt)?;
@@ -36,21 +42,37 @@ impl Listeners {
             lines,
             fetches,
             halt,
+            wish,
         })
     }
 }
 
-/// Why an address isn't listened on: memory ran out, or it can't be.
-fn ending_of(error: &io::Error) -> Ending {
+/// Why an address isn't listened on: memory ran out, or it can't be, which is told with the system's reason.
+fn ending_of(rt: &impl Eprint, address: &str, error: &io::Error) -> Ending {
     match error.kind() {
         ErrorKind::OutOfMemory => Ending::Failed(ToolFault::Memory),
-        _ => Ending::BadAddress,
+        _ => {
+            // If this can't be printed, the ending still says that an address is bad.
+            let _printed = eprintln!(rt; "rr: {address}: {error}");
+            Ending::BadAddress
+        }
+    }
+}
+
+/// The same connections, by turns if rounds are kept by time.
+fn by_turns(lines: Listening, every: Option<u64>, wish: &SaveFlag) -> Result<Listening, Ending> {
+    let Some(seconds) = every else {
+        return Ok(lines);
+    };
+    match wish.share() {
+        Ok(wish) => Ok(lines.by_turns(seconds, wish)),
+        Err(_) => Err(Ending::Failed(ToolFault::Memory)),
     }
 }
 
 /// Listens on an address, whose connections may be silent for the idle time, until the flag is raised.
 fn listen(
-    rt: &(impl AllocGlobal + Net<Listener = TcpListener, Stream = TcpStream>),
+    rt: &(impl AllocGlobal + Eprint + Net<Listener = TcpListener, Stream = TcpStream>),
     address: &str,
     idle: Option<u64>,
     halt: &HaltFlag,
@@ -60,10 +82,10 @@ fn listen(
     };
     let listener = match TcpListener::bind(rt, address) {
         Ok(listener) => listener,
-        Err(error) => return Err(ending_of(&error)),
+        Err(error) => return Err(ending_of(rt, address, &error)),
     };
     match Listening::new(rt.alloc(), listener, idle, halt) {
         Ok(listening) => Ok(listening),
-        Err(error) => Err(ending_of(&error)),
+        Err(error) => Err(ending_of(rt, address, &error)),
     }
 }

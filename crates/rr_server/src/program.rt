@@ -11,8 +11,8 @@ use std::sync::Wait;
 use std::thread::Threads;
 use std::time::Clock;
 
-/// The text of an argument that may be missing.
-fn lent(text: &Option<String>) -> Option<&str> {
+/// A text that may be missing.
+pub(crate) fn lent(text: &Option<String>) -> Option<&str> {
     match text {
         Some(text) => Some(text.as_str()),
         None => None,

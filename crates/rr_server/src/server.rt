@@ -1,16 +1,19 @@
 //! A node at work: a keeper and its readers, over TCP.
 
-use crate::files::{first_replica, read_config};
+use crate::files::{check_folder, first_replica, read_config};
+use crate::greeting::greeting;
 use crate::listeners::Listeners;
+use crate::program::lent;
 use rr_command::ToolFault;
 use rr_config::Config;
 use rr_desk::{Keeper, Reader, open};
 use rr_node::{
-    Calling, FileShelf, HaltFlag, Listening, OpenGate, Seat, SystemClock, TcpSeats, serve_node,
+    Calling, FileShelf, HaltFlag, Listening, OpenGate, PacedDial, PacedShelf, RoundLog, SaveFlag,
+    Seat, SystemClock, TcpSeats, serve_node,
 };
+use rr_packed::PackedArchive;
 use rr_process::Ending;
 use rr_replica::Replica;
-use rr_packed::PackedArchive;
 use rr_schema::Origin;
 use std::alloc::AllocError;
 use std::net::{Net, TcpListener, TcpStream};
@@ -52,10 +55,26 @@ where
     }
 
     /// Begins with the snapshot in a file, or with nothing, listens, and serves until all rounds and visits are done.
+    /// If there is no folder for the snapshots that are to be saved, it doesn't begin.
     pub(crate) fn serve(&self, origin: Origin, load: Option<&str>) -> Result<Ending, Ending> {
+        if let Some(file) = self.save {
+            check_folder(self.rt, file)?;
+        }
         let replica = first_replica(self.rt, &self.config.schema, origin, load)?;
         let listeners = Listeners::bind(self.rt, &self.config)?;
+        self.greet(&replica);
         Ok(self.serve_replica(replica, listeners))
+    }
+
+    /// Says with what it starts, unless it is to be quiet.
+    fn greet(&self, replica: &Replica<PackedArchive>) {
+        if self.config.quiet {
+            return;
+        }
+        // If there is no memory for the line, or it can't be printed, the node serves all the same.
+        if let Ok(line) = greeting(self.rt.alloc(), &self.config, replica) {
+            let _printed = self.rt.eprintln(line.as_str());
+        }
     }
 
     /// Opens a desk over a replica, with a reader for each address of fetches, and serves at it.
@@ -64,13 +83,14 @@ where
             lines,
             fetches,
             halt,
+            wish,
         } = listeners;
         let Ok((mut keeper, readers)) = open(self.rt.alloc(), self.rt, replica, fetches.len())
         else {
             return OUT_OF_MEMORY;
         };
         let ending = match self.seats(readers, fetches, &halt) {
-            Ok(mut seats) => self.serve_at(&mut keeper, lines, &mut seats, halt),
+            Ok(mut seats) => self.serve_at(&mut keeper, lines, &mut seats, halt, wish),
             Err(_) => OUT_OF_MEMORY,
         };
         keeper.close(self.rt);
@@ -99,6 +119,29 @@ where
         })
     }
 
+    /// What reaches the peers, each at most once in a turn.
+    fn dial(&self, halt: &HaltFlag) -> Result<PacedDial<'_, R, Calling<'a, R>>, AllocError> {
+        let alloc = self.rt.alloc();
+        let calling = Calling::new(self.rt, alloc, self.config.idle, halt.share()?);
+        PacedDial::new(
+            self.rt,
+            alloc,
+            calling,
+            self.config.every,
+            &self.config.peers,
+        )
+    }
+
+    /// What takes the snapshots, at most one in a turn.
+    fn shelf(&self, wish: SaveFlag) -> Result<PacedShelf<'a, R, FileShelf<'a, R>>, AllocError> {
+        let alloc = self.rt.alloc();
+        let files = FileShelf::new(self.rt, alloc, self.save)?;
+        let every = self.config.every;
+        let prints = every.is_some() && !self.config.quiet;
+        let log = RoundLog::new(self.rt, alloc, prints, lent(&self.config.status))?;
+        Ok(PacedShelf::new(self.rt, files, every, wish, log))
+    }
+
     /// Serves with a keeper and its readers' seats, until a flag is raised that they share.
     fn serve_at(
         &self,
@@ -106,15 +149,12 @@ where
         mut lines: Listening,
         seats: &mut TcpSeats,
         mut halt: HaltFlag,
+        wish: SaveFlag,
     ) -> Ending {
         let alloc = self.rt.alloc();
-        let Ok(mut shelf) = FileShelf::new(self.rt, alloc, self.save) else {
+        let (Ok(mut shelf), Ok(mut dial)) = (self.shelf(wish), self.dial(&halt)) else {
             return OUT_OF_MEMORY;
         };
-        let Ok(shared) = halt.share() else {
-            return OUT_OF_MEMORY;
-        };
-        let mut dial = Calling::new(self.rt, alloc, self.config.idle, shared);
         let mut clock = SystemClock::new(self.rt);
         match serve_node(
             alloc,
