@@ -1,0 +1,138 @@
+#!/usr/bin/env python3
+"""A node that pulls and saves by time, and what it says to its operator.
+
+    examples/operating.py PROGRAM
+
+PROGRAM is the built program. Configurations, snapshots and addresses that are refused are said why. A node with `every`
+saves also if no line comes, calls a silent peer less and less often, and says what its rounds did, on standard error and
+in a file of counts. A node that saves once an hour saves at once if it is asked to by an empty line connection. Ends
+with status 1 where something else comes.
+"""
+
+import atexit
+import pathlib
+import re
+import socket
+import subprocess
+import sys
+import tempfile
+import time
+
+LINES, FETCH, PEER = 8141, 8142, 8143
+
+ARCHIVE = "[[archive]]\nsteps = 1\nrows = 1440\nxff_num = 0\nxff_den = 1\n"
+
+
+def config(more=""):
+    """The text of a configuration, with more keys."""
+    return (
+        f'step = 60\nlines = "127.0.0.1:{LINES}"\nfetch = ["127.0.0.1:{FETCH}"]\n'
+        f"lead = 300_000_000_000\n{more}{ARCHIVE}"
+    )
+
+
+def check(what, is_so, said=""):
+    print(f"{what}: {'yes' if is_so else 'no'}")
+    if not is_so:
+        sys.exit(said)
+
+
+def send(text):
+    """What is answered to lines."""
+    for _ in range(100):
+        try:
+            with socket.create_connection(("127.0.0.1", LINES), timeout=20) as stream:
+                stream.sendall(text.encode())
+                stream.shutdown(socket.SHUT_WR)
+                return b"".join(iter(lambda: stream.recv(65536), b"")).decode()
+        except ConnectionRefusedError:
+            time.sleep(0.1)
+    sys.exit(f"nothing listens on port {LINES}")
+
+
+class Node:
+    """A node in a folder, with a configuration and more words."""
+
+    def __init__(self, program, folder, text, *words):
+        self.file = folder / "node.toml"
+        self.file.write_text(text)
+        self.snapshot = folder / "node.snapshot"
+        words = [program, "serve", self.file, "--origin", "1", *words]
+        self.process = subprocess.Popen(words, stderr=subprocess.PIPE, text=True, cwd=folder)
+        atexit.register(self.process.kill)
+
+    def end(self):
+        """Its lines on standard error, once it is ended."""
+        self.process.kill()
+        return self.process.communicate()[1].splitlines()
+
+
+def refused(program, folder, what, text, status, last, *words):
+    """A node that doesn't start: the last line, and the one before it, which says why."""
+    node = Node(program, folder, text, *words)
+    *_, why, line = node.process.communicate(timeout=60)[1].splitlines()
+    print(f"{what}: {why.replace(str(node.file), 'node.toml')}")
+    if (node.process.returncode, line) != (status, last) or not why.startswith("rr: "):
+        sys.exit(f"status {node.process.returncode}, {why}, {line}")
+
+
+def refusals(program, folder):
+    rows = ARCHIVE.replace("1440", "0")
+    refused(program, folder, "no rows", config().replace(ARCHIVE, rows), 2, "config: BadRows")
+    refused(program, folder, "a text for a number", config('idle = "1"\n'), 2, "config: WrongKind")
+    refused(program, folder, "no TOML", config("idle =\n"), 2, "config: BadToml")
+    refused(program, folder, "no snapshot", config(), 2, "load: BadMagic", "--load", "node.toml")
+    refused(program, folder, "no folder", config(), 3, "rr: write failed", "--save", "no/folder")
+    with socket.create_server(("127.0.0.1", LINES)):
+        refused(program, folder, "an address in use", config(), 3, "rr: bad address")
+
+
+def by_time(program, folder):
+    """A node with turns of a second and a peer that is silent."""
+    status = folder / "node.prom"
+    keys = f'every = 1\nidle = 1\nstatus = "{status}"\npeers = ["127.0.0.1:{PEER}"]\n'
+    with socket.create_server(("127.0.0.1", PEER)):
+        node = Node(program, folder, config(keys) + "every = 2\n", "--save", "node.snapshot")
+        report = send(f"m v=1i {time.time_ns()}\nm v\n")
+        check("lines are taken", report == "line 2: MissingFieldValue\npoints 1 samples 1 refused 1\n", report)
+        time.sleep(12)
+        first = node.snapshot.stat().st_mtime
+        time.sleep(4)
+        check("a snapshot is saved without lines", node.snapshot.stat().st_mtime > first)
+        counts = dict(line.split() for line in status.read_text().splitlines() if line[0] != "#")
+        check("counts", (counts["rr_connections_total"], counts["rr_refused_total"]) == ("1", "1"), counts)
+    said = node.end()
+    check("the start", said[1] == f"rr: version 2 origin 1 lines 127.0.0.1:{LINES} fetch 127.0.0.1:{FETCH} series 0 cells 0", said)
+    check("an unknown key", said[0].endswith("node.toml: every of archive 1: this key is unknown, and ignored"), said)
+    form = re.compile(r"round: connections (\d+) points (\d+) samples (\d+) refused (\d+) pulls \d+\.\d{3} save \d+\.\d{3}")
+    rounds = [found.groups() for line in said if (found := form.fullmatch(line))]
+    check("a line a turn", rounds.count(("1", "1", "1", "1")) == 1 and rounds.count(("0",) * 4) >= 5, said)
+    # It is called in turns 1, 3, 6, 11: of 16 seconds it holds a few, though it is silent for one each time.
+    calls = said.count("peer 1: ReadFailed")
+    check("a silent peer is passed over", 2 <= calls <= 4, said)
+
+
+def stop(program, folder):
+    """A node that saves once an hour, and is asked to."""
+    node = Node(program, folder, config("every = 3600\nquiet = true\n"), "--save", "node.snapshot")
+    send("m v=1i\n")
+    send("m v=2i\n")
+    before = node.snapshot.read_bytes()
+    send("m w=3i\n")
+    send("m w=4i\n")
+    check("nothing is saved before its time", node.snapshot.read_bytes() == before)
+    send("")
+    send("")
+    check("an empty connection has it save", b"m w" in node.snapshot.read_bytes())
+    check("a quiet node says nothing", node.end() == [])
+
+
+def main():
+    program = pathlib.Path(sys.argv[1]).resolve()
+    for part in refusals, by_time, stop:
+        with tempfile.TemporaryDirectory() as name:
+            part(program, pathlib.Path(name))
+
+
+if __name__ == "__main__":
+    main()
