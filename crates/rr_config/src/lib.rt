@@ -14,7 +14,7 @@
 
 mod config;
 mod fault;
-mod place;
+mod named_key;
 mod remark;
 mod value;
 

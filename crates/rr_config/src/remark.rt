@@ -2,7 +2,7 @@
 
 use crate::config::Config;
 use crate::fault::ConfigFault;
-use crate::place::{ARCHIVE_KEYS, Place, archives_of, place_of};
+use crate::named_key::{ARCHIVE_KEYS, NamedKey, archives_of, refused_key};
 use std::alloc::{AllocError, Global};
 use std::str;
 use toml::Table;
@@ -26,7 +26,7 @@ const NODE_KEYS: [&str; 13] = [
 
 /// What an operator is told of a text beside its configuration or its fault, a line each.
 ///
-/// Of a text that is refused that is the place and the reason. Of any other it is each key that is ignored, and that
+/// Of a text that is refused that is the key and the reason. Of any other it is each key that is ignored, and that
 /// there is no `lead`. The cost is that of reading the text twice.
 pub fn remarks(alloc: Global, text: &[u8]) -> Result<Vec<String>, AllocError> {
     let mut lines = Vec::new(alloc);
@@ -76,8 +76,8 @@ fn push_refusal(
     table: &Table,
     fault: ConfigFault,
 ) -> Result<(), AllocError> {
-    let line = match place_of(alloc, table, fault) {
-        Some(place) => format!(in alloc; "{place}: {fault}")?,
+    let line = match refused_key(alloc, table, fault) {
+        Some(named) => format!(in alloc; "{named}: {fault}")?,
         None => format!(in alloc; "{fault}")?,
     };
     lines.push(line)?;
@@ -109,8 +109,8 @@ fn push_others(
     for key in table.keys() {
         let key = key.as_str();
         if !keys.contains(&key) {
-            let place = Place { key, archive };
-            lines.push(format!(in alloc; "{place}: this key is unknown, and ignored")?)?;
+            let named = NamedKey { key, archive };
+            lines.push(format!(in alloc; "{named}: this key is unknown, and ignored")?)?;
         }
     }
     Ok(())

@@ -1,4 +1,4 @@
-//! Where in its text a configuration is refused.
+//! The key at which a configuration is refused.
 
 use crate::config::{count_in, lead_in, peers_in, precision_in, quiet_in, seconds_in, status_in};
 use crate::fault::ConfigFault;
@@ -11,16 +11,16 @@ use toml::{Table, Value};
 /// The keys of an archive.
 pub(crate) const ARCHIVE_KEYS: [&str; 4] = ["steps", "rows", "xff_num", "xff_den"];
 
-/// A key of a configuration.
+/// A key of a configuration, as it is named to an operator.
 #[derive(Clone, Copy)]
-pub(crate) struct Place<'a> {
+pub(crate) struct NamedKey<'a> {
     /// The key.
     pub(crate) key: &'a str,
     /// The archive that has it, from 1, unless it stands above all archives.
     pub(crate) archive: Option<usize>,
 }
 
-impl fmt::Display for Place<'_> {
+impl fmt::Display for NamedKey<'_> {
     fn fmt<W: fmt::Write>(&self, f: &mut fmt::Formatter<W>) -> fmt::Result {
         f.write_str(self.key)?;
         match self.archive {
@@ -30,19 +30,23 @@ impl fmt::Display for Place<'_> {
     }
 }
 
-/// The place at which a table is refused, if it has one.
-pub(crate) fn place_of(alloc: Global, table: &Table, fault: ConfigFault) -> Option<Place<'static>> {
+/// The key at which a table is refused, if there is one.
+pub(crate) fn refused_key(
+    alloc: Global,
+    table: &Table,
+    fault: ConfigFault,
+) -> Option<NamedKey<'static>> {
     match fault {
-        ConfigFault::Schema(fault) => schema_place(alloc, table, fault),
-        _ => Some(Place {
-            key: refused_key(alloc, table)?,
+        ConfigFault::Schema(fault) => refused_schema_key(alloc, table, fault),
+        _ => Some(NamedKey {
+            key: refused_node_key(alloc, table)?,
             archive: None,
         }),
     }
 }
 
 /// The first key of a node, but for those of its schema, whose value is refused.
-fn refused_key(alloc: Global, table: &Table) -> Option<&'static str> {
+fn refused_node_key(alloc: Global, table: &Table) -> Option<&'static str> {
     let refusals = [
         ("lines", is_no_address(table)),
         ("fetch", are_no_readers(alloc, table)),
@@ -80,10 +84,14 @@ fn are_no_readers(alloc: Global, table: &Table) -> bool {
     }
 }
 
-/// Where the schema of a table is refused.
-fn schema_place(alloc: Global, table: &Table, fault: SchemaFault) -> Option<Place<'static>> {
+/// The key at which the schema of a table is refused.
+fn refused_schema_key(
+    alloc: Global,
+    table: &Table,
+    fault: SchemaFault,
+) -> Option<NamedKey<'static>> {
     let key = match fault {
-        SchemaFault::MissingField | SchemaFault::WrongKind => return unread_place(table),
+        SchemaFault::MissingField | SchemaFault::WrongKind => return unread_key(table),
         SchemaFault::BadStep => "step",
         SchemaFault::NoArchive | SchemaFault::TooManyArchives => "archive",
         SchemaFault::BadSteps | SchemaFault::StepsNotRising => "steps",
@@ -91,7 +99,7 @@ fn schema_place(alloc: Global, table: &Table, fault: SchemaFault) -> Option<Plac
         SchemaFault::BadXff => "xff_num or xff_den",
         SchemaFault::BadToml | SchemaFault::Memory => return None,
     };
-    Some(Place {
+    Some(NamedKey {
         key,
         archive: refused_archive(alloc, table, fault),
     })
@@ -111,14 +119,14 @@ pub(crate) fn archives_of(table: &Table) -> Option<&Vec<Value>> {
 }
 
 /// The first key of a schema whose value is missing or of another kind.
-fn unread_place(table: &Table) -> Option<Place<'static>> {
+fn unread_key(table: &Table) -> Option<NamedKey<'static>> {
     if !is_whole(table, "step") {
-        return Some(Place {
+        return Some(NamedKey {
             key: "step",
             archive: None,
         });
     }
-    let no_tables = Place {
+    let no_tables = NamedKey {
         key: "archive",
         archive: None,
     };
@@ -134,7 +142,7 @@ fn unread_place(table: &Table) -> Option<Place<'static>> {
         };
         for key in ARCHIVE_KEYS {
             if !is_whole(archive, key) {
-                return Some(Place {
+                return Some(NamedKey {
                     key,
                     archive: Some(place + 1),
                 });
