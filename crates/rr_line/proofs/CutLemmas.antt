@@ -24,7 +24,8 @@ first_is_no_space (byte ∷ name) e =
     ]
 
 -- and has a backslash before each of its spaces
-space_is_taken : (name : List ℕ) (i : ℕ) → get_or (escape Other name) (suc i) 0 ≡ SPACE → get_or (escape Other name) i 0 ≡ BACKSLASH
+space_is_taken : (name : List ℕ) (i : ℕ) → get_or (escape Other name) (suc i) 0 ≡ SPACE
+    → get_or (escape Other name) i 0 ≡ BACKSLASH
 space_is_taken [] i e = absurd (omega arith)
 space_is_taken (byte ∷ name) zero e =
     elim (cases_Bool (is_special Other byte)) [
@@ -46,7 +47,8 @@ space_is_taken (byte ∷ name) (suc (suc i)) e =
 space_in_name : (text name : List ℕ) (j : ℕ) → get_or (escape Other name) j 0 ≡ SPACE
     → get_or (text ++ SPACE ∷ escape Other name) (length text + j) 0 ≡ BACKSLASH
 space_in_name text name zero e = absurd (first_is_no_space name e)
-space_in_name text name (suc i) e = get_or-append-add text (SPACE ∷ escape Other name) (suc i) 0 ∙ space_is_taken name i e
+space_in_name text name (suc i) e = get_or-append-add text (SPACE ∷ escape Other name) (suc i) 0
+    ∙ space_is_taken name i e
 
 -- the last space that no backslash precedes is the one before the name
 last_space : (text name : List ℕ) (at : ℕ) → IsLastByte (is_byte SPACE) (text ++ SPACE ∷ escape Other name) (Some at)
@@ -57,7 +59,8 @@ last_space text name at last free =
     elim (cases_Bool (ltb at (length text))) [
       | inl before ↦
           let lt = ltb-true _ _ before in
-          absurd (last.0.after (length text) (omega arith) (omega arith) (eq-eqb _ SPACE (get_or-append_seam text SPACE (escape Other name) 0)))
+          absurd (last.0.after (length text) (omega arith) (omega arith)
+          (eq-eqb _ SPACE (get_or-append_seam text SPACE (escape Other name) 0)))
       | inr from ↦ elim (cases_Bool (ltb (length text) at)) [
         | inr same ↦ let low = ltb-false _ _ from in let high = ltb-false _ _ same in omega arith
         | inl after ↦
@@ -66,14 +69,16 @@ last_space text name at last free =
             let at_is : at ≡ length text + suc j = omega arith in
             let space : get_or key at 0 ≡ SPACE = eqb-true _ SPACE last.1 in
             let there : get_or (escape Other name) j 0 ≡ SPACE =
-            sym (get_or-append-add text (SPACE ∷ escape Other name) (suc j) 0) ∙ ap (λ (i : ℕ). get_or key i 0) (sym at_is) ∙ space in
+            sym (get_or-append-add text (SPACE ∷ escape Other name) (suc j) 0)
+            ∙ ap (λ (i : ℕ). get_or key i 0) (sym at_is) ∙ space in
             let before : length text + j ≡ at - 1 = omega arith in
             absurd (free (omega arith) (ap (λ (i : ℕ). get_or key i 0) (sym before) ∙ space_in_name text name j there))
       ]
     ]
 
 -- a text that is taken ends in no backslash
-no_backslash : (key : List ℕ) (at : ℕ) → at ≤ length key → before_last BACKSLASH (take at key) ≡ None → 0 < at → get_or key (at - 1) 0 ≡ BACKSLASH → ⊥
+no_backslash : (key : List ℕ) (at : ℕ) → at ≤ length key → before_last BACKSLASH (take at key) ≡ None → 0 < at
+    → get_or key (at - 1) 0 ≡ BACKSLASH → ⊥
 no_backslash key at within none some back =
     let len = length-take-le at key within in
     let last : get_or (take at key) (length (take at key) - 1) 0 ≡ BACKSLASH =
@@ -83,12 +88,14 @@ no_backslash key at within none some back =
     absurd cc
 
 -- so what precedes it is the front, and what follows it the field
-pub cut_at_space : (key field : List ℕ) (at : ℕ) → IsLastByte (is_byte SPACE) key (Some at) → before_last BACKSLASH (take at key) ≡ None
+pub cut_at_space : (key field : List ℕ) (at : ℕ) → IsLastByte (is_byte SPACE) key (Some at)
+    → before_last BACKSLASH (take at key) ≡ None
     → drop at key ≡ SPACE ∷ field → IsCut key (take at key) field
 cut_at_space key field at last none follows = λ text name whole.
     let free = no_backslash key at (omega (arith, last.0.high)) none in
     let is_last = subst (λ (k : List ℕ). IsLastByte (is_byte SPACE) k (Some at)) whole last in
     let is_free = subst (λ (k : List ℕ). 0 < at → get_or k (at - 1) 0 ≡ BACKSLASH → ⊥) whole free in
     let len = last_space text name at is_last is_free in
-    let parts = first_is (cut_after at key) (text, SPACE ∷ escape Other name) (cut_is at key text (SPACE ∷ escape Other name) len whole) in
+    let parts = first_is (cut_after at key) (text, SPACE ∷ escape Other name)
+    (cut_is at key text (SPACE ∷ escape Other name) len whole) in
     (parts.0, let same = sym follows ∙ parts.1 in cc)

@@ -27,8 +27,10 @@ use Rattle.rr_line.proofs.TimeLemmas.{ending_agrees}
 use Rattle.rr_line.proofs.WrittenLemmas.{IsWritten, written, name_written, is_written, front_of, key_split, less_differs, front_kept, leads_to_field}
 
 -- a line whose fields end there says these samples
-pub says_samples : (precision : Precision) (line : List ℕ) (samples : List Sample) (front field rest : List ℕ) (time : Option ℤ) → BeginsWith line samples front field rest
-    → begins COMMA rest ≡ false → ending_at precision (skip_spaces rest) ≡ Ok time → SaysSamples precision line samples time
+pub says_samples : (precision : Precision) (line : List ℕ) (samples : List Sample) (front field rest : List ℕ)
+    (time : Option ℤ) → BeginsWith line samples front field rest
+    → begins COMMA rest ≡ false → ending_at precision (skip_spaces rest) ≡ Ok time
+    → SaysSamples precision line samples time
 says_samples precision line samples front field rest time h ended at =
     let p = point_of h.p.measurement h.p.tags h.p.fields time in
     let agrees = ending_agrees precision rest in
@@ -59,25 +61,31 @@ says_samples precision line samples front field rest time h ended at =
     }
 
 -- the key text of a field, by the front that the key texts of a point have
-pub key_of_field : (p : PointView) (front field key : List ℕ) → front_text p.measurement p.tags ≡ front → key ≡ front ++ SPACE ∷ escape Other field
+pub key_of_field : (p : PointView) (front field key : List ℕ) → front_text p.measurement p.tags ≡ front
+    → key ≡ front ++ SPACE ∷ escape Other field
     → key_text p (escape Other field) ≡ key
 key_of_field p front field key same whole =
-    let regrouped : key_text p (escape Other field) ≡ front_text p.measurement p.tags ++ SPACE ∷ escape Other (unescape Other (escape Other field)) =
+    let name = unescape Other (escape Other field) in
+    let regrouped : key_text p (escape Other field) ≡ front_text p.measurement p.tags ++ SPACE ∷ escape Other name =
     simp append_assoc in
     regrouped ∙ ap₂ (λ (t name : List ℕ). t ++ SPACE ∷ escape Other name) same (unescape-escape Other field) ∙ sym whole
 
 -- the key of one field, and one above it
-above_one : (field : List ℕ) (value : ℤ) (key : List ℕ) → is_lt (bytes_cmp field key) ≡ true → has_key ((field, value) ∷ []) key ≡ false
+above_one : (field : List ℕ) (value : ℤ) (key : List ℕ) → is_lt (bytes_cmp field key) ≡ true
+    → has_key ((field, value) ∷ []) key ≡ false
 above_one field value key lt = rw (less_differs (bytes_cmp field key) lt) refl
 
 -- a line that begins with a key text and an equals begins with a sample of the series
-pub begins_with_first : (line key : List ℕ) (value : ℤ) (rest : List ℕ) (k : IsWritten key) → HasFirst line key value rest
+pub begins_with_first : (line key : List ℕ) (value : ℤ) (rest : List ℕ) (k : IsWritten key)
+    → HasFirst line key value rest
     → BeginsWith line ((key, value) ∷ []) (front_of key k) (escape Other k.field) rest
 begins_with_first line key value rest k h =
     let field = escape Other k.field in
     let p = point_of (escape Measurement k.measurement) (written k.tags) ((field, value) ∷ []) None in
-    let kept : key_text p field ≡ key = key_of_field p (front_of key k) k.field key (front_kept key k) (key_split key k) in
-    let short : ltb MAX_KEY_TEXT (length (key_text p field)) ≡ false = le-ltb _ _ (omega (arith, ap length kept, k.short)) in
+    let kept : key_text p field ≡ key =
+    key_of_field p (front_of key k) k.field key (front_kept key k) (key_split key k) in
+    let short : ltb MAX_KEY_TEXT (length (key_text p field)) ≡ false =
+    le-ltb _ _ (omega (arith, ap length kept, k.short)) in
     record {
       p = p;
       fields_text = field ++ EQUALS ∷ h.value_text;
@@ -101,8 +109,11 @@ begins_with_first line key value rest k h =
     }
 
 -- a line that says the one sample of its first field
-pub says_first : (precision : Precision) (line key : List ℕ) (value : ℤ) (rest : List ℕ) (time : Option ℤ) → IsKeyText key → HasFirst line key value rest
-    → begins COMMA rest ≡ false → ending_at precision (skip_spaces rest) ≡ Ok time → SaysSamples precision line ((key, value) ∷ []) time
+pub says_first : (precision : Precision) (line key : List ℕ) (value : ℤ) (rest : List ℕ) (time : Option ℤ)
+    → IsKeyText key → HasFirst line key value rest
+    → begins COMMA rest ≡ false → ending_at precision (skip_spaces rest) ≡ Ok time
+    → SaysSamples precision line ((key, value) ∷ []) time
 says_first precision line key value rest time is h ended at =
     let k = is_written key is in
-    says_samples precision line ((key, value) ∷ []) (front_of key k) (escape Other k.field) rest time (begins_with_first line key value rest k h) ended at
+    says_samples precision line ((key, value) ∷ []) (front_of key k) (escape Other k.field) rest time
+    (begins_with_first line key value rest k h) ended at

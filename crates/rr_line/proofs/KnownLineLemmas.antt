@@ -24,13 +24,18 @@ use Rattle.rr_line.proofs.ReadPointLemmas.{point_of}
 use Rattle.rr_line.proofs.WrittenLemmas.{is_written, name_written, IsWritten, front_of, key_split, less, less_differs, has_key-more}
 
 -- one field more leads to what follows its comma
-lead_push : (before : List Field) (text : List ℕ) (fields : List Field) (last : Field) (last_text next : List ℕ) → LeadTo before text fields last_text
-    → IsField last_text last (COMMA ∷ next) → MayComeAfter (before ++ fields) last → LeadTo before text (fields ++ last ∷ []) next
+lead_push : (before : List Field) (text : List ℕ) (fields : List Field) (last : Field) (last_text next : List ℕ)
+    → LeadTo before text fields last_text
+    → IsField last_text last (COMMA ∷ next) → MayComeAfter (before ++ fields) last
+    → LeadTo before text (fields ++ last ∷ []) next
 lead_push before text [] last last_text next same is may =
-    (next, subst (λ (t : List ℕ). IsField t last (COMMA ∷ next)) (sym same) is, subst (λ (fs : List Field). MayComeAfter fs last) (append-nil before) may, refl)
+    let here = subst (λ (t : List ℕ). IsField t last (COMMA ∷ next)) (sym same) is in
+    let may_here = subst (λ (fs : List Field). MayComeAfter fs last) (append-nil before) may in
+    (next, here, may_here, refl)
 lead_push before text (field ∷ fields) last last_text next (after, first, may_first, later) is may =
     let regrouped : before ++ field ∷ fields ≡ (before ++ field ∷ []) ++ fields = simp append_assoc in
-    (after, first, may_first, lead_push (before ++ field ∷ []) after fields last last_text next later is (subst (λ (fs : List Field). MayComeAfter fs last) regrouped may))
+    let may_later = subst (λ (fs : List Field). MayComeAfter fs last) regrouped may in
+    (after, first, may_first, lead_push (before ++ field ∷ []) after fields last last_text next later is may_later)
 
 -- what is read of a further field: its key is above the last one
 pub record IsNext (field rest key : List ℕ) (k : IsWritten key) (value : ℤ) (left : List ℕ) : Type 0 where
@@ -39,16 +44,21 @@ pub record IsNext (field rest key : List ℕ) (k : IsWritten key) (value : ℤ) 
   pub is_value : IsValue value_text value left
   pub above : is_lt (bytes_cmp field (escape Other k.field)) ≡ true
 
-pub begins_with_next : (line : List ℕ) (samples : List Sample) (front field rest key : List ℕ) (k : IsWritten key) (value : ℤ) (left : List ℕ)
-    → BeginsWith line samples front field rest → front ≡ front_of key k → length samples < MAX_FIELDS → IsNext field rest key k value left
+pub begins_with_next : (line : List ℕ) (samples : List Sample) (front field rest key : List ℕ) (k : IsWritten key)
+    (value : ℤ) (left : List ℕ)
+    → BeginsWith line samples front field rest → front ≡ front_of key k → length samples < MAX_FIELDS
+    → IsNext field rest key k value left
     → BeginsWith line (samples ++ (key, value) ∷ []) (front_of key k) (escape Other k.field) left
 begins_with_next line samples front field rest key k value left h same few next =
     let name = escape Other k.field in
     let text = name ++ EQUALS ∷ next.value_text in
     let p = point_of h.p.measurement h.p.tags (h.p.fields ++ (name, value) ∷ []) h.p.time in
     let front_is : front_of key k ≡ front = sym same in
-    let kept : key_text p name ≡ key = key_of_field p (front_of key k) k.field key (sym (front_is ∙ h.front_is)) (key_split key k) in
-    let short : ltb MAX_KEY_TEXT (length (key_text p name)) ≡ false = le-ltb _ _ (omega (arith, ap length kept, k.short)) in
+    let kept : key_text p name ≡ key =
+    key_of_field p (front_of key k) k.field key (sym (front_is ∙ h.front_is)) (key_split key k) in
+    let short : ltb MAX_KEY_TEXT (length (key_text p name)) ≡ false =
+    le-ltb _ _ (omega (arith, ap length kept, k.short)) in
+    let len = length-map {B = Sample} h.p.fields (λ (f : Field). (key_text h.p f.0, f.1)) in
     let ends = subst (λ (r : List ℕ). IsField h.last_text h.last r) next.whole h.ends in
     record {
       p = p;
@@ -57,25 +67,30 @@ begins_with_next line samples front field rest key k value left h same few next 
       last = (name, value);
       last_text = text;
       leads = h.leads;
-      leading = subst (λ (fs : List Field). LeadTo [] h.fields_text fs text) (sym h.all) (lead_push [] h.fields_text h.before h.last h.last_text text h.leading ends h.new);
+      leading = subst (λ (fs : List Field). LeadTo [] h.fields_text fs text) (sym h.all)
+          (lead_push [] h.fields_text h.before h.last h.last_text text h.leading ends h.new);
       ends = record {
         value_text = next.value_text;
         key = name_written Other k.field (EQUALS ∷ next.value_text) k.field_named refl;
         value = next.is_value;
       };
-      new = record { few = omega (arith, few, ap length h.are, length-map {B = Sample} h.p.fields (λ (f : Field). (key_text h.p f.0, f.1))); other = h.rising name next.above };
+      new = record { few = omega (arith, few, ap length h.are, len); other = h.rising name next.above };
       all = refl;
-      short = list_any-append (λ (f : Field). ltb MAX_KEY_TEXT (length (key_text p f.0))) h.p.fields ((name, value) ∷ []) ∙ rw (h.short, short) refl;
-      are = map-append (λ (f : Field). (key_text p f.0, f.1)) h.p.fields ((name, value) ∷ []) ∙ ap₂ (λ (ss : List Sample) (t : List ℕ). ss ++ (t, value) ∷ []) h.are kept;
+      short = list_any-append (λ (f : Field). ltb MAX_KEY_TEXT (length (key_text p f.0))) h.p.fields
+          ((name, value) ∷ []) ∙ rw (h.short, short) refl;
+      are = map-append (λ (f : Field). (key_text p f.0, f.1)) h.p.fields ((name, value) ∷ [])
+          ∙ ap₂ (λ (ss : List Sample) (t : List ℕ). ss ++ (t, value) ∷ []) h.are kept;
       front_is = front_is ∙ h.front_is;
       field_is = refl;
       rising = λ other lt.
-          let far : is_lt (bytes_cmp field other) ≡ true = ap is_lt (nat_list_cmp_total.trans field name other (less _ next.above) (less _ lt)) in
+          let far : is_lt (bytes_cmp field other) ≡ true =
+          ap is_lt (nat_list_cmp_total.trans field name other (less _ next.above) (less _ lt)) in
           has_key-more h.p.fields (name, value) other (h.rising other far) (less_differs _ lt);
     }
 
 -- what is read of the first field
-pub first_read : (line key : List ℕ) (value : ℤ) (front field rest : List ℕ) → IsKeyText key → IsCut key front field → HasFirst line key value rest
+pub first_read : (line key : List ℕ) (value : ℤ) (front field rest : List ℕ) → IsKeyText key → IsCut key front field
+    → HasFirst line key value rest
     → BeginsWith line ((key, value) ∷ []) front field rest
 first_read line key value front field rest is cut first =
     let k = is_written key is in
@@ -83,8 +98,10 @@ first_read line key value front field rest is cut first =
     rw (parts.0, parts.1) (begins_with_first line key value rest k first)
 
 -- what is read of a further one
-pub next_read : (line : List ℕ) (samples : List Sample) (front field rest key : List ℕ) (value : ℤ) (after last value_text left : List ℕ)
-    → IsKeyText key → IsCut key after last → BeginsWith line samples front field rest → after ≡ front → length samples < MAX_FIELDS
+pub next_read : (line : List ℕ) (samples : List Sample) (front field rest key : List ℕ) (value : ℤ)
+    (after last value_text left : List ℕ)
+    → IsKeyText key → IsCut key after last → BeginsWith line samples front field rest → after ≡ front
+    → length samples < MAX_FIELDS
     → is_lt (bytes_cmp field last) ≡ true → rest ≡ COMMA ∷ (last ++ EQUALS ∷ value_text) → IsValue value_text value left
     → BeginsWith line (samples ++ (key, value) ∷ []) after last left
 next_read line samples front field rest key value after last value_text left is cut read same few above whole is_value =
@@ -96,11 +113,14 @@ next_read line samples front field rest key value after last value_text left is 
       is_value = is_value;
       above = ap (λ (t : List ℕ). is_lt (bytes_cmp field t)) (sym parts.1) ∙ above;
     } in
-    rw (parts.0, parts.1) (begins_with_next line samples front field rest key k value left read (sym same ∙ parts.0) few next)
+    rw (parts.0, parts.1)
+    (begins_with_next line samples front field rest key k value left read (sym same ∙ parts.0) few next)
 
 -- the time after the last one
-pub says_at_end : (precision : Precision) (line : List ℕ) (samples : List Sample) (front field rest : List ℕ) (found : Option (Option ℤ)) → BeginsWith line samples front field rest
+pub says_at_end : (precision : Precision) (line : List ℕ) (samples : List Sample) (front field rest : List ℕ)
+    (found : Option (Option ℤ)) → BeginsWith line samples front field rest
     → OnSome found (begins COMMA rest ≡ false) → IfSome found (λ time. ending_at precision (skip_spaces rest) ≡ Ok time)
     → IfSome found (λ time. SaysSamples precision line samples time)
 says_at_end precision line samples front field rest None read ended at = tt
-says_at_end precision line samples front field rest (Some time) read ended at = says_samples precision line samples front field rest time read ended at
+says_at_end precision line samples front field rest (Some time) read ended at =
+    says_samples precision line samples front field rest time read ended at

@@ -32,14 +32,16 @@ pub record HasPassed (text : List ℕ) (number : ℕ) (left : List ℕ) : Type 0
 pub passed_none : (text : List ℕ) → HasPassed text 0 text
 passed_none text = record { digits = []; are = refl; writes = refl; fits = omega arith; whole = refl }
 
-all_push : (digits : List ℕ) (digit : ℕ) → list_all is_ascii_digit digits ≡ true → is_ascii_digit digit ≡ true → list_all is_ascii_digit (digits ++ digit ∷ []) ≡ true
+all_push : (digits : List ℕ) (digit : ℕ) → list_all is_ascii_digit digits ≡ true → is_ascii_digit digit ≡ true
+    → list_all is_ascii_digit (digits ++ digit ∷ []) ≡ true
 all_push [] digit are is = rw is refl
 all_push (first ∷ digits) digit are is =
     let parts = and_parts (is_ascii_digit first) (list_all is_ascii_digit digits) are in
     rw (parts.0, all_push digits digit parts.1 is) refl
 
 -- one digit more
-pub passed_more : (text : List ℕ) (number value : ℕ) (left rest : List ℕ) → HasPassed text number left → IsDigit left value rest → number * 10 + value < 2 ^ 64
+pub passed_more : (text : List ℕ) (number value : ℕ) (left rest : List ℕ) → HasPassed text number left
+    → IsDigit left value rest → number * 10 + value < 2 ^ 64
     → HasPassed text (number * 10 + value) rest
 passed_more text number value left rest h d fits = record {
   digits = h.digits ++ d.digit ∷ [];
@@ -50,10 +52,12 @@ passed_more text number value left rest h d fits = record {
 }
 
 -- after some digits
-pub passed_some : (text : List ℕ) (number : ℕ) (left : List ℕ) → HasPassed text number left → length left < length text → IsNumber text number left
+pub passed_some : (text : List ℕ) (number : ℕ) (left : List ℕ) → HasPassed text number left
+    → length left < length text → IsNumber text number left
 passed_some text number left h some =
     let len = length-append h.digits left in
-    let there : (length h.digits == 0) ≡ false = not_zero (length h.digits) (length h.digits) refl (omega (arith, len, ap length h.whole)) in
+    let there : (length h.digits == 0) ≡ false =
+    not_zero (length h.digits) (length h.digits) refl (omega (arith, len, ap length h.whole)) in
     record {
       digits = h.digits;
       writes = rw (there, h.are, sym h.writes, lt-ltb _ _ h.fits) refl;
@@ -61,7 +65,8 @@ passed_some text number left h some =
     }
 
 -- a digit ends no value, and is no minus and no quote
-digit_stays : (byte : ℕ) → is_ascii_digit byte ≡ true → (ends_value byte ≡ false) × (eqb byte MINUS ≡ false) × (eqb byte QUOTE ≡ false)
+digit_stays : (byte : ℕ) → is_ascii_digit byte ≡ true
+    → (ends_value byte ≡ false) × (eqb byte MINUS ≡ false) × (eqb byte QUOTE ≡ false)
 digit_stays byte is = (grind (arith, nat_tests), grind (arith, nat_tests), grind (arith, nat_tests))
 
 plain_digits : (digits : List ℕ) → list_all is_ascii_digit digits ≡ true → list_any ends_value digits ≡ false
@@ -84,13 +89,22 @@ pub record HasDigits (text digits rest : List ℕ) : Type 0 where
   pub whole : text ≡ front ++ rest
 
 -- what precedes the rest is the digits, with a minus or not
-pub sign_of : (text digits rest : List ℕ) → unsigned text ≡ digits ++ rest → is_digits digits ≡ true → HasDigits text digits rest
+pub sign_of : (text digits rest : List ℕ) → unsigned text ≡ digits ++ rest → is_digits digits ≡ true
+    → HasDigits text digits rest
 sign_of text [] rest e is = absurd cc
 sign_of [] (digit ∷ digits) rest e is = absurd cc
 sign_of (byte ∷ text) (digit ∷ digits) rest e is =
     elim (cases_Bool (eqb byte MINUS)) [
-      | inl minus ↦ record { front = byte ∷ digit ∷ digits; without_sign = rw minus refl; whole = ap (λ (t : List ℕ). byte ∷ t) (rw minus at e) }
-      | inr plain ↦ record { front = digit ∷ digits; without_sign = rw (digit_stays digit (digits_are digit digits is).0).1 refl; whole = rw plain at e }
+      | inl minus ↦ record {
+        front = byte ∷ digit ∷ digits;
+        without_sign = rw minus refl;
+        whole = ap (λ (t : List ℕ). byte ∷ t) (rw minus at e);
+      }
+      | inr plain ↦ record {
+        front = digit ∷ digits;
+        without_sign = rw (digit_stays digit (digits_are digit digits is).0).1 refl;
+        whole = rw plain at e;
+      }
     ]
 
 -- the digits that write a number
@@ -121,13 +135,15 @@ plain_integer (byte ∷ front) rest is =
           record { plain = plain_digits (byte ∷ front) digits.1; bare = stays.2 }
     ]
 
-value_marked : (front : List ℕ) → is_digits (unsigned front) ≡ true → value_of (front ++ INTEGER_MARK ∷ []) ≡ ok_or (integer_at front) IntegerRange
+value_marked : (front : List ℕ) → is_digits (unsigned front) ≡ true
+    → value_of (front ++ INTEGER_MARK ∷ []) ≡ ok_or (integer_at front) IntegerRange
 value_marked front is =
     let marked = before_last_there INTEGER_MARK front INTEGER_MARK in
     rw (marked, is) refl
 
 -- an integer and its mark are a value
-pub integer_value : (text front rest : List ℕ) (number : ℤ) → text ≡ front ++ INTEGER_MARK ∷ rest → EndsValue rest → Some number ≡ integer_at front
+pub integer_value : (text front rest : List ℕ) (number : ℤ) → text ≡ front ++ INTEGER_MARK ∷ rest → EndsValue rest
+    → Some number ≡ integer_at front
     → IsValue text number rest
 integer_value text front rest number whole ended read =
     let is = read_from_digits front number read in
@@ -149,7 +165,8 @@ pub record IsRead (text : List ℕ) (number : ℕ) (rest : List ℕ) : Type 0 wh
   pub writes : number_at (unsigned front) ≡ Some number
   pub whole : text ≡ front ++ rest
 
-pub is_read : (text digits : List ℕ) (number : ℕ) (rest : List ℕ) → digits ≡ unsigned text → IsNumber digits number rest → IsRead text number rest
+pub is_read : (text digits : List ℕ) (number : ℕ) (rest : List ℕ) → digits ≡ unsigned text
+    → IsNumber digits number rest → IsRead text number rest
 is_read text digits number rest without h =
     let sign = sign_of text h.digits rest (sym without ∙ h.whole) (number_digits h.digits number h.writes) in
     record {

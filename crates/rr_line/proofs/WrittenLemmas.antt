@@ -52,7 +52,8 @@ name_written class name rest h d = record {
 }
 
 -- what follows the tags, or one of them, ends a name
-divides_tags : (class : Class) (tags : List Tag) (more : List ℕ) → Divides class (flat_map tag_text tags ++ SPACE ∷ more)
+divides_tags : (class : Class) (tags : List Tag) (more : List ℕ)
+    → Divides class (flat_map tag_text tags ++ SPACE ∷ more)
 divides_tags Measurement [] more = refl
 divides_tags Other [] more = refl
 divides_tags Measurement (tag ∷ tags) more = refl
@@ -83,15 +84,19 @@ apart : (name next : List ℕ) → is_lt (bytes_cmp name next) ≡ true
 apart name next lt =
     elim (cases_Bool (is_eq (bytes_cmp (escape Other name) (escape Other next)))) [
       | inl same ↦
-          let spelled : escape Other name ≡ escape Other next = same_key (escape Other name) (escape Other next) (equal _ same) in
-          let one : name ≡ next = sym (unescape-escape Other name) ∙ ap (unescape Other) spelled ∙ unescape-escape Other next in
-          let below : is_lt (bytes_cmp next next) ≡ true = subst (λ (k : List ℕ). is_lt (bytes_cmp k next) ≡ true) one lt in
+          let spelled : escape Other name ≡ escape Other next =
+          same_key (escape Other name) (escape Other next) (equal _ same) in
+          let one : name ≡ next = sym (unescape-escape Other name) ∙ ap (unescape Other) spelled
+          ∙ unescape-escape Other next in
+          let below : is_lt (bytes_cmp next next) ≡ true =
+          subst (λ (k : List ℕ). is_lt (bytes_cmp k next) ≡ true) one lt in
           absurd (false≢true (sym (less_differs _ below) ∙ (eq_by_cmp_equiv nat_list_cmp_total).refl next))
       | inr differ ↦ differ
     ]
 
 -- a key that differs from one more
-pub has_key-more : {V : Type 0} (before : List (List ℕ × V)) (entry : List ℕ × V) (key : List ℕ) → has_key before key ≡ false
+pub has_key-more : {V : Type 0} (before : List (List ℕ × V)) (entry : List ℕ × V) (key : List ℕ)
+    → has_key before key ≡ false
     → is_eq (bytes_cmp entry.0 key) ≡ false → has_key (before ++ entry ∷ []) key ≡ false
 has_key-more [] entry key h d = rw d refl
 has_key-more (first ∷ before) entry key h d =
@@ -105,8 +110,10 @@ NewAbove last before = (next : List ℕ) → is_lt (bytes_cmp last next) ≡ tru
 new_above : (last : List ℕ) (before : List Tag) (tag : Tag) → NewAbove last before → is_lt (bytes_cmp last tag.0) ≡ true
     → NewAbove tag.0 (before ++ (escape Other tag.0, escape Other tag.1) ∷ [])
 new_above last before tag new up = λ next lt.
-    let far : is_lt (bytes_cmp last next) ≡ true = ap is_lt (nat_list_cmp_total.trans last tag.0 next (less _ up) (less _ lt)) in
-    has_key-more before (escape Other tag.0, escape Other tag.1) (escape Other next) (new next far) (apart tag.0 next lt)
+    let far : is_lt (bytes_cmp last next) ≡ true =
+    ap is_lt (nat_list_cmp_total.trans last tag.0 next (less _ up) (less _ lt)) in
+    has_key-more before (escape Other tag.0, escape Other tag.1) (escape Other next) (new next far)
+    (apart tag.0 next lt)
 
 -- the tags of a key text are tags of a line
 tags_written : (before : List Tag) (last : List ℕ) (tags : List Tag) (more : List ℕ) → NewAbove last before
@@ -136,7 +143,8 @@ tags_written before last (tag ∷ tags) more new up named few =
     )
 
 -- a written name begins with no space
-name_kept : (name rest : List ℕ) → is_name name ≡ true → skip_spaces (escape Other name ++ rest) ≡ escape Other name ++ rest
+name_kept : (name rest : List ℕ) → is_name name ≡ true
+    → skip_spaces (escape Other name ++ rest) ≡ escape Other name ++ rest
 name_kept [] rest h = absurd cc
 name_kept (byte ∷ name) rest h =
     elim (cases_Bool (is_special Other byte)) [
@@ -190,7 +198,8 @@ pub key_split : (key : List ℕ) (k : IsWritten key) → key ≡ front_of key k 
 key_split key k = k.whole ∙ simp append_assoc
 
 -- key texts of a line with these names begin as the key text does
-pub front_kept : (key : List ℕ) (k : IsWritten key) → front_text (escape Measurement k.measurement) (written k.tags) ≡ front_of key k
+pub front_kept : (key : List ℕ) (k : IsWritten key)
+    → front_text (escape Measurement k.measurement) (written k.tags) ≡ front_of key k
 front_kept key k =
     let once = unique_if_rises k.tags k.tags (IsPermutation-refl k.tags) k.rising in
     let same : entries (from_entries {R = bytes_cmp} (tags_unescaped (written k.tags))) ≡ k.tags =
@@ -200,15 +209,18 @@ front_kept key k =
     (unescape-escape Measurement k.measurement) same
 
 -- a text that begins with a key text and an equals, and says something, leads to the field
-pub leads_to_field : (key text value_text : List ℕ) (k : IsWritten key) → is_nothing text ≡ false → text ≡ key ++ EQUALS ∷ value_text
-    → LeadsToFields text (escape Measurement k.measurement) (written k.tags) (escape Other k.field ++ EQUALS ∷ value_text)
+pub leads_to_field : (key text value_text : List ℕ) (k : IsWritten key) → is_nothing text ≡ false
+    → text ≡ key ++ EQUALS ∷ value_text
+    → LeadsToFields text (escape Measurement k.measurement) (written k.tags)
+    (escape Other k.field ++ EQUALS ∷ value_text)
 leads_to_field key text value_text k said whole =
     let fields_text = escape Other k.field ++ EQUALS ∷ value_text in
     let tags_text = flat_map tag_text k.tags ++ SPACE ∷ fields_text in
     let field = name_written Other k.field (EQUALS ∷ value_text) k.field_named refl in
     let spelled : text ≡ escape Measurement k.measurement ++ tags_text =
     whole ∙ ap (λ (t : List ℕ). t ++ EQUALS ∷ value_text) k.whole ∙ simp append_assoc in
-    subst (λ (t : List ℕ). LeadsToFields t (escape Measurement k.measurement) (written k.tags) fields_text) (sym spelled) (record {
+    subst (λ (t : List ℕ). LeadsToFields t (escape Measurement k.measurement) (written k.tags) fields_text)
+    (sym spelled) (record {
       gap = SPACE ∷ fields_text;
       front = record {
         said = ap is_nothing (sym spelled) ∙ said;

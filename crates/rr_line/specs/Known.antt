@@ -44,8 +44,8 @@ abbrev pub IsCut : List ℕ → List ℕ → List ℕ → Type 0
 IsCut key front field =
     (text name : List ℕ) → key ≡ text ++ SPACE ∷ escape Other name → (front ≡ text) × (field ≡ escape Other name)
 
--- line = measurement { "," tag } spaces field { "," field } rest, and these are the samples so far: their key texts begin
--- with the front, the key of the last field is this one, and none so far is above it
+-- line = measurement { "," tag } spaces field { "," field } rest, and these are the samples so far: the front is what
+-- precedes the fields in their key texts, the key of the last field is this one, and no key so far is above it
 pub record BeginsWith (line : List ℕ) (samples : List Sample) (front field rest : List ℕ) : Type 0 where
   pub p : PointView
   pub fields_text : List ℕ

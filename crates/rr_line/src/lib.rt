@@ -24,6 +24,11 @@
 //! [`MAX_KEY_TEXT`](rr_text::limits::MAX_KEY_TEXT) bytes. The rules are those of the "InfluxDB
 //! line protocol reference" where it has them; fields of other kinds are refused by their kind.
 //!
+//! A sender repeats its series, so a line is mostly one of a series whose key text is known.
+//! [`read_known`] reads such a line, and [`KnownLine`] one of several fields, by comparing the key
+//! texts: what they answer is what [`parse_line`] reads, and where they don't answer, it is to be
+//! asked. [`LastTime`] keeps the time of the line before, which is mostly that of the next one.
+//!
 //! In `specs/` the grammar is a relation between a line's bytes and what they say, or why they are
 //! refused: good parts, and what follows them. The reading is a function of these bytes. [`laws`]
 //! says that the two are one, and that each line has exactly one answer.

@@ -7,11 +7,13 @@ pub loop-digit-preserved : goal.loop-digit-preserved
 loop-digit-preserved c =
     let before = c.loop-digit in
     let same : before.number * 10 + c.in-Some.digit ≡ c.in_ok-number.number = search rules in
-    let more = passed_more c.args.text.now before.number c.in-Some.digit before.left.now c.in-Some.rest.now before.invariant c.in-Some.ensures (search rules) in
+    let more = passed_more c.args.text.now before.number c.in-Some.digit before.left.now c.in-Some.rest.now
+    before.invariant c.in-Some.ensures (search rules) in
     subst (λ (n : ℕ). HasPassed c.args.text.now n c.in-Some.rest.now) same more
 
 pub returns : goal.returns
 returns c =
     let last = c.loop-digit in
-    let some : length last.left.now < length c.args.text.now = omega (arith, ap length last.invariant.whole, length-append last.invariant.digits last.left.now) in
+    let some : length last.left.now < length c.args.text.now =
+    omega (arith, ap length last.invariant.whole, length-append last.invariant.digits last.left.now) in
     passed_some c.args.text.now last.number last.left.now last.invariant some

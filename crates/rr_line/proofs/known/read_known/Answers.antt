@@ -7,4 +7,5 @@ pub returns : goal.returns
 returns c =
     let value = c.in_ok-value.value in
     let kept : to_z w64 (of_z w64 value) ≡ value = search rules in
-    rw kept (says_first c.args.precision c.args.line.now c.args.key.now value c.in_ok-value.rest.now c.in_ok-time.time c.requires (search rules) (search rules) (search rules))
+    rw kept (says_first c.args.precision c.args.line.now c.args.key.now value c.in_ok-value.rest.now c.in_ok-time.time
+    c.requires (search rules) (search rules) (search rules))

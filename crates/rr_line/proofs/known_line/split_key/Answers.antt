@@ -14,6 +14,7 @@ returns c =
     let field = c.in_ok-field.field.now in
     let front : take at key ≡ c.split_at.result.0.now = search rules in
     let none : before_last BACKSLASH (take at key) ≡ None = search rules in
-    let follows : c.split_at.result.1.now ≡ SPACE ∷ field = strip_some SPACE c.split_at.result.1.now field (search rules) in
+    let follows : c.split_at.result.1.now ≡ SPACE ∷ field =
+    strip_some SPACE c.split_at.result.1.now field (search rules) in
     let rest : drop at key ≡ c.split_at.result.1.now = search rules in
     subst (λ (t : List ℕ). IsCut key t field) front (cut_at_space key field at c.in_ok-at.ensures none (rest ∙ follows))
