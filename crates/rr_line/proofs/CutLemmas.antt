@@ -8,7 +8,7 @@ use Rattle.rr_text.specs.declared.bytes.TheConstants.{BACKSLASH, SPACE}
 use Rattle.rr_key.specs.declared.class.Class.TheVariants.{Other}
 use Rattle.rr_key.specs.Class.{is_special}
 use Rattle.rr_key.specs.Unit.{escape}
-use Rattle.rr_line.specs.Known.{IsCut}
+use Rattle.rr_line.specs.Beginning.{IsCut}
 use Rattle.rr_line.specs.Part.{cut_after, before_last}
 use Rattle.rr_line.proofs.PartLemmas.{cut_is, first_is, before_last_at}
 

@@ -14,7 +14,8 @@ use Rattle.rr_point.specs.Front.{front_text}
 use Rattle.rr_point.specs.Key.{key_text}
 use Rattle.rr_point.specs.Point.{PointView}
 use Rattle.rr_line.specs.declared.precision.Precision.{Precision}
-use Rattle.rr_line.specs.Known.{Sample, SaysSamples, HasFirst, BeginsWith}
+use Rattle.rr_line.specs.Beginning.{HasFirst, BeginsWith}
+use Rattle.rr_line.specs.Known.{Sample, SaysSamples}
 use Rattle.rr_line.specs.Line.{point}
 use Rattle.rr_line.specs.Part.{skip_spaces, content}
 use Rattle.rr_line.specs.Reading.{ending_at}

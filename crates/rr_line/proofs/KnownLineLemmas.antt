@@ -17,7 +17,8 @@ use Rattle.rr_key.specs.Series.{IsKeyText}
 use Rattle.rr_key.specs.Unit.{escape}
 use Rattle.rr_point.specs.Key.{key_text}
 use Rattle.rr_line.specs.Field.{Field, LeadTo, IsField, MayComeAfter}
-use Rattle.rr_line.specs.Known.{IsCut, HasFirst, SaysSamples, Sample, BeginsWith}
+use Rattle.rr_line.specs.Beginning.{IsCut, HasFirst, BeginsWith}
+use Rattle.rr_line.specs.Known.{SaysSamples, Sample}
 use Rattle.rr_line.specs.Value.{IsValue}
 use Rattle.rr_line.proofs.KnownLemmas.{key_of_field, begins_with_first, says_samples}
 use Rattle.rr_line.proofs.ReadPointLemmas.{point_of}

@@ -1,21 +1,10 @@
--- Lines whose samples are told by the key texts of their series.
-use Rattle.std.specs.Prelude.{◌≡◌, ℕ, ℤ, true, false, List, ◌∷◌, ◌++◌, [], map, Option, Ok}
-use Rattle.std.specs.Ordering.{is_lt}
-use Rattle.rr_text.specs.Bytes.{bytes_cmp}
-use Rattle.rr_text.specs.declared.bytes.TheConstants.{EQUALS, SPACE}
-use Rattle.rr_key.specs.declared.class.Class.TheVariants.{Other}
-use Rattle.rr_key.specs.Unit.{escape}
-use Rattle.rr_point.specs.Front.{front_text}
-use Rattle.rr_point.specs.Key.{key_text, has_long_key}
+-- What a line says, as samples of series.
+use Rattle.std.specs.Prelude.{◌≡◌, ℕ, ℤ, List, map, Option, Ok}
+use Rattle.rr_point.specs.Key.{key_text}
 use Rattle.rr_point.specs.Point.{PointView}
 use Rattle.rr_line.specs.declared.precision.Precision.{Precision}
-use Rattle.rr_line.specs.Field.{Field, IsField, MayComeAfter, LeadTo}
-use Rattle.rr_line.specs.Grammar.{is_nothing, LeadsToFields}
 use Rattle.rr_line.specs.Line.{point}
-use Rattle.rr_line.specs.Part.{content}
 use Rattle.rr_line.specs.Reading.{reading}
-use Rattle.rr_line.specs.Tag.{has_key}
-use Rattle.rr_line.specs.Value.{IsValue}
 
 -- the key text of a series, and a value
 abbrev pub Sample : Type 0
@@ -31,34 +20,3 @@ pub record SaysSamples (precision : Precision) (line : List ℕ) (samples : List
   pub read : reading precision line ≡ Ok (point p)
   pub are : samples_of p ≡ samples
   pub when : p.time ≡ time
-
--- line = key "=" value rest, but for what the grammar drops at its ends, and it says something
-pub record HasFirst (line key : List ℕ) (value : ℤ) (rest : List ℕ) : Type 0 where
-  pub value_text : List ℕ
-  pub said : is_nothing (content line) ≡ false
-  pub whole : content line ≡ key ++ EQUALS ∷ value_text
-  pub is_value : IsValue value_text value rest
-
--- where a key text is a text, a space and a name, these are the front and the field
-abbrev pub IsCut : List ℕ → List ℕ → List ℕ → Type 0
-IsCut key front field =
-    (text name : List ℕ) → key ≡ text ++ SPACE ∷ escape Other name → (front ≡ text) × (field ≡ escape Other name)
-
--- line = measurement { "," tag } spaces field { "," field } rest, and these are the samples so far: the front is what
--- precedes the fields in their key texts, the key of the last field is this one, and no key so far is above it
-pub record BeginsWith (line : List ℕ) (samples : List Sample) (front field rest : List ℕ) : Type 0 where
-  pub p : PointView
-  pub fields_text : List ℕ
-  pub before : List Field
-  pub last : Field
-  pub last_text : List ℕ
-  pub leads : LeadsToFields (content line) p.measurement p.tags fields_text
-  pub leading : LeadTo [] fields_text before last_text
-  pub ends : IsField last_text last rest
-  pub new : MayComeAfter before last
-  pub all : p.fields ≡ before ++ last ∷ []
-  pub short : has_long_key p ≡ false
-  pub are : samples_of p ≡ samples
-  pub front_is : front ≡ front_text p.measurement p.tags
-  pub field_is : field ≡ last.0
-  pub rising : (key : List ℕ) → is_lt (bytes_cmp field key) ≡ true → has_key p.fields key ≡ false

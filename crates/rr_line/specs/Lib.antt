@@ -13,4 +13,5 @@ pub mod Gathering
 pub mod Fault
 pub mod Answer
 pub mod Known
+pub mod Beginning
 pub mod KnownLine

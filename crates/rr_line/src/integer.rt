@@ -10,8 +10,8 @@ use crate::mark::INTEGER_MARK;
 use rr_text::bytes::{COMMA, MINUS, SPACE, begins, strip};
 use rr_text::text::unsigned;
 
-/// The integer at the front and what follows it, as `read_value` reads them, but for the faults: a
-/// value that is none is not answered.
+/// The integer at the front, with its mark, and what follows it. What `read_value` refuses isn't
+/// answered.
 pub(crate) fn read_integer(text: &[u8]) -> Option<(i64, &[u8])>
     ensures { IfSome result (λ value. IsValue text.now value.0 value.1.now) }
 {

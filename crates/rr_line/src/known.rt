@@ -4,7 +4,8 @@ ghost use Rattle.std.specs.Prelude.{◌≡◌, false, [], ◌∷◌, ◌++◌, I
 ghost use Rattle.rr_key.specs.Series.{IsKeyText};
 ghost use Rattle.rr_text.specs.Bytes.{begins};
 ghost use Rattle.rr_text.specs.declared.bytes.TheConstants.{COMMA, EQUALS};
-ghost use Rattle.rr_line.specs.Known.{HasFirst, SaysSamples};
+ghost use Rattle.rr_line.specs.Beginning.{HasFirst};
+ghost use Rattle.rr_line.specs.Known.{SaysSamples};
 ghost use Rattle.rr_line.specs.Part.{skip_spaces};
 ghost use Rattle.rr_line.specs.Reading.{ending_at};
 

@@ -6,7 +6,8 @@ ghost use Rattle.std.specs.Ordering.{is_lt};
 ghost use Rattle.rr_key.specs.Series.{IsKeyText};
 ghost use Rattle.rr_text.specs.Bytes.{bytes_cmp};
 ghost use Rattle.rr_text.specs.declared.limits.TheConstants.{MAX_FIELDS};
-ghost use Rattle.rr_line.specs.Known.{IsCut, Sample, SaysSamples};
+ghost use Rattle.rr_line.specs.Beginning.{IsCut};
+ghost use Rattle.rr_line.specs.Known.{Sample, SaysSamples};
 
 use crate::integer::read_integer;
 use crate::known::{after_key, first_value, time_after};
@@ -21,9 +22,9 @@ use rr_text::limits::MAX_FIELDS;
 ///
 /// [`first_field`](KnownLine::first_field) begins it, [`next_field`](KnownLine::next_field) goes on,
 /// and [`time`](KnownLine::time) ends it: the line then says these samples, in this order, and no
-/// others. Each may answer `None`, which says nothing of the line, as
-/// [`read_known`](crate::read_known) may. It comes too if the keys of the fields don't rise, byte by
-/// byte, as senders mostly sort them, or if one has a space.
+/// others. Each may answer `None`, which says nothing of the line, as that of
+/// [`read_known`](crate::read_known). It also comes if the keys of the fields don't rise, byte by
+/// byte, as most senders sort them, or if one of them has a space.
 ///
 /// The cost of a field is that of comparing its key text, twice, and of reading the value. No memory
 /// is taken.

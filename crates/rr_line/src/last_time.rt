@@ -14,7 +14,7 @@ const MAX_KEPT: usize = 24;
 /// The time that was read last, with the bytes that wrote it: a line that ends in the same bytes has
 /// the same time, which isn't read again.
 ///
-/// It takes no memory. A longer ending than a time needs is read, and not kept.
+/// It takes no memory. An ending that is longer than a time needs is read each time.
 #[derive(Debug, Drop)]
 pub struct LastTime {
     precision: Precision,

@@ -1,7 +1,7 @@
 -- What precedes the last space is the front, and what follows it the field.
 use Rattle.std.proofs.Common.{◌≡◌, ◌∷◌, List, ℕ, None, take, drop, rules, subst, ◌∙◌}
 use Rattle.rr_text.specs.declared.bytes.TheConstants.{SPACE, BACKSLASH}
-use Rattle.rr_line.specs.Known.{IsCut}
+use Rattle.rr_line.specs.Beginning.{IsCut}
 use Rattle.rr_line.specs.Part.{before_last}
 use Rattle.rr_line.proofs.CutLemmas.{cut_at_space}
 use Rattle.rr_line.proofs.PartLemmas.{strip_some}
