@@ -7,5 +7,6 @@ pub mod ChainLemmas
 pub mod CellsLemmas
 pub mod ToldLemmas
 pub mod BodyLemmas
+pub mod TakenLemmas
 pub mod SnapshotLemmas
 pub mod CutLemmas
