@@ -1,6 +1,5 @@
 mod archives;
 mod contributions;
-mod feeds;
 mod fetches;
 mod keys;
 mod pulls;
@@ -10,6 +9,5 @@ mod reports;
 mod rings;
 mod schemas;
 mod scripts;
-mod sessions;
 mod streams;
 mod words;

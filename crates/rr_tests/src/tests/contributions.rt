@@ -1,7 +1,7 @@
-//! Joins of contributions, and of values, by their trait alone.
+//! Joins of contributions, by their trait alone.
 
 use rr_contrib::Contribution;
-use rr_join::{Join, join_max};
+use rr_join::Join;
 
 /// The join of two, by the trait alone.
 fn joined<T: Copy + Join>(a: T, b: T) -> T {
@@ -17,14 +17,4 @@ fn the_greater_is_joined(rt: HostRuntime) {
     let more = Contribution { sum: 6, ..less };
     let joins = [joined(less, wide), joined(wide, less), joined(wide, more)];
     assert!(rt; joins == [wide, wide, more]);
-}
-
-#[test]
-fn the_greater_is_kept(rt: HostRuntime) {
-    let kept = (
-        join_max(3u8, 5),
-        join_max(5u8, 3),
-        join_max((2u8, -1i64), (2, 0)),
-    );
-    assert_eq!(rt; kept, (5, 5, (2, 0)));
 }

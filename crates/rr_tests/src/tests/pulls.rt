@@ -9,48 +9,35 @@ use rr_gossip::{GossipFault, Target, give, pull};
 use rr_replica::Replica;
 use std::alloc::{AllocError, Global};
 use std::cell;
-use std::io::Read;
 use std::test::Fail;
 
-/// What a target writes that pulls from an input.
-fn pulled<R: Read>(
-    alloc: Global,
-    input: &mut Counted<R>,
-    target: &mut Replica<PlainArchive>,
-) -> Result<Vec<u8>, Fail> {
-    let mut output = Counted::new(Vec::new(alloc));
-    pull(alloc, input, &mut output, target)?;
-    Ok(output.into_inner())
-}
-
-/// What a source answers to an input.
-fn given<R: Read>(
-    alloc: Global,
-    input: &mut Counted<R>,
-    source: &mut Replica<PlainArchive>,
-) -> Result<Vec<u8>, Fail> {
-    let mut output = Counted::new(Vec::new(alloc));
-    give(alloc, input, &mut output, source)?;
-    Ok(output.into_inner())
-}
-
 /// What a target asks for, which gets no answer.
-fn asked(alloc: Global, target: &mut Replica<PlainArchive>) -> (Option<GossipFault>, Vec<u8>) {
+fn asked(alloc: Global, target: &mut Replica<PlainArchive>) -> Vec<u8> {
     let mut output = Counted::new(Vec::new(alloc));
-    let ended = pull(alloc, &mut Counted::new([].as_slice()), &mut output, target).err();
-    (ended, output.into_inner())
+    // The pull is ended, since no answer comes.
+    let _ended = pull(alloc, &mut Counted::new([].as_slice()), &mut output, target);
+    output.into_inner()
 }
 
-/// What a source answers to what a target asks for, which then pulls from it.
-fn exchanged(
+/// What a source answers to what a target asks for.
+fn given(
     alloc: Global,
-    sent: &[u8],
+    asked: &[u8],
     source: &mut Replica<PlainArchive>,
+) -> Result<Vec<u8>, GossipFault> {
+    let mut output = Counted::new(Vec::new(alloc));
+    give(alloc, &mut Counted::new(asked), &mut output, source)?;
+    Ok(output.into_inner())
+}
+
+/// A target takes an answer.
+fn take(
+    alloc: Global,
+    answer: &[u8],
     target: &mut Replica<PlainArchive>,
-) -> Result<Vec<u8>, Fail> {
-    let reply = given(alloc, &mut Counted::new(sent), source)?;
-    pulled(alloc, &mut Counted::new(reply.as_slice()), target)?;
-    Ok(reply)
+) -> Result<(), GossipFault> {
+    let mut output = Counted::new(Vec::new(alloc));
+    pull(alloc, &mut Counted::new(answer), &mut output, target)
 }
 
 /// Whether two pages of 256 cells and one of 88 are in an answer. A cell has 96 bytes, and a frame 26
@@ -63,29 +50,21 @@ fn are_pages(reply: &[u8]) -> bool {
 
 /// What a source of 600 cells answers to a target that holds nothing, and how many cells the target has
 /// then.
-fn exchanged_600(alloc: Global) -> Result<(Vec<u8>, usize), Fail> {
+fn exchanged(alloc: Global) -> Result<(Vec<u8>, usize), Fail> {
     let mut source = filled(alloc, 1, 600, 600)?;
     let mut target = filled(alloc, 2, 600, 0)?;
-    let (_, sent) = asked(alloc, &mut target);
-    let reply = exchanged(alloc, &sent, &mut source, &mut target)?;
+    let reply = given(alloc, &asked(alloc, &mut target), &mut source)?;
+    take(alloc, &reply, &mut target)?;
     Ok((reply, target.cell_count()))
 }
 
 #[test]
 fn a_long_answer_comes_in_pages(rt: HostRuntime) -> Result<(), Fail> {
-    let (reply, count) = exchanged_600(rt.alloc())?;
+    let (reply, count) = exchanged(rt.alloc())?;
     assert_eq!(rt;
         (reply.len(), count, are_pages(&reply)),
         (57_683, 600, true)
     );
-    Ok(())
-}
-
-#[test]
-fn a_pull_without_an_answer_is_ended(rt: HostRuntime) -> Result<(), Fail> {
-    let mut target = filled(rt.alloc(), 2, 600, 0)?;
-    let (ended, _) = asked(rt.alloc(), &mut target);
-    assert!(rt; ended == Some(GossipFault::Ended));
     Ok(())
 }
 

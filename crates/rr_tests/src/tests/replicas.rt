@@ -1,13 +1,20 @@
 //! Replicas: what cases of calls can't show.
-ghost use Rattle.std.specs.Prelude.{◌≡◌};
+ghost use Rattle.std.specs.Prelude.{◌≡◌, OnOk};
+ghost use Rattle.rr_cells.specs.CellBounds.{IsCellOf};
+ghost use Rattle.rr_cells.specs.Listing.{owned_cell};
+ghost use Rattle.rr_replica.specs.Standing.{held};
 
-use rr_archive::{Archive, Cells, PlainArchive};
+use rr_archive::{Cells, PlainArchive};
+use rr_base::Origin;
+use rr_contrib::Contribution;
 use rr_delta::{difference, summary};
-use rr_fakes::replicas::{MINUTE, filled, one_sample};
+use rr_fakes::replicas::{MINUTE, filled, minutes, one_sample};
 use rr_key::SeriesKey;
-use rr_replica::Replica;
+use rr_packed::PackedArchive;
+use rr_replica::laws::join_keeps_the_live;
+use rr_replica::{Cell, Replica};
 use rr_ring::RingArchive;
-use std::alloc::Global;
+use std::alloc::{AllocError, Global};
 use std::test::Fail;
 
 /// The slot of the cell with a number; -1 where there is none.
@@ -30,15 +37,10 @@ fn left_of_a_million<A: Cells>(alloc: Global) -> Result<(usize, i64, i64), Fail>
 
 #[test]
 fn a_million_samples_leave_ten_rows(rt: HostRuntime) -> Result<(), Fail> {
-    let left = left_of_a_million::<PlainArchive>(rt.alloc())?;
-    assert_eq!(rt; left, (10, 999_990, 999_999));
-    Ok(())
-}
-
-#[test]
-fn a_million_samples_leave_ten_rows_of_a_ring(rt: HostRuntime) -> Result<(), Fail> {
-    let left = left_of_a_million::<RingArchive>(rt.alloc())?;
-    assert_eq!(rt; left, (10, 999_990, 999_999));
+    let ring = left_of_a_million::<RingArchive>(rt.alloc())?;
+    let packed = left_of_a_million::<PackedArchive>(rt.alloc())?;
+    let all = (10, 999_990, 999_999);
+    assert_eq!(rt; (ring, packed), (all, all));
     Ok(())
 }
 
@@ -87,5 +89,64 @@ fn joined(alloc: Global) -> Result<((usize, usize), usize), Fail> {
 fn a_copy_takes_what_it_lacks(rt: HostRuntime) -> Result<(), Fail> {
     let counts = joined(rt.alloc())?;
     assert_eq!(rt; counts, ((1, 1), 2));
+    Ok(())
+}
+
+/// Joins two cells in one order into a replica, and in the other into one that holds the same. By the law of joins both
+/// then hold the same cells, whoever sent them.
+fn join_either_way<A: Cells>(
+    one: &mut Replica<A>,
+    other: &mut Replica<A>,
+    first: &Cell,
+    second: &Cell,
+) -> Result<(), AllocError>
+    requires alike { held one.old ≡ held other.old }
+    requires first { IsCellOf one.old.schema (owned_cell first.now) }
+    requires second { IsCellOf one.old.schema (owned_cell second.now) }
+    ensures { OnOk result (one.new.cells ≡ other.new.cells) }
+{
+    join_keeps_the_live();
+    // The proof needs that the schema is within its limits, which this ensures.
+    let _schema = one.schema();
+    one.join_cell(first)?;
+    one.join_cell(second)?;
+    other.join_cell(second)?;
+    other.join_cell(first)
+}
+
+/// What origin 2 says under number 1 that it wrote at a minute after the epoch.
+fn told(alloc: Global, value: i64) -> Result<Cell, Fail> {
+    Ok(Cell {
+        key: SeriesKey::parse_text(alloc, b"m v")?,
+        archive: 0,
+        slot: 1,
+        origin: Origin::new(2)?,
+        contribution: Contribution::first(1, 0, MINUTE, value),
+    })
+}
+
+/// The last value of the first cell.
+fn first_value<A: Cells>(replica: &Replica<A>) -> Option<i64> {
+    let Some(cell) = replica.cell_at(0) else {
+        return None;
+    };
+    Some(cell.contribution.last_value)
+}
+
+/// The value that two replicas hold, each of which joins two cells that differ in it, in its own order.
+fn left_by_a_liar<A: Cells>(alloc: Global) -> Result<(Option<i64>, Option<i64>), Fail> {
+    let mut one: Replica<A> = minutes(alloc, 1, 3)?;
+    let mut other = one.copy(alloc)?;
+    let (less, more) = (told(alloc, 5)?, told(alloc, 9)?);
+    if less.is_of(one.schema()) && more.is_of(one.schema()) {
+        join_either_way(&mut one, &mut other, &less, &more)?;
+    }
+    Ok((first_value(&one), first_value(&other)))
+}
+
+#[test]
+fn of_what_a_liar_tells_the_greater_stays(rt: HostRuntime) -> Result<(), Fail> {
+    let left = left_by_a_liar::<PlainArchive>(rt.alloc())?;
+    assert_eq!(rt; left, (Some(9), Some(9)));
     Ok(())
 }

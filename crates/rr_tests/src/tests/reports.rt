@@ -30,19 +30,14 @@ fn passed_on(alloc: Global, order: &Order, input: &[u8]) -> Result<Vec<u8>, Fail
 }
 
 #[test]
-fn what_a_script_prints_is_passed_on(rt: HostRuntime) -> Result<(), Fail> {
-    let output = passed_on(rt.alloc(), &Order::Sim { file: None }, b"frob")?;
-    assert!(rt; output.as_slice() == b"line 1: BadCommand\n".as_slice());
-    Ok(())
-}
-
-#[test]
-fn a_report_is_passed_on(rt: HostRuntime) -> Result<(), Fail> {
+fn what_an_order_prints_is_passed_on(rt: HostRuntime) -> Result<(), Fail> {
     let check_lines = Order::CheckLines {
         precision: Precision::Ns,
         now: 0,
     };
+    let output = passed_on(rt.alloc(), &Order::Sim { file: None }, b"frob")?;
     let report = passed_on(rt.alloc(), &check_lines, b"m v=1i")?;
+    assert!(rt; output.as_slice() == b"line 1: BadCommand\n".as_slice());
     assert!(rt; report.as_slice() == b"m v,1,0\n".as_slice());
     Ok(())
 }
