@@ -114,39 +114,58 @@ fn join_either_way<A: Cells>(
     other.join_cell(first)
 }
 
-/// What origin 2 says under number 1 that it wrote at a minute after the epoch.
-fn told(alloc: Global, value: i64) -> Result<Cell, Fail> {
-    Ok(Cell {
-        key: SeriesKey::parse_text(alloc, b"m v")?,
-        archive: 0,
-        slot: 1,
-        origin: Origin::new(2)?,
-        contribution: Contribution::first(1, 0, MINUTE, value),
-    })
+/// Whether two replicas that hold the same take both cells, as cells of their schema, each in its own order.
+fn are_joined(
+    one: &mut Replica<PlainArchive>,
+    other: &mut Replica<PlainArchive>,
+    first: &Cell,
+    second: &Cell,
+) -> bool
+    requires { held one.old ≡ held other.old }
+{
+    if !first.is_of(one.schema()) {
+        return false;
+    }
+    if !second.is_of(one.schema()) {
+        return false;
+    }
+    join_either_way(one, other, first, second).is_ok()
 }
 
 /// The last value of the first cell.
-fn first_value<A: Cells>(replica: &Replica<A>) -> Option<i64> {
+fn first_value(replica: &Replica<PlainArchive>) -> i64 {
     let Some(cell) = replica.cell_at(0) else {
-        return None;
+        return 0;
     };
-    Some(cell.contribution.last_value)
+    cell.contribution.last_value
 }
 
-/// The value that two replicas hold, each of which joins two cells that differ in it, in its own order.
-fn left_by_a_liar<A: Cells>(alloc: Global) -> Result<(Option<i64>, Option<i64>), Fail> {
-    let mut one: Replica<A> = minutes(alloc, 1, 3)?;
-    let mut other = one.copy(alloc)?;
-    let (less, more) = (told(alloc, 5)?, told(alloc, 9)?);
-    if less.is_of(one.schema()) && more.is_of(one.schema()) {
-        join_either_way(&mut one, &mut other, &less, &more)?;
-    }
-    Ok((first_value(&one), first_value(&other)))
+/// What two replicas hold of two cells, each after it joined them in its own order.
+fn left_of(alloc: Global, first: &Cell, second: &Cell) -> Option<(i64, i64)> {
+    let mut one: Replica<PlainArchive> = minutes(alloc, 1, 3).ok()?;
+    let mut other = one.copy(alloc).ok()?;
+    let are_joined = are_joined(&mut one, &mut other, first, second);
+    let left = (first_value(&one), first_value(&other));
+    are_joined.then_some(left)
+}
+
+/// What origin 2 says under number 1 that it wrote at a minute after the epoch.
+fn told(alloc: Global, value: i64) -> Option<Cell> {
+    let contribution = Contribution::first(1, 0, MINUTE, value);
+    Some(Cell {
+        key: SeriesKey::parse_text(alloc, b"m v").ok()?,
+        archive: 0,
+        slot: 1,
+        origin: Origin::new(2).ok()?,
+        contribution,
+    })
 }
 
 #[test]
-fn of_what_a_liar_tells_the_greater_stays(rt: HostRuntime) -> Result<(), Fail> {
-    let left = left_by_a_liar::<PlainArchive>(rt.alloc())?;
-    assert_eq!(rt; left, (Some(9), Some(9)));
-    Ok(())
+fn of_what_a_liar_tells_the_greater_stays(rt: HostRuntime) {
+    let left = match (told(rt.alloc(), 5), told(rt.alloc(), 9)) {
+        (Some(less), Some(more)) => left_of(rt.alloc(), &less, &more),
+        _ => None,
+    };
+    assert_eq!(rt; left, Some((9, 9)));
 }
