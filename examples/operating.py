@@ -102,9 +102,11 @@ def by_time(program, folder):
         counts = dict(line.split() for line in status.read_text().splitlines() if line[0] != "#")
         check("counts", (counts["rr_connections_total"], counts["rr_refused_total"]) == ("1", "1"), counts)
     said = node.end()
-    check("the start", said[1] == f"rr: version 2 origin 1 lines 127.0.0.1:{LINES} fetch 127.0.0.1:{FETCH} series 0 cells 0", said)
+    addresses = f"lines 127.0.0.1:{LINES} fetch 127.0.0.1:{FETCH}"
+    check("the start", said[1] == f"rr: version 2 origin 1 {addresses} series 0 cells 0", said)
     check("an unknown key", said[0].endswith("node.toml: every of archive 1: this key is unknown, and ignored"), said)
-    form = re.compile(r"round: connections (\d+) points (\d+) samples (\d+) refused (\d+) pulls \d+\.\d{3} save \d+\.\d{3}")
+    counts = r"connections (\d+) points (\d+) samples (\d+) refused (\d+)"
+    form = re.compile(rf"round: {counts} pulls \d+\.\d{{3}} save \d+\.\d{{3}}")
     rounds = [found.groups() for line in said if (found := form.fullmatch(line))]
     check("a line a turn", rounds.count(("1", "1", "1", "1")) == 1 and rounds.count(("0",) * 4) >= 5, said)
     # It is called in turns 1, 3, 6, 11: of 16 seconds it holds a few, though it is silent for one each time.

@@ -89,7 +89,8 @@ def main():
             check("minutes", rows(60, 180), "boiler temp,0,71200\nboiler temp,60,71600\nboiler temp,120,71900\n\n")
         with Node(program, folder, MINUTES, 3) as node:
             said = node.process.communicate(timeout=60)[1]
-            check("without the new archive", f"{node.process.returncode} {said.splitlines()[-1]}", "2 load: SchemaDiffers")
+            last = said.splitlines()[-1]
+            check("without the new archive", f"{node.process.returncode} {last}", "2 load: SchemaDiffers")
 
 
 if __name__ == "__main__":
