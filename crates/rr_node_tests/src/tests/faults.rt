@@ -6,7 +6,7 @@ use rr_base::Counted;
 use rr_desk::open;
 use rr_fakes::replicas::minutes;
 use rr_gossip::GossipFault;
-use rr_node::{Config, Moments, NodeFault, Opening, Prepared, Shelf, keep_round};
+use rr_node::{Config, Moments, NodeFault, Opening, Prepared, Report, Shelf, keep_round};
 use rr_snapshot::SaveFault;
 use std::alloc::Global;
 use std::io;
@@ -54,6 +54,8 @@ impl Shelf for NoRoom {
 
     ghost calls = { λ s. None };
 
+    fn lines_taken(&mut self, _report: Option<Report>) {}
+
     fn open(&mut self) -> Opening<Full> {
         match self.opens {
             None => Opening::Unwanted,
@@ -86,15 +88,11 @@ type Told = (
     Option<bool>,
 );
 
-/// Keeps a round of a new desk to which these connections come, with a peer that sends no frame, and a shelf
-/// without room.
-fn told<R: Wait>(
-    rt: &R,
-    alloc: Global,
-    inputs: &[Option<&[u8]>],
-    opens: Option<bool>,
-) -> Option<Told> {
+/// Keeps a round of a new desk to which a connection comes that fails, or none, with a peer that sends no frame, and a
+/// shelf without room.
+fn told<R: Wait>(rt: &R, alloc: Global, comes: bool, opens: Option<bool>) -> Option<Told> {
     let config = Config::from_toml(alloc, CONFIG).ok()?;
+    let inputs: &[Option<&[u8]>] = if comes { &[None] } else { &[] };
     let mut lines = Prepared::new(alloc, inputs).ok()?;
     let replica = minutes::<PlainArchive>(alloc, 2, 3).ok()?;
     let (mut keeper, _readers) = open(alloc, rt, replica, 1).ok()?;
@@ -123,22 +121,17 @@ fn told<R: Wait>(
 /// The fault of the second peer.
 const PEER: Option<(usize, NodeFault)> = Some((2, NodeFault::Session(GossipFault::FrameTooLong)));
 
+// Nothing is done where no connection will come.
 #[test]
 fn a_round_goes_on_after_faults(rt: HostRuntime) -> Result<(), Fail> {
-    let full = told(&rt, rt.alloc(), &[None], Some(true));
-    let shut = told(&rt, rt.alloc(), &[None], Some(false));
-    let unwanted = told(&rt, rt.alloc(), &[None], None);
     let fault = Some(SaveFault::WriteFailed);
-    let is_told = full == Some((Some(true), PEER, fault, Some(false)))
-        && shut == Some((Some(true), PEER, fault, None))
-        && unwanted == Some((Some(true), PEER, None, None));
-    assert!(rt; is_told);
-    Ok(())
-}
-
-#[test]
-fn nothing_is_done_where_no_connection_will_come(rt: HostRuntime) -> Result<(), Fail> {
-    let over = told(&rt, rt.alloc(), &[], Some(true));
-    assert!(rt; over == Some((Some(false), None, None, None)));
+    for (comes, opens, want) in [
+        (true, Some(true), (Some(true), PEER, fault, Some(false))),
+        (true, Some(false), (Some(true), PEER, fault, None)),
+        (true, None, (Some(true), PEER, None, None)),
+        (false, Some(true), (Some(false), None, None, None)),
+    ] {
+        assert!(rt; told(&rt, rt.alloc(), comes, opens) == Some(want));
+    }
     Ok(())
 }

@@ -1,15 +1,16 @@
 //! A node without end that ends where memory runs out on one of its threads, whatever the others wait for.
 
-use super::loopback::{listen_on_all, seats, serve};
 use super::starved::Starved;
 use rr_archive::PlainArchive;
-use rr_desk::{Reader, open};
+use rr_desk::{Keeper, Reader, open};
 use rr_fakes::replicas::minutes;
-use rr_node::{Config, HaltFlag};
+use rr_node::{
+    Calling, Config, FileShelf, HaltFlag, Listening, Moments, OpenGate, Seat, TcpSeats, serve_node,
+};
 use rr_packed::PackedArchive;
 use std::alloc::Global;
 use std::io::Write;
-use std::net::{Net, TcpListener, TcpStream};
+use std::net::{Net, SocketAddr, TcpListener, TcpStream};
 use std::rt::Files;
 use std::sync::Wait;
 use std::test::Fail;
@@ -21,6 +22,79 @@ const CONFIG: &[u8] = b"step = 60\nlines = \"l\"\nfetch = [\"f\", \"g\"]\n\
 
 /// What is sent: a line for which a keeper takes memory, and one for which a reader does.
 const TEXT: &[u8] = b"m v=1i\nfetch LAST 60 0 60 m v\n";
+
+/// Where a node listens: for lines, and for each of two readers.
+type Addresses = (SocketAddr, SocketAddr, SocketAddr);
+
+/// Connections that come to a port of this machine, and its address.
+fn listening<R: Net<Listener = TcpListener, Stream = TcpStream>>(
+    rt: &R,
+    alloc: Global,
+    config: &Config,
+    halt: &HaltFlag,
+) -> Option<(Listening, SocketAddr)> {
+    let listener = TcpListener::bind(rt, "127.0.0.1:0").ok()?;
+    let address = listener.local_addr().ok()?;
+    let listening = Listening::new(alloc, listener, config.idle, halt.share().ok()?).ok()?;
+    Some((listening, address))
+}
+
+/// The connections that come to free ports of this machine: for lines, and for two readers.
+fn listen_on_all<R: Net<Listener = TcpListener, Stream = TcpStream>>(
+    rt: &R,
+    alloc: Global,
+    config: &Config,
+    halt: &HaltFlag,
+) -> Option<(Listening, Vec<Listening>, Addresses)> {
+    let (lines, first) = listening(rt, alloc, config, halt)?;
+    let (one, second) = listening(rt, alloc, config, halt)?;
+    let (two, third) = listening(rt, alloc, config, halt)?;
+    let fetch = Vec::from_array(alloc, [one, two]).ok()?;
+    Some((lines, fetch, (first, second, third)))
+}
+
+/// The seats of two readers.
+fn seats(
+    alloc: Global,
+    readers: Vec<Reader<PackedArchive>>,
+    fetch: Vec<Listening>,
+    halt: &HaltFlag,
+) -> Option<TcpSeats> {
+    let mut seats = Vec::new(alloc);
+    for (reader, visits) in readers.into_iter().zip(fetch) {
+        let gate = OpenGate::new();
+        let seat = Seat {
+            reader,
+            visits,
+            gate,
+        };
+        seats.push(seat).ok()?;
+    }
+    let halt = halt.share().ok()?;
+    Some(TcpSeats { seats, halt })
+}
+
+/// Serves as a node until it ends, and answers whether that was without a fault.
+fn serve<R>(
+    rt: &R,
+    alloc: Global,
+    keeper: &mut Keeper<Starved<PlainArchive>>,
+    lines: &mut Listening,
+    seats: &mut TcpSeats,
+    config: &Config,
+) -> Option<bool>
+where
+    R: Files + Eprint + Net<Listener = TcpListener, Stream = TcpStream> + Threads + Wait + Sync,
+{
+    let mut halt = seats.halt.share().ok()?;
+    let mut shelf = FileShelf::new(rt, alloc, None).ok()?;
+    let mut dial = Calling::new(rt, alloc, config.idle, seats.halt.share().ok()?);
+    let mut clock = Moments::new(Vec::new(alloc));
+    let served = serve_node(
+        alloc, keeper, lines, &mut dial, &mut shelf, seats, &mut halt, &mut clock, config, rt,
+    );
+    Some(served.is_ok())
+}
 
 /// Two readers whose keeper has closed, so that they answer as if memory ran out.
 fn readers<R: Wait>(rt: &R, alloc: Global) -> Option<Vec<Reader<PackedArchive>>> {

@@ -5,7 +5,6 @@
 use super::process::{Given, Process};
 use rr_archive::PlainArchive;
 use rr_base::Counted;
-use rr_command::ToolFault;
 use rr_fakes::replicas::filled;
 use rr_process::Ending;
 use rr_server::run;
@@ -78,11 +77,11 @@ const SCRIPT: &[u8] =
     b"schema 60 1:3:0/1\nnode a 1\nwrite a m v=7i 60000000000\nfetch a AVERAGE 60 60 120 m v\n";
 
 /// A configuration whose lines are taken on port 1, which is there, and whose fetches on port 2, which isn't.
-const FAR: &[u8] = b"step = 60\nlines = \"127.0.0.1:1\"\nfetch = [\"127.0.0.1:2\"]\n\
+const FAR: &[u8] = b"step = 60\nlines = \"127.0.0.1:1\"\nfetch = [\"127.0.0.1:2\"]\nlead = 0\n\
     [[archive]]\nsteps = 1\nrows = 3\nxff_num = 0\nxff_den = 1\n";
 
 /// One whose lines are taken on port 3, which isn't there.
-const NONE: &[u8] = b"step = 60\nlines = \"127.0.0.1:3\"\nfetch = [\"127.0.0.1:1\"]\n\
+const NONE: &[u8] = b"step = 60\nlines = \"127.0.0.1:3\"\nfetch = [\"127.0.0.1:1\"]\nlead = 0\n\
     [[archive]]\nsteps = 1\nrows = 3\nxff_num = 0\nxff_den = 1\n";
 
 /// Words, the input, all of the script if it is missing, and the end: the status, the line on standard output, and how
@@ -100,15 +99,16 @@ rr no-text | | 2 | | error: invalid UTF-8 | '--help'.
 rr serve far.toml | | 2 | | error: the following required arguments | '--help'.
 rr serve far.toml --origin 0 | | 2 | | error: invalid value for '--origin <N>' | '--help'.
 rr serve no.toml --origin 1 | | 3 | | rr: no.toml: No such file | rr: read failed
-rr serve short.toml --origin 1 | | 2 | | config: MissingField | config: MissingField
-rr serve short.toml --origin 1 --load no.snapshot | | 2 | | config: MissingField | config: MissingField
+rr serve short.toml --origin 1 | | 2 | | rr: short.toml: archive | config: MissingField
+rr serve short.toml --origin 1 --load no.snapshot | | 2 | | rr: short.toml: archive | config: MissingField
 rr serve far.toml --origin 1 --load no.snapshot | | 3 | | rr: no.snapshot: No such file | rr: read failed
-rr serve far.toml --origin 1 --load . | | 3 | | rr: read failed | rr: read failed
-rr serve far.toml --origin 1 --load cut.snapshot | | 2 | | load: Short | load: Short
-rr serve far.toml --origin 3 --load held.snapshot | | 2 | | load: OriginUsed | load: OriginUsed
-rr serve far.toml --origin 1 --load held.snapshot | | 3 | | rr: bad address | rr: bad address
-rr serve far.toml --origin 1 | | 3 | | rr: bad address | rr: bad address
-rr serve none.toml --origin 1 | | 3 | | rr: bad address | rr: bad address";
+rr serve far.toml --origin 1 --load . | | 3 | | rr: .: | rr: read failed
+rr serve far.toml --origin 1 --load cut.snapshot | | 2 | | rr: cut.snapshot: | load: Short
+rr serve far.toml --origin 3 --load held.snapshot | | 2 | | rr: held.snapshot: | load: OriginUsed
+rr serve far.toml --origin 1 --load held.snapshot | | 3 | | rr: 127.0.0.1:2: | rr: bad address
+rr serve far.toml --origin 1 | | 3 | | rr: 127.0.0.1:2: | rr: bad address
+rr serve far.toml --origin 1 --save no/folder | | 3 | | rr: no: No such file | rr: write failed
+rr serve none.toml --origin 1 | | 3 | | rr: 127.0.0.1:3: | rr: bad address";
 
 /// A column of a line of `ENDS`.
 fn column(line: &str, place: usize) -> &[u8] {
@@ -173,48 +173,5 @@ fn words_choose_what_is_done(rt: HostRuntime) -> Result<(), Fail> {
     }
     remove(&rt, &FILES);
     remove(&rt, &[("held.snapshot", b"")]);
-    Ok(())
-}
-
-/// An ending, by its place in `ENDINGS`.
-fn ending_at(place: usize) -> Ending {
-    match place {
-        0 => Ending::Done,
-        1 => Ending::LinesRefused,
-        2 => Ending::ConfigRefused("BadStep"),
-        3 => Ending::LoadRefused("BadDigest"),
-        4 => Ending::BadAddress,
-        5 => Ending::Failed(ToolFault::ReadFailed),
-        6 => Ending::Failed(ToolFault::WriteFailed),
-        7 => Ending::Failed(ToolFault::TooManyReads),
-        _ => Ending::Failed(ToolFault::Memory),
-    }
-}
-
-/// What each ending prints on standard error, and its status.
-const ENDINGS: [(&[u8], u8); 9] = [
-    (b"", 0),
-    (b"", 1),
-    (b"config: BadStep", 2),
-    (b"load: BadDigest", 2),
-    (b"rr: bad address", 3),
-    (b"rr: read failed", 3),
-    (b"rr: write failed", 3),
-    (b"rr: too many reads", 3),
-    (b"rr: out of memory", 3),
-];
-
-#[test]
-fn endings_are_printed(rt: HostRuntime) -> Result<(), Fail> {
-    for (place, (line, status)) in ENDINGS.iter().enumerate() {
-        let given = Given {
-            words: b"",
-            input: b"",
-            ports: &[],
-            moment: None,
-        };
-        let process = Process::new(&rt, given);
-        assert!(rt; is_end(process, &ending_at(place), (b"", line, line, *status)));
-    }
     Ok(())
 }

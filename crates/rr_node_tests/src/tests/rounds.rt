@@ -1,12 +1,11 @@
-//! Rounds of a keeper over memory.
+//! A node over memory: its rounds.
 
 use rr_archive::PlainArchive;
 use rr_base::{Counted, Origin};
 use rr_desk::{Keeper, open};
 use rr_fakes::replicas::minutes;
 use rr_node::{
-    Config, Dial, HaltFlag, Moments, NodeFault, Opening, Prepared, Seats, Shelf, keep_round,
-    serve_node,
+    Config, Dial, HaltFlag, Moments, NodeFault, Opening, Prepared, Report, Seats, Shelf, serve_node,
 };
 use rr_replica::Replica;
 use rr_snapshot::{SaveFault, load};
@@ -111,6 +110,8 @@ impl Shelf for Saves {
 
     ghost calls = { λ s. None };
 
+    fn lines_taken(&mut self, _report: Option<Report>) {}
+
     fn open(&mut self) -> Opening<Vec<u8>> {
         Opening::Writer(Counted::new(Vec::new(self.alloc)))
     }
@@ -148,99 +149,74 @@ impl Seats for NoSeats {
     }
 }
 
-/// How many cells a snapshot is loaded as, and how many of them are the peer's sample.
-fn loaded(alloc: Global, config: &Config, bytes: &[u8]) -> Option<(usize, usize)> {
+/// Whether a snapshot is loaded as the peer's sample alone.
+fn is_loaded(alloc: Global, config: &Config, bytes: &[u8]) -> Option<bool> {
     let origin = Origin::new(9).ok()?;
     let mut input = Counted::new(bytes);
     let replica: Replica<PlainArchive> = load(alloc, &mut input, &config.schema, origin).ok()?;
-    let mut right = 0usize;
-    for i in 0..replica.cell_count() {
-        let Some(cell) = replica.cell_at(i) else {
-            return None;
-        };
-        if cell.origin.get() == 1 && cell.contribution.last_value == 7 {
-            right = right.saturating_add(1);
-        }
-    }
-    Some((replica.cell_count(), right))
+    let Some(cell) = replica.cell_at(0) else {
+        return None;
+    };
+    let held = (
+        replica.cell_count(),
+        cell.origin.get(),
+        cell.contribution.last_value,
+    );
+    Some(held == (1, 1, 7))
 }
 
-/// What a round did: whether it says that a connection came, whether the right frames were sent to the
-/// peer, which peer failed, and what was saved.
+/// What a node did: how it ended, which peer failed, whether the right frames were sent to the other one, and whether
+/// that one's sample was saved.
 type Done = (
-    Option<bool>,
-    bool,
+    Result<(), NodeFault>,
     Option<(usize, NodeFault)>,
-    Option<(usize, usize)>,
+    bool,
+    Option<bool>,
 );
 
-/// Keeps one round to which an empty connection comes: alone, or as a node for whose seats memory suffices
-/// or not.
+/// Serves as a node that keeps one round, to which an empty connection comes, and for whose seats memory suffices or
+/// not.
 fn kept<R: Wait + Threads + Sync>(
     rt: &R,
     alloc: Global,
     keeper: &mut Keeper<PlainArchive>,
     config: &Config,
-    seats: Option<bool>,
+    suffices: bool,
 ) -> Option<Done> {
     let inputs = [Some(b"".as_slice())];
     let mut lines = Prepared::new(alloc, &inputs).ok()?;
+    let mut halt = HaltFlag::new(alloc).ok()?;
     let mut dial = Peers::new(alloc, &REPLY);
     let mut shelf = Saves::new(alloc);
+    let mut seats = NoSeats { suffices };
     let mut clock = Moments::new(Vec::new(alloc));
-    let came = match seats {
-        None => keep_round(
-            alloc, keeper, &mut lines, &mut dial, &mut shelf, &mut clock, config, rt,
-        )
-        .ok(),
-        Some(suffices) => {
-            let mut seats = NoSeats { suffices };
-            let mut halt = HaltFlag::new(alloc).ok()?;
-            let served = serve_node(
-                alloc, keeper, &mut lines, &mut dial, &mut shelf, &mut seats, &mut halt,
-                &mut clock, config, rt,
-            );
-            Some(served != Err(NodeFault::Memory))
-        }
-    };
-    let sent = dial.sent?.as_slice() == SENT.as_slice();
-    let saved = loaded(alloc, config, &shelf.saved?);
-    Some((came, sent, shelf.failed, saved))
+    let served = serve_node(
+        alloc, keeper, &mut lines, &mut dial, &mut shelf, &mut seats, &mut halt, &mut clock,
+        config, rt,
+    );
+    let is_sent = dial.sent?.as_slice() == SENT.as_slice();
+    let is_saved = is_loaded(alloc, config, &shelf.saved?);
+    Some((served, shelf.failed, is_sent, is_saved))
 }
 
-/// What a round does whose first peer can't be reached and whose second has one sample.
-const DONE: Done = (
-    Some(true),
-    true,
-    Some((1, NodeFault::BadAddress)),
-    Some((1, 1)),
-);
-
 /// What the keeper of a new desk of origin 2 does, as [`kept`] has it.
-fn done<R: Wait + Threads + Sync>(rt: &R, alloc: Global, seats: Option<bool>) -> Option<Done> {
+fn done<R: Wait + Threads + Sync>(rt: &R, alloc: Global, suffices: bool) -> Option<Done> {
     let config = Config::from_toml(alloc, CONFIG).ok()?;
     let replica = minutes(alloc, 2, 3).ok()?;
     let (mut keeper, _readers) = open(alloc, rt, replica, 1).ok()?;
-    let done = kept(rt, alloc, &mut keeper, &config, seats);
+    let done = kept(rt, alloc, &mut keeper, &config, suffices);
     keeper.close(rt);
     done
 }
 
+// The first peer can't be reached, and the second has one sample. Where memory runs out at a seat, the node says so
+// once its rounds are kept.
 #[test]
-fn a_round_pulls_from_each_peer_and_saves(rt: HostRuntime) -> Result<(), Fail> {
-    assert!(rt; done(&rt, rt.alloc(), None) == Some(DONE));
-    Ok(())
-}
-
-#[test]
-fn a_node_keeps_its_rounds(rt: HostRuntime) -> Result<(), Fail> {
-    assert!(rt; done(&rt, rt.alloc(), Some(true)) == Some(DONE));
-    Ok(())
-}
-
-#[test]
-fn a_node_is_out_of_memory_where_a_seat_is(rt: HostRuntime) -> Result<(), Fail> {
-    let (_, sent, failed, saved) = DONE;
-    assert!(rt; done(&rt, rt.alloc(), Some(false)) == Some((Some(false), sent, failed, saved)));
+fn a_node_pulls_from_each_peer_and_saves(rt: HostRuntime) -> Result<(), Fail> {
+    let failed = Some((1, NodeFault::BadAddress));
+    for (suffices, ending) in [(true, Ok(())), (false, Err(NodeFault::Memory))] {
+        let want = Some((ending, failed, true, Some(true)));
+        assert!(rt; done(&rt, rt.alloc(), suffices) == want);
+    }
     Ok(())
 }

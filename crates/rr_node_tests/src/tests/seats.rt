@@ -91,46 +91,61 @@ impl Visits for Asked {
     }
 }
 
-/// A gate that sets its own flag, looks until the other's is set, and answers false if it never was.
+/// A gate that lets the answers of two seats pass in turn: the first one's is held until the second one's is made, and
+/// the second one's until the first is held. It answers false if its turn never comes.
 #[derive(Drop)]
-struct Meets {
+struct InTurn {
     clock: HostRuntime,
-    mine: Arc<AtomicU64>,
-    other: Arc<AtomicU64>,
+    /// 1 once the first answer is held, and 2 once the second is made.
+    turn: Arc<AtomicU64>,
+    is_first: bool,
 }
 
-impl Gate for Meets {
+impl InTurn {
+    /// Looks until it is a turn or a later one, and answers whether it was.
+    fn awaits(&self, turn: u64) -> bool {
+        for _ in 0..100_000 {
+            if self.turn.load(Ordering::SeqCst) >= turn {
+                return true;
+            }
+            sleep(&self.clock, Duration::from_micros(1));
+        }
+        false
+    }
+}
+
+impl Gate for InTurn {
     ghost use Rattle.std.specs.Prelude.{None};
 
     ghost calls = { λ _. None };
 
     fn before(&mut self) -> bool {
-        self.mine.store(1, Ordering::SeqCst);
-        let mut is_set = false;
-        for _ in 0..100_000 {
-            if self.other.load(Ordering::SeqCst) > 0 {
-                is_set = true;
-                break;
-            }
-            sleep(&self.clock, Duration::from_micros(1));
+        if self.is_first {
+            self.turn.store(1, Ordering::SeqCst);
+            self.awaits(2)
+        } else {
+            self.awaits(1)
         }
-        is_set
     }
 
-    fn after(&mut self) {}
+    fn after(&mut self) {
+        if !self.is_first {
+            self.turn.store(2, Ordering::SeqCst);
+        }
+    }
 }
 
-/// A seat over memory whose gate meets the other one's.
-type Meeting = Seat<PlainArchive, Asked, Meets>;
+/// A seat over memory that answers in its turn.
+type InMemory = Seat<PlainArchive, Asked, InTurn>;
 
 /// Two seats.
 #[derive(Drop)]
 struct Two {
-    seats: Vec<Meeting>,
+    seats: Vec<InMemory>,
 }
 
 /// Serves a seat, and answers whether memory sufficed.
-fn is_served(alloc: Global, seat: &mut Meeting, visits: u64) -> bool {
+fn is_served(alloc: Global, seat: &mut InMemory, visits: u64) -> bool {
     serve_seat(alloc, seat, visits).is_ok()
 }
 
@@ -146,7 +161,7 @@ impl Seats for Two {
             rt,
             self.seats.as_mut_slice(),
             2,
-            &|_, seat: &mut Meeting| {
+            &|_, seat: &mut InMemory| {
                 if is_served(alloc, seat, visits) {
                     count.fetch_add(1, Ordering::SeqCst);
                 }
@@ -156,28 +171,29 @@ impl Seats for Two {
     }
 }
 
-/// A seat that is asked once, whose gate has these flags.
+/// A seat that is asked once, and answers in its turn.
 fn seat(
     clock: &HostRuntime,
     alloc: Global,
     reader: Reader<PlainArchive>,
-    mine: &Arc<AtomicU64>,
-    other: &Arc<AtomicU64>,
-) -> Option<Meeting> {
-    let gate = Meets {
+    turn: &Arc<AtomicU64>,
+    is_first: bool,
+) -> Option<InMemory> {
+    let gate = InTurn {
         clock: *clock,
-        mine: Arc::try_clone(mine).ok()?,
-        other: Arc::try_clone(other).ok()?,
+        turn: Arc::try_clone(turn).ok()?,
+        is_first,
     };
+    let visits = Asked::new(alloc, true);
     Some(Seat {
         reader,
-        visits: Asked::new(alloc, true),
+        visits,
         gate,
     })
 }
 
 /// What a seat answered.
-fn written(seat: Meeting) -> Option<Vec<u8>> {
+fn written(seat: InMemory) -> Option<Vec<u8>> {
     let Seat {
         reader: _,
         visits,
@@ -186,16 +202,15 @@ fn written(seat: Meeting) -> Option<Vec<u8>> {
     visits.answer
 }
 
-/// Two seats whose gates meet each other.
+/// Two seats that answer in turn.
 fn two_seats(
     clock: &HostRuntime,
     alloc: Global,
     readers: (Reader<PlainArchive>, Reader<PlainArchive>),
 ) -> Option<Two> {
-    let first = Arc::new(alloc, AtomicU64::new(0)).ok()?;
-    let second = Arc::new(alloc, AtomicU64::new(0)).ok()?;
-    let one = seat(clock, alloc, readers.0, &first, &second)?;
-    let two = seat(clock, alloc, readers.1, &second, &first)?;
+    let turn = Arc::new(alloc, AtomicU64::new(0)).ok()?;
+    let one = seat(clock, alloc, readers.0, &turn, true)?;
+    let two = seat(clock, alloc, readers.1, &turn, false)?;
     Some(Two {
         seats: Vec::from_array(alloc, [one, two]).ok()?,
     })
@@ -251,12 +266,12 @@ fn answers_of_a_desk<R: Threads + Wait + Sync>(
     both
 }
 
+// Each is on a thread of its own, and the second answers while the first holds its copy.
 #[test]
 fn seats_answer_beside_each_other(rt: HostRuntime) -> Result<(), Fail> {
-    let Some((one, two)) = answers_of_a_desk(&rt, &rt, rt.alloc()) else {
-        panic!(&rt; "no answers");
-    };
+    let both = answers_of_a_desk(&rt, &rt, rt.alloc());
     let rows = b"m v,0,U\nm v,60,U\n\n".as_slice();
-    assert_eq!(rt; (one.as_slice(), two.as_slice()), (rows, rows));
+    let are_right = both.is_some_and(|(one, two)| one.as_slice() == rows && two.as_slice() == rows);
+    assert!(rt; are_right);
     Ok(())
 }

@@ -1,28 +1,28 @@
 //! A node by its words, over TCP and files: its configuration, the snapshot that it begins with, its peers and what it
 //! saves.
 
-use super::loopback::answers;
 use super::process::{Given, Process};
 use super::program::{are_written, is_end, remove, snapshot};
 use super::rounds::{REPLY, SENT};
 use rr_server::run;
 use std::alloc::Global;
 use std::io::{Read, Write};
-use std::net::{Net, SocketAddr, TcpListener, TcpStream};
+use std::net::{Net, Shutdown, SocketAddr, TcpListener, TcpStream};
 use std::test::Fail;
 use std::thread::join;
+use std::time::Duration;
 
 /// A node of three rows a minute with two readers. Of its peers the first can't be reached, and the second is at port 4.
 /// A connection may be silent for three seconds.
 const FIRST: &[u8] = b"step = 60\nlines = \"127.0.0.1:1\"\n\
     fetch = [\"127.0.0.1:2\", \"127.0.0.1:3\"]\npeers = [\"127.0.0.1:9\", \"127.0.0.1:4\"]\n\
-    rounds = 1\nvisits = 2\nidle = 3\nprecision = \"s\"\n\
+    rounds = 1\nvisits = 2\nidle = 3\nlead = 300000000000\nprecision = \"s\"\n\
     [[archive]]\nsteps = 1\nrows = 3\nxff_num = 0\nxff_den = 1\n";
 
 /// The same with one reader, whose one peer is at port 3, with no line ahead of the clock, and with rows of three
 /// minutes too, of which the snapshot of the first has none.
 const SECOND: &[u8] = b"step = 60\nlines = \"127.0.0.1:1\"\nfetch = [\"127.0.0.1:2\"]\n\
-    peers = [\"127.0.0.1:3\"]\nrounds = 1\nvisits = 1\nidle = 3\nlead = 0\n\
+    peers = [\"127.0.0.1:3\"]\nrounds = 1\nvisits = 1\nidle = 3\nlead = 0\nquiet = true\n\
     [[archive]]\nsteps = 1\nrows = 3\nxff_num = 0\nxff_den = 1\n\
     [[archive]]\nsteps = 3\nrows = 2\nxff_num = 2\nxff_den = 3\n";
 
@@ -49,6 +49,33 @@ fn listen(
 /// Where a port is reached, of which the first is port 1.
 fn address(ports: &[TcpListener], port: usize) -> Option<SocketAddr> {
     ports.get(port.wrapping_sub(1))?.local_addr().ok()
+}
+
+/// What is answered to a text on a connection of its own, on which no read waits for longer than 20 seconds.
+fn answer<R: Net<Stream = TcpStream>>(
+    rt: &R,
+    alloc: Global,
+    address: SocketAddr,
+    text: &[u8],
+) -> Option<Vec<u8>> {
+    let mut stream = TcpStream::connect(rt, address).ok()?;
+    stream.set_read_timeout(Some(Duration::from_secs(20))).ok()?;
+    stream.write_all(text).ok()?;
+    stream.shutdown(Shutdown::Write).ok()?;
+    let mut answer = Vec::new(alloc);
+    stream.read_to_end(&mut answer).ok()?;
+    Some(answer)
+}
+
+/// Whether a text is answered by another.
+fn answers<R: Net<Stream = TcpStream>>(
+    rt: &R,
+    alloc: Global,
+    address: SocketAddr,
+    text: &[u8],
+    wanted: &[u8],
+) -> bool {
+    answer(rt, alloc, address, text).is_some_and(|answer| answer.as_slice() == wanted)
 }
 
 /// Gives the next side that pulls at a port what a peer holds: 7 at a minute after the epoch. Answers once that side
@@ -99,13 +126,13 @@ fn uses_second<R: Net<Stream = TcpStream>>(
 }
 
 /// What a node is given, of two that serve one after the other. The first loads a snapshot, and saves one. The second
-/// loads that one, and can't save.
+/// loads that one, and can't save: a folder has the name.
 fn given(place: usize, ports: &[TcpListener]) -> Given<'_> {
     let (words, moment) = if place == 0 {
         let words = "rr serve first.toml --origin 2 --load first.snapshot --save left.snapshot";
         (words, Some(120))
     } else {
-        let words = "rr serve second.toml --save no-folder/left --load left.snapshot --origin 4";
+        let words = "rr serve second.toml --save . --load left.snapshot --origin 4";
         (words, None)
     };
     Given {
@@ -116,12 +143,16 @@ fn given(place: usize, ports: &[TcpListener]) -> Given<'_> {
     }
 }
 
-/// What such a node prints on standard error. The second one's peer is silent.
-fn complaint(place: usize) -> &'static [u8] {
+/// How what such a node prints on standard error begins and ends. The first one says with what it starts; the second
+/// one, which is quiet, has a silent peer.
+fn complaint(place: usize) -> (&'static [u8], &'static [u8]) {
     if place == 0 {
-        b"peer 1: BadAddress"
+        (
+            b"rr: version 2 origin 2 lines 127.0.0.1:1 fetch 127.0.0.1:2 127.0.0.1:3 series 1 cells 1\n",
+            b"peer 1: BadAddress",
+        )
     } else {
-        b"peer 1: ReadFailed\nsave: WriteFailed"
+        (b"peer 1: ReadFailed\nrr: ..new: ", b"save: WriteFailed")
     }
 }
 
@@ -153,8 +184,8 @@ fn a_node_serves_by_its_words(rt: HostRuntime) -> Result<(), Fail> {
     for place in 0..2 {
         let process = Process::new(&rt, given(place, &ports));
         let (used, ending) = join(&rt, || uses(&rt, alloc, &ports, place), || run(&process));
-        let text = complaint(place);
-        if used != Some(true) || !is_end(process, &ending, (b"", text, text, 0)) {
+        let (first, last) = complaint(place);
+        if used != Some(true) || !is_end(process, &ending, (b"", first, last, 0)) {
             are_right = false;
         }
     }

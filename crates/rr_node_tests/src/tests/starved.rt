@@ -1,7 +1,7 @@
 //! An archive without memory.
 ghost use Rattle.std.specs.Prelude.{false};
 
-use rr_archive::{Archive, Cells, Entry};
+use rr_archive::{Cells, Entry};
 use rr_base::Origin;
 use rr_contrib::Contribution;
 use std::alloc::{AllocError, Global};
@@ -80,11 +80,5 @@ impl<A: Cells> Cells for Starved<A> {
         Ok(Starved {
             held: self.held.copy(alloc)?,
         })
-    }
-}
-
-impl<A: Cells> Archive for Starved<A> {
-    fn row(&self, slot: i64) -> &[Entry] {
-        self.held.row(slot)
     }
 }

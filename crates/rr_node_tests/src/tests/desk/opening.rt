@@ -2,8 +2,9 @@
 
 use super::{SEVEN, answers};
 use rr_archive::PlainArchive;
-use rr_desk::{FetchFault, OpenFault, open};
+use rr_desk::{FetchFault, Gate, OpenFault, Reader, open};
 use rr_fakes::replicas::one_sample;
+use rr_fetch::parse_request;
 use rr_packed::PackedArchive;
 use std::alloc::Global;
 use std::sync::Wait;
@@ -15,9 +16,9 @@ fn opened_for<R: Wait>(
     alloc: Global,
     rt: &R,
     readers: usize,
-) -> Result<Result<usize, (OpenFault, usize)>, Fail> {
-    let replica = one_sample::<PlainArchive>(alloc, 1)?;
-    Ok(match open(alloc, rt, replica, readers) {
+) -> Option<Result<usize, (OpenFault, usize)>> {
+    let replica = one_sample::<PlainArchive>(alloc, 1).ok()?;
+    Some(match open(alloc, rt, replica, readers) {
         Ok((keeper, all)) => {
             keeper.close(rt);
             Ok(all.len())
@@ -28,39 +29,60 @@ fn opened_for<R: Wait>(
 
 #[test]
 fn a_desk_has_from_1_to_16_readers(rt: HostRuntime) -> Result<(), Fail> {
-    let none = opened_for(rt.alloc(), &rt, 0)?;
-    let one = opened_for(rt.alloc(), &rt, 1)?;
-    let most = opened_for(rt.alloc(), &rt, 16)?;
-    let too_many = opened_for(rt.alloc(), &rt, 17)?;
     let refused = Err((OpenFault::BadCount, 1));
-    assert_eq!(rt;
-        (none, one, most, too_many),
-        (refused, Ok(1), Ok(16), refused)
-    );
+    for (readers, want) in [(0, refused), (1, Ok(1)), (16, Ok(16)), (17, refused)] {
+        assert!(rt; opened_for(rt.alloc(), &rt, readers) == Some(want));
+    }
     Ok(())
 }
 
+/// A gate that answers false.
+#[derive(Drop)]
+struct Shut;
+
+impl Gate for Shut {
+    ghost use Rattle.std.specs.Prelude.{None};
+
+    ghost calls = { λ _. None };
+
+    fn before(&mut self) -> bool {
+        false
+    }
+
+    fn after(&mut self) {}
+}
+
+/// Why a reader doesn't answer through a gate that is shut.
+fn refused(alloc: Global, reader: &mut Reader<PackedArchive>) -> Option<FetchFault> {
+    let request = parse_request(alloc, b"LAST 60 0 120 m v", reader.schema()).ok()?;
+    reader.fetch_through(alloc, &request, &mut Shut).err()
+}
+
+// A shut gate shuts one fetch, and the end of the keeper all that come after it.
 #[test]
 fn readers_have_seen_what_was_there(rt: HostRuntime) -> Result<(), Fail> {
     let replica = one_sample::<PackedArchive>(rt.alloc(), 1)?;
     let Ok((keeper, mut readers)) = open(rt.alloc(), &rt, replica, 1) else {
         panic!(&rt; "no desk");
     };
+    let fault = refused(rt.alloc(), &mut readers[0]);
     let is_seen = answers(rt.alloc(), &mut readers[0], SEVEN);
-    let own = keeper.close(&rt);
-    let is_shut = !answers(rt.alloc(), &mut readers[0], SEVEN);
-    assert_eq!(rt; (is_seen, is_shut), (true, true));
-    assert_eq!(rt; (own.cell_count(), own.next_number()), (1, 2));
+    let cells = keeper.close(&rt).cell_count();
+    let is_open = answers(rt.alloc(), &mut readers[0], SEVEN);
+    assert_eq!(rt;
+        (fault, is_seen, cells, is_open),
+        (Some(FetchFault::GateShut), true, 1, false)
+    );
     Ok(())
 }
 
 #[test]
 fn faults_are_named(rt: HostRuntime) {
-    let names = (
-        OpenFault::BadCount.name() == "BadCount",
-        OpenFault::Memory.name() == "Memory",
-        FetchFault::GateShut.name() == "GateShut",
-        FetchFault::Memory.name() == "Memory",
-    );
-    assert_eq!(rt; names, (true, true, true, true));
+    let names = [
+        OpenFault::BadCount.name(),
+        OpenFault::Memory.name(),
+        FetchFault::GateShut.name(),
+        FetchFault::Memory.name(),
+    ];
+    assert!(rt; names == ["BadCount", "Memory", "GateShut", "Memory"]);
 }
