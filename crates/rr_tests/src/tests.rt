@@ -2,6 +2,7 @@ mod archives;
 mod contributions;
 mod fetches;
 mod keys;
+mod known_lines;
 mod pulls;
 mod records;
 mod replicas;

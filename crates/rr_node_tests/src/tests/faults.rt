@@ -88,11 +88,15 @@ type Told = (
     Option<bool>,
 );
 
-/// Keeps a round of a new desk to which a connection comes that fails, or none, with a peer that sends no frame, and a
-/// shelf without room.
-fn told<R: Wait>(rt: &R, alloc: Global, comes: bool, opens: Option<bool>) -> Option<Told> {
+/// Keeps a round of a new desk to which these connections come, with a peer that sends no frame, and a shelf
+/// without room.
+fn told<R: Wait>(
+    rt: &R,
+    alloc: Global,
+    inputs: &[Option<&[u8]>],
+    opens: Option<bool>,
+) -> Option<Told> {
     let config = Config::from_toml(alloc, CONFIG).ok()?;
-    let inputs: &[Option<&[u8]>] = if comes { &[None] } else { &[] };
     let mut lines = Prepared::new(alloc, inputs).ok()?;
     let replica = minutes::<PlainArchive>(alloc, 2, 3).ok()?;
     let (mut keeper, _readers) = open(alloc, rt, replica, 1).ok()?;
@@ -125,13 +129,15 @@ const PEER: Option<(usize, NodeFault)> = Some((2, NodeFault::Session(GossipFault
 #[test]
 fn a_round_goes_on_after_faults(rt: HostRuntime) -> Result<(), Fail> {
     let fault = Some(SaveFault::WriteFailed);
-    for (comes, opens, want) in [
-        (true, Some(true), (Some(true), PEER, fault, Some(false))),
-        (true, Some(false), (Some(true), PEER, fault, None)),
-        (true, None, (Some(true), PEER, None, None)),
-        (false, Some(true), (Some(false), None, None, None)),
+    for (opens, save, whole) in [
+        (Some(true), fault, Some(false)),
+        (Some(false), fault, None),
+        (None, None, None),
     ] {
-        assert!(rt; told(&rt, rt.alloc(), comes, opens) == Some(want));
+        let want = Some((Some(true), PEER, save, whole));
+        assert!(rt; told(&rt, rt.alloc(), &[None], opens) == want);
     }
+    let over = told(&rt, rt.alloc(), &[], Some(true));
+    assert!(rt; over == Some((Some(false), None, None, None)));
     Ok(())
 }
