@@ -110,12 +110,7 @@ impl Kind {
     }
 
     /// What they answer to bytes as they are.
-    fn output_of<A: Cells, T: Wait>(
-        self,
-        alloc: Global,
-        rt: &T,
-        input: &[u8],
-    ) -> Result<Vec<u8>> {
+    fn output_of<A: Cells, T: Wait>(self, alloc: Global, rt: &T, input: &[u8]) -> Result<Vec<u8>> {
         match self {
             Kind::Script => scripts::answers::<A>(alloc, input),
             Kind::Lines => lines::answers(alloc, input),

@@ -88,7 +88,10 @@ impl<A: Cells> Keeper<A> {
         if number > MAX_NUMBER {
             return Err(PutFault::NumbersSpent);
         }
-        let (key, hint) = self.copies.replica().known_key_near(self.order.next(), key)?;
+        let (key, hint) = self
+            .copies
+            .replica()
+            .known_key_near(self.order.next(), key)?;
         let sample = Sample {
             origin: self.copies.replica().origin(),
             number,

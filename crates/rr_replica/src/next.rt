@@ -68,10 +68,7 @@ fn next_in<'a, A: Cells>(
 }
 
 /// The first cell after a name in its own archive, if that has one: found by the hash of its key.
-fn next_in_own<'a, A: Cells>(
-    series: &'a SeriesMap<A>,
-    name: &NameRef<'_>,
-) -> Option<CellRef<'a>>
+fn next_in_own<'a, A: Cells>(series: &'a SeriesMap<A>, name: &NameRef<'_>) -> Option<CellRef<'a>>
     requires ordered { IsStrictlySortedBy bytes_cmp (keys_of (entries_of series.now)) }
     requires indexed { IsIndexed series.now }
     ensures { IfSome result (λ c. next_cell

@@ -77,11 +77,7 @@ impl<A: Drop> SeriesMap<A> {
 
     /// The key as it is known, with its index; one that isn't known as it is, with the index that it
     /// gets when it is added next. The hint is tried first.
-    pub(crate) fn known_key<'a>(
-        &'a self,
-        hint: Hint,
-        key: &'a SeriesKey,
-    ) -> (&'a SeriesKey, usize)
+    pub(crate) fn known_key<'a>(&'a self, hint: Hint, key: &'a SeriesKey) -> (&'a SeriesKey, usize)
         requires { IsIndexed self.now }
         ensures { result.0.now ≡ key.now }
     {
