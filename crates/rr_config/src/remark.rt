@@ -36,7 +36,12 @@ pub fn remarks(alloc: Global, text: &[u8]) -> Result<Vec<String>, AllocError> {
     };
     match toml::table_from_str(alloc, text) {
         Ok(table) => push_remarks(alloc, &mut lines, &table)?,
-        Err(error) => lines.push(on_one_line(alloc, format!(in alloc; "{error}")?.as_str())?)?,
+        Err(error) => {
+            if error.is_memory() {
+                return Err(AllocError);
+            }
+            lines.push(on_one_line(alloc, format!(in alloc; "{error}")?.as_str())?)?;
+        }
     }
     Ok(lines)
 }
