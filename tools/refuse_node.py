@@ -80,8 +80,8 @@ PAGE = bytes.fromhex(
 REPLIES = struct.pack(">IB", len(PAGE) + 1, 4) + PAGE + bytes.fromhex("00000001 05")
 NAMES_END = bytes.fromhex("00000001 03")
 
-# What a node says of a peer and a save where memory is refused below them.
-FAILURES = {"peer 1: BadAddress", "save: WriteFailed"}
+# What a node says of a peer and a save where memory is refused below them, or where the node ends meanwhile.
+FAILURES = {"peer 1: BadAddress", "peer 1: ReadFailed", "peer 1: WriteFailed", "save: WriteFailed"}
 OUT_OF_MEMORY = "rr: out of memory"
 
 # Why, in a line before.
@@ -199,7 +199,7 @@ def serve(*how, **more):
     """Has a node serve; again, with other ports, if another program took one of its ports meanwhile."""
     for _ in range(TRIES):
         it = serve_once(*how, **more)
-        if it.errors != [BAD_ADDRESS]:
+        if BAD_ADDRESS not in it.errors:
             break
     return it
 
@@ -227,7 +227,8 @@ def serve_once(program, refuser, limits, nth=0, and_on=False, lines=LINES, has_p
             text=True,
         )
         answers = use(node, ports, saved, lines)
-        if limits == ENDLESS and (goes_on(node, ports) or lives_on(node, ports)):
+        # The growth that is refused may be one of a connection that asks whether the node goes on: it is asked again.
+        if limits == ENDLESS and (goes_on(node, ports) or goes_on(node, ports) or lives_on(node, ports)):
             node.terminate()
         try:
             _, errors = node.communicate(timeout=LONGEST)
