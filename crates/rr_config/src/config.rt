@@ -164,7 +164,8 @@ impl Config {
     /// The keys are those of [`FromToml::from_toml`], and `lines`, an address; `fetch`, an array of 1 to
     /// 16 addresses; `peers`, an array of addresses; `rounds` and `visits`, numbers from 0; `lead`, a
     /// number of nanoseconds from 0; `precision`, one of `ns`, `us`, `ms` and `s`; `idle` and `every`,
-    /// numbers of seconds from 1 to 86,400; `quiet`, true or false; and `status`, a text. All but `lines` and `fetch` may be missing. Other keys are ignored.
+    /// numbers of seconds from 1 to 86,400; `quiet`, true or false; and `status`, a text. All but `lines`
+    /// and `fetch` may be missing. Other keys are ignored.
     ///
     /// Refusals, in this order: those of the schema; then key by key, in the order above,
     /// `MissingField`, `WrongKind`, and `BadCount` or `BadPrecision`. `Memory` is answered where

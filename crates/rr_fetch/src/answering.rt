@@ -41,7 +41,7 @@ fn start_of(slot: i64, span: u32) -> i64
     slot * i64::from(span)
 }
 
-/// Writes the entries of a slot over those of a row; none if there is no archive.
+/// Writes the entries of a slot over those of a row. Without an archive the slot has none.
 fn read_row<A: Cells>(
     archive: Option<&A>,
     slot: i64,
