@@ -83,6 +83,12 @@ class Times:
         return sums
 
 
+def gate():
+    """The words that run the gate from nothing; some toolchains take what an earlier one proved unless they are told."""
+    told = subprocess.run(["rt", "help"], capture_output=True, text=True)
+    return ["rt", "ci", *(["--anew"] if "--anew" in told.stdout + told.stderr else [])]
+
+
 def row(cells):
     print("| " + " | ".join(cells) + " |")
 
@@ -107,13 +113,11 @@ def main():
         said = pathlib.Path(log or f"{room}/said").resolve()
         began = time.monotonic()
         with said.open("w") as output:
-            gate = subprocess.Popen(
-                ["rt", "ci", "--anew"], cwd=clone, stdout=output, stderr=subprocess.STDOUT, start_new_session=True
-            )
-            times = Times(gate.pid)
+            run = subprocess.Popen(gate(), cwd=clone, stdout=output, stderr=subprocess.STDOUT, start_new_session=True)
+            times = Times(run.pid)
             works = [fixed_work()]
             for reading in itertools.count(1):
-                if gate.poll() is not None:
+                if run.poll() is not None:
                     break
                 times.read()
                 if reading % BETWEEN == 0:
@@ -123,7 +127,7 @@ def main():
         taken = ", ".join(f"{it:.2f}" for it in (min(works), statistics.median(works), max(works)))
         print(f"\na fixed piece of work took {taken} seconds (least, median, most)")
         print(f"{(time.monotonic() - began) / 60:.0f} minutes; {said.read_text().splitlines()[-1]}")
-    return gate.returncode
+    return run.returncode
 
 
 if __name__ == "__main__":
