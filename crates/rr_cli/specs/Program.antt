@@ -30,9 +30,9 @@ bare_serve_app = with_rule (with_rule (new_app (codes "serve")) config_rule) ori
 abbrev pub serve_app : App
 serve_app = with_rule (with_rule bare_serve_app (option_rule (codes "load"))) (option_rule (codes "save"))
 
--- the words are those after the program's name
+-- the words are those after the program's name, and it has a version to tell
 abbrev pub bare_app : App
-bare_app = record { top = record (new_app (codes "rr")).top { no_binary_name = true }; subs = [] }
+bare_app = record { top = record (new_app (codes "rr")).top { no_binary_name = true; has_version = true }; subs = [] }
 
 -- with the command of scripts
 abbrev pub script_command_app : App

@@ -8,6 +8,9 @@ ghost use Rattle.rr_cli.specs.Program.{sim_app, option_rule, check_lines_app, co
 use clap::{Arg, Command};
 use std::alloc::{AllocError, Global};
 
+/// The version of the program: that of the pages and snapshots that it writes.
+const VERSION: &str = "2";
+
 /// `--NAME VALUE`.
 fn option<'a>(alloc: Global, name: &'a str, value: &'a str, help: &'a str) -> Arg<'a>
     ensures rule { rule_of result ≡ option_rule name.entry.now }
@@ -108,6 +111,7 @@ fn bare<'a>(alloc: Global) -> Result<Command<'a>, AllocError>
     let program = Command::new(alloc, "rr")
         .bin_name("rr")?
         .about("A replicated round-robin store for integer time series")
+        .version(VERSION)
         .no_binary_name(true);
     Ok(program)
 }

@@ -58,4 +58,5 @@ pub fn command_lines_are_read()
     ensures no_configuration { AskForNothing (codes "serve" ∷ codes "--origin" ∷ codes "7" ∷ []) }
     ensures other_word { AskForNothing (codes "frob" ∷ []) }
     ensures help { AskForNothing (codes "--help" ∷ []) }
+    ensures version { AskForNothing (codes "--version" ∷ []) }
 {}

@@ -123,7 +123,8 @@ pub fn not_text(alloc: Global) -> WordsFault {
 /// The order that the words after the program's name ask for.
 ///
 /// The rules for words are those of `clap`: an option may be written as `--now T` or `--now=T`,
-/// and what begins with `-` is a value only in the latter. `--help` is refused with the help text.
+/// and what begins with `-` is a value only in the latter. `--help` is refused
+/// with the help text, and `--version` with the version.
 pub fn read_words(alloc: Global, words: &[&str]) -> Result<Order, WordsFault>
     ensures asked { IfOk result (λ order.
         asked_at (map (λ word. word.now) words.now) ≡ Some (asked_by order)) }

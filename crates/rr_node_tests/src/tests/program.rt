@@ -94,7 +94,8 @@ rr check-lines --precision s --now=-7 | m v=1i 5 | 0 | m v,1,5000000000 | |
 rr check-lines --precision s --now=-7 | m v=1i | 0 | m v,1,-7 | |
 rr check-lines | m v=1 | 1 | line 1: FloatField | |
 rr frob | | 2 | | error: unrecognized subcommand 'frob' | '--help'.
-rr --help | | 2 | | A replicated round-robin store | Print help
+rr --help | | 2 | | A replicated round-robin store | Print version
+rr --version | | 2 | | rr 2 | rr 2
 rr no-text | | 2 | | error: invalid UTF-8 | '--help'.
 rr serve far.toml | | 2 | | error: the following required arguments | '--help'.
 rr serve far.toml --origin 0 | | 2 | | error: invalid value for '--origin <N>' | '--help'.

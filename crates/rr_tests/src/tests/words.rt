@@ -65,6 +65,7 @@ serve c |   --origin <N>
 frob | error: unrecognized subcommand 'frob'
 --frob | error: unexpected argument '--frob'
 --help | Usage: rr [COMMAND]
+--version | rr 2
 help | Usage: rr [COMMAND]
 sim --help | Usage: rr sim [FILE]
 check-lines -h | Usage: rr check-lines [OPTIONS]";

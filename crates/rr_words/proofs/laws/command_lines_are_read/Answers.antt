@@ -89,3 +89,7 @@ returns-clause-past_origins c = refl
 pub returns-clause-no_configuration : goal.returns-clause-no_configuration
 unfolding clap_on_literals
 returns-clause-no_configuration c = refl
+
+pub returns-clause-version : goal.returns-clause-version
+unfolding clap_on_literals
+returns-clause-version c = refl
