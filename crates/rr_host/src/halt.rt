@@ -4,8 +4,8 @@ use std::alloc::{AllocError, Global};
 use std::sync::Arc;
 use std::sync::atomic::{AtomicBool, Ordering};
 
-/// Whoever ends a node before its time, where memory ran out on one of its threads: the others then wait for
-/// no connection any more, and for no byte of one.
+/// Whoever ends a node before its time, where memory ran out on one of its threads, or for one of them: the others then
+/// wait for no connection any more, and for no byte of one.
 ///
 /// It is seen as the list of its calls, where that is known.
 pub trait Halt {

@@ -4,7 +4,8 @@
 //! connections that come, over TCP ([`Listening`]) or over memory ([`Prepared`]); a [`Dial`] reaches peers,
 //! over TCP ([`Calling`]) or over memory ([`PreparedDial`]); a [`Clock`] gives moments, the system's
 //! ([`SystemClock`]) or those of a list ([`Moments`]). A [`Halt`] ends a node before its time: over TCP a flag
-//! that listeners and connections share ([`HaltFlag`]).
+//! that listeners and connections share ([`HaltFlag`]). At a [`StartBarrier`] its threads wait for each other before
+//! they take a connection.
 //!
 //! What is done by turns has a [`Pace`]: a [`PacedDial`] calls each peer at most once in so many seconds, and a
 //! [`Listening`] by turns ends its wait after as many. A [`SaveFlag`] asks for a snapshot before its time.
@@ -34,6 +35,7 @@ mod peers;
 mod prepared;
 mod save_flag;
 mod socket;
+mod start;
 mod visits;
 
 pub use calling::Calling;
@@ -48,4 +50,5 @@ pub use peers::{PreparedDial, PreparedPeer};
 pub use prepared::Prepared;
 pub use save_flag::SaveFlag;
 pub use socket::{Half, halves};
+pub use start::StartBarrier;
 pub use visits::{Visit, Visits};

@@ -3,9 +3,8 @@
 use crate::halt::HaltFlag;
 use crate::save_flag::SaveFlag;
 use crate::socket::{Half, halves, one_second};
+use crate::start::{StartBarrier, pause};
 use crate::visits::{Visit, Visits};
-use libc::nanosleep;
-use libc::types::timespec;
 use rr_io::Counted;
 use std::alloc::Global;
 use std::io;
@@ -13,19 +12,9 @@ use std::io::ErrorKind;
 use std::net::{TcpListener, TcpStream};
 use std::os::fd::OwnedFd;
 
-/// How long is waited after no connection could be taken, in nanoseconds: a tenth of a second.
+/// How long is waited after no connection could be taken, in nanoseconds: a tenth of a second. So what fails at once,
+/// again and again, takes no processor.
 const PAUSE: i64 = 100_000_000;
-
-/// Waits before the next connection is taken, so that what fails at once, again and again, takes no processor.
-fn pause() {
-    let asked = timespec {
-        tv_sec: 0,
-        tv_nsec: PAUSE,
-    };
-    let mut left = asked;
-    // If a signal ends it early, the next connection is tried sooner.
-    let _ended = nanosleep(&asked, &mut left);
-}
 
 /// A listener that waits for a second at most. Of a socket that limit is set as a stream's.
 fn with_limit(listener: TcpListener) -> io::Result<TcpListener> {
@@ -48,6 +37,8 @@ pub struct Listening {
     idle: Option<u64>,
     halt: HaltFlag,
     turns: Option<Turns>,
+    /// What is still to be waited at before the first connection.
+    start: Option<StartBarrier>,
 }
 
 /// What connections are waited for by turns.
@@ -74,7 +65,17 @@ impl Listening {
             idle,
             halt,
             turns: None,
+            start: None,
         })
+    }
+
+    /// The same connections, none of which is given before all threads of the node have begun. Where one of them hasn't
+    /// within ten seconds, as there was no memory for it, the flag is raised.
+    pub fn after_start(self, start: StartBarrier) -> Listening {
+        Listening {
+            start: Some(start),
+            ..self
+        }
     }
 
     /// The same connections, by turns: where none comes for `every` seconds, one has failed, so that whoever does
@@ -84,6 +85,18 @@ impl Listening {
             turns: Some(Turns { every, wish }),
             ..self
         }
+    }
+
+    /// Whether all threads of the node have begun. Where one hasn't in time, the node is halted.
+    fn has_started(&mut self) -> bool {
+        let Some(start) = self.start.take() else {
+            return true;
+        };
+        if !start.wait() {
+            self.halt.raise();
+            return false;
+        }
+        true
     }
 
     /// For how many seconds a connection is waited for.
@@ -115,6 +128,9 @@ impl Visits for Listening {
     ghost calls = { λ l. None };
 
     fn next(&mut self) -> Visit<Half, Half> {
+        if self.halt.is_raised() || !self.has_started() {
+            return Visit::Over;
+        }
         for _ in 0..self.patience() {
             if self.halt.is_raised() {
                 return Visit::Over;
@@ -123,7 +139,7 @@ impl Visits for Listening {
                 Ok((stream, _)) => return self.visit(stream),
                 Err(error) if error.kind() == ErrorKind::WouldBlock => {}
                 Err(_) => {
-                    pause();
+                    pause(PAUSE);
                     return Visit::Failed;
                 }
             }

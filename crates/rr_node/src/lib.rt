@@ -57,7 +57,7 @@ pub use round_log::RoundLog;
 pub use rr_config::{Config, ConfigFault};
 pub use rr_host::{
     Calling, Clock, Dial, Half, Halt, HaltFlag, Listening, Moments, PacedDial, Prepared, SaveFlag,
-    SystemClock, Visit, Visits, halves,
+    StartBarrier, SystemClock, Visit, Visits, halves,
 };
 pub use save_file::SaveFile;
 pub use seat::{Seat, serve_seat};

@@ -6,7 +6,6 @@ use crate::seat::{Seat, serve_seat};
 use rr_host::{HaltFlag, Listening};
 use rr_packed::PackedArchive;
 use std::alloc::Global;
-use std::sync::atomic::{AtomicBool, Ordering};
 use std::thread::{Threads, for_each_mut};
 
 /// The seats of a node over TCP.
@@ -15,7 +14,7 @@ pub struct TcpSeats {
     /// Each a reader with the address that it answers on.
     pub seats: Vec<Seat<PackedArchive, Listening, OpenGate>>,
     /// The flag that their connections, and those of the keeper, look at. It is raised where memory runs out at
-    /// one of the seats.
+    /// one of the seats. Where it was raised, by whomever, memory didn't suffice.
     pub halt: HaltFlag,
 }
 
@@ -28,8 +27,6 @@ impl Seats for TcpSeats {
         if self.seats.is_empty() {
             return true;
         }
-        let is_out = AtomicBool::new(false);
-        let shared = &is_out;
         let halt = &self.halt;
         let threads = self.seats.len();
         for_each_mut(
@@ -38,11 +35,10 @@ impl Seats for TcpSeats {
             threads,
             &|_, seat: &mut Seat<PackedArchive, Listening, OpenGate>| {
                 if serve_seat(alloc, seat, visits).is_err() {
-                    shared.store(true, Ordering::SeqCst);
                     halt.raise();
                 }
             },
         );
-        !is_out.load(Ordering::SeqCst)
+        !self.halt.is_raised()
     }
 }

@@ -2,7 +2,7 @@
 
 use rr_command::ToolFault;
 use rr_config::Config;
-use rr_node::{HaltFlag, Listening, SaveFlag};
+use rr_node::{HaltFlag, Listening, SaveFlag, StartBarrier};
 use rr_process::Ending;
 use std::io;
 use std::io::ErrorKind;
@@ -29,11 +29,15 @@ impl Listeners {
         let Ok(wish) = SaveFlag::new(rt.alloc()) else {
             return Err(Ending::Failed(ToolFault::Memory));
         };
-        let lines = listen(rt, config.lines.as_str(), config.idle, &halt)?;
+        // A thread for lines, and one for each address of fetches.
+        let Ok(start) = StartBarrier::new(rt.alloc(), config.fetch.len().saturating_add(1)) else {
+            return Err(Ending::Failed(ToolFault::Memory));
+        };
+        let lines = listen(rt, config.lines.as_str(), config.idle, &halt, &start)?;
         let lines = by_turns(lines, config.every, &wish)?;
         let mut fetches = Vec::new(rt.alloc());
         for address in &config.fetch {
-            let listening = listen(rt, address.as_str(), config.idle, &halt)?;
+            let listening = listen(rt, address.as_str(), config.idle, &halt, &start)?;
             if fetches.push(listening).is_err() {
                 return Err(Ending::Failed(ToolFault::Memory));
             }
@@ -70,14 +74,16 @@ fn by_turns(lines: Listening, every: Option<u64>, wish: &SaveFlag) -> Result<Lis
     }
 }
 
-/// Listens on an address, whose connections may be silent for the idle time, until the flag is raised.
+/// Listens on an address, whose connections may be silent for the idle time, until the flag is raised. The first is
+/// taken once all threads have begun.
 fn listen(
     rt: &(impl AllocGlobal + Eprint + Net<Listener = TcpListener, Stream = TcpStream>),
     address: &str,
     idle: Option<u64>,
     halt: &HaltFlag,
+    start: &StartBarrier,
 ) -> Result<Listening, Ending> {
-    let Ok(halt) = halt.share() else {
+    let (Ok(halt), Ok(start)) = (halt.share(), start.share()) else {
         return Err(Ending::Failed(ToolFault::Memory));
     };
     let listener = match TcpListener::bind(rt, address) {
@@ -85,7 +91,7 @@ fn listen(
         Err(error) => return Err(ending_of(rt, address, &error)),
     };
     match Listening::new(rt.alloc(), listener, idle, halt) {
-        Ok(listening) => Ok(listening),
+        Ok(listening) => Ok(listening.after_start(start)),
         Err(error) => Err(ending_of(rt, address, &error)),
     }
 }

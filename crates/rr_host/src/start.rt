@@ -1,0 +1,64 @@
+//! The start of a node's threads.
+
+use libc::nanosleep;
+use libc::types::timespec;
+use std::alloc::{AllocError, Global};
+use std::sync::Arc;
+use std::sync::atomic::{AtomicUsize, Ordering};
+
+/// How long is waited between two looks at how many threads have begun, in nanoseconds: a millisecond.
+const LOOK: i64 = 1_000_000;
+
+/// How often is looked: for ten seconds.
+const LOOKS: u32 = 10_000;
+
+/// Waits for so many nanoseconds, less than a second. If a signal ends it early, it was a shorter wait.
+pub(crate) fn pause(nanoseconds: i64) {
+    let asked = timespec {
+        tv_sec: 0,
+        tv_nsec: nanoseconds,
+    };
+    let mut left = asked;
+    let _ended = nanosleep(&asked, &mut left);
+}
+
+/// Where each thread of a node waits before its first connection until all of them have begun.
+///
+/// Where a thread can't be made, its work is done by another one once that has ended its own, which may be never. No
+/// work has begun then when this is found.
+#[derive(Drop)]
+pub struct StartBarrier {
+    begun: Arc<AtomicUsize>,
+    threads: usize,
+}
+
+impl StartBarrier {
+    /// A barrier for so many threads, none of which has begun.
+    pub fn new(alloc: Global, threads: usize) -> Result<StartBarrier, AllocError> {
+        Ok(StartBarrier {
+            begun: Arc::new(alloc, AtomicUsize::new(0))?,
+            threads,
+        })
+    }
+
+    /// The same barrier, for one thread more.
+    pub fn share(&self) -> Result<StartBarrier, AllocError> {
+        Ok(StartBarrier {
+            begun: Arc::try_clone(&self.begun)?,
+            threads: self.threads,
+        })
+    }
+
+    /// Says that one more thread has begun, waits until all have, for ten seconds at most, and answers whether they
+    /// have.
+    pub fn wait(&self) -> bool {
+        self.begun.fetch_add(1, Ordering::SeqCst);
+        for _ in 0..LOOKS {
+            if self.begun.load(Ordering::SeqCst) >= self.threads {
+                return true;
+            }
+            pause(LOOK);
+        }
+        false
+    }
+}
