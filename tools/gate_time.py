@@ -1,10 +1,9 @@
 #!/usr/bin/env python3
-"""Runs the gate and says what it cost, crate by crate, in seconds of processor time.
+"""Runs the gate and writes what it cost, crate by crate, in seconds of processor time, to docs/GATE.md.
 
-Takes the commit that is checked out, in a fresh clone, and prints a table, the time of the whole and
-the gate's last line; what the gate printed goes to the file that is named, if one is. Nothing that an
-earlier gate proved on this machine is taken. Times are read from /proc twice a second, so up to half a
-second of each command is missed.
+Takes the commit that is checked out, in a fresh clone; what the gate printed goes to the file that is named, if one is.
+Nothing that an earlier gate proved on this machine is taken. Times are read from /proc twice a second, so up to half
+a second of each command is missed.
 
 Processor time is no fixed measure: a processor is slower while its neighbours work, which on a virtual machine
 may be those of others. So a fixed piece of work is timed now and then, and its shortest, median and longest
@@ -13,6 +12,7 @@ times are printed beside the table.
 
 import argparse
 import collections
+import datetime
 import itertools
 import os
 import pathlib
@@ -90,17 +90,31 @@ def gate():
 
 
 def row(cells):
-    print("| " + " | ".join(cells) + " |")
+    return "| " + " | ".join(cells) + " |\n"
 
 
-def print_table(names, sums):
-    row(["Crate", "Proof", "Tests", "Edits", "In all"])
-    row(["---", "---:", "---:", "---:", "---:"])
+def table(names, sums):
+    """The seconds of each crate and of all."""
+    rows = [row(["Crate", "Proof", "Tests", "Edits", "In all"]), row(["---", "---:", "---:", "---:", "---:"])]
     for name in [*names, "others"]:
         times = [sums[name, part] for part in PARTS]
-        row([f"`{name}`" if name != "others" else name] + [f"{it:.0f}" for it in [*times, sum(times)]])
+        rows.append(row([f"`{name}`" if name != "others" else name] + [f"{it:.0f}" for it in [*times, sum(times)]]))
     times = [sum(sums[name, part] for name in [*names, "others"]) for part in PARTS]
-    row(["all"] + [f"{it:.0f}" for it in [*times, sum(times)]])
+    rows.append(row(["all"] + [f"{it:.0f}" for it in [*times, sum(times)]]))
+    return "".join(rows)
+
+
+PAGE = """\
+# What the gate cost
+
+Seconds of processor time of `rt ci`, from nothing, as `tools/gate_time.py` wrote them on {day}: {minutes:.0f} minutes of
+processor time in {taken:.0f} on {processors} processors, of {commit}. A fixed piece of work, timed now and then, took from
+{least:.2f} to {most:.2f} seconds, in the median {median:.2f}: how much slower the processors were while others used them.
+The row `others` is what names no crate.
+
+{table}
+The gate's last line: {last}.
+"""
 
 
 def main():
@@ -123,10 +137,22 @@ def main():
                 if reading % BETWEEN == 0:
                     works.append(fixed_work())
                 time.sleep(INTERVAL)
-        print_table(listed(clone), times.seconds())
-        taken = ", ".join(f"{it:.2f}" for it in (min(works), statistics.median(works), max(works)))
-        print(f"\na fixed piece of work took {taken} seconds (least, median, most)")
-        print(f"{(time.monotonic() - began) / 60:.0f} minutes; {said.read_text().splitlines()[-1]}")
+        sums = times.seconds()
+        commit = subprocess.run(["git", "rev-parse", "--short", "HEAD"], cwd=clone, capture_output=True, text=True)
+        page = PAGE.format(
+            day=datetime.date.today(),
+            minutes=sum(sums.values()) / 60,
+            taken=(time.monotonic() - began) / 60,
+            processors=len(os.sched_getaffinity(0)),
+            commit=commit.stdout.strip(),
+            least=min(works),
+            median=statistics.median(works),
+            most=max(works),
+            table=table(listed(clone), sums),
+            last=said.read_text().splitlines()[-1],
+        )
+        (TOP / "docs/GATE.md").write_text(page)
+        print(page, end="")
     return run.returncode
 
 
