@@ -49,6 +49,30 @@ def fetches(count):
         yield f"fetch a AVERAGE 60 {START} {START + 60_000} {key(0)} v\n"
 
 
+def held(count):
+    """A script of a node that holds so many cells, and another that was loaded from its snapshot."""
+    yield from writes(count)
+    yield "save s a\nload s b 2\n"
+
+
+def saves(count):
+    """A script that saves this many cells, all of a node at a time."""
+    yield from held(PIECES)
+    yield "save s a\n" * (count // PIECES)
+
+
+def loads(count):
+    """A script that loads this many cells, all of a snapshot at a time."""
+    yield from held(PIECES)
+    yield from (f"load s c{number} {number + 3}\n" for number in range(count // PIECES))
+
+
+def differences(count):
+    """A script that lists the names of this many cells of one node and compares them with another's, of which none is new."""
+    yield from held(PIECES)
+    yield "delta p a b 0 256\n" * (count // PIECES)
+
+
 def counted(words, given):
     """The number that a tool of valgrind prints of a run."""
     tool = ["valgrind", *words]
@@ -85,6 +109,9 @@ def main():
             ("a checked line of one field", ["check-lines"], samples),
             ("a checked line of three fields", ["check-lines"], meters),
             ("a fetched row", [], fetches),
+            ("a saved cell", [], saves),
+            ("a loaded cell", [], loads),
+            ("a cell that is listed and compared, nothing new", [], differences),
         ):
             instructions, allocations = figures(pathlib.Path(room), program, words, work)
             print(f"{what}: {instructions:,.0f} instructions, {allocations:.1f} allocations")
