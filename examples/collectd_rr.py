@@ -1,8 +1,9 @@
 """Sends what collectd reads to a node: a write plugin for the Python plugin of collectd.
 
-A node takes whole numbers, so each value is multiplied by `Scale` and rounded. Readings are collected for
-`Every` seconds and sent over one connection, which is then closed. If the node can't be reached, up to a
-million of them are kept for the next time.
+What counts up, as the bytes of an interface do, is sent as a rate a second, unless `StoreRates` is false. A node takes
+whole numbers, so each value is multiplied by `Scale` and rounded. Readings are collected for `Every` seconds and sent
+over one connection, which is then closed. If the node can't be reached, up to a million of them are kept for the next
+time.
 """
 
 import collections
@@ -12,9 +13,11 @@ import time
 
 import collectd
 
-settings = {"host": "127.0.0.1", "port": 8094, "scale": 1000, "every": 60}
+settings = {"host": "127.0.0.1", "port": 8094, "scale": 1000, "every": 60, "storerates": True}
 lines = collections.deque(maxlen=1_000_000)
 sent = time.monotonic()
+# The last time and count of each source that counts up.
+counts = {}
 
 
 def configure(module):
@@ -27,14 +30,33 @@ def name(text):
     return "".join("\\" + byte if byte in ",= " else byte for byte in text)
 
 
+def rate(key, source, moment, count, interval):
+    """What came a second since the last count; not a number for the first one, and after a restart of the count."""
+    _, kind, least, most = source
+    if kind == "absolute":
+        return count / interval
+    before, last = counts.get(key, (moment, count))
+    counts[key] = moment, count
+    if moment <= before:
+        return math.nan
+    if kind == "counter" and count < last:
+        # It went past its greatest number, of 32 bits or of 64.
+        count += 1 << (32 if last < 1 << 32 else 64)
+    found = (count - last) / (moment - before)
+    is_out = least is not None and found < least or most is not None and found > most
+    return math.nan if is_out else found
+
+
 def keep(values, _=None):
     """Keeps the readings of a callback of collectd, and sends all when it is time."""
     tags = [("host", values.host), ("instance", values.plugin_instance), ("kind", values.type_instance)]
     front = name(values.plugin) + "".join(f",{key}={name(tag)}" for key, tag in tags if tag)
     for source, value in zip(collectd.get_dataset(values.type), values.values):
+        field = name(f"{values.type}_{source[0]}")
+        if source[1] != "gauge" and settings["storerates"]:
+            value = rate((front, field), source, values.time, value, values.interval)
         if math.isfinite(value):
             number = round(value * settings["scale"])
-            field = name(f"{values.type}_{source[0]}")
             lines.append(f"{front} {field}={number}i {int(values.time * 1e9)}\n")
     if time.monotonic() - sent >= settings["every"]:
         send()
