@@ -1,25 +1,25 @@
 -- What is stored of each slot, as blocks change, are added and leave.
-use Rattle.std.proofs.Common.{◌≡◌, ℕ, ◌+◌, ◌<◌, ℤ, pos, ◌+ℤ◌, true, false, cond, eqb, List, [], ◌∷◌, drop, refl, sym, ap, ◌∙◌, subst, ◌⊎◌, inr, Option, Some, None, Result, OnOk, IsTrue, Less, int_cmp, arith, true≢false}
+use Rattle.std.proofs.Common.{◌≡◌, ℕ, ◌+◌, ◌<◌, ℤ, pos, ◌+ℤ◌, true, false, cond, eqb, List, [], ◌∷◌, ◌++◌, map, drop, refl, sym, ap, ◌∙◌, subst, ◌⊎◌, inr, Option, Some, None, Result, Ok, Err, OnOk, OnErr, IsTrue, Less, int_cmp, arith, true≢false}
 use Rattle.std.specs.Prelude.{int_lt}
 use Rattle.std.specs.List.{AllByRecursion}
 use Rattle.std.specs.List.Sorted.{IsStrictlySortedBy}
-use Rattle.std.specs.Map.{keys_of}
+use Rattle.std.specs.Map.{keys_of, lookup}
 use Rattle.std.specs.BTreeMap.{is_at}
-use Rattle.std.specs.Option.{option_map, option_or}
+use Rattle.std.specs.Option.{option_map}
 use Rattle.std.specs.Ordering.{int_eq, is_eq}
-use Rattle.std.specs.Cmp.{int_cmp_total, eq_by_cmp_equiv}
 use Rattle.std.proofs.lemmas.Bool.{ne_eqb}
 use Rattle.std.proofs.lemmas.Bool.Decides.{nat_tests}
 use Rattle.std.proofs.lemmas.Int.{ints}
+use Rattle.std.proofs.lemmas.List.{map-append, append_assoc, append-nil}
+use Rattle.std.proofs.lemmas.Map.Made.{lookup-map_values}
 use Rattle.rr_archive.specs.declared.entry.Entry.{Entry}
 use Rattle.rr_archive.specs.declared.change.Change.{Change}
 use Rattle.rr_archive.specs.Row.{with_entry}
 use Rattle.rr_archive.specs.Changes.{entry_after}
-use Rattle.std.proofs.lemmas.Result.{on_ok_weaker}
 use Rattle.rr_packed.specs.declared.block.Block.{Block}
 use Rattle.rr_packed.specs.declared.blocks.Blocks.{Blocks}
 use Rattle.rr_packed.specs.Slots.{block_of, row_of}
-use Rattle.rr_packed.specs.Blocks.{items_in, IsRowSet, block_at, items_of_block, items_by_slot, has_room_in, block_has_room, has_room_at, starts_before, IsSlotSet}
+use Rattle.rr_packed.specs.Blocks.{items_in, IsRowSet, block_at, items_of_block, items_by_slot, has_room_in, block_has_room, has_room_at, starts_before, IsBlockSet, IsSlotSet}
 use Rattle.rr_packed.proofs.SlotLemmas.{same_slot_by, block_on, row_on, before_block}
 
 same_number : (a b : ℤ) → is_at (int_cmp a) b ≡ true → a ≡ b
@@ -50,25 +50,26 @@ slots_after blocks slot i near = λ j. items_of_block (block_at blocks (block_on
 
 -- ---- a block set
 
--- new blocks are the old ones, but for that of a number
-pub record SetsBlock (old new : List (ℤ × Block)) (number : ℤ) (b : Block) : Type 0 where
-  pub at : (q : ℤ) → block_at new q ≡ cond (is_at (int_cmp number) q) (Some b) (block_at old q)
+-- whether a block was added or not
+pub either : {T E P : Type 0} (r : Result T E) → OnOk r P → OnErr r P → P
+either (Ok x) p q = p
+either (Err e) p q = q
 
 -- with a block that stores what the number's does
-pub blocks_alike : (old new : List (ℤ × Block)) (number : ℤ) (b : Block) → SetsBlock old new number b → items_in b ≡ items_of_block (block_at old number) → items_by_slot new ≡ items_by_slot old
+pub blocks_alike : (old new : List (ℤ × Block)) (number : ℤ) (b : Block) → IsBlockSet number b old new → items_in b ≡ items_of_block (block_at old number) → items_by_slot new ≡ items_by_slot old
 unfolding items_by_slot
 blocks_alike old new number b sets same = λ i s. (
-    ap (λ o. items_of_block o (row_of s)) (sets.at (block_of s))
+    ap (λ o. items_of_block o (row_of s)) (sets (block_of s))
     ∙ elim (is_at (int_cmp number) (block_of s)) as (λ c. is_at (int_cmp number) (block_of s) ≡ c → items_of_block (cond c (Some b) (block_at old (block_of s))) (row_of s) ≡ items_of_block (block_at old (block_of s)) (row_of s)) [
       | true ↦ λ t. ap (λ f. f (row_of s)) same ∙ ap (λ z. items_of_block (block_at old z) (row_of s)) (same_number number (block_of s) t)
       | false ↦ λ _. refl
     ] refl) i
 
 -- with a block in which an entry of the slot's row is set
-pub blocks_changed : (old new : List (ℤ × Block)) (slot : ℤ) (b : Block) (e : Entry) → SetsBlock old new (block_of slot) b → IsRowSet (row_of slot) (with_entry (items_by_slot old slot) e) (items_of_block (block_at old (block_of slot))) (items_in b) → IsSlotSet slot e (items_by_slot old) (items_by_slot new)
+pub blocks_changed : (old new : List (ℤ × Block)) (slot : ℤ) (b : Block) (e : Entry) → IsBlockSet (block_of slot) b old new → IsRowSet (row_of slot) (with_entry (items_by_slot old slot) e) (items_of_block (block_at old (block_of slot))) (items_in b) → IsSlotSet slot e (items_by_slot old) (items_by_slot new)
 unfolding items_by_slot
 blocks_changed old new slot b e sets set = λ s.
-    ap (λ o. items_of_block o (row_of s)) (sets.at (block_of s))
+    ap (λ o. items_of_block o (row_of s)) (sets (block_of s))
     ∙ elim (is_at (int_cmp (block_of slot)) (block_of s)) as (λ c. is_at (int_cmp (block_of slot)) (block_of s) ≡ c → items_of_block (cond c (Some b) (block_at old (block_of s))) (row_of s) ≡ cond (int_eq slot s) (with_entry (items_of_block (block_at old (block_of slot)) (row_of slot)) e) (items_of_block (block_at old (block_of s)) (row_of s))) [
       | true ↦ λ t.
           let one = same_number (block_of slot) (block_of s) t in
@@ -93,14 +94,14 @@ blocks_changed old new slot b e sets set = λ s.
     ] refl
 
 -- with the entry of an origin changed in a block that is there
-pub change_there : (old new : List (ℤ × Block)) (slot : ℤ) (was b : Block) (origin : ℕ) (change : Change) → SetsBlock old new (block_of slot) b → Some was ≡ block_at old (block_of slot) → IsRowSet (row_of slot) (with_entry (items_in was (row_of slot)) (entry_after (items_in was (row_of slot)) origin change)) (items_in was) (items_in b) → IsSlotSet slot (entry_after (items_by_slot old slot) origin change) (items_by_slot old) (items_by_slot new)
+pub change_there : (old new : List (ℤ × Block)) (slot : ℤ) (was b : Block) (origin : ℕ) (change : Change) → IsBlockSet (block_of slot) b old new → Some was ≡ block_at old (block_of slot) → IsRowSet (row_of slot) (with_entry (items_in was (row_of slot)) (entry_after (items_in was (row_of slot)) origin change)) (items_in was) (items_in b) → IsSlotSet slot (entry_after (items_by_slot old slot) origin change) (items_by_slot old) (items_by_slot new)
 change_there old new slot was b origin change sets has changed =
     let here = sym (slot_found old slot was has) in
     blocks_changed old new slot b (entry_after (items_by_slot old slot) origin change) sets (λ n.
     changed n ∙ (λ i. cond (eqb n (row_of slot)) (with_entry (here i) (entry_after (here i) origin change)) (items_of_block (has i) n)))
 
 -- and in a block that is new
-pub change_new : (old new : List (ℤ × Block)) (slot : ℤ) (was b : Block) (origin : ℕ) (change : Change) → SetsBlock old new (block_of slot) b → None ≡ block_at old (block_of slot) → ((n : ℕ) → items_in was n ≡ []) → IsRowSet (row_of slot) (with_entry (items_in was (row_of slot)) (entry_after (items_in was (row_of slot)) origin change)) (items_in was) (items_in b) → IsSlotSet slot (entry_after (items_by_slot old slot) origin change) (items_by_slot old) (items_by_slot new)
+pub change_new : (old new : List (ℤ × Block)) (slot : ℤ) (was b : Block) (origin : ℕ) (change : Change) → IsBlockSet (block_of slot) b old new → None ≡ block_at old (block_of slot) → ((n : ℕ) → items_in was n ≡ []) → IsRowSet (row_of slot) (with_entry (items_in was (row_of slot)) (entry_after (items_in was (row_of slot)) origin change)) (items_in was) (items_in b) → IsSlotSet slot (entry_after (items_by_slot old slot) origin change) (items_by_slot old) (items_by_slot new)
 change_new old new slot was b origin change sets none empty changed =
     let here = empty (row_of slot) ∙ sym (slot_missing old slot none) in
     blocks_changed old new slot b (entry_after (items_by_slot old slot) origin change) sets (λ n.
@@ -110,20 +111,20 @@ change_new old new slot was b origin change sets none empty changed =
 
 -- ---- room in the row of a slot
 
-pub room_found : (bs : Blocks) (slot : ℤ) (origin : ℕ) (b : Block) → Some b ≡ block_at bs.blocks.entries (block_of slot) → IsTrue (has_room_at bs slot origin) → IsTrue (has_room_in b (row_of slot) origin)
+pub room_found : (bs : Blocks) (slot : ℤ) (origin : ℕ) (b : Block) → Some b ≡ block_at bs.blocks.items (block_of slot) → IsTrue (has_room_at bs slot origin) → IsTrue (has_room_in b (row_of slot) origin)
 unfolding has_room_at
 room_found bs slot origin b has room = subst (λ o. block_has_room o (row_of slot) origin ≡ true) (sym has) room
 
-pub room_missing : (bs : Blocks) (slot : ℤ) (origin : ℕ) → None ≡ block_at bs.blocks.entries (block_of slot) → IsTrue (has_room_at bs slot origin) → ⊥
+pub room_missing : (bs : Blocks) (slot : ℤ) (origin : ℕ) → None ≡ block_at bs.blocks.items (block_of slot) → IsTrue (has_room_at bs slot origin) → ⊥
 unfolding has_room_at
 room_missing bs slot origin none room = true≢false (sym (subst (λ o. block_has_room o (row_of slot) origin ≡ true) (sym none) room))
 
-pub room_set : {T E : Type 0} (r : Result T E) (old : List (ℤ × Block)) (new : Blocks) (slot : ℤ) (origin : ℕ) (b : Block) → SetsBlock old new.blocks.entries (block_of slot) b → OnOk r (IsTrue (has_room_in b (row_of slot) origin)) → OnOk r (IsTrue (has_room_at new slot origin))
+pub room_at : (old : List (ℤ × Block)) (new : Blocks) (slot : ℤ) (origin : ℕ) (b : Block) → IsBlockSet (block_of slot) b old new.blocks.items → IsTrue (has_room_in b (row_of slot) origin) → IsTrue (has_room_at new slot origin)
 unfolding has_room_at
-room_set r old new slot origin b sets room = on_ok_weaker r (λ here. subst (λ o. block_has_room o (row_of slot) origin ≡ true) (sym (sets.at (block_of slot) ∙ ap (λ c. cond c (Some b) (block_at old (block_of slot))) (number_same (block_of slot)))) here) room
+room_at old new slot origin b sets here = subst (λ o. block_has_room o (row_of slot) origin ≡ true) (sym (sets (block_of slot) ∙ ap (λ c. cond c (Some b) (block_at old (block_of slot))) (number_same (block_of slot)))) here
 
 -- a block without an entry, where there was none
-pub blocks_added : (old new : List (ℤ × Block)) (number : ℤ) (b : Block) → SetsBlock old new number b → None ≡ block_at old number → ((n : ℕ) → items_in b n ≡ []) → items_by_slot new ≡ items_by_slot old
+pub blocks_added : (old new : List (ℤ × Block)) (number : ℤ) (b : Block) → IsBlockSet number b old new → None ≡ block_at old number → ((n : ℕ) → items_in b n ≡ []) → items_by_slot new ≡ items_by_slot old
 blocks_added old new number b sets none empty = blocks_alike old new number b sets (λ i n. (empty n ∙ ap (λ o. items_of_block o n) none) i)
 
 -- ---- the first block taken out
@@ -148,41 +149,47 @@ first_left slot (b ∷ bs) old sorted before left = λ s. elim (is_eq (int_cmp (
 
 -- ---- blocks that are copied one by one
 
--- what a block stores
-abbrev stored : List (ℤ × Block) → ℤ → Option (ℕ → List Entry)
-stored blocks number = option_map items_in (block_at blocks number)
+-- a block as what it stores, with its number
+abbrev stored : ℤ × Block → ℤ × (ℕ → List Entry)
+stored b = (b.0, items_in b.1)
 
--- what is still to be copied and what has been are the blocks
-pub record Copied (blocks left new : List (ℤ × Block)) : Type 0 where
-  pub sorted : IsStrictlySortedBy int_cmp (keys_of left)
-  pub alike : (q : ℤ) → stored blocks q ≡ option_or (stored left q) (stored new q)
-  pub ordered : IsStrictlySortedBy int_cmp (keys_of new)
+-- what has been copied and what is still to be copied are the blocks
+abbrev pub IsCopied : List (ℤ × Block) → List (ℤ × Block) → List (ℤ × Block) → Type 0
+IsCopied blocks left new = map stored new ++ map stored left ≡ map stored blocks
 
-pub copied_more : (blocks left rest new more : List (ℤ × Block)) (number : ℤ) (b copy : Block) → Copied blocks left new → left ≡ (number, b) ∷ rest → SetsBlock new more number copy → items_in copy ≡ items_in b → IsStrictlySortedBy int_cmp (keys_of more) → Copied blocks rest more
-unfolding IsStrictlySortedBy
-copied_more blocks left rest new more number b copy c is sets same ordered =
-    let sorted = subst (λ l. IsStrictlySortedBy int_cmp (keys_of l)) is c.sorted in
-    record {
-      sorted = sorted.1;
-      alike = λ q.
-          c.alike q ∙ ap (λ l. option_or (stored l q) (stored new q)) is
-          ∙ elim (is_eq (int_cmp q number)) as (λ d. is_eq (int_cmp q number) ≡ d → option_or (option_map items_in (cond d (Some b) (block_at rest q))) (stored new q) ≡ option_or (stored rest q) (option_map items_in (cond d (Some copy) (block_at new q)))) [
-            | true ↦ λ t. ap (λ f. Some f) (sym same) ∙ ap (λ o. option_or (option_map items_in o) (Some (items_in copy))) (sym (none_later number q rest (sym (same_number q number t)) sorted.0))
-            | false ↦ λ _. refl
-          ] refl
-          ∙ ap (λ d. option_or (stored rest q) (option_map items_in (cond d (Some copy) (block_at new q)))) ((eq_by_cmp_equiv int_cmp_total).symm q number)
-          ∙ ap (λ o. option_or (stored rest q) (option_map items_in o)) (sym (sets.at q));
-      ordered = ordered;
-    }
+pub copied_more : (blocks left rest new more : List (ℤ × Block)) (number : ℤ) (b copy : Block) → IsCopied blocks left new → left ≡ (number, b) ∷ rest → items_in copy ≡ items_in b → more ≡ new ++ (number, copy) ∷ [] → IsCopied blocks rest more
+copied_more blocks left rest new more number b copy c is same add =
+    ap (λ l. map stored l ++ map stored rest) add
+    ∙ ap (λ l. l ++ map stored rest) (map-append stored new ((number, copy) ∷ []))
+    ∙ append_assoc (map stored new) ((number, items_in copy) ∷ []) (map stored rest)
+    ∙ ap (λ f. map stored new ++ (number, f) ∷ map stored rest) same
+    ∙ ap (λ l. map stored new ++ map stored l) (sym is)
+    ∙ c
 
-pub copied_rows : (blocks left new : List (ℤ × Block)) → Copied blocks left new → left ≡ [] → items_by_slot new ≡ items_by_slot blocks
+pub all_copied : (blocks left new : List (ℤ × Block)) → IsCopied blocks left new → left ≡ [] → map stored new ≡ map stored blocks
+all_copied blocks left new c none = sym (append-nil (map stored new)) ∙ ap (λ l. map stored new ++ map stored l) (sym none) ∙ c
+
+pub copied_numbers : (blocks new : List (ℤ × Block)) → map stored new ≡ map stored blocks → keys_of new ≡ keys_of blocks
+copied_numbers blocks new same = sym (numbers new) ∙ ap keys_of same ∙ numbers blocks
+  where
+    numbers : (bs : List (ℤ × Block)) → keys_of (map stored bs) ≡ keys_of bs
+    numbers [] = refl
+    numbers (b ∷ bs) = ap (λ ks. b.0 ∷ ks) (numbers bs)
+
+pub copied_rows : (blocks new : List (ℤ × Block)) → map stored new ≡ map stored blocks → items_by_slot new ≡ items_by_slot blocks
 unfolding items_by_slot
-copied_rows blocks left new c none = λ i s. (by_stored (block_at new (block_of s)) (row_of s) ∙ ap (λ o. read o (row_of s)) (sym (c.alike (block_of s) ∙ ap (λ l. option_or (stored l (block_of s)) (stored new (block_of s))) none)) ∙ sym (by_stored (block_at blocks (block_of s)) (row_of s))) i
+copied_rows blocks new same = λ i s. (
+    by_stored new (block_of s) (row_of s)
+    ∙ ap (λ l. read (lookup (is_at (int_cmp (block_of s))) l) (row_of s)) same
+    ∙ sym (by_stored blocks (block_of s) (row_of s))) i
   where
     read : Option (ℕ → List Entry) → ℕ → List Entry
     read None n = []
     read (Some f) n = f n
 
-    by_stored : (o : Option Block) (n : ℕ) → items_of_block o n ≡ read (option_map items_in o) n
-    by_stored None n = refl
-    by_stored (Some b) n = refl
+    read_of : (o : Option Block) (n : ℕ) → items_of_block o n ≡ read (option_map items_in o) n
+    read_of None n = refl
+    read_of (Some b) n = refl
+
+    by_stored : (bs : List (ℤ × Block)) (q : ℤ) (n : ℕ) → items_of_block (block_at bs q) n ≡ read (lookup (is_at (int_cmp q)) (map stored bs)) n
+    by_stored bs q n = read_of (block_at bs q) n ∙ ap (λ o. read o n) (sym (lookup-map_values items_in (is_at (int_cmp q)) bs))

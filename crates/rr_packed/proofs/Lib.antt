@@ -1,5 +1,6 @@
 pub mod SparseLemmas
 pub mod SlotLemmas
 pub mod BlockLemmas
+pub mod NumberLemmas
 pub mod BlocksLemmas
 pub mod PackedLemmas

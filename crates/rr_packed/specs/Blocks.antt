@@ -1,6 +1,7 @@
 -- What blocks store: the entries of a row by its number in a block, and by its slot.
-use Rattle.std.specs.Prelude.{◌≡◌, ℕ, ℤ, ◌==◌, Bool, false, ◌&&◌, List, [], ◌∷◌, Option, Some, None, is_none, int_lt, if◌then◌else◌}
-use Rattle.std.specs.Map.{lookup}
+use Rattle.std.specs.Prelude.{◌≡◌, ℕ, ℤ, ◌==◌, Bool, false, ◌&&◌, List, [], ◌∷◌, Option, Some, None, is_none, slice_get, int_lt, if◌then◌else◌}
+use Rattle.std.specs.List.{prefix_len}
+use Rattle.std.specs.Map.{lookup, keys_of}
 use Rattle.std.specs.BTreeMap.{is_at}
 use Rattle.std.specs.Ordering.{int_cmp, int_eq}
 use Rattle.rr_archive.specs.declared.entry.Entry.{Entry}
@@ -44,6 +45,22 @@ IsRowSet number es old new = (n : ℕ) → new n ≡ (if n == number then es els
 abbrev pub block_at : List (ℤ × Block) → ℤ → Option Block
 block_at blocks number = lookup (is_at (int_cmp number)) blocks
 
+-- how many blocks, from the first on, are before that of a number
+abbrev pub count_before : ℤ → List (ℤ × Block) → ℕ
+count_before number blocks = prefix_len (λ b. int_lt b.0 number) blocks
+
+-- the block of a number is at a place
+abbrev pub IsPlaceOf : ℤ → List (ℤ × Block) → ℕ → Type 0
+IsPlaceOf number blocks at = slice_get (keys_of blocks) at ≡ Some number
+
+-- it isn't there, and belongs at a place
+abbrev pub IsGapFor : ℤ → List (ℤ × Block) → ℕ → Type 0
+IsGapFor number blocks at = (block_at blocks number ≡ None) × (at ≡ count_before number blocks)
+
+-- the block of a number was set, and the others stay
+abbrev pub IsBlockSet : ℤ → Block → List (ℤ × Block) → List (ℤ × Block) → Type 0
+IsBlockSet number b old new = (q : ℤ) → block_at new q ≡ (if is_at (int_cmp number) q then Some b else block_at old q)
+
 abbrev pub items_of_block : Option Block → ℕ → List Entry
 items_of_block None number = []
 items_of_block (Some b) number = items_in b number
@@ -62,11 +79,11 @@ starts_before number (b ∷ bs) = int_lt b.0 number
 
 -- the entries that are stored of a slot, live or not
 abbrev pub row_at : Blocks → ℤ → List Entry
-row_at b = items_by_slot b.blocks.entries
+row_at b = items_by_slot b.blocks.items
 
 -- whether the entry of an origin in a slot takes no memory
 unfoldable pub has_room_at : Blocks → ℤ → ℕ → Bool
-has_room_at b slot origin = block_has_room (block_at b.blocks.entries (block_of slot)) (row_of slot) origin
+has_room_at b slot origin = block_has_room (block_at b.blocks.items (block_of slot)) (row_of slot) origin
 
 -- an entry was set in a slot, and other slots store what they did
 abbrev pub IsSlotSet : ℤ → Entry → (ℤ → List Entry) → (ℤ → List Entry) → Type 0

@@ -186,7 +186,11 @@ impl Block {
         ensures room { IsTrue (has_room self.old.readings) → IsTrue (has_room self.old.rows) → IsOk result }
     {
         match self.reading_of(origin, change) {
-            Some(reading) => self.readings.insert(number, reading),
+            Some(reading) => {
+                // Room was made for a row of either kind, and most blocks have none of entries.
+                self.rows.give_back();
+                self.readings.insert(number, reading)
+            }
             None => {
                 let contribution = contribution_after(None, change);
                 let entry = Entry {

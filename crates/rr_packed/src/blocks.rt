@@ -1,8 +1,10 @@
 //! The blocks of an archive, in order of their numbers.
-ghost use Rattle.std.specs.Prelude.{◌≡◌, ◌<◌, ◌≤◌, ◌+ℤ◌, ◌⊎◌, ℕ, ℤ, pos, [], drop, int_lt, IfOk, IsTrue, IsOk, OnOk, OnErr};
+ghost use Rattle.std.specs.Prelude.{◌≡◌, ◌<◌, ◌≤◌, ◌+ℤ◌, ◌⊎◌, ℕ, ℤ, pos, [], drop, int_lt, IfOk, IfErr, IsTrue, IsOk, OnOk, OnErr};
 ghost use Rattle.std.proofs.Props.{props};
+ghost use Rattle.std.specs.List.Sorted.{IsStrictlySortedBy};
+ghost use Rattle.std.specs.Map.{keys_of};
+ghost use Rattle.std.specs.Option.{option_copied};
 ghost use Rattle.std.specs.Ordering.{int_cmp};
-ghost use Rattle.std.specs.BTreeMap.{IsOrdered};
 ghost use Rattle.rr_packed.specs.Slots.{block_of, row_of};
 
 use crate::block::Block;
@@ -10,14 +12,17 @@ use crate::row::Row;
 use rr_archive::change::Change;
 use rr_schema::Origin;
 use std::alloc::{AllocError, Global};
-use std::collections::BTreeMap;
+use std::cmp::Ordering;
+use std::collections::VecDeque;
 
-/// Blocks by their numbers: that of a slot is a 64th of it, rounded to the floor.
+/// Blocks with their numbers, ascending by these: that of a slot is a 64th of it, rounded to the floor.
+///
+/// The list takes memory for 1, 2, 4, 8 .. blocks: most series have few rows.
 #[derive(Drop)]
 pub(crate) struct Blocks {
     alloc: Global,
-    blocks: BTreeMap<i64, Block>,
-    ghost ordered: { IsOrdered int_cmp blocks } by { Prim.hlevel props },
+    blocks: VecDeque<(i64, Block)>,
+    ghost ordered: { IsStrictlySortedBy int_cmp (keys_of blocks.items) } by { Prim.hlevel props },
 }
 
 /// The number of the block of a slot.
@@ -39,7 +44,7 @@ impl Blocks {
     ghost use Rattle.rr_archive.specs.Row.{entry_at};
     ghost use Rattle.rr_archive.specs.Changes.{Fits, entry_after};
     ghost use Rattle.rr_packed.specs.Readings.{entries_of};
-    ghost use Rattle.rr_packed.specs.Blocks.{row_at, has_room_at, starts_before, IsSlotSet};
+    ghost use Rattle.rr_packed.specs.Blocks.{block_at, count_before, row_at, has_room_at, starts_before, IsPlaceOf, IsGapFor, IsBlockSet, IsSlotSet};
 
     /// No blocks. It takes no memory yet.
     pub(crate) fn new(alloc: Global) -> Blocks
@@ -47,8 +52,61 @@ impl Blocks {
     {
         Blocks {
             alloc,
-            blocks: BTreeMap::new(alloc),
+            blocks: VecDeque::new(alloc),
         }
+    }
+
+    /// How many blocks are before that of a number. The last is looked at first, since most samples are
+    /// of its slots.
+    fn count_before(&self, number: i64) -> usize
+        ensures { result ≡ count_before number self.now.blocks.items }
+    {
+        let Some((last, _)) = self.blocks.back() else {
+            return 0;
+        };
+        match last.cmp(&number) {
+            Ordering::Less => self.blocks.len(),
+            Ordering::Equal => self.blocks.len() - 1,
+            Ordering::Greater => self.blocks.partition_point(|(other, _)| *other < number),
+        }
+    }
+
+    /// Where in the list the block of a number is; if there is none, where it belongs.
+    fn find(&self, number: i64) -> Result<usize, usize>
+        ensures found { IfOk result (IsPlaceOf number self.now.blocks.items) }
+        ensures missing { IfErr result (IsGapFor number self.now.blocks.items) }
+    {
+        let at = self.count_before(number);
+        if let Some((other, _)) = self.blocks.get(at) {
+            if *other == number {
+                return Ok(at);
+            }
+        }
+        Err(at)
+    }
+
+    /// The block of a number, if it is there.
+    fn get(&self, number: i64) -> Option<&Block>
+        ensures value { option_copied result ≡ block_at self.now.blocks.items number }
+    {
+        match self.find(number) {
+            Ok(at) => Some(&self.blocks[at].1),
+            Err(_) => None,
+        }
+    }
+
+    /// Adds the block of a number that has none, where it belongs.
+    fn insert(&mut self, at: usize, number: i64, block: Block) -> Result<(), AllocError>
+        requires { IsGapFor number self.old.blocks.items at }
+        ensures added { OnOk result (IsBlockSet number block self.old.blocks.items self.new.blocks.items) }
+        ensures unchanged { OnErr result (self.new.blocks.items ≡ self.old.blocks.items) }
+    {
+        let count = self.blocks.len();
+        let is_full = count == self.blocks.capacity();
+        let more = if is_full { count.max(1) } else { 0 };
+        self.blocks.reserve_exact(more)?;
+        self.blocks.insert(at, (number, block))?;
+        Ok(())
     }
 
     /// The entries that are stored of a slot.
@@ -56,7 +114,7 @@ impl Blocks {
         ensures { entries_of result ≡ row_at self.now slot }
     {
         let number = block_of(slot);
-        match self.blocks.get(&number) {
+        match self.get(number) {
             Some(block) => block.row(row_of(slot)),
             None => Row::Lent(&[]),
         }
@@ -72,7 +130,7 @@ impl Blocks {
     {
         let number = block_of(slot);
         let row = row_of(slot);
-        match self.blocks.get(&number) {
+        match self.get(number) {
             Some(block) => most.min(block.rows_on(row)),
             None => most.min(64 - row),
         }
@@ -86,13 +144,12 @@ impl Blocks {
     {
         let number = block_of(slot);
         let row = row_of(slot);
-        match self.blocks.get_mut(&number) {
-            Some(block) => block.make_room(row, origin),
-            None => {
+        match self.find(number) {
+            Ok(at) => self.blocks[at].1.make_room(row, origin),
+            Err(at) => {
                 let mut block = Block::new(self.alloc);
                 block.make_room(row, origin)?;
-                self.blocks.insert(number, block)?;
-                Ok(())
+                self.insert(at, number, block)
             }
         }
     }
@@ -112,22 +169,21 @@ impl Blocks {
     {
         let number = block_of(slot);
         let row = row_of(slot);
-        match self.blocks.get_mut(&number) {
-            Some(block) => block.change(row, origin, change),
-            None => {
+        match self.find(number) {
+            Ok(at) => self.blocks[at].1.change(row, origin, change),
+            Err(at) => {
                 let mut block = Block::new(self.alloc);
                 block.change(row, origin, change)?;
-                self.blocks.insert(number, block)?;
-                Ok(())
+                self.insert(at, number, block)
             }
         }
     }
 
     /// Whether the first block is before that of a number.
     fn starts_before(&self, number: i64) -> bool
-        ensures { result ≡ starts_before number self.now.blocks.entries }
+        ensures { result ≡ starts_before number self.now.blocks.items }
     {
-        match self.blocks.first_key_value() {
+        match self.blocks.front() {
             Some((first, _)) => *first < number,
             None => false,
         }
@@ -135,9 +191,9 @@ impl Blocks {
 
     /// Takes the first block out.
     fn drop_first(&mut self)
-        ensures { self.new.blocks.entries ≡ drop 1 self.old.blocks.entries }
+        ensures { self.new.blocks.items ≡ drop 1 self.old.blocks.items }
     {
-        let _block = self.blocks.pop_first();
+        let _block = self.blocks.pop_front();
     }
 
     /// Takes the blocks out whose slots are all before this one.
@@ -154,9 +210,9 @@ impl Blocks {
     pub(crate) fn copy(&self, alloc: Global) -> Result<Blocks, AllocError>
         ensures { IfOk result (λ new. row_at new ≡ row_at self.now) }
     {
-        let mut blocks = BTreeMap::new(alloc);
+        let mut blocks = VecDeque::with_capacity(alloc, self.blocks.len())?;
         for (number, block) in &self.blocks {
-            blocks.insert(*number, block.copy(alloc)?)?;
+            blocks.push_back((*number, block.copy(alloc)?))?;
         }
         Ok(Blocks { alloc, blocks })
     }

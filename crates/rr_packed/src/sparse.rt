@@ -58,14 +58,29 @@ impl<T: Drop> Sparse<T> {
         }
     }
 
-    /// Makes room for one item more.
+    /// Makes room for one item more. The list takes memory for 1, 2, 4, 8 .. items, since most series
+    /// have few rows.
     pub(crate) fn make_room(&mut self) -> Result<(), AllocError>
         ensures same { item_in self.new ≡ item_in self.old }
         ensures mask { self.new.mask ≡ self.old.mask }
+        ensures items { self.new.items.items ≡ self.old.items.items }
         ensures room { OnOk result (IsTrue (has_room self.new)) }
         ensures kept { IsTrue (has_room self.old) → IsOk result }
     {
-        self.items.reserve(1)
+        let count = self.items.len();
+        if count < self.items.capacity() {
+            return Ok(());
+        }
+        self.items.reserve_exact(count.max(1))
+    }
+
+    /// Gives the memory back, if there is no item.
+    pub(crate) fn give_back(&mut self)
+        ensures { item_in self.new ≡ item_in self.old }
+    {
+        if self.items.is_empty() {
+            self.items.shrink_to_fit();
+        }
     }
 
     /// Adds the item of a number that has none.
@@ -78,6 +93,7 @@ impl<T: Drop> Sparse<T> {
     {
         let at = self.rank(number);
         let mask = self.mask | 1 << number;
+        self.make_room()?;
         self.items.insert(at, item)?;
         self.mask = mask;
         Ok(())

@@ -19,12 +19,12 @@ returns-in-Some-clause-added c =
     let k = c.args.number in
     let none : item_in old.rows k ≡ None = ap (λ (r : Sparse Entries). item_in r k) c.reading_of.ensures.rows ∙ item_none was.rows.mask was.rows.items.items k c.requires.rows in
     let read : entries_read old.source (Some c.in-Some.reading) ≡ entry_after [] c.args.origin c.args.change.now ∷ [] = search rules in
-    let new : Block = record { alloc = old.alloc; source = old.source; readings = c.insert.new.self; rows = old.rows } in
-    on_ok_weaker c.insert.result (λ added. λ n. reading_added old new k c.in-Some.reading (entry_after [] c.args.origin c.args.change.now) (λ n. refl) none refl added read n ∙ ap (λ f. cond (eqb n k) (entry_after [] c.args.origin c.args.change.now ∷ []) (f n)) c.reading_of.ensures.same) c.insert.ensures.added
+    let new : Block = record { alloc = old.alloc; source = old.source; readings = c.insert.new.self; rows = c.give_back.new.self } in
+    on_ok_weaker c.insert.result (λ added. λ n. reading_added old new k c.in-Some.reading (entry_after [] c.args.origin c.args.change.now) (λ n. ap (λ f. f n) c.give_back.ensures) none refl added read n ∙ ap (λ f. cond (eqb n k) (entry_after [] c.args.origin c.args.change.now ∷ []) (f n)) c.reading_of.ensures.same) c.insert.ensures.added
 
 pub returns-in-Some-clause-unchanged : goal.returns-in-Some-clause-unchanged
 returns-in-Some-clause-unchanged c =
-    on_err_weaker c.insert.result (λ same. block_same c.reading_of.new.self _ (λ n. refl) refl (λ n. ap (λ f. f n) same) ∙ c.reading_of.ensures.same) c.insert.ensures.unchanged
+    on_err_weaker c.insert.result (λ same. block_same c.reading_of.new.self _ (λ n. ap (λ f. f n) c.give_back.ensures) refl (λ n. ap (λ f. f n) same) ∙ c.reading_of.ensures.same) c.insert.ensures.unchanged
 
 pub returns-in-None-clause-added : goal.returns-in-None-clause-added
 returns-in-None-clause-added c =

@@ -1,4 +1,4 @@
-use Rattle.std.proofs.Common.{rules, ◌≡◌, ℕ, ◌<◌, [], ◌∷◌, List, Result, Ok, Err, OnErr, cond, eqb, length, refl, sym, ap, ◌∙◌, subst, true≢false, None, Some}
+use Rattle.std.proofs.Common.{rules, ◌≡◌, ℕ, ◌<◌, [], List, Result, Ok, Err, OnErr, cond, eqb, length, refl, sym, ap, ◌∙◌, subst, true≢false, None, Some}
 use Rattle.std.specs.Prelude.{slice_get, IsOk}
 use Rattle.std.proofs.lemmas.Option.{slice_get_read}
 use Rattle.std.proofs.lemmas.Result.{on_ok_weaker}

@@ -1,23 +1,26 @@
-use Rattle.std.proofs.Common.{rules, ◌≡◌, [], arith, to_z, of_z, w64}
-use Rattle.rr_packed.proofs.BlocksLemmas.{copied_more, copied_rows}
+use Rattle.std.proofs.Common.{rules, sym, subst}
+use Rattle.std.specs.List.Sorted.{IsStrictlySortedBy}
+use Rattle.std.specs.Ordering.{int_cmp}
+use Rattle.std.specs.VecDeque.Iter.{deque_iter_rest}
+use Rattle.rr_packed.proofs.SparseLemmas.{empty_of}
+use Rattle.rr_packed.proofs.BlocksLemmas.{copied_more, all_copied, copied_numbers, copied_rows}
 use Rattle.rr_packed.proofs.blocks.Blocks.copy.Goals as goal
-
-pub loop-number-preserved-in_ok-insert : goal.loop-number-preserved-in_ok-insert
-loop-number-preserved-in_ok-insert c =
-    let back : to_z w64 (of_z w64 c.in-Some.number.now) ≡ c.in-Some.number.now = search rules in
-    let updates = rw back at c.in_ok-insert.ensures.updates in
-    copied_more c.args.self.now.blocks.entries c.loop-number.number-iterator c.next.new.self c.loop-number.blocks.entries c.insert.new.self.entries c.in-Some.number.now c.in-Some.block.now c.in_ok-copy.field-0 c.loop-number.invariant (search rules) (record { at = λ q. grind (arith, updates.0 q) }) (search rules) c.insert.ensures.ordered
 
 pub loop-number-preserved : goal.loop-number-preserved
 loop-number-preserved c =
-    let back : to_z w64 (of_z w64 c.in-Some.number.now) ≡ c.in-Some.number.now = search rules in
-    let updates = rw back at c.in_ok-insert.ensures.updates in
-    copied_more c.args.self.now.blocks.entries c.loop-number.number-iterator c.next.new.self c.loop-number.blocks.entries c.insert.new.self.entries c.in-Some.number.now c.in-Some.block.now c.in_ok-copy.field-0 c.loop-number.invariant (search rules) (record { at = λ q. grind (arith, updates.0 q) }) (search rules) c.insert.ensures.ordered
+    copied_more c.args.self.now.blocks.items (deque_iter_rest c.loop-number.number-iterator) (deque_iter_rest c.next.new.self) c.loop-number.blocks.items c.push_back.new.self.items c.in-Some.number c.in-Some.block c.in_ok-copy.field-0 c.loop-number.invariant (search rules) (search rules) (search rules)
 
 pub invariant_of-result : goal.invariant_of-result
-invariant_of-result c = record { ordered = c.loop-number.invariant.ordered }
+invariant_of-result c =
+    let bs = c.args.self.now.blocks in
+    let left = deque_iter_rest c.loop-number.number-iterator in
+    let none = empty_of left (search rules) in
+    let same = all_copied bs.items left c.loop-number.blocks.items c.loop-number.invariant none in
+    record { ordered = subst (IsStrictlySortedBy int_cmp) (sym (copied_numbers bs.items c.loop-number.blocks.items same)) c.args.self.now.ordered }
 
 pub returns : goal.returns
 returns c =
-    let none : c.loop-number.number-iterator ≡ [] = search rules in
-    copied_rows c.args.self.now.blocks.entries c.loop-number.number-iterator c.loop-number.blocks.entries c.loop-number.invariant none
+    let bs = c.args.self.now.blocks in
+    let left = deque_iter_rest c.loop-number.number-iterator in
+    let none = empty_of left (search rules) in
+    copied_rows bs.items c.loop-number.blocks.items (all_copied bs.items left c.loop-number.blocks.items c.loop-number.invariant none)

@@ -1,5 +1,6 @@
-use Rattle.rr_packed.proofs.BlocksLemmas.{Copied}
+use Rattle.std.specs.VecDeque.Iter.{deque_iter_rest}
+use Rattle.rr_packed.proofs.BlocksLemmas.{IsCopied}
 use Rattle.rr_packed.proofs.blocks.Blocks.copy.Given as goal
 
 abbrev pub invariant-loop-number : goal.invariant-loop-number
-invariant-loop-number l = Copied l.self.blocks.entries l.number-iterator l.blocks.entries
+invariant-loop-number l = IsCopied l.self.blocks.items (deque_iter_rest l.number-iterator) l.blocks.items

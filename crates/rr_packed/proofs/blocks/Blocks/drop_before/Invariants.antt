@@ -7,4 +7,4 @@ abbrev pub invariant-loop-self : goal.invariant-loop-self
 invariant-loop-self l = IsLeft l.fn.slot (row_at l.initial.self) (row_at l.self)
 
 abbrev pub decreases-loop-self : goal.decreases-loop-self
-decreases-loop-self l = length l.self.blocks.entries
+decreases-loop-self l = length l.self.blocks.items

@@ -6,7 +6,7 @@ use Rattle.rr_packed.proofs.blocks.Blocks.slots_on.Goals as goal
 
 pub returns-in-Some-clause-empty : goal.returns-in-Some-clause-empty
 returns-in-Some-clause-empty c = λ i some h.
-    let blocks = c.args.self.now.blocks.entries in
+    let blocks = c.args.self.now.blocks.items in
     let number : to_z w64 (of_z w64 c.block_of-number.result) ≡ block_of c.args.slot = search rules in
     let row : c.row_of-row.result ≡ row_of c.args.slot = search rules in
     let has : Some c.in-Some.block.now ≡ block_at blocks (block_of c.args.slot) = rw number at c.in-Some.ensures.value in
@@ -17,7 +17,7 @@ returns-in-Some-clause-empty c = λ i some h.
 
 pub returns-in-None-clause-empty : goal.returns-in-None-clause-empty
 returns-in-None-clause-empty c = λ i some h.
-    let blocks = c.args.self.now.blocks.entries in
+    let blocks = c.args.self.now.blocks.items in
     let number : to_z w64 (of_z w64 c.block_of-number.result) ≡ block_of c.args.slot = search rules in
     let row : c.row_of-row.result ≡ row_of c.args.slot = search rules in
     let none : None ≡ block_at blocks (block_of c.args.slot) = rw number at c.in-None.ensures.value in
