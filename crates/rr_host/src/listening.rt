@@ -1,7 +1,7 @@
 //! Connections over TCP.
 
+use crate::flag::Flag;
 use crate::halt::HaltFlag;
-use crate::save_flag::SaveFlag;
 use crate::socket::{Half, halves, one_second};
 use crate::visits::{Visit, Visits};
 use libc::nanosleep;
@@ -40,7 +40,8 @@ fn with_limit(listener: TcpListener) -> io::Result<TcpListener> {
 /// One for which there is no memory fails. A read or write of one that moves no byte for the idle time
 /// fails too, so that no silent peer holds whoever serves it. Where none can be taken, as by a process that has
 /// no file descriptor left, one has failed, after a tenth of a second. So has one where none came in time, if the
-/// connections come by turns ([`Listening::by_turns`]).
+/// connections come by turns ([`Listening::by_turns`]). What a peer of another schema still sends is read before its
+/// connection is closed, so that it learns of the end by a read.
 #[derive(Drop)]
 pub struct Listening {
     alloc: Global,
@@ -48,6 +49,10 @@ pub struct Listening {
     idle: Option<u64>,
     halt: HaltFlag,
     turns: Option<Turns>,
+    /// Raised for a peer of another schema.
+    alarm: Option<Flag>,
+    /// Whether the peer of the connection that was given last has another schema.
+    differs: bool,
 }
 
 /// What connections are waited for by turns.
@@ -56,7 +61,7 @@ struct Turns {
     /// For how many seconds one is waited for.
     every: u64,
     /// Raised for one that brought nothing.
-    wish: SaveFlag,
+    wish: Flag,
 }
 
 impl Listening {
@@ -74,14 +79,24 @@ impl Listening {
             idle,
             halt,
             turns: None,
+            alarm: None,
+            differs: false,
         })
     }
 
     /// The same connections, by turns: where none comes for `every` seconds, one has failed, so that whoever does
     /// something after each connection does it then too. For each that brought no byte the flag is raised.
-    pub fn by_turns(self, every: u64, wish: SaveFlag) -> Listening {
+    pub fn by_turns(self, every: u64, wish: Flag) -> Listening {
         Listening {
             turns: Some(Turns { every, wish }),
+            ..self
+        }
+    }
+
+    /// The same connections, with a flag that is raised for each peer that pulls on one and has another schema.
+    pub fn with_alarm(self, alarm: Flag) -> Listening {
+        Listening {
+            alarm: Some(alarm),
             ..self
         }
     }
@@ -131,13 +146,25 @@ impl Visits for Listening {
         Visit::Failed
     }
 
+    fn schema_differs(&mut self) {
+        self.differs = true;
+        if let Some(alarm) = &self.alarm {
+            alarm.raise();
+        }
+    }
+
     fn take_back(&mut self, input: Counted<Half>, output: Counted<Half>)
         ensures { HasCalled None None (TookBack (stream_of (λ _. None) (λ _. None) input output) ∷ []) }
     {
+        let mut input = input.into_inner();
         if let Some(turns) = &self.turns
-            && !input.into_inner().has_given()
+            && !input.has_given()
         {
             turns.wish.raise();
+        }
+        if self.differs {
+            input.drain();
+            self.differs = false;
         }
         drop(output);
     }
