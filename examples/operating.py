@@ -5,8 +5,8 @@
 
 PROGRAM is the built program. Configurations, snapshots and addresses that are refused are said why. A node with `every`
 saves also if no line comes, calls a silent peer less and less often, and says what its rounds did, on standard error and
-in a file of counts. A node that saves once an hour saves at once if it is asked to by an empty line connection. Ends
-with status 1 where something else comes.
+in a file of counts. A node that saves once an hour saves at once if it is asked to by an empty line connection. Two
+nodes under one origin, and two of different archives, are told. Ends with status 1 where something else comes.
 """
 
 import atexit
@@ -19,14 +19,15 @@ import tempfile
 import time
 
 LINES, FETCH, PEER = 8141, 8142, 8143
+OTHER_LINES, OTHER_FETCH = 8144, 8145
 
 ARCHIVE = "[[archive]]\nsteps = 1\nrows = 1440\nxff_num = 0\nxff_den = 1\n"
 
 
-def config(more=""):
+def config(more="", step=60, lines=LINES, fetch=FETCH):
     """The text of a configuration, with more keys."""
     return (
-        f'step = 60\nlines = "127.0.0.1:{LINES}"\nfetch = ["127.0.0.1:{FETCH}"]\n'
+        f'step = {step}\nlines = "127.0.0.1:{lines}"\nfetch = ["127.0.0.1:{fetch}"]\n'
         f"lead = 300_000_000_000\n{more}{ARCHIVE}"
     )
 
@@ -37,17 +38,17 @@ def check(what, is_so, said=""):
         sys.exit(said)
 
 
-def send(text):
+def send(text, port=LINES):
     """What is answered to lines."""
     for _ in range(100):
         try:
-            with socket.create_connection(("127.0.0.1", LINES), timeout=20) as stream:
+            with socket.create_connection(("127.0.0.1", port), timeout=20) as stream:
                 stream.sendall(text.encode())
                 stream.shutdown(socket.SHUT_WR)
                 return b"".join(iter(lambda: stream.recv(65536), b"")).decode()
         except ConnectionRefusedError:
             time.sleep(0.1)
-    sys.exit(f"nothing listens on port {LINES}")
+    sys.exit(f"nothing listens on port {port}")
 
 
 class Node:
@@ -100,13 +101,14 @@ def by_time(program, folder):
         time.sleep(4)
         check("a snapshot is saved without lines", node.snapshot.stat().st_mtime > first)
         counts = dict(line.split() for line in status.read_text().splitlines() if line[0] != "#")
-        check("counts", (counts["rr_connections_total"], counts["rr_refused_total"]) == ("1", "1"), counts)
+        found = [counts[f"rr_{name}"] for name in ("connections_total", "refused_total", "cells")]
+        check("counts", found == ["1", "1", "1"], counts)
     said = node.end()
     addresses = f"lines 127.0.0.1:{LINES} fetch 127.0.0.1:{FETCH}"
     check("the start", said[1] == f"rr: version 2 origin 1 {addresses} series 0 cells 0", said)
     check("an unknown key", said[0].endswith("node.toml: every of archive 1: this key is unknown, and ignored"), said)
     counts = r"connections (\d+) points (\d+) samples (\d+) refused (\d+)"
-    form = re.compile(rf"round: {counts} pulls \d+\.\d{{3}} save \d+\.\d{{3}}")
+    form = re.compile(rf"round: {counts} cells 1 pulls \d+\.\d{{3}} save \d+\.\d{{3}}")
     rounds = [found.groups() for line in said if (found := form.fullmatch(line))]
     check("a line a turn", rounds.count(("1", "1", "1", "1")) == 1 and rounds.count(("0",) * 4) >= 5, said)
     # It is called in turns 1, 3, 6, 11: of 16 seconds it holds a few, though it is silent for one each time.
@@ -129,9 +131,43 @@ def stop(program, folder):
     check("a quiet node says nothing", node.end() == [])
 
 
+def pair(program, folder, step):
+    """A node, and one of a step that pulls from it under the same origin."""
+    (folder / "other").mkdir()
+    first = Node(program, folder, config("quiet = true\n"))
+    keys = f'idle = 20\nquiet = true\npeers = ["127.0.0.1:{FETCH}"]\n'
+    text = config(keys, step=step, lines=OTHER_LINES, fetch=OTHER_FETCH)
+    return first, Node(program, folder / "other", text)
+
+
+def one_origin(program, folder):
+    """Two nodes under one origin: the one that pulls says so, once."""
+    first, other = pair(program, folder, 60)
+    for value in 1, 2, 3:
+        send(f"m v={value}i\n")
+        send("", OTHER_LINES)
+    # It is taken once the pull of the last round is over.
+    send("", OTHER_LINES)
+    check("an origin that is used twice is told", other.end() == ["peer 1: own origin"])
+    check("the one that gives says nothing", first.end() == [])
+
+
+def two_schemas(program, folder):
+    """A node of another step pulls with more names than connections hold: both sides learn of it."""
+    first, other = pair(program, folder, 30)
+    send("".join(f"m{number} v=1i\n" for number in range(50_000)), OTHER_LINES)
+    send("", OTHER_LINES)
+    # It says so in its next round, which is over once another connection is taken.
+    send("")
+    send("")
+    said = first.end(), other.end()
+    check("the side that gives says why", set(said[0]) == {"session: SchemaDiffers"}, said)
+    check("the side that pulls learns that it was ended", set(said[1]) == {"peer 1: Ended"}, said)
+
+
 def main():
     program = pathlib.Path(sys.argv[1]).resolve()
-    for part in refusals, by_time, stop:
+    for part in refusals, by_time, stop, one_origin, two_schemas:
         with tempfile.TemporaryDirectory() as name:
             part(program, pathlib.Path(name))
 

@@ -7,7 +7,7 @@ ghost use Rattle.rr_io.specs.Counted.{inner_of, failures_of, HasRisen};
 ghost use Rattle.rr_io.specs.Stream.{AppendsPrefix};
 ghost use Rattle.rr_cells.specs.CellBounds.{IsCellOf};
 ghost use Rattle.rr_cells.specs.Holding.{IsHolding};
-ghost use Rattle.rr_cells.specs.Listing.{owned_cell};
+ghost use Rattle.rr_cells.specs.Listing.{at_most_usize, owned_cell};
 ghost use Rattle.rr_cells.specs.declared.op.Op.TheVariants.{Join};
 ghost use Rattle.rr_replica.specs.Standing.{held};
 ghost use Rattle.rr_delta.specs.Difference.{IsSummary};
@@ -69,6 +69,21 @@ impl<A: Cells> Keeper<A> {
         ensures holds { IsHolding (holding_of self.now) }
     {
         self.copies.replica().schema()
+    }
+
+    /// How many cells all operations make, pending ones too; the greatest value of the type, where it can't
+    /// hold that many. The cost is linear in the series.
+    pub fn cell_count(&self) -> usize
+        ensures { result ≡ at_most_usize (len (cells_of self.now)) }
+    {
+        self.copies.replica().cell_count()
+    }
+
+    /// The number that the next sample gets, past 2^40 if none is left.
+    pub fn next_number(&self) -> u64
+        ensures { result ≡ self.now.next }
+    {
+        self.copies.replica().next_number()
     }
 
     /// Puts a sample of a key under the next number, which is the answer. The time is in nanoseconds

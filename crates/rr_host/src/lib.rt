@@ -8,7 +8,7 @@
 //! they take a connection.
 //!
 //! What is done by turns has a [`Pace`]: a [`PacedDial`] calls each peer at most once in so many seconds, and a
-//! [`Listening`] by turns ends its wait after as many. A [`SaveFlag`] asks for a snapshot before its time.
+//! [`Listening`] by turns ends its wait after as many. A [`Flag`] asks for a snapshot before its time, or to be told of.
 //!
 //! ```text
 //! Listening, Prepared ─── next ──> Visit: an input and an output ── take_back ──> closed, or kept
@@ -26,6 +26,7 @@
 mod calling;
 mod clock;
 mod dial;
+mod flag;
 mod halt;
 mod listening;
 mod log;
@@ -33,7 +34,6 @@ mod pace;
 mod paced;
 mod peers;
 mod prepared;
-mod save_flag;
 mod socket;
 mod start;
 mod visits;
@@ -41,6 +41,7 @@ mod visits;
 pub use calling::Calling;
 pub use clock::{Clock, Moments, SystemClock};
 pub use dial::Dial;
+pub use flag::Flag;
 pub use halt::{Halt, HaltFlag};
 pub use listening::Listening;
 pub use log::CallLog;
@@ -48,7 +49,6 @@ pub use pace::Pace;
 pub use paced::PacedDial;
 pub use peers::{PreparedDial, PreparedPeer};
 pub use prepared::Prepared;
-pub use save_flag::SaveFlag;
 pub use socket::{Half, halves};
 pub use start::StartBarrier;
 pub use visits::{Visit, Visits};

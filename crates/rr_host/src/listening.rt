@@ -1,7 +1,7 @@
 //! Connections over TCP.
 
+use crate::flag::Flag;
 use crate::halt::HaltFlag;
-use crate::save_flag::SaveFlag;
 use crate::socket::{Half, halves, one_second};
 use crate::start::{StartBarrier, pause};
 use crate::visits::{Visit, Visits};
@@ -29,7 +29,8 @@ fn with_limit(listener: TcpListener) -> io::Result<TcpListener> {
 /// One for which there is no memory fails. A read or write of one that moves no byte for the idle time
 /// fails too, so that no silent peer holds whoever serves it. Where none can be taken, as by a process that has
 /// no file descriptor left, one has failed, after a tenth of a second. So has one where none came in time, if the
-/// connections come by turns ([`Listening::by_turns`]).
+/// connections come by turns ([`Listening::by_turns`]). What a peer of another schema still sends is read before its
+/// connection is closed, so that it learns of the end by a read.
 #[derive(Drop)]
 pub struct Listening {
     alloc: Global,
@@ -39,6 +40,10 @@ pub struct Listening {
     turns: Option<Turns>,
     /// What is still to be waited at before the first connection.
     start: Option<StartBarrier>,
+    /// Raised for a peer of another schema.
+    alarm: Option<Flag>,
+    /// Whether the peer of the connection that was given last has another schema.
+    differs: bool,
 }
 
 /// What connections are waited for by turns.
@@ -47,7 +52,7 @@ struct Turns {
     /// For how many seconds one is waited for.
     every: u64,
     /// Raised for one that brought nothing.
-    wish: SaveFlag,
+    wish: Flag,
 }
 
 impl Listening {
@@ -66,6 +71,8 @@ impl Listening {
             halt,
             turns: None,
             start: None,
+            alarm: None,
+            differs: false,
         })
     }
 
@@ -80,9 +87,17 @@ impl Listening {
 
     /// The same connections, by turns: where none comes for `every` seconds, one has failed, so that whoever does
     /// something after each connection does it then too. For each that brought no byte the flag is raised.
-    pub fn by_turns(self, every: u64, wish: SaveFlag) -> Listening {
+    pub fn by_turns(self, every: u64, wish: Flag) -> Listening {
         Listening {
             turns: Some(Turns { every, wish }),
+            ..self
+        }
+    }
+
+    /// The same connections, with a flag that is raised for each peer that pulls on one and has another schema.
+    pub fn with_alarm(self, alarm: Flag) -> Listening {
+        Listening {
+            alarm: Some(alarm),
             ..self
         }
     }
@@ -147,13 +162,25 @@ impl Visits for Listening {
         Visit::Failed
     }
 
+    fn schema_differs(&mut self) {
+        self.differs = true;
+        if let Some(alarm) = &self.alarm {
+            alarm.raise();
+        }
+    }
+
     fn take_back(&mut self, input: Counted<Half>, output: Counted<Half>)
         ensures { HasCalled None None (TookBack (stream_of (λ _. None) (λ _. None) input output) ∷ []) }
     {
+        let mut input = input.into_inner();
         if let Some(turns) = &self.turns
-            && !input.into_inner().has_given()
+            && !input.has_given()
         {
             turns.wish.raise();
+        }
+        if self.differs {
+            input.drain();
+            self.differs = false;
         }
         drop(output);
     }

@@ -6,9 +6,12 @@ use crate::halt::HaltFlag;
 use std::alloc::Global;
 use std::io;
 use std::io::{ErrorKind, Read, Write};
-use std::net::TcpStream;
+use std::net::{Shutdown, TcpStream};
 use std::sync::Arc;
 use std::time::Duration;
+
+/// How many bytes are read at a time that nobody wants.
+const SCRAP: usize = 4_096;
 
 /// For how long a connection or a listener waits at a time. Then it looks at the flag of its node.
 pub(crate) fn one_second() -> Duration {
@@ -73,6 +76,20 @@ impl Half {
         Half {
             socket,
             has_given: false,
+        }
+    }
+
+    /// Ends what is sent over the connection, and reads what is still received, to its end. A connection that is closed
+    /// before that cuts off a peer which still sends, whose next call then fails, where it should learn of the end.
+    pub(crate) fn drain(&mut self) {
+        if self.socket.stream.shutdown(Shutdown::Write).is_err() {
+            return;
+        }
+        let mut scrap = [0u8; SCRAP];
+        for _ in 0..u64::MAX {
+            if !matches!(self.read(&mut scrap), Ok(1..)) {
+                return;
+            }
         }
     }
 

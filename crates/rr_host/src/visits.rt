@@ -17,7 +17,7 @@ pub enum Visit<R, W> {
 ///
 /// It is seen as the list of its calls, where that is known.
 pub trait Visits {
-    ghost use Rattle.std.specs.Prelude.{[], ◌∷◌, List, Option};
+    ghost use Rattle.std.specs.Prelude.{◌≡◌, [], ◌∷◌, List, Option};
     ghost use Rattle.rr_host.specs.Streams.{stream_of};
     ghost use Rattle.rr_host.specs.Visits.{Call, HasCalled, TookBack, call_of};
 
@@ -33,6 +33,12 @@ pub trait Visits {
     fn next(&mut self) -> Visit<Self::Input, Self::Output>
         ensures { HasCalled (calls self.old) (calls self.new)
             (call_of Self.Input.remaining Self.Output.contents result ∷ []) };
+
+    /// Is told that the peer which pulls on the connection that was given last has another schema, before the connection
+    /// is handed back.
+    fn schema_differs(&mut self)
+        ensures { calls self.new ≡ calls self.old }
+    {}
 
     /// Takes back a connection that was given.
     fn take_back(&mut self, input: Counted<Self::Input>, output: Counted<Self::Output>)

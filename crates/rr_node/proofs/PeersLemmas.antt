@@ -1,12 +1,12 @@
 -- The pulls of peers, one after the other.
-use Rattle.std.proofs.Common.{◌≡◌, ℕ, ◌+◌, ◌<◌, Bool, true, false, List, [], ◌∷◌, ◌++◌, length, get_or, drop, map, ◌≢◌, Option, IfSome, Some, refl, sym, ap, ◌∙◌, inl, inr, append_assoc}
+use Rattle.std.proofs.Common.{◌≡◌, ℕ, ◌+◌, ◌<◌, nat_lt, Bool, true, false, List, [], ◌∷◌, ◌++◌, length, get_or, drop, map, ◌≢◌, Option, IfSome, Some, refl, sym, ap, ◌∙◌, inl, inr, append_assoc}
 use Rattle.std.proofs.lemmas.List.{append-nil, at_drop_more}
 use Rattle.rr_copies.specs.Standing.{KeeperState}
 use Rattle.rr_node.specs.declared.fault.NodeFault.{NodeFault}
 use Rattle.rr_node.specs.declared.fault.NodeFault.TheVariants.{Memory}
 use Rattle.rr_host.specs.Calls.{DialCall}
 use Rattle.rr_node.specs.Shelf.{ShelfCall}
-use Rattle.rr_node.specs.Peers.{EndsPull, EndsPulls, IsPast, told_of}
+use Rattle.rr_node.specs.Peers.{EndsPull, EndsPulls, IsPast, told_of_peer}
 
 pub next_left : {X : Type 0} (text : X → List ℕ) (xs : List X) (place : ℕ) (x : X) (address : List ℕ) → place < length xs → x ≡ get_or xs place x → address ≡ text x → map text (drop place xs) ≡ address ∷ map text (drop (place + 1) xs)
 next_left text xs place x address within is same =
@@ -18,10 +18,11 @@ GoesOn all old number left now dialed told =
     (whole : Bool) (new : KeeperState) (d : List DialCall) (t : List ShelfCall)
     → EndsPulls whole number left now new d t → EndsPulls whole 1 all old new (dialed ++ d) (told ++ t)
 
-pub one_past : (all : List (List ℕ)) (old : KeeperState) (number : ℕ) (address : List ℕ) (left : List (List ℕ)) (now mid : KeeperState) (dialed first : List DialCall) (told : List ShelfCall) (fault : Option NodeFault) → GoesOn all old number (address ∷ left) now dialed told → IfSome fault (λ why. why ≢ Memory) → EndsPull address now mid first fault → GoesOn all old (number + 1) left mid (dialed ++ first) (told ++ told_of number fault)
+pub one_past : (all : List (List ℕ)) (old : KeeperState) (number : ℕ) (address : List ℕ) (left : List (List ℕ)) (now mid : KeeperState) (dialed first : List DialCall) (told : List ShelfCall) (fault : Option NodeFault) → GoesOn all old number (address ∷ left) now dialed told → IfSome fault (λ why. why ≢ Memory) → EndsPull address now mid first fault → GoesOn all old (number + 1) left mid (dialed ++ first) (told ++ told_of_peer number (nat_lt now.next mid.next) fault)
 one_past all old number address left now mid dialed first told fault h other ended = λ whole new d t rest.
-    let past : IsPast number address now mid first (told_of number fault) = record { fault = fault; skipped = other; pulled = ended; told_so = refl } in
-    rw (append_assoc dialed first d, append_assoc told (told_of number fault) t) (h whole new (first ++ d) (told_of number fault ++ t) (inr (mid, first, d, told_of number fault, t, past, rest, refl, refl)))
+    let said = told_of_peer number (nat_lt now.next mid.next) fault in
+    let past : IsPast number address now mid first said = record { fault = fault; skipped = other; pulled = ended; told_so = refl } in
+    rw (append_assoc dialed first d, append_assoc told said t) (h whole new (first ++ d) (said ++ t) (inr (mid, first, d, said, t, past, rest, refl, refl)))
 
 pub all_past : (all : List (List ℕ)) (old : KeeperState) (number : ℕ) (now : KeeperState) (dialed : List DialCall) (told : List ShelfCall) → GoesOn all old number [] now dialed told → EndsPulls true 1 all old now dialed told
 all_past all old number now dialed told h =

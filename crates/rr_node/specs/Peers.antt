@@ -1,12 +1,12 @@
 -- How the pulls of a round go, from one peer after the other.
-use Rattle.std.specs.Prelude.{◌≡◌, ◌≢◌, ◌⊎◌, ℕ, ◌+◌, Bool, true, false, List, [], ◌∷◌, ◌++◌, Option, None, Some, IfSome, Result, Ok, Err}
+use Rattle.std.specs.Prelude.{◌≡◌, ◌≢◌, ◌⊎◌, ℕ, ◌+◌, nat_lt, Bool, true, false, List, [], ◌∷◌, ◌++◌, Option, None, Some, IfSome, Result, Ok, Err}
 use Rattle.rr_copies.specs.Standing.{KeeperState}
 use Rattle.rr_gossip.specs.declared.fault.GossipFault.{GossipFault}
 use Rattle.rr_node.specs.declared.fault.NodeFault.{NodeFault}
 use Rattle.rr_node.specs.declared.fault.NodeFault.TheVariants.{BadAddress, Memory}
 use Rattle.rr_host.specs.Calls.{DialCall, handed_back, passed_over, reached, unreached}
 use Rattle.rr_host.specs.Streams.{Stream}
-use Rattle.rr_node.specs.Shelf.{ShelfCall, peer_failed}
+use Rattle.rr_node.specs.Shelf.{ShelfCall, own_origin, peer_failed}
 use Rattle.rr_node.specs.Fault.{IsToBlame, of_session_fault}
 use Rattle.rr_node.specs.Pull.{HasPulledAll, HasStoppedPulling}
 
@@ -36,12 +36,18 @@ abbrev pub told_of : ℕ → Option NodeFault → List ShelfCall
 told_of number None = []
 told_of number (Some fault) = peer_failed number fault ∷ []
 
+-- what is told of a peer that is done with, by whether the keeper's next number rose meanwhile: it puts no sample in a
+-- pull, so then a cell of its own origin came that it never wrote
+abbrev pub told_of_peer : ℕ → Bool → Option NodeFault → List ShelfCall
+told_of_peer number false fault = told_of number fault
+told_of_peer number true fault = own_origin number ∷ told_of number fault
+
 -- a peer is done with, and what ended it is told
 pub record IsPast (number : ℕ) (address : List ℕ) (old new : KeeperState) (dialed : List DialCall) (told : List ShelfCall) : Type 0 where
   pub fault : Option NodeFault
   pub skipped : IfSome fault (λ why. why ≢ Memory)
   pub pulled : EndsPull address old new dialed fault
-  pub told_so : told ≡ told_of number fault
+  pub told_so : told ≡ told_of_peer number (nat_lt old.next new.next) fault
 
 -- the pulls from these peers, of which the first has this number, go on to the last, or until memory runs out in one
 abbrev pub EndsPulls : Bool → ℕ → List (List ℕ) → KeeperState → KeeperState → List DialCall → List ShelfCall → Type 0

@@ -1,7 +1,9 @@
 -- How a round of a keeper goes: the lines of a connection, the pulls from all peers, and a save.
 use Rattle.std.specs.Prelude.{◌≡◌, ◌⊎◌, ℕ, ℤ, Bool, true, false, List, [], ◌∷◌, ◌++◌, map, Option, None, Some, Result, Ok, Err, IfOk, IfErr, OnErr, if◌then◌else◌}
 use Rattle.std.specs.String.{string_bytes}
-use Rattle.rr_copies.specs.Standing.{KeeperState}
+use Rattle.std.specs.FinMap.{len}
+use Rattle.rr_cells.specs.Listing.{at_most_usize}
+use Rattle.rr_copies.specs.Standing.{KeeperState, cells_of}
 use Rattle.rr_config.specs.declared.config.Config.{Config}
 use Rattle.rr_node.specs.declared.fault.NodeFault.{NodeFault}
 use Rattle.rr_node.specs.declared.report.Report.{Report}
@@ -11,7 +13,7 @@ use Rattle.rr_host.specs.Streams.{Stream}
 use Rattle.rr_node.specs.declared.round.Lines.{Lines}
 use Rattle.rr_node.specs.declared.round.Lines.TheVariants as lines
 use Rattle.rr_node.specs.Fault.{IsOfLines, IsToBlame, is_memory}
-use Rattle.rr_node.specs.Shelf.{ShelfCall, taken}
+use Rattle.rr_node.specs.Shelf.{ShelfCall, pulled, taken}
 use Rattle.rr_node.specs.Lines.{Run, IsServed, HasStopped, rules_of}
 use Rattle.rr_node.specs.Peers.{EndsPulls}
 use Rattle.rr_node.specs.Saving.{EndsSave}
@@ -61,13 +63,13 @@ EndsLines config came old new given since calls =
 abbrev pub peers_of : Config → List (List ℕ)
 peers_of config = map string_bytes config.peers.items
 
--- the pulls from all peers and then a save; memory may run out in either
+-- the pulls from all peers, of which the number of cells then is told, and then a save; memory may run out in either
 abbrev pub EndsRest : Config → Option Bool → KeeperState → KeeperState → List DialCall → List ShelfCall → Type 0
 EndsRest config came old new dialed shelved =
     ((came ≡ None) × EndsPulls false 1 (peers_of config) old new dialed shelved)
     ⊎ ((told saved : List ShelfCall) × EndsPulls true 1 (peers_of config) old new dialed told
     × (((came ≡ Some true) × EndsSave true new saved) ⊎ ((came ≡ None) × EndsSave false new saved))
-    × (shelved ≡ told ++ saved))
+    × (shelved ≡ told ++ pulled (at_most_usize (len (cells_of new))) ∷ saved))
 
 -- a whole round: where no connection will come, and where memory ran out in one, there is nothing else; else the shelf is
 -- told the connection's report first

@@ -11,7 +11,8 @@ use std::alloc::{AllocError, Global};
 use std::rt::Files;
 
 /// Saves snapshots to a file, where one is named, and prints on standard error what failed: `peer I: NAME`
-/// of a peer, counted from 1, and `save: NAME` after a line with the file and the reason.
+/// of a peer, counted from 1; `peer I: own origin` once of a peer that has cells of the node's own origin which it never
+/// wrote; and `save: NAME` after a line with the file and the reason.
 ///
 /// A snapshot is written to a file beside, whose name ends in `.new`, and then renamed, so that the file
 /// has the last snapshot or the new one, whatever ends the process.
@@ -19,6 +20,8 @@ use std::rt::Files;
 pub struct FileShelf<'a, R> {
     rt: &'a R,
     file: Option<Replaced<'a, R>>,
+    /// The numbers of the peers of which `own origin` was printed.
+    met: Vec<usize>,
 }
 
 impl<'a, R: Files + Eprint> FileShelf<'a, R> {
@@ -32,7 +35,11 @@ impl<'a, R: Files + Eprint> FileShelf<'a, R> {
             Some(path) => Some(Replaced::new(rt, alloc, path)?),
             None => None,
         };
-        Ok(FileShelf { rt, file })
+        Ok(FileShelf {
+            rt,
+            file,
+            met: Vec::new(alloc),
+        })
     }
 
     fn print_save(&self, fault: SaveFault) {
@@ -53,6 +60,24 @@ impl<R: Files + Eprint> Shelf for FileShelf<'_, R> {
     ghost calls = { λ s. None };
 
     fn lines_taken(&mut self, _report: Option<Report>) {}
+
+    fn own_origin(&mut self, number: usize) {
+        if self.met.contains(&number) {
+            return;
+        }
+        // Where there is no memory to note it, it is printed again.
+        let _noted = self.met.push(number);
+        // Where this can't be printed, there is no one to tell.
+        let _printed = eprintln!(self.rt; "peer {number}: own origin");
+    }
+
+    fn peer_failed(&mut self, number: usize, fault: NodeFault) {
+        let name = fault.name();
+        // Where this can't be printed, there is no one to tell.
+        let _printed = eprintln!(self.rt; "peer {number}: {name}");
+    }
+
+    fn pulls_ended(&mut self, _cells: usize) {}
 
     fn open(&mut self) -> Opening<SaveFile<R::File>> {
         let Some(file) = &self.file else {
@@ -87,12 +112,6 @@ impl<R: Files + Eprint> Shelf for FileShelf<'_, R> {
             file.remove_beside();
             self.print_save(SaveFault::WriteFailed);
         }
-    }
-
-    fn peer_failed(&mut self, number: usize, fault: NodeFault) {
-        let name = fault.name();
-        // Where this can't be printed, there is no one to tell.
-        let _printed = eprintln!(self.rt; "peer {number}: {name}");
     }
 
     fn save_failed(&mut self, fault: SaveFault) {

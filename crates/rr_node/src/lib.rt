@@ -56,7 +56,7 @@ pub use round::keep_round;
 pub use round_log::RoundLog;
 pub use rr_config::{Config, ConfigFault};
 pub use rr_host::{
-    Calling, Clock, Dial, Half, Halt, HaltFlag, Listening, Moments, PacedDial, Prepared, SaveFlag,
+    Calling, Clock, Dial, Flag, Half, Halt, HaltFlag, Listening, Moments, PacedDial, Prepared,
     StartBarrier, SystemClock, Visit, Visits, halves,
 };
 pub use save_file::SaveFile;

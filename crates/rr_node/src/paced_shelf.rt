@@ -4,31 +4,34 @@ use crate::fault::NodeFault;
 use crate::report::Report;
 use crate::round_log::RoundLog;
 use crate::shelf::{Opening, Shelf};
-use rr_host::{Pace, SaveFlag};
+use rr_host::{Flag, Pace};
 use rr_io::Counted;
 use rr_snapshot::SaveFault;
 use std::rt::Files;
 use std::time::Clock;
 
 /// A shelf that wants a snapshot at most once in a turn of so many seconds, or when a flag was raised, and then hands
-/// it to another shelf. After each turn its log says what the rounds did. Nothing is known of its calls.
+/// it to another shelf. After each turn its log says what the rounds did. In each round it prints on standard error
+/// `session: SchemaDiffers`, if another flag was raised. Nothing is known of its calls.
 #[derive(Drop)]
 pub struct PacedShelf<'a, R, S> {
     rt: &'a R,
     shelf: S,
     pace: Pace,
-    wish: SaveFlag,
+    wish: Flag,
+    alarm: Flag,
     log: RoundLog<'a, R>,
 }
 
 impl<'a, R: Files + Eprint + Clock, S> PacedShelf<'a, R, S> {
     /// Hands a snapshot to a shelf once in so many seconds, or whenever there is one where that is missing; the
-    /// flag asks for one before its time.
+    /// wish asks for one before its time. The alarm is that a peer of another schema pulled.
     pub fn new(
         rt: &'a R,
         shelf: S,
         every: Option<u64>,
-        wish: SaveFlag,
+        wish: Flag,
+        alarm: Flag,
         log: RoundLog<'a, R>,
     ) -> PacedShelf<'a, R, S> {
         PacedShelf {
@@ -36,6 +39,7 @@ impl<'a, R: Files + Eprint + Clock, S> PacedShelf<'a, R, S> {
             shelf,
             pace: Pace::new(every),
             wish,
+            alarm,
             log,
         }
     }
@@ -59,12 +63,28 @@ impl<R: Files + Eprint + Clock, S: Shelf> Shelf for PacedShelf<'_, R, S> {
     ghost calls = { λ s. None };
 
     fn lines_taken(&mut self, report: Option<Report>) {
+        if self.alarm.take() {
+            // Where this can't be printed, there is no one to tell.
+            let _printed = eprintln!(self.rt; "session: SchemaDiffers");
+        }
         self.log.lines_are_taken(report);
         self.shelf.lines_taken(report);
     }
 
+    fn own_origin(&mut self, number: usize) {
+        self.shelf.own_origin(number);
+    }
+
+    fn peer_failed(&mut self, number: usize, fault: NodeFault) {
+        self.shelf.peer_failed(number, fault);
+    }
+
+    fn pulls_ended(&mut self, cells: usize) {
+        self.log.pulls_are_over(cells);
+        self.shelf.pulls_ended(cells);
+    }
+
     fn open(&mut self) -> Opening<S::Output> {
-        self.log.pulls_are_over();
         if !self.is_wanted() {
             return Opening::Unwanted;
         }
@@ -86,10 +106,6 @@ impl<R: Files + Eprint + Clock, S: Shelf> Shelf for PacedShelf<'_, R, S> {
         self.pace.done(self.rt);
         self.log.save_is_over();
         self.log.say();
-    }
-
-    fn peer_failed(&mut self, number: usize, fault: NodeFault) {
-        self.shelf.peer_failed(number, fault);
     }
 
     fn save_failed(&mut self, fault: SaveFault) {

@@ -4,7 +4,7 @@ ghost use Rattle.std.specs.Prelude.{◌≡◌, ◌≢◌, IfOk, IfSome, List, On
 ghost use Rattle.std.specs.String.{string_bytes};
 ghost use Rattle.rr_host.specs.Calls.{DialCall, Grows};
 ghost use Rattle.rr_node.specs.Shelf.{ShelfCall};
-ghost use Rattle.rr_node.specs.Peers.{EndsPull, EndsPulls, fault_in};
+ghost use Rattle.rr_node.specs.Peers.{EndsPull, EndsPulls, fault_in, told_of_peer};
 
 use crate::fault::NodeFault;
 use crate::pull::pull_peer;
@@ -49,8 +49,20 @@ fn skipped(pulled: Result<(), NodeFault>) -> Result<Option<NodeFault>, AllocErro
     }
 }
 
+/// Tells the shelf of a peer that is done with: whether it has cells of the keeper's own origin, and its fault.
+fn tell<S: Shelf>(shelf: &mut S, number: usize, has_own: bool, fault: Option<NodeFault>)
+    ensures { Grows (S.calls shelf.old) (S.calls shelf.new) (told_of_peer number has_own fault) }
+{
+    if has_own {
+        shelf.own_origin(number);
+    }
+    if let Some(fault) = fault {
+        shelf.peer_failed(number, fault);
+    }
+}
+
 /// Pulls from each peer that is due, in their order. A fault other than `Memory` is told to the shelf, and ends no
-/// other pull.
+/// other pull. So is a peer that has cells of the keeper's own origin with versions at or past its next number.
 pub(crate) fn pull_peers<A: Cells, D: Dial, S: Shelf, T: Wait>(
     alloc: Global,
     peers: &[String],
@@ -65,10 +77,10 @@ pub(crate) fn pull_peers<A: Cells, D: Dial, S: Shelf, T: Wait>(
         × EndsPulls (is_ok result) 1 (map string_bytes peers.now) keeper.old keeper.new dialed told }
 {
     for (place, address) in peers.iter().enumerate() {
+        let next = keeper.next_number();
         let pulled = pull_from(alloc, address, dial, keeper, rt);
-        if let Some(fault) = skipped(pulled)? {
-            shelf.peer_failed(place + 1, fault);
-        }
+        let fault = skipped(pulled)?;
+        tell(shelf, place + 1, next < keeper.next_number(), fault);
     }
     Ok(())
 }

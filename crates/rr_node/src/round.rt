@@ -72,12 +72,14 @@ fn take_lines<A: Cells, V: Visits, C: Clock, T: Wait>(
 }
 
 /// One round of the keeper of a node: it serves the lines of the next connection, tells the shelf their report, pulls
-/// from each peer of the configuration that is due, in their order, and saves a snapshot where the shelf wants one. The answer is
-/// whether a connection came; where none will come any more, nothing else is done.
+/// from each peer of the configuration that is due, in their order, tells the shelf how many cells the node then has,
+/// and saves a snapshot where the shelf wants one. The answer is whether a connection came; where none will come any
+/// more, nothing else is done.
 ///
 /// A fault of the connection ends the connection alone. A peer that can't be reached or whose pull fails
-/// is passed over, and a save that fails too; both are told to the shelf. `Memory` ends the round there;
-/// there is no other fault. Each stream that was given is handed back.
+/// is passed over, and a save that fails too; both are told to the shelf, and a peer that has cells of the node's own
+/// origin which it never wrote. `Memory` ends the round there; there is no other fault. Each stream that was given is
+/// handed back.
 pub fn keep_round<A: Cells, V: Visits, D: Dial, S: Shelf, C: Clock, T: Wait>(
     alloc: Global,
     keeper: &mut Keeper<A>,
@@ -101,6 +103,7 @@ pub fn keep_round<A: Cells, V: Visits, D: Dial, S: Shelf, C: Clock, T: Wait>(
     };
     shelf.lines_taken(report);
     pull_peers(alloc, &config.peers, dial, shelf, keeper, rt)?;
+    shelf.pulls_ended(keeper.cell_count());
     save_to(alloc, shelf, keeper)?;
     Ok(true)
 }

@@ -31,6 +31,8 @@ pub struct RoundLog<'a, R> {
     /// The connections since the last line, and all of them.
     since: Tally,
     all: Tally,
+    /// How many cells there are after the pulls of this round.
+    cells: usize,
     /// When the pulls or the save of this round began.
     began: Option<Instant>,
     /// How long the pulls took since the last line, and the save.
@@ -57,6 +59,7 @@ impl<'a, R: Files + Eprint + Clock> RoundLog<'a, R> {
             file,
             since: Tally::new(),
             all: Tally::new(),
+            cells: 0,
             began: None,
             pulls: Duration::ZERO,
             save: Duration::ZERO,
@@ -72,8 +75,9 @@ impl<'a, R: Files + Eprint + Clock> RoundLog<'a, R> {
         self.began = Instant::now(self.rt).ok();
     }
 
-    /// The pulls are over; the save begins.
-    pub(crate) fn pulls_are_over(&mut self) {
+    /// The pulls are over, with so many cells; the save begins.
+    pub(crate) fn pulls_are_over(&mut self, cells: usize) {
+        self.cells = cells;
         self.pulls = self.pulls.saturating_add(self.elapsed());
         self.save = Duration::ZERO;
         self.began = Instant::now(self.rt).ok();
@@ -115,10 +119,10 @@ impl<'a, R: Files + Eprint + Clock> RoundLog<'a, R> {
             samples,
             refused,
         } = self.since;
-        let (pulls, save) = (Seconds(self.pulls), Seconds(self.save));
+        let (cells, pulls, save) = (self.cells, Seconds(self.pulls), Seconds(self.save));
         // Where this can't be printed, there is no one to tell.
         let _printed = eprintln!(self.rt;
-            "round: connections {connections} points {points} samples {samples} refused {refused} pulls {pulls} save {save}"
+            "round: connections {connections} points {points} samples {samples} refused {refused} cells {cells} pulls {pulls} save {save}"
         );
     }
 
@@ -141,6 +145,8 @@ impl<'a, R: Files + Eprint + Clock> RoundLog<'a, R> {
         ] {
             write!(text, "# TYPE {name} counter\n{name} {count}\n")?;
         }
+        let cells = self.cells;
+        write!(text, "# TYPE rr_cells gauge\nrr_cells {cells}\n")?;
         for (name, time) in [
             ("rr_pulls_seconds", self.pulls),
             ("rr_save_seconds", self.save),

@@ -9,6 +9,7 @@ use crate::fault::NodeFault;
 use crate::reader::serve_reader;
 use rr_archive::Cells;
 use rr_desk::{Gate, Reader};
+use rr_gossip::GossipFault;
 use rr_host::{Visit, Visits};
 use std::alloc::{AllocError, Global};
 
@@ -21,6 +22,15 @@ pub struct Seat<A: Cells, V: Visits, G: Gate> {
     pub visits: V,
     /// Whom the reader asks before each answer.
     pub gate: G,
+}
+
+/// Tells visits, before a connection is handed back, that the peer which pulled on it has another schema.
+fn tell<V: Visits>(visits: &mut V, served: &Result<(), NodeFault>)
+    ensures { V.calls visits.new ≡ V.calls visits.old }
+{
+    if let Err(NodeFault::Session(GossipFault::SchemaDiffers)) = served {
+        visits.schema_differs();
+    }
 }
 
 /// Goes on after a connection, whatever its fault, unless memory ran out.
@@ -53,6 +63,7 @@ fn serve_visit<A: Cells, V: Visits, G: Gate>(
                 &mut seat.reader,
                 &mut seat.gate,
             );
+            tell(&mut seat.visits, &served);
             seat.visits.take_back(input, output);
             end_without_memory(served)?;
             Ok(true)

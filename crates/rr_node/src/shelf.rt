@@ -18,14 +18,14 @@ pub enum Opening<W> {
     Failed,
 }
 
-/// Whoever takes the snapshots of a node, and is told what failed.
+/// Whoever takes the snapshots of a node, and is told what its rounds did and what failed.
 ///
 /// It is seen as the list of its calls, where that is known.
 pub trait Shelf {
     ghost use Rattle.std.specs.Prelude.{List, [], ◌∷◌, Option};
     ghost use Rattle.rr_host.specs.Calls.{Grows};
     ghost use Rattle.rr_host.specs.Streams.{output_of};
-    ghost use Rattle.rr_node.specs.Shelf.{ShelfCall, opened, peer_failed, put_back, save_failed, taken, unopened, unwanted};
+    ghost use Rattle.rr_node.specs.Shelf.{ShelfCall, opened, own_origin, peer_failed, pulled, put_back, save_failed, taken, unopened, unwanted};
     ghost use Rattle.rr_node.specs.declared.shelf.Opening.TheVariants as opening;
 
     /// Where a snapshot is written.
@@ -38,6 +38,19 @@ pub trait Shelf {
     fn lines_taken(&mut self, report: Option<Report>)
         ensures { Grows (calls self.old) (calls self.new) (taken report ∷ []) };
 
+    /// Is told that a peer, by its number from 1, brought cells of the keeper's own origin which the keeper never wrote:
+    /// their versions are at or past its next number. So this origin was used twice.
+    fn own_origin(&mut self, number: usize)
+        ensures { Grows (calls self.old) (calls self.new) (own_origin number ∷ []) };
+
+    /// Is told that the pull of a peer failed, by its number from 1.
+    fn peer_failed(&mut self, number: usize, fault: NodeFault)
+        ensures { Grows (calls self.old) (calls self.new) (peer_failed number fault ∷ []) };
+
+    /// Is told that a round's pulls are over, and how many cells the node then has.
+    fn pulls_ended(&mut self, cells: usize)
+        ensures { Grows (calls self.old) (calls self.new) (pulled cells ∷ []) };
+
     /// Opens a writer for a snapshot, where one is wanted.
     fn open(&mut self) -> Opening<Self::Output>
         ensures opened { (writer : _) → result ≡ opening.Writer writer → Grows (calls self.old) (calls self.new)
@@ -49,10 +62,6 @@ pub trait Shelf {
     fn take_back(&mut self, output: Counted<Self::Output>, whole: bool)
         ensures { Grows (calls self.old) (calls self.new)
             (put_back (output_of Self.Output.contents output) whole ∷ []) };
-
-    /// Is told that the pull of a peer failed, by its number from 1.
-    fn peer_failed(&mut self, number: usize, fault: NodeFault)
-        ensures { Grows (calls self.old) (calls self.new) (peer_failed number fault ∷ []) };
 
     /// Is told that a save failed.
     fn save_failed(&mut self, fault: SaveFault)

@@ -2,19 +2,20 @@
 
 use rr_command::ToolFault;
 use rr_config::Config;
-use rr_node::{HaltFlag, Listening, SaveFlag, StartBarrier};
+use rr_node::{Flag, HaltFlag, Listening, StartBarrier};
 use rr_process::Ending;
 use std::io;
 use std::io::ErrorKind;
 use std::net::{Net, TcpListener, TcpStream};
 
-/// The listeners of a node: one for lines, and one for each reader; the flag that ends them, and the one by which an
-/// empty line connection asks for a snapshot.
+/// The listeners of a node: one for lines, and one for each reader; the flag that ends them, the one by which an empty
+/// line connection asks for a snapshot, and the one that says that a peer of another schema pulled.
 pub(crate) struct Listeners {
     pub(crate) lines: Listening,
     pub(crate) fetches: Vec<Listening>,
     pub(crate) halt: HaltFlag,
-    pub(crate) wish: SaveFlag,
+    pub(crate) wish: Flag,
+    pub(crate) alarm: Flag,
 }
 
 impl Listeners {
@@ -26,7 +27,10 @@ impl Listeners {
         let Ok(halt) = HaltFlag::new(rt.alloc()) else {
             return Err(Ending::Failed(ToolFault::Memory));
         };
-        let Ok(wish) = SaveFlag::new(rt.alloc()) else {
+        let Ok(wish) = Flag::new(rt.alloc()) else {
+            return Err(Ending::Failed(ToolFault::Memory));
+        };
+        let Ok(alarm) = Flag::new(rt.alloc()) else {
             return Err(Ending::Failed(ToolFault::Memory));
         };
         // A thread for lines, and one for each address of fetches.
@@ -38,7 +42,10 @@ impl Listeners {
         let mut fetches = Vec::new(rt.alloc());
         for address in &config.fetch {
             let listening = listen(rt, address.as_str(), config.idle, &halt, &start)?;
-            if fetches.push(listening).is_err() {
+            let Ok(shared) = alarm.share() else {
+                return Err(Ending::Failed(ToolFault::Memory));
+            };
+            if fetches.push(listening.with_alarm(shared)).is_err() {
                 return Err(Ending::Failed(ToolFault::Memory));
             }
         }
@@ -47,6 +54,7 @@ impl Listeners {
             fetches,
             halt,
             wish,
+            alarm,
         })
     }
 }
@@ -64,7 +72,7 @@ fn ending_of(rt: &impl Eprint, address: &str, error: &io::Error) -> Ending {
 }
 
 /// The same connections, by turns if rounds are kept by time.
-fn by_turns(lines: Listening, every: Option<u64>, wish: &SaveFlag) -> Result<Listening, Ending> {
+fn by_turns(lines: Listening, every: Option<u64>, wish: &Flag) -> Result<Listening, Ending> {
     let Some(seconds) = every else {
         return Ok(lines);
     };

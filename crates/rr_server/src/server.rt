@@ -8,8 +8,8 @@ use rr_command::ToolFault;
 use rr_config::Config;
 use rr_desk::{Keeper, Reader, open};
 use rr_node::{
-    Calling, FileShelf, HaltFlag, Listening, OpenGate, PacedDial, PacedShelf, RoundLog, SaveFlag,
-    Seat, SystemClock, TcpSeats, serve_node,
+    Calling, FileShelf, Flag, HaltFlag, Listening, OpenGate, PacedDial, PacedShelf, RoundLog, Seat,
+    SystemClock, TcpSeats, serve_node,
 };
 use rr_packed::PackedArchive;
 use rr_process::Ending;
@@ -84,14 +84,17 @@ where
             fetches,
             halt,
             wish,
+            alarm,
         } = listeners;
         let Ok((mut keeper, readers)) = open(self.rt.alloc(), self.rt, replica, fetches.len())
         else {
             return OUT_OF_MEMORY;
         };
-        let ending = match self.seats(readers, fetches, &halt) {
-            Ok(mut seats) => self.serve_at(&mut keeper, lines, &mut seats, halt, wish),
-            Err(_) => OUT_OF_MEMORY,
+        let ending = match (self.seats(readers, fetches, &halt), self.shelf(wish, alarm)) {
+            (Ok(mut seats), Ok(shelf)) => {
+                self.serve_at(&mut keeper, lines, &mut seats, halt, shelf)
+            }
+            _ => OUT_OF_MEMORY,
         };
         keeper.close(self.rt);
         ending
@@ -132,14 +135,18 @@ where
         )
     }
 
-    /// What takes the snapshots, at most one in a turn.
-    fn shelf(&self, wish: SaveFlag) -> Result<PacedShelf<'a, R, FileShelf<'a, R>>, AllocError> {
+    /// What takes the snapshots, at most one in a turn unless one is wished for, and tells of an alarm.
+    fn shelf(
+        &self,
+        wish: Flag,
+        alarm: Flag,
+    ) -> Result<PacedShelf<'a, R, FileShelf<'a, R>>, AllocError> {
         let alloc = self.rt.alloc();
         let files = FileShelf::new(self.rt, alloc, self.save)?;
         let every = self.config.every;
         let prints = every.is_some() && !self.config.quiet;
         let log = RoundLog::new(self.rt, alloc, prints, lent(&self.config.status))?;
-        Ok(PacedShelf::new(self.rt, files, every, wish, log))
+        Ok(PacedShelf::new(self.rt, files, every, wish, alarm, log))
     }
 
     /// Serves with a keeper and its readers' seats, until a flag is raised that they share.
@@ -149,10 +156,10 @@ where
         mut lines: Listening,
         seats: &mut TcpSeats,
         mut halt: HaltFlag,
-        wish: SaveFlag,
+        mut shelf: PacedShelf<'a, R, FileShelf<'a, R>>,
     ) -> Ending {
         let alloc = self.rt.alloc();
-        let (Ok(mut shelf), Ok(mut dial)) = (self.shelf(wish), self.dial(&halt)) else {
+        let Ok(mut dial) = self.dial(&halt) else {
             return OUT_OF_MEMORY;
         };
         let mut clock = SystemClock::new(self.rt);

@@ -56,6 +56,10 @@ impl Shelf for NoRoom {
 
     fn lines_taken(&mut self, _report: Option<Report>) {}
 
+    fn own_origin(&mut self, _number: usize) {}
+
+    fn pulls_ended(&mut self, _cells: usize) {}
+
     fn open(&mut self) -> Opening<Full> {
         match self.opens {
             None => Opening::Unwanted,

@@ -112,6 +112,10 @@ impl Shelf for Saves {
 
     fn lines_taken(&mut self, _report: Option<Report>) {}
 
+    fn own_origin(&mut self, _number: usize) {}
+
+    fn pulls_ended(&mut self, _cells: usize) {}
+
     fn open(&mut self) -> Opening<Vec<u8>> {
         Opening::Writer(Counted::new(Vec::new(self.alloc)))
     }

@@ -1,12 +1,11 @@
-use Rattle.std.proofs.Common.{[], ◌++◌, map, Some, None, sym, ◌+◌}
+use Rattle.std.proofs.Common.{[], ◌++◌, map, nat_lt, sym, ◌+◌}
 use Rattle.std.proofs.Math.ListN.{drop_of_length-le}
 use Rattle.std.proofs.lemmas.Result.{err_from_is_err_and}
 use Rattle.std.specs.String.{string_bytes}
-use Rattle.rr_node.specs.Peers.{told_of}
+use Rattle.rr_node.specs.Peers.{told_of_peer}
 use Rattle.rr_host.proofs.CallsLemmas.{grows_not, grows_on}
 use Rattle.rr_node.proofs.PeersLemmas.{all_past, next_left, one_past, stops_here}
 use Rattle.rr_node.proofs.peers.pull_peers.Goals as goal
-use Rattle.rr_node.proofs.peers.pull_peers.Goals.{in-Some, in_default}
 
 pub loop-place-init : goal.loop-place-init
 loop-place-init g c = ([], [], grows_not _, grows_not _, λ whole new d t h. h)
@@ -25,22 +24,13 @@ loop-place-preserved g c =
     let p = c.pull_from-pulled.ensures in
     let left = next_left string_bytes c.args.peers.now c.loop-place.place c.index-peers-place.result c.deref.result.now c.loop-place-test.true c.index-peers-place.is c.deref.ensures in
     let ended = rw (sym c.in_ok-fault.ensures.skipped.0) at p.2 in
-    elim c.match-branch-2.branch [
-      | in-Some w ↦ (
-        k.0 ++ p.0,
-        k.1 ++ told_of (c.loop-place.place + 1) (Some w.in-Some.fault),
-        grows_on _ _ _ _ _ k.2 p.1,
-        rw w.shelf-is (grows_on _ _ _ _ _ k.3 w.peer_failed.ensures),
-        one_past _ _ _ _ _ _ _ k.0 p.0 k.1 (Some w.in-Some.fault) (rw left at k.4) (rw w.in-Some.is at c.in_ok-fault.ensures.skipped.1) (rw w.in-Some.is at ended),
-      )
-      | in_default w ↦ (
-        k.0 ++ p.0,
-        k.1 ++ [],
-        grows_on _ _ _ _ _ k.2 p.1,
-        rw w.shelf-is (grows_on _ _ _ _ _ k.3 (grows_not _)),
-        one_past _ _ _ _ _ _ _ k.0 p.0 k.1 None (rw left at k.4) tt (rw w.in_default.is at ended),
-      )
-    ]
+    let said = rw (c.next_number-next.ensures, c.next_number.ensures) at c.tell.ensures in (
+      k.0 ++ p.0,
+      k.1 ++ told_of_peer (c.loop-place.place + 1) (nat_lt c.loop-place.keeper.next c.pull_from-pulled.new.keeper.next) c.in_ok-fault.fault,
+      grows_on _ _ _ _ _ k.2 p.1,
+      grows_on _ _ _ _ _ k.3 said,
+      one_past _ _ _ _ _ _ _ k.0 p.0 k.1 c.in_ok-fault.fault (rw left at k.4) c.in_ok-fault.ensures.skipped.1 ended,
+    )
 
 pub returns : goal.returns
 returns g c =

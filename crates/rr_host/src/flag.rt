@@ -1,27 +1,30 @@
-//! A wish for a snapshot before its time.
+//! Flags that one thread raises for another.
 
 use std::alloc::{AllocError, Global};
 use std::sync::Arc;
 use std::sync::atomic::{AtomicBool, Ordering};
 
-/// A flag that is raised where a snapshot is asked for before its time: by a connection that brings nothing
-/// ([`Listening`](crate::Listening)). Who saves takes it down. Nothing is known of its calls.
+/// A flag that is raised on one thread, and taken down by whoever does then what it asks for. Nothing is known of its
+/// calls.
+///
+/// A [`Listening`](crate::Listening) raises one for a connection that brings nothing, which asks for a snapshot before
+/// its time, and one for a peer of another schema, of which the operator is to be told.
 #[derive(Drop)]
-pub struct SaveFlag {
+pub struct Flag {
     is_raised: Arc<AtomicBool>,
 }
 
-impl SaveFlag {
+impl Flag {
     /// A flag that isn't raised.
-    pub fn new(alloc: Global) -> Result<SaveFlag, AllocError> {
-        Ok(SaveFlag {
+    pub fn new(alloc: Global) -> Result<Flag, AllocError> {
+        Ok(Flag {
             is_raised: Arc::new(alloc, AtomicBool::new(false))?,
         })
     }
 
     /// The same flag, for one more owner.
-    pub fn share(&self) -> Result<SaveFlag, AllocError> {
-        Ok(SaveFlag {
+    pub fn share(&self) -> Result<Flag, AllocError> {
+        Ok(Flag {
             is_raised: Arc::try_clone(&self.is_raised)?,
         })
     }
