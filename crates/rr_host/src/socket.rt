@@ -10,8 +10,10 @@ use std::net::{Shutdown, TcpStream};
 use std::sync::Arc;
 use std::time::Duration;
 
-/// How many bytes are read at a time that nobody wants.
+/// How many bytes are read at a time that nobody wants, and how often: of 256 MiB, so that who sends without end isn't
+/// listened to without end.
 const SCRAP: usize = 4_096;
+const SCRAPS: u32 = 65_536;
 
 /// For how long a connection or a listener waits at a time. Then it looks at the flag of its node.
 pub(crate) fn one_second() -> Duration {
@@ -79,14 +81,15 @@ impl Half {
         }
     }
 
-    /// Ends what is sent over the connection, and reads what is still received, to its end. A connection that is closed
-    /// before that cuts off a peer which still sends, whose next call then fails, where it should learn of the end.
+    /// Ends what is sent over the connection, and reads what is still received, to its end or for 256 MiB. A connection
+    /// that is closed before that cuts off a peer which still sends, whose next call then fails, where it should learn of
+    /// the end.
     pub(crate) fn drain(&mut self) {
         if self.socket.stream.shutdown(Shutdown::Write).is_err() {
             return;
         }
         let mut scrap = [0u8; SCRAP];
-        for _ in 0..u64::MAX {
+        for _ in 0..SCRAPS {
             if !matches!(self.read(&mut scrap), Ok(1..)) {
                 return;
             }
