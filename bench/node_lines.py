@@ -1,12 +1,13 @@
 #!/usr/bin/env python3
-"""Times lines over TCP into a node: `rr serve`, one line connection, one field a line.
+"""Times lines over TCP into a node: `rr serve`, one line connection.
 
-usage: node_lines.py [PROGRAM] [--series SERIES] [--minutes MINUTES] [--count]
+usage: node_lines.py [PROGRAM] [--series SERIES] [--minutes MINUTES] [--fields 1|3] [--count]
 
-Each of SERIES series (1,000 if left out) takes a sample in each of MINUTES minutes (1,000 if left out),
-which is a line and a new cell each. Prints how many lines a second are taken, from the first byte that is
-sent to the report, the best of three nodes, and the peak memory. With --count, prints the instructions of a
-line instead, by valgrind: the difference of two runs, one with 100,000 lines more.
+Each of SERIES meters (1,000 if left out) sends a line in each of MINUTES minutes (1,000 if left out). It has one
+field if --fields is left out, and each field is a sample of a series of its own and a new cell. Prints how many
+lines a second are taken, from the first byte that is sent to the report, the best of three nodes, and the peak
+memory. With --count, prints the instructions of a line instead, by valgrind: the difference of two runs, one with
+100,000 lines more.
 """
 
 import argparse
@@ -38,12 +39,18 @@ xff_den = 1
 """
 
 
-def lines(series, minutes):
-    """Lines of one field and two tags, minute by minute."""
+# The fields of a line, as a sender sorts them.
+FIELDS = {1: ("kwh",), 3: ("kwh", "volt", "watt")}
+
+
+def lines(series, minutes, fields=1):
+    """Lines of so many fields and two tags, minute by minute."""
     for minute in range(minutes):
         for one in range(series):
             names = f"meter,site=s{one // 10},unit=u{one % 10}"
-            yield f"{names} kwh={(one * 7919 + minute * 104_729) % 100_000}i {START + minute * 60}000000000\n"
+            value = (one * 7919 + minute * 104_729) % 100_000
+            said = ",".join(f"{field}={value}i" for field in FIELDS[fields])
+            yield f"{names} {said} {START + minute * 60}000000000\n"
 
 
 def free_port():
@@ -107,6 +114,7 @@ def main():
     parser.add_argument("program", nargs="?", default=str(TOP / "crates/rr_tool/out/rr_tool"))
     parser.add_argument("--series", type=int, default=1_000)
     parser.add_argument("--minutes", type=int, default=1_000)
+    parser.add_argument("--fields", type=int, default=1, choices=FIELDS)
     parser.add_argument("--count", action="store_true")
     words = parser.parse_args()
     with tempfile.TemporaryDirectory() as room:
@@ -114,12 +122,12 @@ def main():
         if words.count:
             minutes = COUNTED // words.series
             short, long = (
-                instructions(folder, words.program, "".join(lines(words.series, n)).encode(), 2 * minutes)
+                instructions(folder, words.program, "".join(lines(words.series, n, words.fields)).encode(), 2 * minutes)
                 for n in (minutes, 2 * minutes)
             )
             print(f"{(long - short) / (minutes * words.series):,.0f} instructions a line")
             return
-        text = "".join(lines(words.series, words.minutes)).encode()
+        text = "".join(lines(words.series, words.minutes, words.fields)).encode()
         runs = [taken(folder, [words.program], text, words.minutes) for _ in range(3)]
         rate = words.series * words.minutes / min(seconds for seconds, _, _ in runs)
         print(f"{rate:,.0f} lines a second, {max(memory for _, memory, _ in runs):,.0f} MB at most")

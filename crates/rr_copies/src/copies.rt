@@ -17,7 +17,7 @@ use left_right::Absorb;
 use rr_archive::Cells;
 use rr_cells::Op;
 use rr_replica::{Hint, Replica};
-use std::alloc::AllocError;
+use std::alloc::{AllocError, Global};
 use std::marker::Model;
 use std::sync::Wait;
 
@@ -29,6 +29,7 @@ pub struct Copies<A: Cells>
 where
     Shown<A>: Absorb<Change, State = CopyState>,
 {
+    alloc: Global,
     writer: DeskWriter<A>,
     own: Replica<A>,
     book: Editions,
@@ -65,7 +66,7 @@ where
 
 impl<A: Cells> Copies<A> {
     /// A replica beside its two copies, which are opened, with their book.
-    pub fn new(writer: DeskWriter<A>, own: Replica<A>, book: Editions) -> Copies<A>
+    pub fn new(alloc: Global, writer: DeskWriter<A>, own: Replica<A>, book: Editions) -> Copies<A>
         requires holds { IsHolding (held own) }
         requires view { view writer.desk.place ≡ keeper_of (held own) book.desk }
         requires copy { held writer.desk.shown.value.replica ≡ held own }
@@ -75,6 +76,7 @@ impl<A: Cells> Copies<A> {
         ensures { result ≡ keeper_at_opening (held own) book.desk }
     {
         Copies {
+            alloc,
             writer,
             own,
             book,
@@ -100,10 +102,7 @@ impl<A: Cells> Copies<A> {
         ensures pending { OnOk result (self.new ≡ with_pending self.old op) }
         ensures unchanged { OnErr result (self.new ≡ self.old) }
     {
-        let shown = Hinted {
-            op: op.copy()?,
-            hint,
-        };
+        let shown = Hinted::of(self.alloc, hint, &op)?;
         self.own.ready_near(hint, &op)?;
         if self.writer.append(Change::Apply(shown)).is_err() {
             return Err(AllocError);
@@ -141,6 +140,7 @@ impl<A: Cells> Copies<A> {
         ensures { held result ≡ holding_of self }
     {
         let Copies {
+            alloc: _,
             writer,
             own,
             book: _,

@@ -3,27 +3,66 @@
 use crate::book::Front;
 use left_right::Absorb;
 use rr_archive::Cells;
-use rr_cells::Op;
+use rr_cells::{Cell, Op, Sample};
 use rr_replica::{Hint, Replica};
 use rr_schema::{Origin, Schema};
-use std::alloc::AllocError;
+use std::alloc::{AllocError, Global};
 use std::marker::Model;
+
+/// An operation as it waits for the copies. Most are samples, and a cell is many times as large as a
+/// sample: so that no sample takes the memory of one, cells are elsewhere.
+#[derive(Drop)]
+enum Waiting {
+    /// A sample is put under its number.
+    Put(Sample),
+    /// A cell is joined in.
+    Join(Box<Cell>),
+}
 
 /// An operation, with a hint where the series is that it is of.
 #[derive(Drop)]
 pub struct Hinted {
-    /// The operation.
-    pub op: Op,
+    op: Waiting,
     /// Where both copies are likely to have the series.
-    pub hint: Hint,
+    hint: Hint,
 }
 
 impl Model for Hinted {
     ghost use Rattle.rr_cells.specs.declared.op.Op as declared;
+    ghost use Rattle.rr_copies.specs.Waiting.{op_of};
 
     ghost Value = { declared.Op };
 
-    ghost view = { λ h. h.op };
+    ghost view = { λ h. op_of h.op };
+}
+
+impl Hinted {
+    ghost use Rattle.std.specs.Prelude.{◌≡◌, IfOk, OnErr, OnOk};
+    ghost use Rattle.rr_cells.specs.Operations.{step};
+    ghost use Rattle.rr_replica.specs.Standing.{held};
+
+    /// The same operation, with a hint. The key's bytes are shared; for a cell memory is taken.
+    pub fn of(alloc: Global, hint: Hint, op: &Op) -> Result<Hinted, AllocError>
+        ensures { IfOk result (λ h. h ≡ op.now) }
+    {
+        let op = match op {
+            Op::Put(sample) => Waiting::Put(sample.copy()?),
+            Op::Join(cell) => Waiting::Join(Box::new(alloc, cell.copy()?)?),
+        };
+        Ok(Hinted { op, hint })
+    }
+
+    /// Applies it to a replica, if that takes it. After an error nothing has changed.
+    fn apply_to<A: Cells>(&self, replica: &mut Replica<A>) -> Result<(), AllocError>
+        ensures applied { OnOk result (held replica.new ≡ step (held replica.old) self.now) }
+        ensures unchanged { OnErr result (held replica.new ≡ held replica.old) }
+    {
+        match &self.op {
+            Waiting::Put(sample) => replica.apply_sample(self.hint, sample)?,
+            Waiting::Join(cell) => replica.apply_cell(cell)?,
+        };
+        Ok(())
+    }
 }
 
 /// What both copies take in.
@@ -86,9 +125,7 @@ impl<A: Cells> Absorb<Change> for Shown<A> {
 
     fn absorb_first(&mut self, operation: &Change, _other: &Shown<A>) -> Result<(), AllocError> {
         match operation {
-            Change::Apply(hinted) => {
-                self.replica.apply_near(hinted.hint, &hinted.op)?;
-            }
+            Change::Apply(hinted) => hinted.apply_to(&mut self.replica)?,
             Change::Mark(front) => {
                 self.started = true;
                 self.front = front.again();

@@ -6,6 +6,7 @@ use Rattle.rr_cells.specs.declared.op.Op.TheVariants.{Put}
 use Rattle.rr_replica.specs.declared.fault.WriteFault.{WriteFault}
 use Rattle.rr_replica.specs.declared.fault.WriteFault.TheVariants as why
 use Rattle.rr_copies.specs.Standing.{KeeperState, with_pending}
+use Rattle.rr_desk.specs.declared.samples.KeyedValue.{KeyedValue}
 
 -- with a put of the next sample pending
 abbrev pub with_put : KeeperState → List ℕ → ℤ → ℤ → KeeperState
@@ -15,6 +16,15 @@ with_put k key time value = with_pending k (Put (record { origin = k.origin; num
 abbrev pub with_puts : KeeperState → PointView → ℤ → List (List ℕ × ℤ) → KeeperState
 with_puts k p time [] = k
 with_puts k p time (field ∷ fields) = with_puts (with_put k (key_text p field.0) time field.1) p time fields
+
+-- a value of a series
+abbrev pub keyed_value : KeyedValue → List ℕ × ℤ
+keyed_value v = (v.key, v.value)
+
+-- with a put of a sample of each of these series pending, in order
+abbrev pub with_samples : KeeperState → ℤ → List (List ℕ × ℤ) → KeeperState
+with_samples k time [] = k
+with_samples k time (sample ∷ samples) = with_samples (with_put k sample.0 time sample.1) time samples
 
 -- how many fields were put before a point was refused
 abbrev pub put_before : WriteFault → ℕ

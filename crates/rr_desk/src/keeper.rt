@@ -99,14 +99,34 @@ impl<A: Cells> Keeper<A> {
         ensures unchanged { OnErr result (self.new ≡ self.old) }
         ensures spent { (result ≡ Err PutFault.NumbersSpent) ↔ (MAX_NUMBER < self.old.next) }
     {
-        let number = self.copies.replica().next_number();
-        if number > MAX_NUMBER {
+        if self.copies.replica().next_number() > MAX_NUMBER {
             return Err(PutFault::NumbersSpent);
         }
         let (key, hint) = self
             .copies
             .replica()
             .known_key_near(self.order.next(), key)?;
+        self.put_at(hint, key, time, value)
+    }
+
+    /// Puts a sample of a key as [`Keeper::put`] does, with a hint where its series is. The operation takes the
+    /// key over.
+    pub(crate) fn put_at(
+        &mut self,
+        hint: Hint,
+        key: SeriesKey,
+        time: i64,
+        value: i64,
+    ) -> Result<u64, PutFault>
+        ensures number { IfOk result (λ number. number ≡ self.old.next) }
+        ensures pending { OnOk result (self.new ≡ with_put self.old key time value) }
+        ensures unchanged { OnErr result (self.new ≡ self.old) }
+        ensures spent { (result ≡ Err PutFault.NumbersSpent) ↔ (MAX_NUMBER < self.old.next) }
+    {
+        let number = self.copies.replica().next_number();
+        if number > MAX_NUMBER {
+            return Err(PutFault::NumbersSpent);
+        }
         let sample = Sample {
             origin: self.copies.replica().origin(),
             number,
@@ -119,10 +139,20 @@ impl<A: Cells> Keeper<A> {
         Ok(number)
     }
 
-    /// The key of the series that is likely to be put to next, if there is one: that which came after the
-    /// last one the time before. No contract says which it is.
-    pub fn next_key(&self) -> Option<&SeriesKey> {
-        self.copies.replica().key_at(self.order.next())
+    /// Where the series is that is likely to be put to next: the one that came after the last one the time
+    /// before. No contract says which it is.
+    pub fn likely_next(&self) -> Hint {
+        self.order.next()
+    }
+
+    /// Where the series is that is likely to be put to after one, in the same way.
+    pub fn likely_after(&self, hint: Hint) -> Hint {
+        self.order.next_after(hint)
+    }
+
+    /// The key of the series at a hint, if one is there. No contract says which it is.
+    pub fn key_at(&self, hint: Hint) -> Option<&SeriesKey> {
+        self.copies.replica().key_at(hint)
     }
 
     /// Joins a cell from elsewhere, which is valid under the schema, as `Replica::join_cell` does.

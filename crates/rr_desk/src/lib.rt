@@ -23,6 +23,7 @@ mod order;
 mod points;
 mod reader;
 mod reading;
+mod samples;
 mod sides;
 
 pub use fault::{FetchFault, OpenFault};
@@ -32,3 +33,4 @@ pub use note::Note;
 pub use opening::open;
 pub use reader::Reader;
 pub use rr_text::limits::MAX_READERS;
+pub use samples::KeyedValue;

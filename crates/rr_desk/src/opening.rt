@@ -125,7 +125,7 @@ pub fn open<A: Cells, R: Wait>(
         Ok((writer, book, all)) => {
             let keeper = Keeper {
                 alloc,
-                copies: Copies::new(writer, replica, book),
+                copies: Copies::new(alloc, writer, replica, book),
                 text: Vec::new(alloc),
                 order: Order::new(alloc),
             };

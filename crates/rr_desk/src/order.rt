@@ -24,7 +24,12 @@ impl Order {
 
     /// Where the series is that is likely to come next.
     pub(crate) fn next(&self) -> Hint {
-        match self.after.get(self.last.index()) {
+        self.next_after(self.last)
+    }
+
+    /// Where the series is that is likely to come after one.
+    pub(crate) fn next_after(&self, hint: Hint) -> Hint {
+        match self.after.get(hint.index()) {
             Some(hint) => *hint,
             None => Hint::none(),
         }

@@ -10,7 +10,7 @@ use crate::keeper::Keeper;
 use rr_archive::Cells;
 use rr_key::SeriesKey;
 use rr_point::{Field, Point};
-use rr_replica::{WriteFault, is_ahead};
+use rr_replica::{Hint, WriteFault, is_ahead};
 use std::alloc::AllocError;
 use std::mem::replace;
 
@@ -56,17 +56,18 @@ impl<A: Cells> Keeper<A> {
 
     /// Puts a sample of a key, as [`Keeper::write`] puts that of a point whose one field has this key.
     ///
-    /// Refused as `AheadOfClock`, as `NumbersSpent` and as `Memory` as there; nothing has then changed. The
-    /// cost is that of the put.
+    /// The hint says where its series is, and the operation takes the key over. Refused as `AheadOfClock`, as
+    /// `NumbersSpent` and as `Memory` as there; nothing has then changed. The cost is that of the put.
     pub fn write_sample(
         &mut self,
-        key: &SeriesKey,
+        hint: Hint,
+        key: SeriesKey,
         time: Option<i64>,
         value: i64,
         now: i64,
         lead: Option<u64>,
     ) -> Result<(), WriteFault>
-        ensures put { OnOk result (self.new ≡ with_put self.old key.now (unwrap_or time now) value) }
+        ensures put { OnOk result (self.new ≡ with_put self.old key (unwrap_or time now) value) }
         ensures ahead { (result ≡ Err WriteFault.AheadOfClock) ↔ IsTrue (is_ahead time now lead) }
         ensures spent { (result ≡ Err WriteFault.NumbersSpent) ↔ (IsFalse (is_ahead time now lead)
             × IsTrue (lacks_numbers (holding_of self.old) 1)) }
@@ -78,7 +79,7 @@ impl<A: Cells> Keeper<A> {
         if self.copies.replica().lacks_numbers(1) {
             return Err(WriteFault::NumbersSpent);
         }
-        match self.put(key, time.unwrap_or(now), value) {
+        match self.put_at(hint, key, time.unwrap_or(now), value) {
             Ok(_) => Ok(()),
             Err(_) => Err(WriteFault::Memory { put: 0 }),
         }

@@ -19,6 +19,11 @@ pub trait Clock {
     /// The moment, in nanoseconds since the Unix epoch.
     fn now(&mut self) -> i64
         ensures { HasGiven (given self.old) (given self.new) (result ∷ []) };
+
+    /// What is asked for from here on comes later than what was asked for before. Between two of these calls a
+    /// clock may give one moment each time, so that one that is dear to read is read once.
+    fn renew(&mut self)
+        ensures { given self.new ≡ given self.old };
 }
 
 /// A clock over memory: it gives its moments in turn, and then the last one again and again. With no
@@ -72,20 +77,30 @@ impl Clock for Moments {
         self.asked = self.asked.saturating_add(1);
         moment
     }
+
+    fn renew(&mut self)
+        ensures unasked { given_by self.new ≡ given_by self.old }
+        ensures unchanged { self.new ≡ self.old }
+    {}
 }
 
-/// The system's clock. Where it can't be read, or is past the year 2262, it gives its last moment
-/// again, which is 0 at first. Nothing is known of its moments.
+/// The system's clock, which is read once between two calls of [`Clock::renew`]. Where it can't be read, or is
+/// past the year 2262, it gives its last moment again, which is 0 at first. Nothing is known of its moments.
 #[derive(Drop)]
 pub struct SystemClock<S> {
     source: S,
     last: i64,
+    is_read: bool,
 }
 
 impl<S: time::Clock> SystemClock<S> {
     /// The system's clock, read through `source`: the handle of a program will do.
     pub fn new(source: S) -> SystemClock<S> {
-        SystemClock { source, last: 0 }
+        SystemClock {
+            source,
+            last: 0,
+            is_read: false,
+        }
     }
 }
 
@@ -95,10 +110,15 @@ impl<S: time::Clock> Clock for SystemClock<S> {
     ghost given = { λ _. None };
 
     fn now(&mut self) -> i64 {
-        if let Some(moment) = read(&self.source) {
-            self.last = moment;
+        if !self.is_read {
+            self.last = read(&self.source).unwrap_or(self.last);
+            self.is_read = true;
         }
         self.last
+    }
+
+    fn renew(&mut self) {
+        self.is_read = false;
     }
 }
 

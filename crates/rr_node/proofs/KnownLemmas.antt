@@ -1,6 +1,6 @@
--- A line that says one sample is taken as the sample is.
+-- A line that says samples is taken as the samples are.
 use Rattle.std.proofs.Common.{◌≡◌, ℕ, ℤ, Bool, true, false, List, [], ◌∷◌, length, Option, Result, Ok, Err, Bor, refl, sym, ap, subst, ◌∙◌, inl}
-use Rattle.std.specs.Prelude.{codes, map, unwrap_or, IsTrue}
+use Rattle.std.specs.Prelude.{codes, map, take, unwrap_or, IsTrue}
 use Rattle.std.specs.declared.alloc.AllocError.{AllocError}
 use Rattle.std.proofs.lemmas.List.{length-map}
 use Rattle.rr_feed.specs.Items.{Line}
@@ -11,8 +11,9 @@ use Rattle.rr_cells.specs.Holding.{Holding}
 use Rattle.rr_replica.specs.Writing.{is_ahead, lacks_numbers}
 use Rattle.rr_replica.specs.declared.fault.WriteFault.{WriteFault}
 use Rattle.rr_replica.specs.declared.fault.WriteFault.TheVariants as why
+use Rattle.rr_replica.proofs.FieldLemmas.{take-view}
 use Rattle.rr_copies.specs.Standing.{KeeperState, holding_of}
-use Rattle.rr_desk.specs.Points.{with_put, with_puts}
+use Rattle.rr_desk.specs.Points.{with_put, with_puts, with_samples}
 use Rattle.rr_host.specs.Clock.{HasGiven}
 use Rattle.rr_node.specs.declared.answer.Answer.{Answer}
 use Rattle.rr_node.specs.declared.answer.Answer.TheVariants as says
@@ -21,14 +22,8 @@ use Rattle.rr_node.specs.Connection.{IsAnswer, IsTaken, TakesItem}
 use Rattle.rr_node.specs.Lines.{Verdict, skipped, put, refused, verdict_by, verdict_of_point, keeper_with, keeper_with_some}
 use Rattle.rr_node.proofs.VerdictLemmas.{Tells, verdict_put_of, verdict_spent_of}
 
--- puts of samples, one after the other
-puts : KeeperState → ℤ → List Sample → KeeperState
-puts k time [] = k
-puts k time (sample ∷ samples) = puts (with_put k sample.0 time sample.1) time samples
-
 -- the fields of a point are put as its samples are
-puts_samples : (k : KeeperState) (p : PointView) (time : ℤ) (fields : List (List ℕ × ℤ)) → with_puts k p time fields ≡ puts k time (map (λ field. (key_text p field.0, field.1)) fields)
-unfolding puts
+puts_samples : (k : KeeperState) (p : PointView) (time : ℤ) (fields : List (List ℕ × ℤ)) → with_puts k p time fields ≡ with_samples k time (map (λ field. (key_text p field.0, field.1)) fields)
 puts_samples k p time [] = refl
 puts_samples k p time (field ∷ fields) = puts_samples (with_put k (key_text p field.0) time field.1) p time fields
 
@@ -36,38 +31,50 @@ verdict_ahead : (ahead lacking : Bool) (p : PointView) (time : ℤ) → IsTrue a
 verdict_ahead true lacking p time e = refl
 verdict_ahead false lacking p time e = absurd cc
 
-module _ (p : PointView) (key : List ℕ) (value : ℤ) (are : samples_of p ≡ (key, value) ∷ []) where
-  puts_one : (k : KeeperState) (time : ℤ) → with_puts k p time p.fields ≡ with_put k key time value
-  unfolding puts
-  puts_one k time = puts_samples k p time p.fields ∙ ap (puts k time) are
+module _ (p : PointView) (samples : List Sample) (are : samples_of p ≡ samples) where
+  puts_first : (k : KeeperState) (time : ℤ) (count : ℕ) → with_puts k p time (take count p.fields) ≡ with_samples k time (take count samples)
+  puts_first k time count =
+      puts_samples k p time (take count p.fields)
+      ∙ ap (with_samples k time) (take-view (λ (field : List ℕ × ℤ). (key_text p field.0, field.1)) count p.fields ∙ ap (λ (ss : List Sample). take count ss) are)
 
-  alone : length p.fields ≡ 1
-  alone = sym (length-map p.fields (λ (field : List ℕ × ℤ). (key_text p field.0, field.1))) ∙ ap length are
+  puts_all : (k : KeeperState) (time : ℤ) → with_puts k p time p.fields ≡ with_samples k time samples
+  puts_all k time = puts_samples k p time p.fields ∙ ap (with_samples k time) are
+
+  as_many : length p.fields ≡ length samples
+  as_many = sym (length-map p.fields (λ (field : List ℕ × ℤ). (key_text p field.0, field.1))) ∙ ap length are
 
   module _ {X : Type 0} (lead : Option ℕ) (now : ℤ) (k new : KeeperState) (time : Option ℤ) (when : p.time ≡ time) where
-    -- what is told of the sample is told of its point
-    tells_point : (result : Result X WriteFault) → Tells (is_ahead time now lead) (lacks_numbers (holding_of k) 1) result
-        → Tells (is_ahead p.time now lead) (lacks_numbers (holding_of k) 1) result
-    tells_point result tells = subst (λ (t : Option ℤ). Tells (is_ahead t now lead) (lacks_numbers (holding_of k) 1) result) (sym when) tells
+    -- what is told of the samples is told of their point
+    tells_point : (result : Result X WriteFault) → Tells (is_ahead time now lead) (lacks_numbers (holding_of k) (length samples)) result
+        → Tells (is_ahead p.time now lead) (lacks_numbers (holding_of k) (length samples)) result
+    tells_point result tells = subst (λ (t : Option ℤ). Tells (is_ahead t now lead) (lacks_numbers (holding_of k) (length samples)) result) (sym when) tells
 
-    -- a sample that is put
-    pub takes_put : (x : X) → Tells (is_ahead time now lead) (lacks_numbers (holding_of k) 1) (Ok x)
-        → new ≡ with_put k key (unwrap_or time now) value → IsTaken (verdict_of_point lead now (holding_of k) p) k new (Ok (says.Put 1))
-    takes_put x tells is =
-        let verdict = verdict_put_of lead now (holding_of k) p 1 (Ok x) alone (tells_point (Ok x) tells) (λ e. cc) (λ e. cc) in
-        let put_at = is ∙ ap (λ (t : Option ℤ). with_put k key (unwrap_or t now) value) (sym when) ∙ sym (puts_one k (unwrap_or p.time now)) in
-        subst (λ (v : Verdict). (new ≡ keeper_with k v) × IsAnswer v (says.Put 1)) (sym verdict) (put_at, sym alone)
+    -- samples that are put
+    pub takes_put : (x : X) (count : ℕ) → count ≡ length samples → Tells (is_ahead time now lead) (lacks_numbers (holding_of k) (length samples)) (Ok x)
+        → new ≡ with_samples k (unwrap_or time now) samples → IsTaken (verdict_of_point lead now (holding_of k) p) k new (Ok (says.Put count))
+    takes_put x count counted tells is =
+        let verdict = verdict_put_of lead now (holding_of k) p (length samples) (Ok x) as_many (tells_point (Ok x) tells) (λ e. cc) (λ e. cc) in
+        let put_at = is ∙ ap (λ (t : Option ℤ). with_samples k (unwrap_or t now) samples) (sym when) ∙ sym (puts_all k (unwrap_or p.time now)) in
+        subst (λ (v : Verdict). (new ≡ keeper_with k v) × IsAnswer v (says.Put count)) (sym verdict) (put_at, counted ∙ sym as_many)
 
-    -- one that is refused
+    -- the first of them, where memory ran out
+    pub takes_first : (count : ℕ) (e : AllocError) → Tells {X = X} (is_ahead time now lead) (lacks_numbers (holding_of k) (length samples)) (Err (why.Memory count))
+        → new ≡ with_samples k (unwrap_or time now) (take count samples) → IsTaken (verdict_of_point lead now (holding_of k) p) k new (Err e)
+    takes_first count e tells is =
+        let verdict = verdict_put_of {X = X} lead now (holding_of k) p (length samples) (Err (why.Memory count)) as_many (tells_point _ tells) (λ e. cc) (λ e. cc) in
+        let put_at = is ∙ ap (λ (t : Option ℤ). with_samples k (unwrap_or t now) (take count samples)) (sym when) ∙ sym (puts_first k (unwrap_or p.time now) count) in
+        subst (λ (v : Verdict). (n : ℕ) × (new ≡ keeper_with_some k v n)) (sym verdict) (count, put_at)
+
+    -- samples that are refused
     pub takes_spent : (text : Bor (List ℕ)) → text.now ≡ codes "NumbersSpent"
-        → Tells {X = X} (is_ahead time now lead) (lacks_numbers (holding_of k) 1) (Err why.NumbersSpent)
+        → Tells {X = X} (is_ahead time now lead) (lacks_numbers (holding_of k) (length samples)) (Err why.NumbersSpent)
         → new ≡ k → IsTaken (verdict_of_point lead now (holding_of k) p) k new (Ok (says.Refused text))
     takes_spent text named tells same =
-        let verdict = verdict_spent_of {X = X} lead now (holding_of k) p 1 _ alone (tells_point _ tells) refl in
+        let verdict = verdict_spent_of {X = X} lead now (holding_of k) p (length samples) _ as_many (tells_point _ tells) refl in
         subst (λ (v : Verdict). (new ≡ keeper_with k v) × IsAnswer v (says.Refused text)) (sym verdict) (same, named)
 
     pub takes_ahead : (text : Bor (List ℕ)) → text.now ≡ codes "AheadOfClock"
-        → Tells {X = X} (is_ahead time now lead) (lacks_numbers (holding_of k) 1) (Err why.AheadOfClock)
+        → Tells {X = X} (is_ahead time now lead) (lacks_numbers (holding_of k) (length samples)) (Err why.AheadOfClock)
         → new ≡ k → IsTaken (verdict_of_point lead now (holding_of k) p) k new (Ok (says.Refused text))
     takes_ahead text named tells same =
         let told = tells_point (Err why.AheadOfClock) tells in

@@ -1,13 +1,15 @@
 //! A line, handed to the keeper.
 
-ghost use Rattle.std.specs.Prelude.{◌≡◌, ◌≢◌, ℤ, [], ◌∷◌, None, IfOk, IfSome, OnOk};
+ghost use Rattle.std.specs.Prelude.{◌≡◌, ◌≢◌, ◌≤◌, ℤ, [], ◌∷◌, length, map, None, IfOk, IfSome, OnOk};
 ghost use Rattle.rr_text.specs.Bytes.{HasNoLineFeed};
+ghost use Rattle.rr_text.specs.declared.limits.TheConstants.{MAX_FIELDS};
 ghost use Rattle.rr_copies.specs.Standing.{holding_of};
 ghost use Rattle.rr_feed.specs.Items.{item_view, IsLine};
 ghost use Rattle.rr_feed.specs.Items as feed;
 ghost use Rattle.rr_line.specs.Fault.{line_fault_name};
-ghost use Rattle.rr_line.specs.Known.{samples_of};
+ghost use Rattle.rr_line.specs.Known.{samples_of, SaysSamples};
 ghost use Rattle.rr_point.specs.Point.{PointView, point_view};
+ghost use Rattle.rr_desk.specs.Points.{keyed_value};
 ghost use Rattle.rr_host.specs.Clock.{HasGiven};
 ghost use Rattle.rr_node.specs.Connection.{IsAnswer, IsFew, IsTaken, TakesItem};
 ghost use Rattle.rr_node.specs.Lines.{refused, verdict_of_point};
@@ -15,12 +17,13 @@ ghost use Rattle.rr_point.specs.Key.{IsWritable};
 
 use crate::rules::Rules;
 use rr_archive::Cells;
-use rr_desk::Keeper;
+use rr_desk::{Keeper, KeyedValue};
 use rr_feed::{FeedLine, LINE_TOO_LONG};
 use rr_host::Clock;
 use rr_key::SeriesKey;
-use rr_line::{LastTime, Line, LineFault, Point, parse_line, read_known};
-use rr_replica::WriteFault;
+use rr_line::{KnownLine, LastTime, Line, LineFault, Point, Precision, parse_line, read_known};
+use rr_replica::{Hint, WriteFault};
+use rr_text::limits::MAX_FIELDS;
 use std::alloc::{AllocError, Global};
 
 /// What came of a line.
@@ -59,19 +62,43 @@ fn write_point<A: Cells, C: Clock>(
 fn write_sample<A: Cells, C: Clock>(
     keeper: &mut Keeper<A>,
     clock: &mut C,
-    key: &SeriesKey,
+    hint: Hint,
+    key: SeriesKey,
     value: i64,
     time: Option<i64>,
     lead: Option<u64>,
 ) -> Result<Answer, AllocError>
-    ensures taken { (p : PointView) → samples_of p ≡ (key.now, value) ∷ [] → p.time ≡ time
+    ensures taken { (p : PointView) → samples_of p ≡ (key, value) ∷ [] → p.time ≡ time
         → (now : ℤ) × HasGiven (C.given clock.old) (C.given clock.new) (now ∷ [])
         × IsTaken (verdict_of_point lead now (holding_of keeper.old) p) keeper.old keeper.new result }
     ensures count_fits { IfOk result IsFew }
 {
     let now = clock.now();
-    match keeper.write_sample(key, time, value, now, lead) {
+    match keeper.write_sample(hint, key, time, value, now, lead) {
         Ok(()) => Ok(Answer::Put(1)),
+        Err(WriteFault::Memory { .. }) => Err(AllocError),
+        Err(WriteFault::AheadOfClock) => Ok(Answer::Refused("AheadOfClock")),
+        Err(WriteFault::NumbersSpent) => Ok(Answer::Refused("NumbersSpent")),
+    }
+}
+
+/// Writes samples of series, as their line says them, at the moment that the clock gives.
+fn write_samples<A: Cells, C: Clock>(
+    keeper: &mut Keeper<A>,
+    clock: &mut C,
+    values: &[KeyedValue],
+    time: Option<i64>,
+    lead: Option<u64>,
+) -> Result<Answer, AllocError>
+    requires { length values.now ≤ MAX_FIELDS }
+    ensures taken { (p : PointView) → samples_of p ≡ map keyed_value values.now → p.time ≡ time
+        → (now : ℤ) × HasGiven (C.given clock.old) (C.given clock.new) (now ∷ [])
+        × IsTaken (verdict_of_point lead now (holding_of keeper.old) p) keeper.old keeper.new result }
+    ensures count_fits { IfOk result IsFew }
+{
+    let now = clock.now();
+    match keeper.write_samples(values, time, now, lead) {
+        Ok(count) => Ok(Answer::Put(count)),
         Err(WriteFault::Memory { .. }) => Err(AllocError),
         Err(WriteFault::AheadOfClock) => Ok(Answer::Refused("AheadOfClock")),
         Err(WriteFault::NumbersSpent) => Ok(Answer::Refused("NumbersSpent")),
@@ -93,9 +120,70 @@ fn write_next<A: Cells, C: Clock>(
     ensures keeper { result ≡ None → keeper.new ≡ keeper.old }
     ensures clock { result ≡ None → clock.new ≡ clock.old }
 {
-    let key = keeper.next_key()?.copy().ok()?;
+    let hint = keeper.likely_next();
+    let key = keeper.key_at(hint)?.copy().ok()?;
     let (value, time) = read_known(line, key.text(), rules.precision, last)?;
-    Some(write_sample(keeper, clock, &key, value, time, rules.lead))
+    Some(write_sample(keeper, clock, hint, key, value, time, rules.lead))
+}
+
+/// A value of a series, with a further owner of its key.
+fn keyed(key: &SeriesKey, value: i64) -> Option<KeyedValue>
+    ensures { IfSome result (λ keyed. keyed_value keyed ≡ (key.now, value)) }
+{
+    let key = key.copy().ok()?;
+    Some(KeyedValue { key, value })
+}
+
+/// The values and the time of a line, if it says those of the series that are likely to come next, one after
+/// the other.
+fn read_next<A: Cells>(
+    alloc: Global,
+    keeper: &Keeper<A>,
+    precision: Precision,
+    last: &mut LastTime,
+    line: &[u8],
+) -> Option<(Vec<KeyedValue>, Option<i64>)>
+    ensures said { IfSome result (λ said.
+        SaysSamples precision line.now (map keyed_value said.0.items) said.1) }
+    ensures few { IfSome result (λ said. length said.0.items ≤ MAX_FIELDS) }
+{
+    let mut at = keeper.likely_next();
+    let key = keeper.key_at(at)?;
+    let (value, mut known) = KnownLine::first_field(line, key.text())?;
+    let mut values = Vec::new(alloc);
+    values.push(keyed(key, value)?).ok()?;
+    for _ in 1..MAX_FIELDS {
+        if let Some(time) = known.time(precision, last) {
+            return Some((values, time));
+        }
+        at = keeper.likely_after(at);
+        let key = keeper.key_at(at)?;
+        let (value, next) = known.next_field(key.text())?;
+        values.push(keyed(key, value)?).ok()?;
+        known = next;
+    }
+    let time = known.time(precision, last)?;
+    Some((values, time))
+}
+
+/// Writes the samples of a line, if it says one of each of the series that are likely to come next. Where it
+/// doesn't, nothing is done.
+fn write_several<A: Cells, C: Clock>(
+    alloc: Global,
+    keeper: &mut Keeper<A>,
+    clock: &mut C,
+    rules: Rules,
+    last: &mut LastTime,
+    line: &[u8],
+) -> Option<Result<Answer, AllocError>>
+    ensures taken { IfSome result (λ answer.
+        TakesItem rules (feed.Line line.now) keeper.old keeper.new (C.given clock.old) (C.given clock.new) answer) }
+    ensures count_fits { IfSome result (λ answer. IfOk answer IsFew) }
+    ensures keeper { result ≡ None → keeper.new ≡ keeper.old }
+    ensures clock { result ≡ None → clock.new ≡ clock.old }
+{
+    let (values, time) = read_next(alloc, &*keeper, rules.precision, last, line)?;
+    Some(write_samples(keeper, clock, &values, time, rules.lead))
 }
 
 /// Writes the point of a line, if it has one, reading it by the grammar.
@@ -130,7 +218,10 @@ fn write_line<A: Cells, C: Clock>(
     ensures taken { TakesItem rules (feed.Line line.now) keeper.old keeper.new (C.given clock.old) (C.given clock.new) result }
     ensures count_fits { IfOk result IsFew }
 {
-    match write_next(keeper, clock, rules, last, line) {
+    if let Some(answer) = write_next(keeper, clock, rules, last, line) {
+        return answer;
+    }
+    match write_several(alloc, keeper, clock, rules, last, line) {
         Some(answer) => answer,
         None => write_parsed(alloc, keeper, clock, rules, line),
     }

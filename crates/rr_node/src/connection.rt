@@ -151,7 +151,8 @@ impl Connection {
         Ok(())
     }
 
-    /// Hands the lines that came to the keeper, and writes what is answered to them.
+    /// Hands the lines that came to the keeper, and writes what is answered to them. Lines that came together
+    /// may have one moment.
     pub(crate) fn answer_lines<A: Cells, C: Clock, W: Write, T: Wait>(
         &mut self,
         output: &mut Counted<W>,
@@ -172,6 +173,7 @@ impl Connection {
         ensures faults { IfErr result IsOfWriting }
     {
         let mut answers = Vec::new(self.alloc);
+        clock.renew();
         self.write_lines(&mut answers, keeper, clock, rt)?;
         send(output, answers.as_slice())?;
         Ok(())

@@ -2,13 +2,14 @@
 ghost use Rattle.std.specs.Prelude.{◌≡◌, IsTrue, IfOk, IsOk, OnOk, OnErr};
 ghost use Rattle.rr_replica.specs.Archives.{IsOpOf};
 ghost use Rattle.rr_cells.specs.Operations.{accepts, step};
+ghost use Rattle.rr_cells.specs.declared.op.Op.TheVariants.{Join, Put};
 ghost use Rattle.rr_replica.specs.Standing.{held, IsReadyFor};
 
 use crate::hint::Hint;
 use crate::reading::Reading;
 use crate::replica::Replica;
 use rr_archive::Cells;
-use rr_cells::Op;
+use rr_cells::{Cell, Op, Sample};
 use rr_text::limits::MAX_NUMBER;
 use std::alloc::AllocError;
 
@@ -18,17 +19,24 @@ impl<A: Cells> Replica<A> {
         ensures accepted { result ≡ accepts (held self.now) op.now }
         ensures op { IsTrue result → IsOpOf self.now.schema op.now }
     {
-        let schema = self.schema();
         match op {
-            Op::Put(sample) => {
-                // The proof needs that the time is one of 64 bits.
-                let _time = sample.time;
-                sample.origin == self.origin()
-                    && self.next_number() <= sample.number
-                    && sample.number <= MAX_NUMBER
-            }
-            Op::Join(cell) => cell.is_of(schema),
+            Op::Put(sample) => self.accepts_sample(sample),
+            Op::Join(cell) => cell.is_of(self.schema()),
         }
+    }
+
+    /// Whether the replica takes a sample.
+    fn accepts_sample(&self, sample: &Sample) -> bool
+        ensures accepted { result ≡ accepts (held self.now) (Put sample.now) }
+        ensures op { IsTrue result → IsOpOf self.now.schema (Put sample.now) }
+    {
+        // The proof needs what the replica keeps to, which `schema` ensures, and that the time is one of
+        // 64 bits.
+        let _schema = self.schema();
+        let _time = sample.time;
+        sample.origin == self.origin()
+            && self.next_number() <= sample.number
+            && sample.number <= MAX_NUMBER
     }
 
     /// Takes an operation whole: a sample is put under its number, and the next one comes after it;
@@ -54,21 +62,44 @@ impl<A: Cells> Replica<A> {
         ensures unchanged { OnErr result (held self.new ≡ held self.old) }
         ensures room { IsReadyFor self.old op.now → IsOk result }
     {
-        if !self.accepts(op) {
+        match op {
+            Op::Put(sample) => self.apply_sample(hint, sample),
+            Op::Join(cell) => self.apply_cell(cell),
+        }
+    }
+
+    /// Takes a sample as [`Replica::apply`] takes the operation that puts it, with a hint where its
+    /// series is.
+    pub fn apply_sample(&mut self, hint: Hint, sample: &Sample) -> Result<bool, AllocError>
+        ensures accepted { IfOk result (λ done. done ≡ accepts (held self.old) (Put sample.now)) }
+        ensures applied { OnOk result (held self.new ≡ step (held self.old) (Put sample.now)) }
+        ensures unchanged { OnErr result (held self.new ≡ held self.old) }
+        ensures room { IsReadyFor self.old (Put sample.now) → IsOk result }
+    {
+        if !self.accepts_sample(sample) {
             return Ok(false);
         }
-        match op {
-            Op::Put(sample) => {
-                let reading = Reading {
-                    origin: sample.origin,
-                    number: sample.number,
-                    time: sample.time,
-                    value: sample.value,
-                };
-                self.put_reading(hint, &sample.key, reading)?;
-            }
-            Op::Join(cell) => self.join_cell(cell)?,
+        let reading = Reading {
+            origin: sample.origin,
+            number: sample.number,
+            time: sample.time,
+            value: sample.value,
+        };
+        self.put_reading(hint, &sample.key, reading)?;
+        Ok(true)
+    }
+
+    /// Takes a cell as [`Replica::apply`] takes the operation that joins it.
+    pub fn apply_cell(&mut self, cell: &Cell) -> Result<bool, AllocError>
+        ensures accepted { IfOk result (λ done. done ≡ accepts (held self.old) (Join cell.now)) }
+        ensures applied { OnOk result (held self.new ≡ step (held self.old) (Join cell.now)) }
+        ensures unchanged { OnErr result (held self.new ≡ held self.old) }
+        ensures room { IsReadyFor self.old (Join cell.now) → IsOk result }
+    {
+        if !cell.is_of(self.schema()) {
+            return Ok(false);
         }
+        self.join_cell(cell)?;
         Ok(true)
     }
 }

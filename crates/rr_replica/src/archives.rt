@@ -6,6 +6,7 @@ ghost use Rattle.rr_cells.specs.CellBounds.{IsCellOf};
 ghost use Rattle.rr_cells.specs.Listing.{owned_cell};
 
 use crate::reading::Reading;
+use crate::slots::{place_in, slot_near};
 use rr_archive::Cells;
 use rr_cells::{Cell, Op};
 use rr_schema::{Origin, Schema};
@@ -40,7 +41,8 @@ fn make_ready<A: Cells>(
     ensures kept { AreReadyFrom first A.is_ready schema.now time origin archives.old.items → IsOk result }
 {
     for i in first..archives.len() {
-        let slot = schema.slot(i as u8, time);
+        let newest = archives[i].newest();
+        let slot = slot_near(schema, i as u8, time, newest);
         archives[i].ready(slot, origin)?;
     }
     Ok(())
@@ -62,8 +64,9 @@ fn put_ready<A: Cells>(
     ensures room { AreReadyFrom 0 A.is_ready schema.now sample.now.time sample.now.origin archives.old.items → IsOk result }
 {
     for i in 0..archives.len() {
-        let slot = schema.slot(i as u8, sample.time);
-        let place = schema.place(i as u8, sample.time);
+        let newest = archives[i].newest();
+        let slot = slot_near(schema, i as u8, sample.time, newest);
+        let place = place_in(schema, i as u8, sample.time);
         archives[i].put(
             slot,
             sample.origin,

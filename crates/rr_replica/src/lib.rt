@@ -26,6 +26,7 @@ mod reading;
 mod replica;
 mod room;
 mod series;
+mod slots;
 mod writing;
 
 pub use fault::{JoinFault, PutFault, WriteFault};

@@ -1,5 +1,5 @@
 -- What the keeper makes of the sample is what it makes of a point that has no other.
-use Rattle.std.proofs.Common.{◌≡◌, Err, refl, sym, ◌∙◌, rules}
+use Rattle.std.proofs.Common.{◌≡◌, Err, [], ◌∷◌, refl, sym, ◌∙◌, rules}
 use Rattle.std.proofs.Math.Facts.{to_z-of_z}
 use Rattle.std.specs.Int.{w64}
 use Rattle.rr_replica.specs.declared.fault.WriteFault.TheVariants as why
@@ -21,7 +21,7 @@ returns-in-Ok-clause-taken g c = λ p are when.
     let k = c.args.keeper.now in
     let back = to_z-of_z {w = w64} {z = now} (search rules) in
     let back_value = to_z-of_z {w = w64} {z = c.args.value} (search rules) in
-    (now, c.now-now.ensures, takes_put p c.args.key.now c.args.value are c.args.lead now k c.write_sample.new.self c.args.time when _ (record { is_ahead = rw (back, c.in-Ok.is) at c.write_sample.ensures.ahead; lacks = rw (back, c.in-Ok.is) at c.write_sample.ensures.spent }) (rw (back, back_value) at c.in-Ok.ensures.put))
+    (now, c.now-now.ensures, takes_put p ((c.args.key, c.args.value) ∷ []) are c.args.lead now k c.write_sample.new.self c.args.time when _ 1 refl (record { is_ahead = rw (back, c.in-Ok.is) at c.write_sample.ensures.ahead; lacks = rw (back, c.in-Ok.is) at c.write_sample.ensures.spent }) (rw (back, back_value) at c.in-Ok.ensures.put))
 
 pub returns-in-Err-NumbersSpent-clause-taken : goal.returns-in-Err-NumbersSpent-clause-taken
 returns-in-Err-NumbersSpent-clause-taken g c = λ p are when.
@@ -29,7 +29,7 @@ returns-in-Err-NumbersSpent-clause-taken g c = λ p are when.
     let k = c.args.keeper.now in
     let back = to_z-of_z {w = w64} {z = now} (search rules) in
     let spent : c.write_sample.result ≡ Err why.NumbersSpent = cc in
-    (now, c.now-now.ensures, takes_spent p c.args.key.now c.args.value are c.args.lead now k c.write_sample.new.self c.args.time when _ refl (record { is_ahead = rw (back, spent) at c.write_sample.ensures.ahead; lacks = rw (back, spent) at c.write_sample.ensures.spent }) c.in-Err-NumbersSpent.ensures.unchanged)
+    (now, c.now-now.ensures, takes_spent p ((c.args.key, c.args.value) ∷ []) are c.args.lead now k c.write_sample.new.self c.args.time when _ refl (record { is_ahead = rw (back, spent) at c.write_sample.ensures.ahead; lacks = rw (back, spent) at c.write_sample.ensures.spent }) c.in-Err-NumbersSpent.ensures.unchanged)
 
 pub returns-in-Err-AheadOfClock-clause-taken : goal.returns-in-Err-AheadOfClock-clause-taken
 returns-in-Err-AheadOfClock-clause-taken g c = λ p are when.
@@ -37,4 +37,4 @@ returns-in-Err-AheadOfClock-clause-taken g c = λ p are when.
     let k = c.args.keeper.now in
     let back = to_z-of_z {w = w64} {z = now} (search rules) in
     let early : c.write_sample.result ≡ Err why.AheadOfClock = cc in
-    (now, c.now-now.ensures, takes_ahead p c.args.key.now c.args.value are c.args.lead now k c.write_sample.new.self c.args.time when _ refl (record { is_ahead = rw (back, early) at c.write_sample.ensures.ahead; lacks = rw (back, early) at c.write_sample.ensures.spent }) c.in-Err-AheadOfClock.ensures.unchanged)
+    (now, c.now-now.ensures, takes_ahead p ((c.args.key, c.args.value) ∷ []) are c.args.lead now k c.write_sample.new.self c.args.time when _ refl (record { is_ahead = rw (back, early) at c.write_sample.ensures.ahead; lacks = rw (back, early) at c.write_sample.ensures.spent }) c.in-Err-AheadOfClock.ensures.unchanged)

@@ -14,8 +14,8 @@ loop-i-init g c =
 
 pub ready-requires : goal.ready-requires
 ready-requires g c =
-    let kept : to_z w64 (of_z w64 c.slot-slot.result) ≡ c.slot-slot.result = search rules in
-    let slot : c.slot-slot.result ≡ slot_of c.args.schema.now c.loop-i.i c.args.time = search rules in
+    let kept : to_z w64 (of_z w64 c.slot_near-slot.result) ≡ c.slot_near-slot.result = search rules in
+    let slot : c.slot_near-slot.result ≡ slot_of c.args.schema.now c.loop-i.i c.args.time = search rules in
     rw (kept, slot) (slot_is c.args.schema.now c.requires.of_schema.layout c.loop-i.i c.args.time (search rules))
 
 pub returns-in_err-ready-clause-unchanged : goal.returns-in_err-ready-clause-unchanged
@@ -44,8 +44,8 @@ returns-in_err-ready-clause-kept g c = λ ready.
     let items = c.loop-i.archives.items in
     let at = found_at items c.loop-i.i c.index_mut.result.now (search rules) c.index_mut.ensures.value in
     let was : slice_get c.args.archives.now.items c.loop-i.i ≡ Some c.index_mut.result.now = sym (c.loop-i.invariant.1.rest c.loop-i.i (omega arith)) ∙ at in
-    let kept : to_z w64 (of_z w64 c.slot-slot.result) ≡ c.slot-slot.result = search rules in
-    let slot : c.slot-slot.result ≡ slot_of c.args.schema.now c.loop-i.i c.args.time = search rules in
+    let kept : to_z w64 (of_z w64 c.slot_near-slot.result) ≡ c.slot_near-slot.result = search rules in
+    let slot : c.slot_near-slot.result ≡ slot_of c.args.schema.now c.loop-i.i c.args.time = search rules in
     let room = ready c.loop-i.i c.index_mut.result.now was c.loop-i.invariant.0 in
     let ok : IsOk c.ready.result = c.ready.ensures.kept (rw (kept, slot) room) in
     absurd (true≢false (sym (subst IsOk c.in_err-ready.was ok)))
@@ -57,9 +57,9 @@ loop-i-preserved g c =
     let at = found_at items c.loop-i.i c.index_mut.result.now (search rules) c.index_mut.ensures.value in
     let cells : g.A.Cells.cells c.ready.new.self ≡ g.A.Cells.cells c.index_mut.result.now = search rules in
     let limit : g.A.Cells.row_limit c.ready.new.self ≡ g.A.Cells.row_limit c.index_mut.result.now = c.ready.ensures.limit in
-    let kept : to_z w64 (of_z w64 c.slot-slot.result) ≡ c.slot-slot.result = search rules in
-    let slot : c.slot-slot.result ≡ slot_of c.args.schema.now c.loop-i.i c.args.time = search rules in
-    let room : g.A.Cells.is_ready c.ready.new.self (cell_slot (to_z w64 (of_z w64 c.slot-slot.result)) c.args.origin) ≡ true = search rules in
+    let kept : to_z w64 (of_z w64 c.slot_near-slot.result) ≡ c.slot_near-slot.result = search rules in
+    let slot : c.slot_near-slot.result ≡ slot_of c.args.schema.now c.loop-i.i c.args.time = search rules in
+    let room : g.A.Cells.is_ready c.ready.new.self (cell_slot (to_z w64 (of_z w64 c.slot_near-slot.result)) c.args.origin) ≡ true = search rules in
     let from = c.loop-i.invariant.0 in
     (omega (arith, from), rw back (readied_more g.A.Cells.cells g.A.Cells.row_limit g.A.Cells.is_ready c.args.schema.now c.args.time c.args.origin c.args.first c.loop-i.i c.args.archives.now.items items c.index_mut.result.now c.ready.new.self from (rw back at c.loop-i.invariant.1) at cells limit (rw (kept, slot) at room)))
 

@@ -11,16 +11,16 @@ loop-i-init g c = put_none g.A.Cells.cells g.A.Cells.row_limit c.args.schema.now
 
 pub put-requires-clause-slot : goal.put-requires-clause-slot
 put-requires-clause-slot g c =
-    let kept : to_z w64 (of_z w64 c.slot-slot.result) ≡ c.slot-slot.result = search rules in
-    let slot : c.slot-slot.result ≡ slot_of c.args.schema.now c.loop-i.i c.args.sample.now.time = search rules in
+    let kept : to_z w64 (of_z w64 c.slot_near-slot.result) ≡ c.slot_near-slot.result = search rules in
+    let slot : c.slot_near-slot.result ≡ slot_of c.args.schema.now c.loop-i.i c.args.sample.now.time = search rules in
     rw (kept, slot) (slot_is c.args.schema.now c.requires.of_schema.layout c.loop-i.i c.args.sample.now.time (search rules))
 
 pub put-requires-clause-newer : goal.put-requires-clause-newer
 put-requires-clause-newer g c =
     let at = found_at c.loop-i.archives.items c.loop-i.i c.index_mut.result.now (search rules) c.index_mut.ensures.value in
     let was : slice_get c.args.archives.now.items c.loop-i.i ≡ Some c.index_mut.result.now = sym (c.loop-i.invariant.rest c.loop-i.i (omega arith)) ∙ at in
-    let kept : to_z w64 (of_z w64 c.slot-slot.result) ≡ c.slot-slot.result = search rules in
-    let slot : c.slot-slot.result ≡ slot_of c.args.schema.now c.loop-i.i c.args.sample.now.time = search rules in
+    let kept : to_z w64 (of_z w64 c.slot_near-slot.result) ≡ c.slot_near-slot.result = search rules in
+    let slot : c.slot_near-slot.result ≡ slot_of c.args.schema.now c.loop-i.i c.args.sample.now.time = search rules in
     rw (kept, slot) (c.requires.newer c.loop-i.i c.index_mut.result.now was)
 
 -- all archives but the first have room
@@ -29,8 +29,8 @@ returns-in_err-put-clause-unchanged g c =
     let cells = g.A.Cells.cells in
     let at = found_at c.loop-i.archives.items c.loop-i.i c.index_mut.result.now (search rules) c.index_mut.ensures.value in
     let was : slice_get c.args.archives.now.items c.loop-i.i ≡ Some c.index_mut.result.now = sym (c.loop-i.invariant.rest c.loop-i.i (omega arith)) ∙ at in
-    let kept : to_z w64 (of_z w64 c.slot-slot.result) ≡ c.slot-slot.result = search rules in
-    let slot : c.slot-slot.result ≡ slot_of c.args.schema.now c.loop-i.i c.args.sample.now.time = search rules in
+    let kept : to_z w64 (of_z w64 c.slot_near-slot.result) ≡ c.slot_near-slot.result = search rules in
+    let slot : c.slot_near-slot.result ≡ slot_of c.args.schema.now c.loop-i.i c.args.sample.now.time = search rules in
     on_err_from c.from_residual.result (⊎_elim
     (λ first. put_failed cells g.A.Cells.row_limit c.args.schema.now c.args.sample.now c.loop-i.i c.args.archives.now.items c.loop-i.archives.items c.index_mut.result.now c.put.new.self c.loop-i.invariant first at (search rules))
     (λ later.
@@ -53,9 +53,9 @@ loop-i-preserved g c =
     let items = c.loop-i.archives.items in
     let at = found_at items c.loop-i.i c.index_mut.result.now (search rules) c.index_mut.ensures.value in
     let limit : g.A.Cells.row_limit c.put.new.self ≡ g.A.Cells.row_limit c.index_mut.result.now = c.put.ensures.limit in
-    let kept : to_z w64 (of_z w64 c.slot-slot.result) ≡ c.slot-slot.result = search rules in
-    let slot : c.slot-slot.result ≡ slot_of c.args.schema.now c.loop-i.i c.args.sample.now.time = search rules in
-    let place : c.place-place.result ≡ place_of c.args.schema.now c.loop-i.i c.args.sample.now.time = search rules in
+    let kept : to_z w64 (of_z w64 c.slot_near-slot.result) ≡ c.slot_near-slot.result = search rules in
+    let slot : c.slot_near-slot.result ≡ slot_of c.args.schema.now c.loop-i.i c.args.sample.now.time = search rules in
+    let place : c.place_in-place.result ≡ place_of c.args.schema.now c.loop-i.i c.args.sample.now.time = search rules in
     let time : to_z w64 (of_z w64 c.args.sample.now.time) ≡ c.args.sample.now.time = search rules in
     let value : to_z w64 (of_z w64 c.args.sample.now.value) ≡ c.args.sample.now.value = search rules in
     let cells = rw (kept, slot, place, time, value) at c.in_ok-put.ensures.put in
@@ -70,8 +70,8 @@ pub returns-in_err-put-clause-room : goal.returns-in_err-put-clause-room
 returns-in_err-put-clause-room g c = λ room.
     let at = found_at c.loop-i.archives.items c.loop-i.i c.index_mut.result.now (search rules) c.index_mut.ensures.value in
     let was : slice_get c.args.archives.now.items c.loop-i.i ≡ Some c.index_mut.result.now = sym (c.loop-i.invariant.rest c.loop-i.i (omega arith)) ∙ at in
-    let kept : to_z w64 (of_z w64 c.slot-slot.result) ≡ c.slot-slot.result = search rules in
-    let slot : c.slot-slot.result ≡ slot_of c.args.schema.now c.loop-i.i c.args.sample.now.time = search rules in
+    let kept : to_z w64 (of_z w64 c.slot_near-slot.result) ≡ c.slot_near-slot.result = search rules in
+    let slot : c.slot_near-slot.result ≡ slot_of c.args.schema.now c.loop-i.i c.args.sample.now.time = search rules in
     let ready = room c.loop-i.i c.index_mut.result.now was (omega arith) in
     let ok : IsOk c.put.result = c.put.ensures.room (rw (kept, slot) ready) in
     absurd (true≢false (sym (subst IsOk c.in_err-put.was ok)))

@@ -1,0 +1,20 @@
+use Rattle.std.proofs.Common.{◌≡◌, true, true≢false, sym, subst, ◌∙◌, rules}
+use Rattle.std.proofs.Math.Facts.{to_z-of_z}
+use Rattle.std.specs.Int.{w64}
+use Rattle.std.specs.Prelude.{IsOk}
+use Rattle.rr_cells.specs.Operations.{accepts}
+use Rattle.rr_cells.specs.declared.op.Op.TheVariants.{Put}
+use Rattle.rr_replica.specs.Standing.{held}
+use Rattle.rr_replica.proofs.replica.Replica.apply_sample.Goals as goal
+
+pub invariant_of-reading : goal.invariant_of-reading
+invariant_of-reading g c =
+    let taken = c.accepts_sample.ensures.op c.if-not-accepts_sample.false in
+    record { number_at_least = taken.1; number_at_most = taken.2 }
+
+pub returns-in_err-put_reading-clause-room : goal.returns-in_err-put_reading-clause-room
+returns-in_err-put_reading-clause-room g c = λ ready.
+    let taken : accepts (held c.args.self.now) (Put c.args.sample.now) ≡ true = sym c.accepts_sample.ensures.accepted ∙ c.if-not-accepts_sample.false in
+    let back = to_z-of_z {w = w64} {z = c.args.sample.now.time} (search rules) in
+    let ok : IsOk c.put_reading.result = (rw back at c.put_reading.ensures.room) (ready taken) in
+    absurd (true≢false (sym (subst IsOk c.in_err-put_reading.was ok)))

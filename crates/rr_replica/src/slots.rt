@@ -1,0 +1,80 @@
+//! The slots and places of times, without a division where that can be.
+ghost use Rattle.std.specs.Prelude.{◌≡◌, ◌<◌, ◌≤◌, ◌*◌, ◌/◌, length, pos, IfSome, IsTrue};
+ghost use Rattle.std.specs.Int.{int_div_euclid};
+ghost use Rattle.rr_schema.specs.Schema.{archive_at, place_of, slot_of};
+ghost use Rattle.rr_text.specs.declared.limits.TheConstants.{MAX_STEP, MAX_STEPS};
+
+use rr_schema::Schema;
+
+/// How many nanoseconds are in a second.
+const NANOSECONDS: u64 = 1_000_000_000;
+
+const _: () = prove!(NANOSECONDS == 1_000_000_000);
+
+/// The slot of an archive in which a time falls. Mostly it is that of the newest cell or the next one: these are
+/// tried first, since a multiplication takes a tenth of the time of a division.
+pub(crate) fn slot_near(schema: &Schema, archive: u8, time: i64, newest: Option<i64>) -> i64
+    requires { archive < length schema.now.archives }
+    ensures { result ≡ slot_of schema.now archive time }
+{
+    match near(schema.span(archive), time, newest) {
+        Some(slot) => slot,
+        None => schema.slot(archive, time),
+    }
+}
+
+/// The place of a time in its slot of an archive: which step of the row, from 0.
+pub(crate) fn place_in(schema: &Schema, archive: u8, time: i64) -> u32
+    requires { archive < length schema.now.archives }
+    ensures place { result ≡ place_of schema.now archive time }
+    ensures within { result < (archive_at schema.now archive).steps }
+    ensures place_fits { result < MAX_STEPS }
+{
+    if schema.archive(archive).steps == 1 {
+        return 0;
+    }
+    schema.place(archive, time)
+}
+
+/// Of the newest slot and the next one that in which a time falls, if it falls in either.
+fn near(span: u32, time: i64, newest: Option<i64>) -> Option<i64>
+    requires some { 0 < span }
+    requires fits { span ≤ MAX_STEP * MAX_STEPS }
+    ensures { IfSome result (λ slot. int_div_euclid time (pos (span * 1_000_000_000)) ≡ slot) }
+{
+    let newest = newest?;
+    let next = newest.saturating_add(1);
+    let length = u64::from(span) * NANOSECONDS;
+    if falls_in(next, time, length) {
+        Some(next)
+    } else if falls_in(newest, time, length) {
+        Some(newest)
+    } else {
+        None
+    }
+}
+
+/// Whether a time falls in a slot of as many nanoseconds, neither of which is before the epoch.
+fn falls_in(slot: i64, time: i64, length: u64) -> bool
+    requires { 0 < length }
+    ensures { IsTrue result → int_div_euclid time (pos length) ≡ slot }
+{
+    let (Ok(slot), Ok(time)) = (u64::try_from(slot), u64::try_from(time)) else {
+        return false;
+    };
+    is_within(slot, time, length)
+}
+
+/// Whether a time falls in a slot of as many nanoseconds.
+fn is_within(slot: u64, time: u64, length: u64) -> bool
+    requires { 0 < length }
+    ensures { IsTrue result → time / length ≡ slot }
+{
+    let Some(start) = slot.checked_mul(length) else {
+        return false;
+    };
+    if time < start {
+        return false;
+    }
+    time - start < length
+}
