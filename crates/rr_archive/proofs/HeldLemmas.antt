@@ -113,13 +113,6 @@ set_alike old new slot row sets is = cells_in-same old new (λ q.
       | false ↦ λ t. refl
     ] refl)
 
-pub rows_ascend : (old new : List (ℤ × Vec Entry)) (slot : ℤ) (row : Vec Entry) → Sets old new slot row → RowsAscend old → ascends row.items ≡ true → RowsAscend new
-rows_ascend old new slot row sets ascend here = λ q.
-    ap row_ascends (sets.at q) ∙ elim (is_at (int_cmp slot) q) as (λ b. row_ascends (cond b (Some row) (row_in old q)) ≡ true) [
-      | true ↦ here
-      | false ↦ ascend q
-    ]
-
 -- ---- room in the row of a slot
 
 pub room_is : (rows : List (ℤ × Vec Entry)) (p : CellSlot) (row : Vec Entry) → Some row ≡ row_in rows p.slot → IsTrue (has_room_in rows p) → vec_len row < vec_capacity row

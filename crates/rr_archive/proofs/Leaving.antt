@@ -59,10 +59,6 @@ length-row_cells : (slot : ℤ) (es : List Entry) (rest : List (CellSlot × Cont
 length-row_cells slot [] rest = omega arith
 length-row_cells slot (e ∷ es) rest = let h = length-row_cells slot es rest in omega arith
 
-within_row_cells : (slot : ℤ) (es : List Entry) (rest : List (CellSlot × Contribution)) → length es ≤ length (row_cells slot es ++ rest)
-within_row_cells slot [] rest = omega arith
-within_row_cells slot (e ∷ es) rest = let more = within_row_cells slot es rest in omega arith
-
 pub left_all : (limit : ℕ) (top : ℤ) (rows : List (ℤ × Vec Entry)) (count : ℕ) → RowsAscend rows → IsStrictlySortedBy int_cmp (keys_of rows) → count ≡ len (cells_in rows) → LeftOver limit top rows rows count
 left_all limit top rows count ascend ordered counted = record {
   live = refl;

@@ -23,10 +23,6 @@ use Rattle.rr_cells.specs.Operations.{accepts, with_op, step, AllAccepted, cell_
 pub step_accepted : (h : Holding) (op : Op) → accepts h op ≡ true → step h op ≡ with_op h op
 step_accepted h op e = ap (λ b. if b then with_op h op else h) e
 
--- one that isn't changes nothing
-pub step_refused : (h : Holding) (op : Op) → accepts h op ≡ false → step h op ≡ h
-step_refused h op e = ap (λ b. if b then with_op h op else h) e
-
 pub with_op-cells : (h : Holding) (op : Op) → (with_op h op).cells ≡ cell_step h.schema h.cells op
 with_op-cells h (Put x) = refl
 with_op-cells h (Join c) = refl
@@ -61,10 +57,6 @@ step-cells h op e = ap (λ (k : Holding). k.cells) (step_accepted h op e) ∙ wi
 pub steps-schema : (ops : List Op) (h : Holding) → (fold step h ops).schema ≡ h.schema
 steps-schema [] h = refl
 steps-schema (op ∷ ops) h = steps-schema ops (step h op) ∙ step-schema h op
-
-pub steps-origin : (ops : List Op) (h : Holding) → (fold step h ops).origin ≡ h.origin
-steps-origin [] h = refl
-steps-origin (op ∷ ops) h = steps-origin ops (step h op) ∙ step-origin h op
 
 -- where all are taken, the cells take a step for each
 pub steps-cells : (ops : List Op) (h : Holding) → AllAccepted h ops → (fold step h ops).cells ≡ fold (cell_step h.schema) h.cells ops

@@ -52,11 +52,6 @@ all_entries P m h = all_found P (entries m) (keys_distinct m) (λ n c at. h n c 
 
 -- ---- parts
 
-below_drop : (n : CellName) (from : ℕ) (es : List NamedCell) → T (below_all cell_name_cmp n es) → T (below_all cell_name_cmp n (drop from es))
-below_drop n zero es h = h
-below_drop n (suc from) [] h = tt
-below_drop n (suc from) (e ∷ es) h = below_drop n from es (second_T (is_lt (cell_name_cmp n e.0)) _ h)
-
 below_take : (n : CellName) (count : ℕ) (es : List NamedCell) → T (below_all cell_name_cmp n es) → T (below_all cell_name_cmp n (take count es))
 below_take n zero es h = tt
 below_take n (suc count) [] h = tt

@@ -19,9 +19,3 @@ asked_more (Some before) None (Some since) xs ys first later = absurd later
 asked_more (Some before) (Some mid) None xs ys first later = tt
 asked_more (Some before) (Some mid) (Some since) xs ys first later =
     later ∙ ap (λ (l : List GateCall). l ++ ys) first ∙ append_assoc before xs ys
-
--- the last of them
-pub asked_last : (a b : Option (List GateCall)) (call : GateCall) → WasAsked a b (call ∷ []) → WasAskedLast b call
-asked_last a None call asked = tt
-asked_last None (Some since) call asked = absurd asked
-asked_last (Some before) (Some since) call asked = (before, asked)

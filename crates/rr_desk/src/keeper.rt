@@ -156,7 +156,8 @@ impl<A: Cells> Keeper<A> {
     }
 
     /// Joins a cell from elsewhere, which is valid under the schema, as `Replica::join_cell` does.
-    /// Readers don't see it before it is published. After an error nothing has changed.
+    /// Readers don't see it before it is published. After an error nothing has changed. The cost is that of
+    /// `Replica::join_cell`, once here and once in each copy when it is published.
     pub fn join_cell(&mut self, cell: &Cell) -> Result<(), AllocError>
         requires { IsCellOf self.old.schema (owned_cell cell.now) }
         ensures pending { OnOk result (self.new ≡ with_pending self.old (Join cell.now)) }
@@ -166,7 +167,8 @@ impl<A: Cells> Keeper<A> {
     }
 
     /// The names and versions of as many cells as `count` from a place on, in the order of the names;
-    /// fewer where there are fewer. They are those of all operations, pending ones too.
+    /// fewer where there are fewer. They are those of all operations, pending ones too. The cost is that of
+    /// [`rr_delta::summary`].
     pub fn names(&self, alloc: Global, from: usize, count: usize) -> Result<Vec<Name>, AllocError>
         ensures listed { IfOk result (λ names.
             map owned_name names.items ≡ take count (drop from (versions_of (cells_of self.now)))) }
@@ -177,7 +179,8 @@ impl<A: Cells> Keeper<A> {
     }
 
     /// The names and versions of as many cells as `count` after a name, or of the first ones where
-    /// there is none, in the order of the names; fewer where there are fewer.
+    /// there is none, in the order of the names; fewer where there are fewer. The cost is that of
+    /// [`rr_delta::summary_after`].
     pub fn names_after(
         &self,
         alloc: Global,
@@ -192,7 +195,7 @@ impl<A: Cells> Keeper<A> {
         summary_after(alloc, self.copies.replica(), after, count)
     }
 
-    /// Writes the cells of all operations, pending ones too, as a snapshot: see `rr_snapshot::save`.
+    /// Writes the cells of all operations, pending ones too, as a snapshot: see `rr_snapshot::save`, whose cost it has.
     pub fn save<W: Write>(&self, alloc: Global, output: &mut Counted<W>) -> Result<(), SaveFault>
         ensures whole { OnOk result (Appends (W.contents (inner_of output.old))
             (W.contents (inner_of output.new))

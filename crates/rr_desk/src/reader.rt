@@ -93,7 +93,8 @@ impl<A: Cells> Reader<A> {
     }
 
     /// The answer to a request after the operations that the reader has seen when the call returns.
-    /// They begin with those that it had seen before, also where no answer is made.
+    /// They begin with those that it had seen before, also where no answer is made. The cost is that of
+    /// [`rr_fetch::answer_text`], here and through a gate.
     pub fn fetch(&mut self, alloc: Global, request: &Request) -> Result<Vec<u8>, AllocError>
         requires { IsFetchable self.old.schema (request_view request.now) }
         ensures seen { HasSeenMore self.old self.new }
@@ -131,7 +132,7 @@ impl<A: Cells> Reader<A> {
 
     /// The cells whose name a summary lacks, or has with a smaller version, in the order of their
     /// names, after the operations that the reader has seen when the call returns. The names of the
-    /// summary strictly ascend.
+    /// summary strictly ascend. The cost is that of [`rr_delta::difference`].
     pub fn difference(&mut self, alloc: Global, summary: &[Name]) -> Result<Vec<Cell>, AllocError>
         requires { IsSummary (map owned_name summary.now) }
         ensures seen { HasSeenMore self.old self.new }

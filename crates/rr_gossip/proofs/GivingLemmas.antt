@@ -223,9 +223,6 @@ pub answer_left : (s : Layout) (names : List NamedVersion) (m : Cells) (stage : 
 unfolding reply_left replied_by
 answer_left s names m stage is = ap reply_left is
 
-pub is_giving_left : (left : CellsLeft) (stage : Stage) → stage ≡ Giving left → is_giving stage ≡ true
-is_giving_left left stage is = ap is_giving is
-
 -- the pages are not over, or their end is sent
 abbrev pub is_replying : Stage → Bool
 is_replying Opening = false

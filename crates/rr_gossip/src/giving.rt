@@ -193,7 +193,7 @@ pub fn give_within<S: Source, R: Read, W: Write>(
     give_from(alloc, &[], input, output, source, frames)
 }
 
-/// Gives as [`give`] does, where the first byte of the session is read already.
+/// Gives as [`give`] does, at its cost, where the first byte of the session is read already.
 pub fn give_after<S: Source, R: Read, W: Write>(
     alloc: Global,
     first: u8,

@@ -17,21 +17,3 @@ grows_on {A = A} (Some a) (Some b) (Some c) xs ys p q = q ∙ ap (λ (zs : List 
 pub grows_not : {A : Type 0} (a : Option (List A)) → Grows a a []
 grows_not None = tt
 grows_not (Some a) = sym (append-nil a)
-
--- so do those that calls are noted for
-pub grows_map : {A B : Type 0} (f : A → B) (a b : Option (List A)) (xs : List A) → Grows a b xs → Grows (option_map (map f) a) (option_map (map f) b) (map f xs)
-grows_map {A = A} {B = B} f None None xs p = tt
-grows_map {A = A} {B = B} f None (Some b) xs p = absurd p
-grows_map {A = A} {B = B} f (Some a) None xs p = tt
-grows_map {A = A} {B = B} f (Some a) (Some b) xs p = ap (map f) p ∙ map-append f a xs
-
-kept_map : {A B : Type 0} (f : A → B) (a : Option (List A)) (x : A) → option_map (map f) (option_map (λ xs. xs ++ x ∷ []) a) ≡ option_map (λ ys. ys ++ f x ∷ []) (option_map (map f) a)
-kept_map {A = A} {B = B} f None x = refl
-kept_map {A = A} {B = B} f (Some a) x = ap (λ (ys : List B). Some ys) (map-append f a (x ∷ []))
-
-pub noted_map : {A B : Type 0} (f : A → B) (x : A) (a b : Log A) → HasNoted x a b → HasNoted (f x) (map_log f a) (map_log f b)
-noted_map {A = A} {B = B} f x a b p = record {
-  grown = grows_map f a.calls b.calls (x ∷ []) p.grown;
-  kept = λ some. ap (option_map (map f)) (p.kept some) ∙ kept_map f a.calls x;
-  room = p.room;
-}

@@ -3,10 +3,6 @@ use Rattle.std.proofs.Common.{List, [], ◌++◌, Option}
 use Rattle.rr_host.specs.Visits.{Call, HasCalled}
 use Rattle.rr_host.proofs.CallsLemmas.{grows_not, grows_on}
 
--- no call
-pub none_called : (known : Option (List Call)) → HasCalled known known []
-none_called known = grows_not known
-
 -- calls, and then others
 pub called_more : (a b c : Option (List Call)) (xs ys : List Call) → HasCalled a b xs → HasCalled b c ys → HasCalled a c (xs ++ ys)
 called_more a b c xs ys first later = grows_on a b c xs ys first later

@@ -13,6 +13,7 @@ use std::time::Duration;
 /// How many bytes are read at a time that nobody wants, and how often: of 256 MiB, so that who sends without end isn't
 /// listened to without end.
 const SCRAP: usize = 4_096;
+
 const SCRAPS: u32 = 65_536;
 
 /// For how long a connection or a listener waits at a time. Then it looks at the flag of its node.

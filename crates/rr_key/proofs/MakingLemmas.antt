@@ -119,15 +119,6 @@ IsKeyText-made names text e is = record { series = series_of names; named = IsSe
 pub repeated_key : (names : Names) → any_name is_empty names ≡ false → any_name is_bad names ≡ false → has_repeat (keys_of names.tags) ≡ true → key_of names ≡ Err DuplicateTag
 repeated_key names filled good twice = rw (filled, good, twice) refl
 
--- what names make whose tags are too many
-pub key_of_many : (names : Names) → any_name is_empty names ≡ false → any_name is_bad names ≡ false → MAX_TAGS < length names.tags → key_of names ≡ Err (cond (has_repeat (keys_of names.tags)) DuplicateTag TooManyTags)
-key_of_many names filled good many =
-    let tested : ltb MAX_TAGS (length names.tags) ≡ true = lt-ltb _ _ many in
-    elim (cases_Bool (has_repeat (keys_of names.tags))) [
-      | inl twice ↦ rw (filled, good, twice) refl
-      | inr once ↦ rw (filled, good, once, tested) refl
-    ]
-
 no_naming_fault : (names : Names) → any_name is_empty names ≡ false → any_name is_bad names ≡ false → has_repeat (keys_of names.tags) ≡ false → length names.tags ≤ MAX_TAGS → naming_fault names ≡ None
 no_naming_fault names filled good once few = let tested : ltb MAX_TAGS (length names.tags) ≡ false = le-ltb _ _ few in rw (filled, good, once, tested) refl
 

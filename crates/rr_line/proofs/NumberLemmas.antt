@@ -28,10 +28,6 @@ pub record HasPassed (text : List ℕ) (number : ℕ) (left : List ℕ) : Type 0
   pub fits : number < 2 ^ 64
   pub whole : text ≡ digits ++ left
 
--- before the first digit
-pub passed_none : (text : List ℕ) → HasPassed text 0 text
-passed_none text = record { digits = []; are = refl; writes = refl; fits = omega arith; whole = refl }
-
 all_push : (digits : List ℕ) (digit : ℕ) → list_all is_ascii_digit digits ≡ true → is_ascii_digit digit ≡ true
     → list_all is_ascii_digit (digits ++ digit ∷ []) ≡ true
 all_push [] digit are is = rw is refl

@@ -42,7 +42,8 @@ pub struct KnownLine<'l, 'k> {
 impl<'l, 'k> KnownLine<'l, 'k> {
     ghost use Rattle.rr_line.specs.KnownLine.{HasRead};
 
-    /// The value of the first field, if the line begins with the key text of its series.
+    /// The value of the first field, if the line begins with the key text of its series. The cost is a comparison of the
+    /// key text, and a pass over the value.
     pub fn first_field(line: &'l [u8], key: &'k [u8]) -> Option<(i64, KnownLine<'l, 'k>)>
         requires { IsKeyText key.now }
         ensures { IfSome result (λ read. HasRead line.now ((key.now, read.0) ∷ []) read.1) }
@@ -58,7 +59,7 @@ impl<'l, 'k> KnownLine<'l, 'k> {
         Some((value, known))
     }
 
-    /// The value of the next field, if the key text of its series is this one.
+    /// The value of the next field, if the key text of its series is this one, at the cost of the first.
     pub fn next_field(&self, key: &'k [u8]) -> Option<(i64, KnownLine<'l, 'k>)>
         requires { IsKeyText key.now }
         ensures { (line : List ℕ) (samples : List Sample) → HasRead line samples self.now

@@ -50,9 +50,6 @@ answers_one item old new text one = (new, text, [], one, (refl, refl), sym (appe
 
 -- ---- items that are handed out
 
-pub none_handed : (feed : FeedState) → HasHanded feed [] feed
-none_handed feed = record { fed = λ pushed before fed. subst (λ (items : List Item). IsFed pushed items feed) (sym (append-nil before)) fed; ended = refl }
-
 pub handed_append : (f g h : FeedState) (xs ys : List Item) → HasHanded f xs g → HasHanded g ys h → HasHanded f (xs ++ ys) h
 handed_append f g h xs ys p q = record {
   fed = λ pushed before fed. subst (λ (items : List Item). IsFed pushed items h) (append_assoc before xs ys) (q.fed pushed (before ++ xs) (p.fed pushed before fed));
@@ -80,9 +77,6 @@ next_err view None old new fault next = absurd next
 next_err view (Some item) old new fault next = (item, refl, next)
 
 -- ---- what is written
-
-pub none_written : (feed : FeedState) (at : Sight) (out : Option (List ℕ)) → HasWritten feed feed at at out out
-none_written feed at out = record { items = []; text = []; handed = none_handed feed; answered = (refl, refl); written = Appends-nil out }
 
 -- an answer more
 pub written_more : (f g h : FeedState) (a b c : Sight) (u v w : Option (List ℕ)) (item : Item) (text : List ℕ) → HasWritten f g a b u v → HandsOut g (Some item) h → IsAnswered item b c text → Appends v w text → HasWritten f h a c u w

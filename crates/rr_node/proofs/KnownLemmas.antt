@@ -86,12 +86,3 @@ pub none_of : (k : KeeperState) (v : Verdict) → keeper_with_some k v 0 ≡ k
 none_of k skipped = refl
 none_of k (put p time) = refl
 none_of k (refused name) = refl
-
--- what is taken of the samples is taken of the line that says them
-pub takes_known : (rules : Rules) (line : List ℕ) (samples : List Sample) (time : Option ℤ) (k new : KeeperState) (given since : Option (List ℤ)) (result : Result Answer AllocError)
-    → SaysSamples rules.precision line samples time
-    → ((p : PointView) → samples_of p ≡ samples → p.time ≡ time → (now : ℤ) × HasGiven given since (now ∷ []) × IsTaken (verdict_of_point rules.lead now (holding_of k) p) k new result)
-    → TakesItem rules (Line line) k new given since result
-takes_known rules line samples time k new given since result says taken =
-    let (now, gave, is) = taken says.p says.are says.when in
-    record { asked = now ∷ []; gave = gave; taken = inl (rw says.read refl, rw says.read is) }

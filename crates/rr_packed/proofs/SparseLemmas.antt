@@ -189,9 +189,6 @@ place_tells mask n at is = by_bit (bit_at mask n) (bit_at-lt mask n) is
     by_bit (suc zero) small e = (refl, cc)
     by_bit (suc (suc b)) small e = absurd (omega arith)
 
-pub place_some : (mask n : ℕ) → bit_at mask n ≡ 1 → place_at mask n ≡ Some (rank mask n)
-place_some mask n e = ap (λ b. cond (eqb b 1) (Some (rank mask n)) None) e
-
 pub place_none : (mask n : ℕ) → bit_at mask n ≡ 0 → place_at mask n ≡ None
 place_none mask n e = ap (λ b. cond (eqb b 1) (Some (rank mask n)) None) e
 
@@ -307,9 +304,6 @@ item_set mask xs k x has fits n =
         apart
 
 -- ---- the code's masks
-
-pub bit_clear : (mask n : ℕ) → bit_and (mask / 2 ^ n) 1 ≡ 0 → bit_at mask n ≡ 0
-bit_clear mask n e = sym (shr_and_one mask n) ∙ e
 
 pub bit_is_set : (mask n : ℕ) → (bit_and (mask / 2 ^ n) 1 ≡ 0 → ⊥) → bit_at mask n ≡ 1
 bit_is_set mask n apart = by_bit (bit_at mask n) (bit_at-lt mask n) (λ e. apart (shr_and_one mask n ∙ e))

@@ -17,9 +17,6 @@ use Rattle.rr_parts.specs.Stream.{StreamGives, Digests}
 abbrev pub Gave : {A : Type 0} → A → Option (List ℕ) → Option (List ℕ) → (List ℕ → Result (A × List ℕ) LoadFault) → Type 0
 Gave a old new read = IfSome old (λ all. (rest : List ℕ) × (new ≡ Some rest) × (read all ≡ Ok (a, rest)))
 
-pub Refuses : {A : Type 0} → LoadFault → Option (List ℕ) → (List ℕ → Result (A × List ℕ) LoadFault) → Type 0
-Refuses fault old read = IfSome old (λ all. read all ≡ Err fault)
-
 pub passes : {A : Type 0} (a : A) (new : Option (List ℕ)) (read : List ℕ → Result (A × List ℕ) LoadFault) → ((all : List ℕ) → read all ≡ Ok (a, all)) → Gave a new new read
 passes a None read is = tt
 passes a (Some all) read is = (all, refl, is all)

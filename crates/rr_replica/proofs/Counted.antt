@@ -171,9 +171,6 @@ module _ {X : Type 0} (cells : X → Rows) (key : List ℕ) (archives : List X) 
 
 -- ---- all keys
 
-pub length-all : (key : List ℕ) (rs : List Rows) (es : Series) → length (all_cells ((key, rs) ∷ es)) ≡ count_of rs + length (all_cells es)
-length-all key rs es = length-append (cells_from key 0 rs) (all_cells es) ∙ ap (λ n. n + length (all_cells es)) (length-cells_from key 0 rs)
-
 pub get-all_first : (key : List ℕ) (rs : List Rows) (es : Series) (i : ℕ) (c : CellName × Contribution) → slice_get (cells_from key 0 rs) i ≡ Some c → slice_get (all_cells ((key, rs) ∷ es)) i ≡ Some c
 get-all_first key rs es i c e = get_first (cells_from key 0 rs) (all_cells es) i c e
 

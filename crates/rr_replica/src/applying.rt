@@ -55,7 +55,7 @@ impl<A: Cells> Replica<A> {
         self.apply_near(Hint::none(), op)
     }
 
-    /// Takes an operation as [`Replica::apply`] does, with a hint where its series is.
+    /// Takes an operation as [`Replica::apply`] does, with a hint where its series is, which spares the look-up of the key.
     pub fn apply_near(&mut self, hint: Hint, op: &Op) -> Result<bool, AllocError>
         ensures accepted { IfOk result (λ done. done ≡ accepts (held self.old) op.now) }
         ensures applied { OnOk result (held self.new ≡ step (held self.old) op.now) }

@@ -188,7 +188,8 @@ impl<A: Cells> Replica<A> {
         self.ready_near(Hint::none(), op)
     }
 
-    /// Makes room as [`Replica::ready`] does, with a hint where the series of the operation is.
+    /// Makes room as [`Replica::ready`] does, with a hint where the series of the operation is: if that is right, a
+    /// comparison of two keys takes the place of the look-up.
     pub fn ready_near(&mut self, hint: Hint, op: &Op) -> Result<(), AllocError>
         ensures unchanged { held self.new ≡ held self.old }
         ensures room { OnOk result (IsReadyFor self.new op.now) }

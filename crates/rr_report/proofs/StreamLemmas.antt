@@ -49,13 +49,6 @@ of_all_taken a b c taken buffer given P first second zero end holds =
     let last = Consumes-trans a b c taken [] first (subst (Consumes b c) nothing second) in
     Consumes-whole a c taken P (subst (Consumes a c) (append-nil taken) last) end holds
 
--- what was taken stays so where nothing more is
-pub Consumes-kept : (a b c : Option (List ℕ)) (taken : List ℕ) → Consumes a b taken → Keeps b c → Consumes a c taken
-Consumes-kept None b c taken consumed kept = tt
-Consumes-kept (Some x) None c taken consumed kept = absurd consumed
-Consumes-kept (Some x) (Some y) None taken consumed kept = absurd kept
-Consumes-kept (Some x) (Some y) (Some z) taken consumed kept = consumed ∙ ap (λ (left : List ℕ). taken ++ left) (sym kept)
-
 -- what was taken of a reader's bytes is reported to a writer
 pub record HasWritten (c : Checker) (had left : Option (List ℕ)) (start written : Option (List ℕ)) : Type 0 where
   pub taken : List ℕ

@@ -59,9 +59,6 @@ rest_is_without i xs ys h e =
     let len : length (take i xs) ≡ i = omega (arith, length-take i xs) in
     ap (drop i) e ∙ ap (λ k. drop k (without i xs)) (sym len) ∙ drop-append_seam (take i xs) (drop (i + 1) xs)
 
-pub without_is_long : {A : Type 0} (i : ℕ) (xs ys : List A) → i < length xs → ys ≡ without i xs → i ≤ length ys
-without_is_long i xs ys h e = omega (arith, h, ap length e, length-without i xs h)
-
 -- ---- one was added
 
 steps_left : (i a : ℕ) (xs : List ArchiveSpec) → i < length xs → steps_at (without i xs) a ≡ steps_at xs (kept i a)

@@ -66,14 +66,6 @@ missed_addition s test e a there = elim (test Nothing) as (λ b. test Nothing �
 
 -- ---- the first that passes
 
-same_from : (test other : Addition → Bool) (k n : ℕ) → ((i : ℕ) → i < k + n → test (Archive i) ≡ other (Archive i)) → find test (archives_from k n) ≡ find other (archives_from k n)
-same_from test other k zero same = refl
-same_from test other k (suc n) same = λ j. cond (same k (omega arith) j) (Some (Archive k)) (same_from test other (k + 1) n (λ i less. same i (omega (arith, less))) j)
-
--- tests that agree find the same
-pub found_by_both : (s : Layout) (test other : Addition → Bool) → ((a : Addition) → IsAddition s a → test a ≡ other a) → find test (additions s) ≡ find other (additions s)
-found_by_both s test other same = λ j. cond (same Nothing tt j) (Some Nothing) (same_from test other 0 (length s.archives) (λ i less. same (Archive i) (omega (arith, less))) j)
-
 -- the one addition that passes is found
 pub found_is : (s : Layout) (test : Addition → Bool) (a : Addition) → IsAddition s a → test a ≡ true → ((b : Addition) → IsAddition s b → test b ≡ true → b ≡ a) → find test (additions s) ≡ Some a
 found_is s test a there passes one = by_found (find test (additions s)) refl

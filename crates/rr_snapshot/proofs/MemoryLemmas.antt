@@ -56,11 +56,6 @@ pub has_read : (v : Version) (s : Layout) (e : NamedCell) (now new : Option (Lis
 has_read v s e None new read = tt
 has_read v s e (Some all) new read = (e, read.0, read.1, page_ok (cell_at v s all) (e, read.0) read.2)
 
--- before the first all of them are left
-pub stops_before : (s : Layout) (h : Head) (now : Option (List ℕ)) → StopsAmong s h now now
-stops_before s h None = tt
-stops_before s h (Some all) = λ es behind whole. (all, refl, (h.version, None, h.count, es, cells_ok (cells_at h.version (older s h.addition) None h.count all) es behind whole))
-
 abbrev behind_of : Head → List NamedCell × List ℕ → Result (Head × List ℕ) LoadFault
 behind_of h cells = Ok (h, cells.1)
 

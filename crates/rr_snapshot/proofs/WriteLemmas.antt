@@ -38,10 +38,6 @@ cells_front text es i e a b c at done part =
     subst (AppendsPrefix a c) (ap (λ (l : List ℕ). l ++ flat_map text (drop (i + 1) es)) (sym (text_more text es i e at)) ∙ text_parts text es (i + 1))
     (prefix_before a c (flat_map text (take i es) ++ text e) (flat_map text (drop (i + 1) es)) (prefix_after a b c (flat_map text (take i es)) (text e) done part))
 
-pub cells_before : (text : NamedCell → List ℕ) (es : List NamedCell) (i : ℕ) (a b : Option (List ℕ)) → Appends a b (flat_map text (take i es)) → AppendsPrefix a b (flat_map text es)
-cells_before text es i a b done =
-    subst (AppendsPrefix a b) (text_parts text es i) (prefix_before a b (flat_map text (take i es)) (flat_map text (drop i es)) (whole_is_front a b (flat_map text (take i es)) done))
-
 -- ---- no cell is left
 
 pub all_taken : (es : List NamedCell) (i : ℕ) → length es ≤ i → take i es ≡ es

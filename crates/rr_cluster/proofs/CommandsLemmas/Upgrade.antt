@@ -53,14 +53,6 @@ module _ {K : Type 0} (m : State K) (word : List ℕ) where
 
 -- ---- the archives with one more
 
--- where the first of the archives from a number on has more steps, one more stands before it
-pub place_is_here : (a : ArchiveSpec) (xs : List ArchiveSpec) (i : ℕ) (d : ArchiveSpec) → i < length xs → a.steps < (get_or xs i d).steps → place_for a (drop i xs) ≡ 0
-place_is_here a xs i d there less = ap (place_for a) (drop_more xs i d there) ∙ ap (λ b. cond b 0 (suc (place_for a (drop (i + 1) xs)))) (lt-ltb a.steps (get_or xs i d).steps less)
-
--- and else one place later
-pub place_is_later : (a : ArchiveSpec) (xs : List ArchiveSpec) (i : ℕ) (d : ArchiveSpec) → i < length xs → (get_or xs i d).steps ≤ a.steps → place_for a (drop i xs) ≡ suc (place_for a (drop (i + 1) xs))
-place_is_later a xs i d there more = ap (place_for a) (drop_more xs i d there) ∙ ap (λ b. cond b 0 (suc (place_for a (drop (i + 1) xs)))) (le-ltb a.steps (get_or xs i d).steps more)
-
 -- what is put in at this place
 pub put_in_place : (a : ArchiveSpec) (xs : List ArchiveSpec) → take (place_for a xs) xs ++ (a ∷ drop (place_for a xs) xs) ≡ with_archive a xs
 put_in_place a [] = refl
