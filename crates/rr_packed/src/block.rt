@@ -175,6 +175,17 @@ impl Block {
         }
     }
 
+    /// Gives back the room that was made for entries, if there are none: `make_room` makes it beside that
+    /// for readings. Once these have filled theirs, so that it is asked for and given back a few times a
+    /// block, and not at each reading.
+    fn give_back(&mut self)
+        ensures { items_in self.new ≡ items_in self.old }
+    {
+        if !self.readings.has_room() {
+            self.rows.give_back();
+        }
+    }
+
     /// Adds the entry of a row that has none.
     fn add(&mut self, number: u32, origin: Origin, change: &Change) -> Result<(), AllocError>
         requires number { number < 64 }
@@ -187,9 +198,9 @@ impl Block {
     {
         match self.reading_of(origin, change) {
             Some(reading) => {
-                // Room was made for a row of either kind, and most blocks have none of entries.
-                self.rows.give_back();
-                self.readings.insert(number, reading)
+                let added = self.readings.insert(number, reading);
+                self.give_back();
+                added
             }
             None => {
                 let contribution = contribution_after(None, change);

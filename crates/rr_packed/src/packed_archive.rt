@@ -20,14 +20,21 @@ use rr_schema::Origin;
 use std::alloc::{AllocError, Global};
 
 /// The cells of one archive of one series, packed: 24 bytes for a row of one sample, and none for a row
-/// that no sample came to.
+/// that no sample came to. 64 rows that follow one another are a block, which takes 88 bytes beside
+/// them. The lists of blocks and of a block's rows take memory for 1, 2, 4, 8 .. of these.
 ///
-/// `ready`, `put` and `join_cell` are logarithmic in the blocks of 64 rows, and linear in the entries of
-/// the row and in the blocks that are past the horizon then. `ready` makes room for a row of either
-/// kind; a row of one sample that is to be changed is held as its entries from then on, 112 bytes for
-/// the first of them. `entries_into` is logarithmic in the blocks; `cell_count`, and `cell_at` up to the
-/// cell, are linear in the rows that have an entry, and in the blocks that aren't there; `next_cell` in
-/// these up to the cell.
+/// `ready`, `put` and `join_cell` find the newest block in one step and another in a time that is
+/// logarithmic in the blocks; they are linear in the entries of the row, in the rows of its block that
+/// are after it, and in the blocks that are past the horizon then. One that makes a block of an earlier
+/// slot moves the blocks before it, or those after it if these are fewer.
+///
+/// `ready` makes room for a row of either kind, and `put` and `join_cell` give back what was made for
+/// entries where a block has none. A row of one sample that is to be changed is held as its entries from
+/// then on, 112 bytes for the first of them.
+///
+/// `entries_into` finds its block as `put` does; `cell_count`, and `cell_at` up to the cell, are linear
+/// in the rows that have an entry, and in the blocks that aren't there, each at the cost of finding a
+/// block; `next_cell` in these up to the cell.
 #[derive(Drop)]
 pub struct PackedArchive {
     rows: u32,

@@ -58,6 +58,13 @@ impl<T: Drop> Sparse<T> {
         }
     }
 
+    /// Whether one item more takes no memory.
+    pub(crate) fn has_room(&self) -> bool
+        ensures { result ≡ has_room self.now }
+    {
+        self.items.len() < self.items.capacity()
+    }
+
     /// Makes room for one item more. The list takes memory for 1, 2, 4, 8 .. items, since most series
     /// have few rows.
     pub(crate) fn make_room(&mut self) -> Result<(), AllocError>
@@ -67,11 +74,10 @@ impl<T: Drop> Sparse<T> {
         ensures room { OnOk result (IsTrue (has_room self.new)) }
         ensures kept { IsTrue (has_room self.old) → IsOk result }
     {
-        let count = self.items.len();
-        if count < self.items.capacity() {
+        if self.has_room() {
             return Ok(());
         }
-        self.items.reserve_exact(count.max(1))
+        self.items.reserve_exact(self.items.len().max(1))
     }
 
     /// Gives the memory back, if there is no item.
