@@ -175,9 +175,8 @@ impl Block {
         }
     }
 
-    /// Gives back the room that was made for entries, if there are none: `make_room` makes it beside that
-    /// for readings. Once these have filled theirs, so that it is asked for and given back a few times a
-    /// block, and not at each reading.
+    /// Gives back the room that was made for entries, if there are none and the readings have filled
+    /// theirs: so it is asked for and given back a few times a block, and not at each reading.
     fn give_back(&mut self)
         ensures { items_in self.new ≡ items_in self.old }
     {
