@@ -1,8 +1,8 @@
-//! Configurations of a node as TOML texts. A line `---` stands between two of them.
+//! Configurations of a node as TOML texts, and what is told of them. A line `---` stands between two of them.
 
 use crate::documents::{push_schema, texts};
+use rr_config::{Config, remarks};
 use rr_line::Precision;
-use rr_node::Config;
 use std::alloc::{AllocError, Global};
 
 /// For each text its configuration, the schema first, or why it is refused.
@@ -11,6 +11,19 @@ pub(crate) fn answers(alloc: Global, input: &[u8]) -> Result<Vec<u8>, AllocError
     for text in &texts(alloc, input)? {
         push_answer(alloc, &mut output, text)?;
         output.push('\n')?;
+    }
+    Ok(output.into_bytes())
+}
+
+/// For each text what an operator is told of it, a line each, and then a line `---`.
+pub(crate) fn all_remarks(alloc: Global, input: &[u8]) -> Result<Vec<u8>, AllocError> {
+    let mut output = String::new(alloc);
+    for text in &texts(alloc, input)? {
+        for line in &remarks(alloc, text)? {
+            output.push_str(line.as_str())?;
+            output.push('\n')?;
+        }
+        output.push_str("---\n")?;
     }
     Ok(output.into_bytes())
 }
@@ -29,7 +42,22 @@ fn push_config(output: &mut String, config: &Config) -> Result<(), AllocError> {
     push_texts(output, "peers", &config.peers)?;
     let (rounds, visits) = (config.rounds, config.visits);
     write!(output, "; rounds {rounds}; visits {visits}")?;
-    push_times(output, config)
+    push_times(output, config)?;
+    push_rounds(output, config)
+}
+
+/// Adds what a configuration says of rounds by time, and of what a node says of them.
+fn push_rounds(output: &mut String, config: &Config) -> Result<(), AllocError> {
+    if let Some(every) = config.every {
+        write!(output, "; every {every}")?;
+    }
+    if config.quiet {
+        output.push_str("; quiet")?;
+    }
+    match &config.status {
+        Some(status) => write!(output, "; status {}", status.as_str()),
+        None => Ok(()),
+    }
 }
 
 /// Adds what a configuration says of times.

@@ -23,6 +23,8 @@ pub(crate) enum Kind {
     Documents,
     /// Configurations of a node as TOML texts, and what each is read as.
     Configs,
+    /// Configurations as TOML texts, and what an operator is told of each.
+    Remarks,
     /// The word of some faults, and their names and sentences.
     Faults,
     /// Key texts, a line each, and which of them are.
@@ -45,6 +47,7 @@ impl Kind {
             "lines" => Some(Kind::Lines),
             "toml" => Some(Kind::Documents),
             "config" => Some(Kind::Configs),
+            "remarks" => Some(Kind::Remarks),
             "faults" => Some(Kind::Faults),
             "keys" => Some(Kind::Keys),
             "hex" => Some(Kind::Cell),
@@ -116,6 +119,7 @@ impl Kind {
             Kind::Lines => lines::answers(alloc, input),
             Kind::Documents => Ok(documents::answers(alloc, input)?),
             Kind::Configs => Ok(configs::answers(alloc, input)?),
+            Kind::Remarks => Ok(configs::all_remarks(alloc, input)?),
             Kind::Faults => faults::answers(alloc, input),
             Kind::Keys => Ok(keys::answers(alloc, input)?),
             Kind::Cell => cells::answers(alloc, input),
