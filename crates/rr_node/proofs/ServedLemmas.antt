@@ -53,6 +53,3 @@ served_unread {X} fault had left out at why = record {
   stopped = fault_known {X = X} (Err fault) had (λ f bytes. is_pull bytes ≡ true → HasNotGiven f at.reader.schema (cells_seen at.reader) bytes left out out)
       (λ f bytes e is pull. let same : fault ≡ f = cc in inl (subst (λ (n : NodeFault). (n ≡ ReadFailed) ⊎ (n ≡ TooManyReads)) same why, refl));
 }
-
-    rest : (bytes : List ℕ) → had ≡ Some bytes → mid ≡ Some (drop 1 bytes)
-    rest bytes is = let r = rest_of had mid bytes 0 consumed is in r.1 ∙ ap (λ bs. Some (drop 1 bs)) (sym r.2)
