@@ -30,10 +30,11 @@ const _: () = prove!(PIECE == 65_536);
 /// of them.
 ///
 /// Each line is one [`Keeper::write`], with a sample for each field of its point, at its own time, or
-/// else at the moment that the clock gives. The clock is asked once for each point, also for one with
-/// a time of its own, and is renewed for each piece of the input. A refused line is answered at once by `line N: NAME`, where N counts all lines
-/// from 1: its fault, `LineTooLong`, `AheadOfClock` or `NumbersSpent`. After each 1,000 lines and at the
-/// end all is published; then `points P samples S refused R` is written.
+/// else at the moment that the clock gives. The clock is asked once for each point, also for one with a
+/// time of its own, and is renewed for each piece of the input. A refused line is answered at once by
+/// `line N: NAME`, where N counts all lines from 1: its fault, `LineTooLong`, `AheadOfClock` or
+/// `NumbersSpent`. After each 1,000 lines and at the end all is published; then `points P samples S
+/// refused R` is written.
 ///
 /// However a call ends, what was put stays, published or pending, and what is written is a front of
 /// the whole answer. The cost is that of reading and writing each line; a piece of the input, one line
