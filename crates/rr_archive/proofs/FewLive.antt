@@ -1,6 +1,6 @@
 -- An archive of live cells has at most so many as its rows times the origins of its cells.
-use Rattle.std.proofs.Common.{◌≡◌, ℕ, zero, suc, ◌+◌, ◌-◌, ◌*◌, ◌<◌, ◌≤◌, ℤ, pos, negsuc, ◌-ℤ◌, ◌≤ℤ◌, ◌<ℤ◌, Bool, true, false, cond, List, [], ◌∷◌, map, length, slice_get, refl, sym, ap, ◌∙◌, subst, true≢false, arith, eqb, ne_eqb, mul_comm, Some, None, is_some, int_cmp}
-use Rattle.std.specs.Prelude.{int_lt, unsigned_abs, slice_index_or, Contains}
+use Rattle.std.proofs.Common.{◌≡◌, ℕ, zero, suc, ◌+◌, ◌*◌, ◌<◌, ◌≤◌, ℤ, pos, negsuc, ◌-ℤ◌, ◌≤ℤ◌, ◌<ℤ◌, Bool, true, false, cond, List, [], ◌∷◌, map, length, slice_get, refl, sym, ap, ◌∙◌, subst, true≢false, arith, eqb, ne_eqb, mul_comm, Some, None, is_some, int_cmp}
+use Rattle.std.specs.Prelude.{int_lt, unsigned_abs, Contains}
 use Rattle.std.specs.List.{list_any, AllByRecursion}
 use Rattle.std.specs.List as lists
 use Rattle.std.specs.Option.{unwrap_or}

@@ -14,8 +14,8 @@ use Rattle.rr_contrib.specs.declared.contribution.Contribution.{Contribution}
 use Rattle.rr_archive.specs.declared.entry.Entry.{Entry}
 use Rattle.rr_archive.specs.CellSlots.{CellSlot, cell_slot, cell_slot_cmp}
 use Rattle.std.specs.Prelude.{IsTrue, nat_lt, vec_len, vec_capacity, ◌<◌}
-use Rattle.rr_archive.specs.Row.{entry_at, with_entry, ascends}
-use Rattle.rr_archive.specs.Held.{row_in, cell_in, cell_slots_in, cells_in, has_room_in, row_ascends, RowsAscend}
+use Rattle.rr_archive.specs.Row.{entry_at, with_entry}
+use Rattle.rr_archive.specs.Held.{row_in, cell_in, cell_slots_in, cells_in, has_room_in}
 use Rattle.rr_archive.proofs.CellSlotOrder.{cell_slot_cmp_total, cell_slot_cmp-IsAntisymmetric}
 use Rattle.rr_archive.proofs.RowLemmas.{entry_at-cons, entry_at-with_entry}
 

@@ -3,8 +3,6 @@ use Rattle.std.proofs.Common.{◌≡◌, ℕ, ◌≤◌, ℤ, pos, ◌-ℤ◌, B
 use Rattle.std.specs.Prelude.{int_lt, is_none, ◌+◌}
 use Rattle.std.specs.Ordering.{eq_by_cmp, ord_max, int_eq, is_eq, is_lt}
 use Rattle.std.specs.FinMap.{empty, get, insert, keys, len, retain_keys, same_map, get-insert, get-empty, get-retain_keys, len-empty}
-use Rattle.std.proofs.lemmas.Bool.{eqb-true}
-use Rattle.std.proofs.lemmas.Bool.Decides.{nat_tests}
 use Rattle.std.proofs.lemmas.Int.{ints}
 use Rattle.rr_join.specs.Maps.{greater, trimmed}
 use Rattle.rr_join.specs.Horizon.{is_above}
@@ -19,12 +17,12 @@ use Rattle.rr_archive.specs.Row.{entry_at, with_entry, ascends}
 use Rattle.rr_archive.proofs.CellSlotOrder.{cell_slot_cmp_total, cell_slot_cmp-IsAntisymmetric}
 use Rattle.rr_archive.proofs.Horizon.{live_at_horizon}
 use Rattle.rr_archive.proofs.HeldLemmas.{cell_slots_tie}
-use Rattle.rr_archive.proofs.RowLemmas.{entry_at-with_entry, ascends_with_entry}
+use Rattle.rr_archive.proofs.RowLemmas.{entry_at-with_entry}
 use Rattle.rr_archive.proofs.FewCells.{newest-insert, in_range-insert, contains_key-get}
 use Rattle.rr_archive.proofs.Counting.{len_with}
 use Rattle.rr_archive.proofs.Trimming.{in_range-trimmed, newest-trimmed, trimmed_by_slots, trimmed_dead, trimmed_none}
 use Rattle.rr_archive.specs.LiveRows.{is_empty, cells_by, is_later, IsHeldBy}
-use Rattle.rr_archive.proofs.LiveRowsLemmas.{get-cells_by, entries-cells_by, empty_is}
+use Rattle.rr_archive.proofs.LiveRowsLemmas.{get-cells_by, entries-cells_by}
 
 pub same_slot : (a b : ℤ) → int_eq a b ≡ true → a ≡ b
 same_slot a b h = grind (arith, ints)

@@ -1,5 +1,5 @@
 -- Cells of a page, joined one after the other.
-use Rattle.std.proofs.Common.{◌≡◌, ℕ, List, [], ◌∷◌, OnErr, Result, Ok, Err, Bool, false, take, drop, inl, inr, refl, sym, ap, subst}
+use Rattle.std.proofs.Common.{◌≡◌, ℕ, List, OnErr, Result, Ok, Err, Bool, false, take, drop, inl, inr, refl, sym, ap, subst}
 use Rattle.std.proofs.lemmas.List.{take-append-drop}
 use Rattle.rr_text.specs.Results.{◌>>=◌}
 use Rattle.rr_page.specs.PageReading.{page_at}

@@ -1,9 +1,7 @@
 -- Lists of calls that grow.
-use Rattle.std.proofs.Common.{◌≡◌, List, [], ◌∷◌, ◌++◌, map, Option, None, Some, refl, ap, sym, ◌∙◌, append_assoc}
-use Rattle.std.specs.Prelude.{option_map}
-use Rattle.std.proofs.lemmas.List.{append-nil, map-append}
+use Rattle.std.proofs.Common.{List, [], ◌++◌, Option, None, Some, ap, sym, ◌∙◌, append_assoc}
+use Rattle.std.proofs.lemmas.List.{append-nil}
 use Rattle.rr_host.specs.Calls.{Grows}
-use Rattle.rr_host.specs.Log.{HasNoted, Log, map_log}
 
 pub grows_on : {A : Type 0} (a b c : Option (List A)) (xs ys : List A) → Grows a b xs → Grows b c ys → Grows a c (xs ++ ys)
 grows_on {A = A} None None None xs ys p q = tt

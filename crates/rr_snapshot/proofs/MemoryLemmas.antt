@@ -1,5 +1,5 @@
 -- Where memory runs out among the cells of a snapshot.
-use Rattle.std.proofs.Common.{◌≡◌, ℕ, suc, ◌+◌, ◌-◌, ◌<◌, not, List, ◌∷◌, ◌++◌, Option, None, Some, IfSome, Result, Ok, Err, refl, sym, ap, subst, ◌∙◌, arith}
+use Rattle.std.proofs.Common.{◌≡◌, ℕ, suc, ◌+◌, ◌-◌, ◌<◌, not, List, ◌∷◌, ◌++◌, Option, None, Some, IfSome, Result, Ok, Err, sym, ap, subst, ◌∙◌, arith}
 use Rattle.rr_text.specs.Results.{◌>>=◌, unless}
 use Rattle.rr_schema.specs.Schema.{Layout}
 use Rattle.rr_model.specs.CellNames.{CellName}

@@ -1,5 +1,5 @@
 -- A quotient is known by its bounds.
-use Rattle.std.proofs.Common.{rules, ◌≡◌, ◌<◌, ◌≤◌, ◌+◌, ◌-◌, ◌*◌, ◌/◌, ℕ, arith}
+use Rattle.std.proofs.Common.{rules, ◌≡◌, ◌<◌, ◌≤◌, ◌-◌, ◌*◌, ◌/◌, ℕ, arith}
 use borrow.Author.Tests.{ltb-true}
 use Rattle.std.proofs.Math.Nat.{div-eq_of_lt-le}
 use Rattle.rr_replica.proofs.slots.is_within.Goals as goal

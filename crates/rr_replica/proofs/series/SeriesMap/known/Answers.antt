@@ -1,4 +1,4 @@
-use Rattle.std.proofs.Common.{◌≡◌, Some, sym, ◌∙◌, arith}
+use Rattle.std.proofs.Common.{◌≡◌, Some, sym, arith}
 use Rattle.rr_replica.specs.Indexed.{index_of}
 use Rattle.rr_replica.proofs.IndexedLemmas.{key_within, key_found, index_within, element_found}
 use Rattle.rr_replica.proofs.series.SeriesMap.known.Goals as goal
