@@ -1,8 +1,8 @@
 -- Calls of gates.
-use Rattle.std.proofs.Common.{List, [], ◌∷◌, ◌++◌, Option, None, Some, sym, ap, ◌∙◌, append_assoc}
+use Rattle.std.proofs.Common.{List, [], ◌++◌, Option, None, Some, sym, ap, ◌∙◌, append_assoc}
 use Rattle.std.proofs.lemmas.List.{append-nil}
 use Rattle.rr_desk.specs.declared.gate.GateCall.{GateCall}
-use Rattle.rr_desk.specs.Gate.{WasAsked, WasAskedLast}
+use Rattle.rr_desk.specs.Gate.{WasAsked}
 
 -- no call
 pub not_asked : (known : Option (List GateCall)) → WasAsked known known []

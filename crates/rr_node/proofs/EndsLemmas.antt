@@ -1,6 +1,6 @@
 -- Connections and pulls that are over: their streams were given and handed back.
-use Rattle.std.proofs.Common.{◌≡◌, ℕ, ℤ, true, List, [], ◌∷◌, Option, Some, None, Result, Ok, Err, refl, inr, subst}
-use Rattle.std.specs.Prelude.{IfOk, IfErr, OnErr, Bool, if◌then◌else◌}
+use Rattle.std.proofs.Common.{◌≡◌, ℕ, ℤ, List, [], ◌∷◌, Option, Some, Result, Err, refl, inr}
+use Rattle.std.specs.Prelude.{IfOk, IfErr, OnErr}
 use Rattle.rr_copies.specs.Standing.{KeeperState}
 use Rattle.rr_config.specs.declared.config.Config.{Config}
 use Rattle.rr_gossip.specs.declared.fault.GossipFault.{GossipFault}

@@ -1,24 +1,19 @@
 -- A line that says samples is taken as the samples are.
-use Rattle.std.proofs.Common.{◌≡◌, ℕ, ℤ, Bool, true, false, List, [], ◌∷◌, length, Option, Result, Ok, Err, Bor, refl, sym, ap, subst, ◌∙◌, inl}
+use Rattle.std.proofs.Common.{◌≡◌, ℕ, ℤ, Bool, true, false, List, [], ◌∷◌, length, Option, Result, Ok, Err, Bor, refl, sym, ap, subst, ◌∙◌}
 use Rattle.std.specs.Prelude.{codes, map, take, unwrap_or, IsTrue}
 use Rattle.std.specs.declared.alloc.AllocError.{AllocError}
 use Rattle.std.proofs.lemmas.List.{length-map}
-use Rattle.rr_feed.specs.Items.{Line}
-use Rattle.rr_line.specs.Known.{Sample, SaysSamples, samples_of}
+use Rattle.rr_line.specs.Known.{Sample, samples_of}
 use Rattle.rr_point.specs.Key.{key_text}
 use Rattle.rr_point.specs.Point.{PointView}
-use Rattle.rr_cells.specs.Holding.{Holding}
 use Rattle.rr_replica.specs.Writing.{is_ahead, lacks_numbers}
 use Rattle.rr_replica.specs.declared.fault.WriteFault.{WriteFault}
 use Rattle.rr_replica.specs.declared.fault.WriteFault.TheVariants as why
 use Rattle.rr_replica.proofs.FieldLemmas.{take-view}
 use Rattle.rr_copies.specs.Standing.{KeeperState, holding_of}
 use Rattle.rr_desk.specs.Points.{with_put, with_puts, with_samples}
-use Rattle.rr_host.specs.Clock.{HasGiven}
-use Rattle.rr_node.specs.declared.answer.Answer.{Answer}
 use Rattle.rr_node.specs.declared.answer.Answer.TheVariants as says
-use Rattle.rr_node.specs.declared.rules.Rules.{Rules}
-use Rattle.rr_node.specs.Connection.{IsAnswer, IsTaken, TakesItem}
+use Rattle.rr_node.specs.Connection.{IsAnswer, IsTaken}
 use Rattle.rr_node.specs.Lines.{Verdict, skipped, put, refused, verdict_by, verdict_of_point, keeper_with, keeper_with_some}
 use Rattle.rr_node.proofs.VerdictLemmas.{Tells, verdict_put_of, verdict_spent_of}
 

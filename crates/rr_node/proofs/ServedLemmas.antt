@@ -1,17 +1,12 @@
 -- Connections of a reader that are served.
-use Rattle.std.proofs.Common.{◌≡◌, ◌⊎◌, ℕ, ◌==◌, drop, true, false, List, [], ◌∷◌, Option, Some, None, Result, Ok, Err, refl, sym, ap, subst, ◌∙◌, inl, inr}
+use Rattle.std.proofs.Common.{◌≡◌, ◌⊎◌, ℕ, true, false, List, [], ◌∷◌, Option, Some, None, Result, Ok, Err, refl, subst, inl, inr}
 use Rattle.std.specs.Prelude.{IfErr, IfSome, OnErr, OnOk}
-use Rattle.std.specs.Io.KnownBytes.{Consumes, IsAtEnd}
-use Rattle.std.proofs.KnownBytes.{Appends-nil}
-use Rattle.rr_desk.specs.Standing.{HasSeenMore, cells_seen}
-use Rattle.rr_gossip.specs.declared.fault.GossipFault.{GossipFault}
-use Rattle.rr_gossip.specs.declared.fault.GossipFault.TheVariants as session
-use Rattle.rr_gossip.specs.declared.frame.TheConstants.{MAX_FRAMES}
-use Rattle.rr_gossip.specs.Session.{HasGiven}
+use Rattle.std.specs.Io.KnownBytes.{Consumes}
+use Rattle.rr_desk.specs.Standing.{cells_seen}
 use Rattle.rr_node.specs.declared.fault.NodeFault.{NodeFault}
-use Rattle.rr_node.specs.declared.fault.NodeFault.TheVariants.{ReadFailed, Session, TooManyReads}
-use Rattle.rr_node.specs.Fault.{IsOfLines, of_session_fault}
-use Rattle.rr_node.specs.Fetches.{Sight, HasAnswered, HasAnsweredSome, HasFailedSession, HasNotGiven, IsServed, is_pull}
+use Rattle.rr_node.specs.declared.fault.NodeFault.TheVariants.{ReadFailed, TooManyReads}
+use Rattle.rr_node.specs.Fault.{IsOfLines}
+use Rattle.rr_node.specs.Fetches.{Sight, HasAnsweredSome, HasNotGiven, IsServed, is_pull}
 use Rattle.rr_node.proofs.FetchesLemmas.{seen_same}
 use Rattle.rr_node.proofs.ServingLemmas.{none_answered}
 

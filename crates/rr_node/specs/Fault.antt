@@ -1,5 +1,5 @@
 -- The faults of connections, and their printed names.
-use Rattle.std.specs.Prelude.{◌≡◌, ⊤, ◌⊎◌, ℕ, Bool, true, false, List, codes, Result, Ok, Err}
+use Rattle.std.specs.Prelude.{◌≡◌, ⊤, ◌⊎◌, ℕ, Bool, true, false, List, codes}
 use Rattle.rr_text.specs.declared.limits.TheConstants.{MAX_READS}
 use Rattle.rr_io.specs.Counted.{HasRisen, HasRisenBy}
 use Rattle.rr_io.specs.declared.stream.ReadFault.{ReadFault}

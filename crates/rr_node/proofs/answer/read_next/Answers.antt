@@ -1,5 +1,5 @@
 -- A field that is read is a value more.
-use Rattle.std.proofs.Common.{◌≡◌, ◌+◌, ◌≤◌, ◌∷◌, ◌++◌, [], List, ℕ, ℤ, Some, length, map, sym, ap, subst, ◌∙◌, arith, rules, to_z, of_z, w64}
+use Rattle.std.proofs.Common.{◌≡◌, ◌+◌, ◌≤◌, ◌∷◌, ◌++◌, [], List, ℕ, Some, length, map, sym, ap, subst, ◌∙◌, arith, rules, to_z, of_z, w64}
 use Rattle.std.proofs.lemmas.List.{length-append, map-append}
 use Rattle.rr_line.specs.Known.{Sample}
 use Rattle.rr_line.specs.KnownLine.{HasRead}

@@ -1,4 +1,4 @@
-use Rattle.std.proofs.Common.{◌≤◌, ◌+◌, length, map}
+use Rattle.std.proofs.Common.{◌≤◌, length, map}
 use Rattle.rr_line.specs.KnownLine.{HasRead}
 use Rattle.rr_desk.specs.Points.{keyed_value}
 use Rattle.rr_node.proofs.answer.read_next.Given as goal
