@@ -13,7 +13,7 @@ use Rattle.rr_schema.specs.Schema.{Layout, IsLayout, archive_at, slot_of, place_
 use Rattle.rr_schema.proofs.PlaceLemmas.{rem_is_place}
 use Rattle.rr_contrib.specs.declared.contribution.Contribution.{Contribution}
 use Rattle.rr_contrib.specs.Contributions.{SlotSample, of_one, with_sample}
-use Rattle.rr_contrib.specs.Validity.{IsValid, CanAdd, StartsValid, KeepsValid}
+use Rattle.rr_contrib.specs.Validity.{IsValid, StartsValid, KeepsValid}
 use Rattle.rr_contrib.proofs.Masks.{one_bit, ones-with_place, bit_kept, bit_set}
 
 -- ---- a place is below the steps of its slot
@@ -104,9 +104,6 @@ once_low z = subst (λ y. y ≤ℤ z) (sym (one-*ℤ z)) (le_same z)
 
 once_high : (z : ℤ) → z ≤ℤ (pos 1 *ℤ z)
 once_high z = subst (λ y. z ≤ℤ y) (sym (one-*ℤ z)) (le_same z)
-
-pub CanAdd-of_one : (x : SlotSample) (number : ℕ) → 1 ≤ x.number → x.number < number → CanAdd number (of_one x)
-CanAdd-of_one x number some newer = record { newer = newer; counted = some; low = once_low x.value; high = once_high x.value }
 
 -- ---- together
 
