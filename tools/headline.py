@@ -35,9 +35,9 @@ It says: if memory isn't refused, `run` prints what the *sample model* prints. I
 that reached it and throws none away; each fetch filters and folds them. The first clause says the same of a model
 whose nodes hold cells, and shows how the code works; nobody has to read it.
 
-So whoever believes the {count} definitions below, and the toolchain, believes the program. They are all that the clause
-rests on, {lines} lines from the bytes of a line to the text of an answer. Numbers are unbounded and don't wrap; texts are lists
-of bytes; a division rounds to the floor.
+So what a script prints rests on the {count} definitions below, {lines} lines with their comments; on the types and constants
+of the code that they cite, and on words of the toolchain's library; and on the toolchain. Numbers are unbounded and don't
+wrap; texts are lists of bytes; a division rounds to the floor.
 
 How a contract is read, this one and any other:
 

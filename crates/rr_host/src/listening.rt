@@ -76,8 +76,8 @@ impl Listening {
         })
     }
 
-    /// The same connections, none of which is given before all threads of the node have begun. Where one of them hasn't
-    /// within ten seconds, as there was no memory for it, the flag is raised.
+    /// The same connections, none of which is given before all threads of the node have begun. If one of them hasn't
+    /// within ten seconds, as when there was no memory for it, the flag is raised.
     pub fn after_start(self, start: StartBarrier) -> Listening {
         Listening {
             start: Some(start),
@@ -102,7 +102,7 @@ impl Listening {
         }
     }
 
-    /// Whether all threads of the node have begun. Where one hasn't in time, the node is halted.
+    /// Whether all threads of the node have begun. If one hasn't in time, the node is halted.
     fn has_started(&mut self) -> bool {
         let Some(start) = self.start.take() else {
             return true;

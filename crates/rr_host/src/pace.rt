@@ -34,7 +34,7 @@ impl Model for Pace {
 }
 
 impl Pace {
-    /// The pace of what is due once in so many seconds, or at any time if that is missing. It wasn't done yet.
+    /// The pace of what is due once in so many seconds, or at any time if that is missing. It has not been done yet.
     pub fn new(every: Option<u64>) -> Pace
         ensures { result ≡ record { every = every; passed = 0 } }
     {

@@ -12,7 +12,7 @@ const LOOK: i64 = 1_000_000;
 /// How often is looked: for ten seconds.
 const LOOKS: u32 = 10_000;
 
-/// Waits for so many nanoseconds, less than a second. If a signal ends it early, it was a shorter wait.
+/// Sleeps for so many nanoseconds, fewer than a second's. A signal may end the sleep early.
 pub(crate) fn pause(nanoseconds: i64) {
     let asked = timespec {
         tv_sec: 0,
@@ -22,10 +22,10 @@ pub(crate) fn pause(nanoseconds: i64) {
     let _ended = nanosleep(&asked, &mut left);
 }
 
-/// Where each thread of a node waits before its first connection until all of them have begun.
+/// A barrier at which each thread of a node waits, before its first connection, until all of them have begun.
 ///
-/// Where a thread can't be made, its work is done by another one once that has ended its own, which may be never. No
-/// work has begun then when this is found.
+/// If a thread can't be made, the toolchain has another thread do its work afterwards, which may be never. The barrier
+/// shows that before any work has begun.
 #[derive(Drop)]
 pub struct StartBarrier {
     begun: Arc<AtomicUsize>,
@@ -33,7 +33,7 @@ pub struct StartBarrier {
 }
 
 impl StartBarrier {
-    /// A barrier for so many threads, none of which has begun.
+    /// A barrier for this number of threads, none of which has begun.
     pub fn new(alloc: Global, threads: usize) -> Result<StartBarrier, AllocError> {
         Ok(StartBarrier {
             begun: Arc::new(alloc, AtomicUsize::new(0))?,

@@ -44,7 +44,7 @@ impl<'a, R: Files + Eprint> FileShelf<'a, R> {
 
     fn print_save(&self, fault: SaveFault) {
         let name = fault.name();
-        // Where this can't be printed, there is no one to tell.
+        // If this can't be printed, there is no one to tell.
         let _printed = eprintln!(self.rt; "save: {name}");
     }
 }
@@ -65,15 +65,15 @@ impl<R: Files + Eprint> Shelf for FileShelf<'_, R> {
         if self.met.contains(&number) {
             return;
         }
-        // Where there is no memory to note it, it is printed again.
+        // If there is no memory to note it, it is printed again.
         let _noted = self.met.push(number);
-        // Where this can't be printed, there is no one to tell.
+        // If this can't be printed, there is no one to tell.
         let _printed = eprintln!(self.rt; "peer {number}: own origin");
     }
 
     fn peer_failed(&mut self, number: usize, fault: NodeFault) {
         let name = fault.name();
-        // Where this can't be printed, there is no one to tell.
+        // If this can't be printed, there is no one to tell.
         let _printed = eprintln!(self.rt; "peer {number}: {name}");
     }
 

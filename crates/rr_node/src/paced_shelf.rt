@@ -64,7 +64,7 @@ impl<R: Files + Eprint + Clock, S: Shelf> Shelf for PacedShelf<'_, R, S> {
 
     fn lines_taken(&mut self, report: Option<Report>) {
         if self.alarm.take() {
-            // Where this can't be printed, there is no one to tell.
+            // If this can't be printed, there is no one to tell.
             let _printed = eprintln!(self.rt; "session: SchemaDiffers");
         }
         self.log.lines_are_taken(report);

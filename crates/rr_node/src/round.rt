@@ -77,9 +77,9 @@ fn take_lines<A: Cells, V: Visits, C: Clock, T: Wait>(
 /// more, nothing else is done.
 ///
 /// A fault of the connection ends the connection alone. A peer that can't be reached or whose pull fails
-/// is passed over, and a save that fails too; both are told to the shelf, and a peer that has cells of the node's own
-/// origin which it never wrote. `Memory` ends the round there; there is no other fault. Each stream that was given is
-/// handed back.
+/// is passed over, and a save that fails too; both are told to the shelf, as is a peer with cells of the
+/// node's own origin that the node never wrote. `Memory` ends the round there; there is no other fault.
+/// Each stream that was given is handed back.
 pub fn keep_round<A: Cells, V: Visits, D: Dial, S: Shelf, C: Clock, T: Wait>(
     alloc: Global,
     keeper: &mut Keeper<A>,

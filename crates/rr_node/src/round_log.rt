@@ -120,7 +120,7 @@ impl<'a, R: Files + Eprint + Clock> RoundLog<'a, R> {
             refused,
         } = self.since;
         let (cells, pulls, save) = (self.cells, Seconds(self.pulls), Seconds(self.save));
-        // Where this can't be printed, there is no one to tell.
+        // If this can't be printed, there is no one to tell.
         let _printed = eprintln!(self.rt;
             "round: connections {connections} points {points} samples {samples} refused {refused} cells {cells} pulls {pulls} save {save}"
         );
