@@ -12,5 +12,6 @@ cell_slot_cmp_total = then_total (on_total (λ p. p.slot) int_cmp_total) (on_tot
 pub cell_slot_cmp-IsAntisymmetric : IsAntisymmetric cell_slot_cmp
 cell_slot_cmp-IsAntisymmetric a b e =
     let slot : a.slot ≡ b.slot = int_cmp-IsAntisymmetric a.slot b.slot (first_Equal _ _ e) in
-    let origin : a.origin ≡ b.origin = nat_cmp-IsAntisymmetric a.origin b.origin (then_Equal (int_cmp a.slot b.slot) _ e) in
+    let origin : a.origin ≡ b.origin = nat_cmp-IsAntisymmetric a.origin b.origin
+    (then_Equal (int_cmp a.slot b.slot) _ e) in
     λ j. record { slot = slot j; origin = origin j }

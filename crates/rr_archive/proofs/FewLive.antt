@@ -20,7 +20,7 @@ use Rattle.rr_join.proofs.Distinct.{IsDistinct, keys_distinct}
 use Rattle.rr_join.proofs.Distinct.IsDistinct.{more}
 use Rattle.rr_join.specs.Horizon.{is_above}
 use Rattle.rr_archive.specs.CellSlots.{CellSlot, cell_slot_cmp, newest_of, is_live_at}
-use Rattle.rr_archive.specs.Cells.{Rows, IsTrimmed}
+use Rattle.rr_archive.specs.Cells.{ArchiveCells, IsTrimmed}
 use Rattle.rr_archive.specs.Laws.{CellsAreFew}
 use Rattle.rr_archive.proofs.CellSlotOrder.{cell_slot_cmp_total, cell_slot_cmp-IsAntisymmetric}
 
@@ -31,7 +31,8 @@ Some_inj x y e = ap (λ v. unwrap_or v x) e
 
 none_newest : (ps : List CellSlot) → newest_of ps ≡ None → (p : CellSlot) → is_in cell_slot_cmp ps p ≡ false
 none_newest [] e p = refl
-none_newest (x ∷ xs) e p = absurd (true≢false (sym (ap is_some (greatest_some int_cmp x.slot (map (λ q. q.slot) xs) (pos 0))) ∙ ap is_some e))
+none_newest (x ∷ xs) e p = absurd (true≢false (sym
+    (ap is_some (greatest_some int_cmp x.slot (map (λ q. q.slot) xs) (pos 0))) ∙ ap is_some e))
 
 not_above_max : (x y z : ℤ) → int_lt (ord_max int_cmp x y) z ≡ true → (int_lt x z ≡ true) × (int_lt y z ≡ true)
 not_above_max x y z h = (grind (arith, ints), grind (arith, ints))
@@ -39,17 +40,21 @@ not_above_max x y z h = (grind (arith, ints), grind (arith, ints))
 not_above_itself : (x : ℤ) → int_lt x x ≡ false
 not_above_itself x = grind (arith, ints)
 
-newest_is_last : (ps : List CellSlot) (top : ℤ) → newest_of ps ≡ Some top → (p : CellSlot) → is_in cell_slot_cmp ps p ≡ true → int_lt top p.slot ≡ true → true ≡ false
+newest_is_last : (ps : List CellSlot) (top : ℤ) → newest_of ps ≡ Some top → (p : CellSlot)
+    → is_in cell_slot_cmp ps p ≡ true → int_lt top p.slot ≡ true → true ≡ false
 newest_is_last [] top e p is above = absurd (true≢false (sym is))
 newest_is_last (q ∷ ps) top e p is above =
     elim (newest_of ps) as (λ g. newest_of ps ≡ g → greater int_cmp (Some q.slot) g ≡ Some top → true ≡ false) [
       | None ↦ λ g e. either_case (eq_by_cmp cell_slot_cmp p q) (is_in cell_slot_cmp ps p) is
-          (λ t. sym above ∙ (λ i. int_lt (sym (Some_inj q.slot top e) i) (same_from_tie cell_slot_cmp_total cell_slot_cmp-IsAntisymmetric p q t i).slot) ∙ not_above_itself q.slot)
+          (λ t. sym above ∙ (λ i. int_lt (sym (Some_inj q.slot top e) i)
+          (same_from_tie cell_slot_cmp_total cell_slot_cmp-IsAntisymmetric p q t i).slot) ∙ not_above_itself q.slot)
           (λ h. absurd (true≢false (sym h ∙ none_newest ps g p)))
       | Some y ↦ λ g e.
-          let beyond = not_above_max q.slot y p.slot (subst (λ z. int_lt z p.slot ≡ true) (sym (Some_inj (ord_max int_cmp q.slot y) top e)) above) in
+          let beyond = not_above_max q.slot y p.slot (subst (λ z. int_lt z p.slot ≡ true)
+          (sym (Some_inj (ord_max int_cmp q.slot y) top e)) above) in
           either_case (eq_by_cmp cell_slot_cmp p q) (is_in cell_slot_cmp ps p) is
-          (λ t. sym beyond.0 ∙ ap (λ (r : CellSlot). int_lt q.slot r.slot) (same_from_tie cell_slot_cmp_total cell_slot_cmp-IsAntisymmetric p q t) ∙ not_above_itself q.slot)
+          (λ t. sym beyond.0 ∙ ap (λ (r : CellSlot). int_lt q.slot r.slot)
+          (same_from_tie cell_slot_cmp_total cell_slot_cmp-IsAntisymmetric p q t) ∙ not_above_itself q.slot)
           (λ h. newest_is_last ps y g p h beyond.1)
     ] refl e
 
@@ -59,7 +64,8 @@ abs_below : (z : ℤ) (n : ℕ) → pos 0 ≤ℤ z → z <ℤ pos n → unsigned
 abs_below (pos a) n p q = omega (arith, ints)
 abs_below (negsuc a) n p q = absurd (omega (arith, ints))
 
-within_rows : (top slot : ℤ) (rows : ℕ) → int_lt (top -ℤ pos rows) slot ≡ true → int_lt top slot ≡ false → unsigned_abs (top -ℤ slot) < rows
+within_rows : (top slot : ℤ) (rows : ℕ) → int_lt (top -ℤ pos rows) slot ≡ true → int_lt top slot ≡ false
+    → unsigned_abs (top -ℤ slot) < rows
 within_rows top slot rows p q = abs_below (top -ℤ slot) rows (omega (arith, ints)) (omega (arith, ints))
 
 as_pos : (z : ℤ) → pos 0 ≤ℤ z → z ≡ pos (unsigned_abs z)
@@ -72,8 +78,10 @@ not_below top a p = omega (arith, ints)
 one_slot : (top a b : ℤ) → (top -ℤ a) ≡ (top -ℤ b) → a ≡ b
 one_slot top a b e = omega (arith, ints)
 
-same_distance : (top a b : ℤ) → int_lt top a ≡ false → int_lt top b ≡ false → unsigned_abs (top -ℤ a) ≡ unsigned_abs (top -ℤ b) → a ≡ b
-same_distance top a b p q e = one_slot top a b (as_pos (top -ℤ a) (not_below top a p) ∙ ap pos e ∙ sym (as_pos (top -ℤ b) (not_below top b q)))
+same_distance : (top a b : ℤ) → int_lt top a ≡ false → int_lt top b ≡ false
+    → unsigned_abs (top -ℤ a) ≡ unsigned_abs (top -ℤ b) → a ≡ b
+same_distance top a b p q e = one_slot top a b (as_pos (top -ℤ a) (not_below top a p) ∙ ap pos e
+    ∙ sym (as_pos (top -ℤ b) (not_below top b q)))
 
 length-map : {A B : Type 0} (f : A → B) (xs : List A) → length (map f xs) ≡ length xs
 length-map f [] = refl
@@ -123,15 +131,21 @@ module _ (rows : ℕ) (origins : List ℕ) (top : ℤ) where
   code_below : (p : CellSlot) → Fits rows origins top p → code origins top p < rows * length origins
   unfolding code
   code_below p f =
-      subst (λ n. unsigned_abs (top -ℤ p.slot) * length origins + place_in origins p.origin < n) (mul_comm (length origins) rows)
-      (mul-add-lt (unsigned_abs (top -ℤ p.slot)) (length origins) (place_in origins p.origin) rows f.near f.listed.within)
+      subst (λ n. unsigned_abs (top -ℤ p.slot) * length origins + place_in origins p.origin < n)
+      (mul_comm (length origins) rows)
+      (mul-add-lt (unsigned_abs (top -ℤ p.slot)) (length origins) (place_in origins p.origin) rows f.near
+      f.listed.within)
 
-  one_code : (p q : CellSlot) → Fits rows origins top p → Fits rows origins top q → code origins top p ≡ code origins top q → p ≡ q
+  one_code : (p q : CellSlot) → Fits rows origins top p → Fits rows origins top q
+      → code origins top p ≡ code origins top q → p ≡ q
   unfolding code
   one_code p q f g e =
-      let parts = same_from_place (unsigned_abs (top -ℤ p.slot)) (place_in origins p.origin) (unsigned_abs (top -ℤ q.slot)) (place_in origins q.origin) (length origins) f.listed.within g.listed.within e in
+      let parts = same_from_place (unsigned_abs (top -ℤ p.slot)) (place_in origins p.origin)
+      (unsigned_abs (top -ℤ q.slot)) (place_in origins q.origin) (length origins) f.listed.within g.listed.within
+      e in
       let slots = same_distance top p.slot q.slot f.below g.below parts.0 in
-      let one : p.origin ≡ q.origin = Some_one p.origin q.origin (sym f.listed.there ∙ ap (slice_get origins) parts.1 ∙ g.listed.there) in
+      let one : p.origin ≡ q.origin = Some_one p.origin q.origin
+      (sym f.listed.there ∙ ap (slice_get origins) parts.1 ∙ g.listed.there) in
       λ i. record { slot = slots i; origin = one i }
     where
       Some_one : (a b : ℕ) → Some a ≡ Some b → a ≡ b
@@ -146,15 +160,21 @@ module _ (rows : ℕ) (origins : List ℕ) (top : ℤ) where
   rest_fits : (p : CellSlot) (ps : List CellSlot) → AllFit (p ∷ ps) → AllFit ps
   rest_fits p ps f = λ q e. f q (or_right (eq_by_cmp cell_slot_cmp q p) (is_in cell_slot_cmp ps q) e)
 
-  codes_apart : (x : CellSlot) (ps : List CellSlot) → Fits rows origins top x → AllFit ps → is_in cell_slot_cmp ps x ≡ false → AllByRecursion (λ y. eqb (code origins top x) y ≡ false) (map (code origins top) ps)
+  codes_apart : (x : CellSlot) (ps : List CellSlot) → Fits rows origins top x → AllFit ps
+      → is_in cell_slot_cmp ps x ≡ false → AllByRecursion (λ y. eqb (code origins top x) y ≡ false)
+      (map (code origins top) ps)
   codes_apart x [] fx f h = tt
   codes_apart x (p ∷ ps) fx f h =
       let neither = or_parts (eq_by_cmp cell_slot_cmp x p) (is_in cell_slot_cmp ps x) h in (
-        ne_eqb (code origins top x) (code origins top p) (λ e. true≢false (sym (subst (λ y. eq_by_cmp cell_slot_cmp x y ≡ true) (one_code x p fx (head_fits p ps f) e) (tie_itself cell_slot_cmp_total cell_slot_cmp-IsAntisymmetric x)) ∙ neither.0)),
+        ne_eqb (code origins top x) (code origins top p)
+            (λ e. true≢false (sym (subst (λ y. eq_by_cmp cell_slot_cmp x y ≡ true)
+            (one_code x p fx (head_fits p ps f) e) (tie_itself cell_slot_cmp_total cell_slot_cmp-IsAntisymmetric x))
+            ∙ neither.0)),
         codes_apart x ps fx (rest_fits p ps f) neither.1,
       )
 
-  codes_distinct : (ps : List CellSlot) → IsDistinct cell_slot_cmp ps → AllFit ps → lists.IsDistinct eqb (map (code origins top) ps)
+  codes_distinct : (ps : List CellSlot) → IsDistinct cell_slot_cmp ps → AllFit ps
+      → lists.IsDistinct eqb (map (code origins top) ps)
   unfolding lists.IsDistinct
   codes_distinct [] d f = tt
   codes_distinct (p ∷ ps) (more apart d) f =
@@ -162,29 +182,38 @@ module _ (rows : ℕ) (origins : List ℕ) (top : ℤ) where
       (codes_apart p ps (head_fits p ps f) (rest_fits p ps f) apart)
       (codes_distinct ps d (rest_fits p ps f))
 
-  all_below : (ps : List CellSlot) → AllFit ps → (q : ℕ) → list_any (eqb q) (map (code origins top) ps) ≡ true → q < rows * length origins
+  all_below : (ps : List CellSlot) → AllFit ps → (q : ℕ) → list_any (eqb q) (map (code origins top) ps) ≡ true
+      → q < rows * length origins
   all_below [] f q e = absurd (true≢false (sym e))
   all_below (p ∷ ps) f q e = either_case (eqb q (code origins top p)) (list_any (eqb q) (map (code origins top) ps)) e
-      (λ t. subst (λ n. n < rows * length origins) (sym (eqb-true q (code origins top p) t)) (code_below p (head_fits p ps f)))
+      (λ t. subst (λ n. n < rows * length origins) (sym (eqb-true q (code origins top p) t))
+      (code_below p (head_fits p ps f)))
       (λ h. all_below ps (rest_fits p ps f) q h)
 
   few : (ps : List CellSlot) → IsDistinct cell_slot_cmp ps → AllFit ps → length ps ≤ rows * length origins
-  few ps d f = subst (λ n. n ≤ rows * length origins) (length-map (code origins top) ps) (length-le_from_distinct_below (map (code origins top) ps) (rows * length origins) (codes_distinct ps d f) (all_below ps f))
+  few ps d f = subst (λ n. n ≤ rows * length origins) (length-map (code origins top) ps)
+      (length-le_from_distinct_below (map (code origins top) ps) (rows * length origins) (codes_distinct ps d f)
+      (all_below ps f))
 
 -- ---- the cell slots of a trimmed map
 
-live_there : (rows : ℕ) (m : Rows) → IsTrimmed rows m → (p : CellSlot) → contains_key m p ≡ true → is_live_at rows (keys m) p ≡ true
+live_there : (rows : ℕ) (m : ArchiveCells) → IsTrimmed rows m → (p : CellSlot) → contains_key m p ≡ true
+    → is_live_at rows (keys m) p ≡ true
 live_there rows m kept p e = elim (is_live_at rows (keys m) p) as (λ b. is_live_at rows (keys m) p ≡ b → b ≡ true) [
   | true ↦ λ _. refl
-  | false ↦ λ h. sym (ap is_some (sym (ap (λ n. get n p) kept) ∙ get-trimmed cell_slot_cmp_total cell_slot_cmp-IsAntisymmetric (is_live_at rows) m p ∙ ap (λ b. cond b (get m p) None) h)) ∙ e
+  | false ↦ λ h. sym (ap is_some (sym (ap (λ n. get n p) kept)
+      ∙ get-trimmed cell_slot_cmp_total cell_slot_cmp-IsAntisymmetric (is_live_at rows) m p
+      ∙ ap (λ b. cond b (get m p) None) h)) ∙ e
 ] refl
 
-above_top : (rows : ℕ) (ps : List CellSlot) (top : ℤ) (p : CellSlot) → newest_of ps ≡ Some top → is_live_at rows ps p ≡ true → int_lt (top -ℤ pos rows) p.slot ≡ true
+above_top : (rows : ℕ) (ps : List CellSlot) (top : ℤ) (p : CellSlot) → newest_of ps ≡ Some top
+    → is_live_at rows ps p ≡ true → int_lt (top -ℤ pos rows) p.slot ≡ true
 above_top rows ps top p e h = ap (λ g. is_above rows g p.slot) (sym e) ∙ h
 
 nothing_long : (ps : List CellSlot) (n : ℕ) → newest_of ps ≡ None → length ps ≤ n
 nothing_long [] n e = omega arith
-nothing_long (x ∷ xs) n e = absurd (true≢false (sym (head_in cell_slot_cmp_total cell_slot_cmp-IsAntisymmetric x xs) ∙ none_newest (x ∷ xs) e x))
+nothing_long (x ∷ xs) n e = absurd (true≢false (sym (head_in cell_slot_cmp_total cell_slot_cmp-IsAntisymmetric x xs)
+    ∙ none_newest (x ∷ xs) e x))
 
 pub cells_are_few : CellsAreFew
 cells_are_few rows origins m kept of =
@@ -193,6 +222,12 @@ cells_are_few rows origins m kept of =
       | None ↦ λ e. nothing_long (keys m) (rows * length origins) e
       | Some top ↦ λ e. few rows origins top (keys m) (keys_distinct m) (λ p is.
           let here = sym (is_in-keys cell_slot_cmp_total cell_slot_cmp-IsAntisymmetric m p) ∙ is in
-          let below = elim (int_lt top p.slot) as (λ b. int_lt top p.slot ≡ b → b ≡ false) [ true ↦ λ h. newest_is_last (keys m) top e p is h | false ↦ λ h. refl ] refl in
-          record { listed = find_place origins p.origin (of p here); below = below; near = within_rows top p.slot rows (above_top rows (keys m) top p e (live_there rows m kept p here)) below })
+          let below = elim (int_lt top p.slot) as (λ b. int_lt top p.slot ≡ b → b ≡ false)
+          [ true ↦ λ h. newest_is_last (keys m) top e p is h | false ↦ λ h. refl ] refl in
+          record {
+            listed = find_place origins p.origin (of p here);
+            below = below;
+            near =
+                within_rows top p.slot rows (above_top rows (keys m) top p e (live_there rows m kept p here)) below;
+          })
     ] refl)

@@ -10,10 +10,12 @@ use Rattle.rr_join.specs.Maps.{greater, IsHorizon}
 use Rattle.rr_join.specs.Horizon.{is_above}
 use Rattle.rr_archive.specs.CellSlots.{CellSlot, newest_of, is_live_at}
 
-above_both : (x y slot : ℤ) (rows : ℕ) → int_lt (ord_max int_cmp x y -ℤ pos rows) slot ≡ (int_lt (x -ℤ pos rows) slot && int_lt (y -ℤ pos rows) slot)
+above_both : (x y slot : ℤ) (rows : ℕ) → int_lt (ord_max int_cmp x y -ℤ pos rows) slot
+    ≡ (int_lt (x -ℤ pos rows) slot && int_lt (y -ℤ pos rows) slot)
 above_both x y slot rows = grind (arith, ints)
 
-is_above-greater : (rows : ℕ) (x y : Option ℤ) (slot : ℤ) → is_above rows (greater int_cmp x y) slot ≡ (is_above rows x slot && is_above rows y slot)
+is_above-greater : (rows : ℕ) (x y : Option ℤ) (slot : ℤ)
+    → is_above rows (greater int_cmp x y) slot ≡ (is_above rows x slot && is_above rows y slot)
 is_above-greater rows None y slot = refl
 is_above-greater rows (Some x) None slot = sym (and-true (int_lt (x -ℤ pos rows) slot))
 is_above-greater rows (Some x) (Some y) slot = above_both x y slot rows
@@ -21,7 +23,8 @@ is_above-greater rows (Some x) (Some y) slot = above_both x y slot rows
 above_itself : (slot : ℤ) (rows : ℕ) → 0 < rows → int_lt (slot -ℤ pos rows) slot ≡ true
 above_itself slot rows h = grind (arith, ints)
 
-past_further : (l m n : ℤ) (rows : ℕ) → int_lt (l -ℤ pos rows) m ≡ false → int_lt (m -ℤ pos rows) n ≡ false → int_lt (l -ℤ pos rows) n ≡ false
+past_further : (l m n : ℤ) (rows : ℕ) → int_lt (l -ℤ pos rows) m ≡ false → int_lt (m -ℤ pos rows) n ≡ false
+    → int_lt (l -ℤ pos rows) n ≡ false
 past_further l m n rows p q = grind (arith, ints)
 
 -- q is so far ahead that p is past the horizon
@@ -32,7 +35,8 @@ not_not : (a : Bool) → a ≡ not (not a)
 not_not true = refl
 not_not false = refl
 
-live_says : (rows : ℕ) (ps : List CellSlot) (p : CellSlot) → is_live_at rows ps p ≡ list_all (λ q. not (is_past_at rows q p)) ps
+live_says : (rows : ℕ) (ps : List CellSlot) (p : CellSlot)
+    → is_live_at rows ps p ≡ list_all (λ q. not (is_past_at rows q p)) ps
 live_says rows [] p = refl
 live_says rows (q ∷ ps) p =
     is_above-greater rows (Some q.slot) (newest_of ps) p.slot

@@ -1,7 +1,7 @@
 pub mod CellSlotOrder
 pub mod Horizon
 pub mod RowLemmas
-pub mod HeldLemmas
+pub mod ArchiveStateLemmas
 pub mod FewCells
 pub mod Trimming
 pub mod FewLive

@@ -11,48 +11,48 @@ use Rattle.rr_archive.specs.declared.change.Change.{Change}
 use Rattle.rr_archive.specs.Changes.{contribution_after}
 use Rattle.rr_archive.specs.CellSlots.{CellSlot, cell_slot_cmp, is_live_at, IsInRange}
 
-abbrev pub Rows : Type 0
-Rows = FinMap cell_slot_cmp Contribution
+abbrev pub ArchiveCells : Type 0
+ArchiveCells = FinMap cell_slot_cmp Contribution
 
 -- each cell is of the slot of a time, and of an origin
-abbrev pub AreInRange : Rows → Type 0
+abbrev pub AreInRange : ArchiveCells → Type 0
 AreInRange m = (p : CellSlot) → IsTrue (contains_key m p) → IsInRange p
 
 -- ---- without a horizon
 
 -- with a sample more at a cell slot
-abbrev pub with_put : Rows → CellSlot → SlotSample → Rows
+abbrev pub with_put : ArchiveCells → CellSlot → SlotSample → ArchiveCells
 with_put m p x = insert m p (contribution_with (get m p) x)
 
 -- with the cell at a cell slot changed
-abbrev pub with_change : Rows → CellSlot → Change → Rows
+abbrev pub with_change : ArchiveCells → CellSlot → Change → ArchiveCells
 with_change m p change = insert m p (contribution_after (get m p) change)
 
 -- at each cell slot of either map the greater contribution
-abbrev pub merge_rows : Rows → Rows → Rows
-merge_rows m n = merged contribution_cmp m n
+abbrev pub merge_archive_cells : ArchiveCells → ArchiveCells → ArchiveCells
+merge_archive_cells m n = merged contribution_cmp m n
 
 -- with a cell merged in
-abbrev pub with_cell : Rows → CellSlot → Contribution → Rows
-with_cell m p c = merge_rows m (insert empty p c)
+abbrev pub with_cell : ArchiveCells → CellSlot → Contribution → ArchiveCells
+with_cell m p c = merge_archive_cells m (insert empty p c)
 
 -- ---- of an archive of a number of rows
 
 -- no cell is past the horizon
-abbrev pub IsTrimmed : ℕ → Rows → Type 0
+abbrev pub IsTrimmed : ℕ → ArchiveCells → Type 0
 IsTrimmed rows m = trimmed (is_live_at rows) m ≡ m
 
 -- with a sample more at a cell slot, and then the live cells
-abbrev pub put_row : ℕ → Rows → CellSlot → SlotSample → Rows
-put_row rows m p x = trimmed (is_live_at rows) (with_put m p x)
+abbrev pub put_in_archive : ℕ → ArchiveCells → CellSlot → SlotSample → ArchiveCells
+put_in_archive rows m p x = trimmed (is_live_at rows) (with_put m p x)
 
 -- the two merged, and then the live cells
-abbrev pub join_rows : ℕ → Rows → Rows → Rows
-join_rows rows m n = joined contribution_cmp (is_live_at rows) m n
+abbrev pub join_archive_cells : ℕ → ArchiveCells → ArchiveCells → ArchiveCells
+join_archive_cells rows m n = joined contribution_cmp (is_live_at rows) m n
 
 -- with a cell joined in
-abbrev pub join_cell : ℕ → Rows → CellSlot → Contribution → Rows
-join_cell rows m p c = join_rows rows m (insert empty p c)
+abbrev pub join_cell : ℕ → ArchiveCells → CellSlot → Contribution → ArchiveCells
+join_cell rows m p c = join_archive_cells rows m (insert empty p c)
 
 -- ---- read
 
@@ -61,7 +61,7 @@ abbrev pub entry_of : CellSlot × Contribution → Entry
 entry_of e = record { origin = e.0.origin; contribution = e.1 }
 
 -- the entries of a slot, ascending by origin
-unfoldable pub row_of : Rows → ℤ → List Entry
+unfoldable pub row_of : ArchiveCells → ℤ → List Entry
 row_of m slot = map entry_of (filter (λ e. int_eq e.0.slot slot) (entries m))
 
 -- a cell, as its slot and its entry
@@ -69,5 +69,5 @@ abbrev pub cell_of : CellSlot × Contribution → ℤ × Entry
 cell_of e = (e.0.slot, entry_of e)
 
 -- the first cell after a cell slot, if there is one
-abbrev pub next_cell : Rows → CellSlot → Option (CellSlot × Contribution)
+abbrev pub next_cell : ArchiveCells → CellSlot → Option (CellSlot × Contribution)
 next_cell m p = find (λ e. is_lt (cell_slot_cmp p e.0)) (entries m)

@@ -3,7 +3,7 @@ pub mod Row
 pub mod Changes
 pub mod Cells
 pub mod Codes
-pub mod Held
+pub mod ArchiveState
 pub mod LiveRows
 pub mod Entries
 pub mod Laws

@@ -4,7 +4,7 @@ use Rattle.std.specs.FinMap.{keys, len, from_sorted}
 use Rattle.rr_contrib.specs.declared.contribution.Contribution.{Contribution}
 use Rattle.rr_archive.specs.declared.entry.Entry.{Entry}
 use Rattle.rr_archive.specs.CellSlots.{CellSlot, cell_slot, newest_of, IsSlot}
-use Rattle.rr_archive.specs.Cells.{Rows, AreInRange, IsTrimmed}
+use Rattle.rr_archive.specs.Cells.{ArchiveCells, AreInRange, IsTrimmed}
 use Rattle.rr_archive.specs.Row.{ascends}
 
 abbrev pub is_empty : List Entry → Bool
@@ -23,7 +23,7 @@ live_cells rows None row = []
 live_cells rows (Some newest) row = cells_from row ((newest -ℤ pos rows) +ℤ pos 1) rows
 
 -- as a map
-unfoldable pub cells_by : ℕ → Option ℤ → (ℤ → List Entry) → Rows
+unfoldable pub cells_by : ℕ → Option ℤ → (ℤ → List Entry) → ArchiveCells
 cells_by rows newest row = from_sorted (live_cells rows newest row)
 
 -- whether a slot is after the newest
@@ -33,7 +33,7 @@ is_later (Some newest) slot = int_lt newest slot
 
 -- how many cells there are, the newest slot of one, what each keeps to, and that nothing is stored of
 -- later slots
-pub record IsHeldBy (rows : ℕ) (newest : Option ℤ) (count : ℕ) (row : ℤ → List Entry) : Type 0 where
+pub record IsArchiveStateBy (rows : ℕ) (newest : Option ℤ) (count : ℕ) (row : ℤ → List Entry) : Type 0 where
   pub counted : count ≡ len (cells_by rows newest row)
   pub latest : newest ≡ newest_of (keys (cells_by rows newest row))
   pub live : IsTrimmed rows (cells_by rows newest row)

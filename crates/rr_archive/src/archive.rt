@@ -5,7 +5,7 @@ ghost use Rattle.std.specs.FinMap as fin;
 ghost use Rattle.rr_contrib.specs.Contributions.{slot_sample};
 ghost use Rattle.rr_contrib.specs.Validity.{CanAdd};
 ghost use Rattle.rr_archive.specs.CellSlots.{CellSlot, cell_slot, newest_of, is_live_at, IsSlot};
-ghost use Rattle.rr_archive.specs.Cells.{Rows, AreInRange, IsTrimmed, put_row, join_cell, row_of, cell_of, next_cell};
+ghost use Rattle.rr_archive.specs.Cells.{ArchiveCells, AreInRange, IsTrimmed, put_in_archive, join_cell, row_of, cell_of, next_cell};
 
 use crate::entry::Entry;
 use rr_contrib::Contribution;
@@ -17,10 +17,10 @@ use std::alloc::{AllocError, Global};
 ///
 /// It keeps the cells whose slots are live: above the newest slot less the rows of the archive. A
 /// cell of any other slot is past the horizon and leaves no trace. Slots are from -9,223,372,037 to
-/// 9,223,372,037. Only `ready`, `put`, `join_cell` and `copy` take memory, and `entries_into` where the
-/// row that it is given has too little.
+/// 9,223,372,037. Only `ready`, `put`, `join_cell` and `copy` take memory, and `entries_into` where
+/// the row that it is given has too little.
 pub trait Cells: Drop {
-    ghost cells: { Self → Rows };
+    ghost cells: { Self → ArchiveCells };
 
     ghost row_limit: { Self → ℕ };
 
@@ -42,8 +42,8 @@ pub trait Cells: Drop {
         ensures limit { row_limit result ≡ rows };
 
     /// Makes room for a cell, so that the next `put` or `join_cell` at this slot and origin can't
-    /// fail. It changes no cell. Past the horizon no room is needed, and none is made; where there is
-    /// room already, it can't fail.
+    /// fail. It changes no cell. Past the horizon no room is needed, and none is made; where there
+    /// is room already, it can't fail.
     fn ready(&mut self, slot: i64, origin: Origin) -> Result<(), AllocError>
         requires { IsSlot slot }
         ensures cells { cells self.new ≡ cells self.old }
@@ -56,8 +56,8 @@ pub trait Cells: Drop {
     ///
     /// Rows that are then past the horizon are no longer held; a sample that is past it itself
     /// changes nothing. After an error nothing has changed. The cost is at most logarithmic in the
-    /// rows (one look-up of the slot), and linear in the entries of the row, and in the rows that go,
-    /// empty ones too, and their entries.
+    /// rows (one look-up of the slot), and linear in the entries of the row, and in the rows that
+    /// go, empty ones too, and their entries.
     fn put(
         &mut self,
         slot: i64,
@@ -73,8 +73,10 @@ pub trait Cells: Drop {
         requires place { place < MAX_STEPS }
         requires newer { IfSome (fin.get (cells self.old) (cell_slot slot origin)) (CanAdd number) }
         ensures put { OnOk result (cells self.new
-            ≡ put_row (row_limit self.old) (cells self.old) (cell_slot slot origin) (slot_sample number place time value)) }
-        ensures dead { IsFalse (is_live_at (row_limit self.old) (fin.keys (cells self.old)) (cell_slot slot origin))
+            ≡ put_in_archive (row_limit self.old) (cells self.old) (cell_slot slot origin)
+            (slot_sample number place time value)) }
+        ensures dead { IsFalse (is_live_at (row_limit self.old) (fin.keys (cells self.old))
+            (cell_slot slot origin))
             → cells self.new ≡ cells self.old }
         ensures unchanged { OnErr result (cells self.new ≡ cells self.old) }
         ensures limit { row_limit self.new ≡ row_limit self.old }
@@ -92,8 +94,10 @@ pub trait Cells: Drop {
     ) -> Result<(), AllocError>
         requires { IsSlot slot }
         ensures joined { OnOk result (cells self.new
-            ≡ join_cell (row_limit self.old) (cells self.old) (cell_slot slot origin) contribution.now) }
-        ensures dead { IsFalse (is_live_at (row_limit self.old) (fin.keys (cells self.old)) (cell_slot slot origin))
+            ≡ join_cell (row_limit self.old) (cells self.old) (cell_slot slot origin)
+            contribution.now) }
+        ensures dead { IsFalse (is_live_at (row_limit self.old) (fin.keys (cells self.old))
+            (cell_slot slot origin))
             → cells self.new ≡ cells self.old }
         ensures unchanged { OnErr result (cells self.new ≡ cells self.old) }
         ensures limit { row_limit self.new ≡ row_limit self.old }
@@ -103,9 +107,9 @@ pub trait Cells: Drop {
     fn newest(&self) -> Option<i64>
         ensures { result ≡ newest_of (fin.keys (cells self.now)) };
 
-    /// Writes the entries of a slot, ascending by origin, over what a row has. An error leaves the row
-    /// empty; there is none where it has room for them. The cost is at most logarithmic in the rows, and
-    /// linear in the entries.
+    /// Writes the entries of a slot, ascending by origin, over what a row has. An error leaves the
+    /// row empty; there is none where it has room for them. The cost is at most logarithmic in the
+    /// rows, and linear in the entries.
     fn entries_into(&self, slot: i64, row: &mut Vec<Entry>) -> Result<(), AllocError>
         ensures written { OnOk result (row.new.items ≡ row_of (cells self.now) slot) }
         ensures emptied { OnErr result (row.new.items ≡ []) }
@@ -115,16 +119,17 @@ pub trait Cells: Drop {
     fn cell_count(&self) -> usize
         ensures { result ≡ fin.len (cells self.now) };
 
-    /// The slot and the entry of a cell by its number, from 0, in order of slot and origin. The cost
-    /// is linear in the rows before it, so a walk over many cells goes on by `next_cell`.
+    /// The slot and the entry of a cell by its number, from 0, in order of slot and origin. The
+    /// cost is linear in the rows before it, so a walk over many cells goes on by `next_cell`.
     fn cell_at(&self, i: usize) -> Option<(i64, Entry)>
         ensures { result ≡ option_map cell_of (slice_get (fin.entries (cells self.now)) i) };
 
     /// The first cell after a slot and an origin, in order. The cost is at most logarithmic in the
-    /// rows, and linear in those from the slot up to the one that it is found in, and in the entries
-    /// of that row.
+    /// rows, and linear in those from the slot up to the one that it is found in, and in the
+    /// entries of that row.
     fn next_cell(&self, slot: i64, origin: Origin) -> Option<(i64, Entry)>
-        ensures { result ≡ option_map cell_of (next_cell (cells self.now) (cell_slot slot origin)) };
+        ensures { result ≡ option_map cell_of
+            (next_cell (cells self.now) (cell_slot slot origin)) };
 
     /// An archive with the same cells. The cost is linear in the cells.
     fn copy(&self, alloc: Global) -> Result<Self, AllocError>

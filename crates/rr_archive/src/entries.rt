@@ -1,5 +1,5 @@
-//! The entries of one row, for archives that keep many: most rows are of one origin, and take no memory
-//! of their own.
+//! The entries of one row, for archives that keep many: most rows are of one origin, and take no
+//! memory of their own.
 ghost use Rattle.std.specs.Prelude.{◌≡◌, [], ◌∷◌, is_none, IsTrue, IsOk, OnOk, OnErr, IfOk};
 ghost use Rattle.rr_archive.specs.Row.{entry_at, with_entry};
 ghost use Rattle.rr_archive.specs.Changes.{Fits, entry_after};
@@ -70,7 +70,8 @@ impl Entries {
         requires { Fits (entry_at (items_of self.old) origin) change.now }
         ensures changed { OnOk result (items_of self.new
             ≡ with_entry (items_of self.old) (entry_after (items_of self.old) origin change.now)) }
-        ensures is_new { IfOk result (λ is_new. is_new ≡ is_none (entry_at (items_of self.old) origin)) }
+        ensures is_new { IfOk result (λ is_new. is_new
+            ≡ is_none (entry_at (items_of self.old) origin)) }
         ensures unchanged { OnErr result (items_of self.new ≡ items_of self.old) }
         ensures room { IsTrue (has_room self.old origin) → IsOk result }
     {

@@ -2,7 +2,7 @@
 ghost use Rattle.std.specs.Prelude.{◌≡◌, Some, drop};
 ghost use Rattle.std.specs.FinMap as fin;
 ghost use Rattle.rr_join.specs.Horizon.{is_above};
-ghost use Rattle.rr_archive.specs.Held.{cells_in, starts_dead, first_len};
+ghost use Rattle.rr_archive.specs.ArchiveState.{cells_in, starts_dead, first_len};
 
 use crate::live_slots::is_above;
 use crate::slots::Slots;
@@ -35,7 +35,8 @@ impl Slots {
     pub(crate) fn drop_dead(&mut self, cells: usize, rows: u32, newest: i64) -> usize
         requires { cells ≡ fin.len (cells_in self.old.rows.entries) }
         ensures live { cells_in self.new.rows.entries
-            ≡ fin.retain_keys (cells_in self.old.rows.entries) (λ p. is_above rows (Some newest) p.slot) }
+            ≡ fin.retain_keys (cells_in self.old.rows.entries)
+            (λ p. is_above rows (Some newest) p.slot) }
         ensures counted { result ≡ fin.len (cells_in self.new.rows.entries) }
     {
         let mut left = cells;

@@ -1,11 +1,12 @@
 //! One archive of one series: what each origin contributes to each of its slots.
 //!
-//! An archive is seen, through [`Cells`], as a finite map from cell slots, each a slot and an origin, to
-//! contributions, in order (`specs/Cells.antt`). A sample is put at its cell slot, and a cell from
-//! elsewhere is joined: of two contributions at one cell slot the greater stays. Then only the live
-//! cells are kept, those whose slot is above the newest slot less the rows of the archive
-//! (`specs/CellSlots.antt`), so an archive never has more cells than its rows times the origins.
-//! Joined so, maps are the same in any order, in any grouping and any number of times (`laws`).
+//! An archive is seen, through [`Cells`], as a finite map from cell slots, each a slot and an
+//! origin, to contributions, in order (`specs/Cells.antt`). A sample is put at its cell slot, and a
+//! cell from elsewhere is joined: of two contributions at one cell slot the greater stays. Then
+//! only the live cells are kept, those whose slot is above the newest slot less the rows of the
+//! archive (`specs/CellSlots.antt`), so an archive never has more cells than its rows times the
+//! origins. Joined so, maps are the same in any order, in any grouping and any number of times
+//! (`laws`).
 //!
 //! An [`Archive`] lends the entries of a row besides; other kinds make them of less.
 //!

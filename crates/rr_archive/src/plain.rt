@@ -8,7 +8,7 @@ ghost use Rattle.rr_archive.specs.CellSlots.{cell_slot, IsSlot, is_live_at};
 ghost use Rattle.rr_archive.specs.Changes.{Fits};
 ghost use Rattle.rr_archive.specs.Cells.{with_change};
 ghost use Rattle.rr_archive.specs.Codes.{coded_rows};
-ghost use Rattle.rr_archive.specs.Held.{IsHeld, cells_in, is_ready_in};
+ghost use Rattle.rr_archive.specs.ArchiveState.{IsArchiveState, cells_in, is_ready_in};
 
 use crate::archive::{Archive, Cells};
 use crate::change::Change;
@@ -28,7 +28,7 @@ pub struct PlainArchive {
     count: usize,
     newest: Option<i64>,
     slots: Slots,
-    ghost held: { IsHeld rows count newest slots.rows.entries } by { Prim.hlevel (props, coded_rows) },
+    ghost held: { IsArchiveState rows count newest slots.rows.entries } by { Prim.hlevel (props, coded_rows) },
 }
 
 impl PlainArchive {
@@ -36,15 +36,19 @@ impl PlainArchive {
     /// horizon. A change that is past it itself is passed over.
     fn change(&mut self, slot: i64, origin: Origin, change: &Change) -> Result<(), AllocError>
         requires slot { IsSlot slot }
-        requires fits { Fits (fin.get (cells_in self.old.slots.rows.entries) (cell_slot slot origin)) change.now }
+        requires fits { Fits (fin.get (cells_in self.old.slots.rows.entries)
+            (cell_slot slot origin)) change.now }
         ensures changed { OnOk result (cells_in self.new.slots.rows.entries
-            ≡ trimmed (is_live_at self.old.rows) (with_change (cells_in self.old.slots.rows.entries) (cell_slot slot origin) change.now)) }
+            ≡ trimmed (is_live_at self.old.rows)
+            (with_change (cells_in self.old.slots.rows.entries) (cell_slot slot origin)
+            change.now)) }
         ensures dead { IsFalse (is_above self.old.rows self.old.newest slot)
             → cells_in self.new.slots.rows.entries ≡ cells_in self.old.slots.rows.entries }
         ensures unchanged { OnErr result (cells_in self.new.slots.rows.entries
             ≡ cells_in self.old.slots.rows.entries) }
         ensures limit { self.new.rows ≡ self.old.rows }
-        ensures room { IsTrue (is_ready_in self.old.rows self.old.newest self.old.slots.rows.entries (cell_slot slot origin)) → IsOk result }
+        ensures room { IsTrue (is_ready_in self.old.rows self.old.newest self.old.slots.rows.entries
+            (cell_slot slot origin)) → IsOk result }
     {
         if !is_live(self.rows, self.newest, slot) {
             return Ok(());

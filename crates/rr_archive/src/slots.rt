@@ -8,7 +8,7 @@ ghost use Rattle.std.specs.FinMap as fin;
 ghost use Rattle.rr_archive.specs.CellSlots.{cell_slot};
 ghost use Rattle.rr_archive.specs.Cells.{with_change, cell_of, next_cell};
 ghost use Rattle.rr_archive.specs.Changes.{Fits};
-ghost use Rattle.rr_archive.specs.Held.{cells_in, has_room_in, RowsAscend};
+ghost use Rattle.rr_archive.specs.ArchiveState.{cells_in, has_room_in, RowsAscend};
 
 use crate::change::{Change, contribution_after};
 use crate::entry::Entry;
@@ -44,13 +44,16 @@ impl Slots {
         origin: Origin,
         change: &Change,
     ) -> Result<bool, AllocError>
-        requires { Fits (fin.get (cells_in self.old.rows.entries) (cell_slot slot origin)) change.now }
+        requires { Fits (fin.get (cells_in self.old.rows.entries) (cell_slot slot origin))
+            change.now }
         ensures changed { OnOk result (cells_in self.new.rows.entries
             ≡ with_change (cells_in self.old.rows.entries) (cell_slot slot origin) change.now) }
         ensures is_new { IfOk result (λ is_new. is_new
             ≡ is_none (fin.get (cells_in self.old.rows.entries) (cell_slot slot origin))) }
-        ensures unchanged { OnErr result (cells_in self.new.rows.entries ≡ cells_in self.old.rows.entries) }
-        ensures room { IsTrue (has_room_in self.old.rows.entries (cell_slot slot origin)) → IsOk result }
+        ensures unchanged { OnErr result (cells_in self.new.rows.entries
+            ≡ cells_in self.old.rows.entries) }
+        ensures room { IsTrue (has_room_in self.old.rows.entries (cell_slot slot origin))
+            → IsOk result }
     {
         match self.rows.get_mut(&slot) {
             Some(row) => change_entry(row, origin, change),
@@ -88,7 +91,8 @@ impl Slots {
 
     /// The slot and the entry of a cell by its number, from 0, in order.
     pub(crate) fn nth_cell(&self, i: usize) -> Option<(i64, Entry)>
-        ensures { result ≡ option_map cell_of (slice_get (fin.entries (cells_in self.now.rows.entries)) i) }
+        ensures { result ≡ option_map cell_of
+            (slice_get (fin.entries (cells_in self.now.rows.entries)) i) }
     {
         let mut left = i;
         for (slot, row) in &self.rows {
@@ -103,7 +107,8 @@ impl Slots {
     /// The first cell after a slot and an origin, in order.
     pub(crate) fn next_cell(&self, slot: i64, origin: Origin) -> Option<(i64, Entry)>
         ensures { result
-            ≡ option_map cell_of (next_cell (cells_in self.now.rows.entries) (cell_slot slot origin)) }
+            ≡ option_map cell_of (next_cell (cells_in self.now.rows.entries)
+            (cell_slot slot origin)) }
     {
         for (at, row) in self.rows.range(slot..) {
             if let Some(entry) = first_after(row, slot < *at, origin) {

@@ -8,11 +8,11 @@ ghost use Rattle.rr_base.specs.Failing.{stream_in, calls_left, one_call_less, fa
 use std::io;
 use std::io::{ErrorKind, Read, Write};
 
-/// A reader or a writer of which one call fails. The calls before it and those after it are passed on;
-/// the one that fails moves no byte.
+/// A reader or a writer of which one call fails. The calls before it and those after it are passed
+/// on; the one that fails moves no byte.
 ///
-/// It stands in for a stream in tests: whoever opens a stream anew with a greater number of calls each
-/// time meets each of its failures in turn, and in the end none.
+/// It stands in for a stream in tests: whoever opens a stream anew with a greater number of calls
+/// each time meets each of its failures in turn, and in the end none.
 #[derive(Drop)]
 pub struct Failing<S> {
     inner: S,
@@ -72,7 +72,8 @@ impl<R: Read> Read for Failing<R> {
             (R.remaining (stream_in self.new)) result buf.new }
         ensures calls { calls_left self.new ≡ one_call_less (calls_left self.old) }
         ensures fails { fails_next (calls_left self.old) ≡ true → IsErr result }
-        ensures kept { fails_next (calls_left self.old) ≡ true → stream_in self.new ≡ stream_in self.old }
+        ensures kept { fails_next (calls_left self.old) ≡ true
+            → stream_in self.new ≡ stream_in self.old }
     {
         if self.is_due() {
             return Err(failure());
@@ -90,7 +91,8 @@ impl<W: Write> Write for Failing<W> {
             (W.contents (stream_in self.new)) result buf.now }
         ensures calls { calls_left self.new ≡ one_call_less (calls_left self.old) }
         ensures fails { fails_next (calls_left self.old) ≡ true → IsErr result }
-        ensures kept { fails_next (calls_left self.old) ≡ true → stream_in self.new ≡ stream_in self.old }
+        ensures kept { fails_next (calls_left self.old) ≡ true
+            → stream_in self.new ≡ stream_in self.old }
     {
         if self.is_due() {
             return Err(failure());
@@ -102,7 +104,8 @@ impl<W: Write> Write for Failing<W> {
         ensures bytes { Keeps (W.contents (stream_in self.old)) (W.contents (stream_in self.new)) }
         ensures calls { calls_left self.new ≡ one_call_less (calls_left self.old) }
         ensures fails { fails_next (calls_left self.old) ≡ true → IsErr result }
-        ensures kept { fails_next (calls_left self.old) ≡ true → stream_in self.new ≡ stream_in self.old }
+        ensures kept { fails_next (calls_left self.old) ≡ true
+            → stream_in self.new ≡ stream_in self.old }
     {
         if self.is_due() {
             return Err(failure());

@@ -1,10 +1,10 @@
-//! What every other crate of the store speaks of: origins, the schema of archives, and streams that count
-//! failed calls.
+//! What every other crate of the store speaks of: origins, the schema of archives, and streams that
+//! count failed calls.
 //!
-//! The parts are crates of their own, whose names this one passes on: `rr_schema` has [`Origin`] and
-//! [`Schema`], `rr_document` reads a schema from TOML, as [`FromToml`], and `rr_io` has [`Counted`] and
-//! [`stream`]. What stands on only one of them uses that one. Beside them stands [`Failing`], a stream for
-//! tests, of which one call fails.
+//! The parts are crates of their own, whose names this one passes on: `rr_schema` has [`Origin`]
+//! and [`Schema`], `rr_document` reads a schema from TOML, as [`FromToml`], and `rr_io` has
+//! [`Counted`] and [`stream`]. What stands on only one of them uses that one. Beside them stands
+//! [`Failing`], a stream for tests, of which one call fails.
 #![tactic(auto)]
 
 mod failing;

@@ -72,8 +72,8 @@ fn case_of(rt: &(impl Files + AllocGlobal), file: &str) -> Result<Case> {
     })
 }
 
-/// What a case gives over a kind of archive that isn't expected, if there is something. Counts the growths
-/// that are refused.
+/// What a case gives over a kind of archive that isn't expected, if there is something. Counts the
+/// growths that are refused.
 fn unexpected<A: Cells, R: AllocGlobal + Wait>(
     rt: &R,
     case: &Case,

@@ -1,5 +1,5 @@
-//! Cells as bytes in hexadecimal, and changes of them ([`crate::changes`]). A first line `# version N`
-//! says in which version they are read, if not in the latest.
+//! Cells as bytes in hexadecimal, and changes of them ([`crate::changes`]). A first line `# version
+//! N` says in which version they are read, if not in the latest.
 
 use crate::changes;
 use anyhow::{Result, bail};
@@ -21,8 +21,8 @@ pub(crate) fn minutes(alloc: Global) -> Result<Schema, SchemaFault> {
     Schema::new(alloc, 60, &[THREE_ROWS])
 }
 
-/// What each variant of the bytes is read as: its fault, or its fields, and whether they are written as the
-/// same bytes again.
+/// What each variant of the bytes is read as: its fault, or its fields, and whether they are
+/// written as the same bytes again.
 pub(crate) fn answers(alloc: Global, input: &[u8]) -> Result<Vec<u8>> {
     let schema = minutes(alloc)?;
     let (version, text) = version_of(str::from_utf8(input)?)?;

@@ -1,4 +1,5 @@
-//! Configurations of a node as TOML texts, and what is told of them. A line `---` stands between two of them.
+//! Configurations of a node as TOML texts, and what is told of them. A line `---` stands between
+//! two of them.
 
 use crate::documents::{push_schema, texts};
 use rr_config::{Config, remarks};

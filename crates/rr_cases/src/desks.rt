@@ -1,9 +1,9 @@
-//! Calls of a desk of origin 2 with three rows of a minute and one reader, over streams in memory. A
-//! line `---` stands between two calls.
+//! Calls of a desk of origin 2 with three rows of a minute and one reader, over streams in memory.
+//! A line `---` stands between two calls.
 //!
-//! The first line of a call has its words, and what follows is its input, in which lines and texts may be
-//! several times ([`crate::repeats`]). The words after the first limit the streams and the memory, and set the
-//! clock ([`crate::settings`]).
+//! The first line of a call has its words, and what follows is its input, in which lines and texts
+//! may be several times ([`crate::repeats`]). The words after the first limit the streams and the
+//! memory, and set the clock ([`crate::settings`]).
 //!
 //! | Call | Answer |
 //! |---|---|

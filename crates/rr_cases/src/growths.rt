@@ -1,11 +1,11 @@
 //! Cases in which each growth of a call is refused in turn.
 //!
-//! Their input has `{m}` for the number of growths before the one that is refused, and is run with 0, 1, 2
-//! and so on there, until none is refused. How many growths a call makes, and what is done before each, is
-//! its own affair. So what is expected are the answers that may come, in their order, with a line `---`
-//! between two: those that come have to be some of them, in that order. The last is that of a run in which
-//! nothing is refused. It has to come at the end, and may come before, where a call passes over what was
-//! refused.
+//! Their input has `{m}` for the number of growths before the one that is refused, and is run with
+//! 0, 1, 2 and so on there, until none is refused. How many growths a call makes, and what is done
+//! before each, is its own affair. So what is expected are the answers that may come, in their
+//! order, with a line `---` between two: those that come have to be some of them, in that order.
+//! The last is that of a run in which nothing is refused. It has to come at the end, and may come
+//! before, where a call passes over what was refused.
 //!
 //! Where nobody refuses growths ([`rr_fakes::refusing`]), the last comes at once.
 

@@ -58,10 +58,10 @@ impl Kind {
         }
     }
 
-    /// What the libraries answer to a file's bytes, with archives of a kind where it speaks of any. Where
-    /// the file has `{n}`, that is what they answer with 0, 1, 2 and so on in its place, without answers that
-    /// are like the one before, up to the one that no number changes any more. A line `---` stands between
-    /// two.
+    /// What the libraries answer to a file's bytes, with archives of a kind where it speaks of any.
+    /// Where the file has `{n}`, that is what they answer with 0, 1, 2 and so on in its place,
+    /// without answers that are like the one before, up to the one that no number changes any more.
+    /// A line `---` stands between two.
     pub(crate) fn output<A: Cells, T: Wait>(
         self,
         alloc: Global,

@@ -1,6 +1,6 @@
-//! Lines of the line protocol. A first line `# check-lines ..` has the words of the command line; what
-//! follows a `;` in it limits the streams ([`crate::settings`]), and then lines and texts may be in it
-//! several times ([`crate::repeats`]).
+//! Lines of the line protocol. A first line `# check-lines ..` has the words of the command line;
+//! what follows a `;` in it limits the streams ([`crate::settings`]), and then lines and texts may
+//! be in it several times ([`crate::repeats`]).
 
 use crate::growths::{begin, end};
 use crate::repeats::expanded;

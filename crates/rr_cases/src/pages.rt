@@ -1,5 +1,5 @@
-//! Pages as bytes in hexadecimal, and changes of them ([`crate::changes`]). They are of three rows a
-//! minute, or where a first line is `# steps N` of two rows of N steps of a second.
+//! Pages as bytes in hexadecimal, and changes of them ([`crate::changes`]). They are of three rows
+//! a minute, or where a first line is `# steps N` of two rows of N steps of a second.
 
 use crate::cells::{minutes, push_fields};
 use crate::changes;

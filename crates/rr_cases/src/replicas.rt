@@ -1,6 +1,6 @@
-//! Calls of a replica of origin 1, a line each. The first line says how many archives it has: one of
-//! three rows of one step, or another too of two rows of five steps; or how many steps the rows of each
-//! have, of 1, 65 and 128, and it keeps three. A step is a minute.
+//! Calls of a replica of origin 1, a line each. The first line says how many archives it has: one
+//! of three rows of one step, or another too of two rows of five steps; or how many steps the rows
+//! of each have, of 1, 65 and 128, and it keeps three. A step is a minute.
 //!
 //! | Call | Answer |
 //! |---|---|
@@ -22,7 +22,8 @@
 //! | `copy CALL` | what the call of a copy answers, and then a line for each cell of the copy |
 //! | `refuse N CALL` | what the call answers where the growth after N of them is refused |
 //!
-//! Where memory runs out a call answers `Memory`, of `write` and `join-cells` with how many fields or cells were done.
+//! Where memory runs out a call answers `Memory`, of `write` and `join-cells` with how many fields
+//! or cells were done.
 
 ghost use Rattle.std.specs.Prelude.{IfOk};
 ghost use Rattle.rr_cells.specs.CellBounds.{IsCellOf};

@@ -1,8 +1,8 @@
 //! Sessions of a replica over streams, as calls of it ([`crate::replicas`]).
 //!
-//! The words of a call are how many bytes a read gives and a write takes, how many reads there are before one
-//! fails, how many frames the session may have, each `-` where it is without a limit, the input in
-//! hexadecimal, and where it has a limit how many writes there are before one fails.
+//! The words of a call are how many bytes a read gives and a write takes, how many reads there are
+//! before one fails, how many frames the session may have, each `-` where it is without a limit,
+//! the input in hexadecimal, and where it has a limit how many writes there are before one fails.
 
 use crate::growths::{begin, end};
 use crate::settings::written;
@@ -138,8 +138,8 @@ pub(crate) fn push_session<A: Cells>(
     push_ending(alloc, answer, &written(output), input, ended)
 }
 
-/// What was written, how many bytes of the input were left, how many calls of it failed, and how the
-/// session ended.
+/// What was written, how many bytes of the input were left, how many calls of it failed, and how
+/// the session ended.
 fn push_ending(
     alloc: Global,
     answer: &mut String,

@@ -1,7 +1,7 @@
 //! A side of a session, frame by frame, as a call of a replica ([`crate::replicas`]).
 //!
-//! The words of the call are how many frames the session may have each way, `-` where it is without a limit, and then
-//! what is done, with an answer for each:
+//! The words of the call are how many frames the session may have each way, `-` where it is without
+//! a limit, and then what is done, with an answer for each:
 //!
 //! | Word | Answer |
 //! |---|---|

@@ -12,8 +12,8 @@ use rr_replica::Replica;
 use rr_snapshot::{LoadFault, load, save};
 use std::alloc::Global;
 
-/// Adds the bytes that were written as a replica was saved, in hexadecimal, and how that ended. The words
-/// are how many bytes a write takes, and how many writes there are before one fails.
+/// Adds the bytes that were written as a replica was saved, in hexadecimal, and how that ended. The
+/// words are how many bytes a write takes, and how many writes there are before one fails.
 pub(crate) fn push_saved<A: Cells>(
     alloc: Global,
     replica: &Replica<A>,
@@ -34,9 +34,9 @@ pub(crate) fn push_saved<A: Cells>(
     Ok(())
 }
 
-/// The replica that the bytes of some words are loaded as, if they are one; and adds how that ended. The
-/// words are its origin, how many bytes a read gives, how many reads there are before one fails, and
-/// the bytes.
+/// The replica that the bytes of some words are loaded as, if they are one; and adds how that
+/// ended. The words are its origin, how many bytes a read gives, how many reads there are before
+/// one fails, and the bytes.
 pub(crate) fn loaded<A: Cells>(
     alloc: Global,
     schema: &Schema,

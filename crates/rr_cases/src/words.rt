@@ -20,7 +20,8 @@ impl<'a> Words<'a> {
         }
     }
 
-    /// The words of a call after a first one, which says how many growths there are before one is refused.
+    /// The words of a call after a first one, which says how many growths there are before one is
+    /// refused.
     pub(crate) fn refusing(rest: &'a str) -> Result<Words<'a>> {
         let mut words = Words::of(rest);
         words.growths = Some(words.number()?);

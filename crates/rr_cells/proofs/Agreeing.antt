@@ -10,7 +10,7 @@ use Rattle.rr_model.specs.Samples.{Mark}
 use Rattle.rr_model.specs.Knowledge.{Knowledge, knows, is_live_in}
 use Rattle.rr_model.specs.World.{World, IsClosed}
 use Rattle.rr_model.proofs.Knowing.{same_knowledge, is_in-keys_of}
-use Rattle.rr_cells.specs.State.{state}
+use Rattle.rr_cells.specs.State.{cells_of_knowledge}
 use Rattle.rr_cells.proofs.States.{value, marks_at, get-state, value_cell}
 use Rattle.rr_cells.proofs.Uniting.{value_top, reaches}
 
@@ -21,11 +21,15 @@ passed false x v e = absurd (true≢false (sym (ap is_some e)))
 
 module _ (s : Layout) (is : IsLayout s) (w : World) where
   -- the marks of a live cell, and what they contribute
-  there : (k : Knowledge) (n : CellName) (a : Contribution) → get (state s k) n ≡ Some a → (is_live_in s k n ≡ true) × (value s (marks_at s k n) ≡ Some a)
-  there k n a e = passed (is_live_in s k n) (value s (marks_at s k n)) a (sym (get-state s k n ∙ value_cell s is k n) ∙ e)
+  there : (k : Knowledge) (n : CellName) (a : Contribution) → get (cells_of_knowledge s k) n ≡ Some a
+      → (is_live_in s k n ≡ true) × (value s (marks_at s k n) ≡ Some a)
+  there k n a e = passed (is_live_in s k n) (value s (marks_at s k n)) a
+      (sym (get-state s k n ∙ value_cell s is k n) ∙ e)
 
   -- a cell has all marks that another one of no greater version has
-  has_those : (k l : Knowledge) → IsClosed s w k → IsClosed s w l → (n : CellName) (a b : Contribution) → value s (marks_at s k n) ≡ Some a → is_live_in s l n ≡ true → value s (marks_at s l n) ≡ Some b → a.version ≤ b.version → (m : Mark) → knows (marks_at s k n) m ≡ true → knows (marks_at s l n) m ≡ true
+  has_those : (k l : Knowledge) → IsClosed s w k → IsClosed s w l → (n : CellName) (a b : Contribution)
+      → value s (marks_at s k n) ≡ Some a → is_live_in s l n ≡ true → value s (marks_at s l n) ≡ Some b
+      → a.version ≤ b.version → (m : Mark) → knows (marks_at s k n) m ≡ true → knows (marks_at s l n) m ≡ true
   has_those k l ck cl n a b ea alive eb below m known =
       let ta = value_top s (marks_at s k n) a ea in
       let tb = value_top s (marks_at s l n) b eb in
@@ -35,7 +39,9 @@ module _ (s : Layout) (is : IsLayout s) (w : World) where
       reaches s is w k l ck cl n alive m tb.mark known (sym (is_in-keys_of (marks_at s l n) tb.mark) ∙ tb.known) lower
 
   -- so two of one version have the same marks, and the same contents
-  pub closed_agree : (k l : Knowledge) → IsClosed s w k → IsClosed s w l → (n : CellName) (a b : Contribution) → get (state s k) n ≡ Some a → get (state s l) n ≡ Some b → a.version ≡ b.version → a ≡ b
+  pub closed_agree : (k l : Knowledge) → IsClosed s w k → IsClosed s w l → (n : CellName) (a b : Contribution)
+      → get (cells_of_knowledge s k) n ≡ Some a → get (cells_of_knowledge s l) n ≡ Some b → a.version ≡ b.version
+      → a ≡ b
   closed_agree k l ck cl n a b ea eb e =
       let in_k = there k n a ea in
       let in_l = there l n b eb in

@@ -3,7 +3,7 @@ pub mod PutsLemmas
 pub mod CellBoundsLemmas
 pub mod Slots
 pub mod PutLaws
-pub mod HoldingLemmas
+pub mod ReplicaStateLemmas
 pub mod HeldCells
 pub mod Values
 pub mod States

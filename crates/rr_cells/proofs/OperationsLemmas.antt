@@ -11,7 +11,7 @@ use Rattle.rr_cells.specs.declared.op.Op.{Op}
 use Rattle.rr_cells.specs.declared.op.Op.TheVariants.{Put, Join}
 use Rattle.rr_cells.specs.CellBounds.{NamedCell, IsCellOf, is_cell_of}
 use Rattle.rr_cells.specs.Cells.{Cells, IsTrimmed}
-use Rattle.rr_cells.specs.Holding.{Holding}
+use Rattle.rr_cells.specs.ReplicaState.{ReplicaState}
 use Rattle.rr_cells.specs.Joins.{join_cells}
 use Rattle.rr_cells.proofs.CellByCell.{join_nothing, join_goes_by_cells, trimmed_none}
 use Rattle.rr_cells.proofs.JoinLaws.{join_commutes}
@@ -20,60 +20,64 @@ use Rattle.rr_cells.specs.Operations.{accepts, with_op, step, AllAccepted, cell_
 -- ---- a replica
 
 -- an operation that is taken is applied
-pub step_accepted : (h : Holding) (op : Op) → accepts h op ≡ true → step h op ≡ with_op h op
+pub step_accepted : (h : ReplicaState) (op : Op) → accepts h op ≡ true → step h op ≡ with_op h op
 step_accepted h op e = ap (λ b. if b then with_op h op else h) e
 
-pub with_op-cells : (h : Holding) (op : Op) → (with_op h op).cells ≡ cell_step h.schema h.cells op
+pub with_op-cells : (h : ReplicaState) (op : Op) → (with_op h op).cells ≡ cell_step h.schema h.cells op
 with_op-cells h (Put x) = refl
 with_op-cells h (Join c) = refl
 
-with_op-schema : (h : Holding) (op : Op) → (with_op h op).schema ≡ h.schema
+with_op-schema : (h : ReplicaState) (op : Op) → (with_op h op).schema ≡ h.schema
 with_op-schema h (Put x) = refl
 with_op-schema h (Join c) = refl
 
-with_op-origin : (h : Holding) (op : Op) → (with_op h op).origin ≡ h.origin
+with_op-origin : (h : ReplicaState) (op : Op) → (with_op h op).origin ≡ h.origin
 with_op-origin h (Put x) = refl
 with_op-origin h (Join c) = refl
 
 -- a step changes neither the schema nor the origin
-pub step-schema : (h : Holding) (op : Op) → (step h op).schema ≡ h.schema
+pub step-schema : (h : ReplicaState) (op : Op) → (step h op).schema ≡ h.schema
 step-schema h op = elim (accepts h op) as (λ b. (if b then with_op h op else h).schema ≡ h.schema) [
   | true ↦ with_op-schema h op
   | false ↦ refl
 ]
 
-pub step-origin : (h : Holding) (op : Op) → (step h op).origin ≡ h.origin
+pub step-origin : (h : ReplicaState) (op : Op) → (step h op).origin ≡ h.origin
 step-origin h op = elim (accepts h op) as (λ b. (if b then with_op h op else h).origin ≡ h.origin) [
   | true ↦ with_op-origin h op
   | false ↦ refl
 ]
 
 -- of an operation that is taken the cells take one step
-pub step-cells : (h : Holding) (op : Op) → accepts h op ≡ true → (step h op).cells ≡ cell_step h.schema h.cells op
-step-cells h op e = ap (λ (k : Holding). k.cells) (step_accepted h op e) ∙ with_op-cells h op
+pub step-cells : (h : ReplicaState) (op : Op) → accepts h op ≡ true → (step h op).cells ≡ cell_step h.schema h.cells op
+step-cells h op e = ap (λ (k : ReplicaState). k.cells) (step_accepted h op e) ∙ with_op-cells h op
 
 -- ---- lists of operations
 
-pub steps-schema : (ops : List Op) (h : Holding) → (fold step h ops).schema ≡ h.schema
+pub steps-schema : (ops : List Op) (h : ReplicaState) → (fold step h ops).schema ≡ h.schema
 steps-schema [] h = refl
 steps-schema (op ∷ ops) h = steps-schema ops (step h op) ∙ step-schema h op
 
 -- where all are taken, the cells take a step for each
-pub steps-cells : (ops : List Op) (h : Holding) → AllAccepted h ops → (fold step h ops).cells ≡ fold (cell_step h.schema) h.cells ops
+pub steps-cells : (ops : List Op) (h : ReplicaState) → AllAccepted h ops
+    → (fold step h ops).cells ≡ fold (cell_step h.schema) h.cells ops
 steps-cells [] h all = refl
 steps-cells (op ∷ ops) h all =
     steps-cells ops (step h op) all.1
     ∙ (λ i. fold (cell_step (step-schema h op i)) (step-cells h op all.0 i) ops)
 
-pub accepted-append : (xs ys : List Op) (h : Holding) → AllAccepted h xs → AllAccepted (fold step h xs) ys → AllAccepted h (xs ++ ys)
+pub accepted-append : (xs ys : List Op) (h : ReplicaState) → AllAccepted h xs → AllAccepted (fold step h xs) ys
+    → AllAccepted h (xs ++ ys)
 accepted-append [] ys h first rest = rest
 accepted-append (op ∷ xs) ys h first rest = (first.0, accepted-append xs ys (step h op) first.1 rest)
 
 -- the cells after one list and then another
-pub outcome_of-append : (s : Layout) (xs ys : List Op) → outcome_of s (xs ++ ys) ≡ fold (cell_step s) (outcome_of s xs) ys
+pub outcome_of-append : (s : Layout) (xs ys : List Op)
+    → outcome_of s (xs ++ ys) ≡ fold (cell_step s) (outcome_of s xs) ys
 outcome_of-append s xs ys = fold-append (cell_step s) empty xs ys
 
-pub outcome_of-more : (s : Layout) (ops : List Op) (op : Op) → outcome_of s (ops ++ op ∷ []) ≡ cell_step s (outcome_of s ops) op
+pub outcome_of-more : (s : Layout) (ops : List Op) (op : Op)
+    → outcome_of s (ops ++ op ∷ []) ≡ cell_step s (outcome_of s ops) op
 outcome_of-more s ops op = outcome_of-append s ops (op ∷ [])
 
 -- ---- a join for each cell
@@ -99,14 +103,19 @@ cell_is_taken s e cell =
     ap (λ b. b && is_valid s e.0.archive e.0.slot e.1) (lt-ltb e.0.archive (length s.archives) cell.archive)
     ∙ (Decides-is_valid s e.0.archive e.0.slot e.1).1 cell.valid
 
-pub joins_accepted : (h : Holding) (es : List NamedCell) → AllByRecursion (λ e. IsCellOf h.schema e) es → AllAccepted h (map (λ e. Join (to_cell e)) es)
+pub joins_accepted : (h : ReplicaState) (es : List NamedCell) → AllByRecursion (λ e. IsCellOf h.schema e) es
+    → AllAccepted h (map (λ e. Join (to_cell e)) es)
 joins_accepted h [] all = tt
 joins_accepted h (e ∷ es) all =
-    let op = Join (to_cell e) in
-    (cell_is_taken h.schema e all.0, joins_accepted (step h op) es (subst (λ s. AllByRecursion (λ f. IsCellOf s f) es) (sym (step-schema h op)) all.1))
+    let op = Join (to_cell e) in (
+      cell_is_taken h.schema e all.0,
+      joins_accepted (step h op) es
+          (subst (λ s. AllByRecursion (λ f. IsCellOf s f) es) (sym (step-schema h op)) all.1),
+    )
 
 -- what the test of a contribution says is what the test of its cell says
-pub valid_cell : (s : Layout) (e : NamedCell) (b : Bool) → e.0.archive < length s.archives → IsTrue b ↔ IsValid s e.0.archive e.0.slot e.1 → b ≡ is_cell_of s e
+pub valid_cell : (s : Layout) (e : NamedCell) (b : Bool) → e.0.archive < length s.archives
+    → IsTrue b ↔ IsValid s e.0.archive e.0.slot e.1 → b ≡ is_cell_of s e
 valid_cell s e b within says =
     let tests = Decides-is_valid s e.0.archive e.0.slot e.1 in
     same b (is_valid s e.0.archive e.0.slot e.1) (λ t. tests.1 (says.0 t)) (λ t. says.1 (tests.0 t))

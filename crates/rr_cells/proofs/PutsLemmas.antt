@@ -12,26 +12,27 @@ use Rattle.rr_join.proofs.Joining.{trimmed-trimmed}
 use Rattle.rr_contrib.specs.declared.contribution.Contribution.{Contribution}
 use Rattle.rr_contrib.specs.Contributions.{contribution_with}
 use Rattle.rr_archive.specs.CellSlots.{is_live_at}
-use Rattle.rr_archive.specs.Cells.{put_row}
+use Rattle.rr_archive.specs.Cells.{put_in_archive}
 use Rattle.rr_archive.specs.Cells as held
 use Rattle.rr_model.specs.CellNames.{is_of}
 use Rattle.rr_model.specs.Samples.{Sample, Mark, name_of}
 use Rattle.rr_model.proofs.Orders.{cell_name_cmp_total, cell_name_cmp-IsAntisymmetric}
 use Rattle.rr_model.proofs.Horizon.{live_horizon}
-use Rattle.rr_cells.specs.Cells.{Cells, IsTrimmed, cell_slot_of, rows_at}
+use Rattle.rr_cells.specs.Cells.{Cells, IsTrimmed, cell_slot_of, archive_cells}
 use Rattle.rr_cells.specs.Puts.{slot_sample_of, put_mark, put_marks, put_sample}
-use Rattle.rr_cells.proofs.Local.{get-rows_at, trimmed_local, insert_here, insert_elsewhere}
+use Rattle.rr_cells.proofs.Local.{get-archive_cells, trimmed_local, insert_here, insert_elsewhere}
 
 -- the sample in an archive
 abbrev pub mark : Sample → ℕ → Mark
 mark x archive = record { sample = x; archive = archive }
 
 -- the rows of an archive with the mark put
-abbrev pub with_mark : Layout → held.Rows → Mark → held.Rows
-with_mark s rows m = put_row (archive_at s m.archive).rows rows (cell_slot_of (name_of s m)) (slot_sample_of s m)
+abbrev pub with_mark : Layout → held.ArchiveCells → Mark → held.ArchiveCells
+with_mark s rows m = put_in_archive (archive_at s m.archive).rows rows (cell_slot_of (name_of s m)) (slot_sample_of s m)
 
 module _ (s : Layout) (is : IsLayout s) where
-  put_here : (cells : Cells) (m : Mark) → rows_at (put_mark s cells m) m.key m.archive ≡ with_mark s (rows_at cells m.key m.archive) m
+  put_here : (cells : Cells) (m : Mark) → archive_cells (put_mark s cells m) m.key m.archive
+      ≡ with_mark s (archive_cells cells m.key m.archive) m
   unfolding put_mark
   put_here cells m =
       let n = name_of s m in
@@ -39,9 +40,12 @@ module _ (s : Layout) (is : IsLayout s) where
       trimmed_local m.key m.archive s is (insert cells n v)
       ∙ ap (trimmed (is_live_at (archive_at s m.archive).rows))
       (insert_here m.key m.archive cells (cell_slot_of n) v
-      ∙ ap (λ o. insert (rows_at cells m.key m.archive) (cell_slot_of n) (contribution_with o (slot_sample_of s m))) (sym (get-rows_at m.key m.archive cells (cell_slot_of n))))
+      ∙ ap (λ o. insert (archive_cells cells m.key m.archive) (cell_slot_of n)
+      (contribution_with o (slot_sample_of s m))) (sym (get-archive_cells m.key m.archive cells (cell_slot_of n))))
 
-  put_elsewhere : (cells : Cells) (m : Mark) (key : List ℕ) (archive : ℕ) → IsTrimmed s cells → is_of key archive (name_of s m) ≡ false → rows_at (put_mark s cells m) key archive ≡ rows_at cells key archive
+  put_elsewhere : (cells : Cells) (m : Mark) (key : List ℕ) (archive : ℕ) → IsTrimmed s cells
+      → is_of key archive (name_of s m) ≡ false → archive_cells (put_mark s cells m) key archive
+      ≡ archive_cells cells key archive
   unfolding put_mark
   put_elsewhere cells m key archive kept apart =
       let n = name_of s m in
@@ -49,7 +53,7 @@ module _ (s : Layout) (is : IsLayout s) where
       trimmed_local key archive s is (insert cells n v)
       ∙ ap (trimmed (is_live_at (archive_at s archive).rows)) (insert_elsewhere key archive cells n v apart)
       ∙ sym (trimmed_local key archive s is cells)
-      ∙ ap (λ c. rows_at c key archive) kept
+      ∙ ap (λ c. archive_cells c key archive) kept
 
   put_trimmed : (cells : Cells) (m : Mark) → IsTrimmed s (put_mark s cells m)
   unfolding put_mark
@@ -64,36 +68,54 @@ module _ (s : Layout) (is : IsLayout s) where
   abbrev pub marks_from : Sample → ℕ → ℕ → List Mark
   marks_from x first n = map (mark x) (range_with_len first n)
 
-  other_archive : (x : Sample) (key : List ℕ) (i archive : ℕ) → i ≢ archive → is_of key archive (name_of s (mark x i)) ≡ false
+  other_archive : (x : Sample) (key : List ℕ) (i archive : ℕ) → i ≢ archive
+      → is_of key archive (name_of s (mark x i)) ≡ false
   other_archive x key i archive apart = and_right (pointwise nat_eq x.key key) (i == archive) (ne_eqb i archive apart)
 
-  after_elsewhere : (x : Sample) (key : List ℕ) (archive n first : ℕ) (cells : Cells) → IsTrimmed s cells → ((i : ℕ) → first ≤ i → i < first + n → is_of key archive (name_of s (mark x i)) ≡ false) → rows_at (put_marks s cells (marks_from x first n)) key archive ≡ rows_at cells key archive
+  after_elsewhere : (x : Sample) (key : List ℕ) (archive n first : ℕ) (cells : Cells) → IsTrimmed s cells
+      → ((i : ℕ) → first ≤ i → i < first + n → is_of key archive (name_of s (mark x i)) ≡ false)
+      → archive_cells (put_marks s cells (marks_from x first n)) key archive ≡ archive_cells cells key archive
   after_elsewhere x key archive zero first cells kept apart = refl
   after_elsewhere x key archive (suc n) first cells kept apart =
-      after_elsewhere x key archive n (first + 1) (put_mark s cells (mark x first)) (put_trimmed cells (mark x first)) (λ i low high. apart i (omega arith) (omega arith))
+      after_elsewhere x key archive n (first + 1) (put_mark s cells (mark x first)) (put_trimmed cells (mark x first))
+      (λ i low high. apart i (omega arith) (omega arith))
       ∙ put_elsewhere cells (mark x first) key archive kept (apart first (omega arith) (omega arith))
 
-  after_here : (x : Sample) (archive n first : ℕ) (cells : Cells) → IsTrimmed s cells → first ≤ archive → archive < first + n → rows_at (put_marks s cells (marks_from x first n)) x.key archive ≡ with_mark s (rows_at cells x.key archive) (mark x archive)
+  after_here : (x : Sample) (archive n first : ℕ) (cells : Cells) → IsTrimmed s cells → first ≤ archive
+      → archive < first + n → archive_cells (put_marks s cells (marks_from x first n)) x.key archive
+      ≡ with_mark s (archive_cells cells x.key archive) (mark x archive)
   after_here x archive zero first cells kept low high = absurd (omega arith)
   after_here x archive (suc n) first cells kept low high = ⊎_elim
       (λ h.
-      after_elsewhere x x.key archive n (first + 1) (put_mark s cells (mark x first)) (put_trimmed cells (mark x first)) (λ i above below. let same = h.1 in other_archive x x.key i archive (λ e. absurd (omega arith)))
-      ∙ subst (λ j. rows_at (put_mark s cells (mark x j)) x.key archive ≡ with_mark s (rows_at cells x.key archive) (mark x archive)) h.1 (put_here cells (mark x archive)))
+      after_elsewhere x x.key archive n (first + 1) (put_mark s cells (mark x first)) (put_trimmed cells (mark x first))
+      (λ i above below. let same = h.1 in other_archive x x.key i archive (λ e. absurd (omega arith)))
+      ∙ subst (λ j. archive_cells (put_mark s cells (mark x j)) x.key archive
+      ≡ with_mark s (archive_cells cells x.key archive) (mark x archive)) h.1 (put_here cells (mark x archive)))
       (λ h.
-      after_here x archive n (first + 1) (put_mark s cells (mark x first)) (put_trimmed cells (mark x first)) (above_first first archive low h.1) (omega arith)
-      ∙ ap (λ r. with_mark s r (mark x archive)) (put_elsewhere cells (mark x first) x.key archive kept (other_archive x x.key first archive (λ e. h.1 (sym e)))))
+      after_here x archive n (first + 1) (put_mark s cells (mark x first)) (put_trimmed cells (mark x first))
+      (above_first first archive low h.1) (omega arith)
+      ∙ ap (λ r. with_mark s r (mark x archive)) (put_elsewhere cells (mark x first) x.key archive kept
+      (other_archive x x.key first archive (λ e. h.1 (sym e)))))
       (eqb_tells archive first)
     where
       above_first : (first archive : ℕ) → first ≤ archive → archive ≢ first → first + 1 ≤ archive
-      above_first first archive low apart = ⊎_elim (λ h. absurd (apart h.1)) (λ h. omega arith) (eqb_tells archive first)
+      above_first first archive low apart = ⊎_elim (λ h. absurd (apart h.1)) (λ h. omega arith)
+          (eqb_tells archive first)
 
   -- ---- in all archives
 
-  pub put_at : (x : Sample) (archive : ℕ) (cells : Cells) → IsTrimmed s cells → archive < length s.archives → rows_at (put_sample s cells x) x.key archive ≡ with_mark s (rows_at cells x.key archive) (mark x archive)
+  pub put_at : (x : Sample) (archive : ℕ) (cells : Cells) → IsTrimmed s cells → archive < length s.archives
+      → archive_cells (put_sample s cells x) x.key archive
+      ≡ with_mark s (archive_cells cells x.key archive) (mark x archive)
   put_at x archive cells kept there = after_here x archive (length s.archives) 0 cells kept (omega arith) (omega arith)
 
-  pub put_past : (x : Sample) (key : List ℕ) (archive : ℕ) (cells : Cells) → IsTrimmed s cells → length s.archives ≤ archive → rows_at (put_sample s cells x) key archive ≡ rows_at cells key archive
-  put_past x key archive cells kept past = after_elsewhere x key archive (length s.archives) 0 cells kept (λ i low high. other_archive x key i archive (λ e. absurd (omega arith)))
+  pub put_past : (x : Sample) (key : List ℕ) (archive : ℕ) (cells : Cells) → IsTrimmed s cells
+      → length s.archives ≤ archive → archive_cells (put_sample s cells x) key archive ≡ archive_cells cells key archive
+  put_past x key archive cells kept past = after_elsewhere x key archive (length s.archives) 0 cells kept
+      (λ i low high. other_archive x key i archive (λ e. absurd (omega arith)))
 
-  pub put_other_key : (x : Sample) (key : List ℕ) (archive : ℕ) (cells : Cells) → IsTrimmed s cells → pointwise nat_eq x.key key ≡ false → rows_at (put_sample s cells x) key archive ≡ rows_at cells key archive
-  put_other_key x key archive cells kept apart = after_elsewhere x key archive (length s.archives) 0 cells kept (λ i low high. ap (λ b. b && (i == archive)) apart)
+  pub put_other_key : (x : Sample) (key : List ℕ) (archive : ℕ) (cells : Cells) → IsTrimmed s cells
+      → pointwise nat_eq x.key key ≡ false → archive_cells (put_sample s cells x) key archive
+      ≡ archive_cells cells key archive
+  put_other_key x key archive cells kept apart = after_elsewhere x key archive (length s.archives) 0 cells kept
+      (λ i low high. ap (λ b. b && (i == archive)) apart)

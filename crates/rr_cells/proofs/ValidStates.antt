@@ -31,7 +31,7 @@ use Rattle.rr_model.proofs.Orders.{mark_cmp_total, mark_cmp-IsAntisymmetric}
 use Rattle.rr_cells.specs.CellBounds.{IsCellOf, IsSoundSample}
 use Rattle.rr_cells.specs.Laws.{StatesAreValid}
 use Rattle.rr_cells.specs.Puts.{slot_sample_of}
-use Rattle.rr_cells.specs.State.{state}
+use Rattle.rr_cells.specs.State.{cells_of_knowledge}
 use Rattle.rr_cells.proofs.CellBoundsLemmas.{HasBounds, bounds_with, cell_from}
 use Rattle.rr_cells.proofs.HeldCells.{all_entries}
 use Rattle.rr_cells.proofs.OneSampleMore.{knows-insert}
@@ -70,7 +70,8 @@ module _ (s : Layout) (is : IsLayout s) (n : CellName) where
   })
 
   -- a mark more, of a number above the others
-  with_mark : (limit : ℕ) (o : Option Contribution) (m : Mark) → IsMarkAt m → limit ≤ m.number → IsGood limit o → IsGood (m.number + 1) (Some (contribution_with o (slot_sample_of s m)))
+  with_mark : (limit : ℕ) (o : Option Contribution) (m : Mark) → IsMarkAt m → limit ≤ m.number → IsGood limit o
+      → IsGood (m.number + 1) (Some (contribution_with o (slot_sample_of s m)))
   with_mark limit None m at above good = (
     omega arith,
     of_one_valid s n.archive n.slot (slot_sample_of s m) (falls m at),
@@ -78,8 +79,10 @@ module _ (s : Layout) (is : IsLayout s) (n : CellName) where
   )
   with_mark limit (Some v) m at above good = (
     omega arith,
-    with_sample_valid s n.archive n.slot v (slot_sample_of s m) good.1 (falls m at) (let below = good.0 in omega (arith, below, above)),
-    bounds_with (Some v) (slot_sample_of s m) good.2 (fits_from m.time at.sound.time) (fits_from m.value at.sound.value),
+    with_sample_valid s n.archive n.slot v (slot_sample_of s m) good.1 (falls m at)
+        (let below = good.0 in omega (arith, below, above)),
+    bounds_with (Some v) (slot_sample_of s m) good.2 (fits_from m.time at.sound.time)
+        (fits_from m.value at.sound.value),
   )
 
   -- a greater limit
@@ -89,7 +92,8 @@ module _ (s : Layout) (is : IsLayout s) (n : CellName) where
 
   -- ---- the mark of the greatest number, and the others
 
-  module _ (c : Knowledge) (tell : NumbersTell c) (l : ℕ) (below : (m : Mark) → knows c m ≡ true → m.number < suc l) where
+  module _ (c : Knowledge) (tell : NumbersTell c) (l : ℕ)
+      (below : (m : Mark) → knows c m ≡ true → m.number < suc l) where
     others : Knowledge
     others = retain_keys c (λ m. nat_lt m.number l)
 
@@ -124,19 +128,26 @@ module _ (s : Layout) (is : IsLayout s) (n : CellName) where
               let most = below m here in
               let least = ltb-false m.number l e in
               let same : m.number ≡ top.number = omega (arith, most, least, number) in
-              absurd (true≢false (sym (subst (λ q. eq_by_cmp mark_cmp m q ≡ true) (tell m top here known same) (tie_itself mark_cmp_total mark_cmp-IsAntisymmetric m)) ∙ apart))
+              absurd (true≢false (sym (subst (λ q. eq_by_cmp mark_cmp m q ≡ true) (tell m top here known same)
+              (tie_itself mark_cmp_total mark_cmp-IsAntisymmetric m)) ∙ apart))
 
       all_but_one : c ≡ insert others top tt
-      all_but_one = same_knowledge c (insert others top tt) (λ m. by m (eq_by_cmp mark_cmp m top) refl (knows c m) refl ∙ sym (knows-insert others top m))
+      all_but_one = same_knowledge c (insert others top tt)
+          (λ m. by m (eq_by_cmp mark_cmp m top) refl (knows c m) refl ∙ sym (knows-insert others top m))
         where
-          by : (m : Mark) (tie : Bool) → eq_by_cmp mark_cmp m top ≡ tie → (here : Bool) → knows c m ≡ here → knows c m ≡ (eq_by_cmp mark_cmp m top || knows others m)
-          by m true t here e = ap (knows c) (same_from_tie mark_cmp_total mark_cmp-IsAntisymmetric m top t) ∙ known ∙ ap (λ b. b || knows others m) (sym t)
-          by m false t true e = e ∙ sym (ap (λ b. b || knows others m) t ∙ knows-others m ∙ ap (λ b. b && nat_lt m.number l) e ∙ below_top m e t)
-          by m false t false e = e ∙ sym (ap (λ b. b || knows others m) t ∙ knows-others m ∙ ap (λ b. b && nat_lt m.number l) e)
+          by : (m : Mark) (tie : Bool) → eq_by_cmp mark_cmp m top ≡ tie → (here : Bool) → knows c m ≡ here
+              → knows c m ≡ (eq_by_cmp mark_cmp m top || knows others m)
+          by m true t here e = ap (knows c) (same_from_tie mark_cmp_total mark_cmp-IsAntisymmetric m top t) ∙ known
+              ∙ ap (λ b. b || knows others m) (sym t)
+          by m false t true e = e ∙ sym (ap (λ b. b || knows others m) t ∙ knows-others m
+              ∙ ap (λ b. b && nat_lt m.number l) e ∙ below_top m e t)
+          by m false t false e = e ∙ sym (ap (λ b. b || knows others m) t ∙ knows-others m
+              ∙ ap (λ b. b && nat_lt m.number l) e)
 
   -- ---- all of them
 
-  good_below : (limit : ℕ) (c : Knowledge) → NumbersTell c → ((m : Mark) → knows c m ≡ true → IsMarkAt m) → ((m : Mark) → knows c m ≡ true → m.number < limit) → IsGood limit (value s c)
+  good_below : (limit : ℕ) (c : Knowledge) → NumbersTell c → ((m : Mark) → knows c m ≡ true → IsMarkAt m)
+      → ((m : Mark) → knows c m ≡ true → m.number < limit) → IsGood limit (value s c)
   good_below zero c tell at below = subst (IsGood 0) (sym (no_value s c (λ m. none m (knows c m) refl))) tt
     where
       none : (m : Mark) (b : Bool) → knows c m ≡ b → b ≡ false
@@ -149,36 +160,49 @@ module _ (s : Layout) (is : IsLayout s) (n : CellName) where
       (others_below c tell l below) in
       by (list_any (λ m. m.number == l) (keys c)) refl lower
     where
-      by : (b : Bool) → list_any (λ m. m.number == l) (keys c) ≡ b → IsGood l (value s (others c tell l below)) → IsGood (suc l) (value s c)
+      by : (b : Bool) → list_any (λ m. m.number == l) (keys c) ≡ b → IsGood l (value s (others c tell l below))
+          → IsGood (suc l) (value s c)
       by true e lower =
           let f = found_of mark_cmp_total mark_cmp-IsAntisymmetric (λ m. m.number == l) (keys c) e in
           let known = sym (is_in-keys_of c f.item) ∙ f.known in
           let number : f.item.number ≡ l = eqb-true f.item.number l f.passes in
           let rest = others c tell l below in
-          let new = value-insert s rest f.item (top_is_new c tell l below f.item known number) (λ y h. let b = others_below c tell l below y h in omega (arith, b, number)) in
-          let whole : value s c ≡ Some (contribution_with (value s rest) (slot_sample_of s f.item)) = ap (value s) (all_but_one c tell l below f.item known number) ∙ new in
+          let new = value-insert s rest f.item (top_is_new c tell l below f.item known number)
+          (λ y h. let b = others_below c tell l below y h in omega (arith, b, number)) in
+          let whole : value s c ≡ Some (contribution_with (value s rest) (slot_sample_of s f.item)) =
+          ap (value s) (all_but_one c tell l below f.item known number) ∙ new in
           let good = with_mark l (value s rest) f.item (at f.item known) (omega (arith, number)) lower in
-          subst (IsGood (suc l)) (sym whole) (subst (λ (k : ℕ). IsGood k (Some (contribution_with (value s rest) (slot_sample_of s f.item)))) (let g : f.item.number + 1 ≡ suc l = omega (arith, number) in g) good)
-      by false e lower = subst (λ (k : Knowledge). IsGood (suc l) (value s k)) (sym (same_knowledge c (others c tell l below) (λ m. only m (knows c m) refl))) (raised l (value s (others c tell l below)) lower)
+          subst (IsGood (suc l)) (sym whole) (subst (λ (k : ℕ). IsGood k
+          (Some (contribution_with (value s rest) (slot_sample_of s f.item))))
+          (let g : f.item.number + 1 ≡ suc l = omega (arith, number) in g) good)
+      by false e lower = subst (λ (k : Knowledge). IsGood (suc l) (value s k))
+          (sym (same_knowledge c (others c tell l below) (λ m. only m (knows c m) refl)))
+          (raised l (value s (others c tell l below)) lower)
         where
           only : (m : Mark) (b : Bool) → knows c m ≡ b → knows c m ≡ knows (others c tell l below) m
-          only m true h = h ∙ sym (knows-others c tell l below m ∙ ap (λ b. b && nat_lt m.number l) h ∙ beneath (nat_lt m.number l) refl)
+          only m true h = h ∙ sym (knows-others c tell l below m ∙ ap (λ b. b && nat_lt m.number l) h
+              ∙ beneath (nat_lt m.number l) refl)
             where
               beneath : (b : Bool) → nat_lt m.number l ≡ b → b ≡ true
               beneath true g = refl
               beneath false g =
-                  let is_l : m.number ≡ l = (let most = below m h in let least = ltb-false m.number l g in omega (arith, most, least)) in
-                  absurd (true≢false (sym (any_from mark_cmp_total mark_cmp-IsAntisymmetric (λ x. x.number == l) (keys c) m (is_in-keys_of c m ∙ h) (eq-eqb m.number l is_l)) ∙ e))
+                  let is_l : m.number ≡ l = (let most = below m h in let least = ltb-false m.number l g in
+                  omega (arith, most, least)) in
+                  absurd (true≢false (sym (any_from mark_cmp_total mark_cmp-IsAntisymmetric (λ x. x.number == l)
+                  (keys c) m (is_in-keys_of c m ∙ h) (eq-eqb m.number l is_l)) ∙ e))
           only m false h = h ∙ sym (knows-others c tell l below m ∙ ap (λ b. b && nat_lt m.number l) h)
 
 -- ---- the cells of what is known
 
-module _ (s : Layout) (is : IsLayout s) (w : World) (k : Knowledge) (written : (m : Mark) → knows k m ≡ true → IsMarkOf s w m) (sound : (x : Sample) → IsWritten w x → IsSoundSample x) where
+module _ (s : Layout) (is : IsLayout s) (w : World) (k : Knowledge)
+    (written : (m : Mark) → knows k m ≡ true → IsMarkOf s w m)
+    (sound : (x : Sample) → IsWritten w x → IsSoundSample x) where
   in_cell : (n : CellName) (m : Mark) → knows (cell s k n) m ≡ true → (knows k m ≡ true) × (name_of s m ≡ n)
   in_cell n m e =
       let here = sym (knows-cell s k n m) ∙ e in
       let alive = knows k m && is_live_in s k (name_of s m) in (
-        and_first (knows k m) (is_live_in s k (name_of s m)) (and_first alive (eq_by_cmp cell_name_cmp (name_of s m) n) here),
+        and_first (knows k m) (is_live_in s k (name_of s m))
+            (and_first alive (eq_by_cmp cell_name_cmp (name_of s m) n) here),
         name_from_tie s m n (and_second alive (eq_by_cmp cell_name_cmp (name_of s m) n) here),
       )
 
@@ -196,22 +220,27 @@ module _ (s : Layout) (is : IsLayout s) (w : World) (k : Knowledge) (written : (
       let names = one.1 ∙ sym two.1 in
       let origin : a.origin ≡ b.origin = ap (λ (c : CellName). c.origin) names in
       let archive : a.archive ≡ b.archive = ap (λ (c : CellName). c.archive) names in
-      let found : Some a.sample ≡ Some b.sample = sym (written a one.0).0 ∙ (λ i. get w (origin i, e i)) ∙ (written b two.0).0 in
+      let found : Some a.sample ≡ Some b.sample = sym (written a one.0).0 ∙ (λ i. get w (origin i, e i))
+      ∙ (written b two.0).0 in
       let sample : a.sample ≡ b.sample = ap (λ (o : Option Sample). unwrap_or o a.sample) found in
       λ i. record { sample = sample i; archive = archive i }
 
-  cell_is : (n : CellName) (c : Contribution) → get (state s k) n ≡ Some c → IsCellOf s (n, c)
+  cell_is : (n : CellName) (c : Contribution) → get (cells_of_knowledge s k) n ≡ Some c → IsCellOf s (n, c)
   cell_is n c e =
       let here : value s (cell s k n) ≡ Some c = sym (get-state s k n) ∙ e in
       let m = marked_by s (cell s k n) (ap is_some here) in
       let at = mark_at n m.0 m.1 in
-      let good = subst (IsGood s is n (MAX_NUMBER + 1)) here (good_below s is n (MAX_NUMBER + 1) (cell s k n) (numbers_tell n) (mark_at n) (λ q h. let few = (mark_at n q h).sound.few_numbers in omega (arith, few))) in
+      let good = subst (IsGood s is n (MAX_NUMBER + 1)) here
+      (good_below s is n (MAX_NUMBER + 1) (cell s k n) (numbers_tell n) (mark_at n)
+      (λ q h. let few = (mark_at n q h).sound.few_numbers in omega (arith, few))) in
       cell_from s n c
       (subst IsKeyText (ap (λ (q : CellName). q.key) at.named) at.sound.key)
       (subst (λ (i : ℕ). i < length s.archives) (ap (λ (q : CellName). q.archive) at.named) at.within)
       (subst IsOrigin (ap (λ (q : CellName). q.origin) at.named) at.sound.origin)
-      (subst IsSlot (ap (λ (q : CellName). q.slot) at.named) (slot_is s is m.0.archive m.0.time (fits_from m.0.time at.sound.time)))
+      (subst IsSlot (ap (λ (q : CellName). q.slot) at.named)
+      (slot_is s is m.0.archive m.0.time (fits_from m.0.time at.sound.time)))
       good.1 good.2
 
 pub states_are_valid : StatesAreValid
-states_are_valid s w k is closed sound = All-from_recursion (IsCellOf s) (entries (state s k)) (all_entries (IsCellOf s) (state s k) (cell_is s is w k closed.written sound))
+states_are_valid s w k is closed sound = All-from_recursion (IsCellOf s) (entries (cells_of_knowledge s k))
+    (all_entries (IsCellOf s) (cells_of_knowledge s k) (cell_is s is w k closed.written sound))

@@ -33,25 +33,41 @@ add_swap x y z = sym (+ℤ_assoc x y z) ∙ ap (λ g. g +ℤ z) (+ℤ_comm x y) 
 
 module _ (s : Layout) (m : Mark) (ms : List Mark) (new : is_in mark_cmp ms m ≡ false) where
   last_either : last_of (map (slot_sample_of s) (inserted mark_cmp m ms)) ≡ last_of (map (slot_sample_of s) (m ∷ ms))
-  last_either = total-inserted mark_cmp (greater sample_cmp) (λ y. Some (slot_sample_of s y)) (λ l. last_of (map (slot_sample_of s) l)) (λ _ _. refl) (greater_swap sample_cmp_total sample_cmp-IsAntisymmetric) m ms new
+  last_either = total-inserted mark_cmp (greater sample_cmp) (λ y. Some (slot_sample_of s y))
+      (λ l. last_of (map (slot_sample_of s) l)) (λ _ _. refl) (greater_swap sample_cmp_total sample_cmp-IsAntisymmetric)
+      m ms new
 
-  version_either : greatest nat_cmp (map (λ x. x.number) (map (slot_sample_of s) (inserted mark_cmp m ms))) ≡ greatest nat_cmp (map (λ x. x.number) (map (slot_sample_of s) (m ∷ ms)))
-  version_either = total-inserted mark_cmp (greater nat_cmp) (λ y. Some y.number) (λ l. greatest nat_cmp (map (λ x. x.number) (map (slot_sample_of s) l))) (λ _ _. refl) (greater_swap nat_cmp_total nat_cmp-IsAntisymmetric) m ms new
+  version_either : greatest nat_cmp (map (λ x. x.number) (map (slot_sample_of s) (inserted mark_cmp m ms)))
+      ≡ greatest nat_cmp (map (λ x. x.number) (map (slot_sample_of s) (m ∷ ms)))
+  version_either = total-inserted mark_cmp (greater nat_cmp) (λ y. Some y.number)
+      (λ l. greatest nat_cmp (map (λ x. x.number) (map (slot_sample_of s) l))) (λ _ _. refl)
+      (greater_swap nat_cmp_total nat_cmp-IsAntisymmetric) m ms new
 
   count_either : length (map (slot_sample_of s) (inserted mark_cmp m ms)) ≡ length (map (slot_sample_of s) (m ∷ ms))
-  count_either = total-inserted mark_cmp (λ a b. suc b) (λ y. 0) (λ l. length (map (slot_sample_of s) l)) (λ _ _. refl) (λ a b c. refl) m ms new
+  count_either = total-inserted mark_cmp (λ a b. suc b) (λ y. 0) (λ l. length (map (slot_sample_of s) l)) (λ _ _. refl)
+      (λ a b c. refl) m ms new
 
-  sum_either : int_sum (map (λ x. x.value) (map (slot_sample_of s) (inserted mark_cmp m ms))) ≡ int_sum (map (λ x. x.value) (map (slot_sample_of s) (m ∷ ms)))
-  sum_either = total-inserted mark_cmp ◌+ℤ◌ (λ y. y.value) (λ l. int_sum (map (λ x. x.value) (map (slot_sample_of s) l))) (λ _ _. refl) add_swap m ms new
+  sum_either : int_sum (map (λ x. x.value) (map (slot_sample_of s) (inserted mark_cmp m ms)))
+      ≡ int_sum (map (λ x. x.value) (map (slot_sample_of s) (m ∷ ms)))
+  sum_either = total-inserted mark_cmp ◌+ℤ◌ (λ y. y.value)
+      (λ l. int_sum (map (λ x. x.value) (map (slot_sample_of s) l))) (λ _ _. refl) add_swap m ms new
 
-  least_either : greatest (flip_args int_cmp) (map (λ x. x.value) (map (slot_sample_of s) (inserted mark_cmp m ms))) ≡ greatest (flip_args int_cmp) (map (λ x. x.value) (map (slot_sample_of s) (m ∷ ms)))
-  least_either = total-inserted mark_cmp (greater (flip_args int_cmp)) (λ y. Some y.value) (λ l. greatest (flip_args int_cmp) (map (λ x. x.value) (map (slot_sample_of s) l))) (λ _ _. refl) (greater_swap (back_total int_cmp_total) (flip_args-IsAntisymmetric int_cmp-IsAntisymmetric)) m ms new
+  least_either : greatest (flip_args int_cmp) (map (λ x. x.value) (map (slot_sample_of s) (inserted mark_cmp m ms)))
+      ≡ greatest (flip_args int_cmp) (map (λ x. x.value) (map (slot_sample_of s) (m ∷ ms)))
+  least_either = total-inserted mark_cmp (greater (flip_args int_cmp)) (λ y. Some y.value)
+      (λ l. greatest (flip_args int_cmp) (map (λ x. x.value) (map (slot_sample_of s) l))) (λ _ _. refl)
+      (greater_swap (back_total int_cmp_total) (flip_args-IsAntisymmetric int_cmp-IsAntisymmetric)) m ms new
 
-  most_either : greatest int_cmp (map (λ x. x.value) (map (slot_sample_of s) (inserted mark_cmp m ms))) ≡ greatest int_cmp (map (λ x. x.value) (map (slot_sample_of s) (m ∷ ms)))
-  most_either = total-inserted mark_cmp (greater int_cmp) (λ y. Some y.value) (λ l. greatest int_cmp (map (λ x. x.value) (map (slot_sample_of s) l))) (λ _ _. refl) (greater_swap int_cmp_total int_cmp-IsAntisymmetric) m ms new
+  most_either : greatest int_cmp (map (λ x. x.value) (map (slot_sample_of s) (inserted mark_cmp m ms)))
+      ≡ greatest int_cmp (map (λ x. x.value) (map (slot_sample_of s) (m ∷ ms)))
+  most_either = total-inserted mark_cmp (greater int_cmp) (λ y. Some y.value)
+      (λ l. greatest int_cmp (map (λ x. x.value) (map (slot_sample_of s) l))) (λ _ _. refl)
+      (greater_swap int_cmp_total int_cmp-IsAntisymmetric) m ms new
 
-  mask_either : mask_of (map (λ x. x.place) (map (slot_sample_of s) (inserted mark_cmp m ms))) ≡ mask_of (map (λ x. x.place) (map (slot_sample_of s) (m ∷ ms)))
-  mask_either = total-inserted mark_cmp bit_or (λ y. 2 ^ (slot_sample_of s y).place) (λ l. mask_of (map (λ x. x.place) (map (slot_sample_of s) l))) (λ _ _. refl) or_swap m ms new
+  mask_either : mask_of (map (λ x. x.place) (map (slot_sample_of s) (inserted mark_cmp m ms)))
+      ≡ mask_of (map (λ x. x.place) (map (slot_sample_of s) (m ∷ ms)))
+  mask_either = total-inserted mark_cmp bit_or (λ y. 2 ^ (slot_sample_of s y).place)
+      (λ l. mask_of (map (λ x. x.place) (map (slot_sample_of s) l))) (λ _ _. refl) or_swap m ms new
 
   summary_either : summary (map (slot_sample_of s) (inserted mark_cmp m ms)) ≡ summary (map (slot_sample_of s) (m ∷ ms))
   unfolding summary
@@ -70,27 +86,37 @@ of_some : (xs : List SlotSample) (n : ℕ) → length xs ≡ suc n → contribut
 of_some [] n e = absurd (omega arith)
 of_some (x ∷ xs) n e = refl
 
-value_inserted : (s : Layout) (m : Mark) (ms : List Mark) → is_in mark_cmp ms m ≡ false → value_of s (inserted mark_cmp m ms) ≡ Some (summary (map (slot_sample_of s) (inserted mark_cmp m ms)))
-value_inserted s m ms new = of_some (map (slot_sample_of s) (inserted mark_cmp m ms)) (length (map (slot_sample_of s) ms)) (count_either s m ms new)
+value_inserted : (s : Layout) (m : Mark) (ms : List Mark) → is_in mark_cmp ms m ≡ false
+    → value_of s (inserted mark_cmp m ms) ≡ Some (summary (map (slot_sample_of s) (inserted mark_cmp m ms)))
+value_inserted s m ms new = of_some (map (slot_sample_of s) (inserted mark_cmp m ms))
+    (length (map (slot_sample_of s) ms)) (count_either s m ms new)
 
 -- ---- a mark more
 
 max_below : (a b n : ℕ) → a < n → b < n → ord_max nat_cmp a b < n
 max_below a b n p q = grind (arith, nat_tests)
 
-greatest_below : (s : Layout) (n : ℕ) (m : Mark) (ms : List Mark) → ((y : Mark) → is_in mark_cmp (m ∷ ms) y ≡ true → y.number < n) → unwrap_or (greatest nat_cmp (map (λ x. x.number) (map (slot_sample_of s) (m ∷ ms)))) 0 < n
+greatest_below : (s : Layout) (n : ℕ) (m : Mark) (ms : List Mark)
+    → ((y : Mark) → is_in mark_cmp (m ∷ ms) y ≡ true → y.number < n)
+    → unwrap_or (greatest nat_cmp (map (λ x. x.number) (map (slot_sample_of s) (m ∷ ms)))) 0 < n
 greatest_below s n m [] below = below m (head_in mark_cmp_total mark_cmp-IsAntisymmetric m [])
 greatest_below s n m (y ∷ ms) below =
     let rest = greatest_below s n y ms (λ z e. below z (or_right _ _ e)) in
-    subst (λ g. unwrap_or (greater nat_cmp (Some m.number) g) 0 < n) (sym (greatest_some nat_cmp y.number (map (λ x. x.number) (map (slot_sample_of s) ms)) 0))
-    (max_below m.number (unwrap_or (greatest nat_cmp (map (λ x. x.number) (map (slot_sample_of s) (y ∷ ms)))) 0) n (below m (head_in mark_cmp_total mark_cmp-IsAntisymmetric m (y ∷ ms))) rest)
+    subst (λ g. unwrap_or (greater nat_cmp (Some m.number) g) 0 < n)
+    (sym (greatest_some nat_cmp y.number (map (λ x. x.number) (map (slot_sample_of s) ms)) 0))
+    (max_below m.number (unwrap_or (greatest nat_cmp (map (λ x. x.number) (map (slot_sample_of s) (y ∷ ms)))) 0) n
+    (below m (head_in mark_cmp_total mark_cmp-IsAntisymmetric m (y ∷ ms))) rest)
 
-value_with : (s : Layout) (m : Mark) (ms : List Mark) → ((y : Mark) → is_in mark_cmp ms y ≡ true → y.number < m.number) → value_of s (m ∷ ms) ≡ Some (contribution_with (value_of s ms) (slot_sample_of s m))
+value_with : (s : Layout) (m : Mark) (ms : List Mark) → ((y : Mark) → is_in mark_cmp ms y ≡ true → y.number < m.number)
+    → value_of s (m ∷ ms) ≡ Some (contribution_with (value_of s ms) (slot_sample_of s m))
 unfolding summary
 value_with s m [] above = contribution_of-one (slot_sample_of s m)
-value_with s m (x ∷ xs) above = contribution_of-more (slot_sample_of s m) (map (slot_sample_of s) (x ∷ xs)) (summary (map (slot_sample_of s) (x ∷ xs))) refl (greatest_below s m.number x xs above)
+value_with s m (x ∷ xs) above = contribution_of-more (slot_sample_of s m) (map (slot_sample_of s) (x ∷ xs))
+    (summary (map (slot_sample_of s) (x ∷ xs))) refl (greatest_below s m.number x xs above)
 
-pub value-insert : (s : Layout) (c : Knowledge) (m : Mark) → knows c m ≡ false → ((y : Mark) → knows c y ≡ true → y.number < m.number) → value_of s (keys (insert c m tt)) ≡ Some (contribution_with (value_of s (keys c)) (slot_sample_of s m))
+pub value-insert : (s : Layout) (c : Knowledge) (m : Mark) → knows c m ≡ false
+    → ((y : Mark) → knows c y ≡ true → y.number < m.number)
+    → value_of s (keys (insert c m tt)) ≡ Some (contribution_with (value_of s (keys c)) (slot_sample_of s m))
 value-insert s c m new above =
     ap (value_of s) (keys-insert mark_cmp_total mark_cmp-IsAntisymmetric c m tt)
     ∙ value_inserted s m (keys c) (is_in-keys_of c m ∙ new)

@@ -22,7 +22,7 @@ use Rattle.rr_model.proofs.Knowing.{is_in-keys_of, knows-cell, name_from_tie}
 use Rattle.rr_cells.specs.CellBounds.{NamedCell, IsCellOf}
 use Rattle.rr_cells.specs.Joining.{next_after, next_past}
 use Rattle.rr_cells.specs.Laws.{VersionsAreNumbers, NextStays, SumsAreSmall, JoinsMakeTheirCells, JoinsAreTaken}
-use Rattle.rr_cells.specs.State.{state}
+use Rattle.rr_cells.specs.State.{cells_of_knowledge}
 use Rattle.rr_cells.proofs.CellBoundsLemmas.{abs_at_most}
 use Rattle.rr_cells.proofs.OperationsLemmas.{outcome_of-joins, joins_accepted}
 use Rattle.rr_cells.proofs.States.{get-state}
@@ -41,27 +41,35 @@ versions_are_numbers s w k n c closed at =
     (top.mark.sample, (closed.written top.mark known).0, ap (λ (q : CellName). q.origin) name, top.number)
 
 -- a cell of an earlier number leaves the next one
-pub next_after_earlier : (origin next : ℕ) (e : NamedCell) → (e.0.origin ≡ origin → e.1.version < next) → next_after origin next e ≡ next
+pub next_after_earlier : (origin next : ℕ) (e : NamedCell) → (e.0.origin ≡ origin → e.1.version < next)
+    → next_after origin next e ≡ next
 next_after_earlier origin next e earlier = by (e.0.origin == origin) (nat_le next e.1.version) refl refl
   where
-    by : (a b : Bool) → (e.0.origin == origin) ≡ a → nat_le next e.1.version ≡ b → cond (a && b) (e.1.version + 1) next ≡ next
-    by true true t u = let below = earlier (eqb-true e.0.origin origin t) in let past = leb-true next e.1.version u in omega (arith, below, past)
+    by : (a b : Bool) → (e.0.origin == origin) ≡ a → nat_le next e.1.version ≡ b
+        → cond (a && b) (e.1.version + 1) next ≡ next
+    by true true t u = let below = earlier (eqb-true e.0.origin origin t) in let past = leb-true next e.1.version u in
+        omega (arith, below, past)
     by true false t u = refl
     by false b t u = refl
 
 -- a version of this origin is below a next number that is past all that the origin wrote
-pub versions_are_below : (s : Layout) (w : World) (k : Knowledge) (origin next : ℕ) → IsClosed s w k → ((x : Sample) → IsWritten w x → x.origin ≡ origin → x.number < next)
-    → (n : CellName) (c : Contribution) → get (state s k) n ≡ Some c → n.origin ≡ origin → c.version < next
+pub versions_are_below : (s : Layout) (w : World) (k : Knowledge) (origin next : ℕ) → IsClosed s w k
+    → ((x : Sample) → IsWritten w x → x.origin ≡ origin → x.number < next)
+    → (n : CellName) (c : Contribution) → get (cells_of_knowledge s k) n ≡ Some c → n.origin ≡ origin → c.version < next
 versions_are_below s w k origin next closed past n c at own =
     let x = versions_are_numbers s w k n c closed at in
     subst (λ (v : ℕ). v < next) x.3 (past x.0 x.1 (x.2 ∙ own))
 
 pub next_stays : NextStays
-next_stays s w k origin next es closed past all = by es (recursion_from_All (λ e. get (state s k) e.0 ≡ Some e.1) es all)
+next_stays s w k origin next es closed past all =
+    by es (recursion_from_All (λ e. get (cells_of_knowledge s k) e.0 ≡ Some e.1) es all)
   where
-    by : (es : List NamedCell) → AllByRecursion (λ e. get (state s k) e.0 ≡ Some e.1) es → next_past origin next es ≡ next
+    by : (es : List NamedCell) → AllByRecursion (λ e. get (cells_of_knowledge s k) e.0 ≡ Some e.1) es
+        → next_past origin next es ≡ next
     by [] all = refl
-    by (e ∷ es) all = ap (λ (j : ℕ). next_past origin j es) (next_after_earlier origin next e (versions_are_below s w k origin next closed past e.0 e.1 all.0)) ∙ by es all.1
+    by (e ∷ es) all = ap (λ (j : ℕ). next_past origin j es)
+        (next_after_earlier origin next e (versions_are_below s w k origin next closed past e.0 e.1 all.0))
+        ∙ by es all.1
 
 -- ---- sums
 
@@ -70,23 +78,29 @@ product_abs count z few fits =
     subst (λ (n : ℕ). n ≤ 2 ^ 103) (sym (unsigned_abs-mul (pos count) z))
     (le_trans (mul-le count (unsigned_abs z) MAX_NUMBER (2 ^ 63) few (abs_at_most z fits)) (omega arith))
 
-abs_between : (low sum high : ℤ) → unsigned_abs low ≤ 2 ^ 103 → unsigned_abs high ≤ 2 ^ 103 → low ≤ℤ sum → sum ≤ℤ high → unsigned_abs sum ≤ 2 ^ 103
+abs_between : (low sum high : ℤ) → unsigned_abs low ≤ 2 ^ 103 → unsigned_abs high ≤ 2 ^ 103 → low ≤ℤ sum → sum ≤ℤ high
+    → unsigned_abs sum ≤ 2 ^ 103
 abs_between low sum high p q at_least at_most = omega (arith, ints)
 
 cell_sum : (s : Layout) (e : NamedCell) → IsCellOf s e → unsigned_abs e.1.sum ≤ 2 ^ 103
 cell_sum s e cell =
     let few : e.1.count ≤ MAX_NUMBER = le_trans cell.valid.counted cell.valid.numbered in
-    abs_between (pos e.1.count *ℤ e.1.min) e.1.sum (pos e.1.count *ℤ e.1.max) (product_abs e.1.count e.1.min few cell.min_fits) (product_abs e.1.count e.1.max few cell.max_fits) cell.valid.low cell.valid.high
+    abs_between (pos e.1.count *ℤ e.1.min) e.1.sum (pos e.1.count *ℤ e.1.max)
+    (product_abs e.1.count e.1.min few cell.min_fits) (product_abs e.1.count e.1.max few cell.max_fits)
+    cell.valid.low cell.valid.high
 
 abs_sum : (x y : ℤ) (m n : ℕ) → unsigned_abs x ≤ m → unsigned_abs y ≤ n → unsigned_abs (x +ℤ y) ≤ m + n
 abs_sum x y m n p q = omega (arith, ints)
 
-sums_below : (s : Layout) (es : List NamedCell) → AllByRecursion (IsCellOf s) es → unsigned_abs (int_sum (map (λ e. e.1.sum) es)) ≤ length es * 2 ^ 103
+sums_below : (s : Layout) (es : List NamedCell) → AllByRecursion (IsCellOf s) es
+    → unsigned_abs (int_sum (map (λ e. e.1.sum) es)) ≤ length es * 2 ^ 103
 sums_below s [] all = omega arith
-sums_below s (e ∷ es) all = le_trans (abs_sum e.1.sum (int_sum (map (λ f. f.1.sum) es)) (2 ^ 103) (length es * 2 ^ 103) (cell_sum s e all.0) (sums_below s es all.1)) (omega arith)
+sums_below s (e ∷ es) all = le_trans (abs_sum e.1.sum (int_sum (map (λ f. f.1.sum) es)) (2 ^ 103) (length es * 2 ^ 103)
+    (cell_sum s e all.0) (sums_below s es all.1)) (omega arith)
 
 pub sums_are_small : SumsAreSmall
-sums_are_small s es all few = let below = sums_below s es (recursion_from_All (IsCellOf s) es all) in omega (arith, below, few)
+sums_are_small s es all few = let below = sums_below s es (recursion_from_All (IsCellOf s) es all) in
+    omega (arith, below, few)
 
 -- ---- operations
 

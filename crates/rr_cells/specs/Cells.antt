@@ -29,13 +29,15 @@ abbrev pub cell_slot_of : CellName → CellSlot
 cell_slot_of n = cell_slot n.slot n.origin
 
 -- of all cells those of an archive of a key, by their cell slots
-unfoldable pub rows_at : Cells → List ℕ → ℕ → held.Rows
-rows_at m key archive = map_of (map cell_slot_of (filter (is_of key archive) (keys m))) (λ p. get m (name_at key archive p))
+unfoldable pub archive_cells : Cells → List ℕ → ℕ → held.ArchiveCells
+archive_cells m key archive = map_of (map cell_slot_of (filter (is_of key archive) (keys m)))
+    (λ p. get m (name_at key archive p))
 
 -- each cell of it is of one of these origins
 abbrev pub HasOriginsIn : Cells → List ℕ → ℕ → List ℕ → Type 0
-HasOriginsIn m key archive origins = (n : CellName) (c : Contribution) → get m n ≡ Some c → n.key ≡ key → n.archive ≡ archive → Contains origins n.origin
+HasOriginsIn m key archive origins = (n : CellName) (c : Contribution) → get m n ≡ Some c → n.key ≡ key
+    → n.archive ≡ archive → Contains origins n.origin
 
 -- the entries of a slot of it, ascending by origin
 abbrev pub row_at : Cells → List ℕ → ℕ → ℤ → List Entry
-row_at m key archive slot = held.row_of (rows_at m key archive) slot
+row_at m key archive slot = held.row_of (archive_cells m key archive) slot

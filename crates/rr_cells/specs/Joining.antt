@@ -2,7 +2,7 @@
 use Rattle.std.specs.Prelude.{ℕ, ◌+◌, ◌==◌, ◌&&◌, nat_le, List, [], ◌∷◌, if◌then◌else◌}
 use Rattle.rr_cells.specs.declared.cell.Cell.{Cell}
 use Rattle.rr_cells.specs.CellBounds.{NamedCell}
-use Rattle.rr_cells.specs.Holding.{Holding}
+use Rattle.rr_cells.specs.ReplicaState.{ReplicaState}
 use Rattle.rr_cells.specs.Joins.{join_cell}
 use Rattle.rr_cells.specs.Listing.{owned_cell}
 
@@ -16,7 +16,7 @@ next_past origin next [] = next
 next_past origin next (e ∷ es) = next_past origin (next_after origin next e) es
 
 -- with a cell joined in
-abbrev pub with_named : Holding → NamedCell → Holding
+abbrev pub with_named : ReplicaState → NamedCell → ReplicaState
 with_named h e = record {
   schema = h.schema;
   origin = h.origin;
@@ -24,10 +24,10 @@ with_named h e = record {
   cells = join_cell h.schema h.cells e.0 e.1;
 }
 
-abbrev pub with_cell : Holding → Cell → Holding
+abbrev pub with_cell : ReplicaState → Cell → ReplicaState
 with_cell h c = with_named h (owned_cell c)
 
 -- with these cells joined in, in order
-abbrev pub with_cells : Holding → List Cell → Holding
+abbrev pub with_cells : ReplicaState → List Cell → ReplicaState
 with_cells h [] = h
 with_cells h (c ∷ cs) = with_cells (with_cell h c) cs

@@ -6,20 +6,20 @@ use Rattle.rr_text.specs.declared.limits.TheConstants.{MAX_ORIGIN}
 use Rattle.rr_schema.specs.Schema.{Layout, IsLayout, archive_at, slot_of}
 use Rattle.rr_join.specs.Sums.{int_sum}
 use Rattle.rr_contrib.specs.declared.contribution.Contribution.{Contribution}
-use Rattle.rr_archive.specs.Cells.{put_row, join_rows}
+use Rattle.rr_archive.specs.Cells.{put_in_archive, join_archive_cells}
 use Rattle.rr_model.specs.CellNames.{CellName, cell_name_cmp, is_slot_live}
 use Rattle.rr_model.specs.Samples.{Sample, Mark, name_of}
 use Rattle.rr_cells.specs.declared.cell.Cell.{Cell}
 use Rattle.rr_cells.specs.CellBounds.{NamedCell, IsCellOf, IsSoundSample}
-use Rattle.rr_cells.specs.Holding.{Holding}
+use Rattle.rr_cells.specs.ReplicaState.{ReplicaState}
 use Rattle.rr_cells.specs.Joining.{next_past, with_cells}
 use Rattle.rr_cells.specs.Operations.{joins_of, outcome_of, AllAccepted}
-use Rattle.rr_cells.specs.Cells.{Cells, IsTrimmed, HasOriginsIn, cell_slot_of, rows_at}
+use Rattle.rr_cells.specs.Cells.{Cells, IsTrimmed, HasOriginsIn, cell_slot_of, archive_cells}
 use Rattle.rr_model.specs.Knowledge.{Knowledge, union, live, cells_where, part, difference}
 use Rattle.rr_model.specs.World.{World, IsWritten, IsClosed}
 use Rattle.rr_cells.specs.Puts.{slot_sample_of, put_sample}
 use Rattle.rr_cells.specs.Joins.{join, join_cell, join_cells}
-use Rattle.rr_cells.specs.State.{state}
+use Rattle.rr_cells.specs.State.{cells_of_knowledge}
 use Rattle.rr_cells.specs.Versions.{newer_names}
 
 -- the sample in an archive
@@ -30,21 +30,22 @@ mark_in x archive = record { sample = x; archive = archive }
 abbrev pub PutGoesByArchives : Type 0
 PutGoesByArchives =
     (s : Layout) (m : Cells) (x : Sample) (archive : ℕ) → IsLayout s → IsTrimmed s m → archive < length s.archives
-    → rows_at (put_sample s m x) x.key archive
-    ≡ put_row (archive_at s archive).rows (rows_at m x.key archive) (cell_slot_of (name_of s (mark_in x archive))) (slot_sample_of s (mark_in x archive))
+    → archive_cells (put_sample s m x) x.key archive
+    ≡ put_in_archive (archive_at s archive).rows (archive_cells m x.key archive)
+    (cell_slot_of (name_of s (mark_in x archive))) (slot_sample_of s (mark_in x archive))
 
 -- and changes no other key
 abbrev pub PutLeavesOtherKeys : Type 0
 PutLeavesOtherKeys =
     (s : Layout) (m : Cells) (x : Sample) (key : List ℕ) (archive : ℕ) → IsLayout s → IsTrimmed s m → x.key ≢ key
-    → rows_at (put_sample s m x) key archive ≡ rows_at m key archive
+    → archive_cells (put_sample s m x) key archive ≡ archive_cells m key archive
 
 -- a sample whose slot is past the horizon of an archive leaves no trace there
 abbrev pub DeadLeaveNoTrace : Type 0
 DeadLeaveNoTrace =
     (s : Layout) (m : Cells) (x : Sample) (archive : ℕ) → IsLayout s → IsTrimmed s m → archive < length s.archives
     → IsFalse (is_slot_live s (keys m) x.key archive (slot_of s archive x.time))
-    → rows_at (put_sample s m x) x.key archive ≡ rows_at m x.key archive
+    → archive_cells (put_sample s m x) x.key archive ≡ archive_cells m x.key archive
 
 -- what a put leaves is trimmed
 abbrev pub PutIsTrimmed : Type 0
@@ -53,8 +54,9 @@ PutIsTrimmed = (s : Layout) (m : Cells) (x : Sample) → IsLayout s → IsTrimme
 -- in each archive of each key the live cells are at most as many as its rows times the origins that have one there
 abbrev pub CellsAreFew : Type 0
 CellsAreFew =
-    (s : Layout) (m : Cells) (key : List ℕ) (archive : ℕ) (origins : List ℕ) → IsLayout s → IsTrimmed s m → HasOriginsIn m key archive origins
-    → len (rows_at m key archive) ≤ (archive_at s archive).rows * length origins
+    (s : Layout) (m : Cells) (key : List ℕ) (archive : ℕ) (origins : List ℕ) → IsLayout s → IsTrimmed s m
+    → HasOriginsIn m key archive origins
+    → len (archive_cells m key archive) ≤ (archive_at s archive).rows * length origins
 
 -- ---- joins
 
@@ -75,13 +77,14 @@ JoinIsTrimmed = (s : Layout) (m n : Cells) → IsLayout s → IsTrimmed s (join 
 abbrev pub JoinGoesByArchives : Type 0
 JoinGoesByArchives =
     (s : Layout) (m n : Cells) (key : List ℕ) (archive : ℕ) → IsLayout s
-    → rows_at (join s m n) key archive ≡ join_rows (archive_at s archive).rows (rows_at m key archive) (rows_at n key archive)
+    → archive_cells (join s m n) key archive ≡ join_archive_cells (archive_at s archive).rows
+    (archive_cells m key archive) (archive_cells n key archive)
 
 -- to join the cells of two closed knowledges is to unite what is known, through the horizon
 abbrev pub JoinUnites : Type 0
 JoinUnites =
     (s : Layout) (w : World) (k l : Knowledge) → IsLayout s → IsClosed s w k → IsClosed s w l
-    → join s (state s k) (state s l) ≡ state s (union k l)
+    → join s (cells_of_knowledge s k) (cells_of_knowledge s l) ≡ cells_of_knowledge s (union k l)
 
 -- to join a map cell by cell is to join it
 abbrev pub JoinGoesByCells : Type 0
@@ -90,9 +93,11 @@ JoinGoesByCells = (s : Layout) (m n : Cells) → IsLayout s → IsTrimmed s m �
 -- to join one cell of a closed knowledge is to know that cell's marks
 abbrev pub JoinCellUnites : Type 0
 JoinCellUnites =
-    (s : Layout) (w : World) (k l : Knowledge) (n : CellName) (c : Contribution) → IsLayout s → IsClosed s w k → IsClosed s w l
-    → get (state s l) n ≡ Some c
-    → join_cell s (state s k) n c ≡ state s (union k (cells_where s l (eq_by_cmp cell_name_cmp n)))
+    (s : Layout) (w : World) (k l : Knowledge) (n : CellName) (c : Contribution) → IsLayout s → IsClosed s w k
+    → IsClosed s w l
+    → get (cells_of_knowledge s l) n ≡ Some c
+    → join_cell s (cells_of_knowledge s k) n c ≡ cells_of_knowledge s
+    (union k (cells_where s l (eq_by_cmp cell_name_cmp n)))
 
 -- ---- whole cells, and differences
 
@@ -100,47 +105,53 @@ JoinCellUnites =
 abbrev pub PartsAreCutFromEntries : Type 0
 PartsAreCutFromEntries =
     (s : Layout) (k : Knowledge) (from count : ℕ) → IsLayout s
-    → entries (state s (part s k from count)) ≡ take count (drop from (entries (state s k)))
+    → entries (cells_of_knowledge s (part s k from count)) ≡ take count (drop from (entries (cells_of_knowledge s k)))
 
 -- whole live cells make their own cells
 abbrev pub WholeCellsMakeTheirCells : Type 0
-WholeCellsMakeTheirCells = (s : Layout) (k : Knowledge) (test : CellName → Bool) → IsLayout s → state s (cells_where s k test) ≡ retain_keys (state s k) test
+WholeCellsMakeTheirCells = (s : Layout) (k : Knowledge) (test : CellName → Bool) → IsLayout s
+    → cells_of_knowledge s (cells_where s k test) ≡ retain_keys (cells_of_knowledge s k) test
 
 -- the live marks make the same cells
 abbrev pub LiveMakesTheSame : Type 0
-LiveMakesTheSame = (s : Layout) (k : Knowledge) → IsLayout s → state s (live s k) ≡ state s k
+LiveMakesTheSame = (s : Layout) (k : Knowledge) → IsLayout s → cells_of_knowledge s (live s k) ≡ cells_of_knowledge s k
 
 -- so two that have the same live marks make the same cells
 abbrev pub StateIsOfTheLive : Type 0
-StateIsOfTheLive = (s : Layout) (k l : Knowledge) → IsLayout s → live s k ≡ live s l → state s k ≡ state s l
+StateIsOfTheLive = (s : Layout) (k l : Knowledge) → IsLayout s → live s k ≡ live s l
+    → cells_of_knowledge s k ≡ cells_of_knowledge s l
 
 -- of closed knowledges the difference is read from the versions
 abbrev pub DifferenceIsByVersions : Type 0
 DifferenceIsByVersions =
     (s : Layout) (w : World) (k l : Knowledge) → IsLayout s → IsClosed s w k → IsClosed s w l
-    → newer_names (state s k) (state s l) ≡ difference s k l
+    → newer_names (cells_of_knowledge s k) (cells_of_knowledge s l) ≡ difference s k l
 
 -- ---- cells of what was written
 
 -- the cells of samples within the limits are cells of the schema
 abbrev pub StatesAreValid : Type 0
-StatesAreValid = (s : Layout) (w : World) (k : Knowledge) → IsLayout s → IsClosed s w k → ((x : Sample) → IsWritten w x → IsSoundSample x) → All (IsCellOf s) (entries (state s k))
+StatesAreValid = (s : Layout) (w : World) (k : Knowledge) → IsLayout s → IsClosed s w k
+    → ((x : Sample) → IsWritten w x → IsSoundSample x) → All (IsCellOf s) (entries (cells_of_knowledge s k))
 
 -- a cell's version is the number of a sample that its origin wrote
 abbrev pub VersionsAreNumbers : Type 0
 VersionsAreNumbers =
-    (s : Layout) (w : World) (k : Knowledge) (n : CellName) (c : Contribution) → IsClosed s w k → get (state s k) n ≡ Some c
+    (s : Layout) (w : World) (k : Knowledge) (n : CellName) (c : Contribution) → IsClosed s w k
+    → get (cells_of_knowledge s k) n ≡ Some c
     → (x : Sample) × IsWritten w x × (x.origin ≡ n.origin) × (x.number ≡ c.version)
 
 -- so a next number that is past all that its origin wrote stays, whichever of the cells are joined
 abbrev pub NextStays : Type 0
 NextStays =
-    (s : Layout) (w : World) (k : Knowledge) (origin next : ℕ) (es : List NamedCell) → IsClosed s w k → ((x : Sample) → IsWritten w x → x.origin ≡ origin → x.number < next)
-    → All (λ e. get (state s k) e.0 ≡ Some e.1) es → next_past origin next es ≡ next
+    (s : Layout) (w : World) (k : Knowledge) (origin next : ℕ) (es : List NamedCell) → IsClosed s w k
+    → ((x : Sample) → IsWritten w x → x.origin ≡ origin → x.number < next)
+    → All (λ e. get (cells_of_knowledge s k) e.0 ≡ Some e.1) es → next_past origin next es ≡ next
 
 -- the sums of as many cells as there are origins stay below 2^119
 abbrev pub SumsAreSmall : Type 0
-SumsAreSmall = (s : Layout) (es : List NamedCell) → All (IsCellOf s) es → length es ≤ MAX_ORIGIN → unsigned_abs (int_sum (map (λ e. e.1.sum) es)) < 2 ^ 119
+SumsAreSmall = (s : Layout) (es : List NamedCell) → All (IsCellOf s) es → length es ≤ MAX_ORIGIN
+    → unsigned_abs (int_sum (map (λ e. e.1.sum) es)) < 2 ^ 119
 
 -- ---- operations
 
@@ -150,10 +161,11 @@ JoinsMakeTheirCells = (s : Layout) (m : Cells) → IsLayout s → IsTrimmed s m 
 
 -- a replica takes each of these operations, where the cells are of its schema
 abbrev pub JoinsAreTaken : Type 0
-JoinsAreTaken = (h : Holding) (m : Cells) → All (IsCellOf h.schema) (entries m) → AllAccepted h (joins_of m)
+JoinsAreTaken = (h : ReplicaState) (m : Cells) → All (IsCellOf h.schema) (entries m) → AllAccepted h (joins_of m)
 
 -- ---- joins that were broken off
 
 -- to join the first cells and then the rest is to join them all
 abbrev pub JoiningGoesOn : Type 0
-JoiningGoesOn = (h : Holding) (cells : List Cell) (n : ℕ) → with_cells (with_cells h (take n cells)) (drop n cells) ≡ with_cells h cells
+JoiningGoesOn = (h : ReplicaState) (cells : List Cell) (n : ℕ)
+    → with_cells (with_cells h (take n cells)) (drop n cells) ≡ with_cells h cells

@@ -2,7 +2,7 @@ pub mod Cells
 pub mod CellBounds
 pub mod Puts
 pub mod Joins
-pub mod Holding
+pub mod ReplicaState
 pub mod Listing
 pub mod Joining
 pub mod Operations

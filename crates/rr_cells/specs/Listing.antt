@@ -3,7 +3,7 @@ use Rattle.std.specs.Prelude.{ℕ, ℤ, ◌+◌, ◌-◌, ◌^◌, nat_le, List,
 use Rattle.std.specs.List.{find}
 use Rattle.std.specs.Ordering.{is_lt}
 use Rattle.std.specs.FinMap.{len, entries}
-use Rattle.rr_archive.specs.Cells.{Rows}
+use Rattle.rr_archive.specs.Cells.{ArchiveCells}
 use Rattle.rr_model.specs.CellNames.{CellName, cell_name_cmp}
 use Rattle.rr_cells.specs.CellBounds.{NamedCell}
 use Rattle.rr_cells.specs.Cells.{Cells}
@@ -31,7 +31,7 @@ abbrev pub next_cell : Cells → CellName → Option NamedCell
 next_cell m n = first_after n (entries m)
 
 -- how many cells archives hold
-abbrev pub count_of : List Rows → ℕ
+abbrev pub count_of : List ArchiveCells → ℕ
 count_of [] = 0
 count_of (r ∷ rs) = len r + count_of rs
 

@@ -13,7 +13,7 @@ use Rattle.rr_cells.specs.Cells.{Cells}
 use Rattle.rr_cells.specs.Puts.{put_sample}
 use Rattle.rr_cells.specs.Joins.{join_cell}
 use Rattle.rr_cells.specs.Listing.{owned_cell}
-use Rattle.rr_cells.specs.Holding.{Holding, with_sample}
+use Rattle.rr_cells.specs.ReplicaState.{ReplicaState, with_sample}
 use Rattle.rr_cells.specs.Joining.{with_cell}
 
 -- the sample of an operation, as the model has it
@@ -28,21 +28,21 @@ key_of (Join c) = c.key
 
 -- whether a replica takes an operation: a sample of its own origin under the next number or a later one, up to 2^40,
 -- and a valid cell of its schema
-abbrev pub accepts : Holding → Op → Bool
+abbrev pub accepts : ReplicaState → Op → Bool
 accepts h (Put x) = x.origin == h.origin && (nat_le h.next x.number && nat_le x.number MAX_NUMBER)
 accepts h (Join c) = is_cell_of h.schema (owned_cell c)
 
 -- with an operation applied
-abbrev pub with_op : Holding → Op → Holding
+abbrev pub with_op : ReplicaState → Op → ReplicaState
 with_op h (Put x) = with_sample h (sample_of x)
 with_op h (Join c) = with_cell h c
 
 -- after an operation: one that isn't taken changes nothing
-abbrev pub step : Holding → Op → Holding
+abbrev pub step : ReplicaState → Op → ReplicaState
 step h op = if accepts h op then with_op h op else h
 
 -- each operation is taken where its turn comes
-abbrev pub AllAccepted : Holding → List Op → Type 0
+abbrev pub AllAccepted : ReplicaState → List Op → Type 0
 AllAccepted h [] = Unit {0}
 AllAccepted h (op ∷ ops) = (accepts h op ≡ true) × AllAccepted (step h op) ops
 

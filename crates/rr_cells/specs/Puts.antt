@@ -15,7 +15,8 @@ slot_sample_of s m = slot_sample m.number (place_of s m.archive m.time) m.time m
 -- with a sample more in the cell of one archive, and then the live cells: a sample that is past the horizon
 -- there leaves no trace
 unfoldable pub put_mark : Layout → Cells → Mark → Cells
-put_mark s cells m = trimmed (is_live s) (insert cells (name_of s m) (contribution_with (get cells (name_of s m)) (slot_sample_of s m)))
+put_mark s cells m = trimmed (is_live s) (insert cells (name_of s m)
+    (contribution_with (get cells (name_of s m)) (slot_sample_of s m)))
 
 -- so in each of these archives, in order
 abbrev pub put_marks : Layout → Cells → List Mark → Cells

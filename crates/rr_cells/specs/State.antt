@@ -15,11 +15,11 @@ abbrev pub value_of : Layout → List Mark → Option Contribution
 value_of s ms = contribution_of (map (slot_sample_of s) ms)
 
 -- at each name the contribution of its cell
-unfoldable pub state : Layout → Knowledge → Cells
-state s k = map_of (names s k) (λ n. value_of s (keys (cell s k n)))
+unfoldable pub cells_of_knowledge : Layout → Knowledge → Cells
+cells_of_knowledge s k = map_of (names s k) (λ n. value_of s (keys (cell s k n)))
 
 -- to put a sample that is ahead of what is known is to know it too
 abbrev pub PutIsOneSampleMore : Type 0
 PutIsOneSampleMore =
     (s : Layout) (k : Knowledge) (x : Sample) → IsLayout s → IsAheadOf x k
-    → put_sample s (state s k) x ≡ state s (with_marks k (marks_of s x))
+    → put_sample s (cells_of_knowledge s k) x ≡ cells_of_knowledge s (with_marks k (marks_of s x))

@@ -59,9 +59,9 @@ pub fn a_difference_is_by_versions()
     ensures { DifferenceIsByVersions }
 {}
 
-/// What is known of samples within the limits makes cells of the schema. Their versions are numbers that
-/// their origins wrote, so joined at one of these origins they leave its next number; and no sum of a row
-/// comes near the end of its type.
+/// What is known of samples within the limits makes cells of the schema. Their versions are numbers
+/// that their origins wrote, so joined at one of these origins they leave its next number; and no
+/// sum of a row comes near the end of its type.
 pub fn cells_of_samples_are_valid()
     ensures valid { StatesAreValid }
     ensures versions { VersionsAreNumbers }
@@ -69,8 +69,8 @@ pub fn cells_of_samples_are_valid()
     ensures sums { SumsAreSmall }
 {}
 
-/// One join for each cell of a map makes the map, from no cell, and a replica of their schema takes each
-/// of them.
+/// One join for each cell of a map makes the map, from no cell, and a replica of their schema takes
+/// each of them.
 pub fn joins_make_their_cells()
     ensures made { JoinsMakeTheirCells }
     ensures taken { JoinsAreTaken }

@@ -12,7 +12,8 @@ option_rule name = record (new_rule name) { long = Some name; value_names = 1 }
 
 -- check-lines [--precision P] [--now T]
 abbrev pub check_lines_app : App
-check_lines_app = with_rule (with_rule (new_app (codes "check-lines")) (option_rule (codes "precision"))) (option_rule (codes "now"))
+check_lines_app = with_rule (with_rule (new_app (codes "check-lines")) (option_rule (codes "precision")))
+    (option_rule (codes "now"))
 
 -- CONFIG
 abbrev pub config_rule : Rule

@@ -130,7 +130,8 @@ fn stream_commands<'a>(alloc: Global) -> Result<Command<'a>, AllocError>
     script_command(alloc)?.subcommand(check_lines(alloc)?)
 }
 
-/// The program and its subcommands, by the names of arguments that the module docs list. `Err` where memory ran out.
+/// The program and its subcommands, by the names of arguments that the module docs list. `Err`
+/// where memory ran out.
 pub fn program<'a>(alloc: Global) -> Result<Command<'a>, AllocError>
     ensures { IfOk result (λ c. app_of c ≡ program_app) }
 {

@@ -6,8 +6,8 @@
 //! serve CONFIG --origin N [--load FILE] [--save FILE]
 //! ```
 //!
-//! In `specs/` it is the rules that `clap` reads words by (`Program.antt`). What the words that it takes ask
-//! for is up to `rr_words`.
+//! In `specs/` it is the rules that `clap` reads words by (`Program.antt`). What the words that it
+//! takes ask for is up to `rr_words`.
 #![tactic(auto)]
 
 mod command_line;

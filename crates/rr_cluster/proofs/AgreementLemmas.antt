@@ -48,20 +48,32 @@ refusal_agrees : (command : Command) (fault : CommandFault) → StepAgrees comma
 unfolding Agrees
 refusal_agrees command fault = refl
 
-silently_agrees : (command : Command) (P : State Knowledge → Type 0) → ((m : State Knowledge) → P m → IsOneLine command → IsSound m) → (r : Result (State Cells) CommandFault) (t : Result (State Knowledge) CommandFault)
+silently_agrees : (command : Command) (P : State Knowledge → Type 0)
+    → ((m : State Knowledge) → P m → IsOneLine command → IsSound m)
+    → (r : Result (State Cells) CommandFault) (t : Result (State Knowledge) CommandFault)
     → Agrees in_cells P r t → StepAgrees command (on_ok silently r) (on_ok silently t)
-silently_agrees command P holds = on_ok-agrees in_cells P step_in_cells (LeavesSound command) silently silently (λ m. refl) holds
+silently_agrees command P holds = on_ok-agrees in_cells P step_in_cells (LeavesSound command) silently silently
+    (λ m. refl) holds
 
-printing_agrees : (command : Command) (m : State Knowledge) → IsSound m → (r t : Result (List ℕ) CommandFault) → Agrees (λ text. text) (λ text. Unit {0}) r t → StepAgrees command (on_ok (printing (in_cells m)) r) (on_ok (printing m) t)
-printing_agrees command m sound = on_ok-agrees (λ text. text) (λ text. Unit {0}) step_in_cells (LeavesSound command) (printing m) (printing (in_cells m)) (λ text. refl) (λ text u one. sound)
+printing_agrees : (command : Command) (m : State Knowledge) → IsSound m → (r t : Result (List ℕ) CommandFault)
+    → Agrees (λ text. text) (λ text. Unit {0}) r t
+    → StepAgrees command (on_ok (printing (in_cells m)) r) (on_ok (printing m) t)
+printing_agrees command m sound = on_ok-agrees (λ text. text) (λ text. Unit {0}) step_in_cells (LeavesSound command)
+    (printing m) (printing (in_cells m)) (λ text. refl) (λ text u one. sound)
 
-beginning_agrees : (command : Command) (r : Result Layout CommandFault) → OfAnswer IsLayout r → StepAgrees command (on_ok beginning r) (on_ok beginning r)
+beginning_agrees : (command : Command) (r : Result Layout CommandFault) → OfAnswer IsLayout r
+    → StepAgrees command (on_ok beginning r) (on_ok beginning r)
 unfolding Agrees OfAnswer
-beginning_agrees command (Ok s) is = (ap (λ (m : State Cells). Ok (Some m, [])) (first_states_agree s), λ one. first_states_are_sound s is)
+beginning_agrees command (Ok s) is = (
+  ap (λ (m : State Cells). Ok (Some m, [])) (first_states_agree s),
+  λ one. first_states_are_sound s is,
+)
 beginning_agrees command (Err fault) is = refl
 
-step_agrees : (m : Option (State Knowledge)) (command : Command) → IfSome m IsSound → StepAgrees command (step cell_model (option_map in_cells m) command) (step sample_model m command)
-step_agrees None (schema word archives) sound = beginning_agrees (schema word archives) (layout_of word archives) (layout_is word archives)
+step_agrees : (m : Option (State Knowledge)) (command : Command) → IfSome m IsSound
+    → StepAgrees command (step cell_model (option_map in_cells m) command) (step sample_model m command)
+step_agrees None (schema word archives) sound = beginning_agrees (schema word archives) (layout_of word archives)
+    (layout_is word archives)
 step_agrees None (upgrade archive) sound = refusal_agrees (upgrade archive) _
 step_agrees None (node name origin) sound = refusal_agrees (node name origin) _
 step_agrees None (now time lead) sound = refusal_agrees (now time lead) _
@@ -74,23 +86,36 @@ step_agrees None (save name at) sound = refusal_agrees (save name at) _
 step_agrees None (load name at origin) sound = refusal_agrees (load name at origin) _
 step_agrees None (fetch name request) sound = refusal_agrees (fetch name request) _
 step_agrees (Some m) (schema word archives) sound = refusal_agrees (schema word archives) _
-step_agrees (Some m) (upgrade archive) sound = silently_agrees (upgrade archive) IsSound (λ after is one. is) _ _ (upgrade_agrees m sound archive)
-step_agrees (Some m) (node name origin) sound = silently_agrees (node name origin) IsSound (λ after is one. is) _ _ (node_agrees m sound name origin)
-step_agrees (Some m) (now time lead) sound = silently_agrees (now time lead) IsSound (λ after is one. is) _ _ (now_agrees m sound time lead)
-step_agrees (Some m) (write name line) sound = silently_agrees (write name line) (λ after. HasNoLineFeed line → IsSound after) (λ after is one. is one) _ _ (write_agrees m sound name line)
-step_agrees (Some m) (page name at from count) sound = silently_agrees (page name at from count) IsSound (λ after is one. is) _ _ (page_agrees m sound name at from count)
-step_agrees (Some m) (delta name giver taker from count) sound = silently_agrees (delta name giver taker from count) IsSound (λ after is one. is) _ _ (delta_agrees m sound name giver taker from count)
-step_agrees (Some m) (deliver name at) sound = silently_agrees (deliver name at) IsSound (λ after is one. is) _ _ (deliver_agrees m sound name at)
+step_agrees (Some m) (upgrade archive) sound = silently_agrees (upgrade archive) IsSound (λ after is one. is) _ _
+    (upgrade_agrees m sound archive)
+step_agrees (Some m) (node name origin) sound = silently_agrees (node name origin) IsSound (λ after is one. is) _ _
+    (node_agrees m sound name origin)
+step_agrees (Some m) (now time lead) sound = silently_agrees (now time lead) IsSound (λ after is one. is) _ _
+    (now_agrees m sound time lead)
+step_agrees (Some m) (write name line) sound = silently_agrees (write name line)
+    (λ after. HasNoLineFeed line → IsSound after) (λ after is one. is one) _ _ (write_agrees m sound name line)
+step_agrees (Some m) (page name at from count) sound =
+    silently_agrees (page name at from count) IsSound (λ after is one. is) _ _ (page_agrees m sound name at from count)
+step_agrees (Some m) (delta name giver taker from count) sound =
+    silently_agrees (delta name giver taker from count) IsSound (λ after is one. is) _ _
+    (delta_agrees m sound name giver taker from count)
+step_agrees (Some m) (deliver name at) sound = silently_agrees (deliver name at) IsSound (λ after is one. is) _ _
+    (deliver_agrees m sound name at)
 step_agrees (Some m) (bytes name) sound = printing_agrees (bytes name) m sound _ _ (bytes_agree m sound name)
-step_agrees (Some m) (save name at) sound = silently_agrees (save name at) IsSound (λ after is one. is) _ _ (save_agrees m sound name at)
-step_agrees (Some m) (load name at origin) sound = silently_agrees (load name at origin) IsSound (λ after is one. is) _ _ (load_agrees m sound name at origin)
-step_agrees (Some m) (fetch name request) sound = printing_agrees (fetch name request) m sound _ _ (fetch_agrees m sound name request)
+step_agrees (Some m) (save name at) sound = silently_agrees (save name at) IsSound (λ after is one. is) _ _
+    (save_agrees m sound name at)
+step_agrees (Some m) (load name at origin) sound =
+    silently_agrees (load name at origin) IsSound (λ after is one. is) _ _ (load_agrees m sound name at origin)
+step_agrees (Some m) (fetch name request) sound =
+    printing_agrees (fetch name request) m sound _ _ (fetch_agrees m sound name request)
 
 pub commands_agree : CommandsAgree
 commands_agree m command sound = same_answer step_in_cells (LeavesSound command) _ _ (step_agrees m command sound)
 
 pub commands_keep_sound : CommandsKeepSound
-commands_keep_sound m command sound one = by (step sample_model m command) (holds_after step_in_cells (LeavesSound command) (step cell_model (option_map in_cells m) command) _ (step_agrees m command sound))
+commands_keep_sound m command sound one = by (step sample_model m command)
+    (holds_after step_in_cells (LeavesSound command) (step cell_model (option_map in_cells m) command) _
+    (step_agrees m command sound))
   where
     by : (r : Result Step CommandFault) → IfOk r (LeavesSound command) → IfOk r (λ done. IfSome done.0 IsSound)
     by (Ok done) h = h one
@@ -104,19 +129,24 @@ Line = ℕ × Result Command SyntaxFault
 abbrev IsLineOfOne : Line → Type 0
 IsLineOfOne line = SaysOneLine line.1
 
-line_keeps_sound : (m : Option (State Knowledge)) (number : ℕ) (said : Result Command SyntaxFault) → SaysOneLine said → IfSome m IsSound → IfSome (after_line sample_model m number said).0 IsSound
+line_keeps_sound : (m : Option (State Knowledge)) (number : ℕ) (said : Result Command SyntaxFault) → SaysOneLine said
+    → IfSome m IsSound → IfSome (after_line sample_model m number said).0 IsSound
 line_keeps_sound m number (Err fault) one sound = sound
-line_keeps_sound m number (Ok command) one sound = by (step sample_model m command) (commands_keep_sound m command sound one)
+line_keeps_sound m number (Ok command) one sound =
+    by (step sample_model m command) (commands_keep_sound m command sound one)
   where
-    by : (r : Result Step CommandFault) → IfOk r (λ done. IfSome done.0 IsSound) → IfSome (unless_refused m number r).0 IsSound
+    by : (r : Result Step CommandFault) → IfOk r (λ done. IfSome done.0 IsSound)
+        → IfSome (unless_refused m number r).0 IsSound
     by (Ok done) h = h
     by (Err fault) h = sound
 
-lines_keep_sound : (m : Option (State Knowledge)) (lines : List Line) (count : ℕ) → All IsLineOfOne lines → IfSome m IsSound → IfSome (state_after m (take count lines)) IsSound
+lines_keep_sound : (m : Option (State Knowledge)) (lines : List Line) (count : ℕ) → All IsLineOfOne lines
+    → IfSome m IsSound → IfSome (state_after m (take count lines)) IsSound
 lines_keep_sound m lines zero one sound = sound
 lines_keep_sound m [] (suc count) one sound = sound
 lines_keep_sound m (line ∷ lines) (suc count) one sound =
-    lines_keep_sound (after_line sample_model m line.0 line.1).0 lines count (All-tail IsLineOfOne line lines one) (line_keeps_sound m line.0 line.1 (All-head IsLineOfOne line lines one) sound)
+    lines_keep_sound (after_line sample_model m line.0 line.1).0 lines count (All-tail IsLineOfOne line lines one)
+    (line_keeps_sound m line.0 line.1 (All-head IsLineOfOne line lines one) sound)
 
 pub scripts_are_sound : ScriptsAreSound
 scripts_are_sound script count = lines_keep_sound None (commands_of script) count (commands_are_one_line script) tt
@@ -124,17 +154,24 @@ scripts_are_sound script count = lines_keep_sound None (commands_of script) coun
 line_agrees : (m : Option (State Knowledge)) (number : ℕ) (said : Result Command SyntaxFault) → IfSome m IsSound
     → after_line cell_model (option_map in_cells m) number said ≡ step_in_cells (after_line sample_model m number said)
 line_agrees m number (Err fault) sound = refl
-line_agrees m number (Ok command) sound = ap (unless_refused (option_map in_cells m) number) (commands_agree m command sound) ∙ by (step sample_model m command)
+line_agrees m number (Ok command) sound = ap (unless_refused (option_map in_cells m) number)
+    (commands_agree m command sound) ∙ by (step sample_model m command)
   where
-    by : (r : Result Step CommandFault) → unless_refused (option_map in_cells m) number (on_ok step_in_cells r) ≡ step_in_cells (unless_refused m number r)
+    by : (r : Result Step CommandFault) → unless_refused (option_map in_cells m) number (on_ok step_in_cells r)
+        ≡ step_in_cells (unless_refused m number r)
     by (Ok done) = refl
     by (Err fault) = refl
 
-lines_agree : (m : Option (State Knowledge)) (lines : List Line) → All IsLineOfOne lines → IfSome m IsSound → output_from cell_model (option_map in_cells m) lines ≡ output_from sample_model m lines
+lines_agree : (m : Option (State Knowledge)) (lines : List Line) → All IsLineOfOne lines → IfSome m IsSound
+    → output_from cell_model (option_map in_cells m) lines ≡ output_from sample_model m lines
 lines_agree m [] one sound = refl
 lines_agree m (line ∷ lines) one sound =
     let done = after_line sample_model m line.0 line.1 in
-    rw (line_agrees m line.0 line.1 sound, lines_agree done.0 lines (All-tail IsLineOfOne line lines one) (line_keeps_sound m line.0 line.1 (All-head IsLineOfOne line lines one) sound)) refl
+    rw (
+      line_agrees m line.0 line.1 sound,
+      lines_agree done.0 lines (All-tail IsLineOfOne line lines one)
+          (line_keeps_sound m line.0 line.1 (All-head IsLineOfOne line lines one) sound),
+    ) refl
 
 pub scripts_agree : ScriptsAgree
 scripts_agree script = lines_agree None (commands_of script) (commands_are_one_line script) tt

@@ -30,11 +30,13 @@ is_there (Some y) fault x e = cc
 
 -- ---- words
 
-pub number_is_within : (least most : ℕ) (word : List ℕ) (number : ℕ) → number_within least most word ≡ Some number → (least ≤ number) × (number ≤ most)
+pub number_is_within : (least most : ℕ) (word : List ℕ) (number : ℕ) → number_within least most word ≡ Some number
+    → (least ≤ number) × (number ≤ most)
 number_is_within least most word number =
     let value = digits_value 10 word in by value (is_digits word) (nat_le least value) (nat_le value most) refl refl
   where
-    by : (value : ℕ) (digits above below : Bool) → nat_le least value ≡ above → nat_le value most ≡ below → cond (digits && (above && below)) (Some value) None ≡ Some number → (least ≤ number) × (number ≤ most)
+    by : (value : ℕ) (digits above below : Bool) → nat_le least value ≡ above → nat_le value most ≡ below
+        → cond (digits && (above && below)) (Some value) None ≡ Some number → (least ≤ number) × (number ≤ most)
     by value true true true low high e =
         let is : value ≡ number = cc in
         subst (λ (n : ℕ). (least ≤ n) × (n ≤ most)) is (leb-true least value low, leb-true value most high)
@@ -47,7 +49,8 @@ origin_is word number e =
     let within = number_is_within 1 MAX_ORIGIN word number (by (is_digits word) (number_within 1 MAX_ORIGIN word) e) in
     record { at_least = within.0; at_most = within.1 }
   where
-    by : (digits : Bool) (o : Option ℕ) → cond (not digits) (Err BadNumber) (ok_or o (Origin BadOrigin)) ≡ Ok number → o ≡ Some number
+    by : (digits : Bool) (o : Option ℕ) → cond (not digits) (Err BadNumber) (ok_or o (Origin BadOrigin)) ≡ Ok number
+        → o ≡ Some number
     by true o h = is_there o (Origin BadOrigin) number h
     by false o h = absurd cc
 
@@ -55,7 +58,8 @@ integer_fits : (text : List ℕ) (number : ℤ) → integer_at text ≡ Some num
 integer_fits text number =
     let value = signed_digits_value 10 text in by value (is_digits (unsigned text)) (fits_i64 value) refl
   where
-    by : (value : ℤ) (digits fits : Bool) → fits_i64 value ≡ fits → cond (digits && fits) (Some value) None ≡ Some number → IsTrue (fits_i64 number)
+    by : (value : ℤ) (digits fits : Bool) → fits_i64 value ≡ fits
+        → cond (digits && fits) (Some value) None ≡ Some number → IsTrue (fits_i64 number)
     by value true true is e = let same : value ≡ number = cc in subst (λ (n : ℤ). IsTrue (fits_i64 n)) same is
     by value true false is e = absurd cc
     by value false fits is e = absurd cc
@@ -69,7 +73,9 @@ moment_fits word time e = integer_fits word time (is_there _ BadNumber time e)
 value_fits : (text : List ℕ) (number : ℤ) → value_of text ≡ Ok number → IsTrue (fits_i64 number)
 value_fits text number = by (is_integer text) (before_last 105 text)
   where
-    by : (integer : Bool) (digits : Option (List ℕ)) → cond integer (ok_or (option_and_then integer_at digits) IntegerRange) (Err (kind_fault text)) ≡ Ok number → IsTrue (fits_i64 number)
+    by : (integer : Bool) (digits : Option (List ℕ))
+        → cond integer (ok_or (option_and_then integer_at digits) IntegerRange) (Err (kind_fault text)) ≡ Ok number
+        → IsTrue (fits_i64 number)
     by true None e = absurd cc
     by true (Some digits) e = integer_fits digits number (is_there _ IntegerRange number e)
     by false digits e = absurd cc
@@ -77,26 +83,34 @@ value_fits text number = by (is_integer text) (before_last 105 text)
 abbrev ValueFits : Field → Type 0
 ValueFits field = IsTrue (fits_i64 field.1)
 
-leading_fit : (before : List Field) (text : List ℕ) (fields : List Field) (rest : List ℕ) → LeadTo before text fields rest → AllByRecursion ValueFits fields
+leading_fit : (before : List Field) (text : List ℕ) (fields : List Field) (rest : List ℕ)
+    → LeadTo before text fields rest → AllByRecursion ValueFits fields
 leading_fit before text [] rest h = tt
-leading_fit before text (field ∷ fields) rest h = (value_fits h.1.value.0 field.1 h.1.value.2, leading_fit (before ++ field ∷ []) h.0 fields rest h.3)
+leading_fit before text (field ∷ fields) rest h =
+    (value_fits h.1.value.0 field.1 h.1.value.2, leading_fit (before ++ field ∷ []) h.0 fields rest h.3)
 
-with_last : (fields : List Field) (last : Field) → AllByRecursion ValueFits fields → ValueFits last → AllByRecursion ValueFits (fields ++ last ∷ [])
+with_last : (fields : List Field) (last : Field) → AllByRecursion ValueFits fields → ValueFits last
+    → AllByRecursion ValueFits (fields ++ last ∷ [])
 with_last [] last all fits = (fits, tt)
 with_last (field ∷ fields) last all fits = (all.0, with_last fields last all.1 fits)
 
-pub fields_fit : (text : List ℕ) (fields : List Field) (rest : List ℕ) → AreFields text fields rest → AllByRecursion ValueFits fields
+pub fields_fit : (text : List ℕ) (fields : List Field) (rest : List ℕ) → AreFields text fields rest
+    → AllByRecursion ValueFits fields
 fields_fit text fields rest h =
-    subst (AllByRecursion ValueFits) (sym h.all) (with_last h.front h.last (leading_fit [] text h.front h.last_text h.leading) (value_fits h.ends.value.0 h.last.1 h.ends.value.2))
+    subst (AllByRecursion ValueFits) (sym h.all) (with_last h.front h.last
+    (leading_fit [] text h.front h.last_text h.leading) (value_fits h.ends.value.0 h.last.1 h.ends.value.2))
 
-pub time_fits : (precision : Precision) (ending : List ℕ) (time : Option ℤ) (clock : ℤ) → IsEnding precision ending time → IsTrue (fits_i64 clock) → IsTrue (fits_i64 (unwrap_or time clock))
+pub time_fits : (precision : Precision) (ending : List ℕ) (time : Option ℤ) (clock : ℤ) → IsEnding precision ending time
+    → IsTrue (fits_i64 clock) → IsTrue (fits_i64 (unwrap_or time clock))
 time_fits precision ending None clock h fits = fits
 time_fits precision ending (Some time) clock h fits = h.3
 
 -- ---- its samples
 
-pub samples_fit : (origin number : ℕ) (time : ℤ) (p : PointView) (fields : List Field) → IsOrigin origin → 1 ≤ number → number + length fields ≤ MAX_NUMBER + 1 → IsTrue (fits_i64 time)
-    → AllByRecursion (λ (field : Field). making_fault (names_of p field.0) ≡ None) fields → AllByRecursion ValueFits fields
+pub samples_fit : (origin number : ℕ) (time : ℤ) (p : PointView) (fields : List Field) → IsOrigin origin → 1 ≤ number
+    → number + length fields ≤ MAX_NUMBER + 1 → IsTrue (fits_i64 time)
+    → AllByRecursion (λ (field : Field). making_fault (names_of p field.0) ≡ None) fields
+    → AllByRecursion ValueFits fields
     → AllByRecursion IsSoundSample (samples_of origin number time p fields)
 samples_fit origin number time p [] is some few fits keys values = tt
 samples_fit origin number time p (field ∷ fields) is some few fits keys values = (

@@ -13,7 +13,7 @@ use Rattle.rr_join.specs.Values.{get_called}
 use Rattle.rr_join.proofs.ValuesLemmas.{get_called-insert, get_called-set}
 use Rattle.rr_model.specs.World.{World}
 use Rattle.rr_cells.specs.Cells.{Cells}
-use Rattle.rr_replica.specs.Standing.{Standing}
+use Rattle.rr_replica.specs.ReplicaWithRoom.{ReplicaWithRoom}
 use Rattle.rr_text.specs.Bytes.{bytes_cmp}
 use Rattle.rr_cluster.specs.declared.cluster.Cluster.{Cluster}
 use Rattle.rr_cluster.specs.declared.fault.CommandFault.{CommandFault}
@@ -27,35 +27,41 @@ use Rattle.rr_cluster.specs.Stop.{Matches}
 use Rattle.rr_cluster.proofs.StepLemmas.{names_apart}
 
 abbrev pub Replicas : Type 0
-Replicas = BTreeMap (Vec ℕ) Standing
+Replicas = BTreeMap (Vec ℕ) ReplicaWithRoom
 
 abbrev name_of : Vec ℕ → List ℕ
 name_of key = key.items
 
 -- the new map has the replica at the name, and is the old one at all others
-abbrev pub HasPut : Replicas → Replicas → List ℕ → Standing → Type 0
+abbrev pub HasPut : Replicas → Replicas → List ℕ → ReplicaWithRoom → Type 0
 HasPut old new name h = (q : List ℕ) → replica_at new q ≡ cond (eq_by_cmp bytes_cmp q name) (Some h) (replica_at old q)
 
-pub inserted : (old new : Replicas) (key : Vec ℕ) (h : Standing) → new.entries ≡ insert_entry (λ a b. bytes_cmp a.items b.items) old.entries key h → HasPut old new key.items h
+pub inserted : (old new : Replicas) (key : Vec ℕ) (h : ReplicaWithRoom)
+    → new.entries ≡ insert_entry (λ a b. bytes_cmp a.items b.items) old.entries key h → HasPut old new key.items h
 inserted = get_called-insert nat_list_cmp_total names_apart name_of
 
-pub changed : (old new : Replicas) (name : List ℕ) (h : Standing) → new.entries ≡ set_value (λ key. eq_by_cmp bytes_cmp name key.items) old.entries h → is_some (replica_at old name) ≡ true → HasPut old new name h
+pub changed : (old new : Replicas) (name : List ℕ) (h : ReplicaWithRoom)
+    → new.entries ≡ set_value (λ key. eq_by_cmp bytes_cmp name key.items) old.entries h
+    → is_some (replica_at old name) ≡ true → HasPut old new name h
 changed = get_called-set nat_list_cmp_total names_apart name_of
 
 -- a replica put under a name, on both sides
-pub nodes_put : (old new : Replicas) (before : map.FinMap bytes_cmp (Node Cells)) (name : List ℕ) (h : Standing)
+pub nodes_put : (old new : Replicas) (before : map.FinMap bytes_cmp (Node Cells)) (name : List ℕ) (h : ReplicaWithRoom)
     → ((q : List ℕ) → map.get before q ≡ option_map node_in (replica_at old q)) → HasPut old new name h
     → (q : List ℕ) → map.get (map.insert before name (node_in h)) q ≡ option_map node_in (replica_at new q)
 nodes_put old new before name h same put q =
-    map.get-insert nat_list_cmp_total before name (node_in h) q ∙ by (eq_by_cmp bytes_cmp q name) ∙ sym (ap (option_map node_in) (put q))
+    map.get-insert nat_list_cmp_total before name (node_in h) q ∙ by (eq_by_cmp bytes_cmp q name)
+    ∙ sym (ap (option_map node_in) (put q))
   where
-    by : (b : Bool) → cond b (Some (node_in h)) (map.get before q) ≡ option_map node_in (cond b (Some h) (replica_at old q))
+    by : (b : Bool) → cond b (Some (node_in h)) (map.get before q)
+        ≡ option_map node_in (cond b (Some h) (replica_at old q))
     by true = refl
     by false = same q
 
 -- what holds of each replica before, and of the one that is put, holds of each
-pub each_put : (P : Standing → Type 0) (old new : Replicas) (name : List ℕ) (h : Standing) → HasPut old new name h → P h → ((q : List ℕ) (g : Standing) → replica_at old q ≡ Some g → P g)
-    → (q : List ℕ) (g : Standing) → replica_at new q ≡ Some g → P g
+pub each_put : (P : ReplicaWithRoom → Type 0) (old new : Replicas) (name : List ℕ) (h : ReplicaWithRoom)
+    → HasPut old new name h → P h → ((q : List ℕ) (g : ReplicaWithRoom) → replica_at old q ≡ Some g → P g)
+    → (q : List ℕ) (g : ReplicaWithRoom) → replica_at new q ≡ Some g → P g
 each_put P old new name h put itself others q g e = by (eq_by_cmp bytes_cmp q name) (sym (put q) ∙ e)
   where
     by : (b : Bool) → cond b (Some h) (replica_at old q) ≡ Some g → P g
@@ -68,28 +74,37 @@ abbrev Texts : Type 0
 Texts = BTreeMap (Vec ℕ) (Vec ℕ)
 
 -- the bytes that were found at a name
-pub bytes_found : (texts : Texts) (name : List ℕ) (found : Option (Vec ℕ)) → found ≡ get_called bytes_cmp name_of texts name → bytes_at texts name ≡ option_map (λ text. text.items) found
+pub bytes_found : (texts : Texts) (name : List ℕ) (found : Option (Vec ℕ))
+    → found ≡ get_called bytes_cmp name_of texts name → bytes_at texts name ≡ option_map (λ text. text.items) found
 bytes_found texts name found e = sym (ap (option_map (λ (text : Vec ℕ). text.items)) e)
 
 -- the new map has the bytes at the name, and is the old one at all others
 abbrev pub HasPutBytes : Texts → Texts → List ℕ → List ℕ → Type 0
-HasPutBytes old new name bytes = (q : List ℕ) → bytes_at new q ≡ cond (eq_by_cmp bytes_cmp q name) (Some bytes) (bytes_at old q)
+HasPutBytes old new name bytes = (q : List ℕ) → bytes_at new q
+    ≡ cond (eq_by_cmp bytes_cmp q name) (Some bytes) (bytes_at old q)
 
-pub bytes_inserted : (old new : Texts) (name bytes : Vec ℕ) → new.entries ≡ insert_entry (λ a b. bytes_cmp a.items b.items) old.entries name bytes → HasPutBytes old new name.items bytes.items
+pub bytes_inserted : (old new : Texts) (name bytes : Vec ℕ)
+    → new.entries ≡ insert_entry (λ a b. bytes_cmp a.items b.items) old.entries name bytes
+    → HasPutBytes old new name.items bytes.items
 bytes_inserted old new name bytes entries q =
-    ap (option_map (λ (text : Vec ℕ). text.items)) (get_called-insert nat_list_cmp_total names_apart name_of old new name bytes entries q)
+    ap (option_map (λ (text : Vec ℕ). text.items))
+    (get_called-insert nat_list_cmp_total names_apart name_of old new name bytes entries q)
     ∙ by (eq_by_cmp bytes_cmp q name.items)
   where
-    by : (b : Bool) → option_map (λ (text : Vec ℕ). text.items) (cond b (Some bytes) (get_called bytes_cmp name_of old q)) ≡ cond b (Some bytes.items) (bytes_at old q)
+    by : (b : Bool) → option_map (λ (text : Vec ℕ). text.items)
+        (cond b (Some bytes) (get_called bytes_cmp name_of old q)) ≡ cond b (Some bytes.items) (bytes_at old q)
     by true = refl
     by false = refl
 
 -- what is put at a name as its bytes, on both sides
-pub texts_put : {X : Type 0} (view : X → List ℕ) (old new : Texts) (before : map.FinMap bytes_cmp X) (name bytes : List ℕ) (x : X)
-    → ((q : List ℕ) → bytes_at old q ≡ option_map view (map.get before q)) → HasPutBytes old new name bytes → bytes ≡ view x
+pub texts_put : {X : Type 0} (view : X → List ℕ) (old new : Texts) (before : map.FinMap bytes_cmp X)
+    (name bytes : List ℕ) (x : X)
+    → ((q : List ℕ) → bytes_at old q ≡ option_map view (map.get before q)) → HasPutBytes old new name bytes
+    → bytes ≡ view x
     → (q : List ℕ) → bytes_at new q ≡ option_map view (map.get (map.insert before name x) q)
 texts_put view old new before name bytes x same put text q =
-    put q ∙ by (eq_by_cmp bytes_cmp q name) ∙ sym (ap (option_map view) (map.get-insert nat_list_cmp_total before name x q))
+    put q ∙ by (eq_by_cmp bytes_cmp q name) ∙ sym (ap (option_map view)
+    (map.get-insert nat_list_cmp_total before name x q))
   where
     by : (b : Bool) → cond b (Some bytes) (bytes_at old q) ≡ option_map view (cond b (Some x) (map.get before q))
     by true = ap (λ (t : List ℕ). Some t) text
@@ -100,16 +115,19 @@ none_there : {X : Type 0} (view : X → List ℕ) (o : Option X) → None ≡ op
 none_there view None e = refl
 none_there view (Some x) e = absurd cc
 
-some_there : {X : Type 0} (view : X → List ℕ) (o : Option X) (bytes : List ℕ) → Some bytes ≡ option_map view o → (x : X) × (o ≡ Some x) × (bytes ≡ view x)
+some_there : {X : Type 0} (view : X → List ℕ) (o : Option X) (bytes : List ℕ) → Some bytes ≡ option_map view o
+    → (x : X) × (o ≡ Some x) × (bytes ≡ view x)
 some_there view None bytes e = absurd cc
 some_there view (Some x) bytes e = (x, refl, cc)
 
-some_of_map : (o : Option Standing) → is_some o ≡ is_some (option_map node_in o)
+some_of_map : (o : Option ReplicaWithRoom) → is_some o ≡ is_some (option_map node_in o)
 some_of_map None = refl
 some_of_map (Some h) = refl
 
 module _ {A : Type 0} {g : Ghosts A} where
-  pub represents_first : (c : Cluster A g) (s : Layout) → c.schema ≡ s → c.clock ≡ pos 0 → c.lead ≡ None → c.nodes.entries ≡ [] → c.pages.entries ≡ [] → c.snapshots.entries ≡ [] → c.origins.keys ≡ [] → Represents c (first_state s)
+  pub represents_first : (c : Cluster A g) (s : Layout) → c.schema ≡ s → c.clock ≡ pos 0 → c.lead ≡ None
+      → c.nodes.entries ≡ [] → c.pages.entries ≡ [] → c.snapshots.entries ≡ [] → c.origins.keys ≡ []
+      → Represents c (first_state s)
   represents_first c s schema clock lead nodes pages snapshots origins = record {
     schema = schema;
     clock = clock;
@@ -124,7 +142,8 @@ module _ {A : Type 0} {g : Ghosts A} where
   }
 
   -- a cluster that is there represents a state
-  pub some_represents : (c : Cluster A g) (m : Option (State Cells)) → OptionRepresents (Some c) m → (s : State Cells) × Represents c s
+  pub some_represents : (c : Cluster A g) (m : Option (State Cells)) → OptionRepresents (Some c) m
+      → (s : State Cells) × Represents c s
   some_represents c None h = absurd h
   some_represents c (Some m) h = (m, h)
 
@@ -153,7 +172,8 @@ module _ {A : Type 0} {g : Ghosts A} where
     }
 
     -- with a replica changed, and more written
-    pub represents_put : (name : List ℕ) (h : Standing) (w : World) → HasPut old.nodes new.nodes name h → h.schema ≡ old.schema → Represents new (record m { nodes = map.insert m.nodes name (node_in h); world = w })
+    pub represents_put : (name : List ℕ) (h : ReplicaWithRoom) (w : World) → HasPut old.nodes new.nodes name h
+        → h.schema ≡ old.schema → Represents new (record m { nodes = map.insert m.nodes name (node_in h); world = w })
     represents_put name h w put has = record {
       schema = same.schema ∙ is.schema;
       clock = same.clock ∙ is.clock;
@@ -173,14 +193,16 @@ module _ {A : Type 0} {g : Ghosts A} where
     node_there name = some_of_map (replica_at c.nodes name) ∙ ap is_some (sym (is.nodes name))
 
     -- the node of a name
-    pub node_at : (name : List ℕ) (o : Option Standing) → replica_at c.nodes name ≡ o → map.get m.nodes name ≡ option_map node_in o
+    pub node_at : (name : List ℕ) (o : Option ReplicaWithRoom) → replica_at c.nodes name ≡ o
+        → map.get m.nodes name ≡ option_map node_in o
     node_at name o e = is.nodes name ∙ ap (option_map node_in) e
 
     -- the page of a name is that of the bytes that are kept, if there are some
     pub no_page_at : (name : List ℕ) → bytes_at c.pages name ≡ None → map.get m.pages name ≡ None
     no_page_at name none = none_there (bytes_of_page m.schema) (map.get m.pages name) (sym none ∙ is.pages name)
 
-    pub page_there : (name bytes : List ℕ) → bytes_at c.pages name ≡ Some bytes → (page : Cells) × (map.get m.pages name ≡ Some page) × HasPageText m.schema page bytes
+    pub page_there : (name bytes : List ℕ) → bytes_at c.pages name ≡ Some bytes
+        → (page : Cells) × (map.get m.pages name ≡ Some page) × HasPageText m.schema page bytes
     page_there name bytes there =
         let page = some_there (bytes_of_page m.schema) (map.get m.pages name) bytes (sym there ∙ is.pages name) in
         (page.0, page.1, record { page = is.are_pages name page.0 page.1; text = page.2 })
@@ -189,14 +211,18 @@ module _ {A : Type 0} {g : Ghosts A} where
     pub no_snapshot_at : (name : List ℕ) → bytes_at c.snapshots name ≡ None → map.get m.snapshots name ≡ None
     no_snapshot_at name none = none_there bytes_of_snapshot (map.get m.snapshots name) (sym none ∙ is.snapshots name)
 
-    pub snapshot_there : (name bytes : List ℕ) → bytes_at c.snapshots name ≡ Some bytes → (x : Snapshot Cells) × (map.get m.snapshots name ≡ Some x) × HasSnapshotText x bytes
+    pub snapshot_there : (name bytes : List ℕ) → bytes_at c.snapshots name ≡ Some bytes
+        → (x : Snapshot Cells) × (map.get m.snapshots name ≡ Some x) × HasSnapshotText x bytes
     snapshot_there name bytes there =
         let x = some_there bytes_of_snapshot (map.get m.snapshots name) bytes (sym there ∙ is.snapshots name) in
         (x.0, x.1, record { kept = is.are_kept name x.0 x.1; text = x.2 })
 
   -- an answer that was printed obeys the command that asks for it
-  pub obeys_printing : (c : Cluster A g) (m : State Cells) (before after : List ℕ) (due : Result (List ℕ) CommandFault) (result : Result (Unit {0}) Stop) → Represents c m
-      → Matches (λ _ said. after ≡ before ++ said) (after ≡ before) result due → Obeys (Some c) (Some m) before after result (on_ok (printing m) due)
+  pub obeys_printing : (c : Cluster A g) (m : State Cells) (before after : List ℕ) (due : Result (List ℕ) CommandFault)
+      (result : Result (Unit {0}) Stop) → Represents c m
+      → Matches (λ _ said. after ≡ before ++ said) (after ≡ before) result due
+      → Obeys (Some c) (Some m) before after result (on_ok (printing m) due)
   obeys_printing c m before after due (Ok done) is h = ((Some m, h.0), ap (on_ok (printing m)) h.1, (h.2, is))
-  obeys_printing c m before after due (Err (Refused fault)) is h = (ap (on_ok (printing m)) h.0, (h.1 ∙ sym (append-nil before), is))
+  obeys_printing c m before after due (Err (Refused fault)) is h =
+      (ap (on_ok (printing m)) h.0, (h.1 ∙ sym (append-nil before), is))
   obeys_printing c m before after due (Err Memory) is h = tt

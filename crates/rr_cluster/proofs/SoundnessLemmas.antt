@@ -17,13 +17,16 @@ use Rattle.rr_cluster.specs.Soundness.{IsSound, IsSoundNode, IsSoundSnapshot, Is
 use Rattle.rr_cluster.specs.State.{Node, Snapshot, State}
 use Rattle.rr_cluster.proofs.StepLemmas.{names_apart}
 
-put_cases : {P : Type 0} (m : State Knowledge) (name : List ℕ) (n : Node Knowledge) (q : List ℕ) (o : Node Knowledge) → get (insert m.nodes name n) q ≡ Some o
+put_cases : {P : Type 0} (m : State Knowledge) (name : List ℕ) (n : Node Knowledge) (q : List ℕ) (o : Node Knowledge)
+    → get (insert m.nodes name n) q ≡ Some o
     → (q ≡ name → n ≡ o → P) → (q ≢ name → get m.nodes q ≡ Some o → P) → P
 put_cases m name n q o = insert_cases nat_list_cmp_total names_apart m.nodes name n q o
 
 -- ---- a node of a new origin
 
-module _ (m : State Knowledge) (sound : IsSound m) (name : List ℕ) (n : Node Knowledge) (shared : n.schema ≡ m.schema) (is_sound : IsSoundNode m.world n) (is : IsOrigin n.origin) (unused : list_any (λ used. used == n.origin) m.origins ≡ false) where
+module _ (m : State Knowledge) (sound : IsSound m) (name : List ℕ) (n : Node Knowledge) (shared : n.schema ≡ m.schema)
+    (is_sound : IsSoundNode m.world n) (is : IsOrigin n.origin)
+    (unused : list_any (λ used. used == n.origin) m.origins ≡ false) where
   abbrev with_node : State Knowledge
   with_node = record m { nodes = insert m.nodes name n; origins = n.origin ∷ m.origins }
 
@@ -36,7 +39,8 @@ module _ (m : State Knowledge) (sound : IsSound m) (name : List ℕ) (n : Node K
   each_is_origin : (origin : ℕ) → IsUsed with_node origin → IsOrigin origin
   each_is_origin origin = by (n.origin == origin) refl
     where
-      by : (same : Bool) → (n.origin == origin) ≡ same → IsTrue (same || list_any (λ used. used == origin) m.origins) → IsOrigin origin
+      by : (same : Bool) → (n.origin == origin) ≡ same → IsTrue (same || list_any (λ used. used == origin) m.origins)
+          → IsOrigin origin
       by true same was = subst IsOrigin (eqb-true n.origin origin same) is
       by false other was = sound.origins origin was
 
@@ -55,12 +59,15 @@ module _ (m : State Knowledge) (sound : IsSound m) (name : List ℕ) (n : Node K
     apart = λ a b p o e h same. put_cases m name n a p e
         (λ at is. put_cases m name n b o h
         (λ bt it. at ∙ sym bt)
-        (λ other here. absurd (not_used o.origin (sound.used b o here) (sym same ∙ sym (ap (λ (x : Node Knowledge). x.origin) is)))))
+        (λ other here. absurd (not_used o.origin (sound.used b o here)
+        (sym same ∙ sym (ap (λ (x : Node Knowledge). x.origin) is)))))
         (λ other here. put_cases m name n b o h
-        (λ bt it. absurd (not_used p.origin (sound.used a p here) (same ∙ sym (ap (λ (x : Node Knowledge). x.origin) it))))
+        (λ bt it. absurd (not_used p.origin (sound.used a p here)
+        (same ∙ sym (ap (λ (x : Node Knowledge). x.origin) it))))
         (λ also there. sound.apart a b p o here there same));
     used = λ q o e. put_cases m name n q o e
-        (λ at same. or_left (n.origin == o.origin) (list_any (λ used. used == o.origin) m.origins) (eq-eqb n.origin o.origin (ap (λ (x : Node Knowledge). x.origin) same)))
+        (λ at same. or_left (n.origin == o.origin) (list_any (λ used. used == o.origin) m.origins)
+        (eq-eqb n.origin o.origin (ap (λ (x : Node Knowledge). x.origin) same)))
         (λ other here. still_used o.origin (sound.used q o here));
     origins = each_is_origin;
     written = λ x was. still_used x.origin (sound.written x was);
@@ -68,10 +75,13 @@ module _ (m : State Knowledge) (sound : IsSound m) (name : List ℕ) (n : Node K
   }
 
 -- a node of an origin under which nothing was written, that knows what has no gaps
-pub starting_is_sound : (m : State Knowledge) → IsSound m → (s : Layout) (number : ℕ) (k : Knowledge) → IsClosed s m.world k → list_any (λ used. used == number) m.origins ≡ false
+pub starting_is_sound : (m : State Knowledge) → IsSound m → (s : Layout) (number : ℕ) (k : Knowledge)
+    → IsClosed s m.world k → list_any (λ used. used == number) m.origins ≡ false
     → IsSoundNode m.world (record { schema = s; origin = number; next = 1; contents = k })
 starting_is_sound m sound s number k closed unused =
-    let none : (x : Sample) → IsWritten m.world x → x.origin ≢ number = λ x was same. true≢false (sym (sound.written x was) ∙ ap (λ (o : ℕ). list_any (λ used. used == o) m.origins) same ∙ unused) in
+    let none : (x : Sample) → IsWritten m.world x → x.origin ≢ number =
+    λ x was same. true≢false (sym (sound.written x was)
+    ∙ ap (λ (o : ℕ). list_any (λ used. used == o) m.origins) same ∙ unused) in
     record {
       closed = closed;
       own = λ mark of is. absurd (none mark.sample of.0 is);
@@ -82,7 +92,8 @@ starting_is_sound m sound s number k closed unused =
 
 -- ---- a node in the place of one of its schema and origin, in a world that may have grown
 
-module _ (m : State Knowledge) (sound : IsSound m) (name : List ℕ) (n o : Node Knowledge) (here : get m.nodes name ≡ Some n) (schema : o.schema ≡ n.schema) (origin : o.origin ≡ n.origin) (w : World) where
+module _ (m : State Knowledge) (sound : IsSound m) (name : List ℕ) (n o : Node Knowledge)
+    (here : get m.nodes name ≡ Some n) (schema : o.schema ≡ n.schema) (origin : o.origin ≡ n.origin) (w : World) where
   abbrev with_node_in_place : State Knowledge
   with_node_in_place = record m { nodes = insert m.nodes name o; world = w }
 
@@ -96,7 +107,9 @@ module _ (m : State Knowledge) (sound : IsSound m) (name : List ℕ) (n o : Node
   abbrev AllStayClosed : Type 0
   AllStayClosed = (s : Layout) (k : Knowledge) → IsClosed s m.world k → IsClosed s w k
 
-  pub place_is_sound : IsSoundNode w o → OthersStaySound → AllStayClosed → ((x : Sample) → IsWritten w x → IsUsed m x.origin) → ((x : Sample) → IsWritten w x → IsSoundSample x) → IsSound with_node_in_place
+  pub place_is_sound : IsSoundNode w o → OthersStaySound → AllStayClosed
+      → ((x : Sample) → IsWritten w x → IsUsed m x.origin) → ((x : Sample) → IsWritten w x → IsSoundSample x)
+      → IsSound with_node_in_place
   place_is_sound itself others closed written samples = record {
     layout = sound.layout;
     clock = sound.clock;
@@ -107,13 +120,16 @@ module _ (m : State Knowledge) (sound : IsSound m) (name : List ℕ) (n o : Node
         (λ at same. subst (IsSoundNode w) same itself)
         (λ other there. others p (other_origin q p other there) (sound.nodes q p there));
     pages = λ q k e. closed m.schema k (sound.pages q k e);
-    snapshots = λ q x e. let before = sound.snapshots q x e in record { layout = before.layout; closed = closed x.schema x.contents before.closed };
+    snapshots = λ q x e. let before = sound.snapshots q x e in
+        record { layout = before.layout; closed = closed x.schema x.contents before.closed };
     apart = λ a b p q e h same. put_cases m name o a p e
         (λ at is. put_cases m name o b q h
         (λ bt it. at ∙ sym bt)
-        (λ other there. absurd (other_origin b q other there (sym same ∙ sym (ap (λ (y : Node Knowledge). y.origin) is) ∙ origin))))
+        (λ other there. absurd (other_origin b q other there
+        (sym same ∙ sym (ap (λ (y : Node Knowledge). y.origin) is) ∙ origin))))
         (λ other there. put_cases m name o b q h
-        (λ bt it. absurd (other_origin a p other there (same ∙ sym (ap (λ (y : Node Knowledge). y.origin) it) ∙ origin)))
+        (λ bt it. absurd (other_origin a p other there
+        (same ∙ sym (ap (λ (y : Node Knowledge). y.origin) it) ∙ origin)))
         (λ also there_too. sound.apart a b p q there there_too same));
     used = λ q p e. put_cases m name o q p e
         (λ at same. subst (IsUsed m) (sym origin ∙ ap (λ (y : Node Knowledge). y.origin) same) (sound.used name n here))
@@ -125,7 +141,8 @@ module _ (m : State Knowledge) (sound : IsSound m) (name : List ℕ) (n o : Node
 
 -- ---- a page more
 
-pub with_page_is_sound : (m : State Knowledge) → IsSound m → (name : List ℕ) (k : Knowledge) → IsClosed m.schema m.world k → IsSound (record m { pages = insert m.pages name k })
+pub with_page_is_sound : (m : State Knowledge) → IsSound m → (name : List ℕ) (k : Knowledge)
+    → IsClosed m.schema m.world k → IsSound (record m { pages = insert m.pages name k })
 with_page_is_sound m sound name k closed = record {
   layout = sound.layout;
   clock = sound.clock;
@@ -144,7 +161,8 @@ with_page_is_sound m sound name k closed = record {
 
 -- ---- a snapshot more
 
-pub with_snapshot_is_sound : (m : State Knowledge) → IsSound m → (name : List ℕ) (x : Snapshot Knowledge) → IsSoundSnapshot m.world x → IsSound (record m { snapshots = insert m.snapshots name x })
+pub with_snapshot_is_sound : (m : State Knowledge) → IsSound m → (name : List ℕ) (x : Snapshot Knowledge)
+    → IsSoundSnapshot m.world x → IsSound (record m { snapshots = insert m.snapshots name x })
 with_snapshot_is_sound m sound name x is = record {
   layout = sound.layout;
   clock = sound.clock;

@@ -26,7 +26,8 @@ unfolding OfAnswer
 last_holds P x h = h
 
 -- what holds of each answer of the second step holds of the answer of both
-pub then_holds : {A B : Type 0} (P : B → Type 0) (r : Result A CommandFault) (next : A → Result B CommandFault) → ((x : A) → r ≡ Ok x → OfAnswer P (next x)) → OfAnswer P (r >>= next)
+pub then_holds : {A B : Type 0} (P : B → Type 0) (r : Result A CommandFault) (next : A → Result B CommandFault)
+    → ((x : A) → r ≡ Ok x → OfAnswer P (next x)) → OfAnswer P (r >>= next)
 unfolding OfAnswer
 then_holds P (Ok x) next h = h x refl
 then_holds P (Err fault) next h = tt
@@ -47,31 +48,40 @@ Agrees f P r (Ok y) = (r ≡ Ok (f y)) × P y
 Agrees f P r (Err fault) = r ≡ Err fault
 
 -- the same check, and then what agrees
-pub then_agree : {A B C : Type 0} (f : B → C) (P : B → Type 0) (r : Result A CommandFault) (next : A → Result C CommandFault) (other : A → Result B CommandFault)
+pub then_agree : {A B C : Type 0} (f : B → C) (P : B → Type 0) (r : Result A CommandFault)
+    (next : A → Result C CommandFault) (other : A → Result B CommandFault)
     → ((x : A) → r ≡ Ok x → Agrees f P (next x) (other x)) → Agrees f P (r >>= next) (r >>= other)
 unfolding Agrees
 then_agree f P (Ok x) next other h = h x refl
 then_agree f P (Err fault) next other h = refl
 
 -- answers that agree, and then what agrees
-pub both_agree : {A X B C : Type 0} (g : A → X) (Q : A → Type 0) (f : B → C) (P : B → Type 0) (r : Result X CommandFault) (t : Result A CommandFault) (next : X → Result C CommandFault) (other : A → Result B CommandFault)
+pub both_agree : {A X B C : Type 0} (g : A → X) (Q : A → Type 0) (f : B → C) (P : B → Type 0)
+    (r : Result X CommandFault) (t : Result A CommandFault) (next : X → Result C CommandFault)
+    (other : A → Result B CommandFault)
     → Agrees g Q r t → ((y : A) → Q y → Agrees f P (next (g y)) (other y)) → Agrees f P (r >>= next) (t >>= other)
 unfolding Agrees
-both_agree g Q f P r (Ok y) next other e h = subst (λ (q : Result _ CommandFault). Agrees f P (q >>= next) (Ok y >>= other)) (sym e.0) (h y e.1)
+both_agree g Q f P r (Ok y) next other e h = subst
+    (λ (q : Result _ CommandFault). Agrees f P (q >>= next) (Ok y >>= other)) (sym e.0) (h y e.1)
 both_agree g Q f P r (Err fault) next other e h = ap (λ (q : Result _ CommandFault). q >>= next) e
 
-option_agrees : {V W B C : Type 0} (f : B → C) (P : B → Type 0) (view : V → W) (fault : CommandFault) (next : W → Result C CommandFault) (other : V → Result B CommandFault) (o : Option V)
-    → ((v : V) → o ≡ Some v → Agrees f P (next (view v)) (other v)) → Agrees f P (ok_or (option_map view o) fault >>= next) (ok_or o fault >>= other)
+option_agrees : {V W B C : Type 0} (f : B → C) (P : B → Type 0) (view : V → W) (fault : CommandFault)
+    (next : W → Result C CommandFault) (other : V → Result B CommandFault) (o : Option V)
+    → ((v : V) → o ≡ Some v → Agrees f P (next (view v)) (other v))
+    → Agrees f P (ok_or (option_map view o) fault >>= next) (ok_or o fault >>= other)
 unfolding Agrees
 option_agrees f P view fault next other None h = refl
 option_agrees f P view fault next other (Some v) h = h v refl
 
 -- the same look-up, and then what agrees
-pub found_agree : {V W B C : Type 0} (f : B → C) (P : B → Type 0) (view : V → W) (m : FinMap bytes_cmp V) (name : List ℕ) (fault : CommandFault) (next : W → Result C CommandFault) (other : V → Result B CommandFault)
+pub found_agree : {V W B C : Type 0} (f : B → C) (P : B → Type 0) (view : V → W) (m : FinMap bytes_cmp V)
+    (name : List ℕ) (fault : CommandFault) (next : W → Result C CommandFault) (other : V → Result B CommandFault)
     → ((v : V) → get m name ≡ Some v → Agrees f P (next (view v)) (other v))
     → Agrees f P (ok_or (get (map_values view m) name) fault >>= next) (ok_or (get m name) fault >>= other)
 found_agree {V} {W} f P view m name fault next other h =
-    subst (λ (o : Option W). Agrees f P (ok_or o fault >>= next) (ok_or (get m name) fault >>= other)) (sym (get-map_values nat_list_cmp_total names_apart view m name)) (option_agrees f P view fault next other (get m name) h)
+    subst (λ (o : Option W). Agrees f P (ok_or o fault >>= next) (ok_or (get m name) fault >>= other))
+    (sym (get-map_values nat_list_cmp_total names_apart view m name))
+    (option_agrees f P view fault next other (get m name) h)
 
 -- the last step
 pub done_agrees : {B C : Type 0} (f : B → C) (P : B → Type 0) (x : C) (y : B) → x ≡ f y → P y → Agrees f P (Ok x) (Ok y)
@@ -79,18 +89,23 @@ unfolding Agrees
 done_agrees f P x y e h = (ap (λ z. Ok z) e, h)
 
 -- what is made of answers that agree
-pub on_ok-agrees : {B C D E : Type 0} (f : B → C) (P : B → Type 0) (f' : D → E) (P' : D → Type 0) (before : B → D) (after : C → E) → ((y : B) → after (f y) ≡ f' (before y)) → ((y : B) → P y → P' (before y))
-    → (r : Result C CommandFault) (t : Result B CommandFault) → Agrees f P r t → Agrees f' P' (on_ok after r) (on_ok before t)
+pub on_ok-agrees : {B C D E : Type 0} (f : B → C) (P : B → Type 0) (f' : D → E) (P' : D → Type 0) (before : B → D)
+    (after : C → E) → ((y : B) → after (f y) ≡ f' (before y)) → ((y : B) → P y → P' (before y))
+    → (r : Result C CommandFault) (t : Result B CommandFault) → Agrees f P r t
+    → Agrees f' P' (on_ok after r) (on_ok before t)
 unfolding Agrees
-on_ok-agrees f P f' P' before after same holds r (Ok y) h = (ap (on_ok after) h.0 ∙ ap (λ z. Ok z) (same y), holds y h.1)
+on_ok-agrees f P f' P' before after same holds r (Ok y) h =
+    (ap (on_ok after) h.0 ∙ ap (λ z. Ok z) (same y), holds y h.1)
 on_ok-agrees f P f' P' before after same holds r (Err fault) h = ap (on_ok after) h
 
-pub same_answer : {B C : Type 0} (f : B → C) (P : B → Type 0) (r : Result C CommandFault) (t : Result B CommandFault) → Agrees f P r t → r ≡ on_ok f t
+pub same_answer : {B C : Type 0} (f : B → C) (P : B → Type 0) (r : Result C CommandFault) (t : Result B CommandFault)
+    → Agrees f P r t → r ≡ on_ok f t
 unfolding Agrees
 same_answer f P r (Ok y) h = h.0
 same_answer f P r (Err fault) h = h
 
-pub holds_after : {B C : Type 0} (f : B → C) (P : B → Type 0) (r : Result C CommandFault) (t : Result B CommandFault) → Agrees f P r t → IfOk t P
+pub holds_after : {B C : Type 0} (f : B → C) (P : B → Type 0) (r : Result C CommandFault) (t : Result B CommandFault)
+    → Agrees f P r t → IfOk t P
 unfolding Agrees
 holds_after f P r (Ok y) h = h.1
 holds_after f P r (Err fault) h = tt

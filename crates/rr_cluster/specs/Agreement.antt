@@ -5,7 +5,7 @@ use Rattle.std.specs.Option.{option_map}
 use Rattle.rr_join.specs.Values.{map_values}
 use Rattle.rr_model.specs.Knowledge.{Knowledge}
 use Rattle.rr_cells.specs.Cells.{Cells}
-use Rattle.rr_cells.specs.State.{state}
+use Rattle.rr_cells.specs.State.{cells_of_knowledge}
 use Rattle.rr_script.specs.Command.{Command}
 use Rattle.rr_cluster.specs.Commands.{on_ok, step}
 use Rattle.rr_cluster.specs.Model.{cell_model, sample_model}
@@ -15,11 +15,17 @@ use Rattle.rr_cluster.specs.State.{Node, Snapshot, State}
 
 -- a node, with the cells of the samples that it knows
 abbrev pub node_in_cells : Node Knowledge → Node Cells
-node_in_cells n = record { schema = n.schema; origin = n.origin; next = n.next; contents = state n.schema n.contents }
+node_in_cells n = record {
+  schema = n.schema;
+  origin = n.origin;
+  next = n.next;
+  contents =
+      cells_of_knowledge n.schema n.contents;
+}
 
 -- a snapshot, with the cells of the samples that it keeps
 abbrev pub snapshot_in_cells : Snapshot Knowledge → Snapshot Cells
-snapshot_in_cells x = record { schema = x.schema; origin = x.origin; contents = state x.schema x.contents }
+snapshot_in_cells x = record { schema = x.schema; origin = x.origin; contents = cells_of_knowledge x.schema x.contents }
 
 -- a state, with each node, each page and each snapshot in cells
 abbrev pub in_cells : State Knowledge → State Cells
@@ -28,7 +34,7 @@ in_cells m = record {
   clock = m.clock;
   lead = m.lead;
   nodes = map_values node_in_cells m.nodes;
-  pages = map_values (state m.schema) m.pages;
+  pages = map_values (cells_of_knowledge m.schema) m.pages;
   snapshots = map_values snapshot_in_cells m.snapshots;
   origins = m.origins;
   world = m.world;

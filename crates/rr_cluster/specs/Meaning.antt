@@ -11,8 +11,8 @@ use Rattle.rr_archive.specs.declared.archive.Cells.{Ghosts}
 use Rattle.rr_join.specs.Values.{get_called}
 use Rattle.rr_model.specs.Samples.{Sample}
 use Rattle.rr_cells.specs.Cells.{Cells, IsTrimmed}
-use Rattle.rr_cells.specs.Holding.{Holding}
-use Rattle.rr_replica.specs.Standing.{Standing, held}
+use Rattle.rr_cells.specs.ReplicaState.{ReplicaState}
+use Rattle.rr_replica.specs.ReplicaWithRoom.{ReplicaWithRoom, replica_state}
 use Rattle.rr_text.specs.Bytes.{bytes_cmp}
 use Rattle.rr_schema.specs.Schema.{Layout, IsLayout}
 use Rattle.rr_cluster.specs.declared.fault.CommandFault.{CommandFault}
@@ -33,15 +33,15 @@ use Rattle.rr_cluster.specs.State.{Node, Snapshot, State}
 use Rattle.rr_cluster.specs.Stop.{Matches}
 
 -- what a replica holds, as a node
-abbrev pub node_of : Holding → Node Cells
+abbrev pub node_of : ReplicaState → Node Cells
 node_of h = record { schema = h.schema; origin = h.origin; next = h.next; contents = h.cells }
 
 -- a replica, as a node: where it has room is its own affair
-abbrev pub node_in : Standing → Node Cells
-node_in r = node_of (held r)
+abbrev pub node_in : ReplicaWithRoom → Node Cells
+node_in r = node_of (replica_state r)
 
 -- the replica of a name, if there is one
-abbrev pub replica_at : BTreeMap (Vec ℕ) Standing → List ℕ → Option Standing
+abbrev pub replica_at : BTreeMap (Vec ℕ) ReplicaWithRoom → List ℕ → Option ReplicaWithRoom
 replica_at = get_called bytes_cmp (λ (key : Vec ℕ). key.items)
 
 -- the bytes of the page or the snapshot of a name, if there is one
@@ -49,7 +49,7 @@ abbrev pub bytes_at : BTreeMap (Vec ℕ) (Vec ℕ) → List ℕ → Option (List
 bytes_at texts name = option_map (λ text. text.items) (get_called bytes_cmp (λ (key : Vec ℕ). key.items) texts name)
 
 -- a replica wrote the samples that a node writes, or is refused as the node is and has not changed
-abbrev pub Writes : Holding → Holding → Result (Unit {0}) Stop → Result (List Sample) CommandFault → Type 0
+abbrev pub Writes : ReplicaState → ReplicaState → Result (Unit {0}) Stop → Result (List Sample) CommandFault → Type 0
 Writes old new = Matches (λ _ xs. node_of new ≡ with_all_written cell_model (node_of old) xs) (new ≡ old)
 
 -- the bytes are those of a page of these cells
@@ -73,12 +73,13 @@ pub record HasSnapshotText (x : Snapshot Cells) (bytes : List ℕ) : Type 0 wher
   pub text : bytes ≡ bytes_of_snapshot x
 
 -- a replica was saved as the bytes of a snapshot, or has too many cells for one, unless memory ran out
-abbrev pub Saves : Holding → Result (Vec ℕ) Stop → Type 0
+abbrev pub Saves : ReplicaState → Result (Vec ℕ) Stop → Type 0
 Saves h (Ok bytes) = HasSnapshotText (snapshot_of cell_model (node_of h)) bytes.items
-Saves h (Err stop) = (stop ≡ Memory) ⊎ ((stop ≡ Refused (Save TooManyCells)) × (MAX_SNAPSHOT_CELLS < length (entries h.cells)))
+Saves h (Err stop) = (stop ≡ Memory) ⊎ ((stop ≡ Refused (Save TooManyCells))
+    × (MAX_SNAPSHOT_CELLS < length (entries h.cells)))
 
 -- a replica joined the cells of a page, as a node does, unless memory ran out
-abbrev pub Joins : Holding → Holding → Result (Unit {0}) Stop → Cells → Type 0
+abbrev pub Joins : ReplicaState → ReplicaState → Result (Unit {0}) Stop → Cells → Type 0
 Joins old new (Ok done) cells = node_of new ≡ with_joined (node_of old) cells
 Joins old new (Err stop) cells = stop ≡ Memory
 
@@ -87,14 +88,15 @@ abbrev pub HasOrigins : BTreeSet ℕ → List ℕ → Type 0
 HasOrigins set origins = (origin : ℕ) → contains nat_cmp set origin ≡ list_any (λ used. used == origin) origins
 
 module _ {A : Type 0} {g : Ghosts A} where
-  -- a cluster has the schema, clock, nodes, pages, snapshots and origins of a state; the nodes have the schema of all, and
+  -- a cluster has the schema, clock, nodes, pages, snapshots and origins of a state; the nodes have the schema of all,
+  -- and
   -- each page and each snapshot is kept as its bytes
   pub record Represents (c : Cluster A g) (m : State Cells) : Type 0 where
     pub schema : c.schema ≡ m.schema
     pub clock : c.clock ≡ m.clock
     pub lead : c.lead ≡ m.lead
     pub nodes : (name : List ℕ) → get m.nodes name ≡ option_map node_in (replica_at c.nodes name)
-    pub shared : (name : List ℕ) (r : Standing) → replica_at c.nodes name ≡ Some r → r.schema ≡ c.schema
+    pub shared : (name : List ℕ) (r : ReplicaWithRoom) → replica_at c.nodes name ≡ Some r → r.schema ≡ c.schema
     pub pages : (name : List ℕ) → bytes_at c.pages name ≡ option_map (bytes_of_page m.schema) (get m.pages name)
     pub are_pages : (name : List ℕ) (page : Cells) → get m.pages name ≡ Some page → IsPage m.schema (entries page)
     pub snapshots : (name : List ℕ) → bytes_at c.snapshots name ≡ option_map bytes_of_snapshot (get m.snapshots name)
@@ -107,7 +109,8 @@ module _ {A : Type 0} {g : Ghosts A} where
   OptionRepresents (Some c) (Some m) = Represents c m
   OptionRepresents _ _ = ⊥
 
-  -- a command left the cluster in the state that the model's leaves, or is refused as the model's is and changed nothing
+  -- a command left the cluster in the state that the model's leaves, or is refused as the model's is and changed
+  -- nothing
   abbrev pub Leaves : Cluster A g → State Cells → Result (Unit {0}) Stop → Result (State Cells) CommandFault → Type 0
   Leaves new m = Matches (λ _ after. Represents new after) (Represents new m)
 
@@ -120,5 +123,6 @@ module _ {A : Type 0} {g : Ghosts A} where
   Begins = Matches (λ c done. (done.1 ≡ []) × OptionRepresents (Some c) done.0) (Unit {0})
 
   -- a command printed what the model's prints and left its state, or is refused as the model's is
-  abbrev pub Obeys : Option (Cluster A g) → Option (State Cells) → List ℕ → List ℕ → Result (Unit {0}) Stop → Result (Option (State Cells) × List ℕ) CommandFault → Type 0
+  abbrev pub Obeys : Option (Cluster A g) → Option (State Cells) → List ℕ → List ℕ → Result (Unit {0}) Stop
+      → Result (Option (State Cells) × List ℕ) CommandFault → Type 0
   Obeys new m before after = Matches (λ _ done. Prints new before after done) (Prints new before after (m, []))

@@ -10,7 +10,7 @@ use Rattle.rr_cells.specs.Cells.{Cells}
 use Rattle.rr_cells.specs.Joining.{next_past}
 use Rattle.rr_cells.specs.Joins.{join_cells}
 use Rattle.rr_cells.specs.Puts.{put_sample}
-use Rattle.rr_cells.specs.State.{state}
+use Rattle.rr_cells.specs.State.{cells_of_knowledge}
 use Rattle.rr_raising.specs.Raising.{raised_knowledge, raised_cells}
 use Rattle.rr_delta.specs.Difference.{newer_cells}
 use Rattle.rr_delta.specs.Names.{versions_of}
@@ -53,7 +53,7 @@ sample_model = record {
   with_page = with_known;
   kept = live;
   raised = raised_knowledge;
-  cells = state;
+  cells = cells_of_knowledge;
 }
 
 -- ---- cells

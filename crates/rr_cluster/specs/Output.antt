@@ -12,7 +12,8 @@ use Rattle.rr_script.specs.Script.{commands_of}
 use Rattle.rr_cluster.specs.State.{State}
 
 -- a refused command prints `line N: NAME`, and changes nothing
-abbrev pub unless_refused : {K : Type 0} → Option (State K) → ℕ → Result (Option (State K) × List ℕ) CommandFault → Option (State K) × List ℕ
+abbrev pub unless_refused : {K : Type 0} → Option (State K) → ℕ → Result (Option (State K) × List ℕ) CommandFault
+    → Option (State K) × List ℕ
 unless_refused m number (Ok done) = done
 unless_refused m number (Err fault) = (m, refusal_text number (command_fault_name fault))
 

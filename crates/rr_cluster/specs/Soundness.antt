@@ -1,4 +1,5 @@
--- What scripts keep true of the sample model: what was written is within the limits, each node knows all that its origin
+-- What scripts keep true of the sample model: what was written is within the limits, each node knows all that its
+-- origin
 -- wrote, and what nodes, pages and snapshots hold has no gaps.
 use Rattle.std.specs.Prelude.{◌≡◌, ℕ, ◌+◌, ◌<◌, ◌≤◌, ◌==◌, List, [], ◌∷◌, take, Option, None, Some, Result, IfOk, IfSome, IsTrue}
 use Rattle.std.specs.List.{list_any}
@@ -38,7 +39,8 @@ pub record IsSoundSnapshot (w : World) (x : Snapshot Knowledge) : Type 0 where
   pub closed : IsClosed x.schema w x.contents
 
 -- the schema is within its limits, the nodes have it and are sound, and each has an origin of its own that the script
--- used; what a page or a snapshot holds has no gaps; each sample that was written is sound, and of an origin that the script used
+-- used; what a page or a snapshot holds has no gaps; each sample that was written is sound, and of an origin that the
+-- script used
 pub record IsSound (m : State Knowledge) : Type 0 where
   pub layout : IsLayout m.schema
   pub clock : IsTrue (fits_i64 m.clock)
@@ -46,7 +48,8 @@ pub record IsSound (m : State Knowledge) : Type 0 where
   pub nodes : (name : List ℕ) (n : Node Knowledge) → get m.nodes name ≡ Some n → IsSoundNode m.world n
   pub pages : (name : List ℕ) (k : Knowledge) → get m.pages name ≡ Some k → IsClosed m.schema m.world k
   pub snapshots : (name : List ℕ) (x : Snapshot Knowledge) → get m.snapshots name ≡ Some x → IsSoundSnapshot m.world x
-  pub apart : (a b : List ℕ) (n o : Node Knowledge) → get m.nodes a ≡ Some n → get m.nodes b ≡ Some o → n.origin ≡ o.origin → a ≡ b
+  pub apart : (a b : List ℕ) (n o : Node Knowledge) → get m.nodes a ≡ Some n → get m.nodes b ≡ Some o
+      → n.origin ≡ o.origin → a ≡ b
   pub used : (name : List ℕ) (n : Node Knowledge) → get m.nodes name ≡ Some n → IsUsed m n.origin
   pub origins : (origin : ℕ) → IsUsed m origin → IsOrigin origin
   pub written : (x : Sample) → IsWritten m.world x → IsUsed m x.origin

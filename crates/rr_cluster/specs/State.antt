@@ -18,7 +18,8 @@ pub record Snapshot (K : Type 0) : Type 0 where
   pub origin : ℕ
   pub contents : K
 
--- the schema, the clock and the lead, the nodes, the pages and the snapshots by their names, the origins that were used,
+-- the schema, the clock and the lead, the nodes, the pages and the snapshots by their names, the origins that were
+-- used,
 -- and all that was written; a page holds what a node can hold
 pub record State (K : Type 0) : Type 0 where
   pub schema : Layout
@@ -32,7 +33,17 @@ pub record State (K : Type 0) : Type 0 where
 
 -- once the schema is set
 abbrev pub first_state : {K : Type 0} → Layout → State K
-first_state s = record { schema = s; clock = pos 0; lead = None; nodes = empty; pages = empty; snapshots = empty; origins = []; world = empty }
+first_state s = record {
+  schema = s;
+  clock = pos 0;
+  lead = None;
+  nodes = empty;
+  pages = empty;
+  snapshots =
+      empty;
+  origins = [];
+  world = empty;
+}
 
 -- with a node under a name, whose origin is used from then on; it takes the place of one of that name
 abbrev pub with_node : {K : Type 0} → State K → List ℕ → Node K → State K

@@ -44,7 +44,7 @@ use write::write_line;
 
 /// Obeys a command, and adds what it prints to the text. Until the schema is set there is no
 /// cluster.
-pub(crate) fn obey<A: Cells>(
+pub(crate) fn run_command<A: Cells>(
     alloc: Global,
     cluster: &mut Option<Cluster<A>>,
     event: Event<'_>,
@@ -57,7 +57,7 @@ pub(crate) fn obey<A: Cells>(
         (step cell_model m (view_of event.entry)) }
 {
     match cluster {
-        Some(cluster) => obey_later(cluster, event, text),
+        Some(cluster) => run_later_command(cluster, event, text),
         None => {
             *cluster = Some(begin(alloc, event)?);
             Ok(())
@@ -79,7 +79,7 @@ fn begin<A: Cells>(alloc: Global, event: Event<'_>) -> Result<Cluster<A>, Stop>
 }
 
 /// Obeys a command once the schema is set.
-fn obey_later<A: Cells>(
+fn run_later_command<A: Cells>(
     cluster: &mut Cluster<A>,
     event: Event<'_>,
     text: &mut Vec<u8>,
@@ -120,7 +120,8 @@ fn obey_later<A: Cells>(
 /// Adds an answer to the text, unless there is none.
 fn print(answer: Result<Vec<u8>, Stop>, text: &mut Vec<u8>) -> Result<(), Stop>
     ensures { (due : Result (List ℕ) CommandFault) → Gives (λ said. said.items) answer due
-        → Matches (λ _ said. text.new.items ≡ text.old.items ++ said) (text.new.items ≡ text.old.items) result due }
+        → Matches (λ _ said. text.new.items ≡ text.old.items ++ said)
+        (text.new.items ≡ text.old.items) result due }
 {
     match answer {
         Ok(answer) => {

@@ -9,7 +9,7 @@ ghost use Rattle.rr_script.specs.Script.{said_view, SaysOneLine};
 ghost use Rattle.rr_cluster.specs.State.{State};
 
 use crate::cluster::Cluster;
-use crate::commands::obey;
+use crate::commands::run_command;
 use crate::fault::{CommandFault, RunFault};
 use crate::stop::Stop;
 use rr_archive::Cells;
@@ -22,8 +22,8 @@ use std::alloc::Global;
 /// refused, in the order of its lines.
 ///
 /// The cost of a line is that of its own command: a write looks up its node, its series and its
-/// slot; a page goes to its first cell, and on from cell to cell; a delivery looks up the series and
-/// the slot of each cell; a fetch looks up its node and its series, and one slot for each row.
+/// slot; a page goes to its first cell, and on from cell to cell; a delivery looks up the series
+/// and the slot of each cell; a fetch looks up its node and its series, and one slot for each row.
 pub fn run(alloc: Global, script: &[u8]) -> Result<Vec<u8>, RunFault>
     ensures cells { IfOk result (λ text. text.items ≡ output_of cell_model script.now) }
     ensures samples { IfOk result (λ text. text.items ≡ output_of sample_model script.now) }
@@ -40,13 +40,13 @@ pub fn run_on<A: Cells>(alloc: Global, script: &[u8]) -> Result<Vec<u8>, RunFaul
     let mut cluster: Option<Cluster<A>> = None;
     let mut text = Vec::new(alloc);
     for line in &lines {
-        obey_line(alloc, &mut cluster, line, &mut text)?;
+        run_line(alloc, &mut cluster, line, &mut text)?;
     }
     Ok(text)
 }
 
 /// Obeys a line, and adds what it prints to the text.
-fn obey_line<A: Cells>(
+fn run_line<A: Cells>(
     alloc: Global,
     cluster: &mut Option<Cluster<A>>,
     line: &ScriptLine<'_>,
@@ -59,7 +59,7 @@ fn obey_line<A: Cells>(
         (after_line cell_model m line.now.number (said_view line.now.said))) }
 {
     let done = match line.said {
-        Ok(event) => obey(alloc, cluster, event, text),
+        Ok(event) => run_command(alloc, cluster, event, text),
         Err(fault) => Err(Stop::Refused(CommandFault::Syntax(fault))),
     };
     match done {

@@ -1,13 +1,13 @@
-//! What the program's commands share: a script run between two streams, and why a command ends before it
-//! is done.
+//! What the program's commands share: a script run between two streams, and why a command ends
+//! before it is done.
 //!
 //! ```text
 //! reader ── read_script ──> a script ── RunScript ──> its output ── write_text ──> writer
 //! ```
 //!
-//! [`run_script`] is the three in a row. What runs scripts is handed in, as a [`RunScript`], so that all of
-//! this stands below it. Streams are counted, so that one is blamed only where a call of it failed
-//! ([`ToolFault`]).
+//! [`run_script`] is the three in a row. What runs scripts is handed in, as a [`RunScript`], so
+//! that all of this stands below it. Streams are counted, so that one is blamed only where a call
+//! of it failed ([`ToolFault`]).
 #![tactic(auto)]
 
 mod fault;

@@ -23,21 +23,26 @@ pub fn run_script<S: RunScript, R: Read, W: Write>(
     output: &mut Counted<W>,
 ) -> Result<(), ToolFault>
     ensures done { OnOk result (IfSome (R.remaining (inner_of input.old))
-        (λ script. Appends (W.contents (inner_of output.old)) (W.contents (inner_of output.new)) (S.output script))) }
+        (λ script. Appends (W.contents (inner_of output.old)) (W.contents (inner_of output.new))
+        (S.output script))) }
     ensures flushed { OnOk result (is_flushed output.new ≡ true) }
 
     // What is written after a fault.
-    ensures unwritten { IfErr result (λ fault. fault ≢ ToolFault.WriteFailed → output.new ≡ output.old) }
+    ensures unwritten { IfErr result (λ fault. fault ≢ ToolFault.WriteFailed
+        → output.new ≡ output.old) }
     ensures front { IfSome (R.remaining (inner_of input.old))
-        (λ script. AppendsPrefix (W.contents (inner_of output.old)) (W.contents (inner_of output.new)) (S.output script)) }
+        (λ script. AppendsPrefix (W.contents (inner_of output.old))
+        (W.contents (inner_of output.new)) (S.output script)) }
 
     // When a stream is to blame.
-    ensures read_failed { result ≡ Err ToolFault.ReadFailed → HasRisen (failures_of input.old) (failures_of input.new) }
+    ensures read_failed { result ≡ Err ToolFault.ReadFailed
+        → HasRisen (failures_of input.old) (failures_of input.new) }
     ensures limit { reads_of input.new ≤ reads_of input.old + MAX_READS }
     ensures too_many { result ≡ Err ToolFault.TooManyReads
         → HasRisenBy MAX_READS (reads_of input.old) (reads_of input.new) }
     ensures no_end { result ≡ Err ToolFault.TooManyReads → ends_of input.new ≡ ends_of input.old }
-    ensures write_failed { result ≡ Err ToolFault.WriteFailed → HasRisen (failures_of output.old) (failures_of output.new) }
+    ensures write_failed { result ≡ Err ToolFault.WriteFailed
+        → HasRisen (failures_of output.old) (failures_of output.new) }
 {
     let script = read_script(alloc, input)?;
     let text = scripts.run(alloc, &script)?;

@@ -14,8 +14,10 @@ use std::io::{Read, Write};
 
 /// All that `input` still has.
 pub fn read_script<R: Read>(alloc: Global, input: &mut Counted<R>) -> Result<Vec<u8>, ToolFault>
-    ensures read { IfOk result (λ script. IfSome (R.remaining (inner_of input.old)) (λ bytes. script.items ≡ bytes)) }
-    ensures read_failed { result ≡ Err ToolFault.ReadFailed → HasRisen (failures_of input.old) (failures_of input.new) }
+    ensures read { IfOk result (λ script. IfSome (R.remaining (inner_of input.old))
+        (λ bytes. script.items ≡ bytes)) }
+    ensures read_failed { result ≡ Err ToolFault.ReadFailed
+        → HasRisen (failures_of input.old) (failures_of input.new) }
     ensures limit { reads_of input.new ≤ reads_of input.old + MAX_READS }
     ensures too_many { result ≡ Err ToolFault.TooManyReads
         → HasRisenBy MAX_READS (reads_of input.old) (reads_of input.new) }
@@ -29,11 +31,14 @@ pub fn read_script<R: Read>(alloc: Global, input: &mut Counted<R>) -> Result<Vec
 
 /// Writes the text whole, and has the writer pass on what it holds back of it.
 pub fn write_text<W: Write>(output: &mut Counted<W>, text: &[u8]) -> Result<(), ToolFault>
-    ensures whole { OnOk result (Appends (W.contents (inner_of output.old)) (W.contents (inner_of output.new)) text.now) }
+    ensures whole { OnOk result (Appends (W.contents (inner_of output.old))
+        (W.contents (inner_of output.new)) text.now) }
     ensures flushed { OnOk result (is_flushed output.new ≡ true) }
-    ensures front { AppendsPrefix (W.contents (inner_of output.old)) (W.contents (inner_of output.new)) text.now }
+    ensures front { AppendsPrefix (W.contents (inner_of output.old))
+        (W.contents (inner_of output.new)) text.now }
     ensures failed { IfErr result (λ fault. fault ≡ ToolFault.WriteFailed) }
-    ensures write_failed { result ≡ Err ToolFault.WriteFailed → HasRisen (failures_of output.old) (failures_of output.new) }
+    ensures write_failed { result ≡ Err ToolFault.WriteFailed
+        → HasRisen (failures_of output.old) (failures_of output.new) }
 {
     write_all(output, text)?;
     flush(output)?;

@@ -67,7 +67,21 @@ config_in table = do
   every ← if_there None some_seconds_of (get_member (codes "every") table)
   quiet ← if_there false flag_of (get_member (codes "quiet") table)
   status ← if_there None some_text_of (get_member (codes "status") table)
-  Ok (record { schema = schema; lines = lines; fetch = fetch; peers = peers; rounds = rounds; visits = visits; lead = lead; precision = precision; idle = idle; every = every; quiet = quiet; status = status })
+  Ok (record {
+    schema = schema;
+    lines = lines;
+    fetch = fetch;
+    peers = peers;
+    rounds = rounds;
+    visits = visits;
+    lead =
+        lead;
+    precision = precision;
+    idle = idle;
+    every = every;
+    quiet = quiet;
+    status = status;
+  })
 
 -- the configuration of a text
 abbrev pub config_of : List ℕ → Result ConfigView ConfigFault

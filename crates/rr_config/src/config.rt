@@ -41,11 +41,11 @@ pub struct Config {
     pub lead: Option<u64>,
     /// The unit of the times of lines.
     pub precision: Precision,
-    /// For how many seconds a connection may move no byte, from 1 to 86,400; without end where it is
-    /// missing.
+    /// For how many seconds a connection may move no byte, from 1 to 86,400; without end where it
+    /// is missing.
     pub idle: Option<u64>,
-    /// At most once in how many seconds the peers are pulled and a snapshot is saved, and that also where no line
-    /// comes, from 1 to 86,400; after each line connection where it is missing.
+    /// At most once in how many seconds the peers are pulled and a snapshot is saved, and that also
+    /// where no line comes, from 1 to 86,400; after each line connection where it is missing.
     pub every: Option<u64>,
     /// Whether nothing is said of a start that succeeds and of rounds.
     pub quiet: bool,
@@ -129,7 +129,8 @@ impl Config {
     /// The configuration that a TOML table writes. Other keys are ignored.
     #[tactic(auto, unfolding(crate::specs::Config::config_in))]
     pub(crate) fn from_table(alloc: Global, table: &Table) -> Result<Config, ConfigFault>
-        ensures { GivesUnless ConfigFault.Memory config_view result (config_in (table_view table.now)) }
+        ensures { GivesUnless ConfigFault.Memory config_view result
+            (config_in (table_view table.now)) }
     {
         let schema = Schema::from_table(alloc, table)?;
         let lines = text_of(value_at(table, "lines")?)?;
@@ -161,11 +162,11 @@ impl Config {
 
     /// The configuration that a TOML text writes.
     ///
-    /// The keys are those of [`FromToml::from_toml`], and `lines`, an address; `fetch`, an array of 1 to
-    /// 16 addresses; `peers`, an array of addresses; `rounds` and `visits`, numbers from 0; `lead`, a
-    /// number of nanoseconds from 0; `precision`, one of `ns`, `us`, `ms` and `s`; `idle` and `every`,
-    /// numbers of seconds from 1 to 86,400; `quiet`, true or false; and `status`, a text. All but `lines`
-    /// and `fetch` may be missing. Other keys are ignored.
+    /// The keys are those of [`FromToml::from_toml`], and `lines`, an address; `fetch`, an array of
+    /// 1 to 16 addresses; `peers`, an array of addresses; `rounds` and `visits`, numbers from 0;
+    /// `lead`, a number of nanoseconds from 0; `precision`, one of `ns`, `us`, `ms` and `s`; `idle`
+    /// and `every`, numbers of seconds from 1 to 86,400; `quiet`, true or false; and `status`, a
+    /// text. All but `lines` and `fetch` may be missing. Other keys are ignored.
     ///
     /// Refusals, in this order: those of the schema; then key by key, in the order above,
     /// `MissingField`, `WrongKind`, and `BadCount` or `BadPrecision`. `Memory` is answered where

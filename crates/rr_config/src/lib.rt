@@ -1,15 +1,15 @@
 //! The configuration of a node: what an operator writes in TOML.
 //!
-//! A [`Config`] has the schema of the store, the addresses that the node listens on, its peers, how long
-//! it serves, and how the times of lines are taken. It is read by [`Config::from_toml`]; [`remarks`] tells an
-//! operator where a text is refused, and which of its keys are ignored.
+//! A [`Config`] has the schema of the store, the addresses that the node listens on, its peers, how
+//! long it serves, and how the times of lines are taken. It is read by [`Config::from_toml`];
+//! [`remarks`] tells an operator where a text is refused, and which of its keys are ignored.
 //!
 //! ```text
 //! TOML text ── toml ──> a table ── value, key by key ──> Config, or the first ConfigFault
 //! ```
 //!
-//! In `specs/` the configuration of a text is a function of its TOML table, key by key, and so is the
-//! first fault of a text that is refused.
+//! In `specs/` the configuration of a text is a function of its TOML table, key by key, and so is
+//! the first fault of a text that is refused.
 #![tactic(auto)]
 
 mod config;

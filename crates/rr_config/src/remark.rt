@@ -26,8 +26,8 @@ const NODE_KEYS: [&str; 13] = [
 
 /// What an operator is told of a text beside its configuration or its fault, a line each.
 ///
-/// Of a text that is refused that is the key and the reason. Of any other it is each key that is ignored, and that
-/// there is no `lead`. The cost is that of reading the text twice.
+/// Of a text that is refused that is the key and the reason. Of any other it is each key that is
+/// ignored, and that there is no `lead`. The cost is that of reading the text twice.
 pub fn remarks(alloc: Global, text: &[u8]) -> Result<Vec<String>, AllocError> {
     let mut lines = Vec::new(alloc);
     let Ok(text) = str::from_utf8(text) else {

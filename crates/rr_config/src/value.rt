@@ -16,14 +16,16 @@ use toml::{Table, Value};
 
 /// The value at a key, if it is there.
 pub(crate) fn find<'a>(table: &'a Table, key: &str) -> Option<&'a Value>
-    ensures { option_map (λ value. view value.now) result ≡ get_member key.now (table_view table.now) }
+    ensures { option_map (λ value. view value.now) result
+        ≡ get_member key.now (table_view table.now) }
 {
     table.get(key)
 }
 
 /// The value at a key that must be there.
 pub(crate) fn value_at<'a>(table: &'a Table, key: &str) -> Result<&'a Value, ConfigFault>
-    ensures { Gives (λ value. view value.now) result (needed (get_member key.now (table_view table.now))) }
+    ensures { Gives (λ value. view value.now) result
+        (needed (get_member key.now (table_view table.now))) }
 {
     find(table, key).ok_or(ConfigFault::MissingField)
 }

@@ -22,12 +22,15 @@ rest_below : (z : ℤ) (n : ℕ) → 0 < n → unsigned_abs (int_rem_euclid z (p
 rest_below (pos a) n some = omega arith
 rest_below (negsuc a) n some = omega arith
 
-pub place_below : (s : Layout) (archive : ℕ) (time : ℤ) → 0 < (archive_at s archive).steps → place_of s archive time < (archive_at s archive).steps
+pub place_below : (s : Layout) (archive : ℕ) (time : ℤ) → 0 < (archive_at s archive).steps
+    → place_of s archive time < (archive_at s archive).steps
 place_below s archive time some =
     let n = (archive_at s archive).steps in
-    subst (λ p. p < n) (rem_is_place s archive time some) (rest_below (int_div_euclid time (pos (s.step * 1_000_000_000))) n some)
+    subst (λ p. p < n) (rem_is_place s archive time some)
+    (rest_below (int_div_euclid time (pos (s.step * 1_000_000_000))) n some)
 
-pub some_steps : (s : Layout) → IsLayout s → (archive : ℕ) → archive < length s.archives → 0 < (archive_at s archive).steps
+pub some_steps : (s : Layout) → IsLayout s → (archive : ℕ) → archive < length s.archives
+    → 0 < (archive_at s archive).steps
 some_steps s is archive within =
     let past : ArchiveSpec = record { steps = 1; rows = 1; num = 0; den = 1 } in
     (is.each archive past within).some_step
@@ -53,7 +56,8 @@ times_mono zero a b h = rw (zero-*ℤ a, zero-*ℤ b) (le_zero (pos 0))
   where
     le_zero : (x : ℤ) → x ≤ℤ x
     le_zero x = omega (arith, ints)
-times_mono (suc n) a b h = rw (suc_ℤ-*ℤ (pos n) a, suc_ℤ-*ℤ (pos n) b) (sum_mono (pos n *ℤ a) (pos n *ℤ b) a b (times_mono n a b h) h)
+times_mono (suc n) a b h = rw (suc_ℤ-*ℤ (pos n) a, suc_ℤ-*ℤ (pos n) b)
+    (sum_mono (pos n *ℤ a) (pos n *ℤ b) a b (times_mono n a b h) h)
 
 -- one time more
 times-more : (n : ℕ) (a : ℤ) → pos (n + 1) *ℤ a ≡ (pos n *ℤ a) +ℤ a
@@ -65,7 +69,9 @@ one-*ℤ a = times-more 0 a ∙ ap (λ z. z +ℤ a) (zero-*ℤ a) ∙ +ℤ_idl a
 low_with : (n : ℕ) (least v sum : ℤ) → (pos n *ℤ least) ≤ℤ sum → (pos (n + 1) *ℤ int_min least v) ≤ℤ (sum +ℤ v)
 low_with n least v sum h =
     let m = int_min least v in
-    subst (λ z. z ≤ℤ (sum +ℤ v)) (sym (times-more n m)) (sum_mono (pos n *ℤ m) sum m v (le_chain _ _ _ (times_mono n m least (min_first least v)) h) (min_second least v))
+    subst (λ z. z ≤ℤ (sum +ℤ v)) (sym (times-more n m))
+    (sum_mono (pos n *ℤ m) sum m v (le_chain _ _ _ (times_mono n m least (min_first least v)) h)
+    (min_second least v))
   where
     min_first : (x y : ℤ) → int_min x y ≤ℤ x
     min_first x y = grind (arith, ints)
@@ -76,7 +82,8 @@ low_with n least v sum h =
 high_with : (n : ℕ) (most v sum : ℤ) → sum ≤ℤ (pos n *ℤ most) → (sum +ℤ v) ≤ℤ (pos (n + 1) *ℤ int_max most v)
 high_with n most v sum h =
     let m = int_max most v in
-    subst (λ z. (sum +ℤ v) ≤ℤ z) (sym (times-more n m)) (sum_mono sum (pos n *ℤ m) v m (le_chain _ _ _ h (times_mono n most m (max_first most v))) (max_second most v))
+    subst (λ z. (sum +ℤ v) ≤ℤ z) (sym (times-more n m))
+    (sum_mono sum (pos n *ℤ m) v m (le_chain _ _ _ h (times_mono n most m (max_first most v))) (max_second most v))
   where
     max_first : (x y : ℤ) → x ≤ℤ int_max x y
     max_first x y = grind (arith, ints)
@@ -86,13 +93,17 @@ high_with n most v sum h =
 
 -- ---- the last time and its place
 
-slot_with : (s : Layout) (archive : ℕ) (slot last time : ℤ) (b : Bool) → slot_of s archive last ≡ slot → slot_of s archive time ≡ slot → slot_of s archive (cond b last time) ≡ slot
+slot_with : (s : Layout) (archive : ℕ) (slot last time : ℤ) (b : Bool) → slot_of s archive last ≡ slot
+    → slot_of s archive time ≡ slot → slot_of s archive (cond b last time) ≡ slot
 slot_with s archive slot last time true p q = p
 slot_with s archive slot last time false p q = q
 
-place_with : (s : Layout) (archive mask place : ℕ) (last time : ℤ) (b : Bool) → bit_at mask (place_of s archive last) ≡ 1 → place ≡ place_of s archive time → bit_at (bit_or mask (2 ^ place)) (place_of s archive (cond b last time)) ≡ 1
+place_with : (s : Layout) (archive mask place : ℕ) (last time : ℤ) (b : Bool)
+    → bit_at mask (place_of s archive last) ≡ 1 → place ≡ place_of s archive time
+    → bit_at (bit_or mask (2 ^ place)) (place_of s archive (cond b last time)) ≡ 1
 place_with s archive mask place last time true has is = bit_kept mask place (place_of s archive last) has
-place_with s archive mask place last time false has is = subst (λ p. bit_at (bit_or mask (2 ^ place)) p ≡ 1) is (bit_set mask place)
+place_with s archive mask place last time false has is =
+    subst (λ p. bit_at (bit_or mask (2 ^ place)) p ≡ 1) is (bit_set mask place)
 
 -- ---- a sample more, and another
 
@@ -115,7 +126,9 @@ pub record Falls (s : Layout) (archive : ℕ) (slot : ℤ) (x : SlotSample) : Ty
   pub place : x.place ≡ place_of s archive x.time
   pub within : x.place < (archive_at s archive).steps
 
-pub with_sample_valid : (s : Layout) (archive : ℕ) (slot : ℤ) (c : Contribution) (x : SlotSample) → IsValid s archive slot c → Falls s archive slot x → c.version < x.number → IsValid s archive slot (with_sample c x)
+pub with_sample_valid : (s : Layout) (archive : ℕ) (slot : ℤ) (c : Contribution) (x : SlotSample)
+    → IsValid s archive slot c → Falls s archive slot x → c.version < x.number
+    → IsValid s archive slot (with_sample c x)
 with_sample_valid s archive slot c x v f newer =
     let counted = v.counted in
     let few = v.few in
@@ -136,7 +149,8 @@ with_sample_valid s archive slot c x v f newer =
       few = omega arith;
     }
 
-pub of_one_valid : (s : Layout) (archive : ℕ) (slot : ℤ) (x : SlotSample) → Falls s archive slot x → IsValid s archive slot (of_one x)
+pub of_one_valid : (s : Layout) (archive : ℕ) (slot : ℤ) (x : SlotSample) → Falls s archive slot x
+    → IsValid s archive slot (of_one x)
 of_one_valid s archive slot x f =
     let one = one_bit x.place in
     let some_number = f.some_number in
@@ -157,17 +171,22 @@ of_one_valid s archive slot x f =
     }
 
 -- a sample at its place falls into the slot of its time
-falls : (x : SlotSample) → 1 ≤ x.number → x.number ≤ MAX_NUMBER → (s : Layout) (archive : ℕ) → IsLayout s → archive < length s.archives → x.place ≡ place_of s archive x.time → Falls s archive (slot_of s archive x.time) x
+falls : (x : SlotSample) → 1 ≤ x.number → x.number ≤ MAX_NUMBER → (s : Layout) (archive : ℕ) → IsLayout s
+    → archive < length s.archives → x.place ≡ place_of s archive x.time → Falls s archive (slot_of s archive x.time) x
 falls x some known s archive is within at = record {
   some_number = some;
   known_number = known;
   in_slot = refl;
   place = at;
-  within = subst (λ p. p < (archive_at s archive).steps) (sym at) (place_below s archive x.time (some_steps s is archive within));
+  within = subst (λ p. p < (archive_at s archive).steps) (sym at)
+      (place_below s archive x.time (some_steps s is archive within));
 }
 
-pub keeps_valid : (c : Contribution) (x : SlotSample) → 1 ≤ x.number → x.number ≤ MAX_NUMBER → c.version < x.number → KeepsValid x c (with_sample c x)
-keeps_valid c x some known newer = λ s archive is within at v. with_sample_valid s archive (slot_of s archive x.time) c x v (falls x some known s archive is within at) newer
+pub keeps_valid : (c : Contribution) (x : SlotSample) → 1 ≤ x.number → x.number ≤ MAX_NUMBER → c.version < x.number
+    → KeepsValid x c (with_sample c x)
+keeps_valid c x some known newer = λ s archive is within at v. with_sample_valid s archive (slot_of s archive x.time) c
+    x v (falls x some known s archive is within at) newer
 
 pub starts_valid : (x : SlotSample) → 1 ≤ x.number → x.number ≤ MAX_NUMBER → StartsValid x (of_one x)
-starts_valid x some known = λ s archive is within at. of_one_valid s archive (slot_of s archive x.time) x (falls x some known s archive is within at)
+starts_valid x some known = λ s archive is within at. of_one_valid s archive (slot_of s archive x.time) x
+    (falls x some known s archive is within at)

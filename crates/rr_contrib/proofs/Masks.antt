@@ -46,12 +46,14 @@ or_assoc_below (suc n) a b c p q r =
     (half_or (bit_or a b) c ∙ ap (λ x. bit_or x (c / 2)) (half_or a b)
     ∙ or_assoc_below n (a / 2) (b / 2) (c / 2) (half_below n a p) (half_below n b q) (half_below n c r)
     ∙ sym (half_or a (bit_or b c) ∙ ap (bit_or (a / 2)) (half_or b c)))
-    (low_or (bit_or a b) c ∙ ap (λ x. max x (c % 2)) (low_or a b) ∙ or_max (a % 2) (b % 2) (c % 2) ∙ sym (low_or a (bit_or b c) ∙ ap (max (a % 2)) (low_or b c)))
+    (low_or (bit_or a b) c ∙ ap (λ x. max x (c % 2)) (low_or a b) ∙ or_max (a % 2) (b % 2) (c % 2)
+    ∙ sym (low_or a (bit_or b c) ∙ ap (max (a % 2)) (low_or b c)))
 
 or_assoc : (a b c : ℕ) → bit_or (bit_or a b) c ≡ bit_or a (bit_or b c)
 or_assoc a b c =
     let below = below_pow (a + b + c) in
-    or_assoc_below (a + b + c) a b c (lt_of_le_of_lt (omega arith) below) (lt_of_le_of_lt (omega arith) below) (lt_of_le_of_lt (omega arith) below)
+    or_assoc_below (a + b + c) a b c (lt_of_le_of_lt (omega arith) below) (lt_of_le_of_lt (omega arith) below)
+    (lt_of_le_of_lt (omega arith) below)
 
 pub or_swap : (a b c : ℕ) → bit_or a (bit_or b c) ≡ bit_or b (bit_or a c)
 or_swap a b c = sym (or_assoc a b c) ∙ ap (λ x. bit_or x c) (or_comm a b) ∙ or_assoc b a c
@@ -120,7 +122,8 @@ shifted_out mask steps e =
     let low = mod_below mask (2 ^ steps) (pow_pos steps) in
     omega arith
 
-pub shift_tells : (mask steps : ℕ) → (IsTrue (nat_eq (mask / 2 ^ steps) 0) → mask < 2 ^ steps) × (mask < 2 ^ steps → IsTrue (nat_eq (mask / 2 ^ steps) 0))
+pub shift_tells : (mask steps : ℕ) → (IsTrue (nat_eq (mask / 2 ^ steps) 0) → mask < 2 ^ steps)
+    × (mask < 2 ^ steps → IsTrue (nat_eq (mask / 2 ^ steps) 0))
 shift_tells mask steps = (
   (λ h. shifted_out mask steps (eqb-true (mask / 2 ^ steps) 0 h)),
   (λ h. eq-eqb (mask / 2 ^ steps) 0 (div-eq_of_lt h)),

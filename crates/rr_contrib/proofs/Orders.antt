@@ -19,5 +19,6 @@ sample_cmp-IsAntisymmetric a b e =
     let time : a.time ≡ b.time = int_cmp-IsAntisymmetric a.time b.time (first_Equal _ _ e) in
     let number : a.number ≡ b.number = nat_cmp-IsAntisymmetric a.number b.number (first_Equal _ _ e1) in
     let place : a.place ≡ b.place = nat_cmp-IsAntisymmetric a.place b.place (first_Equal _ _ e2) in
-    let value : a.value ≡ b.value = int_cmp-IsAntisymmetric a.value b.value (then_Equal (nat_cmp a.place b.place) _ e2) in
+    let value : a.value ≡ b.value = int_cmp-IsAntisymmetric a.value b.value
+    (then_Equal (nat_cmp a.place b.place) _ e2) in
     λ j. record { number = number j; place = place j; time = time j; value = value j }

@@ -31,7 +31,8 @@ contribution_cmp-IsAntisymmetric a b e =
     let most : a.max ≡ b.max = int_cmp-IsAntisymmetric a.max b.max (first_Equal _ _ e4) in
     let time : a.last_time ≡ b.last_time = int_cmp-IsAntisymmetric a.last_time b.last_time (first_Equal _ _ e5) in
     let value : a.last_value ≡ b.last_value = int_cmp-IsAntisymmetric a.last_value b.last_value (first_Equal _ _ e6) in
-    let mask : a.mask ≡ b.mask = nat_cmp-IsAntisymmetric a.mask b.mask (then_Equal (int_cmp a.last_value b.last_value) _ e6) in
+    let mask : a.mask ≡ b.mask = nat_cmp-IsAntisymmetric a.mask b.mask
+    (then_Equal (int_cmp a.last_value b.last_value) _ e6) in
     λ j. record {
       version = version j;
       count = count j;

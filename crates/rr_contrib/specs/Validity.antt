@@ -51,7 +51,8 @@ is_valid s archive slot c =
 
 -- the test says whether the contribution is valid
 abbrev pub ValidityIsTested : Type 0
-ValidityIsTested = (s : Layout) (archive : ℕ) (slot : ℤ) (c : Contribution) → IsTrue (is_valid s archive slot c) ↔ IsValid s archive slot c
+ValidityIsTested = (s : Layout) (archive : ℕ) (slot : ℤ) (c : Contribution)
+    → IsTrue (is_valid s archive slot c) ↔ IsValid s archive slot c
 
 -- in each archive where the sample has this place, its contribution is valid in its slot
 abbrev pub StartsValid : SlotSample → Contribution → Type 0

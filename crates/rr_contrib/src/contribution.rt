@@ -140,13 +140,15 @@ impl Contribution {
     }
 
     fn has_counts(&self) -> bool
-        ensures { IsTrue result ↔ ((1 ≤ self.now.count) × (self.now.count ≤ self.now.version) × (self.now.version ≤ MAX_NUMBER)) }
+        ensures { IsTrue result ↔ ((1 ≤ self.now.count) × (self.now.count ≤ self.now.version)
+            × (self.now.version ≤ MAX_NUMBER)) }
     {
         1 <= self.count && self.count <= self.version && self.version <= MAX_NUMBER
     }
 
     fn has_last_between(&self) -> bool
-        ensures { IsTrue result ↔ ((self.now.min ≤ℤ self.now.last_value) × (self.now.last_value ≤ℤ self.now.max)) }
+        ensures { IsTrue result ↔ ((self.now.min ≤ℤ self.now.last_value)
+            × (self.now.last_value ≤ℤ self.now.max)) }
     {
         self.min <= self.last_value && self.last_value <= self.max
     }
@@ -176,7 +178,8 @@ impl Contribution {
     }
 
     fn has_places(&self, steps: u32, place: u32) -> bool
-        ensures { IsTrue result ↔ ((self.now.mask < 2 ^ steps) × (bit_at self.now.mask place ≡ 1) × (count_ones self.now.mask ≤ self.now.count)) }
+        ensures { IsTrue result ↔ ((self.now.mask < 2 ^ steps) × (bit_at self.now.mask place ≡ 1)
+            × (count_ones self.now.mask ≤ self.now.count)) }
     {
         is_within(self.mask, steps)
             && has_place(self.mask, place)

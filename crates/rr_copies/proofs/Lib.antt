@@ -2,4 +2,4 @@ pub mod PrefixLemmas
 pub mod EditionsLemmas
 pub mod ChangesLemmas
 pub mod RuleLemmas
-pub mod StandingLemmas
+pub mod KeeperStateLemmas

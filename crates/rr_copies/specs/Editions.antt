@@ -5,7 +5,7 @@ use Rattle.logbook.specs.Pages.{Cell, Step, View, Book, Named}
 use Rattle.rr_cells.specs.declared.op.Op.{Op}
 
 -- the editions of a desk's book, as far as they were seen
-pub record Sighting : Type 0 where
+pub record BookFront : Type 0 where
   pub desk : Book
   pub editions : List (List Op)
 

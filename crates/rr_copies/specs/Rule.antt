@@ -1,4 +1,5 @@
--- The rule of the two copies: what readers have seen and were told, and what the keeper has published, are beginnings of
+-- The rule of the two copies: what readers have seen and were told, and what the keeper has published, are beginnings
+-- of
 -- one list.
 use Rattle.std.specs.Prelude.{◌≡◌, ℕ, true, false, ◌||◌, if◌then◌else◌, List, [], ◌++◌}
 use mathlib.Core.Option.{some}
@@ -7,7 +8,7 @@ use lib.ListN.{get_elem?}
 use Rattle.logbook.specs.Pages.{Book}
 use Rattle.rr_schema.specs.Schema.{Layout}
 use Rattle.rr_cells.specs.declared.op.Op.{Op}
-use Rattle.rr_cells.specs.Holding.{Holding}
+use Rattle.rr_cells.specs.ReplicaState.{ReplicaState}
 use Rattle.rr_cells.specs.Operations.{joins_of, outcome_of}
 use Rattle.rr_copies.specs.declared.rule.View.{View}
 use Rattle.rr_copies.specs.declared.shown.CopyState.{CopyState}
@@ -74,7 +75,7 @@ pub record Sees (v : View) (x : CopyState) (w : View) : Type 0 where
   pub same : IsSameSeat v w
 
 -- the keeper's view when it opens a desk with what a replica holds
-abbrev pub keeper_of : Holding → Book → View
+abbrev pub keeper_of : ReplicaState → Book → View
 keeper_of h b = record { writes = true; joined = true; schema = h.schema; desk = b; seen = joins_of h.cells; told = [] }
 
 -- a view with more operations published

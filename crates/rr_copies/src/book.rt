@@ -1,8 +1,8 @@
 //! The book of a desk: what each edition adds. Only the number of editions is in memory.
 //!
 //! An edition is what one publication adds. [`Editions`], which the keeper owns, counts them in one
-//! word; a [`Front`] is a beginning of the book that was seen. It may go to any thread, and two of them
-//! can be compared: of two beginnings of one list the shorter begins the longer.
+//! word; a [`Front`] is a beginning of the book that was seen. It may go to any thread, and two of
+//! them can be compared: of two beginnings of one list the shorter begins the longer.
 ghost use Rattle.std.specs.Prelude.{◌≡◌, [], ◌∷◌, ◌++◌, length, nat_le, IsTrue, IfOk, OnErr, OnOk};
 ghost use mathlib.Core.List.{IsPrefix};
 ghost use Rattle.rr_copies.specs.Editions.{head_of};
@@ -102,9 +102,9 @@ pub struct Front {
 
 impl Model for Front {
     ghost use Rattle.std.specs.Prelude.{◌≡◌, length};
-    ghost use Rattle.rr_copies.specs.Editions.{Sighting};
+    ghost use Rattle.rr_copies.specs.Editions.{BookFront};
 
-    ghost Value = { Sighting };
+    ghost Value = { BookFront };
 
     ghost view = { λ f. record { desk = f.seen.book; editions = f.seen.log } };
 
@@ -122,7 +122,8 @@ impl Front {
         }
     }
 
-    /// Whether another front of the same book begins with this one, as it does where it isn't shorter.
+    /// Whether another front of the same book begins with this one, as it does where it isn't
+    /// shorter.
     pub fn begins(&self, other: &Front) -> bool
         requires { self.now.desk ≡ other.now.desk }
         ensures length { result ≡ nat_le (length self.now.editions) (length other.now.editions) }
@@ -133,8 +134,8 @@ impl Front {
         self.count <= other.count
     }
 
-    /// This front and an edition more, which the word counts too. Refused where the word has counted
-    /// another one, or can count no more.
+    /// This front and an edition more, which the word counts too. Refused where the word has
+    /// counted another one, or can count no more.
     fn next<K: Batch>(&self, head: &Word<LinkedList<Op>, u64, Law>) -> Result<Front, AllocError>
         requires { head.now ≡ head_of self.now.desk }
         ensures { IfOk result (λ f.
@@ -171,9 +172,9 @@ pub struct Editions {
 
 impl Model for Editions {
     ghost use Rattle.std.specs.Prelude.{◌≡◌};
-    ghost use Rattle.rr_copies.specs.Editions.{Sighting, head_of};
+    ghost use Rattle.rr_copies.specs.Editions.{BookFront, head_of};
 
-    ghost Value = { Sighting };
+    ghost Value = { BookFront };
 
     ghost view = { λ b. b.front };
 
@@ -199,8 +200,8 @@ impl Editions {
         self.front.again()
     }
 
-    /// Adds an edition. It could be refused only where another keeper had added one to this book, or
-    /// where 2^64 - 1 have been added.
+    /// Adds an edition. It could be refused only where another keeper had added one to this book,
+    /// or where 2^64 - 1 have been added.
     pub fn add<K: Batch>(&mut self) -> Result<(), AllocError>
         ensures added { OnOk result (self.new
             ≡ record { desk = self.old.desk; editions = self.old.editions ++ K.batch ∷ [] }) }

@@ -1,17 +1,17 @@
 //! A keeper's replica beside its two published copies.
 ghost use Rattle.std.specs.Prelude.{◌≡◌, [], true, OnErr, OnOk};
 ghost use Rattle.left_right.specs.Sides.{view};
-ghost use Rattle.rr_cells.specs.Holding.{IsHolding};
+ghost use Rattle.rr_cells.specs.ReplicaState.{IsReplicaState};
 ghost use Rattle.rr_cells.specs.Operations.{accepts, joins_of};
-ghost use Rattle.rr_replica.specs.Standing.{held};
+ghost use Rattle.rr_replica.specs.ReplicaWithRoom.{replica_state};
 ghost use Rattle.rr_copies.specs.Editions.{flat};
 ghost use Rattle.rr_copies.specs.Rule.{keeper_of};
-ghost use Rattle.rr_copies.specs.Standing.{cells_of, holding_of, keeper_at_opening, with_all_published, with_pending};
+ghost use Rattle.rr_copies.specs.KeeperState.{cells_of, own_replica, keeper_at_opening, with_all_published, with_pending};
 ghost use Rattle.rr_copies.specs.Writers.{changes};
 
 use crate::book::{Editions, Front};
 use crate::shown::{Change, CopyState, Hinted, Shown};
-use crate::writing::{DeskWriter, mark, publish};
+use crate::writing::{DeskWriter, end_edition, publish};
 use core::mem::replace_with;
 use left_right::Absorb;
 use rr_archive::Cells;
@@ -21,8 +21,8 @@ use std::alloc::{AllocError, Global};
 use std::marker::Model;
 use std::sync::Wait;
 
-/// A keeper's replica, with all operations, published or pending, and the two copies that readers read in
-/// turn, with what is published.
+/// A keeper's replica, with all operations, published or pending, and the two copies that readers
+/// read in turn, with what is published.
 ///
 /// It is not `Drop`: it ends by [`Copies::close`].
 pub struct Copies<A: Cells>
@@ -34,19 +34,19 @@ where
     own: Replica<A>,
     book: Editions,
     /// Whether the last pending change is a mark of the whole book.
-    marked: bool,
+    ended: bool,
 }
 
 impl<A: Cells> Model for Copies<A>
 where
     Shown<A>: Absorb<Change, State = CopyState>,
 {
-    ghost use Rattle.rr_copies.specs.Standing.{KeeperState, IsKeeper};
+    ghost use Rattle.rr_copies.specs.KeeperState.{KeeperState, IsKeeper};
 
     ghost Value = { KeeperState };
 
     ghost use Rattle.left_right.specs.Sides.{view as seat_view};
-    ghost use Rattle.rr_replica.specs.Standing.{held};
+    ghost use Rattle.rr_replica.specs.ReplicaWithRoom.{replica_state};
     ghost use Rattle.rr_copies.specs.Changes.{ops_in};
     ghost use Rattle.rr_copies.specs.Writers.{changes};
 
@@ -60,33 +60,33 @@ where
     } };
 
     ghost invariant = { λ k. IsKeeper (seat_view k.writer.desk.place)
-        (held k.writer.desk.shown.value.replica) (held k.own)
-        k.writer.desk.shown.value.front k.book (changes k.writer) k.marked };
+        (replica_state k.writer.desk.shown.value.replica) (replica_state k.own)
+        k.writer.desk.shown.value.front k.book (changes k.writer) k.ended };
 }
 
 impl<A: Cells> Copies<A> {
     /// A replica beside its two copies, which are opened, with their book.
     pub fn new(alloc: Global, writer: DeskWriter<A>, own: Replica<A>, book: Editions) -> Copies<A>
-        requires holds { IsHolding (held own) }
-        requires view { view writer.desk.place ≡ keeper_of (held own) book.desk }
-        requires copy { held writer.desk.shown.value.replica ≡ held own }
+        requires holds { IsReplicaState (replica_state own) }
+        requires view { view writer.desk.place ≡ keeper_of (replica_state own) book.desk }
+        requires copy { replica_state writer.desk.shown.value.replica ≡ replica_state own }
         requires front { writer.desk.shown.value.front ≡ book }
         requires pending { changes writer ≡ [] }
         requires book { flat book.editions ≡ joins_of own.cells }
-        ensures { result ≡ keeper_at_opening (held own) book.desk }
+        ensures { result ≡ keeper_at_opening (replica_state own) book.desk }
     {
         Copies {
             alloc,
             writer,
             own,
             book,
-            marked: false,
+            ended: false,
         }
     }
 
     /// The keeper's replica.
     pub fn replica(&self) -> &Replica<A>
-        ensures holding { held result.now ≡ holding_of self.now }
+        ensures state { replica_state result.now ≡ own_replica self.now }
         ensures cells { result.now.cells ≡ cells_of self.now }
         ensures next { result.now.next ≡ self.now.next }
         ensures origin { result.now.origin ≡ self.now.origin }
@@ -98,7 +98,7 @@ impl<A: Cells> Copies<A> {
     /// Makes an operation pending that the replica takes, and applies it there. Room is
     /// made first, so that it is taken whole or not at all.
     pub fn push(&mut self, hint: Hint, op: Op) -> Result<(), AllocError>
-        requires { accepts (holding_of self.old) op ≡ true }
+        requires { accepts (own_replica self.old) op ≡ true }
         ensures pending { OnOk result (self.new ≡ with_pending self.old op) }
         ensures unchanged { OnErr result (self.new ≡ self.old) }
     {
@@ -108,22 +108,23 @@ impl<A: Cells> Copies<A> {
             return Err(AllocError);
         }
         self.own.apply_near(hint, &op)?;
-        self.marked = false;
+        self.ended = false;
         Ok(())
     }
 
-    /// Shows readers all pending operations, at one step. It waits for readers that are still in the
-    /// copy that is not shown. Where it is refused, nothing has changed, and readers see what they saw.
+    /// Shows readers all pending operations, at one step. It waits for readers that are still in
+    /// the copy that is not shown. Where it is refused, nothing has changed, and readers see what
+    /// they saw.
     ///
     /// The cost is that of applying the operations to each copy once, however large the replica is.
     pub fn publish<R: Wait>(&mut self, rt: &R) -> Result<(), AllocError>
         ensures published { OnOk result (self.new ≡ with_all_published self.old) }
         ensures unchanged { OnErr result (self.new ≡ self.old) }
     {
-        mark(&mut self.book, &mut self.writer, self.marked)?;
-        self.marked = true;
+        end_edition(&mut self.book, &mut self.writer, self.ended)?;
+        self.ended = true;
         replace_with(&mut self.writer, rt, |writer, rt| publish(rt, writer))?;
-        self.marked = false;
+        self.ended = false;
         Ok(())
     }
 
@@ -137,14 +138,14 @@ impl<A: Cells> Copies<A> {
 
     /// Gives the replica. It waits for readers that are in a copy; after it no reader enters.
     pub fn close<R: Wait>(self, rt: &R) -> Replica<A>
-        ensures { held result ≡ holding_of self }
+        ensures { replica_state result ≡ own_replica self }
     {
         let Copies {
             alloc: _,
             writer,
             own,
             book: _,
-            marked: _,
+            ended: _,
         } = self;
         drop(writer.take(rt));
         own

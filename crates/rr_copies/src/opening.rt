@@ -2,13 +2,13 @@
 ghost use Rattle.std.specs.Prelude.{◌≡◌, ◌≤◌, [], ◌∷◌, false, IfOk, OnOk};
 ghost use Rattle.left_right.specs.Sides.{view};
 ghost use Rattle.rr_text.specs.declared.limits.TheConstants.{MAX_READERS};
-ghost use Rattle.rr_cells.specs.Holding.{IsHolding};
+ghost use Rattle.rr_cells.specs.ReplicaState.{IsReplicaState};
 ghost use Rattle.rr_cells.specs.Operations.{joins_of};
-ghost use Rattle.rr_replica.specs.Standing.{held};
+ghost use Rattle.rr_replica.specs.ReplicaWithRoom.{replica_state};
 ghost use Rattle.rr_copies.specs.Editions.{flat};
 ghost use Rattle.rr_copies.specs.Rule.{keeper_of};
 ghost use Rattle.rr_copies.specs.Writers.{changes};
-ghost use Rattle.rr_copies.specs.declared.shown.Change.TheVariants.{Mark};
+ghost use Rattle.rr_copies.specs.declared.shown.Change.TheVariants.{Edition};
 
 use crate::book::{Batch, Editions};
 use crate::shown::{Change, Shown};
@@ -49,7 +49,7 @@ fn unopened<A: Cells>(
     replica: &Replica<A>,
     book: &Editions,
 ) -> Result<Shown<A>, AllocError>
-    ensures replica { IfOk result (λ copy. held copy.replica ≡ held replica.now) }
+    ensures replica { IfOk result (λ copy. replica_state copy.replica ≡ replica_state replica.now) }
     ensures unopened { IfOk result (λ copy. copy.started ≡ false) }
     ensures front { IfOk result (λ copy. copy.front ≡ book.now) }
 {
@@ -75,7 +75,8 @@ fn unopened_writer<A: Cells>(
 ) -> Result<DeskWriter<A>, AllocError>
     requires some_reader { 1 ≤ readers }
     requires few_readers { readers ≤ MAX_READERS }
-    ensures copy { IfOk result (λ w. held w.desk.shown.value.replica ≡ held replica.now) }
+    ensures copy { IfOk result (λ w. replica_state w.desk.shown.value.replica
+        ≡ replica_state replica.now) }
     ensures unopened { IfOk result (λ w. w.desk.shown.value.started ≡ false) }
     ensures pending { IfOk result (λ w. changes w ≡ []) }
 {
@@ -95,14 +96,15 @@ fn marked_writer<A: Cells, R: Wait>(
     requires some_reader { 1 ≤ readers }
     requires few_readers { readers ≤ MAX_READERS }
     requires fresh { book.old.editions ≡ [] }
-    ensures copy { IfOk result (λ w. held w.desk.shown.value.replica ≡ held replica.now) }
+    ensures copy { IfOk result (λ w. replica_state w.desk.shown.value.replica
+        ≡ replica_state replica.now) }
     ensures unopened { IfOk result (λ w. w.desk.shown.value.started ≡ false) }
-    ensures pending { IfOk result (λ w. changes w ≡ Mark book.new ∷ []) }
+    ensures pending { IfOk result (λ w. changes w ≡ Edition book.new ∷ []) }
     ensures book { OnOk result (flat book.new.editions ≡ joins_of replica.now.cells) }
 {
     first_edition(book, replica)?;
     let mut writer = unopened_writer(alloc, replica, readers, &*book)?;
-    match writer.append(Change::Mark(book.front())) {
+    match writer.append(Change::Edition(book.front())) {
         Ok(()) => Ok(writer),
         Err(_) => Err(discard(writer, rt)),
     }
@@ -119,9 +121,11 @@ pub fn started_writer<A: Cells, R: Wait>(
     requires some_reader { 1 ≤ readers }
     requires few_readers { readers ≤ MAX_READERS }
     requires fresh { book.old.editions ≡ [] }
-    ensures holds { OnOk result (IsHolding (held replica.now)) }
-    ensures view { IfOk result (λ w. view w.desk.place ≡ keeper_of (held replica.now) book.new.desk) }
-    ensures copy { IfOk result (λ w. held w.desk.shown.value.replica ≡ held replica.now) }
+    ensures holds { OnOk result (IsReplicaState (replica_state replica.now)) }
+    ensures view { IfOk result (λ w. view w.desk.place
+        ≡ keeper_of (replica_state replica.now) book.new.desk) }
+    ensures copy { IfOk result (λ w. replica_state w.desk.shown.value.replica
+        ≡ replica_state replica.now) }
     ensures front { IfOk result (λ w. w.desk.shown.value.front ≡ book.new) }
     ensures pending { IfOk result (λ w. changes w ≡ []) }
     ensures book { OnOk result (flat book.new.editions ≡ joins_of replica.now.cells) }

@@ -30,10 +30,10 @@ pub struct View {
 pub struct Published;
 
 impl<A: Cells> Protocol<Shown<A>, View> for Published {
-    ghost use Rattle.rr_replica.specs.Standing.{held};
+    ghost use Rattle.rr_replica.specs.ReplicaWithRoom.{replica_state};
     ghost use Rattle.rr_copies.specs.Rule.{Keeps, newcomer};
 
-    ghost holds = { λ x. Keeps (record { held = held x.replica; started = x.started; front = x.front }) };
+    ghost holds = { λ x. Keeps (record { held = replica_state x.replica; started = x.started; front = x.front }) };
 
     ghost first = { newcomer };
 }
@@ -42,10 +42,10 @@ impl<A: Cells> Protocol<Shown<A>, View> for Published {
 pub struct Enters;
 
 impl<A: Cells> Outcome<Shown<A>, View> for Enters {
-    ghost use Rattle.rr_replica.specs.Standing.{held};
+    ghost use Rattle.rr_replica.specs.ReplicaWithRoom.{replica_state};
     ghost use Rattle.rr_copies.specs.Rule.{Sees};
 
-    ghost then = { λ v x y w. Sees v (record { held = held y.replica; started = y.started; front = y.front }) w };
+    ghost then = { λ v x y w. Sees v (record { held = replica_state y.replica; started = y.started; front = y.front }) w };
 }
 
 /// The first publication: one join for each cell.
@@ -53,10 +53,10 @@ pub struct Opens;
 
 impl<A: Cells> Outcome<Shown<A>, View> for Opens {
     ghost use Rattle.std.specs.Prelude.{◌≡◌};
-    ghost use Rattle.rr_replica.specs.Standing.{held};
+    ghost use Rattle.rr_replica.specs.ReplicaWithRoom.{replica_state};
     ghost use Rattle.rr_copies.specs.Rule.{keeper_of};
 
-    ghost then = { λ v x y w. w ≡ keeper_of (held x.replica) y.front.desk };
+    ghost then = { λ v x y w. w ≡ keeper_of (replica_state x.replica) y.front.desk };
 }
 
 /// A publication: the batch comes after what was published before.

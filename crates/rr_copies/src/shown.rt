@@ -9,8 +9,8 @@ use rr_schema::{Origin, Schema};
 use std::alloc::{AllocError, Global};
 use std::marker::Model;
 
-/// An operation as it waits for the copies. Most are samples, and a cell is many times as large as a
-/// sample: so that no sample takes the memory of one, cells are elsewhere.
+/// An operation as it waits for the copies. Most are samples, and a cell is many times as large as
+/// a sample: so that no sample takes the memory of one, cells are elsewhere.
 #[derive(Drop)]
 enum Waiting {
     /// A sample is put under its number.
@@ -39,7 +39,7 @@ impl Model for Hinted {
 impl Hinted {
     ghost use Rattle.std.specs.Prelude.{◌≡◌, IfOk, OnErr, OnOk};
     ghost use Rattle.rr_cells.specs.Operations.{step};
-    ghost use Rattle.rr_replica.specs.Standing.{held};
+    ghost use Rattle.rr_replica.specs.ReplicaWithRoom.{replica_state};
 
     /// The same operation, with a hint. The key's bytes are shared; for a cell memory is taken.
     pub fn of(alloc: Global, hint: Hint, op: &Op) -> Result<Hinted, AllocError>
@@ -54,8 +54,9 @@ impl Hinted {
 
     /// Applies it to a replica, if that takes it. After an error nothing has changed.
     fn apply_to<A: Cells>(&self, replica: &mut Replica<A>) -> Result<(), AllocError>
-        ensures applied { OnOk result (held replica.new ≡ step (held replica.old) self.now) }
-        ensures unchanged { OnErr result (held replica.new ≡ held replica.old) }
+        ensures applied { OnOk result (replica_state replica.new
+            ≡ step (replica_state replica.old) self.now) }
+        ensures unchanged { OnErr result (replica_state replica.new ≡ replica_state replica.old) }
     {
         match &self.op {
             Waiting::Put(sample) => replica.apply_sample(self.hint, sample)?,
@@ -71,7 +72,7 @@ pub enum Change {
     /// An operation.
     Apply(Hinted),
     /// The copy then has all that is in the book so far, and may be read.
-    Mark(Front),
+    Edition(Front),
 }
 
 /// A copy of the replica, with the editions of the book that it has.
@@ -94,11 +95,11 @@ pub struct Held {
 
 impl Model for Held {
     ghost use Rattle.std.specs.FinMap.{empty};
-    ghost use Rattle.rr_cells.specs.Holding.{Holding, coded_holding};
+    ghost use Rattle.rr_cells.specs.ReplicaState.{ReplicaState, coded_replica_state};
 
-    ghost Value = { Holding };
+    ghost Value = { ReplicaState };
 
-    ghost coded = { coded_holding };
+    ghost coded = { coded_replica_state };
 
     ghost view = { λ h. record { schema = h.schema; origin = h.origin; next = h.next; cells = empty } };
 }
@@ -106,7 +107,7 @@ impl Model for Held {
 /// What the two copies have in common. No value of it is made.
 pub struct CopyState {
     /// What the replica holds.
-    pub held: Held,
+    pub replica_state: Held,
     /// Whether it has been opened for readers.
     pub started: bool,
     /// The editions that it has.
@@ -115,18 +116,18 @@ pub struct CopyState {
 
 impl<A: Cells> Absorb<Change> for Shown<A> {
     ghost use Rattle.rr_copies.specs.Changes.{copy_after};
-    ghost use Rattle.rr_replica.specs.Standing.{held};
+    ghost use Rattle.rr_replica.specs.ReplicaWithRoom.{replica_state};
 
     type State = CopyState;
 
-    ghost state = { λ s. record { held = held s.replica; started = s.started; front = s.front } };
+    ghost state = { λ s. record { held = replica_state s.replica; started = s.started; front = s.front } };
 
     ghost applied = { copy_after };
 
     fn absorb_first(&mut self, operation: &Change, _other: &Shown<A>) -> Result<(), AllocError> {
         match operation {
             Change::Apply(hinted) => hinted.apply_to(&mut self.replica)?,
-            Change::Mark(front) => {
+            Change::Edition(front) => {
                 self.started = true;
                 self.front = front.again();
             }

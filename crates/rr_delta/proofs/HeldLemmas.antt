@@ -8,7 +8,7 @@ use Rattle.std.specs.Ordering.{is_lt}
 use Rattle.rr_model.specs.CellNames.{CellName, cell_name_cmp}
 use Rattle.rr_cells.specs.declared.cell.Cell.{Cell}
 use Rattle.rr_cells.specs.CellBounds.{NamedCell, IsCellOf}
-use Rattle.rr_cells.specs.Holding.{IsHolding, Holding}
+use Rattle.rr_cells.specs.ReplicaState.{IsReplicaState, ReplicaState}
 use Rattle.rr_cells.specs.Listing.{owned_cell}
 use Rattle.rr_replica.proofs.Counted.{take_all}
 use Rattle.rr_cells.proofs.HeldCells.{listed_held}
@@ -32,10 +32,11 @@ module _ {X Y : Type 0} (P : Y → Type 0) (f : X → Y) where
 module _ {X : Type 0} (P : X → Type 0) where
   pub all_filtered : (test : X → Bool) (xs : List X) → AllByRecursion P xs → AllByRecursion P (filter test xs)
   all_filtered test [] all = tt
-  all_filtered test (x ∷ xs) all = elim (test x) as (λ b. AllByRecursion P (cond b (x ∷ filter test xs) (filter test xs))) [
-    | true ↦ (all.0, all_filtered test xs all.1)
-    | false ↦ all_filtered test xs all.1
-  ]
+  all_filtered test (x ∷ xs) all = elim (test x) as
+      (λ b. AllByRecursion P (cond b (x ∷ filter test xs) (filter test xs))) [
+        | true ↦ (all.0, all_filtered test xs all.1)
+        | false ↦ all_filtered test xs all.1
+      ]
 
   pub all_dropped : (n : ℕ) (xs : List X) → AllByRecursion P xs → AllByRecursion P (drop n xs)
   all_dropped zero [] all = all
@@ -54,12 +55,13 @@ same [] = refl
 same (e ∷ es) = ap (λ l. e ∷ l) (same es)
 
 -- each cell that a replica holds is one of its schema
-pub all_held : (h : Holding) → IsHolding h → AllByRecursion (IsCellOf h.schema) (entries h.cells)
+pub all_held : (h : ReplicaState) → IsReplicaState h → AllByRecursion (IsCellOf h.schema) (entries h.cells)
 all_held h holds =
     subst (AllByRecursion (IsCellOf h.schema)) (same (entries h.cells))
     (all_mapped (IsCellOf h.schema) owned_cell (map as_cell (entries h.cells))
     (recursion_from_All _ (map as_cell (entries h.cells))
-    (listed_held h 0 (length (entries h.cells)) (map as_cell (entries h.cells)) holds (same (entries h.cells) ∙ sym (take_all (entries h.cells) (length (entries h.cells)) (omega arith))))))
+    (listed_held h 0 (length (entries h.cells)) (map as_cell (entries h.cells)) holds
+    (same (entries h.cells) ∙ sym (take_all (entries h.cells) (length (entries h.cells)) (omega arith))))))
 
 -- its name and version are those of a cell of the schema
 name_of_cell : (s : Layout) (e : NamedCell) → IsCellOf s e → IsNameOf s (named_version e)
@@ -72,19 +74,26 @@ name_of_cell s e is = record {
   version_at_most = is.valid.numbered;
 }
 
-pub named_all : (s : Layout) (es : List NamedCell) → AllByRecursion (IsCellOf s) es → AllByRecursion (IsNameOf s) (map named_version es)
+pub named_all : (s : Layout) (es : List NamedCell) → AllByRecursion (IsCellOf s) es
+    → AllByRecursion (IsNameOf s) (map named_version es)
 named_all s [] all = tt
 named_all s (e ∷ es) all = (name_of_cell s e all.0, named_all s es all.1)
 
 -- so are names that are listed of these
-pub names_held : {E : Type 0} (s : Layout) (r : Result (Vec Name) E) (vs : List NamedVersion) → AllByRecursion (IsNameOf s) vs → IfOk r (λ names. map owned_name names.items ≡ vs) → IfOk r (λ names. All (λ n. IsNameOf s (owned_name n)) names.items)
-names_held s (Ok names) vs all is = All-from_recursion _ names.items (all_before (IsNameOf s) owned_name names.items (subst (AllByRecursion (IsNameOf s)) (sym is) all))
+pub names_held : {E : Type 0} (s : Layout) (r : Result (Vec Name) E) (vs : List NamedVersion)
+    → AllByRecursion (IsNameOf s) vs → IfOk r (λ names. map owned_name names.items ≡ vs)
+    → IfOk r (λ names. All (λ n. IsNameOf s (owned_name n)) names.items)
+names_held s (Ok names) vs all is = All-from_recursion _ names.items
+    (all_before (IsNameOf s) owned_name names.items (subst (AllByRecursion (IsNameOf s)) (sym is) all))
 names_held s (Err fault) vs all is = tt
 
-pub after_held : (s : Layout) (n : Option CellName) (es : List NamedCell) → AllByRecursion (IsCellOf s) es → AllByRecursion (IsCellOf s) (cells_after n es)
+pub after_held : (s : Layout) (n : Option CellName) (es : List NamedCell) → AllByRecursion (IsCellOf s) es
+    → AllByRecursion (IsCellOf s) (cells_after n es)
 after_held s None es all = all
 after_held s (Some n) es all = all_filtered (IsCellOf s) (λ e. is_lt (cell_name_cmp n e.0)) es all
 
 -- and cells
-pub cells_held : (s : Layout) (cells : List Cell) (es : List NamedCell) → AllByRecursion (IsCellOf s) es → map owned_cell cells ≡ es → All (λ c. IsCellOf s (owned_cell c)) cells
-cells_held s cells es all is = All-from_recursion _ cells (all_before (IsCellOf s) owned_cell cells (subst (AllByRecursion (IsCellOf s)) (sym is) all))
+pub cells_held : (s : Layout) (cells : List Cell) (es : List NamedCell) → AllByRecursion (IsCellOf s) es
+    → map owned_cell cells ≡ es → All (λ c. IsCellOf s (owned_cell c)) cells
+cells_held s cells es all is = All-from_recursion _ cells
+    (all_before (IsCellOf s) owned_cell cells (subst (AllByRecursion (IsCellOf s)) (sym is) all))

@@ -15,7 +15,8 @@ use Rattle.rr_delta.specs.Difference.{IsSummary}
 abbrev pub listed_so_far : List NamedVersion → ℕ → List NamedCell → List NamedVersion
 listed_so_far front n left = front ++ take n (map named_version left)
 
-pub one_listed : (front : List NamedVersion) (count i : ℕ) (e : NamedCell) (left : List NamedCell) → i < count → listed_so_far (front ++ named_version e ∷ []) (count - (i + 1)) left ≡ listed_so_far front (count - i) (e ∷ left)
+pub one_listed : (front : List NamedVersion) (count i : ℕ) (e : NamedCell) (left : List NamedCell) → i < count
+    → listed_so_far (front ++ named_version e ∷ []) (count - (i + 1)) left ≡ listed_so_far front (count - i) (e ∷ left)
 one_listed front count i e left lt =
     append_assoc front (named_version e ∷ []) (take (count - (i + 1)) (map named_version left))
     ∙ ap (λ n. front ++ take n (map named_version (e ∷ left))) (one_less count i lt)
@@ -23,8 +24,10 @@ one_listed front count i e left lt =
     one_less : (m k : ℕ) → k < m → suc (m - (k + 1)) ≡ m - k
     one_less m k h = omega arith
 
-pub all_listed : (front : List NamedVersion) (count i : ℕ) (left : List NamedCell) → count ≤ i → listed_so_far front (count - i) left ≡ front
-all_listed front count i left le = ap (λ n. front ++ take n (map named_version left)) none ∙ ap (λ l. front ++ l) (nothing (map named_version left)) ∙ append-nil front
+pub all_listed : (front : List NamedVersion) (count i : ℕ) (left : List NamedCell) → count ≤ i
+    → listed_so_far front (count - i) left ≡ front
+all_listed front count i left le = ap (λ n. front ++ take n (map named_version left)) none
+    ∙ ap (λ l. front ++ l) (nothing (map named_version left)) ∙ append-nil front
   where
     none : count - i ≡ 0
     none = omega arith
@@ -41,6 +44,7 @@ pub none_taken : {X : Type 0} (n : ℕ) (xs : List X) → xs ≡ [] → take n x
 none_taken n xs is = ap (take n) is ∙ take-nil n
 
 -- names that are listed in order are a summary
-pub names_ascend : {E : Type 0} (r : Result (Vec Name) E) (vs : List NamedVersion) → T (is_sorted cell_name_cmp vs) → IfOk r (λ names. map owned_name names.items ≡ vs) → IfOk r (λ names. IsSummary (map owned_name names.items))
+pub names_ascend : {E : Type 0} (r : Result (Vec Name) E) (vs : List NamedVersion) → T (is_sorted cell_name_cmp vs)
+    → IfOk r (λ names. map owned_name names.items ≡ vs) → IfOk r (λ names. IsSummary (map owned_name names.items))
 names_ascend (Ok names) vs h is = ap (is_sorted cell_name_cmp) is ∙ true_from_T (is_sorted cell_name_cmp vs) h
 names_ascend (Err fault) vs h is = tt

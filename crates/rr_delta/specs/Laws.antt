@@ -8,7 +8,7 @@ use Rattle.rr_model.specs.Knowledge.{Knowledge, cells_named, difference, union}
 use Rattle.rr_model.specs.World.{World, IsClosed}
 use Rattle.rr_cells.specs.Cells.{Cells, IsTrimmed}
 use Rattle.rr_cells.specs.Joins.{join, join_cells}
-use Rattle.rr_cells.specs.State.{state}
+use Rattle.rr_cells.specs.State.{cells_of_knowledge}
 use Rattle.rr_cells.specs.Versions.{newer_names}
 use Rattle.rr_delta.specs.Names.{versions_of}
 use Rattle.rr_delta.specs.Difference.{newer_cells}
@@ -21,11 +21,13 @@ DifferenceIsByVersions = (m n : Cells) → map (λ e. e.0) (newer_cells (version
 abbrev pub DifferenceIsOfKnowledges : Type 0
 DifferenceIsOfKnowledges =
     (s : Layout) (w : World) (k l : Knowledge) → IsLayout s → IsClosed s w k → IsClosed s w l
-    → map (λ e. e.0) (newer_cells (versions_of (state s l)) (entries (state s k))) ≡ difference s k l
+    → map (λ e. e.0) (newer_cells (versions_of (cells_of_knowledge s l)) (entries (cells_of_knowledge s k)))
+    ≡ difference s k l
 
 -- equal versions at one name mean equal contents
 abbrev pub AgreeAtVersions : Cells → Cells → Type 0
-AgreeAtVersions m n = (q : CellName) (a b : Contribution) → get m q ≡ Some a → get n q ≡ Some b → a.version ≡ b.version → a ≡ b
+AgreeAtVersions m n = (q : CellName) (a b : Contribution) → get m q ≡ Some a → get n q ≡ Some b → a.version ≡ b.version
+    → a ≡ b
 
 -- to join the difference is to join the whole map
 abbrev pub DifferenceBringsTheJoin : Type 0
@@ -37,18 +39,19 @@ DifferenceBringsTheJoin =
 abbrev pub KnowledgesAgree : Type 0
 KnowledgesAgree =
     (s : Layout) (w : World) (k l : Knowledge) → IsLayout s → IsClosed s w k → IsClosed s w l
-    → AgreeAtVersions (state s k) (state s l)
+    → AgreeAtVersions (cells_of_knowledge s k) (cells_of_knowledge s l)
 
 -- so to join the difference of the two is to know what either knows
 abbrev pub DifferenceUnites : Type 0
 DifferenceUnites =
     (s : Layout) (w : World) (k l : Knowledge) → IsLayout s → IsClosed s w k → IsClosed s w l
-    → join_cells s (state s l) (newer_cells (versions_of (state s l)) (entries (state s k))) ≡ state s (union l k)
+    → join_cells s (cells_of_knowledge s l) (newer_cells (versions_of (cells_of_knowledge s l))
+    (entries (cells_of_knowledge s k))) ≡ cells_of_knowledge s (union l k)
 
 -- the cells of a part of the difference of closed knowledges are those from a place on, as many as there are up to a
 -- count
 abbrev pub DifferencesAreCutFromEntries : Type 0
 DifferencesAreCutFromEntries =
     (s : Layout) (w : World) (k l : Knowledge) (from count : ℕ) → IsLayout s → IsClosed s w k → IsClosed s w l
-    → entries (state s (cells_named s k (take count (drop from (difference s k l)))))
-    ≡ take count (drop from (newer_cells (versions_of (state s l)) (entries (state s k))))
+    → entries (cells_of_knowledge s (cells_named s k (take count (drop from (difference s k l)))))
+    ≡ take count (drop from (newer_cells (versions_of (cells_of_knowledge s l)) (entries (cells_of_knowledge s k))))

@@ -15,7 +15,8 @@ use std::alloc::{AllocError, Global};
 
 /// The names without those at the front that are before a cell's.
 fn names_from<'a>(names: &'a [Name], cell: &CellRef<'_>) -> &'a [Name]
-    ensures { map owned_name result.now ≡ names_from (seen_cell cell.now).0 (map owned_name names.now) }
+    ensures { map owned_name result.now ≡ names_from (seen_cell cell.now).0
+        (map owned_name names.now) }
 {
     let mut left = names;
     while let [first, others @ ..] = left {
@@ -68,8 +69,8 @@ fn push_newer(
     Ok(())
 }
 
-/// The cells of a replica whose name a summary lacks, or has with a smaller version, in the order of
-/// their names. The names of the summary strictly ascend.
+/// The cells of a replica whose name a summary lacks, or has with a smaller version, in the order
+/// of their names. The names of the summary strictly ascend.
 ///
 /// The replica and the summary are walked along side by side: the cost is that of
 /// `Replica::next_cell` for each cell, and linear in the summary.
@@ -81,8 +82,10 @@ pub fn difference<A: Cells>(
     requires { IsSummary (map owned_name summary.now) }
     ensures newer { IfOk result (λ cells. map owned_cell cells.items
         ≡ newer_cells (map owned_name summary.now) (entries replica.now.cells)) }
-    ensures ascending { IfOk result (λ cells. IsTrue (is_sorted cell_name_cmp (map owned_cell cells.items))) }
-    ensures of_schema { IfOk result (λ cells. All (λ c. IsCellOf replica.now.schema (owned_cell c)) cells.items) }
+    ensures ascending { IfOk result (λ cells. IsTrue
+        (is_sorted cell_name_cmp (map owned_cell cells.items))) }
+    ensures of_schema { IfOk result (λ cells. All (λ c. IsCellOf replica.now.schema (owned_cell c))
+        cells.items) }
 {
     // The proof needs what the replica keeps to, which `schema` ensures.
     let _schema = replica.schema();
@@ -97,8 +100,8 @@ pub fn difference<A: Cells>(
     Ok(cells)
 }
 
-/// As many cells of a list as `count` from a place on; fewer where there are fewer, and none past the
-/// end. The cost is constant.
+/// As many cells of a list as `count` from a place on; fewer where there are fewer, and none past
+/// the end. The cost is constant.
 pub fn part(list: &[Cell], from: usize, count: usize) -> &[Cell]
     ensures { result.now ≡ take count (drop from list.now) }
 {

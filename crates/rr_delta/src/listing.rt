@@ -20,7 +20,8 @@ fn listed_from<'a, A: Cells>(
     count: usize,
 ) -> Result<Vec<Name>, AllocError>
     ensures { IfOk result (λ names. map owned_name names.items
-        ≡ take count (map named_version (cells_from (Some (seen_cell first.now)) (entries replica.now.cells)))) }
+        ≡ take count (map named_version (cells_from (Some (seen_cell first.now))
+        (entries replica.now.cells)))) }
 {
     let mut names = Vec::new(alloc);
     let mut next = Some(CellRef {
@@ -54,7 +55,8 @@ pub fn summary<A: Cells>(
     ensures listed { IfOk result (λ names.
         map owned_name names.items ≡ take count (drop from (versions_of replica.now.cells))) }
     ensures ascending { IfOk result (λ names. IsSummary (map owned_name names.items)) }
-    ensures of_schema { IfOk result (λ names. All (λ n. IsNameOf replica.now.schema (owned_name n)) names.items) }
+    ensures of_schema { IfOk result (λ names. All (λ n. IsNameOf replica.now.schema (owned_name n))
+        names.items) }
 {
     // The proof needs what the replica keeps to, which `schema` ensures.
     let _schema = replica.schema();
@@ -65,8 +67,8 @@ pub fn summary<A: Cells>(
 }
 
 /// The names and versions of the next cells after a name, or of the first ones where there is none:
-/// as many as `count`, in the order of the names; fewer where there are fewer. No cell needs to be at
-/// the name.
+/// as many as `count`, in the order of the names; fewer where there are fewer. No cell needs to be
+/// at the name.
 ///
 /// The cost is that of `Replica::next_cell` for each of them.
 pub fn summary_after<A: Cells>(
@@ -76,9 +78,11 @@ pub fn summary_after<A: Cells>(
     count: usize,
 ) -> Result<Vec<Name>, AllocError>
     ensures listed { IfOk result (λ names. map owned_name names.items
-        ≡ take count (map named_version (cells_after (name_in after.entry) (entries replica.now.cells)))) }
+        ≡ take count (map named_version (cells_after (name_in after.entry)
+        (entries replica.now.cells)))) }
     ensures ascending { IfOk result (λ names. IsSummary (map owned_name names.items)) }
-    ensures of_schema { IfOk result (λ names. All (λ n. IsNameOf replica.now.schema (owned_name n)) names.items) }
+    ensures of_schema { IfOk result (λ names. All (λ n. IsNameOf replica.now.schema (owned_name n))
+        names.items) }
 {
     // The proof needs what the replica keeps to, which `schema` ensures.
     let _schema = replica.schema();

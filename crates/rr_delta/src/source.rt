@@ -40,8 +40,10 @@ pub trait Source {
         requires { IsSummary (map owned_name summary.now) }
         ensures newer { IfOk result (λ found. map owned_cell found.items
             ≡ newer_cells (map owned_name summary.now) (entries (cells self.new))) }
-        ensures ascending { IfOk result (λ found. IsTrue (is_sorted cell_name_cmp (map owned_cell found.items))) }
-        ensures of_schema { IfOk result (λ found. All (λ c. IsCellOf (layout self.new) (owned_cell c)) found.items) }
+        ensures ascending { IfOk result (λ found. IsTrue
+            (is_sorted cell_name_cmp (map owned_cell found.items))) }
+        ensures of_schema { IfOk result (λ found. All
+            (λ c. IsCellOf (layout self.new) (owned_cell c)) found.items) }
         ensures schema { layout self.new ≡ layout self.old }
         ensures kept { may_become self.old self.new };
 
@@ -69,8 +71,10 @@ impl<A: Cells> Source for Replica<A> {
         requires { IsSummary (map owned_name summary.now) }
         ensures newer { IfOk result (λ found. map owned_cell found.items
             ≡ newer_cells (map owned_name summary.now) (entries (self.new.cells))) }
-        ensures ascending { IfOk result (λ found. IsTrue (is_sorted cell_name_cmp (map owned_cell found.items))) }
-        ensures of_schema { IfOk result (λ found. All (λ c. IsCellOf (self.new.schema) (owned_cell c)) found.items) }
+        ensures ascending { IfOk result (λ found. IsTrue
+            (is_sorted cell_name_cmp (map owned_cell found.items))) }
+        ensures of_schema { IfOk result (λ found. All
+            (λ c. IsCellOf (self.new.schema) (owned_cell c)) found.items) }
         ensures schema { self.new.schema ≡ self.old.schema }
         ensures kept { self.new ≡ self.old }
     {

@@ -6,7 +6,7 @@ ghost use Rattle.rr_cells.specs.CellBounds.{IsCellOf, NamedCell};
 ghost use Rattle.rr_cells.specs.Cells.{Cells, IsTrimmed};
 ghost use Rattle.rr_cells.specs.Joins.{join_cells};
 ghost use Rattle.rr_cells.specs.Listing.{owned_cell};
-ghost use Rattle.rr_replica.specs.Standing.{held};
+ghost use Rattle.rr_replica.specs.ReplicaWithRoom.{replica_state};
 ghost use Rattle.rr_delta.specs.Names.{IsNameOf, name_in, named_version, owned_name, versions_of};
 ghost use Rattle.rr_delta.specs.Difference.{IsSummary};
 ghost use Rattle.rr_delta.specs.Joining.{HasJoined, map_joined, then_joined};
@@ -22,9 +22,10 @@ use std::alloc::{AllocError, Global};
 
 /// Whoever takes cells from elsewhere: it says which it has, and joins those that it is given.
 ///
-/// It is seen as a map of cells of a schema, none of them past the horizon, and by which cells it has
-/// joined: a relation, of its own choice, between what stands before calls, what stands after them, and
-/// these cells, one by one and in order. Whatever the relation, they are then joined into the map.
+/// It is seen as a map of cells of a schema, none of them past the horizon, and by which cells it
+/// has joined: a relation, of its own choice, between what stands before calls, what stands after
+/// them, and these cells, one by one and in order. Whatever the relation, they are then joined into
+/// the map.
 pub trait Target {
     ghost layout: { Self → Layout };
 
@@ -39,17 +40,19 @@ pub trait Target {
         ensures live { IsTrimmed (layout self.now) (cells self.now) }
         ensures of_schema { All (IsCellOf (layout self.now)) (entries (cells self.now)) };
 
-    /// The names and versions of as many cells as `count` from a place on, in the order of the names;
-    /// fewer where there are fewer.
+    /// The names and versions of as many cells as `count` from a place on, in the order of the
+    /// names; fewer where there are fewer.
     fn names(&self, alloc: Global, from: usize, count: usize) -> Result<Vec<Name>, AllocError>
         ensures listed { IfOk result (λ names.
             map owned_name names.items ≡ take count (drop from (versions_of (cells self.now)))) }
         ensures ascending { IfOk result (λ names. IsSummary (map owned_name names.items)) }
-        ensures of_schema { IfOk result (λ names. All (λ n. IsNameOf (layout self.now) (owned_name n)) names.items) };
+        ensures of_schema { IfOk result (λ names. All
+            (λ n. IsNameOf (layout self.now) (owned_name n)) names.items) };
 
     /// The names and versions of as many cells as `count` after a name, or of the first ones where
     /// there is none, in the order of the names; fewer where there are fewer. A walk over all cells
-    /// goes on by it from the last name that it has, at a cost that does not grow with what is behind.
+    /// goes on by it from the last name that it has, at a cost that does not grow with what is
+    /// behind.
     fn names_after(
         &self,
         alloc: Global,
@@ -57,9 +60,11 @@ pub trait Target {
         count: usize,
     ) -> Result<Vec<Name>, AllocError>
         ensures listed { IfOk result (λ names. map owned_name names.items
-            ≡ take count (map named_version (cells_after (name_in after.entry) (entries (cells self.now))))) }
+            ≡ take count (map named_version (cells_after (name_in after.entry)
+            (entries (cells self.now))))) }
         ensures ascending { IfOk result (λ names. IsSummary (map owned_name names.items)) }
-        ensures of_schema { IfOk result (λ names. All (λ n. IsNameOf (layout self.now) (owned_name n)) names.items) };
+        ensures of_schema { IfOk result (λ names. All
+            (λ n. IsNameOf (layout self.now) (owned_name n)) names.items) };
 
     /// Joins a cell, which is valid under the schema: of it and what stands at its name the greater
     /// stays, and then only the live cells. After an error nothing has changed.
@@ -80,13 +85,13 @@ impl<A: Cells> Target for Replica<A> {
 
     ghost cells = { λ r. r.cells };
 
-    ghost has_joined = { λ r s. HasJoined (held r) (held s) };
+    ghost has_joined = { λ r s. HasJoined (replica_state r) (replica_state s) };
 
     ghost joins_none = { λ r. refl };
 
-    ghost joins_then = { λ r s t. then_joined (held r) (held s) (held t) };
+    ghost joins_then = { λ r s t. then_joined (replica_state r) (replica_state s) (replica_state t) };
 
-    ghost joins_in_map = { λ r s. map_joined (held r) (held s) };
+    ghost joins_in_map = { λ r s. map_joined (replica_state r) (replica_state s) };
 
     fn schema(&self) -> &Schema {
         Replica::schema(self)

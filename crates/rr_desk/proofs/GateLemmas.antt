@@ -10,7 +10,8 @@ not_asked None = tt
 not_asked (Some calls) = sym (append-nil calls)
 
 -- calls, and then others
-pub asked_more : (a b c : Option (List GateCall)) (xs ys : List GateCall) → WasAsked a b xs → WasAsked b c ys → WasAsked a c (xs ++ ys)
+pub asked_more : (a b c : Option (List GateCall)) (xs ys : List GateCall) → WasAsked a b xs → WasAsked b c ys
+    → WasAsked a c (xs ++ ys)
 asked_more None None None xs ys first later = tt
 asked_more None None (Some since) xs ys first later = absurd later
 asked_more None (Some mid) c xs ys first later = absurd first

@@ -27,20 +27,20 @@ use Rattle.rr_cells.specs.declared.op.Op.TheVariants.{Join, Put}
 use Rattle.rr_cells.specs.declared.sample.Sample.{Sample}
 use Rattle.rr_cells.specs.CellBounds.{NamedCell}
 use Rattle.rr_cells.specs.Cells.{Cells, IsTrimmed}
-use Rattle.rr_cells.specs.Holding.{Holding}
+use Rattle.rr_cells.specs.ReplicaState.{ReplicaState}
 use Rattle.rr_cells.specs.Joining.{next_after}
 use Rattle.rr_cells.specs.Joins.{join_cell}
 use Rattle.rr_cells.specs.Listing.{owned_cell}
 use Rattle.rr_cells.specs.Operations.{accepts, with_op, cell_step, outcome_of, joins_of, sample_of, step, to_cell, AllAccepted}
 use Rattle.rr_cells.specs.Puts.{put_sample}
-use Rattle.rr_cells.specs.State.{state}
+use Rattle.rr_cells.specs.State.{cells_of_knowledge}
 use Rattle.rr_cells.proofs.CellByCell.{join_cell_unites}
 use Rattle.rr_cells.proofs.HeldCells.{all_entries}
 use Rattle.rr_cells.proofs.OneSampleMore.{put_is_one_sample_more}
 use Rattle.rr_cells.proofs.OperationsLemmas.{accepted-append, cell_is_taken, outcome_of-append, outcome_of-joins, outcome_of-more, step_accepted, step-origin, step-schema, steps-cells, steps-schema}
 use Rattle.rr_cells.proofs.States.{state_is_trimmed}
 use Rattle.rr_cells.proofs.WrittenCells.{versions_are_numbers}
-use Rattle.rr_copies.specs.Standing.{KeeperState, holding_of, with_pending}
+use Rattle.rr_copies.specs.KeeperState.{KeeperState, own_replica, with_pending}
 use Rattle.rr_delta.specs.Difference.{newer_cells}
 use Rattle.rr_delta.specs.Names.{NamedVersion}
 use Rattle.rr_delta.proofs.HeldLemmas.{all_filtered}
@@ -50,7 +50,7 @@ use Rattle.rr_schema.proofs.AdditionLemmas.{additions_are_found}
 use Rattle.rr_raising.specs.Raising.{raised_cells}
 use Rattle.rr_raising.proofs.Raised.{raised_is_closed, raised_makes_raised_cells}
 use Rattle.rr_snapshot.proofs.SavedLemmas.{saved_is_loaded, saved_is_raised}
-use Rattle.rr_desk.specs.Histories.{Turn, elsewhere, put, joined, Scene, Knows, IsHistory, HasHistory, IsHonest, IsWhole, AreHonest, list_of, marks_in, next_scene, ops_of, scene_after}
+use Rattle.rr_desk.specs.Histories.{HistoryStep, elsewhere, put, joined, HistoryState, Knows, IsHistory, HasHistory, IsHonest, IsWhole, AreHonest, list_of, marks_in, next_scene, ops_of, scene_after}
 use Rattle.rr_desk.specs.Laws.{OpeningIsHistory, PutIsATurn, WriteIsTurns, JoinIsATurn, PublishIsNoTurn, OthersWrite, LoadedIsKnown, RaisedIsKnown}
 use Rattle.rr_desk.specs.Points.{with_put, with_puts}
 use Rattle.rr_copies.proofs.PrefixLemmas.{prefix_nil}
@@ -58,20 +58,23 @@ use Rattle.rr_copies.proofs.PrefixLemmas.{prefix_nil}
 -- ---- one turn
 
 -- what an accepted sample says
-own_sample : (h : Holding) (x : Sample) → accepts h (Put x) ≡ true → (x.origin ≡ h.origin) × (h.next ≤ x.number)
+own_sample : (h : ReplicaState) (x : Sample) → accepts h (Put x) ≡ true → (x.origin ≡ h.origin) × (h.next ≤ x.number)
 own_sample h x may = grind (arith, nat_tests)
 
 -- a sample that is past all that its origin wrote is the next one
-next_there : (h : Holding) (z : Scene) (x : Sample) → Knows h z → accepts h (Put x) ≡ true → IsNext z.world (sample_of x)
+next_there : (h : ReplicaState) (z : HistoryState) (x : Sample) → Knows h z → accepts h (Put x) ≡ true
+    → IsNext z.world (sample_of x)
 next_there h z x k may y written same =
     let own = own_sample h x may in
     let below : y.number < h.next = k.past y written (same ∙ own.0) in
     omega (arith, own.1)
 
-ahead_there : (h : Holding) (z : Scene) (x : Sample) → Knows h z → accepts h (Put x) ≡ true → IsAheadOf (sample_of x) z.known
+ahead_there : (h : ReplicaState) (z : HistoryState) (x : Sample) → Knows h z → accepts h (Put x) ≡ true
+    → IsAheadOf (sample_of x) z.known
 ahead_there h z x k may m known same = next_there h z x k may m.sample (k.closed.written m known).0 same
 
-knows_elsewhere : (h : Holding) (z : Scene) (x : model.Sample) → Knows h z → h.origin ≢ x.origin → IsNext z.world x → Knows h (next_scene h.schema z (elsewhere x))
+knows_elsewhere : (h : ReplicaState) (z : HistoryState) (x : model.Sample) → Knows h z → h.origin ≢ x.origin
+    → IsNext z.world x → Knows h (next_scene h.schema z (elsewhere x))
 knows_elsewhere h z x k other next = record {
   layout = k.layout;
   closed = others_stay_closed h.schema z.world z.known x k.closed next;
@@ -83,68 +86,86 @@ knows_elsewhere h z x k other next = record {
   cells = k.cells;
 }
 
-knows_put : (h : Holding) (z : Scene) (x : Sample) → Knows h z → accepts h (Put x) ≡ true → Knows (with_op h (Put x)) (next_scene h.schema z (put x))
+knows_put : (h : ReplicaState) (z : HistoryState) (x : Sample) → Knows h z → accepts h (Put x) ≡ true
+    → Knows (with_op h (Put x)) (next_scene h.schema z (put x))
 knows_put h z x k may =
     let s = h.schema in
     let y = sample_of x in
     let own = own_sample h x may in
     let next = next_there h z x k may in
-    let holds : HoldsAllOf s z.world z.known x.origin = subst (λ (o : ℕ). HoldsAllOf s z.world z.known o) (sym own.0) k.own in
+    let holds : HoldsAllOf s z.world z.known x.origin =
+    subst (λ (o : ℕ). HoldsAllOf s z.world z.known o) (sym own.0) k.own in
     record {
       layout = k.layout;
       closed = writer_stays_closed s z.world z.known y k.layout k.closed next holds;
-      own = subst (λ (o : ℕ). HoldsAllOf s (next_scene s z (put x)).world (next_scene s z (put x)).known o) own.0 (writer_holds_own s z.world z.known y holds);
+      own = subst (λ (o : ℕ). HoldsAllOf s (next_scene s z (put x)).world (next_scene s z (put x)).known o) own.0
+          (writer_holds_own s z.world z.known y holds);
       past = λ v written same. ⊎_elim
           (λ (e : v ≡ y). let n : v.number ≡ x.number = ap (λ (q : model.Sample). q.number) e in omega arith)
           (λ (e : IsWritten z.world v). let below : v.number < h.next = k.past v e same in omega (arith, own.1))
           (written_now z.world y v written);
-      cells = ap (λ (m : Cells). put_sample s m y) k.cells ∙ put_is_one_sample_more s z.known y k.layout (ahead_there h z x k may);
+      cells = ap (λ (m : Cells). put_sample s m y) k.cells
+          ∙ put_is_one_sample_more s z.known y k.layout (ahead_there h z x k may);
     }
 
 next_grows : (o n : ℕ) (e : NamedCell) → n ≤ next_after o n e
-next_grows o n e = elim (e.0.origin == o && nat_le n e.1.version) as (λ b. (e.0.origin == o && nat_le n e.1.version) ≡ b → n ≤ (if b then e.1.version + 1 else n)) [
-  | true ↦ λ t. (let le : n ≤ e.1.version = grind (arith, nat_tests) in omega arith)
-  | false ↦ λ t. omega arith
-] refl
+next_grows o n e = elim (e.0.origin == o && nat_le n e.1.version) as
+    (λ b. (e.0.origin == o && nat_le n e.1.version) ≡ b → n ≤ (if b then e.1.version + 1 else n)) [
+      | true ↦ λ t. (let le : n ≤ e.1.version = grind (arith, nat_tests) in omega arith)
+      | false ↦ λ t. omega arith
+    ] refl
 
-knows_joined : (h : Holding) (z : Scene) (l : Knowledge) (c : Cell) → Knows h z → IsWhole h.schema z.world l c → Knows (with_op h (Join c)) (next_scene h.schema z (joined l c))
+knows_joined : (h : ReplicaState) (z : HistoryState) (l : Knowledge) (c : Cell) → Knows h z
+    → IsWhole h.schema z.world l c → Knows (with_op h (Join c)) (next_scene h.schema z (joined l c))
 knows_joined h z l c k whole =
     let s = h.schema in
     let n = (owned_cell c).0 in record {
       layout = k.layout;
-      closed = union_is_closed s z.world z.known (marks_in s l c) k.layout k.closed (whole_cells_are_closed s z.world l (eq_by_cmp cell_name_cmp n) whole.closed);
+      closed = union_is_closed s z.world z.known (marks_in s l c) k.layout k.closed
+          (whole_cells_are_closed s z.world l (eq_by_cmp cell_name_cmp n) whole.closed);
       own = union_holds_own s z.world z.known (marks_in s l c) h.origin k.own;
-      past = λ v written same. let below : v.number < h.next = k.past v written same in let grows : h.next ≤ next_after h.origin h.next (owned_cell c) = next_grows h.origin h.next (owned_cell c) in omega arith;
-      cells = ap (λ (m : Cells). join_cell s m n c.contribution) k.cells ∙ join_cell_unites s z.world z.known l n c.contribution k.layout k.closed whole.closed whole.here;
+      past = λ v written same. let below : v.number < h.next = k.past v written same in
+          let grows : h.next ≤ next_after h.origin h.next (owned_cell c) = next_grows h.origin h.next (owned_cell c) in
+          omega arith;
+      cells = ap (λ (m : Cells). join_cell s m n c.contribution) k.cells
+          ∙ join_cell_unites s z.world z.known l n c.contribution k.layout k.closed whole.closed whole.here;
     }
 
 -- ---- all turns
 
-honest_there : (s t : Layout) (o p : ℕ) (z : Scene) (turns : List Turn) → s ≡ t → o ≡ p → AreHonest s o z turns → AreHonest t p z turns
-honest_there s t o p z turns same one honest = subst (λ (y : Layout × ℕ). AreHonest y.0 y.1 z turns) (λ i. (same i, one i)) honest
+honest_there : (s t : Layout) (o p : ℕ) (z : HistoryState) (turns : List HistoryStep) → s ≡ t → o ≡ p
+    → AreHonest s o z turns → AreHonest t p z turns
+honest_there s t o p z turns same one honest = subst (λ (y : Layout × ℕ). AreHonest y.0 y.1 z turns)
+    (λ i. (same i, one i)) honest
 
-pub operations_are_known : (h : Holding) (z : Scene) (turns : List Turn) → Knows h z → AreHonest h.schema h.origin z turns → AllAccepted h (ops_of turns) → Knows (fold step h (ops_of turns)) (scene_after h z turns)
+pub operations_are_known : (h : ReplicaState) (z : HistoryState) (turns : List HistoryStep) → Knows h z
+    → AreHonest h.schema h.origin z turns → AllAccepted h (ops_of turns)
+    → Knows (fold step h (ops_of turns)) (scene_after h z turns)
 operations_are_known h z [] k honest accepted = k
 operations_are_known h z (elsewhere x ∷ turns) k honest accepted =
-    operations_are_known h (next_scene h.schema z (elsewhere x)) turns (knows_elsewhere h z x k honest.0.0 honest.0.1) honest.1 accepted
+    operations_are_known h (next_scene h.schema z (elsewhere x)) turns (knows_elsewhere h z x k honest.0.0 honest.0.1)
+    honest.1 accepted
 operations_are_known h z (put x ∷ turns) k honest accepted =
     let next = step h (Put x) in
     let z' = next_scene h.schema z (put x) in
     let same : with_op h (Put x) ≡ next = sym (step_accepted h (Put x) accepted.0) in
     let schema : h.schema ≡ next.schema = sym (step-schema h (Put x)) in
-    let k' : Knows next z' = subst (λ (g : Holding). Knows g z') same (knows_put h z x k accepted.0) in
+    let k' : Knows next z' = subst (λ (g : ReplicaState). Knows g z') same (knows_put h z x k accepted.0) in
     subst (λ (s : Layout). Knows (fold step next (ops_of turns)) (fold (next_scene s) z' turns)) (sym schema)
-    (operations_are_known next z' turns k' (honest_there h.schema next.schema h.origin next.origin z' turns schema (sym (step-origin h (Put x))) honest.1) accepted.1)
+    (operations_are_known next z' turns k' (honest_there h.schema next.schema h.origin next.origin z' turns schema
+    (sym (step-origin h (Put x))) honest.1) accepted.1)
 operations_are_known h z (joined l c ∷ turns) k honest accepted =
     let next = step h (Join c) in
     let z' = next_scene h.schema z (joined l c) in
     let same : with_op h (Join c) ≡ next = sym (step_accepted h (Join c) accepted.0) in
     let schema : h.schema ≡ next.schema = sym (step-schema h (Join c)) in
-    let k' : Knows next z' = subst (λ (g : Holding). Knows g z') same (knows_joined h z l c k honest.0) in
+    let k' : Knows next z' = subst (λ (g : ReplicaState). Knows g z') same (knows_joined h z l c k honest.0) in
     subst (λ (s : Layout). Knows (fold step next (ops_of turns)) (fold (next_scene s) z' turns)) (sym schema)
-    (operations_are_known next z' turns k' (honest_there h.schema next.schema h.origin next.origin z' turns schema (sym (step-origin h (Join c))) honest.1) accepted.1)
+    (operations_are_known next z' turns k' (honest_there h.schema next.schema h.origin next.origin z' turns schema
+    (sym (step-origin h (Join c))) honest.1) accepted.1)
 
-pub lists_are_known : (h : Holding) (z : Scene) (turns : List Turn) → IsHistory h z turns → outcome_of h.schema (list_of h turns) ≡ state h.schema (scene_after h z turns).known
+pub lists_are_known : (h : ReplicaState) (z : HistoryState) (turns : List HistoryStep) → IsHistory h z turns
+    → outcome_of h.schema (list_of h turns) ≡ cells_of_knowledge h.schema (scene_after h z turns).known
 lists_are_known h z turns is =
     let s = h.schema in
     let ops = ops_of turns in
@@ -154,64 +175,94 @@ lists_are_known h z turns is =
     ∙ ap (λ (m : Cells). fold (cell_step s) m ops) (outcome_of-joins s h.cells is.knows.layout is.live)
     ∙ sym (steps-cells ops h is.accepted)
     ∙ last.cells
-    ∙ ap (λ (t : Layout). state t (scene_after h z turns).known) same
+    ∙ ap (λ (t : Layout). cells_of_knowledge t (scene_after h z turns).known) same
 
-closed_after : (h : Holding) (z : Scene) (turns : List Turn) → IsHistory h z turns → IsClosed h.schema (scene_after h z turns).world (scene_after h z turns).known
-closed_after h z turns is = subst (λ (s : Layout). IsClosed s (scene_after h z turns).world (scene_after h z turns).known) (steps-schema (ops_of turns) h) (operations_are_known h z turns is.knows is.honest is.accepted).closed
+closed_after : (h : ReplicaState) (z : HistoryState) (turns : List HistoryStep) → IsHistory h z turns
+    → IsClosed h.schema (scene_after h z turns).world (scene_after h z turns).known
+closed_after h z turns is = subst (λ (s : Layout). IsClosed s (scene_after h z turns).world
+    (scene_after h z turns).known) (steps-schema (ops_of turns) h)
+    (operations_are_known h z turns is.knows is.honest is.accepted).closed
 
 -- ---- what readers answer and give
 
-pub answers_are_of_samples : (h : Holding) (z : Scene) (turns : List Turn) (q : Request) → IsHistory h z turns → cells_text h.schema (outcome_of h.schema (list_of h turns)) q ≡ fetch_text h.schema (scene_after h z turns).known q
+pub answers_are_of_samples : (h : ReplicaState) (z : HistoryState) (turns : List HistoryStep) (q : Request)
+    → IsHistory h z turns → cells_text h.schema (outcome_of h.schema (list_of h turns)) q
+    ≡ fetch_text h.schema (scene_after h z turns).known q
 answers_are_of_samples h z turns q is =
-    ap (λ (m : Cells). cells_text h.schema m q) (lists_are_known h z turns is) ∙ answer_of_state h.schema is.knows.layout (scene_after h z turns).known q
+    ap (λ (m : Cells). cells_text h.schema m q) (lists_are_known h z turns is)
+    ∙ answer_of_state h.schema is.knows.layout (scene_after h z turns).known q
 
-all_whole : (h : Holding) (z : Scene) (turns : List Turn) → IsHistory h z turns → AllByRecursion (λ e. IsWhole h.schema (scene_after h z turns).world (scene_after h z turns).known (to_cell e)) (entries (outcome_of h.schema (list_of h turns)))
+all_whole : (h : ReplicaState) (z : HistoryState) (turns : List HistoryStep) → IsHistory h z turns
+    → AllByRecursion (λ e. IsWhole h.schema (scene_after h z turns).world (scene_after h z turns).known (to_cell e))
+    (entries (outcome_of h.schema (list_of h turns)))
 all_whole h z turns is =
-    all_entries (λ e. IsWhole h.schema (scene_after h z turns).world (scene_after h z turns).known (to_cell e)) (outcome_of h.schema (list_of h turns))
-    (λ n c found. record { closed = closed_after h z turns is; here = ap (λ (m : Cells). get m n) (sym (lists_are_known h z turns is)) ∙ found })
+    all_entries (λ e. IsWhole h.schema (scene_after h z turns).world (scene_after h z turns).known (to_cell e))
+    (outcome_of h.schema (list_of h turns))
+    (λ n c found. record {
+      closed = closed_after h z turns is;
+      here =
+          ap (λ (m : Cells). get m n) (sym (lists_are_known h z turns is)) ∙ found;
+    })
 
-pub cells_saved_are_whole : (h : Holding) (z : Scene) (turns : List Turn) → IsHistory h z turns → All (λ e. IsWhole h.schema (scene_after h z turns).world (scene_after h z turns).known (to_cell e)) (entries (outcome_of h.schema (list_of h turns)))
-cells_saved_are_whole h z turns is = All-from_recursion _ (entries (outcome_of h.schema (list_of h turns))) (all_whole h z turns is)
+pub cells_saved_are_whole : (h : ReplicaState) (z : HistoryState) (turns : List HistoryStep) → IsHistory h z turns
+    → All (λ e. IsWhole h.schema (scene_after h z turns).world (scene_after h z turns).known (to_cell e))
+    (entries (outcome_of h.schema (list_of h turns)))
+cells_saved_are_whole h z turns is = All-from_recursion _ (entries (outcome_of h.schema (list_of h turns)))
+    (all_whole h z turns is)
 
-pub cells_given_are_whole : (h : Holding) (z : Scene) (turns : List Turn) (summary : List NamedVersion) → IsHistory h z turns → All (λ e. IsWhole h.schema (scene_after h z turns).world (scene_after h z turns).known (to_cell e)) (newer_cells summary (entries (outcome_of h.schema (list_of h turns))))
+pub cells_given_are_whole : (h : ReplicaState) (z : HistoryState) (turns : List HistoryStep)
+    (summary : List NamedVersion) → IsHistory h z turns
+    → All (λ e. IsWhole h.schema (scene_after h z turns).world (scene_after h z turns).known (to_cell e))
+    (newer_cells summary (entries (outcome_of h.schema (list_of h turns))))
 unfolding newer_cells
 cells_given_are_whole h z turns summary is =
-    All-from_recursion _ (newer_cells summary (entries (outcome_of h.schema (list_of h turns)))) (all_filtered (λ e. IsWhole h.schema (scene_after h z turns).world (scene_after h z turns).known (to_cell e)) _ (entries (outcome_of h.schema (list_of h turns))) (all_whole h z turns is))
+    All-from_recursion _ (newer_cells summary (entries (outcome_of h.schema (list_of h turns))))
+    (all_filtered (λ e. IsWhole h.schema (scene_after h z turns).world (scene_after h z turns).known (to_cell e)) _
+    (entries (outcome_of h.schema (list_of h turns))) (all_whole h z turns is))
 
 -- ---- beginnings
 
 -- the first turns, with as many operations as a beginning of theirs
-first_turns : (turns : List Turn) (ops : List Op) → IsPrefix ops (ops_of turns) → (first : List Turn) × IsPrefix first turns × (ops_of first ≡ ops)
+first_turns : (turns : List HistoryStep) (ops : List Op) → IsPrefix ops (ops_of turns)
+    → (first : List HistoryStep) × IsPrefix first turns × (ops_of first ≡ ops)
 first_turns turns [] p = ([], prefix_nil turns, refl)
 first_turns [] (o ∷ ops) p = absurd (cc (p.1))
-first_turns (elsewhere x ∷ turns) (o ∷ ops) p = let r = first_turns turns (o ∷ ops) p in (elsewhere x ∷ r.0, (r.1.0, ap (λ (l : List Turn). elsewhere x ∷ l) r.1.1), r.2)
+first_turns (elsewhere x ∷ turns) (o ∷ ops) p = let r = first_turns turns (o ∷ ops) p in
+    (elsewhere x ∷ r.0, (r.1.0, ap (λ (l : List HistoryStep). elsewhere x ∷ l) r.1.1), r.2)
 first_turns (put x ∷ turns) (o ∷ ops) p =
     let same : o ≡ Put x = cc (p.1) in
     let r = first_turns turns ops (p.0, cc (p.1)) in
-    (put x ∷ r.0, (r.1.0, ap (λ (l : List Turn). put x ∷ l) r.1.1), cc (same, r.2))
+    (put x ∷ r.0, (r.1.0, ap (λ (l : List HistoryStep). put x ∷ l) r.1.1), cc (same, r.2))
 first_turns (joined l c ∷ turns) (o ∷ ops) p =
     let same : o ≡ Join c = cc (p.1) in
     let r = first_turns turns ops (p.0, cc (p.1)) in
-    (joined l c ∷ r.0, (r.1.0, ap (λ (ts : List Turn). joined l c ∷ ts) r.1.1), cc (same, r.2))
+    (joined l c ∷ r.0, (r.1.0, ap (λ (ts : List HistoryStep). joined l c ∷ ts) r.1.1), cc (same, r.2))
 
-honest_first : (s : Layout) (o : ℕ) (z : Scene) (first rest : List Turn) → AreHonest s o z (first ++ rest) → AreHonest s o z first
+honest_first : (s : Layout) (o : ℕ) (z : HistoryState) (first rest : List HistoryStep) → AreHonest s o z (first ++ rest)
+    → AreHonest s o z first
 honest_first s o z [] rest honest = tt
 honest_first s o z (t ∷ first) rest honest = (honest.0, honest_first s o (next_scene s z t) first rest honest.1)
 
-accepted_first : (h : Holding) (first rest : List Turn) → AllAccepted h (ops_of (first ++ rest)) → AllAccepted h (ops_of first)
+accepted_first : (h : ReplicaState) (first rest : List HistoryStep) → AllAccepted h (ops_of (first ++ rest))
+    → AllAccepted h (ops_of first)
 accepted_first h [] rest accepted = tt
 accepted_first h (elsewhere x ∷ first) rest accepted = accepted_first h first rest accepted
 accepted_first h (put x ∷ first) rest accepted = (accepted.0, accepted_first (step h (Put x)) first rest accepted.1)
-accepted_first h (joined l c ∷ first) rest accepted = (accepted.0, accepted_first (step h (Join c)) first rest accepted.1)
+accepted_first h (joined l c ∷ first) rest accepted =
+    (accepted.0, accepted_first (step h (Join c)) first rest accepted.1)
 
-pub beginnings_are_histories : (h : Holding) (z : Scene) (turns : List Turn) (list : List Op) → IsHistory h z turns → IsPrefix (joins_of h.cells) list → IsPrefix list (list_of h turns)
-    → (first : List Turn) × IsPrefix first turns × IsHistory h z first × (list ≡ list_of h first)
+pub beginnings_are_histories : (h : ReplicaState) (z : HistoryState) (turns : List HistoryStep) (list : List Op)
+    → IsHistory h z turns → IsPrefix (joins_of h.cells) list → IsPrefix list (list_of h turns)
+    → (first : List HistoryStep) × IsPrefix first turns × IsHistory h z first × (list ≡ list_of h first)
 beginnings_are_histories h z turns list is p q =
     let joins = joins_of h.cells in
-    let rest : p.0 ++ q.0 ≡ ops_of turns = append_cancel_left joins (p.0 ++ q.0) (ops_of turns) (sym (append_assoc joins p.0 q.0) ∙ (ap (λ (l : List Op). l ++ q.0) p.1 ∙ q.1)) in
+    let rest : p.0 ++ q.0 ≡ ops_of turns = append_cancel_left joins (p.0 ++ q.0) (ops_of turns)
+    (sym (append_assoc joins p.0 q.0) ∙ (ap (λ (l : List Op). l ++ q.0) p.1 ∙ q.1)) in
     let r = first_turns turns p.0 (q.0, rest) in
-    let honest : AreHonest h.schema h.origin z (r.0 ++ r.1.0) = subst (AreHonest h.schema h.origin z) (sym r.1.1) is.honest in
-    let accepted : AllAccepted h (ops_of (r.0 ++ r.1.0)) = subst (λ (ts : List Turn). AllAccepted h (ops_of ts)) (sym r.1.1) is.accepted in (
+    let honest : AreHonest h.schema h.origin z (r.0 ++ r.1.0) =
+    subst (AreHonest h.schema h.origin z) (sym r.1.1) is.honest in
+    let accepted : AllAccepted h (ops_of (r.0 ++ r.1.0)) =
+    subst (λ (ts : List HistoryStep). AllAccepted h (ops_of ts)) (sym r.1.1) is.accepted in (
       r.0,
       r.1,
       record {
@@ -225,46 +276,69 @@ beginnings_are_histories h z turns list is p q =
 
 -- ---- keepers
 
-ops_of-append : (xs ys : List Turn) → ops_of (xs ++ ys) ≡ ops_of xs ++ ops_of ys
+ops_of-append : (xs ys : List HistoryStep) → ops_of (xs ++ ys) ≡ ops_of xs ++ ops_of ys
 ops_of-append [] ys = refl
 ops_of-append (elsewhere x ∷ xs) ys = ops_of-append xs ys
 ops_of-append (put x ∷ xs) ys = ap (λ (l : List Op). Put x ∷ l) (ops_of-append xs ys)
 ops_of-append (joined l c ∷ xs) ys = ap (λ (ops : List Op). Join c ∷ ops) (ops_of-append xs ys)
 
-honest_more : (s : Layout) (o : ℕ) (z : Scene) (turns : List Turn) (t : Turn) → AreHonest s o z turns → IsHonest s o (fold (next_scene s) z turns) t → AreHonest s o z (turns ++ t ∷ [])
+honest_more : (s : Layout) (o : ℕ) (z : HistoryState) (turns : List HistoryStep) (t : HistoryStep)
+    → AreHonest s o z turns → IsHonest s o (fold (next_scene s) z turns) t → AreHonest s o z (turns ++ t ∷ [])
 honest_more s o z [] t honest is = (is, tt)
 honest_more s o z (u ∷ turns) t honest is = (honest.0, honest_more s o (next_scene s z u) turns t honest.1 is)
 
-all_pending : (k : KeeperState) (op : Op) → outcome_of k.schema (k.published ++ (k.pending ++ op ∷ [])) ≡ cell_step k.schema (outcome_of k.schema (k.published ++ k.pending)) op
-all_pending k op = ap (outcome_of k.schema) (sym (append_assoc k.published k.pending (op ∷ []))) ∙ outcome_of-more k.schema (k.published ++ k.pending) op
+all_pending : (k : KeeperState) (op : Op) → outcome_of k.schema (k.published ++ (k.pending ++ op ∷ []))
+    ≡ cell_step k.schema (outcome_of k.schema (k.published ++ k.pending)) op
+all_pending k op = ap (outcome_of k.schema) (sym (append_assoc k.published k.pending (op ∷ [])))
+    ∙ outcome_of-more k.schema (k.published ++ k.pending) op
 
 -- with an operation more pending a keeper's replica has applied it
-pending_applied : (k : KeeperState) (op : Op) → holding_of (with_pending k op) ≡ with_op (holding_of k) op
-pending_applied k (Put x) = λ i. record { schema = k.schema; origin = k.origin; next = x.number + 1; cells = all_pending k (Put x) i }
-pending_applied k (Join c) = λ i. record { schema = k.schema; origin = k.origin; next = next_after k.origin k.next (owned_cell c); cells = all_pending k (Join c) i }
+pending_applied : (k : KeeperState) (op : Op) → own_replica (with_pending k op) ≡ with_op (own_replica k) op
+pending_applied k (Put x) = λ i. record {
+  schema = k.schema;
+  origin = k.origin;
+  next = x.number + 1;
+  cells =
+      all_pending k (Put x) i;
+}
+pending_applied k (Join c) = λ i. record {
+  schema = k.schema;
+  origin = k.origin;
+  next =
+      next_after k.origin k.next (owned_cell c);
+  cells = all_pending k (Join c) i;
+}
 
-module _ (h : Holding) (z : Scene) (turns : List Turn) (k : KeeperState) (has : HasHistory h z turns k) where
-  one_turn : (t : Turn) (op : Op) → ops_of (t ∷ []) ≡ op ∷ [] → accepts (holding_of k) op ≡ true → IsHonest h.schema h.origin (scene_after h z turns) t → HasHistory h z (turns ++ t ∷ []) (with_pending k op)
+module _ (h : ReplicaState) (z : HistoryState) (turns : List HistoryStep) (k : KeeperState)
+    (has : HasHistory h z turns k) where
+  one_turn : (t : HistoryStep) (op : Op) → ops_of (t ∷ []) ≡ op ∷ [] → accepts (own_replica k) op ≡ true
+      → IsHonest h.schema h.origin (scene_after h z turns) t → HasHistory h z (turns ++ t ∷ []) (with_pending k op)
   one_turn t op is_op may honest =
       let ops = ops_of turns in
-      let more : ops_of (turns ++ t ∷ []) ≡ ops ++ op ∷ [] = ops_of-append turns (t ∷ []) ∙ ap (λ (l : List Op). ops ++ l) is_op in
+      let more : ops_of (turns ++ t ∷ []) ≡ ops ++ op ∷ [] = ops_of-append turns (t ∷ [])
+      ∙ ap (λ (l : List Op). ops ++ l) is_op in
       let joins = joins_of h.cells in
       record {
         history = record {
           live = has.history.live;
           knows = has.history.knows;
           honest = honest_more h.schema h.origin z turns t has.history.honest honest;
-          accepted = subst (AllAccepted h) (sym more) (accepted-append ops (op ∷ []) h has.history.accepted (subst (λ (g : Holding). accepts g op ≡ true) has.holds may, tt));
+          accepted = subst (AllAccepted h) (sym more) (accepted-append ops (op ∷ []) h has.history.accepted
+              (subst (λ (g : ReplicaState). accepts g op ≡ true) has.holds may, tt));
         };
-        list = sym (append_assoc k.published k.pending (op ∷ [])) ∙ ap (λ (l : List Op). l ++ op ∷ []) has.list ∙ append_assoc joins ops (op ∷ []) ∙ ap (λ (l : List Op). joins ++ l) (sym more);
-        holds = pending_applied k op ∙ sym (step_accepted (holding_of k) op may) ∙ ap (λ (g : Holding). step g op) has.holds ∙ sym (fold-append step h ops (op ∷ [])) ∙ ap (fold step h) (sym more);
+        list = sym (append_assoc k.published k.pending (op ∷ [])) ∙ ap (λ (l : List Op). l ++ op ∷ []) has.list
+            ∙ append_assoc joins ops (op ∷ []) ∙ ap (λ (l : List Op). joins ++ l) (sym more);
+        holds = pending_applied k op ∙ sym (step_accepted (own_replica k) op may)
+            ∙ ap (λ (g : ReplicaState). step g op) has.holds ∙ sym (fold-append step h ops (op ∷ []))
+            ∙ ap (fold step h) (sym more);
       }
 
 pub opening_is_history : OpeningIsHistory
 opening_is_history h z b knows =
     let live = subst (IsTrimmed h.schema) (sym knows.cells) (state_is_trimmed h.schema knows.layout z.known) in
     let joins = joins_of h.cells in
-    let cells : outcome_of h.schema (joins ++ []) ≡ h.cells = ap (outcome_of h.schema) (append-nil joins) ∙ outcome_of-joins h.schema h.cells knows.layout live in
+    let cells : outcome_of h.schema (joins ++ []) ≡ h.cells = ap (outcome_of h.schema) (append-nil joins)
+    ∙ outcome_of-joins h.schema h.cells knows.layout live in
     record {
       history = record { live = live; knows = knows; honest = tt; accepted = tt };
       list = refl;
@@ -275,19 +349,29 @@ pub put_is_a_turn : PutIsATurn
 put_is_a_turn h z turns k key time value has few =
     let x : Sample = record { origin = k.origin; number = k.next; key = key; time = time; value = value } in
     one_turn h z turns k has (put x) (Put x) refl
-    (and_from (k.origin == k.origin) (nat_le k.next k.next && nat_le k.next MAX_NUMBER) (eq-eqb k.origin k.origin refl) (and_from (nat_le k.next k.next) (nat_le k.next MAX_NUMBER) (le-leb k.next k.next (omega arith)) (le-leb k.next MAX_NUMBER few)))
+    (and_from (k.origin == k.origin) (nat_le k.next k.next && nat_le k.next MAX_NUMBER) (eq-eqb k.origin k.origin refl)
+    (and_from (nat_le k.next k.next) (nat_le k.next MAX_NUMBER) (le-leb k.next k.next (omega arith))
+    (le-leb k.next MAX_NUMBER few)))
     tt
 
 pub write_is_turns : WriteIsTurns
-write_is_turns h z turns k p time [] has few = ([], subst (λ (ts : List Turn). HasHistory h z ts k) (sym (append-nil turns)) has)
+write_is_turns h z turns k p time [] has few = (
+  [],
+  subst (λ (ts : List HistoryStep). HasHistory h z ts k) (sym (append-nil turns)) has,
+)
 write_is_turns h z turns k p time (field ∷ fields) has few =
     let key = key_text p field.0 in
     let t = put (record { origin = k.origin; number = k.next; key = key; time = time; value = field.1 }) in
-    let rest = write_is_turns h z (turns ++ t ∷ []) (with_put k key time field.1) p time fields (put_is_a_turn h z turns k key time field.1 has (omega (arith, few))) (omega (arith, few)) in
-    (t ∷ rest.0, subst (λ (ts : List Turn). HasHistory h z ts (with_puts k p time (field ∷ fields))) (append_assoc turns (t ∷ []) rest.0) rest.1)
+    let rest = write_is_turns h z (turns ++ t ∷ []) (with_put k key time field.1) p time fields
+    (put_is_a_turn h z turns k key time field.1 has (omega (arith, few))) (omega (arith, few)) in (
+      t ∷ rest.0,
+      subst (λ (ts : List HistoryStep). HasHistory h z ts (with_puts k p time (field ∷ fields)))
+          (append_assoc turns (t ∷ []) rest.0) rest.1,
+    )
 
 pub join_is_a_turn : JoinIsATurn
-join_is_a_turn h z turns k known c has cell whole = one_turn h z turns k has (joined known c) (Join c) refl (cell_is_taken k.schema (owned_cell c) cell) whole
+join_is_a_turn h z turns k known c has cell whole =
+    one_turn h z turns k has (joined known c) (Join c) refl (cell_is_taken k.schema (owned_cell c) cell) whole
 
 pub publish_is_no_turn : PublishIsNoTurn
 publish_is_no_turn h z turns k has =
@@ -296,12 +380,19 @@ publish_is_no_turn h z turns k has =
     record {
       history = has.history;
       list = none ∙ has.list;
-      holds = (λ i. record { schema = k.schema; origin = k.origin; next = k.next; cells = outcome_of k.schema (none i) }) ∙ has.holds;
+      holds = (λ i. record {
+        schema = k.schema;
+        origin = k.origin;
+        next = k.next;
+        cells =
+            outcome_of k.schema (none i);
+      }) ∙ has.holds;
     }
 
 pub others_write : OthersWrite
 others_write h z turns k x has honest =
-    let same : ops_of (turns ++ elsewhere x ∷ []) ≡ ops_of turns = ops_of-append turns (elsewhere x ∷ []) ∙ append-nil (ops_of turns) in
+    let same : ops_of (turns ++ elsewhere x ∷ []) ≡ ops_of turns = ops_of-append turns (elsewhere x ∷ [])
+    ∙ append-nil (ops_of turns) in
     record {
       history = record {
         live = has.history.live;
@@ -316,9 +407,12 @@ others_write h z turns k x has honest =
 -- ---- snapshots
 
 -- an origin under which nothing was written is that of no cell
-no_cell_of : (h : Holding) (z : Scene) (origin : ℕ) → Knows h z → ((x : model.Sample) → IsWritten z.world x → x.origin ≢ origin) → (n : CellName) (c : Contribution) → get h.cells n ≡ Some c → n.origin ≢ origin
+no_cell_of : (h : ReplicaState) (z : HistoryState) (origin : ℕ) → Knows h z
+    → ((x : model.Sample) → IsWritten z.world x → x.origin ≢ origin) → (n : CellName) (c : Contribution)
+    → get h.cells n ≡ Some c → n.origin ≢ origin
 no_cell_of h z origin knows unused n c at same =
-    let x = versions_are_numbers h.schema z.world z.known n c knows.closed (ap (λ (m : Cells). get m n) (sym knows.cells) ∙ at) in
+    let x = versions_are_numbers h.schema z.world z.known n c knows.closed
+    (ap (λ (m : Cells). get m n) (sym knows.cells) ∙ at) in
     unused x.0 x.1 (x.2 ∙ same)
 
 pub loaded_is_known : LoadedIsKnown
@@ -342,9 +436,11 @@ raised_is_known h z s a origin knows holds layout since few other unused =
       refl,
       record {
         layout = layout;
-        closed = raised_is_closed a s z.world z.known found.0 (subst (λ (t : Layout). IsClosed t z.world z.known) found.1 knows.closed);
+        closed = raised_is_closed a s z.world z.known found.0
+            (subst (λ (t : Layout). IsClosed t z.world z.known) found.1 knows.closed);
         own = λ m of same. absurd (unused m.sample of.0 same);
         past = λ x was same. absurd (unused x was same);
-        cells = ap (raised_cells a) (knows.cells ∙ ap (λ (t : Layout). state t z.known) found.1) ∙ sym (raised_makes_raised_cells a s z.known found.0);
+        cells = ap (raised_cells a) (knows.cells ∙ ap (λ (t : Layout). cells_of_knowledge t z.known) found.1)
+            ∙ sym (raised_makes_raised_cells a s z.known found.0);
       },
     )

@@ -16,11 +16,11 @@ use Rattle.rr_cells.specs.declared.cell.Cell.{Cell}
 use Rattle.rr_cells.specs.declared.op.Op.{Op}
 use Rattle.rr_cells.specs.declared.op.Op.TheVariants.{Join}
 use Rattle.rr_cells.specs.CellBounds.{IsCellOf}
-use Rattle.rr_cells.specs.Holding.{Holding, IsHolding}
+use Rattle.rr_cells.specs.ReplicaState.{ReplicaState, IsReplicaState}
 use Rattle.rr_cells.specs.Listing.{owned_cell}
 use Rattle.rr_cells.specs.Operations.{outcome_of, joins_of, step, to_cell, AllAccepted}
-use Rattle.rr_cells.specs.State.{state}
-use Rattle.rr_copies.specs.Standing.{KeeperState, keeper_at_opening, with_all_published, with_pending}
+use Rattle.rr_cells.specs.State.{cells_of_knowledge}
+use Rattle.rr_copies.specs.KeeperState.{KeeperState, keeper_at_opening, with_all_published, with_pending}
 use Rattle.rr_delta.specs.Difference.{newer_cells}
 use Rattle.rr_delta.specs.Names.{NamedVersion}
 use Rattle.rr_fetch.specs.Answers.{cells_text}
@@ -30,88 +30,113 @@ use Rattle.rr_parts.specs.Snapshot.{snapshot_text}
 use Rattle.rr_raising.specs.Raising.{raised_knowledge}
 use Rattle.rr_snapshot.specs.Loading.{loaded_at}
 use Rattle.rr_desk.specs.Points.{with_put, with_puts}
-use Rattle.rr_desk.specs.Histories.{Turn, elsewhere, put, joined, Scene, Knows, IsHistory, HasHistory, IsHonest, IsWhole, AreHonest, list_of, ops_of, scene_after}
+use Rattle.rr_desk.specs.Histories.{HistoryStep, elsewhere, put, joined, HistoryState, Knows, IsHistory, HasHistory, IsHonest, IsWhole, AreHonest, list_of, ops_of, scene_after}
 
 -- a replica that takes samples of its own, and whole cells of closed knowledges, goes on to have the cells of a
 -- knowledge with no gaps
 abbrev pub OperationsAreKnown : Type 0
 OperationsAreKnown =
-    (h : Holding) (z : Scene) (turns : List Turn) → Knows h z → AreHonest h.schema h.origin z turns → AllAccepted h (ops_of turns)
+    (h : ReplicaState) (z : HistoryState) (turns : List HistoryStep) → Knows h z → AreHonest h.schema h.origin z turns
+    → AllAccepted h (ops_of turns)
     → Knows (fold step h (ops_of turns)) (scene_after h z turns)
 
 -- so the operations of a desk make the cells of such a knowledge
 abbrev pub ListsAreKnown : Type 0
-ListsAreKnown = (h : Holding) (z : Scene) (turns : List Turn) → IsHistory h z turns → outcome_of h.schema (list_of h turns) ≡ state h.schema (scene_after h z turns).known
+ListsAreKnown = (h : ReplicaState) (z : HistoryState) (turns : List HistoryStep) → IsHistory h z turns
+    → outcome_of h.schema (list_of h turns) ≡ cells_of_knowledge h.schema (scene_after h z turns).known
 
 -- a reader, which has seen a beginning of them, has seen those of a beginning of what happened
 abbrev pub BeginningsAreHistories : Type 0
 BeginningsAreHistories =
-    (h : Holding) (z : Scene) (turns : List Turn) (list : List Op) → IsHistory h z turns → IsPrefix (joins_of h.cells) list → IsPrefix list (list_of h turns)
-    → (first : List Turn) × IsPrefix first turns × IsHistory h z first × (list ≡ list_of h first)
+    (h : ReplicaState) (z : HistoryState) (turns : List HistoryStep) (list : List Op) → IsHistory h z turns
+    → IsPrefix (joins_of h.cells) list → IsPrefix list (list_of h turns)
+    → (first : List HistoryStep) × IsPrefix first turns × IsHistory h z first × (list ≡ list_of h first)
 
 -- it answers by exactly the samples that are known then
 abbrev pub AnswersAreOfSamples : Type 0
 AnswersAreOfSamples =
-    (h : Holding) (z : Scene) (turns : List Turn) (q : Request) → IsHistory h z turns
-    → cells_text h.schema (outcome_of h.schema (list_of h turns)) q ≡ fetch_text h.schema (scene_after h z turns).known q
+    (h : ReplicaState) (z : HistoryState) (turns : List HistoryStep) (q : Request) → IsHistory h z turns
+    → cells_text h.schema (outcome_of h.schema (list_of h turns)) q
+    ≡ fetch_text h.schema (scene_after h z turns).known q
 
 -- and each cell that it gives, or that the keeper saves, is a whole live cell of a closed knowledge
 abbrev pub CellsGivenAreWhole : Type 0
 CellsGivenAreWhole =
-    (h : Holding) (z : Scene) (turns : List Turn) (summary : List NamedVersion) → IsHistory h z turns
-    → All (λ e. IsWhole h.schema (scene_after h z turns).world (scene_after h z turns).known (to_cell e)) (newer_cells summary (entries (outcome_of h.schema (list_of h turns))))
+    (h : ReplicaState) (z : HistoryState) (turns : List HistoryStep) (summary : List NamedVersion) → IsHistory h z turns
+    → All (λ e. IsWhole h.schema (scene_after h z turns).world (scene_after h z turns).known (to_cell e))
+    (newer_cells summary (entries (outcome_of h.schema (list_of h turns))))
 
 abbrev pub CellsSavedAreWhole : Type 0
 CellsSavedAreWhole =
-    (h : Holding) (z : Scene) (turns : List Turn) → IsHistory h z turns
-    → All (λ e. IsWhole h.schema (scene_after h z turns).world (scene_after h z turns).known (to_cell e)) (entries (outcome_of h.schema (list_of h turns)))
+    (h : ReplicaState) (z : HistoryState) (turns : List HistoryStep) → IsHistory h z turns
+    → All (λ e. IsWhole h.schema (scene_after h z turns).world (scene_after h z turns).known (to_cell e))
+    (entries (outcome_of h.schema (list_of h turns)))
 
 -- ---- keepers
 
 -- `open`, of a replica that has the cells of such a knowledge, gives a keeper to which nothing has happened
 abbrev pub OpeningIsHistory : Type 0
-OpeningIsHistory = (h : Holding) (z : Scene) (b : Book) → Knows h z → HasHistory h z [] (keeper_at_opening h b)
+OpeningIsHistory = (h : ReplicaState) (z : HistoryState) (b : Book) → Knows h z
+    → HasHistory h z [] (keeper_at_opening h b)
 
 -- `put`, where a number is left, is a turn
 abbrev pub PutIsATurn : Type 0
 PutIsATurn =
-    (h : Holding) (z : Scene) (turns : List Turn) (k : KeeperState) (key : List ℕ) (time value : ℤ) → HasHistory h z turns k → k.next ≤ MAX_NUMBER
-    → HasHistory h z (turns ++ put (record { origin = k.origin; number = k.next; key = key; time = time; value = value }) ∷ []) (with_put k key time value)
+    (h : ReplicaState) (z : HistoryState) (turns : List HistoryStep) (k : KeeperState) (key : List ℕ) (time value : ℤ)
+    → HasHistory h z turns k → k.next ≤ MAX_NUMBER
+    → HasHistory h z (turns ++ put (record {
+      origin = k.origin;
+      number = k.next;
+      key = key;
+      time = time;
+      value =
+          value;
+    }) ∷ []) (with_put k key time value)
 
 -- `write`, where as many numbers are left, is some turns
 abbrev pub WriteIsTurns : Type 0
 WriteIsTurns =
-    (h : Holding) (z : Scene) (turns : List Turn) (k : KeeperState) (p : PointView) (time : ℤ) (fields : List (List ℕ × ℤ)) → HasHistory h z turns k → k.next + length fields ≤ MAX_NUMBER + 1
-    → (more : List Turn) × HasHistory h z (turns ++ more) (with_puts k p time fields)
+    (h : ReplicaState) (z : HistoryState) (turns : List HistoryStep) (k : KeeperState) (p : PointView) (time : ℤ)
+    (fields : List (List ℕ × ℤ)) → HasHistory h z turns k → k.next + length fields ≤ MAX_NUMBER + 1
+    → (more : List HistoryStep) × HasHistory h z (turns ++ more) (with_puts k p time fields)
 
 -- `join_cell`, of a whole cell of the schema, is a turn
 abbrev pub JoinIsATurn : Type 0
 JoinIsATurn =
-    (h : Holding) (z : Scene) (turns : List Turn) (k : KeeperState) (known : Knowledge) (c : Cell) → HasHistory h z turns k → IsCellOf k.schema (owned_cell c)
-    → IsWhole h.schema (scene_after h z turns).world known c → HasHistory h z (turns ++ joined known c ∷ []) (with_pending k (Join c))
+    (h : ReplicaState) (z : HistoryState) (turns : List HistoryStep) (k : KeeperState) (known : Knowledge) (c : Cell)
+    → HasHistory h z turns k → IsCellOf k.schema (owned_cell c)
+    → IsWhole h.schema (scene_after h z turns).world known c
+    → HasHistory h z (turns ++ joined known c ∷ []) (with_pending k (Join c))
 
 -- `publish` is none
 abbrev pub PublishIsNoTurn : Type 0
-PublishIsNoTurn = (h : Holding) (z : Scene) (turns : List Turn) (k : KeeperState) → HasHistory h z turns k → HasHistory h z turns (with_all_published k)
+PublishIsNoTurn = (h : ReplicaState) (z : HistoryState) (turns : List HistoryStep) (k : KeeperState)
+    → HasHistory h z turns k → HasHistory h z turns (with_all_published k)
 
 -- and what others write leaves the keeper
 abbrev pub OthersWrite : Type 0
 OthersWrite =
-    (h : Holding) (z : Scene) (turns : List Turn) (k : KeeperState) (x : Sample) → HasHistory h z turns k → IsHonest h.schema h.origin (scene_after h z turns) (elsewhere x)
+    (h : ReplicaState) (z : HistoryState) (turns : List HistoryStep) (k : KeeperState) (x : Sample)
+    → HasHistory h z turns k → IsHonest h.schema h.origin (scene_after h z turns) (elsewhere x)
     → HasHistory h z (turns ++ elsewhere x ∷ []) k
 
--- what a replica with the cells of such a knowledge was saved as is loaded, under an origin that wrote nothing, as one with
+-- what a replica with the cells of such a knowledge was saved as is loaded, under an origin that wrote nothing, as one
+-- with
 -- these cells again
 abbrev pub LoadedIsKnown : Type 0
 LoadedIsKnown =
-    (h : Holding) (z : Scene) (origin : ℕ) → Knows h z → IsHolding h → len h.cells ≤ MAX_SNAPSHOT_CELLS → origin ≢ h.origin → ((x : Sample) → IsWritten z.world x → x.origin ≢ origin)
-    → (new : Holding) × (loaded_at h.schema origin (snapshot_text latest h.schema h.origin (entries h.cells)) ≡ Ok new) × Knows new z
+    (h : ReplicaState) (z : HistoryState) (origin : ℕ) → Knows h z → IsReplicaState h → len h.cells ≤ MAX_SNAPSHOT_CELLS
+    → origin ≢ h.origin → ((x : Sample) → IsWritten z.world x → x.origin ≢ origin)
+    → (new : ReplicaState) × (loaded_at h.schema origin (snapshot_text latest h.schema h.origin (entries h.cells))
+    ≡ Ok new) × Knows new z
 
 -- and under a schema with one archive more as one of that schema, which has the cells of the same knowledge with the
 -- numbers of archives raised
 abbrev pub RaisedIsKnown : Type 0
 RaisedIsKnown =
-    (h : Holding) (z : Scene) (s : Layout) (a : Addition) (origin : ℕ) → Knows h z → IsHolding h → IsLayout s → addition_since s h.schema ≡ Some a
+    (h : ReplicaState) (z : HistoryState) (s : Layout) (a : Addition) (origin : ℕ) → Knows h z → IsReplicaState h
+    → IsLayout s → addition_since s h.schema ≡ Some a
     → len h.cells ≤ MAX_SNAPSHOT_CELLS → origin ≢ h.origin → ((x : Sample) → IsWritten z.world x → x.origin ≢ origin)
-    → (new : Holding) × (loaded_at s origin (snapshot_text latest h.schema h.origin (entries h.cells)) ≡ Ok new) × (new.schema ≡ s)
+    → (new : ReplicaState) × (loaded_at s origin (snapshot_text latest h.schema h.origin (entries h.cells)) ≡ Ok new)
+    × (new.schema ≡ s)
     × Knows new (record { world = z.world; known = raised_knowledge a z.known })

@@ -1,4 +1,4 @@
-pub mod Standing
+pub mod ReplicaWithRoom
 pub mod Joining
 pub mod Points
 pub mod Fault

@@ -5,12 +5,13 @@ use Rattle.rr_point.specs.Point.{PointView}
 use Rattle.rr_cells.specs.declared.op.Op.TheVariants.{Put}
 use Rattle.rr_replica.specs.declared.fault.WriteFault.{WriteFault}
 use Rattle.rr_replica.specs.declared.fault.WriteFault.TheVariants as why
-use Rattle.rr_copies.specs.Standing.{KeeperState, with_pending}
+use Rattle.rr_copies.specs.KeeperState.{KeeperState, with_pending}
 use Rattle.rr_desk.specs.declared.samples.KeyedValue.{KeyedValue}
 
 -- with a put of the next sample pending
 abbrev pub with_put : KeeperState → List ℕ → ℤ → ℤ → KeeperState
-with_put k key time value = with_pending k (Put (record { origin = k.origin; number = k.next; key = key; time = time; value = value }))
+with_put k key time value = with_pending k (Put (record
+    { origin = k.origin; number = k.next; key = key; time = time; value = value }))
 
 -- with a put of a sample of each of these fields pending, in order
 abbrev pub with_puts : KeeperState → PointView → ℤ → List (List ℕ × ℤ) → KeeperState

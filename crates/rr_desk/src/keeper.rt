@@ -6,10 +6,10 @@ ghost use Rattle.rr_text.specs.declared.limits.TheConstants.{MAX_NUMBER};
 ghost use Rattle.rr_io.specs.Counted.{inner_of, failures_of, HasRisen};
 ghost use Rattle.rr_io.specs.Stream.{AppendsPrefix};
 ghost use Rattle.rr_cells.specs.CellBounds.{IsCellOf};
-ghost use Rattle.rr_cells.specs.Holding.{IsHolding};
+ghost use Rattle.rr_cells.specs.ReplicaState.{IsReplicaState};
 ghost use Rattle.rr_cells.specs.Listing.{at_most_usize, owned_cell};
 ghost use Rattle.rr_cells.specs.declared.op.Op.TheVariants.{Join};
-ghost use Rattle.rr_replica.specs.Standing.{held};
+ghost use Rattle.rr_replica.specs.ReplicaWithRoom.{replica_state};
 ghost use Rattle.rr_delta.specs.Difference.{IsSummary};
 ghost use Rattle.rr_delta.specs.Names.{IsNameOf, name_in, named_version, owned_name, versions_of};
 ghost use Rattle.rr_delta.specs.Summaries.{cells_after};
@@ -17,7 +17,7 @@ ghost use Rattle.rr_page.specs.Version.{latest};
 ghost use Rattle.rr_parts.specs.Snapshot.{snapshot_text};
 ghost use Rattle.rr_parts.specs.declared.heading.TheConstants.{MAX_SNAPSHOT_CELLS};
 ghost use Rattle.rr_desk.specs.Points.{with_put};
-ghost use Rattle.rr_copies.specs.Standing.{cells_of, holding_of, with_all_published, with_pending};
+ghost use Rattle.rr_copies.specs.KeeperState.{cells_of, own_replica, with_all_published, with_pending};
 
 use crate::note::Note;
 use crate::order::Order;
@@ -55,7 +55,7 @@ impl<A: Cells> Model for Keeper<A>
 where
     Shown<A>: Absorb<Change, State = CopyState>,
 {
-    ghost use Rattle.rr_copies.specs.Standing.{KeeperState};
+    ghost use Rattle.rr_copies.specs.KeeperState.{KeeperState};
 
     ghost Value = { KeeperState };
 
@@ -66,13 +66,13 @@ impl<A: Cells> Keeper<A> {
     /// The schema of all cells.
     pub fn schema(&self) -> &Schema
         ensures value { result.now ≡ self.now.schema }
-        ensures holds { IsHolding (holding_of self.now) }
+        ensures holds { IsReplicaState (own_replica self.now) }
     {
         self.copies.replica().schema()
     }
 
-    /// How many cells all operations make, pending ones too; the greatest value of the type, where it can't
-    /// hold that many. The cost is linear in the series.
+    /// How many cells all operations make, pending ones too; the greatest value of the type, where
+    /// it can't hold that many. The cost is linear in the series.
     pub fn cell_count(&self) -> usize
         ensures { result ≡ at_most_usize (len (cells_of self.now)) }
     {
@@ -86,13 +86,14 @@ impl<A: Cells> Keeper<A> {
         self.copies.replica().next_number()
     }
 
-    /// Puts a sample of a key under the next number, which is the answer. The time is in nanoseconds
-    /// since the Unix epoch. Readers don't see the sample before it is published.
+    /// Puts a sample of a key under the next number, which is the answer. The time is in
+    /// nanoseconds since the Unix epoch. Readers don't see the sample before it is published.
     ///
     /// Refused as `NumbersSpent` where the next number is past 2^40. After a refusal nothing has
     /// changed. The cost is that of `Replica::put`, once here and once in each copy when it is
-    /// published, where the key is mostly found without a look-up, and here too if series come in the order
-    /// in which they came before. Where the row is in memory only the list of pending operations grows.
+    /// published, where the key is mostly found without a look-up, and here too if series come in
+    /// the order in which they came before. Where the row is in memory only the list of pending
+    /// operations grows.
     pub fn put(&mut self, key: &SeriesKey, time: i64, value: i64) -> Result<u64, PutFault>
         ensures number { IfOk result (λ number. number ≡ self.old.next) }
         ensures pending { OnOk result (self.new ≡ with_put self.old key.now time value) }
@@ -109,8 +110,8 @@ impl<A: Cells> Keeper<A> {
         self.put_at(hint, key, time, value)
     }
 
-    /// Puts a sample of a key as [`Keeper::put`] does, with a hint where its series is. The operation takes the
-    /// key over.
+    /// Puts a sample of a key as [`Keeper::put`] does, with a hint where its series is. The
+    /// operation takes the key over.
     pub(crate) fn put_at(
         &mut self,
         hint: Hint,
@@ -139,8 +140,8 @@ impl<A: Cells> Keeper<A> {
         Ok(number)
     }
 
-    /// Where the series is that is likely to be put to next: the one that came after the last one the time
-    /// before. No contract says which it is.
+    /// Where the series is that is likely to be put to next: the one that came after the last one
+    /// the time before. No contract says which it is.
     pub fn likely_next(&self) -> Hint {
         self.order.next()
     }
@@ -156,8 +157,8 @@ impl<A: Cells> Keeper<A> {
     }
 
     /// Joins a cell from elsewhere, which is valid under the schema, as `Replica::join_cell` does.
-    /// Readers don't see it before it is published. After an error nothing has changed. The cost is that of
-    /// `Replica::join_cell`, once here and once in each copy when it is published.
+    /// Readers don't see it before it is published. After an error nothing has changed. The cost is
+    /// that of `Replica::join_cell`, once here and once in each copy when it is published.
     pub fn join_cell(&mut self, cell: &Cell) -> Result<(), AllocError>
         requires { IsCellOf self.old.schema (owned_cell cell.now) }
         ensures pending { OnOk result (self.new ≡ with_pending self.old (Join cell.now)) }
@@ -166,14 +167,15 @@ impl<A: Cells> Keeper<A> {
         self.copies.push(Hint::none(), Op::Join(cell.copy()?))
     }
 
-    /// The names and versions of as many cells as `count` from a place on, in the order of the names;
-    /// fewer where there are fewer. They are those of all operations, pending ones too. The cost is that of
-    /// [`rr_delta::summary`].
+    /// The names and versions of as many cells as `count` from a place on, in the order of the
+    /// names; fewer where there are fewer. They are those of all operations, pending ones too. The
+    /// cost is that of [`rr_delta::summary`].
     pub fn names(&self, alloc: Global, from: usize, count: usize) -> Result<Vec<Name>, AllocError>
         ensures listed { IfOk result (λ names.
             map owned_name names.items ≡ take count (drop from (versions_of (cells_of self.now)))) }
         ensures ascending { IfOk result (λ names. IsSummary (map owned_name names.items)) }
-        ensures of_schema { IfOk result (λ names. All (λ n. IsNameOf self.now.schema (owned_name n)) names.items) }
+        ensures of_schema { IfOk result (λ names. All (λ n. IsNameOf self.now.schema (owned_name n))
+            names.items) }
     {
         summary(alloc, self.copies.replica(), from, count)
     }
@@ -188,14 +190,17 @@ impl<A: Cells> Keeper<A> {
         count: usize,
     ) -> Result<Vec<Name>, AllocError>
         ensures listed { IfOk result (λ names. map owned_name names.items
-            ≡ take count (map named_version (cells_after (name_in after.entry) (entries (cells_of self.now))))) }
+            ≡ take count (map named_version (cells_after (name_in after.entry)
+            (entries (cells_of self.now))))) }
         ensures ascending { IfOk result (λ names. IsSummary (map owned_name names.items)) }
-        ensures of_schema { IfOk result (λ names. All (λ n. IsNameOf self.now.schema (owned_name n)) names.items) }
+        ensures of_schema { IfOk result (λ names. All (λ n. IsNameOf self.now.schema (owned_name n))
+            names.items) }
     {
         summary_after(alloc, self.copies.replica(), after, count)
     }
 
-    /// Writes the cells of all operations, pending ones too, as a snapshot: see `rr_snapshot::save`, whose cost it has.
+    /// Writes the cells of all operations, pending ones too, as a snapshot: see
+    /// `rr_snapshot::save`, whose cost it has.
     pub fn save<W: Write>(&self, alloc: Global, output: &mut Counted<W>) -> Result<(), SaveFault>
         ensures whole { OnOk result (Appends (W.contents (inner_of output.old))
             (W.contents (inner_of output.new))
@@ -212,8 +217,9 @@ impl<A: Cells> Keeper<A> {
         rr_snapshot::save(alloc, self.copies.replica(), output)
     }
 
-    /// Shows readers all pending operations, at one step. It waits for readers that are still in the
-    /// copy that is not shown. Where it is refused, nothing has changed, and readers see what they saw.
+    /// Shows readers all pending operations, at one step. It waits for readers that are still in
+    /// the copy that is not shown. Where it is refused, nothing has changed, and readers see what
+    /// they saw.
     ///
     /// The cost is that of applying the operations to each copy once, however large the replica is.
     pub fn publish<R: Wait>(&mut self, rt: &R) -> Result<(), AllocError>
@@ -235,7 +241,7 @@ impl<A: Cells> Keeper<A> {
     /// Gives the keeper's own replica. It waits for readers that are in a copy; after it no reader
     /// enters, and each of its calls answers `Memory`.
     pub fn close<R: Wait>(self, rt: &R) -> Replica<A>
-        ensures { held result ≡ holding_of self }
+        ensures { replica_state result ≡ own_replica self }
     {
         let Keeper {
             alloc: _,

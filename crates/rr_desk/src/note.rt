@@ -12,7 +12,7 @@ pub struct Note {
 
 impl Model for Note {
     ghost use Rattle.rr_copies.specs.Editions.{flat};
-    ghost use Rattle.rr_desk.specs.Standing.{NoteState};
+    ghost use Rattle.rr_desk.specs.ReaderState.{NoteState};
 
     ghost Value = { NoteState };
 

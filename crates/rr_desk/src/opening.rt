@@ -2,13 +2,13 @@
 ghost use Rattle.std.specs.Prelude.{◌≡◌, ◌≤◌, ◌↔◌, All, [], true, length, IfErr, IfOk, OnOk};
 ghost use Rattle.left_right.specs.Sides.{view};
 ghost use Rattle.rr_text.specs.declared.limits.TheConstants.{MAX_READERS};
-ghost use Rattle.rr_cells.specs.Holding.{IsHolding};
+ghost use Rattle.rr_cells.specs.ReplicaState.{IsReplicaState};
 ghost use Rattle.rr_cells.specs.Operations.{joins_of};
-ghost use Rattle.rr_replica.specs.Standing.{held};
+ghost use Rattle.rr_replica.specs.ReplicaWithRoom.{replica_state};
 ghost use Rattle.rr_copies.specs.Editions.{flat};
 ghost use Rattle.rr_copies.specs.Rule.{keeper_of};
-ghost use Rattle.rr_copies.specs.Standing.{keeper_at_opening};
-ghost use Rattle.rr_desk.specs.Standing.{HasSeen};
+ghost use Rattle.rr_copies.specs.KeeperState.{keeper_at_opening};
+ghost use Rattle.rr_desk.specs.ReaderState.{HasSeen};
 ghost use Rattle.rr_copies.specs.Writers.{changes};
 ghost use Rattle.rr_desk.specs.declared.fault.OpenFault.TheVariants.{BadCount};
 
@@ -82,9 +82,11 @@ fn begin<A: Cells, R: Wait>(
 ) -> Result<(DeskWriter<A>, Editions, Vec<Reader<A>>), AllocError>
     requires some_reader { 1 ≤ readers }
     requires few_readers { readers ≤ MAX_READERS }
-    ensures holds { OnOk result (IsHolding (held replica.now)) }
-    ensures view { IfOk result (λ r. view r.0.desk.place ≡ keeper_of (held replica.now) r.1.desk) }
-    ensures copy { IfOk result (λ r. held r.0.desk.shown.value.replica ≡ held replica.now) }
+    ensures holds { OnOk result (IsReplicaState (replica_state replica.now)) }
+    ensures view { IfOk result (λ r. view r.0.desk.place
+        ≡ keeper_of (replica_state replica.now) r.1.desk) }
+    ensures copy { IfOk result (λ r. replica_state r.0.desk.shown.value.replica
+        ≡ replica_state replica.now) }
     ensures front { IfOk result (λ r. r.0.desk.shown.value.front ≡ r.1) }
     ensures pending { IfOk result (λ r. changes r.0 ≡ []) }
     ensures book { IfOk result (λ r. flat r.1.editions ≡ joins_of replica.now.cells) }
@@ -100,22 +102,24 @@ fn begin<A: Cells, R: Wait>(
     }
 }
 
-/// Opens a desk of a replica, with from 1 to 16 readers. The keeper has the replica, and each reader
-/// has seen one join for each of its cells.
+/// Opens a desk of a replica, with from 1 to 16 readers. The keeper has the replica, and each
+/// reader has seen one join for each of its cells.
 ///
-/// Refused as `BadCount` for another number of readers, and as `Memory`; a refusal hands the replica
-/// back unchanged. The cost is that of copying the replica twice.
+/// Refused as `BadCount` for another number of readers, and as `Memory`; a refusal hands the
+/// replica back unchanged. The cost is that of copying the replica twice.
 pub fn open<A: Cells, R: Wait>(
     alloc: Global,
     rt: &R,
     replica: Replica<A>,
     readers: usize,
 ) -> Result<(Keeper<A>, Vec<Reader<A>>), (OpenFault, Replica<A>)>
-    ensures keeper { IfOk result (λ r. r.0 ≡ keeper_at_opening (held replica) r.0.desk) }
+    ensures keeper { IfOk result (λ r. r.0 ≡ keeper_at_opening (replica_state replica) r.0.desk) }
     ensures count { IfOk result (λ r. length r.1.items ≡ readers) }
-    ensures seen { IfOk result (λ r. All (HasSeen r.0.desk replica.schema r.0.published) r.1.items) }
+    ensures seen { IfOk result (λ r. All (HasSeen r.0.desk replica.schema r.0.published)
+        r.1.items) }
     ensures accepted { OnOk result ((1 ≤ readers) × (readers ≤ MAX_READERS)) }
-    ensures refused { IfErr result (λ e. e.0 ≡ BadCount ↔ ¬ ((1 ≤ readers) × (readers ≤ MAX_READERS))) }
+    ensures refused { IfErr result (λ e. e.0 ≡ BadCount
+        ↔ ¬ ((1 ≤ readers) × (readers ≤ MAX_READERS))) }
     ensures unchanged { IfErr result (λ e. e.1 ≡ replica) }
 {
     if readers == 0 || readers > MAX_READERS {

@@ -3,10 +3,11 @@
 use rr_replica::Hint;
 use std::alloc::Global;
 
-/// For each series, the one that came after it the last time: whoever sends readings mostly sends them in one
-/// order.
+/// For each series, the one that came after it the last time: whoever sends readings mostly sends
+/// them in one order.
 ///
-/// These are hints, on which no answer depends. A series that memory is refused for has no successor.
+/// These are hints, on which no answer depends. A series that memory is refused for has no
+/// successor.
 #[derive(Drop)]
 pub(crate) struct Order {
     after: Vec<Hint>,

@@ -4,7 +4,7 @@ ghost use Rattle.rr_text.specs.declared.limits.TheConstants.{MAX_FIELDS, MAX_NUM
 ghost use Rattle.rr_key.specs.Making.{making_fault};
 ghost use Rattle.rr_point.specs.Key.{HasKeys, IsWritable, key_text, names_of};
 ghost use Rattle.rr_point.specs.Point.{point_view};
-ghost use Rattle.rr_copies.specs.Standing.{holding_of};
+ghost use Rattle.rr_copies.specs.KeeperState.{own_replica};
 
 use crate::keeper::Keeper;
 use rr_archive::Cells;
@@ -19,8 +19,8 @@ impl<A: Cells> Keeper<A> {
     ghost use Rattle.rr_desk.specs.Points.{put_before, with_put, with_puts};
 
     /// Puts a sample of each field of a point, in the line's order, under as many numbers, and
-    /// answers how many. A point without a time takes `now`. Times are in nanoseconds since the Unix
-    /// epoch, the lead too. Readers don't see the samples before they are published.
+    /// answers how many. A point without a time takes `now`. Times are in nanoseconds since the
+    /// Unix epoch, the lead too. Readers don't see the samples before they are published.
     ///
     /// Refused as `AheadOfClock` where the point's own time is greater than `now + lead`, and as
     /// `NumbersSpent` where fewer numbers are left than the point has fields; nothing has then
@@ -37,11 +37,15 @@ impl<A: Cells> Keeper<A> {
         ensures put { OnOk result (self.new
             ≡ with_puts self.old (point_view point.now) (unwrap_or point.now.time now)
             (point_view point.now).fields) }
-        ensures ahead { (result ≡ Err WriteFault.AheadOfClock) ↔ IsTrue (is_ahead point.now.time now lead) }
-        ensures spent { (result ≡ Err WriteFault.NumbersSpent) ↔ (IsFalse (is_ahead point.now.time now lead)
-            × IsTrue (lacks_numbers (holding_of self.old) (length point.now.fields.items))) }
-        ensures refused { IfErr result (λ fault. self.new ≡ with_puts self.old (point_view point.now)
-            (unwrap_or point.now.time now) (take (put_before fault) (point_view point.now).fields)) }
+        ensures ahead { (result ≡ Err WriteFault.AheadOfClock)
+            ↔ IsTrue (is_ahead point.now.time now lead) }
+        ensures spent { (result ≡ Err WriteFault.NumbersSpent)
+            ↔ (IsFalse (is_ahead point.now.time now lead)
+            × IsTrue (lacks_numbers (own_replica self.old) (length point.now.fields.items))) }
+        ensures refused { IfErr result (λ fault. self.new
+            ≡ with_puts self.old (point_view point.now)
+            (unwrap_or point.now.time now) (take (put_before fault)
+            (point_view point.now).fields)) }
         ensures fields_left { (put : ℕ) → result ≡ Err (WriteFault.Memory put)
             → put < length point.now.fields.items }
     {
@@ -54,10 +58,12 @@ impl<A: Cells> Keeper<A> {
         self.put_fields(point, point.time.unwrap_or(now))
     }
 
-    /// Puts a sample of a key, as [`Keeper::write`] puts that of a point whose one field has this key.
+    /// Puts a sample of a key, as [`Keeper::write`] puts that of a point whose one field has this
+    /// key.
     ///
-    /// The hint says where its series is, and the operation takes the key over. Refused as `AheadOfClock`, as
-    /// `NumbersSpent` and as `Memory` as there; nothing has then changed. The cost is that of the put.
+    /// The hint says where its series is, and the operation takes the key over. Refused as
+    /// `AheadOfClock`, as `NumbersSpent` and as `Memory` as there; nothing has then changed. The
+    /// cost is that of the put.
     pub fn write_sample(
         &mut self,
         hint: Hint,
@@ -70,7 +76,7 @@ impl<A: Cells> Keeper<A> {
         ensures put { OnOk result (self.new ≡ with_put self.old key (unwrap_or time now) value) }
         ensures ahead { (result ≡ Err WriteFault.AheadOfClock) ↔ IsTrue (is_ahead time now lead) }
         ensures spent { (result ≡ Err WriteFault.NumbersSpent) ↔ (IsFalse (is_ahead time now lead)
-            × IsTrue (lacks_numbers (holding_of self.old) 1)) }
+            × IsTrue (lacks_numbers (own_replica self.old) 1)) }
         ensures unchanged { OnErr result (self.new ≡ self.old) }
     {
         if is_ahead(time, now, lead) {
@@ -89,12 +95,14 @@ impl<A: Cells> Keeper<A> {
     fn put_fields(&mut self, point: &Point<'_>, time: i64) -> Result<u32, WriteFault>
         requires keyed { HasKeys (point_view point.now) }
         requires few_fields { length point.now.fields.items ≤ MAX_FIELDS }
-        requires numbers_left { IsFalse (lacks_numbers (holding_of self.old) (length point.now.fields.items)) }
+        requires numbers_left { IsFalse (lacks_numbers (own_replica self.old)
+            (length point.now.fields.items)) }
         ensures count { IfOk result (λ count. count ≡ length point.now.fields.items) }
         ensures put { OnOk result (self.new
             ≡ with_puts self.old (point_view point.now) time (point_view point.now).fields) }
         ensures refused { IfErr result (λ fault. (put : ℕ) × (fault ≡ WriteFault.Memory put)
-            × (self.new ≡ with_puts self.old (point_view point.now) time (take put (point_view point.now).fields))) }
+            × (self.new ≡ with_puts self.old (point_view point.now) time
+            (take put (point_view point.now).fields))) }
         ensures fields_left { (put : ℕ) → result ≡ Err (WriteFault.Memory put)
             → put < length point.now.fields.items }
     {
@@ -118,7 +126,8 @@ impl<A: Cells> Keeper<A> {
         requires keyed { making_fault (names_of (point_view point.now) field.now.key.now) ≡ None }
         requires number_left { self.old.next ≤ MAX_NUMBER }
         ensures put { OnOk result (self.new
-            ≡ with_put self.old (key_text (point_view point.now) field.now.key.now) time field.now.value) }
+            ≡ with_put self.old (key_text (point_view point.now) field.now.key.now) time
+            field.now.value) }
         ensures unchanged { OnErr result (self.new ≡ self.old) }
     {
         let mut text = replace(&mut self.text, Vec::new(self.alloc));

@@ -10,7 +10,7 @@ ghost use Rattle.rr_delta.specs.Names.{owned_name};
 ghost use Rattle.rr_delta.specs.Difference.{IsSummary, newer_cells};
 ghost use Rattle.rr_fetch.specs.Answers.{cells_text};
 ghost use Rattle.rr_request.specs.Requests.{request_view, IsFetchable};
-ghost use Rattle.rr_desk.specs.Standing.{cells_seen, HasSeenMore};
+ghost use Rattle.rr_desk.specs.ReaderState.{cells_seen, HasSeenMore};
 ghost use Rattle.rr_desk.specs.Gate.{LetsPass};
 
 use crate::fault::FetchFault;
@@ -35,7 +35,7 @@ pub struct Reader<A: Cells> {
 }
 
 impl<A: Cells> Model for Reader<A> {
-    ghost use Rattle.rr_desk.specs.Standing.{ReaderState, IsSeated, view_in};
+    ghost use Rattle.rr_desk.specs.ReaderState.{ReaderState, IsSeated, view_in};
 
     ghost Value = { ReaderState };
 
@@ -93,8 +93,8 @@ impl<A: Cells> Reader<A> {
     }
 
     /// The answer to a request after the operations that the reader has seen when the call returns.
-    /// They begin with those that it had seen before, also where no answer is made. The cost is that of
-    /// [`rr_fetch::answer_text`], here and through a gate.
+    /// They begin with those that it had seen before, also where no answer is made. The cost is
+    /// that of [`rr_fetch::answer_text`], here and through a gate.
     pub fn fetch(&mut self, alloc: Global, request: &Request) -> Result<Vec<u8>, AllocError>
         requires { IsFetchable self.old.schema (request_view request.now) }
         ensures seen { HasSeenMore self.old self.new }

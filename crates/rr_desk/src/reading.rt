@@ -33,7 +33,8 @@ pub fn answer<A: Cells, G: Gate>(
     requires fetchable { IsFetchable (view seat.place).schema (request_view request.now) }
     ensures seen { Saw (view seat.place) (view result.0.place) }
     ensures answer { IfOk result.1 (λ text. text.items ≡ cells_text (view seat.place).schema
-        (outcome_of (view seat.place).schema (view result.0.place).seen) (request_view request.now)) }
+        (outcome_of (view seat.place).schema (view result.0.place).seen)
+        (request_view request.now)) }
     ensures gate { LetsPass result.1 (G.calls gate.old) (G.calls gate.new) }
 {
     let reading = match seat.enter_as::<Enters>() {

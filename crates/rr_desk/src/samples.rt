@@ -1,7 +1,7 @@
 //! Samples of series that are known, put one after the other.
 ghost use Rattle.std.specs.Prelude.{◌≡◌, ℕ, ◌≤◌, ◌↔◌, length, map, take, Err, IfOk, IfErr, OnOk, IsTrue, IsFalse, unwrap_or};
 ghost use Rattle.rr_text.specs.declared.limits.TheConstants.{MAX_FIELDS};
-ghost use Rattle.rr_copies.specs.Standing.{holding_of};
+ghost use Rattle.rr_copies.specs.KeeperState.{own_replica};
 
 use crate::keeper::Keeper;
 use rr_archive::Cells;
@@ -21,10 +21,11 @@ impl<A: Cells> Keeper<A> {
     ghost use Rattle.rr_replica.specs.Writing.{is_ahead, lacks_numbers};
     ghost use Rattle.rr_desk.specs.Points.{keyed_value, put_before, with_samples};
 
-    /// Puts a sample of each value, in order, as [`Keeper::write`] puts those of a point whose fields have
-    /// these keys, and answers how many.
+    /// Puts a sample of each value, in order, as [`Keeper::write`] puts those of a point whose
+    /// fields have these keys, and answers how many.
     ///
-    /// Refused as `AheadOfClock`, as `NumbersSpent` and as `Memory` as there. The cost is that of the puts.
+    /// Refused as `AheadOfClock`, as `NumbersSpent` and as `Memory` as there. The cost is that of
+    /// the puts.
     pub fn write_samples(
         &mut self,
         values: &[KeyedValue],
@@ -38,8 +39,9 @@ impl<A: Cells> Keeper<A> {
             ≡ with_samples self.old (unwrap_or time now) (map keyed_value values.now)) }
         ensures ahead { (result ≡ Err WriteFault.AheadOfClock) ↔ IsTrue (is_ahead time now lead) }
         ensures spent { (result ≡ Err WriteFault.NumbersSpent) ↔ (IsFalse (is_ahead time now lead)
-            × IsTrue (lacks_numbers (holding_of self.old) (length values.now))) }
-        ensures refused { IfErr result (λ fault. self.new ≡ with_samples self.old (unwrap_or time now)
+            × IsTrue (lacks_numbers (own_replica self.old) (length values.now))) }
+        ensures refused { IfErr result (λ fault. self.new
+            ≡ with_samples self.old (unwrap_or time now)
             (take (put_before fault) (map keyed_value values.now))) }
     {
         if is_ahead(time, now, lead) {
@@ -55,7 +57,8 @@ impl<A: Cells> Keeper<A> {
     fn put_values(&mut self, values: &[KeyedValue], time: i64) -> Result<u32, WriteFault>
         requires { length values.now ≤ MAX_FIELDS }
         ensures count { IfOk result (λ count. count ≡ length values.now) }
-        ensures put { OnOk result (self.new ≡ with_samples self.old time (map keyed_value values.now)) }
+        ensures put { OnOk result (self.new ≡ with_samples self.old time
+            (map keyed_value values.now)) }
         ensures refused { IfErr result (λ fault. (put : ℕ) × (fault ≡ WriteFault.Memory put)
             × (self.new ≡ with_samples self.old time (take put (map keyed_value values.now)))) }
     {

@@ -10,9 +10,9 @@ use std::alloc::{AllocError, Global};
 
 impl<A: Cells> Target for Keeper<A> {
     ghost use Rattle.std.specs.Prelude.{refl};
-    ghost use Rattle.rr_copies.specs.Standing.{cells_of};
+    ghost use Rattle.rr_copies.specs.KeeperState.{cells_of};
     ghost use Rattle.rr_desk.specs.Joining.{map_joined, then_joined};
-    ghost use Rattle.rr_desk.specs.Standing.{HasJoined};
+    ghost use Rattle.rr_desk.specs.ReaderState.{HasJoined};
 
     ghost layout = { λ k. k.schema };
 
@@ -52,7 +52,7 @@ impl<A: Cells> Source for Reader<A> {
     ghost use Rattle.std.specs.Prelude.{[], ◌++◌, refl};
     ghost use Rattle.std.proofs.Common.{◌∙◌, append_assoc, ap, sym};
     ghost use Rattle.std.proofs.lemmas.List.{append-nil};
-    ghost use Rattle.rr_desk.specs.Standing.{HasSeenMore, cells_seen};
+    ghost use Rattle.rr_desk.specs.ReaderState.{HasSeenMore, cells_seen};
 
     ghost layout = { λ r. r.schema };
 

@@ -26,8 +26,10 @@ pub trait FromToml: Sized {
     /// `MissingField`, `WrongKind`; then those of [`Schema::new`], where a number that doesn't fit
     /// 32 bits is out of its range. The cost is linear in the archives, but for the look-ups.
     fn from_table(alloc: Global, table: &Table) -> Result<Self, SchemaFault>
-        ensures read { GivesUnless SchemaFault.Memory layout result (layout_in (table_view table.now)) }
-        ensures memory { NeedsMemoryAfter SchemaFault.Memory (tables_in (table_view table.now)) result };
+        ensures read { GivesUnless SchemaFault.Memory layout result
+            (layout_in (table_view table.now)) }
+        ensures memory { NeedsMemoryAfter SchemaFault.Memory (tables_in (table_view table.now))
+            result };
 
     /// The schema that a text writes.
     ///

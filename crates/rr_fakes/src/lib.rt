@@ -1,7 +1,8 @@
-//! Stand-ins for tests: streams that give little, fail or hold bytes back, memory that is refused, and small replicas.
+//! Stand-ins for tests: streams that give little, fail or hold bytes back, memory that is refused,
+//! and small replicas.
 //!
-//! A test hands a call one of these in place of a connection or a file. Nothing is known of them but
-//! that they run: what they do is written in their bodies, and a test says what comes of it.
+//! A test hands a call one of these in place of a connection or a file. Nothing is known of them
+//! but that they run: what they do is written in their bodies, and a test says what comes of it.
 //!
 //! | Module | Stands for |
 //! |---|---|

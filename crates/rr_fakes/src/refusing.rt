@@ -1,9 +1,9 @@
 //! Growths that are refused.
 //!
-//! What a call takes comes from the C library's heap, and no allocator of a test's own can be handed in. So who
-//! refuses stands between the built program and the C library (`tools/refuse.c`), and is asked by blocks of 2^62
-//! bytes and more, which are never there. Where nobody stands there these calls do nothing, and no growth is
-//! refused.
+//! What a call takes comes from the C library's heap, and no allocator of a test's own can be
+//! handed in. So who refuses stands between the built program and the C library (`tools/refuse.c`),
+//! and is asked by blocks of 2^62 bytes and more, which are never there. Where nobody stands there
+//! these calls do nothing, and no growth is refused.
 
 use std::alloc::Global;
 

@@ -34,7 +34,8 @@ fn fill<A: Cells>(replica: &mut Replica<A>, key: &SeriesKey, count: u32) -> Resu
     Ok(())
 }
 
-/// One that holds 7 at the beginning of each of the first minutes, `count` of them, of the key `m v`.
+/// One that holds 7 at the beginning of each of the first minutes, `count` of them, of the key `m
+/// v`.
 pub fn filled<A: Cells>(alloc: Global, origin: u16, rows: u32, count: u32) -> Result<Replica<A>> {
     let mut replica = minutes(alloc, origin, rows)?;
     fill(&mut replica, &SeriesKey::parse_text(alloc, b"m v")?, count)?;

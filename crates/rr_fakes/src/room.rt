@@ -26,8 +26,9 @@ pub fn with_room(alloc: Global, left: usize) -> Counted<Room> {
     })
 }
 
-/// A counted writer with room for `left` bytes that takes at most `size` bytes at each call but the one
-/// after `calls` calls, which fails. It takes its memory beforehand, so that none is refused to it.
+/// A counted writer with room for `left` bytes that takes at most `size` bytes at each call but the
+/// one after `calls` calls, which fails. It takes its memory beforehand, so that none is refused to
+/// it.
 pub fn failing_room(
     alloc: Global,
     size: usize,

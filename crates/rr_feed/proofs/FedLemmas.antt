@@ -28,10 +28,12 @@ pub IsFed-all : FedHandsOutAll
 IsFed-all pushed handed s nothing fed =
     let whole = fed [] s.ended (λ e. (refl, e)) in
     let left : items_left (with_more s [] s.ended) ≡ [] = rw (append-nil s.left) nothing in
-    sym (append-nil handed) ∙ ap (λ (rest : List Item). handed ++ rest) (sym left) ∙ sym whole ∙ ap (items s.ended) (append-nil pushed)
+    sym (append-nil handed) ∙ ap (λ (rest : List Item). handed ++ rest) (sym left) ∙ sym whole
+    ∙ ap (items s.ended) (append-nil pushed)
 
 -- what was handed out is the first of the items that were left
-pub items_left-handed : (item : Option Item) (old new : FeedState) → HandsOut old item new → items_left old ≡ item_list item ++ items_left new
+pub items_left-handed : (item : Option Item) (old new : FeedState) → HandsOut old item new
+    → items_left old ≡ item_list item ++ items_left new
 items_left-handed item old new hands =
     ap (λ (left : List ℕ). items_left (state left old.skipping old.ended)) (sym (append-nil old.left))
     ∙ hands.first [] old.ended (λ e. (refl, e))

@@ -12,7 +12,8 @@ use Rattle.rr_feed.specs.Next.{IsCut, IsEnd}
 use Rattle.rr_feed.proofs.PieceLemmas.{some_pieces, pieces_line, pieces_last, pieces_front, items_of_line, items_of_long, last_items_line, last_items_none, IsLine-item_of}
 
 -- the pieces of what is cut, and of what comes after it
-pieces_cut : (left line rest more : List ℕ) → IsCut left line rest → pieces (left ++ more) ≡ line ∷ pieces (rest ++ more)
+pieces_cut : (left line rest more : List ℕ) → IsCut left line rest
+    → pieces (left ++ more) ≡ line ∷ pieces (rest ++ more)
 pieces_cut left line rest more cut =
     ap (λ (bytes : List ℕ). pieces (bytes ++ more)) cut.whole
     ∙ ap pieces (append_assoc line (LINE_FEED ∷ rest) more)
@@ -21,9 +22,11 @@ pieces_cut left line rest more cut =
 shorter : (left line rest : List ℕ) → IsCut left line rest → length rest + 1 ≤ length left
 shorter left line rest cut = omega (arith, ap length cut.whole, length-append line (LINE_FEED ∷ rest))
 
-pub line_is_handed : (left line rest : List ℕ) (ended : Bool) → IsCut left line rest → HandsOut (state left false ended) (Some (item_of line)) (state rest false ended)
+pub line_is_handed : (left line rest : List ℕ) (ended : Bool) → IsCut left line rest
+    → HandsOut (state left false ended) (Some (item_of line)) (state rest false ended)
 line_is_handed left line rest ended cut = record {
-  first = λ more end may. ap (items_of end) (pieces_cut left line rest more cut) ∙ items_of_line end line (rest ++ more);
+  first = λ more end may. ap (items_of end) (pieces_cut left line rest more cut)
+      ∙ items_of_line end line (rest ++ more);
   none = λ e. absurd cc;
   line = IsLine-item_of line cut.none;
   ended = refl;
@@ -31,12 +34,15 @@ line_is_handed left line rest ended cut = record {
   few = λ e. absurd cc;
 }
 
-pub too_long_is_handed : (left : List ℕ) (ended : Bool) → HasNoLineFeed left → MAX_LINE < length left → HandsOut (state left false ended) (Some TooLong) (state [] true ended)
+pub too_long_is_handed : (left : List ℕ) (ended : Bool) → HasNoLineFeed left → MAX_LINE < length left
+    → HandsOut (state left false ended) (Some TooLong) (state [] true ended)
 too_long_is_handed left ended none long = record {
   first = λ more end may.
       let some = some_pieces more in
       let longer : MAX_LINE < length (left ++ some.0) = omega (arith, length-append left some.0) in
-      ap (items_of end) (pieces_front left more some.0 some.1 none some.2) ∙ items_of_long end (left ++ some.0) some.1 longer ∙ ap (λ (ps : List (List ℕ)). TooLong ∷ items_of end (drop 1 ps)) (sym some.2);
+      ap (items_of end) (pieces_front left more some.0 some.1 none some.2)
+      ∙ items_of_long end (left ++ some.0) some.1 longer
+      ∙ ap (λ (ps : List (List ℕ)). TooLong ∷ items_of end (drop 1 ps)) (sym some.2);
   none = λ e. absurd cc;
   line = tt;
   ended = refl;
@@ -44,13 +50,16 @@ too_long_is_handed left ended none long = record {
   few = λ e. absurd cc;
 }
 
-pub last_is_handed : (left : List ℕ) (ended : Bool) → HasNoLineFeed left → ltb MAX_LINE (length left) ≡ false → (ended && not (eqb (length left) 0)) ≡ true → HandsOut (state left false ended) (Some (Line left)) (state [] false ended)
+pub last_is_handed : (left : List ℕ) (ended : Bool) → HasNoLineFeed left → ltb MAX_LINE (length left) ≡ false
+    → (ended && not (eqb (length left) 0)) ≡ true → HandsOut (state left false ended) (Some (Line left))
+    (state [] false ended)
 last_is_handed left ended none short decided =
     let parts = and_parts ended (not (eqb (length left) 0)) decided in
     let some : length left ≡ 0 → ⊥ = eqb-false (length left) 0 (not-true _ parts.1) in record {
       first = λ more end may.
           let nothing = may parts.0 in
-          let line : items_of true (pieces left) ≡ Line left ∷ [] = rw (pieces_last left none) (last_items_line true left short parts.1) in
+          let line : items_of true (pieces left) ≡ Line left ∷ [] =
+          rw (pieces_last left none) (last_items_line true left short parts.1) in
           rw (nothing.0, nothing.1, append-nil left) line;
       none = λ e. absurd cc;
       line = (none, ltb-false _ _ short);
@@ -59,7 +68,8 @@ last_is_handed left ended none short decided =
       few = λ e. absurd cc;
     }
 
-pub nothing_is_handed : (left : List ℕ) (ended : Bool) → HasNoLineFeed left → ltb MAX_LINE (length left) ≡ false → (ended && not (eqb (length left) 0)) ≡ false → HandsOut (state left false ended) None (state left false ended)
+pub nothing_is_handed : (left : List ℕ) (ended : Bool) → HasNoLineFeed left → ltb MAX_LINE (length left) ≡ false
+    → (ended && not (eqb (length left) 0)) ≡ false → HandsOut (state left false ended) None (state left false ended)
 nothing_is_handed left ended none short undecided = record {
   first = λ more end may. refl;
   none = λ e. rw (pieces_last left none) (last_items_none ended left short undecided);
@@ -69,11 +79,14 @@ nothing_is_handed left ended none short undecided = record {
   few = λ e. ltb-false _ _ short;
 }
 
-pub rest_is_skipped : (left : List ℕ) (ended : Bool) → HasNoLineFeed left → HandsOut (state left true ended) None (state [] true ended)
+pub rest_is_skipped : (left : List ℕ) (ended : Bool) → HasNoLineFeed left
+    → HandsOut (state left true ended) None (state [] true ended)
 rest_is_skipped left ended none = record {
   first = λ more end may.
       let some = some_pieces more in
-      ap (λ (ps : List (List ℕ)). items_of end (drop 1 ps)) (pieces_front left more some.0 some.1 none some.2 ∙ ap (λ (ps : List (List ℕ)). (left ++ some.0) ∷ drop 1 ps) (sym some.2));
+      ap (λ (ps : List (List ℕ)). items_of end (drop 1 ps))
+      (pieces_front left more some.0 some.1 none some.2
+      ∙ ap (λ (ps : List (List ℕ)). (left ++ some.0) ∷ drop 1 ps) (sym some.2));
   none = λ e. ap (λ (ps : List (List ℕ)). items_of ended (drop 1 ps)) (pieces_last left none);
   line = tt;
   ended = refl;
@@ -81,11 +94,15 @@ rest_is_skipped left ended none = record {
   few = λ e. omega arith;
 }
 
-pub line_is_skipped : (left line rest new : List ℕ) (ended skipping : Bool) (item : Option Item) → IsCut left line rest → HandsOut (state rest false ended) item (state new skipping ended) → HandsOut (state left true ended) item (state new skipping ended)
+pub line_is_skipped : (left line rest new : List ℕ) (ended skipping : Bool) (item : Option Item) → IsCut left line rest
+    → HandsOut (state rest false ended) item (state new skipping ended)
+    → HandsOut (state left true ended) item (state new skipping ended)
 line_is_skipped left line rest new ended skipping item cut hands = record {
-  first = λ more end may. ap (λ (ps : List (List ℕ)). items_of end (drop 1 ps)) (pieces_cut left line rest more cut) ∙ hands.first more end may;
+  first = λ more end may. ap (λ (ps : List (List ℕ)). items_of end (drop 1 ps)) (pieces_cut left line rest more cut)
+      ∙ hands.first more end may;
   none = λ e.
-      ap (λ (bytes : List ℕ). items_of ended (drop 1 (pieces bytes))) cut.whole ∙ ap (λ (ps : List (List ℕ)). items_of ended (drop 1 ps)) (pieces_line line rest cut.none) ∙ hands.none e;
+      ap (λ (bytes : List ℕ). items_of ended (drop 1 (pieces bytes))) cut.whole
+      ∙ ap (λ (ps : List (List ℕ)). items_of ended (drop 1 ps)) (pieces_line line rest cut.none) ∙ hands.none e;
   line = hands.line;
   ended = refl;
   fewer = omega (arith, hands.fewer, shorter left line rest cut);
@@ -105,7 +122,9 @@ IsEnd-cut left line rest cut =
 
 pub IsEnd-then : (a b c : List ℕ) → IsEnd a b → IsEnd b c → IsEnd a c
 IsEnd-then a b c p q =
-    let n : (length a - length b) + (length b - length c) ≡ length a - length c = omega (arith, p.within, q.within) in record {
+    let n : (length a - length b) + (length b - length c) ≡ length a - length c = omega (arith, p.within, q.within) in
+    record {
       within = omega (arith, p.within, q.within);
-      same = q.same ∙ ap (drop (length b - length c)) p.same ∙ drop-drop (length b - length c) (length a - length b) a ∙ ap (λ (k : ℕ). drop k a) n;
+      same = q.same ∙ ap (drop (length b - length c)) p.same ∙ drop-drop (length b - length c) (length a - length b) a
+          ∙ ap (λ (k : ℕ). drop k a) n;
     }

@@ -22,19 +22,26 @@ some_pieces (byte ∷ bytes) =
     let later = some_pieces bytes in
     elim (cases_Bool (eqb byte LINE_FEED)) [
       | inl here ↦ ([], pieces bytes, slice_split-cons_yes (λ b. eqb b LINE_FEED) byte bytes here)
-      | inr other ↦ (byte ∷ later.0, later.1, slice_split-cons_no (λ b. eqb b LINE_FEED) byte bytes other ∙ ap (onto_first byte) later.2)
+      | inr other ↦ (
+        byte ∷ later.0,
+        later.1,
+        slice_split-cons_no (λ b. eqb b LINE_FEED) byte bytes other
+            ∙ ap (onto_first byte) later.2,
+      )
     ]
 
 -- bytes up to the first line feed are the first piece
 pub pieces_line : (line rest : List ℕ) → HasNoLineFeed line → pieces (line ++ LINE_FEED ∷ rest) ≡ line ∷ pieces rest
-pieces_line line rest none = slice_split_at (λ b. eqb b LINE_FEED) line LINE_FEED rest (none_is_line_feed line none) refl
+pieces_line line rest none = slice_split_at (λ b. eqb b LINE_FEED) line LINE_FEED rest (none_is_line_feed line none)
+    refl
 
 -- bytes with no line feed are one piece
 pub pieces_last : (last : List ℕ) → HasNoLineFeed last → pieces last ≡ last ∷ []
 pieces_last last none = slice_split_none (λ b. eqb b LINE_FEED) last (none_is_line_feed last none)
 
 -- bytes with no line feed go in front of the first piece of what comes after them
-pub pieces_front : (front bytes first : List ℕ) (rest : List (List ℕ)) → HasNoLineFeed front → pieces bytes ≡ first ∷ rest → pieces (front ++ bytes) ≡ (front ++ first) ∷ rest
+pub pieces_front : (front bytes first : List ℕ) (rest : List (List ℕ)) → HasNoLineFeed front
+    → pieces bytes ≡ first ∷ rest → pieces (front ++ bytes) ≡ (front ++ first) ∷ rest
 pieces_front [] bytes first rest none e = e
 pieces_front (byte ∷ front) bytes first rest none e =
     let parts = or_parts _ _ none in
@@ -42,11 +49,13 @@ pieces_front (byte ∷ front) bytes first rest none e =
     ∙ ap (onto_first byte) (pieces_front front bytes first rest parts.1 e)
 
 -- the items of a piece and of pieces after it
-pub items_of_line : (ended : Bool) (piece bytes : List ℕ) → items_of ended (piece ∷ pieces bytes) ≡ item_of piece ∷ items_of ended (pieces bytes)
+pub items_of_line : (ended : Bool) (piece bytes : List ℕ)
+    → items_of ended (piece ∷ pieces bytes) ≡ item_of piece ∷ items_of ended (pieces bytes)
 items_of_line ended piece bytes = let some = some_pieces bytes in rw some.2 refl
 
 -- a first piece that is too long, ended or not
-pub items_of_long : (ended : Bool) (first : List ℕ) (rest : List (List ℕ)) → MAX_LINE < length first → items_of ended (first ∷ rest) ≡ TooLong ∷ items_of ended rest
+pub items_of_long : (ended : Bool) (first : List ℕ) (rest : List (List ℕ)) → MAX_LINE < length first
+    → items_of ended (first ∷ rest) ≡ TooLong ∷ items_of ended rest
 items_of_long ended first [] long =
     let is : ltb MAX_LINE (length first) ≡ true = lt-ltb _ _ long in
     rw is refl
@@ -55,11 +64,13 @@ items_of_long ended first (next ∷ rest) long =
     rw is refl
 
 -- a last piece that is a line
-pub last_items_line : (ended : Bool) (last : List ℕ) → ltb MAX_LINE (length last) ≡ false → (ended && not (eqb (length last) 0)) ≡ true → last_items ended last ≡ Line last ∷ []
+pub last_items_line : (ended : Bool) (last : List ℕ) → ltb MAX_LINE (length last) ≡ false
+    → (ended && not (eqb (length last) 0)) ≡ true → last_items ended last ≡ Line last ∷ []
 last_items_line ended last short decided = rw (short, decided) refl
 
 -- a last piece that isn't one yet
-pub last_items_none : (ended : Bool) (last : List ℕ) → ltb MAX_LINE (length last) ≡ false → (ended && not (eqb (length last) 0)) ≡ false → last_items ended last ≡ []
+pub last_items_none : (ended : Bool) (last : List ℕ) → ltb MAX_LINE (length last) ≡ false
+    → (ended && not (eqb (length last) 0)) ≡ false → last_items ended last ≡ []
 last_items_none ended last short undecided = rw (short, undecided) refl
 
 -- what a line feed ends, if it isn't too long, is a line

@@ -11,7 +11,8 @@ use Rattle.rr_text.specs.Bytes.{HasNoLineFeed}
 use Rattle.rr_feed.specs.Next.{IsSearched, IsCut}
 
 -- the first bytes hold no line feed, if none of them is one
-HasNoLineFeed-take : (text : List ℕ) (k : ℕ) → ((j : ℕ) → j < k → eqb (get_or text j 0) LINE_FEED ≡ true → ⊥) → HasNoLineFeed (take k text)
+HasNoLineFeed-take : (text : List ℕ) (k : ℕ) → ((j : ℕ) → j < k → eqb (get_or text j 0) LINE_FEED ≡ true → ⊥)
+    → HasNoLineFeed (take k text)
 HasNoLineFeed-take [] zero before = refl
 HasNoLineFeed-take [] (suc k) before = refl
 HasNoLineFeed-take (byte ∷ text) zero before = refl
@@ -25,12 +26,15 @@ HasNoLineFeed-append a b none_a none_b =
     whole ∙ ap (λ x. x || list_any (λ byte. eqb byte LINE_FEED) b) none_a ∙ none_b
 
 -- what is searched now, after what was searched before
-HasNoLineFeed-searched : (left : List ℕ) (searched k : ℕ) → IsSearched left searched → HasNoLineFeed (take k (drop searched left)) → HasNoLineFeed (take (searched + k) left)
+HasNoLineFeed-searched : (left : List ℕ) (searched k : ℕ) → IsSearched left searched
+    → HasNoLineFeed (take k (drop searched left)) → HasNoLineFeed (take (searched + k) left)
 HasNoLineFeed-searched left searched k before now =
-    rw (take-add searched k left) (HasNoLineFeed-append (take searched left) (take k (drop searched left)) before.none now)
+    rw (take-add searched k left) (HasNoLineFeed-append (take searched left) (take k (drop searched left)) before.none
+    now)
 
 -- a text is cut at any of its line feeds
-whole_at : (left : List ℕ) (k : ℕ) → k < length left → eqb (get_or left k 0) LINE_FEED ≡ true → left ≡ take k left ++ LINE_FEED ∷ drop (k + 1) left
+whole_at : (left : List ℕ) (k : ℕ) → k < length left → eqb (get_or left k 0) LINE_FEED ≡ true
+    → left ≡ take k left ++ LINE_FEED ∷ drop (k + 1) left
 whole_at left k within here =
     sym (take-append-drop k left)
     ∙ ap (λ (rest : List ℕ). take k left ++ rest) (drop-cons left k 0 within)
@@ -38,17 +42,23 @@ whole_at left k within here =
     ∙ ap (λ (n : ℕ). take k left ++ LINE_FEED ∷ drop n left) (sym (add-one k))
 
 -- the first line feed after what was searched before
-pub IsCut-found : (left : List ℕ) (searched k : ℕ) → IsSearched left searched → IsFirstByte (is_byte LINE_FEED) (drop searched left) (Some k) → IsCut left (take (searched + k) left) (drop (searched + k + 1) left)
+pub IsCut-found : (left : List ℕ) (searched k : ℕ) → IsSearched left searched
+    → IsFirstByte (is_byte LINE_FEED) (drop searched left) (Some k)
+    → IsCut left (take (searched + k) left) (drop (searched + k + 1) left)
 IsCut-found left searched k before found =
     let within : searched + k < length left = omega (arith, found.0.high, length-drop searched left) in
     let here : eqb (get_or left (searched + k) 0) LINE_FEED ≡ true = rw (← (get_or-drop searched left k 0)) found.1 in
     record {
       whole = whole_at left (searched + k) within here;
-      none = HasNoLineFeed-searched left searched k before (HasNoLineFeed-take (drop searched left) k (λ j lt. found.0.before j (omega arith) lt));
+      none = HasNoLineFeed-searched left searched k before
+          (HasNoLineFeed-take (drop searched left) k (λ j lt. found.0.before j (omega arith) lt));
     }
 
 -- there is none
-pub HasNoLineFeed-unfound : (left : List ℕ) (searched : ℕ) → IsSearched left searched → IsFirstByte (is_byte LINE_FEED) (drop searched left) None → HasNoLineFeed left
+pub HasNoLineFeed-unfound : (left : List ℕ) (searched : ℕ) → IsSearched left searched
+    → IsFirstByte (is_byte LINE_FEED) (drop searched left) None → HasNoLineFeed left
 HasNoLineFeed-unfound left searched before found =
-    let rest : HasNoLineFeed (drop searched left) = rw take-length at (HasNoLineFeed-take (drop searched left) (length (drop searched left)) (λ j lt. found j (omega arith) lt)) in
+    let rest : HasNoLineFeed (drop searched left) =
+    rw take-length at (HasNoLineFeed-take (drop searched left) (length (drop searched left))
+    (λ j lt. found j (omega arith) lt)) in
     rw take-append-drop at (HasNoLineFeed-append (take searched left) (drop searched left) before.none rest)

@@ -64,8 +64,8 @@ impl Feed {
 
     /// Takes in the next piece of the stream, of any size.
     ///
-    /// It is refused as `Ended` after [`Feed::end`], and as `Memory` where memory runs out; the feed
-    /// is then unchanged. The cost is linear in the piece, on average over all pushes.
+    /// It is refused as `Ended` after [`Feed::end`], and as `Memory` where memory runs out; the
+    /// feed is then unchanged. The cost is linear in the piece, on average over all pushes.
     pub fn push(&mut self, piece: &[u8]) -> Result<(), FeedFault>
         ensures ok { OnOk result
             (self.new ≡ record self.old { left = self.old.left ++ piece.now }) }

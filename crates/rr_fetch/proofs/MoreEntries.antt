@@ -27,7 +27,8 @@ pub gather-count : {N : Type 0} (f : N → ℕ) (ns : List N) → sum (map f ns)
 gather-count f [] = refl
 gather-count f (n ∷ ns) = sum_by-cons (λ x. x) (f n) (map f ns) ∙ ap (λ y. f n + y) (gather-count f ns)
 
-pub gather-united : {N : Type 0} (f : N → Entry) (ns : List N) → mask_of_entries (map f ns) ≡ gather bit_or 0 (λ n. (f n).contribution.mask) ns
+pub gather-united : {N : Type 0} (f : N → Entry) (ns : List N)
+    → mask_of_entries (map f ns) ≡ gather bit_or 0 (λ n. (f n).contribution.mask) ns
 gather-united f [] = refl
 gather-united f (n ∷ ns) = ap (bit_or (f n).contribution.mask) (gather-united f ns)
 
@@ -41,7 +42,8 @@ map_itself (x ∷ xs) = ap (λ l. x ∷ l) (map_itself xs)
 -- ---- the greatest of values of which others may tie
 
 module _ {V : Type 0} {S : V → V → Ordering} (s : IsTotalOrder S) where
-  pub greatest_more : {N : Type 0} (f : N → V) (ns : List N) (i : ℕ) (d : N) → i < length ns → greatest S (map f (take (i + 1) ns)) ≡ greater S (greatest S (map f (take i ns))) (Some (f (get_or ns i d)))
+  pub greatest_more : {N : Type 0} (f : N → V) (ns : List N) (i : ℕ) (d : N) → i < length ns
+      → greatest S (map f (take (i + 1) ns)) ≡ greater S (greatest S (map f (take i ns))) (Some (f (get_or ns i d)))
   greatest_more f ns i d h =
       ap (λ l. greatest S (map f l)) (take_more ns i d h)
       ∙ gather-greatest S f (take i ns ++ get_or ns i d ∷ [])
@@ -51,18 +53,21 @@ module _ {V : Type 0} {S : V → V → Ordering} (s : IsTotalOrder S) where
 -- ---- entries
 
 last_cmp_total : IsTotalOrder last_cmp
-last_cmp_total = then_total (on_total (λ e. e.contribution.last_time) int_cmp_total) (on_total (λ e. e.origin) nat_cmp_total)
+last_cmp_total = then_total (on_total (λ e. e.contribution.last_time) int_cmp_total)
+    (on_total (λ e. e.origin) nat_cmp_total)
 
 module _ (es : List Entry) (i : ℕ) (d : Entry) (within : i < length es) where
   abbrev next : Entry
   next = get_or es i d
 
-  pub united_more : mask_of_entries (take (i + 1) es) ≡ bit_or (mask_of_entries (take i es)) (get_or es i d).contribution.mask
+  pub united_more : mask_of_entries (take (i + 1) es)
+      ≡ bit_or (mask_of_entries (take i es)) (get_or es i d).contribution.mask
   united_more =
       ap mask_of_entries (take_more es i d within ∙ sym (map_itself (take i es ++ next ∷ [])))
       ∙ gather-united (λ e. e) (take i es ++ next ∷ [])
       ∙ gather-more bit_or 0 (λ (e : Entry). e.contribution.mask) bits.or_zero_r or_assoc (take i es) next
-      ∙ ap (λ m. bit_or m next.contribution.mask) (sym (gather-united (λ e. e) (take i es)) ∙ ap mask_of_entries (map_itself (take i es)))
+      ∙ ap (λ m. bit_or m next.contribution.mask) (sym (gather-united (λ e. e) (take i es))
+      ∙ ap mask_of_entries (map_itself (take i es)))
 
   pub total_more : total_of (take (i + 1) es) ≡ total_of (take i es) +ℤ (get_or es i d).contribution.sum
   total_more =
@@ -78,13 +83,18 @@ module _ (es : List Entry) (i : ℕ) (d : Entry) (within : i < length es) where
       ∙ gather-more ◌+◌ 0 (λ (e : Entry). e.contribution.count) (λ x. omega arith) add_assoc (take i es) next
       ∙ ap (λ n. n + next.contribution.count) (sym (gather-count (λ (e : Entry). e.contribution.count) (take i es)))
 
-  pub least_more : greatest (flip_args int_cmp) (map (λ (e : Entry). e.contribution.min) (take (i + 1) es)) ≡ greater (flip_args int_cmp) (greatest (flip_args int_cmp) (map (λ (e : Entry). e.contribution.min) (take i es))) (Some (get_or es i d).contribution.min)
+  pub least_more : greatest (flip_args int_cmp) (map (λ (e : Entry). e.contribution.min) (take (i + 1) es))
+      ≡ greater (flip_args int_cmp) (greatest (flip_args int_cmp) (map (λ (e : Entry). e.contribution.min) (take i es)))
+      (Some (get_or es i d).contribution.min)
   least_more = greatest_more (back_total int_cmp_total) (λ (e : Entry). e.contribution.min) es i d within
 
-  pub most_more : greatest int_cmp (map (λ (e : Entry). e.contribution.max) (take (i + 1) es)) ≡ greater int_cmp (greatest int_cmp (map (λ (e : Entry). e.contribution.max) (take i es))) (Some (get_or es i d).contribution.max)
+  pub most_more : greatest int_cmp (map (λ (e : Entry). e.contribution.max) (take (i + 1) es))
+      ≡ greater int_cmp (greatest int_cmp (map (λ (e : Entry). e.contribution.max) (take i es)))
+      (Some (get_or es i d).contribution.max)
   most_more = greatest_more int_cmp_total (λ (e : Entry). e.contribution.max) es i d within
 
-  pub last_more : greatest last_cmp (take (i + 1) es) ≡ greater last_cmp (greatest last_cmp (take i es)) (Some (get_or es i d))
+  pub last_more : greatest last_cmp (take (i + 1) es)
+      ≡ greater last_cmp (greatest last_cmp (take i es)) (Some (get_or es i d))
   last_more =
       ap (greatest last_cmp) (sym (map_itself (take (i + 1) es)))
       ∙ greatest_more last_cmp_total (λ e. e) es i d within

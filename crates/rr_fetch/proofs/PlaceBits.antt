@@ -26,27 +26,38 @@ mask_has [] i = ap (λ b. b == 1) (bit_at-zero i)
 mask_has (p ∷ ps) i =
     ap (λ b. b == 1) (bit_at_or (2 ^ p) (mask_of ps) i)
     ∙ ⊎_elim
-    (λ h. ap (λ b. max b (bit_at (mask_of ps) i) == 1) (ap (bit_at (2 ^ p)) (sym h.1) ∙ bit_at-pow_same p) ∙ ap (λ b. b == 1) (one_most (bit_at (mask_of ps) i) (bit_at-lt (mask_of ps) i)) ∙ ap (λ b. b || list_any (λ q. q == i) ps) (sym h.0))
-    (λ h. ap (λ b. max b (bit_at (mask_of ps) i) == 1) (bit_at-pow_other p i (λ e. h.1 (sym e))) ∙ ap (λ b. b == 1) (zero_least (bit_at (mask_of ps) i)) ∙ mask_has ps i ∙ ap (λ b. b || list_any (λ q. q == i) ps) (sym h.0))
+    (λ h. ap (λ b. max b (bit_at (mask_of ps) i) == 1) (ap (bit_at (2 ^ p)) (sym h.1) ∙ bit_at-pow_same p)
+    ∙ ap (λ b. b == 1) (one_most (bit_at (mask_of ps) i) (bit_at-lt (mask_of ps) i))
+    ∙ ap (λ b. b || list_any (λ q. q == i) ps) (sym h.0))
+    (λ h. ap (λ b. max b (bit_at (mask_of ps) i) == 1) (bit_at-pow_other p i (λ e. h.1 (sym e)))
+    ∙ ap (λ b. b == 1) (zero_least (bit_at (mask_of ps) i)) ∙ mask_has ps i
+    ∙ ap (λ b. b || list_any (λ q. q == i) ps) (sym h.0))
     (eqb_tells p i)
 
 half_more : (x a : ℕ) → x / 2 ^ a / 2 ≡ x / 2 ^ (a + 1)
-half_more x a = div-div-eq-div-mul x (2 ^ a) 2 ∙ ap (λ (y : ℕ). x / y) (sym (pow-suc 2 a)) ∙ ap (λ k. x / 2 ^ k) (sym (add-one a))
+half_more x a = div-div-eq-div-mul x (2 ^ a) 2 ∙ ap (λ (y : ℕ). x / y) (sym (pow-suc 2 a))
+    ∙ ap (λ k. x / 2 ^ k) (sym (add-one a))
 
 no_ones : count_ones 0 ≡ 0
 no_ones = let h = ones_le_self 0 in omega arith
 
 -- how many bits are 1, from a on
-ones_from : (x a n : ℕ) → x < 2 ^ (a + n) → count_ones (x / 2 ^ a) ≡ length (filter (λ p. bit_at x p == 1) (range_with_len a n))
+ones_from : (x a n : ℕ) → x < 2 ^ (a + n) → count_ones (x / 2 ^ a)
+    ≡ length (filter (λ p. bit_at x p == 1) (range_with_len a n))
 ones_from x a zero h = ap count_ones (div-eq_of_lt (subst (λ k. x < 2 ^ k) (add-zero a) h)) ∙ no_ones
 ones_from x a (suc n) h =
     let rest = ones_from x (a + 1) n (subst (λ k. x < 2 ^ k) (omega arith) h) in
     let step = ones_step (x / 2 ^ a) ∙ ap (λ y. x / 2 ^ a % 2 + y) (ap count_ones (half_more x a) ∙ rest) in
     ⊎_elim
-    (λ t. step ∙ ap (λ b. b + length (filter (λ p. bit_at x p == 1) (range_with_len (a + 1) n))) t.1 ∙ one_more (length (filter (λ p. bit_at x p == 1) (range_with_len (a + 1) n)))
-    ∙ ap (λ b. length (cond b (a ∷ filter (λ p. bit_at x p == 1) (range_with_len (a + 1) n)) (filter (λ p. bit_at x p == 1) (range_with_len (a + 1) n)))) (sym t.0))
-    (λ f. step ∙ ap (λ b. b + length (filter (λ p. bit_at x p == 1) (range_with_len (a + 1) n))) (zero_bit (bit_at x a) (bit_at-lt x a) f.1) ∙ none_more (length (filter (λ p. bit_at x p == 1) (range_with_len (a + 1) n)))
-    ∙ ap (λ b. length (cond b (a ∷ filter (λ p. bit_at x p == 1) (range_with_len (a + 1) n)) (filter (λ p. bit_at x p == 1) (range_with_len (a + 1) n)))) (sym f.0))
+    (λ t. step ∙ ap (λ b. b + length (filter (λ p. bit_at x p == 1) (range_with_len (a + 1) n))) t.1
+    ∙ one_more (length (filter (λ p. bit_at x p == 1) (range_with_len (a + 1) n)))
+    ∙ ap (λ b. length (cond b (a ∷ filter (λ p. bit_at x p == 1) (range_with_len (a + 1) n))
+    (filter (λ p. bit_at x p == 1) (range_with_len (a + 1) n)))) (sym t.0))
+    (λ f. step ∙ ap (λ b. b + length (filter (λ p. bit_at x p == 1) (range_with_len (a + 1) n)))
+    (zero_bit (bit_at x a) (bit_at-lt x a) f.1) ∙ none_more
+    (length (filter (λ p. bit_at x p == 1) (range_with_len (a + 1) n)))
+    ∙ ap (λ b. length (cond b (a ∷ filter (λ p. bit_at x p == 1) (range_with_len (a + 1) n))
+    (filter (λ p. bit_at x p == 1) (range_with_len (a + 1) n)))) (sym f.0))
     (eqb_tells (bit_at x a) 1)
   where
     one_more : (k : ℕ) → 1 + k ≡ suc k
@@ -68,7 +79,10 @@ by_one : (x : ℕ) → x ≡ x / 2 ^ 0
 by_one x = omega arith
 
 -- the number of bits that are 1 is the number of places
-pub ones-mask : (ps : List ℕ) (n : ℕ) → ((p : ℕ) → list_any (λ q. q == p) ps ≡ true → p < n) → count_ones (mask_of ps) ≡ places_where (λ i. list_any (λ p. p == i) ps) n
+pub ones-mask : (ps : List ℕ) (n : ℕ) → ((p : ℕ) → list_any (λ q. q == p) ps ≡ true → p < n)
+    → count_ones (mask_of ps) ≡ places_where (λ i. list_any (λ p. p == i) ps) n
 ones-mask ps n f =
-    ap count_ones (by_one (mask_of ps)) ∙ ones_from (mask_of ps) 0 n (subst (λ k. mask_of ps < 2 ^ k) (omega arith) (mask_below ps n f))
-    ∙ ap length (filter_agree (λ p. bit_at (mask_of ps) p == 1) (λ i. list_any (λ p. p == i) ps) (mask_has ps) (range_with_len 0 n))
+    ap count_ones (by_one (mask_of ps)) ∙ ones_from (mask_of ps) 0 n
+    (subst (λ k. mask_of ps < 2 ^ k) (omega arith) (mask_below ps n f))
+    ∙ ap length (filter_agree (λ p. bit_at (mask_of ps) p == 1) (λ i. list_any (λ p. p == i) ps) (mask_has ps)
+    (range_with_len 0 n))

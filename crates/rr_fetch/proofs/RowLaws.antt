@@ -34,7 +34,7 @@ use Rattle.rr_model.proofs.Horizon.{is_at_says}
 use Rattle.rr_model.proofs.Places.{place_below}
 use Rattle.rr_cells.specs.Cells.{row_at}
 use Rattle.rr_cells.specs.Puts.{slot_sample_of}
-use Rattle.rr_cells.specs.State.{state}
+use Rattle.rr_cells.specs.State.{cells_of_knowledge}
 use Rattle.rr_fetch.specs.Answers.{cells_text}
 use Rattle.rr_fetch.specs.Consolidation.{mask_of_entries, total_of, count_of, last_cmp, of_entries, consolidation_of}
 use Rattle.rr_fetch.proofs.Gathering.{gather, gather_by_name, gather_agree, gather-greatest, greatest-map, greatest_agree}
@@ -76,9 +76,12 @@ module _ (s : Layout) (is : IsLayout s) (k : Knowledge) (key : List ℕ) (archiv
   abbrev row_marks : List Mark
   row_marks = marks_of_row s k key archive slot
 
-  by_name : {A : Type 0} (op : A → A → A) (none : A) → ((x : A) → op none x ≡ x) → ((x y z : A) → op (op x y) z ≡ op x (op y z)) → ((x y : A) → op x y ≡ op y x) → (part : Mark → A) → gather op none (λ n. gather op none part (marks n)) ns ≡ gather op none part row_marks
+  by_name : {A : Type 0} (op : A → A → A) (none : A) → ((x : A) → op none x ≡ x)
+      → ((x y z : A) → op (op x y) z ≡ op x (op y z)) → ((x y : A) → op x y ≡ op y x) → (part : Mark → A)
+      → gather op none (λ n. gather op none part (marks n)) ns ≡ gather op none part row_marks
   by_name op none unit assoc comm part =
-      gather_by_name op none unit assoc comm part cell_name_cmp_total cell_name_cmp-IsAntisymmetric (name_of s) ns (names_apart s k key archive slot) (keys (live s k))
+      gather_by_name op none unit assoc comm part cell_name_cmp_total cell_name_cmp-IsAntisymmetric (name_of s) ns
+      (names_apart s k key archive slot) (keys (live s k))
       ∙ ap (gather op none part) (all_named s k key archive slot)
 
   -- ---- sums
@@ -88,7 +91,8 @@ module _ (s : Layout) (is : IsLayout s) (k : Knowledge) (key : List ℕ) (archiv
   sums =
       ap int_sum (map-map (λ (e : Entry). e.contribution.sum) at ns)
       ∙ gather-sum (λ n. (at n).contribution.sum) ns
-      ∙ gather_agree cell_name_cmp_total cell_name_cmp-IsAntisymmetric ◌+ℤ◌ (pos 0) (λ n. (at n).contribution.sum) (λ n. gather ◌+ℤ◌ (pos 0) (λ m. m.value) (marks n)) ns (λ n e. sum-seen s (marks n))
+      ∙ gather_agree cell_name_cmp_total cell_name_cmp-IsAntisymmetric ◌+ℤ◌ (pos 0) (λ n. (at n).contribution.sum)
+      (λ n. gather ◌+ℤ◌ (pos 0) (λ m. m.value) (marks n)) ns (λ n e. sum-seen s (marks n))
       ∙ by_name ◌+ℤ◌ (pos 0) +ℤ_idl +ℤ_assoc +ℤ_comm (λ m. m.value)
       ∙ sym (gather-sum (λ m. m.value) row_marks)
 
@@ -97,17 +101,22 @@ module _ (s : Layout) (is : IsLayout s) (k : Knowledge) (key : List ℕ) (archiv
   counts =
       ap sum (map-map (λ (e : Entry). e.contribution.count) at ns)
       ∙ gather-count (λ n. (at n).contribution.count) ns
-      ∙ gather_agree cell_name_cmp_total cell_name_cmp-IsAntisymmetric ◌+◌ 0 (λ n. (at n).contribution.count) (λ n. gather ◌+◌ 0 (λ _. 1) (marks n)) ns (λ n e. count-seen s (marks n))
+      ∙ gather_agree cell_name_cmp_total cell_name_cmp-IsAntisymmetric ◌+◌ 0 (λ n. (at n).contribution.count)
+      (λ n. gather ◌+◌ 0 (λ _. 1) (marks n)) ns (λ n e. count-seen s (marks n))
       ∙ by_name ◌+◌ 0 (λ x. zero-add x) add_assoc (λ x y. add_comm x y) (λ _. 1)
       ∙ sym (count-marks row_marks)
 
   -- ---- extremes
 
-  best : (S : ℤ → ℤ → Ordering) → IsTotalOrder S → IsAntisymmetric S → (read : Contribution → ℤ) → ((ms : List Mark) → read (summary (map (slot_sample_of s) ms)) ≡ unwrap_or (greatest S (map (λ x. x.value) (map (slot_sample_of s) ms))) (pos 0)) → greatest S (map (λ e. read e.contribution) (map at ns)) ≡ greatest S (map (λ m. m.value) row_marks)
+  best : (S : ℤ → ℤ → Ordering) → IsTotalOrder S → IsAntisymmetric S → (read : Contribution → ℤ)
+      → ((ms : List Mark) → read (summary (map (slot_sample_of s) ms))
+      ≡ unwrap_or (greatest S (map (λ x. x.value) (map (slot_sample_of s) ms))) (pos 0))
+      → greatest S (map (λ e. read e.contribution) (map at ns)) ≡ greatest S (map (λ m. m.value) row_marks)
   best S o same read reads =
       ap (greatest S) (map-map (λ (e : Entry). read e.contribution) at ns)
       ∙ gather-greatest S (λ n. read (at n).contribution) ns
-      ∙ gather_agree cell_name_cmp_total cell_name_cmp-IsAntisymmetric (greater S) None (λ n. Some (read (at n).contribution)) (λ n. gather (greater S) None (λ m. Some m.value) (marks n)) ns
+      ∙ gather_agree cell_name_cmp_total cell_name_cmp-IsAntisymmetric (greater S) None
+      (λ n. Some (read (at n).contribution)) (λ n. gather (greater S) None (λ m. Some m.value) (marks n)) ns
       (λ n e.
       ap (λ v. Some v) (reads (marks n) ∙ ap (λ vs. unwrap_or (greatest S vs) (pos 0)) (values-seen s (marks n)))
       ∙ some_value s S (marks n) (pos 0) (in_row_names s k key archive slot n e).1
@@ -124,7 +133,8 @@ module _ (s : Layout) (is : IsLayout s) (k : Knowledge) (key : List ℕ) (archiv
   unfolding summary
   masks =
       gather-united at ns
-      ∙ gather_agree cell_name_cmp_total cell_name_cmp-IsAntisymmetric bit_or 0 (λ n. (at n).contribution.mask) (λ n. gather bit_or 0 (λ m. 2 ^ place m) (marks n)) ns (λ n e. mask-seen s (marks n))
+      ∙ gather_agree cell_name_cmp_total cell_name_cmp-IsAntisymmetric bit_or 0 (λ n. (at n).contribution.mask)
+      (λ n. gather bit_or 0 (λ m. 2 ^ place m) (marks n)) ns (λ n e. mask-seen s (marks n))
       ∙ by_name bit_or 0 (λ x. refl) or_assoc or_comm (λ m. 2 ^ place m)
       ∙ sym (mask-marks place row_marks)
 
@@ -132,16 +142,23 @@ module _ (s : Layout) (is : IsLayout s) (k : Knowledge) (key : List ℕ) (archiv
   in_archive : (m : Mark) → is_in mark_cmp row_marks m ≡ true → m.archive ≡ archive
   unfolding marks_of_row
   in_archive m e =
-      (is_at_says key archive slot (name_of s m) (and_first (is_at key archive slot (name_of s m)) (is_in mark_cmp (keys (live s k)) m) (sym (is_in-filter mark_cmp_total mark_cmp-IsAntisymmetric (λ x. is_at key archive slot (name_of s x)) (keys (live s k)) m) ∙ e))).1
+      (is_at_says key archive slot (name_of s m) (and_first (is_at key archive slot (name_of s m))
+      (is_in mark_cmp (keys (live s k)) m) (sym (is_in-filter mark_cmp_total mark_cmp-IsAntisymmetric
+      (λ x. is_at key archive slot (name_of s x)) (keys (live s k)) m) ∙ e))).1
 
   same_places : count_ones (mask_of_entries (map at ns)) ≡ known_places s archive row_marks
   same_places =
       ap count_ones masks
       ∙ ones-mask (map place row_marks) (archive_at s archive).steps (λ p e.
-      let f = found_of mark_cmp_total mark_cmp-IsAntisymmetric (λ m. place m == p) row_marks (sym (any-map (λ q. q == p) place row_marks) ∙ e) in
+      let f = found_of mark_cmp_total mark_cmp-IsAntisymmetric (λ m. place m == p) row_marks
+      (sym (any-map (λ q. q == p) place row_marks) ∙ e) in
       let is_p : place f.item ≡ p = eqb-true (place f.item) p f.passes in
-      subst (λ q. q < (archive_at s archive).steps) is_p (subst (λ a. place f.item < (archive_at s a).steps) (in_archive f.item f.known) (place_below s is f.item.archive f.item.time)))
-      ∙ ap length (filter_agree (λ p. list_any (λ q. q == p) (map place row_marks)) (λ p. list_any (λ m. place m == p) row_marks) (λ p. any-map (λ q. q == p) place row_marks) (range_with_len 0 (archive_at s archive).steps))
+      subst (λ q. q < (archive_at s archive).steps) is_p
+      (subst (λ a. place f.item < (archive_at s a).steps) (in_archive f.item f.known)
+      (place_below s is f.item.archive f.item.time)))
+      ∙ ap length (filter_agree (λ p. list_any (λ q. q == p) (map place row_marks))
+      (λ p. list_any (λ m. place m == p) row_marks) (λ p. any-map (λ q. q == p) place row_marks)
+      (range_with_len 0 (archive_at s archive).steps))
 
   -- ---- the last sample
 
@@ -152,8 +169,12 @@ module _ (s : Layout) (is : IsLayout s) (k : Knowledge) (key : List ℕ) (archiv
   unfolding last_at
   is_last n e = some_last s (marks n) no_mark (in_row_names s k key archive slot n e).1
 
-  last_is : {A : Type 0} (f : SlotSample → A) (d : A) (n : CellName) → is_in cell_name_cmp ns n ≡ true → unwrap_or (option_map f (samples.last_of (map (slot_sample_of s) (marks n)))) d ≡ f (slot_sample_of s (last_at n))
-  last_is f d n e = ap (λ l. unwrap_or (option_map f l) d) (last-seen s n (marks n) (of_name-named s k key archive slot n) ∙ ap (option_map (slot_sample_of s)) (is_last n e))
+  last_is : {A : Type 0} (f : SlotSample → A) (d : A) (n : CellName) → is_in cell_name_cmp ns n ≡ true
+      → unwrap_or (option_map f (samples.last_of (map (slot_sample_of s) (marks n)))) d
+      ≡ f (slot_sample_of s (last_at n))
+  last_is f d n e = ap (λ l. unwrap_or (option_map f l) d)
+      (last-seen s n (marks n) (of_name-named s k key archive slot n)
+      ∙ ap (option_map (slot_sample_of s)) (is_last n e))
 
   last_time_at : (n : CellName) → is_in cell_name_cmp ns n ≡ true → (at n).contribution.last_time ≡ (last_at n).time
   unfolding summary
@@ -164,53 +185,80 @@ module _ (s : Layout) (is : IsLayout s) (k : Knowledge) (key : List ℕ) (archiv
   last_value_at n e = last_is (λ x. x.value) (pos 0) n e
 
   last_origin : (n : CellName) → is_in cell_name_cmp ns n ≡ true → (last_at n).origin ≡ n.origin
-  last_origin n e = ap (λ (q : CellName). q.origin) (of_name-named s k key archive slot n (last_at n) (last_in s (marks n) (last_at n) (is_last n e)))
+  last_origin n e = ap (λ (q : CellName). q.origin)
+      (of_name-named s k key archive slot n (last_at n) (last_in s (marks n) (last_at n) (is_last n e)))
 
   -- one origin has one cell in the row
-  one_origin : (a b : CellName) → is_at key archive slot a ≡ true → is_at key archive slot b ≡ true → a.origin ≡ b.origin → a ≡ b
+  one_origin : (a b : CellName) → is_at key archive slot a ≡ true → is_at key archive slot b ≡ true
+      → a.origin ≡ b.origin → a ≡ b
   one_origin a b p q o =
       let of_a = is_at_says key archive slot a p in
       let of_b = is_at_says key archive slot b q in
-      λ i. record { key = (of_a.0 ∙ sym of_b.0) i; archive = (of_a.1 ∙ sym of_b.1) i; slot = (of_a.2 ∙ sym of_b.2) i; origin = o i }
+      λ i. record {
+        key = (of_a.0 ∙ sym of_b.0) i;
+        archive = (of_a.1 ∙ sym of_b.1) i;
+        slot =
+            (of_a.2 ∙ sym of_b.2) i;
+        origin = o i;
+      }
 
-  decided : (t o rest : Ordering) → (o ≡ Less) ⊎ (o ≡ Greater) → ordering_then t o ≡ ordering_then t (ordering_then o rest)
-  decided t o rest h = ap (ordering_then t) (⊎_elim (λ e. e ∙ sym (ap (λ r. ordering_then r rest) e)) (λ e. e ∙ sym (ap (λ r. ordering_then r rest) e)) h)
+  decided : (t o rest : Ordering) → (o ≡ Less) ⊎ (o ≡ Greater)
+      → ordering_then t o ≡ ordering_then t (ordering_then o rest)
+  decided t o rest h = ap (ordering_then t) (⊎_elim (λ e. e ∙ sym (ap (λ r. ordering_then r rest) e))
+      (λ e. e ∙ sym (ap (λ r. ordering_then r rest) e)) h)
 
   tied_entry : (e : Entry) → last_cmp e e ≡ Equal
-  tied_entry e = λ i. ordering_then (tied_itself int_cmp_total e.contribution.last_time i) (tied_itself nat_cmp_total e.origin i)
+  tied_entry e = λ i. ordering_then (tied_itself int_cmp_total e.contribution.last_time i)
+      (tied_itself nat_cmp_total e.origin i)
 
   -- two entries of a row compare as their last marks do
-  orders_agree : (a b : CellName) → is_in cell_name_cmp ns a ≡ true → is_in cell_name_cmp ns b ≡ true → last_cmp (at a) (at b) ≡ mark_cmp (last_at a) (last_at b)
+  orders_agree : (a b : CellName) → is_in cell_name_cmp ns a ≡ true → is_in cell_name_cmp ns b ≡ true
+      → last_cmp (at a) (at b) ≡ mark_cmp (last_at a) (last_at b)
   orders_agree a b p q =
       let by_time = int_cmp (last_at a).time (last_at b).time in
       let times : last_cmp (at a) (at b) ≡ ordering_then by_time (nat_cmp a.origin b.origin) =
       λ i. ordering_then (int_cmp (last_time_at a p i) (last_time_at b q i)) (nat_cmp a.origin b.origin) in
-      let origins : ordering_then by_time (nat_cmp (last_at a).origin (last_at b).origin) ≡ ordering_then by_time (nat_cmp a.origin b.origin) =
+      let origins : ordering_then by_time (nat_cmp (last_at a).origin (last_at b).origin)
+      ≡ ordering_then by_time (nat_cmp a.origin b.origin) =
       λ i. ordering_then by_time (nat_cmp (last_origin a p i) (last_origin b q i)) in
-      let of_marks : (o : Ordering) → nat_cmp a.origin b.origin ≡ o → nat_cmp (last_at a).origin (last_at b).origin ≡ o = λ o e. (λ i. nat_cmp (last_origin a p i) (last_origin b q i)) ∙ e in
-      elim (nat_cmp a.origin b.origin) as (λ o. nat_cmp a.origin b.origin ≡ o → last_cmp (at a) (at b) ≡ mark_cmp (last_at a) (last_at b)) [
-        | Less ↦ λ e. times ∙ sym origins ∙ decided by_time (nat_cmp (last_at a).origin (last_at b).origin) _ (inl (of_marks Less e))
-        | Greater ↦ λ e. times ∙ sym origins ∙ decided by_time (nat_cmp (last_at a).origin (last_at b).origin) _ (inr (of_marks Greater e))
+      let of_marks : (o : Ordering) → nat_cmp a.origin b.origin ≡ o
+      → nat_cmp (last_at a).origin (last_at b).origin ≡ o =
+      λ o e. (λ i. nat_cmp (last_origin a p i) (last_origin b q i)) ∙ e in
+      elim (nat_cmp a.origin b.origin) as (λ o. nat_cmp a.origin b.origin ≡ o
+      → last_cmp (at a) (at b) ≡ mark_cmp (last_at a) (last_at b)) [
+        | Less ↦ λ e. times ∙ sym origins ∙ decided by_time (nat_cmp (last_at a).origin (last_at b).origin) _
+            (inl (of_marks Less e))
+        | Greater ↦ λ e. times ∙ sym origins ∙ decided by_time (nat_cmp (last_at a).origin (last_at b).origin) _
+            (inr (of_marks Greater e))
         | Equal ↦ λ e.
-            let same : a ≡ b = one_origin a b (in_row_names s k key archive slot a p).0 (in_row_names s k key archive slot b q).0 (nat_cmp-IsAntisymmetric a.origin b.origin e) in
-            subst (λ c. last_cmp (at a) (at c) ≡ mark_cmp (last_at a) (last_at c)) same (tied_entry (at a) ∙ sym (tied_itself mark_cmp_total (last_at a)))
+            let same : a ≡ b = one_origin a b (in_row_names s k key archive slot a p).0
+            (in_row_names s k key archive slot b q).0 (nat_cmp-IsAntisymmetric a.origin b.origin e) in
+            subst (λ c. last_cmp (at a) (at c) ≡ mark_cmp (last_at a) (last_at c)) same
+            (tied_entry (at a) ∙ sym (tied_itself mark_cmp_total (last_at a)))
       ] refl
 
-  last_values : (g : Option CellName) → ((n : CellName) → g ≡ Some n → is_in cell_name_cmp ns n ≡ true) → option_map (λ (e : Entry). e.contribution.last_value) (option_map at g) ≡ option_map (λ (m : Mark). m.value) (option_map last_at g)
+  last_values : (g : Option CellName) → ((n : CellName) → g ≡ Some n → is_in cell_name_cmp ns n ≡ true)
+      → option_map (λ (e : Entry). e.contribution.last_value) (option_map at g)
+      ≡ option_map (λ (m : Mark). m.value) (option_map last_at g)
   last_values None there = refl
   last_values (Some n) there = ap (λ v. Some v) (last_value_at n (there n refl))
 
-  last_same : option_map (λ (e : Entry). e.contribution.last_value) (greatest last_cmp (map at ns)) ≡ option_map (λ (m : Mark). m.value) (last_of row_marks)
+  last_same : option_map (λ (e : Entry). e.contribution.last_value) (greatest last_cmp (map at ns))
+      ≡ option_map (λ (m : Mark). m.value) (last_of row_marks)
   last_same =
       let by_marks : CellName → CellName → Ordering = λ a b. mark_cmp (last_at a) (last_at b) in
-      let agree = greatest_agree cell_name_cmp_total cell_name_cmp-IsAntisymmetric (λ a b. last_cmp (at a) (at b)) by_marks ns orders_agree in
+      let agree = greatest_agree cell_name_cmp_total cell_name_cmp-IsAntisymmetric (λ a b. last_cmp (at a) (at b))
+      by_marks ns orders_agree in
       ap (option_map (λ (e : Entry). e.contribution.last_value)) (greatest-map last_cmp at ns)
       ∙ ap (λ g. option_map (λ (e : Entry). e.contribution.last_value) (option_map at g)) agree.0
       ∙ last_values (greatest by_marks ns) agree.1
       ∙ ap (option_map (λ (m : Mark). m.value)) (sym (
       last-marks row_marks
-      ∙ sym (by_name (greater mark_cmp) None (λ x. refl) (greater_assoc mark_cmp_total) (greater_comm mark_cmp_total mark_cmp-IsAntisymmetric) (λ m. Some m))
-      ∙ gather_agree cell_name_cmp_total cell_name_cmp-IsAntisymmetric (greater mark_cmp) None (λ n. gather (greater mark_cmp) None (λ m. Some m) (marks n)) (λ n. Some (last_at n)) ns (λ n e. sym (last-marks (marks n)) ∙ is_last n e)
+      ∙ sym (by_name (greater mark_cmp) None (λ x. refl) (greater_assoc mark_cmp_total)
+      (greater_comm mark_cmp_total mark_cmp-IsAntisymmetric) (λ m. Some m))
+      ∙ gather_agree cell_name_cmp_total cell_name_cmp-IsAntisymmetric (greater mark_cmp) None
+      (λ n. gather (greater mark_cmp) None (λ m. Some m) (marks n)) (λ n. Some (last_at n)) ns
+      (λ n e. sym (last-marks (marks n)) ∙ is_last n e)
       ∙ sym (gather-greatest mark_cmp last_at ns)
       ∙ greatest-map mark_cmp last_at ns))
 
@@ -219,17 +267,21 @@ module _ (s : Layout) (is : IsLayout s) (k : Knowledge) (key : List ℕ) (archiv
   same_answer : (f : ConsolidationFunction) → of_entries f (map at ns) ≡ of_marks f row_marks
   unfolding summary
   same_answer Average = λ i. average (sums i) (counts i)
-  same_answer Min = best (flip_args int_cmp) (back_total int_cmp_total) (flip_args-IsAntisymmetric int_cmp-IsAntisymmetric) (λ c. c.min) (λ ms. refl)
+  same_answer Min = best (flip_args int_cmp) (back_total int_cmp_total)
+      (flip_args-IsAntisymmetric int_cmp-IsAntisymmetric) (λ c. c.min) (λ ms. refl)
   same_answer Max = best int_cmp int_cmp_total int_cmp-IsAntisymmetric (λ c. c.max) (λ ms. refl)
   same_answer Last = last_same
 
   -- what is consolidated from a state's cells is what the samples say
-  pub row_of_state : (f : ConsolidationFunction) → consolidation_of s archive f (row_at (state s k) key archive slot) ≡ row s k key archive slot f
+  pub row_of_state : (f : ConsolidationFunction) → consolidation_of s archive f
+      (row_at (cells_of_knowledge s k) key archive slot) ≡ row s k key archive slot f
   unfolding consolidation_of row
   row_of_state f =
-      ap (λ es. cond (is_known_enough s archive (count_ones (mask_of_entries es))) (of_entries f es) None) (entries_are s k key archive slot)
+      ap (λ es. cond (is_known_enough s archive (count_ones (mask_of_entries es))) (of_entries f es) None)
+      (entries_are s k key archive slot)
       ∙ (λ i. cond (is_known_enough s archive (same_places i)) (same_answer f i) None)
 
 -- so the answers are the same
-pub answer_of_state : (s : Layout) → IsLayout s → (k : Knowledge) (q : Request) → cells_text s (state s k) q ≡ fetch_text s k q
+pub answer_of_state : (s : Layout) → IsLayout s → (k : Knowledge) (q : Request)
+    → cells_text s (cells_of_knowledge s k) q ≡ fetch_text s k q
 answer_of_state s is k q = λ i. answer_text s (λ slot. row_of_state s is k q.key q.archive slot q.function i) q

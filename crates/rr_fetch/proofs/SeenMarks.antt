@@ -23,7 +23,8 @@ use Rattle.rr_fetch.proofs.Gathering.{gather, greatest-map, greatest_agree}
 use Rattle.rr_fetch.proofs.RowEntries.{map-map}
 
 module _ (s : Layout) where
-  pub sum-seen : (ms : List Mark) → int_sum (map (λ x. x.value) (map (slot_sample_of s) ms)) ≡ gather ◌+ℤ◌ (pos 0) (λ m. m.value) ms
+  pub sum-seen : (ms : List Mark) → int_sum (map (λ x. x.value) (map (slot_sample_of s) ms))
+      ≡ gather ◌+ℤ◌ (pos 0) (λ m. m.value) ms
   sum-seen [] = refl
   sum-seen (m ∷ ms) = ap (λ y. m.value +ℤ y) (sum-seen ms)
 
@@ -34,7 +35,8 @@ module _ (s : Layout) where
       one_more : (k : ℕ) → suc k ≡ 1 + k
       one_more k = omega arith
 
-  pub mask-seen : (ms : List Mark) → mask_of (map (λ x. x.place) (map (slot_sample_of s) ms)) ≡ gather bit_or 0 (λ m. 2 ^ place_of s m.archive m.time) ms
+  pub mask-seen : (ms : List Mark) → mask_of (map (λ x. x.place) (map (slot_sample_of s) ms))
+      ≡ gather bit_or 0 (λ m. 2 ^ place_of s m.archive m.time) ms
   mask-seen [] = refl
   mask-seen (m ∷ ms) = ap (bit_or (2 ^ place_of s m.archive m.time)) (mask-seen ms)
 
@@ -42,11 +44,13 @@ module _ (s : Layout) where
   values-seen ms = map-map (λ x. x.value) (slot_sample_of s) ms
 
   -- marks that contribute something
-  pub some_value : (S : ℤ → ℤ → Ordering) (ms : List Mark) (d : ℤ) → is_some (value_of s ms) ≡ true → Some (unwrap_or (greatest S (map (λ m. m.value) ms)) d) ≡ greatest S (map (λ m. m.value) ms)
+  pub some_value : (S : ℤ → ℤ → Ordering) (ms : List Mark) (d : ℤ) → is_some (value_of s ms) ≡ true
+      → Some (unwrap_or (greatest S (map (λ m. m.value) ms)) d) ≡ greatest S (map (λ m. m.value) ms)
   some_value S [] d e = absurd (true≢false (sym e))
   some_value S (m ∷ ms) d e = sym (greatest_some S m.value (map (λ x. x.value) ms) d)
 
-  pub some_last : (ms : List Mark) (d : Mark) → is_some (value_of s ms) ≡ true → last_of ms ≡ Some (unwrap_or (last_of ms) d)
+  pub some_last : (ms : List Mark) (d : Mark) → is_some (value_of s ms) ≡ true
+      → last_of ms ≡ Some (unwrap_or (last_of ms) d)
   some_last [] d e = absurd (true≢false (sym e))
   some_last (m ∷ ms) d e = greatest_some mark_cmp m ms d
 
@@ -56,25 +60,38 @@ module _ (s : Layout) where
 
   -- ---- the last of them
 
-  tied_places : (a b : Mark) (rest : Ordering) → a.archive ≡ b.archive → a.time ≡ b.time → ordering_then (nat_cmp (place_of s a.archive a.time) (place_of s b.archive b.time)) rest ≡ rest
+  tied_places : (a b : Mark) (rest : Ordering) → a.archive ≡ b.archive → a.time ≡ b.time
+      → ordering_then (nat_cmp (place_of s a.archive a.time) (place_of s b.archive b.time)) rest ≡ rest
   tied_places a b rest archive time =
-      ap (λ r. ordering_then r rest) ((λ i. nat_cmp (place_of s a.archive a.time) (place_of s (sym archive i) (sym time i))) ∙ tied_itself nat_cmp_total (place_of s a.archive a.time))
+      ap (λ r. ordering_then r rest) ((λ i. nat_cmp (place_of s a.archive a.time)
+      (place_of s (sym archive i) (sym time i))) ∙ tied_itself nat_cmp_total (place_of s a.archive a.time))
 
   -- marks of one name compare as their samples do
-  same_order : (n : CellName) (a b : Mark) → name_of s a ≡ n → name_of s b ≡ n → sample_cmp (slot_sample_of s a) (slot_sample_of s b) ≡ mark_cmp a b
+  same_order : (n : CellName) (a b : Mark) → name_of s a ≡ n → name_of s b ≡ n
+      → sample_cmp (slot_sample_of s a) (slot_sample_of s b) ≡ mark_cmp a b
   same_order n a b of_a of_b =
       let same : name_of s a ≡ name_of s b = of_a ∙ sym of_b in
       let key : a.key ≡ b.key = ap (λ (q : CellName). q.key) same in
       let archive : a.archive ≡ b.archive = ap (λ (q : CellName). q.archive) same in
       let origin : a.origin ≡ b.origin = ap (λ (q : CellName). q.origin) same in
       let values = int_cmp a.value b.value in
-      let by_number : (p q : Ordering) → p ≡ q → ordering_then (nat_cmp a.number b.number) p ≡ ordering_then (nat_cmp a.number b.number) q = λ p q e. ap (ordering_then (nat_cmp a.number b.number)) e in
-      let keys : ordering_then (nat_cmp a.archive b.archive) (ordering_then (slice_cmp nat_cmp a.key b.key) values) ≡ values =
-      (λ i. ordering_then (nat_cmp a.archive (sym archive i)) (ordering_then (slice_cmp nat_cmp a.key (sym key i)) values))
-      ∙ (λ i. ordering_then (tied_itself nat_cmp_total a.archive i) (ordering_then (tied_itself nat_list_cmp_total a.key i) values)) in
+      let by_number : (p q : Ordering) → p ≡ q → ordering_then (nat_cmp a.number b.number) p
+      ≡ ordering_then (nat_cmp a.number b.number) q = λ p q e. ap (ordering_then (nat_cmp a.number b.number)) e in
+      let keys : ordering_then (nat_cmp a.archive b.archive) (ordering_then (slice_cmp nat_cmp a.key b.key) values)
+      ≡ values =
+      (λ i. ordering_then (nat_cmp a.archive (sym archive i))
+      (ordering_then (slice_cmp nat_cmp a.key (sym key i)) values))
+      ∙ (λ i. ordering_then (tied_itself nat_cmp_total a.archive i)
+      (ordering_then (tied_itself nat_list_cmp_total a.key i) values)) in
       let origins : (rest : Ordering) → ordering_then (nat_cmp a.origin b.origin) rest ≡ rest =
-      λ rest. ap (λ r. ordering_then r rest) ((λ i. nat_cmp a.origin (sym origin i)) ∙ tied_itself nat_cmp_total a.origin) in
-      elim (int_cmp a.time b.time) as (λ t. int_cmp a.time b.time ≡ t → ordering_then t (ordering_then (nat_cmp a.number b.number) (ordering_then (nat_cmp (place_of s a.archive a.time) (place_of s b.archive b.time)) values)) ≡ ordering_then t (ordering_then (nat_cmp a.origin b.origin) (ordering_then (nat_cmp a.number b.number) (ordering_then (nat_cmp a.archive b.archive) (ordering_then (slice_cmp nat_cmp a.key b.key) values))))) [
+      λ rest. ap (λ r. ordering_then r rest) ((λ i. nat_cmp a.origin (sym origin i))
+      ∙ tied_itself nat_cmp_total a.origin) in
+      elim (int_cmp a.time b.time) as (λ t. int_cmp a.time b.time ≡ t
+      → ordering_then t (ordering_then (nat_cmp a.number b.number)
+      (ordering_then (nat_cmp (place_of s a.archive a.time) (place_of s b.archive b.time)) values))
+      ≡ ordering_then t (ordering_then (nat_cmp a.origin b.origin)
+      (ordering_then (nat_cmp a.number b.number) (ordering_then (nat_cmp a.archive b.archive)
+      (ordering_then (slice_cmp nat_cmp a.key b.key) values))))) [
         | Less ↦ λ e. refl
         | Greater ↦ λ e. refl
         | Equal ↦ λ e.
@@ -83,10 +100,13 @@ module _ (s : Layout) where
       ] refl
 
   -- the last sample of marks of one name is that of the last mark
-  pub last-seen : (n : CellName) (ms : List Mark) → ((m : Mark) → is_in mark_cmp ms m ≡ true → name_of s m ≡ n) → samples.last_of (map (slot_sample_of s) ms) ≡ option_map (slot_sample_of s) (last_of ms)
+  pub last-seen : (n : CellName) (ms : List Mark) → ((m : Mark) → is_in mark_cmp ms m ≡ true → name_of s m ≡ n)
+      → samples.last_of (map (slot_sample_of s) ms) ≡ option_map (slot_sample_of s) (last_of ms)
   last-seen n ms named =
       greatest-map sample_cmp (slot_sample_of s) ms
-      ∙ ap (option_map (slot_sample_of s)) (greatest_agree mark_cmp_total mark_cmp-IsAntisymmetric (λ a b. sample_cmp (slot_sample_of s a) (slot_sample_of s b)) mark_cmp ms (λ a b p q. same_order n a b (named a p) (named b q))).0
+      ∙ ap (option_map (slot_sample_of s)) (greatest_agree mark_cmp_total mark_cmp-IsAntisymmetric
+      (λ a b. sample_cmp (slot_sample_of s a) (slot_sample_of s b)) mark_cmp ms
+      (λ a b p q. same_order n a b (named a p) (named b q))).0
 
   -- and it is one of them
   pub last_in : (ms : List Mark) (m : Mark) → last_of ms ≡ Some m → is_in mark_cmp ms m ≡ true

@@ -26,7 +26,9 @@ times_high k (pos n) fits =
 times_high k (negsuc n) fits = omega (arith, ints)
 
 -- with more samples, whose sum lies between their number times their extremes
-pub bounded_with : (count more : ℕ) (total sum least most : ℤ) → IsBounded count total → FitsSigned w64 least → FitsSigned w64 most → (pos more *ℤ least) ≤ℤ sum → sum ≤ℤ (pos more *ℤ most) → IsBounded (count + more) (total +ℤ sum)
+pub bounded_with : (count more : ℕ) (total sum least most : ℤ) → IsBounded count total → FitsSigned w64 least
+    → FitsSigned w64 most → (pos more *ℤ least) ≤ℤ sum → sum ≤ℤ (pos more *ℤ most)
+    → IsBounded (count + more) (total +ℤ sum)
 bounded_with count more total sum least most is least_fits most_fits low high =
     let below = times_low more least least_fits in
     let above = times_high more most most_fits in
@@ -37,16 +39,19 @@ pub bounded_fits : (count : ℕ) (total : ℤ) → count ≤ 65537 * 2 ^ 40 → 
 bounded_fits count total few is = fits_signed_from_abs w128 total (omega (arith, ints, is.least, is.most))
 
 -- an origin of an ascending list is at least its place
-ascends_from-place : (below : ℕ) (es : List Entry) (i : ℕ) (d : Entry) → ascends_from below es ≡ true → i < length es → below + suc i ≤ (get_or es i d).origin
+ascends_from-place : (below : ℕ) (es : List Entry) (i : ℕ) (d : Entry) → ascends_from below es ≡ true → i < length es
+    → below + suc i ≤ (get_or es i d).origin
 ascends_from-place below [] i d up there = absurd (omega arith)
 ascends_from-place below (e ∷ es) zero d up there =
     let first = ltb-true below e.origin (and_first (ltb below e.origin) (ascends_from e.origin es) up) in omega arith
 ascends_from-place below (e ∷ es) (suc i) d up there =
     let first = ltb-true below e.origin (and_first (ltb below e.origin) (ascends_from e.origin es) up) in
-    let rest = ascends_from-place e.origin es i d (and_second (ltb below e.origin) (ascends_from e.origin es) up) (omega arith) in
+    let rest = ascends_from-place e.origin es i d (and_second (ltb below e.origin) (ascends_from e.origin es) up)
+    (omega arith) in
     omega arith
 
-pub ascends-place : (es : List Entry) (i : ℕ) (d : Entry) → ascends es ≡ true → i < length es → i ≤ (get_or es i d).origin
+pub ascends-place : (es : List Entry) (i : ℕ) (d : Entry) → ascends es ≡ true → i < length es
+    → i ≤ (get_or es i d).origin
 ascends-place [] i d up there = absurd (omega arith)
 ascends-place (e ∷ es) zero d up there = omega arith
 ascends-place (e ∷ es) (suc i) d up there =

@@ -40,7 +40,8 @@ of_entries Last es = option_map (λ e. e.contribution.last_value) (greatest last
 
 -- the row of these entries; None is unknown
 unfoldable pub consolidation_of : Layout → ℕ → ConsolidationFunction → List Entry → Option ℤ
-consolidation_of s archive f es = if is_known_enough s archive (count_ones (mask_of_entries es)) then of_entries f es else None
+consolidation_of s archive f es = if is_known_enough s archive (count_ones (mask_of_entries es)) then of_entries f
+    es else None
 
 -- ---- what a consolidation requires of a row
 

@@ -5,7 +5,7 @@ ghost use Rattle.std.specs.FinMap.{empty};
 ghost use Rattle.std.specs.Io.KnownBytes.{Appends};
 ghost use Rattle.rr_io.specs.Counted.{inner_of, failures_of, HasRisen};
 ghost use Rattle.rr_io.specs.Stream.{AppendsPrefix};
-ghost use Rattle.rr_archive.specs.Cells.{Rows, row_of};
+ghost use Rattle.rr_archive.specs.Cells.{ArchiveCells, row_of};
 ghost use Rattle.rr_fetch.specs.Answers.{cells_text};
 ghost use Rattle.rr_request.specs.Requests.{request_view, IsFetchable};
 
@@ -47,7 +47,8 @@ fn read_row<A: Cells>(
     slot: i64,
     row: &mut Vec<Entry>,
 ) -> Result<(), AllocError>
-    ensures { (rows : Rows) → MatchOption archive.entry (rows ≡ empty) (λ a. A.cells a.now ≡ rows)
+    ensures { (rows : ArchiveCells) → MatchOption archive.entry (rows ≡ empty)
+        (λ a. A.cells a.now ≡ rows)
         → OnOk result (row.new.items ≡ row_of rows slot) }
 {
     match archive {
@@ -62,9 +63,9 @@ fn read_row<A: Cells>(
 /// The answer to a request as CSV: for each row a record of the key text, the start second and the
 /// value, or `U` for an unknown one, ended by a line feed.
 ///
-/// The request's archive is one of the replica's schema, its first slot is at most
-/// [`MAX_SECOND`] either side of the epoch, and its rows are from 1 to [`MAX_FETCH_ROWS`]. The cost
-/// is one look-up of the key and, for each row, one look-up of its slot and a pass over its entries.
+/// The request's archive is one of the replica's schema, its first slot is at most [`MAX_SECOND`]
+/// either side of the epoch, and its rows are from 1 to [`MAX_FETCH_ROWS`]. The cost is one look-up
+/// of the key and, for each row, one look-up of its slot and a pass over its entries.
 pub fn answer_text<A: Cells>(
     alloc: Global,
     replica: &Replica<A>,

@@ -10,14 +10,16 @@ use std::alloc::AllocError;
 /// What is written for an unknown value.
 const UNKNOWN: &[u8] = b"U";
 
-/// Adds the record of a row: its start second and its value, behind what each row of its key begins with.
+/// Adds the record of a row: its start second and its value, behind what each row of its key begins
+/// with.
 pub(crate) fn push_row(
     text: &mut Vec<u8>,
     front: &[u8],
     start: i64,
     value: Option<i64>,
 ) -> Result<(), AllocError>
-    ensures { (key : List ℕ) → front.now ≡ field_text key ++ comma ∷ [] → OnOk result (text.new.items
+    ensures { (key : List ℕ) → front.now ≡ field_text key ++ comma ∷ []
+        → OnOk result (text.new.items
         ≡ text.old.items ++ record_text key (start, value)) }
 {
     let mut start_buffer = Buffer::new();

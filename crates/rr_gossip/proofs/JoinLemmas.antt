@@ -16,7 +16,8 @@ on_err (Ok x) P p = tt
 on_err (Err e) P p = p
 
 -- the first of the cells of a page that was read
-pub page_front : (s : Layout) (body : List ℕ) (es : List NamedCell) (n : ℕ) → page_at s body ≡ Ok es → AreFront (take n es) (page_taken s body)
+pub page_front : (s : Layout) (body : List ℕ) (es : List NamedCell) (n : ℕ) → page_at s body ≡ Ok es
+    → AreFront (take n es) (page_taken s body)
 unfolding page_taken
 page_front s body es n read = record {
   found = ((Waiting, es), false);
@@ -25,5 +26,8 @@ page_front s body es n read = record {
   parts = sym (take-append-drop n es);
 }
 
-pub memory_taken : {X : Type 0} (joined : List NamedCell → Type 0) (x : X) (r : Result Bool GossipFault) (read : Result ((X × List NamedCell) × Bool) GossipFault) (es : List NamedCell) → r ≡ Err Memory → AreFront es read → joined es → Takes joined x r read
-memory_taken joined x r read es is front holds = subst (λ q. Takes joined x q read) (sym is) (inl (refl, inr (es, front, holds)))
+pub memory_taken : {X : Type 0} (joined : List NamedCell → Type 0) (x : X) (r : Result Bool GossipFault)
+    (read : Result ((X × List NamedCell) × Bool) GossipFault) (es : List NamedCell) → r ≡ Err Memory → AreFront es read
+    → joined es → Takes joined x r read
+memory_taken joined x r read es is front holds =
+    subst (λ q. Takes joined x q read) (sym is) (inl (refl, inr (es, front, holds)))

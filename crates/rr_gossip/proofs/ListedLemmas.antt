@@ -13,10 +13,15 @@ use Rattle.rr_gossip.specs.Summary.{summary_text}
 use Rattle.rr_gossip.proofs.SummaryLemmas.{last_push}
 
 -- the name that is taken off the end is the last
-pub popped_is : (front : List Name) (popped : Option Name) → is_some popped ≡ true → last_listed (map owned_name (front ++ option_to_list popped)) ≡ popped
+pub popped_is : (front : List Name) (popped : Option Name) → is_some popped ≡ true
+    → last_listed (map owned_name (front ++ option_to_list popped)) ≡ popped
 popped_is front None e = absurd cc
-popped_is front (Some n) e = ap (λ vs. option_map as_name (last_or None vs)) (map_push owned_name front n) ∙ ap (option_map as_name) (last_push None (map owned_name front) (owned_name n))
+popped_is front (Some n) e = ap (λ vs. option_map as_name (last_or None vs)) (map_push owned_name front n)
+    ∙ ap (option_map as_name) (last_push None (map owned_name front) (owned_name n))
 
-pub listed_is : (names : List Name) (popped : Option Name) (frame : List ℕ) → 1 ≤ length names → last_listed (map owned_name names) ≡ popped → frame ≡ frame_text kind.Summary (summary_text (map owned_name names)) → (Listing popped, frame) ≡ names_sent (map owned_name names)
+pub listed_is : (names : List Name) (popped : Option Name) (frame : List ℕ) → 1 ≤ length names
+    → last_listed (map owned_name names) ≡ popped → frame
+    ≡ frame_text kind.Summary (summary_text (map owned_name names))
+    → (Listing popped, frame) ≡ names_sent (map owned_name names)
 listed_is [] popped frame some last is = absurd (omega arith)
 listed_is (n ∷ names) popped frame some last is = λ i. (Listing (sym last i), is i)

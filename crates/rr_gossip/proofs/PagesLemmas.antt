@@ -24,14 +24,16 @@ pub left_page : (s : Layout) (es : List NamedCell) → AreLeft (s, es) → IsPag
 left_page s es left = record {
   count_fits = omega (arith, length-take MAX_PAGE_CELLS es);
   cells = All-take (IsCellOf s) MAX_PAGE_CELLS es left.cells;
-  names_ascend = true_from_T (is_sorted cell_name_cmp (next_cells es)) (sorted_take MAX_PAGE_CELLS es (T_from_true (is_sorted cell_name_cmp es) left.names_ascend));
+  names_ascend = true_from_T (is_sorted cell_name_cmp (next_cells es))
+      (sorted_take MAX_PAGE_CELLS es (T_from_true (is_sorted cell_name_cmp es) left.names_ascend));
 }
 
 -- and others that are left after it
 pub left_after : (s : Layout) (es : List NamedCell) → AreLeft (s, es) → AreLeft (after_page (s, es))
 left_after s es left = record {
   cells = All-drop (IsCellOf s) MAX_PAGE_CELLS es left.cells;
-  names_ascend = true_from_T (is_sorted cell_name_cmp (drop MAX_PAGE_CELLS es)) (sorted_drop MAX_PAGE_CELLS es (T_from_true (is_sorted cell_name_cmp es) left.names_ascend));
+  names_ascend = true_from_T (is_sorted cell_name_cmp (drop MAX_PAGE_CELLS es))
+      (sorted_drop MAX_PAGE_CELLS es (T_from_true (is_sorted cell_name_cmp es) left.names_ascend));
 }
 
 pub drop_taken : {X : Type 0} (n : ℕ) (xs : List X) → drop (length (take n xs)) xs ≡ drop n xs
@@ -58,25 +60,31 @@ drop_twice (suc m) n (x ∷ xs) = ap (λ k. drop k (x ∷ xs)) (one_more m n) �
 module _ (items cells : List Cell) (sent : ℕ) (is : cells ≡ take MAX_PAGE_CELLS (drop sent items)) where
   -- the next cells, as the code cuts them
   pub cut : map owned_cell cells ≡ next_cells (drop sent (map owned_cell items))
-  cut = ap (map owned_cell) is ∙ sym (take-map owned_cell MAX_PAGE_CELLS (drop sent items)) ∙ ap (take MAX_PAGE_CELLS) (sym (drop-map owned_cell sent items))
+  cut = ap (map owned_cell) is ∙ sym (take-map owned_cell MAX_PAGE_CELLS (drop sent items))
+      ∙ ap (take MAX_PAGE_CELLS) (sym (drop-map owned_cell sent items))
 
-  pub cut_off : drop (sent + length cells) (map owned_cell items) ≡ drop MAX_PAGE_CELLS (drop sent (map owned_cell items))
+  pub cut_off : drop (sent + length cells) (map owned_cell items)
+      ≡ drop MAX_PAGE_CELLS (drop sent (map owned_cell items))
   cut_off =
       drop_twice sent (length cells) (map owned_cell items)
       ∙ ap (λ n. drop n (drop sent (map owned_cell items))) (sym (length-map owned_cell cells) ∙ ap length cut)
       ∙ drop_taken MAX_PAGE_CELLS (drop sent (map owned_cell items))
 
-  pub page_is : (s : Layout) → 1 ≤ length cells → next_page (s, drop sent (map owned_cell items)) ≡ Some (page_text latest s (map owned_cell cells))
+  pub page_is : (s : Layout) → 1 ≤ length cells → next_page (s, drop sent (map owned_cell items))
+      ≡ Some (page_text latest s (map owned_cell cells))
   page_is s some = at (drop sent (map owned_cell items)) cut
     where
-      at : (es : List NamedCell) → map owned_cell cells ≡ next_cells es → next_page (s, es) ≡ Some (page_text latest s (map owned_cell cells))
+      at : (es : List NamedCell) → map owned_cell cells ≡ next_cells es
+          → next_page (s, es) ≡ Some (page_text latest s (map owned_cell cells))
       at [] e = absurd (omega (arith, some, length-map owned_cell cells, ap length e))
       at (x ∷ es) e = ap (λ l. Some (page_text latest s l)) (sym e)
 
 -- cells of a schema are left whole
-pub all_left : (s : Layout) (cells : List Cell) → All (λ c. IsCellOf s (owned_cell c)) cells → IsTrue (is_sorted cell_name_cmp (map owned_cell cells)) → AreLeft (s, map owned_cell cells)
+pub all_left : (s : Layout) (cells : List Cell) → All (λ c. IsCellOf s (owned_cell c)) cells
+    → IsTrue (is_sorted cell_name_cmp (map owned_cell cells)) → AreLeft (s, map owned_cell cells)
 all_left s cells each ascend = record {
-  cells = All-from_recursion (IsCellOf s) (map owned_cell cells) (all_mapped (IsCellOf s) owned_cell cells (recursion_from_All (λ c. IsCellOf s (owned_cell c)) cells each));
+  cells = All-from_recursion (IsCellOf s) (map owned_cell cells)
+      (all_mapped (IsCellOf s) owned_cell cells (recursion_from_All (λ c. IsCellOf s (owned_cell c)) cells each));
   names_ascend = ascend;
 }
 

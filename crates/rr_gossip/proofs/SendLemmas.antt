@@ -35,26 +35,33 @@ use Rattle.rr_gossip.proofs.StepLemmas.{bind_ok, unless_ok, ok_is, err_is}
 -- ---- a row of frames, of which some are written
 
 -- those before a frame are, and a front of it
-pub frames_front : (a b c : Option (List ℕ)) (all before left : List (List ℕ)) (frame : List ℕ) → all ≡ before ++ frame ∷ left → Appends a b (concat before) → AppendsPrefix b c frame → AppendsPrefix a c (concat all)
+pub frames_front : (a b c : Option (List ℕ)) (all before left : List (List ℕ)) (frame : List ℕ)
+    → all ≡ before ++ frame ∷ left → Appends a b (concat before) → AppendsPrefix b c frame
+    → AppendsPrefix a c (concat all)
 frames_front a b c all before left frame is done part =
-    subst (AppendsPrefix a c) (append_assoc (concat before) frame (concat left) ∙ sym (concat-append before (frame ∷ left)) ∙ ap concat (sym is))
+    subst (AppendsPrefix a c) (append_assoc (concat before) frame (concat left)
+    ∙ sym (concat-append before (frame ∷ left)) ∙ ap concat (sym is))
     (prefix_before a c (concat before ++ frame) (concat left) (prefix_after a b c (concat before) frame done part))
 
-pub frames_before : (a b : Option (List ℕ)) (all before left : List (List ℕ)) → all ≡ before ++ left → Appends a b (concat before) → AppendsPrefix a b (concat all)
+pub frames_before : (a b : Option (List ℕ)) (all before left : List (List ℕ)) → all ≡ before ++ left
+    → Appends a b (concat before) → AppendsPrefix a b (concat all)
 frames_before a b all before left is done =
     (concat before, concat left, ap concat is ∙ concat-append before left, done)
 
 -- all of them are
-pub frames_whole : (a b : Option (List ℕ)) (all before : List (List ℕ)) → all ≡ before → Appends a b (concat before) → Appends a b (concat all)
+pub frames_whole : (a b : Option (List ℕ)) (all before : List (List ℕ)) → all ≡ before → Appends a b (concat before)
+    → Appends a b (concat all)
 frames_whole a b all before is done = subst (λ (frames : List (List ℕ)). Appends a b (concat frames)) (sym is) done
 
 pub concat_more : (frames : List (List ℕ)) (frame : List ℕ) → concat (frames ++ frame ∷ []) ≡ concat frames ++ frame
-concat_more frames frame = concat-append frames (frame ∷ []) ∙ ap (λ (l : List ℕ). concat frames ++ l) (append-nil frame)
+concat_more frames frame = concat-append frames (frame ∷ [])
+    ∙ ap (λ (l : List ℕ). concat frames ++ l) (append-nil frame)
 
 -- ---- a list in pieces
 
 -- as many pieces as there are elements are enough
-pub same_pieces : {X : Type 0} (j k n : ℕ) (xs : List X) → length xs ≤ j → length xs ≤ k → pieces j (suc n) xs ≡ pieces k (suc n) xs
+pub same_pieces : {X : Type 0} (j k n : ℕ) (xs : List X) → length xs ≤ j → length xs ≤ k
+    → pieces j (suc n) xs ≡ pieces k (suc n) xs
 unfolding pieces
 same_pieces zero zero n xs few enough = refl
 same_pieces zero (suc k) n [] few enough = refl
@@ -64,12 +71,14 @@ same_pieces (suc j) zero n (x ∷ xs) few enough = absurd (omega arith)
 same_pieces (suc j) (suc k) n [] few enough = refl
 same_pieces (suc j) (suc k) n (x ∷ xs) few enough =
     let less = length-drop (suc n) (x ∷ xs) in
-    ap (λ l. take (suc n) (x ∷ xs) ∷ l) (same_pieces j k n (drop (suc n) (x ∷ xs)) (omega (arith, less, few)) (omega (arith, less, enough)))
+    ap (λ l. take (suc n) (x ∷ xs) ∷ l) (same_pieces j k n (drop (suc n) (x ∷ xs)) (omega (arith, less, few))
+    (omega (arith, less, enough)))
 
 -- ---- what a puller still sends
 
 abbrev names_left : List NamedVersion → List (List ℕ)
-names_left vs = map (λ piece. frame_text kind.Summary (summary_text piece)) (cut MAX_ENTRIES vs) ++ frame_text kind.SummaryEnd [] ∷ []
+names_left vs = map (λ piece. frame_text kind.Summary (summary_text piece)) (cut MAX_ENTRIES vs)
+    ++ frame_text kind.SummaryEnd [] ∷ []
 
 abbrev pub stage_left : Cells → Layout → Stage → List (List ℕ)
 stage_left m s Opening = frames_of_names s (versions_of m)
@@ -95,7 +104,8 @@ module _ (m : Cells) (s : Layout) where
   unfolding sent_by
   all_left = refl
 
-  listing : (after : Option Name) (vs : List NamedVersion) → vs ≡ map named_version (cells_after (name_in after) (entries m))
+  listing : (after : Option Name) (vs : List NamedVersion)
+      → vs ≡ map named_version (cells_after (name_in after) (entries m))
       → StageSends m s (Listing after) (names_sent (take MAX_ENTRIES vs)).0 (Some (names_sent (take MAX_ENTRIES vs)).1)
   unfolding pieces
   listing after [] is = (ap names_left (sym is), refl)
@@ -104,16 +114,22 @@ module _ (m : Cells) (s : Layout) where
       let less = length-drop MAX_ENTRIES (v ∷ vs) in
       let frame = frame_text kind.Summary (summary_text (take MAX_ENTRIES (v ∷ vs))) in (
         ap names_left (sym is)
-            ∙ ap (λ ps. frame ∷ (map (λ piece. frame_text kind.Summary (summary_text piece)) ps ++ frame_text kind.SummaryEnd [] ∷ [])) (same_pieces (length vs) (length left) 255 left (omega (arith, less)) (omega arith))
+            ∙ ap (λ ps. frame ∷ (map (λ piece. frame_text kind.Summary (summary_text piece)) ps
+            ++ frame_text kind.SummaryEnd [] ∷ [])) (same_pieces (length vs) (length left) 255 left
+            (omega (arith, less)) (omega arith))
             ∙ ap (λ ws. frame ∷ names_left ws) (sym (next_left m after 255 v vs is)),
         refl,
       )
 
-  stage_step : (stage : Stage) (x : Stage × Option (List ℕ)) → is_sending stage ≡ true → stage_sends m s stage ≡ Ok x → StageSends m s stage x.0 x.1
-  stage_step Opening x going e = subst (λ (y : Stage × Option (List ℕ)). StageSends m s Opening y.0 y.1) (ok_is {E = GossipFault} _ x e) (refl, refl)
+  stage_step : (stage : Stage) (x : Stage × Option (List ℕ)) → is_sending stage ≡ true → stage_sends m s stage ≡ Ok x
+      → StageSends m s stage x.0 x.1
+  stage_step Opening x going e = subst (λ (y : Stage × Option (List ℕ)). StageSends m s Opening y.0 y.1)
+      (ok_is {E = GossipFault} _ x e) (refl, refl)
   stage_step (Listing after) x going e =
-      subst (λ (y : Stage × Option (List ℕ)). StageSends m s (Listing after) y.0 y.1) (ok_is {E = GossipFault} _ x e) (listing after (map named_version (cells_after (name_in after) (entries m))) refl)
-  stage_step Waiting x going e = subst (λ (y : Stage × Option (List ℕ)). StageSends m s Waiting y.0 y.1) (ok_is {E = GossipFault} _ x e) (refl, refl)
+      subst (λ (y : Stage × Option (List ℕ)). StageSends m s (Listing after) y.0 y.1) (ok_is {E = GossipFault} _ x e)
+      (listing after (map named_version (cells_after (name_in after) (entries m))) refl)
+  stage_step Waiting x going e = subst (λ (y : Stage × Option (List ℕ)). StageSends m s Waiting y.0 y.1)
+      (ok_is {E = GossipFault} _ x e) (refl, refl)
   stage_step Done x going e = absurd cc
   stage_step Failed x going e = absurd cc
 
@@ -126,7 +142,8 @@ module _ (m : Cells) (s : Layout) where
     pub limit_is : p.limit ≡ limit
 
   abbrev after_stage : Puller → Stage × Option (List ℕ) → Result (Puller × Option (List ℕ)) GossipFault
-  after_stage p next = unless TooManyFrames (is_some next.1 && nat_le p.limit p.sent) (Ok (record { stage = next.0; sent = count_with p.sent next.1; taken = p.taken; limit = p.limit }, next.1))
+  after_stage p next = unless TooManyFrames (is_some next.1 && nat_le p.limit p.sent)
+      (Ok (record { stage = next.0; sent = count_with p.sent next.1; taken = p.taken; limit = p.limit }, next.1))
 
   -- what one call of a puller sends
   record PullerSends (p q : Puller) (o : Option (List ℕ)) : Type 0 where
@@ -136,13 +153,25 @@ module _ (m : Cells) (s : Layout) where
     limit : q.limit ≡ p.limit
     room : (is_some o && nat_le p.limit p.sent) ≡ false
 
-  puller_step : (p q : Puller) (o : Option (List ℕ)) → is_sending p.stage ≡ true → puller_sends m s p ≡ Ok (q, o) → PullerSends p q o
+  puller_step : (p q : Puller) (o : Option (List ℕ)) → is_sending p.stage ≡ true → puller_sends m s p ≡ Ok (q, o)
+      → PullerSends p q o
   unfolding puller_sends
   puller_step p q o going e =
       let a = bind_ok (stage_sends m s p.stage) (after_stage p) (q, o) e in
       let next = a.0 in
-      let b = unless_ok TooManyFrames (is_some next.1 && nat_le p.limit p.sent) (Ok (record { stage = next.0; sent = count_with p.sent next.1; taken = p.taken; limit = p.limit }, next.1)) (q, o) a.2 in
-      let is = ok_is {E = GossipFault} (record { stage = next.0; sent = count_with p.sent next.1; taken = p.taken; limit = p.limit }, next.1) (q, o) b.1 in
+      let b = unless_ok TooManyFrames (is_some next.1 && nat_le p.limit p.sent)
+      (Ok (record { stage = next.0; sent = count_with p.sent next.1; taken = p.taken; limit = p.limit }, next.1))
+      (q, o) a.2 in
+      let is = ok_is {E = GossipFault} (
+        record {
+          stage = next.0;
+          sent = count_with p.sent next.1;
+          taken =
+              p.taken;
+          limit = p.limit;
+        },
+        next.1,
+      ) (q, o) b.1 in
       subst (λ (y : Puller × Option (List ℕ)). PullerSends p y.0 y.1) is
       (record { stage = stage_step p.stage next going a.1; count = refl; taken = refl; limit = refl; room = b.0 })
 
@@ -163,7 +192,8 @@ module _ (m : Cells) (s : Layout) where
     pub count : q.sent ≡ p.sent + 1
     pub limit_is : q.limit ≡ p.limit
 
-  pub one_sent : (limit : ℕ) (p q : Puller) (before : List (List ℕ)) (frame : List ℕ) → Sends limit p before → puller_sends m s p ≡ Ok (q, Some frame) → OneSent limit p q before frame
+  pub one_sent : (limit : ℕ) (p q : Puller) (before : List (List ℕ)) (frame : List ℕ) → Sends limit p before
+      → puller_sends m s p ≡ Ok (q, Some frame) → OneSent limit p q before frame
   one_sent limit p q before frame sends e =
       let step = puller_step p q (Some frame) sends.going e in
       let left = stage_left m s q.stage in
@@ -185,10 +215,12 @@ module _ (m : Cells) (s : Layout) where
       }
 
   -- after the last frame it waits
-  pub all_sent : (limit : ℕ) (p q : Puller) (before : List (List ℕ)) → Sends limit p before → puller_sends m s p ≡ Ok (q, None) → (sent_by s m ≡ before) × (q ≡ waiting (length (sent_by s m)) 0 limit)
+  pub all_sent : (limit : ℕ) (p q : Puller) (before : List (List ℕ)) → Sends limit p before
+      → puller_sends m s p ≡ Ok (q, None) → (sent_by s m ≡ before) × (q ≡ waiting (length (sent_by s m)) 0 limit)
   all_sent limit p q before sends e =
       let step = puller_step p q None sends.going e in
-      let all : sent_by s m ≡ before = sends.all ∙ ap (λ (stage : Stage). before ++ stage_left m s stage) step.stage.0 ∙ append-nil before in (
+      let all : sent_by s m ≡ before = sends.all ∙ ap (λ (stage : Stage). before ++ stage_left m s stage) step.stage.0
+      ∙ append-nil before in (
         all,
         λ i. record {
           stage = step.stage.1 i;
@@ -206,32 +238,46 @@ module _ (m : Cells) (s : Layout) where
   stage_fault Done fault going e = absurd cc
   stage_fault Failed fault going e = absurd cc
 
-  too_many : (limit : ℕ) (p : Puller) (before : List (List ℕ)) (fault : GossipFault) (next : Stage × Option (List ℕ)) → Sends limit p before → stage_sends m s p.stage ≡ Ok next → (b : Bool) → (is_some next.1 && nat_le p.limit p.sent) ≡ b
-      → unless {A = Puller × Option (List ℕ)} TooManyFrames b (Ok (record { stage = next.0; sent = count_with p.sent next.1; taken = p.taken; limit = p.limit }, next.1)) ≡ Err fault → (fault ≡ TooManyFrames) × (limit < length (sent_by s m))
+  too_many : (limit : ℕ) (p : Puller) (before : List (List ℕ)) (fault : GossipFault) (next : Stage × Option (List ℕ))
+      → Sends limit p before → stage_sends m s p.stage ≡ Ok next → (b : Bool)
+      → (is_some next.1 && nat_le p.limit p.sent) ≡ b
+      → unless {A = Puller × Option (List ℕ)} TooManyFrames b
+      (Ok (record { stage = next.0; sent = count_with p.sent next.1; taken = p.taken; limit = p.limit }, next.1))
+      ≡ Err fault → (fault ≡ TooManyFrames) × (limit < length (sent_by s m))
   too_many limit p before fault next sends is false t e = absurd cc
   too_many limit p before fault (stage, None) sends is true t e = absurd cc
   too_many limit p before fault (stage, Some frame) sends is true t e =
       let step = stage_step p.stage (stage, Some frame) sends.going is in
       let full = leb-true p.limit p.sent t in
-      let len : length (sent_by s m) ≡ length before + length (frame ∷ stage_left m s stage) = ap length (sends.all ∙ ap (λ l. before ++ l) step.0) ∙ length-append before (frame ∷ stage_left m s stage) in
-      (sym (err_is {A = Puller × Option (List ℕ)} TooManyFrames fault e), omega (arith, full, len, sends.count, sends.limit_is))
+      let len : length (sent_by s m) ≡ length before + length (frame ∷ stage_left m s stage) =
+      ap length (sends.all ∙ ap (λ l. before ++ l) step.0) ∙ length-append before (frame ∷ stage_left m s stage) in (
+        sym (err_is {A = Puller × Option (List ℕ)} TooManyFrames fault e),
+        omega (arith, full, len, sends.count, sends.limit_is),
+      )
 
-  pub cannot_send : (limit : ℕ) (p : Puller) (before : List (List ℕ)) (fault : GossipFault) → Sends limit p before → (fault ≡ Memory) ⊎ (puller_sends m s p ≡ Err fault) → CannotSend limit (sent_by s m) fault
+  pub cannot_send : (limit : ℕ) (p : Puller) (before : List (List ℕ)) (fault : GossipFault) → Sends limit p before
+      → (fault ≡ Memory) ⊎ (puller_sends m s p ≡ Err fault) → CannotSend limit (sent_by s m) fault
   unfolding puller_sends
   cannot_send limit p before fault sends (inl memory) = inr (inl memory)
   cannot_send limit p before fault sends (inr e) = inr (inr (by_stage (stage_sends m s p.stage) refl))
     where
-      by_stage : (r : Result (Stage × Option (List ℕ)) GossipFault) → stage_sends m s p.stage ≡ r → (fault ≡ TooManyFrames) × (limit < length (sent_by s m))
-      by_stage (Ok next) is = too_many limit p before fault next sends is (is_some next.1 && nat_le p.limit p.sent) refl (sym (ap (λ r. r >>= after_stage p) is) ∙ e)
+      by_stage : (r : Result (Stage × Option (List ℕ)) GossipFault) → stage_sends m s p.stage ≡ r
+          → (fault ≡ TooManyFrames) × (limit < length (sent_by s m))
+      by_stage (Ok next) is = too_many limit p before fault next sends is (is_some next.1 && nat_le p.limit p.sent) refl
+          (sym (ap (λ r. r >>= after_stage p) is) ∙ e)
       by_stage (Err other) is = absurd (stage_fault p.stage other sends.going is)
 
   -- no writer is to blame for it
-  pub not_written : (p : Puller) (fault : GossipFault) → (fault ≡ Memory) ⊎ (puller_sends m s p ≡ Err fault) → fault ≡ WriteFailed → ⊥
+  pub not_written : (p : Puller) (fault : GossipFault) → (fault ≡ Memory) ⊎ (puller_sends m s p ≡ Err fault)
+      → fault ≡ WriteFailed → ⊥
   unfolding puller_sends
   not_written p fault (inl memory) e = absurd (cc (sym memory ∙ e))
   not_written p fault (inr refused) e = by_stage (stage_sends m s p.stage) refl
     where
-      by_test : (next : Stage × Option (List ℕ)) (b : Bool) → unless {A = Puller × Option (List ℕ)} TooManyFrames b (Ok (record { stage = next.0; sent = count_with p.sent next.1; taken = p.taken; limit = p.limit }, next.1)) ≡ Err fault → ⊥
+      by_test : (next : Stage × Option (List ℕ)) (b : Bool)
+          → unless {A = Puller × Option (List ℕ)} TooManyFrames b
+          (Ok (record { stage = next.0; sent = count_with p.sent next.1; taken = p.taken; limit = p.limit }, next.1))
+          ≡ Err fault → ⊥
       by_test next true f = absurd (cc (err_is {A = Puller × Option (List ℕ)} TooManyFrames fault f ∙ e))
       by_test next false f = absurd cc
 
@@ -243,5 +289,7 @@ module _ (m : Cells) (s : Layout) where
       by_own Failed f = absurd (cc (err_is {A = Stage × Option (List ℕ)} why.Failed fault f ∙ e))
 
       by_stage : (r : Result (Stage × Option (List ℕ)) GossipFault) → stage_sends m s p.stage ≡ r → ⊥
-      by_stage (Ok next) is = by_test next (is_some next.1 && nat_le p.limit p.sent) (sym (ap (λ r. r >>= after_stage p) is) ∙ refused)
-      by_stage (Err other) is = by_own p.stage (is ∙ ap Err (err_is {A = Puller × Option (List ℕ)} other fault (sym (ap (λ r. r >>= after_stage p) is) ∙ refused)))
+      by_stage (Ok next) is = by_test next (is_some next.1 && nat_le p.limit p.sent)
+          (sym (ap (λ r. r >>= after_stage p) is) ∙ refused)
+      by_stage (Err other) is = by_own p.stage (is ∙ ap Err
+          (err_is {A = Puller × Option (List ℕ)} other fault (sym (ap (λ r. r >>= after_stage p) is) ∙ refused)))

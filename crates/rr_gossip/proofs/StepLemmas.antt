@@ -21,11 +21,13 @@ use Rattle.rr_gossip.specs.Puller.{Taken, has_failed, is_due, page_taken, end_ta
 
 -- ---- steps that may fail
 
-pub bind_ok : {A B E : Type 0} (r : Result A E) (f : A → Result B E) (y : B) → (r >>= f) ≡ Ok y → (x : A) × (r ≡ Ok x) × (f x ≡ Ok y)
+pub bind_ok : {A B E : Type 0} (r : Result A E) (f : A → Result B E) (y : B) → (r >>= f) ≡ Ok y
+    → (x : A) × (r ≡ Ok x) × (f x ≡ Ok y)
 bind_ok (Ok x) f y e = (x, refl, e)
 bind_ok (Err d) f y e = absurd cc
 
-pub unless_ok : {A E : Type 0} (fault : E) (refused : Bool) (r : Result A E) (y : A) → unless fault refused r ≡ Ok y → (refused ≡ false) × (r ≡ Ok y)
+pub unless_ok : {A E : Type 0} (fault : E) (refused : Bool) (r : Result A E) (y : A) → unless fault refused r ≡ Ok y
+    → (refused ≡ false) × (r ≡ Ok y)
 unless_ok fault true r y e = absurd cc
 unless_ok fault false r y e = (refl, e)
 
@@ -57,11 +59,13 @@ abbrev pub OfFrame : {A : Type 0} → Result A GossipFault → Type 0
 OfFrame (Ok x) = Unit {0}
 OfFrame (Err fault) = is_of_frame fault ≡ true
 
-pub of_bind : {A B : Type 0} (r : Result A GossipFault) (f : A → Result B GossipFault) → OfFrame r → ((x : A) → OfFrame (f x)) → OfFrame (r >>= f)
+pub of_bind : {A B : Type 0} (r : Result A GossipFault) (f : A → Result B GossipFault) → OfFrame r
+    → ((x : A) → OfFrame (f x)) → OfFrame (r >>= f)
 of_bind (Ok x) f h each = each x
 of_bind (Err fault) f h each = h
 
-pub of_unless : {A : Type 0} (fault : GossipFault) (b : Bool) (r : Result A GossipFault) → is_of_frame fault ≡ true → OfFrame r → OfFrame (unless fault b r)
+pub of_unless : {A : Type 0} (fault : GossipFault) (b : Bool) (r : Result A GossipFault) → is_of_frame fault ≡ true
+    → OfFrame r → OfFrame (unless fault b r)
 of_unless fault true r is h = is
 of_unless fault false r is h = h
 
@@ -99,7 +103,8 @@ pub err_is : {A : Type 0} (f g : GossipFault) → ◌≡◌ {A = Result A Gossip
 unfolding err_or_else
 err_is f g e = ap err_or_else e
 
-pub of_fault : {A : Type 0} (r : Result A GossipFault) (fault : GossipFault) → OfFrame r → r ≡ Err fault → is_of_frame fault ≡ true
+pub of_fault : {A : Type 0} (r : Result A GossipFault) (fault : GossipFault) → OfFrame r → r ≡ Err fault
+    → is_of_frame fault ≡ true
 of_fault (Ok x) fault h e = absurd cc
 of_fault {A = A} (Err other) fault h e = ap is_of_frame (sym (err_is {A = A} other fault e)) ∙ h
 
@@ -107,7 +112,8 @@ of_fault {A = A} (Err other) fault h e = ap is_of_frame (sym (err_is {A = A} oth
 
 of_page : (s : Layout) (body : List ℕ) → OfFrame (page_taken s body)
 unfolding page_taken
-of_page s body = of_bind (as_body (page_at s body)) (λ (es : List NamedCell). Ok ((Waiting, es), false)) (of_body (page_at s body)) (λ es. tt)
+of_page s body = of_bind (as_body (page_at s body)) (λ (es : List NamedCell). Ok ((Waiting, es), false))
+    (of_body (page_at s body)) (λ es. tt)
 
 of_end : (body : List ℕ) → OfFrame (end_taken body)
 unfolding end_taken
@@ -124,10 +130,12 @@ of_puller : (s : Layout) (p : Puller) (content : List ℕ) → OfFrame (puller_t
 unfolding puller_takes
 of_puller s p content =
     of_bind _ _ (of_unless Failed (has_failed p.stage) (content_at content) refl (of_content content))
-    (λ frame. of_bind _ _ (of_unless UnexpectedFrame (not (is_due p.stage frame.0)) _ refl (of_unless TooManyFrames (nat_le p.limit p.taken) _ refl (of_taken s frame.0 frame.1))) (λ next. tt))
+    (λ frame. of_bind _ _ (of_unless UnexpectedFrame (not (is_due p.stage frame.0)) _ refl
+    (of_unless TooManyFrames (nat_le p.limit p.taken) _ refl (of_taken s frame.0 frame.1))) (λ next. tt))
 
 -- what a puller refuses, no stream is to blame for
-pub puller_fault : (s : Layout) (p : Puller) (content : List ℕ) (fault : GossipFault) → puller_takes s p content ≡ Err fault → is_of_frame fault ≡ true
+pub puller_fault : (s : Layout) (p : Puller) (content : List ℕ) (fault : GossipFault)
+    → puller_takes s p content ≡ Err fault → is_of_frame fault ≡ true
 puller_fault s p content fault e = of_fault (puller_takes s p content) fault (of_puller s p content) e
 
 -- one frame more is taken of those that may be, and only the last leaves a puller done
@@ -148,7 +156,8 @@ page_moves s body x e =
 
 end_moves : (body : List ℕ) (x : Taken) → end_taken body ≡ Ok x → x ≡ ((Done, []), true)
 unfolding end_taken
-end_moves body x e = sym (ok_is {E = GossipFault} ((Done, []), true) x (unless_ok BadFrame (not (length body == 0)) (Ok ((Done, []), true)) x e).1)
+end_moves body x e = sym (ok_is {E = GossipFault} ((Done, []), true) x
+    (unless_ok BadFrame (not (length body == 0)) (Ok ((Done, []), true)) x e).1)
 
 -- the last frame is the end, any other a page
 abbrev StageMoves : Taken → Type 0
@@ -164,14 +173,20 @@ stage_moves s kind.Summary body x e = absurd cc
 stage_moves s kind.SummaryEnd body x e = absurd cc
 stage_moves s kind.Page body x e = let m = page_moves s body x e in (λ t. true_false x.1 t m.0, λ f. m.1)
 stage_moves s kind.PageEnd body x e =
-    let is = end_moves body x e in
-    (λ t. (ap (λ (y : Taken). y.0.0) is, ap (λ (y : Taken). y.0.1) is), λ f. true_false x.1 (ap (λ (y : Taken). y.1) is) f)
+    let is = end_moves body x e in (
+      λ t. (ap (λ (y : Taken). y.0.0) is, ap (λ (y : Taken). y.0.1) is),
+      λ f. true_false x.1 (ap (λ (y : Taken). y.1) is) f,
+    )
 
 abbrev next_puller : Puller → Taken → Result ((Puller × List NamedCell) × Bool) GossipFault
-next_puller p next = Ok ((record { stage = next.0.0; sent = p.sent; taken = p.taken + 1; limit = p.limit }, next.0.1), next.1)
+next_puller p next = Ok (
+  (record { stage = next.0.0; sent = p.sent; taken = p.taken + 1; limit = p.limit }, next.0.1),
+  next.1,
+)
 
 abbrev after_content : Layout → Puller → Kind × List ℕ → Result ((Puller × List NamedCell) × Bool) GossipFault
-after_content s p frame = unless UnexpectedFrame (not (is_due p.stage frame.0)) (unless TooManyFrames (nat_le p.limit p.taken) (body_taken s frame.0 frame.1)) >>= next_puller p
+after_content s p frame = unless UnexpectedFrame (not (is_due p.stage frame.0))
+    (unless TooManyFrames (nat_le p.limit p.taken) (body_taken s frame.0 frame.1)) >>= next_puller p
 
 -- the steps of a frame that is taken
 record PullerTakes (s : Layout) (p q : Puller) (content : List ℕ) (es : List NamedCell) (last : Bool) : Type 0 where
@@ -185,16 +200,25 @@ record PullerTakes (s : Layout) (p q : Puller) (content : List ℕ) (es : List N
   cells : next.0.1 ≡ es
   end : next.1 ≡ last
 
-puller_parts : (s : Layout) (p q : Puller) (content : List ℕ) (es : List NamedCell) (last : Bool) → puller_takes s p content ≡ Ok ((q, es), last) → PullerTakes s p q content es last
+puller_parts : (s : Layout) (p q : Puller) (content : List ℕ) (es : List NamedCell) (last : Bool)
+    → puller_takes s p content ≡ Ok ((q, es), last) → PullerTakes s p q content es last
 unfolding puller_takes
 puller_parts s p q content es last e =
     let a = bind_ok (unless Failed (has_failed p.stage) (content_at content)) (after_content s p) ((q, es), last) e in
     let k = a.0.0 in
     let body = a.0.1 in
-    let b = bind_ok (unless UnexpectedFrame (not (is_due p.stage k)) (unless TooManyFrames (nat_le p.limit p.taken) (body_taken s k body))) (next_puller p) ((q, es), last) a.2 in
-    let due = unless_ok UnexpectedFrame (not (is_due p.stage k)) (unless TooManyFrames (nat_le p.limit p.taken) (body_taken s k body)) b.0 b.1 in
+    let b = bind_ok (unless UnexpectedFrame (not (is_due p.stage k))
+    (unless TooManyFrames (nat_le p.limit p.taken) (body_taken s k body))) (next_puller p) ((q, es), last) a.2 in
+    let due = unless_ok UnexpectedFrame (not (is_due p.stage k))
+    (unless TooManyFrames (nat_le p.limit p.taken) (body_taken s k body)) b.0 b.1 in
     let room = unless_ok TooManyFrames (nat_le p.limit p.taken) (body_taken s k body) b.0 due.1 in
-    let is = ok_is {E = GossipFault} ((record { stage = b.0.0.0; sent = p.sent; taken = p.taken + 1; limit = p.limit }, b.0.0.1), b.0.1) ((q, es), last) b.2 in
+    let is = ok_is {E = GossipFault} (
+      (
+        record { stage = b.0.0.0; sent = p.sent; taken = p.taken + 1; limit = p.limit },
+        b.0.0.1,
+      ),
+      b.0.1,
+    ) ((q, es), last) b.2 in
     record {
       frame = a.0;
       next = b.0;
@@ -207,7 +231,8 @@ puller_parts s p q content es last e =
       end = ap (λ (y : (Puller × List NamedCell) × Bool). y.1) is;
     }
 
-pub puller_moves : (s : Layout) (p q : Puller) (content : List ℕ) (es : List NamedCell) (last : Bool) → puller_takes s p content ≡ Ok ((q, es), last) → PullerMoves p q es last
+pub puller_moves : (s : Layout) (p q : Puller) (content : List ℕ) (es : List NamedCell) (last : Bool)
+    → puller_takes s p content ≡ Ok ((q, es), last) → PullerMoves p q es last
 puller_moves s p q content es last e =
     let t = puller_parts s p q content es last e in
     let stage = stage_moves s t.frame.0 t.frame.1 t.next t.takes in
@@ -225,27 +250,36 @@ puller_moves s p q content es last e =
 abbrev pub raised : ℕ → Puller → Puller
 raised n p = record { stage = p.stage; sent = p.sent; taken = p.taken; limit = n }
 
-rebuilt : (s : Layout) (p : Puller) (content : List ℕ) (frame : Kind × List ℕ) (x : Taken) → unless Failed (has_failed p.stage) (content_at content) ≡ Ok frame → not (is_due p.stage frame.0) ≡ false → nat_le p.limit p.taken ≡ false
+rebuilt : (s : Layout) (p : Puller) (content : List ℕ) (frame : Kind × List ℕ) (x : Taken)
+    → unless Failed (has_failed p.stage) (content_at content) ≡ Ok frame → not (is_due p.stage frame.0) ≡ false
+    → nat_le p.limit p.taken ≡ false
     → body_taken s frame.0 frame.1 ≡ Ok x → puller_takes s p content ≡ next_puller p x
 unfolding puller_takes
 rebuilt s p content frame x read due room takes =
     ap (λ r. r >>= after_content s p) read
-    ∙ ap (λ b. unless UnexpectedFrame b (unless TooManyFrames (nat_le p.limit p.taken) (body_taken s frame.0 frame.1)) >>= next_puller p) due
+    ∙ ap (λ b. unless UnexpectedFrame b (unless TooManyFrames (nat_le p.limit p.taken) (body_taken s frame.0 frame.1))
+    >>= next_puller p) due
     ∙ ap (λ b. unless TooManyFrames b (body_taken s frame.0 frame.1) >>= next_puller p) room
     ∙ ap (λ r. r >>= next_puller p) takes
 
-takes_raised : (n : ℕ) (s : Layout) (p q : Puller) (content : List ℕ) (es : List NamedCell) (last : Bool) → p.limit ≤ n → puller_takes s p content ≡ Ok ((q, es), last) → puller_takes s (raised n p) content ≡ Ok ((raised n q, es), last)
+takes_raised : (n : ℕ) (s : Layout) (p q : Puller) (content : List ℕ) (es : List NamedCell) (last : Bool) → p.limit ≤ n
+    → puller_takes s p content ≡ Ok ((q, es), last) → puller_takes s (raised n p) content ≡ Ok ((raised n q, es), last)
 takes_raised n s p q content es last more e =
     let t = puller_parts s p q content es last e in
     let room = leb-false p.limit p.taken t.room in
     rebuilt s (raised n p) content t.frame t.next t.read t.due (lt-leb n p.taken (omega (arith, room, more))) t.takes
     ∙ (λ i. Ok ((raised n (sym t.puller i), t.cells i), t.end i))
 
-pub after_raised : (n : ℕ) (s : Layout) (p : Puller) (had : List NamedCell) (x : Puller × List NamedCell) (cs : List (List ℕ)) → p.limit ≤ n → puller_after s p had cs ≡ Ok x → puller_after s (raised n p) had cs ≡ Ok (raised n x.0, x.1)
+pub after_raised : (n : ℕ) (s : Layout) (p : Puller) (had : List NamedCell) (x : Puller × List NamedCell)
+    (cs : List (List ℕ)) → p.limit ≤ n → puller_after s p had cs ≡ Ok x
+    → puller_after s (raised n p) had cs ≡ Ok (raised n x.0, x.1)
 unfolding puller_after
-after_raised n s p had x [] more e = ap (λ (y : Puller × List NamedCell). Ok (raised n y.0, y.1)) (ok_is {E = GossipFault} (p, had) x e)
+after_raised n s p had x [] more e = ap (λ (y : Puller × List NamedCell). Ok (raised n y.0, y.1))
+    (ok_is {E = GossipFault} (p, had) x e)
 after_raised n s p had x (c ∷ cs) more e =
-    let one = bind_ok (puller_takes s p c) (λ (next : (Puller × List NamedCell) × Bool). puller_after s next.0.0 (had ++ next.0.1) cs) x e in
+    let one = bind_ok (puller_takes s p c) (λ (next : (Puller × List NamedCell) × Bool). puller_after s next.0.0
+    (had ++ next.0.1) cs) x e in
     let same = (puller_moves s p one.0.0.0 c one.0.0.1 one.0.1 one.1).limit in
-    ap (λ y. y >>= λ (next : (Puller × List NamedCell) × Bool). puller_after s next.0.0 (had ++ next.0.1) cs) (takes_raised n s p one.0.0.0 c one.0.0.1 one.0.1 more one.1)
+    ap (λ y. y >>= λ (next : (Puller × List NamedCell) × Bool). puller_after s next.0.0 (had ++ next.0.1) cs)
+    (takes_raised n s p one.0.0.0 c one.0.0.1 one.0.1 more one.1)
     ∙ after_raised n s one.0.0.0 (had ++ one.0.0.1) x cs (omega (arith, same, more)) one.2

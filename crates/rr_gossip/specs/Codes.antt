@@ -5,7 +5,7 @@ use Rattle.rr_schema.specs.Schema.{Layout}
 use Rattle.rr_archive.specs.Codes.{coded_contribution}
 use Rattle.rr_delta.specs.Names.{NamedVersion}
 use Rattle.rr_cells.specs.CellBounds.{NamedCell}
-use Rattle.rr_cells.specs.Holding.{coded_name, coded_layout}
+use Rattle.rr_cells.specs.ReplicaState.{coded_name, coded_layout}
 
 abbrev pub coded_names : Coded (List NamedVersion)
 coded_names = coded_list (coded× coded_name coded_ℕ)

@@ -88,13 +88,15 @@ has_failed Failed = true
 unfoldable pub frame_due : Giver → List ℕ → Result (Kind × List ℕ) GossipFault
 frame_due g content = do
   frame ← unless why.Failed (has_failed g.stage) (content_at content)
-  unless why.UnexpectedFrame (not (is_due g.stage frame.0)) (unless why.TooManyFrames (nat_le g.limit g.taken) (Ok frame))
+  unless why.UnexpectedFrame (not (is_due g.stage frame.0))
+      (unless why.TooManyFrames (nat_le g.limit g.taken) (Ok frame))
 
 -- what a giver of the cells m does with what follows the length of a frame
 unfoldable pub giver_takes : Cells → Layout → Giver → List ℕ → Result (Giver × Bool) GossipFault
 giver_takes m s g content = do
   frame ← unless why.Failed (has_failed g.stage) (content_at content)
-  next ← unless why.UnexpectedFrame (not (is_due g.stage frame.0)) (unless why.TooManyFrames (nat_le g.limit g.taken) (body_taken m s g.stage frame.0 frame.1))
+  next ← unless why.UnexpectedFrame (not (is_due g.stage frame.0))
+      (unless why.TooManyFrames (nat_le g.limit g.taken) (body_taken m s g.stage frame.0 frame.1))
   Ok (record { stage = next.0; sent = g.sent; taken = g.taken + 1; limit = g.limit }, next.1)
 
 -- ---- the next frame

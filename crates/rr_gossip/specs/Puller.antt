@@ -37,7 +37,8 @@ last_listed vs = option_map as_name (last_or None vs)
 
 -- the names and versions of the next 256 cells after the last name, or as many as there are
 abbrev pub next_names : Cells → Option Name → List NamedVersion
-next_names m after = take MAX_ENTRIES (map named_version (cells_after (option_map (λ n. (owned_name n).0) after) (entries m)))
+next_names m after = take MAX_ENTRIES (map named_version
+    (cells_after (option_map (λ n. (owned_name n).0) after) (entries m)))
 
 -- a Summary frame, or where no name is left the end; and the stage after it
 abbrev pub names_sent : List NamedVersion → Stage × List ℕ
@@ -107,7 +108,8 @@ body_taken s kind.PageEnd body = end_taken body
 unfoldable pub frame_due : Puller → List ℕ → Result (Kind × List ℕ) GossipFault
 frame_due p content = do
   frame ← unless why.Failed (has_failed p.stage) (content_at content)
-  unless why.UnexpectedFrame (not (is_due p.stage frame.0)) (unless why.TooManyFrames (nat_le p.limit p.taken) (Ok frame))
+  unless why.UnexpectedFrame (not (is_due p.stage frame.0))
+      (unless why.TooManyFrames (nat_le p.limit p.taken) (Ok frame))
 
 -- whether frames are still to be sent
 abbrev pub is_sending : Stage → Bool
@@ -121,21 +123,25 @@ is_sending Failed = false
 unfoldable pub puller_takes : Layout → Puller → List ℕ → Result ((Puller × List NamedCell) × Bool) GossipFault
 puller_takes s p content = do
   frame ← unless why.Failed (has_failed p.stage) (content_at content)
-  next ← unless why.UnexpectedFrame (not (is_due p.stage frame.0)) (unless why.TooManyFrames (nat_le p.limit p.taken) (body_taken s frame.0 frame.1))
+  next ← unless why.UnexpectedFrame (not (is_due p.stage frame.0))
+      (unless why.TooManyFrames (nat_le p.limit p.taken) (body_taken s frame.0 frame.1))
   Ok ((record { stage = next.0.0; sent = p.sent; taken = p.taken + 1; limit = p.limit }, next.0.1), next.1)
 
 -- ---- what is joined
 
 -- the first of the cells of a frame that is read, perhaps all, perhaps none
-pub record AreFront {X : Type 0} (es : List NamedCell) (read : Result ((X × List NamedCell) × Bool) GossipFault) : Type 0 where
+pub record AreFront {X : Type 0} (es : List NamedCell) (read : Result ((X × List NamedCell) × Bool) GossipFault) : Type
+    0 where
   pub found : (X × List NamedCell) × Bool
   pub is_read : read ≡ Ok found
   pub others : List NamedCell
   pub parts : found.0.1 ≡ es ++ others
 
--- a frame was taken: its cells are joined, one by one and in order; or it is refused and no cell is joined; or memory ran
+-- a frame was taken: its cells are joined, one by one and in order; or it is refused and no cell is joined; or memory
+-- ran
 -- out, and then its first cells may be joined. `joined` says which cells a target has joined
-abbrev pub Takes : {X : Type 0} → (List NamedCell → Type 0) → X → Result Bool GossipFault → Result ((X × List NamedCell) × Bool) GossipFault → Type 0
+abbrev pub Takes : {X : Type 0} → (List NamedCell → Type 0) → X → Result Bool GossipFault
+    → Result ((X × List NamedCell) × Bool) GossipFault → Type 0
 Takes joined x (Ok last) read = (es : List NamedCell) × (read ≡ Ok ((x, es), last)) × joined es
 Takes joined x (Err fault) read =
     ((fault ≡ why.Memory) × (joined [] ⊎ ((es : List NamedCell) × AreFront es read × joined es)))

@@ -12,7 +12,7 @@ use Rattle.rr_delta.specs.Names.{NamedVersion, IsNameOf, versions_of}
 use Rattle.rr_cells.specs.CellBounds.{NamedCell, IsCellOf}
 use Rattle.rr_cells.specs.Cells.{Cells, IsTrimmed}
 use Rattle.rr_cells.specs.Joins.{join, join_cells}
-use Rattle.rr_cells.specs.State.{state}
+use Rattle.rr_cells.specs.State.{cells_of_knowledge}
 use Rattle.rr_model.specs.Knowledge.{Knowledge, union}
 use Rattle.rr_model.specs.World.{World, IsClosed}
 use Rattle.rr_gossip.specs.declared.fault.GossipFault.{GossipFault}
@@ -30,7 +30,8 @@ use Rattle.rr_gossip.specs.Transcript.{contents, giver_after, puller_after, repl
 
 -- why not all of a side's frames were sent: the writer failed, memory ran out, or the session may not have as many
 abbrev pub CannotSend : ℕ → List (List ℕ) → GossipFault → Type 0
-CannotSend limit frames fault = (fault ≡ WriteFailed) ⊎ (fault ≡ Memory) ⊎ ((fault ≡ TooManyFrames) × (limit < length frames))
+CannotSend limit frames fault = (fault ≡ WriteFailed) ⊎ (fault ≡ Memory)
+    ⊎ ((fault ≡ TooManyFrames) × (limit < length frames))
 
 -- ---- the side that pulls
 
@@ -46,9 +47,11 @@ pub record HasPulled (s : Layout) (first : Puller) (had left : Option (List ℕ)
   pub taken : puller_after s first [] (contents frames) ≡ Ok (last, cells)
   pub done : last.stage ≡ puller.Done
 
--- it took frames, and stopped at the next; these are the cells of the pages of those, in order, and where memory ran out
+-- it took frames, and stopped at the next; these are the cells of the pages of those, in order, and where memory ran
+-- out
 -- perhaps the first cells of the next page
-pub record HasStoppedPulling (s : Layout) (first : Puller) (had left : Option (List ℕ)) (fault : GossipFault) (cells : List NamedCell) : Type 0 where
+pub record HasStoppedPulling (s : Layout) (first : Puller) (had left : Option (List ℕ)) (fault : GossipFault)
+    (cells : List NamedCell) : Type 0 where
   pub frames : List (List ℕ)
   pub piece : List ℕ
   pub read : WasRead [] had left frames piece
@@ -56,19 +59,23 @@ pub record HasStoppedPulling (s : Layout) (first : Puller) (had left : Option (L
   pub pages : List NamedCell
   pub taken : puller_after s first [] (contents frames) ≡ Ok (last, pages)
   pub stopped : Stops (puller_takes s last) piece fault
-  pub joined : (cells ≡ pages) ⊎ ((fault ≡ Memory) × IsFrame piece × ((es : List NamedCell) × AreFront es (puller_takes s last (drop 4 piece)) × (cells ≡ pages ++ es)))
+  pub joined : (cells ≡ pages) ⊎ ((fault ≡ Memory) × IsFrame piece
+      × ((es : List NamedCell) × AreFront es (puller_takes s last (drop 4 piece)) × (cells ≡ pages ++ es)))
 
 -- not all frames of a target of the cells m were sent, and it read and joined nothing
-pub record HasNotSent (limit : ℕ) (s : Layout) (m : Cells) (had left : Option (List ℕ)) (fault : GossipFault) (cells : List NamedCell) : Type 0 where
+pub record HasNotSent (limit : ℕ) (s : Layout) (m : Cells) (had left : Option (List ℕ)) (fault : GossipFault)
+    (cells : List NamedCell) : Type 0 where
   pub why : CannotSend limit (sent_by s m) fault
   pub unread : left ≡ had
   pub none : cells ≡ []
 
 -- a pull of a session of at most so many frames failed: before all was sent, or else among the pages
-abbrev pub HasFailedToPull : ℕ → Layout → Cells → Option (List ℕ) → Option (List ℕ) → Option (List ℕ) → Option (List ℕ) → GossipFault → List NamedCell → Type 0
+abbrev pub HasFailedToPull : ℕ → Layout → Cells → Option (List ℕ) → Option (List ℕ) → Option (List ℕ) → Option (List ℕ)
+    → GossipFault → List NamedCell → Type 0
 HasFailedToPull limit s m had left wrote written fault cells =
     HasNotSent limit s m had left fault cells
-    ⊎ (Appends wrote written (concat (sent_by s m)) × HasStoppedPulling s (waiting (length (sent_by s m)) 0 limit) had left fault cells)
+    ⊎ (Appends wrote written (concat (sent_by s m))
+    × HasStoppedPulling s (waiting (length (sent_by s m)) 0 limit) had left fault cells)
 
 -- ---- the side that gives
 
@@ -93,7 +100,8 @@ is_giving stage.Failed = false
 
 -- it took frames to the end of the names and nothing after them, of which some bytes may have been read before, and has
 -- the difference of its source's cells m against all names to send, which are cells of the schema
-pub record HasHeard (s : Layout) (m : Cells) (first last : Giver) (before : List ℕ) (had left : Option (List ℕ)) : Type 0 where
+pub record HasHeard (s : Layout) (m : Cells) (first last : Giver) (before : List ℕ) (had left : Option (List ℕ)) : Type
+    0 where
   pub frames : List (List ℕ)
   pub read : WasRead before had left frames []
   pub taken : giver_after m s first (contents frames) ≡ Ok last
@@ -102,7 +110,8 @@ pub record HasHeard (s : Layout) (m : Cells) (first last : Giver) (before : List
   pub fits : AreLeft (s, newer_cells names (entries m))
 
 -- it took frames, and stopped at the next
-pub record HasStoppedHearing (s : Layout) (m : Cells) (first : Giver) (before : List ℕ) (had left : Option (List ℕ)) (fault : GossipFault) : Type 0 where
+pub record HasStoppedHearing (s : Layout) (m : Cells) (first : Giver) (before : List ℕ) (had left : Option (List ℕ))
+    (fault : GossipFault) : Type 0 where
   pub frames : List (List ℕ)
   pub piece : List ℕ
   pub read : WasRead before had left frames piece
@@ -111,20 +120,23 @@ pub record HasStoppedHearing (s : Layout) (m : Cells) (first : Giver) (before : 
   pub stopped : Stops (giver_takes m s last) piece fault
 
 -- in a session of at most so many frames it heard all names, and wrote the answer to them
-pub record HasGiven (limit : ℕ) (s : Layout) (m : Cells) (before : List ℕ) (had left wrote written : Option (List ℕ)) : Type 0 where
+pub record HasGiven (limit : ℕ) (s : Layout) (m : Cells) (before : List ℕ)
+    (had left wrote written : Option (List ℕ)) : Type 0 where
   pub last : Giver
   pub heard : HasHeard s m (first_giver limit) last before had left
   pub replied : Appends wrote written (concat (replied_by s heard.names m))
 
 -- it heard all names, and wrote a front of the answer to them
-pub record HasNotReplied (limit : ℕ) (s : Layout) (m : Cells) (before : List ℕ) (had left wrote written : Option (List ℕ)) (fault : GossipFault) : Type 0 where
+pub record HasNotReplied (limit : ℕ) (s : Layout) (m : Cells) (before : List ℕ)
+    (had left wrote written : Option (List ℕ)) (fault : GossipFault) : Type 0 where
   pub last : Giver
   pub heard : HasHeard s m (first_giver limit) last before had left
   pub why : CannotSend limit (replied_by s heard.names m) fault
   pub front : AppendsPrefix wrote written (concat (replied_by s heard.names m))
 
 -- it failed: among the names, and wrote nothing, or else among the pages
-abbrev pub HasFailedToGive : ℕ → Layout → Cells → List ℕ → Option (List ℕ) → Option (List ℕ) → Option (List ℕ) → Option (List ℕ) → GossipFault → Type 0
+abbrev pub HasFailedToGive : ℕ → Layout → Cells → List ℕ → Option (List ℕ) → Option (List ℕ) → Option (List ℕ)
+    → Option (List ℕ) → GossipFault → Type 0
 HasFailedToGive limit s m before had left wrote written fault =
     (HasStoppedHearing s m (first_giver limit) before had left fault × (written ≡ wrote))
     ⊎ HasNotReplied limit s m before had left wrote written fault
@@ -134,7 +146,8 @@ HasFailedToGive limit s m before had left wrote written fault =
 -- a give that heard what a side sends for some names, and perhaps more behind it, has the answer to those names to send
 abbrev pub GivesHearTheNames : Type 0
 GivesHearTheNames =
-    (s : Layout) (m : Cells) (names : List NamedVersion) (limit : ℕ) (last : Giver) (more : List ℕ) (left : Option (List ℕ))
+    (s : Layout) (m : Cells) (names : List NamedVersion) (limit : ℕ) (last : Giver) (more : List ℕ)
+    (left : Option (List ℕ))
     → IsLayout s → All (IsNameOf s) names → IsSummary names
     → (heard : HasHeard s m (first_giver limit) last [] (Some (concat (frames_of_names s names) ++ more)) left)
     → (newer_cells heard.names (entries m) ≡ newer_cells names (entries m)) × (left ≡ Some more)
@@ -148,7 +161,8 @@ GivesAnswer =
     → HasGiven limit s m [] (Some (concat (frames_of_names s names) ++ more)) left (Some []) (Some answer)
     → (answer ≡ concat (replied_by s names m)) × (left ≡ Some more) × AreLeft (s, newer_cells names (entries m))
 
--- a pull that read what a side replies of some cells, and perhaps more behind it, has exactly these cells, in order, and
+-- a pull that read what a side replies of some cells, and perhaps more behind it, has exactly these cells, in order,
+-- and
 -- left what is behind
 abbrev pub PullsTakeTheReply : Type 0
 PullsTakeTheReply =
@@ -160,7 +174,8 @@ PullsTakeTheReply =
 -- one that stopped, and could read a beginning of that at most, has the first of these cells, in order
 abbrev pub StoppedPullsTakeAFront : Type 0
 StoppedPullsTakeAFront =
-    (s : Layout) (es cells : List NamedCell) (n limit : ℕ) (came lost more : List ℕ) (left : Option (List ℕ)) (fault : GossipFault)
+    (s : Layout) (es cells : List NamedCell) (n limit : ℕ) (came lost more : List ℕ) (left : Option (List ℕ))
+    (fault : GossipFault)
     → IsLayout s → AreLeft (s, es) → came ++ lost ≡ concat (reply s es) ++ more
     → HasStoppedPulling s (waiting n 0 limit) (Some came) left fault cells
     → IsPrefix cells es
@@ -168,7 +183,8 @@ StoppedPullsTakeAFront =
 -- where a give heard what a pull sent, and that pull read its answer, it has exactly what its side lacked, in order
 abbrev pub PullsBringTheDifference : Type 0
 PullsBringTheDifference =
-    (s : Layout) (m given : Cells) (cells : List NamedCell) (limit limit_given : ℕ) (answer more more_given : List ℕ) (left left_given : Option (List ℕ))
+    (s : Layout) (m given : Cells) (cells : List NamedCell) (limit limit_given : ℕ) (answer more more_given : List ℕ)
+    (left left_given : Option (List ℕ))
     → IsLayout s → All (IsCellOf s) (entries m)
     → HasGiven limit_given s given [] (Some (concat (sent_by s m) ++ more_given)) left_given (Some []) (Some answer)
     → HasPulled s (waiting (length (sent_by s m)) 0 limit) (Some (answer ++ more)) left cells
@@ -177,7 +193,8 @@ PullsBringTheDifference =
 -- to join that brings the join of the cells of both sides, where equal versions of one cell mean equal contents
 abbrev pub PullsBringTheJoin : Type 0
 PullsBringTheJoin =
-    (s : Layout) (m given : Cells) (cells : List NamedCell) (limit limit_given : ℕ) (answer more more_given : List ℕ) (left left_given : Option (List ℕ))
+    (s : Layout) (m given : Cells) (cells : List NamedCell) (limit limit_given : ℕ) (answer more more_given : List ℕ)
+    (left left_given : Option (List ℕ))
     → IsLayout s → IsTrimmed s m → All (IsCellOf s) (entries m) → AgreeAtVersions given m
     → HasGiven limit_given s given [] (Some (concat (sent_by s m) ++ more_given)) left_given (Some []) (Some answer)
     → HasPulled s (waiting (length (sent_by s m)) 0 limit) (Some (answer ++ more)) left cells
@@ -186,8 +203,10 @@ PullsBringTheJoin =
 -- so where both sides have the cells of closed knowledges, it brings those of what either knew
 abbrev pub PullsUnite : Type 0
 PullsUnite =
-    (s : Layout) (w : World) (k given : Knowledge) (cells : List NamedCell) (limit limit_given : ℕ) (answer more more_given : List ℕ) (left left_given : Option (List ℕ))
-    → IsLayout s → IsClosed s w k → IsClosed s w given → All (IsCellOf s) (entries (state s k))
-    → HasGiven limit_given s (state s given) [] (Some (concat (sent_by s (state s k)) ++ more_given)) left_given (Some []) (Some answer)
-    → HasPulled s (waiting (length (sent_by s (state s k))) 0 limit) (Some (answer ++ more)) left cells
-    → join_cells s (state s k) cells ≡ state s (union k given)
+    (s : Layout) (w : World) (k given : Knowledge) (cells : List NamedCell) (limit limit_given : ℕ)
+    (answer more more_given : List ℕ) (left left_given : Option (List ℕ))
+    → IsLayout s → IsClosed s w k → IsClosed s w given → All (IsCellOf s) (entries (cells_of_knowledge s k))
+    → HasGiven limit_given s (cells_of_knowledge s given) []
+    (Some (concat (sent_by s (cells_of_knowledge s k)) ++ more_given)) left_given (Some []) (Some answer)
+    → HasPulled s (waiting (length (sent_by s (cells_of_knowledge s k))) 0 limit) (Some (answer ++ more)) left cells
+    → join_cells s (cells_of_knowledge s k) cells ≡ cells_of_knowledge s (union k given)

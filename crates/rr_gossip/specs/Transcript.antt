@@ -40,11 +40,14 @@ cut n xs = pieces (length xs) n xs
 
 -- the schema, then names and versions, 256 in a frame, and the end
 abbrev pub frames_of_names : Layout → List NamedVersion → List (List ℕ)
-frames_of_names s vs = frame_text kind.Hello (schema_bytes s) ∷ (map (λ piece. frame_text kind.Summary (summary_text piece)) (cut MAX_ENTRIES vs) ++ frame_text kind.SummaryEnd [] ∷ [])
+frames_of_names s vs = frame_text kind.Hello (schema_bytes s) ∷
+    (map (λ piece. frame_text kind.Summary (summary_text piece)) (cut MAX_ENTRIES vs)
+    ++ frame_text kind.SummaryEnd [] ∷ [])
 
 -- pages of cells, 256 in each, and the end
 abbrev pub reply : Layout → List NamedCell → List (List ℕ)
-reply s es = map (λ piece. frame_text kind.Page (page_text latest s piece)) (cut MAX_PAGE_CELLS es) ++ frame_text kind.PageEnd [] ∷ []
+reply s es = map (λ piece. frame_text kind.Page (page_text latest s piece)) (cut MAX_PAGE_CELLS es)
+    ++ frame_text kind.PageEnd [] ∷ []
 
 -- ---- what is sent
 
@@ -59,7 +62,8 @@ giver_frames zero g = Ok []
 giver_frames (suc most) g = giver_sends g >>= λ next. and_frames next.1 (giver_frames most next.0)
 
 -- the same, with the puller after them
-abbrev pub and_later : Puller → Option (List ℕ) → Result (Puller × List (List ℕ)) GossipFault → Result (Puller × List (List ℕ)) GossipFault
+abbrev pub and_later : Puller → Option (List ℕ) → Result (Puller × List (List ℕ)) GossipFault
+    → Result (Puller × List (List ℕ)) GossipFault
 and_later p None later = Ok (p, [])
 and_later p (Some frame) later = later >>= λ x. Ok (x.0, frame ∷ x.1)
 
@@ -77,14 +81,18 @@ waiting sent taken limit = record { stage = puller.Waiting; sent = sent; taken =
 -- a giver that has made a difference sends its pages and the end, if it may send as many frames
 abbrev pub GiversReply : Type 0
 GiversReply =
-    (s : Layout) (es : List NamedCell) (before taken limit most : ℕ) → before + length (reply s es) ≤ limit → length (reply s es) ≤ most
-    → giver_frames most (record { stage = giver.Giving (s, es); sent = before; taken = taken; limit = limit }) ≡ Ok (reply s es)
+    (s : Layout) (es : List NamedCell) (before taken limit most : ℕ) → before + length (reply s es) ≤ limit
+    → length (reply s es) ≤ most
+    → giver_frames most (record { stage = giver.Giving (s, es); sent = before; taken = taken; limit = limit })
+    ≡ Ok (reply s es)
 
 -- a puller sends its schema, the names and versions of all cells, and the end, if it may send as many frames
 abbrev pub PullersSend : Type 0
 PullersSend =
-    (s : Layout) (m : Cells) (limit most : ℕ) → length (frames_of_names s (versions_of m)) ≤ limit → length (frames_of_names s (versions_of m)) ≤ most
-    → puller_frames most m s (first_puller limit) ≡ Ok (waiting (length (frames_of_names s (versions_of m))) 0 limit, frames_of_names s (versions_of m))
+    (s : Layout) (m : Cells) (limit most : ℕ) → length (frames_of_names s (versions_of m)) ≤ limit
+    → length (frames_of_names s (versions_of m)) ≤ most
+    → puller_frames most m s (first_puller limit) ≡ Ok
+    (waiting (length (frames_of_names s (versions_of m))) 0 limit, frames_of_names s (versions_of m))
 
 -- ---- what is taken
 
@@ -98,21 +106,30 @@ giver_after m s g [] = Ok g
 giver_after m s g (c ∷ cs) = giver_takes m s g c >>= λ next. giver_after m s next.0 cs
 
 -- a puller after frames, and the cells to join: those that it had before them, and then those of each frame, in order
-unfoldable pub puller_after : Layout → Puller → List NamedCell → List (List ℕ) → Result (Puller × List NamedCell) GossipFault
+unfoldable pub puller_after : Layout → Puller → List NamedCell → List (List ℕ)
+    → Result (Puller × List NamedCell) GossipFault
 puller_after s p had [] = Ok (p, had)
 puller_after s p had (c ∷ cs) = puller_takes s p c >>= λ next. puller_after s next.0.0 (had ++ next.0.1) cs
 
 -- a giver that takes what a puller sends then has the difference against it to send
 abbrev pub GiversTake : Type 0
 GiversTake =
-    (s : Layout) (m : Cells) (vs : List NamedVersion) (limit : ℕ) → IsLayout s → All (IsNameOf s) vs → IsSummary vs → length (frames_of_names s vs) ≤ limit
+    (s : Layout) (m : Cells) (vs : List NamedVersion) (limit : ℕ) → IsLayout s → All (IsNameOf s) vs → IsSummary vs
+    → length (frames_of_names s vs) ≤ limit
     → giver_after m s (first_giver limit) (contents (frames_of_names s vs))
-    ≡ Ok (record { stage = giver.Giving (s, newer_cells vs (entries m)); sent = 0; taken = length (frames_of_names s vs); limit = limit })
+    ≡ Ok (record {
+      stage = giver.Giving (s, newer_cells vs (entries m));
+      sent = 0;
+      taken =
+          length (frames_of_names s vs);
+      limit = limit;
+    })
 
 -- a puller that takes what a giver replies has all of it to join, in order, and is done
 abbrev pub PullersTake : Type 0
 PullersTake =
-    (s : Layout) (had es : List NamedCell) (sent taken limit : ℕ) → IsLayout s → AreLeft (s, es) → taken + length (reply s es) ≤ limit
+    (s : Layout) (had es : List NamedCell) (sent taken limit : ℕ) → IsLayout s → AreLeft (s, es)
+    → taken + length (reply s es) ≤ limit
     → puller_after s (waiting sent taken limit) had (contents (reply s es))
     ≡ Ok (record { stage = puller.Done; sent = sent; taken = taken + length (reply s es); limit = limit }, had ++ es)
 
@@ -129,10 +146,14 @@ pub record IsSession (s : Layout) (m given : Cells) (limit : ℕ) (cells : List 
   pub last : Puller
   pub is_taken : puller_after s puller [] (contents pages) ≡ Ok (last, cells)
 
--- it brings what the puller lacks, in order, and so the join of both sides' cells, where equal versions of one cell mean
+-- it brings what the puller lacks, in order, and so the join of both sides' cells, where equal versions of one cell
+-- mean
 -- equal contents
 abbrev pub SessionsBringTheJoin : Type 0
 SessionsBringTheJoin =
-    (s : Layout) (m given : Cells) (limit : ℕ) → IsLayout s → IsTrimmed s m → All (IsCellOf s) (entries m) → All (IsCellOf s) (entries given) → AgreeAtVersions given m
-    → length (frames_of_names s (versions_of m)) ≤ limit → length (reply s (newer_cells (versions_of m) (entries given))) ≤ limit
-    → IsSession s m given limit (newer_cells (versions_of m) (entries given)) × (join_cells s m (newer_cells (versions_of m) (entries given)) ≡ join s m given)
+    (s : Layout) (m given : Cells) (limit : ℕ) → IsLayout s → IsTrimmed s m → All (IsCellOf s) (entries m)
+    → All (IsCellOf s) (entries given) → AgreeAtVersions given m
+    → length (frames_of_names s (versions_of m)) ≤ limit
+    → length (reply s (newer_cells (versions_of m) (entries given))) ≤ limit
+    → IsSession s m given limit (newer_cells (versions_of m) (entries given))
+    × (join_cells s m (newer_cells (versions_of m) (entries given)) ≡ join s m given)

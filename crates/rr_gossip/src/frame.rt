@@ -61,8 +61,8 @@ impl Kind {
     }
 }
 
-/// A frame of a kind with a body: its length in four bytes, the kind in one, and the body. The cost is
-/// linear in the body.
+/// A frame of a kind with a body: its length in four bytes, the kind in one, and the body. The cost
+/// is linear in the body.
 #[tactic(auto, unfolding(crate::specs::Frame::frame_text))]
 pub fn frame_bytes(alloc: Global, kind: Kind, body: &[u8]) -> Result<Vec<u8>, AllocError>
     requires { length body.now < MAX_FRAME_LEN }

@@ -145,7 +145,8 @@ impl Stage {
 
     /// The next frame, if one is due.
     fn next_frame(&mut self, alloc: Global) -> Result<Option<Vec<u8>>, GossipFault>
-        ensures sent { GivesUnless GossipFault.Memory (λ frame. (self.new, option_map (λ bytes. bytes.items) frame)) result
+        ensures sent { GivesUnless GossipFault.Memory
+            (λ frame. (self.new, option_map (λ bytes. bytes.items) frame)) result
             (stage_sends self.old) }
         ensures memory { result ≡ Err GossipFault.Memory → IsTrue (is_giving self.old) }
     {
@@ -165,9 +166,9 @@ impl Stage {
 
 /// The side of a session that gives cells.
 ///
-/// It takes the frames of the other side one after the other, and has the difference made at the last
-/// of them; then it answers one page after the other, all of the state that the source had then. After
-/// a fault it answers `Failed` from then on.
+/// It takes the frames of the other side one after the other, and has the difference made at the
+/// last of them; then it answers one page after the other, all of the state that the source had
+/// then. After a fault it answers `Failed` from then on.
 #[derive(Drop)]
 pub struct Giver {
     stage: Stage,
@@ -202,8 +203,8 @@ impl Giver {
     /// Refused, in this order, as `Failed` after a fault; as `FrameTooLong` above 300,000 bytes; as
     /// `BadFrame` where it is of no kind; as `UnexpectedFrame` where that kind is not due; as
     /// `TooManyFrames`; and by its body, as `SchemaDiffers` for a Hello of another schema and as
-    /// `BadFrame` for any other. After a refusal the session has failed, after `Memory` too. The cost
-    /// is linear in the frame, and at the last one that of `Source::difference`.
+    /// `BadFrame` for any other. After a refusal the session has failed, after `Memory` too. The
+    /// cost is linear in the frame, and at the last one that of `Source::difference`.
     pub fn take<S: Source>(
         &mut self,
         alloc: Global,
@@ -257,17 +258,18 @@ impl Giver {
         Ok(last)
     }
 
-    /// The next frame, whole, if one is due: none before the other side's last frame, and none after
-    /// the end of the pages.
+    /// The next frame, whole, if one is due: none before the other side's last frame, and none
+    /// after the end of the pages.
     ///
-    /// Refused as `Failed` after a fault; as `TooManyFrames`, before a frame is made; and as `Memory`.
-    /// After a refusal the session has failed. The cost is linear in the frame.
+    /// Refused as `Failed` after a fault; as `TooManyFrames`, before a frame is made; and as
+    /// `Memory`. After a refusal the session has failed. The cost is linear in the frame.
     pub fn next_frame<S: Source>(
         &mut self,
         alloc: Global,
         _source: &mut S,
     ) -> Result<Option<Vec<u8>>, GossipFault>
-        ensures sent { GivesUnless GossipFault.Memory (λ frame. (self.new, option_map (λ bytes. bytes.items) frame)) result
+        ensures sent { GivesUnless GossipFault.Memory
+            (λ frame. (self.new, option_map (λ bytes. bytes.items) frame)) result
             (giver_sends self.old) }
         ensures memory { result ≡ Err GossipFault.Memory → IsTrue (is_giving self.old.stage) }
         ensures within { result ≡ Err GossipFault.Memory → self.old.sent < self.old.limit }
@@ -284,7 +286,8 @@ impl Giver {
     /// The next frame; after a refusal the session is anywhere.
     #[tactic(auto, unfolding(crate::specs::Giver::giver_sends))]
     fn send_frame(&mut self, alloc: Global) -> Result<Option<Vec<u8>>, GossipFault>
-        ensures sent { GivesUnless GossipFault.Memory (λ frame. (self.new, option_map (λ bytes. bytes.items) frame)) result
+        ensures sent { GivesUnless GossipFault.Memory
+            (λ frame. (self.new, option_map (λ bytes. bytes.items) frame)) result
             (giver_sends self.old) }
         ensures memory { result ≡ Err GossipFault.Memory → IsTrue (is_giving self.old.stage) }
         ensures within { result ≡ Err GossipFault.Memory → self.old.sent < self.old.limit }

@@ -17,8 +17,8 @@ use rr_io::stream::{flush, write_all};
 use std::alloc::Global;
 use std::io::{Read, Write};
 
-/// Takes the frames of the other side to its last one, after the bytes of the first frame's length that
-/// are read already. One frame is in memory at a time.
+/// Takes the frames of the other side to its last one, after the bytes of the first frame's length
+/// that are read already. One frame is in memory at a time.
 fn take_names<S: Source, R: Read>(
     alloc: Global,
     giver: &mut Giver,
@@ -52,8 +52,8 @@ fn take_names<S: Source, R: Read>(
     }
 }
 
-/// Writes the frames that a giver still sends, each before the next is made, and has the writer pass
-/// them on.
+/// Writes the frames that a giver still sends, each before the next is made, and has the writer
+/// pass them on.
 fn send_pages<S: Source, W: Write>(
     alloc: Global,
     giver: &mut Giver,
@@ -120,14 +120,14 @@ fn give_from<S: Source, R: Read, W: Write>(
 /// Answers a pull by the other side of a stream: takes its schema and the names and versions of its
 /// cells, and sends the cells of a source that these lack, 256 in a page.
 ///
-/// All of the answer is of one state of the source, that of the last frame, and is in memory as one list;
-/// each page is written before the next is made. No byte after the end of the names is read.
+/// All of the answer is of one state of the source, that of the last frame, and is in memory as one
+/// list; each page is written before the next is made. No byte after the end of the names is read.
 ///
-/// Refused as `ReadFailed`; as `Ended` where the input ends before the end of the names; by a frame as
-/// [`Giver::take`] refuses it, and as `FrameTooLong` on its length alone, before more is read; as
-/// `TooManyFrames` where a frame would be one above 16,777,216, either way; as `WriteFailed`; and as
-/// `Memory`. Nothing is written before the end of the names is taken, and a front of the answer wherever
-/// the call ends.
+/// Refused as `ReadFailed`; as `Ended` where the input ends before the end of the names; by a frame
+/// as [`Giver::take`] refuses it, and as `FrameTooLong` on its length alone, before more is read;
+/// as `TooManyFrames` where a frame would be one above 16,777,216, either way; as `WriteFailed`;
+/// and as `Memory`. Nothing is written before the end of the names is taken, and a front of the
+/// answer wherever the call ends.
 ///
 /// The cost is that of `Source::difference`, and linear in the bytes.
 pub fn give<S: Source, R: Read, W: Write>(

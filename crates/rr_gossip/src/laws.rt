@@ -14,14 +14,14 @@ pub fn summaries_are_their_text()
     ensures { SummariesAreTheirText }
 {}
 
-/// Frame by frame, from `Puller::new` on, a puller sends its schema, the names and versions of all its
-/// cells, and the end, where its session may have as many frames.
+/// Frame by frame, from `Puller::new` on, a puller sends its schema, the names and versions of all
+/// its cells, and the end, where its session may have as many frames.
 pub fn pullers_send()
     ensures { PullersSend }
 {}
 
-/// Frame by frame, from the other side's last frame on, a giver sends the pages of the difference, and
-/// the end, where its session may have as many frames.
+/// Frame by frame, from the other side's last frame on, a giver sends the pages of the difference,
+/// and the end, where its session may have as many frames.
 pub fn givers_reply()
     ensures { GiversReply }
 {}
@@ -32,43 +32,45 @@ pub fn givers_take()
     ensures { GiversTake }
 {}
 
-/// Frame by frame, from the end of the names on, a puller that takes what a giver replies joins all of
-/// it, one by one and in order.
+/// Frame by frame, from the end of the names on, a puller that takes what a giver replies joins all
+/// of it, one by one and in order.
 pub fn pullers_take()
     ensures { PullersTake }
 {}
 
-/// A whole session brings what one side lacks, in order, where it may have as many frames; and to join
-/// that brings the join of the cells of both, where equal versions of one cell mean equal contents.
+/// A whole session brings what one side lacks, in order, where it may have as many frames; and to
+/// join that brings the join of the cells of both, where equal versions of one cell mean equal
+/// contents.
 pub fn sessions_bring_the_join()
     ensures { SessionsBringTheJoin }
 {}
 
-/// A `give` that heard what a side sends for some names and versions has the difference against them to
-/// send, and left unread what is behind; one that succeeds wrote the pages of that, of cells of the schema.
+/// A `give` that heard what a side sends for some names and versions has the difference against
+/// them to send, and left unread what is behind; one that succeeds wrote the pages of that, of
+/// cells of the schema.
 pub fn gives_answer()
     ensures heard { GivesHearTheNames }
     ensures answer { GivesAnswer }
 {}
 
-/// A `pull` that read what a side replies of some cells took exactly these, in order, and left unread what
-/// is behind. One that stopped, where not all of it came or memory ran out, took the first of them, in
-/// order.
+/// A `pull` that read what a side replies of some cells took exactly these, in order, and left
+/// unread what is behind. One that stopped, where not all of it came or memory ran out, took the
+/// first of them, in order.
 pub fn pulls_take_the_reply()
     ensures whole { PullsTakeTheReply }
     ensures stopped { StoppedPullsTakeAFront }
 {}
 
-/// Where a `give` heard what a `pull` sent, and that `pull` read its answer, it took exactly what its
-/// target lacked, in order; and to join that brings the join of the cells of both sides, where equal
-/// versions of one cell mean equal contents.
+/// Where a `give` heard what a `pull` sent, and that `pull` read its answer, it took exactly what
+/// its target lacked, in order; and to join that brings the join of the cells of both sides, where
+/// equal versions of one cell mean equal contents.
 pub fn pulls_bring_the_join()
     ensures difference { PullsBringTheDifference }
     ensures join { PullsBringTheJoin }
 {}
 
-/// So where each side has the cells of what it knows, without gaps, a `pull` brings the target the cells of
-/// what either knew.
+/// So where each side has the cells of what it knows, without gaps, a `pull` brings the target the
+/// cells of what either knew.
 pub fn pulls_unite()
     ensures { PullsUnite }
 {}

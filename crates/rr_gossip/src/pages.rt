@@ -56,9 +56,11 @@ impl Pages {
 
     /// The bytes of the next page, if a cell is left. After an error nothing has changed.
     pub(crate) fn next_page(&mut self, alloc: Global) -> Result<Option<Vec<u8>>, AllocError>
-        ensures page { IfOk result (λ page. option_map (λ bytes. bytes.items) page ≡ next_page self.old) }
+        ensures page { IfOk result (λ page. option_map (λ bytes. bytes.items) page
+            ≡ next_page self.old) }
         ensures left { OnOk result (self.new ≡ after_page self.old) }
-        ensures fits { IfOk result (λ page. IfSome page (λ bytes. length bytes.items < MAX_FRAME_LEN)) }
+        ensures fits { IfOk result (λ page. IfSome page
+            (λ bytes. length bytes.items < MAX_FRAME_LEN)) }
     {
         let _archives = self.schema.archives(); // their contract says that the schema is within its limits
         let cells = part(&self.cells, self.sent, MAX_PAGE_CELLS);

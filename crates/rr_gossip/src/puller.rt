@@ -69,7 +69,8 @@ impl Stage {
         alloc: Global,
         target: &T,
     ) -> Result<Option<Vec<u8>>, GossipFault>
-        ensures sent { GivesUnless GossipFault.Memory (λ frame. (self.new, option_map (λ bytes. bytes.items) frame)) result
+        ensures sent { GivesUnless GossipFault.Memory
+            (λ frame. (self.new, option_map (λ bytes. bytes.items) frame)) result
             (stage_sends (T.cells target.now) (T.layout target.now) self.old) }
         ensures memory { result ≡ Err GossipFault.Memory → IsTrue (is_sending self.old) }
     {
@@ -105,7 +106,8 @@ impl Stage {
         requires { IsTrue (is_due self.old kind) }
         ensures taken { Takes (T.has_joined target.old target.new) self.new result
             (body_taken (T.layout target.old) kind body.now) }
-        ensures memory { NeedsMemoryAfter GossipFault.Memory (body_taken (T.layout target.old) kind body.now)
+        ensures memory { NeedsMemoryAfter GossipFault.Memory
+            (body_taken (T.layout target.old) kind body.now)
             result }
     {
         match kind {
@@ -127,8 +129,8 @@ impl Stage {
 
 /// The side of a session that pulls cells.
 ///
-/// It sends the schema of its target and the names of all its cells, and then joins the pages that it
-/// takes, each as it comes. After a fault it answers `Failed` from then on.
+/// It sends the schema of its target and the names of all its cells, and then joins the pages that
+/// it takes, each as it comes. After a fault it answers `Failed` from then on.
 #[derive(Drop)]
 pub struct Puller {
     stage: Stage,
@@ -158,18 +160,19 @@ impl Puller {
         }
     }
 
-    /// The next frame, whole, if one is due: none after the end of the names. Names are asked of the
-    /// target 256 at a time, from the last one on.
+    /// The next frame, whole, if one is due: none after the end of the names. Names are asked of
+    /// the target 256 at a time, from the last one on.
     ///
     /// Refused as `Failed` after a fault; as `TooManyFrames`, before any name is asked for; and as
-    /// `Memory`. After a refusal the session has failed. The cost is that of `Target::names_after`, and
-    /// linear in the frame.
+    /// `Memory`. After a refusal the session has failed. The cost is that of `Target::names_after`,
+    /// and linear in the frame.
     pub fn next_frame<T: Target>(
         &mut self,
         alloc: Global,
         target: &T,
     ) -> Result<Option<Vec<u8>>, GossipFault>
-        ensures sent { GivesUnless GossipFault.Memory (λ frame. (self.new, option_map (λ bytes. bytes.items) frame)) result
+        ensures sent { GivesUnless GossipFault.Memory
+            (λ frame. (self.new, option_map (λ bytes. bytes.items) frame)) result
             (puller_sends (T.cells target.now) (T.layout target.now) self.old) }
         ensures memory { result ≡ Err GossipFault.Memory → IsTrue (is_sending self.old.stage) }
         ensures within { result ≡ Err GossipFault.Memory → self.old.sent < self.old.limit }
@@ -189,7 +192,8 @@ impl Puller {
         alloc: Global,
         target: &T,
     ) -> Result<Option<Vec<u8>>, GossipFault>
-        ensures sent { GivesUnless GossipFault.Memory (λ frame. (self.new, option_map (λ bytes. bytes.items) frame)) result
+        ensures sent { GivesUnless GossipFault.Memory
+            (λ frame. (self.new, option_map (λ bytes. bytes.items) frame)) result
             (puller_sends (T.cells target.now) (T.layout target.now) self.old) }
         ensures memory { result ≡ Err GossipFault.Memory → IsTrue (is_sending self.old.stage) }
         ensures within { result ≡ Err GossipFault.Memory → self.old.sent < self.old.limit }
@@ -209,12 +213,12 @@ impl Puller {
     /// order, and answers whether it was the other side's last.
     ///
     /// Refused, in this order, as `Failed` after a fault; as `FrameTooLong` above 300,000 bytes; as
-    /// `BadFrame` where it is of no kind; as `UnexpectedFrame` where that kind is not due, which is so
-    /// until the end of the names is sent; as `TooManyFrames`; and by its body, as `SchemaDiffers` for a
-    /// page of another schema and as `BadFrame` for any other. Then nothing is joined. `Memory` comes only
-    /// where the frame is a good one; some cells of the page may then be joined, from the first on. After
-    /// a refusal the session has failed. The cost is linear in the frame, and that of
-    /// `Target::join_cell` for each cell.
+    /// `BadFrame` where it is of no kind; as `UnexpectedFrame` where that kind is not due, which is
+    /// so until the end of the names is sent; as `TooManyFrames`; and by its body, as
+    /// `SchemaDiffers` for a page of another schema and as `BadFrame` for any other. Then nothing
+    /// is joined. `Memory` comes only where the frame is a good one; some cells of the page may
+    /// then be joined, from the first on. After a refusal the session has failed. The cost is
+    /// linear in the frame, and that of `Target::join_cell` for each cell.
     pub fn take<T: Target>(
         &mut self,
         alloc: Global,

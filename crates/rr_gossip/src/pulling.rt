@@ -35,7 +35,8 @@ fn send_names<T: Target, W: Write>(
         (W.contents (inner_of output.new))
         (concat (sent_by (T.layout target.now) (T.cells target.now))) }
     ensures waits { OnOk result (puller.new
-        ≡ waiting (length (sent_by (T.layout target.now) (T.cells target.now))) 0 puller.old.limit) }
+        ≡ waiting (length (sent_by (T.layout target.now) (T.cells target.now))) 0
+        puller.old.limit) }
     ensures refused { IfErr result (CannotSend puller.old.limit
         (sent_by (T.layout target.now) (T.cells target.now))) }
     ensures flushed { OnOk result (is_flushed output.new ≡ true) }
@@ -50,18 +51,20 @@ fn send_names<T: Target, W: Write>(
     Ok(())
 }
 
-/// Takes the frames of the other side to its last one, and joins each page as it comes. One frame is in
-/// memory at a time.
+/// Takes the frames of the other side to its last one, and joins each page as it comes. One frame
+/// is in memory at a time.
 fn take_pages<T: Target, R: Read>(
     alloc: Global,
     puller: &mut Puller,
     input: &mut Counted<R>,
     target: &mut T,
 ) -> Result<(), GossipFault>
-    ensures pulled { OnOk result ((cells : List NamedCell) × T.has_joined target.old target.new cells
+    ensures pulled { OnOk result ((cells : List NamedCell)
+        × T.has_joined target.old target.new cells
         × HasPulled (T.layout target.old) puller.old
         (R.remaining (inner_of input.old)) (R.remaining (inner_of input.new)) cells) }
-    ensures stopped { IfErr result (λ fault. (cells : List NamedCell) × T.has_joined target.old target.new cells
+    ensures stopped { IfErr result (λ fault. (cells : List NamedCell)
+        × T.has_joined target.old target.new cells
         × HasStoppedPulling (T.layout target.old) puller.old
         (R.remaining (inner_of input.old)) (R.remaining (inner_of input.new)) fault cells) }
     ensures ended { result ≡ Err GossipFault.Ended → IsAtEnd (R.remaining (inner_of input.new)) }
@@ -79,17 +82,19 @@ fn take_pages<T: Target, R: Read>(
     }
 }
 
-/// Pulls cells from the other side of a stream: sends the schema of a target and the names and versions
-/// of all its cells, and joins the cells that the other side answers, page by page, each in its order.
+/// Pulls cells from the other side of a stream: sends the schema of a target and the names and
+/// versions of all its cells, and joins the cells that the other side answers, page by page, each
+/// in its order.
 ///
-/// Names are asked of the target 256 at a time, and each frame is written before the next is made; of
-/// the answer one frame is in memory at a time. No byte after the end of the pages is read.
+/// Names are asked of the target 256 at a time, and each frame is written before the next is made;
+/// of the answer one frame is in memory at a time. No byte after the end of the pages is read.
 ///
 /// Refused as `WriteFailed`; as `ReadFailed`; as `Ended` where the input ends before the end of the
-/// pages; by a frame as [`Puller::take`] refuses it, and as `FrameTooLong` on its length alone, before
-/// more is read; as `TooManyFrames` where a frame would be one above 16,777,216, either way; and as
-/// `Memory`. The pages before the refused frame are then joined, and where memory ran out perhaps some
-/// cells of its page, from the first on. A front of the frames is written wherever the call ends.
+/// pages; by a frame as [`Puller::take`] refuses it, and as `FrameTooLong` on its length alone,
+/// before more is read; as `TooManyFrames` where a frame would be one above 16,777,216, either way;
+/// and as `Memory`. The pages before the refused frame are then joined, and where memory ran out
+/// perhaps some cells of its page, from the first on. A front of the frames is written wherever the
+/// call ends.
 ///
 /// The cost is that of `Target::names_after` and `Target::join_cell`, and linear in the bytes.
 pub fn pull<T: Target, R: Read, W: Write>(
@@ -108,11 +113,13 @@ pub fn pull<T: Target, R: Read, W: Write>(
     ensures flushed { OnOk result (is_flushed output.new ≡ true) }
 
     // What is read, and which cells are joined, one by one and in order.
-    ensures pulled { OnOk result ((cells : List NamedCell) × T.has_joined target.old target.new cells
+    ensures pulled { OnOk result ((cells : List NamedCell)
+        × T.has_joined target.old target.new cells
         × HasPulled (T.layout target.old)
         (waiting (length (sent_by (T.layout target.old) (T.cells target.old))) 0 MAX_FRAMES)
         (R.remaining (inner_of input.old)) (R.remaining (inner_of input.new)) cells) }
-    ensures stopped { IfErr result (λ fault. (cells : List NamedCell) × T.has_joined target.old target.new cells
+    ensures stopped { IfErr result (λ fault. (cells : List NamedCell)
+        × T.has_joined target.old target.new cells
         × HasFailedToPull MAX_FRAMES (T.layout target.old) (T.cells target.old)
         (R.remaining (inner_of input.old)) (R.remaining (inner_of input.new))
         (W.contents (inner_of output.old)) (W.contents (inner_of output.new)) fault cells) }
@@ -148,11 +155,13 @@ pub fn pull_within<T: Target, R: Read, W: Write>(
     ensures flushed { OnOk result (is_flushed output.new ≡ true) }
 
     // What is read, and which cells are joined, one by one and in order.
-    ensures pulled { OnOk result ((cells : List NamedCell) × T.has_joined target.old target.new cells
+    ensures pulled { OnOk result ((cells : List NamedCell)
+        × T.has_joined target.old target.new cells
         × HasPulled (T.layout target.old)
         (waiting (length (sent_by (T.layout target.old) (T.cells target.old))) 0 frames)
         (R.remaining (inner_of input.old)) (R.remaining (inner_of input.new)) cells) }
-    ensures stopped { IfErr result (λ fault. (cells : List NamedCell) × T.has_joined target.old target.new cells
+    ensures stopped { IfErr result (λ fault. (cells : List NamedCell)
+        × T.has_joined target.old target.new cells
         × HasFailedToPull frames (T.layout target.old) (T.cells target.old)
         (R.remaining (inner_of input.old)) (R.remaining (inner_of input.new))
         (W.contents (inner_of output.old)) (W.contents (inner_of output.new)) fault cells) }

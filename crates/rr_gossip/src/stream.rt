@@ -19,8 +19,8 @@ const LENGTH_LEN: usize = 4;
 /// How many bytes a read asks for.
 const PIECE: usize = 4_096;
 
-/// Reads until there are `len` bytes. Memory is taken for those that have come, and not for those that
-/// are to come.
+/// Reads until there are `len` bytes. Memory is taken for those that have come, and not for those
+/// that are to come.
 fn read_until<R: Read>(
     input: &mut Counted<R>,
     bytes: &mut Vec<u8>,
@@ -63,12 +63,12 @@ fn content_len(frame: &[u8]) -> usize
     }
 }
 
-/// Reads the next frame whole, by its length alone, after the bytes of the length that are there: no
-/// byte after it is taken.
+/// Reads the next frame whole, by its length alone, after the bytes of the length that are there:
+/// no byte after it is taken.
 ///
-/// Refused as `ReadFailed`; as `Ended` where the input ends inside the frame; as `FrameTooLong` where
-/// the length is above 300,000, and then nothing after it is read; and as `Memory`. Memory is taken for
-/// the bytes that have come.
+/// Refused as `ReadFailed`; as `Ended` where the input ends inside the frame; as `FrameTooLong`
+/// where the length is above 300,000, and then nothing after it is read; and as `Memory`. Memory is
+/// taken for the bytes that have come.
 pub(crate) fn read_frame<R: Read>(
     input: &mut Counted<R>,
     frame: &mut Vec<u8>,

@@ -107,7 +107,8 @@ fn push_entries<'a>(
     bytes: &'a [u8],
     schema: &Schema,
 ) -> Result<&'a [u8], PageFault>
-    ensures { GivesUnless PageFault.Memory (λ rest. (map owned_name names.new.items, rest.now)) result
+    ensures { GivesUnless PageFault.Memory (λ rest. (map owned_name names.new.items, rest.now))
+        result
         (entries_at schema.now (map owned_name names.old.items) count bytes.now) }
 {
     let mut rest = bytes;
@@ -122,11 +123,11 @@ fn push_entries<'a>(
     Ok(rest)
 }
 
-/// Adds the names of the body of a Summary frame, from 1 to 256, to those of the frames before it. The
-/// names of all of them strictly ascend.
+/// Adds the names of the body of a Summary frame, from 1 to 256, to those of the frames before it.
+/// The names of all of them strictly ascend.
 ///
-/// Refused where the bytes are no such body; some of its names may then have been added. `Memory` comes
-/// where memory ran out. The cost is linear in the bytes.
+/// Refused where the bytes are no such body; some of its names may then have been added. `Memory`
+/// comes where memory ran out. The cost is linear in the bytes.
 #[tactic(auto, unfolding(crate::specs::SummaryReading::summary_at))]
 pub fn read_summary(
     alloc: Global,

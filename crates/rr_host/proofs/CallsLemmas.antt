@@ -3,7 +3,8 @@ use Rattle.std.proofs.Common.{List, [], ◌++◌, Option, None, Some, ap, sym, �
 use Rattle.std.proofs.lemmas.List.{append-nil}
 use Rattle.rr_host.specs.Calls.{Grows}
 
-pub grows_on : {A : Type 0} (a b c : Option (List A)) (xs ys : List A) → Grows a b xs → Grows b c ys → Grows a c (xs ++ ys)
+pub grows_on : {A : Type 0} (a b c : Option (List A)) (xs ys : List A) → Grows a b xs → Grows b c ys
+    → Grows a c (xs ++ ys)
 grows_on {A = A} None None None xs ys p q = tt
 grows_on {A = A} None None (Some c) xs ys p q = absurd q
 grows_on {A = A} None (Some b) c xs ys p q = absurd p

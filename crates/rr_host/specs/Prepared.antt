@@ -6,7 +6,8 @@ use Rattle.rr_host.specs.Log.{Log}
 use Rattle.rr_host.specs.Streams.{new_stream, stream_of}
 use Rattle.rr_host.specs.Visits.{Call, Gave, Failed, Over, TookBack}
 
--- connections that are prepared: the bytes that each brings, or none for one that fails; which comes next; and the calls
+-- connections that are prepared: the bytes that each brings, or none for one that fails; which comes next; and the
+-- calls
 pub record PreparedState : Type 0 where
   pub inputs : List (Option (List ℕ))
   pub place : ℕ

@@ -10,8 +10,8 @@ use std::time::Duration;
 
 /// Reaches peers over TCP. Nothing is known of what they send.
 ///
-/// A peer can't be reached, either, where there is no memory for its connection, or where it doesn't answer
-/// the call within the idle time.
+/// A peer can't be reached, either, where there is no memory for its connection, or where it
+/// doesn't answer the call within the idle time.
 #[derive(Drop)]
 pub struct Calling<'a, R> {
     rt: &'a R,
@@ -21,8 +21,8 @@ pub struct Calling<'a, R> {
 }
 
 impl<'a, R: Net<Stream = TcpStream>> Calling<'a, R> {
-    /// Reaches peers by the network of a runtime. Each connection may move no byte for `idle` seconds, or
-    /// without end where that is missing; it fails where the flag is raised.
+    /// Reaches peers by the network of a runtime. Each connection may move no byte for `idle`
+    /// seconds, or without end where that is missing; it fails where the flag is raised.
     pub fn new(rt: &'a R, alloc: Global, idle: Option<u64>, halt: HaltFlag) -> Calling<'a, R> {
         Calling {
             rt,
@@ -65,7 +65,8 @@ impl<R: Net<Stream = TcpStream>> Dial for Calling<'_, R> {
     }
 
     fn take_back(&mut self, input: Counted<Half>, output: Counted<Half>)
-        ensures { Grows None None (handed_back (stream_of (λ _. None) (λ _. None) input output) ∷ []) }
+        ensures { Grows None None (handed_back (stream_of (λ _. None) (λ _. None) input output) ∷
+            []) }
     {
         drop(input);
         drop(output);

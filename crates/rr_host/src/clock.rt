@@ -20,14 +20,15 @@ pub trait Clock {
     fn now(&mut self) -> i64
         ensures { HasGiven (given self.old) (given self.new) (result ∷ []) };
 
-    /// What is asked for from here on comes later than what was asked for before. Between two of these calls a
-    /// clock may give one moment each time, so that one that is dear to read is read once.
+    /// What is asked for from here on comes later than what was asked for before. Between two of
+    /// these calls a clock may give one moment each time, so that one that is dear to read is read
+    /// once.
     fn renew(&mut self)
         ensures { given self.new ≡ given self.old };
 }
 
-/// A clock over memory: it gives its moments in turn, and then the last one again and again. With no
-/// moments it gives 0.
+/// A clock over memory: it gives its moments in turn, and then the last one again and again. With
+/// no moments it gives 0.
 #[derive(Drop)]
 pub struct Moments {
     moments: Vec<i64>,
@@ -84,8 +85,9 @@ impl Clock for Moments {
     {}
 }
 
-/// The system's clock, which is read once between two calls of [`Clock::renew`]. Where it can't be read, or is
-/// past the year 2262, it gives its last moment again, which is 0 at first. Nothing is known of its moments.
+/// The system's clock, which is read once between two calls of [`Clock::renew`]. Where it can't be
+/// read, or is past the year 2262, it gives its last moment again, which is 0 at first. Nothing is
+/// known of its moments.
 #[derive(Drop)]
 pub struct SystemClock<S> {
     source: S,

@@ -24,7 +24,8 @@ pub trait Dial {
     /// Whether the peer at an address is to be called now; it is passed over if not.
     fn is_due(&mut self, address: &str) -> bool
         ensures due { result ≡ true → calls self.new ≡ calls self.old }
-        ensures passed { result ≡ false → Grows (calls self.old) (calls self.new) (passed_over address.now ∷ []) }
+        ensures passed { result ≡ false → Grows (calls self.old) (calls self.new)
+            (passed_over address.now ∷ []) }
     {
         true
     }
@@ -32,8 +33,10 @@ pub trait Dial {
     /// A stream to the peer at an address; none where it can't be reached.
     fn open(&mut self, address: &str) -> Option<(Counted<Self::Input>, Counted<Self::Output>)>
         ensures reached { IfSome result (λ s. Grows (calls self.old) (calls self.new)
-            (reached address.now (stream_of Self.Input.remaining Self.Output.contents s.0 s.1) ∷ [])) }
-        ensures unreached { result ≡ None → Grows (calls self.old) (calls self.new) (unreached address.now ∷ []) };
+            (reached address.now (stream_of Self.Input.remaining Self.Output.contents s.0 s.1) ∷
+            [])) }
+        ensures unreached { result ≡ None → Grows (calls self.old) (calls self.new)
+            (unreached address.now ∷ []) };
 
     /// Takes back a stream that is done with.
     fn take_back(&mut self, input: Counted<Self::Input>, output: Counted<Self::Output>)

@@ -4,11 +4,12 @@ use std::alloc::{AllocError, Global};
 use std::sync::Arc;
 use std::sync::atomic::{AtomicBool, Ordering};
 
-/// A flag that is raised on one thread, and taken down by whoever does then what it asks for. Nothing is known of its
-/// calls.
+/// A flag that is raised on one thread, and taken down by whoever does then what it asks for.
+/// Nothing is known of its calls.
 ///
-/// A [`Listening`](crate::Listening) raises one for a connection that brings nothing, which asks for a snapshot before
-/// its time, and one for a peer of another schema, of which the operator is to be told.
+/// A [`Listening`](crate::Listening) raises one for a connection that brings nothing, which asks
+/// for a snapshot before its time, and one for a peer of another schema, of which the operator is
+/// to be told.
 #[derive(Drop)]
 pub struct Flag {
     is_raised: Arc<AtomicBool>,

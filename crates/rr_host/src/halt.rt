@@ -4,8 +4,8 @@ use std::alloc::{AllocError, Global};
 use std::sync::Arc;
 use std::sync::atomic::{AtomicBool, Ordering};
 
-/// Whoever ends a node before its time, where memory ran out on one of its threads, or for one of them: the others then
-/// wait for no connection any more, and for no byte of one.
+/// Whoever ends a node before its time, where memory ran out on one of its threads, or for one of
+/// them: the others then wait for no connection any more, and for no byte of one.
 ///
 /// It is seen as the list of its calls, where that is known.
 pub trait Halt {
@@ -20,9 +20,9 @@ pub trait Halt {
         ensures { Grows (calls self.old) (calls self.new) (Halted ∷ []) };
 }
 
-/// A flag that is raised where a node ends before its time. What the node waits for over TCP looks at it at
-/// least once a second: [`Listening`](crate::Listening) then gives no connection any more, and a
-/// [`Half`](crate::Half) fails. Nothing is known of its calls.
+/// A flag that is raised where a node ends before its time. What the node waits for over TCP looks
+/// at it at least once a second: [`Listening`](crate::Listening) then gives no connection any more,
+/// and a [`Half`](crate::Half) fails. Nothing is known of its calls.
 #[derive(Drop)]
 pub struct HaltFlag {
     is_raised: Arc<AtomicBool>,

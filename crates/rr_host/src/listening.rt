@@ -12,8 +12,8 @@ use std::io::ErrorKind;
 use std::net::{TcpListener, TcpStream};
 use std::os::fd::OwnedFd;
 
-/// How long is waited after no connection could be taken, in nanoseconds: a tenth of a second. So what fails at once,
-/// again and again, takes no processor.
+/// How long is waited after no connection could be taken, in nanoseconds: a tenth of a second. So
+/// what fails at once, again and again, takes no processor.
 const PAUSE: i64 = 100_000_000;
 
 /// A listener that waits for a second at most. Of a socket that limit is set as a stream's.
@@ -23,14 +23,15 @@ fn with_limit(listener: TcpListener) -> io::Result<TcpListener> {
     Ok(TcpListener::from(OwnedFd::from(socket)))
 }
 
-/// The connections that come to an address, without end, but where the flag of its node is raised: then none
-/// will come any more. Nothing is known of them.
+/// The connections that come to an address, without end, but where the flag of its node is raised:
+/// then none will come any more. Nothing is known of them.
 ///
-/// One for which there is no memory fails. A read or write of one that moves no byte for the idle time
-/// fails too, so that no silent peer holds whoever serves it. Where none can be taken, as by a process that has
-/// no file descriptor left, one has failed, after a tenth of a second. So has one where none came in time, if the
-/// connections come by turns ([`Listening::by_turns`]). What a peer of another schema still sends is read before its
-/// connection is closed, so that it learns of the end by a read.
+/// One for which there is no memory fails. A read or write of one that moves no byte for the idle
+/// time fails too, so that no silent peer holds whoever serves it. Where none can be taken, as by a
+/// process that has no file descriptor left, one has failed, after a tenth of a second. So has one
+/// where none came in time, if the connections come by turns ([`Listening::by_turns`]). What a peer
+/// of another schema still sends is read before its connection is closed, so that it learns of the
+/// end by a read.
 #[derive(Drop)]
 pub struct Listening {
     alloc: Global,
@@ -56,8 +57,8 @@ struct Turns {
 }
 
 impl Listening {
-    /// The connections that come to a listener, each of which may move no byte for `idle` seconds, or
-    /// without end where that is missing; they end where the flag is raised.
+    /// The connections that come to a listener, each of which may move no byte for `idle` seconds,
+    /// or without end where that is missing; they end where the flag is raised.
     pub fn new(
         alloc: Global,
         listener: TcpListener,
@@ -76,8 +77,9 @@ impl Listening {
         })
     }
 
-    /// The same connections, none of which is given before all threads of the node have begun. If one of them hasn't
-    /// within ten seconds, as when there was no memory for it, the flag is raised.
+    /// The same connections, none of which is given before all threads of the node have begun. If
+    /// one of them hasn't within ten seconds, as when there was no memory for it, the flag is
+    /// raised.
     pub fn after_start(self, start: StartBarrier) -> Listening {
         Listening {
             start: Some(start),
@@ -85,8 +87,9 @@ impl Listening {
         }
     }
 
-    /// The same connections, by turns: where none comes for `every` seconds, one has failed, so that whoever does
-    /// something after each connection does it then too. For each that brought no byte the flag is raised.
+    /// The same connections, by turns: where none comes for `every` seconds, one has failed, so
+    /// that whoever does something after each connection does it then too. For each that brought no
+    /// byte the flag is raised.
     pub fn by_turns(self, every: u64, wish: Flag) -> Listening {
         Listening {
             turns: Some(Turns { every, wish }),
@@ -94,7 +97,8 @@ impl Listening {
         }
     }
 
-    /// The same connections, with a flag that is raised for each peer that pulls on one and has another schema.
+    /// The same connections, with a flag that is raised for each peer that pulls on one and has
+    /// another schema.
     pub fn with_alarm(self, alarm: Flag) -> Listening {
         Listening {
             alarm: Some(alarm),
@@ -170,7 +174,8 @@ impl Visits for Listening {
     }
 
     fn take_back(&mut self, input: Counted<Half>, output: Counted<Half>)
-        ensures { HasCalled None None (TookBack (stream_of (λ _. None) (λ _. None) input output) ∷ []) }
+        ensures { HasCalled None None (TookBack (stream_of (λ _. None) (λ _. None) input output) ∷
+            []) }
     {
         let mut input = input.into_inner();
         if let Some(turns) = &self.turns

@@ -6,8 +6,8 @@ ghost use Rattle.rr_host.specs.Log.{HasNoted};
 use std::alloc::{AllocError, Global};
 use std::marker::Model;
 
-/// A log of calls, in room that is made beforehand. Past that it is known as long as there is memory to
-/// note each call.
+/// A log of calls, in room that is made beforehand. Past that it is known as long as there is
+/// memory to note each call.
 #[derive(Drop)]
 pub struct CallLog<C> {
     calls: Vec<C>,
@@ -58,7 +58,8 @@ impl<C: Drop> CallLog<C> {
 
     /// The last call, if all are known.
     pub fn into_last(self) -> Option<C>
-        ensures { IfSome self.calls (λ calls. (before : List C) × (calls ≡ before ++ option_to_list result)) }
+        ensures { IfSome self.calls (λ calls. (before : List C)
+            × (calls ≡ before ++ option_to_list result)) }
     {
         let mut calls = self.calls;
         if self.is_full {

@@ -11,10 +11,12 @@ const MOST_PASSED: u64 = 64;
 
 const _: () = prove!(MOST_PASSED == 64);
 
-/// The pace of something that is done at most once in a turn of so many seconds, by the clock of the host that
-/// never goes back. Nothing is known of that clock; if it can't be read, the thing is due.
+/// The pace of something that is done at most once in a turn of so many seconds, by the clock of
+/// the host that never goes back. Nothing is known of that clock; if it can't be read, the thing is
+/// due.
 ///
-/// Where it failed it is passed over for one turn, and then, as long as it fails again, for 2, 4 and so on, at most 64.
+/// Where it failed it is passed over for one turn, and then, as long as it fails again, for 2, 4
+/// and so on, at most 64.
 #[derive(Drop)]
 pub struct Pace {
     /// The seconds of a turn; where this is missing, the thing is due at any time.
@@ -34,7 +36,8 @@ impl Model for Pace {
 }
 
 impl Pace {
-    /// The pace of what is due once in so many seconds, or at any time if that is missing. It has not been done yet.
+    /// The pace of what is due once in so many seconds, or at any time if that is missing. It has
+    /// not been done yet.
     pub fn new(every: Option<u64>) -> Pace
         ensures { result ≡ record { every = every; passed = 0 } }
     {
@@ -68,7 +71,11 @@ impl Pace {
 
     /// It failed just now.
     pub fn failed(&mut self, clock: &impl Clock)
-        ensures { self.new ≡ record { every = self.old.every; passed = passed_next self.old.passed } }
+        ensures { self.new ≡ record {
+          every = self.old.every;
+          passed =
+              passed_next self.old.passed;
+        } }
     {
         self.last = Instant::now(clock).ok();
         self.passed = if self.passed == 0 {

@@ -13,9 +13,9 @@ struct PacedPeer<'a> {
     pace: Pace,
 }
 
-/// A dial that calls each peer at most once in a turn of so many seconds, and passes over one that failed for some
-/// turns: see [`Pace`]. A peer has failed if it can't be reached, if a call of its stream fails, or if it ends the
-/// stream before it is handed back. Nothing is known of the calls.
+/// A dial that calls each peer at most once in a turn of so many seconds, and passes over one that
+/// failed for some turns: see [`Pace`]. A peer has failed if it can't be reached, if a call of its
+/// stream fails, or if it ends the stream before it is handed back. Nothing is known of the calls.
 #[derive(Drop)]
 pub struct PacedDial<'a, R, D> {
     rt: &'a R,
@@ -26,8 +26,8 @@ pub struct PacedDial<'a, R, D> {
 }
 
 impl<'a, R: Clock, D> PacedDial<'a, R, D> {
-    /// Calls these peers by a dial, once in so many seconds, or whenever it is asked to where that is missing. Other
-    /// addresses are always due.
+    /// Calls these peers by a dial, once in so many seconds, or whenever it is asked to where that
+    /// is missing. Other addresses are always due.
     pub fn new(
         rt: &'a R,
         alloc: Global,
@@ -111,7 +111,8 @@ impl<R: Clock, D: Dial> Dial for PacedDial<'_, R, D> {
     }
 
     fn take_back(&mut self, input: Counted<D::Input>, output: Counted<D::Output>)
-        ensures { Grows None None (handed_back (stream_of D.Input.remaining D.Output.contents input output) ∷ []) }
+        ensures { Grows None None (handed_back
+            (stream_of D.Input.remaining D.Output.contents input output) ∷ []) }
     {
         let has_failed = input.failures() != 0 || input.ends() != 0 || output.failures() != 0;
         self.dial.take_back(input, output);

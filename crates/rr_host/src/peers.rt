@@ -32,8 +32,8 @@ pub struct PreparedPeer<'a> {
 
 /// Reaches peers that are prepared, and no other. What was sent to each is kept.
 ///
-/// Its calls are known as long as there is memory to note them; [`PreparedDial::new`] makes room for some.
-/// They aren't known after a call to an address that no peer has.
+/// Its calls are known as long as there is memory to note them; [`PreparedDial::new`] makes room
+/// for some. They aren't known after a call to an address that no peer has.
 #[derive(Drop)]
 pub struct PreparedDial<'a> {
     alloc: Global,
@@ -118,7 +118,8 @@ impl<'a> Dial for PreparedDial<'a> {
             (reached address.now (stream_of (λ r. Some r.now) (λ w. Some w.items) s.0 s.1) ∷ [])) }
         ensures unreached { result ≡ None
             → Grows self.old.log.calls self.new.log.calls (unreached address.now ∷ []) }
-        ensures stream { option_map (λ s. stream_of (λ r. Some r.now) (λ w. Some w.items) s.0 s.1) result
+        ensures stream { option_map (λ s. stream_of (λ r. Some r.now) (λ w. Some w.items) s.0 s.1)
+            result
             ≡ option_map new_stream (sent_by (peer_of self.old.peers address.now)) }
         ensures noted { NotesCall (peer_of self.old.peers address.now) self.old.log self.new.log }
         ensures peers { self.new.peers ≡ self.old.peers }
@@ -136,7 +137,8 @@ impl<'a> Dial for PreparedDial<'a> {
     }
 
     fn take_back(&mut self, input: Counted<&'a [u8]>, output: Counted<Vec<u8>>)
-        ensures noted { HasNoted (handed_back (stream_of (λ r. Some r.now) (λ w. Some w.items) input.entry output))
+        ensures noted { HasNoted (handed_back
+            (stream_of (λ r. Some r.now) (λ w. Some w.items) input.entry output))
             self.old.log self.new.log }
         ensures peers { self.new.peers ≡ self.old.peers }
     {

@@ -26,8 +26,8 @@ pub(crate) enum Entry<'a> {
 /// Connections that are prepared: the bytes that each brings, or none for one that fails. What each
 /// was answered is kept.
 ///
-/// Its calls are known as long as there is memory to note them; [`Prepared::new`] makes room for those
-/// of each connection and one more.
+/// Its calls are known as long as there is memory to note them; [`Prepared::new`] makes room for
+/// those of each connection and one more.
 #[derive(Drop)]
 pub struct Prepared<'a> {
     alloc: Global,
@@ -54,7 +54,8 @@ impl<'a> Model for Prepared<'a> {
 impl<'a> Prepared<'a> {
     /// Connections of these inputs, in order.
     pub fn new(alloc: Global, inputs: &'a [Option<&'a [u8]>]) -> Result<Prepared<'a>, AllocError>
-        ensures { IfOk result (λ p. p ≡ at_start (map (option_map (λ bytes. bytes.now)) inputs.now)) }
+        ensures { IfOk result (λ p. p ≡ at_start
+            (map (option_map (λ bytes. bytes.now)) inputs.now)) }
     {
         let room = inputs.len().saturating_mul(2).saturating_add(1);
         Ok(Prepared {
@@ -120,7 +121,8 @@ impl<'a> Visits for Prepared<'a> {
     fn take_back(&mut self, input: Counted<&'a [u8]>, output: Counted<Vec<u8>>)
         ensures called { HasCalled self.old.log.calls self.new.log.calls
             (TookBack (stream_of (λ r. Some r.now) (λ w. Some w.items) input.entry output) ∷ []) }
-        ensures noted { HasNoted (TookBack (stream_of (λ r. Some r.now) (λ w. Some w.items) input.entry output))
+        ensures noted { HasNoted (TookBack (stream_of (λ r. Some r.now) (λ w. Some w.items)
+            input.entry output))
             self.old.log self.new.log }
         ensures inputs { self.new.inputs ≡ self.old.inputs }
         ensures place { self.new.place ≡ self.old.place }

@@ -10,8 +10,8 @@ use std::net::{Shutdown, TcpStream};
 use std::sync::Arc;
 use std::time::Duration;
 
-/// How many bytes are read at a time that nobody wants, and how often: of 256 MiB, so that who sends without end isn't
-/// listened to without end.
+/// How many bytes are read at a time that nobody wants, and how often: of 256 MiB, so that who
+/// sends without end isn't listened to without end.
 const SCRAP: usize = 4_096;
 
 const SCRAPS: u32 = 65_536;
@@ -64,8 +64,8 @@ impl Socket {
     }
 }
 
-/// One of the two halves of a TCP connection, which share its socket. A read or a write fails once it has moved no
-/// byte for as long as the connection may be silent, or once the node is halted.
+/// One of the two halves of a TCP connection, which share its socket. A read or a write fails once
+/// it has moved no byte for as long as the connection may be silent, or once the node is halted.
 #[derive(Drop)]
 pub struct Half {
     socket: Arc<Socket>,
@@ -82,9 +82,9 @@ impl Half {
         }
     }
 
-    /// Ends what is sent over the connection, and reads what is still received, to its end or for 256 MiB. A connection
-    /// that is closed before that cuts off a peer which still sends, whose next call then fails, where it should learn of
-    /// the end.
+    /// Ends what is sent over the connection, and reads what is still received, to its end or for
+    /// 256 MiB. A connection that is closed before that cuts off a peer which still sends, whose
+    /// next call then fails, where it should learn of the end.
     pub(crate) fn drain(&mut self) {
         if self.socket.stream.shutdown(Shutdown::Write).is_err() {
             return;
@@ -143,8 +143,8 @@ impl Write for Half {
 
 /// The two halves of a connection: its input and its output. It is closed once both are let go.
 ///
-/// It may move no byte for `idle` seconds, or without end where that is missing, and for no longer than until the
-/// flag of its node is raised.
+/// It may move no byte for `idle` seconds, or without end where that is missing, and for no longer
+/// than until the flag of its node is raised.
 pub fn halves(
     alloc: Global,
     stream: TcpStream,

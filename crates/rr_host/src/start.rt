@@ -6,7 +6,8 @@ use std::alloc::{AllocError, Global};
 use std::sync::Arc;
 use std::sync::atomic::{AtomicUsize, Ordering};
 
-/// How long is waited between two looks at how many threads have begun, in nanoseconds: a millisecond.
+/// How long is waited between two looks at how many threads have begun, in nanoseconds: a
+/// millisecond.
 const LOOK: i64 = 1_000_000;
 
 /// How often is looked: for ten seconds.
@@ -22,10 +23,11 @@ pub(crate) fn pause(nanoseconds: i64) {
     let _ended = nanosleep(&asked, &mut left);
 }
 
-/// A barrier at which each thread of a node waits, before its first connection, until all of them have begun.
+/// A barrier at which each thread of a node waits, before its first connection, until all of them
+/// have begun.
 ///
-/// If a thread can't be made, the toolchain has another thread do its work afterwards, which may be never. The barrier
-/// shows that before any work has begun.
+/// If a thread can't be made, the toolchain has another thread do its work afterwards, which may be
+/// never. The barrier shows that before any work has begun.
 #[derive(Drop)]
 pub struct StartBarrier {
     begun: Arc<AtomicUsize>,
@@ -49,8 +51,8 @@ impl StartBarrier {
         })
     }
 
-    /// Says that one more thread has begun, waits until all have, for ten seconds at most, and answers whether they
-    /// have.
+    /// Says that one more thread has begun, waits until all have, for ten seconds at most, and
+    /// answers whether they have.
     pub fn wait(&self) -> bool {
         self.begun.fetch_add(1, Ordering::SeqCst);
         for _ in 0..LOOKS {

@@ -34,8 +34,8 @@ pub trait Visits {
         ensures { HasCalled (calls self.old) (calls self.new)
             (call_of Self.Input.remaining Self.Output.contents result ∷ []) };
 
-    /// Is told that the peer which pulls on the connection that was given last has another schema, before the connection
-    /// is handed back.
+    /// Is told that the peer which pulls on the connection that was given last has another schema,
+    /// before the connection is handed back.
     fn schema_differs(&mut self)
         ensures { calls self.new ≡ calls self.old }
     {}

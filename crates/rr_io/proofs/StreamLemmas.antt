@@ -12,17 +12,26 @@ rest_is : (n : ℕ) (xs : List ℕ) → take (length xs - n) (drop n xs) ≡ dro
 rest_is n xs = ap (λ k. take k (drop n xs)) (sym (length-drop n xs)) ∙ take-length (drop n xs)
 
 -- n bytes more of a text are written
-pub written_more : (text front rest : List ℕ) (n : ℕ) → text ≡ front ++ rest → text ≡ (front ++ take n rest) ++ take (length rest - n) (drop n rest)
+pub written_more : (text front rest : List ℕ) (n : ℕ) → text ≡ front ++ rest
+    → text ≡ (front ++ take n rest) ++ take (length rest - n) (drop n rest)
 written_more text front rest n e =
-    rw rest_is (e ∙ ap (λ (r : List ℕ). front ++ r) (sym (take-append-drop n rest)) ∙ sym (append_assoc front (take n rest) (drop n rest)))
+    rw rest_is (e ∙ ap (λ (r : List ℕ). front ++ r) (sym (take-append-drop n rest))
+    ∙ sym (append_assoc front (take n rest) (drop n rest)))
 
 -- the first text is written whole, and a front of the second after it
-pub prefix_after : (a b c : Option (List ℕ)) (first second : List ℕ) → Appends a b first → AppendsPrefix b c second → AppendsPrefix a c (first ++ second)
-prefix_after a b c first second whole part =
-    (first ++ part.0, part.1, ap (λ (r : List ℕ). first ++ r) part.2 ∙ sym (append_assoc first part.0 part.1), Appends-trans a b c first part.0 whole part.3)
+pub prefix_after : (a b c : Option (List ℕ)) (first second : List ℕ) → Appends a b first → AppendsPrefix b c second
+    → AppendsPrefix a c (first ++ second)
+prefix_after a b c first second whole part = (
+  first ++ part.0,
+  part.1,
+  ap (λ (r : List ℕ). first ++ r) part.2
+      ∙ sym (append_assoc first part.0 part.1),
+  Appends-trans a b c first part.0 whole part.3,
+)
 
 -- a front of the first text is one of both
-pub prefix_before : (a b : Option (List ℕ)) (first second : List ℕ) → AppendsPrefix a b first → AppendsPrefix a b (first ++ second)
+pub prefix_before : (a b : Option (List ℕ)) (first second : List ℕ) → AppendsPrefix a b first
+    → AppendsPrefix a b (first ++ second)
 prefix_before a b first second part =
     (part.0, part.1 ++ second, ap (λ (r : List ℕ). r ++ second) part.2 ∙ append_assoc part.0 part.1 second, part.3)
 
@@ -31,22 +40,26 @@ abbrev pub IsAdded : Option (List ℕ) → Option (List ℕ) → List ℕ → Li
 IsAdded old new start bytes = (front : List ℕ) × (bytes ≡ start ++ front) × Consumes old new front
 
 -- a piece more is added
-pub added_more : (old mid new : Option (List ℕ)) (start bytes piece more : List ℕ) → IsAdded old mid start bytes → Consumes mid new piece → more ≡ bytes ++ piece → IsAdded old new start more
+pub added_more : (old mid new : Option (List ℕ)) (start bytes piece more : List ℕ) → IsAdded old mid start bytes
+    → Consumes mid new piece → more ≡ bytes ++ piece → IsAdded old new start more
 added_more old mid new start bytes piece more added taken is =
     let grown = ap (λ (all : List ℕ). all ++ piece) added.1 ∙ append_assoc start added.0 piece in
     (added.0 ++ piece, is ∙ grown, Consumes-trans old mid new added.0 piece added.2 taken)
 
 -- what was added is a front of what was there
-pub front_of_added : (old new : Option (List ℕ)) (start bytes same : List ℕ) → IsAdded old new start bytes → same ≡ bytes → AddsFront old start same
+pub front_of_added : (old new : Option (List ℕ)) (start bytes same : List ℕ) → IsAdded old new start bytes
+    → same ≡ bytes → AddsFront old start same
 front_of_added old new start bytes same added is = (added.0, is ∙ added.1, at old new added.2)
   where
-    at : (old new : Option (List ℕ)) → Consumes old new added.0 → IfSome old (λ all. (rest : List ℕ) × (all ≡ added.0 ++ rest))
+    at : (old new : Option (List ℕ)) → Consumes old new added.0
+        → IfSome old (λ all. (rest : List ℕ) × (all ≡ added.0 ++ rest))
     at None new consumed = tt
     at (Some all) None consumed = absurd consumed
     at (Some all) (Some rest) consumed = (rest, consumed)
 
 -- the front of a buffer has n bytes more, once its part from a on is overwritten
-pub filled_more : (xs ys : List ℕ) (a n : ℕ) → a ≤ length xs → n ≤ length ys → take (a + n) (put_mid a (length xs - a) xs ys) ≡ take a xs ++ take n ys
+pub filled_more : (xs ys : List ℕ) (a n : ℕ) → a ≤ length xs → n ≤ length ys
+    → take (a + n) (put_mid a (length xs - a) xs ys) ≡ take a xs ++ take n ys
 filled_more xs ys a n le few =
     let all = put_mid a (length xs - a) xs ys in
     let front = length-take-le a xs le in
@@ -56,5 +69,6 @@ filled_more xs ys a n le few =
     ∙ (λ k. take_at (take a xs) ys a front k ++ take n (drop_at (take a xs) ys a front k))
 
 -- a call after it wrote nothing
-pub prefix_kept : (a b c : Option (List ℕ)) (text : List ℕ) → AppendsPrefix a b text → Keeps b c → AppendsPrefix a c text
+pub prefix_kept : (a b c : Option (List ℕ)) (text : List ℕ) → AppendsPrefix a b text → Keeps b c
+    → AppendsPrefix a c text
 prefix_kept a b c text part kept = (part.0, part.1, part.2, Appends-kept a b c part.0 part.3 kept)

@@ -16,11 +16,13 @@ TakesAtMost n old new = (bytes : List ℕ) × (length bytes ≤ n) × Consumes o
 
 -- a front of what a reader had, where that is known, was added after the bytes that were there
 abbrev pub AddsFront : Option (List ℕ) → List ℕ → List ℕ → Type 0
-AddsFront known old new = (front : List ℕ) × (new ≡ old ++ front) × IfSome known (λ all. (rest : List ℕ) × (all ≡ front ++ rest))
+AddsFront known old new = (front : List ℕ) × (new ≡ old ++ front)
+    × IfSome known (λ all. (rest : List ℕ) × (all ≡ front ++ rest))
 
 -- a front of what a reader had was added after the bytes that were there, and more than that was taken from it
 abbrev pub TakesMore : Option (List ℕ) → Option (List ℕ) → List ℕ → List ℕ → Type 0
-TakesMore known left old new = (front : List ℕ) × (more : List ℕ) × (new ≡ old ++ front) × (0 < length more) × Consumes known left (front ++ more)
+TakesMore known left old new = (front : List ℕ) × (more : List ℕ) × (new ≡ old ++ front) × (0 < length more)
+    × Consumes known left (front ++ more)
 
 -- one read told the end: it gave no byte, though there was room
 abbrev pub tells_end : {E : Type 0} → Result (Option ℕ) E → ℕ → Bool

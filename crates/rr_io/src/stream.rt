@@ -39,8 +39,8 @@ pub struct ReadFailed;
 pub struct WriteFailed;
 
 /// Makes one read into the front of `buf`, and answers how many bytes it gave: none only at the end
-/// of the input, or where `buf` is empty. `None` is a read that a signal interrupted, and that is to
-/// be made again. Such a read, and one that failed, took no byte of the input.
+/// of the input, or where `buf` is empty. `None` is a read that a signal interrupted, and that is
+/// to be made again. Such a read, and one that failed, took no byte of the input.
 pub fn read_once<R: Read>(
     input: &mut Counted<R>,
     buf: &mut [u8],
@@ -192,9 +192,9 @@ pub fn read_to_end<R: Read>(input: &mut Counted<R>, bytes: &mut Vec<u8>) -> Resu
 
 /// Adds all that the input still has to `bytes`, within a limit of reads.
 ///
-/// Each call of the reader is a read: one that a signal interrupted, and the one that gives no byte,
-/// which is the end. `TooManyReads` is answered after `reads` calls that did not reach the end, and
-/// no further call is made. After a refusal a front of the input was added.
+/// Each call of the reader is a read: one that a signal interrupted, and the one that gives no
+/// byte, which is the end. `TooManyReads` is answered after `reads` calls that did not reach the
+/// end, and no further call is made. After a refusal a front of the input was added.
 pub fn read_to_end_within<R: Read>(
     input: &mut Counted<R>,
     bytes: &mut Vec<u8>,

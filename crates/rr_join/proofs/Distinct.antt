@@ -20,11 +20,13 @@ less_not_equal Greater h = refl
 module _ {K X : Type 0} (R : K → K → Ordering) where
   below_not_in : (x : K) (es : List (K × X)) → T (below_all R x es) → is_in R (map (λ e. e.0) es) x ≡ false
   below_not_in x [] h = refl
-  below_not_in x (e ∷ es) h = or_from (eq_by_cmp R x e.0) _ (less_not_equal (R x e.0) (first_T _ _ h)) (below_not_in x es (second_T (is_lt (R x e.0)) _ h))
+  below_not_in x (e ∷ es) h = or_from (eq_by_cmp R x e.0) _ (less_not_equal (R x e.0) (first_T _ _ h))
+      (below_not_in x es (second_T (is_lt (R x e.0)) _ h))
 
   sorted_distinct : (es : List (K × X)) → T (is_sorted R es) → IsDistinct R (map (λ e. e.0) es)
   sorted_distinct [] h = none
-  sorted_distinct (e ∷ es) h = more (below_not_in e.0 es (first_T _ _ h)) (sorted_distinct es (second_T (below_all R e.0 es) _ h))
+  sorted_distinct (e ∷ es) h = more (below_not_in e.0 es (first_T _ _ h))
+      (sorted_distinct es (second_T (below_all R e.0 es) _ h))
 
 pub keys_distinct : {K X : Type 0} {R : K → K → Ordering} (m : FinMap R X) → IsDistinct R (keys m)
 keys_distinct {R = R} m = sorted_distinct R (entries m) (entries_sorted m)
@@ -42,7 +44,8 @@ module _ {K : Type 0} (R : K → K → Ordering) where
 
   pub filter_distinct : (test : K → Bool) (ks : List K) → IsDistinct R ks → IsDistinct R (filter test ks)
   filter_distinct test [] d = none
-  filter_distinct test (k ∷ ks) (more apart d) = elim (test k) as (λ b. IsDistinct R (cond b (k ∷ filter test ks) (filter test ks))) [
-    | true ↦ more (not_in_filter test k ks apart) (filter_distinct test ks d)
-    | false ↦ filter_distinct test ks d
-  ]
+  filter_distinct test (k ∷ ks) (more apart d) = elim
+      (test k) as (λ b. IsDistinct R (cond b (k ∷ filter test ks) (filter test ks))) [
+        | true ↦ more (not_in_filter test k ks apart) (filter_distinct test ks d)
+        | false ↦ filter_distinct test ks d
+      ]

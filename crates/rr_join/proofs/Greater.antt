@@ -18,8 +18,10 @@ pub greater-None : {V : Type 0} (S : V → V → Ordering) (x : Option V) → gr
 greater-None S None = refl
 greater-None S (Some a) = refl
 
-pub greatest_some : {V : Type 0} (S : V → V → Ordering) (y : V) (ys : List V) (d : V) → greatest S (y ∷ ys) ≡ Some (unwrap_or (greatest S (y ∷ ys)) d)
-greatest_some S y ys d = elim (greatest S ys) as (λ g. greater S (Some y) g ≡ Some (unwrap_or (greater S (Some y) g) d)) [ None ↦ refl | Some v ↦ refl ]
+pub greatest_some : {V : Type 0} (S : V → V → Ordering) (y : V) (ys : List V) (d : V)
+    → greatest S (y ∷ ys) ≡ Some (unwrap_or (greatest S (y ∷ ys)) d)
+greatest_some S y ys d = elim (greatest S ys) as (λ g. greater S (Some y) g ≡ Some (unwrap_or (greater S (Some y) g) d))
+    [ None ↦ refl | Some v ↦ refl ]
 
 -- of any total order, also one by which unequal values tie
 module _ {V : Type 0} {S : V → V → Ordering} (s : IsTotalOrder S) where
@@ -42,7 +44,8 @@ module _ {V : Type 0} {S : V → V → Ordering} (s : IsTotalOrder S) where
   max_assoc a b c =
       elim (is_lt (S b a)) as (λ p. is_lt (S b a) ≡ p → ord_max S (cond p a b) c ≡ ord_max S a (ord_max S b c)) [
         | true ↦ λ p. elim (is_lt (S c b)) as (λ q. is_lt (S c b) ≡ q → ord_max S a c ≡ ord_max S a (cond q b c)) [
-          | true ↦ λ q. ap (λ r. cond (is_lt r) a c) (s.trans c b a (Less_from_is_lt _ q) (Less_from_is_lt _ p)) ∙ sym (ap (λ t. cond t a b) p)
+          | true ↦ λ q. ap (λ r. cond (is_lt r) a c) (s.trans c b a (Less_from_is_lt _ q) (Less_from_is_lt _ p))
+              ∙ sym (ap (λ t. cond t a b) p)
           | false ↦ λ q. refl
         ] refl
         | false ↦ λ p. elim (is_lt (S c b)) as (λ q. is_lt (S c b) ≡ q → cond q b c ≡ ord_max S a (cond q b c)) [

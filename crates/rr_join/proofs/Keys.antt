@@ -11,21 +11,26 @@ use Rattle.rr_join.proofs.Lookups.{is_in-keys, marked, marked-is_some}
 
 -- ---- the keys that pass a test
 
-filter-keys : {K X : Type 0} (test : K → Bool) (es : List (K × X)) → map (λ e. e.0) (filter (λ e. test e.0) es) ≡ filter test (map (λ e. e.0) es)
+filter-keys : {K X : Type 0} (test : K → Bool) (es : List (K × X))
+    → map (λ e. e.0) (filter (λ e. test e.0) es) ≡ filter test (map (λ e. e.0) es)
 filter-keys test [] = refl
-filter-keys test (e ∷ es) = elim (test e.0) as (λ b. map (λ e. e.0) (cond b (e ∷ filter (λ e. test e.0) es) (filter (λ e. test e.0) es)) ≡ cond b (e.0 ∷ filter test (map (λ e. e.0) es)) (filter test (map (λ e. e.0) es))) [
-  | true ↦ ap (λ ks. e.0 ∷ ks) (filter-keys test es)
-  | false ↦ filter-keys test es
-]
+filter-keys test (e ∷ es) = elim (test e.0) as (λ b. map (λ e. e.0)
+    (cond b (e ∷ filter (λ e. test e.0) es) (filter (λ e. test e.0) es))
+    ≡ cond b (e.0 ∷ filter test (map (λ e. e.0) es)) (filter test (map (λ e. e.0) es))) [
+      | true ↦ ap (λ ks. e.0 ∷ ks) (filter-keys test es)
+      | false ↦ filter-keys test es
+    ]
 
 module _ {K X : Type 0} {R : K → K → Ordering} (o : IsTotalOrder R) (same : IsAntisymmetric R) where
-  pub entries-retain : (m : FinMap R X) (test : K → Bool) → entries (retain_keys m test) ≡ filter (λ e. test e.0) (entries m)
+  pub entries-retain : (m : FinMap R X) (test : K → Bool)
+      → entries (retain_keys m test) ≡ filter (λ e. test e.0) (entries m)
   entries-retain m test =
       let alike = λ (q x : K) (e : R q x ≡ Equal). ap test (sym (same q x e)) in
       let sorted = is_sorted-where_key R test (entries m) (entries_sorted m) in
       ap entries (same_map o same (retain_keys m test) (from_sorted (where_key R test (entries m))) (λ q.
       get-retain_keys m test q (alike q) ∙ ap (λ v. cond (test q) v None) (get-entries m q)
-      ∙ sym (get-from_sorted R (where_key R test (entries m)) q sorted ∙ find-where_key R test q (alike q) (entries m))))
+      ∙ sym (get-from_sorted R (where_key R test (entries m)) q sorted
+      ∙ find-where_key R test q (alike q) (entries m))))
       ∙ entries-from_sorted R (where_key R test (entries m)) sorted
 
   pub keys-retain : (m : FinMap R X) (test : K → Bool) → keys (retain_keys m test) ≡ filter test (keys m)
@@ -56,16 +61,19 @@ module _ {K Y : Type 0} (R : K → K → Ordering) (o : IsTotalOrder R) (same : 
 
   find-paired : (q : K) (ks : List K) → find R q (paired c ks) ≡ cond (is_in R ks q) (Some (c q)) None
   find-paired q [] = refl
-  find-paired q (k ∷ ks) = elim (eq_by_cmp R q k) as (λ t. eq_by_cmp R q k ≡ t → cond t (Some (c k)) (find R q (paired c ks)) ≡ cond (t || is_in R ks q) (Some (c q)) None) [
-    | true ↦ λ t. ap (λ x. Some (c x)) (sym (same_from_tie o same q k t))
-    | false ↦ λ t. find-paired q ks
-  ] refl
+  find-paired q (k ∷ ks) = elim (eq_by_cmp R q k) as
+      (λ t. eq_by_cmp R q k ≡ t → cond t (Some (c k)) (find R q (paired c ks))
+      ≡ cond (t || is_in R ks q) (Some (c q)) None) [
+        | true ↦ λ t. ap (λ x. Some (c x)) (sym (same_from_tie o same q k t))
+        | false ↦ λ t. find-paired q ks
+      ] refl
 
 read_back : {X : Type 0} (x : Option X) (d : X) → cond (is_some x) (Some (unwrap_or x d)) None ≡ x
 read_back None d = refl
 read_back (Some v) d = refl
 
-pub entries_by_keys : {K X : Type 0} {R : K → K → Ordering} → IsTotalOrder R → IsAntisymmetric R → (m : FinMap R X) (d : X) → entries m ≡ map (λ k. (k, unwrap_or (get m k) d)) (keys m)
+pub entries_by_keys : {K X : Type 0} {R : K → K → Ordering} → IsTotalOrder R → IsAntisymmetric R
+    → (m : FinMap R X) (d : X) → entries m ≡ map (λ k. (k, unwrap_or (get m k) d)) (keys m)
 entries_by_keys {K} {X} {R} o same m d =
     let c : K → X = λ k. unwrap_or (get m k) d in
     let sorted = paired_sorted R c m in
@@ -82,15 +90,19 @@ module _ {K X : Type 0} (R : K → K → Ordering) where
 
   keys-key_set : (o : IsTotalOrder R) (same : IsAntisymmetric R) (m : FinMap R X) → keys (key_set m) ≡ keys m
   unfolding key_set
-  keys-key_set o same m = ap (map (λ e. e.0)) (entries-from_sorted R (paired (λ _. tt) (keys m)) (paired_sorted R (λ _. tt) m)) ∙ keys-paired R o same (λ _. tt) (keys m)
+  keys-key_set o same m = ap (map (λ e. e.0)) (entries-from_sorted R (paired (λ _. tt) (keys m))
+      (paired_sorted R (λ _. tt) m)) ∙ keys-paired R o same (λ _. tt) (keys m)
 
 -- they list them alike
-pub same_keys : {N V W : Type 0} {R : N → N → Ordering} → IsTotalOrder R → IsAntisymmetric R → (m : FinMap R V) (n : FinMap R W) → ((q : N) → is_in R (keys m) q ≡ is_in R (keys n) q) → keys m ≡ keys n
+pub same_keys : {N V W : Type 0} {R : N → N → Ordering} → IsTotalOrder R → IsAntisymmetric R
+    → (m : FinMap R V) (n : FinMap R W) → ((q : N) → is_in R (keys m) q ≡ is_in R (keys n) q) → keys m ≡ keys n
 same_keys {N} {R = R} o same m n is =
-    let in_set = λ (b : FinMap R (Unit {0})) (q : N). marked-is_some (get b q) ∙ ap marked (sym (is_in-keys o same b q)) in
+    let in_set = λ (b : FinMap R (Unit {0})) (q : N). marked-is_some (get b q)
+    ∙ ap marked (sym (is_in-keys o same b q)) in
     sym (keys-key_set R o same m)
     ∙ ap keys (same_map o same (key_set R m) (key_set R n) (λ q.
     in_set (key_set R m) q
-    ∙ ap marked (ap (λ ks. is_in R ks q) (keys-key_set R o same m) ∙ is q ∙ ap (λ ks. is_in R ks q) (sym (keys-key_set R o same n)))
+    ∙ ap marked (ap (λ ks. is_in R ks q) (keys-key_set R o same m) ∙ is q
+    ∙ ap (λ ks. is_in R ks q) (sym (keys-key_set R o same n)))
     ∙ sym (in_set (key_set R n) q)))
     ∙ keys-key_set R o same n

@@ -52,13 +52,15 @@ module _ {N : Type 0} {R : N → N → Ordering} (o : IsTotalOrder R) (same : Is
       (λ e. subst (λ y. test y ≡ true) (sym (same_from_tie x n e)) (and_first (test n) (list_all test ns) all))
       (λ e. all_at test ns x (and_second (test n) (list_all test ns) all) e)
 
-  pub all_from : (test : N → Bool) (ns : List N) → ((x : N) → is_in R ns x ≡ true → test x ≡ true) → list_all test ns ≡ true
+  pub all_from : (test : N → Bool) (ns : List N) → ((x : N) → is_in R ns x ≡ true → test x ≡ true)
+      → list_all test ns ≡ true
   all_from test [] f = refl
   all_from test (n ∷ ns) f =
       and_from (test n) (list_all test ns) (f n (head_in n ns))
       (all_from test ns (λ x e. f x (or_right (eq_by_cmp R x n) (is_in R ns x) e)))
 
-  pub all_by_members : (test : N → Bool) (ns ms : List N) → ((x : N) → is_in R ns x ≡ is_in R ms x) → list_all test ns ≡ list_all test ms
+  pub all_by_members : (test : N → Bool) (ns ms : List N) → ((x : N) → is_in R ns x ≡ is_in R ms x)
+      → list_all test ns ≡ list_all test ms
   all_by_members test ns ms is =
       same_test (list_all test ns) (list_all test ms)
       (λ a. all_from test ms (λ x e. all_at test ns x a (is x ∙ e)))
@@ -71,7 +73,12 @@ module _ {N : Type 0} {R : N → N → Ordering} (o : IsTotalOrder R) (same : Is
   found_of test (n ∷ ns) e =
       either_case (test n) (list_any test ns) e
       (λ h. record { item = n; known = head_in n ns; passes = h })
-      (λ h. let f = found_of test ns h in record { item = f.item; known = or_right (eq_by_cmp R f.item n) (is_in R ns f.item) f.known; passes = f.passes })
+      (λ h. let f = found_of test ns h in record {
+        item = f.item;
+        known =
+            or_right (eq_by_cmp R f.item n) (is_in R ns f.item) f.known;
+        passes = f.passes;
+      })
 
   pub any_from : (test : N → Bool) (ns : List N) (x : N) → is_in R ns x ≡ true → test x ≡ true → list_any test ns ≡ true
   any_from test [] x is h = absurd (true≢false (sym is))
@@ -80,7 +87,8 @@ module _ {N : Type 0} {R : N → N → Ordering} (o : IsTotalOrder R) (same : Is
       (λ e. or_left (test n) (list_any test ns) (subst (λ y. test y ≡ true) (same_from_tie x n e) h))
       (λ e. or_right (test n) (list_any test ns) (any_from test ns x e h))
 
-  pub any_by_members : (test : N → Bool) (ns ms : List N) → ((x : N) → is_in R ns x ≡ is_in R ms x) → list_any test ns ≡ list_any test ms
+  pub any_by_members : (test : N → Bool) (ns ms : List N) → ((x : N) → is_in R ns x ≡ is_in R ms x)
+      → list_any test ns ≡ list_any test ms
   any_by_members test ns ms is =
       same_test (list_any test ns) (list_any test ms)
       (λ a. let f = found_of test ns a in any_from test ms f.item (sym (is f.item) ∙ f.known) f.passes)

@@ -20,7 +20,8 @@ no_and : (a b : Bool) → a ≡ false → (a && b) ≡ false
 no_and a b e = rw e refl
 
 -- what is written after a byte begins with no special byte
-takes_none : (class : Class) (b : ℕ) (name rest : List ℕ) → MayFollow class (b ∷ name) rest → TakesNone class b (escape class name ++ rest)
+takes_none : (class : Class) (b : ℕ) (name rest : List ℕ) → MayFollow class (b ∷ name) rest
+    → TakesNone class b (escape class name ++ rest)
 takes_none class b [] [] h = tt
 takes_none class b [] (r ∷ rs) h = no_and (eqb b 92) (is_special class r) h.1
 takes_none class b (c ∷ cs) rest h =
@@ -29,17 +30,20 @@ takes_none class b (c ∷ cs) rest h =
       | inr plain ↦ rw (plain, plain) (and_false (eqb b 92))
     ]
 
-follows_tail : (class : Class) (b : ℕ) (name rest : List ℕ) → MayFollow class (b ∷ name) rest → MayFollow class name rest
+follows_tail : (class : Class) (b : ℕ) (name rest : List ℕ) → MayFollow class (b ∷ name) rest
+    → MayFollow class name rest
 follows_tail class b name [] h = tt
 follows_tail class b [] (r ∷ rs) h = (h.0, refl)
 follows_tail class b (c ∷ cs) (r ∷ rs) h = h
 
 -- a byte that stands for itself is one more byte of the name
-name_len-plain : (class : Class) (b : ℕ) (rest : List ℕ) → is_special class b ≡ false → TakesNone class b rest → name_len class (b ∷ rest) ≡ name_len class rest + 1
+name_len-plain : (class : Class) (b : ℕ) (rest : List ℕ) → is_special class b ≡ false → TakesNone class b rest
+    → name_len class (b ∷ rest) ≡ name_len class rest + 1
 name_len-plain class b [] plain h = rw plain refl
 name_len-plain class b (c ∷ cs) plain h = rw (h, plain) refl
 
-unescape-plain : (class : Class) (b : ℕ) (rest : List ℕ) → TakesNone class b rest → unescape class (b ∷ rest) ≡ b ∷ unescape class rest
+unescape-plain : (class : Class) (b : ℕ) (rest : List ℕ) → TakesNone class b rest
+    → unescape class (b ∷ rest) ≡ b ∷ unescape class rest
 unescape-plain class b [] h = refl
 unescape-plain class b (c ∷ cs) h = rw h refl
 
@@ -48,13 +52,15 @@ ends_here class name [] h = refl
 ends_here class name (b ∷ []) h = rw h.0 refl
 ends_here class name (b ∷ c ∷ cs) h = rw (special_no_backslash class b h.0, h.0) refl
 
-pub name_len-escape : (class : Class) (name rest : List ℕ) → MayFollow class name rest → name_len class (escape class name ++ rest) ≡ length (escape class name)
+pub name_len-escape : (class : Class) (name rest : List ℕ) → MayFollow class name rest
+    → name_len class (escape class name ++ rest) ≡ length (escape class name)
 name_len-escape class [] rest h = ends_here class [] rest h
 name_len-escape class (b ∷ name) rest h =
     let later = name_len-escape class name rest (follows_tail class b name rest h) in
     elim (cases_Bool (is_special class b)) [
       | inl special ↦ rw (special, special) (ap (λ (n : ℕ). n + 2) later ∙ omega arith)
-      | inr plain ↦ rw plain (name_len-plain class b (escape class name ++ rest) plain (takes_none class b name rest h) ∙ ap (λ (n : ℕ). n + 1) later ∙ omega arith)
+      | inr plain ↦ rw plain (name_len-plain class b (escape class name ++ rest) plain (takes_none class b name rest h)
+          ∙ ap (λ (n : ℕ). n + 1) later ∙ omega arith)
     ]
 
 pub unescape-escape : (class : Class) (name : List ℕ) → unescape class (escape class name) ≡ name
@@ -62,7 +68,8 @@ unescape-escape class [] = refl
 unescape-escape class (b ∷ name) =
     elim (cases_Bool (is_special class b)) [
       | inl special ↦ rw (special, special) (ap (λ (l : List ℕ). b ∷ l) (unescape-escape class name))
-      | inr plain ↦ rw plain (unescape-plain class b (escape class name) (alone b name) ∙ ap (λ (l : List ℕ). b ∷ l) (unescape-escape class name))
+      | inr plain ↦ rw plain (unescape-plain class b (escape class name) (alone b name)
+          ∙ ap (λ (l : List ℕ). b ∷ l) (unescape-escape class name))
     ]
   where
     alone : (b : ℕ) (name : List ℕ) → TakesNone class b (escape class name)
@@ -73,13 +80,15 @@ unescape-escape class (b ∷ name) =
           | inr plain ↦ rw (plain, plain) (and_false (eqb b 92))
         ]
 
-takes_none_front : (class : Class) (b : ℕ) (rest : List ℕ) (k : ℕ) → TakesNone class b rest → TakesNone class b (take k rest)
+takes_none_front : (class : Class) (b : ℕ) (rest : List ℕ) (k : ℕ) → TakesNone class b rest
+    → TakesNone class b (take k rest)
 takes_none_front class b rest zero h = tt
 takes_none_front class b [] (suc k) h = tt
 takes_none_front class b (c ∷ cs) (suc k) h = h
 
 -- the units at the front are those that write what they stand for
-pub escape-unescape : (class : Class) (text : List ℕ) → escape class (unescape class (take (name_len class text) text)) ≡ take (name_len class text) text
+pub escape-unescape : (class : Class) (text : List ℕ)
+    → escape class (unescape class (take (name_len class text) text)) ≡ take (name_len class text) text
 escape-unescape class [] = refl
 escape-unescape class (b ∷ []) =
     elim (cases_Bool (is_special class b)) [
@@ -93,15 +102,20 @@ escape-unescape class (b ∷ c ∷ cs) =
           let x = take (name_len class cs) cs in
           let n : name_len class cs + 2 ≡ suc (suc (name_len class cs)) = omega arith in
           let read : unescape class (b ∷ c ∷ x) ≡ c ∷ unescape class x = rw pair refl in
-          let written : escape class (c ∷ unescape class x) ≡ 92 ∷ c ∷ escape class (unescape class x) = rw parts.1 refl in
-          let front : 92 ∷ c ∷ escape class (unescape class x) ≡ b ∷ c ∷ x = ap (λ (y : ℕ). y ∷ c ∷ escape class (unescape class x)) (sym (eqb-true b 92 parts.0)) ∙ ap (λ (l : List ℕ). b ∷ c ∷ l) (escape-unescape class cs) in
+          let written : escape class (c ∷ unescape class x) ≡ 92 ∷ c ∷ escape class (unescape class x) =
+          rw parts.1 refl in
+          let front : 92 ∷ c ∷ escape class (unescape class x) ≡ b ∷ c ∷ x =
+          ap (λ (y : ℕ). y ∷ c ∷ escape class (unescape class x)) (sym (eqb-true b 92 parts.0))
+          ∙ ap (λ (l : List ℕ). b ∷ c ∷ l) (escape-unescape class cs) in
           rw (pair, n) (ap (escape class) read ∙ written ∙ front)
       | inr apart ↦ elim (cases_Bool (is_special class b)) [
         | inl special ↦ rw (apart, special) refl
         | inr plain ↦
             let x = take (name_len class (c ∷ cs)) (c ∷ cs) in
-            let read : unescape class (b ∷ x) ≡ b ∷ unescape class x = unescape-plain class b x (takes_none_front class b (c ∷ cs) (name_len class (c ∷ cs)) apart) in
-            let written : escape class (b ∷ unescape class x) ≡ b ∷ x = rw plain (ap (λ (l : List ℕ). b ∷ l) (escape-unescape class (c ∷ cs))) in
+            let read : unescape class (b ∷ x) ≡ b ∷ unescape class x =
+            unescape-plain class b x (takes_none_front class b (c ∷ cs) (name_len class (c ∷ cs)) apart) in
+            let written : escape class (b ∷ unescape class x) ≡ b ∷ x =
+            rw plain (ap (λ (l : List ℕ). b ∷ l) (escape-unescape class (c ∷ cs))) in
             rw (apart, plain, add-one) (ap (escape class) read ∙ written)
       ]
     ]

@@ -18,10 +18,12 @@ ends_in_backslash_at (b ∷ []) = refl
 ends_in_backslash_at (b ∷ c ∷ cs) =
     let m : length (c ∷ cs) - 1 ≡ length cs = omega arith in
     let n : suc (length cs) ≡ length (b ∷ c ∷ cs) - 1 = omega arith in
-    ends_in_backslash_at (c ∷ cs) ∙ ap (λ (k : ℕ). eqb (get_or (c ∷ cs) k 0) 92) m ∙ ap (λ (k : ℕ). eqb (get_or (b ∷ c ∷ cs) k 0) 92) n
+    ends_in_backslash_at (c ∷ cs) ∙ ap (λ (k : ℕ). eqb (get_or (c ∷ cs) k 0) 92) m
+    ∙ ap (λ (k : ℕ). eqb (get_or (b ∷ c ∷ cs) k 0) 92) n
 
 -- a name is written with the line feeds that it has, and ends as it does
-line_feeds-escape : (class : Class) (name : List ℕ) → list_any (λ b. eqb b 10) (escape class name) ≡ list_any (λ b. eqb b 10) name
+line_feeds-escape : (class : Class) (name : List ℕ)
+    → list_any (λ b. eqb b 10) (escape class name) ≡ list_any (λ b. eqb b 10) name
 line_feeds-escape class [] = refl
 line_feeds-escape class (b ∷ name) =
     let later = ap (λ (t : Bool). eqb b 10 || t) (line_feeds-escape class name) in
@@ -30,7 +32,8 @@ line_feeds-escape class (b ∷ name) =
       | inr plain ↦ rw plain later
     ]
 
-ends-cons : (class : Class) (b : ℕ) (name : List ℕ) → ends_in_backslash (escape class name) ≡ ends_in_backslash name → ends_in_backslash (b ∷ escape class name) ≡ ends_in_backslash (b ∷ name)
+ends-cons : (class : Class) (b : ℕ) (name : List ℕ) → ends_in_backslash (escape class name) ≡ ends_in_backslash name
+    → ends_in_backslash (b ∷ escape class name) ≡ ends_in_backslash (b ∷ name)
 ends-cons class b [] e = refl
 ends-cons class b (c ∷ cs) e =
     elim (cases_Bool (is_special class c)) [
@@ -79,10 +82,17 @@ may_follow class name [] h d = tt
 may_follow class name (b ∷ bs) h d = (d, name_ends name h)
 
 -- a name that is written before what divides is found there
-pub name_at-escape : (class : Class) (name rest : List ℕ) → is_name name ≡ true → Divides class rest → name_at class (escape class name ++ rest) ≡ Some (escape class name, rest)
+pub name_at-escape : (class : Class) (name rest : List ℕ) → is_name name ≡ true → Divides class rest
+    → name_at class (escape class name ++ rest) ≡ Some (escape class name, rest)
 name_at-escape class name rest h d =
     let n = name_len-escape class name rest (may_follow class name rest h d) in
-    rw (n, take-append_seam (escape class name) rest, drop-append_seam (escape class name) rest, is_name-escape class name, h) refl
+    rw (
+      n,
+      take-append_seam (escape class name) rest,
+      drop-append_seam (escape class name) rest,
+      is_name-escape class name,
+      h,
+    ) refl
 
 -- a name that is found is written there
 pub record IsFound (class : Class) (text raw rest : List ℕ) : Type 0 where
@@ -94,24 +104,31 @@ pub some_if : {A : Type 0} (b : Bool) (x y : A) → cond b (Some x) None ≡ Som
 some_if true x y e = (refl, cc)
 some_if false x y e = absurd cc
 
-pub name_at-found : (class : Class) (text raw rest : List ℕ) → name_at class text ≡ Some (raw, rest) → IsFound class text raw rest
+pub name_at-found : (class : Class) (text raw rest : List ℕ) → name_at class text ≡ Some (raw, rest)
+    → IsFound class text raw rest
 name_at-found class text raw rest e =
     let n = name_len class text in
     let parts = some_if (is_name (take n text)) (take n text, drop n text) (raw, rest) e in
     let front : take n text ≡ raw = ap (λ (p : List ℕ × List ℕ). p.0) parts.1 in
     let back : drop n text ≡ rest = ap (λ (p : List ℕ × List ℕ). p.1) parts.1 in
-    let written : raw ≡ escape class (unescape class raw) = sym front ∙ sym (escape-unescape class text) ∙ ap (λ (l : List ℕ). escape class (unescape class l)) front in
+    let written : raw ≡ escape class (unescape class raw) = sym front ∙ sym (escape-unescape class text)
+    ∙ ap (λ (l : List ℕ). escape class (unescape class l)) front in
     record {
       name = sym (is_name-escape class (unescape class raw)) ∙ ap is_name (sym written ∙ sym front) ∙ parts.0;
       raw_is = written;
-      whole = sym (take-append-drop n text) ∙ ap (λ (l : List ℕ). l ++ drop n text) (front ∙ written) ∙ ap (λ (l : List ℕ). escape class (unescape class raw) ++ l) back;
+      whole = sym (take-append-drop n text) ∙ ap (λ (l : List ℕ). l ++ drop n text) (front ∙ written)
+          ∙ ap (λ (l : List ℕ). escape class (unescape class raw) ++ l) back;
     }
 
 -- two texts that begin with a name and are equal begin with one name
-pub same_names : (class : Class) (name other rest left : List ℕ) → is_name name ≡ true → is_name other ≡ true → Divides class rest → Divides class left → escape class name ++ rest ≡ escape class other ++ left → (name ≡ other) × (rest ≡ left)
+pub same_names : (class : Class) (name other rest left : List ℕ) → is_name name ≡ true → is_name other ≡ true
+    → Divides class rest → Divides class left → escape class name ++ rest ≡ escape class other ++ left
+    → (name ≡ other) × (rest ≡ left)
 same_names class name other rest left h i d f e =
-    let same : Some (escape class name, rest) ≡ Some (escape class other, left) = sym (name_at-escape class name rest h d) ∙ ap (name_at class) e ∙ name_at-escape class other left i f in
+    let same : Some (escape class name, rest) ≡ Some (escape class other, left) =
+    sym (name_at-escape class name rest h d) ∙ ap (name_at class) e ∙ name_at-escape class other left i f in
     let parts = (some_if true (escape class name, rest) (escape class other, left) same).1 in (
-      sym (unescape-escape class name) ∙ ap (λ (p : List ℕ × List ℕ). unescape class p.0) parts ∙ unescape-escape class other,
+      sym (unescape-escape class name) ∙ ap (λ (p : List ℕ × List ℕ). unescape class p.0) parts
+          ∙ unescape-escape class other,
       ap (λ (p : List ℕ × List ℕ). p.1) parts,
     )

@@ -12,7 +12,8 @@ escape_plain class (byte ∷ name) e =
     let parts = or_parts (is_special class byte) (list_any (is_special class) name) e in
     rw parts.0 (ap (λ (rest : List ℕ). byte ∷ rest) (escape_plain class name parts.1))
 
-pub unescape_plain : (class : Class) (raw : List ℕ) → list_any (λ byte. eqb byte 92) raw ≡ false → unescape class raw ≡ raw
+pub unescape_plain : (class : Class) (raw : List ℕ) → list_any (λ byte. eqb byte 92) raw ≡ false
+    → unescape class raw ≡ raw
 unescape_plain class [] e = refl
 unescape_plain class (byte ∷ []) e = refl
 unescape_plain class (byte ∷ next ∷ rest) e =

@@ -11,7 +11,8 @@ backslash_plain Measurement = refl
 backslash_plain Other = refl
 
 pub special_no_backslash : (class : Class) (b : ℕ) → is_special class b ≡ true → eqb b 92 ≡ false
-special_no_backslash class b h = ne_eqb b 92 (λ e. false≢true (sym (ap (is_special class) e ∙ backslash_plain class) ∙ h))
+special_no_backslash class b h = ne_eqb b 92 (λ e. false≢true
+    (sym (ap (is_special class) e ∙ backslash_plain class) ∙ h))
 
 pub and_false : (a : Bool) → (a && false) ≡ false
 and_false true = refl

@@ -16,7 +16,8 @@ abbrev pub unescape : Class → List ℕ → List ℕ
 unescape class [] = []
 unescape class (byte ∷ []) = byte ∷ []
 unescape class (byte ∷ next ∷ rest) =
-    if byte == BACKSLASH && is_special class next then next ∷ unescape class rest else byte ∷ unescape class (next ∷ rest)
+    if byte == BACKSLASH && is_special class next then next ∷ unescape class rest else byte ∷ unescape class
+    (next ∷ rest)
 
 -- how many bytes the units at the front take, up to the first special byte that no backslash took
 abbrev pub name_len : Class → List ℕ → ℕ

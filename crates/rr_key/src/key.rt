@@ -96,8 +96,8 @@ impl SeriesKey {
     /// backslash; `DuplicateTag`; `TooManyTags`, more than [`MAX_TAGS`](crate::MAX_TAGS);
     /// `KeyTooLong`, a text of more than [`MAX_KEY_TEXT`](rr_text::limits::MAX_KEY_TEXT) bytes.
     /// `Memory` is answered where memory runs out for the text, so never in place of a refusal. The
-    /// cost is that of sorting the tags, measuring the text and writing it; more tags than a key may
-    /// have are compared pair by pair.
+    /// cost is that of sorting the tags, measuring the text and writing it; more tags than a key
+    /// may have are compared pair by pair.
     pub fn new(
         alloc: Global,
         measurement: &[u8],
@@ -176,8 +176,8 @@ impl SeriesKey {
         }
     }
 
-    /// A further owner of the same text: no byte is copied and no memory is taken. A text in a vector
-    /// of the key's own is copied once, to be shared from then on.
+    /// A further owner of the same text: no byte is copied and no memory is taken. A text in a
+    /// vector of the key's own is copied once, to be shared from then on.
     pub fn copy(&self) -> Result<SeriesKey, AllocError>
         ensures { IfOk result (λ key. key ≡ self.now) }
     {

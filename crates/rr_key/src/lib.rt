@@ -11,9 +11,9 @@
 //!
 //! A name is written as in the "InfluxDB line protocol reference": [`escape`] puts a backslash
 //! before each special byte of the name's [`Class`], [`unescape`] drops it again, and [`name_len`]
-//! says where a written name ends in a text. A backslash that no special byte follows is a
-//! byte of the name. No name of a key is empty, has a line feed or ends in a backslash; a key has at
-//! most [`MAX_TAGS`] tags, their keys differ, and its text has at most
+//! says where a written name ends in a text. A backslash that no special byte follows is a byte of
+//! the name. No name of a key is empty, has a line feed or ends in a backslash; a key has at most
+//! [`MAX_TAGS`] tags, their keys differ, and its text has at most
 //! [`MAX_KEY_TEXT`](rr_text::limits::MAX_KEY_TEXT) bytes.
 //!
 //! In `specs/` a series has its tags as a map, and its key text is a function of it; [`laws`] says

@@ -24,9 +24,11 @@ pub record Agrees {A : Type 0} (read : Result A LineFault) (Good : A → Type 0)
   pub bad : (fault : LineFault) → Bad fault → read ≡ Err fault
 
 -- a step and the one after it
-pub Agrees-bind : {A B : Type 0} (step : Result A LineFault) (next : A → Result B LineFault) (Good : A → Type 0) (Bad : LineFault → Type 0) (Then : A → B → Type 0) (Fails : A → LineFault → Type 0)
+pub Agrees-bind : {A B : Type 0} (step : Result A LineFault) (next : A → Result B LineFault) (Good : A → Type 0)
+    (Bad : LineFault → Type 0) (Then : A → B → Type 0) (Fails : A → LineFault → Type 0)
     → Agrees step Good Bad → ((x : A) → Good x → Agrees (next x) (Then x) (Fails x))
-    → Agrees (step >>= next) (λ y. (x : A) × Good x × Then x y) (λ fault. Bad fault ⊎ ((x : A) × Good x × Fails x fault))
+    → Agrees (step >>= next) (λ y. (x : A) × Good x × Then x y)
+    (λ fault. Bad fault ⊎ ((x : A) × Good x × Fails x fault))
 Agrees-bind {A} {B} (Ok x) next Good Bad Then Fails first second =
     let later = second x first.holds in
     let is : (y : A) → Good y → x ≡ y = λ y g. let e = first.good y g in cc in
@@ -39,7 +41,8 @@ Agrees-bind {A} {B} (Ok x) next Good Bad Then Fails first second =
       ];
     }
   where
-    at : (r : Result B LineFault) → Holds (Then x) (Fails x) r → Holds (λ y. (x : A) × Good x × Then x y) (λ fault. Bad fault ⊎ ((x : A) × Good x × Fails x fault)) r
+    at : (r : Result B LineFault) → Holds (Then x) (Fails x) r
+        → Holds (λ y. (x : A) × Good x × Then x y) (λ fault. Bad fault ⊎ ((x : A) × Good x × Fails x fault)) r
     at (Ok y) h = (x, first.holds, h)
     at (Err fault) h = inr (x, first.holds, h)
 Agrees-bind (Err fault) next Good Bad Then Fails first second = record {
@@ -53,7 +56,8 @@ Agrees-bind (Err fault) next Good Bad Then Fails first second = record {
 
 -- the same relation in other words
 pub Agrees-as : {A : Type 0} (read : Result A LineFault) (Good Other : A → Type 0) (Bad Fails : LineFault → Type 0)
-    → ((x : A) → Good x → Other x) → ((x : A) → Other x → Good x) → ((fault : LineFault) → Bad fault → Fails fault) → ((fault : LineFault) → Fails fault → Bad fault)
+    → ((x : A) → Good x → Other x) → ((x : A) → Other x → Good x) → ((fault : LineFault) → Bad fault → Fails fault)
+    → ((fault : LineFault) → Fails fault → Bad fault)
     → Agrees read Good Bad → Agrees read Other Fails
 Agrees-as {A} read Good Other Bad Fails to from bad_to bad_from h = record {
   holds = at read h.holds;
@@ -66,9 +70,11 @@ Agrees-as {A} read Good Other Bad Fails to from bad_to bad_from h = record {
     at (Err fault) h = bad_to fault h
 
 -- a test before a step
-pub Agrees-unless : {A : Type 0} (fault : LineFault) (refused : Bool) (step : Result A LineFault) (Good : A → Type 0) (Bad : LineFault → Type 0)
+pub Agrees-unless : {A : Type 0} (fault : LineFault) (refused : Bool) (step : Result A LineFault) (Good : A → Type 0)
+    (Bad : LineFault → Type 0)
     → (refused ≡ false → Agrees step Good Bad)
-    → Agrees (unless fault refused step) (λ x. (refused ≡ false) × Good x) (λ other. ((refused ≡ true) × (other ≡ fault)) ⊎ ((refused ≡ false) × Bad other))
+    → Agrees (unless fault refused step) (λ x. (refused ≡ false) × Good x)
+    (λ other. ((refused ≡ true) × (other ≡ fault)) ⊎ ((refused ≡ false) × Bad other))
 Agrees-unless fault true step Good Bad h = record {
   holds = inl (refl, refl);
   good = λ x g. absurd (let e = g.0 in cc);
@@ -80,12 +86,15 @@ Agrees-unless {A} fault false step Good Bad h = record {
   bad = λ other b. elim b [ inl is ↦ absurd (let e = is.0 in cc) | inr is ↦ (h refl).bad other is.1 ];
 }
   where
-    at : (r : Result A LineFault) → Holds Good Bad r → Holds (λ x. (false ≡ false) × Good x) (λ other. ((false ≡ true) × (other ≡ fault)) ⊎ ((false ≡ false) × Bad other)) r
+    at : (r : Result A LineFault) → Holds Good Bad r
+        → Holds (λ x. (false ≡ false) × Good x) (λ other. ((false ≡ true) × (other ≡ fault))
+        ⊎ ((false ≡ false) × Bad other)) r
     at (Ok x) h = (refl, h)
     at (Err fault) h = inr (refl, h)
 
 -- what is there, or a fault
-pub Agrees-ok_or : {A : Type 0} (o : Option A) (fault : LineFault) → Agrees (ok_or o fault) (λ x. o ≡ Some x) (λ other. (o ≡ None) × (other ≡ fault))
+pub Agrees-ok_or : {A : Type 0} (o : Option A) (fault : LineFault)
+    → Agrees (ok_or o fault) (λ x. o ≡ Some x) (λ other. (o ≡ None) × (other ≡ fault))
 Agrees-ok_or (Some x) fault = record {
   holds = refl;
   good = λ y e. cc;

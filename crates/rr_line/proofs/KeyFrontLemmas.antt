@@ -31,12 +31,15 @@ abbrev raw_tags : List Tag → List ℕ
 raw_tags tags = flat_map raw_tag tags
 
 -- tags are written one after the other
-tags_written : (before : List Tag) (text : List ℕ) (tags : List Tag) (rest : List ℕ) → AreTags before text tags rest → text ≡ raw_tags tags ++ rest
+tags_written : (before : List Tag) (text : List ℕ) (tags : List Tag) (rest : List ℕ) → AreTags before text tags rest
+    → text ≡ raw_tags tags ++ rest
 tags_written before text [] rest are = are
 tags_written before text (tag ∷ tags) rest (inner, next, whole, is, may, later) =
     let others = tags_written (before ++ tag ∷ []) next tags rest later in
-    let value : is.value_text ≡ tag.1 ++ (raw_tags tags ++ rest) = is.value.whole ∙ ap (λ (t : List ℕ). tag.1 ++ t) others in
-    let key : inner ≡ tag.0 ++ EQUALS ∷ (tag.1 ++ (raw_tags tags ++ rest)) = is.key.whole ∙ ap (λ (t : List ℕ). tag.0 ++ EQUALS ∷ t) value in
+    let value : is.value_text ≡ tag.1 ++ (raw_tags tags ++ rest) = is.value.whole
+    ∙ ap (λ (t : List ℕ). tag.1 ++ t) others in
+    let key : inner ≡ tag.0 ++ EQUALS ∷ (tag.1 ++ (raw_tags tags ++ rest)) = is.key.whole
+    ∙ ap (λ (t : List ℕ). tag.0 ++ EQUALS ∷ t) value in
     whole ∙ ap (λ (t : List ℕ). COMMA ∷ t) (
     key ∙ ap (λ (t : List ℕ). tag.0 ++ EQUALS ∷ t) (sym (append_assoc tag.1 (raw_tags tags) rest))
     ∙ sym (append_assoc tag.0 (EQUALS ∷ (tag.1 ++ raw_tags tags)) rest)
@@ -48,9 +51,11 @@ plain_name : (class : Class) (name : List ℕ) → IsGood class name → has_bac
 plain_name class name good plain = ap (escape class) (sym (unescape_plain class name plain)) ∙ good.written
 
 -- of a text without a backslash, its parts have none
-parts_plain : (front rest : List ℕ) → has_backslash (front ++ rest) ≡ false → (has_backslash front ≡ false) × (has_backslash rest ≡ false)
+parts_plain : (front rest : List ℕ) → has_backslash (front ++ rest) ≡ false
+    → (has_backslash front ≡ false) × (has_backslash rest ≡ false)
 parts_plain front rest plain =
-    or_parts (has_backslash front) (has_backslash rest) (sym (list_any-append (λ byte. byte == BACKSLASH) front rest) ∙ plain)
+    or_parts (has_backslash front) (has_backslash rest)
+    (sym (list_any-append (λ byte. byte == BACKSLASH) front rest) ∙ plain)
 
 record IsTagPlain (tag : Tag) (tags : List Tag) : Type 0 where
   pub key : has_backslash tag.0 ≡ false
@@ -67,14 +72,17 @@ tags_plain : (tags : List Tag) → has_backslash (raw_tags tags) ≡ false → t
 tags_plain [] plain = refl
 tags_plain (tag ∷ tags) plain =
     let is = tag_plain tag tags plain in
-    ap₂ (λ (t : Tag) (ts : List Tag). t ∷ ts) (ap₂ (λ (k v : List ℕ). (k, v)) (unescape_plain Other tag.0 is.key) (unescape_plain Other tag.1 is.value)) (tags_plain tags is.others)
+    ap₂ (λ (t : Tag) (ts : List Tag). t ∷ ts) (ap₂ (λ (k v : List ℕ). (k, v)) (unescape_plain Other tag.0 is.key)
+    (unescape_plain Other tag.1 is.value)) (tags_plain tags is.others)
 
-tags_spelled : (tags : List Tag) → AreGood tags → has_backslash (raw_tags tags) ≡ false → flat_map tag_text tags ≡ raw_tags tags
+tags_spelled : (tags : List Tag) → AreGood tags → has_backslash (raw_tags tags) ≡ false
+    → flat_map tag_text tags ≡ raw_tags tags
 tags_spelled [] good plain = refl
 tags_spelled (tag ∷ tags) good plain =
     let is = tag_plain tag tags plain in
     ap₂ (λ (t ts : List ℕ). t ++ ts)
-    (ap₂ (λ (k v : List ℕ). COMMA ∷ (k ++ EQUALS ∷ v)) (plain_name Other tag.0 good.0.0 is.key) (plain_name Other tag.1 good.0.1 is.value))
+    (ap₂ (λ (k v : List ℕ). COMMA ∷ (k ++ EQUALS ∷ v)) (plain_name Other tag.0 good.0.0 is.key)
+    (plain_name Other tag.1 good.0.1 is.value))
     (tags_spelled tags good.1 is.others)
 
 -- what precedes the rest
@@ -83,17 +91,22 @@ front_taken text front rest whole =
     let len : length text - length rest ≡ length front = omega (arith, ap length whole, length-append front rest) in
     ap₂ (λ (n : ℕ) (t : List ℕ). take n t) len whole ∙ take-append_seam front rest
 
-pub front_is : (text measurement : List ℕ) (tags : List Tag) (rest : List ℕ) → LeadsToTags text measurement tags rest → HasGoodNames measurement tags → IsPlain (take (length text - length rest) text) tags → take (length text - length rest) text ≡ front_text measurement tags
+pub front_is : (text measurement : List ℕ) (tags : List Tag) (rest : List ℕ) → LeadsToTags text measurement tags rest
+    → HasGoodNames measurement tags → IsPlain (take (length text - length rest) text) tags
+    → take (length text - length rest) text ≡ front_text measurement tags
 front_is text measurement tags rest leads names plain =
     let written = tags_written [] leads.tags_text tags rest leads.are_tags in
     let whole : text ≡ (measurement ++ raw_tags tags) ++ rest =
-    leads.name.whole ∙ ap (λ (t : List ℕ). measurement ++ t) written ∙ sym (append_assoc measurement (raw_tags tags) rest) in
+    leads.name.whole ∙ ap (λ (t : List ℕ). measurement ++ t) written
+    ∙ sym (append_assoc measurement (raw_tags tags) rest) in
     let taken = front_taken text (measurement ++ raw_tags tags) rest whole in
     let parts = parts_plain measurement (raw_tags tags) (ap has_backslash (sym taken) ∙ plain.unescaped) in
     let same = tags_plain tags parts.1 in
-    let once : has_repeat (keys_of tags) ≡ false = subst (λ (ts : List Tag). has_repeat (keys_of ts) ≡ false) same names.once in
+    let once : has_repeat (keys_of tags) ≡ false =
+    subst (λ (ts : List Tag). has_repeat (keys_of ts) ≡ false) same names.once in
     let sorted : entries (from_entries {R = bytes_cmp} (tags_unescaped tags)) ≡ tags =
-    ap (λ (ts : List Tag). entries (from_entries {R = bytes_cmp} ts)) same ∙ sym (entries_rise tags tags (IsPermutation-refl tags) once plain.rising) in
+    ap (λ (ts : List Tag). entries (from_entries {R = bytes_cmp} ts)) same
+    ∙ sym (entries_rise tags tags (IsPermutation-refl tags) once plain.rising) in
     let front = names.measurement_good.written in
     let back = ap (flat_map tag_text) sorted ∙ tags_spelled tags names.tags_are_good parts.1 in
     taken ∙ sym (ap₂ (λ (m ts : List ℕ). m ++ ts) front back)

@@ -21,12 +21,15 @@ pub record IsGood (class : Class) (name : List ℕ) : Type 0 where
 -- a text without a line feed has none in its parts
 pub none_in_parts : (front rest : List ℕ) → HasNoLineFeed (front ++ rest) → HasNoLineFeed front × HasNoLineFeed rest
 none_in_parts front rest h =
-    or_parts (list_any (λ byte. eqb byte LINE_FEED) front) (list_any (λ byte. eqb byte LINE_FEED) rest) (sym (list_any-append (λ byte. eqb byte LINE_FEED) front rest) ∙ h)
+    or_parts (list_any (λ byte. eqb byte LINE_FEED) front) (list_any (λ byte. eqb byte LINE_FEED) rest)
+    (sym (list_any-append (λ byte. eqb byte LINE_FEED) front rest) ∙ h)
 
-none_of_text : (text front rest : List ℕ) → HasNoLineFeed text → text ≡ front ++ rest → HasNoLineFeed front × HasNoLineFeed rest
+none_of_text : (text front rest : List ℕ) → HasNoLineFeed text → text ≡ front ++ rest
+    → HasNoLineFeed front × HasNoLineFeed rest
 none_of_text text front rest h whole = none_in_parts front rest (subst HasNoLineFeed whole h)
 
-is_good : (class : Class) (text name rest : List ℕ) → HasNoLineFeed text → IsName class text name rest → 0 < length rest → IsGood class name
+is_good : (class : Class) (text name rest : List ℕ) → HasNoLineFeed text → IsName class text name rest → 0 < length rest
+    → IsGood class name
 is_good class text name [] none h some = absurd (omega (arith, some))
 is_good class text name (byte ∷ rest) none h some =
     let plain : ends_in_backslash name ≡ false = ap ends_in_backslash h.units ∙ ends-escape class h.bytes ∙ h.ended.1 in
@@ -39,5 +42,9 @@ is_good class text name (byte ∷ rest) none h some =
     }
 
 -- a name of a text without a line feed that something follows
-pub name_is_good : (class : Class) (text name rest : List ℕ) → HasNoLineFeed text → IsName class text name rest → 0 < length rest → IsGood class name × HasNoLineFeed rest
-name_is_good class text name rest none h some = (is_good class text name rest none h some, (none_of_text text name rest none h.whole).1)
+pub name_is_good : (class : Class) (text name rest : List ℕ) → HasNoLineFeed text → IsName class text name rest
+    → 0 < length rest → IsGood class name × HasNoLineFeed rest
+name_is_good class text name rest none h some = (
+  is_good class text name rest none h some,
+  (none_of_text text name rest none h.whole).1,
+)

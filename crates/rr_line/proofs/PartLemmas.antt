@@ -18,7 +18,8 @@ use Rattle.rr_line.proofs.UnitLemmas.{scanned, is_name_scanned, no_name_scanned,
 use Rattle.rr_line.proofs.AgreeLemmas.{Agrees, Agrees-as, Agrees-unless, Agrees-ok}
 
 -- the cut of a text after a front of this length
-pub cut_is : (len : ℕ) (text front rest : List ℕ) → len ≡ length front → text ≡ front ++ rest → cut_after len text ≡ (front, rest)
+pub cut_is : (len : ℕ) (text front rest : List ℕ) → len ≡ length front → text ≡ front ++ rest
+    → cut_after len text ≡ (front, rest)
 cut_is len text front rest e whole = rw (e, whole, take-append_seam front rest, drop-append_seam front rest) refl
 
 pub first_is : {A B : Type 0} (x y : A × B) → x ≡ y → (x.0 ≡ y.0) × (x.1 ≡ y.1)
@@ -48,26 +49,32 @@ pub not_zero : (n m : ℕ) → n ≡ m → 0 < m → eqb n 0 ≡ false
 not_zero zero m e lt = absurd (omega arith)
 not_zero (suc n) m e lt = eqb-suc-zero n
 
-name_to : (class : Class) (text : List ℕ) (p : List ℕ × List ℕ) → (eqb (name_len class text) 0 ≡ false) × (cut_after (name_len class text) text ≡ p) → IsName class text p.0 p.1
+name_to : (class : Class) (text : List ℕ) (p : List ℕ × List ℕ)
+    → (eqb (name_len class text) 0 ≡ false) × (cut_after (name_len class text) text ≡ p) → IsName class text p.0 p.1
 name_to class text p h =
     let n = name_len class text in
     let front : take n text ≡ p.0 = ap (λ (q : List ℕ × List ℕ). q.0) h.1 in
     let back : drop n text ≡ p.1 = ap (λ (q : List ℕ × List ℕ). q.1) h.1 in
     let len : length p.0 ≡ n = ap length (sym front) ∙ length-take-le n text (name_len_within class text) in
-    is_name_scanned class text p.0 p.1 (omega (arith, len, above_zero n h.0)) (sym len) (sym (take-append-drop n text) ∙ rw (front, back) refl)
+    is_name_scanned class text p.0 p.1 (omega (arith, len, above_zero n h.0)) (sym len)
+    (sym (take-append-drop n text) ∙ rw (front, back) refl)
 
-name_from : (class : Class) (text : List ℕ) (p : List ℕ × List ℕ) → IsName class text p.0 p.1 → (eqb (name_len class text) 0 ≡ false) × (cut_after (name_len class text) text ≡ p)
+name_from : (class : Class) (text : List ℕ) (p : List ℕ × List ℕ) → IsName class text p.0 p.1
+    → (eqb (name_len class text) 0 ≡ false) × (cut_after (name_len class text) text ≡ p)
 name_from class text (front, rest) h =
     let len = scanned class text front rest h in
     (not_zero _ _ len h.some, cut_is (name_len class text) text front rest len h.whole)
 
-pub name_agrees : (class : Class) (missing : LineFault) (text : List ℕ) → Agrees (name_at class missing text) (λ p. IsName class text p.0 p.1) (λ fault. HasNoName class text × (fault ≡ missing))
+pub name_agrees : (class : Class) (missing : LineFault) (text : List ℕ)
+    → Agrees (name_at class missing text) (λ p. IsName class text p.0 p.1)
+    (λ fault. HasNoName class text × (fault ≡ missing))
 name_agrees class missing text =
     let n = name_len class text in
     Agrees-as (name_at class missing text) _ _ _ _ (name_to class text) (name_from class text)
     (λ fault h. elim h [ inl is ↦ (no_name_scanned class text (eqb-true n 0 is.0), is.1) | inr is ↦ absurd is.1 ])
     (λ fault h. inl (eq-eqb n 0 (nothing_scanned class text h.0), h.1))
-    (Agrees-unless missing (eqb n 0) (Ok (cut_after n text)) (λ p. cut_after n text ≡ p) (λ fault. ⊥) (λ e. Agrees-ok (cut_after n text)))
+    (Agrees-unless missing (eqb n 0) (Ok (cut_after n text)) (λ p. cut_after n text ≡ p) (λ fault. ⊥)
+    (λ e. Agrees-ok (cut_after n text)))
 
 -- a byte at the front
 pub strip_some : (byte : ℕ) (text rest : List ℕ) → strip byte text ≡ Some rest → text ≡ byte ∷ rest
@@ -97,18 +104,24 @@ pub begins_there : (byte : ℕ) (rest : List ℕ) → begins byte (byte ∷ rest
 begins_there byte rest = eq-eqb byte byte refl
 
 -- what `memchr` finds is the place of the first byte that passes, or the end
-pub found_first : (test : ℕ → Bool) (text : List ℕ) (at : ℕ) → IsFirstByte test text (Some at) → at ≡ position_or_len test text
+pub found_first : (test : ℕ → Bool) (text : List ℕ) (at : ℕ) → IsFirstByte test text (Some at)
+    → at ≡ position_or_len test text
 found_first test text at h =
-    sym (position_or_len_is test text at 0 (let within = h.0.high in omega arith) (λ k lt. false_from_ne_true _ (h.0.before k (omega arith) lt)) (λ lt. h.1))
+    sym (position_or_len_is test text at 0 (let within = h.0.high in omega arith)
+    (λ k lt. false_from_ne_true _ (h.0.before k (omega arith) lt)) (λ lt. h.1))
 
-pub found_none : (test : ℕ → Bool) (text : List ℕ) → IsFirstByte test text None → length text ≡ position_or_len test text
+pub found_none : (test : ℕ → Bool) (text : List ℕ) → IsFirstByte test text None
+    → length text ≡ position_or_len test text
 found_none test text h =
-    sym (position_or_len_is test text (length text) 0 (omega arith) (λ k lt. false_from_ne_true _ (h k (omega arith) lt)) (λ lt. absurd (omega (arith, lt))))
+    sym (position_or_len_is test text (length text) 0 (omega arith)
+    (λ k lt. false_from_ne_true _ (h k (omega arith) lt)) (λ lt. absurd (omega (arith, lt))))
 
 -- the last byte of a text
-pub before_last_there : (byte : ℕ) (front : List ℕ) (last : ℕ) → before_last byte (front ++ last ∷ []) ≡ cond (eqb last byte) (Some front) None
+pub before_last_there : (byte : ℕ) (front : List ℕ) (last : ℕ)
+    → before_last byte (front ++ last ∷ []) ≡ cond (eqb last byte) (Some front) None
 before_last_there byte [] last = refl
-before_last_there byte (first ∷ []) last = elim (cases_Bool (eqb last byte)) [ inl here ↦ rw here refl | inr other ↦ rw other refl ]
+before_last_there byte (first ∷ []) last = elim (cases_Bool (eqb last byte))
+    [ inl here ↦ rw here refl | inr other ↦ rw other refl ]
 before_last_there byte (first ∷ next ∷ front) last =
     let later = ap (option_map (λ (rest : List ℕ). first ∷ rest)) (before_last_there byte (next ∷ front) last) in
     elim (cases_Bool (eqb last byte)) [
@@ -116,11 +129,16 @@ before_last_there byte (first ∷ next ∷ front) last =
       | inr other ↦ let e = rw other at later in rw other e
     ]
 
-ends_with_last : (text : List ℕ) → 1 ≤ length text → text ≡ take (length text - 1) text ++ get_or text (length text - 1) 0 ∷ []
+ends_with_last : (text : List ℕ) → 1 ≤ length text
+    → text ≡ take (length text - 1) text ++ get_or text (length text - 1) 0 ∷ []
 ends_with_last text some =
     let n = length text - 1 in
     let lt : n < length text = omega arith in
-    split_at text n 0 lt ∙ ap (λ (rest : List ℕ). take n text ++ get_or text n 0 ∷ rest) (drop_all (suc n) text (omega arith))
+    split_at text n 0 lt ∙ ap (λ (rest : List ℕ). take n text ++ get_or text n 0 ∷ rest)
+    (drop_all (suc n) text (omega arith))
 
-pub before_last_at : (byte : ℕ) (text : List ℕ) → 1 ≤ length text → before_last byte text ≡ cond (eqb (get_or text (length text - 1) 0) byte) (Some (take (length text - 1) text)) None
-before_last_at byte text some = ap (before_last byte) (ends_with_last text some) ∙ before_last_there byte (take (length text - 1) text) (get_or text (length text - 1) 0)
+pub before_last_at : (byte : ℕ) (text : List ℕ) → 1 ≤ length text
+    → before_last byte text ≡ cond (eqb (get_or text (length text - 1) 0) byte) (Some (take (length text - 1) text))
+    None
+before_last_at byte text some = ap (before_last byte) (ends_with_last text some)
+    ∙ before_last_there byte (take (length text - 1) text) (get_or text (length text - 1) 0)

@@ -50,11 +50,16 @@ EndsWell precision measurement tags fields p =
 
 abbrev EndsBadly : Precision → List ℕ → List Tag → List Field × List ℕ → LineFault → Type 0
 EndsBadly precision measurement tags fields fault =
-    EndingFault precision fields.1 fault ⊎ ((time : Option ℤ) × IsEnding precision fields.1 time × IsLong (point_of measurement tags fields.0 time) fault)
+    EndingFault precision fields.1 fault ⊎ ((time : Option ℤ) × IsEnding precision fields.1 time
+    × IsLong (point_of measurement tags fields.0 time) fault)
 
-time_agrees : (precision : Precision) (measurement : List ℕ) (tags : List Tag) (fields : List Field × List ℕ) → Agrees (time_step precision measurement tags fields) (EndsWell precision measurement tags fields) (EndsBadly precision measurement tags fields)
+time_agrees : (precision : Precision) (measurement : List ℕ) (tags : List Tag) (fields : List Field × List ℕ)
+    → Agrees (time_step precision measurement tags fields) (EndsWell precision measurement tags fields)
+    (EndsBadly precision measurement tags fields)
 time_agrees precision measurement tags fields =
-    Agrees-bind (ending_at precision (skip_spaces fields.1)) (λ time. unless_long (point_of measurement tags fields.0 time)) _ _ _ _ (ending_agrees precision fields.1) (λ time is. short_agrees (point_of measurement tags fields.0 time))
+    Agrees-bind (ending_at precision (skip_spaces fields.1))
+    (λ time. unless_long (point_of measurement tags fields.0 time)) _ _ _ _ (ending_agrees precision fields.1)
+    (λ time is. short_agrees (point_of measurement tags fields.0 time))
 
 abbrev fields_step : Precision → List ℕ → List Tag → List ℕ → Result PointView LineFault
 fields_step precision measurement tags text = all_fields_at text >>= time_step precision measurement tags
@@ -65,67 +70,95 @@ FieldsThen precision measurement tags text p =
 
 abbrev FieldsOr : Precision → List ℕ → List Tag → List ℕ → LineFault → Type 0
 FieldsOr precision measurement tags text fault =
-    HasBadField [] text fault ⊎ ((fields : List Field × List ℕ) × HasFields [] text fields × EndsBadly precision measurement tags fields fault)
+    HasBadField [] text fault ⊎ ((fields : List Field × List ℕ) × HasFields [] text fields
+    × EndsBadly precision measurement tags fields fault)
 
-fields_step_agrees : (precision : Precision) (measurement : List ℕ) (tags : List Tag) (text : List ℕ) → Agrees (fields_step precision measurement tags text) (FieldsThen precision measurement tags text) (FieldsOr precision measurement tags text)
+fields_step_agrees : (precision : Precision) (measurement : List ℕ) (tags : List Tag) (text : List ℕ)
+    → Agrees (fields_step precision measurement tags text) (FieldsThen precision measurement tags text)
+    (FieldsOr precision measurement tags text)
 unfolding all_fields_at
 fields_step_agrees precision measurement tags text =
-    Agrees-bind (all_fields_at text) (time_step precision measurement tags) _ _ _ _ (fields_agree MAX_FIELDS [] text refl) (λ fields is. time_agrees precision measurement tags fields)
+    Agrees-bind (all_fields_at text) (time_step precision measurement tags) _ _ _ _
+    (fields_agree MAX_FIELDS [] text refl) (λ fields is. time_agrees precision measurement tags fields)
 
 abbrev IsGap : List ℕ → List ℕ → Type 0
 IsGap gap text = (eqb (length (skip_spaces gap)) 0 ≡ false) × (skip_spaces gap ≡ text)
 
 abbrev IsEnd : List ℕ → LineFault → Type 0
-IsEnd gap fault = ((eqb (length (skip_spaces gap)) 0 ≡ true) × (fault ≡ NoFields)) ⊎ ((eqb (length (skip_spaces gap)) 0 ≡ false) × ⊥)
+IsEnd gap fault = ((eqb (length (skip_spaces gap)) 0 ≡ true) × (fault ≡ NoFields))
+    ⊎ ((eqb (length (skip_spaces gap)) 0 ≡ false) × ⊥)
 
 abbrev gap_step : Precision → List ℕ → List Tag × List ℕ → Result PointView LineFault
 gap_step precision measurement tags = fields_text_of tags.1 >>= fields_step precision measurement tags.0
 
 abbrev GapThen : Precision → List ℕ → List Tag × List ℕ → PointView → Type 0
-GapThen precision measurement tags p = (text : List ℕ) × IsGap tags.1 text × FieldsThen precision measurement tags.0 text p
+GapThen precision measurement tags p = (text : List ℕ) × IsGap tags.1 text
+    × FieldsThen precision measurement tags.0 text p
 
 abbrev GapOr : Precision → List ℕ → List Tag × List ℕ → LineFault → Type 0
-GapOr precision measurement tags fault = IsEnd tags.1 fault ⊎ ((text : List ℕ) × IsGap tags.1 text × FieldsOr precision measurement tags.0 text fault)
+GapOr precision measurement tags fault = IsEnd tags.1 fault
+    ⊎ ((text : List ℕ) × IsGap tags.1 text × FieldsOr precision measurement tags.0 text fault)
 
-gap_agrees : (precision : Precision) (measurement : List ℕ) (tags : List Tag × List ℕ) → Agrees (gap_step precision measurement tags) (GapThen precision measurement tags) (GapOr precision measurement tags)
+gap_agrees : (precision : Precision) (measurement : List ℕ) (tags : List Tag × List ℕ)
+    → Agrees (gap_step precision measurement tags) (GapThen precision measurement tags)
+    (GapOr precision measurement tags)
 gap_agrees precision measurement tags =
     Agrees-bind (fields_text_of tags.1) (fields_step precision measurement tags.0) (IsGap tags.1) (IsEnd tags.1) _ _
-    (Agrees-unless NoFields (eqb (length (skip_spaces tags.1)) 0) (Ok (skip_spaces tags.1)) (λ text. skip_spaces tags.1 ≡ text) (λ fault. ⊥) (λ some. Agrees-ok (skip_spaces tags.1)))
+    (Agrees-unless NoFields (eqb (length (skip_spaces tags.1)) 0) (Ok (skip_spaces tags.1))
+    (λ text. skip_spaces tags.1 ≡ text) (λ fault. ⊥) (λ some. Agrees-ok (skip_spaces tags.1)))
     (λ text is. fields_step_agrees precision measurement tags.0 text)
 
 abbrev tags_step : Precision → List ℕ × List ℕ → Result PointView LineFault
 tags_step precision measurement = all_tags_at measurement.1 >>= gap_step precision measurement.0
 
 abbrev TagsThen : Precision → List ℕ × List ℕ → PointView → Type 0
-TagsThen precision measurement p = (tags : List Tag × List ℕ) × HasTags [] measurement.1 tags × GapThen precision measurement.0 tags p
+TagsThen precision measurement p = (tags : List Tag × List ℕ) × HasTags [] measurement.1 tags
+    × GapThen precision measurement.0 tags p
 
 abbrev TagsOr : Precision → List ℕ × List ℕ → LineFault → Type 0
-TagsOr precision measurement fault = HasBadTag [] measurement.1 fault ⊎ ((tags : List Tag × List ℕ) × HasTags [] measurement.1 tags × GapOr precision measurement.0 tags fault)
+TagsOr precision measurement fault = HasBadTag [] measurement.1 fault
+    ⊎ ((tags : List Tag × List ℕ) × HasTags [] measurement.1 tags × GapOr precision measurement.0 tags fault)
 
-tags_step_agrees : (precision : Precision) (measurement : List ℕ × List ℕ) → Agrees (tags_step precision measurement) (TagsThen precision measurement) (TagsOr precision measurement)
+tags_step_agrees : (precision : Precision) (measurement : List ℕ × List ℕ)
+    → Agrees (tags_step precision measurement) (TagsThen precision measurement) (TagsOr precision measurement)
 unfolding all_tags_at
 tags_step_agrees precision measurement =
-    Agrees-bind (all_tags_at measurement.1) (gap_step precision measurement.0) _ _ _ _ (tags_agree MAX_TAGS [] measurement.1 refl) (λ tags is. gap_agrees precision measurement.0 tags)
+    Agrees-bind (all_tags_at measurement.1) (gap_step precision measurement.0) _ _ _ _
+    (tags_agree MAX_TAGS [] measurement.1 refl) (λ tags is. gap_agrees precision measurement.0 tags)
 
 abbrev Steps : Precision → List ℕ → PointView → Type 0
-Steps precision text p = (measurement : List ℕ × List ℕ) × IsName Measurement text measurement.0 measurement.1 × TagsThen precision measurement p
+Steps precision text p = (measurement : List ℕ × List ℕ) × IsName Measurement text measurement.0 measurement.1
+    × TagsThen precision measurement p
 
 abbrev Stops : Precision → List ℕ → LineFault → Type 0
 Stops precision text fault =
     (HasNoName Measurement text × (fault ≡ NoMeasurement))
-    ⊎ ((measurement : List ℕ × List ℕ) × IsName Measurement text measurement.0 measurement.1 × TagsOr precision measurement fault)
+    ⊎ ((measurement : List ℕ × List ℕ) × IsName Measurement text measurement.0 measurement.1
+    × TagsOr precision measurement fault)
 
-steps_agree : (precision : Precision) (text : List ℕ) → Agrees (point_at precision text) (Steps precision text) (Stops precision text)
+steps_agree : (precision : Precision) (text : List ℕ)
+    → Agrees (point_at precision text) (Steps precision text) (Stops precision text)
 unfolding point_at
 steps_agree precision text =
-    Agrees-bind (name_at Measurement NoMeasurement text) (tags_step precision) _ _ _ _ (name_agrees Measurement NoMeasurement text) (λ measurement is. tags_step_agrees precision measurement)
+    Agrees-bind (name_at Measurement NoMeasurement text) (tags_step precision) _ _ _ _
+    (name_agrees Measurement NoMeasurement text) (λ measurement is. tags_step_agrees precision measurement)
 
 -- the parts that the steps find are those of the grammar
-pub leads_to_tags : (text : List ℕ) → is_nothing text ≡ false → (measurement : List ℕ × List ℕ) → IsName Measurement text measurement.0 measurement.1 → (tags : List Tag × List ℕ) → HasTags [] measurement.1 tags → LeadsToTags text measurement.0 tags.0 tags.1
+pub leads_to_tags : (text : List ℕ) → is_nothing text ≡ false → (measurement : List ℕ × List ℕ)
+    → IsName Measurement text measurement.0 measurement.1 → (tags : List Tag × List ℕ) → HasTags [] measurement.1 tags
+    → LeadsToTags text measurement.0 tags.0 tags.1
 leads_to_tags text said measurement name tags (more, are, ended, all) =
-    record { said = said; tags_text = measurement.1; name = name; are_tags = subst (λ (ts : List Tag). AreTags [] measurement.1 ts tags.1) (sym all) are }
+    record {
+      said = said;
+      tags_text = measurement.1;
+      name = name;
+      are_tags =
+          subst (λ (ts : List Tag). AreTags [] measurement.1 ts tags.1) (sym all) are;
+    }
 
-pub leads_to_fields : (text : List ℕ) → is_nothing text ≡ false → (measurement : List ℕ × List ℕ) → IsName Measurement text measurement.0 measurement.1 → (tags : List Tag × List ℕ) → HasTags [] measurement.1 tags → (fields_text : List ℕ) → IsGap tags.1 fields_text → LeadsToFields text measurement.0 tags.0 fields_text
+pub leads_to_fields : (text : List ℕ) → is_nothing text ≡ false → (measurement : List ℕ × List ℕ)
+    → IsName Measurement text measurement.0 measurement.1 → (tags : List Tag × List ℕ) → HasTags [] measurement.1 tags
+    → (fields_text : List ℕ) → IsGap tags.1 fields_text → LeadsToFields text measurement.0 tags.0 fields_text
 leads_to_fields text said measurement name tags has fields_text gap = record {
   gap = tags.1;
   front = leads_to_tags text said measurement name tags has;
@@ -134,14 +167,30 @@ leads_to_fields text said measurement name tags has fields_text gap = record {
   some = subst (λ (t : List ℕ). 0 < length t) gap.1 (some_left (skip_spaces tags.1) gap.0);
 }
 
-pub are_fields : (text : List ℕ) (fields : List Field × List ℕ) → HasFields [] text fields → AreFields text fields.0 fields.1
+pub are_fields : (text : List ℕ) (fields : List Field × List ℕ) → HasFields [] text fields
+    → AreFields text fields.0 fields.1
 are_fields text fields (front, last, last_text, leading, ends, new, ended, all) =
-    record { front = front; last = last; last_text = last_text; leading = leading; ends = ends; new = new; ended = ended; all = all }
+    record {
+      front = front;
+      last = last;
+      last_text = last_text;
+      leading = leading;
+      ends = ends;
+      new = new;
+      ended =
+          ended;
+      all = all;
+    }
 
-fields_are : (text : List ℕ) (fields : List Field) (rest : List ℕ) → AreFields text fields rest → HasFields [] text (fields, rest)
+fields_are : (text : List ℕ) (fields : List Field) (rest : List ℕ) → AreFields text fields rest
+    → HasFields [] text (fields, rest)
 fields_are text fields rest h = (h.front, h.last, h.last_text, h.leading, h.ends, h.new, h.ended, h.all)
 
-has_parts : (precision : Precision) (text : List ℕ) → is_nothing text ≡ false → (measurement : List ℕ × List ℕ) → IsName Measurement text measurement.0 measurement.1 → (tags : List Tag × List ℕ) → HasTags [] measurement.1 tags → (fields_text : List ℕ) → IsGap tags.1 fields_text → (fields : List Field × List ℕ) → HasFields [] fields_text fields → (time : Option ℤ) → IsEnding precision fields.1 time → HasParts precision text (point_of measurement.0 tags.0 fields.0 time)
+has_parts : (precision : Precision) (text : List ℕ) → is_nothing text ≡ false → (measurement : List ℕ × List ℕ)
+    → IsName Measurement text measurement.0 measurement.1 → (tags : List Tag × List ℕ) → HasTags [] measurement.1 tags
+    → (fields_text : List ℕ) → IsGap tags.1 fields_text → (fields : List Field × List ℕ)
+    → HasFields [] fields_text fields → (time : Option ℤ) → IsEnding precision fields.1 time
+    → HasParts precision text (point_of measurement.0 tags.0 fields.0 time)
 has_parts precision text said measurement name tags has fields_text gap fields has_fields time is_ending = record {
   fields_text = fields_text;
   ending = fields.1;
@@ -154,21 +203,36 @@ has_parts precision text said measurement name tags has fields_text gap fields h
 abbrev pub IsTextPoint : Precision → List ℕ → PointView → Type 0
 IsTextPoint precision text p = HasParts precision text p × (has_long_key p ≡ false)
 
-point_to : (precision : Precision) (text : List ℕ) → is_nothing text ≡ false → (p : PointView) → Steps precision text p → IsTextPoint precision text p
-point_to precision text said p (measurement, name, (tags, has, (fields_text, gap, (fields, has_fields, (time, is_ending, (short, is)))))) =
-    subst (IsTextPoint precision text) is (has_parts precision text said measurement name tags has fields_text gap fields has_fields time is_ending, short)
+point_to : (precision : Precision) (text : List ℕ) → is_nothing text ≡ false → (p : PointView) → Steps precision text p
+    → IsTextPoint precision text p
+point_to precision text said p (
+  measurement,
+  name,
+  (tags, has, (fields_text, gap, (fields, has_fields, (time, is_ending, (short, is))))),
+) =
+    subst (IsTextPoint precision text) is (
+      has_parts precision text said measurement name tags has fields_text gap
+          fields has_fields time is_ending,
+      short,
+    )
 
-tags_are : (text measurement : List ℕ) (tags : List Tag) (rest : List ℕ) → (h : LeadsToTags text measurement tags rest) → begins COMMA rest ≡ false → HasTags [] h.tags_text (tags, rest)
+tags_are : (text measurement : List ℕ) (tags : List Tag) (rest : List ℕ) → (h : LeadsToTags text measurement tags rest)
+    → begins COMMA rest ≡ false → HasTags [] h.tags_text (tags, rest)
 tags_are text measurement tags rest h ended = (tags, h.are_tags, ended, refl)
 
 gap_is : (gap fields_text : List ℕ) → skip_spaces gap ≡ fields_text → 0 < length fields_text → IsGap gap fields_text
-gap_is gap fields_text skipped some = (ap (λ (t : List ℕ). eqb (length t) 0) skipped ∙ not_empty fields_text some, skipped)
+gap_is gap fields_text skipped some = (
+  ap (λ (t : List ℕ). eqb (length t) 0) skipped
+      ∙ not_empty fields_text some,
+  skipped,
+)
   where
     not_empty : (text : List ℕ) → 0 < length text → eqb (length text) 0 ≡ false
     not_empty [] lt = absurd (omega arith)
     not_empty (byte ∷ text) lt = eqb-suc-zero (length text)
 
-point_from : (precision : Precision) (text : List ℕ) (p : PointView) → IsTextPoint precision text p → Steps precision text p
+point_from : (precision : Precision) (text : List ℕ) (p : PointView) → IsTextPoint precision text p
+    → Steps precision text p
 point_from precision text p (h, short) =
     let front = h.front.front in (
       (p.measurement, front.tags_text),
@@ -189,82 +253,144 @@ point_from precision text p (h, short) =
     )
 
 -- a fault that is read, and one of the grammar
-fault_to : (precision : Precision) (text : List ℕ) → is_nothing text ≡ false → (fault : LineFault) → Stops precision text fault → TextFault precision text fault
+fault_to : (precision : Precision) (text : List ℕ) → is_nothing text ≡ false → (fault : LineFault)
+    → Stops precision text fault → TextFault precision text fault
 fault_to precision text said fault (inl h) = no_measurement said h.0 h.1
 fault_to precision text said fault (inr (measurement, name, inl (tags, tag_text, are, bad))) =
-    at_tag measurement.0 tags tag_text (record { said = said; tags_text = measurement.1; name = name; are_tags = are }) bad
+    at_tag measurement.0 tags tag_text (record { said = said; tags_text = measurement.1; name = name; are_tags = are })
+    bad
 fault_to precision text said fault (inr (measurement, name, inr (tags, has, inl (inl h)))) =
-    no_fields measurement.0 tags.0 tags.1 (leads_to_tags text said measurement name tags has) has.2 (none_left (skip_spaces tags.1) h.0) h.1
+    no_fields measurement.0 tags.0 tags.1 (leads_to_tags text said measurement name tags has) has.2
+    (none_left (skip_spaces tags.1) h.0) h.1
 fault_to precision text said fault (inr (measurement, name, inr (tags, has, inl (inr h)))) = absurd h.1
-fault_to precision text said fault (inr (measurement, name, inr (tags, has, inr (fields_text, gap, inl (fields, field_text, leading, bad))))) =
-    at_field measurement.0 tags.0 fields_text fields field_text (leads_to_fields text said measurement name tags has fields_text gap) leading bad
-fault_to precision text said fault (inr (measurement, name, inr (tags, has, inr (fields_text, gap, inr (fields, has_fields, inl bad))))) =
-    at_time measurement.0 tags.0 fields_text fields.0 fields.1 (leads_to_fields text said measurement name tags has fields_text gap) (are_fields fields_text fields has_fields) bad
-fault_to precision text said fault (inr (measurement, name, inr (tags, has, inr (fields_text, gap, inr (fields, has_fields, inr (time, is_ending, inl h)))))) =
-    long_key (point_of measurement.0 tags.0 fields.0 time) (has_parts precision text said measurement name tags has fields_text gap fields has_fields time is_ending) h.0 h.1
-fault_to precision text said fault (inr (measurement, name, inr (tags, has, inr (fields_text, gap, inr (fields, has_fields, inr (time, is_ending, inr h)))))) = absurd h.1
+fault_to precision text said fault (inr (
+  measurement,
+  name,
+  inr (tags, has, inr (fields_text, gap, inl (fields, field_text, leading, bad))),
+)) =
+    at_field measurement.0 tags.0 fields_text fields field_text
+    (leads_to_fields text said measurement name tags has fields_text gap) leading bad
+fault_to precision text said fault (inr (
+  measurement,
+  name,
+  inr (tags, has, inr (fields_text, gap, inr (fields, has_fields, inl bad))),
+)) =
+    at_time measurement.0 tags.0 fields_text fields.0 fields.1
+    (leads_to_fields text said measurement name tags has fields_text gap) (are_fields fields_text fields has_fields)
+    bad
+fault_to precision text said fault (inr (
+  measurement,
+  name,
+  inr (tags, has, inr (fields_text, gap, inr (fields, has_fields, inr (time, is_ending, inl h)))),
+)) =
+    long_key (point_of measurement.0 tags.0 fields.0 time)
+    (has_parts precision text said measurement name tags has fields_text gap fields has_fields time is_ending) h.0
+    h.1
+fault_to precision text said fault (inr (
+  measurement,
+  name,
+  inr (tags, has, inr (fields_text, gap, inr (fields, has_fields, inr (time, is_ending, inr h)))),
+)) = absurd h.1
 
 -- a fault of the fields, or after them, of a text that leads to them
-fault_in_fields : (precision : Precision) (text measurement : List ℕ) (tags : List Tag) (fields_text : List ℕ) (fault : LineFault) → LeadsToFields text measurement tags fields_text → FieldsOr precision measurement tags fields_text fault → Stops precision text fault
+fault_in_fields : (precision : Precision) (text measurement : List ℕ) (tags : List Tag) (fields_text : List ℕ)
+    (fault : LineFault) → LeadsToFields text measurement tags fields_text
+    → FieldsOr precision measurement tags fields_text fault → Stops precision text fault
 fault_in_fields precision text measurement tags fields_text fault h bad =
     inr (
       (measurement, h.front.tags_text),
       h.front.name,
-      inr ((tags, h.gap), tags_are text measurement tags h.gap h.front h.ended, inr (fields_text, gap_is h.gap fields_text h.skipped h.some, bad)),
+      inr (
+        (tags, h.gap),
+        tags_are text measurement tags h.gap h.front h.ended,
+        inr (fields_text, gap_is h.gap fields_text h.skipped h.some, bad),
+      ),
     )
 
-fault_from : (precision : Precision) (text : List ℕ) (fault : LineFault) → TextFault precision text fault → Stops precision text fault
+fault_from : (precision : Precision) (text : List ℕ) (fault : LineFault) → TextFault precision text fault
+    → Stops precision text fault
 fault_from precision text fault (no_measurement said none is) = inl (none, is)
-fault_from precision text fault (at_tag measurement tags tag_text front bad) = inr ((measurement, front.tags_text), front.name, inl (tags, tag_text, front.are_tags, bad))
+fault_from precision text fault (at_tag measurement tags tag_text front bad) =
+    inr ((measurement, front.tags_text), front.name, inl (tags, tag_text, front.are_tags, bad))
 fault_from precision text fault (no_fields measurement tags gap front ended left is) =
-    inr ((measurement, front.tags_text), front.name, inr ((tags, gap), tags_are text measurement tags gap front ended, inl (inl (ap (λ (t : List ℕ). eqb (length t) 0) left, is))))
+    inr (
+      (measurement, front.tags_text),
+      front.name,
+      inr (
+        (tags, gap),
+        tags_are text measurement tags gap front ended,
+        inl (inl (ap (λ (t : List ℕ). eqb (length t) 0) left, is)),
+      ),
+    )
 fault_from precision text fault (at_field measurement tags fields_text fields field_text h leading bad) =
     fault_in_fields precision text measurement tags fields_text fault h (inl (fields, field_text, leading, bad))
 fault_from precision text fault (at_time measurement tags fields_text fields ending h are bad) =
-    fault_in_fields precision text measurement tags fields_text fault h (inr ((fields, ending), fields_are fields_text fields ending are, inl bad))
+    fault_in_fields precision text measurement tags fields_text fault h
+    (inr ((fields, ending), fields_are fields_text fields ending are, inl bad))
 fault_from precision text fault (long_key p h long is) =
     fault_in_fields precision text p.measurement p.tags h.fields_text fault h.front
-    (inr ((p.fields, h.ending), fields_are h.fields_text p.fields h.ending h.are_fields, inr (p.time, h.is_ending, inl (long, is))))
+    (inr (
+      (p.fields, h.ending),
+      fields_are h.fields_text p.fields h.ending h.are_fields,
+      inr (p.time, h.is_ending, inl (long, is)),
+    ))
 
 -- what a text says
 abbrev pub IsTextOf : Precision → List ℕ → LineView → Type 0
 IsTextOf precision text nothing = is_nothing text ≡ true
 IsTextOf precision text (point p) = IsTextPoint precision text p
 
-said_by_parts : (precision : Precision) (text : List ℕ) (p : PointView) → HasParts precision text p → is_nothing text ≡ false
+said_by_parts : (precision : Precision) (text : List ℕ) (p : PointView) → HasParts precision text p
+    → is_nothing text ≡ false
 said_by_parts precision text p h = h.front.front.said
 
-said_by_fault : (precision : Precision) (text : List ℕ) (fault : LineFault) → TextFault precision text fault → is_nothing text ≡ false
+said_by_fault : (precision : Precision) (text : List ℕ) (fault : LineFault) → TextFault precision text fault
+    → is_nothing text ≡ false
 said_by_fault precision text fault (no_measurement said none is) = said
 said_by_fault precision text fault (at_tag measurement tags tag_text front bad) = front.said
 said_by_fault precision text fault (no_fields measurement tags gap front ended left is) = front.said
-said_by_fault precision text fault (at_field measurement tags fields_text fields field_text h leading bad) = h.front.said
+said_by_fault precision text fault (at_field measurement tags fields_text fields field_text h leading bad) =
+    h.front.said
 said_by_fault precision text fault (at_time measurement tags fields_text fields ending h are bad) = h.front.said
 said_by_fault precision text fault (long_key p h long is) = h.front.front.said
 
-nothing_agrees : (precision : Precision) (text : List ℕ) → is_nothing text ≡ true → Agrees {A = LineView} (Ok nothing) (IsTextOf precision text) (TextFault precision text)
-nothing_agrees precision text e = record { holds = e; good = only; bad = λ fault h. absurd (false≢true (sym (said_by_fault precision text fault h) ∙ e)) }
+nothing_agrees : (precision : Precision) (text : List ℕ) → is_nothing text ≡ true
+    → Agrees {A = LineView} (Ok nothing) (IsTextOf precision text) (TextFault precision text)
+nothing_agrees precision text e = record {
+  holds = e;
+  good = only;
+  bad =
+      λ fault h. absurd (false≢true (sym (said_by_fault precision text fault h) ∙ e));
+}
   where
     only : (said : LineView) → IsTextOf precision text said → just_read nothing ≡ Ok said
     only nothing h = refl
     only (point p) h = absurd (false≢true (sym (said_by_parts precision text p h.0) ∙ e))
 
-point_of_text : (precision : Precision) (text : List ℕ) → is_nothing text ≡ false → (said : LineView) → (p : PointView) × Steps precision text p × (point p ≡ said) → IsTextOf precision text said
-point_of_text precision text said view (p, steps, is) = subst (IsTextOf precision text) is (point_to precision text said p steps)
+point_of_text : (precision : Precision) (text : List ℕ) → is_nothing text ≡ false → (said : LineView)
+    → (p : PointView) × Steps precision text p × (point p ≡ said) → IsTextOf precision text said
+point_of_text precision text said view (p, steps, is) =
+    subst (IsTextOf precision text) is (point_to precision text said p steps)
 
-text_point : (precision : Precision) (text : List ℕ) → is_nothing text ≡ false → (said : LineView) → IsTextOf precision text said → (p : PointView) × Steps precision text p × (point p ≡ said)
+text_point : (precision : Precision) (text : List ℕ) → is_nothing text ≡ false → (said : LineView)
+    → IsTextOf precision text said → (p : PointView) × Steps precision text p × (point p ≡ said)
 text_point precision text said nothing h = absurd (false≢true (sym said ∙ h))
 text_point precision text said (point p) h = (p, point_from precision text p h, refl)
 
-stops_of : (precision : Precision) (text : List ℕ) → is_nothing text ≡ false → (fault : LineFault) → Stops precision text fault ⊎ ((p : PointView) × Steps precision text p × ⊥) → TextFault precision text fault
+stops_of : (precision : Precision) (text : List ℕ) → is_nothing text ≡ false → (fault : LineFault)
+    → Stops precision text fault ⊎ ((p : PointView) × Steps precision text p × ⊥) → TextFault precision text fault
 stops_of precision text said fault (inl h) = fault_to precision text said fault h
 stops_of precision text said fault (inr h) = absurd h.2
 
-pub text_agrees : (precision : Precision) (text : List ℕ) → Agrees (text_at precision text) (IsTextOf precision text) (TextFault precision text)
+pub text_agrees : (precision : Precision) (text : List ℕ)
+    → Agrees (text_at precision text) (IsTextOf precision text) (TextFault precision text)
 text_agrees precision text =
     elim (cases_Bool (is_nothing text)) [
       | inl none ↦ rw none (nothing_agrees precision text none)
       | inr said ↦ rw said (
-          Agrees-as (point_at precision text >>= λ p. Ok (point p)) _ _ _ _ (point_of_text precision text said) (text_point precision text said) (stops_of precision text said) (λ fault h. inl (fault_from precision text fault h))
-          (Agrees-bind (point_at precision text) (λ p. Ok (point p)) (Steps precision text) (Stops precision text) (λ p view. point p ≡ view) (λ p fault. ⊥) (steps_agree precision text) (λ p is. Agrees-ok (point p))))
+          Agrees-as (point_at precision text >>= λ p. Ok (point p)) _ _ _ _ (point_of_text precision text said)
+          (text_point precision text said) (stops_of precision text said)
+          (λ fault h. inl (fault_from precision text fault h))
+          (Agrees-bind (point_at precision text) (λ p. Ok (point p)) (Steps precision text) (Stops precision text)
+          (λ p view. point p ≡ view) (λ p fault. ⊥) (steps_agree precision text) (λ p is. Agrees-ok (point p))))
     ]

@@ -11,10 +11,14 @@ keys-append : {X : Type 0} (before more : List (List ℕ × X)) → keys_of (bef
 keys-append {X} before more = map-append (λ (entry : List ℕ × X). entry.0) before more
 
 -- an entry whose key occurs before it makes a repeat, whatever follows it
-pub repeats_key-again : {X : Type 0} (before more : List (List ℕ × X)) (entry : List ℕ × X) → has_key before entry.0 ≡ true → repeats_key ((before ++ entry ∷ []) ++ more) ≡ true
+pub repeats_key-again : {X : Type 0} (before more : List (List ℕ × X)) (entry : List ℕ × X)
+    → has_key before entry.0 ≡ true → repeats_key ((before ++ entry ∷ []) ++ more) ≡ true
 repeats_key-again before more entry h =
-    ap repeats_key (append_assoc before (entry ∷ []) more) ∙ ap has_repeat (keys-append before (entry ∷ more)) ∙ has_repeat-again (keys_of before) (keys_of more) entry.0 h
+    ap repeats_key (append_assoc before (entry ∷ []) more) ∙ ap has_repeat (keys-append before (entry ∷ more))
+    ∙ has_repeat-again (keys_of before) (keys_of more) entry.0 h
 
 -- an entry with a new key makes none
-pub repeats_key-new : {X : Type 0} (before : List (List ℕ × X)) (entry : List ℕ × X) → repeats_key before ≡ false → has_key before entry.0 ≡ false → repeats_key (before ++ entry ∷ []) ≡ false
-repeats_key-new before entry h new = ap has_repeat (keys-append before (entry ∷ [])) ∙ has_repeat-new (keys_of before) entry.0 h new
+pub repeats_key-new : {X : Type 0} (before : List (List ℕ × X)) (entry : List ℕ × X) → repeats_key before ≡ false
+    → has_key before entry.0 ≡ false → repeats_key (before ++ entry ∷ []) ≡ false
+repeats_key-new before entry h new = ap has_repeat (keys-append before (entry ∷ []))
+    ∙ has_repeat-new (keys_of before) entry.0 h new

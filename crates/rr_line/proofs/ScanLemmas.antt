@@ -5,7 +5,8 @@ use Rattle.std.specs.List.{list_any, position_or_len}
 use Rattle.rr_line.specs.Part.{Ends}
 
 -- it ends after a part that has no such byte, where the part ends
-pub part_scanned : (test : ℕ → Bool) (part rest : List ℕ) → list_any test part ≡ false → Ends test rest → position_or_len test (part ++ rest) ≡ length part
+pub part_scanned : (test : ℕ → Bool) (part rest : List ℕ) → list_any test part ≡ false → Ends test rest
+    → position_or_len test (part ++ rest) ≡ length part
 part_scanned test [] [] plain ended = refl
 part_scanned test [] (byte ∷ rest) plain ended = rw ended refl
 part_scanned test (byte ∷ part) rest plain ended =

@@ -30,13 +30,17 @@ not_found key (tag ∷ tags) h =
     rw (differ_turned tag.0 key parts.0, not_found key tags parts.1) refl
 
 -- a new tag takes its place, and those that are there stay
-size-put : (key value : List ℕ) (tags : List Pair) → find bytes_cmp key tags ≡ None → size (put bytes_cmp key value tags) ≡ length (tag_text (key, value)) + size tags
+size-put : (key value : List ℕ) (tags : List Pair) → find bytes_cmp key tags ≡ None
+    → size (put bytes_cmp key value tags) ≡ length (tag_text (key, value)) + size tags
 size-put key value [] h = size-cons (key, value) []
 size-put key value (tag ∷ tags) h =
     go (bytes_cmp key tag.0) h (size-put key value tags)
   where
-    go : (o : Ordering) → cond (is_eq o) (Some tag.1) (find bytes_cmp key tags) ≡ None → (find bytes_cmp key tags ≡ None → size (put bytes_cmp key value tags) ≡ length (tag_text (key, value)) + size tags)
-        → size (by_order o ((key, value) ∷ tag ∷ tags) ((tag.0, value) ∷ tags) (tag ∷ put bytes_cmp key value tags)) ≡ length (tag_text (key, value)) + size (tag ∷ tags)
+    go : (o : Ordering) → cond (is_eq o) (Some tag.1) (find bytes_cmp key tags) ≡ None
+        → (find bytes_cmp key tags ≡ None → size (put bytes_cmp key value tags) ≡ length (tag_text (key, value))
+        + size tags)
+        → size (by_order o ((key, value) ∷ tag ∷ tags) ((tag.0, value) ∷ tags) (tag ∷ put bytes_cmp key value tags))
+        ≡ length (tag_text (key, value)) + size (tag ∷ tags)
     go Less e later = size-cons (key, value) (tag ∷ tags)
     go Equal e later = absurd cc
     go Greater e later = omega (arith, size-cons tag (put bytes_cmp key value tags), later e, size-cons tag tags)
@@ -49,11 +53,14 @@ no_entries : entries (empty {X = List ℕ} {R = bytes_cmp}) ≡ []
 no_entries = no_items _ (sym (len-entries empty) ∙ len-empty bytes_cmp (List ℕ))
 
 -- tags whose keys differ are as long in the order of their keys
-pub size-entries : (tags : List Pair) → has_repeat (keys_of tags) ≡ false → size (entries (from_entries {R = bytes_cmp} tags)) ≡ size tags
+pub size-entries : (tags : List Pair) → has_repeat (keys_of tags) ≡ false
+    → size (entries (from_entries {R = bytes_cmp} tags)) ≡ size tags
 size-entries [] h = ap size no_entries
 size-entries (tag ∷ tags) h =
     let parts = or_parts (is_among tag.0 (keys_of tags)) (has_repeat (keys_of tags)) h in
     let missing : find bytes_cmp tag.0 (entries (from_entries {R = bytes_cmp} tags)) ≡ None =
-    sym (get-entries (from_entries tags) tag.0) ∙ get-from_entries nat_list_cmp_total tags tag.0 ∙ not_found tag.0 tags parts.0 in
-    ap size (entries-insert nat_list_cmp_total (from_entries tags) tag.0 tag.1) ∙ size-put tag.0 tag.1 (entries (from_entries tags)) missing
+    sym (get-entries (from_entries tags) tag.0) ∙ get-from_entries nat_list_cmp_total tags tag.0
+    ∙ not_found tag.0 tags parts.0 in
+    ap size (entries-insert nat_list_cmp_total (from_entries tags) tag.0 tag.1)
+    ∙ size-put tag.0 tag.1 (entries (from_entries tags)) missing
     ∙ ap (λ (n : ℕ). length (tag_text tag) + n) (size-entries tags parts.1) ∙ sym (size-cons tag tags)

@@ -32,15 +32,19 @@ level Equal a b = refl
 level Greater a b = absurd cc
 
 -- a name is below all that rise from one above it
-below_next : (name other : List ℕ) (names : List (List ℕ)) → is_lt (bytes_cmp name other) ≡ true → is_below other names ≡ true → is_below name names ≡ true
+below_next : (name other : List ℕ) (names : List (List ℕ)) → is_lt (bytes_cmp name other) ≡ true
+    → is_below other names ≡ true → is_below name names ≡ true
 below_next name other [] low high = refl
-below_next name other (next ∷ names) low high = ap is_lt (nat_list_cmp_total.trans name other next (less _ low) (less _ high))
+below_next name other (next ∷ names) low high = ap is_lt
+    (nat_list_cmp_total.trans name other next (less _ low) (less _ high))
 
-differs : (name : List ℕ) (names : List (List ℕ)) → is_below name names ≡ true → rise names ≡ true → is_among name names ≡ false
+differs : (name : List ℕ) (names : List (List ℕ)) → is_below name names ≡ true → rise names ≡ true
+    → is_among name names ≡ false
 differs name [] low up = refl
 differs name (other ∷ names) low up =
     let parts = and_parts (is_below other names) (rise names) up in
-    let apart : is_eq (bytes_cmp other name) ≡ false = ap is_eq (nat_list_cmp_total.antisymm other name) ∙ less_differs (bytes_cmp name other) low in
+    let apart : is_eq (bytes_cmp other name) ≡ false = ap is_eq (nat_list_cmp_total.antisymm other name)
+    ∙ less_differs (bytes_cmp name other) low in
     rw (apart, differs name names (below_next name other names low parts.0) parts.1) refl
 
 once_risen : (names : List (List ℕ)) → rise names ≡ true → has_repeat names ≡ false
@@ -64,7 +68,8 @@ sorted_tail x xs h k d low high =
     let n : suc k + 1 ≡ suc (k + 1) = omega arith in
     subst (λ (j : ℕ). keys_lt (get_or (x ∷ xs) j d) (get_or xs k d) ≡ false) n (h (suc k) d (omega arith) (omega arith))
 
-twice_unless_risen : (keys : List Key) → IsSortedBy keys_lt keys → rise (names_of keys) ≡ false → has_repeat (names_of keys) ≡ true
+twice_unless_risen : (keys : List Key) → IsSortedBy keys_lt keys → rise (names_of keys) ≡ false
+    → has_repeat (names_of keys) ≡ true
 twice_unless_risen [] h down = absurd cc
 twice_unless_risen (x ∷ []) h down = absurd cc
 twice_unless_risen (x ∷ y ∷ keys) h down =
@@ -79,12 +84,16 @@ twice_unless_risen (x ∷ y ∷ keys) h down =
     ]
 
 -- keys in another order have a repeat where these have one
-moved : (keys others : List Key) → IsPermutation keys others → has_repeat (names_of keys) ≡ false → has_repeat (names_of others) ≡ false
-moved keys others p h = has_repeat-IsPermutation (names_of keys) (names_of others) (IsPermutation-map (λ (key : Key). key.now) keys others p) h
+moved : (keys others : List Key) → IsPermutation keys others → has_repeat (names_of keys) ≡ false
+    → has_repeat (names_of others) ≡ false
+moved keys others p h = has_repeat-IsPermutation (names_of keys) (names_of others)
+    (IsPermutation-map (λ (key : Key). key.now) keys others p) h
 
 -- a key occurs twice exactly where sorted keys do not rise
-pub repeats_by_sort : (keys sorted : List Key) (risen : Bool) → IsPermutation keys sorted → IsSortedBy keys_lt sorted → risen ≡ rise (names_of sorted) → not risen ≡ has_repeat (names_of keys)
-repeats_by_sort keys sorted true p h e = sym (moved sorted keys (IsPermutation-sym keys sorted p) (once_risen (names_of sorted) (sym e)))
+pub repeats_by_sort : (keys sorted : List Key) (risen : Bool) → IsPermutation keys sorted → IsSortedBy keys_lt sorted
+    → risen ≡ rise (names_of sorted) → not risen ≡ has_repeat (names_of keys)
+repeats_by_sort keys sorted true p h e = sym (moved sorted keys (IsPermutation-sym keys sorted p)
+    (once_risen (names_of sorted) (sym e)))
 repeats_by_sort keys sorted false p h e =
     elim (cases_Bool (has_repeat (names_of keys))) [
       | inl twice ↦ sym twice
@@ -92,7 +101,9 @@ repeats_by_sort keys sorted false p h e =
     ]
 
 -- one key more in front
-pub one_key_more : {X : Type 0} (key_of : X → List ℕ) (keys : List Key) (entries : List X) (count i : ℕ) (item : X) (key : Key) → length keys ≡ MAX_FIELDS → length entries ≤ MAX_FIELDS → count ≡ i → i < length entries → item ≡ get_or entries i item → key.now ≡ key_of item
+pub one_key_more : {X : Type 0} (key_of : X → List ℕ) (keys : List Key) (entries : List X) (count i : ℕ) (item : X)
+    (key : Key) → length keys ≡ MAX_FIELDS → length entries ≤ MAX_FIELDS → count ≡ i → i < length entries
+    → item ≡ get_or entries i item → key.now ≡ key_of item
     → map (λ (key : Key). key.now) (take count keys) ≡ map key_of (take i entries)
     → map (λ (key : Key). key.now) (take (count + 1) (set keys count key)) ≡ map key_of (take (i + 1) entries)
 one_key_more key_of keys entries count i item key long few counted lt is key_is front =

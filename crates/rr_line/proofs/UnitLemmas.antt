@@ -12,7 +12,8 @@ use Rattle.rr_key.proofs.Special.{special_no_backslash}
 use Rattle.rr_line.specs.Part.{IsName, HasNoName}
 
 -- a name ends before a special byte
-stops : (class : Class) (name : List ℕ) (byte : ℕ) (rest : List ℕ) → name_len class (name ++ byte ∷ rest) ≡ length name → is_special class byte ≡ true
+stops : (class : Class) (name : List ℕ) (byte : ℕ) (rest : List ℕ) → name_len class (name ++ byte ∷ rest) ≡ length name
+    → is_special class byte ≡ true
 stops class [] byte [] e =
     elim (cases_Bool (is_special class byte)) [
       | inl special ↦ special
@@ -44,11 +45,13 @@ stops class (b ∷ c ∷ name) byte rest e =
     ]
 
 -- and no backslash of the name takes it
-behind_special : (class : Class) (c : ℕ) (name : List ℕ) → is_special class c ≡ true → ends_in_backslash name ≡ false → ends_in_backslash (c ∷ name) ≡ false
+behind_special : (class : Class) (c : ℕ) (name : List ℕ) → is_special class c ≡ true → ends_in_backslash name ≡ false
+    → ends_in_backslash (c ∷ name) ≡ false
 behind_special class c [] special e = special_no_backslash class c special
 behind_special class c (d ∷ ds) special e = e
 
-ends_plainly : (class : Class) (name : List ℕ) (byte : ℕ) (rest : List ℕ) → is_special class byte ≡ true → name_len class (name ++ byte ∷ rest) ≡ length name → ends_in_backslash name ≡ false
+ends_plainly : (class : Class) (name : List ℕ) (byte : ℕ) (rest : List ℕ) → is_special class byte ≡ true
+    → name_len class (name ++ byte ∷ rest) ≡ length name → ends_in_backslash name ≡ false
 ends_plainly class [] byte rest special e = refl
 ends_plainly class (b ∷ []) byte rest special e =
     elim (cases_Bool (eqb b 92)) [
@@ -57,30 +60,48 @@ ends_plainly class (b ∷ []) byte rest special e =
     ]
 ends_plainly class (b ∷ c ∷ name) byte rest special e =
     elim (cases_Bool (eqb b 92 && is_special class c)) [
-      | inl pair ↦ behind_special class c name (both_true (eqb b 92) (is_special class c) pair).1 (ends_plainly class name byte rest special (let more = rw pair at e in omega (arith, more)))
+      | inl pair ↦ behind_special class c name (both_true (eqb b 92) (is_special class c) pair).1
+          (ends_plainly class name byte rest special (let more = rw pair at e in omega (arith, more)))
       | inr apart ↦ elim (cases_Bool (is_special class b)) [
         | inl special_b ↦ absurd (let none = rw (apart, special_b) at e in omega (arith, none))
-        | inr plain ↦ ends_plainly class (c ∷ name) byte rest special (let more = rw (apart, plain) at e in omega (arith, more))
+        | inr plain ↦ ends_plainly class (c ∷ name) byte rest special
+            (let more = rw (apart, plain) at e in omega (arith, more))
       ]
     ]
 
 -- the scan of a name ends where its units do
-pub scanned : (class : Class) (text name rest : List ℕ) → IsName class text name rest → name_len class text ≡ length name
+pub scanned : (class : Class) (text name rest : List ℕ) → IsName class text name rest
+    → name_len class text ≡ length name
 scanned class text name rest h =
-    ap (name_len class) (h.whole ∙ ap (λ (front : List ℕ). front ++ rest) h.units) ∙ name_len-escape class h.bytes rest h.ended ∙ ap length (sym h.units)
+    ap (name_len class) (h.whole ∙ ap (λ (front : List ℕ). front ++ rest) h.units)
+    ∙ name_len-escape class h.bytes rest h.ended ∙ ap length (sym h.units)
 
 -- what the scan of a name passed is units, and it ends where no unit follows
-pub is_name_scanned : (class : Class) (text name rest : List ℕ) → 0 < length name → name_len class text ≡ length name → text ≡ name ++ rest → IsName class text name rest
+pub is_name_scanned : (class : Class) (text name rest : List ℕ) → 0 < length name → name_len class text ≡ length name
+    → text ≡ name ++ rest → IsName class text name rest
 is_name_scanned class text name rest some len whole =
-    let front : take (name_len class text) text ≡ name = ap (λ (n : ℕ). take n text) len ∙ ap (take (length name)) whole ∙ take-append_seam name rest in
-    let units : name ≡ escape class (unescape class name) = sym (ap (λ (l : List ℕ). escape class (unescape class l)) (sym front) ∙ escape-unescape class text ∙ front) in
-    record { bytes = unescape class name; some = some; units = units; ended = ended rest (ap (name_len class) (sym whole) ∙ len) units; whole = whole }
+    let front : take (name_len class text) text ≡ name = ap (λ (n : ℕ). take n text) len ∙ ap (take (length name)) whole
+    ∙ take-append_seam name rest in
+    let units : name ≡ escape class (unescape class name) =
+    sym (ap (λ (l : List ℕ). escape class (unescape class l)) (sym front) ∙ escape-unescape class text ∙ front) in
+    record {
+      bytes = unescape class name;
+      some = some;
+      units = units;
+      ended =
+          ended rest (ap (name_len class) (sym whole) ∙ len) units;
+      whole = whole;
+    }
   where
-    ended : (rest : List ℕ) → name_len class (name ++ rest) ≡ length name → name ≡ escape class (unescape class name) → MayFollow class (unescape class name) rest
+    ended : (rest : List ℕ) → name_len class (name ++ rest) ≡ length name → name ≡ escape class (unescape class name)
+        → MayFollow class (unescape class name) rest
     ended [] len units = tt
     ended (byte ∷ rest) len units =
-        let special = stops class name byte rest len in
-        (special, sym (ends-escape class (unescape class name)) ∙ ap ends_in_backslash (sym units) ∙ ends_plainly class name byte rest special len)
+        let special = stops class name byte rest len in (
+          special,
+          sym (ends-escape class (unescape class name)) ∙ ap ends_in_backslash (sym units)
+              ∙ ends_plainly class name byte rest special len,
+        )
 
 -- nothing is scanned exactly where there is no name
 pub no_name_scanned : (class : Class) (text : List ℕ) → name_len class text ≡ 0 → HasNoName class text

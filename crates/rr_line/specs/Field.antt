@@ -46,7 +46,11 @@ pub record AreFields (text : List ℕ) (fields : List Field) (rest : List ℕ) :
 -- why no field is read after the fields before
 pub data FieldFault (before : List Field) (text : List ℕ) (fault : LineFault) : Type 0 where
   no_key : HasNoName Other text → fault ≡ MissingFieldKey → FieldFault before text fault
-  no_value : (key rest : List ℕ) → IsName Other text key rest → begins EQUALS rest ≡ false → fault ≡ MissingFieldValue → FieldFault before text fault
-  bad_value : (key value_text : List ℕ) → IsName Other text key (EQUALS ∷ value_text) → ValueFault value_text fault → FieldFault before text fault
-  too_many : (field : Field) (rest : List ℕ) → IsField text field rest → length before ≡ MAX_FIELDS → fault ≡ TooManyFields → FieldFault before text fault
-  repeated : (field : Field) (rest : List ℕ) → IsField text field rest → length before < MAX_FIELDS → has_key before field.0 ≡ true → fault ≡ DuplicateField → FieldFault before text fault
+  no_value : (key rest : List ℕ) → IsName Other text key rest → begins EQUALS rest ≡ false → fault ≡ MissingFieldValue
+      → FieldFault before text fault
+  bad_value : (key value_text : List ℕ) → IsName Other text key (EQUALS ∷ value_text) → ValueFault value_text fault
+      → FieldFault before text fault
+  too_many : (field : Field) (rest : List ℕ) → IsField text field rest → length before ≡ MAX_FIELDS
+      → fault ≡ TooManyFields → FieldFault before text fault
+  repeated : (field : Field) (rest : List ℕ) → IsField text field rest → length before < MAX_FIELDS
+      → has_key before field.0 ≡ true → fault ≡ DuplicateField → FieldFault before text fault

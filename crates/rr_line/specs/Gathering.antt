@@ -59,6 +59,7 @@ unfoldable pub all_gathered_fields : List ℕ → Gathered Field
 all_gathered_fields text = gathered_fields MAX_FIELDS [] text
 
 -- what was gathered and what follows it, unless a key occurs twice
-abbrev pub without_repeat : {V : Type 0} → LineFault → Gathered (List ℕ × V) → Result (List (List ℕ × V) × List ℕ) LineFault
+abbrev pub without_repeat : {V : Type 0} → LineFault → Gathered (List ℕ × V)
+    → Result (List (List ℕ × V) × List ℕ) LineFault
 without_repeat fault gathered =
     unless fault (repeats_key gathered.0) (gathered.1 >>= λ rest. Ok (gathered.0, rest))

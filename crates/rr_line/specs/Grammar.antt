@@ -55,12 +55,21 @@ IsNothing line = is_nothing (content line) ≡ true
 
 -- why a text is refused: good parts are followed by one that is not
 pub data TextFault (precision : Precision) (text : List ℕ) (fault : LineFault) : Type 0 where
-  no_measurement : is_nothing text ≡ false → HasNoName Measurement text → fault ≡ NoMeasurement → TextFault precision text fault
-  at_tag : (measurement : List ℕ) (tags : List Tag) (tag_text : List ℕ) → LeadsToTags text measurement tags (COMMA ∷ tag_text) → TagFault tags tag_text fault → TextFault precision text fault
-  no_fields : (measurement : List ℕ) (tags : List Tag) (gap : List ℕ) → LeadsToTags text measurement tags gap → begins COMMA gap ≡ false → skip_spaces gap ≡ [] → fault ≡ NoFields → TextFault precision text fault
-  at_field : (measurement : List ℕ) (tags : List Tag) (fields_text : List ℕ) (fields : List Field) (field_text : List ℕ) → LeadsToFields text measurement tags fields_text → LeadTo [] fields_text fields field_text → FieldFault fields field_text fault → TextFault precision text fault
-  at_time : (measurement : List ℕ) (tags : List Tag) (fields_text : List ℕ) (fields : List Field) (ending : List ℕ) → LeadsToFields text measurement tags fields_text → AreFields fields_text fields ending → EndingFault precision ending fault → TextFault precision text fault
-  long_key : (p : PointView) → HasParts precision text p → has_long_key p ≡ true → fault ≡ KeyTooLong → TextFault precision text fault
+  no_measurement : is_nothing text ≡ false → HasNoName Measurement text → fault ≡ NoMeasurement
+      → TextFault precision text fault
+  at_tag : (measurement : List ℕ) (tags : List Tag) (tag_text : List ℕ)
+      → LeadsToTags text measurement tags (COMMA ∷ tag_text) → TagFault tags tag_text fault
+      → TextFault precision text fault
+  no_fields : (measurement : List ℕ) (tags : List Tag) (gap : List ℕ) → LeadsToTags text measurement tags gap
+      → begins COMMA gap ≡ false → skip_spaces gap ≡ [] → fault ≡ NoFields → TextFault precision text fault
+  at_field : (measurement : List ℕ) (tags : List Tag) (fields_text : List ℕ) (fields : List Field) (field_text : List ℕ)
+      → LeadsToFields text measurement tags fields_text → LeadTo [] fields_text fields field_text
+      → FieldFault fields field_text fault → TextFault precision text fault
+  at_time : (measurement : List ℕ) (tags : List Tag) (fields_text : List ℕ) (fields : List Field) (ending : List ℕ)
+      → LeadsToFields text measurement tags fields_text → AreFields fields_text fields ending
+      → EndingFault precision ending fault → TextFault precision text fault
+  long_key : (p : PointView) → HasParts precision text p → has_long_key p ≡ true → fault ≡ KeyTooLong
+      → TextFault precision text fault
 
 -- a line has a fault
 abbrev pub HasFault : Precision → List ℕ → LineFault → Type 0

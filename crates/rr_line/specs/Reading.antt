@@ -85,7 +85,8 @@ all_fields_at text = fields_at MAX_FIELDS [] text
 
 -- a time in nanoseconds
 abbrev pub time_at : Precision → List ℕ → Result ℤ LineFault
-time_at precision word = unless TimeRange (not (fits_i64 (nanoseconds precision word))) (Ok (nanoseconds precision word))
+time_at precision word = unless TimeRange (not (fits_i64 (nanoseconds precision word)))
+    (Ok (nanoseconds precision word))
 
 -- the time of a word, with nothing but spaces after it
 abbrev pub word_time : Precision → List ℕ → List ℕ → Result ℤ LineFault
@@ -105,7 +106,8 @@ body_at precision front gap = do
   fields_text ← fields_text_of gap
   fields ← all_fields_at fields_text
   time ← ending_at precision (skip_spaces fields.1)
-  unless KeyTooLong (list_any (λ field. nat_lt MAX_KEY_TEXT (front + 1 + length field.0)) fields.0) (Ok (fields.0, time))
+  unless KeyTooLong (list_any (λ field. nat_lt MAX_KEY_TEXT (front + 1 + length field.0)) fields.0)
+      (Ok (fields.0, time))
 
 -- a point, unless a key of it is too long
 abbrev pub unless_long : PointView → Result PointView LineFault

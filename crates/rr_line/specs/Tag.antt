@@ -39,12 +39,16 @@ AreTags before text (tag ∷ tags) rest =
 -- a key is at the front, and no value follows it
 pub data HasNoTagValue (text : List ℕ) : Type 0 where
   without_equals : (key rest : List ℕ) → IsName Other text key rest → begins EQUALS rest ≡ false → HasNoTagValue text
-  without_name : (key value_text : List ℕ) → IsName Other text key (EQUALS ∷ value_text) → HasNoName Other value_text → HasNoTagValue text
-  before_equals : (key value_text value rest : List ℕ) → IsName Other text key (EQUALS ∷ value_text) → IsName Other value_text value rest → begins EQUALS rest ≡ true → HasNoTagValue text
+  without_name : (key value_text : List ℕ) → IsName Other text key (EQUALS ∷ value_text) → HasNoName Other value_text
+      → HasNoTagValue text
+  before_equals : (key value_text value rest : List ℕ) → IsName Other text key (EQUALS ∷ value_text)
+      → IsName Other value_text value rest → begins EQUALS rest ≡ true → HasNoTagValue text
 
 -- why no tag is read after a comma and the tags before
 pub data TagFault (before : List Tag) (text : List ℕ) (fault : LineFault) : Type 0 where
   no_key : HasNoName Other text → fault ≡ MissingTagKey → TagFault before text fault
   no_value : HasNoTagValue text → fault ≡ MissingTagValue → TagFault before text fault
-  too_many : (tag : Tag) (rest : List ℕ) → IsTag text tag rest → length before ≡ MAX_TAGS → fault ≡ TooManyTags → TagFault before text fault
-  repeated : (tag : Tag) (rest : List ℕ) → IsTag text tag rest → length before < MAX_TAGS → has_key before tag.0 ≡ true → fault ≡ DuplicateTag → TagFault before text fault
+  too_many : (tag : Tag) (rest : List ℕ) → IsTag text tag rest → length before ≡ MAX_TAGS → fault ≡ TooManyTags
+      → TagFault before text fault
+  repeated : (tag : Tag) (rest : List ℕ) → IsTag text tag rest → length before < MAX_TAGS → has_key before tag.0 ≡ true
+      → fault ≡ DuplicateTag → TagFault before text fault

@@ -24,7 +24,8 @@ nanoseconds precision digits = signed_digits_value 10 digits *ℤ pos (unit prec
 -- the same, if the text is such digits and the nanoseconds are in i64
 abbrev pub time_of : Precision → List ℕ → Option ℤ
 time_of precision text =
-    if is_digits (unsigned text) && fits_i64 (nanoseconds precision text) then Some (nanoseconds precision text) else None
+    if is_digits (unsigned text) && fits_i64 (nanoseconds precision text) then Some (nanoseconds precision text) else
+    None
 
 -- whether a byte ends a word
 abbrev pub ends_word : ℕ → Bool
@@ -56,5 +57,8 @@ IsEnding precision text (Some time) =
 
 -- why the ending is refused
 pub data EndingFault (precision : Precision) (text : List ℕ) (fault : LineFault) : Type 0 where
-  bad_time : (word rest : List ℕ) → IsWord text word rest → (is_digits (unsigned word) ≡ false) ⊎ (0 < length (skip_spaces rest)) → fault ≡ BadTime → EndingFault precision text fault
-  out_of_range : (word : List ℕ) → IsTimeText text word → fits_i64 (nanoseconds precision word) ≡ false → fault ≡ TimeRange → EndingFault precision text fault
+  bad_time : (word rest : List ℕ) → IsWord text word rest
+      → (is_digits (unsigned word) ≡ false) ⊎ (0 < length (skip_spaces rest)) → fault ≡ BadTime
+      → EndingFault precision text fault
+  out_of_range : (word : List ℕ) → IsTimeText text word → fits_i64 (nanoseconds precision word) ≡ false
+      → fault ≡ TimeRange → EndingFault precision text fault

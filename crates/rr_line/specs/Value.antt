@@ -162,5 +162,6 @@ pub record IsQuoted (text rest : List ℕ) : Type 0 where
 -- why the value is refused
 pub data ValueFault (text : List ℕ) (fault : LineFault) : Type 0 where
   a_text : (rest : List ℕ) → IsQuoted text rest → EndsValue rest → fault ≡ TextField → ValueFault text fault
-  no_text : begins QUOTE text ≡ true → ((rest : List ℕ) → IsQuoted text rest → EndsValue rest → ⊥) → fault ≡ BadField → ValueFault text fault
+  no_text : begins QUOTE text ≡ true → ((rest : List ℕ) → IsQuoted text rest → EndsValue rest → ⊥) → fault ≡ BadField
+      → ValueFault text fault
   unquoted : (value rest : List ℕ) → IsBare text value rest → value_of value ≡ Err fault → ValueFault text fault

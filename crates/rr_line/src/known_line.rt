@@ -20,14 +20,14 @@ use rr_text::limits::MAX_FIELDS;
 
 /// A line that is read field by field, each as a sample of the series that a key text names.
 ///
-/// [`first_field`](KnownLine::first_field) begins it, [`next_field`](KnownLine::next_field) goes on,
-/// and [`time`](KnownLine::time) ends it: the line then says these samples, in this order, and no
-/// others. Each may answer `None`, which says nothing of the line, as that of
+/// [`first_field`](KnownLine::first_field) begins it, [`next_field`](KnownLine::next_field) goes
+/// on, and [`time`](KnownLine::time) ends it: the line then says these samples, in this order, and
+/// no others. Each may answer `None`, which says nothing of the line, as that of
 /// [`read_known`](crate::read_known). It also comes if the keys of the fields don't rise, byte by
 /// byte, as most senders sort them, or if one of them has a space.
 ///
-/// The cost of a field is that of comparing its key text, twice, and of reading the value. No memory
-/// is taken.
+/// The cost of a field is that of comparing its key text, twice, and of reading the value. No
+/// memory is taken.
 #[derive(Clone, Copy, Debug)]
 pub struct KnownLine<'l, 'k> {
     /// What precedes the field in each key text.
@@ -42,8 +42,8 @@ pub struct KnownLine<'l, 'k> {
 impl<'l, 'k> KnownLine<'l, 'k> {
     ghost use Rattle.rr_line.specs.KnownLine.{HasRead};
 
-    /// The value of the first field, if the line begins with the key text of its series. The cost is a comparison of the
-    /// key text, and a pass over the value.
+    /// The value of the first field, if the line begins with the key text of its series. The cost
+    /// is a comparison of the key text, and a pass over the value.
     pub fn first_field(line: &'l [u8], key: &'k [u8]) -> Option<(i64, KnownLine<'l, 'k>)>
         requires { IsKeyText key.now }
         ensures { IfSome result (λ read. HasRead line.now ((key.now, read.0) ∷ []) read.1) }
@@ -59,7 +59,8 @@ impl<'l, 'k> KnownLine<'l, 'k> {
         Some((value, known))
     }
 
-    /// The value of the next field, if the key text of its series is this one, at the cost of the first.
+    /// The value of the next field, if the key text of its series is this one, at the cost of the
+    /// first.
     pub fn next_field(&self, key: &'k [u8]) -> Option<(i64, KnownLine<'l, 'k>)>
         requires { IsKeyText key.now }
         ensures { (line : List ℕ) (samples : List Sample) → HasRead line samples self.now

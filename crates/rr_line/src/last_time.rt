@@ -11,8 +11,8 @@ use arrayvec::ArrayVec;
 /// The most bytes that are kept: a space, a minus and the digits of an `i64`, and some more.
 const MAX_KEPT: usize = 24;
 
-/// The time that was read last, with the bytes that wrote it: a line that ends in the same bytes has
-/// the same time, which isn't read again.
+/// The time that was read last, with the bytes that wrote it: a line that ends in the same bytes
+/// has the same time, which isn't read again.
 ///
 /// It takes no memory. An ending that is longer than a time needs is read each time.
 #[derive(Debug, Drop)]

@@ -32,7 +32,8 @@ use std::alloc::Global;
 ///
 /// The line's time is in the unit of `precision`, the point's in nanoseconds. The rules are those
 /// of the "InfluxDB line protocol reference" and of the crate's page; of the faults of a line, the
-/// first one as it is read is answered. `Memory` is answered where memory runs out, and there alone.
+/// first one as it is read is answered. `Memory` is answered where memory runs out, and there
+/// alone.
 ///
 /// The cost is that of a few passes over the line, and of comparing the keys of its tags, and those
 /// of its fields, pair by pair; where there are more than 16 they are sorted. Memory is taken for

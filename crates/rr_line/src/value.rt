@@ -204,7 +204,8 @@ fn after_quote(text: &[u8]) -> Option<&[u8]>
     None
 }
 
-/// What follows a byte of a text, and the quote or the backslash that it takes if it is a backslash.
+/// What follows a byte of a text, and the quote or the backslash that it takes if it is a
+/// backslash.
 fn after_unit(first: u8, rest: &[u8]) -> &[u8]
     ensures value { result.now ≡ after_unit first rest.now }
     ensures shorter { length result.now ≤ length rest.now }

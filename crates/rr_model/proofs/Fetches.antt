@@ -20,7 +20,8 @@ rows_are_of_the_live s k l key archive slot f same =
     answer f ms = if is_known_enough s archive (known_places s archive ms) then of_marks f ms else None
 
 pub fetches_are_of_the_live : FetchesAreOfTheLive
-fetches_are_of_the_live s k l q same = λ i. answer_text s (λ slot. rows_are_of_the_live s k l q.key q.archive slot q.function same i) q
+fetches_are_of_the_live s k l q same = λ i. answer_text s
+    (λ slot. rows_are_of_the_live s k l q.key q.archive slot q.function same i) q
 
 pub live_answers_alike : LiveAnswersAlike
 live_answers_alike s k q is = fetches_are_of_the_live s (live s k) k q (live_is_live s k is)

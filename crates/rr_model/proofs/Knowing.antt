@@ -20,7 +20,8 @@ use Rattle.rr_model.proofs.Horizon.{live_horizon}
 -- ---- marks
 
 pub same_knowledge : (k l : Knowledge) → ((m : Mark) → knows k m ≡ knows l m) → k ≡ l
-same_knowledge k l is = same_map mark_cmp_total mark_cmp-IsAntisymmetric k l (λ m. marked-is_some (get k m) ∙ ap marked (is m) ∙ sym (marked-is_some (get l m)))
+same_knowledge k l is = same_map mark_cmp_total mark_cmp-IsAntisymmetric k l
+    (λ m. marked-is_some (get k m) ∙ ap marked (is m) ∙ sym (marked-is_some (get l m)))
 
 pub is_in-keys_of : (k : Knowledge) (m : Mark) → is_in mark_cmp (keys k) m ≡ knows k m
 is_in-keys_of k m = is_in-keys mark_cmp_total mark_cmp-IsAntisymmetric k m
@@ -34,16 +35,22 @@ is_some_kept true (Some v) = refl
 is_some_kept false None = refl
 is_some_kept false (Some v) = refl
 
-pub knows-retain : (k : Knowledge) (test : Mark → Bool) (m : Mark) → knows (retain_keys k test) m ≡ (knows k m && test m)
-knows-retain k test m = ap is_some (get-retain_keys k test m (λ x e. ap test (sym (mark_cmp-IsAntisymmetric m x e)))) ∙ is_some_kept (test m) (get k m)
+pub knows-retain : (k : Knowledge) (test : Mark → Bool) (m : Mark)
+    → knows (retain_keys k test) m ≡ (knows k m && test m)
+knows-retain k test m = ap is_some (get-retain_keys k test m (λ x e. ap test (sym (mark_cmp-IsAntisymmetric m x e))))
+    ∙ is_some_kept (test m) (get k m)
 
 pub knows-set_of : (ms : List Mark) (m : Mark) → knows (set_of ms) m ≡ is_in mark_cmp ms m
-knows-set_of ms m = ap is_some (get-map_of mark_cmp_total mark_cmp-IsAntisymmetric ms (λ _. Some tt) m) ∙ is_some-marked (is_in mark_cmp ms m)
+knows-set_of ms m = ap is_some (get-map_of mark_cmp_total mark_cmp-IsAntisymmetric ms (λ _. Some tt) m)
+    ∙ is_some-marked (is_in mark_cmp ms m)
 
 pub knows-union : (k l : Knowledge) (m : Mark) → knows (union k l) m ≡ (knows k m || knows l m)
-knows-union k l m = knows-set_of (keys k ++ keys l) m ∙ is_in-append mark_cmp_total mark_cmp-IsAntisymmetric (keys k) (keys l) m ∙ (λ i. is_in-keys_of k m i || is_in-keys_of l m i)
+knows-union k l m = knows-set_of (keys k ++ keys l) m
+    ∙ is_in-append mark_cmp_total mark_cmp-IsAntisymmetric (keys k) (keys l) m
+    ∙ (λ i. is_in-keys_of k m i || is_in-keys_of l m i)
 
-pub knows-with_marks : (k : Knowledge) (ms : List Mark) (m : Mark) → knows (with_marks k ms) m ≡ (knows k m || is_in mark_cmp ms m)
+pub knows-with_marks : (k : Knowledge) (ms : List Mark) (m : Mark)
+    → knows (with_marks k ms) m ≡ (knows k m || is_in mark_cmp ms m)
 knows-with_marks k ms m = knows-union k (set_of ms) m ∙ ap (λ b. knows k m || b) (knows-set_of ms m)
 
 -- what knows no mark lists none
@@ -57,11 +64,13 @@ no_keys k none = nothing_in (keys k) (λ m. is_in-keys_of k m ∙ none m)
 -- ---- unions
 
 pub union_comm : UnionIsCommutative
-union_comm k l = same_knowledge (union k l) (union l k) (λ m. knows-union k l m ∙ or_comm (knows k m) (knows l m) ∙ sym (knows-union l k m))
+union_comm k l = same_knowledge (union k l) (union l k)
+    (λ m. knows-union k l m ∙ or_comm (knows k m) (knows l m) ∙ sym (knows-union l k m))
 
 pub union_assoc : UnionIsAssociative
 union_assoc j k l = same_knowledge (union (union j k) l) (union j (union k l)) (λ m.
-    knows-union (union j k) l m ∙ ap (λ b. b || knows l m) (knows-union j k m) ∙ or_assoc (knows j m) (knows k m) (knows l m)
+    knows-union (union j k) l m ∙ ap (λ b. b || knows l m) (knows-union j k m)
+    ∙ or_assoc (knows j m) (knows k m) (knows l m)
     ∙ sym (knows-union j (union k l) m ∙ ap (λ b. knows j m || b) (knows-union k l m)))
 
 pub union_itself : UnionIsIdempotent
@@ -71,7 +80,8 @@ pub with_marks-nil : (k : Knowledge) → with_marks k [] ≡ k
 with_marks-nil k = same_knowledge (with_marks k []) k (λ m. knows-with_marks k [] m ∙ or-false (knows k m))
 
 -- to know marks too is to know one of them too, and then the others
-pub with_marks-cons : (k : Knowledge) (m : Mark) (ms : List Mark) → with_marks k (m ∷ ms) ≡ with_marks (with_marks k (m ∷ [])) ms
+pub with_marks-cons : (k : Knowledge) (m : Mark) (ms : List Mark)
+    → with_marks k (m ∷ ms) ≡ with_marks (with_marks k (m ∷ [])) ms
 with_marks-cons k m ms = sym (same_knowledge (with_marks (with_marks k (m ∷ [])) ms) (with_marks k (m ∷ ms)) (λ y.
     knows-with_marks (with_marks k (m ∷ [])) ms y ∙ ap (λ b. b || is_in mark_cmp ms y) (knows-with_marks k (m ∷ []) y)
     ∙ sym (knows-with_marks k (m ∷ ms) y ∙ regroup (knows k y) (eq_by_cmp mark_cmp y m) (is_in mark_cmp ms y))))
@@ -83,26 +93,35 @@ with_marks-cons k m ms = sym (same_knowledge (with_marks (with_marks k (m ∷ []
 
 -- ---- names
 
-pub is_in-names_of : (s : Layout) (ms : List Mark) (n : CellName) → is_in cell_name_cmp (names_of s ms) n ≡ list_any (λ m. eq_by_cmp cell_name_cmp n (name_of s m)) ms
+pub is_in-names_of : (s : Layout) (ms : List Mark) (n : CellName)
+    → is_in cell_name_cmp (names_of s ms) n ≡ list_any (λ m. eq_by_cmp cell_name_cmp n (name_of s m)) ms
 is_in-names_of s [] n = refl
 is_in-names_of s (m ∷ ms) n = ap (λ b. eq_by_cmp cell_name_cmp n (name_of s m) || b) (is_in-names_of s ms n)
 
-pub name_from_tie : (s : Layout) (m : Mark) (n : CellName) → eq_by_cmp cell_name_cmp (name_of s m) n ≡ true → name_of s m ≡ n
+pub name_from_tie : (s : Layout) (m : Mark) (n : CellName) → eq_by_cmp cell_name_cmp (name_of s m) n ≡ true
+    → name_of s m ≡ n
 name_from_tie s m n e = same_from_tie cell_name_cmp_total cell_name_cmp-IsAntisymmetric (name_of s m) n e
 
-names_of_union : (s : Layout) (k l : Knowledge) (n : CellName) → is_in cell_name_cmp (names_of s (keys (union k l))) n ≡ is_in cell_name_cmp (names_of s (keys k) ++ names_of s (keys l)) n
+names_of_union : (s : Layout) (k l : Knowledge) (n : CellName)
+    → is_in cell_name_cmp (names_of s (keys (union k l))) n
+    ≡ is_in cell_name_cmp (names_of s (keys k) ++ names_of s (keys l)) n
 names_of_union s k l n =
     let test : Mark → Bool = λ m. eq_by_cmp cell_name_cmp n (name_of s m) in
     is_in-names_of s (keys (union k l)) n
-    ∙ any_by_members mark_cmp_total mark_cmp-IsAntisymmetric test (keys (union k l)) (keys k ++ keys l) (λ m. is_in-keys_of (union k l) m ∙ knows-set_of (keys k ++ keys l) m)
+    ∙ any_by_members mark_cmp_total mark_cmp-IsAntisymmetric test (keys (union k l)) (keys k ++ keys l)
+    (λ m. is_in-keys_of (union k l) m ∙ knows-set_of (keys k ++ keys l) m)
     ∙ list_any-append test (keys k) (keys l)
-    ∙ sym (is_in-append cell_name_cmp_total cell_name_cmp-IsAntisymmetric (names_of s (keys k)) (names_of s (keys l)) n ∙ (λ i. is_in-names_of s (keys k) n i || is_in-names_of s (keys l) n i))
+    ∙ sym (is_in-append cell_name_cmp_total cell_name_cmp-IsAntisymmetric (names_of s (keys k)) (names_of s (keys l)) n
+    ∙ (λ i. is_in-names_of s (keys k) n i || is_in-names_of s (keys l) n i))
 
 -- a name is live in a union where it is live in both
-pub live_in-union : (s : Layout) → IsLayout s → (k l : Knowledge) (n : CellName) → is_live_in s (union k l) n ≡ (is_live_in s k n && is_live_in s l n)
+pub live_in-union : (s : Layout) → IsLayout s → (k l : Knowledge) (n : CellName)
+    → is_live_in s (union k l) n ≡ (is_live_in s k n && is_live_in s l n)
 live_in-union s is k l n =
-    live_by_members cell_name_cmp_total cell_name_cmp-IsAntisymmetric (live_horizon s is) (names_of s (keys (union k l))) (names_of s (keys k) ++ names_of s (keys l)) n (names_of_union s k l)
-    ∙ live-append cell_name_cmp_total cell_name_cmp-IsAntisymmetric (live_horizon s is) (names_of s (keys k)) (names_of s (keys l)) n
+    live_by_members cell_name_cmp_total cell_name_cmp-IsAntisymmetric (live_horizon s is)
+    (names_of s (keys (union k l))) (names_of s (keys k) ++ names_of s (keys l)) n (names_of_union s k l)
+    ∙ live-append cell_name_cmp_total cell_name_cmp-IsAntisymmetric (live_horizon s is) (names_of s (keys k))
+    (names_of s (keys l)) n
 
 -- who knows as much knows both
 union_within : (k l : Knowledge) → ((m : Mark) → knows k m ≡ true → knows l m ≡ true) → union k l ≡ l
@@ -113,14 +132,18 @@ union_within k l within = same_knowledge (union k l) l (λ m. knows-union k l m 
     by m false e = refl
 
 pub dead_stay_dead : DeadStayDead
-dead_stay_dead s k l n is within dead = ap (λ (j : Knowledge). is_live_in s j n) (sym (union_within k l within)) ∙ live_in-union s is k l n ∙ ap (λ b. b && is_live_in s l n) dead
+dead_stay_dead s k l n is within dead = ap (λ (j : Knowledge). is_live_in s j n) (sym (union_within k l within))
+    ∙ live_in-union s is k l n ∙ ap (λ b. b && is_live_in s l n) dead
 
 -- ---- live marks
 
-pub knows-live : (s : Layout) (k : Knowledge) (m : Mark) → knows (live s k) m ≡ (knows k m && is_live_in s k (name_of s m))
+pub knows-live : (s : Layout) (k : Knowledge) (m : Mark)
+    → knows (live s k) m ≡ (knows k m && is_live_in s k (name_of s m))
 unfolding live
 knows-live s k m = knows-retain k (λ x. is_live_in s k (name_of s x)) m
 
-pub knows-cell : (s : Layout) (k : Knowledge) (n : CellName) (m : Mark) → knows (cell s k n) m ≡ ((knows k m && is_live_in s k (name_of s m)) && eq_by_cmp cell_name_cmp (name_of s m) n)
+pub knows-cell : (s : Layout) (k : Knowledge) (n : CellName) (m : Mark)
+    → knows (cell s k n) m ≡ ((knows k m && is_live_in s k (name_of s m)) && eq_by_cmp cell_name_cmp (name_of s m) n)
 unfolding cell
-knows-cell s k n m = knows-retain (live s k) (λ x. eq_by_cmp cell_name_cmp (name_of s x) n) m ∙ ap (λ b. b && eq_by_cmp cell_name_cmp (name_of s m) n) (knows-live s k m)
+knows-cell s k n m = knows-retain (live s k) (λ x. eq_by_cmp cell_name_cmp (name_of s x) n) m
+    ∙ ap (λ b. b && eq_by_cmp cell_name_cmp (name_of s m) n) (knows-live s k m)

@@ -44,7 +44,8 @@ mark_cmp-IsAntisymmetric a b e =
     let n : a.number ≡ b.number = nat_cmp-IsAntisymmetric a.number b.number (first_Equal _ _ e2) in
     let i : a.archive ≡ b.archive = nat_cmp-IsAntisymmetric a.archive b.archive (first_Equal _ _ e3) in
     let k : a.key ≡ b.key = slice_cmp-IsAntisymmetric nat_cmp-IsAntisymmetric a.key b.key (first_Equal _ _ e4) in
-    let v : a.value ≡ b.value = int_cmp-IsAntisymmetric a.value b.value (then_Equal (slice_cmp nat_cmp a.key b.key) _ e4) in
+    let v : a.value ≡ b.value = int_cmp-IsAntisymmetric a.value b.value
+    (then_Equal (slice_cmp nat_cmp a.key b.key) _ e4) in
     λ j. record { sample = record { time = t j; origin = o j; number = n j; key = k j; value = v j }; archive = i j }
 
 pub id_cmp_total : IsTotalOrder id_cmp

@@ -15,4 +15,5 @@ pub place_below : (s : Layout) → IsLayout s → (i : ℕ) (time : ℤ) → pla
 place_below s is i time =
     let steps = (archive_at s i).steps in
     let some : 1 ≤ steps = (archive_is s is i).some_step in
-    subst (λ p. p < steps) (rem_is_place s i time (omega arith)) (rem_below (int_div_euclid time (pos (s.step * 1_000_000_000))) steps some)
+    subst (λ p. p < steps) (rem_is_place s i time (omega arith))
+    (rem_below (int_div_euclid time (pos (s.step * 1_000_000_000))) steps some)

@@ -44,7 +44,8 @@ value_text (Some value) = signed_decimal value
 -- key, start second and value, and a line feed
 abbrev pub record_text : List ℕ → ℤ × Option ℤ → List ℕ
 record_text key row =
-    field_text key ++ comma ∷ field_text (signed_decimal row.0) ++ comma ∷ field_text (value_text row.1) ++ line_feed ∷ []
+    field_text key ++ comma ∷ field_text (signed_decimal row.0) ++ comma ∷ field_text (value_text row.1)
+    ++ line_feed ∷ []
 
 -- a fetch: a number of rows of an archive of a key (its text), from a first slot on
 pub record Request : Type 0 where

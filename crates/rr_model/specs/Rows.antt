@@ -43,7 +43,8 @@ marks_of_row s k key archive slot = filter (λ m. is_at key archive slot (name_o
 
 -- how many places of a slot have one of these marks
 abbrev pub known_places : Layout → ℕ → List Mark → ℕ
-known_places s archive ms = places_where (λ p. list_any (λ m. place_of s m.archive m.time == p) ms) (archive_at s archive).steps
+known_places s archive ms = places_where (λ p. list_any (λ m. place_of s m.archive m.time == p) ms)
+    (archive_at s archive).steps
 
 -- the row of a slot; None is unknown
 unfoldable pub row : Layout → Knowledge → List ℕ → ℕ → ℤ → ConsolidationFunction → Option ℤ

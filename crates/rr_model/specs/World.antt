@@ -34,7 +34,8 @@ IsMarkOf s w m = IsWritten w m.sample × (m.archive < length s.archives)
 -- what is known was written, and with a live mark each earlier one of its cell is known
 pub record IsClosed (s : Layout) (w : World) (k : Knowledge) : Type 0 where
   pub written : (m : Mark) → IsTrue (knows k m) → IsMarkOf s w m
-  pub earlier : (m other : Mark) → IsTrue (knows (live s k) m) → IsMarkOf s w other → name_of s other ≡ name_of s m → other.number < m.number → IsTrue (knows k other)
+  pub earlier : (m other : Mark) → IsTrue (knows (live s k) m) → IsMarkOf s w other → name_of s other ≡ name_of s m
+      → other.number < m.number → IsTrue (knows k other)
 
 -- all marks of this origin are known
 abbrev pub HoldsAllOf : Layout → World → Knowledge → ℕ → Type 0

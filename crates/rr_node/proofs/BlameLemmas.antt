@@ -17,11 +17,13 @@ pub record LinesTell {X : Type 0} (result : Result X NodeFault) (before after : 
   pub write : result ≡ Err node.WriteFailed → HasRisen before.output.failures after.output.failures
 
 -- and of those of a session
-pub record SessionTells {X F : Type 0} (result : Result X F) (by : GossipFault → F) (before after : Stream) : Type 0 where
+pub record SessionTells {X F : Type 0} (result : Result X F) (by : GossipFault → F) (before after : Stream) : Type
+    0 where
   pub read : result ≡ Err (by session.ReadFailed) → HasRisen before.input.failures after.input.failures
   pub write : result ≡ Err (by session.WriteFailed) → HasRisen before.output.failures after.output.failures
 
-pub blamed : {X : Type 0} (result : Result X NodeFault) (before after : Stream) → LinesTell result before after → SessionTells result node.Session before after → IfErr result (IsToBlame before after)
+pub blamed : {X : Type 0} (result : Result X NodeFault) (before after : Stream) → LinesTell result before after
+    → SessionTells result node.Session before after → IfErr result (IsToBlame before after)
 blamed (Ok x) before after lines given = tt
 blamed (Err node.ReadFailed) before after lines given = lines.read refl
 blamed (Err node.WriteFailed) before after lines given = lines.write refl
@@ -46,7 +48,8 @@ no_session why (inr (inr (inl e))) = absurd cc
 no_session why (inr (inr (inr e))) = absurd cc
 
 -- a line connection has no session
-pub lines_blamed : {X : Type 0} (result : Result X NodeFault) (before after : Stream) → LinesTell result before after → IfErr result IsOfLines → IfErr result (IsToBlame before after)
+pub lines_blamed : {X : Type 0} (result : Result X NodeFault) (before after : Stream) → LinesTell result before after
+    → IfErr result IsOfLines → IfErr result (IsToBlame before after)
 lines_blamed (Ok x) before after lines faults = tt
 lines_blamed (Err node.ReadFailed) before after lines faults = lines.read refl
 lines_blamed (Err node.WriteFailed) before after lines faults = lines.write refl
@@ -55,7 +58,8 @@ lines_blamed (Err node.BadAddress) before after lines faults = tt
 lines_blamed (Err (node.Session why)) before after lines faults = absurd (no_session why faults)
 lines_blamed (Err node.Memory) before after lines faults = tt
 
-pub session_blamed : {X : Type 0} (why : GossipFault) (before after : Stream) → SessionTells {X = X} (Err why) (λ fault. fault) before after → IsToBlame before after (of_session_fault why)
+pub session_blamed : {X : Type 0} (why : GossipFault) (before after : Stream)
+    → SessionTells {X = X} (Err why) (λ fault. fault) before after → IsToBlame before after (of_session_fault why)
 session_blamed session.ReadFailed before after given = given.read refl
 session_blamed session.Ended before after given = tt
 session_blamed session.FrameTooLong before after given = tt

@@ -9,18 +9,19 @@ use Rattle.rr_line.specs.declared.fault.LineFault.TheVariants.{Memory}
 use Rattle.rr_line.specs.Fault.{line_fault_name}
 use Rattle.rr_line.specs.Line.{line_view}
 use Rattle.rr_line.specs.Reading.{reading}
-use Rattle.rr_copies.specs.Standing.{KeeperState}
+use Rattle.rr_copies.specs.KeeperState.{KeeperState}
 use Rattle.rr_host.proofs.ClockLemmas.{HasGiven-nil}
 use Rattle.rr_node.specs.declared.answer.Answer.{Answer}
 use Rattle.rr_node.specs.declared.rules.Rules.{Rules}
-use Rattle.rr_node.specs.Connection.{IsAnswer, TakesItem}
+use Rattle.rr_node.specs.Connection.{IsAnswer, HandledItem}
 use Rattle.rr_node.specs.Lines.{refused}
 
 -- a line that isn't read asks for nothing and changes nothing
-pub takes_refusal : (rules : Rules) (bytes : List ℕ) (k : KeeperState) (given : Option (List ℤ)) (fault : LineFault) (result : Result Answer AllocError)
+pub takes_refusal : (rules : Rules) (bytes : List ℕ) (k : KeeperState) (given : Option (List ℤ)) (fault : LineFault)
+    (result : Result Answer AllocError)
     → GivesUnless Memory line_view (Err fault) (reading rules.precision bytes)
     → IfOk result (IsAnswer (refused (line_fault_name fault))) → OnOk result (fault ≢ Memory)
-    → TakesItem rules (Line bytes) k k given given result
+    → HandledItem rules (Line bytes) k k given given result
 takes_refusal rules bytes k given fault (Ok answer) (inl memory) answers read = absurd (read memory)
 takes_refusal rules bytes k given fault (Ok answer) (inr said) answers read = record {
   asked = [];

@@ -5,8 +5,8 @@ use Rattle.rr_io.specs.Stream.{AppendsPrefix}
 use Rattle.rr_feed.specs.Feed.{FeedState}
 use Rattle.rr_feed.specs.Items.{Item}
 use Rattle.rr_feed.specs.Laws.{IsFed}
-use Rattle.rr_desk.specs.Standing.{ReaderState, HasSeenMore}
-use Rattle.rr_node.specs.Fetches.{Sight, IsAnswered, AreAnswered}
+use Rattle.rr_desk.specs.ReaderState.{ReaderState, HasSeenMore}
+use Rattle.rr_node.specs.Fetches.{ReaderAndGate, IsAnswered, AreAnswered}
 
 -- these items were handed out
 pub record HasHanded (old : FeedState) (handed : List Item) (new : FeedState) : Type 0 where
@@ -14,7 +14,8 @@ pub record HasHanded (old : FeedState) (handed : List Item) (new : FeedState) : 
   pub ended : new.ended ≡ old.ended
 
 -- an item was handed out and answered; or none was there; or its answer was not made
-abbrev pub Next : {X E : Type 0} → (X → List ℕ) → Option Item → Sight → Sight → Result (Option X) E → Type 0
+abbrev pub Next : {X E : Type 0} → (X → List ℕ) → Option Item → ReaderAndGate → ReaderAndGate → Result (Option X) E
+    → Type 0
 Next view None old new (Ok None) = new ≡ old
 Next view None old new (Ok (Some text)) = ⊥
 Next view None old new (Err fault) = ⊥
@@ -23,7 +24,7 @@ Next view (Some item) old new (Ok (Some text)) = IsAnswered item old new (view t
 Next view (Some item) old new (Err fault) = HasSeenMore old.reader new.reader
 
 -- items were handed out and answered, and the answers written
-pub record HasWritten (feed fed : FeedState) (old new : Sight) (before after : Option (List ℕ)) : Type 0 where
+pub record HasWritten (feed fed : FeedState) (old new : ReaderAndGate) (before after : Option (List ℕ)) : Type 0 where
   pub items : List Item
   pub text : List ℕ
   pub handed : HasHanded feed items fed
@@ -31,10 +32,11 @@ pub record HasWritten (feed fed : FeedState) (old new : Sight) (before after : O
   pub written : Appends before after text
 
 -- items were handed out, the first of them answered, and a front of the answers written
-pub record HasWrittenSome (feed fed : FeedState) (old : Sight) (new : ReaderState) (before after : Option (List ℕ)) : Type 0 where
+pub record HasWrittenSome (feed fed : FeedState) (old : ReaderAndGate) (new : ReaderState)
+    (before after : Option (List ℕ)) : Type 0 where
   pub first : List Item
   pub later : List Item
-  pub last : Sight
+  pub last : ReaderAndGate
   pub seen : HasSeenMore last.reader new
   pub text : List ℕ
   pub handed : HasHanded feed (first ++ later) fed

@@ -9,7 +9,7 @@ use Rattle.rr_feed.specs.Laws.{IsFed}
 use Rattle.rr_io.specs.Stream.{AppendsPrefix}
 use Rattle.rr_text.specs.declared.limits.TheConstants.{MAX_FIELDS}
 use Rattle.rr_records.specs.Records.{refusal_text}
-use Rattle.rr_copies.specs.Standing.{KeeperState, holding_of, with_all_published}
+use Rattle.rr_copies.specs.KeeperState.{KeeperState, own_replica, with_all_published}
 use Rattle.rr_node.specs.declared.answer.Answer.{Answer}
 use Rattle.rr_node.specs.declared.answer.Answer.TheVariants as says
 use Rattle.rr_node.specs.declared.connection.Connection.{Connection}
@@ -43,28 +43,30 @@ IsFew (says.Put count) = count ≤ MAX_FIELDS
 IsFew (says.Refused text) = Unit {0}
 
 -- a verdict's operations are pending, and this is the answer; or memory ran out, and some of them are
-abbrev pub IsTaken : Verdict → KeeperState → KeeperState → Result Answer AllocError → Type 0
-IsTaken verdict old new (Ok answer) = (new ≡ keeper_with old verdict) × IsAnswer verdict answer
-IsTaken verdict old new (Err e) = (count : ℕ) × (new ≡ keeper_with_some old verdict count)
+abbrev pub Handled : Verdict → KeeperState → KeeperState → Result Answer AllocError → Type 0
+Handled verdict old new (Ok answer) = (new ≡ keeper_with old verdict) × IsAnswer verdict answer
+Handled verdict old new (Err e) = (count : ℕ) × (new ≡ keeper_with_some old verdict count)
 
 -- how many moments a line asks for
 abbrev pub moments_asked : Rules → Item → ℕ
 moments_asked rules item = if asks_clock rules item then 1 else 0
 
 -- a line is taken, with the moment that it asked for; or memory ran out before anything was done
-abbrev pub IsTakenAt : Rules → Item → List ℤ → KeeperState → KeeperState → Result Answer AllocError → Type 0
-IsTakenAt rules item asked old new result =
-    ((length asked ≡ moments_asked rules item) × IsTaken (verdict_of rules (first_of asked) (holding_of old) item) old new result)
+abbrev pub HandledAt : Rules → Item → List ℤ → KeeperState → KeeperState → Result Answer AllocError → Type 0
+HandledAt rules item asked old new result =
+    ((length asked ≡ moments_asked rules item) × Handled (verdict_of rules (first_of asked) (own_replica old) item) old
+    new result)
     ⊎ ((asked ≡ []) × (new ≡ old) × ((e : AllocError) × (result ≡ Err e)))
 
 -- a line is taken at a moment of the clock
-pub record TakesItem (rules : Rules) (item : Item) (old new : KeeperState) (given since : Option (List ℤ)) (result : Result Answer AllocError) : Type 0 where
+pub record HandledItem (rules : Rules) (item : Item) (old new : KeeperState) (given since : Option (List ℤ))
+    (result : Result Answer AllocError) : Type 0 where
   pub asked : List ℤ
   pub gave : HasGiven given since asked
-  pub taken : IsTakenAt rules item asked old new result
+  pub taken : HandledAt rules item asked old new result
 
 -- a piece was taken in
-pub record Takes (old new : Connection) (piece : List ℕ) : Type 0 where
+pub record PushedPiece (old new : Connection) (piece : List ℕ) : Type 0 where
   pub feed : new.feed ≡ state (old.feed.left ++ piece) old.feed.skipping old.feed.ended
   pub pieces : new.pieces ≡ old.pieces + 1
   pub lines : new.lines ≡ old.lines
@@ -72,8 +74,8 @@ pub record Takes (old new : Connection) (piece : List ℕ) : Type 0 where
   pub rules : new.rules ≡ old.rules
 
 -- a connection as it stands, with these moments to come
-abbrev pub standing : Connection → KeeperState → List ℕ → List ℤ → Served
-standing c keeper answers moments = record {
+abbrev pub served_so_far : Connection → KeeperState → List ℕ → List ℤ → Served
+served_so_far c keeper answers moments = record {
   keeper = keeper;
   moments = moments;
   lines = c.lines;
@@ -82,15 +84,18 @@ standing c keeper answers moments = record {
 }
 
 -- of the bytes that were pushed, what was handed out was served with these moments, whatever the clock gives later
-pub record HasServed (c : Connection) (start : KeeperState) (pushed : List ℕ) (moments : List ℤ) (now : KeeperState) (answers : List ℕ) : Type 0 where
+pub record HasServed (c : Connection) (start : KeeperState) (pushed : List ℕ) (moments : List ℤ) (now : KeeperState)
+    (answers : List ℕ) : Type 0 where
   pub handed : List Item
   pub fed : IsFed pushed handed c.feed
   pub asked : length moments ≡ count_by (asks_clock c.rules) handed
-  pub served : (later : List ℤ) → after c.rules start (moments ++ later) handed ≡ standing c now answers later
+  pub served : (later : List ℤ) → after c.rules start (moments ++ later) handed ≡ served_so_far c now answers later
 
 -- items were handed out and served with these moments and answers
-pub record Serves (old new : Connection) (before now : KeeperState) (moments : List ℤ) (answers : List ℕ) : Type 0 where
-  pub served : (start : KeeperState) (pushed : List ℕ) (given : List ℤ) (text : List ℕ) → HasServed old start pushed given before text
+pub record ServedItems (old new : Connection) (before now : KeeperState) (moments : List ℤ) (answers : List ℕ) : Type
+    0 where
+  pub served : (start : KeeperState) (pushed : List ℕ) (given : List ℤ) (text : List ℕ)
+      → HasServed old start pushed given before text
       → HasServed new start pushed (given ++ moments) now (text ++ answers)
   pub ended : new.feed.ended ≡ old.feed.ended
   pub pieces : new.pieces ≡ old.pieces
@@ -102,7 +107,8 @@ ComesAfter feed pushed bytes = (more : List ℕ) × (bytes ≡ pushed ++ more) �
 
 -- these lines, which are a front of the items whatever comes, were served with these moments, and the first operations
 -- of one more; or they are all of them, and all was published
-pub record EndsWithin (rules : Rules) (start now : KeeperState) (Comes : List ℕ → Type 0) (moments : List ℤ) : Type 0 where
+pub record EndsWithin (rules : Rules) (start now : KeeperState) (Comes : List ℕ → Type 0) (moments : List ℤ) : Type
+    0 where
   pub lines : List Item
   pub last : List Item
   pub count : ℕ
@@ -113,7 +119,8 @@ pub record EndsWithin (rules : Rules) (start now : KeeperState) (Comes : List �
       × (now ≡ with_all_published (after rules start moments lines).keeper))
 
 -- a call ended within these lines, and a front of their answer was written, whatever the clock gives later
-pub record Stops (rules : Rules) (start now : KeeperState) (Comes : List ℕ → Type 0) (moments : List ℤ) (written since : Option (List ℕ)) : Type 0 where
+pub record Stops (rules : Rules) (start now : KeeperState) (Comes : List ℕ → Type 0) (moments : List ℤ)
+    (written since : Option (List ℕ)) : Type 0 where
   pub ends : EndsWithin rules start now Comes moments
   pub answered : (bytes : List ℕ) → Comes bytes → (later : List ℤ)
       → AppendsPrefix written since (answer_of (after rules start (moments ++ later) (items true bytes)))
@@ -122,31 +129,37 @@ pub record Stops (rules : Rules) (start now : KeeperState) (Comes : List ℕ →
       → AppendsPrefix written since (after rules start (moments ++ later) (items true bytes)).answers)
 
 -- memory ran out while items were served with these moments
-abbrev pub Ends : Connection → KeeperState → KeeperState → List ℤ → Type 0
-Ends old before now moments =
-    (start : KeeperState) (pushed : List ℕ) (given : List ℤ) (text : List ℕ) → HasServed old start pushed given before text
+abbrev pub StoppedByMemory : Connection → KeeperState → KeeperState → List ℤ → Type 0
+StoppedByMemory old before now moments =
+    (start : KeeperState) (pushed : List ℕ) (given : List ℤ) (text : List ℕ)
+    → HasServed old start pushed given before text
     → EndsWithin old.rules start now (ComesAfter old.feed pushed) (given ++ moments)
 
 -- so it did, or a write failed; the writer had what was answered before
-abbrev pub EndsAnswered : Connection → KeeperState → KeeperState → List ℤ → Option (List ℕ) → Option (List ℕ) → Type 0
-EndsAnswered old before now moments written since =
-    (start : KeeperState) (pushed : List ℕ) (given : List ℤ) (text : List ℕ) (first : Option (List ℕ)) → HasServed old start pushed given before text
+abbrev pub StoppedWriting : Connection → KeeperState → KeeperState → List ℤ → Option (List ℕ) → Option (List ℕ) → Type 0
+StoppedWriting old before now moments written since =
+    (start : KeeperState) (pushed : List ℕ) (given : List ℤ) (text : List ℕ) (first : Option (List ℕ))
+    → HasServed old start pushed given before text
     → Appends first written text → Stops old.rules start now (ComesAfter old.feed pushed) (given ++ moments) first since
 
 -- so it did at the end of the input, of which no more comes
-abbrev pub EndsAtLast : Connection → KeeperState → KeeperState → List ℤ → Option (List ℕ) → Option (List ℕ) → Type 0
-EndsAtLast old before now moments written since =
-    (start : KeeperState) (pushed : List ℕ) (given : List ℤ) (text : List ℕ) (first : Option (List ℕ)) → HasServed old start pushed given before text
+abbrev pub StoppedAtEnd : Connection → KeeperState → KeeperState → List ℤ → Option (List ℕ) → Option (List ℕ) → Type 0
+StoppedAtEnd old before now moments written since =
+    (start : KeeperState) (pushed : List ℕ) (given : List ℤ) (text : List ℕ) (first : Option (List ℕ))
+    → HasServed old start pushed given before text
     → Appends first written text → Stops old.rules start now (λ bytes. bytes ≡ pushed) (given ++ moments) first since
 
 -- all lines of the input were served, which has no more than was pushed
-pub record IsWhole (rules : Rules) (start now : KeeperState) (counted : Report) (bytes : List ℕ) (moments : List ℤ) (written since : Option (List ℕ)) : Type 0 where
+pub record IsWhole (rules : Rules) (start now : KeeperState) (counted : Report) (bytes : List ℕ) (moments : List ℤ)
+    (written since : Option (List ℕ)) : Type 0 where
   pub asked : length moments ≡ count_by (asks_clock rules) (items true bytes)
   pub keeper : now ≡ with_all_published (after rules start moments (items true bytes)).keeper
   pub report : counted ≡ (after rules start moments (items true bytes)).report
   pub answered : Appends written since (answer_of (after rules start moments (items true bytes)))
 
-abbrev pub Finishes : Connection → KeeperState → KeeperState → Report → List ℤ → Option (List ℕ) → Option (List ℕ) → Type 0
-Finishes old before now counted moments written since =
-    (start : KeeperState) (pushed : List ℕ) (given : List ℤ) (text : List ℕ) (first : Option (List ℕ)) → HasServed old start pushed given before text
+abbrev pub ServedAll : Connection → KeeperState → KeeperState → Report → List ℤ → Option (List ℕ) → Option (List ℕ)
+    → Type 0
+ServedAll old before now counted moments written since =
+    (start : KeeperState) (pushed : List ℕ) (given : List ℤ) (text : List ℕ) (first : Option (List ℕ))
+    → HasServed old start pushed given before text
     → Appends first written text → IsWhole old.rules start now counted pushed (given ++ moments) first since

@@ -50,7 +50,8 @@ of_session_fault session.Failed = node.Session session.Failed
 
 -- the faults of a line connection
 abbrev pub IsOfLines : NodeFault → Type 0
-IsOfLines fault = (fault ≡ node.ReadFailed) ⊎ (fault ≡ node.WriteFailed) ⊎ (fault ≡ node.TooManyReads) ⊎ (fault ≡ node.Memory)
+IsOfLines fault = (fault ≡ node.ReadFailed) ⊎ (fault ≡ node.WriteFailed) ⊎ (fault ≡ node.TooManyReads)
+    ⊎ (fault ≡ node.Memory)
 
 -- those of a session
 abbrev pub IsOfSession : NodeFault → Type 0

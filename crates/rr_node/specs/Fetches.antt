@@ -18,7 +18,7 @@ use Rattle.rr_request.specs.Requests.{request_of_words}
 use Rattle.rr_desk.specs.declared.gate.GateCall.{GateCall}
 use Rattle.rr_desk.specs.declared.gate.GateCall.TheVariants.{After, Before}
 use Rattle.rr_desk.specs.Gate.{WasAsked}
-use Rattle.rr_desk.specs.Standing.{ReaderState, HasSeenMore, cells_seen}
+use Rattle.rr_desk.specs.ReaderState.{ReaderState, HasSeenMore, cells_seen}
 use Rattle.rr_gossip.specs.declared.fault.GossipFault.{GossipFault}
 use Rattle.rr_gossip.specs.declared.frame.TheConstants.{MAX_FRAMES}
 use Rattle.rr_gossip.specs.Session.{HasGiven, HasFailedToGive}
@@ -30,7 +30,8 @@ use Rattle.rr_node.specs.Fault.{IsOfLines, of_session_fault}
 
 -- what follows the word `fetch` and a space, where a line begins so
 abbrev pub after_fetch : List ℕ → Option (List ℕ)
-after_fetch line = option_and_then (λ cut. if pointwise nat_eq cut.0 (codes "fetch") then Some cut.1 else None) (cut_at SPACE line)
+after_fetch line = option_and_then (λ cut. if pointwise nat_eq cut.0 (codes "fetch") then Some cut.1 else None)
+    (cut_at SPACE line)
 
 -- the request of a line `fetch CF RESOLUTION START END KEY`
 unfoldable pub request_in : Layout → List ℕ → Result Request RequestFault
@@ -65,32 +66,33 @@ calls_by false (Ok q) = Before false ∷ []
 -- ---- one line after the other
 
 -- a reader, and the calls of its gate, where they are known
-pub record Sight : Type 0 where
+pub record ReaderAndGate : Type 0 where
   pub reader : ReaderState
   pub calls : Option (List GateCall)
 
-abbrev pub sight : ReaderState → Option (List GateCall) → Sight
+abbrev pub sight : ReaderState → Option (List GateCall) → ReaderAndGate
 sight reader calls = record { reader = reader; calls = calls }
 
 -- what is asked is answered by this text, after the operations that the reader has then seen, which begin with those
 -- that it had seen before
-pub record IsAnswer (request_of_item : Result Request (List ℕ)) (old new : Sight) (text : List ℕ) : Type 0 where
+pub record IsAnswer (request_of_item : Result Request (List ℕ)) (old new : ReaderAndGate) (text : List ℕ) : Type 0 where
   pub seen : HasSeenMore old.reader new.reader
   pub passes : Bool
   pub by_cells : text ≡ text_by new.reader.schema (cells_seen new.reader) passes request_of_item
   pub asked : WasAsked old.calls new.calls (calls_by passes request_of_item)
 
 -- an item is answered: its answer, and an empty line
-pub record IsAnswered (item : Item) (old new : Sight) (text : List ℕ) : Type 0 where
+pub record IsAnswered (item : Item) (old new : ReaderAndGate) (text : List ℕ) : Type 0 where
   pub answer : List ℕ
   pub made : IsAnswer (request_of_item old.reader.schema item) old new answer
   pub whole : text ≡ answer ++ LINE_FEED ∷ []
 
 -- items are answered in order
-abbrev pub AreAnswered : List Item → Sight → Sight → List ℕ → Type 0
+abbrev pub AreAnswered : List Item → ReaderAndGate → ReaderAndGate → List ℕ → Type 0
 AreAnswered [] old new text = (new ≡ old) × (text ≡ [])
 AreAnswered (item ∷ later) old new text =
-    (mid : Sight) × (first rest : List ℕ) × IsAnswered item old mid first × AreAnswered later mid new rest × (text ≡ first ++ rest)
+    (mid : ReaderAndGate) × (first rest : List ℕ) × IsAnswered item old mid first × AreAnswered later mid new rest
+    × (text ≡ first ++ rest)
 
 -- ---- a whole connection
 
@@ -100,39 +102,45 @@ is_pull [] = false
 is_pull (byte ∷ bytes) = byte == 0
 
 -- the answers to all lines of these bytes were written
-pub record HasAnswered (bytes : List ℕ) (old new : Sight) (before after : Option (List ℕ)) : Type 0 where
+pub record HasAnswered (bytes : List ℕ) (old new : ReaderAndGate) (before after : Option (List ℕ)) : Type 0 where
   pub text : List ℕ
   pub answered : AreAnswered (items true bytes) old new text
   pub written : Appends before after text
 
 -- a front of the answers to the first lines of these bytes was written, after which the reader may have seen more
-pub record HasAnsweredSome (bytes : List ℕ) (old : Sight) (new : ReaderState) (before after : Option (List ℕ)) : Type 0 where
+pub record HasAnsweredSome (bytes : List ℕ) (old : ReaderAndGate) (new : ReaderState)
+    (before after : Option (List ℕ)) : Type 0 where
   pub first : List Item
   pub later : List Item
   pub cut : items true bytes ≡ first ++ later
-  pub last : Sight
+  pub last : ReaderAndGate
   pub seen : HasSeenMore last.reader new
   pub text : List ℕ
   pub answered : AreAnswered first old last text
   pub written : AppendsPrefix before after text
 
 -- giving failed in a session, after its first byte
-abbrev pub HasFailedSession : Layout → Cells → Option (List ℕ) → Option (List ℕ) → Option (List ℕ) → Option (List ℕ) → NodeFault → Type 0
+abbrev pub HasFailedSession : Layout → Cells → Option (List ℕ) → Option (List ℕ) → Option (List ℕ) → Option (List ℕ)
+    → NodeFault → Type 0
 HasFailedSession s m had left before after fault =
-    (why : GossipFault) × (fault ≡ of_session_fault why) × HasFailedToGive MAX_FRAMES s m (0 ∷ []) had left before after why
+    (why : GossipFault) × (fault ≡ of_session_fault why)
+    × HasFailedToGive MAX_FRAMES s m (0 ∷ []) had left before after why
 
 -- a session in which the other side pulls was not answered: its first byte was not read, or giving failed
-abbrev pub HasNotGiven : NodeFault → Layout → Cells → List ℕ → Option (List ℕ) → Option (List ℕ) → Option (List ℕ) → Type 0
+abbrev pub HasNotGiven : NodeFault → Layout → Cells → List ℕ → Option (List ℕ) → Option (List ℕ) → Option (List ℕ)
+    → Type 0
 HasNotGiven fault s m bytes left before after =
     (((fault ≡ ReadFailed) ⊎ (fault ≡ TooManyReads)) × (after ≡ before))
     ⊎ HasFailedSession s m (Some (drop 1 bytes)) left before after fault
 
 -- What a call that serves a connection does, by what it answers. Of the input it was handed what it had, and what is
 -- left; of the output what was written before and after.
-pub record IsServed {X : Type 0} (result : Result X NodeFault) (had left before after : Option (List ℕ)) (old new : Sight) : Type 0 where
+pub record IsServed {X : Type 0} (result : Result X NodeFault) (had left before after : Option (List ℕ))
+    (old new : ReaderAndGate) : Type 0 where
   pub seen : HasSeenMore old.reader new.reader
   pub answered : OnOk result (IfSome had (λ bytes. is_pull bytes ≡ false → HasAnswered bytes old new before after))
-  pub front : OnErr result (IfSome had (λ bytes. is_pull bytes ≡ false → HasAnsweredSome bytes old new.reader before after))
+  pub front : OnErr result (IfSome had (λ bytes. is_pull bytes ≡ false
+      → HasAnsweredSome bytes old new.reader before after))
   pub faults : IfErr result (λ fault. IfSome had (λ bytes. is_pull bytes ≡ false → IsOfLines fault))
   pub given : OnOk result (IfSome had (λ bytes. is_pull bytes ≡ true
       → HasGiven MAX_FRAMES old.reader.schema (cells_seen new.reader) (0 ∷ []) (Some (drop 1 bytes)) left before after))

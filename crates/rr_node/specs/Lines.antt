@@ -11,10 +11,10 @@ use Rattle.rr_point.specs.Point.{PointView}
 use Rattle.rr_line.specs.Line.{LineView, nothing, point}
 use Rattle.rr_line.specs.Reading.{reading}
 use Rattle.rr_records.specs.Records.{refusal_text}
-use Rattle.rr_cells.specs.Holding.{Holding}
+use Rattle.rr_cells.specs.ReplicaState.{ReplicaState}
 use Rattle.rr_replica.specs.Writing.{is_ahead, lacks_numbers}
 use Rattle.rr_desk.specs.Points.{with_puts}
-use Rattle.rr_copies.specs.Standing.{KeeperState, holding_of, with_all_published}
+use Rattle.rr_copies.specs.KeeperState.{KeeperState, own_replica, with_all_published}
 use Rattle.rr_node.specs.declared.report.Report.{Report}
 use Rattle.rr_node.specs.declared.rules.Rules.{Rules}
 use Rattle.rr_node.specs.declared.rules.TheConstants.{LINES_TO_PUBLISH}
@@ -39,16 +39,16 @@ verdict_by ahead lacking p time =
     else (if lacking then refused (codes "NumbersSpent") else put p time)
 
 -- of a point, at a moment of the clock: one without a time is of that moment
-abbrev pub verdict_of_point : Option ℕ → ℤ → Holding → PointView → Verdict
+abbrev pub verdict_of_point : Option ℕ → ℤ → ReplicaState → PointView → Verdict
 verdict_of_point lead now h p =
     verdict_by (is_ahead p.time now lead) (lacks_numbers h (length p.fields)) p (unwrap_or p.time now)
 
-abbrev pub verdict_of_line : Option ℕ → ℤ → Holding → Result LineView LineFault → Verdict
+abbrev pub verdict_of_line : Option ℕ → ℤ → ReplicaState → Result LineView LineFault → Verdict
 verdict_of_line lead now h (Ok nothing) = skipped
 verdict_of_line lead now h (Ok (point p)) = verdict_of_point lead now h p
 verdict_of_line lead now h (Err fault) = refused (line_fault_name fault)
 
-abbrev pub verdict_of : Rules → ℤ → Holding → Item → Verdict
+abbrev pub verdict_of : Rules → ℤ → ReplicaState → Item → Verdict
 verdict_of rules now h (Line bytes) = verdict_of_line rules.lead now h (reading rules.precision bytes)
 verdict_of rules now h TooLong = refused (codes "LineTooLong")
 
@@ -105,7 +105,12 @@ answer_to number (refused name) = refusal_text number name
 
 abbrev pub report_with : Report → Verdict → Report
 report_with r skipped = r
-report_with r (put p time) = record { points = r.points + 1; samples = r.samples + length p.fields; refused = r.refused }
+report_with r (put p time) = record {
+  points = r.points + 1;
+  samples = r.samples + length p.fields;
+  refused =
+      r.refused;
+}
 report_with r (refused name) = record { points = r.points; samples = r.samples; refused = r.refused + 1 }
 
 -- all that is pending is published each time the lines are a multiple of LINES_TO_PUBLISH
@@ -124,7 +129,7 @@ with_verdict s verdict moments = record {
 -- after one line more: a point takes the first of the moments that come
 abbrev pub with_item : Rules → Served → Item → Served
 with_item rules s item =
-    with_verdict s (verdict_of rules (first_of s.moments) (holding_of s.keeper) item)
+    with_verdict s (verdict_of rules (first_of s.moments) (own_replica s.keeper) item)
     (if asks_clock rules item then later_than_first s.moments else s.moments)
 
 -- after these lines, with a clock that gives these moments
@@ -139,7 +144,8 @@ count_text word count = word ++ decimal count
 -- points P samples S refused R
 abbrev pub report_text : Report → List ℕ
 report_text r =
-    count_text (codes "points ") r.points ++ count_text (codes " samples ") r.samples ++ count_text (codes " refused ") r.refused ++ codes "\n"
+    count_text (codes "points ") r.points ++ count_text (codes " samples ") r.samples
+    ++ count_text (codes " refused ") r.refused ++ codes "\n"
 
 -- all that is answered
 abbrev pub answer_of : Served → List ℕ
@@ -178,7 +184,7 @@ keeper_with_some k (refused name) count = k
 abbrev pub keeper_within : Rules → Served → List Item → ℕ → KeeperState
 keeper_within rules s [] count = s.keeper
 keeper_within rules s (item ∷ later) count =
-    keeper_with_some s.keeper (verdict_of rules (first_of s.moments) (holding_of s.keeper) item) count
+    keeper_with_some s.keeper (verdict_of rules (first_of s.moments) (own_replica s.keeper) item) count
 
 -- Some lines of the input were served, and perhaps the first operations of one more; or all of them were, and all was
 -- published. Readers may see what they saw, and perhaps more. What was answered is a front of the whole answer,
@@ -196,7 +202,8 @@ pub record HasStopped (rules : Rules) (run : Run) : Type 0 where
       × (run.new ≡ with_all_published (after rules run.old moments lines).keeper))
   pub published : IsPrefix run.old.published run.new.published
   pub answered : (later : List ℤ) → IfSome run.input (λ bytes.
-      AppendsPrefix run.written run.written_since (answer_of (after rules run.old (moments ++ later) (items true bytes))))
+      AppendsPrefix run.written run.written_since (answer_of
+      (after rules run.old (moments ++ later) (items true bytes))))
   pub reported : ((last ≡ []) × (run.new ≡ with_all_published (after rules run.old moments lines).keeper))
       ⊎ ((later : List ℤ) → IfSome run.input (λ bytes.
       AppendsPrefix run.written run.written_since (after rules run.old (moments ++ later) (items true bytes)).answers))

@@ -1,6 +1,6 @@
 -- How the pulls of a round go, from one peer after the other.
 use Rattle.std.specs.Prelude.{◌≡◌, ◌≢◌, ◌⊎◌, ℕ, ◌+◌, nat_lt, Bool, true, false, List, [], ◌∷◌, ◌++◌, Option, None, Some, IfSome, Result, Ok, Err}
-use Rattle.rr_copies.specs.Standing.{KeeperState}
+use Rattle.rr_copies.specs.KeeperState.{KeeperState}
 use Rattle.rr_gossip.specs.declared.fault.GossipFault.{GossipFault}
 use Rattle.rr_node.specs.declared.fault.NodeFault.{NodeFault}
 use Rattle.rr_node.specs.declared.fault.NodeFault.TheVariants.{BadAddress, Memory}
@@ -23,13 +23,15 @@ EndsSession old new before after (Some fault) =
     (why : GossipFault) × (fault ≡ of_session_fault why) × IsToBlame before after fault
     × HasStoppedPulling old new before.input.left after.input.left before.output.written after.output.written why
 
--- the peer at an address isn't due, and nothing is done; or it can't be reached; or it is, and its stream is handed back
+-- the peer at an address isn't due, and nothing is done; or it can't be reached; or it is, and its stream is handed
+-- back
 -- when the session is over
 abbrev pub EndsPull : List ℕ → KeeperState → KeeperState → List DialCall → Option NodeFault → Type 0
 EndsPull address old new dialed fault =
     ((dialed ≡ passed_over address ∷ []) × (new ≡ old) × (fault ≡ None))
     ⊎ ((dialed ≡ unreached address ∷ []) × (new ≡ old) × (fault ≡ Some BadAddress))
-    ⊎ ((before after : Stream) × (dialed ≡ reached address before ∷ handed_back after ∷ []) × EndsSession old new before after fault)
+    ⊎ ((before after : Stream) × (dialed ≡ reached address before ∷ handed_back after ∷ [])
+    × EndsSession old new before after fault)
 
 -- what is told of a peer's fault, if it had one
 abbrev pub told_of : ℕ → Option NodeFault → List ShelfCall
@@ -43,7 +45,8 @@ told_of_peer number false fault = told_of number fault
 told_of_peer number true fault = own_origin number ∷ told_of number fault
 
 -- a peer is done with, and what ended it is told
-pub record IsPast (number : ℕ) (address : List ℕ) (old new : KeeperState) (dialed : List DialCall) (told : List ShelfCall) : Type 0 where
+pub record IsPast (number : ℕ) (address : List ℕ) (old new : KeeperState) (dialed : List DialCall)
+    (told : List ShelfCall) : Type 0 where
   pub fault : Option NodeFault
   pub skipped : IfSome fault (λ why. why ≢ Memory)
   pub pulled : EndsPull address old new dialed fault

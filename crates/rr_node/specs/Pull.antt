@@ -4,8 +4,8 @@ use Rattle.std.specs.Io.KnownBytes.{Appends}
 use Rattle.std.specs.List.{concat}
 use Rattle.rr_io.specs.Stream.{AppendsPrefix}
 use Rattle.rr_cells.specs.CellBounds.{NamedCell}
-use Rattle.rr_copies.specs.Standing.{KeeperState, cells_of, with_all_published}
-use Rattle.rr_desk.specs.Standing.{HasJoined}
+use Rattle.rr_copies.specs.KeeperState.{KeeperState, cells_of, with_all_published}
+use Rattle.rr_desk.specs.ReaderState.{HasJoined}
 use Rattle.rr_gossip.specs.declared.fault.GossipFault.{GossipFault}
 use Rattle.rr_gossip.specs.declared.fault.GossipFault.TheVariants.{Memory}
 use Rattle.rr_gossip.specs.declared.frame.TheConstants.{MAX_FRAMES}
@@ -32,7 +32,8 @@ pub record HasPulledAll (old new : KeeperState) (had left wrote written : Option
 
 -- the session ended early, or memory ran out as all of it was to be published: the cells that were joined are pending,
 -- one by one and in order
-pub record HasStoppedPulling (old new : KeeperState) (had left wrote written : Option (List ℕ)) (fault : GossipFault) : Type 0 where
+pub record HasStoppedPulling (old new : KeeperState) (had left wrote written : Option (List ℕ))
+    (fault : GossipFault) : Type 0 where
   pub sent : AppendsPrefix wrote written (concat (frames_of old))
   pub cells : List NamedCell
   pub kept : HasJoined old new cells

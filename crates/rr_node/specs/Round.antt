@@ -3,7 +3,7 @@ use Rattle.std.specs.Prelude.{◌≡◌, ◌⊎◌, ℕ, ℤ, Bool, true, false,
 use Rattle.std.specs.String.{string_bytes}
 use Rattle.std.specs.FinMap.{len}
 use Rattle.rr_cells.specs.Listing.{at_most_usize}
-use Rattle.rr_copies.specs.Standing.{KeeperState, cells_of}
+use Rattle.rr_copies.specs.KeeperState.{KeeperState, cells_of}
 use Rattle.rr_config.specs.declared.config.Config.{Config}
 use Rattle.rr_node.specs.declared.fault.NodeFault.{NodeFault}
 use Rattle.rr_node.specs.declared.report.Report.{Report}
@@ -24,7 +24,8 @@ abbrev pub came_in : {A F : Type 0} → Result A F → Option A
 came_in (Ok came) = Some came
 came_in (Err fault) = None
 
--- what a connection is, by what became of its lines: its report is told if they were served to the end, and memory alone
+-- what a connection is, by what became of its lines: its report is told if they were served to the end, and memory
+-- alone
 -- ends the round
 abbrev pub going_on : Result Report NodeFault → Option Lines
 going_on (Ok report) = Some (lines.Taken (Some report))
@@ -52,12 +53,14 @@ pub record EndsConnection (rules : Rules) (run : Run) (before after : Stream) (c
   pub going : came ≡ going_on result
 
 -- the next connection: none will come; or it failed; or it is handed back when its lines are served
-abbrev pub EndsLines : Config → Option Lines → KeeperState → KeeperState → Option (List ℤ) → Option (List ℤ) → List Call → Type 0
+abbrev pub EndsLines : Config → Option Lines → KeeperState → KeeperState → Option (List ℤ) → Option (List ℤ) → List Call
+    → Type 0
 EndsLines config came old new given since calls =
     ((calls ≡ Over ∷ []) × (came ≡ Some lines.Over) × (new ≡ old) × (since ≡ given))
     ⊎ ((calls ≡ Failed ∷ []) × (came ≡ Some (lines.Taken None)) × (new ≡ old) × (since ≡ given))
     ⊎ ((before after : Stream) × (calls ≡ Gave before ∷ TookBack after ∷ [])
-    × EndsConnection (rules_of config.precision config.lead) (run_of old new given since before after) before after came)
+    × EndsConnection (rules_of config.precision config.lead) (run_of old new given since before after) before after
+    came)
 
 -- the addresses of the peers
 abbrev pub peers_of : Config → List (List ℕ)
@@ -71,9 +74,11 @@ EndsRest config came old new dialed shelved =
     × (((came ≡ Some true) × EndsSave true new saved) ⊎ ((came ≡ None) × EndsSave false new saved))
     × (shelved ≡ told ++ pulled (at_most_usize (len (cells_of new))) ∷ saved))
 
--- a whole round: where no connection will come, and where memory ran out in one, there is nothing else; else the shelf is
+-- a whole round: where no connection will come, and where memory ran out in one, there is nothing else; else the shelf
+-- is
 -- told the connection's report first
-abbrev pub EndsRound : Config → Option Bool → KeeperState → KeeperState → Option (List ℤ) → Option (List ℤ) → List Call → List DialCall → List ShelfCall → Type 0
+abbrev pub EndsRound : Config → Option Bool → KeeperState → KeeperState → Option (List ℤ) → Option (List ℤ) → List Call
+    → List DialCall → List ShelfCall → Type 0
 EndsRound config came old new given since calls dialed shelved =
     ((((came ≡ Some false) × EndsLines config (Some lines.Over) old new given since calls)
     ⊎ ((came ≡ None) × EndsLines config None old new given since calls)) × (dialed ≡ []) × (shelved ≡ []))

@@ -1,6 +1,6 @@
 -- The rounds of a keeper, one after the other.
 use Rattle.std.specs.Prelude.{◌≡◌, ◌⊎◌, ℕ, zero, suc, ◌<◌, ◌==◌, ◌-◌, ◌^◌, ℤ, Bool, true, false, List, [], ◌∷◌, ◌++◌, Option, None, Some, if◌then◌else◌}
-use Rattle.rr_copies.specs.Standing.{KeeperState}
+use Rattle.rr_copies.specs.KeeperState.{KeeperState}
 use Rattle.rr_config.specs.declared.config.Config.{Config}
 use Rattle.rr_host.specs.Calls.{DialCall, Grows}
 use Rattle.rr_host.specs.Halt.{HaltCall, Halted}
@@ -9,11 +9,11 @@ use Rattle.rr_node.specs.Round.{EndsRound}
 use Rattle.rr_host.specs.Visits.{Call, HasCalled}
 
 -- a keeper, and the moments that its clock gave
-pub record Post : Type 0 where
+pub record KeeperAndClock : Type 0 where
   pub keeper : KeeperState
   pub given : Option (List ℤ)
 
-abbrev pub post : KeeperState → Option (List ℤ) → Post
+abbrev pub post : KeeperState → Option (List ℤ) → KeeperAndClock
 post keeper given = record { keeper = keeper; given = given }
 
 -- the calls of lines, of a dial and of a shelf
@@ -29,22 +29,24 @@ abbrev pub and_then : Log → Log → Log
 and_then a b = record { visits = a.visits ++ b.visits; dialed = a.dialed ++ b.dialed; shelved = a.shelved ++ b.shelved }
 
 -- a round, by whether a connection came
-abbrev pub IsRound : Config → Option Bool → Post → Post → Log → Type 0
+abbrev pub IsRound : Config → Option Bool → KeeperAndClock → KeeperAndClock → Log → Type 0
 IsRound config came old new log =
     EndsRound config came old.keeper new.keeper old.given new.given log.visits log.dialed log.shelved
 
 -- n rounds, to each of which a connection came
-abbrev pub AreRounds : ℕ → Config → Post → Post → Log → Type 0
+abbrev pub AreRounds : ℕ → Config → KeeperAndClock → KeeperAndClock → Log → Type 0
 AreRounds zero config old new log = (new ≡ old) × (log ≡ no_calls)
 AreRounds (suc n) config old new log =
-    (mid : Post) × (first last : Log) × AreRounds n config old mid first × IsRound config (Some true) mid new last
+    (mid : KeeperAndClock) × (first last : Log) × AreRounds n config old mid first
+    × IsRound config (Some true) mid new last
     × (log ≡ and_then first last)
 
 -- fewer rounds than these, and one more that ended otherwise
-pub record AreFewer (most : ℕ) (config : Config) (came : Option Bool) (old new : Post) (log : Log) : Type 0 where
+pub record AreFewer (most : ℕ) (config : Config) (came : Option Bool) (old new : KeeperAndClock) (log : Log) : Type
+    0 where
   pub n : ℕ
   pub few : n < most
-  pub mid : Post
+  pub mid : KeeperAndClock
   pub first : Log
   pub last : Log
   pub rounds : AreRounds n config old mid first
@@ -52,8 +54,9 @@ pub record AreFewer (most : ℕ) (config : Config) (came : Option Bool) (old new
   pub whole : log ≡ and_then first last
 
 -- the rounds until as many were kept as may be, until no connection will come, or until memory runs out
-abbrev pub EndRounds : ℕ → Config → Bool → Post → Post → Log → Type 0
-EndRounds most config true old new log = AreRounds most config old new log ⊎ AreFewer most config (Some false) old new log
+abbrev pub EndRounds : ℕ → Config → Bool → KeeperAndClock → KeeperAndClock → Log → Type 0
+EndRounds most config true old new log = AreRounds most config old new log
+    ⊎ AreFewer most config (Some false) old new log
 EndRounds most config false old new log = AreFewer most config None old new log
 
 -- as many rounds as a configuration has: 0 means without end, which is as many as 64 bits count
@@ -62,7 +65,9 @@ rounds_of config = if config.rounds == 0 then 2 ^ 64 - 1 else config.rounds
 
 -- The rounds of a configuration, as far as memory goes: the calls of lines, dial and shelf that were known before, and
 -- those that are known after them, and what the keeper and its clock became.
-pub record HasKept (config : Config) (whole : Bool) (visits visits_since : Option (List Call)) (dials dials_since : Option (List DialCall)) (shelves shelves_since : Option (List ShelfCall)) (old new : Post) : Type 0 where
+pub record HasKept (config : Config) (whole : Bool) (visits visits_since : Option (List Call))
+    (dials dials_since : Option (List DialCall)) (shelves shelves_since : Option (List ShelfCall))
+    (old new : KeeperAndClock) : Type 0 where
   pub log : Log
   pub visited : HasCalled visits visits_since log.visits
   pub dialed : Grows dials dials_since log.dialed

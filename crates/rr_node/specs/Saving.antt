@@ -4,7 +4,7 @@ use Rattle.std.specs.FinMap.{entries, len}
 use Rattle.std.specs.Io.KnownBytes.{Appends}
 use Rattle.rr_io.specs.Counted.{HasRisen}
 use Rattle.rr_io.specs.Stream.{AppendsPrefix}
-use Rattle.rr_copies.specs.Standing.{KeeperState, cells_of}
+use Rattle.rr_copies.specs.KeeperState.{KeeperState, cells_of}
 use Rattle.rr_page.specs.Version.{latest}
 use Rattle.rr_parts.specs.declared.fault.SaveFault.{SaveFault}
 use Rattle.rr_parts.specs.declared.fault.SaveFault.TheVariants as why
@@ -31,7 +31,8 @@ sufficed (Err why.Memory) = false
 sufficed (Err why.WriteFailed) = true
 sufficed (Err why.TooManyCells) = true
 
--- a writer was opened, all of the snapshot was written, or a front of it as the writer failed or memory ran out, or none
+-- a writer was opened, all of the snapshot was written, or a front of it as the writer failed or memory ran out, or
+-- none
 -- as there are too many cells; and the writer was handed back
 pub record IsWritten (k : KeeperState) (saved : Result (Unit {0}) SaveFault) (shelved : List ShelfCall) : Type 0 where
   pub before : Output

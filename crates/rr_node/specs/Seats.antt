@@ -3,12 +3,13 @@ use Rattle.std.specs.Prelude.{◌≡◌, ◌≢◌, ◌⊎◌, ℕ, zero, suc, �
 use Rattle.rr_node.specs.declared.fault.NodeFault.{NodeFault}
 use Rattle.rr_node.specs.declared.fault.NodeFault.TheVariants.{Memory}
 use Rattle.rr_node.specs.Fault.{IsOfReader, IsToBlame}
-use Rattle.rr_node.specs.Fetches.{Sight, IsServed}
+use Rattle.rr_node.specs.Fetches.{ReaderAndGate, IsServed}
 use Rattle.rr_host.specs.Streams.{Stream}
 use Rattle.rr_host.specs.Visits.{Call, Gave, Failed, Over, TookBack}
 
 -- a connection was given, served with this result, and handed back
-pub record IsStreamServed (result : Result (Unit {0}) NodeFault) (calls : List Call) (old new : Sight) : Type 0 where
+pub record IsStreamServed (result : Result (Unit {0}) NodeFault) (calls : List Call) (old new : ReaderAndGate) : Type
+    0 where
   pub before : Stream
   pub after : Stream
   pub made : calls ≡ Gave before ∷ TookBack after ∷ []
@@ -17,19 +18,20 @@ pub record IsStreamServed (result : Result (Unit {0}) NodeFault) (calls : List C
   pub blamed : IfErr result (IsToBlame before after)
 
 -- one visit: it failed, or a connection was served, with or without a fault other than Memory
-abbrev pub IsVisit : List Call → Sight → Sight → Type 0
+abbrev pub IsVisit : List Call → ReaderAndGate → ReaderAndGate → Type 0
 IsVisit calls old new =
     ((calls ≡ Failed ∷ []) × (new ≡ old))
     ⊎ ((result : Result (Unit {0}) NodeFault) × (result ≢ Err Memory) × IsStreamServed result calls old new)
 
 -- n visits, in order
-abbrev pub AreVisits : ℕ → List Call → Sight → Sight → Type 0
+abbrev pub AreVisits : ℕ → List Call → ReaderAndGate → ReaderAndGate → Type 0
 AreVisits zero calls old new = (calls ≡ []) × (new ≡ old)
 AreVisits (suc n) calls old new =
-    (mid : Sight) × (first later : List Call) × IsVisit first old mid × AreVisits n later mid new × (calls ≡ first ++ later)
+    (mid : ReaderAndGate) × (first later : List Call) × IsVisit first old mid × AreVisits n later mid new
+    × (calls ≡ first ++ later)
 
 -- what one call did, by whether another visit may come
-abbrev pub HasVisited : Result Bool NodeFault → List Call → Sight → Sight → Type 0
+abbrev pub HasVisited : Result Bool NodeFault → List Call → ReaderAndGate → ReaderAndGate → Type 0
 HasVisited (Ok true) calls old new = IsVisit calls old new
 HasVisited (Ok false) calls old new = (calls ≡ Over ∷ []) × (new ≡ old)
 HasVisited (Err fault) calls old new = (fault ≡ Memory) × IsStreamServed (Err Memory) calls old new
@@ -39,12 +41,12 @@ abbrev pub visits_of : ℕ → ℕ
 visits_of visits = if visits == 0 then 2 ^ 64 - 1 else visits
 
 -- A seat served visits: as many as it may, or those that came before none would, or those before memory ran out
-abbrev pub HasServedSeat : ℕ → Result (Unit {0}) NodeFault → List Call → Sight → Sight → Type 0
+abbrev pub HasServedSeat : ℕ → Result (Unit {0}) NodeFault → List Call → ReaderAndGate → ReaderAndGate → Type 0
 HasServedSeat most (Ok x) calls old new =
     AreVisits most calls old new
     ⊎ ((n : ℕ) × (n < most) × (visits : List Call) × AreVisits n visits old new × (calls ≡ visits ++ Over ∷ []))
 HasServedSeat most (Err fault) calls old new =
-    (fault ≡ Memory) × (n : ℕ) × (n < most) × (visits last : List Call) × (mid : Sight)
+    (fault ≡ Memory) × (n : ℕ) × (n < most) × (visits last : List Call) × (mid : ReaderAndGate)
     × AreVisits n visits old mid × IsStreamServed (Err Memory) last mid new × (calls ≡ visits ++ last)
 
 -- a call that served all seats of a node: for how many connections each, and whether memory sufficed in all of them

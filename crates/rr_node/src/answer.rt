@@ -3,7 +3,7 @@
 ghost use Rattle.std.specs.Prelude.{◌≡◌, ◌≢◌, ◌≤◌, ℤ, [], ◌∷◌, length, map, None, IfOk, IfSome, OnOk};
 ghost use Rattle.rr_text.specs.Bytes.{HasNoLineFeed};
 ghost use Rattle.rr_text.specs.declared.limits.TheConstants.{MAX_FIELDS};
-ghost use Rattle.rr_copies.specs.Standing.{holding_of};
+ghost use Rattle.rr_copies.specs.KeeperState.{own_replica};
 ghost use Rattle.rr_feed.specs.Items.{item_view, IsLine};
 ghost use Rattle.rr_feed.specs.Items as feed;
 ghost use Rattle.rr_line.specs.Fault.{line_fault_name};
@@ -11,7 +11,7 @@ ghost use Rattle.rr_line.specs.Known.{samples_of, SaysSamples};
 ghost use Rattle.rr_point.specs.Point.{PointView, point_view};
 ghost use Rattle.rr_desk.specs.Points.{keyed_value};
 ghost use Rattle.rr_host.specs.Clock.{HasGiven};
-ghost use Rattle.rr_node.specs.Connection.{IsAnswer, IsFew, IsTaken, TakesItem};
+ghost use Rattle.rr_node.specs.Connection.{IsAnswer, IsFew, Handled, HandledItem};
 ghost use Rattle.rr_node.specs.Lines.{refused, verdict_of_point};
 ghost use Rattle.rr_point.specs.Key.{IsWritable};
 
@@ -46,7 +46,8 @@ fn write_point<A: Cells, C: Clock>(
 ) -> Result<Answer, AllocError>
     requires { IsWritable (point_view point.now) }
     ensures taken { (now : ℤ) × HasGiven (C.given clock.old) (C.given clock.new) (now ∷ [])
-        × IsTaken (verdict_of_point lead now (holding_of keeper.old) (point_view point.now)) keeper.old keeper.new result }
+        × Handled (verdict_of_point lead now (own_replica keeper.old) (point_view point.now))
+        keeper.old keeper.new result }
     ensures count_fits { IfOk result IsFew }
 {
     let now = clock.now();
@@ -70,7 +71,8 @@ fn write_sample<A: Cells, C: Clock>(
 ) -> Result<Answer, AllocError>
     ensures taken { (p : PointView) → samples_of p ≡ (key, value) ∷ [] → p.time ≡ time
         → (now : ℤ) × HasGiven (C.given clock.old) (C.given clock.new) (now ∷ [])
-        × IsTaken (verdict_of_point lead now (holding_of keeper.old) p) keeper.old keeper.new result }
+        × Handled (verdict_of_point lead now (own_replica keeper.old) p) keeper.old keeper.new
+        result }
     ensures count_fits { IfOk result IsFew }
 {
     let now = clock.now();
@@ -93,7 +95,8 @@ fn write_samples<A: Cells, C: Clock>(
     requires { length values.now ≤ MAX_FIELDS }
     ensures taken { (p : PointView) → samples_of p ≡ map keyed_value values.now → p.time ≡ time
         → (now : ℤ) × HasGiven (C.given clock.old) (C.given clock.new) (now ∷ [])
-        × IsTaken (verdict_of_point lead now (holding_of keeper.old) p) keeper.old keeper.new result }
+        × Handled (verdict_of_point lead now (own_replica keeper.old) p) keeper.old keeper.new
+        result }
     ensures count_fits { IfOk result IsFew }
 {
     let now = clock.now();
@@ -105,8 +108,8 @@ fn write_samples<A: Cells, C: Clock>(
     }
 }
 
-/// Writes the sample of a line, if it says one sample of the series that is likely to come next. Where it
-/// doesn't, nothing is done.
+/// Writes the sample of a line, if it says one sample of the series that is likely to come next.
+/// Where it doesn't, nothing is done.
 fn write_next<A: Cells, C: Clock>(
     keeper: &mut Keeper<A>,
     clock: &mut C,
@@ -115,7 +118,8 @@ fn write_next<A: Cells, C: Clock>(
     line: &[u8],
 ) -> Option<Result<Answer, AllocError>>
     ensures taken { IfSome result (λ answer.
-        TakesItem rules (feed.Line line.now) keeper.old keeper.new (C.given clock.old) (C.given clock.new) answer) }
+        HandledItem rules (feed.Line line.now) keeper.old keeper.new (C.given clock.old)
+        (C.given clock.new) answer) }
     ensures count_fits { IfSome result (λ answer. IfOk answer IsFew) }
     ensures keeper { result ≡ None → keeper.new ≡ keeper.old }
     ensures clock { result ≡ None → clock.new ≡ clock.old }
@@ -134,8 +138,8 @@ fn keyed(key: &SeriesKey, value: i64) -> Option<KeyedValue>
     Some(KeyedValue { key, value })
 }
 
-/// The values and the time of a line, if it says those of the series that are likely to come next, one after
-/// the other.
+/// The values and the time of a line, if it says those of the series that are likely to come next,
+/// one after the other.
 fn read_next<A: Cells>(
     alloc: Global,
     keeper: &Keeper<A>,
@@ -166,8 +170,8 @@ fn read_next<A: Cells>(
     Some((values, time))
 }
 
-/// Writes the samples of a line, if it says one of each of the series that are likely to come next. Where it
-/// doesn't, nothing is done.
+/// Writes the samples of a line, if it says one of each of the series that are likely to come next.
+/// Where it doesn't, nothing is done.
 fn write_several<A: Cells, C: Clock>(
     alloc: Global,
     keeper: &mut Keeper<A>,
@@ -177,7 +181,8 @@ fn write_several<A: Cells, C: Clock>(
     line: &[u8],
 ) -> Option<Result<Answer, AllocError>>
     ensures taken { IfSome result (λ answer.
-        TakesItem rules (feed.Line line.now) keeper.old keeper.new (C.given clock.old) (C.given clock.new) answer) }
+        HandledItem rules (feed.Line line.now) keeper.old keeper.new (C.given clock.old)
+        (C.given clock.new) answer) }
     ensures count_fits { IfSome result (λ answer. IfOk answer IsFew) }
     ensures keeper { result ≡ None → keeper.new ≡ keeper.old }
     ensures clock { result ≡ None → clock.new ≡ clock.old }
@@ -195,7 +200,8 @@ fn write_parsed<A: Cells, C: Clock>(
     line: &[u8],
 ) -> Result<Answer, AllocError>
     requires { HasNoLineFeed line.now }
-    ensures taken { TakesItem rules (feed.Line line.now) keeper.old keeper.new (C.given clock.old) (C.given clock.new) result }
+    ensures taken { HandledItem rules (feed.Line line.now) keeper.old keeper.new (C.given clock.old)
+        (C.given clock.new) result }
     ensures count_fits { IfOk result IsFew }
 {
     match parse_line(alloc, line, rules.precision) {
@@ -215,7 +221,8 @@ fn write_line<A: Cells, C: Clock>(
     line: &[u8],
 ) -> Result<Answer, AllocError>
     requires { HasNoLineFeed line.now }
-    ensures taken { TakesItem rules (feed.Line line.now) keeper.old keeper.new (C.given clock.old) (C.given clock.new) result }
+    ensures taken { HandledItem rules (feed.Line line.now) keeper.old keeper.new (C.given clock.old)
+        (C.given clock.new) result }
     ensures count_fits { IfOk result IsFew }
 {
     if let Some(answer) = write_next(keeper, clock, rules, last, line) {
@@ -249,7 +256,8 @@ pub(crate) fn write_item<A: Cells, C: Clock>(
     item: FeedLine<'_>,
 ) -> Result<Answer, AllocError>
     requires { IsLine (item_view item) }
-    ensures taken { TakesItem rules (item_view item.entry) keeper.old keeper.new (C.given clock.old) (C.given clock.new) result }
+    ensures taken { HandledItem rules (item_view item.entry) keeper.old keeper.new
+        (C.given clock.old) (C.given clock.new) result }
     ensures count_fits { IfOk result IsFew }
 {
     match item {

@@ -5,7 +5,7 @@ ghost use Rattle.rr_text.specs.Results.{GivesUnless};
 ghost use Rattle.rr_feed.specs.Feed.{HandsOut};
 ghost use Rattle.rr_feed.specs.Items.{Item, item_view};
 ghost use Rattle.rr_request.specs.Requests.{request_view, IsFetchable};
-ghost use Rattle.rr_desk.specs.Standing.{HasSeenMore};
+ghost use Rattle.rr_desk.specs.ReaderState.{HasSeenMore};
 ghost use Rattle.rr_node.specs.Answering.{Next};
 ghost use Rattle.rr_node.specs.Fetches.{after_fetch, by_name, error_text, request_in, sight, IsAnswer, IsAnswered};
 
@@ -29,7 +29,8 @@ fn after_fetch(line: &[u8]) -> Option<&[u8]>
 /// The request of a line `fetch CF RESOLUTION START END KEY`.
 #[tactic(auto, unfolding(crate::specs::Fetches::request_in))]
 fn request_in(alloc: Global, line: &[u8], schema: &Schema) -> Result<Request, RequestFault>
-    ensures value { GivesUnless RequestFault.Memory request_view result (request_in schema.now line.now) }
+    ensures value { GivesUnless RequestFault.Memory request_view result
+        (request_in schema.now line.now) }
     ensures fetchable { IfOk result (λ q. IsFetchable schema.now (request_view q)) }
 {
     let words = after_fetch(line).ok_or(RequestFault::BadCommand)?;
@@ -73,7 +74,8 @@ fn answer_line<A: Cells, G: Gate>(
     gate: &mut G,
 ) -> Result<Vec<u8>, AllocError>
     ensures seen { HasSeenMore reader.old reader.new }
-    ensures answered { IfOk result (λ text. IsAnswer (by_name (request_in reader.old.schema line.now))
+    ensures answered { IfOk result (λ text. IsAnswer
+        (by_name (request_in reader.old.schema line.now))
         (sight reader.old (G.calls gate.old)) (sight reader.new (G.calls gate.new)) text.items) }
 {
     match request_in(alloc, line, reader.schema()) {

@@ -5,7 +5,7 @@ ghost use Rattle.std.specs.Io.KnownBytes.{Appends};
 ghost use Rattle.rr_io.specs.Counted.{inner_of, failures_of, HasRisen};
 ghost use Rattle.rr_io.specs.Stream.{AppendsPrefix};
 ghost use Rattle.rr_text.specs.declared.limits.TheConstants.{MAX_FIELDS};
-ghost use Rattle.rr_copies.specs.Standing.{KeeperState};
+ghost use Rattle.rr_copies.specs.KeeperState.{KeeperState};
 ghost use Rattle.rr_feed.specs.Feed.{items_left, empty_feed};
 ghost use Rattle.rr_node.specs.declared.lines.TheConstants.{PIECE};
 ghost use Rattle.rr_host.specs.Clock.{HasGiven};
@@ -38,7 +38,8 @@ pub(crate) struct Connection {
     pieces: u32,
     lines: u64,
     report: Report,
-    /// The time of the last line that had one; most lines of a connection have that of the one before.
+    /// The time of the last line that had one; most lines of a connection have that of the one
+    /// before.
     last: LastTime,
 
     ghost few: { report.points + report.refused ≤ lines },
@@ -47,7 +48,7 @@ pub(crate) struct Connection {
 }
 
 impl Connection {
-    ghost use Rattle.rr_node.specs.Connection.{Ends, EndsAnswered, EndsAtLast, Finishes, HasServed, IsFew, Serves, Takes, counted_in, text_to};
+    ghost use Rattle.rr_node.specs.Connection.{StoppedByMemory, StoppedWriting, StoppedAtEnd, ServedAll, HasServed, IsFew, ServedItems, PushedPiece, counted_in, text_to};
 
     /// No line came yet.
     pub(crate) fn new(alloc: Global, rules: Rules) -> Connection
@@ -76,7 +77,7 @@ impl Connection {
         requires going { self.old.feed.ended ≡ false }
         requires pieces_fit { self.old.pieces + 1 < 2 ^ 32 }
         requires fits { length piece.now ≤ PIECE }
-        ensures taken { OnOk result (Takes self.old self.new piece.now) }
+        ensures taken { OnOk result (PushedPiece self.old self.new piece.now) }
     {
         let Ok(()) = self.feed.push(piece) else {
             return Err(AllocError);
@@ -91,7 +92,8 @@ impl Connection {
         requires answer_fits { IsFew answer }
         ensures lines { OnOk result (self.new.lines ≡ self.old.lines + 1) }
         ensures report { OnOk result (self.new.report ≡ counted_in self.old.report answer) }
-        ensures answered { OnOk result (answers.new.items ≡ answers.old.items ++ text_to (self.old.lines + 1) answer) }
+        ensures answered { OnOk result (answers.new.items ≡ answers.old.items
+            ++ text_to (self.old.lines + 1) answer) }
         ensures feed { self.new.feed ≡ self.old.feed }
         ensures pieces { self.new.pieces ≡ self.old.pieces }
         ensures rules { self.new.rules ≡ self.old.rules }
@@ -137,11 +139,11 @@ impl Connection {
         ensures served { OnOk result ((moments : List ℤ) × (text : List ℕ)
             × HasGiven (C.given clock.old) (C.given clock.new) moments
             × (answers.new.items ≡ answers.old.items ++ text)
-            × Serves self.old self.new keeper.old keeper.new moments text) }
+            × ServedItems self.old self.new keeper.old keeper.new moments text) }
         ensures all_taken { OnOk result (items_left self.new.feed ≡ []) }
         ensures ended { OnErr result ((moments : List ℤ)
             × HasGiven (C.given clock.old) (C.given clock.new) moments
-            × Ends self.old keeper.old keeper.new moments) }
+            × StoppedByMemory self.old keeper.old keeper.new moments) }
     {
         while let Some(item) = self.feed.next_line() {
             let answer = write_item(self.alloc, keeper, clock, self.rules, &mut self.last, item)?;
@@ -151,8 +153,8 @@ impl Connection {
         Ok(())
     }
 
-    /// Hands the lines that came to the keeper, and writes what is answered to them. Lines that came together
-    /// may have one moment.
+    /// Hands the lines that came to the keeper, and writes what is answered to them. Lines that
+    /// came together may have one moment.
     pub(crate) fn answer_lines<A: Cells, C: Clock, W: Write, T: Wait>(
         &mut self,
         output: &mut Counted<W>,
@@ -163,13 +165,15 @@ impl Connection {
         ensures served { OnOk result ((moments : List ℤ) × (text : List ℕ)
             × HasGiven (C.given clock.old) (C.given clock.new) moments
             × Appends (W.contents (inner_of output.old)) (W.contents (inner_of output.new)) text
-            × Serves self.old self.new keeper.old keeper.new moments text) }
+            × ServedItems self.old self.new keeper.old keeper.new moments text) }
         ensures all_taken { OnOk result (items_left self.new.feed ≡ []) }
         ensures stopped { OnErr result ((moments : List ℤ)
             × HasGiven (C.given clock.old) (C.given clock.new) moments
-            × EndsAnswered self.old keeper.old keeper.new moments (W.contents (inner_of output.old)) (W.contents (inner_of output.new))) }
+            × StoppedWriting self.old keeper.old keeper.new moments
+            (W.contents (inner_of output.old)) (W.contents (inner_of output.new))) }
         ensures count { failures_of output.old ≤ failures_of output.new }
-        ensures failed { result ≡ Err NodeFault.WriteFailed → HasRisen (failures_of output.old) (failures_of output.new) }
+        ensures failed { result ≡ Err NodeFault.WriteFailed
+            → HasRisen (failures_of output.old) (failures_of output.new) }
         ensures faults { IfErr result IsOfWriting }
     {
         let mut answers = Vec::new(self.alloc);
@@ -189,12 +193,15 @@ impl Connection {
     ) -> Result<Report, NodeFault>
         ensures served { IfOk result (λ counted. (moments : List ℤ)
             × HasGiven (C.given clock.old) (C.given clock.new) moments
-            × Finishes self.old keeper.old keeper.new counted moments (W.contents (inner_of output.old)) (W.contents (inner_of output.new))) }
+            × ServedAll self.old keeper.old keeper.new counted moments
+            (W.contents (inner_of output.old)) (W.contents (inner_of output.new))) }
         ensures stopped { OnErr result ((moments : List ℤ)
             × HasGiven (C.given clock.old) (C.given clock.new) moments
-            × EndsAtLast self.old keeper.old keeper.new moments (W.contents (inner_of output.old)) (W.contents (inner_of output.new))) }
+            × StoppedAtEnd self.old keeper.old keeper.new moments (W.contents (inner_of output.old))
+            (W.contents (inner_of output.new))) }
         ensures count { failures_of output.old ≤ failures_of output.new }
-        ensures failed { result ≡ Err NodeFault.WriteFailed → HasRisen (failures_of output.old) (failures_of output.new) }
+        ensures failed { result ≡ Err NodeFault.WriteFailed
+            → HasRisen (failures_of output.old) (failures_of output.new) }
         ensures faults { IfErr result IsOfWriting }
     {
         self.feed.end();
@@ -207,8 +214,10 @@ impl Connection {
 
 /// Writes a text and has the writer pass it on; nothing is done where it is empty.
 fn send<W: Write>(output: &mut Counted<W>, text: &[u8]) -> Result<(), WriteFailed>
-    ensures whole { OnOk result (Appends (W.contents (inner_of output.old)) (W.contents (inner_of output.new)) text.now) }
-    ensures front { AppendsPrefix (W.contents (inner_of output.old)) (W.contents (inner_of output.new)) text.now }
+    ensures whole { OnOk result (Appends (W.contents (inner_of output.old))
+        (W.contents (inner_of output.new)) text.now) }
+    ensures front { AppendsPrefix (W.contents (inner_of output.old))
+        (W.contents (inner_of output.new)) text.now }
     ensures count { failures_of output.old ≤ failures_of output.new }
     ensures failed { OnErr result (HasRisen (failures_of output.old) (failures_of output.new)) }
 {
@@ -225,10 +234,13 @@ fn send_report<W: Write>(
     output: &mut Counted<W>,
     report: &Report,
 ) -> Result<(), NodeFault>
-    ensures whole { OnOk result (Appends (W.contents (inner_of output.old)) (W.contents (inner_of output.new)) (report_text report.now)) }
-    ensures front { AppendsPrefix (W.contents (inner_of output.old)) (W.contents (inner_of output.new)) (report_text report.now) }
+    ensures whole { OnOk result (Appends (W.contents (inner_of output.old))
+        (W.contents (inner_of output.new)) (report_text report.now)) }
+    ensures front { AppendsPrefix (W.contents (inner_of output.old))
+        (W.contents (inner_of output.new)) (report_text report.now) }
     ensures count { failures_of output.old ≤ failures_of output.new }
-    ensures failed { result ≡ Err NodeFault.WriteFailed → HasRisen (failures_of output.old) (failures_of output.new) }
+    ensures failed { result ≡ Err NodeFault.WriteFailed
+        → HasRisen (failures_of output.old) (failures_of output.new) }
     ensures faults { IfErr result IsOfWriting }
 {
     let mut text = Vec::new(alloc);

@@ -10,12 +10,13 @@ use rr_snapshot::SaveFault;
 use std::alloc::{AllocError, Global};
 use std::rt::Files;
 
-/// Saves snapshots to a file, where one is named, and prints on standard error what failed: `peer I: NAME`
-/// of a peer, counted from 1; `peer I: own origin` once of a peer that has cells of the node's own origin which it never
-/// wrote; and `save: NAME` after a line with the file and the reason.
+/// Saves snapshots to a file, where one is named, and prints on standard error what failed: `peer
+/// I: NAME` of a peer, counted from 1; `peer I: own origin` once of a peer that has cells of the
+/// node's own origin which it never wrote; and `save: NAME` after a line with the file and the
+/// reason.
 ///
-/// A snapshot is written to a file beside, whose name ends in `.new`, and then renamed, so that the file
-/// has the last snapshot or the new one, whatever ends the process.
+/// A snapshot is written to a file beside, whose name ends in `.new`, and then renamed, so that the
+/// file has the last snapshot or the new one, whatever ends the process.
 #[derive(Drop)]
 pub struct FileShelf<'a, R> {
     rt: &'a R,

@@ -1,4 +1,5 @@
-//! A node: a server that takes lines, answers fetches and pulls from its peers, as a [`Config`] says.
+//! A node: a server that takes lines, answers fetches and pulls from its peers, as a [`Config`]
+//! says.
 //!
 //! ```text
 //!               ┌ Visits ── serve_lines ──> samples that a Keeper puts, answers and a report
@@ -7,15 +8,16 @@
 //! serve_seat ──── Visits ── serve_reader ─> answers of a Reader, or a session in which a peer pulls
 //! ```
 //!
-//! [`serve_node`] keeps rounds on one thread ([`keep_round`]) and serves each [`Seat`] on another. What is
-//! handed in stands behind small traits, each seen as the list of its calls: [`Visits`], a [`Dial`], a [`Halt`]
-//! and a [`Clock`] of [`rr_host`], and a [`Shelf`], which takes snapshots ([`FileShelf`], by turns [`PacedShelf`]).
+//! [`serve_node`] keeps rounds on one thread ([`keep_round`]) and serves each [`Seat`] on another.
+//! What is handed in stands behind small traits, each seen as the list of its calls: [`Visits`], a
+//! [`Dial`], a [`Halt`] and a [`Clock`] of [`rr_host`], and a [`Shelf`], which takes snapshots
+//! ([`FileShelf`], by turns [`PacedShelf`]).
 //!
-//! In `specs/` what lines make of a keeper, and what is answered, is a function of them and the clock's
-//! moments (`specs/Lines.antt`). The answer to a fetch is a function of the cells that the reader has seen
-//! (`specs/Fetches.antt`), over lists of operations that grow. A seat is the connections of its calls,
-//! served in order (`specs/Seats.antt`); a round is its parts in order (`specs/Round.antt`), and a node's
-//! rounds follow each other (`specs/Rounds.antt`).
+//! In `specs/` what lines make of a keeper, and what is answered, is a function of them and the
+//! clock's moments (`specs/Lines.antt`). The answer to a fetch is a function of the cells that the
+//! reader has seen (`specs/Fetches.antt`), over lists of operations that grow. A seat is the
+//! connections of its calls, served in order (`specs/Seats.antt`); a round is its parts in order
+//! (`specs/Round.antt`), and a node's rounds follow each other (`specs/Rounds.antt`).
 #![tactic(auto)]
 
 mod answer;

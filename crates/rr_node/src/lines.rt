@@ -29,16 +29,16 @@ const _: () = prove!(PIECE == 65_536);
 /// Hands the lines that `input` still has to a keeper, answers to `output`, and reports what became
 /// of them.
 ///
-/// Each line is one [`Keeper::write`], with a sample for each field of its point, at its own time, or
-/// else at the moment that the clock gives. The clock is asked once for each point, also for one with a
-/// time of its own, and is renewed for each piece of the input. A refused line is answered at once by
-/// `line N: NAME`, where N counts all lines from 1: its fault, `LineTooLong`, `AheadOfClock` or
-/// `NumbersSpent`. After each 1,000 lines and at the end all is published; then `points P samples S
-/// refused R` is written.
+/// Each line is one [`Keeper::write`], with a sample for each field of its point, at its own time,
+/// or else at the moment that the clock gives. The clock is asked once for each point, also for one
+/// with a time of its own, and is renewed for each piece of the input. A refused line is answered
+/// at once by `line N: NAME`, where N counts all lines from 1: its fault, `LineTooLong`,
+/// `AheadOfClock` or `NumbersSpent`. After each 1,000 lines and at the end all is published; then
+/// `points P samples S refused R` is written.
 ///
 /// However a call ends, what was put stays, published or pending, and what is written is a front of
-/// the whole answer. The cost is that of reading and writing each line; a piece of the input, one line
-/// and the answers to the lines of that piece are held.
+/// the whole answer. The cost is that of reading and writing each line; a piece of the input, one
+/// line and the answers to the lines of that piece are held.
 pub fn serve_lines<A: Cells, R: Read, W: Write, C: Clock, T: Wait>(
     alloc: Global,
     input: &mut Counted<R>,
@@ -71,12 +71,14 @@ pub fn serve_lines<A: Cells, R: Read, W: Write, C: Clock, T: Wait>(
     })) }
 
     // When a stream is to blame.
-    ensures read_failed { result ≡ Err NodeFault.ReadFailed → HasRisen (failures_of input.old) (failures_of input.new) }
+    ensures read_failed { result ≡ Err NodeFault.ReadFailed
+        → HasRisen (failures_of input.old) (failures_of input.new) }
     ensures faults { IfErr result IsOfLines }
     ensures limit { reads_of input.new ≤ reads_of input.old + MAX_READS }
     ensures too_many { result ≡ Err NodeFault.TooManyReads
         → HasRisenBy MAX_READS (reads_of input.old) (reads_of input.new) }
-    ensures write_failed { result ≡ Err NodeFault.WriteFailed → HasRisen (failures_of output.old) (failures_of output.new) }
+    ensures write_failed { result ≡ Err NodeFault.WriteFailed
+        → HasRisen (failures_of output.old) (failures_of output.new) }
 {
     serve_lines_within(
         alloc, input, output, keeper, clock, precision, lead, rt, MAX_READS,
@@ -121,12 +123,14 @@ pub fn serve_lines_within<A: Cells, R: Read, W: Write, C: Clock, T: Wait>(
     })) }
 
     // When a stream is to blame.
-    ensures read_failed { result ≡ Err NodeFault.ReadFailed → HasRisen (failures_of input.old) (failures_of input.new) }
+    ensures read_failed { result ≡ Err NodeFault.ReadFailed
+        → HasRisen (failures_of input.old) (failures_of input.new) }
     ensures faults { IfErr result IsOfLines }
     ensures limit { reads_of input.new ≤ reads_of input.old + reads }
     ensures too_many { result ≡ Err NodeFault.TooManyReads
         → HasRisenBy reads (reads_of input.old) (reads_of input.new) }
-    ensures write_failed { result ≡ Err NodeFault.WriteFailed → HasRisen (failures_of output.old) (failures_of output.new) }
+    ensures write_failed { result ≡ Err NodeFault.WriteFailed
+        → HasRisen (failures_of output.old) (failures_of output.new) }
 {
     let mut connection = Connection::new(alloc, Rules { precision, lead });
     let mut piece = [0u8; PIECE];

@@ -28,23 +28,23 @@ pub trait Seats {
 
     ghost calls: { Self → Option (List SeatsCall) };
 
-    /// Serves each seat as [`crate::serve_seat`] does, for so many connections, and answers whether memory
-    /// sufficed in all of them. It ends when all seats have.
+    /// Serves each seat as [`crate::serve_seat`] does, for so many connections, and answers whether
+    /// memory sufficed in all of them. It ends when all seats have.
     ///
-    /// Where memory runs out at one of them, and where the node is halted, the others are to end too, whatever they
-    /// wait for.
+    /// Where memory runs out at one of them, and where the node is halted, the others are to end
+    /// too, whatever they wait for.
     fn serve<T: Threads + Sync>(&mut self, rt: &T, alloc: Global, visits: u64) -> bool
         requires { IsSync T.row }
         ensures { Grows (calls self.old) (calls self.new) (served visits result ∷ []) };
 }
 
 /// Serves as a node. On the calling thread rounds are kept ([`crate::keep_round`]) until no line
-/// connection will come, or until there were as many as the configuration says; each seat is served on
-/// a thread of its own ([`crate::serve_seat`]), for as many connections as it says. It ends when all threads
-/// have.
+/// connection will come, or until there were as many as the configuration says; each seat is served
+/// on a thread of its own ([`crate::serve_seat`]), for as many connections as it says. It ends when
+/// all threads have.
 ///
-/// Refused as `Memory` alone, where it ran out on one of the threads, which then ended early. `halt` is called
-/// exactly where it ran out in the rounds, so that the seats end early too.
+/// Refused as `Memory` alone, where it ran out on one of the threads, which then ended early.
+/// `halt` is called exactly where it ran out in the rounds, so that the seats end early too.
 pub fn serve_node<
     A: Cells,
     V: Visits,
@@ -69,7 +69,8 @@ pub fn serve_node<
     ensures rounds { OnOk result (HasKept config.now true (V.calls lines.old) (V.calls lines.new)
         (D.calls dial.old) (D.calls dial.new) (S.calls shelf.old) (S.calls shelf.new)
         (post keeper.old (C.given clock.old)) (post keeper.new (C.given clock.new))) }
-    ensures seats { OnOk result (Grows (Q.calls seats.old) (Q.calls seats.new) (served config.now.visits true ∷ [])) }
+    ensures seats { OnOk result (Grows (Q.calls seats.old) (Q.calls seats.new)
+        (served config.now.visits true ∷ [])) }
     ensures on { OnOk result (Grows (H.calls halt.old) (H.calls halt.new) []) }
     ensures so_far { OnErr result ((kept sufficed : Bool) × ((kept && sufficed) ≡ false)
         × HasKept config.now kept (V.calls lines.old) (V.calls lines.new)
@@ -82,12 +83,16 @@ pub fn serve_node<
     let visits = config.visits;
     let mut seating = || -> bool
         requires { IsSync T.row }
-        ensures { Grows (Q.calls seats.entry.now) (Q.calls seats.exit.now) (served visits result ∷ []) }
+        ensures { Grows (Q.calls seats.entry.now) (Q.calls seats.exit.now)
+            (served visits result ∷ []) }
     { seats.serve(rt, alloc, visits) };
     let mut keeping = || -> Result<(), NodeFault>
-        ensures { HasKept config.entry.now (is_ok result) (V.calls lines.entry.now) (V.calls lines.exit.now)
-            (D.calls dial.entry.now) (D.calls dial.exit.now) (S.calls shelf.entry.now) (S.calls shelf.exit.now)
-            (post keeper.entry.now (C.given clock.entry.now)) (post keeper.exit.now (C.given clock.exit.now))
+        ensures { HasKept config.entry.now (is_ok result) (V.calls lines.entry.now)
+            (V.calls lines.exit.now)
+            (D.calls dial.entry.now) (D.calls dial.exit.now) (S.calls shelf.entry.now)
+            (S.calls shelf.exit.now)
+            (post keeper.entry.now (C.given clock.entry.now))
+            (post keeper.exit.now (C.given clock.exit.now))
             × Grows (H.calls halt.entry.now) (H.calls halt.exit.now) (halts (is_ok result)) }
     { keep_or_halt(alloc, keeper, lines, dial, shelf, halt, clock, config, rt) };
     let (served, kept) = join_mut(rt, &mut seating, &mut keeping);

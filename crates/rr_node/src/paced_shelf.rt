@@ -10,9 +10,10 @@ use rr_snapshot::SaveFault;
 use std::rt::Files;
 use std::time::Clock;
 
-/// A shelf that wants a snapshot at most once in a turn of so many seconds, or when a flag was raised, and then hands
-/// it to another shelf. After each turn its log says what the rounds did. In each round it prints on standard error
-/// `session: SchemaDiffers`, if another flag was raised. Nothing is known of its calls.
+/// A shelf that wants a snapshot at most once in a turn of so many seconds, or when a flag was
+/// raised, and then hands it to another shelf. After each turn its log says what the rounds did. In
+/// each round it prints on standard error `session: SchemaDiffers`, if another flag was raised.
+/// Nothing is known of its calls.
 #[derive(Drop)]
 pub struct PacedShelf<'a, R, S> {
     rt: &'a R,
@@ -24,8 +25,9 @@ pub struct PacedShelf<'a, R, S> {
 }
 
 impl<'a, R: Files + Eprint + Clock, S> PacedShelf<'a, R, S> {
-    /// Hands a snapshot to a shelf once in so many seconds, or whenever there is one where that is missing; the
-    /// wish asks for one before its time. The alarm is that a peer of another schema pulled.
+    /// Hands a snapshot to a shelf once in so many seconds, or whenever there is one where that is
+    /// missing; the wish asks for one before its time. The alarm is that a peer of another schema
+    /// pulled.
     pub fn new(
         rt: &'a R,
         shelf: S,

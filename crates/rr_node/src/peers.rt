@@ -39,7 +39,8 @@ fn pull_from<A: Cells, D: Dial, T: Wait>(
 
 /// The fault that ended a pull, unless it succeeded or memory ran out.
 fn skipped(pulled: Result<(), NodeFault>) -> Result<Option<NodeFault>, AllocError>
-    ensures skipped { IfOk result (λ fault. (fault ≡ fault_in pulled) × IfSome fault (λ why. why ≢ NodeFault.Memory)) }
+    ensures skipped { IfOk result (λ fault. (fault ≡ fault_in pulled)
+        × IfSome fault (λ why. why ≢ NodeFault.Memory)) }
     ensures memory { OnErr result (fault_in pulled ≡ Some NodeFault.Memory) }
 {
     match pulled {
@@ -49,7 +50,8 @@ fn skipped(pulled: Result<(), NodeFault>) -> Result<Option<NodeFault>, AllocErro
     }
 }
 
-/// Tells the shelf of a peer that is done with: whether it has cells of the keeper's own origin, and its fault.
+/// Tells the shelf of a peer that is done with: whether it has cells of the keeper's own origin,
+/// and its fault.
 fn tell<S: Shelf>(shelf: &mut S, number: usize, has_own: bool, fault: Option<NodeFault>)
     ensures { Grows (S.calls shelf.old) (S.calls shelf.new) (told_of_peer number has_own fault) }
 {
@@ -61,8 +63,9 @@ fn tell<S: Shelf>(shelf: &mut S, number: usize, has_own: bool, fault: Option<Nod
     }
 }
 
-/// Pulls from each peer that is due, in their order. A fault other than `Memory` is told to the shelf, and ends no
-/// other pull. So is a peer that has cells of the keeper's own origin with versions at or past its next number.
+/// Pulls from each peer that is due, in their order. A fault other than `Memory` is told to the
+/// shelf, and ends no other pull. So is a peer that has cells of the keeper's own origin with
+/// versions at or past its next number.
 pub(crate) fn pull_peers<A: Cells, D: Dial, S: Shelf, T: Wait>(
     alloc: Global,
     peers: &[String],
@@ -74,7 +77,8 @@ pub(crate) fn pull_peers<A: Cells, D: Dial, S: Shelf, T: Wait>(
     ensures { (dialed : List DialCall) × (told : List ShelfCall)
         × Grows (D.calls dial.old) (D.calls dial.new) dialed
         × Grows (S.calls shelf.old) (S.calls shelf.new) told
-        × EndsPulls (is_ok result) 1 (map string_bytes peers.now) keeper.old keeper.new dialed told }
+        × EndsPulls (is_ok result) 1 (map string_bytes peers.now) keeper.old keeper.new dialed
+        told }
 {
     for (place, address) in peers.iter().enumerate() {
         let next = keeper.next_number();

@@ -7,7 +7,7 @@ ghost use Rattle.rr_text.specs.declared.limits.TheConstants.{MAX_READS};
 ghost use Rattle.rr_feed.specs.Feed.{items_left};
 ghost use Rattle.rr_gossip.specs.declared.frame.TheConstants.{MAX_FRAMES};
 ghost use Rattle.rr_gossip.specs.Session.{HasGiven};
-ghost use Rattle.rr_desk.specs.Standing.{cells_seen, HasSeenMore};
+ghost use Rattle.rr_desk.specs.ReaderState.{cells_seen, HasSeenMore};
 ghost use Rattle.rr_node.specs.Answering.{HasWritten, HasWrittenSome};
 ghost use Rattle.rr_node.specs.Fault.{IsOfLines, IsOfReader, IsOfSession, is_of_session};
 ghost use Rattle.rr_node.specs.Fetches.{sight, is_pull, HasAnswered, HasAnsweredSome, HasFailedSession, IsServed};
@@ -31,14 +31,17 @@ const PIECE: usize = 65_536;
 fn read_first<R: Read>(input: &mut Counted<R>) -> Result<(Option<u8>, u32), NodeFault>
     ensures bytes { IfOk result (λ first. Consumes (R.remaining (inner_of input.old))
         (R.remaining (inner_of input.new)) (option_to_list first.0)) }
-    ensures end { IfOk result (λ first. first.0 ≡ None → IsAtEnd (R.remaining (inner_of input.new))) }
+    ensures end { IfOk result (λ first. first.0 ≡ None
+        → IsAtEnd (R.remaining (inner_of input.new))) }
     ensures reads { IfOk result (λ first. (first.1 ≤ MAX_READS)
         × HasRisenBy first.1 (reads_of input.old) (reads_of input.new)
         × (reads_of input.new ≤ reads_of input.old + first.1)) }
     ensures limit { reads_of input.new ≤ reads_of input.old + MAX_READS }
-    ensures faults { IfErr result (λ fault. (fault ≡ NodeFault.ReadFailed) ⊎ (fault ≡ NodeFault.TooManyReads)) }
+    ensures faults { IfErr result (λ fault. (fault ≡ NodeFault.ReadFailed)
+        ⊎ (fault ≡ NodeFault.TooManyReads)) }
     ensures count { failures_of input.old ≤ failures_of input.new }
-    ensures failed { result ≡ Err NodeFault.ReadFailed → HasRisen (failures_of input.old) (failures_of input.new) }
+    ensures failed { result ≡ Err NodeFault.ReadFailed
+        → HasRisen (failures_of input.old) (failures_of input.new) }
     ensures too_many { result ≡ Err NodeFault.TooManyReads
         → HasRisenBy MAX_READS (reads_of input.old) (reads_of input.new) }
 {
@@ -77,8 +80,10 @@ fn answer_items<A: Cells, W: Write, G: Gate>(
         (sight reader.old (G.calls gate.old)) reader.new
         (W.contents (inner_of output.old)) (W.contents (inner_of output.new))) }
     ensures count { failures_of output.old ≤ failures_of output.new }
-    ensures failed { result ≡ Err NodeFault.WriteFailed → HasRisen (failures_of output.old) (failures_of output.new) }
-    ensures faults { IfErr result (λ fault. (fault ≡ NodeFault.WriteFailed) ⊎ (fault ≡ NodeFault.Memory)) }
+    ensures failed { result ≡ Err NodeFault.WriteFailed
+        → HasRisen (failures_of output.old) (failures_of output.new) }
+    ensures faults { IfErr result (λ fault. (fault ≡ NodeFault.WriteFailed)
+        ⊎ (fault ≡ NodeFault.Memory)) }
 {
     while let Some(text) = next_answer(alloc, feed, reader, gate)? {
         write_all(output, &text)?;
@@ -98,13 +103,15 @@ fn answer_lines<A: Cells, R: Read, W: Write, G: Gate>(
     reads: u32,
 ) -> Result<(), NodeFault>
     ensures answered { OnOk result (IfSome (R.remaining (inner_of input.old)) (λ rest.
-        HasAnswered (first ∷ rest) (sight reader.old (G.calls gate.old)) (sight reader.new (G.calls gate.new))
+        HasAnswered (first ∷ rest) (sight reader.old (G.calls gate.old))
+        (sight reader.new (G.calls gate.new))
         (W.contents (inner_of output.old)) (W.contents (inner_of output.new)))) }
     ensures part_written { OnErr result (IfSome (R.remaining (inner_of input.old)) (λ rest.
         HasAnsweredSome (first ∷ rest) (sight reader.old (G.calls gate.old)) reader.new
         (W.contents (inner_of output.old)) (W.contents (inner_of output.new)))) }
     ensures seen { HasSeenMore reader.old reader.new }
-    ensures read_failed { result ≡ Err NodeFault.ReadFailed → HasRisen (failures_of input.old) (failures_of input.new) }
+    ensures read_failed { result ≡ Err NodeFault.ReadFailed
+        → HasRisen (failures_of input.old) (failures_of input.new) }
     ensures too_many { result ≡ Err NodeFault.TooManyReads
         → HasRisenBy reads (reads_of input.old) (reads_of input.new) }
     ensures write_failed { result ≡ Err NodeFault.WriteFailed
@@ -137,7 +144,8 @@ fn give_session<A: Cells, R: Read, W: Write>(
     output: &mut Counted<W>,
     reader: &mut Reader<A>,
 ) -> Result<(), NodeFault>
-    ensures given { OnOk result (HasGiven MAX_FRAMES reader.old.schema (cells_seen reader.new) (0 ∷ [])
+    ensures given { OnOk result (HasGiven MAX_FRAMES reader.old.schema (cells_seen reader.new)
+        (0 ∷ [])
         (R.remaining (inner_of input.old)) (R.remaining (inner_of input.new))
         (W.contents (inner_of output.old)) (W.contents (inner_of output.new))) }
     ensures stopped { IfErr result (HasFailedSession reader.old.schema (cells_seen reader.new)
@@ -161,13 +169,14 @@ fn give_session<A: Cells, R: Read, W: Write>(
 /// `fetch CF RESOLUTION START END KEY` is answered by records of CSV, and a line that is refused by
 /// `error NAME`; an empty line follows each answer. The names are those of
 /// [`parse_request`](rr_fetch::parse_request), and `LineTooLong`, `BadCommand` for a line that does
-/// not begin with `fetch` and a space, and `GateShut` where the gate lets no answer pass. A last line
-/// may lack its line feed. Each answer is written before the next is made, and all are passed on
-/// before more is read.
+/// not begin with `fetch` and a space, and `GateShut` where the gate lets no answer pass. A last
+/// line may lack its line feed. Each answer is written before the next is made, and all are passed
+/// on before more is read.
 ///
-/// The connection ends as `ReadFailed`, as `WriteFailed`, as `TooManyReads` after 4,294,967,295 reads
-/// that did not reach the end, and as `Memory`; a front of the answers is then written. The cost is
-/// that of the fetches, and linear in the bytes; a line, a piece of the input and one answer are held.
+/// The connection ends as `ReadFailed`, as `WriteFailed`, as `TooManyReads` after 4,294,967,295
+/// reads that did not reach the end, and as `Memory`; a front of the answers is then written. The
+/// cost is that of the fetches, and linear in the bytes; a line, a piece of the input and one
+/// answer are held.
 pub fn serve_reader<A: Cells, R: Read, W: Write, G: Gate>(
     alloc: Global,
     input: &mut Counted<R>,
@@ -186,7 +195,8 @@ pub fn serve_reader<A: Cells, R: Read, W: Write, G: Gate>(
 
     // When a stream is to blame.
     ensures faults { IfErr result IsOfReader }
-    ensures read_failed { result ≡ Err NodeFault.ReadFailed → HasRisen (failures_of input.old) (failures_of input.new) }
+    ensures read_failed { result ≡ Err NodeFault.ReadFailed
+        → HasRisen (failures_of input.old) (failures_of input.new) }
     ensures too_many { result ≡ Err NodeFault.TooManyReads
         → HasRisenBy MAX_READS (reads_of input.old) (reads_of input.new) }
     ensures write_failed { result ≡ Err NodeFault.WriteFailed

@@ -7,12 +7,12 @@ use std::io::BufWriter;
 use std::rt::Files;
 use std::{fs, io};
 
-/// What the name of the file beside ends in, to which content is written before it takes the place of
-/// the last one.
+/// What the name of the file beside ends in, to which content is written before it takes the place
+/// of the last one.
 const BESIDE: &str = ".new";
 
-/// A file whose content is written to a file beside, whose name ends in `.new`, and which is then renamed. So the file
-/// has the last content or the new one, whatever ends the process.
+/// A file whose content is written to a file beside, whose name ends in `.new`, and which is then
+/// renamed. So the file has the last content or the new one, whatever ends the process.
 #[derive(Drop)]
 pub(crate) struct Replaced<'a, R> {
     rt: &'a R,

@@ -49,7 +49,8 @@ fn take_lines<A: Cells, V: Visits, C: Clock, T: Wait>(
     rt: &T,
 ) -> Result<Lines, AllocError>
     ensures { (calls : List Call) × HasCalled (V.calls lines.old) (V.calls lines.new) calls
-        × EndsLines config.now (came_in result) keeper.old keeper.new (C.given clock.old) (C.given clock.new) calls }
+        × EndsLines config.now (came_in result) keeper.old keeper.new (C.given clock.old)
+        (C.given clock.new) calls }
 {
     let (mut input, mut output) = match lines.next() {
         Visit::Stream(input, output) => (input, output),
@@ -71,15 +72,15 @@ fn take_lines<A: Cells, V: Visits, C: Clock, T: Wait>(
     going_on(served)
 }
 
-/// One round of the keeper of a node: it serves the lines of the next connection, tells the shelf their report, pulls
-/// from each peer of the configuration that is due, in their order, tells the shelf how many cells the node then has,
-/// and saves a snapshot where the shelf wants one. The answer is whether a connection came; where none will come any
-/// more, nothing else is done.
+/// One round of the keeper of a node: it serves the lines of the next connection, tells the shelf
+/// their report, pulls from each peer of the configuration that is due, in their order, tells the
+/// shelf how many cells the node then has, and saves a snapshot where the shelf wants one. The
+/// answer is whether a connection came; where none will come any more, nothing else is done.
 ///
-/// A fault of the connection ends the connection alone. A peer that can't be reached or whose pull fails
-/// is passed over, and a save that fails too; both are told to the shelf, as is a peer with cells of the
-/// node's own origin that the node never wrote. `Memory` ends the round there; there is no other fault.
-/// Each stream that was given is handed back.
+/// A fault of the connection ends the connection alone. A peer that can't be reached or whose pull
+/// fails is passed over, and a save that fails too; both are told to the shelf, as is a peer with
+/// cells of the node's own origin that the node never wrote. `Memory` ends the round there; there
+/// is no other fault. Each stream that was given is handed back.
 pub fn keep_round<A: Cells, V: Visits, D: Dial, S: Shelf, C: Clock, T: Wait>(
     alloc: Global,
     keeper: &mut Keeper<A>,

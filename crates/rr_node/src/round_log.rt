@@ -20,8 +20,8 @@ impl fmt::Display for Seconds {
     }
 }
 
-/// Says what rounds did: a line on standard error, if there is to be one, and a file of counts, if one is named, which is
-/// written as a snapshot is. Nothing is known of what it says.
+/// Says what rounds did: a line on standard error, if there is to be one, and a file of counts, if
+/// one is named, which is written as a snapshot is. Nothing is known of what it says.
 #[derive(Drop)]
 pub struct RoundLog<'a, R> {
     rt: &'a R,
@@ -66,7 +66,8 @@ impl<'a, R: Files + Eprint + Clock> RoundLog<'a, R> {
         })
     }
 
-    /// The lines of a connection were taken, with this report if they were served to the end; the pulls begin.
+    /// The lines of a connection were taken, with this report if they were served to the end; the
+    /// pulls begin.
     pub(crate) fn lines_are_taken(&mut self, report: Option<Report>) {
         if let Some(report) = report {
             self.since.add(&report);

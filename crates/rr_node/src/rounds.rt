@@ -25,8 +25,8 @@ fn most_rounds(config: &Config) -> u64
     }
 }
 
-/// Keeps rounds, one after the other, until no connection will come, until memory runs out, or until
-/// there were as many as the configuration has.
+/// Keeps rounds, one after the other, until no connection will come, until memory runs out, or
+/// until there were as many as the configuration has.
 fn keep_rounds<A: Cells, V: Visits, D: Dial, S: Shelf, C: Clock, T: Wait>(
     alloc: Global,
     keeper: &mut Keeper<A>,

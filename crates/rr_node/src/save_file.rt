@@ -3,8 +3,8 @@
 use std::io;
 use std::io::{BufWriter, Write};
 
-/// A file that is written through a buffer, and keeps the first error of its calls, so that whoever let go of it can
-/// still be told why.
+/// A file that is written through a buffer, and keeps the first error of its calls, so that whoever
+/// let go of it can still be told why.
 #[derive(Drop)]
 pub struct SaveFile<F: Write + Drop> {
     file: BufWriter<F>,

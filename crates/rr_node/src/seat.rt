@@ -24,7 +24,8 @@ pub struct Seat<A: Cells, V: Visits, G: Gate> {
     pub gate: G,
 }
 
-/// Tells visits, before a connection is handed back, that the peer which pulled on it has another schema.
+/// Tells visits, before a connection is handed back, that the peer which pulled on it has another
+/// schema.
 fn tell<V: Visits>(visits: &mut V, served: &Result<(), NodeFault>)
     ensures { V.calls visits.new ≡ V.calls visits.old }
 {
@@ -35,7 +36,8 @@ fn tell<V: Visits>(visits: &mut V, served: &Result<(), NodeFault>)
 
 /// Goes on after a connection, whatever its fault, unless memory ran out.
 fn end_without_memory(served: Result<(), NodeFault>) -> Result<(), AllocError>
-    ensures { MatchResult result (λ _. served ≢ Err NodeFault.Memory) (λ _. served ≡ Err NodeFault.Memory) }
+    ensures { MatchResult result (λ _. served ≢ Err NodeFault.Memory)
+        (λ _. served ≡ Err NodeFault.Memory) }
 {
     match served {
         Err(NodeFault::Memory) => Err(AllocError),
@@ -48,9 +50,11 @@ fn serve_visit<A: Cells, V: Visits, G: Gate>(
     alloc: Global,
     seat: &mut Seat<A, V, G>,
 ) -> Result<bool, NodeFault>
-    ensures { (calls : List Call) × HasCalled (V.calls seat.old.visits) (V.calls seat.new.visits) calls
+    ensures { (calls : List Call) × HasCalled (V.calls seat.old.visits) (V.calls seat.new.visits)
+        calls
         × HasVisited result calls
-        (sight seat.old.reader (G.calls seat.old.gate)) (sight seat.new.reader (G.calls seat.new.gate)) }
+        (sight seat.old.reader (G.calls seat.old.gate))
+        (sight seat.new.reader (G.calls seat.new.gate)) }
 {
     match seat.visits.next() {
         Visit::Stream(input, output) => {
@@ -80,19 +84,22 @@ fn most_visits(visits: u64) -> u64
     if visits == 0 { u64::MAX } else { visits }
 }
 
-/// Serves the connections of a seat, one after the other, as [`serve_reader`] does: `visits` of them,
-/// or for 0 without end, which is 2^64 - 1 of them. One that fails counts, whatever its fault.
+/// Serves the connections of a seat, one after the other, as [`serve_reader`] does: `visits` of
+/// them, or for 0 without end, which is 2^64 - 1 of them. One that fails counts, whatever its
+/// fault.
 ///
-/// It ends before that where no connection will come, and as `Memory`, where memory ran out; there is
-/// no other fault. Each connection that was given is handed back.
+/// It ends before that where no connection will come, and as `Memory`, where memory ran out; there
+/// is no other fault. Each connection that was given is handed back.
 pub fn serve_seat<A: Cells, V: Visits, G: Gate>(
     alloc: Global,
     seat: &mut Seat<A, V, G>,
     visits: u64,
 ) -> Result<(), NodeFault>
-    ensures { (calls : List Call) × HasCalled (V.calls seat.old.visits) (V.calls seat.new.visits) calls
+    ensures { (calls : List Call) × HasCalled (V.calls seat.old.visits) (V.calls seat.new.visits)
+        calls
         × HasServedSeat (visits_of visits) result calls
-        (sight seat.old.reader (G.calls seat.old.gate)) (sight seat.new.reader (G.calls seat.new.gate)) }
+        (sight seat.old.reader (G.calls seat.old.gate))
+        (sight seat.new.reader (G.calls seat.new.gate)) }
 {
     for _ in 0..most_visits(visits) {
         if !serve_visit(alloc, seat)? {

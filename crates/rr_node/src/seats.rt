@@ -13,8 +13,8 @@ use std::thread::{Threads, for_each_mut};
 pub struct TcpSeats {
     /// Each a reader with the address that it answers on.
     pub seats: Vec<Seat<PackedArchive, Listening, OpenGate>>,
-    /// The flag that their connections, and those of the keeper, look at. It is raised where memory runs out at
-    /// one of the seats. If it was raised, by whomever, memory didn't suffice.
+    /// The flag that their connections, and those of the keeper, look at. It is raised where memory
+    /// runs out at one of the seats. If it was raised, by whomever, memory didn't suffice.
     pub halt: HaltFlag,
 }
 

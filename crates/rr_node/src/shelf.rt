@@ -33,13 +33,14 @@ pub trait Shelf {
 
     ghost calls: { Self → Option (List ShelfCall) };
 
-    /// Is told what became of the lines of a round's connection, before its pulls: the report where they were served to
-    /// the end.
+    /// Is told what became of the lines of a round's connection, before its pulls: the report where
+    /// they were served to the end.
     fn lines_taken(&mut self, report: Option<Report>)
         ensures { Grows (calls self.old) (calls self.new) (taken report ∷ []) };
 
-    /// Is told that a peer, by its number from 1, brought cells of the keeper's own origin which the keeper never wrote:
-    /// their versions are at or past its next number. So this origin was used twice.
+    /// Is told that a peer, by its number from 1, brought cells of the keeper's own origin which
+    /// the keeper never wrote: their versions are at or past its next number. So this origin was
+    /// used twice.
     fn own_origin(&mut self, number: usize)
         ensures { Grows (calls self.old) (calls self.new) (own_origin number ∷ []) };
 
@@ -53,10 +54,13 @@ pub trait Shelf {
 
     /// Opens a writer for a snapshot, where one is wanted.
     fn open(&mut self) -> Opening<Self::Output>
-        ensures opened { (writer : _) → result ≡ opening.Writer writer → Grows (calls self.old) (calls self.new)
+        ensures opened { (writer : _) → result ≡ opening.Writer writer
+            → Grows (calls self.old) (calls self.new)
             (opened (output_of Self.Output.contents writer) ∷ []) }
-        ensures unwanted { result ≡ opening.Unwanted → Grows (calls self.old) (calls self.new) (unwanted ∷ []) }
-        ensures failed { result ≡ opening.Failed → Grows (calls self.old) (calls self.new) (unopened ∷ []) };
+        ensures unwanted { result ≡ opening.Unwanted
+            → Grows (calls self.old) (calls self.new) (unwanted ∷ []) }
+        ensures failed { result ≡ opening.Failed
+            → Grows (calls self.old) (calls self.new) (unopened ∷ []) };
 
     /// Takes back the writer of a snapshot, which is written whole or not.
     fn take_back(&mut self, output: Counted<Self::Output>, whole: bool)

@@ -5,8 +5,8 @@ ghost use Rattle.rr_node.specs.Tally.{no_tally, tally_more};
 
 use crate::report::Report;
 
-/// Counts of the line connections whose lines were served to the end, and of their lines. Each stops at its greatest
-/// value.
+/// Counts of the line connections whose lines were served to the end, and of their lines. Each
+/// stops at its greatest value.
 #[derive(Clone, Copy, Debug, PartialEq, Eq)]
 pub(crate) struct Tally {
     /// The connections.

@@ -24,7 +24,8 @@ reads origin minute value = wrote origin load (pos (minute * 60_000_000_000)) va
 abbrev pub takes_first : ℕ → ℕ → Deed
 takes_first origin minute = took origin (now_at 1) (record { key = load; archive = 0; slot = pos minute; origin = 1 })
 
--- the first node writes in two minutes, the second in the latter. A page of the first node's two cells comes to the third
+-- the first node writes in two minutes, the second in the latter. A page of the first node's two cells comes to the
+-- third
 -- node twice. It comes to the second node cut after its first cell. A page of the second node comes to nobody
 abbrev pub deeds_of_three : List Deed
 deeds_of_three =
@@ -37,7 +38,8 @@ both_minutes = record { key = load; function = Max; archive = 0; first = pos 0; 
 
 -- what a node then answers
 abbrev pub answer_at : ℕ → Option (List ℕ)
-answer_at origin = option_map (λ m. cells_text minutes m both_minutes) (held_at (after_all cell_model minutes deeds_of_three) (now_at origin))
+answer_at origin = option_map (λ m. cells_text minutes m both_minutes)
+    (held_at (after_all cell_model minutes deeds_of_three) (now_at origin))
 
 abbrev pub two_lines : List ℕ → List ℕ → Option (List ℕ)
 two_lines one two = Some (one ++ line_feed ∷ two ++ line_feed ∷ [])

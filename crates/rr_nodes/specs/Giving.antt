@@ -6,8 +6,8 @@ use Rattle.rr_contrib.specs.declared.contribution.Contribution.{Contribution}
 use Rattle.rr_model.specs.CellNames.{CellName}
 use Rattle.rr_cells.specs.declared.op.Op.{Op}
 use Rattle.rr_cells.specs.Cells.{Cells}
-use Rattle.rr_cells.specs.Holding.{IsHolding}
-use Rattle.rr_copies.specs.Standing.{KeeperState, cells_of, holding_of}
+use Rattle.rr_cells.specs.ReplicaState.{IsReplicaState}
+use Rattle.rr_copies.specs.KeeperState.{KeeperState, cells_of, own_replica}
 use Rattle.rr_delta.specs.Difference.{newer_cells}
 use Rattle.rr_delta.specs.Names.{NamedVersion}
 use Rattle.rr_page.specs.Version.{latest}
@@ -20,20 +20,25 @@ use Rattle.rr_nodes.specs.Keepers.{IsNode}
 
 -- each cell of a difference is there, whatever names it is against
 abbrev pub GivenAreThere : Type 0
-GivenAreThere = (m : Cells) (summary : List NamedVersion) → All (λ e. get m e.0 ≡ Some e.1) (newer_cells summary (entries m))
+GivenAreThere = (m : Cells) (summary : List NamedVersion)
+    → All (λ e. get m e.0 ≡ Some e.1) (newer_cells summary (entries m))
 
 -- no cell of an origin that no node has was ever held
 abbrev pub UnusedHaveNoCells : Type 0
 UnusedHaveNoCells =
-    (s : Layout) (deeds : List Deed) (origin : ℕ) (at : Moment) (m : Cells) (name : CellName) (c : Contribution) → IsLayout s
-    → contains_key (after_all cell_model s deeds) origin ≡ false → held_at (after_all cell_model s deeds) at ≡ Some m → get m name ≡ Some c
+    (s : Layout) (deeds : List Deed) (origin : ℕ) (at : Moment) (m : Cells) (name : CellName) (c : Contribution)
+    → IsLayout s
+    → contains_key (after_all cell_model s deeds) origin ≡ false → held_at (after_all cell_model s deeds) at ≡ Some m
+    → get m name ≡ Some c
     → name.origin ≢ origin
 
--- so what the keeper of a node saves is loaded, under an origin that no node has, as a replica that holds what the node does
+-- so what the keeper of a node saves is loaded, under an origin that no node has, as a replica that holds what the node
+-- does
 abbrev pub SavedIsLoadedElsewhere : Type 0
 SavedIsLoadedElsewhere =
     (s : Layout) (deeds : List Deed) (opening : List Op) (k : KeeperState) (n : Node Cells) (origin : ℕ) → IsLayout s
-    → get (after_all cell_model s deeds) k.origin ≡ Some n → k.schema ≡ s → IsNode opening k n → IsHolding (holding_of k) → len (cells_of k) ≤ MAX_SNAPSHOT_CELLS
+    → get (after_all cell_model s deeds) k.origin ≡ Some n → k.schema ≡ s → IsNode opening k n
+    → IsReplicaState (own_replica k) → len (cells_of k) ≤ MAX_SNAPSHOT_CELLS
     → contains_key (after_all cell_model s deeds) origin ≡ false
     → loaded_at k.schema origin (snapshot_text latest k.schema k.origin (entries (cells_of k)))
     ≡ Ok (record { schema = k.schema; origin = origin; next = 1; cells = n.now })

@@ -13,13 +13,13 @@ use Rattle.rr_cells.specs.declared.cell.Cell.{Cell}
 use Rattle.rr_cells.specs.declared.op.Op.{Op}
 use Rattle.rr_cells.specs.declared.op.Op.TheVariants.{Join}
 use Rattle.rr_cells.specs.Cells.{Cells, IsTrimmed}
-use Rattle.rr_cells.specs.Holding.{Holding, IsHolding}
+use Rattle.rr_cells.specs.ReplicaState.{ReplicaState, IsReplicaState}
 use Rattle.rr_cells.specs.Listing.{owned_cell}
 use Rattle.rr_cells.specs.Operations.{joins_of, outcome_of}
-use Rattle.rr_copies.specs.Standing.{KeeperState, cells_of, holding_of, keeper_at_opening, with_all_published, with_pending}
+use Rattle.rr_copies.specs.KeeperState.{KeeperState, cells_of, own_replica, keeper_at_opening, with_all_published, with_pending}
 use Rattle.rr_fetch.specs.Answers.{cells_text}
 use Rattle.rr_desk.specs.Points.{with_put, with_puts}
-use Rattle.rr_desk.specs.Standing.{ReaderState, cells_seen, with_joined}
+use Rattle.rr_desk.specs.ReaderState.{ReaderState, cells_seen, with_joined}
 use Rattle.rr_nodes.specs.Nodes.{Node, Moment, Deed, all_held, held_at, written, taken, after_all}
 use Rattle.rr_nodes.specs.Models.{cell_model, sample_model}
 
@@ -30,50 +30,61 @@ pub record IsNode (opening : List Op) (k : KeeperState) (n : Node Cells) : Type 
   pub next : k.next ≡ n.next
   pub now : cells_of k ≡ n.now
   pub began : IsPrefix opening k.published
-  pub held : (list later : List Op) → IsPrefix opening list → list ++ later ≡ k.published ++ k.pending → slice_get (all_held n) (length later) ≡ Some (outcome_of k.schema list)
+  pub held : (list later : List Op) → IsPrefix opening list → list ++ later ≡ k.published ++ k.pending
+      → slice_get (all_held n) (length later) ≡ Some (outcome_of k.schema list)
 
 -- ---- the calls of a keeper
 
--- `open`, of what a replica holds, is a node that holds this: a new one, or the one that it was before its desk was closed
+-- `open`, of what a replica holds, is a node that holds this: a new one, or the one that it was before its desk was
+-- closed
 abbrev pub OpeningIsANode : Type 0
 OpeningIsANode =
-    (h : Holding) (b : Book) (n : Node Cells) → IsLayout h.schema → IsTrimmed h.schema h.cells → h.next ≡ n.next → h.cells ≡ n.now
+    (h : ReplicaState) (b : Book) (n : Node Cells) → IsLayout h.schema → IsTrimmed h.schema h.cells → h.next ≡ n.next
+    → h.cells ≡ n.now
     → IsNode (joins_of h.cells) (keeper_at_opening h b) n
 
 -- `put`, where a number is left, is a sample that the node writes
 abbrev pub PutIsADeed : Type 0
 PutIsADeed =
-    (opening : List Op) (k : KeeperState) (n : Node Cells) (key : List ℕ) (time value : ℤ) → k.next ≤ MAX_NUMBER → IsNode opening k n
+    (opening : List Op) (k : KeeperState) (n : Node Cells) (key : List ℕ) (time value : ℤ) → k.next ≤ MAX_NUMBER
+    → IsNode opening k n
     → IsNode opening (with_put k key time value) (written cell_model k.schema k.origin n key time value)
 
 -- `write`, where as many numbers are left as a point has fields, is a sample for each field, in order; where memory ran
 -- out, for the first fields
 abbrev pub WriteIsDeeds : Type 0
 WriteIsDeeds =
-    (opening : List Op) (k : KeeperState) (n : Node Cells) (p : PointView) (time : ℤ) (fields : List (List ℕ × ℤ)) → k.next + length fields ≤ MAX_NUMBER + 1 → IsNode opening k n
-    → IsNode opening (with_puts k p time fields) (fold (λ o field. written cell_model k.schema k.origin o (key_text p field.0) time field.1) n fields)
+    (opening : List Op) (k : KeeperState) (n : Node Cells) (p : PointView) (time : ℤ) (fields : List (List ℕ × ℤ))
+    → k.next + length fields ≤ MAX_NUMBER + 1 → IsNode opening k n
+    → IsNode opening (with_puts k p time fields) (fold
+    (λ o field. written cell_model k.schema k.origin o (key_text p field.0) time field.1) n fields)
 
 -- `join_cell`, of a cell among others, is that cell of theirs taken
 abbrev pub JoinIsADeed : Type 0
 JoinIsADeed =
-    (opening : List Op) (k : KeeperState) (n : Node Cells) (there : Cells) (c : Cell) → get there (owned_cell c).0 ≡ Some c.contribution → IsNode opening k n
+    (opening : List Op) (k : KeeperState) (n : Node Cells) (there : Cells) (c : Cell)
+    → get there (owned_cell c).0 ≡ Some c.contribution → IsNode opening k n
     → IsNode opening (with_pending k (Join c)) (taken cell_model k.schema k.origin n there (owned_cell c).0)
 
 -- and so the cells of a page, in order
 abbrev pub PageIsDeeds : Type 0
 PageIsDeeds =
-    (opening : List Op) (k : KeeperState) (n : Node Cells) (there : Cells) (cells : List Cell) → All (λ c. get there (owned_cell c).0 ≡ Some c.contribution) cells → IsNode opening k n
-    → IsNode opening (with_joined k cells) (fold (λ o c. taken cell_model k.schema k.origin o there (owned_cell c).0) n cells)
+    (opening : List Op) (k : KeeperState) (n : Node Cells) (there : Cells) (cells : List Cell)
+    → All (λ c. get there (owned_cell c).0 ≡ Some c.contribution) cells → IsNode opening k n
+    → IsNode opening (with_joined k cells) (fold (λ o c. taken cell_model k.schema k.origin o there (owned_cell c).0) n
+    cells)
 
 -- `publish` leaves the node
 abbrev pub PublishIsNone : Type 0
-PublishIsNone = (opening : List Op) (k : KeeperState) (n : Node Cells) → IsNode opening k n → IsNode opening (with_all_published k) n
+PublishIsNone = (opening : List Op) (k : KeeperState) (n : Node Cells) → IsNode opening k n
+    → IsNode opening (with_all_published k) n
 
 -- `close` gives a replica of which the desk that is opened next is the same node
 abbrev pub ReopeningIsNone : Type 0
 ReopeningIsNone =
-    (opening : List Op) (k : KeeperState) (n : Node Cells) (b : Book) → IsHolding (holding_of k) → IsNode opening k n
-    → IsNode (joins_of (cells_of k)) (keeper_at_opening (holding_of k) b) n
+    (opening : List Op) (k : KeeperState) (n : Node Cells) (b : Book) → IsReplicaState (own_replica k)
+    → IsNode opening k n
+    → IsNode (joins_of (cells_of k)) (keeper_at_opening (own_replica k) b) n
 
 -- ---- the calls of a reader
 
@@ -86,7 +97,8 @@ pub record IsReaderOf (opening : List Op) (k : KeeperState) (r : ReaderState) : 
 -- what a reader has seen is what the node held as many changes ago as operations came after it
 abbrev pub ReadersSeeMoments : Type 0
 ReadersSeeMoments =
-    (opening : List Op) (k : KeeperState) (n : Node Cells) (r : ReaderState) (later : List Op) → IsNode opening k n → IsReaderOf opening k r → r.list ++ later ≡ k.published ++ k.pending
+    (opening : List Op) (k : KeeperState) (n : Node Cells) (r : ReaderState) (later : List Op) → IsNode opening k n
+    → IsReaderOf opening k r → r.list ++ later ≡ k.published ++ k.pending
     → slice_get (all_held n) (length later) ≡ Some (cells_seen r)
 
 -- the text answers by the marks that had reached a node at this moment
@@ -95,16 +107,20 @@ pub record Answers (s : Layout) (deeds : List Deed) (at : Moment) (q : Request) 
   pub then : held_at (after_all sample_model s deeds) at ≡ Some known
   pub text_is : text ≡ fetch_text s known q
 
--- so whatever was done, a reader at any of the nodes answers by exactly the marks that had reached its node when it had the
+-- so whatever was done, a reader at any of the nodes answers by exactly the marks that had reached its node when it had
+-- the
 -- operations that the reader has seen
 abbrev pub ReadersAnswerFromSamples : Type 0
 ReadersAnswerFromSamples =
-    (s : Layout) (deeds : List Deed) (origin : ℕ) (opening : List Op) (k : KeeperState) (n : Node Cells) (r : ReaderState) (later : List Op) (q : Request) → IsLayout s
-    → get (after_all cell_model s deeds) origin ≡ Some n → k.schema ≡ s → IsNode opening k n → IsReaderOf opening k r → r.list ++ later ≡ k.published ++ k.pending
+    (s : Layout) (deeds : List Deed) (origin : ℕ) (opening : List Op) (k : KeeperState) (n : Node Cells)
+    (r : ReaderState) (later : List Op) (q : Request) → IsLayout s
+    → get (after_all cell_model s deeds) origin ≡ Some n → k.schema ≡ s → IsNode opening k n → IsReaderOf opening k r
+    → r.list ++ later ≡ k.published ++ k.pending
     → Answers s deeds (record { origin = origin; ago = length later }) q (cells_text r.schema (cells_seen r) q)
 
 -- and two answers by the same live marks, at any nodes and moments, are one
 abbrev pub ReadersAnswerAlike : Type 0
 ReadersAnswerAlike =
-    (s : Layout) (deeds : List Deed) (a b : Moment) (q : Request) (text other : List ℕ) (x : Answers s deeds a q text) (y : Answers s deeds b q other) → live s x.known ≡ live s y.known
+    (s : Layout) (deeds : List Deed) (a b : Moment) (q : Request) (text other : List ℕ) (x : Answers s deeds a q text)
+    (y : Answers s deeds b q other) → live s x.known ≡ live s y.known
     → text ≡ other

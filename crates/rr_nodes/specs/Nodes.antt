@@ -8,7 +8,8 @@ use Rattle.rr_schema.specs.Schema.{Layout}
 use Rattle.rr_model.specs.CellNames.{CellName}
 use Rattle.rr_model.specs.Samples.{Sample}
 
--- a node, which is a replica from when it is made or loaded on: the number of its next sample, what it holds, and all that
+-- a node, which is a replica from when it is made or loaded on: the number of its next sample, what it holds, and all
+-- that
 -- it held before, the newest first
 pub record Node (K : Type 0) : Type 0 where
   pub next : ℕ
@@ -24,7 +25,8 @@ pub record Moment : Type 0 where
   pub origin : ℕ
   pub ago : ℕ
 
--- what is done: a node is opened that holds nothing; a node writes a sample; it takes one cell of what some node held at
+-- what is done: a node is opened that holds nothing; a node writes a sample; it takes one cell of what some node held
+-- at
 -- some moment; a node is loaded with all that some node held at some moment
 pub data Deed : Type 0 where
   opened : (origin : ℕ) → Deed
@@ -61,14 +63,16 @@ module _ {K : Type 0} where
 
   -- a node more, unless its origin was used
   abbrev pub with_new : Nodes K → ℕ → K → Nodes K
-  with_new ns origin k = if contains_key ns origin then ns else insert ns origin (record { next = 1; now = k; before = [] })
+  with_new ns origin k = if contains_key ns origin then ns else insert ns origin
+      (record { next = 1; now = k; before = [] })
 
 module _ {K : Type 0} (model : Model K) (s : Layout) where
   -- the sample takes the next number, if there is one
   abbrev pub written : ℕ → Node K → List ℕ → ℤ → ℤ → Node K
   written origin n key time value =
       if nat_le n.next MAX_NUMBER
-      then holding n (n.next + 1) (model.with_one s n.now (record { time = time; origin = origin; number = n.next; key = key; value = value }))
+      then holding n (n.next + 1) (model.with_one s n.now
+      (record { time = time; origin = origin; number = n.next; key = key; value = value }))
       else n
 
   abbrev pub taken : ℕ → Node K → K → CellName → Node K
@@ -77,8 +81,10 @@ module _ {K : Type 0} (model : Model K) (s : Layout) where
   -- what cannot be done changes nothing
   abbrev pub after : Nodes K → Deed → Nodes K
   after ns (opened origin) = with_new ns origin model.nothing
-  after ns (wrote origin key time value) = where_some (get ns origin) ns (λ n. insert ns origin (written origin n key time value))
-  after ns (took origin there name) = where_some (get ns origin) ns (λ n. where_some (held_at ns there) ns (λ k. insert ns origin (taken origin n k name)))
+  after ns (wrote origin key time value) = where_some (get ns origin) ns
+      (λ n. insert ns origin (written origin n key time value))
+  after ns (took origin there name) = where_some (get ns origin) ns
+      (λ n. where_some (held_at ns there) ns (λ k. insert ns origin (taken origin n k name)))
   after ns (loaded origin there) = where_some (held_at ns there) ns (λ k. with_new ns origin (model.kept s k))
 
   -- the nodes after these deeds, where there was none

@@ -15,15 +15,20 @@ takes origin there names = map (λ name. took origin there name) names
 -- cells that a node takes of what another held at one moment leave that other as it was
 abbrev pub TakesAreInOrder : {K : Type 0} → Model K → Type 0
 TakesAreInOrder {K} model =
-    (s : Layout) (ns : Nodes K) (origin : ℕ) (there : Moment) (names : List CellName) (n : Node K) (k : K) → there.origin ≢ origin
+    (s : Layout) (ns : Nodes K) (origin : ℕ) (there : Moment) (names : List CellName) (n : Node K) (k : K)
+    → there.origin ≢ origin
     → get ns origin ≡ Some n → held_at ns there ≡ Some k
-    → fold (after model s) ns (takes origin there names) ≡ insert ns origin (fold (λ o name. taken model s origin o k name) n names)
+    → fold (after model s) ns (takes origin there names)
+    ≡ insert ns origin (fold (λ o name. taken model s origin o k name) n names)
 
--- whatever was done, once a node has taken all cells that another held at one moment and it lacked, it has the live marks
+-- whatever was done, once a node has taken all cells that another held at one moment and it lacked, it has the live
+-- marks
 -- of what either knew
 abbrev pub PullsBringAll : Type 0
 PullsBringAll =
-    (s : Layout) (deeds : List Deed) (origin : ℕ) (there : Moment) (n : Node Knowledge) (k : Knowledge) → IsLayout s → there.origin ≢ origin
+    (s : Layout) (deeds : List Deed) (origin : ℕ) (there : Moment) (n : Node Knowledge) (k : Knowledge) → IsLayout s
+    → there.origin ≢ origin
     → get (after_all sample_model s deeds) origin ≡ Some n → held_at (after_all sample_model s deeds) there ≡ Some k
-    → option_map (live s) (held_at (after_all sample_model s (deeds ++ takes origin there (difference s k n.now))) (record { origin = origin; ago = 0 }))
+    → option_map (live s) (held_at (after_all sample_model s (deeds ++ takes origin there (difference s k n.now)))
+    (record { origin = origin; ago = 0 }))
     ≡ Some (live s (union n.now k))

@@ -10,13 +10,13 @@ use Rattle.rr_model.specs.Knowledge.{Knowledge, union, live}
 use Rattle.rr_cells.specs.declared.op.Op.{Op}
 use Rattle.rr_cells.specs.CellBounds.{NamedCell, IsCellOf}
 use Rattle.rr_cells.specs.Cells.{Cells}
-use Rattle.rr_cells.specs.Holding.{IsHolding}
+use Rattle.rr_cells.specs.ReplicaState.{IsReplicaState}
 use Rattle.rr_cells.specs.Joins.{join_cells}
 use Rattle.rr_cells.specs.Operations.{outcome_of, to_cell}
-use Rattle.rr_copies.specs.Standing.{KeeperState, cells_of, holding_of}
+use Rattle.rr_copies.specs.KeeperState.{KeeperState, cells_of, own_replica}
 use Rattle.rr_delta.specs.Difference.{newer_cells}
 use Rattle.rr_delta.specs.Names.{versions_of}
-use Rattle.rr_desk.specs.Standing.{HasJoined}
+use Rattle.rr_desk.specs.ReaderState.{HasJoined}
 use Rattle.rr_gossip.specs.declared.fault.GossipFault.{GossipFault}
 use Rattle.rr_gossip.specs.declared.giver.Giver.{Giver}
 use Rattle.rr_gossip.specs.Giver.{first_giver}
@@ -36,7 +36,8 @@ lacking given had = newer_cells (versions_of had) (entries given)
 abbrev pub names_lacking : Cells → Cells → List CellName
 names_lacking given had = map (λ e. e.0) (lacking given had)
 
--- a whole session of two sides: the one that gives heard what the other sends, of which it may have read the first bytes
+-- a whole session of two sides: the one that gives heard what the other sends, of which it may have read the first
+-- bytes
 -- before, and the one that pulls read what that wrote, of which these are the cells; more may come behind in either
 -- direction
 pub record IsSession (s : Layout) (had given : Cells) (cells : List NamedCell) : Type 0 where
@@ -56,10 +57,12 @@ pub record IsSession (s : Layout) (had given : Cells) (cells : List NamedCell) :
 -- these are exactly what the side that pulls lacked, in order
 abbrev pub SessionsBringWhatIsLacking : Type 0
 SessionsBringWhatIsLacking =
-    (s : Layout) (had given : Cells) (cells : List NamedCell) → IsLayout s → All (IsCellOf s) (entries had) → IsSession s had given cells
+    (s : Layout) (had given : Cells) (cells : List NamedCell) → IsLayout s → All (IsCellOf s) (entries had)
+    → IsSession s had given cells
     → cells ≡ lacking given had
 
--- a session that is cut: the side that gives heard the same, and of its answer, which it may not have written whole, the
+-- a session that is cut: the side that gives heard the same, and of its answer, which it may not have written whole,
+-- the
 -- side that pulls could read a beginning, and stopped; these are the cells that it had by then
 pub record IsCutSession (s : Layout) (had given : Cells) (cells : List NamedCell) : Type 0 where
   pub before : List ℕ
@@ -82,13 +85,15 @@ pub record IsCutSession (s : Layout) (had given : Cells) (cells : List NamedCell
 -- these are the first of what the side that pulls lacked, in order
 abbrev pub CutSessionsBringAFront : Type 0
 CutSessionsBringAFront =
-    (s : Layout) (had given : Cells) (cells : List NamedCell) → IsLayout s → All (IsCellOf s) (entries had) → IsCutSession s had given cells
+    (s : Layout) (had given : Cells) (cells : List NamedCell) → IsLayout s → All (IsCellOf s) (entries had)
+    → IsCutSession s had given cells
     → IsPrefix cells (lacking given had)
 
 -- none where nothing came, as from a side that stopped before it heard all that was sent
 abbrev pub SilentSessionsBringNothing : Type 0
 SilentSessionsBringNothing =
-    (s : Layout) (sent limit : ℕ) (left : Option (List ℕ)) (fault : GossipFault) (cells : List NamedCell) → IsLayout s → HasStoppedPulling s (waiting sent 0 limit) (Some []) left fault cells
+    (s : Layout) (sent limit : ℕ) (left : Option (List ℕ)) (fault : GossipFault) (cells : List NamedCell) → IsLayout s
+    → HasStoppedPulling s (waiting sent 0 limit) (Some []) left fault cells
     → cells ≡ []
 
 -- what an origin's node holds
@@ -96,33 +101,42 @@ abbrev pub now_at : ℕ → Moment
 now_at origin = record { origin = origin; ago = 0 }
 
 -- once a node has taken these cells it holds these, and it has the live marks of what both sides knew
-pub record HasTakenAll (s : Layout) (deeds : List Deed) (origin : ℕ) (there : Moment) (names : List CellName) (after : Cells) : Type 0 where
+pub record HasTakenAll (s : Layout) (deeds : List Deed) (origin : ℕ) (there : Moment) (names : List CellName)
+    (after : Cells) : Type 0 where
   pub cells : held_at (after_all cell_model s (deeds ++ takes origin there names)) (now_at origin) ≡ Some after
   pub known : Knowledge
   pub is_known : held_at (after_all sample_model s deeds) (now_at origin) ≡ Some known
   pub given : Knowledge
   pub is_given : held_at (after_all sample_model s deeds) there ≡ Some given
-  pub marks : option_map (live s) (held_at (after_all sample_model s (deeds ++ takes origin there names)) (now_at origin)) ≡ Some (live s (union known given))
+  pub marks : option_map (live s) (held_at (after_all sample_model s (deeds ++ takes origin there names))
+      (now_at origin)) ≡ Some (live s (union known given))
 
--- so a session with what another node held at some moment, whatever was done before, is deeds that take all that was lacking
+-- so a session with what another node held at some moment, whatever was done before, is deeds that take all that was
+-- lacking
 abbrev pub SessionsAreDeeds : Type 0
 SessionsAreDeeds =
-    (s : Layout) (deeds : List Deed) (origin : ℕ) (there : Moment) (had given : Cells) (cells : List NamedCell) → IsLayout s → All IsWithinLimits deeds → there.origin ≢ origin
-    → held_at (after_all cell_model s deeds) (now_at origin) ≡ Some had → held_at (after_all cell_model s deeds) there ≡ Some given → IsSession s had given cells
+    (s : Layout) (deeds : List Deed) (origin : ℕ) (there : Moment) (had given : Cells) (cells : List NamedCell)
+    → IsLayout s → All IsWithinLimits deeds → there.origin ≢ origin
+    → held_at (after_all cell_model s deeds) (now_at origin) ≡ Some had
+    → held_at (after_all cell_model s deeds) there ≡ Some given → IsSession s had given cells
     → HasTakenAll s deeds origin there (names_lacking given had) (join_cells s had cells)
 
 -- and these deeds are what a keeper did that pulled so, as the contracts of its `pull` and its `schema` have it
 abbrev pub PullIsDeeds : Type 0
 PullIsDeeds =
-    (opening : List Op) (old new : KeeperState) (n : Node Cells) (given : Cells) (cells : List NamedCell) → IsHolding (holding_of old) → IsNode opening old n
+    (opening : List Op) (old new : KeeperState) (n : Node Cells) (given : Cells) (cells : List NamedCell)
+    → IsReplicaState (own_replica old) → IsNode opening old n
     → IsSession old.schema (cells_of old) given cells → HasJoined old new cells
-    → IsNode opening new (fold (λ o name. taken cell_model old.schema old.origin o given name) n (names_lacking given (cells_of old)))
+    → IsNode opening new (fold (λ o name. taken cell_model old.schema old.origin o given name) n
+    (names_lacking given (cells_of old)))
 
 -- so among several desks such a pull, of what a reader of another has seen, is a join for each cell that was lacking
 abbrev pub PullsAreJoins : Type 0
 PullsAreJoins =
-    (s : Layout) (ds : Desks) (origin there : ℕ) (d : Desk) (new : KeeperState) (list : List Op) (cells : List NamedCell) → get ds origin ≡ Some d → there ≢ origin → HasBegun ds there list
-    → IsHolding (holding_of d.keeper) → d.keeper.schema ≡ s → IsSession s (cells_of d.keeper) (outcome_of s list) cells → HasJoined d.keeper new cells
+    (s : Layout) (ds : Desks) (origin there : ℕ) (d : Desk) (new : KeeperState) (list : List Op)
+    (cells : List NamedCell) → get ds origin ≡ Some d → there ≢ origin → HasBegun ds there list
+    → IsReplicaState (own_replica d.keeper) → d.keeper.schema ≡ s
+    → IsSession s (cells_of d.keeper) (outcome_of s list) cells → HasJoined d.keeper new cells
     → Leave s ds origin d (joins_of_page origin there list (map to_cell cells)) new
 
 -- ---- a pull that is cut
@@ -130,13 +144,16 @@ PullsAreJoins =
 -- what it joined are deeds
 abbrev pub CutPullIsDeeds : Type 0
 CutPullIsDeeds =
-    (opening : List Op) (old new : KeeperState) (n : Node Cells) (given : Cells) (cells : List NamedCell) → IsHolding (holding_of old) → IsNode opening old n
+    (opening : List Op) (old new : KeeperState) (n : Node Cells) (given : Cells) (cells : List NamedCell)
+    → IsReplicaState (own_replica old) → IsNode opening old n
     → IsCutSession old.schema (cells_of old) given cells → HasJoined old new cells
     → IsNode opening new (fold (λ o name. taken cell_model old.schema old.origin o given name) n (map (λ e. e.0) cells))
 
 -- and joins
 abbrev pub CutPullsAreJoins : Type 0
 CutPullsAreJoins =
-    (s : Layout) (ds : Desks) (origin there : ℕ) (d : Desk) (new : KeeperState) (list : List Op) (cells : List NamedCell) → get ds origin ≡ Some d → there ≢ origin → HasBegun ds there list
-    → IsHolding (holding_of d.keeper) → d.keeper.schema ≡ s → IsCutSession s (cells_of d.keeper) (outcome_of s list) cells → HasJoined d.keeper new cells
+    (s : Layout) (ds : Desks) (origin there : ℕ) (d : Desk) (new : KeeperState) (list : List Op)
+    (cells : List NamedCell) → get ds origin ≡ Some d → there ≢ origin → HasBegun ds there list
+    → IsReplicaState (own_replica d.keeper) → d.keeper.schema ≡ s
+    → IsCutSession s (cells_of d.keeper) (outcome_of s list) cells → HasJoined d.keeper new cells
     → Leave s ds origin d (joins_of_page origin there list (map to_cell cells)) new

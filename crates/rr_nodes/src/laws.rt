@@ -8,26 +8,26 @@ ghost use Rattle.rr_nodes.specs.Models.{cell_model, sample_model};
 ghost use Rattle.rr_nodes.specs.Pulls.{TakesAreInOrder, PullsBringAll};
 ghost use Rattle.rr_nodes.specs.Sessions.{SessionsBringWhatIsLacking, SessionsAreDeeds, PullIsDeeds, PullsAreJoins, CutSessionsBringAFront, SilentSessionsBringNothing, CutPullIsDeeds, CutPullsAreJoins};
 
-/// Whatever is done at however many nodes, in whatever order: at each moment each node has the cells of
-/// the marks that reached it, so a fetch is answered by exactly these; and who knows the same live marks
-/// has the same cells.
+/// Whatever is done at however many nodes, in whatever order: at each moment each node has the
+/// cells of the marks that reached it, so a fetch is answered by exactly these; and who knows the
+/// same live marks has the same cells.
 pub fn nodes_answer_from_samples()
     ensures cells { NodesAreOfSamples }
     ensures fetches { FetchesAreOfSamples }
     ensures alike { MomentsAnswerAlike }
 {}
 
-/// What is done keeps the premises by itself: what a node held at any moment has no gaps, and it has all
-/// marks of its own origin, whose next number is past them. Only deeds write, so within the limits all
-/// that is held are cells of the schema.
+/// What is done keeps the premises by itself: what a node held at any moment has no gaps, and it
+/// has all marks of its own origin, whose next number is past them. Only deeds write, so within the
+/// limits all that is held are cells of the schema.
 pub fn premises_are_kept()
     ensures kept { PremisesAreKept }
     ensures of_schema { HeldAreOfTheSchema }
 {}
 
-/// What the calls of a keeper do is what deeds do at its node: to open a desk, to put a sample or those of
-/// a point, to join a cell of what another node held, or a page of them. To publish does nothing there, nor
-/// to close the desk and open one again of its replica.
+/// What the calls of a keeper do is what deeds do at its node: to open a desk, to put a sample or
+/// those of a point, to join a cell of what another node held, or a page of them. To publish does
+/// nothing there, nor to close the desk and open one again of its replica.
 pub fn keepers_are_nodes()
     ensures opening { OpeningIsANode }
     ensures put { PutIsADeed }
@@ -38,25 +38,26 @@ pub fn keepers_are_nodes()
     ensures reopening { ReopeningIsNone }
 {}
 
-/// What a reader has seen is what its node held when it had as many operations, so whatever was done at all
-/// nodes, it answers by exactly the marks that had reached its node then; and by the same live marks alike.
+/// What a reader has seen is what its node held when it had as many operations, so whatever was
+/// done at all nodes, it answers by exactly the marks that had reached its node then; and by the
+/// same live marks alike.
 pub fn readers_answer_from_samples()
     ensures moments { ReadersSeeMoments }
     ensures answers { ReadersAnswerFromSamples }
     ensures alike { ReadersAnswerAlike }
 {}
 
-/// Cells of one moment are taken in order, whatever else that node does; and a node that has taken all cells
-/// that it lacked has the live marks of what either knew.
+/// Cells of one moment are taken in order, whatever else that node does; and a node that has taken
+/// all cells that it lacked has the live marks of what either knew.
 pub fn pulls_bring_all()
     ensures cells { TakesAreInOrder cell_model }
     ensures marks { TakesAreInOrder sample_model }
     ensures all { PullsBringAll }
 {}
 
-/// A session over bytes, which a reader of one node gives and the keeper of another pulls, brings exactly
-/// the cells that were lacking, in order; so it is deeds, after which the node has the live marks of both. By
-/// the contracts of `pull` and `give` alone, the keeper has done these deeds.
+/// A session over bytes, which a reader of one node gives and the keeper of another pulls, brings
+/// exactly the cells that were lacking, in order; so it is deeds, after which the node has the live
+/// marks of both. By the contracts of `pull` and `give` alone, the keeper has done these deeds.
 pub fn sessions_are_deeds()
     ensures bytes { SessionsBringWhatIsLacking }
     ensures deeds { SessionsAreDeeds }
@@ -64,8 +65,8 @@ pub fn sessions_are_deeds()
     ensures calls { PullsAreJoins }
 {}
 
-/// A session that is cut, on either side, brings the first of these cells, in order, and none where nothing
-/// came; what the keeper has joined then are deeds as well.
+/// A session that is cut, on either side, brings the first of these cells, in order, and none where
+/// nothing came; what the keeper has joined then are deeds as well.
 pub fn cut_sessions_are_deeds()
     ensures bytes { CutSessionsBringAFront }
     ensures silent { SilentSessionsBringNothing }
@@ -73,26 +74,27 @@ pub fn cut_sessions_are_deeds()
     ensures calls { CutPullsAreJoins }
 {}
 
-/// Each cell that a reader gives is there, so whoever joins it takes it; and what a keeper saves is loaded,
-/// under an origin that no node has, as a replica that holds what its node does.
+/// Each cell that a reader gives is there, so whoever joins it takes it; and what a keeper saves is
+/// loaded, under an origin that no node has, as a replica that holds what its node does.
 pub fn cells_given_are_there()
     ensures given { GivenAreThere }
     ensures unused { UnusedHaveNoCells }
     ensures loaded { SavedIsLoadedElsewhere }
 {}
 
-/// Whatever calls the keepers of several desks make, of one schema and each under an origin of its own,
-/// joining cells and loading snapshots of what desks have had: each reader of each desk answers by exactly
-/// the marks that had reached its node when it had the operations that the reader has seen. To write a point
-/// is to put its samples, and to take a page is to join its cells.
+/// Whatever calls the keepers of several desks make, of one schema and each under an origin of its
+/// own, joining cells and loading snapshots of what desks have had: each reader of each desk
+/// answers by exactly the marks that had reached its node when it had the operations that the
+/// reader has seen. To write a point is to put its samples, and to take a page is to join its
+/// cells.
 pub fn calls_are_deeds()
     ensures answers { CallsAnswerFromSamples }
     ensures writes { WritesArePuts }
     ensures pages { PagesAreJoins }
 {}
 
-/// Three nodes, of which one took a page twice and one the first cell of it alone: each answers by what
-/// reached it.
+/// Three nodes, of which one took a page twice and one the first cell of it alone: each answers by
+/// what reached it.
 pub fn three_nodes_by_example()
     ensures { ThreeAnswer }
 {}

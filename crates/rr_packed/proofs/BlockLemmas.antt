@@ -29,7 +29,8 @@ pub items_by_entries : (b : Block) (n : ℕ) (es : Entries) → item_in b.rows n
 unfolding items_in
 items_by_entries b n es is = ap (λ o. items_held o (entries_read b.source (item_in b.readings n))) is
 
-pub items_by_reading : (b : Block) (n : ℕ) → item_in b.rows n ≡ None → items_in b n ≡ entries_read b.source (item_in b.readings n)
+pub items_by_reading : (b : Block) (n : ℕ) → item_in b.rows n ≡ None
+    → items_in b n ≡ entries_read b.source (item_in b.readings n)
 unfolding items_in
 items_by_reading b n is = ap (λ o. items_held o (entries_read b.source (item_in b.readings n))) is
 
@@ -38,32 +39,45 @@ items_none b n rows readings = items_by_reading b n rows ∙ ap (entries_read b.
 
 -- ---- the parts change
 
-pub block_same : (old new : Block) → ((n : ℕ) → item_in new.rows n ≡ item_in old.rows n) → new.source ≡ old.source → ((n : ℕ) → item_in new.readings n ≡ item_in old.readings n) → items_in new ≡ items_in old
+pub block_same : (old new : Block) → ((n : ℕ) → item_in new.rows n ≡ item_in old.rows n) → new.source ≡ old.source
+    → ((n : ℕ) → item_in new.readings n ≡ item_in old.readings n) → items_in new ≡ items_in old
 unfolding items_in
 block_same old new rows source readings = λ i n. items_held (rows n i) (entries_read (source i) (readings n i))
 
 -- in a block without readings the source may change
-pub block_sourced : (old new : Block) → ((n : ℕ) → item_in new.rows n ≡ item_in old.rows n) → ((n : ℕ) → item_in new.readings n ≡ None) → ((n : ℕ) → item_in old.readings n ≡ None) → items_in new ≡ items_in old
+pub block_sourced : (old new : Block) → ((n : ℕ) → item_in new.rows n ≡ item_in old.rows n)
+    → ((n : ℕ) → item_in new.readings n ≡ None) → ((n : ℕ) → item_in old.readings n ≡ None)
+    → items_in new ≡ items_in old
 unfolding items_in
 block_sourced old new rows none was = λ i n. (
     (λ j. items_held (rows n j) (entries_read new.source (none n j)))
     ∙ ap (items_held (item_in old.rows n)) (none_read new.source ∙ sym (none_read old.source))
     ∙ ap (λ o. items_held (item_in old.rows n) (entries_read old.source o)) (sym (was n))) i
 
-pub reading_added : (old new : Block) (k : ℕ) (r : Reading) (e : Entry) → ((n : ℕ) → item_in new.rows n ≡ item_in old.rows n) → item_in old.rows k ≡ None → new.source ≡ old.source → IsItemSet k (Some r) (item_in old.readings) (item_in new.readings) → entries_read old.source (Some r) ≡ e ∷ [] → IsRowSet k (e ∷ []) (items_in old) (items_in new)
+pub reading_added : (old new : Block) (k : ℕ) (r : Reading) (e : Entry)
+    → ((n : ℕ) → item_in new.rows n ≡ item_in old.rows n) → item_in old.rows k ≡ None → new.source ≡ old.source
+    → IsItemSet k (Some r) (item_in old.readings) (item_in new.readings) → entries_read old.source (Some r) ≡ e ∷ []
+    → IsRowSet k (e ∷ []) (items_in old) (items_in new)
 unfolding items_in
 reading_added old new k r e rows none source readings is = λ n.
     (λ i. items_held (rows n i) (entries_read (source i) (readings n i)))
-    ∙ elim (eqb n k) as (λ b. eqb n k ≡ b → items_held (item_in old.rows n) (entries_read old.source (cond b (Some r) (item_in old.readings n))) ≡ cond b (e ∷ []) (items_held (item_in old.rows n) (entries_read old.source (item_in old.readings n)))) [
-      | true ↦ λ t. ap (λ o. items_held o (entries_read old.source (Some r))) (ap (item_in old.rows) (eqb-true n k t) ∙ none) ∙ is
+    ∙ elim (eqb n k) as (λ b. eqb n k ≡ b → items_held (item_in old.rows n)
+    (entries_read old.source (cond b (Some r) (item_in old.readings n)))
+    ≡ cond b (e ∷ []) (items_held (item_in old.rows n) (entries_read old.source (item_in old.readings n)))) [
+      | true ↦ λ t. ap (λ o. items_held o (entries_read old.source (Some r)))
+          (ap (item_in old.rows) (eqb-true n k t) ∙ none) ∙ is
       | false ↦ λ _. refl
     ] refl
 
-pub entries_set : (old new : Block) (k : ℕ) (es : Entries) → IsItemSet k (Some es) (item_in old.rows) (item_in new.rows) → new.source ≡ old.source → ((n : ℕ) → item_in new.readings n ≡ item_in old.readings n) → IsRowSet k (items_of es) (items_in old) (items_in new)
+pub entries_set : (old new : Block) (k : ℕ) (es : Entries) → IsItemSet k (Some es) (item_in old.rows) (item_in new.rows)
+    → new.source ≡ old.source → ((n : ℕ) → item_in new.readings n ≡ item_in old.readings n)
+    → IsRowSet k (items_of es) (items_in old) (items_in new)
 unfolding items_in
 entries_set old new k es rows source readings = λ n.
     (λ i. items_held (rows n i) (entries_read (source i) (readings n i)))
-    ∙ elim (eqb n k) as (λ b. items_held (cond b (Some es) (item_in old.rows n)) (entries_read old.source (item_in old.readings n)) ≡ cond b (items_of es) (items_held (item_in old.rows n) (entries_read old.source (item_in old.readings n)))) [
+    ∙ elim (eqb n k) as (λ b. items_held (cond b (Some es) (item_in old.rows n))
+    (entries_read old.source (item_in old.readings n))
+    ≡ cond b (items_of es) (items_held (item_in old.rows n) (entries_read old.source (item_in old.readings n)))) [
       | true ↦ refl
       | false ↦ refl
     ]
@@ -76,12 +90,19 @@ row_set_same k es f g set is = λ i n. (set n ∙ elim (eqb n k) as (λ b. eqb n
 ] refl) i
 
 -- a reading taken out that its row isn't read from
-pub reading_removed : (old new : Block) (k : ℕ) → ((n : ℕ) → item_in new.rows n ≡ item_in old.rows n) → new.source ≡ old.source → IsItemSet k None (item_in old.readings) (item_in new.readings) → (entries_read old.source (item_in old.readings k) ≡ []) ⊎ IsTrue (is_some (item_in old.rows k)) → items_in new ≡ items_in old
+pub reading_removed : (old new : Block) (k : ℕ) → ((n : ℕ) → item_in new.rows n ≡ item_in old.rows n)
+    → new.source ≡ old.source → IsItemSet k None (item_in old.readings) (item_in new.readings)
+    → (entries_read old.source (item_in old.readings k) ≡ []) ⊎ IsTrue (is_some (item_in old.rows k))
+    → items_in new ≡ items_in old
 unfolding items_in
 reading_removed old new k rows source readings spare = λ i n. (
     (λ j. items_held (rows n j) (entries_read (source j) (readings n j)))
-    ∙ elim (eqb n k) as (λ b. eqb n k ≡ b → items_held (item_in old.rows n) (entries_read old.source (cond b None (item_in old.readings n))) ≡ items_held (item_in old.rows n) (entries_read old.source (item_in old.readings n))) [
-      | true ↦ λ t. ap (λ m. items_held (item_in old.rows m) (entries_read old.source None)) (eqb-true n k t) ∙ unread spare ∙ ap (λ m. items_held (item_in old.rows m) (entries_read old.source (item_in old.readings m))) (sym (eqb-true n k t))
+    ∙ elim (eqb n k) as (λ b. eqb n k ≡ b → items_held (item_in old.rows n)
+    (entries_read old.source (cond b None (item_in old.readings n)))
+    ≡ items_held (item_in old.rows n) (entries_read old.source (item_in old.readings n))) [
+      | true ↦ λ t. ap (λ m. items_held (item_in old.rows m) (entries_read old.source None)) (eqb-true n k t)
+          ∙ unread spare ∙ ap (λ m. items_held (item_in old.rows m) (entries_read old.source (item_in old.readings m)))
+          (sym (eqb-true n k t))
       | false ↦ λ _. refl
     ] refl) i
   where
@@ -89,10 +110,13 @@ reading_removed old new k rows source readings spare = λ i n. (
     by_entries None a b some = absurd (true≢false (sym some))
     by_entries (Some es) a b some = refl
 
-    unread : (entries_read old.source (item_in old.readings k) ≡ []) ⊎ IsTrue (is_some (item_in old.rows k)) → items_held (item_in old.rows k) (entries_read old.source None) ≡ items_held (item_in old.rows k) (entries_read old.source (item_in old.readings k))
+    unread : (entries_read old.source (item_in old.readings k) ≡ []) ⊎ IsTrue (is_some (item_in old.rows k))
+        → items_held (item_in old.rows k) (entries_read old.source None)
+        ≡ items_held (item_in old.rows k) (entries_read old.source (item_in old.readings k))
     unread u = ⊎_elim
         (λ e. ap (items_held (item_in old.rows k)) (none_read old.source ∙ sym e))
-        (λ some. by_entries (item_in old.rows k) (entries_read old.source None) (entries_read old.source (item_in old.readings k)) some)
+        (λ some. by_entries (item_in old.rows k) (entries_read old.source None)
+        (entries_read old.source (item_in old.readings k)) some)
         u
 
 -- ---- room
@@ -101,13 +125,17 @@ none_is : (o : Option ℕ) → is_none o ≡ true → o ≡ None
 none_is None e = refl
 none_is (Some x) e = absurd (true≢false (sym e))
 
-pub room_of_entries : (b : Block) (n origin : ℕ) (es : Entries) → item_in b.rows n ≡ Some es → IsTrue (has_room_in b n origin) → IsTrue (has_room es origin)
+pub room_of_entries : (b : Block) (n origin : ℕ) (es : Entries) → item_in b.rows n ≡ Some es
+    → IsTrue (has_room_in b n origin) → IsTrue (has_room es origin)
 unfolding has_room_in
-room_of_entries b n origin es is room = subst (λ o. room_held o (is_none (place_at b.readings.mask n) && (has_spare b.readings && has_spare b.rows)) origin ≡ true) is room
+room_of_entries b n origin es is room = subst (λ o. room_held o
+    (is_none (place_at b.readings.mask n) && (has_spare b.readings && has_spare b.rows)) origin ≡ true) is room
 
-pub entries_have_room : (b : Block) (n origin : ℕ) (es : Entries) → item_in b.rows n ≡ Some es → IsTrue (has_room es origin) → IsTrue (has_room_in b n origin)
+pub entries_have_room : (b : Block) (n origin : ℕ) (es : Entries) → item_in b.rows n ≡ Some es
+    → IsTrue (has_room es origin) → IsTrue (has_room_in b n origin)
 unfolding has_room_in
-entries_have_room b n origin es is room = subst (λ o. room_held o (is_none (place_at b.readings.mask n) && (has_spare b.readings && has_spare b.rows)) origin ≡ true) (sym is) room
+entries_have_room b n origin es is room = subst (λ o. room_held o
+    (is_none (place_at b.readings.mask n) && (has_spare b.readings && has_spare b.rows)) origin ≡ true) (sym is) room
 
 -- in a row that has no entry there is room for one of either kind
 pub record IsFree (b : Block) (n : ℕ) : Type 0 where
@@ -118,22 +146,29 @@ pub record IsFree (b : Block) (n : ℕ) : Type 0 where
 pub room_is_free : (b : Block) (n origin : ℕ) → item_in b.rows n ≡ None → IsTrue (has_room_in b n origin) → IsFree b n
 unfolding has_room_in
 room_is_free b n origin none room =
-    let free : (is_none (place_at b.readings.mask n) && (has_spare b.readings && has_spare b.rows)) ≡ true = subst (λ o. room_held o (is_none (place_at b.readings.mask n) && (has_spare b.readings && has_spare b.rows)) origin ≡ true) none room in
+    let free : (is_none (place_at b.readings.mask n) && (has_spare b.readings && has_spare b.rows)) ≡ true =
+    subst (λ o. room_held o (is_none (place_at b.readings.mask n) && (has_spare b.readings && has_spare b.rows))
+    origin ≡ true) none room in
     let parts = and_parts (is_none (place_at b.readings.mask n)) (has_spare b.readings && has_spare b.rows) free in
     let spares = and_parts (has_spare b.readings) (has_spare b.rows) parts.1 in
     record { unread = none_is (place_at b.readings.mask n) parts.0; readings = spares.0; rows = spares.1 }
 
 pub free_has_room : (b : Block) (n origin : ℕ) → item_in b.rows n ≡ None → IsFree b n → IsTrue (has_room_in b n origin)
 unfolding has_room_in
-free_has_room b n origin none free = subst (λ o. room_held o (is_none (place_at b.readings.mask n) && (has_spare b.readings && has_spare b.rows)) origin ≡ true) (sym none)
-    (and_from (is_none (place_at b.readings.mask n)) (has_spare b.readings && has_spare b.rows) (ap is_none free.unread) (and_from (has_spare b.readings) (has_spare b.rows) free.readings free.rows))
+free_has_room b n origin none free = subst (λ o. room_held o
+    (is_none (place_at b.readings.mask n) && (has_spare b.readings && has_spare b.rows)) origin ≡ true) (sym none)
+    (and_from (is_none (place_at b.readings.mask n)) (has_spare b.readings && has_spare b.rows) (ap is_none free.unread)
+    (and_from (has_spare b.readings) (has_spare b.rows) free.readings free.rows))
 
 -- room is kept with the rows, and with the readings where there is none of the row
-pub room_kept : (old new : Block) (n origin : ℕ) → new.rows ≡ old.rows → (place_at old.readings.mask n ≡ None → new.readings ≡ old.readings) → IsTrue (has_room_in old n origin) → IsTrue (has_room_in new n origin)
+pub room_kept : (old new : Block) (n origin : ℕ) → new.rows ≡ old.rows
+    → (place_at old.readings.mask n ≡ None → new.readings ≡ old.readings) → IsTrue (has_room_in old n origin)
+    → IsTrue (has_room_in new n origin)
 room_kept old new n origin rows readings room = by_item (item_in old.rows n) refl
   where
     by_item : (o : Option Entries) → item_in old.rows n ≡ o → IsTrue (has_room_in new n origin)
-    by_item (Some es) is = entries_have_room new n origin es (ap (λ (r : Sparse Entries). item_in r n) rows ∙ is) (room_of_entries old n origin es is room)
+    by_item (Some es) is = entries_have_room new n origin es (ap (λ (r : Sparse Entries). item_in r n) rows ∙ is)
+        (room_of_entries old n origin es is room)
     by_item None is =
         let free = room_is_free old n origin is room in
         let same = readings free.unread in
@@ -145,33 +180,49 @@ room_kept old new n origin rows readings room = by_item (item_in old.rows n) ref
 
 -- ---- the entries of a row changed where they are in the list
 
-pub found_entries : (b : Block) (k at : ℕ) (was : Entries) → Some at ≡ place_at b.rows.mask k → slice_get b.rows.items.items at ≡ Some was → item_in b.rows k ≡ Some was
+pub found_entries : (b : Block) (k at : ℕ) (was : Entries) → Some at ≡ place_at b.rows.mask k
+    → slice_get b.rows.items.items at ≡ Some was → item_in b.rows k ≡ Some was
 found_entries b k at was place has = item_found b.rows.mask b.rows.items.items k at place ∙ has
 
-pub entries_changed : (old new : Block) (k at : ℕ) (was es : Entries) → Some at ≡ place_at old.rows.mask k → slice_get old.rows.items.items at ≡ Some was → new.rows.mask ≡ old.rows.mask → new.rows.items.items ≡ set old.rows.items.items at es → new.source ≡ old.source → new.readings ≡ old.readings → IsRowSet k (items_of es) (items_in old) (items_in new)
+pub entries_changed : (old new : Block) (k at : ℕ) (was es : Entries) → Some at ≡ place_at old.rows.mask k
+    → slice_get old.rows.items.items at ≡ Some was → new.rows.mask ≡ old.rows.mask
+    → new.rows.items.items ≡ set old.rows.items.items at es → new.source ≡ old.source → new.readings ≡ old.readings
+    → IsRowSet k (items_of es) (items_in old) (items_in new)
 entries_changed old new k at was es place has mask items source readings =
     let told = place_tells old.rows.mask k at place in
     let within = slice_get_within old.rows.items.items at was has in
     entries_set old new k es
-    (λ n. (λ i. item_at (mask i) (items i) n) ∙ ap (λ j. item_at old.rows.mask (set old.rows.items.items j es) n) told.1 ∙ item_set old.rows.mask old.rows.items.items k es told.0 (subst (λ j. j < length old.rows.items.items) told.1 within) n)
+    (λ n. (λ i. item_at (mask i) (items i) n) ∙ ap (λ j. item_at old.rows.mask (set old.rows.items.items j es) n) told.1
+    ∙ item_set old.rows.mask old.rows.items.items k es told.0
+    (subst (λ j. j < length old.rows.items.items) told.1 within) n)
     source (λ n. ap (λ (r : Sparse Reading). item_in r n) readings)
 
 -- with entries that are what they were
-pub entries_alike : (old new : Block) (k at : ℕ) (was es : Entries) → Some at ≡ place_at old.rows.mask k → slice_get old.rows.items.items at ≡ Some was → new.rows.mask ≡ old.rows.mask → new.rows.items.items ≡ set old.rows.items.items at es → new.source ≡ old.source → new.readings ≡ old.readings → items_of es ≡ items_of was → items_in new ≡ items_in old
+pub entries_alike : (old new : Block) (k at : ℕ) (was es : Entries) → Some at ≡ place_at old.rows.mask k
+    → slice_get old.rows.items.items at ≡ Some was → new.rows.mask ≡ old.rows.mask
+    → new.rows.items.items ≡ set old.rows.items.items at es → new.source ≡ old.source → new.readings ≡ old.readings
+    → items_of es ≡ items_of was → items_in new ≡ items_in old
 entries_alike old new k at was es place has mask items source readings same =
-    row_set_same k (items_of es) (items_in old) (items_in new) (entries_changed old new k at was es place has mask items source readings)
+    row_set_same k (items_of es) (items_in old) (items_in new)
+    (entries_changed old new k at was es place has mask items source readings)
     (same ∙ sym (items_by_entries old k was (found_entries old k at was place has)))
 
 -- the entries that were changed are the row's then
-pub entries_there : (old new : Block) (k at : ℕ) (was es : Entries) → Some at ≡ place_at old.rows.mask k → slice_get old.rows.items.items at ≡ Some was → new.rows.mask ≡ old.rows.mask → new.rows.items.items ≡ set old.rows.items.items at es → item_in new.rows k ≡ Some es
+pub entries_there : (old new : Block) (k at : ℕ) (was es : Entries) → Some at ≡ place_at old.rows.mask k
+    → slice_get old.rows.items.items at ≡ Some was → new.rows.mask ≡ old.rows.mask
+    → new.rows.items.items ≡ set old.rows.items.items at es → item_in new.rows k ≡ Some es
 entries_there old new k at was es place has mask items =
     (λ i. item_at (mask i) (items i) k)
     ∙ item_found old.rows.mask (set old.rows.items.items at es) k at place
     ∙ get_set_same old.rows.items.items at es (slice_get_within old.rows.items.items at was has)
 
-pub room_there : {T E : Type 0} (r : Result T E) (old new : Block) (k at origin : ℕ) (was es : Entries) → Some at ≡ place_at old.rows.mask k → slice_get old.rows.items.items at ≡ Some was → new.rows.mask ≡ old.rows.mask → new.rows.items.items ≡ set old.rows.items.items at es → OnOk r (IsTrue (has_room es origin)) → OnOk r (IsTrue (has_room_in new k origin))
+pub room_there : {T E : Type 0} (r : Result T E) (old new : Block) (k at origin : ℕ) (was es : Entries)
+    → Some at ≡ place_at old.rows.mask k → slice_get old.rows.items.items at ≡ Some was → new.rows.mask ≡ old.rows.mask
+    → new.rows.items.items ≡ set old.rows.items.items at es → OnOk r (IsTrue (has_room es origin))
+    → OnOk r (IsTrue (has_room_in new k origin))
 room_there r old new k at origin was es place has mask items room =
-    on_ok_weaker r (λ here. entries_have_room new k origin es (entries_there old new k at was es place has mask items) here) room
+    on_ok_weaker r (λ here. entries_have_room new k origin es (entries_there old new k at was es place has mask items)
+    here) room
 
 -- ---- what either result tells
 
@@ -185,22 +236,29 @@ abbrev held_alike : Option (List Entry) → List Entry → List Entry
 held_alike None read = read
 held_alike (Some es) read = es
 
-items_held-alike : (o : Option Entries) (read : List Entry) → items_held o read ≡ held_alike (option_map items_of o) read
+items_held-alike : (o : Option Entries) (read : List Entry)
+    → items_held o read ≡ held_alike (option_map items_of o) read
 items_held-alike None read = refl
 items_held-alike (Some es) read = refl
 
-item_map : (mask : ℕ) (xs : List Entries) (n : ℕ) → option_map items_of (item_at mask xs n) ≡ item_at mask (map items_of xs) n
+item_map : (mask : ℕ) (xs : List Entries) (n : ℕ)
+    → option_map items_of (item_at mask xs n) ≡ item_at mask (map items_of xs) n
 unfolding item_at
-item_map mask xs n = elim (place_at mask n) as (λ o. option_map items_of (option_and_then (slice_get xs) o) ≡ option_and_then (slice_get (map items_of xs)) o) [
-  | None ↦ refl
-  | Some at ↦ sym (slice_get-map items_of xs at)
-]
+item_map mask xs n = elim (place_at mask n) as (λ o. option_map items_of (option_and_then (slice_get xs) o)
+    ≡ option_and_then (slice_get (map items_of xs)) o) [
+      | None ↦ refl
+      | Some at ↦ sym (slice_get-map items_of xs at)
+    ]
 
-pub block_copied : (old new : Block) → new.source ≡ old.source → new.readings.mask ≡ old.readings.mask → new.readings.items.items ≡ old.readings.items.items → new.rows.mask ≡ old.rows.mask → map items_of new.rows.items.items ≡ map items_of old.rows.items.items → items_in new ≡ items_in old
+pub block_copied : (old new : Block) → new.source ≡ old.source → new.readings.mask ≡ old.readings.mask
+    → new.readings.items.items ≡ old.readings.items.items → new.rows.mask ≡ old.rows.mask
+    → map items_of new.rows.items.items ≡ map items_of old.rows.items.items → items_in new ≡ items_in old
 unfolding items_in
 block_copied old new source mask readings rows_mask rows = λ i n. (
     items_held-alike (item_in new.rows n) (entries_read new.source (item_in new.readings n))
-    ∙ (λ j. held_alike ((item_map new.rows.mask new.rows.items.items n ∙ (λ k. item_at (rows_mask k) (rows k) n) ∙ sym (item_map old.rows.mask old.rows.items.items n)) j) (entries_read (source j) (item_at (mask j) (readings j) n)))
+    ∙ (λ j. held_alike ((item_map new.rows.mask new.rows.items.items n ∙ (λ k. item_at (rows_mask k) (rows k) n)
+    ∙ sym (item_map old.rows.mask old.rows.items.items n)) j)
+    (entries_read (source j) (item_at (mask j) (readings j) n)))
     ∙ sym (items_held-alike (item_in old.rows n) (entries_read old.source (item_in old.readings n)))) i
 
 pub same_length : (xs ys : List Entries) → map items_of xs ≡ map items_of ys → length xs ≡ length ys

@@ -35,16 +35,19 @@ other_slot : (a b : ℤ) → int_eq a b ≡ false → a ≡ b → ⊥
 other_slot a b h e = grind (arith, ints)
 
 -- a slot whose block is there, and of one that isn't
-pub slot_found : (blocks : List (ℤ × Block)) (slot : ℤ) (b : Block) → Some b ≡ block_at blocks (block_of slot) → items_by_slot blocks slot ≡ items_in b (row_of slot)
+pub slot_found : (blocks : List (ℤ × Block)) (slot : ℤ) (b : Block) → Some b ≡ block_at blocks (block_of slot)
+    → items_by_slot blocks slot ≡ items_in b (row_of slot)
 unfolding items_by_slot
 slot_found blocks slot b has = ap (λ o. items_of_block o (row_of slot)) (sym has)
 
-pub slot_missing : (blocks : List (ℤ × Block)) (slot : ℤ) → None ≡ block_at blocks (block_of slot) → items_by_slot blocks slot ≡ []
+pub slot_missing : (blocks : List (ℤ × Block)) (slot : ℤ) → None ≡ block_at blocks (block_of slot)
+    → items_by_slot blocks slot ≡ []
 unfolding items_by_slot
 slot_missing blocks slot none = ap (λ o. items_of_block o (row_of slot)) (sym none)
 
 -- the slots that follow one in its block
-pub slots_after : (blocks : List (ℤ × Block)) (slot : ℤ) (i : ℕ) → row_of slot + i < 64 → items_by_slot blocks (slot +ℤ pos i) ≡ items_of_block (block_at blocks (block_of slot)) (row_of slot + i)
+pub slots_after : (blocks : List (ℤ × Block)) (slot : ℤ) (i : ℕ) → row_of slot + i < 64
+    → items_by_slot blocks (slot +ℤ pos i) ≡ items_of_block (block_at blocks (block_of slot)) (row_of slot + i)
 unfolding items_by_slot
 slots_after blocks slot i near = λ j. items_of_block (block_at blocks (block_on slot i near j)) (row_on slot i near j)
 
@@ -56,29 +59,52 @@ either (Ok x) p q = p
 either (Err e) p q = q
 
 -- with a block that stores what the number's does
-pub blocks_alike : (old new : List (ℤ × Block)) (number : ℤ) (b : Block) → IsBlockSet number b old new → items_in b ≡ items_of_block (block_at old number) → items_by_slot new ≡ items_by_slot old
+pub blocks_alike : (old new : List (ℤ × Block)) (number : ℤ) (b : Block) → IsBlockSet number b old new
+    → items_in b ≡ items_of_block (block_at old number) → items_by_slot new ≡ items_by_slot old
 unfolding items_by_slot
 blocks_alike old new number b sets same = λ i s. (
     ap (λ o. items_of_block o (row_of s)) (sets (block_of s))
-    ∙ elim (is_at (int_cmp number) (block_of s)) as (λ c. is_at (int_cmp number) (block_of s) ≡ c → items_of_block (cond c (Some b) (block_at old (block_of s))) (row_of s) ≡ items_of_block (block_at old (block_of s)) (row_of s)) [
-      | true ↦ λ t. ap (λ f. f (row_of s)) same ∙ ap (λ z. items_of_block (block_at old z) (row_of s)) (same_number number (block_of s) t)
+    ∙ elim (is_at (int_cmp number) (block_of s)) as
+    (λ c. is_at (int_cmp number) (block_of s) ≡ c
+    → items_of_block (cond c (Some b) (block_at old (block_of s))) (row_of s)
+    ≡ items_of_block (block_at old (block_of s)) (row_of s)) [
+      | true ↦ λ t. ap (λ f. f (row_of s)) same ∙ ap (λ z. items_of_block (block_at old z) (row_of s))
+          (same_number number (block_of s) t)
       | false ↦ λ _. refl
     ] refl) i
 
 -- with a block in which an entry of the slot's row is set
-pub blocks_changed : (old new : List (ℤ × Block)) (slot : ℤ) (b : Block) (e : Entry) → IsBlockSet (block_of slot) b old new → IsRowSet (row_of slot) (with_entry (items_by_slot old slot) e) (items_of_block (block_at old (block_of slot))) (items_in b) → IsSlotSet slot e (items_by_slot old) (items_by_slot new)
+pub blocks_changed : (old new : List (ℤ × Block)) (slot : ℤ) (b : Block) (e : Entry)
+    → IsBlockSet (block_of slot) b old new → IsRowSet (row_of slot) (with_entry (items_by_slot old slot) e)
+    (items_of_block (block_at old (block_of slot))) (items_in b)
+    → IsSlotSet slot e (items_by_slot old) (items_by_slot new)
 unfolding items_by_slot
 blocks_changed old new slot b e sets set = λ s.
     ap (λ o. items_of_block o (row_of s)) (sets (block_of s))
-    ∙ elim (is_at (int_cmp (block_of slot)) (block_of s)) as (λ c. is_at (int_cmp (block_of slot)) (block_of s) ≡ c → items_of_block (cond c (Some b) (block_at old (block_of s))) (row_of s) ≡ cond (int_eq slot s) (with_entry (items_of_block (block_at old (block_of slot)) (row_of slot)) e) (items_of_block (block_at old (block_of s)) (row_of s))) [
+    ∙ elim (is_at (int_cmp (block_of slot)) (block_of s)) as
+    (λ c. is_at (int_cmp (block_of slot)) (block_of s) ≡ c
+    → items_of_block (cond c (Some b) (block_at old (block_of s))) (row_of s)
+    ≡ cond (int_eq slot s) (with_entry (items_of_block (block_at old (block_of slot)) (row_of slot)) e)
+    (items_of_block (block_at old (block_of s)) (row_of s))) [
       | true ↦ λ t.
           let one = same_number (block_of slot) (block_of s) t in
           set (row_of s)
-          ∙ elim (int_eq slot s) as (λ d. int_eq slot s ≡ d → cond (eqb (row_of s) (row_of slot)) (with_entry (items_of_block (block_at old (block_of slot)) (row_of slot)) e) (items_of_block (block_at old (block_of slot)) (row_of s)) ≡ cond d (with_entry (items_of_block (block_at old (block_of slot)) (row_of slot)) e) (items_of_block (block_at old (block_of s)) (row_of s))) [
-            | true ↦ λ is. ap (λ d. cond d (with_entry (items_of_block (block_at old (block_of slot)) (row_of slot)) e) (items_of_block (block_at old (block_of slot)) (row_of s))) (ap (λ z. eqb (row_of z) (row_of slot)) (sym (same_slot slot s is)) ∙ itself (row_of slot))
-            | false ↦ λ apart. ap (λ d. cond d (with_entry (items_of_block (block_at old (block_of slot)) (row_of slot)) e) (items_of_block (block_at old (block_of slot)) (row_of s))) (rows_apart (row_of s) (row_of slot) (λ r. other_slot slot s apart (same_slot_by slot s one (sym r)))) ∙ ap (λ z. items_of_block (block_at old z) (row_of s)) one
+          ∙ elim (int_eq slot s) as (λ d. int_eq slot s ≡ d
+          → cond (eqb (row_of s) (row_of slot)) (with_entry
+          (items_of_block (block_at old (block_of slot)) (row_of slot)) e)
+          (items_of_block (block_at old (block_of slot)) (row_of s))
+          ≡ cond d (with_entry (items_of_block (block_at old (block_of slot)) (row_of slot)) e)
+          (items_of_block (block_at old (block_of s)) (row_of s))) [
+            | true ↦ λ is. ap (λ d. cond d (with_entry (items_of_block (block_at old (block_of slot)) (row_of slot)) e)
+                (items_of_block (block_at old (block_of slot)) (row_of s)))
+                (ap (λ z. eqb (row_of z) (row_of slot)) (sym (same_slot slot s is)) ∙ itself (row_of slot))
+            | false ↦ λ apart. ap (λ d. cond d (with_entry (items_of_block (block_at old (block_of slot)) (row_of slot))
+                e) (items_of_block (block_at old (block_of slot)) (row_of s)))
+                (rows_apart (row_of s) (row_of slot) (λ r. other_slot slot s apart (same_slot_by slot s one (sym r))))
+                ∙ ap (λ z. items_of_block (block_at old z) (row_of s)) one
           ] refl
-      | false ↦ λ t. ap (λ d. cond d (with_entry (items_of_block (block_at old (block_of slot)) (row_of slot)) e) (items_of_block (block_at old (block_of s)) (row_of s))) (sym (elsewhere s t))
+      | false ↦ λ t. ap (λ d. cond d (with_entry (items_of_block (block_at old (block_of slot)) (row_of slot)) e)
+          (items_of_block (block_at old (block_of s)) (row_of s))) (sym (elsewhere s t))
     ] refl
   where
     itself : (n : ℕ) → eqb n n ≡ true
@@ -89,63 +115,95 @@ blocks_changed old new slot b e sets set = λ s.
 
     elsewhere : (s : ℤ) → is_at (int_cmp (block_of slot)) (block_of s) ≡ false → int_eq slot s ≡ false
     elsewhere s t = elim (int_eq slot s) as (λ d. int_eq slot s ≡ d → d ≡ false) [
-      | true ↦ λ is. sym (sym t ∙ ap (λ z. is_at (int_cmp (block_of slot)) (block_of z)) (sym (same_slot slot s is)) ∙ number_same (block_of slot))
+      | true ↦ λ is. sym (sym t ∙ ap (λ z. is_at (int_cmp (block_of slot)) (block_of z)) (sym (same_slot slot s is))
+          ∙ number_same (block_of slot))
       | false ↦ λ _. refl
     ] refl
 
 -- with the entry of an origin changed in a block that is there
-pub change_there : (old new : List (ℤ × Block)) (slot : ℤ) (was b : Block) (origin : ℕ) (change : Change) → IsBlockSet (block_of slot) b old new → Some was ≡ block_at old (block_of slot) → IsRowSet (row_of slot) (with_entry (items_in was (row_of slot)) (entry_after (items_in was (row_of slot)) origin change)) (items_in was) (items_in b) → IsSlotSet slot (entry_after (items_by_slot old slot) origin change) (items_by_slot old) (items_by_slot new)
+pub change_there : (old new : List (ℤ × Block)) (slot : ℤ) (was b : Block) (origin : ℕ) (change : Change)
+    → IsBlockSet (block_of slot) b old new → Some was ≡ block_at old (block_of slot)
+    → IsRowSet (row_of slot) (with_entry (items_in was (row_of slot))
+    (entry_after (items_in was (row_of slot)) origin change)) (items_in was) (items_in b)
+    → IsSlotSet slot (entry_after (items_by_slot old slot) origin change) (items_by_slot old) (items_by_slot new)
 change_there old new slot was b origin change sets has changed =
     let here = sym (slot_found old slot was has) in
     blocks_changed old new slot b (entry_after (items_by_slot old slot) origin change) sets (λ n.
-    changed n ∙ (λ i. cond (eqb n (row_of slot)) (with_entry (here i) (entry_after (here i) origin change)) (items_of_block (has i) n)))
+    changed n ∙ (λ i. cond (eqb n (row_of slot)) (with_entry (here i) (entry_after (here i) origin change))
+    (items_of_block (has i) n)))
 
 -- and in a block that is new
-pub change_new : (old new : List (ℤ × Block)) (slot : ℤ) (was b : Block) (origin : ℕ) (change : Change) → IsBlockSet (block_of slot) b old new → None ≡ block_at old (block_of slot) → ((n : ℕ) → items_in was n ≡ []) → IsRowSet (row_of slot) (with_entry (items_in was (row_of slot)) (entry_after (items_in was (row_of slot)) origin change)) (items_in was) (items_in b) → IsSlotSet slot (entry_after (items_by_slot old slot) origin change) (items_by_slot old) (items_by_slot new)
+pub change_new : (old new : List (ℤ × Block)) (slot : ℤ) (was b : Block) (origin : ℕ) (change : Change)
+    → IsBlockSet (block_of slot) b old new → None ≡ block_at old (block_of slot) → ((n : ℕ) → items_in was n ≡ [])
+    → IsRowSet (row_of slot) (with_entry (items_in was (row_of slot))
+    (entry_after (items_in was (row_of slot)) origin change)) (items_in was) (items_in b)
+    → IsSlotSet slot (entry_after (items_by_slot old slot) origin change) (items_by_slot old) (items_by_slot new)
 change_new old new slot was b origin change sets none empty changed =
     let here = empty (row_of slot) ∙ sym (slot_missing old slot none) in
     blocks_changed old new slot b (entry_after (items_by_slot old slot) origin change) sets (λ n.
     changed n
     ∙ (λ i. cond (eqb n (row_of slot)) (with_entry (here i) (entry_after (here i) origin change)) (empty n i))
-    ∙ (λ i. cond (eqb n (row_of slot)) (with_entry (items_by_slot old slot) (entry_after (items_by_slot old slot) origin change)) (items_of_block (none i) n)))
+    ∙ (λ i. cond (eqb n (row_of slot)) (with_entry (items_by_slot old slot)
+    (entry_after (items_by_slot old slot) origin change)) (items_of_block (none i) n)))
 
 -- ---- room in the row of a slot
 
-pub room_found : (bs : Blocks) (slot : ℤ) (origin : ℕ) (b : Block) → Some b ≡ block_at bs.blocks.items (block_of slot) → IsTrue (has_room_at bs slot origin) → IsTrue (has_room_in b (row_of slot) origin)
+pub room_found : (bs : Blocks) (slot : ℤ) (origin : ℕ) (b : Block) → Some b ≡ block_at bs.blocks.items (block_of slot)
+    → IsTrue (has_room_at bs slot origin) → IsTrue (has_room_in b (row_of slot) origin)
 unfolding has_room_at
 room_found bs slot origin b has room = subst (λ o. block_has_room o (row_of slot) origin ≡ true) (sym has) room
 
-pub room_missing : (bs : Blocks) (slot : ℤ) (origin : ℕ) → None ≡ block_at bs.blocks.items (block_of slot) → IsTrue (has_room_at bs slot origin) → ⊥
+pub room_missing : (bs : Blocks) (slot : ℤ) (origin : ℕ) → None ≡ block_at bs.blocks.items (block_of slot)
+    → IsTrue (has_room_at bs slot origin) → ⊥
 unfolding has_room_at
-room_missing bs slot origin none room = true≢false (sym (subst (λ o. block_has_room o (row_of slot) origin ≡ true) (sym none) room))
+room_missing bs slot origin none room = true≢false
+    (sym (subst (λ o. block_has_room o (row_of slot) origin ≡ true) (sym none) room))
 
-pub room_at : (old : List (ℤ × Block)) (new : Blocks) (slot : ℤ) (origin : ℕ) (b : Block) → IsBlockSet (block_of slot) b old new.blocks.items → IsTrue (has_room_in b (row_of slot) origin) → IsTrue (has_room_at new slot origin)
+pub room_at : (old : List (ℤ × Block)) (new : Blocks) (slot : ℤ) (origin : ℕ) (b : Block)
+    → IsBlockSet (block_of slot) b old new.blocks.items → IsTrue (has_room_in b (row_of slot) origin)
+    → IsTrue (has_room_at new slot origin)
 unfolding has_room_at
-room_at old new slot origin b sets here = subst (λ o. block_has_room o (row_of slot) origin ≡ true) (sym (sets (block_of slot) ∙ ap (λ c. cond c (Some b) (block_at old (block_of slot))) (number_same (block_of slot)))) here
+room_at old new slot origin b sets here = subst (λ o. block_has_room o (row_of slot) origin ≡ true)
+    (sym (sets (block_of slot) ∙ ap (λ c. cond c (Some b) (block_at old (block_of slot)))
+    (number_same (block_of slot)))) here
 
 -- a block without an entry, where there was none
-pub blocks_added : (old new : List (ℤ × Block)) (number : ℤ) (b : Block) → IsBlockSet number b old new → None ≡ block_at old number → ((n : ℕ) → items_in b n ≡ []) → items_by_slot new ≡ items_by_slot old
-blocks_added old new number b sets none empty = blocks_alike old new number b sets (λ i n. (empty n ∙ ap (λ o. items_of_block o n) none) i)
+pub blocks_added : (old new : List (ℤ × Block)) (number : ℤ) (b : Block) → IsBlockSet number b old new
+    → None ≡ block_at old number → ((n : ℕ) → items_in b n ≡ []) → items_by_slot new ≡ items_by_slot old
+blocks_added old new number b sets none empty = blocks_alike old new number b sets
+    (λ i n. (empty n ∙ ap (λ o. items_of_block o n) none) i)
 
 -- ---- the first block taken out
 
-none_later : (s q : ℤ) (bs : List (ℤ × Block)) → s ≡ q → AllByRecursion (λ t. int_cmp s t ≡ Less) (keys_of bs) → block_at bs q ≡ None
+none_later : (s q : ℤ) (bs : List (ℤ × Block)) → s ≡ q → AllByRecursion (λ t. int_cmp s t ≡ Less) (keys_of bs)
+    → block_at bs q ≡ None
 none_later s q [] e h = refl
-none_later s q (b ∷ bs) e h = ap (λ c. cond c (Some b.1) (block_at bs q)) (ap (λ z. is_eq (int_cmp z b.0)) (sym e) ∙ ap is_eq h.0) ∙ none_later s q bs e h.1
+none_later s q (b ∷ bs) e h = ap (λ c. cond c (Some b.1) (block_at bs q))
+    (ap (λ z. is_eq (int_cmp z b.0)) (sym e) ∙ ap is_eq h.0) ∙ none_later s q bs e h.1
 
 -- what is stored of each slot: what was, or nothing of a slot before this one
 abbrev pub IsLeft : ℤ → (ℤ → List Entry) → (ℤ → List Entry) → Type 0
 IsLeft slot old new = (s : ℤ) → (new s ≡ old s) ⊎ ((new s ≡ []) × IsTrue (int_lt s slot))
 
-pub first_left : (slot : ℤ) (bs : List (ℤ × Block)) (old : ℤ → List Entry) → IsStrictlySortedBy int_cmp (keys_of bs) → starts_before (block_of slot) bs ≡ true → IsLeft slot old (items_by_slot bs) → IsLeft slot old (items_by_slot (drop 1 bs))
+pub first_left : (slot : ℤ) (bs : List (ℤ × Block)) (old : ℤ → List Entry) → IsStrictlySortedBy int_cmp (keys_of bs)
+    → starts_before (block_of slot) bs ≡ true → IsLeft slot old (items_by_slot bs)
+    → IsLeft slot old (items_by_slot (drop 1 bs))
 unfolding IsStrictlySortedBy items_by_slot
 first_left slot [] old sorted before left = absurd (true≢false (sym before))
-first_left slot (b ∷ bs) old sorted before left = λ s. elim (is_eq (int_cmp (block_of s) b.0)) as (λ c. is_eq (int_cmp (block_of s) b.0) ≡ c → (items_of_block (cond c (Some b.1) (block_at bs (block_of s))) (row_of s) ≡ old s) ⊎ ((items_of_block (cond c (Some b.1) (block_at bs (block_of s))) (row_of s) ≡ []) × IsTrue (int_lt s slot)) → (items_of_block (block_at bs (block_of s)) (row_of s) ≡ old s) ⊎ ((items_of_block (block_at bs (block_of s)) (row_of s) ≡ []) × IsTrue (int_lt s slot))) [
-  | true ↦ λ t _.
-      let is = same_number (block_of s) b.0 t in
-      inr (ap (λ o. items_of_block o (row_of s)) (none_later b.0 (block_of s) bs (sym is) sorted.0), before_block s slot (ap (λ z. int_lt z (block_of slot)) is ∙ before))
-  | false ↦ λ _ was. was
-] refl (left s)
+first_left slot (b ∷ bs) old sorted before left =
+    λ s. elim (is_eq (int_cmp (block_of s) b.0)) as
+    (λ c. is_eq (int_cmp (block_of s) b.0) ≡ c → (items_of_block (cond c (Some b.1) (block_at bs (block_of s)))
+    (row_of s) ≡ old s) ⊎ ((items_of_block (cond c (Some b.1) (block_at bs (block_of s))) (row_of s) ≡ [])
+    × IsTrue (int_lt s slot)) → (items_of_block (block_at bs (block_of s)) (row_of s) ≡ old s)
+    ⊎ ((items_of_block (block_at bs (block_of s)) (row_of s) ≡ []) × IsTrue (int_lt s slot))) [
+      | true ↦ λ t _.
+          let is = same_number (block_of s) b.0 t in
+          inr (
+            ap (λ o. items_of_block o (row_of s)) (none_later b.0 (block_of s) bs (sym is) sorted.0),
+            before_block s slot (ap (λ z. int_lt z (block_of slot)) is ∙ before),
+          )
+      | false ↦ λ _ was. was
+    ] refl (left s)
 
 -- ---- blocks that are copied one by one
 
@@ -157,7 +215,9 @@ stored b = (b.0, items_in b.1)
 abbrev pub IsCopied : List (ℤ × Block) → List (ℤ × Block) → List (ℤ × Block) → Type 0
 IsCopied blocks left new = map stored new ++ map stored left ≡ map stored blocks
 
-pub copied_more : (blocks left rest new more : List (ℤ × Block)) (number : ℤ) (b copy : Block) → IsCopied blocks left new → left ≡ (number, b) ∷ rest → items_in copy ≡ items_in b → more ≡ new ++ (number, copy) ∷ [] → IsCopied blocks rest more
+pub copied_more : (blocks left rest new more : List (ℤ × Block)) (number : ℤ) (b copy : Block)
+    → IsCopied blocks left new → left ≡ (number, b) ∷ rest → items_in copy ≡ items_in b
+    → more ≡ new ++ (number, copy) ∷ [] → IsCopied blocks rest more
 copied_more blocks left rest new more number b copy c is same add =
     ap (λ l. map stored l ++ map stored rest) add
     ∙ ap (λ l. l ++ map stored rest) (map-append stored new ((number, copy) ∷ []))
@@ -166,8 +226,10 @@ copied_more blocks left rest new more number b copy c is same add =
     ∙ ap (λ l. map stored new ++ map stored l) (sym is)
     ∙ c
 
-pub all_copied : (blocks left new : List (ℤ × Block)) → IsCopied blocks left new → left ≡ [] → map stored new ≡ map stored blocks
-all_copied blocks left new c none = sym (append-nil (map stored new)) ∙ ap (λ l. map stored new ++ map stored l) (sym none) ∙ c
+pub all_copied : (blocks left new : List (ℤ × Block)) → IsCopied blocks left new → left ≡ []
+    → map stored new ≡ map stored blocks
+all_copied blocks left new c none = sym (append-nil (map stored new))
+    ∙ ap (λ l. map stored new ++ map stored l) (sym none) ∙ c
 
 pub copied_numbers : (blocks new : List (ℤ × Block)) → map stored new ≡ map stored blocks → keys_of new ≡ keys_of blocks
 copied_numbers blocks new same = sym (numbers new) ∙ ap keys_of same ∙ numbers blocks
@@ -176,7 +238,8 @@ copied_numbers blocks new same = sym (numbers new) ∙ ap keys_of same ∙ numbe
     numbers [] = refl
     numbers (b ∷ bs) = ap (λ ks. b.0 ∷ ks) (numbers bs)
 
-pub copied_rows : (blocks new : List (ℤ × Block)) → map stored new ≡ map stored blocks → items_by_slot new ≡ items_by_slot blocks
+pub copied_rows : (blocks new : List (ℤ × Block)) → map stored new ≡ map stored blocks
+    → items_by_slot new ≡ items_by_slot blocks
 unfolding items_by_slot
 copied_rows blocks new same = λ i s. (
     by_stored new (block_of s) (row_of s)
@@ -191,5 +254,7 @@ copied_rows blocks new same = λ i s. (
     read_of None n = refl
     read_of (Some b) n = refl
 
-    by_stored : (bs : List (ℤ × Block)) (q : ℤ) (n : ℕ) → items_of_block (block_at bs q) n ≡ read (lookup (is_at (int_cmp q)) (map stored bs)) n
-    by_stored bs q n = read_of (block_at bs q) n ∙ ap (λ o. read o n) (sym (lookup-map_values items_in (is_at (int_cmp q)) bs))
+    by_stored : (bs : List (ℤ × Block)) (q : ℤ) (n : ℕ)
+        → items_of_block (block_at bs q) n ≡ read (lookup (is_at (int_cmp q)) (map stored bs)) n
+    by_stored bs q n = read_of (block_at bs q) n ∙ ap (λ o. read o n)
+        (sym (lookup-map_values items_in (is_at (int_cmp q)) bs))

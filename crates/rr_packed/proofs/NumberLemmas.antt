@@ -23,12 +23,14 @@ IsBelow n bs = AllByRecursion (λ k. int_cmp n k ≡ Less) (keys_of bs)
 
 -- ---- what is before a number
 
-less_at : (n : ℤ) (bs : List (ℤ × Block)) (i : ℕ) (d : ℤ × Block) → IsBelow n bs → i < length bs → int_cmp n (get_or bs i d).0 ≡ Less
+less_at : (n : ℤ) (bs : List (ℤ × Block)) (i : ℕ) (d : ℤ × Block) → IsBelow n bs → i < length bs
+    → int_cmp n (get_or bs i d).0 ≡ Less
 less_at n [] i d h within = absurd (omega arith)
 less_at n (b ∷ bs) zero d h within = h.0
 less_at n (b ∷ bs) (suc i) d h within = less_at n bs i d h.1 (omega arith)
 
-ascend_at : (bs : List (ℤ × Block)) (i j : ℕ) (d : ℤ × Block) → Ascend bs → i < j → j < length bs → int_cmp (get_or bs i d).0 (get_or bs j d).0 ≡ Less
+ascend_at : (bs : List (ℤ × Block)) (i j : ℕ) (d : ℤ × Block) → Ascend bs → i < j → j < length bs
+    → int_cmp (get_or bs i d).0 (get_or bs j d).0 ≡ Less
 unfolding IsStrictlySortedBy
 ascend_at [] i j d up low within = absurd (omega arith)
 ascend_at (b ∷ bs) i zero d up low within = absurd (omega arith)
@@ -45,33 +47,43 @@ parted n bs up i j d most within before = ⊎_elim
     (λ (high : j ≤ i). let same : j ≡ i = omega arith in ap (λ k. int_lt (get_or bs k d).0 n) (sym same) ∙ before)
     (cases_lt i j)
 
-prefix_is : {X : Type 0} (p : X → Bool) (xs : List X) (i : ℕ) → i ≤ length xs → ((k : ℕ) (d : X) → k < i → p (get_or xs k d) ≡ true) → ((d : X) → i < length xs → p (get_or xs i d) ≡ false) → i ≡ prefix_len p xs
+prefix_is : {X : Type 0} (p : X → Bool) (xs : List X) (i : ℕ) → i ≤ length xs
+    → ((k : ℕ) (d : X) → k < i → p (get_or xs k d) ≡ true) → ((d : X) → i < length xs → p (get_or xs i d) ≡ false)
+    → i ≡ prefix_len p xs
 prefix_is p [] i most low high = omega arith
 prefix_is p (x ∷ xs) zero most low high = sym (ap (λ b. cond b (1 + prefix_len p xs) 0) (high x (omega arith)))
 prefix_is p (x ∷ xs) (suc i) most low high =
-    let rest = prefix_is p xs i (omega arith) (λ k d below. low (suc k) d (omega arith)) (λ d within. high d (omega arith)) in
+    let rest = prefix_is p xs i (omega arith) (λ k d below. low (suc k) d (omega arith))
+    (λ d within. high d (omega arith)) in
     let more : suc i ≡ 1 + prefix_len p xs = omega arith in
     more ∙ sym (ap (λ b. cond b (1 + prefix_len p xs) 0) (low 0 x (omega arith)))
 
-pub count_by_parts : (n : ℤ) (bs : List (ℤ × Block)) (i : ℕ) → i ≤ length bs → IsPartitionPoint (λ b. int_lt b.0 n ≡ true) (λ b. int_lt b.0 n ≡ false) bs i → i ≡ count_before n bs
-count_by_parts n bs i most point = prefix_is (λ b. int_lt b.0 n) bs i most (λ k d below. point.0 k d (omega arith) below) (λ d within. point.1 i d (omega arith) within)
+pub count_by_parts : (n : ℤ) (bs : List (ℤ × Block)) (i : ℕ) → i ≤ length bs
+    → IsPartitionPoint (λ b. int_lt b.0 n ≡ true) (λ b. int_lt b.0 n ≡ false) bs i → i ≡ count_before n bs
+count_by_parts n bs i most point = prefix_is (λ b. int_lt b.0 n) bs i most
+    (λ k d below. point.0 k d (omega arith) below) (λ d within. point.1 i d (omega arith) within)
 
 -- the last block is before the number, or of it
-pub count_all : (n : ℤ) (bs : List (ℤ × Block)) (last : ℤ × Block) → Ascend bs → 0 < length bs → last ≡ get_or bs (length bs - 1) last → int_cmp last.0 n ≡ Less → length bs ≡ count_before n bs
+pub count_all : (n : ℤ) (bs : List (ℤ × Block)) (last : ℤ × Block) → Ascend bs → 0 < length bs
+    → last ≡ get_or bs (length bs - 1) last → int_cmp last.0 n ≡ Less → length bs ≡ count_before n bs
 count_all n bs last up some is less = prefix_is (λ b. int_lt b.0 n) bs (length bs) (omega arith)
-    (λ k d below. parted n bs up k (length bs - 1) d (omega arith) (omega arith) (before _ n (ap (λ (b : ℤ × Block). int_cmp b.0 n) (get_or_default bs (length bs - 1) d last (omega arith) ∙ sym is) ∙ less)))
+    (λ k d below. parted n bs up k (length bs - 1) d (omega arith) (omega arith)
+    (before _ n (ap (λ (b : ℤ × Block). int_cmp b.0 n)
+    (get_or_default bs (length bs - 1) d last (omega arith) ∙ sym is) ∙ less)))
     (λ d within. absurd (omega arith))
   where
     before : (a n : ℤ) → int_cmp a n ≡ Less → int_lt a n ≡ true
     before a n e = grind (arith, ints)
 
-pub count_but_last : (n : ℤ) (bs : List (ℤ × Block)) (last : ℤ × Block) → Ascend bs → 0 < length bs → last ≡ get_or bs (length bs - 1) last → int_cmp last.0 n ≡ Equal → length bs - 1 ≡ count_before n bs
+pub count_but_last : (n : ℤ) (bs : List (ℤ × Block)) (last : ℤ × Block) → Ascend bs → 0 < length bs
+    → last ≡ get_or bs (length bs - 1) last → int_cmp last.0 n ≡ Equal → length bs - 1 ≡ count_before n bs
 count_but_last n bs last up some is same = prefix_is (λ b. int_lt b.0 n) bs (length bs - 1) (omega arith)
     (λ k d below. before _ _ n (ascend_at bs k (length bs - 1) d up below (omega arith)) (its_number d))
     (λ d within. not_before _ n (its_number d))
   where
     its_number : (d : ℤ × Block) → int_cmp (get_or bs (length bs - 1) d).0 n ≡ Equal
-    its_number d = ap (λ (b : ℤ × Block). int_cmp b.0 n) (get_or_default bs (length bs - 1) d last (omega arith) ∙ sym is) ∙ same
+    its_number d = ap (λ (b : ℤ × Block). int_cmp b.0 n)
+        (get_or_default bs (length bs - 1) d last (omega arith) ∙ sym is) ∙ same
 
     before : (a b n : ℤ) → int_cmp a b ≡ Less → int_cmp b n ≡ Equal → int_lt a n ≡ true
     before a b n p q = grind (arith, ints)
@@ -106,13 +118,18 @@ one_on : (i : ℕ) → 1 + i ≡ suc i
 one_on i = omega arith
 
 -- where the number isn't at its place, there is no block of it
-no_block : (n : ℤ) (bs : List (ℤ × Block)) → Ascend bs → (slice_get (keys_of bs) (count_before n bs) ≡ Some n → ⊥) → block_at bs n ≡ None
+no_block : (n : ℤ) (bs : List (ℤ × Block)) → Ascend bs → (slice_get (keys_of bs) (count_before n bs) ≡ Some n → ⊥)
+    → block_at bs n ≡ None
 unfolding IsStrictlySortedBy
 no_block n [] up apart = refl
-no_block n (b ∷ bs) up apart = elim (int_lt b.0 n) as (λ c. int_lt b.0 n ≡ c → (slice_get (keys_of (b ∷ bs)) (cond c (1 + count_before n bs) 0) ≡ Some n → ⊥) → block_at (b ∷ bs) n ≡ None) [
-  | true ↦ λ low apart. ap (λ c. cond c (Some b.1) (block_at bs n)) (no_bits n b.0 low) ∙ no_block n bs up.1 (λ e. apart (ap (slice_get (keys_of (b ∷ bs))) (one_on (count_before n bs)) ∙ e))
-  | false ↦ λ high apart. lookup-none (is_at (int_cmp n)) (b ∷ bs) (none_below_head int_cmp_total n b bs up (below_by n b.0 high (λ e. apart (ap Some e))))
-] refl apart
+no_block n (b ∷ bs) up apart = elim (int_lt b.0 n) as
+    (λ c. int_lt b.0 n ≡ c → (slice_get (keys_of (b ∷ bs)) (cond c (1 + count_before n bs) 0) ≡ Some n → ⊥)
+    → block_at (b ∷ bs) n ≡ None) [
+      | true ↦ λ low apart. ap (λ c. cond c (Some b.1) (block_at bs n)) (no_bits n b.0 low)
+          ∙ no_block n bs up.1 (λ e. apart (ap (slice_get (keys_of (b ∷ bs))) (one_on (count_before n bs)) ∙ e))
+      | false ↦ λ high apart. lookup-none (is_at (int_cmp n)) (b ∷ bs)
+          (none_below_head int_cmp_total n b bs up (below_by n b.0 high (λ e. apart (ap Some e))))
+    ] refl apart
 
 pub place_within : (bs : List (ℤ × Block)) (n : ℤ) (at : ℕ) → IsPlaceOf n bs at → at < length bs
 place_within [] n at place = absurd cc
@@ -120,22 +137,28 @@ place_within (b ∷ bs) n zero place = omega arith
 place_within (b ∷ bs) n (suc at) place = let rest = place_within bs n at place in omega arith
 
 -- there is no block of a number whose place is past the last, or has another number
-pub gap_at : (bs : List (ℤ × Block)) (n : ℤ) (at : ℕ) → Ascend bs → at ≡ count_before n bs → (IsPlaceOf n bs at → ⊥) → IsGapFor n bs at
+pub gap_at : (bs : List (ℤ × Block)) (n : ℤ) (at : ℕ) → Ascend bs → at ≡ count_before n bs → (IsPlaceOf n bs at → ⊥)
+    → IsGapFor n bs at
 gap_at bs n at up is apart = (no_block n bs up (subst (λ i. IsPlaceOf n bs i → ⊥) is apart), is)
 
-pub number_there : (bs : List (ℤ × Block)) (n : ℤ) (at : ℕ) (b : ℤ × Block) → b ≡ get_or bs at b → IsPlaceOf n bs at → b.0 ≡ n
+pub number_there : (bs : List (ℤ × Block)) (n : ℤ) (at : ℕ) (b : ℤ × Block) → b ≡ get_or bs at b → IsPlaceOf n bs at
+    → b.0 ≡ n
 number_there [] n at b is place = absurd cc
 number_there (x ∷ bs) n zero b is place = let number : x.0 ≡ n = cc in ap (λ (z : ℤ × Block). z.0) is ∙ number
 number_there (x ∷ bs) n (suc at) b is place = number_there bs n at b is place
 
 -- the pair there, however it was read
-pair_at : (bs : List (ℤ × Block)) (n : ℤ) (at : ℕ) (b : ℤ × Block) → IsPlaceOf n bs at → b ≡ get_or bs at b → slice_get bs at ≡ Some (n, b.1)
+pair_at : (bs : List (ℤ × Block)) (n : ℤ) (at : ℕ) (b : ℤ × Block) → IsPlaceOf n bs at → b ≡ get_or bs at b
+    → slice_get bs at ≡ Some (n, b.1)
 pair_at [] n at b place is = absurd cc
-pair_at (x ∷ bs) n zero b place is = let number : x.0 ≡ n = cc in ap (λ (z : ℤ × Block). Some (z.0, z.1)) (sym is) ∙ ap (λ k. Some (k, b.1)) (ap (λ (z : ℤ × Block). z.0) is ∙ number)
+pair_at (x ∷ bs) n zero b place is = let number : x.0 ≡ n = cc in ap (λ (z : ℤ × Block). Some (z.0, z.1)) (sym is)
+    ∙ ap (λ k. Some (k, b.1)) (ap (λ (z : ℤ × Block). z.0) is ∙ number)
 pair_at (x ∷ bs) n (suc at) b place is = pair_at bs n at b place is
 
-pub block_there : (bs : List (ℤ × Block)) (n : ℤ) (at : ℕ) (b : ℤ × Block) → Ascend bs → IsPlaceOf n bs at → b ≡ get_or bs at b → block_at bs n ≡ Some b.1
-block_there bs n at b up place is = lookup_from_place (eq_by_cmp_equiv int_cmp_total) bs at n b.1 (IsDistinct-from_sorted int_cmp (keys_of bs) up) (pair_at bs n at b place is)
+pub block_there : (bs : List (ℤ × Block)) (n : ℤ) (at : ℕ) (b : ℤ × Block) → Ascend bs → IsPlaceOf n bs at
+    → b ≡ get_or bs at b → block_at bs n ≡ Some b.1
+block_there bs n at b up place is = lookup_from_place (eq_by_cmp_equiv int_cmp_total) bs at n b.1
+    (IsDistinct-from_sorted int_cmp (keys_of bs) up) (pair_at bs n at b place is)
 
 -- ---- a block that is set
 
@@ -144,21 +167,25 @@ less_there m n [] at h place = absurd cc
 less_there m n (b ∷ bs) zero h place = let number : b.0 ≡ n = cc in ap (int_cmp m) (sym number) ∙ h.0
 less_there m n (b ∷ bs) (suc at) h place = less_there m n bs at h.1 place
 
-block_set : (bs : List (ℤ × Block)) (n : ℤ) (at : ℕ) (b : Block) → Ascend bs → IsPlaceOf n bs at → IsBlockSet n b bs (set bs at (n, b))
+block_set : (bs : List (ℤ × Block)) (n : ℤ) (at : ℕ) (b : Block) → Ascend bs → IsPlaceOf n bs at
+    → IsBlockSet n b bs (set bs at (n, b))
 unfolding IsStrictlySortedBy
 block_set [] n at b up place q = absurd cc
 block_set (x ∷ bs) n zero b up place q =
     let number : x.0 ≡ n = cc in
     let swap = (eq_by_cmp_equiv int_cmp_total).symm q n in
     ap (λ c. cond c (Some b) (block_at bs q)) swap
-    ∙ elim (is_at (int_cmp n) q) as (λ c. is_at (int_cmp n) q ≡ c → cond c (Some b) (block_at bs q) ≡ cond c (Some b) (cond (is_at (int_cmp q) x.0) (Some x.1) (block_at bs q))) [
+    ∙ elim (is_at (int_cmp n) q) as (λ c. is_at (int_cmp n) q ≡ c
+    → cond c (Some b) (block_at bs q) ≡ cond c (Some b) (cond (is_at (int_cmp q) x.0) (Some x.1) (block_at bs q))) [
       | true ↦ λ _. refl
       | false ↦ λ f. ap (λ c. cond c (Some x.1) (block_at bs q)) (sym (ap (λ k. is_at (int_cmp q) k) number ∙ swap ∙ f))
     ] refl
 block_set (x ∷ bs) n (suc at) b up place q =
     let less = less_there x.0 n bs at up.0 place in
     ap (λ o. cond (is_at (int_cmp q) x.0) (Some x.1) o) (block_set bs n at b up.1 place q)
-    ∙ elim (is_at (int_cmp q) x.0) as (λ c. is_at (int_cmp q) x.0 ≡ c → cond c (Some x.1) (cond (is_at (int_cmp n) q) (Some b) (block_at bs q)) ≡ cond (is_at (int_cmp n) q) (Some b) (cond c (Some x.1) (block_at bs q))) [
+    ∙ elim (is_at (int_cmp q) x.0) as (λ c. is_at (int_cmp q) x.0 ≡ c
+    → cond c (Some x.1) (cond (is_at (int_cmp n) q) (Some b) (block_at bs q))
+    ≡ cond (is_at (int_cmp n) q) (Some b) (cond c (Some x.1) (block_at bs q))) [
       | true ↦ λ t. ap (λ c. cond c (Some b) (Some x.1)) (sym (other q x.0 n t less))
       | false ↦ λ _. refl
     ] refl
@@ -166,21 +193,27 @@ block_set (x ∷ bs) n (suc at) b up place q =
     other : (q k n : ℤ) → is_at (int_cmp q) k ≡ true → int_cmp k n ≡ Less → is_at (int_cmp n) q ≡ false
     other q k n t less = grind (arith, ints)
 
-numbers_stay : (bs : List (ℤ × Block)) (n : ℤ) (at : ℕ) (b : Block) → IsPlaceOf n bs at → keys_of (set bs at (n, b)) ≡ keys_of bs
+numbers_stay : (bs : List (ℤ × Block)) (n : ℤ) (at : ℕ) (b : Block) → IsPlaceOf n bs at
+    → keys_of (set bs at (n, b)) ≡ keys_of bs
 numbers_stay [] n at b place = absurd cc
 numbers_stay (x ∷ bs) n zero b place = let number : x.0 ≡ n = cc in ap (λ k. k ∷ keys_of bs) (sym number)
 numbers_stay (x ∷ bs) n (suc at) b place = ap (λ ks. x.0 ∷ ks) (numbers_stay bs n at b place)
 
 -- as the pair there is written, whose number was read
-pub block_put : (bs : List (ℤ × Block)) (n : ℤ) (at : ℕ) (was : ℤ × Block) (b : Block) → Ascend bs → IsPlaceOf n bs at → was ≡ get_or bs at was → IsBlockSet n b bs (set bs at (was.0, b))
-block_put bs n at was b up place is = subst (λ k. IsBlockSet n b bs (set bs at (k, b))) (sym (number_there bs n at was is place)) (block_set bs n at b up place)
+pub block_put : (bs : List (ℤ × Block)) (n : ℤ) (at : ℕ) (was : ℤ × Block) (b : Block) → Ascend bs → IsPlaceOf n bs at
+    → was ≡ get_or bs at was → IsBlockSet n b bs (set bs at (was.0, b))
+block_put bs n at was b up place is = subst (λ k. IsBlockSet n b bs (set bs at (k, b)))
+    (sym (number_there bs n at was is place)) (block_set bs n at b up place)
 
-pub ascend_put : (bs : List (ℤ × Block)) (n : ℤ) (at : ℕ) (was : ℤ × Block) (b : Block) → Ascend bs → IsPlaceOf n bs at → was ≡ get_or bs at was → Ascend (set bs at (was.0, b))
-ascend_put bs n at was b up place is = subst (IsStrictlySortedBy int_cmp) (sym (ap (λ k. keys_of (set bs at (k, b))) (number_there bs n at was is place) ∙ numbers_stay bs n at b place)) up
+pub ascend_put : (bs : List (ℤ × Block)) (n : ℤ) (at : ℕ) (was : ℤ × Block) (b : Block) → Ascend bs → IsPlaceOf n bs at
+    → was ≡ get_or bs at was → Ascend (set bs at (was.0, b))
+ascend_put bs n at was b up place is = subst (IsStrictlySortedBy int_cmp)
+    (sym (ap (λ k. keys_of (set bs at (k, b))) (number_there bs n at was is place) ∙ numbers_stay bs n at b place)) up
 
 -- ---- a block that is added
 
-all_inserted : (P : ℤ → Type 0) (bs : List (ℤ × Block)) (i : ℕ) (n : ℤ) (b : Block) → AllByRecursion P (keys_of bs) → P n → AllByRecursion P (keys_of (insert bs i (n, b)))
+all_inserted : (P : ℤ → Type 0) (bs : List (ℤ × Block)) (i : ℕ) (n : ℤ) (b : Block) → AllByRecursion P (keys_of bs)
+    → P n → AllByRecursion P (keys_of (insert bs i (n, b)))
 all_inserted P bs zero n b h p = (p, h)
 all_inserted P [] (suc i) n b h p = (p, h)
 all_inserted P (x ∷ bs) (suc i) n b h p = (h.0, all_inserted P bs i n b h.1 p)
@@ -192,17 +225,23 @@ below_all m n (b ∷ bs) less h = (both m n b.0 less h.0, below_all m n bs less 
     both : (a b c : ℤ) → int_cmp a b ≡ Less → int_cmp b c ≡ Less → int_cmp a c ≡ Less
     both a b c p q = grind (arith, ints)
 
-pub ascend_with : (n : ℤ) (b : Block) (bs : List (ℤ × Block)) → Ascend bs → block_at bs n ≡ None → Ascend (insert bs (count_before n bs) (n, b))
+pub ascend_with : (n : ℤ) (b : Block) (bs : List (ℤ × Block)) → Ascend bs → block_at bs n ≡ None
+    → Ascend (insert bs (count_before n bs) (n, b))
 unfolding IsStrictlySortedBy
 ascend_with n b [] up none = (tt, tt)
-ascend_with n b (x ∷ bs) up none = elim (int_lt x.0 n) as (λ c. int_lt x.0 n ≡ c → Ascend (insert (x ∷ bs) (cond c (1 + count_before n bs) 0) (n, b))) [
-  | true ↦ λ low.
-      let rest : block_at bs n ≡ None = sym (ap (λ c. cond c (Some x.1) (block_at bs n)) (no_bits n x.0 low)) ∙ none in
-      subst (λ i. Ascend (insert (x ∷ bs) i (n, b))) (sym (one_on (count_before n bs))) (all_inserted (λ k. int_cmp x.0 k ≡ Less) bs (count_before n bs) n b up.0 (less x.0 n low), ascend_with n b bs up.1 rest)
-  | false ↦ λ high.
-      let first = below_by n x.0 high (λ e. absurd (not_there e)) in
-      ((first, below_all n x.0 bs first up.0), up)
-] refl
+ascend_with n b (x ∷ bs) up none = elim (int_lt x.0 n) as
+    (λ c. int_lt x.0 n ≡ c → Ascend (insert (x ∷ bs) (cond c (1 + count_before n bs) 0) (n, b))) [
+      | true ↦ λ low.
+          let rest : block_at bs n ≡ None = sym (ap (λ c. cond c (Some x.1) (block_at bs n)) (no_bits n x.0 low))
+          ∙ none in
+          subst (λ i. Ascend (insert (x ∷ bs) i (n, b))) (sym (one_on (count_before n bs))) (
+            all_inserted (λ k. int_cmp x.0 k ≡ Less) bs (count_before n bs) n b up.0 (less x.0 n low),
+            ascend_with n b bs up.1 rest,
+          )
+      | false ↦ λ high.
+          let first = below_by n x.0 high (λ e. absurd (not_there e)) in
+          ((first, below_all n x.0 bs first up.0), up)
+    ] refl
   where
     less : (k n : ℤ) → int_lt k n ≡ true → int_cmp k n ≡ Less
     less k n low = grind (arith, ints)
@@ -212,5 +251,6 @@ ascend_with n b (x ∷ bs) up none = elim (int_lt x.0 n) as (λ c. int_lt x.0 n 
 
     not_there : x.0 ≡ n → ⊥
     not_there e =
-        let found : block_at (x ∷ bs) n ≡ Some x.1 = ap (λ c. cond c (Some x.1) (block_at bs n)) (ap (is_at (int_cmp n)) e ∙ itself n) in
+        let found : block_at (x ∷ bs) n ≡ Some x.1 =
+        ap (λ c. cond c (Some x.1) (block_at bs n)) (ap (is_at (int_cmp n)) e ∙ itself n) in
         absurd cc

@@ -16,7 +16,8 @@ unfolding block_of row_of
 same_slot_by (pos a) (pos b) p q = let block : a / 64 ≡ b / 64 = cc in let same : a ≡ b = omega arith in ap pos same
 same_slot_by (pos a) (negsuc b) p q = absurd cc
 same_slot_by (negsuc a) (pos b) p q = absurd cc
-same_slot_by (negsuc a) (negsuc b) p q = let block : a / 64 ≡ b / 64 = cc in let same : a ≡ b = omega arith in ap negsuc same
+same_slot_by (negsuc a) (negsuc b) p q = let block : a / 64 ≡ b / 64 = cc in let same : a ≡ b = omega arith in
+    ap negsuc same
 
 back : (a i : ℕ) → i ≤ a → negsuc a +ℤ pos i ≡ negsuc (a - i)
 back a i h = omega (arith, ints)
@@ -25,7 +26,8 @@ back a i h = omega (arith, ints)
 pub block_on : (s : ℤ) (i : ℕ) → row_of s + i < 64 → block_of (s +ℤ pos i) ≡ block_of s
 unfolding block_of row_of
 block_on (pos a) i near = let same : (a + i) / 64 ≡ a / 64 = omega arith in ap pos same
-block_on (negsuc a) i near = let within : i ≤ a = omega arith in let same : (a - i) / 64 ≡ a / 64 = omega arith in ap block_of (back a i within) ∙ ap negsuc same
+block_on (negsuc a) i near = let within : i ≤ a = omega arith in let same : (a - i) / 64 ≡ a / 64 = omega arith in
+    ap block_of (back a i within) ∙ ap negsuc same
 
 pub row_on : (s : ℤ) (i : ℕ) → row_of s + i < 64 → row_of (s +ℤ pos i) ≡ row_of s + i
 unfolding row_of

@@ -18,26 +18,30 @@ get_insert_here [] (suc i) x h = absurd (omega arith)
 get_insert_here (y ∷ ys) zero x h = refl
 get_insert_here (y ∷ ys) (suc i) x h = get_insert_here ys i x (omega arith)
 
-get_insert_below : {X : Type 0} (xs : List X) (i k : ℕ) (x : X) → k < i → i ≤ length xs → slice_get (insert xs i x) k ≡ slice_get xs k
+get_insert_below : {X : Type 0} (xs : List X) (i k : ℕ) (x : X) → k < i → i ≤ length xs
+    → slice_get (insert xs i x) k ≡ slice_get xs k
 get_insert_below xs zero k x low h = absurd (omega arith)
 get_insert_below [] (suc i) k x low h = absurd (omega arith)
 get_insert_below (y ∷ ys) (suc i) zero x low h = refl
 get_insert_below (y ∷ ys) (suc i) (suc k) x low h = get_insert_below ys i k x (omega arith) (omega arith)
 
-get_insert_above : {X : Type 0} (xs : List X) (i k : ℕ) (x : X) → i ≤ k → i ≤ length xs → slice_get (insert xs i x) (suc k) ≡ slice_get xs k
+get_insert_above : {X : Type 0} (xs : List X) (i k : ℕ) (x : X) → i ≤ k → i ≤ length xs
+    → slice_get (insert xs i x) (suc k) ≡ slice_get xs k
 get_insert_above [] zero k x low h = refl
 get_insert_above [] (suc i) k x low h = absurd (omega arith)
 get_insert_above (y ∷ ys) zero k x low h = refl
 get_insert_above (y ∷ ys) (suc i) zero x low h = absurd (omega arith)
 get_insert_above (y ∷ ys) (suc i) (suc k) x low h = get_insert_above ys i k x (omega arith) (omega arith)
 
-get_remove_below : {X : Type 0} (xs : List X) (i k : ℕ) → k < i → i < length xs → slice_get (remove xs i) k ≡ slice_get xs k
+get_remove_below : {X : Type 0} (xs : List X) (i k : ℕ) → k < i → i < length xs
+    → slice_get (remove xs i) k ≡ slice_get xs k
 get_remove_below xs zero k low h = absurd (omega arith)
 get_remove_below [] (suc i) k low h = absurd (omega arith)
 get_remove_below (y ∷ ys) (suc i) zero low h = refl
 get_remove_below (y ∷ ys) (suc i) (suc k) low h = get_remove_below ys i k (omega arith) (omega arith)
 
-get_remove_above : {X : Type 0} (xs : List X) (i k : ℕ) → i ≤ k → i < length xs → slice_get (remove xs i) k ≡ slice_get xs (suc k)
+get_remove_above : {X : Type 0} (xs : List X) (i k : ℕ) → i ≤ k → i < length xs
+    → slice_get (remove xs i) k ≡ slice_get xs (suc k)
 get_remove_above [] i k low h = absurd (omega arith)
 get_remove_above (y ∷ []) zero k low h = refl
 get_remove_above (y ∷ z ∷ zs) zero k low h = refl
@@ -79,7 +83,8 @@ rank_more mask n =
     let k : n + 1 ≡ 1 + n = omega arith in
     let bit = one_bit (mask / 2 ^ n % 2) (omega arith) in
     let cat = ones_cat n (mask / 2 ^ n % 2) (mask % 2 ^ n) (mod_below mask (2 ^ n) (pow_pos n)) in
-    ap (λ (j : ℕ). count_ones (mask % 2 ^ j)) k ∙ ap count_ones (mod-pow-add mask 1 n) ∙ cat ∙ together (count_ones (mask / 2 ^ n % 2)) (mask / 2 ^ n % 2) (count_ones (mask % 2 ^ n)) bit
+    ap (λ (j : ℕ). count_ones (mask % 2 ^ j)) k ∙ ap count_ones (mod-pow-add mask 1 n) ∙ cat
+    ∙ together (count_ones (mask / 2 ^ n % 2)) (mask / 2 ^ n % 2) (count_ones (mask % 2 ^ n)) bit
   where
     together : (a b c : ℕ) → a ≡ b → a + c ≡ c + b
     together a b c e = omega arith
@@ -125,7 +130,8 @@ module _ (old new k : ℕ) (m : HasOneMore old new k) where
       let before = rank_below n (omega arith) in
       let same = m.others n (λ e. absurd (omega arith)) in
       let up : suc n ≡ n + 1 = omega arith in
-      ap (rank new) up ∙ joined (rank new (n + 1)) (rank old (n + 1)) (rank new n) (rank old n) (bit_at new n) (bit_at old n) (rank_more new n) (rank_more old n) before same ∙ ap (rank old) (sym up)
+      ap (rank new) up ∙ joined (rank new (n + 1)) (rank old (n + 1)) (rank new n) (rank old n) (bit_at new n)
+      (bit_at old n) (rank_more new n) (rank_more old n) before same ∙ ap (rank old) (sym up)
     where
       joined : (x y p q b c : ℕ) → x ≡ p + b → y ≡ q + c → p ≡ q → b ≡ c → x ≡ y
       joined x y p q b c e f g h = omega arith
@@ -133,19 +139,25 @@ module _ (old new k : ℕ) (m : HasOneMore old new k) where
   rank_above : (d : ℕ) → rank new (k + 1 + d) ≡ rank old (k + 1 + d) + 1
   rank_above zero =
       let at : k + 1 + 0 ≡ k + 1 = omega arith in
-      ap (rank new) at ∙ joined (rank new (k + 1)) (rank old (k + 1)) (rank new k) (rank old k) (bit_at new k) (bit_at old k) (rank_more new k) (rank_more old k) (rank_below k (omega arith)) m.now m.was ∙ ap (λ n. rank old n + 1) (sym at)
+      ap (rank new) at ∙ joined (rank new (k + 1)) (rank old (k + 1)) (rank new k) (rank old k) (bit_at new k)
+      (bit_at old k) (rank_more new k) (rank_more old k) (rank_below k (omega arith)) m.now m.was
+      ∙ ap (λ n. rank old n + 1) (sym at)
     where
       joined : (x y p q b c : ℕ) → x ≡ p + b → y ≡ q + c → p ≡ q → b ≡ 1 → c ≡ 0 → x ≡ y + 1
       joined x y p q b c e f g h i = omega arith
   rank_above (suc d) =
       let at : k + 1 + suc d ≡ (k + 1 + d) + 1 = omega arith in
-      ap (rank new) at ∙ joined (rank new ((k + 1 + d) + 1)) (rank old ((k + 1 + d) + 1)) (rank new (k + 1 + d)) (rank old (k + 1 + d)) (bit_at new (k + 1 + d)) (bit_at old (k + 1 + d)) (rank_more new (k + 1 + d)) (rank_more old (k + 1 + d)) (rank_above d) (m.others (k + 1 + d) (λ e. absurd (omega arith))) ∙ ap (λ n. rank old n + 1) (sym at)
+      ap (rank new) at ∙ joined (rank new ((k + 1 + d) + 1)) (rank old ((k + 1 + d) + 1)) (rank new (k + 1 + d))
+      (rank old (k + 1 + d)) (bit_at new (k + 1 + d)) (bit_at old (k + 1 + d)) (rank_more new (k + 1 + d))
+      (rank_more old (k + 1 + d)) (rank_above d) (m.others (k + 1 + d) (λ e. absurd (omega arith)))
+      ∙ ap (λ n. rank old n + 1) (sym at)
     where
       joined : (x y p q b c : ℕ) → x ≡ p + b → y ≡ q + c → p ≡ q + 1 → b ≡ c → x ≡ y + 1
       joined x y p q b c e f g h = omega arith
 
   rank_past : (n : ℕ) → k < n → rank new n ≡ rank old n + 1
-  rank_past n h = let at : n ≡ k + 1 + (n - (k + 1)) = omega arith in ap (rank new) at ∙ rank_above (n - (k + 1)) ∙ ap (λ i. rank old i + 1) (sym at)
+  rank_past n h = let at : n ≡ k + 1 + (n - (k + 1)) = omega arith in ap (rank new) at ∙ rank_above (n - (k + 1))
+      ∙ ap (λ i. rank old i + 1) (sym at)
 
   pub ones_more : old < 2 ^ 64 → new < 2 ^ 64 → k < 64 → count_ones new ≡ count_ones old + 1
   ones_more fits fits' low = sym (rank_all new fits') ∙ rank_past 64 low ∙ ap (λ n. n + 1) (rank_all old fits)
@@ -163,7 +175,8 @@ read_set : {X : Type 0} (xs : List X) (at : ℕ) → read 1 xs at ≡ slice_get 
 read_set xs at = refl
 
 -- what is read alike where the bit is set
-read_alike : {X : Type 0} (bit : ℕ) (xs ys : List X) (i j : ℕ) → bit < 2 → (bit ≡ 1 → slice_get xs i ≡ slice_get ys j) → read bit xs i ≡ read bit ys j
+read_alike : {X : Type 0} (bit : ℕ) (xs ys : List X) (i j : ℕ) → bit < 2 → (bit ≡ 1 → slice_get xs i ≡ slice_get ys j)
+    → read bit xs i ≡ read bit ys j
 read_alike zero xs ys i j small same = refl
 read_alike (suc zero) xs ys i j small same = same refl
 read_alike (suc (suc b)) xs ys i j small same = absurd (omega arith)
@@ -174,9 +187,12 @@ item_none mask xs n none = ap (option_and_then (slice_get xs)) none
 
 pub item_empty : {X : Type 0} (mask n : ℕ) → item_at {T = X} mask [] n ≡ None
 unfolding item_at
-item_empty {X} mask n = elim (eqb (bit_at mask n) 1) as (λ b. option_and_then {U = X} (slice_get []) (cond b (Some (rank mask n)) None) ≡ None) [ true ↦ refl | false ↦ refl ]
+item_empty {X} mask n = elim (eqb (bit_at mask n) 1) as
+    (λ b. option_and_then {U = X} (slice_get []) (cond b (Some (rank mask n)) None) ≡ None)
+    [ true ↦ refl | false ↦ refl ]
 
-pub item_found : {X : Type 0} (mask : ℕ) (xs : List X) (n at : ℕ) → Some at ≡ place_at mask n → item_at mask xs n ≡ slice_get xs at
+pub item_found : {X : Type 0} (mask : ℕ) (xs : List X) (n at : ℕ) → Some at ≡ place_at mask n
+    → item_at mask xs n ≡ slice_get xs at
 unfolding item_at
 item_found mask xs n at is = sym (ap (option_and_then (slice_get xs)) is)
 
@@ -210,13 +226,16 @@ elsewhere : {X : Type 0} (n k : ℕ) (x y : Option X) → (n ≡ k → ⊥) → 
 elsewhere n k x y e = ap (λ b. cond b x y) (sym (ne_eqb n k e))
 
 -- of a number that has no item none is taken out
-pub item_absent : {X : Type 0} (mask : ℕ) (xs : List X) (k : ℕ) → place_at mask k ≡ None → (n : ℕ) → item_at mask xs n ≡ cond (eqb n k) None (item_at mask xs n)
+pub item_absent : {X : Type 0} (mask : ℕ) (xs : List X) (k : ℕ) → place_at mask k ≡ None → (n : ℕ)
+    → item_at mask xs n ≡ cond (eqb n k) None (item_at mask xs n)
 item_absent mask xs k none n = ⊎_elim
     (λ (e : n ≡ k). ap (item_at mask xs) e ∙ item_none mask xs k none ∙ here n k None (item_at mask xs n) e)
     (λ apart. elsewhere n k None (item_at mask xs n) apart)
     (cases_eq n k)
 
-pub item_insert : {X : Type 0} (old new : ℕ) (xs : List X) (k : ℕ) (x : X) → HasOneMore old new k → rank old k ≤ length xs → (n : ℕ) → item_at new (insert xs (rank old k) x) n ≡ cond (eqb n k) (Some x) (item_at old xs n)
+pub item_insert : {X : Type 0} (old new : ℕ) (xs : List X) (k : ℕ) (x : X) → HasOneMore old new k
+    → rank old k ≤ length xs → (n : ℕ) → item_at new (insert xs (rank old k) x) n
+    ≡ cond (eqb n k) (Some x) (item_at old xs n)
 item_insert old new xs k x m fits n =
     let ys = insert xs (rank old k) x in
     item_is new ys n
@@ -229,12 +248,14 @@ item_insert old new xs k x m fits n =
     (λ apart. ⊎_elim
     (λ (low : n < k).
     (λ i. read (m.others n (λ e. absurd (omega arith)) i) ys (rank_below old new k m n (omega arith) i))
-    ∙ read_alike (bit_at old n) ys xs (rank old n) (rank old n) (bit_at-lt old n) (λ has. get_insert_below xs (rank old k) (rank old n) x (rank_lt old n k low has) fits)
+    ∙ read_alike (bit_at old n) ys xs (rank old n) (rank old n) (bit_at-lt old n)
+    (λ has. get_insert_below xs (rank old k) (rank old n) x (rank_lt old n k low has) fits)
     ∙ sym (item_is old xs n)
     ∙ elsewhere n k (Some x) (item_at old xs n) (λ e. absurd (omega arith)))
     (λ (high : k < n).
     (λ i. read (m.others n (λ e. absurd (omega arith)) i) ys ((rank_past old new k m n high ∙ one_more (rank old n)) i))
-    ∙ read_alike (bit_at old n) ys xs (suc (rank old n)) (rank old n) (bit_at-lt old n) (λ has. get_insert_above xs (rank old k) (rank old n) x (rank_le old k n (omega arith)) fits)
+    ∙ read_alike (bit_at old n) ys xs (suc (rank old n)) (rank old n) (bit_at-lt old n)
+    (λ has. get_insert_above xs (rank old k) (rank old n) x (rank_le old k n (omega arith)) fits)
     ∙ sym (item_is old xs n)
     ∙ elsewhere n k (Some x) (item_at old xs n) (λ e. absurd (omega arith)))
     apart)
@@ -244,7 +265,8 @@ item_insert old new xs k x m fits n =
     one_more a = omega arith
 
 -- the bit of k is taken out of the new mask, which is the first of the two here
-pub item_remove : {X : Type 0} (left old : ℕ) (xs : List X) (k : ℕ) → HasOneMore left old k → rank old k < length xs → (n : ℕ) → item_at left (remove xs (rank old k)) n ≡ cond (eqb n k) None (item_at old xs n)
+pub item_remove : {X : Type 0} (left old : ℕ) (xs : List X) (k : ℕ) → HasOneMore left old k → rank old k < length xs
+    → (n : ℕ) → item_at left (remove xs (rank old k)) n ≡ cond (eqb n k) None (item_at old xs n)
 item_remove left old xs k m fits n =
     let ys = remove xs (rank old k) in
     item_is left ys n
@@ -256,7 +278,8 @@ item_remove left old xs k m fits n =
     (λ apart. ⊎_elim
     (λ (low : n < k).
     (λ i. read (sym (m.others n (λ e. absurd (omega arith))) i) ys (sym (rank_below left old k m n (omega arith)) i))
-    ∙ read_alike (bit_at old n) ys xs (rank old n) (rank old n) (bit_at-lt old n) (λ has. get_remove_below xs (rank old k) (rank old n) (rank_lt old n k low has) fits)
+    ∙ read_alike (bit_at old n) ys xs (rank old n) (rank old n) (bit_at-lt old n)
+    (λ has. get_remove_below xs (rank old k) (rank old n) (rank_lt old n k low has) fits)
     ∙ sym (item_is old xs n)
     ∙ elsewhere n k None (item_at old xs n) (λ e. absurd (omega arith)))
     (λ (high : k < n).
@@ -278,7 +301,8 @@ item_remove left old xs k m fits n =
         let b = rank_past left old k m n high in
         omega arith
 
-pub item_set : {X : Type 0} (mask : ℕ) (xs : List X) (k : ℕ) (x : X) → bit_at mask k ≡ 1 → rank mask k < length xs → (n : ℕ) → item_at mask (set xs (rank mask k) x) n ≡ cond (eqb n k) (Some x) (item_at mask xs n)
+pub item_set : {X : Type 0} (mask : ℕ) (xs : List X) (k : ℕ) (x : X) → bit_at mask k ≡ 1 → rank mask k < length xs
+    → (n : ℕ) → item_at mask (set xs (rank mask k) x) n ≡ cond (eqb n k) (Some x) (item_at mask xs n)
 item_set mask xs k x has fits n =
     let ys = set xs (rank mask k) x in
     item_is mask ys n
@@ -294,7 +318,8 @@ item_set mask xs k x has fits n =
     get_set xs (rank mask k) (rank mask n) x fits
     ∙ sym (elsewhere (rank mask k) (rank mask n) (Some x) (slice_get xs (rank mask n)) (distinct has_n apart)))
     ∙ sym (item_is mask xs n)
-    ∙ elsewhere n k (Some x) (item_at mask xs n) (⊎_elim (λ (l : n < k). λ e. absurd (omega arith)) (λ (g : k < n). λ e. absurd (omega arith)) apart))
+    ∙ elsewhere n k (Some x) (item_at mask xs n) (⊎_elim (λ (l : n < k). λ e. absurd (omega arith))
+    (λ (g : k < n). λ e. absurd (omega arith)) apart))
     (cases_order n k)
   where
     distinct : bit_at mask n ≡ 1 → (n < k) ⊎ (k < n) → rank mask k ≡ rank mask n → ⊥
@@ -313,7 +338,8 @@ bit_is_set mask n apart = by_bit (bit_at mask n) (bit_at-lt mask n) (λ e. apart
 
 pub rank_code : (mask n : ℕ) → n < 64 → count_ones (bit_and mask (1 * 2 ^ n % 2 ^ 64 - 1)) ≡ rank mask n
 unfolding rank
-rank_code mask n low = ap (λ (m : ℕ). count_ones (bit_and mask (m - 1))) (one_shl n 64 low) ∙ ap count_ones (and_mask mask n)
+rank_code mask n low = ap (λ (m : ℕ). count_ones (bit_and mask (m - 1))) (one_shl n 64 low)
+    ∙ ap count_ones (and_mask mask n)
 
 pub more_by_or : (mask k : ℕ) → k < 64 → bit_at mask k ≡ 0 → HasOneMore mask (bit_or mask (1 * 2 ^ k % 2 ^ 64)) k
 more_by_or mask k low was = record {
@@ -322,11 +348,13 @@ more_by_or mask k low was = record {
   now = bit_at_set_same w64 mask k low;
 }
 
-pub less_by_and : (mask k : ℕ) → mask < 2 ^ 64 → k < 64 → bit_at mask k ≡ 1 → HasOneMore (bit_and mask (bit_not w64 (1 * 2 ^ k % 2 ^ 64))) mask k
+pub less_by_and : (mask k : ℕ) → mask < 2 ^ 64 → k < 64 → bit_at mask k ≡ 1
+    → HasOneMore (bit_and mask (bit_not w64 (1 * 2 ^ k % 2 ^ 64))) mask k
 less_by_and mask k fits low has = record {
   others = λ i apart. ⊎_elim
       (λ (near : i < 64). sym (bit_at_clear_other w64 mask k low i near apart))
-      (λ (far : 64 ≤ i). bit_at_above mask 64 i fits far ∙ sym (bit_at_above (bit_and mask (bit_not w64 (1 * 2 ^ k % 2 ^ 64))) 64 i (less i) far))
+      (λ (far : 64 ≤ i). bit_at_above mask 64 i fits far
+      ∙ sym (bit_at_above (bit_and mask (bit_not w64 (1 * 2 ^ k % 2 ^ 64))) 64 i (less i) far))
       (cases_lt i 64);
   was = bit_at_clear_same w64 mask k low;
   now = has;

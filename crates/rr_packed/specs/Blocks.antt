@@ -33,7 +33,8 @@ room_held (Some es) free origin = has_room es origin
 -- the row has no entry, and a row of either kind more has room
 unfoldable pub has_room_in : Block → ℕ → ℕ → Bool
 has_room_in b number origin =
-    room_held (item_in b.rows number) (is_none (place_at b.readings.mask number) && (has_spare b.readings && has_spare b.rows)) origin
+    room_held (item_in b.rows number) (is_none (place_at b.readings.mask number)
+    && (has_spare b.readings && has_spare b.rows)) origin
 
 -- the entries of a row were set, and the others stay
 abbrev pub IsRowSet : ℕ → List Entry → (ℕ → List Entry) → (ℕ → List Entry) → Type 0

@@ -3,16 +3,16 @@ use Rattle.std.specs.Prelude.{ℕ, ℤ, Bool, not, ◌||◌, Option}
 use Rattle.std.specs.FinMap.{len}
 use Rattle.rr_join.specs.Horizon.{is_above}
 use Rattle.rr_archive.specs.CellSlots.{CellSlot}
-use Rattle.rr_archive.specs.Cells.{Rows}
-use Rattle.rr_archive.specs.LiveRows.{cells_by, IsHeldBy}
+use Rattle.rr_archive.specs.Cells.{ArchiveCells}
+use Rattle.rr_archive.specs.LiveRows.{cells_by, IsArchiveStateBy}
 use Rattle.rr_packed.specs.declared.blocks.Blocks.{Blocks}
 use Rattle.rr_packed.specs.Blocks.{row_at, has_room_at}
 
-abbrev pub cells_in : ℕ → Option ℤ → Blocks → Rows
+abbrev pub cells_in : ℕ → Option ℤ → Blocks → ArchiveCells
 cells_in rows newest blocks = cells_by rows newest (row_at blocks)
 
-abbrev pub IsHeld : ℕ → Option ℤ → Blocks → Type 0
-IsHeld rows newest blocks = IsHeldBy rows newest (len (cells_in rows newest blocks)) (row_at blocks)
+abbrev pub IsArchiveState : ℕ → Option ℤ → Blocks → Type 0
+IsArchiveState rows newest blocks = IsArchiveStateBy rows newest (len (cells_in rows newest blocks)) (row_at blocks)
 
 -- whether a put or a join at a cell slot takes no memory: the cell slot is past the horizon, or there is room
 abbrev pub is_ready_in : ℕ → Option ℤ → Blocks → CellSlot → Bool

@@ -48,8 +48,10 @@ impl Block {
     /// The entry of a row that is held as its sample, if it is held so.
     fn entry_read(&self, number: u32) -> Option<Entry>
         requires { number < 64 }
-        ensures found { IfSome result (λ e. entries_read self.now.source (item_in self.now.readings number) ≡ e ∷ []) }
-        ensures none { result ≡ None → entries_read self.now.source (item_in self.now.readings number) ≡ [] }
+        ensures found { IfSome result (λ e. entries_read self.now.source
+            (item_in self.now.readings number) ≡ e ∷ []) }
+        ensures none { result ≡ None → entries_read self.now.source
+            (item_in self.now.readings number) ≡ [] }
     {
         let Some(source) = self.source else {
             return None;
@@ -74,8 +76,8 @@ impl Block {
         }
     }
 
-    /// How many numbers on from one the next is that has a row, or the block ends: those between have
-    /// no entry.
+    /// How many numbers on from one the next is that has a row, or the block ends: those between
+    /// have no entry.
     pub(crate) fn rows_on(&self, number: u32) -> u32
         requires { number < 64 }
         ensures some { 1 ≤ result }
@@ -107,9 +109,11 @@ impl Block {
         ensures same { items_in self.new ≡ items_in self.old }
         ensures source { self.new.source ≡ self.old.source }
         ensures readings { self.new.readings ≡ self.old.readings }
-        ensures spare { OnOk result (entries_read self.new.source (item_in self.new.readings number) ≡ [] ⊎ IsTrue (is_some (item_in self.new.rows number))) }
+        ensures spare { OnOk result (entries_read self.new.source (item_in self.new.readings number)
+            ≡ [] ⊎ IsTrue (is_some (item_in self.new.rows number))) }
         ensures room { (origin : ℕ) → IsTrue (has_room_in self.old number origin) → IsOk result }
-        ensures kept { (origin : ℕ) → IsTrue (has_room_in self.old number origin) → self.new.rows ≡ self.old.rows }
+        ensures kept { (origin : ℕ) → IsTrue (has_room_in self.old number origin)
+            → self.new.rows ≡ self.old.rows }
     {
         if self.has_entries(number) {
             return Ok(());
@@ -126,7 +130,8 @@ impl Block {
         ensures same { items_in self.new ≡ items_in self.old }
         ensures unpacked { OnOk result (place_at self.new.readings.mask number ≡ None) }
         ensures room { (origin : ℕ) → IsTrue (has_room_in self.old number origin) → IsOk result }
-        ensures kept { (origin : ℕ) → IsTrue (has_room_in self.old number origin) → IsTrue (has_room_in self.new number origin) }
+        ensures kept { (origin : ℕ) → IsTrue (has_room_in self.old number origin)
+            → IsTrue (has_room_in self.new number origin) }
     {
         self.add_entries(number)?;
         self.readings.remove(number);
@@ -148,14 +153,15 @@ impl Block {
         self.rows.make_room()
     }
 
-    /// What a change makes of a row without an entry, as a reading of this block, if it can be one. The first
-    /// reading of a block decides what the others have in common with it.
+    /// What a change makes of a row without an entry, as a reading of this block, if it can be one.
+    /// The first reading of a block decides what the others have in common with it.
     fn reading_of(&mut self, origin: Origin, change: &Change) -> Option<Reading>
         requires { Fits (entry_at [] origin) change.now }
         ensures same { items_in self.new ≡ items_in self.old }
         ensures readings { self.new.readings ≡ self.old.readings }
         ensures rows { self.new.rows ≡ self.old.rows }
-        ensures read { IfSome result (λ r. entries_read self.new.source (Some r) ≡ entry_after [] origin change.now ∷ []) }
+        ensures read { IfSome result (λ r. entries_read self.new.source (Some r)
+            ≡ entry_after [] origin change.now ∷ []) }
     {
         let Some((source, reading)) = Reading::after(origin, change) else {
             return None;
@@ -175,8 +181,9 @@ impl Block {
         }
     }
 
-    /// Gives back the room that was made for entries, if there are none and the readings have filled
-    /// theirs: so it is asked for and given back a few times a block, and not at each reading.
+    /// Gives back the room that was made for entries, if there are none and the readings have
+    /// filled theirs: so it is asked for and given back a few times a block, and not at each
+    /// reading.
     fn give_back(&mut self)
         ensures { items_in self.new ≡ items_in self.old }
     {
@@ -191,9 +198,11 @@ impl Block {
         requires fits { Fits (entry_at [] origin) change.now }
         requires readings { place_at self.old.readings.mask number ≡ None }
         requires rows { place_at self.old.rows.mask number ≡ None }
-        ensures added { OnOk result (IsRowSet number (entry_after [] origin change.now ∷ []) (items_in self.old) (items_in self.new)) }
+        ensures added { OnOk result (IsRowSet number (entry_after [] origin change.now ∷ [])
+            (items_in self.old) (items_in self.new)) }
         ensures unchanged { OnErr result (items_in self.new ≡ items_in self.old) }
-        ensures room { IsTrue (has_room self.old.readings) → IsTrue (has_room self.old.rows) → IsOk result }
+        ensures room { IsTrue (has_room self.old.readings) → IsTrue (has_room self.old.rows)
+            → IsOk result }
     {
         match self.reading_of(origin, change) {
             Some(reading) => {
@@ -222,7 +231,8 @@ impl Block {
         requires number { number < 64 }
         requires fits { Fits (entry_at (items_in self.old number) origin) change.now }
         ensures changed { OnOk result (IsRowSet number
-            (with_entry (items_in self.old number) (entry_after (items_in self.old number) origin change.now))
+            (with_entry (items_in self.old number)
+            (entry_after (items_in self.old number) origin change.now))
             (items_in self.old) (items_in self.new)) }
         ensures unchanged { OnErr result (items_in self.new ≡ items_in self.old) }
         ensures room { IsTrue (has_room_in self.old number origin) → IsOk result }

@@ -15,7 +15,8 @@ use std::alloc::{AllocError, Global};
 use std::cmp::Ordering;
 use std::collections::VecDeque;
 
-/// Blocks with their numbers, ascending by these: that of a slot is a 64th of it, rounded to the floor.
+/// Blocks with their numbers, ascending by these: that of a slot is a 64th of it, rounded to the
+/// floor.
 ///
 /// The list takes memory for 1, 2, 4, 8 .. blocks: most series have few rows.
 #[derive(Drop)]
@@ -56,8 +57,8 @@ impl Blocks {
         }
     }
 
-    /// How many blocks are before that of a number. The last is looked at first, since most samples are
-    /// of its slots.
+    /// How many blocks are before that of a number. The last is looked at first, since most samples
+    /// are of its slots.
     fn count_before(&self, number: i64) -> usize
         ensures { result ≡ count_before number self.now.blocks.items }
     {
@@ -98,7 +99,8 @@ impl Blocks {
     /// Adds the block of a number that has none, where it belongs.
     fn insert(&mut self, at: usize, number: i64, block: Block) -> Result<(), AllocError>
         requires { IsGapFor number self.old.blocks.items at }
-        ensures added { OnOk result (IsBlockSet number block self.old.blocks.items self.new.blocks.items) }
+        ensures added { OnOk result (IsBlockSet number block self.old.blocks.items
+            self.new.blocks.items) }
         ensures unchanged { OnErr result (self.new.blocks.items ≡ self.old.blocks.items) }
     {
         let count = self.blocks.len();
@@ -120,8 +122,8 @@ impl Blocks {
         }
     }
 
-    /// How many slots on from one the next is to look at, at most `most`: nothing is stored of those
-    /// between. A block that isn't there is passed over in one step.
+    /// How many slots on from one the next is to look at, at most `most`: nothing is stored of
+    /// those between. A block that isn't there is passed over in one step.
     pub(crate) fn slots_on(&self, slot: i64, most: u32) -> u32
         requires { 1 ≤ most }
         ensures some { 1 ≤ result }
@@ -163,7 +165,8 @@ impl Blocks {
     ) -> Result<(), AllocError>
         requires { Fits (entry_at (row_at self.old slot) origin) change.now }
         ensures changed { OnOk result (IsSlotSet slot
-            (entry_after (row_at self.old slot) origin change.now) (row_at self.old) (row_at self.new)) }
+            (entry_after (row_at self.old slot) origin change.now) (row_at self.old)
+            (row_at self.new)) }
         ensures unchanged { OnErr result (row_at self.new ≡ row_at self.old) }
         ensures room { IsTrue (has_room_at self.old slot origin) → IsOk result }
     {
@@ -198,7 +201,8 @@ impl Blocks {
 
     /// Takes the blocks out whose slots are all before this one.
     pub(crate) fn drop_before(&mut self, slot: i64)
-        ensures { (s : ℤ) → (row_at self.new s ≡ row_at self.old s) ⊎ ((row_at self.new s ≡ []) × IsTrue (int_lt s slot)) }
+        ensures { (s : ℤ) → (row_at self.new s ≡ row_at self.old s)
+            ⊎ ((row_at self.new s ≡ []) × IsTrue (int_lt s slot)) }
     {
         let number = block_of(slot);
         while self.starts_before(number) {

@@ -1,17 +1,18 @@
 //! One archive of one series, packed: a row of one sample takes no more memory than its sample.
 //!
-//! A [`PackedArchive`] holds the same cells as a `PlainArchive` or a `RingArchive`, and is seen as the
-//! same map. Its rows are kept in blocks of 64 slots that follow one another, in a list in order of their
-//! numbers; a row that no sample came to takes nothing.
+//! A [`PackedArchive`] holds the same cells as a `PlainArchive` or a `RingArchive`, and is seen as
+//! the same map. Its rows are kept in blocks of 64 slots that follow one another, in a list in
+//! order of their numbers; a row that no sample came to takes nothing.
 //!
 //! ```text
 //! a slot ── its block's number ──> a block ── a bit of its masks ──> a reading, or the entries
 //! ```
 //!
-//! A row of a single sample is held as that sample, a [`Reading`](reading::Reading), if its origin and its
-//! place are those of the block's other readings. A reading stands for the contribution that
-//! `Contribution::first` makes of the sample. Any other row is held as its entries. What is stored of a
-//! slot is one function (`specs/Blocks.antt`), and the cells are what it gives of the live slots, in order.
+//! A row of a single sample is held as that sample, a [`Reading`](reading::Reading), if its origin
+//! and its place are those of the block's other readings. A reading stands for the contribution
+//! that `Contribution::first` makes of the sample. Any other row is held as its entries. What is
+//! stored of a slot is one function (`specs/Blocks.antt`), and the cells are what it gives of the
+//! live slots, in order.
 #![tactic(auto)]
 
 mod block;

@@ -8,7 +8,7 @@ ghost use Rattle.rr_archive.specs.CellSlots.{cell_slot, IsSlot, is_live_at};
 ghost use Rattle.rr_archive.specs.Changes.{Fits};
 ghost use Rattle.rr_archive.specs.Cells.{with_change};
 ghost use Rattle.rr_archive.specs.Codes.{coded_rows};
-ghost use Rattle.rr_packed.specs.PackedCells.{IsHeld, cells_in, is_ready_in};
+ghost use Rattle.rr_packed.specs.PackedCells.{IsArchiveState, cells_in, is_ready_in};
 
 use crate::blocks::Blocks;
 use rr_archive::change::Change;
@@ -19,29 +19,29 @@ use rr_contrib::Contribution;
 use rr_schema::Origin;
 use std::alloc::{AllocError, Global};
 
-/// The cells of one archive of one series, packed: 24 bytes for a row of one sample, and none for a row
-/// that no sample came to. 64 rows that follow one another are a block, which takes 88 bytes beside
-/// them. The lists of blocks and of a block's rows take memory for 1, 2, 4, 8 .. of these.
+/// The cells of one archive of one series, packed: 24 bytes for a row of one sample, and none for a
+/// row that no sample came to. 64 rows that follow one another are a block, which takes 88 bytes
+/// beside them. The lists of blocks and of a block's rows take memory for 1, 2, 4, 8 .. of these.
 ///
 /// `ready`, `put` and `join_cell` find the newest block in one step and another in a time that is
-/// logarithmic in the blocks; they are linear in the entries of the row, in the rows of its block that
-/// are after it, and in the blocks that are past the horizon then. One that makes a block of an earlier
-/// slot moves the blocks before it, or those after it if these are fewer.
+/// logarithmic in the blocks; they are linear in the entries of the row, in the rows of its block
+/// that are after it, and in the blocks that are past the horizon then. One that makes a block of
+/// an earlier slot moves the blocks before it, or those after it if these are fewer.
 ///
-/// `ready` makes room for a row of either kind, and `put` and `join_cell` give back what was made for
-/// entries where a block has none. A row of one sample that is to be changed is held as its entries from
-/// then on, 112 bytes for the first of them.
+/// `ready` makes room for a row of either kind, and `put` and `join_cell` give back what was made
+/// for entries where a block has none. A row of one sample that is to be changed is held as its
+/// entries from then on, 112 bytes for the first of them.
 ///
-/// `entries_into` finds its block as `put` does; `cell_count`, and `cell_at` up to the cell, are linear
-/// in the rows that have an entry, and in the blocks that aren't there, each at the cost of finding a
-/// block; `next_cell` in these up to the cell.
+/// `entries_into` finds its block as `put` does; `cell_count`, and `cell_at` up to the cell, are
+/// linear in the rows that have an entry, and in the blocks that aren't there, each at the cost of
+/// finding a block; `next_cell` in these up to the cell.
 #[derive(Drop)]
 pub struct PackedArchive {
     rows: u32,
     newest: Option<i64>,
     blocks: Blocks,
     ghost some_row: { 1 ≤ rows },
-    ghost held: { IsHeld rows newest blocks } by { Prim.hlevel (props, coded_rows) },
+    ghost held: { IsArchiveState rows newest blocks } by { Prim.hlevel (props, coded_rows) },
 }
 
 impl PackedArchive {
@@ -49,17 +49,20 @@ impl PackedArchive {
     fn change(&mut self, slot: i64, origin: Origin, change: &Change) -> Result<(), AllocError>
         requires slot { IsSlot slot }
         requires fits { Fits
-            (fin.get (cells_in self.old.rows self.old.newest self.old.blocks) (cell_slot slot origin)) change.now }
+            (fin.get (cells_in self.old.rows self.old.newest self.old.blocks)
+            (cell_slot slot origin)) change.now }
         ensures changed { OnOk result (cells_in self.new.rows self.new.newest self.new.blocks
             ≡ trimmed (is_live_at self.old.rows)
-            (with_change (cells_in self.old.rows self.old.newest self.old.blocks) (cell_slot slot origin) change.now)) }
+            (with_change (cells_in self.old.rows self.old.newest self.old.blocks)
+            (cell_slot slot origin) change.now)) }
         ensures dead { IsFalse (is_above self.old.rows self.old.newest slot)
             → cells_in self.new.rows self.new.newest self.new.blocks
             ≡ cells_in self.old.rows self.old.newest self.old.blocks }
         ensures unchanged { OnErr result (cells_in self.new.rows self.new.newest self.new.blocks
             ≡ cells_in self.old.rows self.old.newest self.old.blocks) }
         ensures limit { self.new.rows ≡ self.old.rows }
-        ensures room { IsTrue (is_ready_in self.old.rows self.old.newest self.old.blocks (cell_slot slot origin))
+        ensures room { IsTrue (is_ready_in self.old.rows self.old.newest self.old.blocks
+            (cell_slot slot origin))
             → IsOk result }
     {
         if !is_live(self.rows, self.newest, slot) {

@@ -36,7 +36,8 @@ pub(crate) struct Source {
 fn is_of_one(contribution: &Contribution, place: u32) -> bool
     requires { place < MAX_STEPS }
     ensures { IsTrue result → contribution.now
-        ≡ of_one (slot_sample contribution.now.version place contribution.now.last_time contribution.now.last_value) }
+        ≡ of_one (slot_sample contribution.now.version place contribution.now.last_time
+        contribution.now.last_value) }
 {
     contribution.count == 1
         && contribution.sum == i128::from(contribution.last_value)
@@ -73,7 +74,8 @@ impl Reading {
         Some((source, reading))
     }
 
-    /// What a change makes of a row without an entry, as a reading with its source, if it is of one sample.
+    /// What a change makes of a row without an entry, as a reading with its source, if it is of one
+    /// sample.
     pub(crate) fn after(origin: Origin, change: &Change) -> Option<(Source, Reading)>
         requires { Fits (entry_at [] origin) change.now }
         ensures { IfSome result (λ r. entry_of r.0 r.1 ≡ entry_after [] origin change.now) }

@@ -65,8 +65,8 @@ impl<T: Drop> Sparse<T> {
         self.items.len() < self.items.capacity()
     }
 
-    /// Makes room for one item more. The list takes memory for 1, 2, 4, 8 .. items, since most series
-    /// have few rows.
+    /// Makes room for one item more. The list takes memory for 1, 2, 4, 8 .. items, since most
+    /// series have few rows.
     pub(crate) fn make_room(&mut self) -> Result<(), AllocError>
         ensures same { item_in self.new ≡ item_in self.old }
         ensures mask { self.new.mask ≡ self.old.mask }
@@ -93,7 +93,8 @@ impl<T: Drop> Sparse<T> {
     pub(crate) fn insert(&mut self, number: u32, item: T) -> Result<(), AllocError>
         requires number { number < 64 }
         requires free { place_at self.old.mask number ≡ None }
-        ensures added { OnOk result (IsItemSet number (Some item) (item_in self.old) (item_in self.new)) }
+        ensures added { OnOk result (IsItemSet number (Some item) (item_in self.old)
+            (item_in self.new)) }
         ensures unchanged { OnErr result (item_in self.new ≡ item_in self.old) }
         ensures room { IsTrue (has_room self.old) → IsOk result }
     {

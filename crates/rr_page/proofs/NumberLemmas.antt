@@ -67,8 +67,10 @@ back (b ∷ bs) high h =
     ∙ ap (λ q. q + (b * p + value bs)) (sym (nat.mul_assoc high 256 p))
     ∙ sym (nat.add_assoc (high * 256 * p) (b * p) (value bs))
     ∙ ap (λ q. q + value bs) (sym (nat.add-mul (high * 256) b p)) in
-    let first : byte_at (length bs) (high * 256 ^ suc (length bs) + (b * p + value bs)) ≡ b = ap (byte_at (length bs)) same ∙ at_front (length bs) high b (value bs) (head b bs h) (below bs rest) in
-    let others : bytes_high_first (length bs) (high * 256 ^ suc (length bs) + (b * p + value bs)) ≡ bs = ap (bytes_high_first (length bs)) same ∙ back bs (high * 256 + b) rest in
+    let first : byte_at (length bs) (high * 256 ^ suc (length bs) + (b * p + value bs)) ≡ b =
+    ap (byte_at (length bs)) same ∙ at_front (length bs) high b (value bs) (head b bs h) (below bs rest) in
+    let others : bytes_high_first (length bs) (high * 256 ^ suc (length bs) + (b * p + value bs)) ≡ bs =
+    ap (bytes_high_first (length bs)) same ∙ back bs (high * 256 + b) rest in
     λ i. first i ∷ others i
 
 none_before : (p n : ℕ) → n ≡ 0 * p + n
@@ -80,7 +82,8 @@ none_before p n = omega arith
 pub record IsWide (w : Width) : Type 0 where
   pub len : (n : ℕ) → length (to_be_bytes w n) ≡ byte_len w
   pub again : (n : ℕ) → n < 2 ^ bits w → from_be_bytes w (to_be_bytes w n) ≡ n
-  pub back : (bytes : List ℕ) → length bytes ≡ byte_len w → AreBytes bytes → to_be_bytes w (from_be_bytes w bytes) ≡ bytes
+  pub back : (bytes : List ℕ) → length bytes ≡ byte_len w → AreBytes bytes
+      → to_be_bytes w (from_be_bytes w bytes) ≡ bytes
   pub below : (bytes : List ℕ) → length bytes ≡ byte_len w → AreBytes bytes → from_be_bytes w bytes < 2 ^ bits w
 
 value_1 : (bytes : List ℕ) → length bytes ≡ 1 → from_be_bytes w8 bytes ≡ value bytes
@@ -135,11 +138,13 @@ value_16 (a ∷ b ∷ c ∷ d ∷ e ∷ f ∷ g ∷ h ∷ i ∷ j ∷ k ∷ m �
 value_16 (a ∷ b ∷ c ∷ d ∷ e ∷ f ∷ g ∷ h ∷ i ∷ j ∷ k ∷ m ∷ n ∷ o ∷ p ∷ q ∷ r ∷ bytes) l = absurd (omega arith)
 
 -- a width whose numbers are read by their value is wide
-from_value : (w : Width) → ((bytes : List ℕ) → length bytes ≡ byte_len w → from_be_bytes w bytes ≡ value bytes) → 256 ^ byte_len w ≡ 2 ^ bits w → IsWide w
+from_value : (w : Width) → ((bytes : List ℕ) → length bytes ≡ byte_len w → from_be_bytes w bytes ≡ value bytes)
+    → 256 ^ byte_len w ≡ 2 ^ bits w → IsWide w
 from_value w is same = record {
   len = λ n. high_len (byte_len w) n;
   again = λ n lt. is (to_be_bytes w n) (high_len (byte_len w) n) ∙ again (byte_len w) n ∙ nat.mod-eq_of_lt (rw same lt);
-  back = λ bytes l h. ap (to_be_bytes w) (is bytes l) ∙ ap (λ k. bytes_high_first k (value bytes)) (sym l) ∙ ap (bytes_high_first (length bytes)) (none_before (256 ^ length bytes) (value bytes)) ∙ back bytes 0 h;
+  back = λ bytes l h. ap (to_be_bytes w) (is bytes l) ∙ ap (λ k. bytes_high_first k (value bytes)) (sym l)
+      ∙ ap (bytes_high_first (length bytes)) (none_before (256 ^ length bytes) (value bytes)) ∙ back bytes 0 h;
   below = λ bytes l h. rw (is bytes l, ← same, ← l) (below bytes h);
 }
 

@@ -20,7 +20,8 @@ less_from Less h = refl
 less_from Equal h = absurd cc
 less_from Greater h = absurd cc
 
-below_lower : (n m : CellName) (es : List NamedCell) → is_lt (cell_name_cmp n m) ≡ true → below_all cell_name_cmp m es ≡ true → below_all cell_name_cmp n es ≡ true
+below_lower : (n m : CellName) (es : List NamedCell) → is_lt (cell_name_cmp n m) ≡ true
+    → below_all cell_name_cmp m es ≡ true → below_all cell_name_cmp n es ≡ true
 below_lower n m [] lt below = refl
 below_lower n m (e ∷ es) lt below =
     let first = less_from _ (and_first (is_lt (cell_name_cmp m e.0)) (below_all cell_name_cmp m es) below) in
@@ -35,13 +36,15 @@ rising_below n (e ∷ es) rising =
     let rest = rising_below e.0 es (and_second (is_lt (cell_name_cmp n e.0)) (is_rising (Some e.0) es) rising) in
     λ i. lt i && below_lower n e.0 es lt rest i
 
-pub rising_sorted : (before : Option CellName) (es : List NamedCell) → is_rising before es ≡ true → is_sorted cell_name_cmp es ≡ true
+pub rising_sorted : (before : Option CellName) (es : List NamedCell) → is_rising before es ≡ true
+    → is_sorted cell_name_cmp es ≡ true
 rising_sorted before [] rising = refl
 rising_sorted before (e ∷ es) rising =
     let rest = and_second (is_after before e.0) (is_rising (Some e.0) es) rising in
     λ i. rising_below e.0 es rest i && rising_sorted (Some e.0) es rest i
 
-above_rising : (n : CellName) (es : List NamedCell) → below_all cell_name_cmp n es ≡ true → is_sorted cell_name_cmp es ≡ true → is_rising (Some n) es ≡ true
+above_rising : (n : CellName) (es : List NamedCell) → below_all cell_name_cmp n es ≡ true
+    → is_sorted cell_name_cmp es ≡ true → is_rising (Some n) es ≡ true
 above_rising n [] below sorted = refl
 above_rising n (e ∷ es) below sorted =
     let lt = and_first (is_lt (cell_name_cmp n e.0)) (below_all cell_name_cmp n es) below in
@@ -52,4 +55,5 @@ above_rising n (e ∷ es) below sorted =
 pub sorted_rising : (es : List NamedCell) → is_sorted cell_name_cmp es ≡ true → is_rising None es ≡ true
 sorted_rising [] sorted = refl
 sorted_rising (e ∷ es) sorted =
-    above_rising e.0 es (and_first (below_all cell_name_cmp e.0 es) (is_sorted cell_name_cmp es) sorted) (and_second (below_all cell_name_cmp e.0 es) (is_sorted cell_name_cmp es) sorted)
+    above_rising e.0 es (and_first (below_all cell_name_cmp e.0 es) (is_sorted cell_name_cmp es) sorted)
+    (and_second (below_all cell_name_cmp e.0 es) (is_sorted cell_name_cmp es) sorted)

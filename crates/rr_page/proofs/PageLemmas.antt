@@ -34,53 +34,72 @@ pub record IsRead (s : Layout) (bytes : List ℕ) (es : List NamedCell) (rest : 
   pub wide : HasMasksFor version s
   pub takes : Takes bytes (page_text version s es) rest
 
-front_page_takes : (s : Layout) (bytes : List ℕ) (x : List NamedCell × List ℕ) → AreBytes bytes → front_page_at s bytes ≡ Ok x → IsRead s bytes x.0 x.1
+front_page_takes : (s : Layout) (bytes : List ℕ) (x : List NamedCell × List ℕ) → AreBytes bytes
+    → front_page_at s bytes ≡ Ok x → IsRead s bytes x.0 x.1
 unfolding front_page_at page_text
 front_page_takes s bytes x fits e =
     with_ok (head_at s bytes) _ x e (λ head i0 e0.
     let t0 = head_takes s bytes head.0.0 head.0.1 head.1 fits i0 in
     let t1 = cells_take head.0.0 s None head.0.1 head.1 x t0.0.rest_fits e0 in
     record {
-      page = record { count_fits = subst (λ (n : ℕ). n ≤ MAX_PAGE_CELLS) (sym t1.many) t0.1; cells = All-from_recursion (IsCellOf s) x.0 t1.each; names_ascend = rising_sorted None x.0 t1.rising };
+      page = record {
+        count_fits = subst (λ (n : ℕ). n ≤ MAX_PAGE_CELLS) (sym t1.many) t0.1;
+        cells =
+            All-from_recursion (IsCellOf s) x.0 t1.each;
+        names_ascend = rising_sorted None x.0 t1.rising;
+      };
       version = head.0.0;
       wide = t0.2;
       takes = and_then (subst (λ (n : ℕ). Takes bytes (head_text head.0.0 s n) head.1) (sym t1.many) t0.0) t1.takes;
     })
 
-pub front_page_again : (v : Version) (s : Layout) (es : List NamedCell) (rest : List ℕ) → IsLayout s → HasMasksFor v s → IsPage s es → front_page_at s (page_text v s es ++ rest) ≡ Ok (es, rest)
+pub front_page_again : (v : Version) (s : Layout) (es : List NamedCell) (rest : List ℕ) → IsLayout s → HasMasksFor v s
+    → IsPage s es → front_page_at s (page_text v s es ++ rest) ≡ Ok (es, rest)
 unfolding front_page_at page_text
 front_page_again v s es rest layout wide page =
     ap (front_page_at s) (append_assoc (head_text v s (length es)) (flat_map (cell_text v) es) rest)
     ∙ step _ (head_again s v (length es) (flat_map (cell_text v) es ++ rest) page.count_fits wide)
-    ∙ cells_again v s None es rest layout wide (recursion_from_All (IsCellOf s) es page.cells) (sorted_rising es page.names_ascend)
+    ∙ cells_again v s None es rest layout wide (recursion_from_All (IsCellOf s) es page.cells)
+    (sorted_rising es page.names_ascend)
 
-pub page_takes : (s : Layout) (bytes : List ℕ) (es : List NamedCell) → AreBytes bytes → page_at s bytes ≡ Ok es → IsPage s es × IsPageText s es bytes
+pub page_takes : (s : Layout) (bytes : List ℕ) (es : List NamedCell) → AreBytes bytes → page_at s bytes ≡ Ok es
+    → IsPage s es × IsPageText s es bytes
 unfolding page_at
 page_takes s bytes es fits e =
     with_ok (front_page_at s bytes) _ es e (λ cells i e0.
     let g = unless_ok TrailingBytes (not (length cells.1 == 0)) (Ok cells.0) es e0 in
     let t = front_page_takes s bytes cells fits i in
     let nothing : cells.1 ≡ [] = nil_from_length cells.1 (eqb-true _ _ (not_false (length cells.1 == 0) g.0)) in
-    let whole : bytes ≡ page_text t.version s cells.0 = t.takes.parts ∙ ap (λ (l : List ℕ). page_text t.version s cells.0 ++ l) nothing ∙ append-nil (page_text t.version s cells.0) in
-    subst (λ (fs : List NamedCell). IsPage s fs × IsPageText s fs bytes) (ok_is cells.0 es g.1) (t.page, record { version = t.version; wide = t.wide; text = whole }))
+    let whole : bytes ≡ page_text t.version s cells.0 = t.takes.parts
+    ∙ ap (λ (l : List ℕ). page_text t.version s cells.0 ++ l) nothing
+    ∙ append-nil (page_text t.version s cells.0) in
+    subst (λ (fs : List NamedCell). IsPage s fs × IsPageText s fs bytes) (ok_is cells.0 es g.1)
+    (t.page, record { version = t.version; wide = t.wide; text = whole }))
 
-pub page_again : (s : Layout) (bytes : List ℕ) (es : List NamedCell) → IsLayout s → IsPage s es → IsPageText s es bytes → page_at s bytes ≡ Ok es
+pub page_again : (s : Layout) (bytes : List ℕ) (es : List NamedCell) → IsLayout s → IsPage s es → IsPageText s es bytes
+    → page_at s bytes ≡ Ok es
 unfolding page_at
 page_again s bytes es layout page text =
-    ap (page_at s) (text.text ∙ sym (append-nil (page_text text.version s es))) ∙ step _ (front_page_again text.version s es [] layout text.wide page)
+    ap (page_at s) (text.text ∙ sym (append-nil (page_text text.version s es)))
+    ∙ step _ (front_page_again text.version s es [] layout text.wide page)
 
 pub pages_are_their_text : PagesAreTheirText
-pages_are_their_text s bytes es layout fits = ((λ e. page_takes s bytes es fits e), (λ p. page_again s bytes es layout p.0 p.1))
+pages_are_their_text s bytes es layout fits = (
+  (λ e. page_takes s bytes es fits e),
+  (λ p. page_again s bytes es layout p.0 p.1),
+)
 
 -- the bytes of a page up to the schema
 tail_text : Layout → List NamedCell → Version → List ℕ → List ℕ
 tail_text s es v x = to_be_bytes w16 (length es) ++ (flat_map (cell_text v) es ++ x)
 
-start_of_page : (v : Version) (s : Layout) (es : List NamedCell) (x : List ℕ) → start_at (page_text v s es ++ x) ≡ Ok (v, schema_bytes s ++ tail_text s es v x)
+start_of_page : (v : Version) (s : Layout) (es : List NamedCell) (x : List ℕ)
+    → start_at (page_text v s es ++ x) ≡ Ok (v, schema_bytes s ++ tail_text s es v x)
 unfolding page_text head_text tail_text
 start_of_page v s es x =
     let parted : page_text v s es ++ x ≡ magic ++ (version_byte v ∷ (schema_bytes s ++ tail_text s es v x)) =
-    ap (λ (l : List ℕ). magic ++ (version_byte v ∷ l)) (three (schema_bytes s) (to_be_bytes w16 (length es)) (flat_map (cell_text v) es) x) in
+    ap (λ (l : List ℕ). magic ++ (version_byte v ∷ l))
+    (three (schema_bytes s) (to_be_bytes w16 (length es)) (flat_map (cell_text v) es) x) in
     ap start_at parted ∙ start_again v (schema_bytes s ++ tail_text s es v x)
   where
     three : (a b c x : List ℕ) → ((a ++ b) ++ c) ++ x ≡ a ++ (b ++ (c ++ x))
@@ -88,24 +107,37 @@ start_of_page v s es x =
 
 pub no_page_begins_another : NoPageBeginsAnother
 no_page_begins_another v w s t es fs x y layout other wide wide_too page second e =
-    let starts = ok_is (v, schema_bytes s ++ tail_text s es v x) (w, schema_bytes t ++ tail_text t fs w y) (sym (start_of_page v s es x) ∙ ap start_at e ∙ start_of_page w t fs y) in
-    let schemas = bytes_tell s t (tail_text s es v x) (tail_text t fs w y) layout other (ap (λ (p : Version × List ℕ). p.1) starts) in
-    let bodies = ok_is (es, x) (fs, y) (sym (front_page_again v s es x layout wide page) ∙ ap (front_page_at s) e ∙ ap (λ (l : Layout). front_page_at l (page_text w t fs ++ y)) schemas.0 ∙ front_page_again w t fs y other wide_too second) in
-    (ap (λ (p : Version × List ℕ). p.0) starts, schemas.0, ap (λ (p : List NamedCell × List ℕ). p.0) bodies, ap (λ (p : List NamedCell × List ℕ). p.1) bodies)
+    let starts = ok_is (v, schema_bytes s ++ tail_text s es v x) (w, schema_bytes t ++ tail_text t fs w y)
+    (sym (start_of_page v s es x) ∙ ap start_at e ∙ start_of_page w t fs y) in
+    let schemas = bytes_tell s t (tail_text s es v x) (tail_text t fs w y) layout other
+    (ap (λ (p : Version × List ℕ). p.1) starts) in
+    let bodies = ok_is (es, x) (fs, y) (sym (front_page_again v s es x layout wide page) ∙ ap (front_page_at s) e
+    ∙ ap (λ (l : Layout). front_page_at l (page_text w t fs ++ y)) schemas.0
+    ∙ front_page_again w t fs y other wide_too second) in (
+      ap (λ (p : Version × List ℕ). p.0) starts,
+      schemas.0,
+      ap (λ (p : List NamedCell × List ℕ). p.0) bodies,
+      ap (λ (p : List NamedCell × List ℕ). p.1) bodies,
+    )
 
 -- ---- for the code
 
-each_owned : (s : Layout) (cells : List Cell) → AllByRecursion (IsCellOf s) (map owned_cell cells) → AllByRecursion (λ c. IsCellOf s (owned_cell c)) cells
+each_owned : (s : Layout) (cells : List Cell) → AllByRecursion (IsCellOf s) (map owned_cell cells)
+    → AllByRecursion (λ c. IsCellOf s (owned_cell c)) cells
 each_owned s [] each = tt
 each_owned s (c ∷ cells) each = (each.0, each_owned s cells each.1)
 
 module _ (s : Layout) (bytes : List ℕ) (fits : AreBytes bytes) where
-  pub page_found : (r : Result (Vec Cell) PageFault) → GivesUnless Memory (λ cells. map owned_cell cells.items) r (page_at s bytes)
+  pub page_found : (r : Result (Vec Cell) PageFault)
+      → GivesUnless Memory (λ cells. map owned_cell cells.items) r (page_at s bytes)
       → IfOk r (λ cells. IsPage s (map owned_cell cells.items) × IsPageText s (map owned_cell cells.items) bytes)
   page_found (Ok cells) given = page_takes s bytes (map owned_cell cells.items) fits given
   page_found (Err fault) given = tt
 
-  pub cells_found : (r : Result (Vec Cell) PageFault) → GivesUnless Memory (λ cells. map owned_cell cells.items) r (page_at s bytes)
+  pub cells_found : (r : Result (Vec Cell) PageFault)
+      → GivesUnless Memory (λ cells. map owned_cell cells.items) r (page_at s bytes)
       → IfOk r (λ cells. All (λ c. IsCellOf s (owned_cell c)) cells.items)
-  cells_found (Ok cells) given = All-from_recursion (λ c. IsCellOf s (owned_cell c)) cells.items (each_owned s cells.items (recursion_from_All (IsCellOf s) (map owned_cell cells.items) (page_takes s bytes (map owned_cell cells.items) fits given).0.cells))
+  cells_found (Ok cells) given = All-from_recursion (λ c. IsCellOf s (owned_cell c)) cells.items
+      (each_owned s cells.items (recursion_from_All (IsCellOf s) (map owned_cell cells.items)
+      (page_takes s bytes (map owned_cell cells.items) fits given).0.cells))
   cells_found (Err fault) given = tt

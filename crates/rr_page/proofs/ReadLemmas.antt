@@ -21,11 +21,13 @@ use Rattle.rr_page.specs.declared.version.Version.{Version}
 abbrev keyed : List ℕ × List ℕ → Result (List ℕ × List ℕ) PageFault
 keyed text = unless BadKey (not (is_key_text text.0)) (Ok text)
 
-module _ (bytes : List ℕ) (len : ℕ) (rest text after : List ℕ) (l : number_at w16 bytes ≡ Ok (len, rest)) (fits : ((len == 0) || nat_lt MAX_KEY_TEXT len) ≡ false) (f : front_at len rest ≡ Ok (text, after)) where
+module _ (bytes : List ℕ) (len : ℕ) (rest text after : List ℕ) (l : number_at w16 bytes ≡ Ok (len, rest))
+    (fits : ((len == 0) || nat_lt MAX_KEY_TEXT len) ≡ false) (f : front_at len rest ≡ Ok (text, after)) where
   key_parts : key_at bytes ≡ keyed (text, after)
   unfolding key_at
   key_parts =
-      ap (λ r. r >>= λ (n : ℕ × List ℕ). unless BadKey ((n.0 == 0) || nat_lt MAX_KEY_TEXT n.0) (front_at n.0 n.1) >>= keyed) l
+      ap (λ r. r >>= λ (n : ℕ × List ℕ). unless BadKey ((n.0 == 0) || nat_lt MAX_KEY_TEXT n.0) (front_at n.0 n.1) >>=
+      keyed) l
       ∙ ap (λ b. unless BadKey b (front_at len rest) >>= keyed) fits
       ∙ ap (λ r. r >>= keyed) f
 
@@ -33,7 +35,8 @@ module _ (bytes : List ℕ) (len : ℕ) (rest text after : List ℕ) (l : number
   key_read k = key_parts ∙ ap (λ b. unless BadKey (not b) (Ok (text, after))) ((Decides-is_key_text text).1 k)
 
   pub key_refused : (IsKeyText text → ⊥) → key_at bytes ≡ Err BadKey
-  key_refused n = key_parts ∙ ap (λ b. unless BadKey (not b) (Ok (text, after))) (false_from_ne_true (is_key_text text) (λ e. n ((Decides-is_key_text text).0 e)))
+  key_refused n = key_parts ∙ ap (λ b. unless BadKey (not b) (Ok (text, after)))
+      (false_from_ne_true (is_key_text text) (λ e. n ((Decides-is_key_text text).0 e)))
 
   certain : (b : Bool) → is_key_text text ≡ b → ((IsKeyText text → ⊥) → ⊥) → IsKeyText text
   certain true e n = (Decides-is_key_text text).0 e
@@ -47,25 +50,37 @@ judged s key archive slot origin c after =
     unless BadContribution ((origin == 0) || not (is_valid s archive slot c))
     (Ok ((record { key = key; archive = archive; slot = slot; origin = origin }, c), after))
 
-module _ (v : Version) (s : Layout) (bytes key r1 : List ℕ) (archive : ℕ) (r2 : List ℕ) (slot : ℤ) (r3 : List ℕ) (origin : ℕ) (r4 : List ℕ) (c : Contribution) (after : List ℕ)
-    (ek : key_at bytes ≡ Ok (key, r1)) (ea : archive_at s r1 ≡ Ok (archive, r2)) (es : signed_at w64 r2 ≡ Ok (slot, r3)) (eo : number_at w16 r3 ≡ Ok (origin, r4)) (ec : contribution_at v r4 ≡ Ok (c, after)) where
+module _ (v : Version) (s : Layout) (bytes key r1 : List ℕ) (archive : ℕ) (r2 : List ℕ) (slot : ℤ) (r3 : List ℕ)
+    (origin : ℕ) (r4 : List ℕ) (c : Contribution) (after : List ℕ)
+    (ek : key_at bytes ≡ Ok (key, r1)) (ea : archive_at s r1 ≡ Ok (archive, r2)) (es : signed_at w64 r2 ≡ Ok (slot, r3))
+    (eo : number_at w16 r3 ≡ Ok (origin, r4)) (ec : contribution_at v r4 ≡ Ok (c, after)) where
   cell_parts : cell_at v s bytes ≡ judged s key archive slot origin c after
   unfolding cell_at
   cell_parts =
-      ap (λ r. r >>= λ (k : List ℕ × List ℕ). archive_at s k.1 >>= λ (a : ℕ × List ℕ). signed_at w64 a.1 >>= λ (t : ℤ × List ℕ). number_at w16 t.1 >>= λ (o : ℕ × List ℕ). contribution_at v o.1 >>= λ (d : Contribution × List ℕ). judged s k.0 a.0 t.0 o.0 d.0 d.1) ek
-      ∙ ap (λ r. r >>= λ (a : ℕ × List ℕ). signed_at w64 a.1 >>= λ (t : ℤ × List ℕ). number_at w16 t.1 >>= λ (o : ℕ × List ℕ). contribution_at v o.1 >>= λ (d : Contribution × List ℕ). judged s key a.0 t.0 o.0 d.0 d.1) ea
-      ∙ ap (λ r. r >>= λ (t : ℤ × List ℕ). number_at w16 t.1 >>= λ (o : ℕ × List ℕ). contribution_at v o.1 >>= λ (d : Contribution × List ℕ). judged s key archive t.0 o.0 d.0 d.1) es
-      ∙ ap (λ r. r >>= λ (o : ℕ × List ℕ). contribution_at v o.1 >>= λ (d : Contribution × List ℕ). judged s key archive slot o.0 d.0 d.1) eo
+      ap (λ r. r >>= λ (k : List ℕ × List ℕ). archive_at s k.1 >>= λ (a : ℕ × List ℕ). signed_at w64 a.1 >>=
+      λ (t : ℤ × List ℕ). number_at w16 t.1 >>= λ (o : ℕ × List ℕ). contribution_at v o.1 >>=
+      λ (d : Contribution × List ℕ). judged s k.0 a.0 t.0 o.0 d.0 d.1) ek
+      ∙ ap (λ r. r >>= λ (a : ℕ × List ℕ). signed_at w64 a.1 >>= λ (t : ℤ × List ℕ). number_at w16 t.1 >>=
+      λ (o : ℕ × List ℕ). contribution_at v o.1 >>= λ (d : Contribution × List ℕ). judged s key a.0 t.0 o.0 d.0 d.1)
+      ea
+      ∙ ap (λ r. r >>= λ (t : ℤ × List ℕ). number_at w16 t.1 >>= λ (o : ℕ × List ℕ). contribution_at v o.1 >>=
+      λ (d : Contribution × List ℕ). judged s key archive t.0 o.0 d.0 d.1) es
+      ∙ ap (λ r. r >>= λ (o : ℕ × List ℕ). contribution_at v o.1 >>= λ (d : Contribution × List ℕ). judged s key archive
+      slot o.0 d.0 d.1) eo
       ∙ ap (λ r. r >>= λ (d : Contribution × List ℕ). judged s key archive slot origin d.0 d.1) ec
 
   abbrev found : NamedCell × List ℕ
   found = ((record { key = key; archive = archive; slot = slot; origin = origin }, c), after)
 
-  pub cell_read : (origin == 0) ≡ false → IsValid s archive slot c → cell_at v s bytes ≡ Ok ((record { key = key; archive = archive; slot = slot; origin = origin }, c), after)
-  cell_read some valid = cell_parts ∙ (λ i. unless BadContribution (some i || not ((Decides-is_valid s archive slot c).1 valid i)) (Ok found))
+  pub cell_read : (origin == 0) ≡ false → IsValid s archive slot c
+      → cell_at v s bytes ≡ Ok ((record { key = key; archive = archive; slot = slot; origin = origin }, c), after)
+  cell_read some valid = cell_parts ∙ (λ i. unless BadContribution
+      (some i || not ((Decides-is_valid s archive slot c).1 valid i)) (Ok found))
 
   pub cell_refused : (IsValid s archive slot c → ⊥) → cell_at v s bytes ≡ Err BadContribution
-  cell_refused n = cell_parts ∙ ap (λ b. unless BadContribution ((origin == 0) || not b) (Ok found)) (false_from_ne_true (is_valid s archive slot c) (λ e. n ((Decides-is_valid s archive slot c).0 e))) ∙ either (origin == 0)
+  cell_refused n = cell_parts ∙ ap (λ b. unless BadContribution ((origin == 0) || not b) (Ok found))
+      (false_from_ne_true (is_valid s archive slot c) (λ e. n ((Decides-is_valid s archive slot c).0 e)))
+      ∙ either (origin == 0)
     where
       either : (b : Bool) → unless BadContribution (b || true) (Ok found) ≡ Err BadContribution
       either true = refl

@@ -27,7 +27,8 @@ values_text v c =
 -- the length of the key text in two bytes and the text, the archive in one, the slot in eight and the origin
 -- in two
 unfoldable pub name_text : CellName → List ℕ
-name_text n = to_be_bytes w16 (length n.key) ++ n.key ++ (n.archive ∷ []) ++ signed_bytes w64 n.slot ++ to_be_bytes w16 n.origin
+name_text n = to_be_bytes w16 (length n.key) ++ n.key ++ (n.archive ∷ []) ++ signed_bytes w64 n.slot
+    ++ to_be_bytes w16 n.origin
 
 -- a name, and the eight fields of its contribution
 unfoldable pub cell_text : Version → NamedCell → List ℕ

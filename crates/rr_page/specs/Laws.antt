@@ -18,7 +18,8 @@ AreBytes bytes = All (λ b. b < 2 ^ 8) bytes
 -- is left
 abbrev pub CellsAreTheirText : Type 0
 CellsAreTheirText =
-    (v : Version) (s : Layout) (bytes : List ℕ) (e : NamedCell) (rest : List ℕ) → IsLayout s → HasMasksFor v s → AreBytes bytes
+    (v : Version) (s : Layout) (bytes : List ℕ) (e : NamedCell) (rest : List ℕ) → IsLayout s → HasMasksFor v s
+    → AreBytes bytes
     → (cell_at v s bytes ≡ Ok (e, rest)) ↔ (IsCellOf s e × (bytes ≡ cell_text v e ++ rest))
 
 -- a page is read exactly where the bytes are the text of a page of the schema

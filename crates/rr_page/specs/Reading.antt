@@ -72,4 +72,7 @@ cell_at v s bytes = do
   origin ← number_at w16 slot.1
   contribution ← contribution_at v origin.1
   unless BadContribution ((origin.0 == 0) || not (is_valid s archive.0 slot.0 contribution.0))
-      (Ok ((record { key = key.0; archive = archive.0; slot = slot.0; origin = origin.0 }, contribution.0), contribution.1))
+      (Ok (
+        (record { key = key.0; archive = archive.0; slot = slot.0; origin = origin.0 }, contribution.0),
+        contribution.1,
+      ))

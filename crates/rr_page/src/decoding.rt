@@ -158,9 +158,9 @@ fn page_of(alloc: Global, bytes: &[u8], schema: &Schema) -> Result<Vec<Cell>, Pa
 /// Refusals are those of the first bad field: `Short` where fewer bytes are left than a field has;
 /// `BadMagic`; `BadVersion`; `SchemaDiffers`, once as many bytes are read as the schema has;
 /// `TooManyCells` above 256; for each cell those of [`read_cell`](crate::read_cell), and then
-/// `OutOfOrder` where its name is not greater than the one before; and last `TrailingBytes`. `Memory`
-/// comes only where the bytes are a page: where memory runs out, what is left is still checked. The cost
-/// is linear in the bytes.
+/// `OutOfOrder` where its name is not greater than the one before; and last `TrailingBytes`.
+/// `Memory` comes only where the bytes are a page: where memory runs out, what is left is still
+/// checked. The cost is linear in the bytes.
 pub fn decode(alloc: Global, bytes: &[u8], schema: &Schema) -> Result<Vec<Cell>, PageFault>
     // What is found is a page of the schema, and the bytes are its text.
     ensures found { IfOk result (λ cells. IsPage schema.now (map owned_cell cells.items)
@@ -173,7 +173,8 @@ pub fn decode(alloc: Global, bytes: &[u8], schema: &Schema) -> Result<Vec<Cell>,
     ensures exact { GivesUnless PageFault.Memory (λ cells. map owned_cell cells.items) result
         (page_at schema.now bytes.now) }
     ensures memory { NeedsMemoryAfter PageFault.Memory (page_at schema.now bytes.now) result }
-    ensures cells { IfOk result (λ cells. All (λ c. IsCellOf schema.now (owned_cell c)) cells.items) }
+    ensures cells { IfOk result (λ cells. All (λ c. IsCellOf schema.now (owned_cell c))
+        cells.items) }
 {
     let _archives = schema.archives(); // their contract says that the schema is within its limits
     page_of(alloc, bytes, schema)

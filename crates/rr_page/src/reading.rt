@@ -31,7 +31,8 @@ pub(crate) struct FoundCell<'a> {
     contribution: Contribution,
 }
 
-/// The key text that the bytes begin with, after its length, and what follows it. No memory is taken.
+/// The key text that the bytes begin with, after its length, and what follows it. No memory is
+/// taken.
 #[tactic(auto, unfolding(crate::specs::Reading::key_at))]
 fn key_text_of(bytes: &[u8]) -> Result<(&[u8], &[u8]), PageFault>
     ensures read { Gives (λ x. (x.0.now, x.1.now)) result (key_at bytes.now) }
@@ -210,10 +211,10 @@ pub fn read_cell_in<'a>(
 /// many bytes it takes. Bytes may follow it.
 ///
 /// Refusals are those of the first bad field: `Short` where fewer bytes are left than a field has;
-/// `BadKey` where the length of the key is 0 or above 1,024, before its text is read, or the text is
-/// not a key text; `BadArchive`; and after the last field `BadContribution`, for the origin 0 too.
-/// The key is copied last, so `Memory` comes only where a cell is there. The cost is linear in the key
-/// text.
+/// `BadKey` where the length of the key is 0 or above 1,024, before its text is read, or the text
+/// is not a key text; `BadArchive`; and after the last field `BadContribution`, for the origin 0
+/// too. The key is copied last, so `Memory` comes only where a cell is there. The cost is linear in
+/// the key text.
 pub fn read_cell(
     alloc: Global,
     bytes: &[u8],

@@ -39,7 +39,8 @@ after_start s start = as_in_page (archives_at start.0.0 s start.0.1 start.1) >>=
 
 -- what is read after the cells, and after the head
 abbrev pub after_cells : List ℕ → Head → List NamedCell × List ℕ → Result (Head × List NamedCell) LoadFault
-after_cells all head cells = digest_at (sha256 (bytes_before cells.1 all)) cells.1 >>= λ digest. end_at digest.1 >>= λ end. Ok (head, cells.0)
+after_cells all head cells = digest_at (sha256 (bytes_before cells.1 all)) cells.1 >>= λ digest. end_at digest.1 >>=
+    λ end. Ok (head, cells.0)
 
 abbrev pub after_head : Layout → List ℕ → Head × List ℕ → Result (Head × List NamedCell) LoadFault
 after_head s all head = cells_after s head.0 head.1 >>= after_cells all head.0
@@ -55,13 +56,15 @@ abbrev pub CellsRead : Layout → Head → List NamedCell → Option (List ℕ) 
 CellsRead s head es old now = Gave es old now (cells_after s head)
 
 -- the digest of what was taken is that of the bytes before those that are left
-pub digest_of_taken : (all left : List ℕ) (now : Option (List ℕ)) (taken digest : List ℕ) → now ≡ Some left → Consumes (Some all) now taken → digest ≡ sha256 taken → digest ≡ sha256 (bytes_before left all)
+pub digest_of_taken : (all left : List ℕ) (now : Option (List ℕ)) (taken digest : List ℕ) → now ≡ Some left
+    → Consumes (Some all) now taken → digest ≡ sha256 taken → digest ≡ sha256 (bytes_before left all)
 digest_of_taken all left now taken digest en took made =
     let parts : all ≡ taken ++ left = subst (λ (n : Option (List ℕ)). Consumes (Some all) n taken) en took in
     made ∙ ap sha256 (sym (front_is taken left all parts))
 
 -- the head and the cells were read, and the bytes of both have this digest
-pub record IsBodyRead (s : Layout) (h : Head) (es : List NamedCell) (digest : List ℕ) (old now mid : Option (List ℕ)) : Type 0 where
+pub record IsBodyRead (s : Layout) (h : Head) (es : List NamedCell) (digest : List ℕ)
+    (old now mid : Option (List ℕ)) : Type 0 where
   pub head : HeadRead s h old now
   pub cells : CellsRead s h es now mid
   pub taken : List ℕ
@@ -69,8 +72,10 @@ pub record IsBodyRead (s : Layout) (h : Head) (es : List NamedCell) (digest : Li
   pub made : digest ≡ sha256 taken
 
 -- all of it was digested as it came
-pub body_read : (s : Layout) (h : Head) (es : List NamedCell) (digest : List ℕ) (old now mid : Option (List ℕ)) (none head all : Sha256) → HeadRead s h old now → CellsRead s h es now mid
-    → Holds256 none [] → Digests old now none head → Digests now mid head all → ((m : List ℕ) → Holds256 all m → digest ≡ sha256 m) → IsBodyRead s h es digest old now mid
+pub body_read : (s : Layout) (h : Head) (es : List NamedCell) (digest : List ℕ) (old now mid : Option (List ℕ))
+    (none head all : Sha256) → HeadRead s h old now → CellsRead s h es now mid
+    → Holds256 none [] → Digests old now none head → Digests now mid head all
+    → ((m : List ℕ) → Holds256 all m → digest ≡ sha256 m) → IsBodyRead s h es digest old now mid
 body_read s h es digest old now mid none head all first cells empty one two made =
     let taken = Digests-then old now mid none head all one two in
     record {

@@ -11,5 +11,10 @@ pub read_then : (a b c : Option (List ℕ)) → ConsumesSome a b → ConsumesSom
 read_then a b c p q = (p.0 ++ q.0, Consumes-trans a b c p.0 q.0 p.1 q.1)
 
 -- at most so many bytes, and then so many more
-pub took_more : (n k most : ℕ) (a b c : Option (List ℕ)) → TakesAtMost n a b → TakesAtMost k b c → n + k ≤ most → TakesAtMost most a c
-took_more n k most a b c p q le = (p.0 ++ q.0, omega (arith, length-append p.0 q.0, p.1, q.1, le), Consumes-trans a b c p.0 q.0 p.2 q.2)
+pub took_more : (n k most : ℕ) (a b c : Option (List ℕ)) → TakesAtMost n a b → TakesAtMost k b c → n + k ≤ most
+    → TakesAtMost most a c
+took_more n k most a b c p q le = (
+  p.0 ++ q.0,
+  omega (arith, length-append p.0 q.0, p.1, q.1, le),
+  Consumes-trans a b c p.0 q.0 p.2 q.2,
+)

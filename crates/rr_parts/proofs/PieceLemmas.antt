@@ -21,8 +21,10 @@ use Rattle.rr_parts.specs.Snapshot.{magic}
 use Rattle.rr_parts.specs.SnapshotReading.{as_in_page, may_have_had, start_at, addition_told, archives_at}
 use Rattle.rr_parts.proofs.WidthLemmas.{HasWidth, HasWidth-field, HasWidth-then, HasWidth-done, HasWidth-last, HasWidth-number}
 
-module _ {A : Type 0} (k : ℕ) (r : Reader A) (front : IsFront r) (width : HasWidth k r) (bytes : List ℕ) (few : length bytes ≤ k) where
-  decided_ok : (rest : List ℕ) (x : A) (left : List ℕ) → r bytes ≡ Ok (x, left) → (r bytes ≡ Err Short) ⊎ (r (bytes ++ rest) ≡ extended rest (r bytes)) → r (bytes ++ rest) ≡ Ok (x, rest)
+module _ {A : Type 0} (k : ℕ) (r : Reader A) (front : IsFront r) (width : HasWidth k r) (bytes : List ℕ)
+    (few : length bytes ≤ k) where
+  decided_ok : (rest : List ℕ) (x : A) (left : List ℕ) → r bytes ≡ Ok (x, left)
+      → (r bytes ≡ Err Short) ⊎ (r (bytes ++ rest) ≡ extended rest (r bytes)) → r (bytes ++ rest) ≡ Ok (x, rest)
   unfolding extended
   decided_ok rest x left is (inl short) = absurd (cc (sym short ∙ is))
   decided_ok rest x left is (inr same) =
@@ -30,25 +32,41 @@ module _ {A : Type 0} (k : ℕ) (r : Reader A) (front : IsFront r) (width : HasW
       let none : left ≡ [] = nil_from_length left (omega (arith, few, took)) in
       same ∙ ap (extended rest) is ∙ ap (λ (l : List ℕ). Ok (x, l ++ rest)) none
 
-  decided_err : (rest : List ℕ) (fault : PageFault) → (length bytes < k → rest ≡ []) → r bytes ≡ Err fault → (r bytes ≡ Err Short) ⊎ (r (bytes ++ rest) ≡ extended rest (r bytes)) → r (bytes ++ rest) ≡ Err fault
+  decided_err : (rest : List ℕ) (fault : PageFault) → (length bytes < k → rest ≡ []) → r bytes ≡ Err fault
+      → (r bytes ≡ Err Short) ⊎ (r (bytes ++ rest) ≡ extended rest (r bytes)) → r (bytes ++ rest) ≡ Err fault
   unfolding extended
-  decided_err rest fault none is (inl short) = ap (λ (l : List ℕ). r (bytes ++ l)) (none (width.short bytes short)) ∙ ap r (append-nil bytes) ∙ is
+  decided_err rest fault none is (inl short) = ap (λ (l : List ℕ). r (bytes ++ l)) (none (width.short bytes short))
+      ∙ ap r (append-nil bytes) ∙ is
   decided_err rest fault none is (inr same) = same ∙ ap (extended rest) is
 
-  pub piece_ok : (old new : Option (List ℕ)) (x : A) (left : List ℕ) → Consumes old new bytes → r bytes ≡ Ok (x, left) → IfSome old (λ all. (rest : List ℕ) × (new ≡ Some rest) × (as_in_page (r all) ≡ Ok (x, rest)))
+  pub piece_ok : (old new : Option (List ℕ)) (x : A) (left : List ℕ) → Consumes old new bytes → r bytes ≡ Ok (x, left)
+      → IfSome old (λ all. (rest : List ℕ) × (new ≡ Some rest) × (as_in_page (r all) ≡ Ok (x, rest)))
   piece_ok None new x left took is = tt
   piece_ok (Some all) None x left took is = absurd took
-  piece_ok (Some all) (Some rest) x left took is = (rest, refl, ap (λ (l : List ℕ). as_in_page (r l)) took ∙ ap as_in_page (decided_ok rest x left is (front.more bytes rest)))
+  piece_ok (Some all) (Some rest) x left took is = (
+    rest,
+    refl,
+    ap (λ (l : List ℕ). as_in_page (r l)) took
+        ∙ ap as_in_page (decided_ok rest x left is (front.more bytes rest)),
+  )
 
-  pub piece_err : (old new : Option (List ℕ)) (fault : PageFault) → Consumes old new bytes → (length bytes < k → IsAtEnd new) → r bytes ≡ Err fault → IfSome old (λ all. as_in_page (r all) ≡ Err (load_fault fault))
+  pub piece_err : (old new : Option (List ℕ)) (fault : PageFault) → Consumes old new bytes
+      → (length bytes < k → IsAtEnd new) → r bytes ≡ Err fault
+      → IfSome old (λ all. as_in_page (r all) ≡ Err (load_fault fault))
   piece_err None new fault took end is = tt
   piece_err (Some all) None fault took end is = absurd took
-  piece_err (Some all) (Some rest) fault took end is = ap (λ (l : List ℕ). as_in_page (r l)) took ∙ ap as_in_page (decided_err rest fault end is (front.more bytes rest))
+  piece_err (Some all) (Some rest) fault took end is = ap (λ (l : List ℕ). as_in_page (r l)) took
+      ∙ ap as_in_page (decided_err rest fault end is (front.more bytes rest))
 
 -- ---- the start of a snapshot
 
-HasWidth-unless : {A : Type 0} (k : ℕ) (fault : PageFault) (refused : Bool) (r : Reader A) → (fault ≡ Short → ⊥) → HasWidth k r → HasWidth k (λ bytes. unless fault refused (r bytes))
-HasWidth-unless k fault true r other p = record { taken = λ bytes x e. absurd (cc e); short = λ bytes e. absurd (other (cc e)) }
+HasWidth-unless : {A : Type 0} (k : ℕ) (fault : PageFault) (refused : Bool) (r : Reader A) → (fault ≡ Short → ⊥)
+    → HasWidth k r → HasWidth k (λ bytes. unless fault refused (r bytes))
+HasWidth-unless k fault true r other p = record {
+  taken = λ bytes x e. absurd (cc e);
+  short =
+      λ bytes e. absurd (other (cc e));
+}
 HasWidth-unless k fault false r other p = p
 
 HasWidth-version : HasWidth 1 version_at
@@ -68,14 +86,16 @@ module _ (s : Layout) where
       (IsFront-unless BadMagic (not (pointwise nat_eq start magic)) version_at IsFront-version) (λ version.
       IsFront-then (number_at w32) _ (IsFront-number w32) (λ step.
       IsFront-then (number_at w8) _ (IsFront-number w8) (λ number.
-      IsFront-unless SchemaDiffers (not (may_have_had s step number)) (λ bytes. Ok ((version, number), bytes)) (IsFront-done (version, number))))))
+      IsFront-unless SchemaDiffers (not (may_have_had s step number)) (λ bytes. Ok ((version, number), bytes))
+      (IsFront-done (version, number))))))
 
   pub HasWidth-start : HasWidth 10 (start_at s)
   unfolding start_at
   HasWidth-start =
       HasWidth-then 4 6 (front_at 4) _ (HasWidth-field 4) (λ start.
       HasWidth-then 1 5 (λ bytes. unless BadMagic (not (pointwise nat_eq start magic)) (version_at bytes)) _
-      (HasWidth-unless 1 BadMagic (not (pointwise nat_eq start magic)) version_at (λ e. absurd (cc e)) HasWidth-version) (λ version.
+      (HasWidth-unless 1 BadMagic (not (pointwise nat_eq start magic)) version_at (λ e. absurd (cc e)) HasWidth-version)
+      (λ version.
       HasWidth-then 4 1 (number_at w32) _ (HasWidth-number w32) (λ step.
       HasWidth-then 1 0 (number_at w8) _ (HasWidth-number w8) (λ number.
       HasWidth-last SchemaDiffers (not (may_have_had s step number)) (version, number) (λ e. absurd (cc e))))))
@@ -98,12 +118,15 @@ module _ (v : Version) (s : Layout) (number : ℕ) where
 
   pub IsFront-archives : IsFront (archives_at v s number)
   unfolding archives_at
-  IsFront-archives = IsFront-then (front_at (9 * number)) _ (IsFront-field (9 * number)) (λ field. front_by (addition_told v s field))
+  IsFront-archives = IsFront-then (front_at (9 * number)) _ (IsFront-field (9 * number))
+      (λ field. front_by (addition_told v s field))
 
-  width_by : (o : Option Addition) → HasWidth 2 (λ bytes. ok_or o SchemaDiffers >>= λ (a : Addition). with_origin a bytes)
+  width_by : (o : Option Addition) → HasWidth 2 (λ bytes. ok_or o SchemaDiffers >>= λ (a : Addition). with_origin a
+      bytes)
   width_by None = HasWidth-unless 2 SchemaDiffers true (with_origin Nothing) (λ e. absurd (cc e)) (width_some Nothing)
   width_by (Some a) = width_some a
 
   pub HasWidth-archives : HasWidth (9 * number + 2) (archives_at v s number)
   unfolding archives_at
-  HasWidth-archives = HasWidth-then (9 * number) 2 (front_at (9 * number)) _ (HasWidth-field (9 * number)) (λ field. width_by (addition_told v s field))
+  HasWidth-archives = HasWidth-then (9 * number) 2 (front_at (9 * number)) _ (HasWidth-field (9 * number))
+      (λ field. width_by (addition_told v s field))

@@ -20,12 +20,15 @@ count_is n count e few = by_test (nat_le n (2 ^ 64 - 1)) refl
   where
     by_test : (b : Bool) → nat_le n (2 ^ 64 - 1) ≡ b → count ≡ n
     by_test true is = e ∙ ap (λ (b : Bool). if b then n else 2 ^ 64 - 1) is
-    by_test false is = let most : count ≡ 2 ^ 64 - 1 = e ∙ ap (λ (b : Bool). if b then n else 2 ^ 64 - 1) is in absurd (omega (arith, most, few))
+    by_test false is = let most : count ≡ 2 ^ 64 - 1 = e
+        ∙ ap (λ (b : Bool). if b then n else 2 ^ 64 - 1) is in absurd (omega (arith, most, few))
 
-pub piece_is : (piece head : List ℕ) (s t : Layout) (o p count : ℕ) (es : List NamedCell) → piece ≡ head → head ≡ head_text latest t p count → t ≡ s → p ≡ o → count ≡ length es → piece ≡ head_text latest s o (length es)
+pub piece_is : (piece head : List ℕ) (s t : Layout) (o p count : ℕ) (es : List NamedCell) → piece ≡ head
+    → head ≡ head_text latest t p count → t ≡ s → p ≡ o → count ≡ length es → piece ≡ head_text latest s o (length es)
 piece_is piece head s t o p count es e0 e1 et ep ec = e0 ∙ e1 ∙ (λ i. head_text latest (et i) (ep i) (ec i))
 
-module _ (s : Layout) (o : ℕ) (es : List NamedCell) (piece : List ℕ) (is : piece ≡ head_text latest s o (length es)) where
+module _ (s : Layout) (o : ℕ) (es : List NamedCell) (piece : List ℕ)
+    (is : piece ≡ head_text latest s o (length es)) where
   abbrev cells : List ℕ
   cells = flat_map (cell_text latest) es
 
@@ -39,21 +42,31 @@ module _ (s : Layout) (o : ℕ) (es : List NamedCell) (piece : List ℕ) (is : p
   pub digest_is : (digest : List ℕ) → digest ≡ sha256 (piece ++ cells) → digest ≡ sha256 (body_text latest s o es)
   digest_is digest e = e ∙ ap sha256 body_is
 
-  pub front_of_head : (a b : Option (List ℕ)) → AppendsPrefix a b piece → AppendsPrefix a b (snapshot_text latest s o es)
+  pub front_of_head : (a b : Option (List ℕ)) → AppendsPrefix a b piece
+      → AppendsPrefix a b (snapshot_text latest s o es)
   unfolding snapshot_text
-  front_of_head a b part = prefix_before a b body (sha256 body) (subst (AppendsPrefix a b) body_is (prefix_before a b piece cells part))
+  front_of_head a b part = prefix_before a b body (sha256 body)
+      (subst (AppendsPrefix a b) body_is (prefix_before a b piece cells part))
 
-  pub front_of_cells : (a b c : Option (List ℕ)) → Appends a b piece → AppendsPrefix b c (flat_map (cell_text latest) es) → AppendsPrefix a c (snapshot_text latest s o es)
+  pub front_of_cells : (a b c : Option (List ℕ)) → Appends a b piece
+      → AppendsPrefix b c (flat_map (cell_text latest) es) → AppendsPrefix a c (snapshot_text latest s o es)
   unfolding snapshot_text
-  front_of_cells a b c first part = prefix_before a c body (sha256 body) (subst (AppendsPrefix a c) body_is (prefix_after a b c piece cells first part))
+  front_of_cells a b c first part = prefix_before a c body (sha256 body)
+      (subst (AppendsPrefix a c) body_is (prefix_after a b c piece cells first part))
 
   written_body : (a b c : Option (List ℕ)) → Appends a b piece → Appends b c cells → Appends a c body
   written_body a b c first second = subst (Appends a c) body_is (Appends-trans a b c piece cells first second)
 
-  pub front_of_digest : (a b c d : Option (List ℕ)) (digest : List ℕ) → Appends a b piece → Appends b c (flat_map (cell_text latest) es) → digest ≡ sha256 (body_text latest s o es) → AppendsPrefix c d digest → AppendsPrefix a d (snapshot_text latest s o es)
+  pub front_of_digest : (a b c d : Option (List ℕ)) (digest : List ℕ) → Appends a b piece
+      → Appends b c (flat_map (cell_text latest) es) → digest ≡ sha256 (body_text latest s o es)
+      → AppendsPrefix c d digest → AppendsPrefix a d (snapshot_text latest s o es)
   unfolding snapshot_text
-  front_of_digest a b c d digest first second e part = prefix_after a c d body (sha256 body) (written_body a b c first second) (subst (AppendsPrefix c d) e part)
+  front_of_digest a b c d digest first second e part =
+      prefix_after a c d body (sha256 body) (written_body a b c first second) (subst (AppendsPrefix c d) e part)
 
-  pub written_whole : (a b c d : Option (List ℕ)) (digest : List ℕ) → Appends a b piece → Appends b c (flat_map (cell_text latest) es) → digest ≡ sha256 (body_text latest s o es) → Appends c d digest → Appends a d (snapshot_text latest s o es)
+  pub written_whole : (a b c d : Option (List ℕ)) (digest : List ℕ) → Appends a b piece
+      → Appends b c (flat_map (cell_text latest) es) → digest ≡ sha256 (body_text latest s o es) → Appends c d digest
+      → Appends a d (snapshot_text latest s o es)
   unfolding snapshot_text
-  written_whole a b c d digest first second e last = Appends-trans a c d body (sha256 body) (written_body a b c first second) (subst (Appends c d) e last)
+  written_whole a b c d digest first second e last =
+      Appends-trans a c d body (sha256 body) (written_body a b c first second) (subst (Appends c d) e last)

@@ -22,11 +22,14 @@ use Rattle.rr_parts.specs.SnapshotReading.{is_told, addition_told}
 
 -- the first of the archives that are left decides, or those after it do
 pub archives_left : (test : Addition → Bool) (k n : ℕ) → k < n
-    → find test (map Archive (range_with_len k (n - k))) ≡ cond (test (Archive k)) (Some (Archive k)) (find test (map Archive (range_with_len (k + 1) (n - (k + 1)))))
-archives_left test k n less = let more : n - k ≡ suc (n - (k + 1)) = omega (arith, less) in ap (λ m. find test (map Archive (range_with_len k m))) more
+    → find test (map Archive (range_with_len k (n - k)))
+    ≡ cond (test (Archive k)) (Some (Archive k)) (find test (map Archive (range_with_len (k + 1) (n - (k + 1)))))
+archives_left test k n less = let more : n - k ≡ suc (n - (k + 1)) = omega (arith, less) in
+    ap (λ m. find test (map Archive (range_with_len k m))) more
 
 pub none_left : (test : Addition → Bool) (k n : ℕ) → n ≤ k → find test (map Archive (range_with_len k (n - k))) ≡ None
-none_left test k n all = let none : n - k ≡ 0 = omega (arith, all) in ap (λ m. find test (map Archive (range_with_len k m))) none
+none_left test k n all = let none : n - k ≡ 0 = omega (arith, all) in
+    ap (λ m. find test (map Archive (range_with_len k m))) none
 
 -- ---- how many archives there are
 
@@ -38,10 +41,12 @@ front_len len bytes field rest e =
     sym (ap (λ (p : List ℕ × List ℕ). length p.0) is) ∙ omega (arith, fits, length-take len bytes)
 
 -- as many as the schema had before what was added since
-pub archives_told : (v : Version) (s : Layout) (n : ℕ) (bytes field rest : List ℕ) (a : Addition) → front_at (9 * n) bytes ≡ Ok (field, rest) → addition_told v s field ≡ Some a
+pub archives_told : (v : Version) (s : Layout) (n : ℕ) (bytes field rest : List ℕ) (a : Addition)
+    → front_at (9 * n) bytes ≡ Ok (field, rest) → addition_told v s field ≡ Some a
     → IsAddition s a × (n ≡ length (older s a).archives)
 archives_told v s n bytes field rest a e told =
     let found = found_addition s (is_told v s field) a told in
     let archives = flat_map archive_bytes (older s a).archives in
-    let same : field ≡ archives = (bytes_decides field archives).0 (both (has_masks_for v (older s a)) (had_archives s field a) found.1).1 in
+    let same : field ≡ archives = (bytes_decides field archives).0
+    (both (has_masks_for v (older s a)) (had_archives s field a) found.1).1 in
     (found.0, omega (arith, front_len (9 * n) bytes field rest e, ap length same, archives_len (older s a).archives))

@@ -15,7 +15,8 @@ use Rattle.rr_parts.specs.SnapshotReading.{snapshot_at}
 abbrev pub SnapshotsAreTheirText : Type 0
 SnapshotsAreTheirText =
     (s : Layout) (bytes : List ℕ) (head : Head) (es : List NamedCell) → IsLayout s → AreBytes bytes
-    → (snapshot_at s bytes ≡ Ok (head, es)) ↔ (IsSnapshot (older s head.addition) head.origin es × IsSnapshotText s head es bytes)
+    → (snapshot_at s bytes ≡ Ok (head, es)) ↔ (IsSnapshot (older s head.addition) head.origin es
+    × IsSnapshotText s head es bytes)
 
 -- no snapshot begins another: where the text of a snapshot, and bytes after it, are the text of a snapshot and bytes
 -- after it, the versions, the schemas, the origins, the cells and the bytes after them are the same

@@ -30,7 +30,8 @@ magic = codes "RRSN"
 -- these, the version in one byte, the schema, the saving replica's origin in two bytes, and the number of
 -- cells in four
 unfoldable pub head_text : Version → Layout → ℕ → ℕ → List ℕ
-head_text v s origin count = magic ++ (version_byte v ∷ (schema_bytes s ++ (to_be_bytes w16 origin ++ to_be_bytes w32 count)))
+head_text v s origin count = magic ++ (version_byte v ∷
+    (schema_bytes s ++ (to_be_bytes w16 origin ++ to_be_bytes w32 count)))
 
 -- after them the cells
 unfoldable pub body_text : Version → Layout → ℕ → List NamedCell → List ℕ

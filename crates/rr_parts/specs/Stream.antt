@@ -28,9 +28,12 @@ Adds old new before after = (front : List ℕ) × (after ≡ before ++ front) ×
 
 -- where the bytes of a stream are known, the result of a call, seen by a view, is what is read of them, and what
 -- follows it is left; or the reader failed, or memory ran out
-abbrev pub StreamGives : {X Y : Type 0} → (X → Y) → Result X LoadFault → Option (List ℕ) → Option (List ℕ) → (List ℕ → Result (Y × List ℕ) LoadFault) → Type 0
-StreamGives view (Ok x) old new read = IfSome old (λ all. (rest : List ℕ) × (new ≡ Some rest) × (read all ≡ Ok (view x, rest)))
-StreamGives view (Err fault) old new read = (fault ≡ ReadFailed) ⊎ (fault ≡ Memory) ⊎ IfSome old (λ all. read all ≡ Err fault)
+abbrev pub StreamGives : {X Y : Type 0} → (X → Y) → Result X LoadFault → Option (List ℕ) → Option (List ℕ)
+    → (List ℕ → Result (Y × List ℕ) LoadFault) → Type 0
+StreamGives view (Ok x) old new read = IfSome old
+    (λ all. (rest : List ℕ) × (new ≡ Some rest) × (read all ≡ Ok (view x, rest)))
+StreamGives view (Err fault) old new read = (fault ≡ ReadFailed) ⊎ (fault ≡ Memory)
+    ⊎ IfSome old (λ all. read all ≡ Err fault)
 
 -- where the bytes of a stream are known, something is read of them, and what follows it is left
 abbrev pub HasRead : {Y E : Type 0} → Option (List ℕ) → Option (List ℕ) → (List ℕ → Result (Y × List ℕ) E) → Type 0
@@ -38,10 +41,14 @@ HasRead {Y} old new read = IfSome old (λ all. (x : Y) × (rest : List ℕ) × (
 
 -- the bytes that were taken from a reader were added to what is digested
 abbrev pub Digests : Option (List ℕ) → Option (List ℕ) → Sha256 → Sha256 → Type 0
-Digests old new before after = (taken : List ℕ) × Consumes old new taken × ((m : List ℕ) → Holds256 before m → Holds256 after (m ++ taken))
+Digests old new before after = (taken : List ℕ) × Consumes old new taken
+    × ((m : List ℕ) → Holds256 before m → Holds256 after (m ++ taken))
 
 -- the result of a call is made of some cells; where the bytes of a stream are known, these are what is read of them,
 -- and what follows them is left; or the reader failed, or memory ran out
-abbrev pub StreamMakes : {X : Type 0} → (X → List NamedCell → Type 0) → Result X LoadFault → Option (List ℕ) → Option (List ℕ) → (List ℕ → Result (List NamedCell × List ℕ) LoadFault) → Type 0
-StreamMakes made (Ok x) old new read = (es : List NamedCell) × made x es × IfSome old (λ all. (rest : List ℕ) × (new ≡ Some rest) × (read all ≡ Ok (es, rest)))
-StreamMakes made (Err fault) old new read = (fault ≡ ReadFailed) ⊎ (fault ≡ Memory) ⊎ IfSome old (λ all. read all ≡ Err fault)
+abbrev pub StreamMakes : {X : Type 0} → (X → List NamedCell → Type 0) → Result X LoadFault → Option (List ℕ)
+    → Option (List ℕ) → (List ℕ → Result (List NamedCell × List ℕ) LoadFault) → Type 0
+StreamMakes made (Ok x) old new read = (es : List NamedCell) × made x es
+    × IfSome old (λ all. (rest : List ℕ) × (new ≡ Some rest) × (read all ≡ Ok (es, rest)))
+StreamMakes made (Err fault) old new read = (fault ≡ ReadFailed) ⊎ (fault ≡ Memory)
+    ⊎ IfSome old (λ all. read all ≡ Err fault)

@@ -104,7 +104,8 @@ pub(crate) fn start_from<R: Read>(
     Ok((version, number))
 }
 
-/// Whether these are the bytes of the archives before an addition, and the version has masks for them.
+/// Whether these are the bytes of the archives before an addition, and the version has masks for
+/// them.
 fn is_told(version: Version, schema: &Schema, field: &[u8], addition: Addition) -> bool
     requires { IsAddition schema.now addition }
     ensures { result ≡ is_told version schema.now field.now addition }
@@ -136,8 +137,8 @@ fn addition_told(version: Version, schema: &Schema, field: &[u8]) -> Option<Addi
     archive_told(version, schema, field).map(|number: u8| Addition::Archive(number))
 }
 
-/// What was added since there were so many archives, and the origin, and what follows them. No memory
-/// is taken.
+/// What was added since there were so many archives, and the origin, and what follows them. No
+/// memory is taken.
 #[tactic(auto, unfolding(crate::specs::SnapshotReading::archives_at))]
 fn archives_of<'a>(
     version: Version,

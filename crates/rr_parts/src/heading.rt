@@ -63,7 +63,8 @@ pub fn head_bytes(
     Ok(bytes)
 }
 
-/// What the input says before its cells. No memory is taken, and nothing is read after a bad origin.
+/// What the input says before its cells. No memory is taken, and nothing is read after a bad
+/// origin.
 pub fn head_from<R: Read>(
     input: &mut Counted<R>,
     schema: &Schema,

@@ -4,9 +4,9 @@
 //! SHA-256 digest of all of this. [`head_bytes`] makes the head, and [`write_piece`] and
 //! [`write_cell`] write what is digested, piece by piece. [`head_from`], [`cell_from`],
 //! [`digest_from`] and [`end_from`] read the parts of a stream, each up to its first fault
-//! (`specs/SnapshotReading.antt`), and take no byte after it; of the bytes one cell's at a time are in
-//! memory. [`laws`] says that what is read is what was written, and that no snapshot begins another.
-//! The crate `rr_snapshot` writes a replica so, and loads one.
+//! (`specs/SnapshotReading.antt`), and take no byte after it; of the bytes one cell's at a time are
+//! in memory. [`laws`] says that what is read is what was written, and that no snapshot begins
+//! another. The crate `rr_snapshot` writes a replica so, and loads one.
 #![tactic(auto)]
 
 mod ending;

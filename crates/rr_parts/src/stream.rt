@@ -81,9 +81,9 @@ fn fill_up_to<R: Read>(
     Ok(filled + more)
 }
 
-/// The cell at the front of what the input has, and how many bytes it has, which are in the front of
-/// the buffer. The input is read in two pieces, and no byte after the cell is taken. `Memory` comes only
-/// where a cell is there.
+/// The cell at the front of what the input has, and how many bytes it has, which are in the front
+/// of the buffer. The input is read in two pieces, and no byte after the cell is taken. `Memory`
+/// comes only where a cell is there.
 pub fn cell_from<R: Read>(
     alloc: Global,
     input: &mut Counted<R>,

@@ -15,9 +15,13 @@ use Rattle.rr_point.specs.Key.{key_text}
 use Rattle.rr_point.specs.Point.{PointView}
 
 -- it comes after what precedes it
-pub key_after_front : (p : PointView) (front field : List ℕ) → front ≡ front_text p.measurement p.tags → name_len Other field ≡ length field → front ++ SPACE ∷ field ≡ key_text p field
+pub key_after_front : (p : PointView) (front field : List ℕ) → front ≡ front_text p.measurement p.tags
+    → name_len Other field ≡ length field → front ++ SPACE ∷ field ≡ key_text p field
 key_after_front p front field is spelled =
     let whole : take (name_len Other field) field ≡ field = ap (λ (n : ℕ). take n field) spelled ∙ take-length field in
-    let written : escape Other (unescape Other field) ≡ field = ap (λ (t : List ℕ). escape Other (unescape Other t)) (sym whole) ∙ escape-unescape Other field ∙ whole in
+    let written : escape Other (unescape Other field) ≡ field =
+    ap (λ (t : List ℕ). escape Other (unescape Other t)) (sym whole) ∙ escape-unescape Other field ∙ whole in
     let tags = flat_map tag_text (entries (from_entries {R = bytes_cmp} (tags_unescaped p.tags))) in
-    ap₂ (λ (t f : List ℕ). t ++ SPACE ∷ f) is (sym written) ∙ append_assoc (escape Measurement (unescape Measurement p.measurement)) tags (SPACE ∷ escape Other (unescape Other field))
+    ap₂ (λ (t f : List ℕ). t ++ SPACE ∷ f) is (sym written)
+    ∙ append_assoc (escape Measurement (unescape Measurement p.measurement)) tags
+    (SPACE ∷ escape Other (unescape Other field))

@@ -22,4 +22,5 @@ tags_unescaped tags = map (λ tag. (unescape Other tag.0, unescape Other tag.1))
 -- the measurement and the tags, as a key text writes them
 abbrev pub front_text : List ℕ → List (List ℕ × List ℕ) → List ℕ
 front_text measurement tags =
-    escape Measurement (unescape Measurement measurement) ++ flat_map tag_text (entries (from_entries {R = bytes_cmp} (tags_unescaped tags)))
+    escape Measurement (unescape Measurement measurement)
+    ++ flat_map tag_text (entries (from_entries {R = bytes_cmp} (tags_unescaped tags)))

@@ -16,9 +16,9 @@ use rr_words::Order;
 use std::alloc::Global;
 use std::io::{Read, Write};
 
-/// Obeys an order over two streams: its script, which `scripts` runs, or its lines are what `input` still
-/// has, and what they print is written to `output`. An order to serve has no such streams: nothing is
-/// read or written.
+/// Obeys an order over two streams: its script, which `scripts` runs, or its lines are what `input`
+/// still has, and what they print is written to `output`. An order to serve has no such streams:
+/// nothing is read or written.
 ///
 /// What is written is a front of that wherever a run ends.
 pub fn obey_order<S: RunScript, R: Read, W: Write>(
@@ -29,21 +29,25 @@ pub fn obey_order<S: RunScript, R: Read, W: Write>(
     output: &mut Counted<W>,
 ) -> Result<Ending, ToolFault>
     ensures printed { OnOk result (IfSome (R.remaining (inner_of input.old))
-        (λ bytes. Appends (W.contents (inner_of output.old)) (W.contents (inner_of output.new)) (output_of S.output (asked_by order.now) bytes))) }
+        (λ bytes. Appends (W.contents (inner_of output.old)) (W.contents (inner_of output.new))
+        (output_of S.output (asked_by order.now) bytes))) }
     ensures ending { IfOk result (λ ending. IfSome (R.remaining (inner_of input.old))
         (λ bytes. ending ≡ ending_of (asked_by order.now) bytes)) }
 
     // What is written however the run ends.
     ensures front { IfSome (R.remaining (inner_of input.old))
-        (λ bytes. AppendsPrefix (W.contents (inner_of output.old)) (W.contents (inner_of output.new)) (output_of S.output (asked_by order.now) bytes)) }
+        (λ bytes. AppendsPrefix (W.contents (inner_of output.old))
+        (W.contents (inner_of output.new)) (output_of S.output (asked_by order.now) bytes)) }
 
     // When a stream is to blame.
-    ensures read_failed { result ≡ Err ToolFault.ReadFailed → HasRisen (failures_of input.old) (failures_of input.new) }
+    ensures read_failed { result ≡ Err ToolFault.ReadFailed
+        → HasRisen (failures_of input.old) (failures_of input.new) }
     ensures limit { reads_of input.new ≤ reads_of input.old + MAX_READS }
     ensures too_many { result ≡ Err ToolFault.TooManyReads
         → HasRisenBy MAX_READS (reads_of input.old) (reads_of input.new) }
     ensures no_end { result ≡ Err ToolFault.TooManyReads → ends_of input.new ≡ ends_of input.old }
-    ensures write_failed { result ≡ Err ToolFault.WriteFailed → HasRisen (failures_of output.old) (failures_of output.new) }
+    ensures write_failed { result ≡ Err ToolFault.WriteFailed
+        → HasRisen (failures_of output.old) (failures_of output.new) }
 {
     match order {
         Order::Sim { file: _ } => {

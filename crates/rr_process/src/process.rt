@@ -9,7 +9,8 @@ use std::io::ErrorKind;
 use std::rt::Files;
 use std::{fs, io};
 
-/// The fault of a file that can't be opened or read: memory ran out, or it is named on standard error.
+/// The fault of a file that can't be opened or read: memory ran out, or it is named on standard
+/// error.
 pub fn file_fault(rt: &impl Eprint, file: &str, error: &io::Error) -> ToolFault {
     match error.kind() {
         ErrorKind::OutOfMemory => ToolFault::Memory,
@@ -21,9 +22,9 @@ pub fn file_fault(rt: &impl Eprint, file: &str, error: &io::Error) -> ToolFault 
     }
 }
 
-/// Obeys an order that has streams. The output goes to standard output, and the input comes from standard input, or
-/// from the script's file where one is named. A file that can't be opened is named on standard
-/// error.
+/// Obeys an order that has streams. The output goes to standard output, and the input comes from
+/// standard input, or from the script's file where one is named. A file that can't be opened is
+/// named on standard error.
 pub fn obey(
     rt: &(impl AllocGlobal + Files + Input + Print + Eprint),
     scripts: &impl RunScript,

@@ -89,11 +89,13 @@ raised-lowered i a other = elim (cases_lt a i) [
 
 -- ---- lists
 
-pub get_or-without : {A : Type 0} (i a : ℕ) (xs : List A) (d : A) → i < length xs → get_or (without i xs) a d ≡ get_or xs (raised (Archive i) a) d
+pub get_or-without : {A : Type 0} (i a : ℕ) (xs : List A) (d : A) → i < length xs
+    → get_or (without i xs) a d ≡ get_or xs (raised (Archive i) a) d
 get_or-without i a xs d h =
     let front : length (take i xs) ≡ i = omega (arith, length-take i xs) in
     elim (cases_lt a i) [
-      | inl p ↦ get_or_append_left (take i xs) (drop (i + 1) xs) d a (omega (arith, front, p)) ∙ get_or-take i xs a d p ∙ sym (ap (λ k. get_or xs k d) (stays i a p))
+      | inl p ↦ get_or_append_left (take i xs) (drop (i + 1) xs) d a (omega (arith, front, p)) ∙ get_or-take i xs a d p
+          ∙ sym (ap (λ k. get_or xs k d) (stays i a p))
       | inr p ↦ get_or-append_right (take i xs) (drop (i + 1) xs) i a d front p ∙ get_or-drop (i + 1) xs (a - i) d
           ∙ ap (λ k. get_or xs k d) (let here : i + 1 + (a - i) ≡ a + 1 = omega (arith, p) in here ∙ sym (rises i a p))
     ]
@@ -111,15 +113,29 @@ module _ (i : ℕ) (s t : Layout) (added : HasAdded i s t) where
 
   pub place_is_same : (a : ℕ) (time : ℤ) → place_of s (raised (Archive i) a) time ≡ place_of t a time
   unfolding place_of
-  place_is_same a time = λ j. unsigned_abs (int_div_euclid time (pos (sym added.step j * 1_000_000_000)) -ℤ (slot_is_same a time j *ℤ pos (archive_is_same a j).steps))
+  place_is_same a time = λ j. unsigned_abs (int_div_euclid time (pos (sym added.step j * 1_000_000_000)) -ℤ
+      (slot_is_same a time j *ℤ pos (archive_is_same a j).steps))
 
   pub name_is_raised : (m : Mark) → name_of s (raised_mark (Archive i) m) ≡ raised_name (Archive i) (name_of t m)
-  name_is_raised m = λ j. record { key = m.key; archive = raised (Archive i) m.archive; slot = slot_is_same m.archive m.time j; origin = m.origin }
+  name_is_raised m = λ j. record {
+    key = m.key;
+    archive = raised (Archive i) m.archive;
+    slot =
+        slot_is_same m.archive m.time j;
+    origin = m.origin;
+  }
 
 -- ---- orders
 
-pub raised_name_cmp : (i : ℕ) (a b : CellName) → cell_name_cmp (raised_name (Archive i) a) (raised_name (Archive i) b) ≡ cell_name_cmp a b
-raised_name_cmp i a b = λ j. ordering_then (slice_cmp nat_cmp a.key b.key) (ordering_then (raised_cmp i a.archive b.archive j) (ordering_then (int_cmp a.slot b.slot) (nat_cmp a.origin b.origin)))
+pub raised_name_cmp : (i : ℕ) (a b : CellName) → cell_name_cmp (raised_name (Archive i) a) (raised_name (Archive i) b)
+    ≡ cell_name_cmp a b
+raised_name_cmp i a b = λ j. ordering_then (slice_cmp nat_cmp a.key b.key)
+    (ordering_then (raised_cmp i a.archive b.archive j)
+    (ordering_then (int_cmp a.slot b.slot) (nat_cmp a.origin b.origin)))
 
-pub raised_mark_cmp : (i : ℕ) (a b : Mark) → mark_cmp (raised_mark (Archive i) a) (raised_mark (Archive i) b) ≡ mark_cmp a b
-raised_mark_cmp i a b = λ j. ordering_then (int_cmp a.time b.time) (ordering_then (nat_cmp a.origin b.origin) (ordering_then (nat_cmp a.number b.number) (ordering_then (raised_cmp i a.archive b.archive j) (ordering_then (slice_cmp nat_cmp a.key b.key) (int_cmp a.value b.value)))))
+pub raised_mark_cmp : (i : ℕ) (a b : Mark) → mark_cmp (raised_mark (Archive i) a) (raised_mark (Archive i) b)
+    ≡ mark_cmp a b
+raised_mark_cmp i a b = λ j. ordering_then (int_cmp a.time b.time)
+    (ordering_then (nat_cmp a.origin b.origin) (ordering_then (nat_cmp a.number b.number)
+    (ordering_then (raised_cmp i a.archive b.archive j)
+    (ordering_then (slice_cmp nat_cmp a.key b.key) (int_cmp a.value b.value)))))

@@ -11,7 +11,8 @@ use Rattle.rr_join.proofs.Keys.{entries-retain}
 use Rattle.rr_join.proofs.Members.{is_in, same_from_tie, tie_itself}
 use Rattle.rr_raising.specs.Raising.{renamed}
 
-module _ {K X : Type 0} {R : K → K → Ordering} (o : IsTotalOrder R) (same : IsAntisymmetric R) (f : K → K) (keeps : (a b : K) → R (f a) (f b) ≡ R a b) where
+module _ {K X : Type 0} {R : K → K → Ordering} (o : IsTotalOrder R) (same : IsAntisymmetric R) (f : K → K)
+    (keeps : (a b : K) → R (f a) (f b) ≡ R a b) where
   abbrev pub moved : List (K × X) → List (K × X)
   moved es = map (λ e. (f e.0, e.1)) es
 
@@ -46,7 +47,8 @@ module _ {K X : Type 0} {R : K → K → Ordering} (o : IsTotalOrder R) (same : 
 
   -- at a renamed key it has what was there
   pub get-renamed : (m : FinMap R X) (q : K) → get (renamed f m) (f q) ≡ get m q
-  get-renamed m q = get-entries (renamed f m) (f q) ∙ ap (find R (f q)) (entries-renamed m) ∙ find-moved q (entries m) ∙ sym (get-entries m q)
+  get-renamed m q = get-entries (renamed f m) (f q) ∙ ap (find R (f q)) (entries-renamed m) ∙ find-moved q (entries m)
+      ∙ sym (get-entries m q)
 
   find-other : (q : K) (es : List (K × X)) → ((x : K) → eq_by_cmp R q (f x) ≡ false) → find R q (moved es) ≡ None
   find-other q [] none = refl
@@ -56,15 +58,19 @@ module _ {K X : Type 0} {R : K → K → Ordering} (o : IsTotalOrder R) (same : 
   pub get-other : (m : FinMap R X) (q : K) → ((x : K) → eq_by_cmp R q (f x) ≡ false) → get (renamed f m) q ≡ None
   get-other m q none = get-entries (renamed f m) q ∙ ap (find R q) (entries-renamed m) ∙ find-other q (entries m) none
 
-  filter-moved : (test : K → Bool) (es : List (K × X)) → filter (λ e. test e.0) (moved es) ≡ moved (filter (λ e. test (f e.0)) es)
+  filter-moved : (test : K → Bool) (es : List (K × X))
+      → filter (λ e. test e.0) (moved es) ≡ moved (filter (λ e. test (f e.0)) es)
   filter-moved test [] = refl
-  filter-moved test (e ∷ es) = elim (test (f e.0)) as (λ b. cond b ((f e.0, e.1) ∷ filter (λ x. test x.0) (moved es)) (filter (λ x. test x.0) (moved es)) ≡ moved (cond b (e ∷ filter (λ x. test (f x.0)) es) (filter (λ x. test (f x.0)) es))) [
-    | true ↦ ap (λ l. (f e.0, e.1) ∷ l) (filter-moved test es)
-    | false ↦ filter-moved test es
-  ]
+  filter-moved test (e ∷ es) = elim (test (f e.0)) as
+      (λ b. cond b ((f e.0, e.1) ∷ filter (λ x. test x.0) (moved es)) (filter (λ x. test x.0) (moved es))
+      ≡ moved (cond b (e ∷ filter (λ x. test (f x.0)) es) (filter (λ x. test (f x.0)) es))) [
+        | true ↦ ap (λ l. (f e.0, e.1) ∷ l) (filter-moved test es)
+        | false ↦ filter-moved test es
+      ]
 
   -- the renamed keys that pass a test are those whose new names pass it
-  pub retain-renamed : (m : FinMap R X) (test : K → Bool) → retain_keys (renamed f m) test ≡ renamed f (retain_keys m (λ x. test (f x)))
+  pub retain-renamed : (m : FinMap R X) (test : K → Bool)
+      → retain_keys (renamed f m) test ≡ renamed f (retain_keys m (λ x. test (f x)))
   retain-renamed m test =
       same_entries_map (retain_keys (renamed f m) test) (renamed f (retain_keys m (λ x. test (f x)))) (
       entries-retain o same (renamed f m) test
@@ -85,5 +91,15 @@ module _ {K : Type 0} {R : K → K → Ordering} (o : IsTotalOrder R) (same : Is
   was [] q e = absurd (true≢false (sym e))
   was (k ∷ ks) q e =
       either_case (eq_by_cmp R q (f k)) (is_in R (map f ks) q) e
-      (λ h. record { before = k; known = ap (λ b. b || is_in R ks k) (tie_itself o same k); renamed_to = same_from_tie o same q (f k) h })
-      (λ h. let w = was ks q h in record { before = w.before; known = or_right (eq_by_cmp R w.before k) (is_in R ks w.before) w.known; renamed_to = w.renamed_to })
+      (λ h. record {
+        before = k;
+        known = ap (λ b. b || is_in R ks k) (tie_itself o same k);
+        renamed_to =
+            same_from_tie o same q (f k) h;
+      })
+      (λ h. let w = was ks q h in record {
+        before = w.before;
+        known =
+            or_right (eq_by_cmp R w.before k) (is_in R ks w.before) w.known;
+        renamed_to = w.renamed_to;
+      })

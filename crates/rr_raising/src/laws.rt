@@ -1,8 +1,8 @@
 //! The laws, with no work to do: the functions have empty bodies.
 ghost use Rattle.rr_raising.specs.Laws.{RaisedIsClosed, RaisedMakesRaisedCells, RaisedIsLive, NoneInTheAdded, RaisedIsCell, TrimmedIsRaised, JoinIsRaised, JoinCellsIsRaised, OrderIsKept, UpgradeAdds};
 
-/// What is known without gaps has none once its numbers are raised; the same marks are live, and none is in the
-/// archive that was added.
+/// What is known without gaps has none once its numbers are raised; the same marks are live, and
+/// none is in the archive that was added.
 pub fn raised_knowledge_is_closed()
     ensures closed { RaisedIsClosed }
     ensures live { RaisedIsLive }
@@ -14,8 +14,8 @@ pub fn raised_cells_are_made()
     ensures { RaisedMakesRaisedCells }
 {}
 
-/// A raised cell is one of the schema with one archive more; cells are trimmed and joined as before, and stay in their
-/// order.
+/// A raised cell is one of the schema with one archive more; cells are trimmed and joined as
+/// before, and stay in their order.
 pub fn raised_cells_are_joined()
     ensures cell { RaisedIsCell }
     ensures trimmed { TrimmedIsRaised }
@@ -24,7 +24,8 @@ pub fn raised_cells_are_joined()
     ensures order { OrderIsKept }
 {}
 
-/// The archives with one more, which stands before the first that has more steps, have one archive more.
+/// The archives with one more, which stands before the first that has more steps, have one archive
+/// more.
 pub fn an_upgrade_adds_an_archive()
     ensures { UpgradeAdds }
 {}

@@ -44,7 +44,8 @@ field_text_is : (field : List ℕ) → csv.field_text record_setup field ≡ fie
 field_text_is field = rw (needs_quotes_is field, escaped_is field) refl
 
 -- a field with a byte shows one
-shown : (quotes : Bool) (text bytes : List ℕ) (byte : ℕ) → eqb (length (if quotes then 34 ∷ text else byte ∷ bytes)) 0 ≡ false
+shown : (quotes : Bool) (text bytes : List ℕ) (byte : ℕ)
+    → eqb (length (if quotes then 34 ∷ text else byte ∷ bytes)) 0 ≡ false
 shown true text bytes byte = ne_eqb (length (34 ∷ text)) 0 (λ e. absurd (omega arith))
 shown false text bytes byte = ne_eqb (length (byte ∷ bytes)) 0 (λ e. absurd (omega arith))
 
@@ -53,7 +54,8 @@ rest_is : (more : List (List ℕ)) → fields_text record_setup more ++ 10 ∷ [
 unfolding fields_text
 rest_is [] = refl
 rest_is (field ∷ more) =
-    ap (λ (t : List ℕ). 44 ∷ t) (append_assoc (csv.field_text record_setup field) (fields_text record_setup more) (10 ∷ [])
+    ap (λ (t : List ℕ). 44 ∷ t) (append_assoc (csv.field_text record_setup field) (fields_text record_setup more)
+    (10 ∷ [])
     ∙ rw (field_text_is field, rest_is more) refl)
 
 -- csv's text of a record
@@ -62,7 +64,9 @@ unfolding fields_text is_blank
 row_text_is [] = refl
 row_text_is ([] ∷ []) = refl
 row_text_is ((byte ∷ bytes) ∷ []) =
-    let some : eqb (length (csv.field_text record_setup (byte ∷ bytes))) 0 ≡ false = shown (csv.needs_quotes record_setup (byte ∷ bytes)) (escaped record_setup (byte ∷ bytes) ++ 34 ∷ []) bytes byte in
+    let some : eqb (length (csv.field_text record_setup (byte ∷ bytes))) 0 ≡ false =
+    shown (csv.needs_quotes record_setup (byte ∷ bytes)) (escaped record_setup (byte ∷ bytes) ++ 34 ∷ []) bytes
+    byte in
     rw (some, append-nil (csv.field_text record_setup (byte ∷ bytes)), field_text_is (byte ∷ bytes)) refl
 row_text_is (first ∷ next ∷ more) =
     append_assoc (csv.field_text record_setup first) (fields_text record_setup (next ∷ more)) (10 ∷ [])
@@ -95,13 +99,16 @@ plain_reason : (number : ℕ) (name : List ℕ) → number < 2 ^ 64 → IsPlain 
 plain_reason number name fits plain =
     let digits = plain_digits (decimal number) (decimal_is_IsNumeral number fits).0.1 in
     plain-append (codes "line " ++ decimal number ++ codes ": ") name
-    (plain-append (codes "line " ++ decimal number) (codes ": ") (plain-append (codes "line ") (decimal number) refl digits) refl)
+    (plain-append (codes "line " ++ decimal number) (codes ": ")
+    (plain-append (codes "line ") (decimal number) refl digits) refl)
     plain
 
 -- the record of a refusal is its line
-pub record_text-refusal : (number : ℕ) (name : List ℕ) → number < 2 ^ 64 → IsPlain name → record_text (reason_text number name ∷ []) ≡ refusal_text number name
+pub record_text-refusal : (number : ℕ) (name : List ℕ) → number < 2 ^ 64 → IsPlain name
+    → record_text (reason_text number name ∷ []) ≡ refusal_text number name
 record_text-refusal number name fits plain =
-    let as_is : field_text (reason_text number name) ≡ reason_text number name = rw (plain_reason number name fits plain) refl in
+    let as_is : field_text (reason_text number name) ≡ reason_text number name =
+    rw (plain_reason number name fits plain) refl in
     ap (λ (t : List ℕ). t ++ 10 ∷ []) as_is
 
 -- an integer of 64 bits is plain
@@ -116,7 +123,8 @@ abbrev pub Doubles : List ℕ → Option (List ℕ × List ℕ) → Type 0
 Doubles text None = flat_map doubled text ≡ text
 Doubles text (Some p) = flat_map doubled text ≡ p.0 ++ 34 ∷ 34 ∷ flat_map doubled p.1
 
-longer : (b : ℕ) (text : List ℕ) (o : Option (List ℕ × List ℕ)) → eqb b 34 ≡ false → Doubles text o → Doubles (b ∷ text) (option_map (λ (p : List ℕ × List ℕ). (b ∷ p.0, p.1)) o)
+longer : (b : ℕ) (text : List ℕ) (o : Option (List ℕ × List ℕ)) → eqb b 34 ≡ false → Doubles text o
+    → Doubles (b ∷ text) (option_map (λ (p : List ℕ × List ℕ). (b ∷ p.0, p.1)) o)
 longer b text None other h = rw (other, h) refl
 longer b text (Some p) other h = rw (other, h) refl
 
@@ -128,7 +136,8 @@ doubles (b ∷ text) =
       | inr other ↦ rw other (longer b text (cut_at 34 text) other (doubles text))
     ]
 
-pub doubled_cut : {T : Type 0} (text : List ℕ) (f : T → List ℕ × List ℕ) (x : T) → Some (f x) ≡ cut_at 34 text → flat_map doubled text ≡ (f x).0 ++ 34 ∷ 34 ∷ flat_map doubled (f x).1
+pub doubled_cut : {T : Type 0} (text : List ℕ) (f : T → List ℕ × List ℕ) (x : T) → Some (f x) ≡ cut_at 34 text
+    → flat_map doubled text ≡ (f x).0 ++ 34 ∷ 34 ∷ flat_map doubled (f x).1
 doubled_cut text f x e = subst (Doubles text) (sym e) (doubles text)
 
 pub doubled_none : (text : List ℕ) → None ≡ cut_at 34 text → flat_map doubled text ≡ text
@@ -143,9 +152,13 @@ cut_shorter (b ∷ text) =
       | inr other ↦ rw other (longer_text (cut_at 34 text) (cut_shorter text))
     ]
   where
-    longer_text : (o : Option (List ℕ × List ℕ)) → IfSome {T = List ℕ × List ℕ} o (λ p. length p.1 < length text) → IfSome {T = List ℕ × List ℕ} (option_map (λ (p : List ℕ × List ℕ). (b ∷ p.0, p.1)) o) (λ p. length p.1 < length (b ∷ text))
+    longer_text : (o : Option (List ℕ × List ℕ)) → IfSome {T = List ℕ × List ℕ} o (λ p. length p.1 < length text)
+        → IfSome {T = List ℕ × List ℕ} (option_map (λ (p : List ℕ × List ℕ). (b ∷ p.0, p.1)) o)
+        (λ p. length p.1 < length (b ∷ text))
     longer_text None h = tt
     longer_text (Some p) h = omega arith
 
-pub cut_is_shorter : {T : Type 0} (text : List ℕ) (f : T → List ℕ × List ℕ) (x : T) → Some (f x) ≡ cut_at 34 text → length (f x).1 < length text
-cut_is_shorter text f x e = subst (λ (o : Option (List ℕ × List ℕ)). IfSome {T = List ℕ × List ℕ} o (λ p. length p.1 < length text)) (sym e) (cut_shorter text)
+pub cut_is_shorter : {T : Type 0} (text : List ℕ) (f : T → List ℕ × List ℕ) (x : T) → Some (f x) ≡ cut_at 34 text
+    → length (f x).1 < length text
+cut_is_shorter text f x e = subst (λ (o : Option (List ℕ × List ℕ)). IfSome {T = List ℕ × List ℕ} o
+    (λ p. length p.1 < length text)) (sym e) (cut_shorter text)

@@ -33,8 +33,8 @@ pub fn push_plain(
     text.extend_from_slice(b"\n")
 }
 
-/// How each record with this first field begins: the field, in double quotes where CSV wants them, and a
-/// comma. The cost is linear in its bytes.
+/// How each record with this first field begins: the field, in double quotes where CSV wants them,
+/// and a comma. The cost is linear in its bytes.
 pub fn front_of(alloc: Global, first: &[u8]) -> Result<Vec<u8>, AllocError>
     ensures { IfOk result (λ front. front.items ≡ field_text first.now ++ comma ∷ []) }
 {
@@ -46,8 +46,8 @@ pub fn front_of(alloc: Global, first: &[u8]) -> Result<Vec<u8>, AllocError>
     Ok(front)
 }
 
-/// Adds a record that begins so and goes on with two texts that CSV writes as they are, as numbers are.
-/// After an `Err` some of it may be there. The cost is linear in their bytes.
+/// Adds a record that begins so and goes on with two texts that CSV writes as they are, as numbers
+/// are. After an `Err` some of it may be there. The cost is linear in their bytes.
 pub fn push_behind(
     text: &mut Vec<u8>,
     front: &[u8],
@@ -56,7 +56,8 @@ pub fn push_behind(
 ) -> Result<(), AllocError>
     requires second { IsPlain second.now }
     requires third { IsPlain third.now }
-    ensures { (first : List ℕ) → front.now ≡ field_text first ++ comma ∷ [] → OnOk result (text.new.items
+    ensures { (first : List ℕ) → front.now ≡ field_text first ++ comma ∷ []
+        → OnOk result (text.new.items
         ≡ text.old.items ++ record_text (first ∷ second.now ∷ third.now ∷ [])) }
 {
     text.extend_from_slice(front)?;

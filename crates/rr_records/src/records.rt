@@ -45,7 +45,8 @@ impl Records {
     ///
     /// As csv has it, a record of no field, or of one field that is empty, is written as `""`.
     pub fn push(&mut self, fields: &[&[u8]]) -> Result<(), AllocError>
-        ensures pushed { OnOk result (self.new ≡ self.old ++ record_text (map (λ field. field.now) fields.now)) }
+        ensures pushed { OnOk result (self.new ≡ self.old
+            ++ record_text (map (λ field. field.now) fields.now)) }
         ensures given_up { OnErr result (self.new ≡ []) }
     {
         // Over a vector, with records of any number of fields, csv refuses nothing but memory.

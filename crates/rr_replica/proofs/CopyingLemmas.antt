@@ -6,10 +6,10 @@ use Rattle.std.specs.Map.{keys_of}
 use Rattle.std.specs.Option.{option_map}
 use Rattle.rr_text.specs.Bytes.{bytes_cmp}
 use Rattle.rr_schema.specs.Schema.{Layout}
-use Rattle.rr_archive.specs.Cells.{Rows}
+use Rattle.rr_archive.specs.Cells.{ArchiveCells}
 use Rattle.rr_replica.specs.Archives.{AreSized}
-use Rattle.rr_cells.specs.Holding.{IsHolding}
-use Rattle.rr_replica.specs.Held.{archives_of, seen_archive, seen_at, held_series, AreAllSized, IsHeld}
+use Rattle.rr_cells.specs.ReplicaState.{IsReplicaState}
+use Rattle.rr_replica.specs.InMemory.{archives_of, seen_archive, seen_at, held_series, AreAllSized, IsReplicaInMemory}
 use Rattle.rr_replica.specs.Series.{cells_of}
 use Rattle.rr_cells.proofs.Local.{same_cells}
 use Rattle.rr_replica.proofs.Shown.{rows_shown, items_of, held_at}
@@ -21,18 +21,21 @@ pub take_none : {Y : Type 0} (xs : List Y) → take 0 xs ≡ []
 take_none [] = refl
 take_none (x ∷ xs) = refl
 
-module _ {X : Type 0} (cells : X → Rows) (limit : X → ℕ) where
-  abbrev pub seen : Vec X → List (Rows × ℕ)
+module _ {X : Type 0} (cells : X → ArchiveCells) (limit : X → ℕ) where
+  abbrev pub seen : Vec X → List (ArchiveCells × ℕ)
   seen v = map (seen_archive cells limit) v.items
 
   -- so many of the keys have copies of their archives, and no others are known
-  pub record AreCopied (keys : List (List ℕ)) (archives : List (Vec X)) (copied : List (List ℕ)) (indices : List (List ℕ × ℕ)) (copies : List (Vec X)) (i : ℕ) : Type 0 where
+  pub record AreCopied (keys : List (List ℕ)) (archives : List (Vec X)) (copied : List (List ℕ))
+      (indices : List (List ℕ × ℕ)) (copies : List (Vec X)) (i : ℕ) : Type 0 where
     pub keys_so_far : copied ≡ take i keys
     pub seen_so_far : map seen copies ≡ map seen (take i archives)
     pub indexed : IsIndexed copied indices copies
 
   -- the next key isn't known yet
-  pub not_yet : (keys : List (List ℕ)) (indices : List (List ℕ × ℕ)) (archives : List (Vec X)) (copied : List (List ℕ)) (more : List (List ℕ × ℕ)) (copies : List (Vec X)) (i : ℕ) (key : List ℕ) → IsIndexed keys indices archives → AreCopied keys archives copied more copies i → slice_get keys i ≡ Some key → index_of more key ≡ None
+  pub not_yet : (keys : List (List ℕ)) (indices : List (List ℕ × ℕ)) (archives : List (Vec X)) (copied : List (List ℕ))
+      (more : List (List ℕ × ℕ)) (copies : List (Vec X)) (i : ℕ) (key : List ℕ) → IsIndexed keys indices archives
+      → AreCopied keys archives copied more copies i → slice_get keys i ≡ Some key → index_of more key ≡ None
   not_yet keys indices archives copied more copies i key is c at = none (index_of more key) refl
     where
       none : (o : Option ℕ) → index_of more key ≡ o → o ≡ None
@@ -45,60 +48,73 @@ module _ {X : Type 0} (cells : X → Rows) (limit : X → ℕ) where
           absurd (let less = below.1 in omega (arith, equal, less))
 
   -- copies of all archives are seen at each key
-  pub copies_seen : (keys : List (List ℕ)) (indices : List (List ℕ × ℕ)) (archives : List (Vec X)) (more : List (List ℕ × ℕ)) (copies : List (Vec X)) → IsIndexed keys indices archives → IsIndexed keys more copies → map seen copies ≡ map seen archives → (key : List ℕ) → seen_at cells limit (entries_at more copies) key ≡ seen_at cells limit (entries_at indices archives) key
+  pub copies_seen : (keys : List (List ℕ)) (indices : List (List ℕ × ℕ)) (archives : List (Vec X))
+      (more : List (List ℕ × ℕ)) (copies : List (Vec X)) → IsIndexed keys indices archives → IsIndexed keys more copies
+      → map seen copies ≡ map seen archives → (key : List ℕ)
+      → seen_at cells limit (entries_at more copies) key ≡ seen_at cells limit (entries_at indices archives) key
   copies_seen keys indices archives more copies is now same key = by_index (index_of indices key) refl
     where
       other : index_of indices key ≡ None → (o : Option ℕ) → index_of more key ≡ o → o ≡ None
       other none None e = refl
-      other none (Some j) e = absurd (true≢false (ap is_some (sym (is.found j key (key_at keys more now.there key j e)) ∙ none)))
+      other none (Some j) e = absurd (true≢false (ap is_some
+          (sym (is.found j key (key_at keys more now.there key j e)) ∙ none)))
 
-      by_index : (o : Option ℕ) → index_of indices key ≡ o → seen_at cells limit (entries_at more copies) key ≡ seen_at cells limit (entries_at indices archives) key
+      by_index : (o : Option ℕ) → index_of indices key ≡ o
+          → seen_at cells limit (entries_at more copies) key ≡ seen_at cells limit (entries_at indices archives) key
       by_index None e =
           ap (option_map seen) (archives_nowhere keys more copies now key (sym (other e (index_of more key) refl)))
           ∙ sym (ap (option_map seen) (archives_nowhere keys indices archives is key (sym e)))
       by_index (Some i) e =
-          ap (option_map seen) (archives_found keys more copies now key i (sym (now.found i key (key_at keys indices is.there key i e))))
+          ap (option_map seen) (archives_found keys more copies now key i
+          (sym (now.found i key (key_at keys indices is.there key i e))))
           ∙ sym (slice_get-map seen copies i) ∙ ap (λ l. slice_get l i) same ∙ slice_get-map seen archives i
           ∙ sym (ap (option_map seen) (archives_found keys indices archives is key i (sym e)))
 
   -- ---- the replica over them
 
-  cells_from_seen : (o : Option (Vec X)) (i : ℕ) → held_at cells (items_of o) i ≡ held_at (λ (p : Rows × ℕ). p.0) (unwrap_or (option_map seen o) []) i
+  cells_from_seen : (o : Option (Vec X)) (i : ℕ) → held_at cells (items_of o) i
+      ≡ held_at (λ (p : ArchiveCells × ℕ). p.0) (unwrap_or (option_map seen o) []) i
   cells_from_seen None i = refl
   cells_from_seen (Some v) i = in_list v.items i
     where
-      in_list : (xs : List X) (i : ℕ) → held_at cells xs i ≡ held_at (λ (p : Rows × ℕ). p.0) (map (seen_archive cells limit) xs) i
+      in_list : (xs : List X) (i : ℕ) → held_at cells xs i
+          ≡ held_at (λ (p : ArchiveCells × ℕ). p.0) (map (seen_archive cells limit) xs) i
       in_list [] i = refl
       in_list (a ∷ xs) zero = refl
       in_list (a ∷ xs) (suc i) = in_list xs i
 
-  module _ (old new : List (List ℕ × Vec X)) (same : (key : List ℕ) → seen_at cells limit new key ≡ seen_at cells limit old key) (before : IsStrictlySortedBy bytes_cmp (keys_of old)) (after : IsStrictlySortedBy bytes_cmp (keys_of new)) where
+  module _ (old new : List (List ℕ × Vec X)) (same : (key : List ℕ)
+      → seen_at cells limit new key ≡ seen_at cells limit old key) (before : IsStrictlySortedBy bytes_cmp (keys_of old))
+      (after : IsStrictlySortedBy bytes_cmp (keys_of new)) where
     pub same_cells_copied : cells_of (held_series cells new) ≡ cells_of (held_series cells old)
     same_cells_copied = same_cells _ _ (λ key i.
         rows_shown cells new key i after
         ∙ cells_from_seen (archives_of new key) i
-        ∙ ap (λ o. held_at (λ (p : Rows × ℕ). p.0) (unwrap_or o []) i) (same key)
+        ∙ ap (λ o. held_at (λ (p : ArchiveCells × ℕ). p.0) (unwrap_or o []) i) (same key)
         ∙ sym (cells_from_seen (archives_of old key) i)
         ∙ sym (rows_shown cells old key i before))
 
     same_sizes : (s : Layout) → AreAllSized limit s old → AreAllSized limit s new
     same_sizes s sized key archives at = was (archives_of old key) refl (sym (ap (option_map seen) at) ∙ same key)
       where
-        limits : (xs : List X) → map limit xs ≡ map (λ (p : Rows × ℕ). p.1) (map (seen_archive cells limit) xs)
+        limits : (xs : List X) → map limit xs ≡ map (λ (p : ArchiveCells × ℕ). p.1) (map (seen_archive cells limit) xs)
         limits [] = refl
         limits (a ∷ xs) = ap (λ ls. limit a ∷ ls) (limits xs)
 
-        was : (o : Option (Vec X)) → archives_of old key ≡ o → Some (seen archives) ≡ option_map seen o → AreSized limit s archives.items
+        was : (o : Option (Vec X)) → archives_of old key ≡ o → Some (seen archives) ≡ option_map seen o
+            → AreSized limit s archives.items
         was None e f = absurd (true≢false (ap is_some f))
         was (Some v) e f =
             limits archives.items
-            ∙ ap (map (λ (p : Rows × ℕ). p.1)) (ap (λ o. unwrap_or o []) f)
+            ∙ ap (map (λ (p : ArchiveCells × ℕ). p.1)) (ap (λ o. unwrap_or o []) f)
             ∙ sym (limits v.items)
             ∙ sized key v e
 
-    pub held_copied : (s : Layout) (origin next : ℕ) → IsHeld cells limit s origin next old → IsHeld cells limit s origin next new
+    pub held_copied : (s : Layout) (origin next : ℕ) → IsReplicaInMemory cells limit s origin next old
+        → IsReplicaInMemory cells limit s origin next new
     held_copied s origin next held = record {
-      holds = subst (λ m. IsHolding (record { schema = s; origin = origin; next = next; cells = m })) (sym same_cells_copied) held.holds;
+      holds = subst (λ m. IsReplicaState (record { schema = s; origin = origin; next = next; cells = m }))
+          (sym same_cells_copied) held.holds;
       sized = same_sizes s held.sized;
       ordered = after;
     }

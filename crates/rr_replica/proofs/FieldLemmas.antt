@@ -6,19 +6,23 @@ use Rattle.std.specs.Result.{is_err}
 use Rattle.std.specs.List.{AllByRecursion}
 use Rattle.rr_point.specs.Key.{key_text}
 use Rattle.rr_point.specs.Point.{PointView}
-use Rattle.rr_cells.specs.Holding.{Holding, with_put}
+use Rattle.rr_cells.specs.ReplicaState.{ReplicaState, with_put}
 use Rattle.rr_replica.specs.Writing.{with_fields, WritingGoesOn}
 
 -- fields and then others
-pub with_fields-append : (h : Holding) (p : PointView) (time : ℤ) (fields others : List (List ℕ × ℤ)) → with_fields h p time (fields ++ others) ≡ with_fields (with_fields h p time fields) p time others
+pub with_fields-append : (h : ReplicaState) (p : PointView) (time : ℤ) (fields others : List (List ℕ × ℤ))
+    → with_fields h p time (fields ++ others) ≡ with_fields (with_fields h p time fields) p time others
 with_fields-append h p time [] others = refl
-with_fields-append h p time (field ∷ fields) others = with_fields-append (with_put h (key_text p field.0) time field.1) p time fields others
+with_fields-append h p time (field ∷ fields) others =
+    with_fields-append (with_put h (key_text p field.0) time field.1) p time fields others
 
 pub writing_goes_on : WritingGoesOn
-writing_goes_on h p time fields n = sym (with_fields-append h p time (take n fields) (drop n fields)) ∙ ap (with_fields h p time) (take-append-drop n fields)
+writing_goes_on h p time fields n = sym (with_fields-append h p time (take n fields) (drop n fields))
+    ∙ ap (with_fields h p time) (take-append-drop n fields)
 
 -- what holds of each field of a point holds of the one at a place
-pub field_at : {A B : Type 0} (P : B → Type 0) (view : A → B) (xs : List A) (i : ℕ) (d : A) → AllByRecursion P (map view xs) → i < length xs → P (view (get_or xs i d))
+pub field_at : {A B : Type 0} (P : B → Type 0) (view : A → B) (xs : List A) (i : ℕ) (d : A)
+    → AllByRecursion P (map view xs) → i < length xs → P (view (get_or xs i d))
 field_at P view [] i d all lt = absurd (omega arith)
 field_at P view (x ∷ xs) zero d all lt = all.0
 field_at P view (x ∷ xs) (suc i) d all lt = field_at P view xs i d all.1 (omega arith)

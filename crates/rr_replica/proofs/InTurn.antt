@@ -14,28 +14,39 @@ use Rattle.rr_replica.proofs.Counted.{past_end, take_all}
 use Rattle.rr_replica.proofs.NextCell.{is_past, first_past}
 
 -- of cells in order the first after one of them is the one behind it
-pub next_of_sorted : (es : List NamedCell) (i : ℕ) (e : NamedCell) → T (is_sorted cell_name_cmp es) → slice_get es i ≡ Some e → find (is_past e.0) es ≡ slice_get es (i + 1)
+pub next_of_sorted : (es : List NamedCell) (i : ℕ) (e : NamedCell) → T (is_sorted cell_name_cmp es)
+    → slice_get es i ≡ Some e → find (is_past e.0) es ≡ slice_get es (i + 1)
 next_of_sorted [] i e sorted at = absurd cc
 next_of_sorted (x ∷ es) zero e sorted at =
     let same : x ≡ e = ap (λ o. unwrap_or o x) at in
     subst (λ y. find (is_past y.0) (x ∷ es) ≡ slice_get es 0) same
-    (ap (λ r. cond (is_lt r) (Some x) (find (is_past x.0) es)) (tied_itself cell_name_cmp_total x.0) ∙ first_past x.0 es (all_above x.0 es (first_T _ _ sorted)))
+    (ap (λ r. cond (is_lt r) (Some x) (find (is_past x.0) es)) (tied_itself cell_name_cmp_total x.0)
+    ∙ first_past x.0 es (all_above x.0 es (first_T _ _ sorted)))
   where
-    all_above : (n : CellName) (fs : List NamedCell) → T (below_all cell_name_cmp n fs) → AllByRecursion (λ f. is_past n f ≡ true) fs
+    all_above : (n : CellName) (fs : List NamedCell) → T (below_all cell_name_cmp n fs)
+        → AllByRecursion (λ f. is_past n f ≡ true) fs
     all_above n [] below = tt
-    all_above n (f ∷ fs) below = (true_from_T (is_past n f) (first_T (is_past n f) (below_all cell_name_cmp n fs) below), all_above n fs (second_T (is_past n f) (below_all cell_name_cmp n fs) below))
+    all_above n (f ∷ fs) below = (
+      true_from_T (is_past n f)
+          (first_T (is_past n f) (below_all cell_name_cmp n fs) below),
+      all_above n fs (second_T (is_past n f) (below_all cell_name_cmp n fs) below),
+    )
 next_of_sorted (x ∷ es) (suc i) e sorted at =
-    ap (λ b. cond b (Some x) (find (is_past e.0) es)) (not_past (below_at es i at (first_T (below_all cell_name_cmp x.0 es) _ sorted)))
+    ap (λ b. cond b (Some x) (find (is_past e.0) es))
+    (not_past (below_at es i at (first_T (below_all cell_name_cmp x.0 es) _ sorted)))
     ∙ next_of_sorted es i e (second_T (below_all cell_name_cmp x.0 es) _ sorted) at
     ∙ ap (slice_get (x ∷ es)) (one_more i)
   where
     one_more : (k : ℕ) → suc (k + 1) ≡ suc k + 1
     one_more k = omega arith
 
-    below_at : (fs : List NamedCell) (k : ℕ) → slice_get fs k ≡ Some e → T (below_all cell_name_cmp x.0 fs) → is_past x.0 e ≡ true
+    below_at : (fs : List NamedCell) (k : ℕ) → slice_get fs k ≡ Some e → T (below_all cell_name_cmp x.0 fs)
+        → is_past x.0 e ≡ true
     below_at [] k at below = absurd cc
-    below_at (f ∷ fs) zero at below = ap (λ o. is_past x.0 (unwrap_or o f)) (sym at) ∙ true_from_T (is_past x.0 f) (first_T (is_past x.0 f) (below_all cell_name_cmp x.0 fs) below)
-    below_at (f ∷ fs) (suc k) at below = below_at fs k at (second_T (is_past x.0 f) (below_all cell_name_cmp x.0 fs) below)
+    below_at (f ∷ fs) zero at below = ap (λ o. is_past x.0 (unwrap_or o f)) (sym at)
+        ∙ true_from_T (is_past x.0 f) (first_T (is_past x.0 f) (below_all cell_name_cmp x.0 fs) below)
+    below_at (f ∷ fs) (suc k) at below = below_at fs k at
+        (second_T (is_past x.0 f) (below_all cell_name_cmp x.0 fs) below)
 
     not_past : is_past x.0 e ≡ true → is_past e.0 x ≡ false
     not_past less = ap is_lt (cell_name_cmp_total.antisymm e.0 x.0) ∙ reversed (cell_name_cmp x.0 e.0) less
@@ -46,7 +57,8 @@ next_of_sorted (x ∷ es) (suc i) e sorted at =
         reversed Greater h = absurd cc
 
 -- one cell more of those from a place on
-pub taken_more : (es : List NamedCell) (from i : ℕ) (e : NamedCell) → slice_get es (from + i) ≡ Some e → take (i + 1) (drop from es) ≡ take i (drop from es) ++ e ∷ []
+pub taken_more : (es : List NamedCell) (from i : ℕ) (e : NamedCell) → slice_get es (from + i) ≡ Some e
+    → take (i + 1) (drop from es) ≡ take i (drop from es) ++ e ∷ []
 taken_more es zero i e at = from_start es i (ap (slice_get es) (from_zero i) ∙ at)
   where
     one_more : (k : ℕ) → suc k + 1 ≡ suc (k + 1)
@@ -70,7 +82,8 @@ map-last f [] x = refl
 map-last f (y ∷ xs) x = ap (λ l. f y ∷ l) (map-last f xs x)
 
 -- there are no more
-pub taken_all : (es : List NamedCell) (from i count : ℕ) → slice_get es (from + i) ≡ None → i ≤ count → take i (drop from es) ≡ take count (drop from es)
+pub taken_all : (es : List NamedCell) (from i count : ℕ) → slice_get es (from + i) ≡ None → i ≤ count
+    → take i (drop from es) ≡ take count (drop from es)
 taken_all es from i count at few =
     let past = past_end es (from + i) at in
     let left : length (drop from es) ≤ i = simp length-drop (omega arith) in

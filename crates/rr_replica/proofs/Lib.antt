@@ -1,7 +1,7 @@
 pub mod SeriesLemmas
 pub mod Each
 pub mod Shown
-pub mod HeldLemmas
+pub mod InMemoryLemmas
 pub mod InOrder
 pub mod Counted
 pub mod NextCell

@@ -8,7 +8,7 @@ use Rattle.rr_contrib.specs.Contributions.{SlotSample, slot_sample}
 use Rattle.rr_contrib.specs.Validity.{CanAdd}
 use Rattle.std.specs.Prelude.{IfSome}
 use Rattle.rr_archive.specs.CellSlots.{CellSlot, cell_slot}
-use Rattle.rr_archive.specs.Cells.{Rows, put_row, join_cell}
+use Rattle.rr_archive.specs.Cells.{ArchiveCells, put_in_archive, join_cell}
 use Rattle.rr_replica.specs.declared.reading.Reading.{Reading}
 use Rattle.rr_cells.specs.declared.cell.Cell.{Cell}
 use Rattle.rr_cells.specs.declared.op.Op.{Op}
@@ -48,30 +48,34 @@ module _ {X : Type 0} where
     pub sized : AreSized limit s archives
 
   -- a sample of this number can be added to the cell where it falls
-  abbrev pub CanTake : (X → Rows) → Layout → Reading → List X → Type 0
+  abbrev pub CanTake : (X → ArchiveCells) → Layout → Reading → List X → Type 0
   CanTake cells s x archives = Each (λ i a. IfSome (get (cells a) (cell_slot_for s x i)) (CanAdd x.number)) archives
 
   -- each archive from the one with a number on has room for a sample of a time and an origin
   abbrev pub AreReadyFrom : ℕ → (X → CellSlot → Bool) → Layout → ℤ → ℕ → List X → Type 0
-  AreReadyFrom first is_ready s time origin archives = Each (λ i a. first ≤ i → IsTrue (is_ready a (cell_slot (slot_of s i time) origin))) archives
+  AreReadyFrom first is_ready s time origin archives =
+      Each (λ i a. first ≤ i → IsTrue (is_ready a (cell_slot (slot_of s i time) origin))) archives
 
   -- the archives of its key have room for an operation
   abbrev pub HaveRoomFor : (X → CellSlot → Bool) → Layout → Op → List X → Type 0
   HaveRoomFor is_ready s (Put x) archives = AreReadyFrom 0 is_ready s x.time x.origin archives
-  HaveRoomFor is_ready s (Join c) archives = (a : X) → slice_get archives c.archive ≡ Some a → IsTrue (is_ready a (cell_slot c.slot c.origin))
+  HaveRoomFor is_ready s (Join c) archives = (a : X) → slice_get archives c.archive ≡ Some a
+      → IsTrue (is_ready a (cell_slot c.slot c.origin))
 
   -- as many archives, with the same cells
-  pub record AreSame (cells : X → Rows) (old new : List X) : Type 0 where
+  pub record AreSame (cells : X → ArchiveCells) (old new : List X) : Type 0 where
     pub many : length new ≡ length old
     pub each : EachPair (λ i a b. cells b ≡ cells a) old new
 
   -- as many archives, each with the sample put
-  pub record HavePut (cells : X → Rows) (s : Layout) (x : Reading) (old new : List X) : Type 0 where
+  pub record HavePut (cells : X → ArchiveCells) (s : Layout) (x : Reading) (old new : List X) : Type 0 where
     pub many : length new ≡ length old
-    pub each : EachPair (λ i a b. cells b ≡ put_row (archive_at s i).rows (cells a) (cell_slot_for s x i) (sample_for s x i)) old new
+    pub each : EachPair (λ i a b. cells b ≡ put_in_archive (archive_at s i).rows (cells a) (cell_slot_for s x i)
+        (sample_for s x i)) old new
 
   -- as many archives, with the cell joined into its own
-  pub record HaveJoined (cells : X → Rows) (limit : X → ℕ) (c : Cell) (old new : List X) : Type 0 where
+  pub record HaveJoined (cells : X → ArchiveCells) (limit : X → ℕ) (c : Cell) (old new : List X) : Type 0 where
     pub many : length new ≡ length old
-    pub here : (a b : X) → slice_get old c.archive ≡ Some a → slice_get new c.archive ≡ Some b → cells b ≡ join_cell (limit a) (cells a) (cell_slot c.slot c.origin) c.contribution
+    pub here : (a b : X) → slice_get old c.archive ≡ Some a → slice_get new c.archive ≡ Some b
+        → cells b ≡ join_cell (limit a) (cells a) (cell_slot c.slot c.origin) c.contribution
     pub others : EachPair (λ i a b. i ≢ c.archive → cells b ≡ cells a) old new

@@ -4,7 +4,7 @@ pub mod Joining
 pub mod Archives
 pub mod Indexed
 pub mod SeriesMap
-pub mod Held
-pub mod Standing
+pub mod InMemory
+pub mod ReplicaWithRoom
 pub mod Writing
 pub mod Fault

@@ -5,17 +5,17 @@ use Rattle.rr_point.specs.Key.{key_text}
 use Rattle.rr_point.specs.Point.{PointView}
 use Rattle.rr_replica.specs.declared.fault.WriteFault.{WriteFault}
 use Rattle.rr_replica.specs.declared.fault.WriteFault.TheVariants as why
-use Rattle.rr_cells.specs.Holding.{Holding, with_put}
+use Rattle.rr_cells.specs.ReplicaState.{ReplicaState, with_put}
 
 -- with a sample of each of these fields put, in order
-abbrev pub with_fields : Holding → PointView → ℤ → List (List ℕ × ℤ) → Holding
+abbrev pub with_fields : ReplicaState → PointView → ℤ → List (List ℕ × ℤ) → ReplicaState
 with_fields h p time [] = h
 with_fields h p time (field ∷ fields) = with_fields (with_put h (key_text p field.0) time field.1) p time fields
 
 -- to put the first of some fields and then the rest is to put them all
 abbrev pub WritingGoesOn : Type 0
 WritingGoesOn =
-    (h : Holding) (p : PointView) (time : ℤ) (fields : List (List ℕ × ℤ)) (n : ℕ)
+    (h : ReplicaState) (p : PointView) (time : ℤ) (fields : List (List ℕ × ℤ)) (n : ℕ)
     → with_fields (with_fields h p time (take n fields)) p time (drop n fields) ≡ with_fields h p time fields
 
 -- whether a point's own time is later than the clock's by more than the lead
@@ -25,15 +25,16 @@ is_ahead (Some time) now None = false
 is_ahead (Some time) now (Some lead) = int_lt (now +ℤ pos lead) time
 
 -- whether fewer numbers are left than these
-abbrev pub lacks_numbers : Holding → ℕ → Bool
+abbrev pub lacks_numbers : ReplicaState → ℕ → Bool
 lacks_numbers h count = nat_lt (MAX_NUMBER + 1 - h.next) count
 
 -- what a refused write leaves: the same, or, where memory ran out, the first fields put
-abbrev pub IsAfterRefusal : Holding → Holding → PointView → ℤ → WriteFault → Type 0
+abbrev pub IsAfterRefusal : ReplicaState → ReplicaState → PointView → ℤ → WriteFault → Type 0
 IsAfterRefusal old new p time why.AheadOfClock = new ≡ old
 IsAfterRefusal old new p time why.NumbersSpent = new ≡ old
 IsAfterRefusal old new p time (why.Memory put) = new ≡ with_fields old p time (take put p.fields)
 
 -- memory ran out after the first fields
-abbrev pub IsMemoryAfter : Holding → Holding → PointView → ℤ → WriteFault → Type 0
-IsMemoryAfter old new p time fault = (put : ℕ) × (fault ≡ why.Memory put) × (new ≡ with_fields old p time (take put p.fields))
+abbrev pub IsMemoryAfter : ReplicaState → ReplicaState → PointView → ℤ → WriteFault → Type 0
+IsMemoryAfter old new p time fault = (put : ℕ) × (fault ≡ why.Memory put)
+    × (new ≡ with_fields old p time (take put p.fields))

@@ -3,7 +3,7 @@ ghost use Rattle.std.specs.Prelude.{◌≡◌, IsTrue, IfOk, IsOk, OnOk, OnErr};
 ghost use Rattle.rr_replica.specs.Archives.{IsOpOf};
 ghost use Rattle.rr_cells.specs.Operations.{accepts, step};
 ghost use Rattle.rr_cells.specs.declared.op.Op.TheVariants.{Join, Put};
-ghost use Rattle.rr_replica.specs.Standing.{held, IsReadyFor};
+ghost use Rattle.rr_replica.specs.ReplicaWithRoom.{replica_state, IsReadyFor};
 
 use crate::hint::Hint;
 use crate::reading::Reading;
@@ -16,7 +16,7 @@ use std::alloc::AllocError;
 impl<A: Cells> Replica<A> {
     /// Whether the replica takes an operation.
     pub(crate) fn accepts(&self, op: &Op) -> bool
-        ensures accepted { result ≡ accepts (held self.now) op.now }
+        ensures accepted { result ≡ accepts (replica_state self.now) op.now }
         ensures op { IsTrue result → IsOpOf self.now.schema op.now }
     {
         match op {
@@ -27,11 +27,11 @@ impl<A: Cells> Replica<A> {
 
     /// Whether the replica takes a sample.
     fn accepts_sample(&self, sample: &Sample) -> bool
-        ensures accepted { result ≡ accepts (held self.now) (Put sample.now) }
+        ensures accepted { result ≡ accepts (replica_state self.now) (Put sample.now) }
         ensures op { IsTrue result → IsOpOf self.now.schema (Put sample.now) }
     {
-        // The proof needs what the replica keeps to, which `schema` ensures, and that the time is one of
-        // 64 bits.
+        // The proof needs what the replica keeps to, which `schema` ensures, and that the time is
+        // one of 64 bits.
         let _schema = self.schema();
         let _time = sample.time;
         sample.origin == self.origin()
@@ -42,24 +42,27 @@ impl<A: Cells> Replica<A> {
     /// Takes an operation whole: a sample is put under its number, and the next one comes after it;
     /// a cell is joined as [`Replica::join_cell`] does. The answer is whether it is taken.
     ///
-    /// It isn't, and nothing changes, where a sample is of another origin, or its number is below the
-    /// next one or above 2^40, or where a cell is none of the schema's or not valid. After an error
-    /// nothing has changed; after [`Replica::ready`] of the same operation there is none. The cost is
-    /// that of [`Replica::put`] or [`Replica::join_cell`].
+    /// It isn't, and nothing changes, where a sample is of another origin, or its number is below
+    /// the next one or above 2^40, or where a cell is none of the schema's or not valid. After an
+    /// error nothing has changed; after [`Replica::ready`] of the same operation there is none. The
+    /// cost is that of [`Replica::put`] or [`Replica::join_cell`].
     pub fn apply(&mut self, op: &Op) -> Result<bool, AllocError>
-        ensures accepted { IfOk result (λ done. done ≡ accepts (held self.old) op.now) }
-        ensures applied { OnOk result (held self.new ≡ step (held self.old) op.now) }
-        ensures unchanged { OnErr result (held self.new ≡ held self.old) }
+        ensures accepted { IfOk result (λ done. done ≡ accepts (replica_state self.old) op.now) }
+        ensures applied { OnOk result (replica_state self.new
+            ≡ step (replica_state self.old) op.now) }
+        ensures unchanged { OnErr result (replica_state self.new ≡ replica_state self.old) }
         ensures room { IsReadyFor self.old op.now → IsOk result }
     {
         self.apply_near(Hint::none(), op)
     }
 
-    /// Takes an operation as [`Replica::apply`] does, with a hint where its series is, which spares the look-up of the key.
+    /// Takes an operation as [`Replica::apply`] does, with a hint where its series is, which spares
+    /// the look-up of the key.
     pub fn apply_near(&mut self, hint: Hint, op: &Op) -> Result<bool, AllocError>
-        ensures accepted { IfOk result (λ done. done ≡ accepts (held self.old) op.now) }
-        ensures applied { OnOk result (held self.new ≡ step (held self.old) op.now) }
-        ensures unchanged { OnErr result (held self.new ≡ held self.old) }
+        ensures accepted { IfOk result (λ done. done ≡ accepts (replica_state self.old) op.now) }
+        ensures applied { OnOk result (replica_state self.new
+            ≡ step (replica_state self.old) op.now) }
+        ensures unchanged { OnErr result (replica_state self.new ≡ replica_state self.old) }
         ensures room { IsReadyFor self.old op.now → IsOk result }
     {
         match op {
@@ -71,9 +74,11 @@ impl<A: Cells> Replica<A> {
     /// Takes a sample as [`Replica::apply`] takes the operation that puts it, with a hint where its
     /// series is.
     pub fn apply_sample(&mut self, hint: Hint, sample: &Sample) -> Result<bool, AllocError>
-        ensures accepted { IfOk result (λ done. done ≡ accepts (held self.old) (Put sample.now)) }
-        ensures applied { OnOk result (held self.new ≡ step (held self.old) (Put sample.now)) }
-        ensures unchanged { OnErr result (held self.new ≡ held self.old) }
+        ensures accepted { IfOk result (λ done. done
+            ≡ accepts (replica_state self.old) (Put sample.now)) }
+        ensures applied { OnOk result (replica_state self.new
+            ≡ step (replica_state self.old) (Put sample.now)) }
+        ensures unchanged { OnErr result (replica_state self.new ≡ replica_state self.old) }
         ensures room { IsReadyFor self.old (Put sample.now) → IsOk result }
     {
         if !self.accepts_sample(sample) {
@@ -91,9 +96,11 @@ impl<A: Cells> Replica<A> {
 
     /// Takes a cell as [`Replica::apply`] takes the operation that joins it.
     pub fn apply_cell(&mut self, cell: &Cell) -> Result<bool, AllocError>
-        ensures accepted { IfOk result (λ done. done ≡ accepts (held self.old) (Join cell.now)) }
-        ensures applied { OnOk result (held self.new ≡ step (held self.old) (Join cell.now)) }
-        ensures unchanged { OnErr result (held self.new ≡ held self.old) }
+        ensures accepted { IfOk result (λ done. done
+            ≡ accepts (replica_state self.old) (Join cell.now)) }
+        ensures applied { OnOk result (replica_state self.new
+            ≡ step (replica_state self.old) (Join cell.now)) }
+        ensures unchanged { OnErr result (replica_state self.new ≡ replica_state self.old) }
         ensures room { IsReadyFor self.old (Join cell.now) → IsOk result }
     {
         if !cell.is_of(self.schema()) {

@@ -35,10 +35,13 @@ fn make_ready<A: Cells>(
 ) -> Result<(), AllocError>
     requires of_schema { AreOf A.row_limit schema.now archives.old.items }
     ensures unchanged { AreSame A.cells archives.old.items archives.new.items }
-    ensures before { (i : ℕ) → i < first → slice_get archives.new.items i ≡ slice_get archives.old.items i }
+    ensures before { (i : ℕ) → i < first → slice_get archives.new.items i
+        ≡ slice_get archives.old.items i }
     ensures of_schema { AreOf A.row_limit schema.now archives.new.items }
-    ensures ready { OnOk result (AreReadyFrom first A.is_ready schema.now time origin archives.new.items) }
-    ensures kept { AreReadyFrom first A.is_ready schema.now time origin archives.old.items → IsOk result }
+    ensures ready { OnOk result (AreReadyFrom first A.is_ready schema.now time origin
+        archives.new.items) }
+    ensures kept { AreReadyFrom first A.is_ready schema.now time origin archives.old.items
+        → IsOk result }
 {
     for i in first..archives.len() {
         let newest = archives[i].newest();
@@ -57,11 +60,14 @@ fn put_ready<A: Cells>(
 ) -> Result<(), AllocError>
     requires of_schema { AreOf A.row_limit schema.now archives.old.items }
     requires newer { CanTake A.cells schema.now sample.now archives.old.items }
-    requires ready { AreReadyFrom 1 A.is_ready schema.now sample.now.time sample.now.origin archives.old.items }
-    ensures put { OnOk result (HavePut A.cells schema.now sample.now archives.old.items archives.new.items) }
+    requires ready { AreReadyFrom 1 A.is_ready schema.now sample.now.time sample.now.origin
+        archives.old.items }
+    ensures put { OnOk result (HavePut A.cells schema.now sample.now archives.old.items
+        archives.new.items) }
     ensures unchanged { OnErr result (AreSame A.cells archives.old.items archives.new.items) }
     ensures of_schema { AreOf A.row_limit schema.now archives.new.items }
-    ensures room { AreReadyFrom 0 A.is_ready schema.now sample.now.time sample.now.origin archives.old.items → IsOk result }
+    ensures room { AreReadyFrom 0 A.is_ready schema.now sample.now.time sample.now.origin
+        archives.old.items → IsOk result }
 {
     for i in 0..archives.len() {
         let newest = archives[i].newest();
@@ -87,10 +93,12 @@ pub(crate) fn put_into<A: Cells>(
 ) -> Result<(), AllocError>
     requires of_schema { AreOf A.row_limit schema.now archives.old.items }
     requires newer { CanTake A.cells schema.now sample.now archives.old.items }
-    ensures put { OnOk result (HavePut A.cells schema.now sample.now archives.old.items archives.new.items) }
+    ensures put { OnOk result (HavePut A.cells schema.now sample.now archives.old.items
+        archives.new.items) }
     ensures unchanged { OnErr result (AreSame A.cells archives.old.items archives.new.items) }
     ensures of_schema { AreOf A.row_limit schema.now archives.new.items }
-    ensures room { AreReadyFrom 0 A.is_ready schema.now sample.now.time sample.now.origin archives.old.items → IsOk result }
+    ensures room { AreReadyFrom 0 A.is_ready schema.now sample.now.time sample.now.origin
+        archives.old.items → IsOk result }
 {
     make_ready(archives, schema, sample.time, sample.origin, 1)?;
     put_ready(archives, schema, sample)
@@ -104,10 +112,12 @@ pub(crate) fn join_into<A: Cells>(
 ) -> Result<(), AllocError>
     requires of_schema { AreOf A.row_limit schema.now archives.old.items }
     requires cell { IsCellOf schema.now (owned_cell cell.now) }
-    ensures joined { OnOk result (HaveJoined A.cells A.row_limit cell.now archives.old.items archives.new.items) }
+    ensures joined { OnOk result (HaveJoined A.cells A.row_limit cell.now archives.old.items
+        archives.new.items) }
     ensures unchanged { OnErr result (AreSame A.cells archives.old.items archives.new.items) }
     ensures of_schema { AreOf A.row_limit schema.now archives.new.items }
-    ensures room { HaveRoomFor A.is_ready schema.now (Op.Join cell.now) archives.old.items → IsOk result }
+    ensures room { HaveRoomFor A.is_ready schema.now (Op.Join cell.now) archives.old.items
+        → IsOk result }
 {
     // It is the cell's own slot, since the cell is valid; as that of a time it is within bounds.
     let slot = schema.slot(cell.archive, cell.contribution.last_time);
@@ -125,7 +135,8 @@ fn make_cell_ready<A: Cells>(
     requires cell { IsCellOf schema.now (owned_cell cell.now) }
     ensures unchanged { AreSame A.cells archives.old.items archives.new.items }
     ensures of_schema { AreOf A.row_limit schema.now archives.new.items }
-    ensures room { OnOk result (HaveRoomFor A.is_ready schema.now (Op.Join cell.now) archives.new.items) }
+    ensures room { OnOk result (HaveRoomFor A.is_ready schema.now (Op.Join cell.now)
+        archives.new.items) }
 {
     let slot = schema.slot(cell.archive, cell.contribution.last_time);
     let archive = &mut archives[cell.archive as usize];

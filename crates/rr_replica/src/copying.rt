@@ -1,6 +1,6 @@
 //! Copies of the archives of all keys.
 ghost use Rattle.std.specs.Prelude.{◌≡◌, ℕ, List, map, IfOk};
-ghost use Rattle.rr_replica.specs.Held.{seen_archive, seen_at};
+ghost use Rattle.rr_replica.specs.InMemory.{seen_archive, seen_at};
 ghost use Rattle.rr_replica.specs.SeriesMap.{entries_of, IsIndexed};
 
 use crate::series::SeriesMap;
@@ -26,7 +26,8 @@ pub(crate) fn copy_series<A: Cells>(
 ) -> Result<SeriesMap<A>, AllocError>
     requires { IsIndexed series.now }
     ensures same { IfOk result (λ new. (key : List ℕ)
-        → seen_at A.cells A.row_limit (entries_of new) key ≡ seen_at A.cells A.row_limit (entries_of series.now) key) }
+        → seen_at A.cells A.row_limit (entries_of new) key
+        ≡ seen_at A.cells A.row_limit (entries_of series.now) key) }
     ensures indexed { IfOk result IsIndexed }
 {
     let mut copies = SeriesMap::new(alloc);

@@ -6,7 +6,7 @@ ghost use Rattle.rr_cells.specs.Cells.{IsTrimmed};
 ghost use Rattle.rr_cells.specs.Joins.{join_cell};
 ghost use Rattle.rr_cells.specs.CellBounds.{IsCellOf};
 ghost use Rattle.rr_cells.specs.Joining.{next_after};
-ghost use Rattle.rr_replica.specs.Held.{held_series, HasRoom, AreAllSized};
+ghost use Rattle.rr_replica.specs.InMemory.{held_series, HasRoom, AreAllSized};
 ghost use Rattle.rr_cells.specs.Listing.{owned_cell};
 ghost use Rattle.rr_replica.specs.Series.{cells_of};
 ghost use Rattle.rr_replica.specs.SeriesMap.{entries_of, IsIndexed};
@@ -31,11 +31,13 @@ pub(crate) fn join_in<A: Cells>(
     requires sized { AreAllSized A.row_limit schema.now (entries_of series.old) }
     requires indexed { IsIndexed series.old }
     ensures joined { OnOk result (cells_of (held_series A.cells (entries_of series.new))
-        ≡ join_cell schema.now (cells_of (held_series A.cells (entries_of series.old))) (owned_cell cell.now).0 cell.now.contribution) }
+        ≡ join_cell schema.now (cells_of (held_series A.cells (entries_of series.old)))
+        (owned_cell cell.now).0 cell.now.contribution) }
     ensures unchanged { OnErr result (cells_of (held_series A.cells (entries_of series.new))
         ≡ cells_of (held_series A.cells (entries_of series.old))) }
     ensures sized { AreAllSized A.row_limit schema.now (entries_of series.new) }
-    ensures room { HasRoom A.is_ready schema.now (Op.Join cell.now) (entries_of series.old) → IsOk result }
+    ensures room { HasRoom A.is_ready schema.now (Op.Join cell.now) (entries_of series.old)
+        → IsOk result }
     ensures indexed { IsIndexed series.new }
 {
     match series.find(&cell.key) {

@@ -7,7 +7,8 @@ pub use rr_cells::laws::{
     live_cells_are_few, puts_go_by_archives, whole_cells_make_their_cells,
 };
 
-/// To put some fields of a point, and then the rest of them where memory ran out, is to put them all.
+/// To put some fields of a point, and then the rest of them where memory ran out, is to put them
+/// all.
 pub fn writing_goes_on()
     ensures { WritingGoesOn }
 {}

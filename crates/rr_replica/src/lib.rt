@@ -3,9 +3,10 @@
 //! A [`Replica`] has a schema and an origin, and for each key an archive for each of the schema's.
 //! It is seen as one finite map from the names of cells to contributions, as `rr_cells` has it,
 //! whatever the archives are made of. A sample that is put gets the replica's next number, and in
-//! each archive it is added to the cell that its time falls in. Of a [`Cell`] from elsewhere and what
-//! stands at its name the greater is kept, and the next number moves past a cell of the replica's
-//! own origin. Cells are listed in the order of their names, from a place on or after a name.
+//! each archive it is added to the cell that its time falls in. Of a [`Cell`] from elsewhere and
+//! what stands at its name the greater is kept, and the next number moves past a cell of the
+//! replica's own origin. Cells are listed in the order of their names, from a place on or after a
+//! name.
 //!
 //! Either of the two steps is an [`Op`] too, as a value. Room for it is made before it is applied,
 //! which then can't fail (`specs/Standing.antt`).

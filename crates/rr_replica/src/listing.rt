@@ -5,7 +5,7 @@ ghost use Rattle.rr_archive.specs.Cells.{cell_of};
 ghost use Rattle.rr_cells.specs.Cells.{name_at};
 ghost use Rattle.rr_text.specs.Bytes.{bytes_cmp};
 ghost use Rattle.rr_replica.specs.Series.{cells_from, cells_of};
-ghost use Rattle.rr_replica.specs.Held.{held_series};
+ghost use Rattle.rr_replica.specs.InMemory.{held_series};
 ghost use Rattle.rr_replica.specs.SeriesMap.{entries_of};
 ghost use Rattle.std.specs.List.{AllByRecursion};
 ghost use Rattle.std.specs.List.Sorted.{IsStrictlySortedBy};
@@ -64,7 +64,8 @@ pub(crate) fn nth_in<'a, A: Cells>(
     number: usize,
 ) -> Result<CellRef<'a>, usize>
     requires { length archives.now ≤ MAX_ARCHIVES }
-    ensures found { IfOk result (λ c. slice_get (cells_from key.now 0 (map A.cells archives.now)) number ≡ Some (seen_cell c)) }
+    ensures found { IfOk result (λ c. slice_get (cells_from key.now 0 (map A.cells archives.now))
+        number ≡ Some (seen_cell c)) }
     ensures past { IfErr result (λ left. number ≡ count_of (map A.cells archives.now) + left) }
 {
     let mut left = number;
@@ -80,7 +81,8 @@ pub(crate) fn nth_in<'a, A: Cells>(
 /// How many cells all series hold, as `count_in` counts.
 pub(crate) fn count_cells<A: Cells>(series: &SeriesMap<A>) -> usize
     requires { IsStrictlySortedBy bytes_cmp (keys_of (entries_of series.now)) }
-    ensures { result ≡ at_most_usize (fin.len (cells_of (held_series A.cells (entries_of series.now)))) }
+    ensures { result ≡ at_most_usize (fin.len
+        (cells_of (held_series A.cells (entries_of series.now)))) }
 {
     let mut count = 0;
     for (_, index) in &series.indices {
@@ -92,7 +94,8 @@ pub(crate) fn count_cells<A: Cells>(series: &SeriesMap<A>) -> usize
 /// The cell with a number among those of all series.
 pub(crate) fn nth_cell<A: Cells>(series: &SeriesMap<A>, number: usize) -> Option<CellRef<'_>>
     requires ordered { IsStrictlySortedBy bytes_cmp (keys_of (entries_of series.now)) }
-    requires few_archives { AllByRecursion (λ e. length e.1.items ≤ MAX_ARCHIVES) (entries_of series.now) }
+    requires few_archives { AllByRecursion (λ e. length e.1.items ≤ MAX_ARCHIVES)
+        (entries_of series.now) }
     ensures { option_map seen_cell result
         ≡ slice_get (fin.entries (cells_of (held_series A.cells (entries_of series.now)))) number }
 {

@@ -6,7 +6,7 @@ ghost use Rattle.std.specs.Map.{keys_of};
 ghost use Rattle.std.specs.Option.{option_map};
 ghost use Rattle.std.specs.Ordering.{is_le};
 ghost use Rattle.rr_text.specs.Bytes.{bytes_cmp};
-ghost use Rattle.rr_replica.specs.Held.{held_series};
+ghost use Rattle.rr_replica.specs.InMemory.{held_series};
 ghost use Rattle.rr_replica.specs.SeriesMap.{entries_of, IsIndexed};
 ghost use Rattle.rr_cells.specs.Listing.{seen_cell, first_after, next_cell};
 ghost use Rattle.rr_replica.specs.Listing.{seen_name};
@@ -72,7 +72,8 @@ fn next_in_own<'a, A: Cells>(series: &'a SeriesMap<A>, name: &NameRef<'_>) -> Op
     requires ordered { IsStrictlySortedBy bytes_cmp (keys_of (entries_of series.now)) }
     requires indexed { IsIndexed series.now }
     ensures { IfSome result (λ c. next_cell
-        (cells_of (held_series A.cells (entries_of series.now))) (seen_name name.now) ≡ Some (seen_cell c)) }
+        (cells_of (held_series A.cells (entries_of series.now))) (seen_name name.now)
+        ≡ Some (seen_cell c)) }
 {
     let (key, archives) = series.known(name.key)?;
     let own = name.archive as usize;
@@ -90,7 +91,8 @@ pub(crate) fn next_cell<'a, A: Cells>(
     name: &NameRef<'_>,
 ) -> Option<CellRef<'a>>
     requires ordered { IsStrictlySortedBy bytes_cmp (keys_of (entries_of series.now)) }
-    requires few_archives { AllByRecursion (λ e. length e.1.items ≤ MAX_ARCHIVES) (entries_of series.now) }
+    requires few_archives { AllByRecursion (λ e. length e.1.items ≤ MAX_ARCHIVES)
+        (entries_of series.now) }
     requires indexed { IsIndexed series.now }
     ensures { option_map seen_cell result
         ≡ next_cell (cells_of (held_series A.cells (entries_of series.now))) (seen_name name.now) }

@@ -3,7 +3,7 @@ ghost use Rattle.std.specs.Prelude.{◌≡◌, ◌+◌, IsOk, OnOk, OnErr};
 ghost use Rattle.rr_cells.specs.Puts.{put_sample};
 ghost use Rattle.rr_replica.specs.Series.{cells_of};
 ghost use Rattle.rr_replica.specs.SeriesMap.{entries_of, IsIndexed};
-ghost use Rattle.rr_replica.specs.Held.{held_series, sample_of_reading, keyed_sample, HasRoom, IsHeld};
+ghost use Rattle.rr_replica.specs.InMemory.{held_series, sample_of_reading, keyed_sample, HasRoom, IsReplicaInMemory};
 
 use crate::archives::{empty_archives, put_into};
 use crate::hint::Hint;
@@ -24,16 +24,21 @@ pub(crate) fn put_in<A: Cells>(
     key: &SeriesKey,
     sample: Reading,
 ) -> Result<(), AllocError>
-    requires held { IsHeld A.cells A.row_limit schema.now sample.origin sample.number (entries_of series.old) }
+    requires held { IsReplicaInMemory A.cells A.row_limit schema.now sample.origin sample.number
+        (entries_of series.old) }
     requires indexed { IsIndexed series.old }
     ensures put { OnOk result (cells_of (held_series A.cells (entries_of series.new))
-        ≡ put_sample schema.now (cells_of (held_series A.cells (entries_of series.old))) (keyed_sample key.now sample)) }
-    ensures held_with { OnOk result (IsHeld A.cells A.row_limit schema.now sample.origin (sample.number + 1) (entries_of series.new)) }
+        ≡ put_sample schema.now (cells_of (held_series A.cells (entries_of series.old)))
+        (keyed_sample key.now sample)) }
+    ensures held_with { OnOk result (IsReplicaInMemory A.cells A.row_limit schema.now sample.origin
+        (sample.number + 1) (entries_of series.new)) }
     ensures unchanged { OnErr result (cells_of (held_series A.cells (entries_of series.new))
         ≡ cells_of (held_series A.cells (entries_of series.old))) }
-    ensures held { OnErr result (IsHeld A.cells A.row_limit schema.now sample.origin sample.number (entries_of series.new)) }
+    ensures held { OnErr result (IsReplicaInMemory A.cells A.row_limit schema.now sample.origin
+        sample.number (entries_of series.new)) }
     ensures indexed { IsIndexed series.new }
-    ensures room { HasRoom A.is_ready schema.now (Op.Put (sample_of_reading key.now sample)) (entries_of series.old) → IsOk result }
+    ensures room { HasRoom A.is_ready schema.now (Op.Put (sample_of_reading key.now sample))
+        (entries_of series.old) → IsOk result }
 {
     // The proof needs that the text is a key text, which `text` ensures.
     let _text = key.text();

@@ -6,11 +6,11 @@ ghost use Rattle.rr_key.specs.Making.{making_fault};
 ghost use Rattle.rr_point.specs.Key.{names_of, key_text};
 ghost use Rattle.rr_point.specs.Point.{point_view};
 ghost use Rattle.rr_cells.specs.CellBounds.{IsCellOf};
-ghost use Rattle.rr_cells.specs.Cells.{row_at, rows_at};
-ghost use Rattle.rr_cells.specs.Holding.{with_sample, with_put, IsHolding};
-ghost use Rattle.rr_replica.specs.Held.{sample_of_reading, keyed_sample};
+ghost use Rattle.rr_cells.specs.Cells.{row_at, archive_cells};
+ghost use Rattle.rr_cells.specs.ReplicaState.{with_sample, with_put, IsReplicaState};
+ghost use Rattle.rr_replica.specs.InMemory.{sample_of_reading, keyed_sample};
 ghost use Rattle.rr_cells.specs.Listing.{seen_cell, owned_cell, at_most_usize, cell_name, next_cell};
-ghost use Rattle.rr_replica.specs.Standing.{held, HasRoomFor, IsReadyFor};
+ghost use Rattle.rr_replica.specs.ReplicaWithRoom.{replica_state, HasRoomFor, IsReadyFor};
 ghost use Rattle.rr_replica.specs.Writing.{lacks_numbers};
 
 use crate::copying::copy_series;
@@ -50,24 +50,30 @@ pub struct Replica<A: Cells> {
 }
 
 impl<A: Cells> Model for Replica<A> {
-    ghost use Rattle.rr_replica.specs.Standing.{Standing, coded_standing, standing_of};
-    ghost use Rattle.rr_replica.specs.Held.{IsHeld};
+    ghost use Rattle.rr_replica.specs.ReplicaWithRoom.{ReplicaWithRoom, coded_replica_with_room, replica_with_room};
+    ghost use Rattle.rr_replica.specs.InMemory.{IsReplicaInMemory};
     ghost use Rattle.rr_replica.specs.SeriesMap.{entries_of, IsIndexed};
 
-    ghost Value = { Standing };
+    ghost Value = { ReplicaWithRoom };
 
-    ghost coded = { coded_standing };
+    ghost coded = { coded_replica_with_room };
 
-    ghost view = { λ r. standing_of A.cells A.is_ready r.schema r.origin r.next (entries_of r.series) };
+    ghost view = { λ r. replica_with_room A.cells A.is_ready r.schema r.origin r.next (entries_of r.series) };
 
-    ghost invariant = { λ r. IsHeld A.cells A.row_limit r.schema r.origin r.next (entries_of r.series) × IsIndexed r.series };
+    ghost invariant = { λ r. IsReplicaInMemory A.cells A.row_limit r.schema r.origin r.next (entries_of r.series) × IsIndexed r.series };
 }
 
 impl<A: Cells> Replica<A> {
     /// A replica that holds no cell, and whose first sample has number 1.
     pub fn new(alloc: Global, schema: &Schema, origin: Origin) -> Result<Replica<A>, AllocError>
         ensures { IfOk result (λ r.
-            held r ≡ record { schema = schema.now; origin = origin; next = 1; cells = fin.empty }) }
+            replica_state r ≡ record {
+              schema = schema.now;
+              origin = origin;
+              next = 1;
+              cells =
+                  fin.empty;
+            }) }
     {
         // The proof needs that the origin is from 1 to 65,535, which `get` ensures.
         let _number = origin.get();
@@ -84,7 +90,7 @@ impl<A: Cells> Replica<A> {
     /// A replica that holds the same, under the same origin and next number; the keys' texts are
     /// shared. The cost is linear in the cells, and in the series times their logarithm.
     pub fn copy(&self, alloc: Global) -> Result<Replica<A>, AllocError>
-        ensures { IfOk result (λ r. held r ≡ held self.now) }
+        ensures { IfOk result (λ r. replica_state r ≡ replica_state self.now) }
     {
         Ok(Replica {
             alloc,
@@ -96,11 +102,12 @@ impl<A: Cells> Replica<A> {
         })
     }
 
-    /// The schema of all series. A caller learns here too what a replica keeps to: its cells are live
-    /// and are cells of this schema, and those of its own origin are of numbers before the next.
+    /// The schema of all series. A caller learns here too what a replica keeps to: its cells are
+    /// live and are cells of this schema, and those of its own origin are of numbers before the
+    /// next.
     pub fn schema(&self) -> &Schema
         ensures value { result.now ≡ self.now.schema }
-        ensures holds { IsHolding (held self.now) }
+        ensures holds { IsReplicaState (replica_state self.now) }
     {
         &self.schema
     }
@@ -119,8 +126,8 @@ impl<A: Cells> Replica<A> {
         self.next
     }
 
-    /// Puts a sample of a key under the next number, which is the answer. The time is in nanoseconds
-    /// since the Unix epoch.
+    /// Puts a sample of a key under the next number, which is the answer. The time is in
+    /// nanoseconds since the Unix epoch.
     ///
     /// In each archive where its slot is past the horizon the sample leaves no trace; it has its
     /// number all the same. Refused as `NumbersSpent` where the next number is past 2^40. After a
@@ -132,8 +139,9 @@ impl<A: Cells> Replica<A> {
     /// row, however many series there are.
     pub fn put(&mut self, key: &SeriesKey, time: i64, value: i64) -> Result<u64, PutFault>
         ensures number { IfOk result (λ number. number ≡ self.old.next) }
-        ensures put { OnOk result (held self.new ≡ with_put (held self.old) key.now time value) }
-        ensures unchanged { OnErr result (held self.new ≡ held self.old) }
+        ensures put { OnOk result (replica_state self.new
+            ≡ with_put (replica_state self.old) key.now time value) }
+        ensures unchanged { OnErr result (replica_state self.new ≡ replica_state self.old) }
         ensures spent { (result ≡ Err PutFault.NumbersSpent) ↔ (MAX_NUMBER < self.old.next) }
     {
         if self.next > MAX_NUMBER {
@@ -159,9 +167,11 @@ impl<A: Cells> Replica<A> {
     ) -> Result<(), AllocError>
         requires origin { sample.origin ≡ self.old.origin }
         requires number { self.old.next ≤ sample.number }
-        ensures put { OnOk result (held self.new ≡ with_sample (held self.old) (keyed_sample key.now sample)) }
-        ensures unchanged { OnErr result (held self.new ≡ held self.old) }
-        ensures room { HasRoomFor self.old (Op.Put (sample_of_reading key.now sample)) → IsOk result }
+        ensures put { OnOk result (replica_state self.new
+            ≡ with_sample (replica_state self.old) (keyed_sample key.now sample)) }
+        ensures unchanged { OnErr result (replica_state self.new ≡ replica_state self.old) }
+        ensures room { HasRoomFor self.old (Op.Put (sample_of_reading key.now sample))
+            → IsOk result }
     {
         let number = sample.number;
         put_in(
@@ -176,22 +186,22 @@ impl<A: Cells> Replica<A> {
         Ok(())
     }
 
-    /// Makes room for an operation, so that the next [`Replica::apply`] of it can't fail. It changes
-    /// no cell. For an operation that isn't taken no room is needed, and none is made.
+    /// Makes room for an operation, so that the next [`Replica::apply`] of it can't fail. It
+    /// changes no cell. For an operation that isn't taken no room is needed, and none is made.
     ///
-    /// The archives of a key that has none are added for it, without a cell. The cost is one look-up
-    /// of the key and one of the slot in each archive, or in the cell's.
+    /// The archives of a key that has none are added for it, without a cell. The cost is one
+    /// look-up of the key and one of the slot in each archive, or in the cell's.
     pub fn ready(&mut self, op: &Op) -> Result<(), AllocError>
-        ensures unchanged { held self.new ≡ held self.old }
+        ensures unchanged { replica_state self.new ≡ replica_state self.old }
         ensures room { OnOk result (IsReadyFor self.new op.now) }
     {
         self.ready_near(Hint::none(), op)
     }
 
-    /// Makes room as [`Replica::ready`] does, with a hint where the series of the operation is: if that is right, a
-    /// comparison of two keys takes the place of the look-up.
+    /// Makes room as [`Replica::ready`] does, with a hint where the series of the operation is: if
+    /// that is right, a comparison of two keys takes the place of the look-up.
     pub fn ready_near(&mut self, hint: Hint, op: &Op) -> Result<(), AllocError>
-        ensures unchanged { held self.new ≡ held self.old }
+        ensures unchanged { replica_state self.new ≡ replica_state self.old }
         ensures room { OnOk result (IsReadyFor self.new op.now) }
     {
         if !self.accepts(op) {
@@ -200,8 +210,8 @@ impl<A: Cells> Replica<A> {
         make_room_in(&mut self.series, self.alloc, &self.schema, hint, op)
     }
 
-    /// The key, and where its series is. Of a series that is known the key shares its text with this
-    /// one, so no memory is taken and a further look-up has the text at hand.
+    /// The key, and where its series is. Of a series that is known the key shares its text with
+    /// this one, so no memory is taken and a further look-up has the text at hand.
     ///
     /// The cost is one look-up of the key; if the hint is right, a comparison of two keys.
     pub fn known_key_near(
@@ -223,8 +233,8 @@ impl<A: Cells> Replica<A> {
     /// The archive of a key with a number, from 0. There is none where the key is unknown, nor past
     /// the schema's last archive; then no cell is there. The cost is one look-up of the key.
     pub fn archive(&self, key: &SeriesKey, i: u8) -> Option<&A>
-        ensures { MatchOption result (rows_at self.now.cells key.now i ≡ fin.empty)
-            (λ archive. A.cells archive.now ≡ rows_at self.now.cells key.now i) }
+        ensures { MatchOption result (archive_cells self.now.cells key.now i ≡ fin.empty)
+            (λ archive. A.cells archive.now ≡ archive_cells self.now.cells key.now i) }
     {
         match self.series.get(key) {
             Some(archives) => archives.get(i as usize),
@@ -241,7 +251,8 @@ impl<A: Cells> Replica<A> {
     }
 
     /// The cell with a number, from 0, in order of key, archive, slot and origin. The cost is
-    /// linear in the series before it, each passed over by its count, and in the rows of its archive.
+    /// linear in the series before it, each passed over by its count, and in the rows of its
+    /// archive.
     pub fn cell_at(&self, i: usize) -> Option<CellRef<'_>>
         ensures listed { option_map seen_cell result ≡ slice_get (fin.entries self.now.cells) i }
         ensures of_schema { IfSome result (λ c. IsCellOf self.now.schema (seen_cell c)) }
@@ -282,7 +293,8 @@ impl<A: Cells> Replica<A> {
     ) -> Result<Vec<Cell>, AllocError>
         ensures listed { IfOk result (λ cells.
             map owned_cell cells.items ≡ take count (drop from (fin.entries self.now.cells))) }
-        ensures of_schema { IfOk result (λ cells. All (λ c. IsCellOf self.now.schema (owned_cell c)) cells.items) }
+        ensures of_schema { IfOk result (λ cells. All (λ c. IsCellOf self.now.schema (owned_cell c))
+            cells.items) }
     {
         // The proof needs what the replica keeps to, which `schema` ensures.
         let _schema = self.schema();
@@ -318,7 +330,7 @@ impl<A: Archive> Replica<A> {
 impl<A: Cells> Replica<A> {
     /// Whether fewer numbers are left than these.
     pub fn lacks_numbers(&self, count: usize) -> bool
-        ensures { result ≡ lacks_numbers (held self.now) count }
+        ensures { result ≡ lacks_numbers (replica_state self.now) count }
     {
         MAX_NUMBER + 1 - self.next < count as u64
     }
@@ -332,9 +344,10 @@ impl<A: Cells> Replica<A> {
     ) -> Result<(), AllocError>
         requires keyed { making_fault (names_of (point_view point.now) field.now.key.now) ≡ None }
         requires number_left { self.old.next ≤ MAX_NUMBER }
-        ensures put { OnOk result (held self.new
-            ≡ with_put (held self.old) (key_text (point_view point.now) field.now.key.now) time field.now.value) }
-        ensures unchanged { OnErr result (held self.new ≡ held self.old) }
+        ensures put { OnOk result (replica_state self.new
+            ≡ with_put (replica_state self.old) (key_text (point_view point.now) field.now.key.now)
+            time field.now.value) }
+        ensures unchanged { OnErr result (replica_state self.new ≡ replica_state self.old) }
     {
         let mut text = replace(&mut self.text, Vec::new(self.alloc));
         point.write_key(self.alloc, &mut text, field.key)?;
@@ -361,8 +374,9 @@ impl<A: Cells> Replica<A> {
     /// the slot, the entries of a row, and the rows that go.
     pub fn join_cell(&mut self, cell: &Cell) -> Result<(), AllocError>
         requires { IsCellOf self.old.schema (owned_cell cell.now) }
-        ensures joined { OnOk result (held self.new ≡ with_cell (held self.old) cell.now) }
-        ensures unchanged { OnErr result (held self.new ≡ held self.old) }
+        ensures joined { OnOk result (replica_state self.new
+            ≡ with_cell (replica_state self.old) cell.now) }
+        ensures unchanged { OnErr result (replica_state self.new ≡ replica_state self.old) }
         ensures room { HasRoomFor self.old (Op.Join cell.now) → IsOk result }
     {
         join_in(&mut self.series, self.alloc, &self.schema, cell)?;
@@ -370,15 +384,19 @@ impl<A: Cells> Replica<A> {
         Ok(())
     }
 
-    /// Joins cells from elsewhere, in order, each as `join_cell` does. All cells of a map, joined so,
-    /// are the join with that map. Where memory runs out, `Memory` says how many cells, from the
-    /// first on, were joined.
+    /// Joins cells from elsewhere, in order, each as `join_cell` does. All cells of a map, joined
+    /// so, are the join with that map. Where memory runs out, `Memory` says how many cells, from
+    /// the first on, were joined.
     pub fn join_cells(&mut self, cells: &[Cell]) -> Result<(), JoinFault>
         requires { All (λ c. IsCellOf self.old.schema (owned_cell c)) cells.now }
-        ensures joined { OnOk result (held self.new ≡ with_cells (held self.old) cells.now) }
-        ensures whole { OnOk result (IsJoinedWith (held self.old) (held self.new) cells.now) }
-        ensures stopped { IfErr result (IsAfterJoined (held self.old) (held self.new) cells.now) }
-        ensures cells_left { (joined : ℕ) → result ≡ Err (JoinFault.Memory joined) → joined < length cells.now }
+        ensures joined { OnOk result (replica_state self.new
+            ≡ with_cells (replica_state self.old) cells.now) }
+        ensures whole { OnOk result (IsJoinedWith (replica_state self.old) (replica_state self.new)
+            cells.now) }
+        ensures stopped { IfErr result (IsAfterJoined (replica_state self.old)
+            (replica_state self.new) cells.now) }
+        ensures cells_left { (joined : ℕ) → result ≡ Err (JoinFault.Memory joined)
+            → joined < length cells.now }
     {
         // The proof needs what the replica keeps to, which `schema` ensures.
         let _schema = self.schema();

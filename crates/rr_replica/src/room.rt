@@ -4,7 +4,7 @@ ghost use Rattle.rr_schema.specs.Schema.{IsLayout};
 ghost use Rattle.rr_replica.specs.Archives.{IsOpOf};
 ghost use Rattle.rr_replica.specs.Series.{cells_of};
 ghost use Rattle.rr_replica.specs.SeriesMap.{entries_of, IsIndexed};
-ghost use Rattle.rr_replica.specs.Held.{held_series, HasRoom, AreAllSized};
+ghost use Rattle.rr_replica.specs.InMemory.{held_series, HasRoom, AreAllSized};
 
 use crate::archives::{empty_archives, make_room};
 use crate::hint::Hint;

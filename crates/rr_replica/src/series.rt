@@ -3,7 +3,7 @@ ghost use Rattle.std.specs.Prelude.{◌≡◌, ◌∷◌, ◌++◌, ℕ, List, [
 ghost use Rattle.std.specs.Option.{option_map};
 ghost use Rattle.std.specs.BTreeMap.{is_at};
 ghost use Rattle.rr_text.specs.Bytes.{bytes_cmp};
-ghost use Rattle.rr_replica.specs.Held.{archives_of};
+ghost use Rattle.rr_replica.specs.InMemory.{archives_of};
 ghost use Rattle.rr_replica.specs.Indexed.{index_of, items_of};
 
 use crate::hint::Hint;
@@ -12,10 +12,11 @@ use rr_key::SeriesKey;
 use std::alloc::{AllocError, Global};
 use std::collections::BTreeMap;
 
-/// The archives of all keys. Each key has an index, by which its archives are found once it is known.
+/// The archives of all keys. Each key has an index, by which its archives are found once it is
+/// known.
 ///
-/// A tree has the indices in order of the keys, and hints are tried before it: a key is mostly found
-/// by its hash, and at worst at the cost of the tree.
+/// A tree has the indices in order of the keys, and hints are tried before it: a key is mostly
+/// found by its hash, and at worst at the cost of the tree.
 #[derive(Drop)]
 pub(crate) struct SeriesMap<A> {
     pub(crate) keys: Vec<SeriesKey>,
@@ -75,8 +76,8 @@ impl<A: Drop> SeriesMap<A> {
         }
     }
 
-    /// The key as it is known, with its index; one that isn't known as it is, with the index that it
-    /// gets when it is added next. The hint is tried first.
+    /// The key as it is known, with its index; one that isn't known as it is, with the index that
+    /// it gets when it is added next. The hint is tried first.
     pub(crate) fn known_key<'a>(&'a self, hint: Hint, key: &'a SeriesKey) -> (&'a SeriesKey, usize)
         requires { IsIndexed self.now }
         ensures { result.0.now ≡ key.now }
@@ -90,7 +91,8 @@ impl<A: Drop> SeriesMap<A> {
     /// The archives of a key, if it is known.
     pub(crate) fn get(&self, key: &SeriesKey) -> Option<&Vec<A>>
         requires { IsIndexed self.now }
-        ensures { option_map (λ archives. archives.now) result ≡ archives_of (entries_of self.now) key.now }
+        ensures { option_map (λ archives. archives.now) result
+            ≡ archives_of (entries_of self.now) key.now }
     {
         match self.find(key) {
             Some(index) => self.archives.get(index),
@@ -102,7 +104,8 @@ impl<A: Drop> SeriesMap<A> {
     pub(crate) fn known(&self, key: &SeriesKey) -> Option<(&SeriesKey, &Vec<A>)>
         requires { IsIndexed self.now }
         ensures key { IfSome result (λ known. known.0.now ≡ key.now) }
-        ensures archives { IfSome result (λ known. archives_of (entries_of self.now) key.now ≡ Some known.1.now) }
+        ensures archives { IfSome result (λ known. archives_of (entries_of self.now) key.now
+            ≡ Some known.1.now) }
     {
         match self.find(key) {
             Some(index) => {
@@ -129,9 +132,11 @@ impl<A: Drop> SeriesMap<A> {
         requires indexed { IsIndexed self.old }
         requires unknown { index_of self.old.indices.entries key.now ≡ None }
         ensures keys { OnOk result (self.new.keys.items ≡ self.old.keys.items ++ key.now ∷ []) }
-        ensures archives { OnOk result (self.new.archives.items ≡ self.old.archives.items ++ archives ∷ []) }
+        ensures archives { OnOk result (self.new.archives.items ≡ self.old.archives.items
+            ++ archives ∷ []) }
         ensures sets { OnOk result ((q : List ℕ) → archives_of (entries_of self.new) q
-            ≡ cond (is_at (bytes_cmp key.now) q) (Some archives) (archives_of (entries_of self.old) q)) }
+            ≡ cond (is_at (bytes_cmp key.now) q) (Some archives)
+            (archives_of (entries_of self.old) q)) }
         ensures unchanged { OnErr result (entries_of self.new ≡ entries_of self.old) }
         ensures indexed_now { IsIndexed self.new }
     {

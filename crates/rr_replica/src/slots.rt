@@ -11,8 +11,8 @@ const NANOSECONDS: u64 = 1_000_000_000;
 
 const _: () = prove!(NANOSECONDS == 1_000_000_000);
 
-/// The slot of an archive in which a time falls. Mostly it is that of the newest cell or the next one: these are
-/// tried first, since a multiplication takes a tenth of the time of a division.
+/// The slot of an archive in which a time falls. Mostly it is that of the newest cell or the next
+/// one: these are tried first, since a multiplication takes a tenth of the time of a division.
 pub(crate) fn slot_near(schema: &Schema, archive: u8, time: i64, newest: Option<i64>) -> i64
     requires { archive < length schema.now.archives }
     ensures { result ≡ slot_of schema.now archive time }

@@ -3,7 +3,7 @@ ghost use Rattle.std.specs.Prelude.{◌≡◌, ℕ, ◌<◌, ◌≤◌, ◌↔�
 ghost use Rattle.rr_text.specs.declared.limits.TheConstants.{MAX_FIELDS};
 ghost use Rattle.rr_point.specs.Key.{HasKeys, IsWritable};
 ghost use Rattle.rr_point.specs.Point.{point_view};
-ghost use Rattle.rr_replica.specs.Standing.{held};
+ghost use Rattle.rr_replica.specs.ReplicaWithRoom.{replica_state};
 ghost use Rattle.rr_replica.specs.Writing.{is_ahead};
 
 use crate::fault::WriteFault;
@@ -15,8 +15,8 @@ impl<A: Cells> Replica<A> {
     ghost use Rattle.rr_replica.specs.Writing.{IsAfterRefusal, IsMemoryAfter, with_fields, is_ahead, lacks_numbers};
 
     /// Puts a sample of each field of a point, in the line's order, under as many numbers, and
-    /// answers how many. A point without a time takes `now`. Times are in nanoseconds since the Unix
-    /// epoch, the lead too.
+    /// answers how many. A point without a time takes `now`. Times are in nanoseconds since the
+    /// Unix epoch, the lead too.
     ///
     /// Refused as `AheadOfClock` where the point's own time is greater than `now + lead`, and as
     /// `NumbersSpent` where fewer numbers are left than the point has fields; nothing has then
@@ -30,12 +30,16 @@ impl<A: Cells> Replica<A> {
     ) -> Result<u32, WriteFault>
         requires { IsWritable (point_view point.now) }
         ensures count { IfOk result (λ count. count ≡ length point.now.fields.items) }
-        ensures put { OnOk result (held self.new
-            ≡ with_fields (held self.old) (point_view point.now) (unwrap_or point.now.time now) (point_view point.now).fields) }
-        ensures ahead { (result ≡ Err WriteFault.AheadOfClock) ↔ IsTrue (is_ahead point.now.time now lead) }
+        ensures put { OnOk result (replica_state self.new
+            ≡ with_fields (replica_state self.old) (point_view point.now)
+            (unwrap_or point.now.time now) (point_view point.now).fields) }
+        ensures ahead { (result ≡ Err WriteFault.AheadOfClock)
+            ↔ IsTrue (is_ahead point.now.time now lead) }
         ensures spent { (result ≡ Err WriteFault.NumbersSpent)
-            ↔ (IsFalse (is_ahead point.now.time now lead) × IsTrue (lacks_numbers (held self.old) (length point.now.fields.items))) }
-        ensures refused { IfErr result (IsAfterRefusal (held self.old) (held self.new) (point_view point.now) (unwrap_or point.now.time now)) }
+            ↔ (IsFalse (is_ahead point.now.time now lead)
+            × IsTrue (lacks_numbers (replica_state self.old) (length point.now.fields.items))) }
+        ensures refused { IfErr result (IsAfterRefusal (replica_state self.old)
+            (replica_state self.new) (point_view point.now) (unwrap_or point.now.time now)) }
         ensures fields_left { (put : ℕ) → result ≡ Err (WriteFault.Memory put)
             → put < length point.now.fields.items }
     {
@@ -52,11 +56,14 @@ impl<A: Cells> Replica<A> {
     fn write_fields(&mut self, point: &Point<'_>, time: i64) -> Result<u32, WriteFault>
         requires keyed { HasKeys (point_view point.now) }
         requires few_fields { length point.now.fields.items ≤ MAX_FIELDS }
-        requires numbers_left { IsFalse (lacks_numbers (held self.old) (length point.now.fields.items)) }
+        requires numbers_left { IsFalse (lacks_numbers (replica_state self.old)
+            (length point.now.fields.items)) }
         ensures count { IfOk result (λ count. count ≡ length point.now.fields.items) }
-        ensures put { OnOk result (held self.new
-            ≡ with_fields (held self.old) (point_view point.now) time (point_view point.now).fields) }
-        ensures stopped { IfErr result (IsMemoryAfter (held self.old) (held self.new) (point_view point.now) time) }
+        ensures put { OnOk result (replica_state self.new
+            ≡ with_fields (replica_state self.old) (point_view point.now) time
+            (point_view point.now).fields) }
+        ensures stopped { IfErr result (IsMemoryAfter (replica_state self.old)
+            (replica_state self.new) (point_view point.now) time) }
         ensures fields_left { (put : ℕ) → result ≡ Err (WriteFault.Memory put)
             → put < length point.now.fields.items }
     {

@@ -15,7 +15,7 @@ pub record HasReported (c : Checker) (pushed text : List ℕ) : Type 0 where
   pub refused : c.refused ≡ count_by (is_refused c.precision) handed
 
 -- a piece was taken in
-pub record Takes (old new : Checker) (piece : List ℕ) : Type 0 where
+pub record PushedPiece (old new : Checker) (piece : List ℕ) : Type 0 where
   pub feed : new.feed ≡ state (old.feed.left ++ piece) old.feed.skipping old.feed.ended
   pub pieces : new.pieces ≡ old.pieces + 1
   pub lines : new.lines ≡ old.lines

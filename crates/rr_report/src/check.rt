@@ -28,8 +28,8 @@ const _: () = prove!(PIECE == 65_536);
 /// counts all lines from 1. An empty line and a comment produce no output.
 ///
 /// What is written is a front of the report wherever a call ends. The cost is that of reading each
-/// line and of making the key of each of its fields; a piece of the input, one line and their report
-/// are held.
+/// line and of making the key of each of its fields; a piece of the input, one line and their
+/// report are held.
 pub fn check_lines<R: Read, W: Write>(
     alloc: Global,
     input: &mut Counted<R>,
@@ -38,22 +38,26 @@ pub fn check_lines<R: Read, W: Write>(
     now: i64,
 ) -> Result<u64, ToolFault>
     ensures reported { OnOk result (IfSome (R.remaining (inner_of input.old))
-        (λ bytes. Appends (W.contents (inner_of output.old)) (W.contents (inner_of output.new)) (report_of precision now bytes))) }
+        (λ bytes. Appends (W.contents (inner_of output.old)) (W.contents (inner_of output.new))
+        (report_of precision now bytes))) }
     ensures refused { IfOk result (λ refused. IfSome (R.remaining (inner_of input.old))
         (λ bytes. refused ≡ refused_count precision bytes)) }
     ensures flushed { OnOk result (is_flushed output.new ≡ true) }
 
     // What is written however the call ends.
     ensures front { IfSome (R.remaining (inner_of input.old))
-        (λ bytes. AppendsPrefix (W.contents (inner_of output.old)) (W.contents (inner_of output.new)) (report_of precision now bytes)) }
+        (λ bytes. AppendsPrefix (W.contents (inner_of output.old))
+        (W.contents (inner_of output.new)) (report_of precision now bytes)) }
 
     // When a stream is to blame.
-    ensures read_failed { result ≡ Err ToolFault.ReadFailed → HasRisen (failures_of input.old) (failures_of input.new) }
+    ensures read_failed { result ≡ Err ToolFault.ReadFailed
+        → HasRisen (failures_of input.old) (failures_of input.new) }
     ensures limit { reads_of input.new ≤ reads_of input.old + MAX_READS }
     ensures too_many { result ≡ Err ToolFault.TooManyReads
         → HasRisenBy MAX_READS (reads_of input.old) (reads_of input.new) }
     ensures no_end { result ≡ Err ToolFault.TooManyReads → ends_of input.new ≡ ends_of input.old }
-    ensures write_failed { result ≡ Err ToolFault.WriteFailed → HasRisen (failures_of output.old) (failures_of output.new) }
+    ensures write_failed { result ≡ Err ToolFault.WriteFailed
+        → HasRisen (failures_of output.old) (failures_of output.new) }
 {
     check_lines_within(alloc, input, output, precision, now, MAX_READS)
 }
@@ -72,22 +76,26 @@ pub fn check_lines_within<R: Read, W: Write>(
     reads: u32,
 ) -> Result<u64, ToolFault>
     ensures reported { OnOk result (IfSome (R.remaining (inner_of input.old))
-        (λ bytes. Appends (W.contents (inner_of output.old)) (W.contents (inner_of output.new)) (report_of precision now bytes))) }
+        (λ bytes. Appends (W.contents (inner_of output.old)) (W.contents (inner_of output.new))
+        (report_of precision now bytes))) }
     ensures refused { IfOk result (λ refused. IfSome (R.remaining (inner_of input.old))
         (λ bytes. refused ≡ refused_count precision bytes)) }
     ensures flushed { OnOk result (is_flushed output.new ≡ true) }
 
     // What is written however the call ends.
     ensures front { IfSome (R.remaining (inner_of input.old))
-        (λ bytes. AppendsPrefix (W.contents (inner_of output.old)) (W.contents (inner_of output.new)) (report_of precision now bytes)) }
+        (λ bytes. AppendsPrefix (W.contents (inner_of output.old))
+        (W.contents (inner_of output.new)) (report_of precision now bytes)) }
 
     // When a stream is to blame.
-    ensures read_failed { result ≡ Err ToolFault.ReadFailed → HasRisen (failures_of input.old) (failures_of input.new) }
+    ensures read_failed { result ≡ Err ToolFault.ReadFailed
+        → HasRisen (failures_of input.old) (failures_of input.new) }
     ensures limit { reads_of input.new ≤ reads_of input.old + reads }
     ensures too_many { result ≡ Err ToolFault.TooManyReads
         → HasRisenBy reads (reads_of input.old) (reads_of input.new) }
     ensures no_end { result ≡ Err ToolFault.TooManyReads → ends_of input.new ≡ ends_of input.old }
-    ensures write_failed { result ≡ Err ToolFault.WriteFailed → HasRisen (failures_of output.old) (failures_of output.new) }
+    ensures write_failed { result ≡ Err ToolFault.WriteFailed
+        → HasRisen (failures_of output.old) (failures_of output.new) }
 {
     let mut checker = Checker::new(alloc, precision, now);
     let mut piece = [0u8; PIECE];

@@ -35,7 +35,7 @@ pub(crate) struct Checker {
 }
 
 impl Checker {
-    ghost use Rattle.rr_report.specs.Checker.{HasReported, Reports, Takes};
+    ghost use Rattle.rr_report.specs.Checker.{HasReported, Reports, PushedPiece};
 
     /// No line came yet.
     pub(crate) fn new(alloc: Global, precision: Precision, now: i64) -> Checker
@@ -61,7 +61,7 @@ impl Checker {
         requires going { self.old.feed.ended ≡ false }
         requires pieces_fit { self.old.pieces + 1 < 2 ^ 32 }
         requires fits { length piece.now ≤ PIECE }
-        ensures { OnOk result (Takes self.old self.new piece.now) }
+        ensures { OnOk result (PushedPiece self.old self.new piece.now) }
     {
         let Ok(()) = self.feed.push(piece) else {
             return Err(AllocError);
@@ -72,7 +72,8 @@ impl Checker {
 
     /// Reports and counts the items that can be handed out.
     fn push_items(&mut self, report: &mut Vec<u8>) -> Result<(), AllocError>
-        ensures reported { OnOk result ((text : List ℕ) × (report.new.items ≡ report.old.items ++ text) × Reports self.old self.new text) }
+        ensures reported { OnOk result ((text : List ℕ)
+            × (report.new.items ≡ report.old.items ++ text) × Reports self.old self.new text) }
         ensures all_taken { OnOk result (items_left self.new.feed ≡ []) }
     {
         let mut key = Vec::new(self.alloc);
@@ -108,12 +109,16 @@ impl Checker {
             × Appends (W.contents (inner_of output.old)) (W.contents (inner_of output.new)) text) }
         ensures all_taken { OnOk result (items_left self.new.feed ≡ []) }
         ensures front { (pushed before more : List ℕ) (start : Option (List ℕ))
-            → HasReported self.old pushed before → Appends start (W.contents (inner_of output.old)) before
+            → HasReported self.old pushed before
+            → Appends start (W.contents (inner_of output.old)) before
             → MayCome self.old.feed more true
-            → AppendsPrefix start (W.contents (inner_of output.new)) (report_of self.old.precision self.old.now (pushed ++ more)) }
+            → AppendsPrefix start (W.contents (inner_of output.new))
+            (report_of self.old.precision self.old.now (pushed ++ more)) }
         ensures count { failures_of output.old ≤ failures_of output.new }
-        ensures failed { result ≡ Err ToolFault.WriteFailed → HasRisen (failures_of output.old) (failures_of output.new) }
-        ensures faults { IfErr result (λ fault. (fault ≡ ToolFault.WriteFailed) ⊎ (fault ≡ ToolFault.Memory)) }
+        ensures failed { result ≡ Err ToolFault.WriteFailed
+            → HasRisen (failures_of output.old) (failures_of output.new) }
+        ensures faults { IfErr result (λ fault. (fault ≡ ToolFault.WriteFailed)
+            ⊎ (fault ≡ ToolFault.Memory)) }
     {
         let text = self.report()?;
         write_all(output, text.as_slice())?;
@@ -124,17 +129,24 @@ impl Checker {
     /// on, and says how many lines were refused.
     pub(crate) fn finish<W: Write>(&mut self, output: &mut Counted<W>) -> Result<u64, ToolFault>
         ensures reported { OnOk result ((pushed before : List ℕ) (start : Option (List ℕ))
-            → HasReported self.old pushed before → Appends start (W.contents (inner_of output.old)) before
-            → Appends start (W.contents (inner_of output.new)) (report_of self.old.precision self.old.now pushed)) }
+            → HasReported self.old pushed before
+            → Appends start (W.contents (inner_of output.old)) before
+            → Appends start (W.contents (inner_of output.new))
+            (report_of self.old.precision self.old.now pushed)) }
         ensures refused { IfOk result (λ refused. (pushed before : List ℕ)
-            → HasReported self.old pushed before → refused ≡ refused_count self.old.precision pushed) }
+            → HasReported self.old pushed before
+            → refused ≡ refused_count self.old.precision pushed) }
         ensures front { (pushed before : List ℕ) (start : Option (List ℕ))
-            → HasReported self.old pushed before → Appends start (W.contents (inner_of output.old)) before
-            → AppendsPrefix start (W.contents (inner_of output.new)) (report_of self.old.precision self.old.now pushed) }
+            → HasReported self.old pushed before
+            → Appends start (W.contents (inner_of output.old)) before
+            → AppendsPrefix start (W.contents (inner_of output.new))
+            (report_of self.old.precision self.old.now pushed) }
         ensures flushed { OnOk result (is_flushed output.new ≡ true) }
         ensures count { failures_of output.old ≤ failures_of output.new }
-        ensures failed { result ≡ Err ToolFault.WriteFailed → HasRisen (failures_of output.old) (failures_of output.new) }
-        ensures faults { IfErr result (λ fault. (fault ≡ ToolFault.WriteFailed) ⊎ (fault ≡ ToolFault.Memory)) }
+        ensures failed { result ≡ Err ToolFault.WriteFailed
+            → HasRisen (failures_of output.old) (failures_of output.new) }
+        ensures faults { IfErr result (λ fault. (fault ≡ ToolFault.WriteFailed)
+            ⊎ (fault ≡ ToolFault.Memory)) }
     {
         self.feed.end();
         self.write_items(output)?;

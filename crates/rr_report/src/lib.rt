@@ -7,8 +7,9 @@
 //! pieces ── Checker ──> lines ── report ──> records ──> the output
 //! ```
 //!
-//! Lines are reported piece by piece, as they come. In `specs/` the report of a stream is a function
-//! of its bytes (`specs/Report.antt`), and what is written is a front of it wherever a run ends.
+//! Lines are reported piece by piece, as they come. In `specs/` the report of a stream is a
+//! function of its bytes (`specs/Report.antt`), and what is written is a front of it wherever a run
+//! ends.
 #![tactic(auto)]
 
 mod check;

@@ -41,7 +41,8 @@ fn push_field(
     requires keyed { making_fault (names_of (point_view point.now) field.now.key.now) ≡ None }
     requires time { IsPlain time.now }
     ensures { OnOk result (report.new.items ≡ report.old.items
-        ++ record_text (key_text (point_view point.now) field.now.key.now ∷ signed_decimal field.now.value ∷ time.now ∷ [])) }
+        ++ record_text (key_text (point_view point.now) field.now.key.now ∷ signed_decimal
+        field.now.value ∷ time.now ∷ [])) }
 {
     point.write_key(alloc, key, field.key)?;
     push_sample(report, key, field.value, time)
@@ -56,7 +57,8 @@ fn push_point(
     now: i64,
 ) -> Result<(), AllocError>
     requires { HasKeys (point_view point.now) }
-    ensures { OnOk result (report.new.items ≡ report.old.items ++ point_text now (point_view point.now)) }
+    ensures { OnOk result (report.new.items ≡ report.old.items
+        ++ point_text now (point_view point.now)) }
 {
     let time = point.time.unwrap_or(now);
     let mut buffer = Buffer::new();
@@ -69,7 +71,8 @@ fn push_point(
 
 /// Adds the refusal of the line of this number, unless memory ran out.
 fn push_fault(report: &mut Vec<u8>, number: u64, fault: LineFault) -> Result<(), AllocError>
-    ensures pushed { OnOk result (report.new.items ≡ report.old.items ++ refusal_text number (line_fault_name fault)) }
+    ensures pushed { OnOk result (report.new.items ≡ report.old.items
+        ++ refusal_text number (line_fault_name fault)) }
     ensures read { OnOk result (fault ≢ LineFault.Memory) }
 {
     match fault {
@@ -89,7 +92,8 @@ fn push_line(
     now: i64,
 ) -> Result<bool, AllocError>
     requires { HasNoLineFeed line.now }
-    ensures pushed { OnOk result (report.new.items ≡ report.old.items ++ line_text now number (reading precision line.now)) }
+    ensures pushed { OnOk result (report.new.items ≡ report.old.items
+        ++ line_text now number (reading precision line.now)) }
     ensures refused { IfOk result (λ refused. refused ≡ is_err (reading precision line.now)) }
 {
     match parse_line(alloc, line, precision) {
@@ -116,8 +120,10 @@ pub(crate) fn push_item(
     now: i64,
 ) -> Result<bool, AllocError>
     requires { IsLine (item_view item) }
-    ensures pushed { OnOk result (report.new.items ≡ report.old.items ++ item_text precision now number (item_view item.entry)) }
-    ensures refused { IfOk result (λ refused. refused ≡ is_refused precision (item_view item.entry)) }
+    ensures pushed { OnOk result (report.new.items ≡ report.old.items
+        ++ item_text precision now number (item_view item.entry)) }
+    ensures refused { IfOk result (λ refused. refused
+        ≡ is_refused precision (item_view item.entry)) }
 {
     match item {
         FeedLine::Line(line) => push_line(alloc, report, key, line, number, precision, now),

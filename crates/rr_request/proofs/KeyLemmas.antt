@@ -32,7 +32,8 @@ key_unless_bad text not_bad =
       | inr other ↦ absurd (not_bad (λ is. true≢false (sym (is_key text is) ∙ other)))
     ]
 
-pub same_fault : {A : Type 0} (fault other : KeyFault) → ◌≡◌ {A = Result A KeyFault} (Err fault) (Err other) → fault ≡ other
+pub same_fault : {A : Type 0} (fault other : KeyFault) → ◌≡◌ {A = Result A KeyFault} (Err fault) (Err other)
+    → fault ≡ other
 same_fault {A} fault other = ap (λ (r : Result A KeyFault). of_err r)
   where
     of_err : Result A KeyFault → KeyFault

@@ -17,14 +17,20 @@ use Rattle.rr_request.specs.Words.{Parts, function_of, resolution_of, second_of}
 -- ---- the request
 
 -- words that pass their checks are read as the rows between the two seconds
-pub read_by_words : (s : Layout) (w : Parts) (function : ConsolidationFunction) (resolution : ℕ) (start end : ℤ) (q : text.Request)
-    → function_of w.function ≡ Some function → resolution_of w.resolution ≡ Some resolution → second_of w.start ≡ Some start → second_of w.end ≡ Some end
-    → key_of w.key ≡ Ok w.key → int_lt start end ≡ true → few_rows (rows_between s w.key function (choice s resolution) start end) ≡ Ok q → read s w ≡ Ok q
+pub read_by_words : (s : Layout) (w : Parts) (function : ConsolidationFunction) (resolution : ℕ) (start end : ℤ)
+    (q : text.Request)
+    → function_of w.function ≡ Some function → resolution_of w.resolution ≡ Some resolution
+    → second_of w.start ≡ Some start → second_of w.end ≡ Some end
+    → key_of w.key ≡ Ok w.key → int_lt start end ≡ true
+    → few_rows (rows_between s w.key function (choice s resolution) start end) ≡ Ok q → read s w ≡ Ok q
 unfolding read
 read_by_words s w function resolution start end q is_function is_resolution is_start is_end is_key before rows =
     rw (is_function, is_resolution, is_start, is_end, is_key, before) rows
 
-module _ (s : Layout) (key : List ℕ) (function : ConsolidationFunction) (archive : ℕ) (start end first last : ℤ) (rows : ℕ) (first_is : first ≡ int_div_euclid start (pos (span s archive))) (last_is : last ≡ neg_ℤ (int_div_euclid (neg_ℤ end) (pos (span s archive)))) (rows_are : rows ≡ unsigned_abs (last -ℤ first)) where
+module _ (s : Layout) (key : List ℕ) (function : ConsolidationFunction) (archive : ℕ) (start end first last : ℤ)
+    (rows : ℕ) (first_is : first ≡ int_div_euclid start (pos (span s archive)))
+    (last_is : last ≡ neg_ℤ (int_div_euclid (neg_ℤ end) (pos (span s archive))))
+    (rows_are : rows ≡ unsigned_abs (last -ℤ first)) where
   found : text.Request
   found = record { key = key; function = function; archive = archive; first = first; rows = rows }
 
@@ -38,7 +44,8 @@ module _ (s : Layout) (key : List ℕ) (function : ConsolidationFunction) (archi
     rows = (rows_are ∙ λ j. unsigned_abs (last_is j -ℤ first_is j)) i;
   }
 
-  pub few : rows ≤ MAX_FETCH_ROWS → few_rows (rows_between s key function archive start end) ≡ Ok (record { key = key; function = function; archive = archive; first = first; rows = rows })
+  pub few : rows ≤ MAX_FETCH_ROWS → few_rows (rows_between s key function archive start end)
+      ≡ Ok (record { key = key; function = function; archive = archive; first = first; rows = rows })
   unfolding found
   few le = sym (rw (le-leb rows MAX_FETCH_ROWS le) at (ap few_rows request_is))
 
@@ -52,7 +59,8 @@ later_quotient : (a b n : ℕ) → 0 < n → a ≤ b → a / n ≤ b / n
 later_quotient a b n some le = let most = div-mul-le_self a n in le-div (a / n) b n some (omega arith)
 
 -- the floor of a quotient is below the ceiling of a greater one
-pub floor_below_ceil : (start end : ℤ) (n : ℕ) → 0 < n → start <ℤ end → int_div_euclid start (pos n) <ℤ neg_ℤ (int_div_euclid (neg_ℤ end) (pos n))
+pub floor_below_ceil : (start end : ℤ) (n : ℕ) → 0 < n → start <ℤ end
+    → int_div_euclid start (pos n) <ℤ neg_ℤ (int_div_euclid (neg_ℤ end) (pos n))
 floor_below_ceil (pos a) (pos zero) n some before = absurd (omega (arith, ints))
 floor_below_ceil (pos a) (pos (suc b)) n some before =
     let most = later_quotient a b n some (omega (arith, ints)) in omega (arith, ints)

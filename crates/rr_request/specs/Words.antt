@@ -29,7 +29,14 @@ words_of text = do
 
 -- the bytes of words that are slices
 abbrev pub parts : RequestWords → Parts
-parts w = record { function = w.function.now; resolution = w.resolution.now; start = w.start.now; end = w.end.now; key = w.key.now }
+parts w = record {
+  function = w.function.now;
+  resolution = w.resolution.now;
+  start = w.start.now;
+  end = w.end.now;
+  key =
+      w.key.now;
+}
 
 -- a consolidation function, by its name in RRDtool
 abbrev pub function_of : List ℕ → Option ConsolidationFunction

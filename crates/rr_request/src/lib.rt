@@ -6,8 +6,8 @@
 //!
 //! [`request_words`] cuts a text into words, which a script may keep until it has a schema, and
 //! [`read_request`] reads a [`Request`] from them and the schema, which chooses the archive;
-//! [`parse_request`] does both. In `specs/` a request is a function of the bytes, or the first fault that
-//! they have (`specs/Requests.antt`).
+//! [`parse_request`] does both. In `specs/` a request is a function of the bytes, or the first
+//! fault that they have (`specs/Requests.antt`).
 #![tactic(auto)]
 
 mod fault;

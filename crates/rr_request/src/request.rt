@@ -75,7 +75,14 @@ fn rows_of(schema: &Schema, archive: u8, start: i64, end: i64) -> Result<(i64, u
         result (few_rows (rows_between schema.now key function archive start end)) }
     ensures fetchable { IfOk result (λ rows. (key : List ℕ) (function : ConsolidationFunction)
         → IsFetchable schema.now
-        (record { key = key; function = function; archive = archive; first = rows.0; rows = rows.1 })) }
+        (record {
+          key = key;
+          function = function;
+          archive = archive;
+          first = rows.0;
+          rows =
+              rows.1;
+        })) }
     ensures fault { IfErr result (λ fault. fault ≡ RequestFault.TooManyRows) }
 {
     let span = schema.span(archive);
@@ -104,7 +111,8 @@ fn rows_of(schema: &Schema, archive: u8, start: i64, end: i64) -> Result<(i64, u
 pub fn parse_request(alloc: Global, bytes: &[u8], schema: &Schema) -> Result<Request, RequestFault>
     ensures value { GivesUnless RequestFault.Memory request_view result
         (request_of_words schema.now bytes.now) }
-    ensures memory { NeedsMemoryAfter RequestFault.Memory (request_of_words schema.now bytes.now) result }
+    ensures memory { NeedsMemoryAfter RequestFault.Memory (request_of_words schema.now bytes.now)
+        result }
     ensures fetchable { IfOk result (λ q. IsFetchable schema.now (request_view q)) }
 {
     let words = request_words(bytes).ok_or(RequestFault::BadCommand)?;
@@ -121,7 +129,8 @@ pub fn read_request(
 ) -> Result<Request, RequestFault>
     ensures value { GivesUnless RequestFault.Memory request_view result
         (read schema.now (parts words.now)) }
-    ensures memory { NeedsMemoryAfter RequestFault.Memory (read schema.now (parts words.now)) result }
+    ensures memory { NeedsMemoryAfter RequestFault.Memory (read schema.now (parts words.now))
+        result }
     ensures fetchable { IfOk result (λ q. IsFetchable schema.now (request_view q)) }
 {
     let cf = function_of(words.function).ok_or(RequestFault::BadCf)?;

@@ -12,8 +12,8 @@ use rr_text::limits::MAX_SECOND;
 use rr_text::text::{cut, integer, number};
 use std::alloc::Global;
 
-/// The words of a request, `CF RESOLUTION START END KEY`, cut apart and not yet read. The key is all
-/// that follows the fourth space, so that its spaces are its own.
+/// The words of a request, `CF RESOLUTION START END KEY`, cut apart and not yet read. The key is
+/// all that follows the fourth space, so that its spaces are its own.
 #[derive(Clone, Copy)]
 pub struct RequestWords<'a> {
     pub(crate) function: &'a [u8],

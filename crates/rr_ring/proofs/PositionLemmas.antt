@@ -48,16 +48,19 @@ module _ (k n : ℕ) (some : 1 ≤ n) where
 
   position_is : (z : ℤ) → unsigned_abs z ≤ k → position_of n z ≡ ahead k n z % n
   unfolding position_of
-  position_is z near = ap unsigned_abs (int_rem_euclid_is z (pos n) n k (ahead k n z) (omega arith) refl (ahead_is z near))
+  position_is z near = ap unsigned_abs (int_rem_euclid_is z (pos n) n k (ahead k n z) (omega arith) refl
+      (ahead_is z near))
 
 -- the slot a few later has the position that is as many later, where the ring goes on so far
-pub position_on : (n : ℕ) (z : ℤ) (i : ℕ) → 1 ≤ n → position_of n z + i < n → position_of n (z +ℤ pos i) ≡ position_of n z + i
+pub position_on : (n : ℕ) (z : ℤ) (i : ℕ) → 1 ≤ n → position_of n z + i < n
+    → position_of n (z +ℤ pos i) ≡ position_of n z + i
 position_on n z i some near =
     let k = unsigned_abs z + unsigned_abs (z +ℤ pos i) in
     let is = position_is k n some z (omega arith) in
     let later = ahead_is k n some (z +ℤ pos i) (omega arith) in
     let first = ahead_is k n some z (omega arith) in
-    let more : ahead k n (z +ℤ pos i) ≡ ahead k n z + i = further z (k * n) i (ahead k n z) (ahead k n (z +ℤ pos i)) first later in
+    let more : ahead k n (z +ℤ pos i) ≡ ahead k n z + i =
+    further z (k * n) i (ahead k n z) (ahead k n (z +ℤ pos i)) first later in
     position_is k n some (z +ℤ pos i) (omega arith)
     ∙ ap (λ m. m % n) more
     ∙ rest_on (ahead k n z) i n (subst (λ r. r + i < n) is near)
@@ -79,7 +82,8 @@ not_above n a b some same near =
     let at_b : unsigned_abs b ≤ k = omega arith in
     let is_a = ahead_is k n some a at_a in
     let is_b = ahead_is k n some b at_b in
-    let rest : ahead k n a % n ≡ ahead k n b % n = sym (position_is k n some a at_a) ∙ same ∙ position_is k n some b at_b in
+    let rest : ahead k n a % n ≡ ahead k n b % n = sym (position_is k n some a at_a) ∙ same
+    ∙ position_is k n some b at_b in
     let gap : ahead k n b < ahead k n a + n = closer a b (k * n) n (ahead k n a) (ahead k n b) is_a is_b near in
     back a b (k * n) (ahead k n a) (ahead k n b) is_a is_b (no_gap (ahead k n a) (ahead k n b) n gap rest)
   where
@@ -90,7 +94,8 @@ not_above n a b some same near =
     back a b m x y p q le = omega (arith, ints)
 
 -- two slots of the last rows up to a newest one
-pub one_slot : (n : ℕ) (top a b : ℤ) → 1 ≤ n → position_of n a ≡ position_of n b → int_lt (top -ℤ pos n) a ≡ true → int_lt top a ≡ false → int_lt (top -ℤ pos n) b ≡ true → int_lt top b ≡ false → a ≡ b
+pub one_slot : (n : ℕ) (top a b : ℤ) → 1 ≤ n → position_of n a ≡ position_of n b → int_lt (top -ℤ pos n) a ≡ true
+    → int_lt top a ≡ false → int_lt (top -ℤ pos n) b ≡ true → int_lt top b ≡ false → a ≡ b
 one_slot n top a b some same low_a high_a low_b high_b =
     both a b
     (not_above n a b some same (near n top a b low_a high_b))

@@ -20,4 +20,5 @@ has_room ring slot origin = has_room_by_position ring.blocks.items (position_of 
 abbrev pub IsRowChanged : ℕ → ℤ → Entry → (ℤ → List Entry) → (ℤ → List Entry) → Type 0
 IsRowChanged rows slot e old new =
     (s : ℤ)
-    → new s ≡ (if position_of rows s == position_of rows slot then (if int_eq slot s then with_entry (old slot) e else []) else old s)
+    → new s ≡ (if position_of rows s == position_of rows slot then
+    (if int_eq slot s then with_entry (old slot) e else []) else old s)

@@ -2,16 +2,16 @@
 use Rattle.std.specs.Prelude.{ℕ, ℤ, Bool, not, ◌||◌, Option}
 use Rattle.rr_join.specs.Horizon.{is_above}
 use Rattle.rr_archive.specs.CellSlots.{CellSlot}
-use Rattle.rr_archive.specs.Cells.{Rows}
-use Rattle.rr_archive.specs.LiveRows.{cells_by, IsHeldBy}
+use Rattle.rr_archive.specs.Cells.{ArchiveCells}
+use Rattle.rr_archive.specs.LiveRows.{cells_by, IsArchiveStateBy}
 use Rattle.rr_ring.specs.declared.ring.Ring.{Ring}
 use Rattle.rr_ring.specs.Ring.{row_at, has_room}
 
-abbrev pub cells_in : Option ℤ → Ring → Rows
+abbrev pub cells_in : Option ℤ → Ring → ArchiveCells
 cells_in newest ring = cells_by ring.rows newest (row_at ring)
 
-abbrev pub IsHeld : Option ℤ → ℕ → Ring → Type 0
-IsHeld newest count ring = IsHeldBy ring.rows newest count (row_at ring)
+abbrev pub IsArchiveState : Option ℤ → ℕ → Ring → Type 0
+IsArchiveState newest count ring = IsArchiveStateBy ring.rows newest count (row_at ring)
 
 -- whether a put or a join at a cell slot takes no memory: the cell slot is past the horizon, or there is room
 abbrev pub is_ready_in : Option ℤ → Ring → CellSlot → Bool

@@ -56,7 +56,8 @@ impl Block {
     fn make_rows(&mut self, number: usize, len: usize) -> Result<(), AllocError>
         ensures same { items_in self.new ≡ items_in self.old }
         ensures made { OnOk result (number < length self.new.rows.items) }
-        ensures kept { number < length self.old.rows.items → self.new.rows.items ≡ self.old.rows.items }
+        ensures kept { number < length self.old.rows.items
+            → self.new.rows.items ≡ self.old.rows.items }
         ensures room { number < length self.old.rows.items → IsOk result }
     {
         if number < self.rows.len() {
@@ -86,8 +87,8 @@ impl Block {
         self.rows[number].make_room(self.alloc, slot, origin)
     }
 
-    /// Changes the entry of an origin in a slot, in the row of a number, and says whether it is a new
-    /// one.
+    /// Changes the entry of an origin in a slot, in the row of a number, and says whether it is a
+    /// new one.
     pub(crate) fn change(
         &mut self,
         len: usize,
@@ -110,7 +111,8 @@ impl Block {
     }
 
     pub(crate) fn copy(&self, alloc: Global) -> Result<Block, AllocError>
-        ensures { IfOk result (λ new. map slot_and_entries new.rows.items ≡ map slot_and_entries self.now.rows.items) }
+        ensures { IfOk result (λ new. map slot_and_entries new.rows.items
+            ≡ map slot_and_entries self.now.rows.items) }
     {
         let mut rows = Vec::with_capacity(alloc, self.rows.len())?;
         for row in &self.rows {

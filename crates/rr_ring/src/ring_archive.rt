@@ -8,7 +8,7 @@ ghost use Rattle.rr_archive.specs.CellSlots.{cell_slot, IsSlot, is_live_at};
 ghost use Rattle.rr_archive.specs.Changes.{Fits};
 ghost use Rattle.rr_archive.specs.Cells.{with_change};
 ghost use Rattle.rr_archive.specs.Codes.{coded_rows};
-ghost use Rattle.rr_ring.specs.RingCells.{IsHeld, cells_in, is_ready_in};
+ghost use Rattle.rr_ring.specs.RingCells.{IsArchiveState, cells_in, is_ready_in};
 
 use crate::ring::Ring;
 use rr_archive::change::Change;
@@ -31,7 +31,7 @@ pub struct RingArchive {
     newest: Option<i64>,
     count: usize,
     ring: Ring,
-    ghost held: { IsHeld newest count ring } by { Prim.hlevel (props, coded_rows) },
+    ghost held: { IsArchiveState newest count ring } by { Prim.hlevel (props, coded_rows) },
 }
 
 /// How many of `rows` rows are past the horizon as the newest slot moves on to a later one.
@@ -77,7 +77,8 @@ impl RingArchive {
             (fin.get (cells_in self.old.newest self.old.ring) (cell_slot slot origin)) change.now }
         ensures changed { OnOk result (cells_in self.new.newest self.new.ring
             ≡ trimmed (is_live_at self.old.ring.rows)
-            (with_change (cells_in self.old.newest self.old.ring) (cell_slot slot origin) change.now)) }
+            (with_change (cells_in self.old.newest self.old.ring) (cell_slot slot origin)
+            change.now)) }
         ensures dead { IsFalse (is_above self.old.ring.rows self.old.newest slot)
             → cells_in self.new.newest self.new.ring ≡ cells_in self.old.newest self.old.ring }
         ensures unchanged { OnErr result (cells_in self.new.newest self.new.ring

@@ -55,7 +55,8 @@ impl Ring {
         ensures at_most { result ≤ BLOCK_ROWS }
         ensures within { position + result ≤ self.now.rows }
         ensures empty { (i : ℕ) (slot : ℤ)
-            → 1 ≤ i → i < result → items_by_position self.now.blocks.items (position + i) slot ≡ [] }
+            → 1 ≤ i → i < result → items_by_position self.now.blocks.items (position + i) slot
+            ≡ [] }
     {
         let number = position % BLOCK_ROWS;
         if number + 1 < self.rows_made(position) {
@@ -64,8 +65,8 @@ impl Ring {
         self.block_len(position) - number
     }
 
-    /// How many slots on from one the next is to look at, at most `most`: nothing is stored of those
-    /// between. A block that isn't made is passed over in one step.
+    /// How many slots on from one the next is to look at, at most `most`: nothing is stored of
+    /// those between. A block that isn't made is passed over in one step.
     pub(crate) fn slots_on(&self, slot: i64, most: u32) -> u32
         requires { 1 ≤ most }
         ensures some { 1 ≤ result }
@@ -78,9 +79,11 @@ impl Ring {
 
     /// Adds blocks up to a number; none of them takes memory for rows yet.
     fn add_blocks(&mut self, number: usize) -> Result<(), AllocError>
-        ensures same { items_by_position self.new.blocks.items ≡ items_by_position self.old.blocks.items }
+        ensures same { items_by_position self.new.blocks.items
+            ≡ items_by_position self.old.blocks.items }
         ensures added { OnOk result (number < length self.new.blocks.items) }
-        ensures kept { number < length self.old.blocks.items → self.new.blocks.items ≡ self.old.blocks.items }
+        ensures kept { number < length self.old.blocks.items
+            → self.new.blocks.items ≡ self.old.blocks.items }
         ensures room { number < length self.old.blocks.items → IsOk result }
         ensures rows { self.new.rows ≡ self.old.rows }
     {
@@ -109,8 +112,8 @@ impl Ring {
         self.blocks[position / BLOCK_ROWS].make_room(len, position % BLOCK_ROWS, slot, origin)
     }
 
-    /// Changes the entry of an origin in a slot, and says whether it is a new one. What is stored of
-    /// another slot with the same position is written over.
+    /// Changes the entry of an origin in a slot, and says whether it is a new one. What is stored
+    /// of another slot with the same position is written over.
     pub(crate) fn change(
         &mut self,
         slot: i64,
@@ -119,8 +122,10 @@ impl Ring {
     ) -> Result<bool, AllocError>
         requires { Fits (entry_at (row_at self.old slot) origin) change.now }
         ensures changed { OnOk result (IsRowChanged self.old.rows slot
-            (entry_after (row_at self.old slot) origin change.now) (row_at self.old) (row_at self.new)) }
-        ensures is_new { IfOk result (λ is_new. is_new ≡ is_none (entry_at (row_at self.old slot) origin)) }
+            (entry_after (row_at self.old slot) origin change.now) (row_at self.old)
+            (row_at self.new)) }
+        ensures is_new { IfOk result (λ is_new. is_new
+            ≡ is_none (entry_at (row_at self.old slot) origin)) }
         ensures unchanged { OnErr result (row_at self.new ≡ row_at self.old) }
         ensures room { IsTrue (has_room self.old slot origin) → IsOk result }
         ensures rows { self.new.rows ≡ self.old.rows }

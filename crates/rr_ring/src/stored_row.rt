@@ -42,8 +42,8 @@ impl StoredRow {
         }
     }
 
-    /// Changes the entry of an origin in a slot, and says whether it is a new one. The row of another
-    /// slot is written over.
+    /// Changes the entry of an origin in a slot, and says whether it is a new one. The row of
+    /// another slot is written over.
     pub(crate) fn change(
         &mut self,
         alloc: Global,
@@ -54,7 +54,8 @@ impl StoredRow {
         requires { Fits (entry_at (items_at (Some self.old) slot) origin) change.now }
         ensures changed { OnOk result (slot_and_entries self.new ≡ (
           slot,
-          with_entry (items_at (Some self.old) slot) (entry_after (items_at (Some self.old) slot) origin change.now),
+          with_entry (items_at (Some self.old) slot)
+              (entry_after (items_at (Some self.old) slot) origin change.now),
         )) }
         ensures is_new { IfOk result (λ is_new. is_new
             ≡ is_none (entry_at (items_at (Some self.old) slot) origin)) }

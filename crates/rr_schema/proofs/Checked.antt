@@ -10,7 +10,8 @@ use Rattle.rr_text.specs.Results.{first_fault}
 use Rattle.rr_schema.proofs.Rising.{Rise}
 
 -- a test that finds no fault was false, and none was found after it
-none_found : (b : Bool) (fault : SchemaFault) (later : Option SchemaFault) → cond b (Some fault) later ≡ None → (b ≡ false) × (later ≡ None)
+none_found : (b : Bool) (fault : SchemaFault) (later : Option SchemaFault) → cond b (Some fault) later ≡ None
+    → (b ≡ false) × (later ≡ None)
 none_found true fault later h = absurd cc
 none_found false fault later h = (refl, h)
 
@@ -53,7 +54,8 @@ checked_archive before a h =
       more,
     )
 
-each_more : (a : ArchiveSpec) (others : List ArchiveSpec) → IsArchive a → All IsArchive others → All IsArchive (a ∷ others)
+each_more : (a : ArchiveSpec) (others : List ArchiveSpec) → IsArchive a → All IsArchive others
+    → All IsArchive (a ∷ others)
 each_more a others first rest zero d lt = first
 each_more a others first rest (suc k) d lt = rest k d (omega arith)
 
@@ -68,7 +70,8 @@ rise_more a [] above rest k lt = absurd (omega arith)
 rise_more a (b ∷ others) above rest zero lt = above
 rise_more a (b ∷ others) above rest (suc k) lt = rw add-one (rw add-one at (rest k (omega arith)))
 
-checked_archives : (before : ℕ) (archives : List ArchiveSpec) → archives_fault before archives ≡ None → StartsAbove before archives × All IsArchive archives × Rise archives
+checked_archives : (before : ℕ) (archives : List ArchiveSpec) → archives_fault before archives ≡ None
+    → StartsAbove before archives × All IsArchive archives × Rise archives
 unfolding StartsAbove
 checked_archives before [] h = (tt, (λ k d lt. absurd (omega arith)), (λ k lt. absurd (omega arith)))
 checked_archives before (a ∷ others) h =
@@ -77,7 +80,8 @@ checked_archives before (a ∷ others) h =
     let rest = checked_archives a.steps others both.1 in
     (first.1, each_more a others first.0 rest.1, rise_more a others rest.0 rest.2)
 
-pub checked_layout : (step : ℕ) (archives : List ArchiveSpec) → schema_fault step archives ≡ None → IsLayout (record { step = step; archives = archives })
+pub checked_layout : (step : ℕ) (archives : List ArchiveSpec) → schema_fault step archives ≡ None
+    → IsLayout (record { step = step; archives = archives })
 checked_layout step archives h =
     let in_day = none_found _ _ _ h in
     let some = none_found _ _ _ in_day.1 in

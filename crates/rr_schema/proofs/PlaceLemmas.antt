@@ -16,13 +16,17 @@ left_below : (q m r : ℕ) → m ≡ suc q + r → unsigned_abs (negsuc q -ℤ n
 left_below q m r h =
     let e : (negsuc q -ℤ neg_ℤ (pos m)) ≡ pos r = omega (arith, ints) in ap unsigned_abs e
 
-pub rem_is_place : (s : Layout) (i : ℕ) (time : ℤ) → 0 < (archive_at s i).steps → unsigned_abs (int_rem_euclid (int_div_euclid time (pos (s.step * 1_000_000_000))) (pos (archive_at s i).steps)) ≡ place_of s i time
+pub rem_is_place : (s : Layout) (i : ℕ) (time : ℤ) → 0 < (archive_at s i).steps
+    → unsigned_abs (int_rem_euclid (int_div_euclid time (pos (s.step * 1_000_000_000))) (pos (archive_at s i).steps))
+    ≡ place_of s i time
 unfolding place_of
 rem_is_place s i (pos a) some =
     let n = (archive_at s i).steps in
     let q = a / (s.step * 1_000_000_000) in
-    subst (λ d. q % n ≡ unsigned_abs (pos q -ℤ (pos d *ℤ pos n))) (sym (slot_in_steps a s.step n)) (sym (left_above q (q / n * n) (q % n) (omega arith)))
+    subst (λ d. q % n ≡ unsigned_abs (pos q -ℤ (pos d *ℤ pos n))) (sym (slot_in_steps a s.step n))
+    (sym (left_above q (q / n * n) (q % n) (omega arith)))
 rem_is_place s i (negsuc a) some =
     let n = (archive_at s i).steps in
     let q = a / (s.step * 1_000_000_000) in
-    subst (λ d. n - 1 - q % n ≡ unsigned_abs (negsuc q -ℤ (negsuc d *ℤ pos n))) (sym (slot_in_steps a s.step n)) (sym (left_below q (suc (q / n) * n) (n - 1 - q % n) (omega (arith, suc-mul (q / n) n))))
+    subst (λ d. n - 1 - q % n ≡ unsigned_abs (negsuc q -ℤ (negsuc d *ℤ pos n))) (sym (slot_in_steps a s.step n))
+    (sym (left_below q (suc (q / n) * n) (n - 1 - q % n) (omega (arith, suc-mul (q / n) n))))

@@ -47,9 +47,11 @@ had_archives s bytes a = pointwise nat_eq bytes (flat_map archive_bytes (older s
 
 -- what was added to an older schema, if it is the schema before an addition: the bytes of its archives tell
 abbrev pub addition_since : Layout → Layout → Option Addition
-addition_since s t = if t.step == s.step then find (had_archives s (flat_map archive_bytes t.archives)) (additions s) else None
+addition_since s t = if t.step == s.step then find (had_archives s (flat_map archive_bytes t.archives))
+    (additions s) else None
 
 -- they do, of schemas within their limits
 abbrev pub AdditionsAreFound : Type 0
 AdditionsAreFound =
-    (s t : Layout) (a : Addition) → IsLayout s → IsLayout t → (addition_since s t ≡ Some a) ↔ (IsAddition s a × (t ≡ older s a))
+    (s t : Layout) (a : Addition) → IsLayout s → IsLayout t
+    → (addition_since s t ≡ Some a) ↔ (IsAddition s a × (t ≡ older s a))

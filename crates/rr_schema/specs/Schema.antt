@@ -43,7 +43,8 @@ slot_of s i time = int_div_euclid time (pos (span s i * 1_000_000_000))
 -- which step of its slot a time falls in, from 0: floor(time / (step * 10^9)) - slot * steps
 unfoldable pub place_of : Layout → ℕ → ℤ → ℕ
 place_of s i time =
-    unsigned_abs (int_div_euclid time (pos (s.step * 1_000_000_000)) -ℤ (slot_of s i time *ℤ pos (archive_at s i).steps))
+    unsigned_abs (int_div_euclid time (pos (s.step * 1_000_000_000)) -ℤ
+    (slot_of s i time *ℤ pos (archive_at s i).steps))
 
 -- whether `known` places leave at most the fraction xff of a row unknown
 abbrev pub is_known_enough : Layout → ℕ → ℕ → Bool

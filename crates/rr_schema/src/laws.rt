@@ -13,11 +13,12 @@ pub fn bytes_tell_the_schema()
 /// The archive that answers a fetch is the one with the greatest span that is not above the
 /// resolution, else the one with the least span.
 pub fn choice_is_the_rule()
-    ensures { (s : Layout) (resolution : ℕ) → IsLayout s → IsChoice s resolution (choice s resolution) }
+    ensures { (s : Layout) (resolution : ℕ) → IsLayout s
+        → IsChoice s resolution (choice s resolution) }
 {}
 
-/// At most one archive of a schema is the one that it has more than another, and without it a schema
-/// is within the limits.
+/// At most one archive of a schema is the one that it has more than another, and without it a
+/// schema is within the limits.
 pub fn one_archive_is_added()
     ensures one { OneIsAdded }
     ensures less { OneLessIsLayout }

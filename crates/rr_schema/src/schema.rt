@@ -170,8 +170,8 @@ impl Schema {
     }
 
     /// The number of the archive that this schema has more than an older one, where it has the step
-    /// and the archives of the older one, in their order, and one more. No memory is taken; the cost
-    /// is quadratic in the archives, of which there are few.
+    /// and the archives of the older one, in their order, and one more. No memory is taken; the
+    /// cost is quadratic in the archives, of which there are few.
     pub fn added(&self, old: &Schema) -> Option<u8>
         ensures some { IfSome result (λ i. HasAdded i self.now old.now) }
         ensures none { IfNone result ((i : ℕ) → HasAdded i self.now old.now → ⊥) }
@@ -219,8 +219,8 @@ impl Schema {
         are_of_schema(self.step, &self.archives, bytes)
     }
 
-    /// Whether these are the bytes of the archives that the schema had before an addition. No memory
-    /// is taken; the cost is linear in the archives.
+    /// Whether these are the bytes of the archives that the schema had before an addition. No
+    /// memory is taken; the cost is linear in the archives.
     pub fn had_archives(&self, addition: Addition, bytes: &[u8]) -> bool
         requires { IsAddition self.now addition }
         ensures { result ≡ had_archives self.now bytes.now addition }
@@ -277,8 +277,8 @@ impl Schema {
         left_over(time, self.step, self.archive(archive).steps)
     }
 
-    /// Whether a row of an archive is known when `known` of its places are: at most the fraction xff
-    /// of its steps is then unknown.
+    /// Whether a row of an archive is known when `known` of its places are: at most the fraction
+    /// xff of its steps is then unknown.
     pub fn known_enough(&self, archive: u8, known: u32) -> bool
         requires { archive < length self.now.archives }
         ensures { result ≡ is_known_enough self.now archive known }

@@ -50,21 +50,27 @@ write_command-rest name line =
     rw some.2 (ap (λ (l : List ℕ). Some (write name l)) (text_of-words line some.0 some.1 some.2))
 
 -- the words after the first
-rest_has_none : (first second : List ℕ) (rest : List (List ℕ)) → HasNoLineFeed (text_of (first ∷ second ∷ rest)) → HasNoLineFeed (text_of (second ∷ rest))
+rest_has_none : (first second : List ℕ) (rest : List (List ℕ)) → HasNoLineFeed (text_of (first ∷ second ∷ rest))
+    → HasNoLineFeed (text_of (second ∷ rest))
 rest_has_none first second rest none =
     let after = text_of (second ∷ rest) in
-    let halves = or_parts (list_any (λ byte. eqb byte LINE_FEED) first) (list_any (λ byte. eqb byte LINE_FEED) (SPACE ∷ after)) (sym (list_any-append (λ byte. eqb byte LINE_FEED) first (SPACE ∷ after)) ∙ none) in
+    let halves = or_parts (list_any (λ byte. eqb byte LINE_FEED) first)
+    (list_any (λ byte. eqb byte LINE_FEED) (SPACE ∷ after))
+    (sym (list_any-append (λ byte. eqb byte LINE_FEED) first (SPACE ∷ after)) ∙ none) in
     (or_parts (eqb SPACE LINE_FEED) (list_any (λ byte. eqb byte LINE_FEED) after) halves.1).1
 
-pub write_is_one_line : (name : List ℕ) (words : List (List ℕ)) → HasNoLineFeed (text_of (name ∷ words)) → IfSome (write_command words) IsOneLine
+pub write_is_one_line : (name : List ℕ) (words : List (List ℕ)) → HasNoLineFeed (text_of (name ∷ words))
+    → IfSome (write_command words) IsOneLine
 write_is_one_line name [] none = tt
 write_is_one_line name (node ∷ []) none = tt
-write_is_one_line name (node ∷ line ∷ rest) none = rest_has_none node line rest (rest_has_none name node (line ∷ rest) none)
+write_is_one_line name (node ∷ line ∷ rest) none =
+    rest_has_none node line rest (rest_has_none name node (line ∷ rest) none)
 
 -- ---- page
 
 -- three words follow the name
-pub page_command-none : (name : List ℕ) (words : List (List ℕ)) → are_three words ≡ false → page_command (name ∷ words) ≡ None
+pub page_command-none : (name : List ℕ) (words : List (List ℕ)) → are_three words ≡ false
+    → page_command (name ∷ words) ≡ None
 page_command-none name [] other = refl
 page_command-none name (a ∷ []) other = refl
 page_command-none name (a ∷ b ∷ []) other = refl
@@ -82,7 +88,8 @@ page_is_one_line (a ∷ b ∷ c ∷ d ∷ e ∷ rest) = tt
 -- ---- delta
 
 -- three words follow the name and the giver
-pub delta_command-none : (name giver : List ℕ) (words : List (List ℕ)) → are_three words ≡ false → delta_command (name ∷ giver ∷ words) ≡ None
+pub delta_command-none : (name giver : List ℕ) (words : List (List ℕ)) → are_three words ≡ false
+    → delta_command (name ∷ giver ∷ words) ≡ None
 delta_command-none name giver [] other = refl
 delta_command-none name giver (a ∷ []) other = refl
 delta_command-none name giver (a ∷ b ∷ []) other = refl
@@ -163,10 +170,20 @@ load_is_one_line (name ∷ node ∷ origin ∷ more ∷ rest) = tt
 -- ---- fetch
 
 with_key : (name function resolution start end key : List ℕ)
-    → fetch_command (name ∷ function ∷ resolution ∷ start ∷ end ∷ words_of key) ≡ Some (fetch name (record { function = function; resolution = resolution; start = start; end = end; key = key }))
+    → fetch_command (name ∷ function ∷ resolution ∷ start ∷ end ∷ words_of key)
+    ≡ Some (fetch name (record {
+      function = function;
+      resolution = resolution;
+      start = start;
+      end = end;
+      key =
+          key;
+    }))
 with_key name function resolution start end key =
     let some = some_parts SPACE key in
-    rw some.2 (ap (λ (k : List ℕ). Some (fetch name (record { function = function; resolution = resolution; start = start; end = end; key = k }))) (text_of-words key some.0 some.1 some.2))
+    rw some.2 (ap (λ (k : List ℕ). Some (fetch name
+    (record { function = function; resolution = resolution; start = start; end = end; key = k })))
+    (text_of-words key some.0 some.1 some.2))
 
 abbrev IsRead : List ℕ → List ℕ → Type 0
 IsRead name rest = fetch_command (name ∷ words_of rest) ≡ option_map (fetch name) (request_words rest)
@@ -177,16 +194,19 @@ unfolding request_words
 fetch_command-rest name rest =
     elim (cut_at SPACE rest) as (λ cut. cut_at SPACE rest ≡ cut → Cuts SPACE rest cut → IsRead name rest) [
       | None ↦ λ e h. rw (e, h) refl
-      | Some a ↦ λ e h. elim (cut_at SPACE a.1) as (λ cut. cut_at SPACE a.1 ≡ cut → Cuts SPACE a.1 cut → IsRead name rest) [
-        | None ↦ λ f i. rw (e, h, f, i) refl
-        | Some b ↦ λ f i. elim (cut_at SPACE b.1) as (λ cut. cut_at SPACE b.1 ≡ cut → Cuts SPACE b.1 cut → IsRead name rest) [
-          | None ↦ λ g j. rw (e, h, f, i, g, j) refl
-          | Some c ↦ λ g j. elim (cut_at SPACE c.1) as (λ cut. cut_at SPACE c.1 ≡ cut → Cuts SPACE c.1 cut → IsRead name rest) [
-            | None ↦ λ k l. rw (e, h, f, i, g, j, k, l) refl
-            | Some d ↦ λ k l. rw (e, h, f, i, g, j, k, l) (with_key name a.0 b.0 c.0 d.0 d.1)
-          ] refl (cut_parts SPACE c.1)
-        ] refl (cut_parts SPACE b.1)
-      ] refl (cut_parts SPACE a.1)
+      | Some a ↦ λ e h. elim (cut_at SPACE a.1) as (λ cut. cut_at SPACE a.1 ≡ cut → Cuts SPACE a.1 cut
+          → IsRead name rest) [
+            | None ↦ λ f i. rw (e, h, f, i) refl
+            | Some b ↦ λ f i. elim (cut_at SPACE b.1) as
+                (λ cut. cut_at SPACE b.1 ≡ cut → Cuts SPACE b.1 cut → IsRead name rest) [
+                  | None ↦ λ g j. rw (e, h, f, i, g, j) refl
+                  | Some c ↦ λ g j. elim (cut_at SPACE c.1) as
+                      (λ cut. cut_at SPACE c.1 ≡ cut → Cuts SPACE c.1 cut → IsRead name rest) [
+                        | None ↦ λ k l. rw (e, h, f, i, g, j, k, l) refl
+                        | Some d ↦ λ k l. rw (e, h, f, i, g, j, k, l) (with_key name a.0 b.0 c.0 d.0 d.1)
+                      ] refl (cut_parts SPACE c.1)
+                ] refl (cut_parts SPACE b.1)
+          ] refl (cut_parts SPACE a.1)
     ] refl (cut_parts SPACE rest)
 
 pub fetch_is_one_line : (words : List (List ℕ)) → IfSome (fetch_command words) IsOneLine

@@ -63,7 +63,14 @@ load_command _ = None
 -- fetch NODE CF RESOLUTION START END KEY
 abbrev pub fetch_command : List (List ℕ) → Option Command
 fetch_command (name ∷ function ∷ resolution ∷ start ∷ end ∷ key ∷ rest) =
-    Some (fetch name (record { function = function; resolution = resolution; start = start; end = end; key = text_of (key ∷ rest) }))
+    Some (fetch name (record {
+      function = function;
+      resolution = resolution;
+      start = start;
+      end = end;
+      key =
+          text_of (key ∷ rest);
+    }))
 fetch_command _ = None
 
 -- the command of its name and the words after it, if it is one that copies or prints what nodes have

@@ -24,7 +24,8 @@ is_skipped (b ∷ bs) = b == HASH
 abbrev pub numbered_lines : ℕ → List (List ℕ) → List (ℕ × Result Command SyntaxFault)
 numbered_lines number [] = []
 numbered_lines number (line ∷ lines) =
-    if is_skipped line then numbered_lines (number + 1) lines else (number, said_by line) ∷ numbered_lines (number + 1) lines
+    if is_skipped line then numbered_lines (number + 1) lines else (number, said_by line) ∷ numbered_lines (number + 1)
+    lines
 
 -- what the lines of a script say: a line ends at a line feed, or at the end of the script
 abbrev pub commands_of : List ℕ → List (ℕ × Result Command SyntaxFault)

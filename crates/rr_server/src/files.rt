@@ -13,7 +13,8 @@ use std::fs;
 use std::io::{BufReader, ErrorKind};
 use std::rt::Files;
 
-/// Tells the operator what is to be said of a file. If this can't be printed, the node still does what it does.
+/// Tells the operator what is to be said of a file. If this can't be printed, the node still does
+/// what it does.
 fn tell(rt: &impl Eprint, file: &str, text: impl Display + Drop) {
     let _printed = eprintln!(rt; "rr: {file}: {text}");
 }
@@ -29,7 +30,8 @@ fn tell_remarks(rt: &(impl AllocGlobal + Eprint), file: &str, text: &[u8]) {
     }
 }
 
-/// The configuration in a file. The ending says why there is none. What is to be said of its text is told.
+/// The configuration in a file. The ending says why there is none. What is to be said of its text
+/// is told.
 pub(crate) fn read_config(
     rt: &(impl AllocGlobal + Files + Eprint),
     file: &str,
@@ -74,8 +76,8 @@ fn load_replica(
     }
 }
 
-/// The replica that a node begins with: that of a snapshot in a file, or an empty one if no file is named. The
-/// ending says why there is none.
+/// The replica that a node begins with: that of a snapshot in a file, or an empty one if no file is
+/// named. The ending says why there is none.
 pub(crate) fn first_replica(
     rt: &(impl AllocGlobal + Files + Eprint),
     schema: &Schema,
@@ -91,8 +93,8 @@ pub(crate) fn first_replica(
     }
 }
 
-/// Looks for the folder of a file, so that a node doesn't serve which couldn't save to it. If it can't be opened, that
-/// is told.
+/// Looks for the folder of a file, so that a node doesn't serve which couldn't save to it. If it
+/// can't be opened, that is told.
 pub(crate) fn check_folder(
     rt: &(impl AllocGlobal + Files + Eprint),
     file: &str,

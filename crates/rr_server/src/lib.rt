@@ -5,10 +5,11 @@
 //!                └── Server ─> a configuration, a snapshot to begin with, listeners, and a node at work
 //! ```
 //!
-//! [`run`] takes the words, the configuration, the snapshot and the addresses in this order, and the first fault ends
-//! it. All of it is generic in the runtime, so that a test can stand in for the process, its files, its network and
-//! its clock. Nothing is known of these, so no function here has a clause: what the text and the bytes mean is in the
-//! contracts of [`Config::from_toml`](rr_config::Config::from_toml) and [`load`](rr_snapshot::load), and what a
+//! [`run`] takes the words, the configuration, the snapshot and the addresses in this order, and
+//! the first fault ends it. All of it is generic in the runtime, so that a test can stand in for
+//! the process, its files, its network and its clock. Nothing is known of these, so no function
+//! here has a clause: what the text and the bytes mean is in the contracts of
+//! [`Config::from_toml`](rr_config::Config::from_toml) and [`load`](rr_snapshot::load), and what a
 //! node does in that of [`serve_node`](rr_node::serve_node).
 #![tactic(auto)]
 

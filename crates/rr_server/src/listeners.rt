@@ -8,8 +8,9 @@ use std::io;
 use std::io::ErrorKind;
 use std::net::{Net, TcpListener, TcpStream};
 
-/// The listeners of a node: one for lines, and one for each reader; the flag that ends them, the one by which an empty
-/// line connection asks for a snapshot, and the one that says that a peer of another schema pulled.
+/// The listeners of a node: one for lines, and one for each reader; the flag that ends them, the
+/// one by which an empty line connection asks for a snapshot, and the one that says that a peer of
+/// another schema pulled.
 pub(crate) struct Listeners {
     pub(crate) lines: Listening,
     pub(crate) fetches: Vec<Listening>,
@@ -59,7 +60,8 @@ impl Listeners {
     }
 }
 
-/// Why an address isn't listened on: memory ran out, or it can't be, which is told with the system's reason.
+/// Why an address isn't listened on: memory ran out, or it can't be, which is told with the
+/// system's reason.
 fn ending_of(rt: &impl Eprint, address: &str, error: &io::Error) -> Ending {
     match error.kind() {
         ErrorKind::OutOfMemory => Ending::Failed(ToolFault::Memory),
@@ -82,8 +84,8 @@ fn by_turns(lines: Listening, every: Option<u64>, wish: &Flag) -> Result<Listeni
     }
 }
 
-/// Listens on an address, whose connections may be silent for the idle time, until the flag is raised. The first is
-/// taken once all threads have begun.
+/// Listens on an address, whose connections may be silent for the idle time, until the flag is
+/// raised. The first is taken once all threads have begun.
 fn listen(
     rt: &(impl AllocGlobal + Eprint + Net<Listener = TcpListener, Stream = TcpStream>),
     address: &str,

@@ -21,8 +21,8 @@ pub(crate) fn lent(text: &Option<String>) -> Option<&str> {
 
 /// Obeys the order of the process's own words, and says how that ended.
 ///
-/// A node's configuration is read first, then the snapshot to begin with, then it listens on its addresses; the first
-/// fault ends it. A file that can't be read is named on standard error.
+/// A node's configuration is read first, then the snapshot to begin with, then it listens on its
+/// addresses; the first fault ends it. A file that can't be read is named on standard error.
 pub fn run<R>(rt: &R) -> Ending
 where
     R: AllocGlobal

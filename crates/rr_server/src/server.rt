@@ -54,8 +54,9 @@ where
         Ok(Server { rt, config, save })
     }
 
-    /// Begins with the snapshot in a file, or with nothing, listens, and serves until all rounds and visits are done.
-    /// If there is no folder for the snapshots that are to be saved, it doesn't begin.
+    /// Begins with the snapshot in a file, or with nothing, listens, and serves until all rounds
+    /// and visits are done. If there is no folder for the snapshots that are to be saved, it
+    /// doesn't begin.
     pub(crate) fn serve(&self, origin: Origin, load: Option<&str>) -> Result<Ending, Ending> {
         if let Some(file) = self.save {
             check_folder(self.rt, file)?;
@@ -135,7 +136,8 @@ where
         )
     }
 
-    /// What takes the snapshots, at most one in a turn unless one is wished for, and tells of an alarm.
+    /// What takes the snapshots, at most one in a turn unless one is wished for, and tells of an
+    /// alarm.
     fn shelf(
         &self,
         wish: Flag,

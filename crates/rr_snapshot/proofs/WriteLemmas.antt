@@ -14,7 +14,8 @@ use Rattle.rr_replica.proofs.Counted.{past_end, take_all}
 use Rattle.rr_replica.proofs.InTurn.{taken_more}
 
 -- the text of one cell more
-pub text_more : (text : NamedCell → List ℕ) (es : List NamedCell) (i : ℕ) (e : NamedCell) → slice_get es i ≡ Some e → flat_map text (take (i + 1) es) ≡ flat_map text (take i es) ++ text e
+pub text_more : (text : NamedCell → List ℕ) (es : List NamedCell) (i : ℕ) (e : NamedCell) → slice_get es i ≡ Some e
+    → flat_map text (take (i + 1) es) ≡ flat_map text (take i es) ++ text e
 text_more text es i e at =
     ap (flat_map text) (taken_more es 0 i e (ap (slice_get es) (from_zero i) ∙ at))
     ∙ flat_map-append text (take i es) (e ∷ [])
@@ -24,7 +25,8 @@ text_more text es i e at =
     from_zero k = omega arith
 
 -- the text of some cells at the front begins that of all
-pub text_parts : (text : NamedCell → List ℕ) (es : List NamedCell) (i : ℕ) → flat_map text (take i es) ++ flat_map text (drop i es) ≡ flat_map text es
+pub text_parts : (text : NamedCell → List ℕ) (es : List NamedCell) (i : ℕ)
+    → flat_map text (take i es) ++ flat_map text (drop i es) ≡ flat_map text es
 text_parts text es i = sym (flat_map-append text (take i es) (drop i es)) ∙ ap (flat_map text) (take-append-drop i es)
 
 -- what was written whole is a front
@@ -32,16 +34,20 @@ pub whole_is_front : (old new : Option (List ℕ)) (text : List ℕ) → Appends
 whole_is_front old new text whole = (text, [], sym (append-nil text), whole)
 
 -- some cells at the front were written, and then a front of the next
-pub cells_front : (text : NamedCell → List ℕ) (es : List NamedCell) (i : ℕ) (e : NamedCell) (a b c : Option (List ℕ)) → slice_get es i ≡ Some e → Appends a b (flat_map text (take i es)) → AppendsPrefix b c (text e)
+pub cells_front : (text : NamedCell → List ℕ) (es : List NamedCell) (i : ℕ) (e : NamedCell) (a b c : Option (List ℕ))
+    → slice_get es i ≡ Some e → Appends a b (flat_map text (take i es)) → AppendsPrefix b c (text e)
     → AppendsPrefix a c (flat_map text es)
 cells_front text es i e a b c at done part =
-    subst (AppendsPrefix a c) (ap (λ (l : List ℕ). l ++ flat_map text (drop (i + 1) es)) (sym (text_more text es i e at)) ∙ text_parts text es (i + 1))
-    (prefix_before a c (flat_map text (take i es) ++ text e) (flat_map text (drop (i + 1) es)) (prefix_after a b c (flat_map text (take i es)) (text e) done part))
+    subst (AppendsPrefix a c) (ap (λ (l : List ℕ). l ++ flat_map text (drop (i + 1) es))
+    (sym (text_more text es i e at)) ∙ text_parts text es (i + 1))
+    (prefix_before a c (flat_map text (take i es) ++ text e) (flat_map text (drop (i + 1) es))
+    (prefix_after a b c (flat_map text (take i es)) (text e) done part))
 
 -- ---- no cell is left
 
 pub all_taken : (es : List NamedCell) (i : ℕ) → length es ≤ i → take i es ≡ es
 all_taken es i past = take_all es i past
 
-pub none_left : (es : List NamedCell) (i : ℕ) (o : Option CellRef) → option_map seen_cell o ≡ slice_get es i → o ≡ None → take i es ≡ es
+pub none_left : (es : List NamedCell) (i : ℕ) (o : Option CellRef) → option_map seen_cell o ≡ slice_get es i → o ≡ None
+    → take i es ≡ es
 none_left es i o next none = all_taken es i (past_end es i (sym next ∙ ap (option_map seen_cell) none))

@@ -6,7 +6,7 @@ use Rattle.rr_schema.specs.Added.{addition_since}
 use Rattle.rr_schema.specs.declared.added.Addition.{Addition}
 use Rattle.rr_contrib.specs.declared.contribution.Contribution.{Contribution}
 use Rattle.rr_model.specs.CellNames.{CellName}
-use Rattle.rr_cells.specs.Holding.{IsHolding, Holding}
+use Rattle.rr_cells.specs.ReplicaState.{IsReplicaState, ReplicaState}
 use Rattle.rr_page.specs.Version.{latest}
 use Rattle.rr_parts.specs.declared.fault.LoadFault.TheVariants.{SchemaDiffers}
 use Rattle.rr_parts.specs.declared.heading.TheConstants.{MAX_SNAPSHOT_CELLS}
@@ -18,7 +18,7 @@ use Rattle.rr_snapshot.specs.Loading.{loaded_at}
 -- cells, as a replica of that origin with the same cells and the first number
 abbrev pub SavedIsLoaded : Type 0
 SavedIsLoaded =
-    (h : Holding) (origin : ℕ) → IsHolding h → len h.cells ≤ MAX_SNAPSHOT_CELLS → origin ≢ h.origin
+    (h : ReplicaState) (origin : ℕ) → IsReplicaState h → len h.cells ≤ MAX_SNAPSHOT_CELLS → origin ≢ h.origin
     → ((n : CellName) (c : Contribution) → get h.cells n ≡ Some c → n.origin ≢ origin)
     → loaded_at h.schema origin (snapshot_text latest h.schema h.origin (entries h.cells))
     ≡ Ok (record { schema = h.schema; origin = origin; next = 1; cells = h.cells })
@@ -26,7 +26,8 @@ SavedIsLoaded =
 -- under a schema that has one archive more it is loaded with the same cells, and the numbers of their archives raised
 abbrev pub SavedIsRaised : Type 0
 SavedIsRaised =
-    (h : Holding) (s : Layout) (a : Addition) (origin : ℕ) → IsHolding h → IsLayout s → addition_since s h.schema ≡ Some a
+    (h : ReplicaState) (s : Layout) (a : Addition) (origin : ℕ) → IsReplicaState h → IsLayout s
+    → addition_since s h.schema ≡ Some a
     → len h.cells ≤ MAX_SNAPSHOT_CELLS → origin ≢ h.origin
     → ((n : CellName) (c : Contribution) → get h.cells n ≡ Some c → n.origin ≢ origin)
     → loaded_at s origin (snapshot_text latest h.schema h.origin (entries h.cells))
@@ -35,6 +36,6 @@ SavedIsRaised =
 -- and under any other schema it is refused
 abbrev pub OtherSchemasDiffer : Type 0
 OtherSchemasDiffer =
-    (h : Holding) (s : Layout) (origin : ℕ) → IsHolding h → IsLayout s → addition_since s h.schema ≡ None
+    (h : ReplicaState) (s : Layout) (origin : ℕ) → IsReplicaState h → IsLayout s → addition_since s h.schema ≡ None
     → len h.cells ≤ MAX_SNAPSHOT_CELLS
     → loaded_at s origin (snapshot_text latest h.schema h.origin (entries h.cells)) ≡ Err SchemaDiffers

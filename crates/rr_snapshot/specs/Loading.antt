@@ -10,7 +10,7 @@ use Rattle.rr_model.specs.CellNames.{CellName}
 use Rattle.rr_page.specs.declared.version.Version.{Version}
 use Rattle.rr_page.specs.PageReading.{cells_at}
 use Rattle.rr_cells.specs.CellBounds.{NamedCell}
-use Rattle.rr_cells.specs.Holding.{Holding}
+use Rattle.rr_cells.specs.ReplicaState.{ReplicaState}
 use Rattle.rr_cells.specs.Joins.{join_cells}
 use Rattle.rr_parts.specs.declared.fault.LoadFault.{LoadFault}
 use Rattle.rr_parts.specs.declared.fault.LoadFault.TheVariants.{ReadFailed, OriginUsed, Memory}
@@ -27,11 +27,17 @@ abbrev pub is_used : ℕ → ℕ → List NamedCell → Bool
 is_used origin saver es = (saver == origin) || is_among origin es
 
 -- the replica of an origin that has written nothing, with these cells, which are of before an addition, joined in
-abbrev pub replica_of : Layout → Addition → ℕ → List NamedCell → Holding
-replica_of s a origin es = record { schema = s; origin = origin; next = 1; cells = join_cells s empty (map (raised_cell a) es) }
+abbrev pub replica_of : Layout → Addition → ℕ → List NamedCell → ReplicaState
+replica_of s a origin es = record {
+  schema = s;
+  origin = origin;
+  next = 1;
+  cells =
+      join_cells s empty (map (raised_cell a) es);
+}
 
 -- the replica of a new origin that is loaded from the snapshot that all of the bytes are
-unfoldable pub loaded_at : Layout → ℕ → List ℕ → Result Holding LoadFault
+unfoldable pub loaded_at : Layout → ℕ → List ℕ → Result ReplicaState LoadFault
 loaded_at s origin bytes = do
   x ← snapshot_at s bytes
   unless OriginUsed (is_used origin x.0.origin x.1) (Ok (replica_of s x.0.addition origin x.1))
@@ -44,7 +50,8 @@ GivesIfRead view (Err fault) answer = (fault ≡ ReadFailed) ⊎ (fault ≡ Memo
 -- some cells are left, and after them these bytes
 abbrev pub HasBehind : Layout → List ℕ → List ℕ → Type 0
 HasBehind s left behind =
-    (v : Version) × (before : Option CellName) × (n : ℕ) × (es : List NamedCell) × (cells_at v s before n left ≡ Ok (es, behind))
+    (v : Version) × (before : Option CellName) × (n : ℕ) × (es : List NamedCell)
+    × (cells_at v s before n left ≡ Ok (es, behind))
 
 -- where the cells after a head are good, what follows them is left
 abbrev pub StopsAmong : Layout → Head → Option (List ℕ) → Option (List ℕ) → Type 0
@@ -68,7 +75,7 @@ StopsBeforeDigest s old new =
 
 -- what a replica holds after these cells, which are of before an addition, were joined into it, in order, and whether
 -- one is of its own origin: where none is, its next number stays
-pub record HasJoined (a : Addition) (old new : Holding) (own : Bool) (es : List NamedCell) : Type 0 where
+pub record HasJoined (a : Addition) (old new : ReplicaState) (own : Bool) (es : List NamedCell) : Type 0 where
   pub schema : new.schema ≡ old.schema
   pub origin : new.origin ≡ old.origin
   pub cells : new.cells ≡ join_cells old.schema old.cells (map (raised_cell a) es)

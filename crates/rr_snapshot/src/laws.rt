@@ -1,8 +1,9 @@
 //! The laws of what was saved, with no work to do: the functions have empty bodies.
 ghost use Rattle.rr_snapshot.specs.Laws.{SavedIsLoaded, SavedIsRaised, OtherSchemasDiffer};
 
-/// What a replica was saved as is loaded, under its schema and an origin that is neither its own nor
-/// that of one of its cells, as a replica of that origin with the same cells, whose next number is 1.
+/// What a replica was saved as is loaded, under its schema and an origin that is neither its own
+/// nor that of one of its cells, as a replica of that origin with the same cells, whose next number
+/// is 1.
 pub fn saved_is_loaded()
     ensures { SavedIsLoaded }
 {}

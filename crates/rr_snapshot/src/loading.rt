@@ -8,7 +8,7 @@ ghost use Rattle.rr_io.specs.Stream.{ConsumesSome};
 ghost use Rattle.rr_schema.specs.Added.{IsAddition, older};
 ghost use Rattle.rr_page.specs.PageReading.{is_after};
 ghost use Rattle.rr_cells.specs.Listing.{owned_cell};
-ghost use Rattle.rr_replica.specs.Standing.{held};
+ghost use Rattle.rr_replica.specs.ReplicaWithRoom.{replica_state};
 ghost use Rattle.rr_raising.specs.Raising.{raised};
 ghost use Rattle.rr_parts.specs.SnapshotReading.{cells_after};
 ghost use Rattle.rr_parts.specs.Stream.{Digests, StreamMakes};
@@ -54,9 +54,9 @@ fn raised(addition: Addition, archive: u8) -> u8
     }
 }
 
-/// Joins the cells after a head into a replica, each after the one before it, and answers whether one
-/// of them is of the replica's own origin. They are of the schema before the head's addition. No cell
-/// is kept but the last, for its name.
+/// Joins the cells after a head into a replica, each after the one before it, and answers whether
+/// one of them is of the replica's own origin. They are of the schema before the head's addition.
+/// No cell is kept but the last, for its name.
 fn join_cells_from<A: Cells, R: Read>(
     alloc: Global,
     input: &mut Counted<R>,
@@ -67,7 +67,8 @@ fn join_cells_from<A: Cells, R: Read>(
 ) -> Result<bool, LoadFault>
     requires addition { IsAddition replica.old.schema head.addition }
     requires own { own.now ≡ older replica.old.schema head.addition }
-    ensures read { StreamMakes (HasJoined head.addition (held replica.old) (held replica.new)) result
+    ensures read { StreamMakes (HasJoined head.addition (replica_state replica.old)
+        (replica_state replica.new)) result
         (R.remaining (inner_of input.old)) (R.remaining (inner_of input.new))
         (cells_after replica.old.schema head) }
     ensures digest { OnOk result (Digests (R.remaining (inner_of input.old))
@@ -111,7 +112,8 @@ fn join_cells_after<A: Cells, R: Read>(
     requires schema { schema.now ≡ replica.old.schema }
     requires addition { IsAddition schema.now head.addition }
     requires some { 1 ≤ length (older schema.now head.addition).archives }
-    ensures read { StreamMakes (HasJoined head.addition (held replica.old) (held replica.new)) result
+    ensures read { StreamMakes (HasJoined head.addition (replica_state replica.old)
+        (replica_state replica.new)) result
         (R.remaining (inner_of input.old)) (R.remaining (inner_of input.new))
         (cells_after schema.now head) }
     ensures digest { OnOk result (Digests (R.remaining (inner_of input.old))
@@ -145,7 +147,7 @@ fn load_into<A: Cells, R: Read>(
     requires next { replica.old.next ≡ 1 }
     requires cells { replica.old.cells ≡ empty }
     ensures read { IfSome (R.remaining (inner_of input.old)) (λ bytes.
-        GivesIfRead (λ _. held replica.new) result
+        GivesIfRead (λ _. replica_state replica.new) result
         (loaded_at schema.now replica.old.origin bytes)) }
     ensures schema { OnOk result (replica.new.schema ≡ schema.now) }
     ensures origin { OnOk result (replica.new.origin ≡ replica.old.origin) }
@@ -171,19 +173,19 @@ fn load_into<A: Cells, R: Read>(
 }
 
 /// Reads the snapshot that all of the input is, of the reader's schema or of one with one archive
-/// less, into a replica of a new origin, whose next number is 1. An archive that the snapshot's schema
-/// lacks has no cells; the numbers of those after it are higher by one than in the snapshot. Of the
-/// snapshot one cell's bytes are in memory at a time.
+/// less, into a replica of a new origin, whose next number is 1. An archive that the snapshot's
+/// schema lacks has no cells; the numbers of those after it are higher by one than in the snapshot.
+/// Of the snapshot one cell's bytes are in memory at a time.
 ///
 /// Refusals are those of the first fault from left to right: `ReadFailed` where a read fails;
 /// `Short` where fewer bytes are left than a field has; `BadMagic`; `BadVersion`; `SchemaDiffers`,
-/// once the step and the number of archives are read, and again once the archives are, if not both are
-/// those of the reader's schema, or of it without one archive; `BadOrigin`; for each cell those of
-/// [`read_cell`](rr_page::read_cell), and then `OutOfOrder` where its name is not greater than the
-/// one before; `BadDigest`; `TrailingBytes`; and last `OriginUsed` where the new origin is that of
-/// the snapshot or of one of its cells, those past the horizon too. `Memory` comes before the digest is
-/// read. A refused load gives no replica, and a front of the input has been read. The cost is that of
-/// joining the cells, and linear in the bytes.
+/// once the step and the number of archives are read, and again once the archives are, if not both
+/// are those of the reader's schema, or of it without one archive; `BadOrigin`; for each cell those
+/// of [`read_cell`](rr_page::read_cell), and then `OutOfOrder` where its name is not greater than
+/// the one before; `BadDigest`; `TrailingBytes`; and last `OriginUsed` where the new origin is that
+/// of the snapshot or of one of its cells, those past the horizon too. `Memory` comes before the
+/// digest is read. A refused load gives no replica, and a front of the input has been read. The
+/// cost is that of joining the cells, and linear in the bytes.
 pub fn load<A: Cells, R: Read>(
     alloc: Global,
     input: &mut Counted<R>,
@@ -192,7 +194,7 @@ pub fn load<A: Cells, R: Read>(
 ) -> Result<Replica<A>, LoadFault>
     // Where the bytes of the input are known, the answer is what they are loaded as.
     ensures read { IfSome (R.remaining (inner_of input.old)) (λ bytes.
-        GivesIfRead held result (loaded_at schema.now new_origin bytes)) }
+        GivesIfRead replica_state result (loaded_at schema.now new_origin bytes)) }
     // Whatever the input is, the replica has this schema and origin, and the first number.
     ensures schema { IfOk result (λ replica. replica.schema ≡ schema.now) }
     ensures origin { IfOk result (λ replica. replica.origin ≡ new_origin) }

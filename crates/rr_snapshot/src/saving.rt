@@ -8,8 +8,8 @@ ghost use Rattle.rr_io.specs.Counted.{inner_of, failures_of, HasRisen};
 ghost use Rattle.rr_io.specs.Stream.{AppendsPrefix};
 ghost use Rattle.rr_page.specs.CellText.{cell_text};
 ghost use Rattle.rr_page.specs.Version.{latest};
-ghost use Rattle.rr_cells.specs.Holding.{IsHolding};
-ghost use Rattle.rr_replica.specs.Standing.{held};
+ghost use Rattle.rr_cells.specs.ReplicaState.{IsReplicaState};
+ghost use Rattle.rr_replica.specs.ReplicaWithRoom.{replica_state};
 ghost use Rattle.rr_parts.specs.Snapshot.{snapshot_text};
 ghost use Rattle.rr_parts.specs.declared.heading.TheConstants.{MAX_SNAPSHOT_CELLS};
 
@@ -59,8 +59,8 @@ fn write_cells<A: Cells, W: Write>(
 /// the replica there is one cell's bytes in memory at a time.
 ///
 /// Refused as `TooManyCells` where there are more than 4,294,967,295 cells, and then nothing is
-/// written; as `WriteFailed` where the writer fails; and as `Memory`. After a refusal a front of the
-/// snapshot was written. The cost is linear in the series and in the bytes.
+/// written; as `WriteFailed` where the writer fails; and as `Memory`. After a refusal a front of
+/// the snapshot was written. The cost is linear in the series and in the bytes.
 pub fn save<A: Cells, W: Write>(
     alloc: Global,
     replica: &Replica<A>,
@@ -76,7 +76,7 @@ pub fn save<A: Cells, W: Write>(
         ↔ (MAX_SNAPSHOT_CELLS < len replica.now.cells) }
     ensures nothing_written { result ≡ Err SaveFault.TooManyCells
         → Keeps (W.contents (inner_of output.old)) (W.contents (inner_of output.new)) }
-    ensures holds { OnOk result (IsHolding (held replica.now)) }
+    ensures holds { OnOk result (IsReplicaState (replica_state replica.now)) }
     ensures count { failures_of output.old ≤ failures_of output.new }
     ensures failed { result ≡ Err SaveFault.WriteFailed
         → HasRisen (failures_of output.old) (failures_of output.new) }

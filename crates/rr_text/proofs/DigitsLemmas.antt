@@ -15,7 +15,8 @@ digits_grow number (digit ∷ digits) =
     omega arith
 
 -- where the first digit isn't taken, no number is read
-pub with_digits-none : (number : ℕ) (digits : List ℕ) → 1 ≤ length digits → with_digit number (get_or digits 0 0) ≡ None → with_digits number digits ≡ None
+pub with_digits-none : (number : ℕ) (digits : List ℕ) → 1 ≤ length digits → with_digit number (get_or digits 0 0) ≡ None
+    → with_digits number digits ≡ None
 with_digits-none number [] some refused = absurd (omega arith)
 with_digits-none number (digit ∷ digits) some refused =
     elim (cases_Bool (is_ascii_digit digit)) [
@@ -32,7 +33,8 @@ with_digits-none number (digit ∷ digits) some refused =
     ]
 
 -- after the last digit the number is whole
-pub with_digits-whole : (number : ℕ) (digits : List ℕ) → length digits < 1 → number < 2 ^ 64 → with_digits number digits ≡ Some number
+pub with_digits-whole : (number : ℕ) (digits : List ℕ) → length digits < 1 → number < 2 ^ 64
+    → with_digits number digits ≡ Some number
 with_digits-whole number [] none fits = rw (lt-ltb _ _ fits) refl
 with_digits-whole number (digit ∷ digits) none fits = absurd (omega arith)
 

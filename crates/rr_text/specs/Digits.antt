@@ -7,11 +7,13 @@ use Rattle.std.specs.Str.Parse.{digits_value_after}
 -- a number with one more digit, if that is a digit and the number is below 2 ^ 64
 abbrev pub with_digit : ℕ → ℕ → Option ℕ
 with_digit number digit =
-    if is_ascii_digit digit && nat_lt (number * 10 + digit_value digit) (2 ^ 64) then Some (number * 10 + digit_value digit)
+    if is_ascii_digit digit && nat_lt (number * 10 + digit_value digit) (2 ^ 64) then Some
+    (number * 10 + digit_value digit)
     else None
 
 -- a number with these digits, if they are digits and the number is below 2 ^ 64
 abbrev pub with_digits : ℕ → List ℕ → Option ℕ
 with_digits number digits =
-    if list_all is_ascii_digit digits && nat_lt (digits_value_after 10 number digits) (2 ^ 64) then Some (digits_value_after 10 number digits)
+    if list_all is_ascii_digit digits && nat_lt (digits_value_after 10 number digits) (2 ^ 64) then Some
+    (digits_value_after 10 number digits)
     else None

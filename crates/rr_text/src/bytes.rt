@@ -1,5 +1,5 @@
-//! The bytes that divide lines, keys, scripts and requests, and texts that occur twice. The bytes are
-//! pinned below as numbers, as ASCII has them.
+//! The bytes that divide lines, keys, scripts and requests, and texts that occur twice. The bytes
+//! are pinned below as numbers, as ASCII has them.
 
 ghost use Rattle.std.specs.Prelude.{◌≡◌, ℕ, List, map, option_map};
 ghost use Rattle.rr_text.specs.Bytes.{begins, strip, is_among, has_repeat};

@@ -13,8 +13,8 @@ pub const MAX_STEP: u32 = 86_400;
 /// The most archives of a schema.
 pub const MAX_ARCHIVES: usize = 8;
 
-/// The most steps of one row of an archive, and so the least width of a mask that has a bit for each
-/// of them.
+/// The most steps of one row of an archive, and so the least width of a mask that has a bit for
+/// each of them.
 pub const MAX_STEPS: u32 = 128;
 
 /// The most rows of an archive.

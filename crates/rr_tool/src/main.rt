@@ -1,5 +1,5 @@
-//! The program `rr`: it runs a script of several nodes, checks lines of the line protocol, or serves as a
-//! node. What it does with its process is [`rr_server::run`].
+//! The program `rr`: it runs a script of several nodes, checks lines of the line protocol, or
+//! serves as a node. What it does with its process is [`rr_server::run`].
 #![tactic(auto)]
 
 use rr_server::run;

@@ -8,7 +8,8 @@
 //!
 //! [`read_words`] makes an [`Order`] of them, or a [`WordsFault`] with the text for whoever wrote
 //! them. In `specs/` what words ask for is a function of the words and of clap's rules for the
-//! program's command line (`Program.antt` of `rr_cli`); [`laws`] says what it makes of written-out ones.
+//! program's command line (`Program.antt` of `rr_cli`); [`laws`] says what it makes of written-out
+//! ones.
 #![tactic(auto)]
 
 mod fault;

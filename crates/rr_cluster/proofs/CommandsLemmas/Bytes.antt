@@ -6,7 +6,7 @@ use Rattle.rr_archive.specs.declared.archive.Cells.{Ghosts}
 use Rattle.rr_text.specs.declared.bytes.TheConstants.{LINE_FEED}
 use Rattle.rr_model.specs.Knowledge.{Knowledge}
 use Rattle.rr_cells.specs.Cells.{Cells}
-use Rattle.rr_cells.specs.State.{state}
+use Rattle.rr_cells.specs.State.{cells_of_knowledge}
 use Rattle.rr_cluster.specs.declared.cluster.Cluster.{Cluster}
 use Rattle.rr_cluster.specs.declared.fault.CommandFault.TheVariants.{NoPage}
 use Rattle.rr_cluster.specs.Agreement.{in_cells}
@@ -25,14 +25,18 @@ module _ {K : Type 0} (model : Model K) (m : State K) (name : List ℕ) where
   unfolding hex_of_page
   no_page e = rw e refl
 
-  pub page_is_written : (page : K) → map.get m.pages name ≡ Some page → hex_of_page model m name ≡ Ok (encode_lower (bytes_of_page m.schema (model.cells m.schema page)) ++ LINE_FEED ∷ [])
+  pub page_is_written : (page : K) → map.get m.pages name ≡ Some page
+      → hex_of_page model m name ≡ Ok (encode_lower (bytes_of_page m.schema (model.cells m.schema page))
+      ++ LINE_FEED ∷ [])
   unfolding hex_of_page
   page_is_written page e = rw e refl
 
 -- ---- the line that a cluster prints
 
-pub line_printed : {A : Type 0} {g : Ghosts A} (c : Cluster A g) (m : State Cells) → Represents c m → (name bytes text line : List ℕ)
-    → bytes_at c.pages name ≡ Some bytes → text ≡ encode_lower bytes → line ≡ text ++ LINE_FEED ∷ [] → hex_of_page cell_model m name ≡ Ok line
+pub line_printed : {A : Type 0} {g : Ghosts A} (c : Cluster A g) (m : State Cells) → Represents c m
+    → (name bytes text line : List ℕ)
+    → bytes_at c.pages name ≡ Some bytes → text ≡ encode_lower bytes → line ≡ text ++ LINE_FEED ∷ []
+    → hex_of_page cell_model m name ≡ Ok line
 line_printed c m is name bytes text line kept digits ended =
     let page = page_there c m is name bytes kept in
     page_is_written cell_model m name page.0 page.1
@@ -42,8 +46,10 @@ line_printed c m is name bytes text line kept digits ended =
 
 -- ---- the models agree
 
-pub bytes_agree : (m : State Knowledge) → IsSound m → (name : List ℕ) → Agrees (λ text. text) (λ text. Unit {0}) (hex_of_page cell_model (in_cells m) name) (hex_of_page sample_model m name)
+pub bytes_agree : (m : State Knowledge) → IsSound m → (name : List ℕ)
+    → Agrees (λ text. text) (λ text. Unit {0}) (hex_of_page cell_model (in_cells m) name)
+    (hex_of_page sample_model m name)
 unfolding hex_of_page
 bytes_agree m sound name =
-    found_agree (λ text. text) (λ text. Unit {0}) (state m.schema) m.pages name NoPage _ _ (λ k found.
+    found_agree (λ text. text) (λ text. Unit {0}) (cells_of_knowledge m.schema) m.pages name NoPage _ _ (λ k found.
     done_agrees (λ text. text) (λ text. Unit {0}) _ _ refl tt)

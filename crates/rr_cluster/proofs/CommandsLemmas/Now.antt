@@ -26,17 +26,21 @@ module _ {K : Type 0} (m : State K) (time : List ℕ) (lead : Option (List ℕ))
     unfolding after_now
     bad_lead fault e = rw (sym is, sym e) refl
 
-    pub clock_is_set : (most : Option ℕ) → Ok most ≡ lead_of m.lead lead → after_now m time lead ≡ Ok (record m { clock = clock; lead = most })
+    pub clock_is_set : (most : Option ℕ) → Ok most ≡ lead_of m.lead lead
+        → after_now m time lead ≡ Ok (record m { clock = clock; lead = most })
     unfolding after_now
     clock_is_set most e = rw (sym is, sym e) refl
 
 -- ---- the cluster with the clock
 
 module _ {A : Type 0} {g : Ghosts A} (old : Cluster A g) (m : State Cells) (is : Represents old m) where
-  pub lead_read : (word : Option (List ℕ)) (r : Result (Option ℕ) CommandFault) → r ≡ lead_of old.lead word → r ≡ lead_of m.lead word
+  pub lead_read : (word : Option (List ℕ)) (r : Result (Option ℕ) CommandFault) → r ≡ lead_of old.lead word
+      → r ≡ lead_of m.lead word
   lead_read word r e = e ∙ ap (λ (before : Option ℕ). lead_of before word) is.lead
 
-  pub represents_with_clock : (new : Cluster A g) (clock : ℤ) (lead : Option ℕ) → new.schema ≡ old.schema → new.clock ≡ clock → new.lead ≡ lead → new.nodes ≡ old.nodes → new.pages ≡ old.pages → new.snapshots ≡ old.snapshots → new.origins ≡ old.origins
+  pub represents_with_clock : (new : Cluster A g) (clock : ℤ) (lead : Option ℕ) → new.schema ≡ old.schema
+      → new.clock ≡ clock → new.lead ≡ lead → new.nodes ≡ old.nodes → new.pages ≡ old.pages
+      → new.snapshots ≡ old.snapshots → new.origins ≡ old.origins
       → Represents new (record m { clock = clock; lead = lead })
   represents_with_clock new clock lead schema is_clock is_lead nodes pages snapshots origins = record {
     schema = schema ∙ is.schema;
@@ -53,10 +57,12 @@ module _ {A : Type 0} {g : Ghosts A} (old : Cluster A g) (m : State Cells) (is :
 
 -- ---- the models agree
 
-pub now_agrees : (m : State Knowledge) → IsSound m → (time : List ℕ) (lead : Option (List ℕ)) → Agrees in_cells IsSound (after_now (in_cells m) time lead) (after_now m time lead)
+pub now_agrees : (m : State Knowledge) → IsSound m → (time : List ℕ) (lead : Option (List ℕ))
+    → Agrees in_cells IsSound (after_now (in_cells m) time lead) (after_now m time lead)
 unfolding after_now
 now_agrees m sound time lead =
-    then_agree in_cells IsSound (moment_of time) _ _ (λ clock is. then_agree in_cells IsSound (lead_of m.lead lead) _ _ (λ most read.
+    then_agree in_cells IsSound (moment_of time) _ _
+    (λ clock is. then_agree in_cells IsSound (lead_of m.lead lead) _ _ (λ most read.
     done_agrees in_cells IsSound _ _ refl (record {
       layout = sound.layout;
       clock = moment_fits time clock is;

@@ -7,7 +7,7 @@ use Rattle.rr_schema.specs.Check.{schema_fault}
 use Rattle.rr_schema.specs.Schema.{Layout, IsLayout}
 use Rattle.rr_schema.proofs.Checked.{checked_layout}
 use Rattle.rr_cells.specs.Cells.{Cells}
-use Rattle.rr_cells.specs.State.{state}
+use Rattle.rr_cells.specs.State.{cells_of_knowledge}
 use Rattle.rr_text.specs.Bytes.{bytes_cmp}
 use Rattle.rr_cluster.specs.declared.fault.CommandFault.TheVariants.{BadNumber}
 use Rattle.rr_cluster.specs.declared.words.TheConstants.{MAX_U32}
@@ -22,20 +22,23 @@ use Rattle.rr_cluster.proofs.StepLemmas.{names_apart, OfAnswer, then_holds}
 
 -- ---- the models agree
 
-pub unless_faulty-ok : (fault : Option SchemaFault) (layout : Layout) → (fault ≡ None → IsLayout layout) → OfAnswer IsLayout (unless_faulty fault layout)
+pub unless_faulty-ok : (fault : Option SchemaFault) (layout : Layout) → (fault ≡ None → IsLayout layout)
+    → OfAnswer IsLayout (unless_faulty fault layout)
 unfolding OfAnswer
 unless_faulty-ok None layout is = is refl
 unless_faulty-ok (Some fault) layout is = tt
 
 pub layout_is : (word : List ℕ) (archives : List (List ℕ)) → OfAnswer IsLayout (layout_of word archives)
 unfolding layout_of
-layout_is word archives = then_holds IsLayout (ok_or (number_within 0 MAX_U32 word) BadNumber) _ (λ seconds said. then_holds IsLayout (ok_or (archives_of archives) BadNumber) _ (λ specs also.
-    unless_faulty-ok (schema_fault seconds specs) (record { step = seconds; archives = specs }) (checked_layout seconds specs)))
+layout_is word archives = then_holds IsLayout (ok_or (number_within 0 MAX_U32 word) BadNumber) _
+    (λ seconds said. then_holds IsLayout (ok_or (archives_of archives) BadNumber) _ (λ specs also.
+    unless_faulty-ok (schema_fault seconds specs) (record { step = seconds; archives = specs })
+    (checked_layout seconds specs)))
 
 pub first_states_agree : (s : Layout) → ◌≡◌ {A = State Cells} (first_state s) (in_cells (first_state s))
 first_states_agree s = λ i. record (first_state s) {
   nodes = sym (map_values-empty nat_list_cmp_total names_apart node_in_cells) i;
-  pages = sym (map_values-empty nat_list_cmp_total names_apart (state s)) i;
+  pages = sym (map_values-empty nat_list_cmp_total names_apart (cells_of_knowledge s)) i;
   snapshots = sym (map_values-empty nat_list_cmp_total names_apart snapshot_in_cells) i;
 }
 

@@ -2,7 +2,7 @@
 
 ghost use Rattle.rr_cells.specs.Cells.{Cells};
 ghost use Rattle.rr_cluster.specs.Commands.Deliver.{after_deliver};
-ghost use Rattle.rr_replica.specs.Standing.{held};
+ghost use Rattle.rr_replica.specs.ReplicaWithRoom.{replica_state};
 ghost use Rattle.rr_cluster.specs.Meaning.{HasPageText, Joins, Leaves, Represents};
 ghost use Rattle.rr_cluster.specs.Model.{cell_model};
 ghost use Rattle.rr_cluster.specs.State.{State};
@@ -39,7 +39,7 @@ pub(crate) fn deliver<A: Cells>(
 fn join_page<A: Cells>(alloc: Global, replica: &mut Replica<A>, page: &[u8]) -> Result<(), Stop>
     requires { (cells : Cells) × HasPageText replica.old.schema cells page.now }
     ensures { (cells : Cells) → HasPageText replica.old.schema cells page.now
-        → Joins (held replica.old) (held replica.new) result cells }
+        → Joins (replica_state replica.old) (replica_state replica.new) result cells }
 {
     let schema = replica.schema();
     let _archives = schema.archives(); // their contract says that the schema is within its limits

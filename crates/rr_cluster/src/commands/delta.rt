@@ -19,8 +19,8 @@ use rr_page::encode;
 use rr_replica::Replica;
 use std::alloc::{AllocError, Global};
 
-/// Makes a page of the cells that one node has and another lacks or has with a smaller version, from
-/// a place on, as many as there are up to a count. A page of that name is replaced.
+/// Makes a page of the cells that one node has and another lacks or has with a smaller version,
+/// from a place on, as many as there are up to a count. A page of that name is replaced.
 pub(crate) fn add_delta<A: Cells>(
     cluster: &mut Cluster<A>,
     name: &[u8],

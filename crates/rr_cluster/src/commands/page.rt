@@ -27,7 +27,8 @@ pub(crate) fn add_page<A: Cells>(
     count: &[u8],
 ) -> Result<(), Stop>
     ensures { (m : State Cells) → Represents cluster.old m
-        → Leaves cluster.new m result (after_page cell_model m name.now node.now from.now count.now) }
+        → Leaves cluster.new m result (after_page cell_model m name.now node.now from.now
+        count.now) }
 {
     if !is_name(name) {
         return Err(Stop::Refused(CommandFault::BadName));
@@ -40,7 +41,8 @@ pub(crate) fn add_page<A: Cells>(
     cluster.put_page(name, page)
 }
 
-/// The place of a page's first cell, and the most cells: `BadNumber` unless both are in their range.
+/// The place of a page's first cell, and the most cells: `BadNumber` unless both are in their
+/// range.
 pub(crate) fn place_and_count(from: &[u8], count: &[u8]) -> Result<(usize, usize), CommandFault>
     ensures value { result ≡ place_and_count from.now count.now }
     ensures fits { IfOk result (λ asked. asked.1 ≤ MAX_PAGE_CELLS) }

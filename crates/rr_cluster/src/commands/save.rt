@@ -2,7 +2,7 @@
 
 ghost use Rattle.rr_cells.specs.Cells.{Cells};
 ghost use Rattle.rr_cluster.specs.Commands.Save.{after_save};
-ghost use Rattle.rr_replica.specs.Standing.{held};
+ghost use Rattle.rr_replica.specs.ReplicaWithRoom.{replica_state};
 ghost use Rattle.rr_cluster.specs.Meaning.{Leaves, Represents, Saves};
 ghost use Rattle.rr_cluster.specs.Model.{cell_model};
 ghost use Rattle.rr_cluster.specs.State.{State};
@@ -40,7 +40,7 @@ pub(crate) fn save_node<A: Cells>(
 
 /// The bytes of a snapshot of a replica.
 fn snapshot_of<A: Cells>(alloc: Global, replica: &Replica<A>) -> Result<Vec<u8>, Stop>
-    ensures { Saves (held replica.now) result }
+    ensures { Saves (replica_state replica.now) result }
 {
     let mut output = Counted::new(Vec::new(alloc));
     save(alloc, replica, &mut output)?;

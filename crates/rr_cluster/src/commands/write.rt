@@ -5,7 +5,7 @@ ghost use Rattle.rr_point.specs.Point.{point_view};
 ghost use Rattle.rr_cells.specs.Cells.{Cells};
 ghost use Rattle.rr_point.specs.Key.{IsWritable};
 ghost use Rattle.rr_cluster.specs.Commands.Write.{after_write, samples_of_line, samples_of_point};
-ghost use Rattle.rr_replica.specs.Standing.{held};
+ghost use Rattle.rr_replica.specs.ReplicaWithRoom.{replica_state};
 ghost use Rattle.rr_cluster.specs.Meaning.{node_in, Leaves, Represents, Writes};
 ghost use Rattle.rr_cluster.specs.Model.{cell_model};
 ghost use Rattle.rr_cluster.specs.State.{State};
@@ -43,7 +43,7 @@ fn write_to<A: Cells>(
     line: &[u8],
 ) -> Result<(), Stop>
     requires { HasNoLineFeed line.now }
-    ensures { Writes (held replica.old) (held replica.new) result
+    ensures { Writes (replica_state replica.old) (replica_state replica.new) result
         (samples_of_line (node_in replica.old) clock lead line.now) }
 {
     match parse_line(alloc, line, Precision::Ns)? {
@@ -60,7 +60,7 @@ fn write_point<A: Cells>(
     lead: Option<u64>,
 ) -> Result<(), Stop>
     requires { IsWritable (point_view point.now) }
-    ensures { Writes (held replica.old) (held replica.new) result
+    ensures { Writes (replica_state replica.old) (replica_state replica.new) result
         (samples_of_point (node_in replica.old) clock lead (point_view point.now)) }
 {
     replica.write(point, clock, lead)?;

@@ -16,7 +16,8 @@ use std::test::Fail;
 /// What each connection brings: lines that are refused, as points and as fetches.
 const TEXT: &[u8] = b"m\nm\n";
 
-/// The text, a byte at a time. It holds no reference, since the prover has no rules for a seat whose connections do.
+/// The text, a byte at a time. It holds no reference, since the prover has no rules for a seat
+/// whose connections do.
 #[derive(Drop)]
 struct Trickle {
     given: usize,
@@ -38,8 +39,8 @@ impl Read for Trickle {
     }
 }
 
-/// Connections of which each brings the text a byte at a time, until the read after some of them fails, and
-/// has room for some bytes of its answer.
+/// Connections of which each brings the text a byte at a time, until the read after some of them
+/// fails, and has room for some bytes of its answer.
 #[derive(Drop)]
 struct Cut {
     alloc: Global,
@@ -79,7 +80,8 @@ impl Visits for Cut {
     }
 
     fn take_back(&mut self, input: Counted<Failing<Trickle>>, output: Counted<Room>)
-        ensures { HasCalled None None (TookBack (stream_of (λ _. None) (λ _. None) input output) ∷ []) }
+        ensures { HasCalled None None (TookBack (stream_of (λ _. None) (λ _. None) input output) ∷
+            []) }
     {
         drop(input);
         drop(output);

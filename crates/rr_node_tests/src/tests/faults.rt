@@ -32,8 +32,8 @@ impl Write for Full {
     }
 }
 
-/// A shelf without room: it wants no snapshot, or can't open a writer, or opens one that takes nothing. It
-/// keeps what it was told last.
+/// A shelf without room: it wants no snapshot, or can't open a writer, or opens one that takes
+/// nothing. It keeps what it was told last.
 #[derive(Drop)]
 struct NoRoom {
     /// Whether a writer is opened; where this is missing, no snapshot is wanted.
@@ -92,8 +92,8 @@ type Told = (
     Option<bool>,
 );
 
-/// Keeps a round of a new desk to which these connections come, with a peer that sends no frame, and a shelf
-/// without room.
+/// Keeps a round of a new desk to which these connections come, with a peer that sends no frame,
+/// and a shelf without room.
 fn told<R: Wait>(
     rt: &R,
     alloc: Global,

@@ -1,4 +1,5 @@
-//! A node without end that ends where memory runs out on one of its threads, whatever the others wait for.
+//! A node without end that ends where memory runs out on one of its threads, whatever the others
+//! wait for.
 
 use super::starved::Starved;
 use rr_archive::PlainArchive;
@@ -16,7 +17,8 @@ use std::sync::Wait;
 use std::test::Fail;
 use std::thread::Threads;
 
-/// The configuration of a node without end with two readers. Its connections may be silent without end.
+/// The configuration of a node without end with two readers. Its connections may be silent without
+/// end.
 const CONFIG: &[u8] = b"step = 60\nlines = \"l\"\nfetch = [\"f\", \"g\"]\n\
     [[archive]]\nsteps = 1\nrows = 3\nxff_num = 0\nxff_den = 1\n";
 
@@ -104,8 +106,9 @@ fn readers<R: Wait>(rt: &R, alloc: Global) -> Option<Vec<Reader<PackedArchive>>>
     Some(readers)
 }
 
-/// Whether a node ends when its keeper, or else its second reader, runs out of memory over the text. Meanwhile the
-/// other of the two waits for a connection, and the first reader for a sender that is silent.
+/// Whether a node ends when its keeper, or else its second reader, runs out of memory over the
+/// text. Meanwhile the other of the two waits for a connection, and the first reader for a sender
+/// that is silent.
 fn is_ended<R>(rt: &R, alloc: Global, to_keeper: bool) -> Option<bool>
 where
     R: Files + Eprint + Net<Listener = TcpListener, Stream = TcpStream> + Threads + Wait + Sync,

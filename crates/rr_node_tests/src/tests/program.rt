@@ -1,6 +1,7 @@
 //! The program whole, by its words: what it prints, and the status that it ends with.
 //!
-//! Each test calls [`run`] itself, since no function that is generic in the host can hand the host's threads on.
+//! Each test calls [`run`] itself, since no function that is generic in the host can hand the
+//! host's threads on.
 
 use super::process::{Given, Process};
 use rr_archive::PlainArchive;
@@ -16,8 +17,8 @@ use std::rt::Files;
 use std::sync::Wait;
 use std::test::Fail;
 
-/// How a process ends: the line on standard output, how the lines on standard error begin and end, and the status.
-/// Nothing is on standard error if they begin with nothing.
+/// How a process ends: the line on standard output, how the lines on standard error begin and end,
+/// and the status. Nothing is on standard error if they begin with nothing.
 pub(crate) type End<'a> = (&'a [u8], &'a [u8], &'a [u8], u8);
 
 /// Whether a process ends so.
@@ -76,7 +77,8 @@ const FILES: [(&str, &[u8]); 5] = [
 const SCRIPT: &[u8] =
     b"schema 60 1:3:0/1\nnode a 1\nwrite a m v=7i 60000000000\nfetch a AVERAGE 60 60 120 m v\n";
 
-/// A configuration whose lines are taken on port 1, which is there, and whose fetches on port 2, which isn't.
+/// A configuration whose lines are taken on port 1, which is there, and whose fetches on port 2,
+/// which isn't.
 const FAR: &[u8] = b"step = 60\nlines = \"127.0.0.1:1\"\nfetch = [\"127.0.0.1:2\"]\nlead = 0\n\
     [[archive]]\nsteps = 1\nrows = 3\nxff_num = 0\nxff_den = 1\n";
 
@@ -84,8 +86,8 @@ const FAR: &[u8] = b"step = 60\nlines = \"127.0.0.1:1\"\nfetch = [\"127.0.0.1:2\
 const NONE: &[u8] = b"step = 60\nlines = \"127.0.0.1:3\"\nfetch = [\"127.0.0.1:1\"]\nlead = 0\n\
     [[archive]]\nsteps = 1\nrows = 3\nxff_num = 0\nxff_den = 1\n";
 
-/// Words, the input, all of the script if it is missing, and the end: the status, the line on standard output, and how
-/// the lines on standard error begin and end.
+/// Words, the input, all of the script if it is missing, and the end: the status, the line on
+/// standard output, and how the lines on standard error begin and end.
 const ENDS: &str = "rr | | 0 | m v,60,7 | |
 rr sim | | 0 | m v,60,7 | |
 rr sim script.rr | m | 0 | m v,60,7 | |
@@ -119,7 +121,8 @@ fn column(line: &str, place: usize) -> &[u8] {
     }
 }
 
-/// What the process of a line is given. `no-text` stands for a word that isn't UTF-8, which no line can hold.
+/// What the process of a line is given. `no-text` stands for a word that isn't UTF-8, which no line
+/// can hold.
 fn given<'a>(line: &'a str, ports: &'a [TcpListener]) -> Given<'a> {
     let words = match column(line, 0) {
         b"rr no-text" => b"rr \xff",

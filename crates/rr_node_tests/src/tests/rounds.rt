@@ -73,7 +73,8 @@ impl Dial for Peers {
     }
 
     fn take_back(&mut self, input: Counted<&'static [u8]>, output: Counted<Vec<u8>>)
-        ensures { Grows None None (handed_back (stream_of (λ _. None) (λ _. None) input.entry output) ∷ []) }
+        ensures { Grows None None (handed_back
+            (stream_of (λ _. None) (λ _. None) input.entry output) ∷ []) }
     {
         drop(input);
         self.sent = Some(output.into_inner());
@@ -169,8 +170,8 @@ fn is_loaded(alloc: Global, config: &Config, bytes: &[u8]) -> Option<bool> {
     Some(held == (1, 1, 7))
 }
 
-/// What a node did: how it ended, which peer failed, whether the right frames were sent to the other one, and whether
-/// that one's sample was saved.
+/// What a node did: how it ended, which peer failed, whether the right frames were sent to the
+/// other one, and whether that one's sample was saved.
 type Done = (
     Result<(), NodeFault>,
     Option<(usize, NodeFault)>,
@@ -178,8 +179,8 @@ type Done = (
     Option<bool>,
 );
 
-/// Serves as a node that keeps one round, to which an empty connection comes, and for whose seats memory suffices or
-/// not.
+/// Serves as a node that keeps one round, to which an empty connection comes, and for whose seats
+/// memory suffices or not.
 fn kept<R: Wait + Threads + Sync>(
     rt: &R,
     alloc: Global,
@@ -213,8 +214,8 @@ fn done<R: Wait + Threads + Sync>(rt: &R, alloc: Global, suffices: bool) -> Opti
     done
 }
 
-// The first peer can't be reached, and the second has one sample. Where memory runs out at a seat, the node says so
-// once its rounds are kept.
+// The first peer can't be reached, and the second has one sample. Where memory runs out at a seat,
+// the node says so once its rounds are kept.
 #[test]
 fn a_node_pulls_from_each_peer_and_saves(rt: HostRuntime) -> Result<(), Fail> {
     let failed = Some((1, NodeFault::BadAddress));

@@ -15,8 +15,8 @@ use std::test::Fail;
 use std::thread::{Threads, for_each_mut, sleep};
 use std::time::Duration;
 
-/// The configuration of a node of three rows a minute to which no line connection comes, and which takes
-/// one connection at each of two seats.
+/// The configuration of a node of three rows a minute to which no line connection comes, and which
+/// takes one connection at each of two seats.
 const CONFIG: &[u8] = b"step = 60\nlines = \"l\"\nfetch = [\"f\", \"g\"]\nvisits = 1\n\
     [[archive]]\nsteps = 1\nrows = 3\nxff_num = 0\nxff_den = 1\n";
 
@@ -84,15 +84,17 @@ impl Visits for Asked {
     }
 
     fn take_back(&mut self, input: Counted<Request>, output: Counted<Vec<u8>>)
-        ensures { HasCalled None None (TookBack (stream_of (λ _. None) (λ _. None) input output) ∷ []) }
+        ensures { HasCalled None None (TookBack (stream_of (λ _. None) (λ _. None) input output) ∷
+            []) }
     {
         drop(input);
         self.answer = Some(output.into_inner());
     }
 }
 
-/// A gate that lets the answers of two seats pass in turn: the first one's is held until the second one's is made, and
-/// the second one's until the first is held. It answers false if its turn never comes.
+/// A gate that lets the answers of two seats pass in turn: the first one's is held until the second
+/// one's is made, and the second one's until the first is held. It answers false if its turn never
+/// comes.
 #[derive(Drop)]
 struct InTurn {
     clock: HostRuntime,

@@ -1,5 +1,5 @@
-//! A node by its words, over TCP and files: its configuration, the snapshot that it begins with, its peers and what it
-//! saves.
+//! A node by its words, over TCP and files: its configuration, the snapshot that it begins with,
+//! its peers and what it saves.
 
 use super::process::{Given, Process};
 use super::program::{are_written, is_end, remove, snapshot};
@@ -12,15 +12,15 @@ use std::test::Fail;
 use std::thread::join;
 use std::time::Duration;
 
-/// A node of three rows a minute with two readers. Of its peers the first can't be reached, and the second is at port 4.
-/// A connection may be silent for three seconds.
+/// A node of three rows a minute with two readers. Of its peers the first can't be reached, and the
+/// second is at port 4. A connection may be silent for three seconds.
 const FIRST: &[u8] = b"step = 60\nlines = \"127.0.0.1:1\"\n\
     fetch = [\"127.0.0.1:2\", \"127.0.0.1:3\"]\npeers = [\"127.0.0.1:9\", \"127.0.0.1:4\"]\n\
     rounds = 1\nvisits = 2\nidle = 3\nlead = 300000000000\nprecision = \"s\"\n\
     [[archive]]\nsteps = 1\nrows = 3\nxff_num = 0\nxff_den = 1\n";
 
-/// The same with one reader, whose one peer is at port 3, with no line ahead of the clock, and with rows of three
-/// minutes too, of which the snapshot of the first has none.
+/// The same with one reader, whose one peer is at port 3, with no line ahead of the clock, and with
+/// rows of three minutes too, of which the snapshot of the first has none.
 const SECOND: &[u8] = b"step = 60\nlines = \"127.0.0.1:1\"\nfetch = [\"127.0.0.1:2\"]\n\
     peers = [\"127.0.0.1:3\"]\nrounds = 1\nvisits = 1\nidle = 3\nlead = 0\nquiet = true\n\
     [[archive]]\nsteps = 1\nrows = 3\nxff_num = 0\nxff_den = 1\n\
@@ -51,7 +51,8 @@ fn address(ports: &[TcpListener], port: usize) -> Option<SocketAddr> {
     ports.get(port.wrapping_sub(1))?.local_addr().ok()
 }
 
-/// What is answered to a text on a connection of its own, on which no read waits for longer than 20 seconds.
+/// What is answered to a text on a connection of its own, on which no read waits for longer than 20
+/// seconds.
 fn answer<R: Net<Stream = TcpStream>>(
     rt: &R,
     alloc: Global,
@@ -78,8 +79,8 @@ fn answers<R: Net<Stream = TcpStream>>(
     answer(rt, alloc, address, text).is_some_and(|answer| answer.as_slice() == wanted)
 }
 
-/// Gives the next side that pulls at a port what a peer holds: 7 at a minute after the epoch. Answers once that side
-/// is done, whether it began as a side does that pulls by this schema.
+/// Gives the next side that pulls at a port what a peer holds: 7 at a minute after the epoch.
+/// Answers once that side is done, whether it began as a side does that pulls by this schema.
 fn gives(ports: &[TcpListener], port: usize, alloc: Global) -> Option<bool> {
     let (mut stream, _) = ports.get(port.wrapping_sub(1))?.accept().ok()?;
     stream.write_all(&REPLY).ok()?;
@@ -88,8 +89,9 @@ fn gives(ports: &[TcpListener], port: usize, alloc: Global) -> Option<bool> {
     Some(sent.starts_with(SENT.split_at(19).0))
 }
 
-/// Whether the first node takes lines, pulls, and answers with all that it then has: a line without a time is of the
-/// clock's moment. The second reader answers while the first waits for a silent connection, which ends.
+/// Whether the first node takes lines, pulls, and answers with all that it then has: a line without
+/// a time is of the clock's moment. The second reader answers while the first waits for a silent
+/// connection, which ends.
 fn uses_first<R: Net<Stream = TcpStream>>(
     host: &R,
     alloc: Global,
@@ -110,8 +112,8 @@ fn uses_first<R: Net<Stream = TcpStream>>(
     Some(is_taken && is_given && second && first)
 }
 
-/// Whether the second node takes a line at the epoch, since its clock can't be read, and no later one. That line's
-/// sample alone is in the archive that the snapshot lacked.
+/// Whether the second node takes a line at the epoch, since its clock can't be read, and no later
+/// one. That line's sample alone is in the archive that the snapshot lacked.
 fn uses_second<R: Net<Stream = TcpStream>>(
     host: &R,
     alloc: Global,
@@ -125,8 +127,8 @@ fn uses_second<R: Net<Stream = TcpStream>>(
     Some(is_taken && answers(host, alloc, one, REQUESTS, held))
 }
 
-/// What a node is given, of two that serve one after the other. The first loads a snapshot, and saves one. The second
-/// loads that one, and can't save: a folder has the name.
+/// What a node is given, of two that serve one after the other. The first loads a snapshot, and
+/// saves one. The second loads that one, and can't save: a folder has the name.
 fn given(place: usize, ports: &[TcpListener]) -> Given<'_> {
     let (words, moment) = if place == 0 {
         let words = "rr serve first.toml --origin 2 --load first.snapshot --save left.snapshot";
@@ -143,8 +145,8 @@ fn given(place: usize, ports: &[TcpListener]) -> Given<'_> {
     }
 }
 
-/// How what such a node prints on standard error begins and ends. The first one says with what it starts; the second
-/// one, which is quiet, has a silent peer.
+/// How what such a node prints on standard error begins and ends. The first one says with what it
+/// starts; the second one, which is quiet, has a silent peer.
 fn complaint(place: usize) -> (&'static [u8], &'static [u8]) {
     if place == 0 {
         (

@@ -29,8 +29,8 @@ fn put_first<A: Cells>(archive: &mut A, slot: i64, origin: Origin) -> Result<(),
     archive.put(slot, origin, 1, 0, 60_000_000_000, 7)
 }
 
-/// The cells, the newest slot and the last value there of the copy of an archive, into which a sample was put
-/// for which there was room, and then a cell was joined.
+/// The cells, the newest slot and the last value there of the copy of an archive, into which a
+/// sample was put for which there was room, and then a cell was joined.
 fn copied<A: Cells>(alloc: Global) -> Result<(usize, Option<i64>, Option<i64>), Fail> {
     let origin = Origin::new(1)?;
     let mut archive: A = with_room(alloc, 1, origin)?;

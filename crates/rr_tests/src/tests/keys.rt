@@ -24,8 +24,8 @@ fn text_of(alloc: Global, made: Result<SeriesKey, KeyFault>) -> Result<Vec<u8>, 
     }
 }
 
-/// The text of the key of a measurement, the key and the value of each tag, and a field, or the name of
-/// the fault.
+/// The text of the key of a measurement, the key and the value of each tag, and a field, or the
+/// name of the fault.
 fn text_of_names(alloc: Global, names: &[&str]) -> Result<Vec<u8>, AllocError> {
     let [measurement, rest @ .., field] = names else {
         return Ok(Vec::new(alloc));

@@ -40,16 +40,16 @@ fn take(
     pull(alloc, &mut Counted::new(answer), &mut output, target)
 }
 
-/// Whether two pages of 256 cells and one of 88 are in an answer. A cell has 96 bytes, and a frame 26
-/// besides those of its cells, whose number ends its head.
+/// Whether two pages of 256 cells and one of 88 are in an answer. A cell has 96 bytes, and a frame
+/// 26 besides those of its cells, whose number ends its head.
 fn are_pages(reply: &[u8]) -> bool {
     reply.get(24..26) == Some([1, 0].as_slice())
         && reply.get(24_626..24_628) == Some([1, 0].as_slice())
         && reply.get(49_228..49_230) == Some([0, 88].as_slice())
 }
 
-/// What a source of 600 cells answers to a target that holds nothing, and how many cells the target has
-/// then.
+/// What a source of 600 cells answers to a target that holds nothing, and how many cells the target
+/// has then.
 fn exchanged(alloc: Global) -> Result<(Vec<u8>, usize), Fail> {
     let mut source = filled(alloc, 1, 600, 600)?;
     let mut target = filled(alloc, 2, 600, 0)?;
@@ -78,19 +78,19 @@ struct Watched {
 impl Target for Watched {
     ghost use Rattle.std.specs.Prelude.{refl};
     ghost use Rattle.rr_delta.specs.Joining.{HasJoined, map_joined, then_joined};
-    ghost use Rattle.rr_replica.specs.Standing.{held};
+    ghost use Rattle.rr_replica.specs.ReplicaWithRoom.{replica_state};
 
     ghost layout = { λ w. w.replica.schema };
 
     ghost cells = { λ w. w.replica.cells };
 
-    ghost has_joined = { λ w x. HasJoined (held w.replica) (held x.replica) };
+    ghost has_joined = { λ w x. HasJoined (replica_state w.replica) (replica_state x.replica) };
 
     ghost joins_none = { λ w. refl };
 
-    ghost joins_then = { λ w x y. then_joined (held w.replica) (held x.replica) (held y.replica) };
+    ghost joins_then = { λ w x y. then_joined (replica_state w.replica) (replica_state x.replica) (replica_state y.replica) };
 
-    ghost joins_in_map = { λ w x. map_joined (held w.replica) (held x.replica) };
+    ghost joins_in_map = { λ w x. map_joined (replica_state w.replica) (replica_state x.replica) };
 
     fn schema(&self) -> &Schema {
         Target::schema(&self.replica)

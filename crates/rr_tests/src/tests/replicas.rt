@@ -2,7 +2,7 @@
 ghost use Rattle.std.specs.Prelude.{◌≡◌, OnOk};
 ghost use Rattle.rr_cells.specs.CellBounds.{IsCellOf};
 ghost use Rattle.rr_cells.specs.Listing.{owned_cell};
-ghost use Rattle.rr_replica.specs.Standing.{held};
+ghost use Rattle.rr_replica.specs.ReplicaWithRoom.{replica_state};
 
 use rr_archive::{Cells, PlainArchive};
 use rr_base::Origin;
@@ -25,7 +25,8 @@ fn slot_of<A: Cells>(replica: &Replica<A>, i: usize) -> i64 {
     cell.slot
 }
 
-/// How many cells a million samples leave, a minute apart, and the slots of the first and the tenth.
+/// How many cells a million samples leave, a minute apart, and the slots of the first and the
+/// tenth.
 fn left_of_a_million<A: Cells>(alloc: Global) -> Result<(usize, i64, i64), Fail> {
     let replica = filled::<A>(alloc, 1, 10, 1_000_000)?;
     Ok((
@@ -60,8 +61,8 @@ fn a_replica_lends_the_archives_of_a_series(rt: HostRuntime) -> Result<(), Fail>
     Ok(())
 }
 
-/// Joins what a replica has and another of its schema lacks. Answers how many names that one listed, and how many cells
-/// it lacked.
+/// Joins what a replica has and another of its schema lacks. Answers how many names that one
+/// listed, and how many cells it lacked.
 fn join_lacking<A: Cells>(
     alloc: Global,
     replica: &mut Replica<A>,
@@ -75,8 +76,8 @@ fn join_lacking<A: Cells>(
     Ok((names.len(), cells.len()))
 }
 
-/// How many names a copy lists, how many cells its original then has that it lacks, and how many the copy has
-/// once they are joined.
+/// How many names a copy lists, how many cells its original then has that it lacks, and how many
+/// the copy has once they are joined.
 fn joined(alloc: Global) -> Result<((usize, usize), usize), Fail> {
     let mut replica = one_sample::<PlainArchive>(alloc, 1)?;
     let mut copy = replica.copy(alloc)?;
@@ -92,15 +93,15 @@ fn a_copy_takes_what_it_lacks(rt: HostRuntime) -> Result<(), Fail> {
     Ok(())
 }
 
-/// Joins two cells in one order into a replica, and in the other into one that holds the same. By the law of joins both
-/// then hold the same cells, whoever sent them.
+/// Joins two cells in one order into a replica, and in the other into one that holds the same. By
+/// the law of joins both then hold the same cells, whoever sent them.
 fn join_either_way<A: Cells>(
     one: &mut Replica<A>,
     other: &mut Replica<A>,
     first: &Cell,
     second: &Cell,
 ) -> Result<(), AllocError>
-    requires alike { held one.old ≡ held other.old }
+    requires alike { replica_state one.old ≡ replica_state other.old }
     requires first { IsCellOf one.old.schema (owned_cell first.now) }
     requires second { IsCellOf one.old.schema (owned_cell second.now) }
     ensures { OnOk result (one.new.cells ≡ other.new.cells) }
@@ -114,14 +115,15 @@ fn join_either_way<A: Cells>(
     other.join_cell(first)
 }
 
-/// Whether two replicas that hold the same take both cells, as cells of their schema, each in its own order.
+/// Whether two replicas that hold the same take both cells, as cells of their schema, each in its
+/// own order.
 fn are_joined(
     one: &mut Replica<PlainArchive>,
     other: &mut Replica<PlainArchive>,
     first: &Cell,
     second: &Cell,
 ) -> bool
-    requires { held one.old ≡ held other.old }
+    requires { replica_state one.old ≡ replica_state other.old }
 {
     if !first.is_of(one.schema()) {
         return false;

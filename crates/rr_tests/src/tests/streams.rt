@@ -53,8 +53,8 @@ fn an_interrupted_read_is_made_again(rt: HostRuntime) {
     }
 }
 
-/// How a text is written to a writer that fails at the first calls, how such a one is flushed, and how many
-/// calls of the two failed.
+/// How a text is written to a writer that fails at the first calls, how such a one is flushed, and
+/// how many calls of the two failed.
 fn written(
     alloc: Global,
     calls: u32,

@@ -4,10 +4,13 @@ use Rattle.rr_archive.proofs.CellSlotOrder.{cell_slot_cmp_total, cell_slot_cmp-I
 use Rattle.rr_archive.proofs.laws.merge_keeps_the_greater.Goals as goal
 
 pub returns-clause-commutative : goal.returns-clause-commutative
-returns-clause-commutative c = merged_comm cell_slot_cmp_total cell_slot_cmp-IsAntisymmetric contribution_cmp_total contribution_cmp-IsAntisymmetric
+returns-clause-commutative c = merged_comm cell_slot_cmp_total cell_slot_cmp-IsAntisymmetric contribution_cmp_total
+    contribution_cmp-IsAntisymmetric
 
 pub returns-clause-associative : goal.returns-clause-associative
-returns-clause-associative c = merged_assoc cell_slot_cmp_total cell_slot_cmp-IsAntisymmetric contribution_cmp_total contribution_cmp-IsAntisymmetric
+returns-clause-associative c = merged_assoc cell_slot_cmp_total cell_slot_cmp-IsAntisymmetric contribution_cmp_total
+    contribution_cmp-IsAntisymmetric
 
 pub returns-clause-idempotent : goal.returns-clause-idempotent
-returns-clause-idempotent c = merged_itself cell_slot_cmp_total cell_slot_cmp-IsAntisymmetric contribution_cmp_total contribution_cmp-IsAntisymmetric
+returns-clause-idempotent c = merged_itself cell_slot_cmp_total cell_slot_cmp-IsAntisymmetric contribution_cmp_total
+    contribution_cmp-IsAntisymmetric

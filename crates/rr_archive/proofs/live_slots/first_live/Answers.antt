@@ -23,7 +23,8 @@ overflow_add-result c =
     let back : to_z w64 (of_z w64 c.args.newest) ≡ c.args.newest = search rules in
     let rows : to_z w64 (of_z w64 c.from.result) ≡ c.from.result = search rules in
     let is = c.from.ensures in
-    let before : to_z w64 (of_z w64 (c.args.newest -ℤ pos c.args.rows)) ≡ c.args.newest -ℤ pos c.args.rows = to_z-of_z (fits_before c.args.newest c.args.rows slot (omega arith)) in
+    let before : to_z w64 (of_z w64 (c.args.newest -ℤ pos c.args.rows)) ≡ c.args.newest -ℤ pos c.args.rows =
+    to_z-of_z (fits_before c.args.newest c.args.rows slot (omega arith)) in
     rw (back, rows, is, before) (omega (arith, ints))
 
 pub returns : goal.returns
@@ -34,5 +35,6 @@ returns c =
     let back : to_z w64 (of_z w64 c.args.newest) ≡ c.args.newest = search rules in
     let rows : to_z w64 (of_z w64 c.from.result) ≡ c.from.result = search rules in
     let is = c.from.ensures in
-    let before : to_z w64 (of_z w64 (c.args.newest -ℤ pos c.args.rows)) ≡ c.args.newest -ℤ pos c.args.rows = to_z-of_z (fits_before c.args.newest c.args.rows slot (omega arith)) in
+    let before : to_z w64 (of_z w64 (c.args.newest -ℤ pos c.args.rows)) ≡ c.args.newest -ℤ pos c.args.rows =
+    to_z-of_z (fits_before c.args.newest c.args.rows slot (omega arith)) in
     rw (back, rows, is, before) (to_z-of_z {w = w64} (omega (arith, ints)))

@@ -13,16 +13,21 @@ returns-then-eq-clause-set c =
     let es : List Entry = c.args.row.now.items in
     let new : Entry = c.args.entry in
     let d : Entry = c.index.result.now in
-    let found : c.unwrap_or-at.result ≡ unwrap_or (position_from (is_from new.origin) 0 es) (length es) = search rules in
+    let found : c.unwrap_or-at.result ≡ unwrap_or (position_from (is_from new.origin) 0 es) (length es) =
+    search rules in
     let at : c.unwrap_or-at.result ≡ position_for new.origin es = found ∙ position_for-is new.origin es in
     let within : c.unwrap_or-at.result < length es = omega arith in
-    let same : (get_or es c.unwrap_or-at.result d).origin ≡ new.origin = ap (λ (e : Entry). e.origin) (sym c.index.ensures) ∙ eqb-true d.origin new.origin (sym c.eq.ensures ∙ c.if-eq.true) in
-    rw at (with_entry-set es new d (subst (λ k. k < length es) at within) (subst (λ k. (get_or es k d).origin ≡ new.origin) at same))
+    let same : (get_or es c.unwrap_or-at.result d).origin ≡ new.origin =
+    ap (λ (e : Entry). e.origin) (sym c.index.ensures)
+    ∙ eqb-true d.origin new.origin (sym c.eq.ensures ∙ c.if-eq.true) in
+    rw at (with_entry-set es new d (subst (λ k. k < length es) at within)
+    (subst (λ k. (get_or es k d).origin ≡ new.origin) at same))
 
 pub insert-requires : goal.insert-requires
 insert-requires c =
     let es : List Entry = c.args.row.now.items in
-    let found : c.unwrap_or-at.result ≡ unwrap_or (position_from (is_from c.args.entry.origin) 0 es) (length es) = search rules in
+    let found : c.unwrap_or-at.result ≡ unwrap_or (position_from (is_from c.args.entry.origin) 0 es) (length es) =
+    search rules in
     let at = position_for-is c.args.entry.origin es in
     let most = position_for-le c.args.entry.origin es in
     omega arith
@@ -31,20 +36,24 @@ pub returns-clause-set : goal.returns-clause-set
 returns-clause-set c =
     let es : List Entry = c.args.row.now.items in
     let new : Entry = c.args.entry in
-    let found : c.unwrap_or-at.result ≡ unwrap_or (position_from (is_from new.origin) 0 es) (length es) = search rules in
+    let found : c.unwrap_or-at.result ≡ unwrap_or (position_from (is_from new.origin) 0 es) (length es) =
+    search rules in
     let at : c.unwrap_or-at.result ≡ position_for new.origin es = found ∙ position_for-is new.origin es in
     let items : c.insert.new.self.items ≡ insert es c.unwrap_or-at.result new = search rules in
     rw (items, at) (elim c.else-at-len.branch [
       | else-at-len-via-then-at-len+else-eq w ↦
           let d : Entry = w.index.result.now in
-          let here : get_or es (position_for new.origin es) d ≡ d = ap (λ k. get_or es k d) (sym at) ∙ sym w.index.ensures in
+          let here : get_or es (position_for new.origin es) d ≡ d = ap (λ k. get_or es k d) (sym at)
+          ∙ sym w.index.ensures in
           let other = eqb-false d.origin new.origin (sym w.eq.ensures ∙ w.if-eq.false) in
           with_entry-insert es new d (λ _ same. other (sym (ap (λ (e : Entry). e.origin) here) ∙ same))
       | else-at-len-via-else-at-len w ↦ with_entry-insert es new new (λ lt _. absurd (omega arith))
     ])
 
 pub returns-then-eq-clause-ascend : goal.returns-then-eq-clause-ascend
-returns-then-eq-clause-ascend c = λ a. subst (λ es. IsTrue (ascends es)) (sym (returns-then-eq-clause-set c)) (ascends_with_entry c.args.row.now.items c.args.entry a)
+returns-then-eq-clause-ascend c = λ a. subst (λ es. IsTrue (ascends es)) (sym (returns-then-eq-clause-set c))
+    (ascends_with_entry c.args.row.now.items c.args.entry a)
 
 pub returns-clause-ascend : goal.returns-clause-ascend
-returns-clause-ascend c = λ a. subst (λ es. IsTrue (ascends es)) (sym (returns-clause-set c)) (ascends_with_entry c.args.row.now.items c.args.entry a)
+returns-clause-ascend c = λ a. subst (λ es. IsTrue (ascends es)) (sym (returns-clause-set c))
+    (ascends_with_entry c.args.row.now.items c.args.entry a)

@@ -7,7 +7,8 @@ pub returns-then-archive-archives-clause-tested : goal.returns-then-archive-arch
 returns-then-archive-archives-clause-tested c = λ key origin.
     let back : to_z w64 (of_z w64 c.args.slot) ≡ c.args.slot = search rules in
     let within = rw c.archives.ensures.value at c.if-archive-archives.true in
-    valid_cell c.args.schema.now (cell_name key c.args.archive c.args.slot origin, c.args.contribution) c.is_valid.result within (rw back at c.is_valid.ensures)
+    valid_cell c.args.schema.now (cell_name key c.args.archive c.args.slot origin, c.args.contribution)
+    c.is_valid.result within (rw back at c.is_valid.ensures)
 
 pub returns-then-archive-archives-clause-cell : goal.returns-then-archive-archives-clause-cell
 returns-then-archive-archives-clause-cell c = λ key origin text number.

@@ -5,4 +5,8 @@ use Rattle.rr_cluster.proofs.commands.begin.Goals as goal
 
 pub returns-in_ok-schema-in-Schema : goal.returns-in_ok-schema-in-Schema
 returns-in_ok-schema-in-Schema g c =
-    rw c.in-Schema.is ((Some (first_state c.in_ok-schema-in-Schema.schema), []), ap (on_ok beginning) c.in_ok-schema-in-Schema.ensures.value, (refl, c.new.ensures))
+    rw c.in-Schema.is (
+      (Some (first_state c.in_ok-schema-in-Schema.schema), []),
+      ap (on_ok beginning) c.in_ok-schema-in-Schema.ensures.value,
+      (refl, c.new.ensures),
+    )

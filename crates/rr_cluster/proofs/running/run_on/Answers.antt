@@ -18,13 +18,14 @@ loop-line-init g c =
     let views = c.in_ok-lines.ensures in
     (None, tt, rw (c.new-text.ensures.items, c.deref-line-items.ensures.value, views) refl)
 
-pub obey_line-requires-clause-line : goal.obey_line-requires-clause-line
-obey_line-requires-clause-line g c =
+pub run_line-requires-clause-line : goal.run_line-requires-clause-line
+run_line-requires-clause-line g c =
     let views = c.in_ok-lines.ensures in
-    line_says_one_line c.deref-line-items.result.now c.args.script.now c.loop-line.line-index any (rw c.deref-line-items.ensures.value views) c.loop-line-test.true
+    line_says_one_line c.deref-line-items.result.now c.args.script.now c.loop-line.line-index any
+    (rw c.deref-line-items.ensures.value views) c.loop-line-test.true
 
-pub obey_line-requires-clause-state : goal.obey_line-requires-clause-state
-obey_line-requires-clause-state g c = (c.loop-line.invariant.0, c.loop-line.invariant.1)
+pub run_line-requires-clause-state : goal.run_line-requires-clause-state
+run_line-requires-clause-state g c = (c.loop-line.invariant.0, c.loop-line.invariant.1)
 
 pub loop-line-preserved : goal.loop-line-preserved
 loop-line-preserved g c =
@@ -34,18 +35,26 @@ loop-line-preserved g c =
     let m = before.0 in
     let line = get_or lines i any in
     let done = after_line cell_model m line.number (said_view line.said) in
-    let printed = c.in_ok-obey_line.ensures m before.1 in
+    let printed = c.in_ok-run_line.ensures m before.1 in
     let rest = output_from cell_model done.0 (map line_view (drop (i + 1) lines)) in
-    let more = at_drop_more (λ (ls : List ScriptLine). output_from cell_model m (map line_view ls)) lines i any c.loop-line-test.true in
-    (done.0, printed.1, ap (λ (text : List ℕ). text ++ rest) printed.0 ∙ append_assoc c.loop-line.text.items done.1 rest ∙ ap (λ (text : List ℕ). c.loop-line.text.items ++ text) (sym more) ∙ before.2)
+    let more = at_drop_more (λ (ls : List ScriptLine). output_from cell_model m (map line_view ls)) lines i any
+    c.loop-line-test.true in (
+      done.0,
+      printed.1,
+      ap (λ (text : List ℕ). text ++ rest) printed.0 ∙ append_assoc c.loop-line.text.items done.1 rest
+          ∙ ap (λ (text : List ℕ). c.loop-line.text.items ++ text) (sym more) ∙ before.2,
+    )
 
 pub returns-clause-cells : goal.returns-clause-cells
 returns-clause-cells g c =
     let lines = c.deref-line-items.result.now in
     let before = c.loop-line.invariant in
-    let last : c.loop-line.line-index ≡ length lines = omega (arith, c.loop-line-test.false, c.loop-line.auto.line-index-end) in
-    let none = ap (λ (k : ℕ). output_from cell_model before.0 (map line_view (drop k lines))) last ∙ ap (λ (ls : List ScriptLine). output_from cell_model before.0 (map line_view ls)) (drop-length lines) in
-    sym (append-nil c.loop-line.text.items) ∙ ap (λ (text : List ℕ). c.loop-line.text.items ++ text) (sym none) ∙ before.2
+    let last : c.loop-line.line-index ≡ length lines =
+    omega (arith, c.loop-line-test.false, c.loop-line.auto.line-index-end) in
+    let none = ap (λ (k : ℕ). output_from cell_model before.0 (map line_view (drop k lines))) last
+    ∙ ap (λ (ls : List ScriptLine). output_from cell_model before.0 (map line_view ls)) (drop-length lines) in
+    sym (append-nil c.loop-line.text.items) ∙ ap (λ (text : List ℕ). c.loop-line.text.items ++ text) (sym none)
+    ∙ before.2
 
 pub returns-clause-samples : goal.returns-clause-samples
 returns-clause-samples g c = returns-clause-cells g c ∙ scripts_agree c.args.script.now

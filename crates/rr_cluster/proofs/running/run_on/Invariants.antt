@@ -10,4 +10,6 @@ use Rattle.rr_cluster.proofs.running.run_on.Given as goal
 -- the cluster represents a state from which the lines that are left print the rest of the output
 abbrev pub invariant-loop-line : goal.invariant-loop-line
 invariant-loop-line g l =
-    (m : Option (State Cells)) × OptionRepresents l.cluster m × (l.text.items ++ output_from cell_model m (map line_view (drop l.line-index l.line-items)) ≡ output_of cell_model l.script)
+    (m : Option (State Cells)) × OptionRepresents l.cluster m
+    × (l.text.items ++ output_from cell_model m (map line_view (drop l.line-index l.line-items))
+    ≡ output_of cell_model l.script)

@@ -7,4 +7,5 @@ use Rattle.rr_config.proofs.value.texts_in.Given as goal
 
 -- the texts so far and those of the values that are left are all texts
 abbrev pub invariant-loop-value : goal.invariant-loop-value
-invariant-loop-value l = with_front (map string_bytes l.texts.items) (texts_in (items_view (drop l.value-index l.values.items))) ≡ texts_in (items_view l.values.items)
+invariant-loop-value l = with_front (map string_bytes l.texts.items)
+    (texts_in (items_view (drop l.value-index l.values.items))) ≡ texts_in (items_view l.values.items)

@@ -16,4 +16,5 @@ returns-then-newer-clause-told g c =
     let book : flat x.front.editions ≡ (view c.in-Ok.reading.place).seen = search rules in
     let left : view c.leave-seat.result.place ≡ view c.in-Ok.reading.place = search rules in
     let begins : IsPrefix c.args.front.now.editions x.front.editions = search rules in
-    subst (λ (l : List Op). IsPrefix (flat c.args.front.now.editions) l) (book ∙ sym (ap (λ v. v.seen) left)) (flat-prefix c.args.front.now.editions x.front.editions begins)
+    subst (λ (l : List Op). IsPrefix (flat c.args.front.now.editions) l) (book ∙ sym (ap (λ v. v.seen) left))
+    (flat-prefix c.args.front.now.editions x.front.editions begins)

@@ -6,4 +6,7 @@ use Rattle.rr_copies.specs.Writers.{changes}
 use Rattle.rr_copies.proofs.writing.reach.Given as goal
 
 abbrev pub ghosts-reach_batch : goal.ghosts-reach_batch
-ghosts-reach_batch g a = record { batch = after (flat a.book.now.editions) ((view a.writer.now.desk.place).seen ++ ops_in (changes a.writer.now)) }
+ghosts-reach_batch g a = record {
+  batch = after (flat a.book.now.editions)
+      ((view a.writer.now.desk.place).seen ++ ops_in (changes a.writer.now));
+}

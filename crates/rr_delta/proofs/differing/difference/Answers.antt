@@ -10,7 +10,7 @@ use Rattle.rr_replica.proofs.NextCell.{is_past}
 use Rattle.rr_delta.specs.Names.{owned_name}
 use Rattle.rr_delta.specs.Summaries.{cells_from}
 use Rattle.rr_delta.specs.Difference.{newer_cell, newer_cells, names_from}
-use Rattle.rr_replica.specs.Standing.{held}
+use Rattle.rr_replica.specs.ReplicaWithRoom.{replica_state}
 use Rattle.rr_delta.proofs.DifferenceLemmas.{AreLeft, left_at_start, left_here, left_later, goes_on, newer_none, newer_sorted, newer_held}
 use Rattle.rr_delta.proofs.HeldLemmas.{all_held, cells_held}
 use Rattle.rr_delta.proofs.Walks.{walked_on, walked_to}
@@ -20,7 +20,8 @@ pub loop-next-init : goal.loop-next-init
 loop-next-init g c =
     let es = entries c.args.replica.now.cells in
     let summary = map owned_name c.args.summary.now in
-    let start = ap (λ o. cells_from o es) c.cell_at-next.ensures.listed ∙ walked_to 0 es (entries_sorted c.args.replica.now.cells) in
+    let start = ap (λ o. cells_from o es) c.cell_at-next.ensures.listed
+    ∙ walked_to 0 es (entries_sorted c.args.replica.now.cells) in
     record {
       so_far = λ i. map owned_cell (c.new-cells.ensures.items i) ++ newer_cells summary (start i);
       left = left_at_start (option_map seen_cell c.cell_at-next.result) summary;
@@ -32,8 +33,11 @@ loop-next-smaller g c =
     let cell = c.in-Some.cell in
     let e = seen_cell cell in
     let slot : to_z w64 (of_z w64 cell.slot) ≡ cell.slot = search rules in
-    let left = ap (λ o. length (cells_from o es)) (rw slot at c.next_cell-next.ensures.first) ∙ ap length (walked_on e.0 es (entries_sorted c.args.replica.now.cells)) in
-    let before : length (cells_from (option_map seen_cell c.loop-next.next) es) ≡ suc (length (filter (is_past e.0) es)) = ap (λ o. length (cells_from (option_map seen_cell o) es)) c.in-Some.is in
+    let left = ap (λ o. length (cells_from o es)) (rw slot at c.next_cell-next.ensures.first)
+    ∙ ap length (walked_on e.0 es (entries_sorted c.args.replica.now.cells)) in
+    let before : length (cells_from (option_map seen_cell c.loop-next.next) es)
+    ≡ suc (length (filter (is_past e.0) es)) = ap (λ o. length (cells_from (option_map seen_cell o) es))
+    c.in-Some.is in
     omega (arith, left, before)
 
 pub loop-next-preserved : goal.loop-next-preserved
@@ -47,12 +51,16 @@ loop-next-preserved g c =
     let left = map owned_name c.names_from-names.result.now in
     let slot : to_z w64 (of_z w64 cell.slot) ≡ cell.slot = search rules in
     let next = rw slot at c.next_cell-next.ensures.first in
-    let here = left_here e summary (map owned_name c.loop-next.names.now) (subst (λ o. AreLeft (option_map seen_cell o) summary (map owned_name c.loop-next.names.now)) c.in-Some.is c.loop-next.invariant.left) in
+    let here = left_here e summary (map owned_name c.loop-next.names.now)
+    (subst (λ o. AreLeft (option_map seen_cell o) summary (map owned_name c.loop-next.names.now)) c.in-Some.is
+    c.loop-next.invariant.left) in
     let names : left ≡ names_from e.0 summary = c.names_from-names.ensures ∙ here in
     let added = c.in_ok-push_newer.ensures ∙ ap (λ k. front ++ newer_cell k e) c.first_version.ensures in
     record {
       so_far =
-          goes_on summary es front (map owned_cell c.push_newer.new.cells.items) e (option_map seen_cell c.next_cell-next.result) left (T_from_true _ c.requires) (entries_sorted m) names next added
+          goes_on summary es front (map owned_cell c.push_newer.new.cells.items) e
+          (option_map seen_cell c.next_cell-next.result) left (T_from_true _ c.requires) (entries_sorted m) names
+          next added
           ∙ ap (λ o. front ++ newer_cells summary (cells_from (option_map seen_cell o) es)) (sym c.in-Some.is)
           ∙ c.loop-next.invariant.so_far;
       left = left_later e es (option_map seen_cell c.next_cell-next.result) summary left names next;
@@ -72,10 +80,13 @@ pub returns-clause-ascending : goal.returns-clause-ascending
 returns-clause-ascending g c =
     let m = c.args.replica.now.cells in
     let summary = map owned_name c.args.summary.now in
-    ap (is_sorted cell_name_cmp) (returns-clause-newer g c) ∙ true_from_T _ (newer_sorted summary (entries m) (entries_sorted m))
+    ap (is_sorted cell_name_cmp) (returns-clause-newer g c)
+    ∙ true_from_T _ (newer_sorted summary (entries m) (entries_sorted m))
 
 pub returns-clause-of_schema : goal.returns-clause-of_schema
 returns-clause-of_schema g c =
-    let h = held c.args.replica.now in
+    let h = replica_state c.args.replica.now in
     let summary = map owned_name c.args.summary.now in
-    cells_held h.schema c.loop-next.cells.items (newer_cells summary (entries h.cells)) (newer_held h.schema summary (entries h.cells) (all_held h c.schema-schema.ensures.holds)) (returns-clause-newer g c)
+    cells_held h.schema c.loop-next.cells.items (newer_cells summary (entries h.cells))
+    (newer_held h.schema summary (entries h.cells) (all_held h c.schema-schema.ensures.holds))
+    (returns-clause-newer g c)

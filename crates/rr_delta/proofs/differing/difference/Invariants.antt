@@ -11,7 +11,9 @@ use Rattle.rr_delta.proofs.differing.difference.Given as goal
 -- the cells so far, and the newer ones of what is left; the names that are left of the summary
 abbrev pub invariant-loop-next : goal.invariant-loop-next
 invariant-loop-next g l = record {
-  so_far : map owned_cell l.cells.items ++ newer_cells (map owned_name l.summary) (cells_from (option_map seen_cell l.next) (entries l.replica.cells)) ≡ newer_cells (map owned_name l.summary) (entries l.replica.cells);
+  so_far : map owned_cell l.cells.items ++ newer_cells (map owned_name l.summary)
+      (cells_from (option_map seen_cell l.next) (entries l.replica.cells))
+      ≡ newer_cells (map owned_name l.summary) (entries l.replica.cells);
   left : AreLeft (option_map seen_cell l.next) (map owned_name l.summary) (map owned_name l.names);
 }
 

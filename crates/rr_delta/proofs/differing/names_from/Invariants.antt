@@ -5,7 +5,8 @@ use Rattle.rr_delta.specs.Difference.{names_from}
 use Rattle.rr_delta.proofs.differing.names_from.Given as goal
 
 abbrev pub invariant-loop-left : goal.invariant-loop-left
-invariant-loop-left l = names_from (seen_cell l.cell).0 (map owned_name l.left) ≡ names_from (seen_cell l.cell).0 (map owned_name l.names)
+invariant-loop-left l = names_from (seen_cell l.cell).0 (map owned_name l.left)
+    ≡ names_from (seen_cell l.cell).0 (map owned_name l.names)
 
 abbrev pub decreases-loop-left : goal.decreases-loop-left
 decreases-loop-left l = length l.left

@@ -4,7 +4,7 @@ use Rattle.std.specs.FinMap.{entries, entries_sorted}
 use Rattle.rr_cells.specs.Listing.{seen_cell, first_after}
 use Rattle.rr_delta.specs.Names.{IsNameOf, name_in, named_version, owned_name}
 use Rattle.rr_delta.specs.Summaries.{cells_after, cells_from}
-use Rattle.rr_replica.specs.Standing.{held}
+use Rattle.rr_replica.specs.ReplicaWithRoom.{replica_state}
 use Rattle.rr_delta.proofs.HeldLemmas.{all_held, all_taken, after_held, named_all, names_held}
 use Rattle.rr_delta.proofs.SummaryLemmas.{none_taken, names_ascend}
 use Rattle.rr_delta.proofs.Walks.{walked_on, sorted_after, sorted_take, sorted_versions}
@@ -16,18 +16,25 @@ returns-in-Some-next_cell-clause-listed g c =
     let name = c.in-Some.name.now in
     let n = (owned_name name).0 in
     let slot : to_z w64 (of_z w64 name.slot) ≡ name.slot = search rules in
-    let next : option_map seen_cell c.next_cell.result ≡ first_after n (entries m) = rw slot at c.next_cell.ensures.first in
-    let at : Some (seen_cell c.in-Some-next_cell.first) ≡ first_after n (entries m) = ap (option_map seen_cell) (sym c.in-Some-next_cell.is) ∙ next in
-    let after : cells_from (Some (seen_cell c.in-Some-next_cell.first)) (entries m) ≡ cells_after (name_in c.args.after) (entries m) =
-    ap (λ o. cells_from o (entries m)) at ∙ walked_on n (entries m) (entries_sorted m) ∙ ap (λ o. cells_after (name_in o) (entries m)) (sym c.in-Some.is) in
-    subst (λ es. IfOk c.listed_from.result (λ names. map owned_name names.items ≡ take c.args.count (map named_version es))) after c.listed_from.ensures
+    let next : option_map seen_cell c.next_cell.result ≡ first_after n (entries m) =
+    rw slot at c.next_cell.ensures.first in
+    let at : Some (seen_cell c.in-Some-next_cell.first) ≡ first_after n (entries m) =
+    ap (option_map seen_cell) (sym c.in-Some-next_cell.is) ∙ next in
+    let after : cells_from (Some (seen_cell c.in-Some-next_cell.first)) (entries m)
+    ≡ cells_after (name_in c.args.after) (entries m) =
+    ap (λ o. cells_from o (entries m)) at ∙ walked_on n (entries m) (entries_sorted m)
+    ∙ ap (λ o. cells_after (name_in o) (entries m)) (sym c.in-Some.is) in
+    subst (λ es. IfOk c.listed_from.result (λ names. map owned_name names.items
+    ≡ take c.args.count (map named_version es))) after c.listed_from.ensures
 
 pub returns-in-Some-next_cell-clause-of_schema : goal.returns-in-Some-next_cell-clause-of_schema
 returns-in-Some-next_cell-clause-of_schema g c =
-    let h = held c.args.replica.now in
+    let h = replica_state c.args.replica.now in
     let es = cells_after (name_in c.args.after) (entries h.cells) in
     names_held h.schema c.listed_from.result (take c.args.count (map named_version es))
-    (all_taken (IsNameOf h.schema) c.args.count (map named_version es) (named_all h.schema es (after_held h.schema (name_in c.args.after) (entries h.cells) (all_held h c.schema-schema.ensures.holds))))
+    (all_taken (IsNameOf h.schema) c.args.count (map named_version es)
+    (named_all h.schema es (after_held h.schema (name_in c.args.after) (entries h.cells)
+    (all_held h c.schema-schema.ensures.holds))))
     (returns-in-Some-next_cell-clause-listed g c)
 
 pub returns-in-None-clause-listed : goal.returns-in-None-clause-listed
@@ -36,13 +43,19 @@ returns-in-None-clause-listed g c =
     let name = c.in-Some.name.now in
     let n = (owned_name name).0 in
     let slot : to_z w64 (of_z w64 name.slot) ≡ name.slot = search rules in
-    let next : option_map seen_cell c.next_cell.result ≡ first_after n (entries m) = rw slot at c.next_cell.ensures.first in
+    let next : option_map seen_cell c.next_cell.result ≡ first_after n (entries m) =
+    rw slot at c.next_cell.ensures.first in
     let none : cells_after (name_in c.args.after) (entries m) ≡ [] =
-    ap (λ o. cells_after (name_in o) (entries m)) c.in-Some.is ∙ sym (walked_on n (entries m) (entries_sorted m)) ∙ ap (λ o. cells_from o (entries m)) (sym next ∙ ap (option_map seen_cell) c.in-None.is) in
-    ap (map owned_name) c.new.ensures.items ∙ sym (none_taken c.args.count (map named_version (cells_after (name_in c.args.after) (entries m))) (ap (map named_version) none))
+    ap (λ o. cells_after (name_in o) (entries m)) c.in-Some.is ∙ sym (walked_on n (entries m) (entries_sorted m))
+    ∙ ap (λ o. cells_from o (entries m)) (sym next ∙ ap (option_map seen_cell) c.in-None.is) in
+    ap (map owned_name) c.new.ensures.items ∙ sym (none_taken c.args.count
+    (map named_version (cells_after (name_in c.args.after) (entries m))) (ap (map named_version) none))
 
 pub returns-in-Some-next_cell-clause-ascending : goal.returns-in-Some-next_cell-clause-ascending
 returns-in-Some-next_cell-clause-ascending g c =
     let m = c.args.replica.now.cells in
     let es = cells_after (name_in c.args.after) (entries m) in
-    names_ascend c.listed_from.result (take c.args.count (map named_version es)) (sorted_take c.args.count (map named_version es) (sorted_versions es (sorted_after (name_in c.args.after) (entries m) (entries_sorted m)))) (returns-in-Some-next_cell-clause-listed g c)
+    names_ascend c.listed_from.result (take c.args.count (map named_version es))
+    (sorted_take c.args.count (map named_version es)
+    (sorted_versions es (sorted_after (name_in c.args.after) (entries m) (entries_sorted m))))
+    (returns-in-Some-next_cell-clause-listed g c)

@@ -2,7 +2,7 @@ use Rattle.std.proofs.Common.{rules, ◌≡◌, ℕ, ◌+◌, length, All, List,
 use Rattle.std.proofs.lemmas.List.Elements.{All-push}
 use Rattle.left_right.specs.Sides.{view}
 use Rattle.rr_copies.specs.declared.rule.View.{View}
-use Rattle.rr_desk.specs.Standing.{HasSeen, ReaderState}
+use Rattle.rr_desk.specs.ReaderState.{HasSeen, ReaderState}
 use Rattle.rr_desk.proofs.opening.seats.Goals as goal
 
 pub loop-n-preserved : goal.loop-n-preserved
@@ -12,11 +12,14 @@ loop-n-preserved g c =
     let v = view c.args.writer.now.desk.place in
     let s = c.args.schema.now in
     let items : c.push.new.self.items ≡ c.loop-n.all.items ++ c.in_ok-seat.field-0 ∷ [] = search rules in
-    let here : HasSeen v.desk s v.seen c.in_ok-seat.field-0 = subst (λ (v : View). HasSeen v.desk s v.seen c.in_ok-seat.field-0) was.place did.seen in
+    let here : HasSeen v.desk s v.seen c.in_ok-seat.field-0 =
+    subst (λ (v : View). HasSeen v.desk s v.seen c.in_ok-seat.field-0) was.place did.seen in
     record {
       place = did.view ∙ was.place;
       shown = did.shown ∙ was.shown;
       pending = did.pending ∙ was.pending;
-      count = ap length items ∙ (length-append c.loop-n.all.items (c.in_ok-seat.field-0 ∷ []) ∙ ap (λ (k : ℕ). k + 1) was.count);
-      seen = subst (λ (l : List ReaderState). All (HasSeen v.desk s v.seen) l) (sym items) (All-push (HasSeen v.desk s v.seen) c.loop-n.all.items c.in_ok-seat.field-0 was.seen here);
+      count = ap length items ∙ (length-append c.loop-n.all.items (c.in_ok-seat.field-0 ∷ [])
+          ∙ ap (λ (k : ℕ). k + 1) was.count);
+      seen = subst (λ (l : List ReaderState). All (HasSeen v.desk s v.seen) l) (sym items)
+          (All-push (HasSeen v.desk s v.seen) c.loop-n.all.items c.in_ok-seat.field-0 was.seen here);
     }

@@ -1,6 +1,6 @@
 use Rattle.std.proofs.Common.{◌≡◌, length, All}
 use Rattle.left_right.specs.Sides.{view}
-use Rattle.rr_desk.specs.Standing.{HasSeen}
+use Rattle.rr_desk.specs.ReaderState.{HasSeen}
 use Rattle.rr_copies.specs.Writers.{changes}
 use Rattle.rr_desk.proofs.opening.seats.Given as goal
 
@@ -10,5 +10,6 @@ invariant-loop-n g l = record {
   shown : l.writer.desk.shown ≡ l.initial.writer.desk.shown;
   pending : changes l.writer ≡ changes l.initial.writer;
   count : length l.all.items ≡ l.n;
-  seen : All (HasSeen (view l.initial.writer.desk.place).desk l.schema (view l.initial.writer.desk.place).seen) l.all.items;
+  seen : All (HasSeen (view l.initial.writer.desk.place).desk l.schema (view l.initial.writer.desk.place).seen)
+      l.all.items;
 }

@@ -6,4 +6,5 @@ use Rattle.rr_document.proofs.document.archives_in.Given as goal
 
 -- the archives so far and those of the tables that are left are all archives
 abbrev pub invariant-loop-value : goal.invariant-loop-value
-invariant-loop-value l = with_front l.archives.items (archives_in (items_view (drop l.value-index l.values.items))) ≡ archives_in (items_view l.values.items)
+invariant-loop-value l = with_front l.archives.items (archives_in (items_view (drop l.value-index l.values.items)))
+    ≡ archives_in (items_view l.values.items)

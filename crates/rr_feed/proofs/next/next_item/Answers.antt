@@ -3,7 +3,8 @@ use Rattle.rr_feed.proofs.next.next_item.Goals as goal
 
 pub returns-in-Some-clause-item : goal.returns-in-Some-clause-item
 returns-in-Some-clause-item c =
-    rw c.if-not-skipping.false (line_is_skipped _ _ _ _ c.args.ended _ _ c.in-Some.ensures c.next_of_line-in-Some.ensures.item)
+    rw c.if-not-skipping.false (line_is_skipped _ _ _ _ c.args.ended _ _ c.in-Some.ensures
+    c.next_of_line-in-Some.ensures.item)
 
 pub returns-in-Some-clause-rest : goal.returns-in-Some-clause-rest
 returns-in-Some-clause-rest c =

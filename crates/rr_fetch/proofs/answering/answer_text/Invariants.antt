@@ -8,4 +8,5 @@ use Rattle.rr_fetch.proofs.answering.answer_text.Given as goal
 abbrev pub invariant-loop-row : goal.invariant-loop-row
 invariant-loop-row g l =
     let q = request_view l.request in
-    l.text.items ≡ answer_text l.replica.schema (value_of_cells l.replica.schema l.replica.cells q) (record q { rows = l.row })
+    l.text.items ≡ answer_text l.replica.schema (value_of_cells l.replica.schema l.replica.cells q)
+    (record q { rows = l.row })

@@ -6,6 +6,7 @@ use Rattle.rr_fetch.proofs.consolidation.least.Goals as goal
 
 pub loop-entry-preserved : goal.loop-entry-preserved
 loop-entry-preserved c =
-    let step : c.lesser-least.result ≡ greater (flip_args int_cmp) c.loop-entry.least (Some c.entry-item.result.contribution.min) = search rules in
+    let step : c.lesser-least.result ≡ greater (flip_args int_cmp) c.loop-entry.least
+    (Some c.entry-item.result.contribution.min) = search rules in
     let more = least_more c.args.row.now c.loop-entry.entry-index c.entry-item.result c.loop-entry-test.true in
     cc

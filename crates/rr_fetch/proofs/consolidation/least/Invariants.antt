@@ -5,4 +5,5 @@ use Rattle.rr_join.specs.Maps.{greatest}
 use Rattle.rr_fetch.proofs.consolidation.least.Given as goal
 
 abbrev pub invariant-loop-entry : goal.invariant-loop-entry
-invariant-loop-entry l = l.least ≡ greatest (flip_args int_cmp) (map (λ (e : Entry). e.contribution.min) (take l.entry-index l.row))
+invariant-loop-entry l = l.least ≡ greatest (flip_args int_cmp)
+    (map (λ (e : Entry). e.contribution.min) (take l.entry-index l.row))

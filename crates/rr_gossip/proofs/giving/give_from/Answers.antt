@@ -15,18 +15,28 @@ returns-in_err-take_names-clause-write_failed g c = λ e.
     let s = g.S.Source.layout c.args.source.now in
     let m = g.S.Source.cells c.take_names.new.source in
     let stopped = c.in_err-take_names.ensures.stopped in
-    absurd (stops_unwritten (giver_takes m s stopped.last) stopped.piece c.in_err-take_names.field-0.0 (λ content. giver_fault m s stopped.last content c.in_err-take_names.field-0.0) stopped.stopped (sym p.2 ∙ err_is {A = Unit {0}} p.0 WriteFailed (sym p.1 ∙ e)))
+    absurd (stops_unwritten (giver_takes m s stopped.last) stopped.piece c.in_err-take_names.field-0.0
+    (λ content. giver_fault m s stopped.last content c.in_err-take_names.field-0.0) stopped.stopped
+    (sym p.2 ∙ err_is {A = Unit {0}} p.0 WriteFailed (sym p.1 ∙ e)))
 
 pub returns-clause-given : goal.returns-clause-given
 returns-clause-given g c =
     let heard = rw c.with_limit-giver.ensures at c.in_ok-take_names.ensures.heard in
     rw c.send_pages.ensures.unchanged
-    (gave c.args.frames (g.S.Source.layout c.args.source.now) (g.S.Source.cells c.take_names.new.source) c.args.before.now (g.R.Read.remaining (inner_of c.args.input.now)) (g.R.Read.remaining (inner_of c.take_names.new.input))
-    (g.W.Write.contents (inner_of c.args.output.now)) (g.W.Write.contents (inner_of c.send_pages.new.output)) c.take_names.new.giver heard c.send_pages.result c.send_pages.ensures.sent)
+    (gave c.args.frames (g.S.Source.layout c.args.source.now) (g.S.Source.cells c.take_names.new.source)
+    c.args.before.now (g.R.Read.remaining (inner_of c.args.input.now))
+    (g.R.Read.remaining (inner_of c.take_names.new.input))
+    (g.W.Write.contents (inner_of c.args.output.now)) (g.W.Write.contents (inner_of c.send_pages.new.output))
+    c.take_names.new.giver heard c.send_pages.result c.send_pages.ensures.sent)
 
 pub returns-clause-stopped : goal.returns-clause-stopped
 returns-clause-stopped g c =
     let heard = rw c.with_limit-giver.ensures at c.in_ok-take_names.ensures.heard in
     rw c.send_pages.ensures.unchanged
-    (failed_to_reply c.args.frames (g.S.Source.layout c.args.source.now) (g.S.Source.cells c.take_names.new.source) c.args.before.now (g.R.Read.remaining (inner_of c.args.input.now)) (g.R.Read.remaining (inner_of c.take_names.new.input))
-    (g.W.Write.contents (inner_of c.args.output.now)) (g.W.Write.contents (inner_of c.send_pages.new.output)) c.take_names.new.giver heard c.send_pages.result (c.in_ok-take_names.ensures.limit ∙ ap (λ (x : Giver). x.limit) c.with_limit-giver.ensures) c.send_pages.ensures.refused c.send_pages.ensures.front)
+    (failed_to_reply c.args.frames (g.S.Source.layout c.args.source.now) (g.S.Source.cells c.take_names.new.source)
+    c.args.before.now (g.R.Read.remaining (inner_of c.args.input.now))
+    (g.R.Read.remaining (inner_of c.take_names.new.input))
+    (g.W.Write.contents (inner_of c.args.output.now)) (g.W.Write.contents (inner_of c.send_pages.new.output))
+    c.take_names.new.giver heard c.send_pages.result
+    (c.in_ok-take_names.ensures.limit ∙ ap (λ (x : Giver). x.limit) c.with_limit-giver.ensures)
+    c.send_pages.ensures.refused c.send_pages.ensures.front)

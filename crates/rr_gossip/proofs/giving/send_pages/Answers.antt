@@ -11,7 +11,14 @@ use Rattle.rr_gossip.proofs.giving.send_pages.Goals as goal
 
 pub loop-frame-init : goal.loop-frame-init
 loop-frame-init g c =
-    record { before = []; replies = first_replies c.args.giver.now c.requires.giving c.requires.fresh; written = Appends-nil _; source = refl; count = omega arith }
+    record {
+      before = [];
+      replies = first_replies c.args.giver.now c.requires.giving c.requires.fresh;
+      written =
+          Appends-nil _;
+      source = refl;
+      count = omega arith;
+    }
 
 pub returns-in_err-frame-clause-front : goal.returns-in_err-frame-clause-front
 returns-in_err-frame-clause-front g c =
@@ -22,37 +29,46 @@ pub returns-in_err-frame-clause-refused : goal.returns-in_err-frame-clause-refus
 returns-in_err-frame-clause-refused g c =
     let so_far = c.loop-frame.invariant in
     let p = err_from_is_err_and c.from_residual.result c.from_residual.ensures.1 in
-    rw (p.1, p.2) (inr (cannot_reply (reply_left c.args.giver.now.stage) c.args.giver.now.limit c.loop-frame.giver so_far.before c.in_err-frame.field-0.0 so_far.replies c.in_err-frame.ensures.sent))
+    rw (p.1, p.2) (inr (cannot_reply (reply_left c.args.giver.now.stage) c.args.giver.now.limit c.loop-frame.giver
+    so_far.before c.in_err-frame.field-0.0 so_far.replies c.in_err-frame.ensures.sent))
 
 pub returns-in_err-frame-clause-failed : goal.returns-in_err-frame-clause-failed
 returns-in_err-frame-clause-failed g c = λ e.
     let so_far = c.loop-frame.invariant in
     let p = err_from_is_err_and c.from_residual.result c.from_residual.ensures.1 in
-    let cause = cannot_reply (reply_left c.args.giver.now.stage) c.args.giver.now.limit c.loop-frame.giver so_far.before c.in_err-frame.field-0.0 so_far.replies c.in_err-frame.ensures.sent in
-    absurd (reply_unwritten (reply_left c.args.giver.now.stage) c.args.giver.now.limit c.in_err-frame.field-0.0 cause (sym p.2 ∙ err_is {A = Unit {0}} p.0 _ (sym p.1 ∙ e)))
+    let cause = cannot_reply (reply_left c.args.giver.now.stage) c.args.giver.now.limit c.loop-frame.giver so_far.before
+    c.in_err-frame.field-0.0 so_far.replies c.in_err-frame.ensures.sent in
+    absurd (reply_unwritten (reply_left c.args.giver.now.stage) c.args.giver.now.limit c.in_err-frame.field-0.0 cause
+    (sym p.2 ∙ err_is {A = Unit {0}} p.0 _ (sym p.1 ∙ e)))
 
 pub returns-in_err-write_all-clause-front : goal.returns-in_err-write_all-clause-front
 returns-in_err-write_all-clause-front g c =
     let so_far = c.loop-frame.invariant in
     let frame = c.in-Some.frame.items in
-    let one = one_replied (reply_left c.args.giver.now.stage) c.args.giver.now.limit c.loop-frame.giver c.next_frame.new.self so_far.before frame so_far.replies (rw c.in-Some.is at c.in_ok-frame.ensures.sent) in
-    frames_front _ _ _ _ so_far.before one.left frame one.all_are so_far.written (rw c.deref.ensures.value at c.in_err-write_all.ensures.front)
+    let one = one_replied (reply_left c.args.giver.now.stage) c.args.giver.now.limit c.loop-frame.giver
+    c.next_frame.new.self so_far.before frame so_far.replies (rw c.in-Some.is at c.in_ok-frame.ensures.sent) in
+    frames_front _ _ _ _ so_far.before one.left frame one.all_are so_far.written
+    (rw c.deref.ensures.value at c.in_err-write_all.ensures.front)
 
 pub loop-frame-smaller : goal.loop-frame-smaller
 loop-frame-smaller g c =
     let so_far = c.loop-frame.invariant in
-    let one = one_replied (reply_left c.args.giver.now.stage) c.args.giver.now.limit c.loop-frame.giver c.next_frame.new.self so_far.before c.in-Some.frame.items so_far.replies (rw c.in-Some.is at c.in_ok-frame.ensures.sent) in
+    let one = one_replied (reply_left c.args.giver.now.stage) c.args.giver.now.limit c.loop-frame.giver
+    c.next_frame.new.self so_far.before c.in-Some.frame.items so_far.replies
+    (rw c.in-Some.is at c.in_ok-frame.ensures.sent) in
     omega (arith, one.room, one.count, one.limit_is)
 
 pub loop-frame-preserved : goal.loop-frame-preserved
 loop-frame-preserved g c =
     let so_far = c.loop-frame.invariant in
     let frame = c.in-Some.frame.items in
-    let one = one_replied (reply_left c.args.giver.now.stage) c.args.giver.now.limit c.loop-frame.giver c.next_frame.new.self so_far.before frame so_far.replies (rw c.in-Some.is at c.in_ok-frame.ensures.sent) in
+    let one = one_replied (reply_left c.args.giver.now.stage) c.args.giver.now.limit c.loop-frame.giver
+    c.next_frame.new.self so_far.before frame so_far.replies (rw c.in-Some.is at c.in_ok-frame.ensures.sent) in
     record {
       before = so_far.before ++ frame ∷ [];
       replies = one.replies;
-      written = subst (Appends _ _) (sym (concat_more so_far.before frame)) (Appends-trans _ _ _ _ _ so_far.written (rw c.deref.ensures.value at c.in_ok-write_all.ensures.whole));
+      written = subst (Appends _ _) (sym (concat_more so_far.before frame))
+          (Appends-trans _ _ _ _ _ so_far.written (rw c.deref.ensures.value at c.in_ok-write_all.ensures.whole));
       source = c.in_ok-frame.ensures.unchanged ∙ so_far.source;
       count = omega (arith, so_far.count, c.in_ok-write_all.ensures.count);
     }
@@ -60,15 +76,18 @@ loop-frame-preserved g c =
 pub returns-in_err-flush-clause-front : goal.returns-in_err-flush-clause-front
 returns-in_err-flush-clause-front g c =
     let so_far = c.loop-frame.invariant in
-    prefix_kept _ _ _ _ (frames_before _ _ _ so_far.before _ so_far.replies.all_are so_far.written) c.flush.ensures.bytes
+    prefix_kept _ _ _ _ (frames_before _ _ _ so_far.before _ so_far.replies.all_are so_far.written)
+    c.flush.ensures.bytes
 
 pub returns-clause-sent : goal.returns-clause-sent
 returns-clause-sent g c =
     let so_far = c.loop-frame.invariant in
-    let all = all_replied (reply_left c.args.giver.now.stage) c.args.giver.now.limit c.loop-frame.giver c.next_frame.new.self so_far.before so_far.replies (rw c.in_default.is at c.in_ok-frame.ensures.sent) in
+    let all = all_replied (reply_left c.args.giver.now.stage) c.args.giver.now.limit c.loop-frame.giver
+    c.next_frame.new.self so_far.before so_far.replies (rw c.in_default.is at c.in_ok-frame.ensures.sent) in
     Appends-kept _ _ _ _ (frames_whole _ _ _ so_far.before all so_far.written) c.flush.ensures.bytes
 
 pub returns-clause-front : goal.returns-clause-front
 returns-clause-front g c =
     let so_far = c.loop-frame.invariant in
-    prefix_kept _ _ _ _ (frames_before _ _ _ so_far.before _ so_far.replies.all_are so_far.written) c.flush.ensures.bytes
+    prefix_kept _ _ _ _ (frames_before _ _ _ so_far.before _ so_far.replies.all_are so_far.written)
+    c.flush.ensures.bytes

@@ -11,7 +11,8 @@ abbrev pub invariant-loop-frame : goal.invariant-loop-frame
 invariant-loop-frame g l = record {
   before : List (List ℕ);
   replies : Replies (reply_left l.initial.giver.stage) l.initial.giver.limit l.giver before;
-  written : Appends (g.W.Write.contents (inner_of l.initial.output)) (g.W.Write.contents (inner_of l.output)) (concat before);
+  written : Appends (g.W.Write.contents (inner_of l.initial.output)) (g.W.Write.contents (inner_of l.output))
+      (concat before);
   source : l.source ≡ l.initial.source;
   count : failures_of l.initial.output ≤ failures_of l.output;
 }

@@ -67,21 +67,25 @@ returns-in_err-take-clause-stopped g c =
     (record {
       frames = so_far.frames;
       piece = frame;
-      read = piece_more c.args.before.now _ _ _ so_far.frames c.loop-frame.frame.items frame so_far.read c.in_ok-read_frame.ensures.read;
+      read = piece_more c.args.before.now _ _ _ so_far.frames c.loop-frame.frame.items frame so_far.read
+          c.in_ok-read_frame.ensures.read;
       last = c.loop-frame.giver;
       taken = so_far.taken m;
-      stopped = inr (giver_stops m (g.S.Source.layout c.args.source.now) c.loop-frame.giver frame _ c.in_ok-read_frame.ensures.whole takes);
+      stopped = inr (giver_stops m (g.S.Source.layout c.args.source.now) c.loop-frame.giver frame _
+          c.in_ok-read_frame.ensures.whole takes);
     })
 
 pub returns-in_err-take-clause-ended : goal.returns-in_err-take-clause-ended
 returns-in_err-take-clause-ended g c = λ e.
     let p = err_from_is_err_and c.from_residual-in_err-take.result c.from_residual-in_err-take.ensures.1 in
-    not_of_frame c.from_residual-in_err-take.result p.0 Ended (ap is_of_frame p.2 ∙ hears_of_frame _ _ c.loop-frame.giver _ _ c.in_err-take.ensures.taken) refl p.1 e
+    not_of_frame c.from_residual-in_err-take.result p.0 Ended
+    (ap is_of_frame p.2 ∙ hears_of_frame _ _ c.loop-frame.giver _ _ c.in_err-take.ensures.taken) refl p.1 e
 
 pub returns-in_err-take-clause-failed : goal.returns-in_err-take-clause-failed
 returns-in_err-take-clause-failed g c = λ e.
     let p = err_from_is_err_and c.from_residual-in_err-take.result c.from_residual-in_err-take.ensures.1 in
-    not_of_frame c.from_residual-in_err-take.result p.0 ReadFailed (ap is_of_frame p.2 ∙ hears_of_frame _ _ c.loop-frame.giver _ _ c.in_err-take.ensures.taken) refl p.1 e
+    not_of_frame c.from_residual-in_err-take.result p.0 ReadFailed
+    (ap is_of_frame p.2 ∙ hears_of_frame _ _ c.loop-frame.giver _ _ c.in_err-take.ensures.taken) refl p.1 e
 
 pub returns-then-branch-clause-heard : goal.returns-then-branch-clause-heard
 returns-then-branch-clause-heard g c =
@@ -94,8 +98,10 @@ returns-then-branch-clause-heard g c =
     let done = moves.done c.if-branch.true in
     record {
       frames = so_far.frames ++ frame ∷ [];
-      read = frame_more c.args.before.now _ _ _ so_far.frames c.loop-frame.frame.items frame so_far.read c.in_ok-read_frame.ensures.read c.in_ok-read_frame.ensures.whole;
-      taken = frame_heard m s c.args.giver.now c.loop-frame.giver c.take.new.self so_far.frames frame c.in_ok-take.field-0 (so_far.taken m) takes;
+      read = frame_more c.args.before.now _ _ _ so_far.frames c.loop-frame.frame.items frame so_far.read
+          c.in_ok-read_frame.ensures.read c.in_ok-read_frame.ensures.whole;
+      taken = frame_heard m s c.args.giver.now c.loop-frame.giver c.take.new.self so_far.frames frame
+          c.in_ok-take.field-0 (so_far.taken m) takes;
       names = done.0;
       giving = done.1;
       fits = subst AreFit done.1 c.in_ok-take.ensures.fit;
@@ -103,11 +109,13 @@ returns-then-branch-clause-heard g c =
 
 pub returns-then-branch-clause-sent : goal.returns-then-branch-clause-sent
 returns-then-branch-clause-sent g c =
-    (giver_moves _ _ c.loop-frame.giver c.take.new.self _ c.in_ok-take.field-0 c.in_ok-take.ensures.taken).sent ∙ c.loop-frame.invariant.sent
+    (giver_moves _ _ c.loop-frame.giver c.take.new.self _ c.in_ok-take.field-0 c.in_ok-take.ensures.taken).sent
+    ∙ c.loop-frame.invariant.sent
 
 pub returns-then-branch-clause-limit : goal.returns-then-branch-clause-limit
 returns-then-branch-clause-limit g c =
-    (giver_moves _ _ c.loop-frame.giver c.take.new.self _ c.in_ok-take.field-0 c.in_ok-take.ensures.taken).limit ∙ c.loop-frame.invariant.limit
+    (giver_moves _ _ c.loop-frame.giver c.take.new.self _ c.in_ok-take.field-0 c.in_ok-take.ensures.taken).limit
+    ∙ c.loop-frame.invariant.limit
 
 pub loop-frame-smaller : goal.loop-frame-smaller
 loop-frame-smaller g c =
@@ -125,9 +133,12 @@ loop-frame-preserved g c =
     let none = c.clear.ensures.items in
     record {
       frames = so_far.frames ++ frame ∷ [];
-      read = subst (WasRead c.args.before.now _ _ (so_far.frames ++ frame ∷ [])) (sym none) (frame_more c.args.before.now _ _ _ so_far.frames c.loop-frame.frame.items frame so_far.read c.in_ok-read_frame.ensures.read c.in_ok-read_frame.ensures.whole);
+      read = subst (WasRead c.args.before.now _ _ (so_far.frames ++ frame ∷ [])) (sym none)
+          (frame_more c.args.before.now _ _ _ so_far.frames c.loop-frame.frame.items frame so_far.read
+          c.in_ok-read_frame.ensures.read c.in_ok-read_frame.ensures.whole);
       few = rw none (omega arith);
-      taken = λ n. frame_heard n s c.args.giver.now c.loop-frame.giver c.take.new.self so_far.frames frame _ (so_far.taken n) (moves.going c.if-branch.false n);
+      taken = λ n. frame_heard n s c.args.giver.now c.loop-frame.giver c.take.new.self so_far.frames frame _
+          (so_far.taken n) (moves.going c.if-branch.false n);
       schema = c.in_ok-take.ensures.schema ∙ so_far.schema;
       kept = g.met.S.Source.may_go_on _ _ _ so_far.kept c.in_ok-take.ensures.kept;
       sent = moves.sent ∙ so_far.sent;

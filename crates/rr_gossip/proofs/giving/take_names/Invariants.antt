@@ -9,9 +9,11 @@ use Rattle.rr_gossip.proofs.giving.take_names.Given as goal
 abbrev pub invariant-loop-frame : goal.invariant-loop-frame
 invariant-loop-frame g l = record {
   frames : List (List ℕ);
-  read : WasRead l.before (g.R.Read.remaining (inner_of l.initial.input)) (g.R.Read.remaining (inner_of l.input)) frames l.frame.items;
+  read : WasRead l.before (g.R.Read.remaining (inner_of l.initial.input)) (g.R.Read.remaining (inner_of l.input)) frames
+      l.frame.items;
   few : length l.frame.items ≤ 4;
-  taken : (m : Cells) → giver_after m (g.S.Source.layout l.initial.source) l.initial.giver (contents frames) ≡ Ok l.giver;
+  taken : (m : Cells) → giver_after m (g.S.Source.layout l.initial.source) l.initial.giver (contents frames)
+      ≡ Ok l.giver;
   schema : g.S.Source.layout l.source ≡ g.S.Source.layout l.initial.source;
   kept : g.S.Source.may_become l.initial.source l.source;
   sent : l.giver.sent ≡ l.initial.giver.sent;

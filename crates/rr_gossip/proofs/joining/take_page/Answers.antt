@@ -10,8 +10,10 @@ use Rattle.rr_gossip.proofs.joining.take_page.Goals as goal
 
 pub join_all-requires : goal.join_all-requires
 join_all-requires g c =
-    subst (λ cells. All (λ x. IsCellOf (g.T.Target.layout c.args.target.now) (owned_cell x)) cells) (sym c.deref.ensures.value)
-    (subst (λ s. All (λ x. IsCellOf s (owned_cell x)) c.in_ok-cells.cells.items) c.schema.ensures.value c.in_ok-cells.ensures.cells)
+    subst (λ cells. All (λ x. IsCellOf (g.T.Target.layout c.args.target.now) (owned_cell x)) cells)
+    (sym c.deref.ensures.value)
+    (subst (λ s. All (λ x. IsCellOf s (owned_cell x)) c.in_ok-cells.cells.items) c.schema.ensures.value
+    c.in_ok-cells.ensures.cells)
 
 pub returns-in_err-join_all-clause-taken : goal.returns-in_err-join_all-clause-taken
 returns-in_err-join_all-clause-taken g c =
@@ -19,8 +21,10 @@ returns-in_err-join_all-clause-taken g c =
     let joined = g.T.Target.has_joined c.args.target.now c.join_all.new.target in
     let body = c.args.body.now in
     let es = map owned_cell c.in_ok-cells.cells.items in
-    let read : page_at s body ≡ Ok es = subst (λ l. page_at l body ≡ Ok es) c.schema.ensures.value c.in_ok-cells.ensures.exact in
+    let read : page_at s body ≡ Ok es = subst (λ l. page_at l body ≡ Ok es) c.schema.ensures.value
+    c.in_ok-cells.ensures.exact in
     let front = c.in_err-join_all.ensures.front in
     let memory : c.from_residual-in_err-join_all.result ≡ Err Memory = search rules in
-    memory_taken joined Waiting c.from_residual-in_err-join_all.result (page_taken s body) (take front.0 es) memory (page_front s body es front.0 read)
+    memory_taken joined Waiting c.from_residual-in_err-join_all.result (page_taken s body) (take front.0 es) memory
+    (page_front s body es front.0 read)
     (subst (λ l. joined (take front.0 (map owned_cell l))) c.deref.ensures.value front.1)

@@ -13,6 +13,9 @@ returns c =
     let names = c.args.names.items in
     let held = some_from c.is_empty.result (vec_len c.args.names) c.is_empty.ensures c.if-is_empty.false in
     let some : 1 ≤ length names = omega (arith, held, c.args.names.ok.0) in
-    let last = ap (λ l. last_listed (map owned_name l)) c.pop.ensures.items ∙ popped_is c.pop.new.self.items c.pop.result (c.pop.ensures.variant.1 held) in
-    let body = c.deref-2.ensures.value ∙ c.in_ok-body.ensures ∙ ap (λ l. summary_text (map owned_name l)) c.deref.ensures.value in
-    listed_is names c.pop.result c.in_ok-frame.frame.items some last (c.in_ok-frame.ensures ∙ ap (λ b. frame_text kind.Summary b) body)
+    let last = ap (λ l. last_listed (map owned_name l)) c.pop.ensures.items
+    ∙ popped_is c.pop.new.self.items c.pop.result (c.pop.ensures.variant.1 held) in
+    let body = c.deref-2.ensures.value ∙ c.in_ok-body.ensures
+    ∙ ap (λ l. summary_text (map owned_name l)) c.deref.ensures.value in
+    listed_is names c.pop.result c.in_ok-frame.frame.items some last
+    (c.in_ok-frame.ensures ∙ ap (λ b. frame_text kind.Summary b) body)

@@ -9,4 +9,5 @@ pub returns-clause-write_failed : goal.returns-clause-write_failed
 returns-clause-write_failed g c = λ e.
     let s = g.T.Target.layout c.args.target.now in
     let stopped = (rw e at c.take_pages.ensures.stopped).2 in
-    absurd (stops_unwritten (puller_takes s stopped.last) stopped.piece WriteFailed (λ content. puller_fault s stopped.last content WriteFailed) stopped.stopped refl)
+    absurd (stops_unwritten (puller_takes s stopped.last) stopped.piece WriteFailed
+    (λ content. puller_fault s stopped.last content WriteFailed) stopped.stopped refl)

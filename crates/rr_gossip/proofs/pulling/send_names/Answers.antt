@@ -11,7 +11,13 @@ pub loop-frame-init : goal.loop-frame-init
 loop-frame-init g c =
     let m = g.T.Target.cells c.args.target.now in
     let s = g.T.Target.layout c.args.target.now in
-    record { before = []; sends = first_sends m s c.args.puller.now c.requires; written = Appends-nil _; count = omega arith }
+    record {
+      before = [];
+      sends = first_sends m s c.args.puller.now c.requires;
+      written = Appends-nil _;
+      count =
+          omega arith;
+    }
 
 pub returns-in_err-frame-clause-front : goal.returns-in_err-frame-clause-front
 returns-in_err-frame-clause-front g c =
@@ -24,14 +30,16 @@ returns-in_err-frame-clause-refused g c =
     let m = g.T.Target.cells c.args.target.now in
     let s = g.T.Target.layout c.args.target.now in
     let p = err_from_is_err_and c.from_residual.result c.from_residual.ensures.1 in
-    rw (p.1, p.2) (cannot_send m s c.args.puller.now.limit c.loop-frame.puller so_far.before c.in_err-frame.field-0.0 so_far.sends c.in_err-frame.ensures.sent)
+    rw (p.1, p.2) (cannot_send m s c.args.puller.now.limit c.loop-frame.puller so_far.before c.in_err-frame.field-0.0
+    so_far.sends c.in_err-frame.ensures.sent)
 
 pub returns-in_err-frame-clause-failed : goal.returns-in_err-frame-clause-failed
 returns-in_err-frame-clause-failed g c = λ e.
     let m = g.T.Target.cells c.args.target.now in
     let s = g.T.Target.layout c.args.target.now in
     let p = err_from_is_err_and c.from_residual.result c.from_residual.ensures.1 in
-    absurd (not_written m s c.loop-frame.puller c.in_err-frame.field-0.0 c.in_err-frame.ensures.sent (sym p.2 ∙ err_is {A = Unit {0}} p.0 _ (sym p.1 ∙ e)))
+    absurd (not_written m s c.loop-frame.puller c.in_err-frame.field-0.0 c.in_err-frame.ensures.sent
+    (sym p.2 ∙ err_is {A = Unit {0}} p.0 _ (sym p.1 ∙ e)))
 
 pub returns-in_err-write_all-clause-front : goal.returns-in_err-write_all-clause-front
 returns-in_err-write_all-clause-front g c =
@@ -39,15 +47,18 @@ returns-in_err-write_all-clause-front g c =
     let m = g.T.Target.cells c.args.target.now in
     let s = g.T.Target.layout c.args.target.now in
     let frame = c.in-Some.frame.items in
-    let one = one_sent m s c.args.puller.now.limit c.loop-frame.puller c.next_frame.new.self so_far.before frame so_far.sends (rw c.in-Some.is at c.in_ok-frame.ensures.sent) in
-    frames_front _ _ _ _ so_far.before one.left frame one.all so_far.written (rw c.deref.ensures.value at c.in_err-write_all.ensures.front)
+    let one = one_sent m s c.args.puller.now.limit c.loop-frame.puller c.next_frame.new.self so_far.before frame
+    so_far.sends (rw c.in-Some.is at c.in_ok-frame.ensures.sent) in
+    frames_front _ _ _ _ so_far.before one.left frame one.all so_far.written
+    (rw c.deref.ensures.value at c.in_err-write_all.ensures.front)
 
 pub loop-frame-smaller : goal.loop-frame-smaller
 loop-frame-smaller g c =
     let so_far = c.loop-frame.invariant in
     let m = g.T.Target.cells c.args.target.now in
     let s = g.T.Target.layout c.args.target.now in
-    let one = one_sent m s c.args.puller.now.limit c.loop-frame.puller c.next_frame.new.self so_far.before c.in-Some.frame.items so_far.sends (rw c.in-Some.is at c.in_ok-frame.ensures.sent) in
+    let one = one_sent m s c.args.puller.now.limit c.loop-frame.puller c.next_frame.new.self so_far.before
+    c.in-Some.frame.items so_far.sends (rw c.in-Some.is at c.in_ok-frame.ensures.sent) in
     omega (arith, one.room, one.count, one.limit_is)
 
 pub loop-frame-preserved : goal.loop-frame-preserved
@@ -56,11 +67,13 @@ loop-frame-preserved g c =
     let m = g.T.Target.cells c.args.target.now in
     let s = g.T.Target.layout c.args.target.now in
     let frame = c.in-Some.frame.items in
-    let one = one_sent m s c.args.puller.now.limit c.loop-frame.puller c.next_frame.new.self so_far.before frame so_far.sends (rw c.in-Some.is at c.in_ok-frame.ensures.sent) in
+    let one = one_sent m s c.args.puller.now.limit c.loop-frame.puller c.next_frame.new.self so_far.before frame
+    so_far.sends (rw c.in-Some.is at c.in_ok-frame.ensures.sent) in
     record {
       before = so_far.before ++ frame ∷ [];
       sends = one.sends;
-      written = subst (Appends _ _) (sym (concat_more so_far.before frame)) (Appends-trans _ _ _ _ _ so_far.written (rw c.deref.ensures.value at c.in_ok-write_all.ensures.whole));
+      written = subst (Appends _ _) (sym (concat_more so_far.before frame))
+          (Appends-trans _ _ _ _ _ so_far.written (rw c.deref.ensures.value at c.in_ok-write_all.ensures.whole));
       count = omega (arith, so_far.count, c.in_ok-write_all.ensures.count);
     }
 
@@ -74,7 +87,8 @@ returns-clause-sent g c =
     let so_far = c.loop-frame.invariant in
     let m = g.T.Target.cells c.args.target.now in
     let s = g.T.Target.layout c.args.target.now in
-    let all = all_sent m s c.args.puller.now.limit c.loop-frame.puller c.next_frame.new.self so_far.before so_far.sends (rw c.in_default.is at c.in_ok-frame.ensures.sent) in
+    let all = all_sent m s c.args.puller.now.limit c.loop-frame.puller c.next_frame.new.self so_far.before so_far.sends
+    (rw c.in_default.is at c.in_ok-frame.ensures.sent) in
     Appends-kept _ _ _ _ (frames_whole _ _ _ so_far.before all.0 so_far.written) c.flush.ensures.bytes
 
 pub returns-clause-front : goal.returns-clause-front
@@ -87,4 +101,5 @@ returns-clause-waits g c =
     let so_far = c.loop-frame.invariant in
     let m = g.T.Target.cells c.args.target.now in
     let s = g.T.Target.layout c.args.target.now in
-    (all_sent m s c.args.puller.now.limit c.loop-frame.puller c.next_frame.new.self so_far.before so_far.sends (rw c.in_default.is at c.in_ok-frame.ensures.sent)).1
+    (all_sent m s c.args.puller.now.limit c.loop-frame.puller c.next_frame.new.self so_far.before so_far.sends
+    (rw c.in_default.is at c.in_ok-frame.ensures.sent)).1

@@ -10,7 +10,8 @@ abbrev pub invariant-loop-frame : goal.invariant-loop-frame
 invariant-loop-frame g l = record {
   before : List (List ℕ);
   sends : Sends (g.T.Target.cells l.target) (g.T.Target.layout l.target) l.initial.puller.limit l.puller before;
-  written : Appends (g.W.Write.contents (inner_of l.initial.output)) (g.W.Write.contents (inner_of l.output)) (concat before);
+  written : Appends (g.W.Write.contents (inner_of l.initial.output)) (g.W.Write.contents (inner_of l.output))
+      (concat before);
   count : failures_of l.initial.output ≤ failures_of l.output;
 }
 

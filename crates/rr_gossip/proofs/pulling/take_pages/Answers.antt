@@ -50,15 +50,19 @@ returns-in_err-take-clause-stopped g c =
     let p = err_from_is_err_and c.from_residual-in_err-take.result c.from_residual-in_err-take.ensures.1 in
     let frame = c.read_frame.new.frame.items in
     let takes = rw (c.content.ensures, c.deref.ensures.value, kept.0) at c.in_err-take.ensures.taken in
-    let stops = puller_stops s c.loop-frame.puller c.take.new.self so_far.cells (g.T.Target.has_joined c.loop-frame.target c.take.new.target) (g.T.Target.has_joined c.args.target.now c.take.new.target) frame _
-    (λ es holds. g.met.T.Target.joins_then _ _ _ so_far.cells es so_far.joined holds) c.in_ok-read_frame.ensures.whole takes in
+    let stops = puller_stops s c.loop-frame.puller c.take.new.self so_far.cells
+    (g.T.Target.has_joined c.loop-frame.target c.take.new.target)
+    (g.T.Target.has_joined c.args.target.now c.take.new.target) frame _
+    (λ es holds. g.met.T.Target.joins_then _ _ _ so_far.cells es so_far.joined holds) c.in_ok-read_frame.ensures.whole
+    takes in
     rw (p.1, p.2) (
       stops.1.0,
       stops.1.1,
       record {
         frames = so_far.frames;
         piece = frame;
-        read = piece_more [] _ _ _ so_far.frames c.loop-frame.frame.items frame so_far.read c.in_ok-read_frame.ensures.read;
+        read = piece_more [] _ _ _ so_far.frames c.loop-frame.frame.items frame so_far.read
+            c.in_ok-read_frame.ensures.read;
         last = c.loop-frame.puller;
         pages = so_far.cells;
         taken = so_far.taken;
@@ -70,12 +74,16 @@ returns-in_err-take-clause-stopped g c =
 pub returns-in_err-take-clause-ended : goal.returns-in_err-take-clause-ended
 returns-in_err-take-clause-ended g c = λ e.
     let p = err_from_is_err_and c.from_residual-in_err-take.result c.from_residual-in_err-take.ensures.1 in
-    not_of_frame c.from_residual-in_err-take.result p.0 Ended (ap is_of_frame p.2 ∙ takes_of_frame _ c.loop-frame.puller c.take.new.self _ _ _ c.in_err-take.ensures.taken) refl p.1 e
+    not_of_frame c.from_residual-in_err-take.result p.0 Ended
+    (ap is_of_frame p.2 ∙ takes_of_frame _ c.loop-frame.puller c.take.new.self _ _ _ c.in_err-take.ensures.taken)
+    refl p.1 e
 
 pub returns-in_err-take-clause-failed : goal.returns-in_err-take-clause-failed
 returns-in_err-take-clause-failed g c = λ e.
     let p = err_from_is_err_and c.from_residual-in_err-take.result c.from_residual-in_err-take.ensures.1 in
-    not_of_frame c.from_residual-in_err-take.result p.0 ReadFailed (ap is_of_frame p.2 ∙ takes_of_frame _ c.loop-frame.puller c.take.new.self _ _ _ c.in_err-take.ensures.taken) refl p.1 e
+    not_of_frame c.from_residual-in_err-take.result p.0 ReadFailed
+    (ap is_of_frame p.2 ∙ takes_of_frame _ c.loop-frame.puller c.take.new.self _ _ _ c.in_err-take.ensures.taken)
+    refl p.1 e
 
 pub returns-then-branch-clause-pulled : goal.returns-then-branch-clause-pulled
 returns-then-branch-clause-pulled g c =
@@ -84,14 +92,17 @@ returns-then-branch-clause-pulled g c =
     let kept = g.met.T.Target.joins_in_map _ _ _ so_far.joined in
     let frame = c.read_frame.new.frame.items in
     let takes = rw (c.content.ensures, c.deref.ensures.value, kept.0) at c.in_ok-take.ensures.taken in
-    let moves = puller_moves s c.loop-frame.puller c.take.new.self (drop 4 frame) takes.0 c.in_ok-take.field-0 takes.1 in (
+    let moves = puller_moves s c.loop-frame.puller c.take.new.self (drop 4 frame) takes.0 c.in_ok-take.field-0
+    takes.1 in (
       so_far.cells ++ takes.0,
       g.met.T.Target.joins_then _ _ _ so_far.cells takes.0 so_far.joined takes.2,
       record {
         frames = so_far.frames ++ frame ∷ [];
-        read = frame_more [] _ _ _ so_far.frames c.loop-frame.frame.items frame so_far.read c.in_ok-read_frame.ensures.read c.in_ok-read_frame.ensures.whole;
+        read = frame_more [] _ _ _ so_far.frames c.loop-frame.frame.items frame so_far.read
+            c.in_ok-read_frame.ensures.read c.in_ok-read_frame.ensures.whole;
         last = c.take.new.self;
-        taken = frame_taken s c.args.puller.now c.loop-frame.puller c.take.new.self [] so_far.cells so_far.frames frame takes.0 c.in_ok-take.field-0 so_far.taken takes.1;
+        taken = frame_taken s c.args.puller.now c.loop-frame.puller c.take.new.self [] so_far.cells so_far.frames frame
+            takes.0 c.in_ok-take.field-0 so_far.taken takes.1;
         done = (moves.done c.if-branch.true).0;
       },
     )
@@ -112,10 +123,13 @@ loop-frame-preserved g c =
     let none = c.clear.ensures.items in
     record {
       frames = so_far.frames ++ frame ∷ [];
-      read = subst (WasRead [] _ _ (so_far.frames ++ frame ∷ [])) (sym none) (frame_more [] _ _ _ so_far.frames c.loop-frame.frame.items frame so_far.read c.in_ok-read_frame.ensures.read c.in_ok-read_frame.ensures.whole);
+      read = subst (WasRead [] _ _ (so_far.frames ++ frame ∷ [])) (sym none)
+          (frame_more [] _ _ _ so_far.frames c.loop-frame.frame.items frame so_far.read c.in_ok-read_frame.ensures.read
+          c.in_ok-read_frame.ensures.whole);
       few = rw none (omega arith);
       cells = so_far.cells ++ takes.0;
-      taken = frame_taken s c.args.puller.now c.loop-frame.puller c.take.new.self [] so_far.cells so_far.frames frame takes.0 c.in_ok-take.field-0 so_far.taken takes.1;
+      taken = frame_taken s c.args.puller.now c.loop-frame.puller c.take.new.self [] so_far.cells so_far.frames frame
+          takes.0 c.in_ok-take.field-0 so_far.taken takes.1;
       joined = g.met.T.Target.joins_then _ _ _ so_far.cells takes.0 so_far.joined takes.2;
       count = omega (arith, so_far.count, c.in_ok-read_frame.ensures.count);
     }

@@ -9,10 +9,12 @@ use Rattle.rr_gossip.proofs.pulling.take_pages.Given as goal
 abbrev pub invariant-loop-frame : goal.invariant-loop-frame
 invariant-loop-frame g l = record {
   frames : List (List ℕ);
-  read : WasRead [] (g.R.Read.remaining (inner_of l.initial.input)) (g.R.Read.remaining (inner_of l.input)) frames l.frame.items;
+  read : WasRead [] (g.R.Read.remaining (inner_of l.initial.input)) (g.R.Read.remaining (inner_of l.input)) frames
+      l.frame.items;
   few : length l.frame.items ≤ 4;
   cells : List NamedCell;
-  taken : puller_after (g.T.Target.layout l.initial.target) l.initial.puller [] (contents frames) ≡ Ok (l.puller, cells);
+  taken : puller_after (g.T.Target.layout l.initial.target) l.initial.puller [] (contents frames)
+      ≡ Ok (l.puller, cells);
   joined : g.T.Target.has_joined l.initial.target l.target cells;
   count : failures_of l.initial.input ≤ failures_of l.input;
 }

@@ -6,4 +6,5 @@ use Rattle.rr_gossip.proofs.summary.is_next.Goals as goal
 
 pub returns-in-Some : goal.returns-in-Some
 returns-in-Some c =
-    c.follows.ensures ∙ sym (ap (λ o. is_after o (owned_name c.args.name.now).0) (last_name_is c.args.names.now c.in-Some.before.now c.in-Some.ensures.value))
+    c.follows.ensures ∙ sym (ap (λ o. is_after o (owned_name c.args.name.now).0)
+    (last_name_is c.args.names.now c.in-Some.before.now c.in-Some.ensures.value))

@@ -7,7 +7,8 @@ use Rattle.rr_io.proofs.stream.fill.Given as goal
 abbrev pub invariant-loop-filled : goal.invariant-loop-filled
 invariant-loop-filled g l = record {
   within : l.filled ≤ length l.buf;
-  taken : Consumes (g.R.Read.remaining (inner_of l.initial.input)) (g.R.Read.remaining (inner_of l.input)) (take l.filled l.buf);
+  taken : Consumes (g.R.Read.remaining (inner_of l.initial.input)) (g.R.Read.remaining (inner_of l.input))
+      (take l.filled l.buf);
   count : failures_of l.initial.input ≤ failures_of l.input;
 }
 

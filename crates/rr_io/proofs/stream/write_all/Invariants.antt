@@ -6,7 +6,8 @@ use Rattle.rr_io.proofs.stream.write_all.Given as goal
 -- the front of the text is written, and the rest of it is left
 abbrev pub invariant-loop-rest : goal.invariant-loop-rest
 invariant-loop-rest g l = record {
-  written : (front : List ℕ) × (l.text ≡ front ++ l.rest) × Appends (g.W.Write.contents (inner_of l.initial.output)) (g.W.Write.contents (inner_of l.output)) front;
+  written : (front : List ℕ) × (l.text ≡ front ++ l.rest)
+      × Appends (g.W.Write.contents (inner_of l.initial.output)) (g.W.Write.contents (inner_of l.output)) front;
   count : failures_of l.initial.output ≤ failures_of l.output;
 }
 

@@ -7,4 +7,5 @@ returns-clause-made c = IsSeries-making_fault
 
 pub returns-clause-moved : goal.returns-clause-moved
 returns-clause-moved c =
-    λ measurement field tags others p once. λ i. record { measurement = measurement; tags = same_tags tags others p once i; field = field }
+    λ measurement field tags others p once. λ i. record
+    { measurement = measurement; tags = same_tags tags others p once i; field = field }

@@ -7,10 +7,12 @@ use Rattle.rr_key.proofs.making.fault_of_many.Goals as goal
 
 pub returns-then-has_repeat : goal.returns-then-has_repeat
 returns-then-has_repeat c =
-    let twice : has_repeat (keys_of (tags_of c.args.tags.now)) ≡ true = ap has_repeat (keys_of_slices c.args.tags.now) ∙ sym c.has_repeat.ensures ∙ c.if-has_repeat.true in
+    let twice : has_repeat (keys_of (tags_of c.args.tags.now)) ≡ true = ap has_repeat (keys_of_slices c.args.tags.now)
+    ∙ sym c.has_repeat.ensures ∙ c.if-has_repeat.true in
     rw twice refl
 
 pub returns-else-has_repeat : goal.returns-else-has_repeat
 returns-else-has_repeat c =
-    let once : has_repeat (keys_of (tags_of c.args.tags.now)) ≡ false = ap has_repeat (keys_of_slices c.args.tags.now) ∙ sym c.has_repeat.ensures ∙ c.if-has_repeat.false in
+    let once : has_repeat (keys_of (tags_of c.args.tags.now)) ≡ false = ap has_repeat (keys_of_slices c.args.tags.now)
+    ∙ sym c.has_repeat.ensures ∙ c.if-has_repeat.false in
     rw once refl

@@ -5,8 +5,10 @@ use Rattle.rr_key.proofs.reading.is_key_text.Goals as goal
 pub returns-in-Some : goal.returns-in-Some
 returns-in-Some c =
     let text = c.args.text.now in (
-      λ t. found_key_text text c.in-Some.field-0-0.now c.in-Some.tail.now (omega arith) (sym c.in-Some.ensures) (c.is_tail.ensures.0 t),
-      λ k. c.is_tail.ensures.1 (key_text_found text c.in-Some.field-0-0.now c.in-Some.tail.now (sym c.in-Some.ensures) k),
+      λ t. found_key_text text c.in-Some.field-0-0.now c.in-Some.tail.now (omega arith) (sym c.in-Some.ensures)
+          (c.is_tail.ensures.0 t),
+      λ k. c.is_tail.ensures.1 (key_text_found text c.in-Some.field-0-0.now c.in-Some.tail.now (sym c.in-Some.ensures)
+          k),
     )
 
 pub returns-in-None : goal.returns-in-None

@@ -7,4 +7,5 @@ use Rattle.rr_key.proofs.room.room_after_tags.Given as goal
 -- the tags so far have taken their room
 abbrev pub invariant-loop-tag : goal.invariant-loop-tag
 invariant-loop-tag l =
-    l.left + length (flat_map tag_text (tags_of l.tags)) ≡ l.room + length (flat_map tag_text (tags_of (drop l.tag-index l.tags)))
+    l.left + length (flat_map tag_text (tags_of l.tags)) ≡ l.room
+    + length (flat_map tag_text (tags_of (drop l.tag-index l.tags)))

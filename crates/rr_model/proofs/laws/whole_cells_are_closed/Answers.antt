@@ -2,4 +2,10 @@ use Rattle.rr_model.proofs.WholeCells.{whole_cells_are_closed, live_is_closed, w
 use Rattle.rr_model.proofs.laws.whole_cells_are_closed.Goals as goal
 
 pub returns : goal.returns
-returns c = record { part = whole_cells_are_closed; live = live_is_closed; part_live = whole_cells_are_live; live_live = live_is_live }
+returns c = record {
+  part = whole_cells_are_closed;
+  live = live_is_closed;
+  part_live = whole_cells_are_live;
+  live_live =
+      live_is_live;
+}

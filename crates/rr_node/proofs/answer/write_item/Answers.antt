@@ -3,4 +3,5 @@ use Rattle.rr_host.proofs.ClockLemmas.{HasGiven-nil}
 use Rattle.rr_node.proofs.answer.write_item.Goals as goal
 
 pub returns-in-TooLong-clause-taken : goal.returns-in-TooLong-clause-taken
-returns-in-TooLong-clause-taken g c = rw c.in-TooLong.is (record { asked = []; gave = HasGiven-nil _; taken = inl (refl, (refl, refl)) })
+returns-in-TooLong-clause-taken g c = rw c.in-TooLong.is
+    (record { asked = []; gave = HasGiven-nil _; taken = inl (refl, (refl, refl)) })

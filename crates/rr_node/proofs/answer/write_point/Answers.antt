@@ -4,7 +4,7 @@ use Rattle.std.specs.Int.{w64}
 use Rattle.std.proofs.lemmas.List.{length-map}
 use Rattle.rr_point.specs.Point.{field_view, point_view}
 use Rattle.rr_replica.specs.declared.fault.WriteFault.TheVariants as why
-use Rattle.rr_copies.specs.Standing.{holding_of}
+use Rattle.rr_copies.specs.KeeperState.{own_replica}
 use Rattle.rr_node.specs.declared.answer.Answer.TheVariants as says
 use Rattle.rr_node.specs.Connection.{IsAnswer}
 use Rattle.rr_node.specs.Lines.{Verdict, keeper_with, keeper_with_some}
@@ -19,7 +19,9 @@ returns-in-Ok-clause-taken g c =
     let new = c.write.new.self in
     let back = to_z-of_z {w = w64} {z = now} (search rules) in
     let same = length-map c.args.point.now.fields.items field_view in
-    let verdict = verdict_put_of c.args.lead now (holding_of k) p (length c.args.point.now.fields.items) c.write.result same (record { is_ahead = rw back at c.write.ensures.ahead; lacks = rw back at c.write.ensures.spent }) (λ e. cc) (λ e. cc) in
+    let verdict = verdict_put_of c.args.lead now (own_replica k) p (length c.args.point.now.fields.items) c.write.result
+    same (record { is_ahead = rw back at c.write.ensures.ahead; lacks = rw back at c.write.ensures.spent })
+    (λ e. cc) (λ e. cc) in
     let Is : Verdict → Type 0 = λ v. (new ≡ keeper_with k v) × IsAnswer v (says.Put c.in-Ok.count) in
     (now, c.now-now.ensures, subst Is (sym verdict) (rw back at c.in-Ok.ensures.put, c.in-Ok.ensures.count ∙ sym same))
 
@@ -33,7 +35,9 @@ returns-in-Err-Memory-clause-taken g c =
     let put = c.in-Err-Memory.field-0-0 in
     let is : c.write.result ≡ Err (why.Memory put) = cc in
     let same = length-map c.args.point.now.fields.items field_view in
-    let verdict = verdict_put_of c.args.lead now (holding_of k) p (length c.args.point.now.fields.items) c.write.result same (record { is_ahead = rw back at c.write.ensures.ahead; lacks = rw back at c.write.ensures.spent }) (λ e. cc) (λ e. cc) in
+    let verdict = verdict_put_of c.args.lead now (own_replica k) p (length c.args.point.now.fields.items) c.write.result
+    same (record { is_ahead = rw back at c.write.ensures.ahead; lacks = rw back at c.write.ensures.spent })
+    (λ e. cc) (λ e. cc) in
     let Is : Verdict → Type 0 = λ v. (count : ℕ) × (new ≡ keeper_with_some k v count) in
     (now, c.now-now.ensures, subst Is (sym verdict) (put, rw (back, is) at c.write.ensures.refused))
 
@@ -46,5 +50,10 @@ returns-in-Err-NumbersSpent-clause-taken g c =
     let back = to_z-of_z {w = w64} {z = now} (search rules) in
     let is : c.write.result ≡ Err why.NumbersSpent = cc in
     let same = length-map c.args.point.now.fields.items field_view in
-    let verdict = verdict_spent_of c.args.lead now (holding_of k) p (length c.args.point.now.fields.items) c.write.result same (record { is_ahead = rw back at c.write.ensures.ahead; lacks = rw back at c.write.ensures.spent }) is in
+    let verdict = verdict_spent_of c.args.lead now (own_replica k) p (length c.args.point.now.fields.items)
+    c.write.result same (record {
+      is_ahead = rw back at c.write.ensures.ahead;
+      lacks =
+          rw back at c.write.ensures.spent;
+    }) is in
     (now, c.now-now.ensures, rw verdict (rw (back, is) at c.write.ensures.refused, refl))

@@ -33,12 +33,14 @@ loop-init g c = record {
 pub returns-in_err-given-clause-stopped : goal.returns-in_err-given-clause-stopped
 returns-in_err-given-clause-stopped g c =
     let given = err_from_is_err_and c.from_residual.result c.from_residual.ensures.1 in
-    rw given.1 (rw c.loop.invariant.rules at (stopped_between c.loop.connection _ _ c.loop.invariant.going c.loop.invariant.serving))
+    rw given.1 (rw c.loop.invariant.rules at (stopped_between c.loop.connection _ _ c.loop.invariant.going
+    c.loop.invariant.serving))
 
 pub returns-in_err-push-clause-stopped : goal.returns-in_err-push-clause-stopped
 returns-in_err-push-clause-stopped g c =
     let given = err_from_is_err_and c.from_residual-in_err-push.result c.from_residual-in_err-push.ensures.1 in
-    rw given.1 (rw c.loop.invariant.rules at (stopped_between c.loop.connection _ _ c.loop.invariant.going c.loop.invariant.serving))
+    rw given.1 (rw c.loop.invariant.rules at (stopped_between c.loop.connection _ _ c.loop.invariant.going
+    c.loop.invariant.serving))
 
 pub returns-clause-stopped : goal.returns-clause-stopped
 returns-clause-stopped g c =
@@ -57,7 +59,8 @@ returns-then-given-eq0-clause-served g c =
       written = g.W.Write.contents (inner_of c.args.output.now);
       written_since = g.W.Write.contents (inner_of c.finish.new.output);
     } in
-    rw c.loop.invariant.rules at (served_finally c.finish.result c.loop.connection run c.loop.keeper _ _ _ _ c.read_once.new.buf c.in-Some.given (record {
+    rw c.loop.invariant.rules at (served_finally c.finish.result c.loop.connection run c.loop.keeper _ _ _ _
+    c.read_once.new.buf c.in-Some.given (record {
       taken = so_far.taken;
       moments = so_far.moments;
       text = so_far.text;
@@ -83,7 +86,8 @@ returns-then-given-eq0-clause-stopped g c =
       written = g.W.Write.contents (inner_of c.args.output.now);
       written_since = g.W.Write.contents (inner_of c.finish.new.output);
     } in
-    rw c.loop.invariant.rules at (stopped_finally c.finish.result c.loop.connection run c.loop.keeper _ _ _ _ c.read_once.new.buf c.in-Some.given (record {
+    rw c.loop.invariant.rules at (stopped_finally c.finish.result c.loop.connection run c.loop.keeper _ _ _ _
+    c.read_once.new.buf c.in-Some.given (record {
       taken = so_far.taken;
       moments = so_far.moments;
       text = so_far.text;
@@ -98,13 +102,16 @@ returns-then-given-eq0-clause-stopped g c =
 
 pub returns-in_err-answer_lines-clause-stopped : goal.returns-in_err-answer_lines-clause-stopped
 returns-in_err-answer_lines-clause-stopped g c =
-    let given = err_from_is_err_and c.from_residual-in_err-answer_lines.result c.from_residual-in_err-answer_lines.ensures.1 in
+    let given = err_from_is_err_and c.from_residual-in_err-answer_lines.result
+    c.from_residual-in_err-answer_lines.ensures.1 in
     let so_far = c.loop.invariant.serving in
     let read = rw c.in-Some.is at c.in_ok-given.ensures.bytes in
     let piece = take c.in-Some.given c.read_once.new.buf in
     let takes = c.in_ok-push.ensures.taken in
-    let going : c.push.new.self.feed.ended ≡ false = ap (λ (s : FeedState). s.ended) takes.feed ∙ c.loop.invariant.going in
-    let pushed = HasServed-push c.loop.connection c.push.new.self c.args.keeper.now c.loop.keeper so_far.taken piece so_far.text so_far.moments c.loop.invariant.going takes so_far.served in
+    let going : c.push.new.self.feed.ended ≡ false = ap (λ (s : FeedState). s.ended) takes.feed
+    ∙ c.loop.invariant.going in
+    let pushed = HasServed-push c.loop.connection c.push.new.self c.args.keeper.now c.loop.keeper so_far.taken piece
+    so_far.text so_far.moments c.loop.invariant.going takes so_far.served in
     let stopped = c.in_err-answer_lines.ensures.stopped in
     let run : Run = record {
       old = c.args.keeper.now;
@@ -116,7 +123,8 @@ returns-in_err-answer_lines-clause-stopped g c =
       written_since = g.W.Write.contents (inner_of c.answer_lines.new.output);
     } in
     let same = takes.rules ∙ c.loop.invariant.rules in
-    rw given.1 (rw same at (stopped_before c.push.new.self c.push.new.self.rules run (so_far.taken ++ piece) _ (so_far.moments ++ stopped.0) going (Consumes-trans _ _ _ _ _ so_far.consumed read.1)
+    rw given.1 (rw same at (stopped_before c.push.new.self c.push.new.self.rules run (so_far.taken ++ piece) _
+    (so_far.moments ++ stopped.0) going (Consumes-trans _ _ _ _ _ so_far.consumed read.1)
     (HasGiven-trans _ _ _ so_far.moments stopped.0 so_far.gave stopped.1)
     (stopped.2 c.args.keeper.now (so_far.taken ++ piece) so_far.moments so_far.text _ pushed so_far.appended)))
 
@@ -126,7 +134,8 @@ loop-preserved g c =
     let read = rw c.in-Some.is at c.in_ok-given.ensures.bytes in
     let piece = take c.in-Some.given c.read_once.new.buf in
     let takes = c.in_ok-push.ensures.taken in
-    let pushed = HasServed-push c.loop.connection c.push.new.self c.args.keeper.now c.loop.keeper so_far.taken piece so_far.text so_far.moments c.loop.invariant.going takes so_far.served in
+    let pushed = HasServed-push c.loop.connection c.push.new.self c.args.keeper.now c.loop.keeper so_far.taken piece
+    so_far.text so_far.moments c.loop.invariant.going takes so_far.served in
     let more = c.in_ok-answer_lines.ensures.served in
     record {
       serving = record {

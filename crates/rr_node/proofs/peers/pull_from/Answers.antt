@@ -9,7 +9,8 @@ returns-in_err-pulled g c =
     let p = err_from_is_err_and c.from_residual.result c.from_residual.ensures.1 in
     let e = c.in_err-pulled.ensures in
     let opened = rw (c.is_due.ensures.due c.if-not-is_due.false) at c.in-Some.ensures.reached in
-    rw (p.1, p.2) (pull_over _ _ _ _ _ _ _ _ _ opened c.take_back.ensures (record { read = e.read_failed; write = e.write_failed }) e.stopped)
+    rw (p.1, p.2) (pull_over _ _ _ _ _ _ _ _ _ opened c.take_back.ensures
+    (record { read = e.read_failed; write = e.write_failed }) e.stopped)
 
 pub returns : goal.returns
 returns g c =

@@ -11,4 +11,5 @@ invariant-loop-place g l =
     (dialed : List DialCall) × (told : List ShelfCall)
     × Grows (g.D.Dial.calls l.fn.dial) (g.D.Dial.calls l.dial) dialed
     × Grows (g.S.Shelf.calls l.fn.shelf) (g.S.Shelf.calls l.shelf) told
-    × GoesOn (map string_bytes l.peers) l.fn.keeper (l.place + 1) (map string_bytes (drop l.place l.peers)) l.keeper dialed told
+    × GoesOn (map string_bytes l.peers) l.fn.keeper (l.place + 1) (map string_bytes (drop l.place l.peers)) l.keeper
+    dialed told

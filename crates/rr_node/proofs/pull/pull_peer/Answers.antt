@@ -1,5 +1,5 @@
 use Rattle.std.proofs.Common.{ap, ◌∙◌}
-use Rattle.rr_copies.specs.Standing.{KeeperState}
+use Rattle.rr_copies.specs.KeeperState.{KeeperState}
 use Rattle.rr_node.proofs.PullsLemmas.{desk_of_joined}
 use Rattle.rr_node.proofs.pull.pull_peer.Goals as goal
 
@@ -11,9 +11,11 @@ returns-in_err-pull-clause-same_desk g c =
 pub returns-in_err-publish-clause-same_desk : goal.returns-in_err-publish-clause-same_desk
 returns-in_err-publish-clause-same_desk g c =
     let pulled = c.in_ok-pull.ensures.pulled in
-    ap (λ (k : KeeperState). k.desk) c.in_err-publish.ensures.unchanged ∙ desk_of_joined c.args.keeper.now c.pull.new.target pulled.0 pulled.1
+    ap (λ (k : KeeperState). k.desk) c.in_err-publish.ensures.unchanged
+    ∙ desk_of_joined c.args.keeper.now c.pull.new.target pulled.0 pulled.1
 
 pub returns-clause-same_desk : goal.returns-clause-same_desk
 returns-clause-same_desk g c =
     let pulled = c.in_ok-pull.ensures.pulled in
-    ap (λ (k : KeeperState). k.desk) c.in_ok-publish.ensures.published ∙ desk_of_joined c.args.keeper.now c.pull.new.target pulled.0 pulled.1
+    ap (λ (k : KeeperState). k.desk) c.in_ok-publish.ensures.published
+    ∙ desk_of_joined c.args.keeper.now c.pull.new.target pulled.0 pulled.1

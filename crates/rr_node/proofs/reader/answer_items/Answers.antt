@@ -12,20 +12,24 @@ pub returns-in_err-text-clause-part_written : goal.returns-in_err-text-clause-pa
 returns-in_err-text-clause-part_written g c =
     let next = c.in_err-text.ensures in
     let x = next_err _ next.0 _ _ _ next.2 in
-    on_err c.from_residual.result _ (cut_before _ _ _ _ _ _ _ _ x.0 c.loop-text.invariant.written (hands_so _ _ _ _ x.1 next.1) x.2)
+    on_err c.from_residual.result _ (cut_before _ _ _ _ _ _ _ _ x.0 c.loop-text.invariant.written
+    (hands_so _ _ _ _ x.1 next.1) x.2)
 
 pub returns-in_err-write_all-clause-part_written : goal.returns-in_err-write_all-clause-part_written
 returns-in_err-write_all-clause-part_written g c =
     let next = rw c.in-Some.is at c.in_ok-text.ensures in
     let x = next_some _ _ next.0 _ _ _ next.2 in
-    on_err c.from_residual-in_err-write_all.result _ (cut_within _ _ _ _ _ _ _ _ _ x.0 _ c.loop-text.invariant.written (hands_so _ _ _ _ x.1 next.1) x.2 (rw c.deref.ensures.value at c.in_err-write_all.ensures.front))
+    on_err c.from_residual-in_err-write_all.result _
+    (cut_within _ _ _ _ _ _ _ _ _ x.0 _ c.loop-text.invariant.written (hands_so _ _ _ _ x.1 next.1) x.2
+    (rw c.deref.ensures.value at c.in_err-write_all.ensures.front))
 
 pub loop-text-preserved : goal.loop-text-preserved
 loop-text-preserved g c =
     let next = rw c.in-Some.is at c.in_ok-text.ensures in
     let x = next_some _ _ next.0 _ _ _ next.2 in
     record {
-      written = written_more _ _ _ _ _ _ _ _ _ x.0 _ c.loop-text.invariant.written (hands_so _ _ _ _ x.1 next.1) x.2 (rw c.deref.ensures.value at c.in_ok-write_all.ensures.whole);
+      written = written_more _ _ _ _ _ _ _ _ _ x.0 _ c.loop-text.invariant.written (hands_so _ _ _ _ x.1 next.1) x.2
+          (rw c.deref.ensures.value at c.in_ok-write_all.ensures.whole);
       count = omega (arith, c.loop-text.invariant.count, c.in_ok-write_all.ensures.count);
     }
 
@@ -33,7 +37,8 @@ pub returns-in_err-flush-clause-part_written : goal.returns-in_err-flush-clause-
 returns-in_err-flush-clause-part_written g c =
     let next = rw c.in_default.is at c.in_ok-text.ensures in
     let x = next_none _ _ next.0 _ _ next.2 in
-    on_err c.from_residual-in_err-flush.result _ (front_kept _ _ _ _ _ _ _ _ _ c.loop-text.invariant.written (hands_so _ _ _ _ x.0 next.1) x.1 c.in_err-flush.ensures.bytes)
+    on_err c.from_residual-in_err-flush.result _ (front_kept _ _ _ _ _ _ _ _ _ c.loop-text.invariant.written
+    (hands_so _ _ _ _ x.0 next.1) x.1 c.in_err-flush.ensures.bytes)
 
 pub returns-clause-all_taken : goal.returns-clause-all_taken
 returns-clause-all_taken g c =

@@ -15,7 +15,8 @@ returns-in_err-push-clause-part_written g c =
 
 pub loop-init : goal.loop-init
 loop-init g c =
-    let is = c.in_ok-push.ensures ∙ ap (λ (s : FeedState). record s { left = s.left ++ c.args.first ∷ [] }) c.new-feed.ensures in
+    let is = c.in_ok-push.ensures ∙ ap (λ (s : FeedState). record s { left = s.left ++ c.args.first ∷ [] })
+    c.new-feed.ensures in
     record {
       so_far = so_far_first c.args.first _ _ _ _ is;
       going = ap (λ (s : FeedState). s.ended) is;
@@ -27,20 +28,25 @@ loop-init g c =
 
 pub returns-in_err-answer_items-clause-part_written : goal.returns-in_err-answer_items-clause-part_written
 returns-in_err-answer_items-clause-part_written g c =
-    on_err _ _ (front_of_some c.args.first _ _ _ _ _ _ _ _ _ _ c.loop.invariant.so_far c.loop.invariant.going c.in_err-answer_items.ensures.part_written)
+    on_err _ _ (front_of_some c.args.first _ _ _ _ _ _ _ _ _ _ c.loop.invariant.so_far c.loop.invariant.going
+    c.in_err-answer_items.ensures.part_written)
 
 pub returns-in_err-answer_items-clause-seen : goal.returns-in_err-answer_items-clause-seen
 returns-in_err-answer_items-clause-seen g c =
-    seen_more _ _ _ (seen_so_far c.args.first _ _ _ _ _ _ _ c.loop.invariant.so_far) (seen_in_some _ _ _ _ _ _ c.in_err-answer_items.ensures.part_written)
+    seen_more _ _ _ (seen_so_far c.args.first _ _ _ _ _ _ _ c.loop.invariant.so_far)
+    (seen_in_some _ _ _ _ _ _ c.in_err-answer_items.ensures.part_written)
 
 pub returns-in_err-given-clause-part_written : goal.returns-in_err-given-clause-part_written
 returns-in_err-given-clause-part_written g c =
-    let now = so_far_answered c.args.first _ _ _ _ _ _ _ _ _ _ c.loop.invariant.so_far c.in_ok-answer_items.ensures.answered in
-    on_err _ _ (front_so_far c.args.first _ _ _ _ _ _ _ _ now (c.in_ok-answer_items.ensures.answered.handed.ended ∙ c.loop.invariant.going) (seen_same _))
+    let now = so_far_answered c.args.first _ _ _ _ _ _ _ _ _ _ c.loop.invariant.so_far
+    c.in_ok-answer_items.ensures.answered in
+    on_err _ _ (front_so_far c.args.first _ _ _ _ _ _ _ _ now
+    (c.in_ok-answer_items.ensures.answered.handed.ended ∙ c.loop.invariant.going) (seen_same _))
 
 pub returns-in_err-given-clause-seen : goal.returns-in_err-given-clause-seen
 returns-in_err-given-clause-seen g c =
-    seen_so_far c.args.first _ _ _ _ _ _ _ (so_far_answered c.args.first _ _ _ _ _ _ _ _ _ _ c.loop.invariant.so_far c.in_ok-answer_items.ensures.answered)
+    seen_so_far c.args.first _ _ _ _ _ _ _ (so_far_answered c.args.first _ _ _ _ _ _ _ _ _ _ c.loop.invariant.so_far
+    c.in_ok-answer_items.ensures.answered)
 
 pub loop-preserved-in_default : goal.loop-preserved-in_default
 loop-preserved-in_default g c =
@@ -64,11 +70,14 @@ returns-then-given-eq0-clause-answered g c =
     let before = g.W.Write.contents (inner_of c.args.output.now) in
     let after = g.W.Write.contents (inner_of last.new.output) in
     let read = rw c.in-Some.is at c.in_ok-given.ensures.bytes in
-    let now = so_far_answered c.args.first _ _ _ _ _ _ _ _ _ _ c.loop.invariant.so_far c.in_ok-answer_items.ensures.answered in
+    let now = so_far_answered c.args.first _ _ _ _ _ _ _ _ _ _ c.loop.invariant.so_far
+    c.in_ok-answer_items.ensures.answered in
     on_ok_both last.result _ _ _ (λ more nothing.
-    of_all_taken _ _ _ now.taken c.read_once.new.buf c.in-Some.given (λ rest. HasAnswered (c.args.first ∷ rest) old new before after)
+    of_all_taken _ _ _ now.taken c.read_once.new.buf c.in-Some.given
+    (λ rest. HasAnswered (c.args.first ∷ rest) old new before after)
     now.consumed read.1 c.if-given-eq0.true (read.2 c.if-given-eq0.true (search rules))
-    (all_answered c.args.first _ _ _ _ _ _ _ _ _ _ _ now c.end.ensures more nothing)) last.ensures.answered last.ensures.all_taken
+    (all_answered c.args.first _ _ _ _ _ _ _ _ _ _ _ now c.end.ensures more nothing)) last.ensures.answered
+    last.ensures.all_taken
 
 pub returns-then-given-eq0-clause-part_written : goal.returns-then-given-eq0-clause-part_written
 returns-then-given-eq0-clause-part_written g c =
@@ -77,25 +86,33 @@ returns-then-given-eq0-clause-part_written g c =
     let before = g.W.Write.contents (inner_of c.args.output.now) in
     let after = g.W.Write.contents (inner_of last.new.output) in
     let read = rw c.in-Some.is at c.in_ok-given.ensures.bytes in
-    let now = so_far_answered c.args.first _ _ _ _ _ _ _ _ _ _ c.loop.invariant.so_far c.in_ok-answer_items.ensures.answered in
+    let now = so_far_answered c.args.first _ _ _ _ _ _ _ _ _ _ c.loop.invariant.so_far
+    c.in_ok-answer_items.ensures.answered in
     on_err_weaker last.result (λ some.
-    of_all_taken _ _ _ now.taken c.read_once.new.buf c.in-Some.given (λ rest. HasAnsweredSome (c.args.first ∷ rest) old last.new.reader before after)
+    of_all_taken _ _ _ now.taken c.read_once.new.buf c.in-Some.given
+    (λ rest. HasAnsweredSome (c.args.first ∷ rest) old last.new.reader before after)
     now.consumed read.1 c.if-given-eq0.true (read.2 c.if-given-eq0.true (search rules))
     (some_answered c.args.first _ _ _ _ _ _ _ _ _ _ _ now c.end.ensures some)) last.ensures.part_written
 
 pub returns-then-given-eq0-clause-seen : goal.returns-then-given-eq0-clause-seen
 returns-then-given-eq0-clause-seen g c =
-    seen_more _ _ _ (seen_so_far c.args.first _ _ _ _ _ _ _ (so_far_answered c.args.first _ _ _ _ _ _ _ _ _ _ c.loop.invariant.so_far c.in_ok-answer_items.ensures.answered))
-    (on_either c.answer_items-then-given-eq0.result _ _ _ (seen_in_written _ _ _ _ _ _) (seen_in_some _ _ _ _ _ _) c.answer_items-then-given-eq0.ensures.answered c.answer_items-then-given-eq0.ensures.part_written)
+    seen_more _ _ _ (seen_so_far c.args.first _ _ _ _ _ _ _
+    (so_far_answered c.args.first _ _ _ _ _ _ _ _ _ _ c.loop.invariant.so_far
+    c.in_ok-answer_items.ensures.answered))
+    (on_either c.answer_items-then-given-eq0.result _ _ _ (seen_in_written _ _ _ _ _ _) (seen_in_some _ _ _ _ _ _)
+    c.answer_items-then-given-eq0.ensures.answered c.answer_items-then-given-eq0.ensures.part_written)
 
 pub returns-in_err-push-2-clause-part_written : goal.returns-in_err-push-2-clause-part_written
 returns-in_err-push-2-clause-part_written g c =
-    let now = so_far_answered c.args.first _ _ _ _ _ _ _ _ _ _ c.loop.invariant.so_far c.in_ok-answer_items.ensures.answered in
-    on_err _ _ (front_so_far c.args.first _ _ _ _ _ _ _ _ now (c.in_ok-answer_items.ensures.answered.handed.ended ∙ c.loop.invariant.going) (seen_same _))
+    let now = so_far_answered c.args.first _ _ _ _ _ _ _ _ _ _ c.loop.invariant.so_far
+    c.in_ok-answer_items.ensures.answered in
+    on_err _ _ (front_so_far c.args.first _ _ _ _ _ _ _ _ now
+    (c.in_ok-answer_items.ensures.answered.handed.ended ∙ c.loop.invariant.going) (seen_same _))
 
 pub returns-in_err-push-2-clause-seen : goal.returns-in_err-push-2-clause-seen
 returns-in_err-push-2-clause-seen g c =
-    seen_so_far c.args.first _ _ _ _ _ _ _ (so_far_answered c.args.first _ _ _ _ _ _ _ _ _ _ c.loop.invariant.so_far c.in_ok-answer_items.ensures.answered)
+    seen_so_far c.args.first _ _ _ _ _ _ _ (so_far_answered c.args.first _ _ _ _ _ _ _ _ _ _ c.loop.invariant.so_far
+    c.in_ok-answer_items.ensures.answered)
 
 pub loop-preserved : goal.loop-preserved
 loop-preserved g c =
@@ -113,7 +130,8 @@ loop-preserved g c =
     }
 
 pub returns-clause-part_written : goal.returns-clause-part_written
-returns-clause-part_written g c = front_so_far c.args.first _ _ _ _ _ _ _ _ c.loop.invariant.so_far c.loop.invariant.going (seen_same _)
+returns-clause-part_written g c = front_so_far c.args.first _ _ _ _ _ _ _ _ c.loop.invariant.so_far
+    c.loop.invariant.going (seen_same _)
 
 pub returns-clause-seen : goal.returns-clause-seen
 returns-clause-seen g c = seen_so_far c.args.first _ _ _ _ _ _ _ c.loop.invariant.so_far

@@ -7,7 +7,9 @@ use Rattle.rr_node.proofs.reader.answer_lines.Given as goal
 -- what was handed out of the bytes that were taken is answered, by one read at each turn
 abbrev pub invariant-loop : goal.invariant-loop
 invariant-loop g l = record {
-  so_far : SoFar l.first l.feed (g.R.Read.remaining (inner_of l.initial.input)) (g.R.Read.remaining (inner_of l.input)) (g.W.Write.contents (inner_of l.initial.output)) (g.W.Write.contents (inner_of l.output)) (sight l.initial.reader (g.G.Gate.calls l.initial.gate)) (sight l.reader (g.G.Gate.calls l.gate));
+  so_far : SoFar l.first l.feed (g.R.Read.remaining (inner_of l.initial.input)) (g.R.Read.remaining (inner_of l.input))
+      (g.W.Write.contents (inner_of l.initial.output)) (g.W.Write.contents (inner_of l.output))
+      (sight l.initial.reader (g.G.Gate.calls l.initial.gate)) (sight l.reader (g.G.Gate.calls l.gate));
   going : l.feed.ended ≡ false;
   made : HasRisenBy l.counter (reads_of l.initial.input) (reads_of l.input);
   few : reads_of l.input ≤ reads_of l.initial.input + l.counter;

@@ -16,7 +16,15 @@ returns-in_err-pull_peers-clause-round g c =
     let p = rw c.in-Taken.is at c.in_ok-report.ensures in
     let q = c.in_err-pull_peers.ensures in
     let done = rw c.deref.ensures.value at q.4 in
-    rw e.1 (p.0, q.0, taken c.in-Taken.report ∷ q.1, p.1, q.2, grows_on _ _ _ _ _ c.lines_taken.ensures q.3, inr (_, _, q.1, p.2, inl (refl, done), refl))
+    rw e.1 (
+      p.0,
+      q.0,
+      taken c.in-Taken.report ∷ q.1,
+      p.1,
+      q.2,
+      grows_on _ _ _ _ _ c.lines_taken.ensures q.3,
+      inr (_, _, q.1, p.2, inl (refl, done), refl),
+    )
 
 pub returns-in_err-save_to-clause-round : goal.returns-in_err-save_to-clause-round
 returns-in_err-save_to-clause-round g c =
@@ -26,7 +34,16 @@ returns-in_err-save_to-clause-round g c =
     let s = c.in_err-save_to.ensures in
     let told = rw c.cell_count.ensures at c.pulls_ended.ensures in
     let done = rw c.deref.ensures.value at q.4 in
-    rw e.1 (p.0, q.0, _, p.1, q.2, grows_on _ _ _ _ _ c.lines_taken.ensures (grows_on _ _ _ _ _ q.3 (grows_on _ _ _ _ _ told s.1)), inr (_, _, _, p.2, inr (q.1, s.0, done, inr (refl, s.2), refl), refl))
+    rw e.1 (
+      p.0,
+      q.0,
+      _,
+      p.1,
+      q.2,
+      grows_on _ _ _ _ _ c.lines_taken.ensures
+          (grows_on _ _ _ _ _ q.3 (grows_on _ _ _ _ _ told s.1)),
+      inr (_, _, _, p.2, inr (q.1, s.0, done, inr (refl, s.2), refl), refl),
+    )
 
 pub returns-clause-round : goal.returns-clause-round
 returns-clause-round g c =
@@ -34,8 +51,16 @@ returns-clause-round g c =
     let q = c.in_ok-pull_peers.ensures in
     let s = c.in_ok-save_to.ensures in
     let told = rw c.cell_count.ensures at c.pulls_ended.ensures in
-    let done = rw c.deref.ensures.value at q.4 in
-    (p.0, q.0, _, p.1, q.2, grows_on _ _ _ _ _ c.lines_taken.ensures (grows_on _ _ _ _ _ q.3 (grows_on _ _ _ _ _ told s.1)), inr (_, _, _, p.2, inr (q.1, s.0, done, inl (refl, s.2), refl), refl))
+    let done = rw c.deref.ensures.value at q.4 in (
+      p.0,
+      q.0,
+      _,
+      p.1,
+      q.2,
+      grows_on _ _ _ _ _ c.lines_taken.ensures
+          (grows_on _ _ _ _ _ q.3 (grows_on _ _ _ _ _ told s.1)),
+      inr (_, _, _, p.2, inr (q.1, s.0, done, inl (refl, s.2), refl), refl),
+    )
 
 pub returns-in_default-clause-round : goal.returns-in_default-clause-round
 returns-in_default-clause-round g c =

@@ -13,7 +13,15 @@ returns-in_err-keep_round g c =
     let r = c.in_err-keep_round.ensures.round in
     let few : c.loop.counter < rounds_of c.args.config.now = rw c.most_rounds-end.ensures at c.loop-test.true in
     let last : Log = record { visits = r.0; dialed = r.1; shelved = r.2 } in
-    rw p.1 (record { log = and_then k.log last; visited = called_more _ _ _ _ _ k.visited r.3; dialed = grows_on _ _ _ _ _ k.dialed r.4; shelved = grows_on _ _ _ _ _ k.shelved r.5; rounds = rounds_out _ c.loop.counter c.args.config.now _ _ _ k.log last few k.rounds r.6 })
+    rw p.1 (record {
+      log = and_then k.log last;
+      visited = called_more _ _ _ _ _ k.visited r.3;
+      dialed =
+          grows_on _ _ _ _ _ k.dialed r.4;
+      shelved = grows_on _ _ _ _ _ k.shelved r.5;
+      rounds =
+          rounds_out _ c.loop.counter c.args.config.now _ _ _ k.log last few k.rounds r.6;
+    })
 
 pub returns-then-not-branch : goal.returns-then-not-branch
 returns-then-not-branch g c =
@@ -21,7 +29,15 @@ returns-then-not-branch g c =
     let r = c.in_ok-keep_round.ensures.round in
     let few : c.loop.counter < rounds_of c.args.config.now = rw c.most_rounds-end.ensures at c.loop-test.true in
     let last : Log = record { visits = r.0; dialed = r.1; shelved = r.2 } in
-    record { log = and_then k.log last; visited = called_more _ _ _ _ _ k.visited r.3; dialed = grows_on _ _ _ _ _ k.dialed r.4; shelved = grows_on _ _ _ _ _ k.shelved r.5; rounds = rounds_over _ c.loop.counter c.args.config.now _ _ _ k.log last few k.rounds (rw c.if-not-branch.true at r.6) }
+    record {
+      log = and_then k.log last;
+      visited = called_more _ _ _ _ _ k.visited r.3;
+      dialed =
+          grows_on _ _ _ _ _ k.dialed r.4;
+      shelved = grows_on _ _ _ _ _ k.shelved r.5;
+      rounds =
+          rounds_over _ c.loop.counter c.args.config.now _ _ _ k.log last few k.rounds (rw c.if-not-branch.true at r.6);
+    }
 
 pub loop-preserved : goal.loop-preserved
 loop-preserved g c =

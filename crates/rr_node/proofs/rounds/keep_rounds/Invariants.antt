@@ -10,5 +10,6 @@ invariant-loop g l = record {
   visited : HasCalled (g.V.Visits.calls l.initial.lines) (g.V.Visits.calls l.lines) log.visits;
   dialed : Grows (g.D.Dial.calls l.initial.dial) (g.D.Dial.calls l.dial) log.dialed;
   shelved : Grows (g.S.Shelf.calls l.initial.shelf) (g.S.Shelf.calls l.shelf) log.shelved;
-  rounds : AreRounds l.counter l.config (post l.initial.keeper (g.C.Clock.given l.initial.clock)) (post l.keeper (g.C.Clock.given l.clock)) log;
+  rounds : AreRounds l.counter l.config (post l.initial.keeper (g.C.Clock.given l.initial.clock))
+      (post l.keeper (g.C.Clock.given l.clock)) log;
 }

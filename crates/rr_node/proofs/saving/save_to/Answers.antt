@@ -3,7 +3,11 @@ use Rattle.rr_host.proofs.CallsLemmas.{grows_on}
 use Rattle.rr_node.proofs.saving.save_to.Goals as goal
 
 pub returns-in-Failed : goal.returns-in-Failed
-returns-in-Failed g c = (_, grows_on _ _ _ _ _ (c.open.ensures.failed c.in-Failed.is) c.save_failed.ensures, inr (inl (refl, refl)))
+returns-in-Failed g c = (
+  _,
+  grows_on _ _ _ _ _ (c.open.ensures.failed c.in-Failed.is) c.save_failed.ensures,
+  inr (inl (refl, refl)),
+)
 
 pub returns : goal.returns
 returns g c =

@@ -11,15 +11,22 @@ returns-in_err-serve_visit g c =
     let so_far = c.loop.invariant in
     let last = c.in_err-serve_visit.ensures in
     let few : c.loop.counter < visits_of c.args.visits = rw c.most_visits-end.ensures at c.loop-test.true in
-    rw (p.1, p.2) (so_far.calls ++ last.0, called_more _ _ _ so_far.calls last.0 so_far.made last.1, seat_out _ c.loop.counter so_far.calls last.0 _ _ _ _ few so_far.visits last.2)
+    rw (p.1, p.2) (
+      so_far.calls ++ last.0,
+      called_more _ _ _ so_far.calls last.0 so_far.made last.1,
+      seat_out _ c.loop.counter so_far.calls last.0 _ _ _ _ few so_far.visits last.2,
+    )
 
 pub returns-then-not-branch : goal.returns-then-not-branch
 returns-then-not-branch g c =
     let so_far = c.loop.invariant in
     let over : c.in_ok-serve_visit.field-0 ≡ false = search rules in
     let last = rw over at c.in_ok-serve_visit.ensures in
-    let few : c.loop.counter < visits_of c.args.visits = rw c.most_visits-end.ensures at c.loop-test.true in
-    (so_far.calls ++ last.0, called_more _ _ _ so_far.calls last.0 so_far.made last.1, seat_over _ c.loop.counter so_far.calls last.0 _ _ _ few so_far.visits last.2)
+    let few : c.loop.counter < visits_of c.args.visits = rw c.most_visits-end.ensures at c.loop-test.true in (
+      so_far.calls ++ last.0,
+      called_more _ _ _ so_far.calls last.0 so_far.made last.1,
+      seat_over _ c.loop.counter so_far.calls last.0 _ _ _ few so_far.visits last.2,
+    )
 
 pub loop-preserved : goal.loop-preserved
 loop-preserved g c =

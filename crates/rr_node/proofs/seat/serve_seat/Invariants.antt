@@ -9,5 +9,6 @@ abbrev pub invariant-loop : goal.invariant-loop
 invariant-loop g l = record {
   calls : List Call;
   made : HasCalled (g.V.Visits.calls l.initial.seat.visits) (g.V.Visits.calls l.seat.visits) calls;
-  visits : AreVisits l.counter calls (sight l.initial.seat.reader (g.G.Gate.calls l.initial.seat.gate)) (sight l.seat.reader (g.G.Gate.calls l.seat.gate));
+  visits : AreVisits l.counter calls (sight l.initial.seat.reader (g.G.Gate.calls l.initial.seat.gate))
+      (sight l.seat.reader (g.G.Gate.calls l.seat.gate));
 }

@@ -9,8 +9,8 @@ use std::sync::Wait;
 use std::test::Fail;
 use std::thread::{Threads, join};
 
-/// The last value of the minute after the epoch that a reader answers: 0 where nothing is known, and
-/// none where the answer is neither that nor a number from 1 to 1,000.
+/// The last value of the minute after the epoch that a reader answers: 0 where nothing is known,
+/// and none where the answer is neither that nor a number from 1 to 1,000.
 fn last_value(alloc: Global, reader: &mut Reader<PlainArchive>) -> Option<u64> {
     let text = fetched(alloc, reader, b"LAST 60 60 120 m v")?;
     let value = text.strip_prefix(b"m v,60,")?.strip_suffix(b"\n")?;

@@ -13,26 +13,37 @@ loop-init c =
 pub returns-in-Err-clause-refused : goal.returns-in-Err-clause-refused
 returns-in-Err-clause-refused c =
     let so_far = c.loop.invariant in
-    ends c.args.version c.args.schema.now so_far.0 c.args.count c.loop.counter c.loop.rest.now (cells_at c.args.version c.args.schema.now None c.args.count c.args.bytes.now) so_far.2 c.in-Err.fault c.loop-test.true c.in-Err.ensures.read
+    ends c.args.version c.args.schema.now so_far.0 c.args.count c.loop.counter c.loop.rest.now
+    (cells_at c.args.version c.args.schema.now None c.args.count c.args.bytes.now) so_far.2 c.in-Err.fault
+    c.loop-test.true c.in-Err.ensures.read
 
 pub returns-then-not-may_follow-clause-refused : goal.returns-then-not-may_follow-clause-refused
 returns-then-not-may_follow-clause-refused c =
     let so_far = c.loop.invariant in
     let e = found_cell c.in-Ok.found.0 in
-    let falling : is_after (last_name so_far.0) e.0 ≡ false = ap (λ o. is_after o e.0) (sym so_far.1) ∙ sym c.may_follow.ensures ∙ c.if-not-may_follow.true in
-    falls c.args.version c.args.schema.now so_far.0 c.args.count c.loop.counter c.loop.rest.now (cells_at c.args.version c.args.schema.now None c.args.count c.args.bytes.now) so_far.2 e c.in-Ok.found.1.now c.loop-test.true c.in-Ok.ensures.read falling
+    let falling : is_after (last_name so_far.0) e.0 ≡ false = ap (λ o. is_after o e.0) (sym so_far.1)
+    ∙ sym c.may_follow.ensures ∙ c.if-not-may_follow.true in
+    falls c.args.version c.args.schema.now so_far.0 c.args.count c.loop.counter c.loop.rest.now
+    (cells_at c.args.version c.args.schema.now None c.args.count c.args.bytes.now) so_far.2 e c.in-Ok.found.1.now
+    c.loop-test.true c.in-Ok.ensures.read falling
 
 pub loop-preserved : goal.loop-preserved
 loop-preserved c =
     let so_far = c.loop.invariant in
     let e = found_cell c.in-Ok.found.0 in
-    let rising : is_after (last_name so_far.0) e.0 ≡ true = ap (λ o. is_after o e.0) (sym so_far.1) ∙ sym c.may_follow.ensures ∙ c.if-not-may_follow.false in (
+    let rising : is_after (last_name so_far.0) e.0 ≡ true = ap (λ o. is_after o e.0) (sym so_far.1)
+    ∙ sym c.may_follow.ensures ∙ c.if-not-may_follow.false in (
       so_far.0 ++ e ∷ [],
       sym (last_name_push so_far.0 e),
-      goes_on c.args.version c.args.schema.now so_far.0 c.args.count c.loop.counter c.loop.rest.now (cells_at c.args.version c.args.schema.now None c.args.count c.args.bytes.now) so_far.2 e c.in-Ok.found.1.now c.loop-test.true c.in-Ok.ensures.read rising,
+      goes_on c.args.version c.args.schema.now so_far.0 c.args.count c.loop.counter c.loop.rest.now
+          (cells_at c.args.version c.args.schema.now None c.args.count c.args.bytes.now) so_far.2 e c.in-Ok.found.1.now
+          c.loop-test.true c.in-Ok.ensures.read rising,
     )
 
 pub returns-clause-read : goal.returns-clause-read
 returns-clause-read c =
-    let so_far = c.loop.invariant in
-    (so_far.0, is_done c.args.version c.args.schema.now so_far.0 c.args.count c.loop.counter c.loop.rest.now (cells_at c.args.version c.args.schema.now None c.args.count c.args.bytes.now) so_far.2 c.loop-test.false)
+    let so_far = c.loop.invariant in (
+      so_far.0,
+      is_done c.args.version c.args.schema.now so_far.0 c.args.count c.loop.counter c.loop.rest.now
+          (cells_at c.args.version c.args.schema.now None c.args.count c.args.bytes.now) so_far.2 c.loop-test.false,
+    )

@@ -6,5 +6,6 @@ use Rattle.rr_page.proofs.decoding.cells_of.Given as goal
 
 abbrev pub invariant-loop : goal.invariant-loop
 invariant-loop l =
-    with_front (map owned_cell l.cells.items) (cells_at l.version l.schema (last_name (map owned_cell l.cells.items)) (l.count - l.counter) l.rest)
+    with_front (map owned_cell l.cells.items) (cells_at l.version l.schema (last_name (map owned_cell l.cells.items))
+    (l.count - l.counter) l.rest)
     ≡ cells_at l.version l.schema None l.count l.bytes

@@ -7,4 +7,5 @@ use Rattle.rr_page.specs.Version.{latest}
 use Rattle.rr_page.proofs.encoding.encode.Given as goal
 
 abbrev pub invariant-loop-cell : goal.invariant-loop-cell
-invariant-loop-cell l = l.bytes.items ≡ head_text latest l.schema (length l.cells) ++ flat_map (cell_text latest) (map owned_cell (take l.cell-index l.cells))
+invariant-loop-cell l = l.bytes.items ≡ head_text latest l.schema (length l.cells)
+    ++ flat_map (cell_text latest) (map owned_cell (take l.cell-index l.cells))

@@ -7,24 +7,29 @@ use Rattle.rr_page.proofs.reading.read_cell.Goals as goal
 pub overflow_sub-len : goal.overflow_sub-len
 overflow_sub-len c =
     let are = AreBytes-from_get_or c.args.bytes.now (λ i. omega (arith, c.type_inv.bytes i)) in
-    rest_fits c.args.version c.args.schema.now c.args.bytes.now (owned_cell c.in_ok-cell.cell) c.in_ok-cell.rest.now are c.in_ok-cell.ensures.read
+    rest_fits c.args.version c.args.schema.now c.args.bytes.now (owned_cell c.in_ok-cell.cell) c.in_ok-cell.rest.now are
+    c.in_ok-cell.ensures.read
 
 pub returns-clause-read : goal.returns-clause-read
 returns-clause-read c =
     let are = AreBytes-from_get_or c.args.bytes.now (λ i. omega (arith, c.type_inv.bytes i)) in
-    rest_read c.args.version c.args.schema.now c.args.bytes.now (owned_cell c.in_ok-cell.cell) c.in_ok-cell.rest.now are c.in_ok-cell.ensures.read
+    rest_read c.args.version c.args.schema.now c.args.bytes.now (owned_cell c.in_ok-cell.cell) c.in_ok-cell.rest.now are
+    c.in_ok-cell.ensures.read
 
 pub returns-clause-text : goal.returns-clause-text
 returns-clause-text c =
     let are = AreBytes-from_get_or c.args.bytes.now (λ i. omega (arith, c.type_inv.bytes i)) in
-    text_read c.args.version c.args.schema.now c.args.bytes.now (owned_cell c.in_ok-cell.cell) c.in_ok-cell.rest.now are c.in_ok-cell.ensures.read
+    text_read c.args.version c.args.schema.now c.args.bytes.now (owned_cell c.in_ok-cell.cell) c.in_ok-cell.rest.now are
+    c.in_ok-cell.ensures.read
 
 pub returns-clause-len : goal.returns-clause-len
 returns-clause-len c =
     let are = AreBytes-from_get_or c.args.bytes.now (λ i. omega (arith, c.type_inv.bytes i)) in
-    len_read c.args.version c.args.schema.now c.args.bytes.now (owned_cell c.in_ok-cell.cell) c.in_ok-cell.rest.now are c.in_ok-cell.ensures.read
+    len_read c.args.version c.args.schema.now c.args.bytes.now (owned_cell c.in_ok-cell.cell) c.in_ok-cell.rest.now are
+    c.in_ok-cell.ensures.read
 
 pub returns-clause-cell : goal.returns-clause-cell
 returns-clause-cell c =
     let are = AreBytes-from_get_or c.args.bytes.now (λ i. omega (arith, c.type_inv.bytes i)) in
-    cell_bounded c.args.version c.args.schema.now c.args.bytes.now (owned_cell c.in_ok-cell.cell) c.in_ok-cell.rest.now are c.in_ok-cell.ensures.read
+    cell_bounded c.args.version c.args.schema.now c.args.bytes.now (owned_cell c.in_ok-cell.cell) c.in_ok-cell.rest.now
+    are c.in_ok-cell.ensures.read

@@ -8,6 +8,9 @@ use Rattle.rr_page.proofs.writing.cell_bytes.Goals as goal
 pub returns-clause-len : goal.returns-clause-len
 returns-clause-len c =
     let cell = c.args.cell in
-    let e : NamedCell = (record { key = cell.key.now; archive = cell.archive; slot = cell.slot; origin = cell.origin }, cell.contribution) in
+    let e : NamedCell = (
+      record { key = cell.key.now; archive = cell.archive; slot = cell.slot; origin = cell.origin },
+      cell.contribution,
+    ) in
     let text : c.push_cell.new.bytes.items ≡ cell_text latest e = search rules in
     ap length text ∙ cell_len latest e

@@ -24,8 +24,12 @@ returns-in_err-field-clause-read g c =
     let old = g.R.Read.remaining (inner_of c.args.input.now) in
     let new = g.R.Read.remaining (inner_of c.fill.new.input) in
     let p = err_from_is_err_and c.from_residual-in_err-field.result c.from_residual-in_err-field.ensures.1 in
-    let refused = piece_err 32 (front_at 32) (IsFront-field 32) (HasWidth-field 32) (take c.in_ok-got.got buf) few old new _ c.in_ok-got.ensures.bytes (λ lt. c.in_ok-got.ensures.end (omega (arith, got_len, made, c.in_ok-got.ensures.bound, lt))) c.in_err-field.ensures.read in
-    rw (p.1, p.2) (inr (inr (refused_then (λ all. as_in_page (front_at 32 all)) (λ (field : List ℕ × List ℕ). unless BadDigest (not (pointwise nat_eq field.0 c.args.digest.now)) (Ok (tt, field.1))) _ old refused)))
+    let refused = piece_err 32 (front_at 32) (IsFront-field 32) (HasWidth-field 32) (take c.in_ok-got.got buf) few old
+    new _ c.in_ok-got.ensures.bytes (λ lt. c.in_ok-got.ensures.end
+    (omega (arith, got_len, made, c.in_ok-got.ensures.bound, lt))) c.in_err-field.ensures.read in
+    rw (p.1, p.2) (inr (inr (refused_then (λ all. as_in_page (front_at 32 all))
+    (λ (field : List ℕ × List ℕ). unless BadDigest (not (pointwise nat_eq field.0 c.args.digest.now))
+    (Ok (tt, field.1))) _ old refused)))
 
 pub returns-then-ne-clause-read : goal.returns-then-ne-clause-read
 unfolding digest_at
@@ -36,9 +40,15 @@ returns-then-ne-clause-read g c =
     let few : length (take c.in_ok-got.got buf) ≤ 32 = omega (arith, got_len, made, c.in_ok-got.ensures.bound) in
     let old = g.R.Read.remaining (inner_of c.args.input.now) in
     let new = g.R.Read.remaining (inner_of c.fill.new.input) in
-    let step = piece_ok 32 (front_at 32) (IsFront-field 32) (HasWidth-field 32) (take c.in_ok-got.got buf) few old new c.in_ok-field.field.now _ c.in_ok-got.ensures.bytes c.in_ok-field.ensures.read in
-    let differs : not (pointwise nat_eq c.in_ok-field.field.now c.args.digest.now) ≡ true = ap (λ (d : List ℕ). not (pointwise nat_eq c.in_ok-field.field.now d)) (sym c.as_slice.ensures) ∙ sym c.ne.ensures ∙ c.if-ne.true in
-    inr (inr (then_refused (λ all. as_in_page (front_at 32 all)) (λ (field : List ℕ × List ℕ). unless BadDigest (not (pointwise nat_eq field.0 c.args.digest.now)) (Ok (tt, field.1))) c.in_ok-field.field.now BadDigest old new step (refuses BadDigest new _ (λ all. ap (λ (b : Bool). unless BadDigest b (Ok (tt, all))) differs))))
+    let step = piece_ok 32 (front_at 32) (IsFront-field 32) (HasWidth-field 32) (take c.in_ok-got.got buf) few old new
+    c.in_ok-field.field.now _ c.in_ok-got.ensures.bytes c.in_ok-field.ensures.read in
+    let differs : not (pointwise nat_eq c.in_ok-field.field.now c.args.digest.now) ≡ true =
+    ap (λ (d : List ℕ). not (pointwise nat_eq c.in_ok-field.field.now d)) (sym c.as_slice.ensures)
+    ∙ sym c.ne.ensures ∙ c.if-ne.true in
+    inr (inr (then_refused (λ all. as_in_page (front_at 32 all))
+    (λ (field : List ℕ × List ℕ). unless BadDigest (not (pointwise nat_eq field.0 c.args.digest.now))
+    (Ok (tt, field.1))) c.in_ok-field.field.now BadDigest old new step
+    (refuses BadDigest new _ (λ all. ap (λ (b : Bool). unless BadDigest b (Ok (tt, all))) differs))))
 
 pub returns-clause-read : goal.returns-clause-read
 unfolding digest_at
@@ -49,6 +59,12 @@ returns-clause-read g c =
     let few : length (take c.in_ok-got.got buf) ≤ 32 = omega (arith, got_len, made, c.in_ok-got.ensures.bound) in
     let old = g.R.Read.remaining (inner_of c.args.input.now) in
     let new = g.R.Read.remaining (inner_of c.fill.new.input) in
-    let step = piece_ok 32 (front_at 32) (IsFront-field 32) (HasWidth-field 32) (take c.in_ok-got.got buf) few old new c.in_ok-field.field.now _ c.in_ok-got.ensures.bytes c.in_ok-field.ensures.read in
-    let same : not (pointwise nat_eq c.in_ok-field.field.now c.args.digest.now) ≡ false = ap (λ (d : List ℕ). not (pointwise nat_eq c.in_ok-field.field.now d)) (sym c.as_slice.ensures) ∙ sym c.ne.ensures ∙ c.if-ne.false in
-    then_gave (λ all. as_in_page (front_at 32 all)) (λ (field : List ℕ × List ℕ). unless BadDigest (not (pointwise nat_eq field.0 c.args.digest.now)) (Ok (tt, field.1))) c.in_ok-field.field.now tt old new new step (passes tt new _ (λ all. ap (λ (b : Bool). unless BadDigest b (Ok (tt, all))) same))
+    let step = piece_ok 32 (front_at 32) (IsFront-field 32) (HasWidth-field 32) (take c.in_ok-got.got buf) few old new
+    c.in_ok-field.field.now _ c.in_ok-got.ensures.bytes c.in_ok-field.ensures.read in
+    let same : not (pointwise nat_eq c.in_ok-field.field.now c.args.digest.now) ≡ false =
+    ap (λ (d : List ℕ). not (pointwise nat_eq c.in_ok-field.field.now d)) (sym c.as_slice.ensures)
+    ∙ sym c.ne.ensures ∙ c.if-ne.false in
+    then_gave (λ all. as_in_page (front_at 32 all))
+    (λ (field : List ℕ × List ℕ). unless BadDigest (not (pointwise nat_eq field.0 c.args.digest.now))
+    (Ok (tt, field.1))) c.in_ok-field.field.now tt old new new step
+    (passes tt new _ (λ all. ap (λ (b : Bool). unless BadDigest b (Ok (tt, all))) same))

@@ -11,8 +11,11 @@ returns-clause-read g c =
     let s = c.args.schema.now in
     let buf = c.fill.new.buf in
     let made : length buf ≡ 10 = search rules in
-    let few : length (take c.in_ok-got.got buf) ≤ 10 = omega (arith, length-take c.in_ok-got.got buf, made, c.in_ok-got.ensures.bound) in
-    piece_ok 10 (start_at s) (IsFront-start s) (HasWidth-start s) (take c.in_ok-got.got buf) few (g.R.Read.remaining (inner_of c.args.input.now)) (g.R.Read.remaining (inner_of c.fill.new.input)) (c.in_ok-version.version, c.in_ok-version.number) _ c.in_ok-got.ensures.bytes
+    let few : length (take c.in_ok-got.got buf) ≤ 10 =
+    omega (arith, length-take c.in_ok-got.got buf, made, c.in_ok-got.ensures.bound) in
+    piece_ok 10 (start_at s) (IsFront-start s) (HasWidth-start s) (take c.in_ok-got.got buf) few
+    (g.R.Read.remaining (inner_of c.args.input.now)) (g.R.Read.remaining (inner_of c.fill.new.input))
+    (c.in_ok-version.version, c.in_ok-version.number) _ c.in_ok-got.ensures.bytes
     c.in_ok-version.ensures.read
 
 pub returns-in_err-version-clause-read : goal.returns-in_err-version-clause-read
@@ -24,6 +27,8 @@ returns-in_err-version-clause-read g c =
     let few : length (take c.in_ok-got.got buf) ≤ 10 = omega (arith, got_len, made, c.in_ok-got.ensures.bound) in
     let p = err_from_is_err_and c.from_residual-in_err-version.result c.from_residual-in_err-version.ensures.1 in
     rw (p.1, p.2)
-    (inr (inr (piece_err 10 (start_at s) (IsFront-start s) (HasWidth-start s) (take c.in_ok-got.got buf) few (g.R.Read.remaining (inner_of c.args.input.now)) (g.R.Read.remaining (inner_of c.fill.new.input)) _ c.in_ok-got.ensures.bytes
+    (inr (inr (piece_err 10 (start_at s) (IsFront-start s) (HasWidth-start s) (take c.in_ok-got.got buf) few
+    (g.R.Read.remaining (inner_of c.args.input.now)) (g.R.Read.remaining (inner_of c.fill.new.input)) _
+    c.in_ok-got.ensures.bytes
     (λ lt. c.in_ok-got.ensures.end (omega (arith, got_len, made, c.in_ok-got.ensures.bound, lt)))
     c.in_err-version.ensures.read)))

@@ -25,8 +25,11 @@ returns-clause-read g c =
     let most = c.in_ok-got.ensures.more.1 in
     let got_len : length bytes ≡ c.in_ok-got.got = omega (arith, length-take c.in_ok-got.got two) in
     let whole = c.cell_len-len.ensures.value in
-    stream_ok c.args.version c.args.schema.now (g.R.Read.remaining (inner_of c.args.input.now)) (g.R.Read.remaining (inner_of c.fill_up_to.new.input)) (g.R.Read.remaining (inner_of c.fill_up_to-2.new.input)) head bytes
-    c.in_ok-head.ensures.bytes c.in_ok-got.ensures.bytes (λ lt. c.in_ok-head.ensures.end (omega (arith, head_len, lt))) (λ lt. c.in_ok-got.ensures.end (omega (arith, got_len, whole, lt))) (omega (arith, got_len, whole, most))
+    stream_ok c.args.version c.args.schema.now (g.R.Read.remaining (inner_of c.args.input.now))
+    (g.R.Read.remaining (inner_of c.fill_up_to.new.input)) (g.R.Read.remaining (inner_of c.fill_up_to-2.new.input))
+    head bytes
+    c.in_ok-head.ensures.bytes c.in_ok-got.ensures.bytes (λ lt. c.in_ok-head.ensures.end (omega (arith, head_len, lt)))
+    (λ lt. c.in_ok-got.ensures.end (omega (arith, got_len, whole, lt))) (omega (arith, got_len, whole, most))
     (owned_cell c.in_ok-cell.cell) _ c.in_ok-cell.ensures.read
 
 pub returns-in_err-cell-clause-read : goal.returns-in_err-cell-clause-read
@@ -48,26 +51,35 @@ returns-in_err-cell-clause-read g c =
     rw (p.1, p.2)
     (elim c.in_err-cell.ensures.read [
       | inl m ↦ inr (inl (ap load_fault m))
-      | inr e ↦ inr (inr (stream_err c.args.version c.args.schema.now (g.R.Read.remaining (inner_of c.args.input.now)) (g.R.Read.remaining (inner_of c.fill_up_to.new.input)) (g.R.Read.remaining (inner_of c.fill_up_to-2.new.input)) head bytes
-          c.in_ok-head.ensures.bytes c.in_ok-got.ensures.bytes (λ lt. c.in_ok-head.ensures.end (omega (arith, head_len, lt))) (λ lt. c.in_ok-got.ensures.end (omega (arith, got_len, whole, lt))) (omega (arith, got_len, whole, most))
+      | inr e ↦ inr (inr (stream_err c.args.version c.args.schema.now (g.R.Read.remaining (inner_of c.args.input.now))
+          (g.R.Read.remaining (inner_of c.fill_up_to.new.input))
+          (g.R.Read.remaining (inner_of c.fill_up_to-2.new.input)) head bytes
+          c.in_ok-head.ensures.bytes c.in_ok-got.ensures.bytes
+          (λ lt. c.in_ok-head.ensures.end (omega (arith, head_len, lt)))
+          (λ lt. c.in_ok-got.ensures.end (omega (arith, got_len, whole, lt))) (omega (arith, got_len, whole, most))
           _ e))
     ])
 
 pub returns-in_err-got-clause-front : goal.returns-in_err-got-clause-front
 returns-in_err-got-clause-front g c =
-    read_then (g.R.Read.remaining (inner_of c.args.input.now)) (g.R.Read.remaining (inner_of c.fill_up_to.new.input)) (g.R.Read.remaining (inner_of c.fill_up_to-2.new.input)) c.fill_up_to.ensures.front c.fill_up_to-2.ensures.front
+    read_then (g.R.Read.remaining (inner_of c.args.input.now)) (g.R.Read.remaining (inner_of c.fill_up_to.new.input))
+    (g.R.Read.remaining (inner_of c.fill_up_to-2.new.input)) c.fill_up_to.ensures.front c.fill_up_to-2.ensures.front
 
 pub returns-in_err-cell-clause-front : goal.returns-in_err-cell-clause-front
 returns-in_err-cell-clause-front g c =
-    read_then (g.R.Read.remaining (inner_of c.args.input.now)) (g.R.Read.remaining (inner_of c.fill_up_to.new.input)) (g.R.Read.remaining (inner_of c.fill_up_to-2.new.input)) c.fill_up_to.ensures.front c.fill_up_to-2.ensures.front
+    read_then (g.R.Read.remaining (inner_of c.args.input.now)) (g.R.Read.remaining (inner_of c.fill_up_to.new.input))
+    (g.R.Read.remaining (inner_of c.fill_up_to-2.new.input)) c.fill_up_to.ensures.front c.fill_up_to-2.ensures.front
 
 pub returns-clause-front : goal.returns-clause-front
 returns-clause-front g c =
-    read_then (g.R.Read.remaining (inner_of c.args.input.now)) (g.R.Read.remaining (inner_of c.fill_up_to.new.input)) (g.R.Read.remaining (inner_of c.fill_up_to-2.new.input)) c.fill_up_to.ensures.front c.fill_up_to-2.ensures.front
+    read_then (g.R.Read.remaining (inner_of c.args.input.now)) (g.R.Read.remaining (inner_of c.fill_up_to.new.input))
+    (g.R.Read.remaining (inner_of c.fill_up_to-2.new.input)) c.fill_up_to.ensures.front c.fill_up_to-2.ensures.front
 
 pub returns-clause-bytes : goal.returns-clause-bytes
 returns-clause-bytes g c =
-    stream_took (g.R.Read.remaining (inner_of c.args.input.now)) (g.R.Read.remaining (inner_of c.fill_up_to.new.input)) (g.R.Read.remaining (inner_of c.fill_up_to-2.new.input)) (take c.in_ok-head.head c.fill_up_to.new.buffer) (take c.in_ok-got.got c.fill_up_to-2.new.buffer)
+    stream_took (g.R.Read.remaining (inner_of c.args.input.now)) (g.R.Read.remaining (inner_of c.fill_up_to.new.input))
+    (g.R.Read.remaining (inner_of c.fill_up_to-2.new.input)) (take c.in_ok-head.head c.fill_up_to.new.buffer)
+    (take c.in_ok-got.got c.fill_up_to-2.new.buffer)
     c.in_ok-head.ensures.bytes c.in_ok-got.ensures.bytes
 
 pub returns-in_err-got-clause-most : goal.returns-in_err-got-clause-most
@@ -81,8 +93,11 @@ returns-in_err-got-clause-most g c =
     let fits = c.cell_len-len.ensures.fits (omega (arith, head_len, low)) in
     let more = c.cell_len-len.ensures.more (omega (arith, head_len, low)) in
     let len = c.cell_len-len.result in
-    let after = subst (λ (n : ℕ). TakesAtMost (len - n) (g.R.Read.remaining (inner_of c.fill_up_to.new.input)) (g.R.Read.remaining (inner_of c.fill_up_to-2.new.input))) (sym head_len) c.fill_up_to-2.ensures.most in
-    took_at_most (g.R.Read.remaining (inner_of c.args.input.now)) (g.R.Read.remaining (inner_of c.fill_up_to.new.input)) (g.R.Read.remaining (inner_of c.fill_up_to-2.new.input)) head len MAX_CELL_LEN c.in_ok-head.ensures.bytes after more fits
+    let after = subst (λ (n : ℕ). TakesAtMost (len - n) (g.R.Read.remaining (inner_of c.fill_up_to.new.input))
+    (g.R.Read.remaining (inner_of c.fill_up_to-2.new.input))) (sym head_len) c.fill_up_to-2.ensures.most in
+    took_at_most (g.R.Read.remaining (inner_of c.args.input.now)) (g.R.Read.remaining (inner_of c.fill_up_to.new.input))
+    (g.R.Read.remaining (inner_of c.fill_up_to-2.new.input)) head len MAX_CELL_LEN c.in_ok-head.ensures.bytes after
+    more fits
 
 pub returns-in_err-cell-clause-most : goal.returns-in_err-cell-clause-most
 returns-in_err-cell-clause-most g c =
@@ -95,8 +110,11 @@ returns-in_err-cell-clause-most g c =
     let fits = c.cell_len-len.ensures.fits (omega (arith, head_len, low)) in
     let more = c.cell_len-len.ensures.more (omega (arith, head_len, low)) in
     let len = c.cell_len-len.result in
-    let after = subst (λ (n : ℕ). TakesAtMost (len - n) (g.R.Read.remaining (inner_of c.fill_up_to.new.input)) (g.R.Read.remaining (inner_of c.fill_up_to-2.new.input))) (sym head_len) c.fill_up_to-2.ensures.most in
-    took_at_most (g.R.Read.remaining (inner_of c.args.input.now)) (g.R.Read.remaining (inner_of c.fill_up_to.new.input)) (g.R.Read.remaining (inner_of c.fill_up_to-2.new.input)) head len MAX_CELL_LEN c.in_ok-head.ensures.bytes after more fits
+    let after = subst (λ (n : ℕ). TakesAtMost (len - n) (g.R.Read.remaining (inner_of c.fill_up_to.new.input))
+    (g.R.Read.remaining (inner_of c.fill_up_to-2.new.input))) (sym head_len) c.fill_up_to-2.ensures.most in
+    took_at_most (g.R.Read.remaining (inner_of c.args.input.now)) (g.R.Read.remaining (inner_of c.fill_up_to.new.input))
+    (g.R.Read.remaining (inner_of c.fill_up_to-2.new.input)) head len MAX_CELL_LEN c.in_ok-head.ensures.bytes after
+    more fits
 
 pub returns-clause-most : goal.returns-clause-most
 returns-clause-most g c =
@@ -109,8 +127,11 @@ returns-clause-most g c =
     let fits = c.cell_len-len.ensures.fits (omega (arith, head_len, low)) in
     let more = c.cell_len-len.ensures.more (omega (arith, head_len, low)) in
     let len = c.cell_len-len.result in
-    let after = subst (λ (n : ℕ). TakesAtMost (len - n) (g.R.Read.remaining (inner_of c.fill_up_to.new.input)) (g.R.Read.remaining (inner_of c.fill_up_to-2.new.input))) (sym head_len) c.fill_up_to-2.ensures.most in
-    took_at_most (g.R.Read.remaining (inner_of c.args.input.now)) (g.R.Read.remaining (inner_of c.fill_up_to.new.input)) (g.R.Read.remaining (inner_of c.fill_up_to-2.new.input)) head len MAX_CELL_LEN c.in_ok-head.ensures.bytes after more fits
+    let after = subst (λ (n : ℕ). TakesAtMost (len - n) (g.R.Read.remaining (inner_of c.fill_up_to.new.input))
+    (g.R.Read.remaining (inner_of c.fill_up_to-2.new.input))) (sym head_len) c.fill_up_to-2.ensures.most in
+    took_at_most (g.R.Read.remaining (inner_of c.args.input.now)) (g.R.Read.remaining (inner_of c.fill_up_to.new.input))
+    (g.R.Read.remaining (inner_of c.fill_up_to-2.new.input)) head len MAX_CELL_LEN c.in_ok-head.ensures.bytes after
+    more fits
 
 pub returns-in_err-cell-clause-memory : goal.returns-in_err-cell-clause-memory
 returns-in_err-cell-clause-memory g c =
@@ -130,6 +151,9 @@ returns-in_err-cell-clause-memory g c =
     let p = err_from_is_err_and c.from_residual-in_err-cell.result c.from_residual-in_err-cell.ensures.1 in
     rw (p.1, p.2)
     (λ e.
-    stream_some c.args.version c.args.schema.now (g.R.Read.remaining (inner_of c.args.input.now)) (g.R.Read.remaining (inner_of c.fill_up_to.new.input)) (g.R.Read.remaining (inner_of c.fill_up_to-2.new.input)) head bytes
-    c.in_ok-head.ensures.bytes c.in_ok-got.ensures.bytes (λ lt. c.in_ok-head.ensures.end (omega (arith, head_len, lt))) (λ lt. c.in_ok-got.ensures.end (omega (arith, got_len, whole, lt))) (omega (arith, got_len, whole, most))
+    stream_some c.args.version c.args.schema.now (g.R.Read.remaining (inner_of c.args.input.now))
+    (g.R.Read.remaining (inner_of c.fill_up_to.new.input)) (g.R.Read.remaining (inner_of c.fill_up_to-2.new.input))
+    head bytes
+    c.in_ok-head.ensures.bytes c.in_ok-got.ensures.bytes (λ lt. c.in_ok-head.ensures.end (omega (arith, head_len, lt)))
+    (λ lt. c.in_ok-got.ensures.end (omega (arith, got_len, whole, lt))) (omega (arith, got_len, whole, most))
     (c.in_err-cell.ensures.memory (ap (λ f. Err f) (of_memory c.in_err-cell.field-0.0 (cc e)))))

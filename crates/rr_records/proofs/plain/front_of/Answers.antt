@@ -10,6 +10,7 @@ returns c =
     let field = field_text c.args.first.now in
     let whole = c.in_ok-front.front in
     let text : whole.items ≡ record_text (c.args.first.now ∷ [] ∷ []) = search rules in
-    let ended : whole.items ≡ (field ++ comma ∷ []) ++ 10 ∷ [] = text ∙ sym (append_assoc field (comma ∷ []) (10 ∷ [])) in
+    let ended : whole.items ≡ (field ++ comma ∷ []) ++ 10 ∷ [] = text
+    ∙ sym (append_assoc field (comma ∷ []) (10 ∷ [])) in
     let len : vec_len whole ≡ length whole.items = search rules in
     c.pop.ensures.rest ∙ without_last (field ++ comma ∷ []) whole.items 10 (vec_len whole) ended len

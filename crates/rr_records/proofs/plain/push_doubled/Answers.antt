@@ -19,7 +19,8 @@ loop-before-preserved c =
     let old = c.loop-before.text.items in
     let before = c.in-Some.before.now in
     let first : c.extend_from_slice.new.self.items ≡ old ++ before = search rules in
-    let second : c.extend_from_slice-in-Some.new.self.items ≡ c.extend_from_slice.new.self.items ++ 34 ∷ 34 ∷ [] = search rules in
+    let second : c.extend_from_slice-in-Some.new.self.items ≡ c.extend_from_slice.new.self.items ++ 34 ∷ 34 ∷ [] =
+    search rules in
     ap (λ t. t ++ left) (second ∙ ap (λ t. t ++ 34 ∷ 34 ∷ []) first)
     ∙ append_assoc (old ++ before) (34 ∷ 34 ∷ []) left
     ∙ append_assoc old before (34 ∷ 34 ∷ left)
@@ -29,5 +30,7 @@ loop-before-preserved c =
 pub returns : goal.returns
 returns c =
     let none : None ≡ cut_at 34 c.loop-before.rest.now = c.in_default.ensures in
-    let added : c.extend_from_slice-2.new.self.items ≡ c.loop-before.text.items ++ c.loop-before.rest.now = search rules in
-    added ∙ ap (λ t. c.loop-before.text.items ++ t) (sym (doubled_none c.loop-before.rest.now none)) ∙ c.loop-before.invariant
+    let added : c.extend_from_slice-2.new.self.items ≡ c.loop-before.text.items ++ c.loop-before.rest.now =
+    search rules in
+    added ∙ ap (λ t. c.loop-before.text.items ++ t) (sym (doubled_none c.loop-before.rest.now none))
+    ∙ c.loop-before.invariant

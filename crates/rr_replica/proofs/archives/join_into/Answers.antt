@@ -10,8 +10,10 @@ use Rattle.rr_replica.proofs.archives.join_into.Goals as goal
 pub join_cell-requires : goal.join_cell-requires
 join_cell-requires g c =
     let kept : to_z w64 (of_z w64 c.slot-slot.result) ≡ c.slot-slot.result = search rules in
-    let slot : c.slot-slot.result ≡ slot_of c.args.schema.now c.args.cell.now.archive c.args.cell.now.contribution.last_time = search rules in
-    rw (kept, slot) (slot_is c.args.schema.now c.requires.of_schema.layout c.args.cell.now.archive c.args.cell.now.contribution.last_time (search rules))
+    let slot : c.slot-slot.result ≡ slot_of c.args.schema.now c.args.cell.now.archive
+    c.args.cell.now.contribution.last_time = search rules in
+    rw (kept, slot) (slot_is c.args.schema.now c.requires.of_schema.layout c.args.cell.now.archive
+    c.args.cell.now.contribution.last_time (search rules))
 
 pub returns : goal.returns
 returns g c =
@@ -24,13 +26,20 @@ returns g c =
     let many = sized_many limit c.args.schema.now items c.requires.of_schema.sized in
     let of_schema = c.requires.cell.archive in
     let within : cell.archive < length items = omega arith in
-    let at : slice_get items cell.archive ≡ Some was = slice_get-get_or items cell.archive was within ∙ ap (λ a. Some a) (sym c.index_mut-archive.ensures.value) in
+    let at : slice_get items cell.archive ≡ Some was = slice_get-get_or items cell.archive was within
+    ∙ ap (λ a. Some a) (sym c.index_mut-archive.ensures.value) in
     let kept : to_z w64 (of_z w64 c.slot-slot.result) ≡ c.slot-slot.result = search rules in
-    let found : c.slot-slot.result ≡ slot_of c.args.schema.now cell.archive cell.contribution.last_time = search rules in
+    let found : c.slot-slot.result ≡ slot_of c.args.schema.now cell.archive cell.contribution.last_time =
+    search rules in
     let slot : c.slot-slot.result ≡ cell.slot = found ∙ c.requires.cell.valid.in_slot in
     record {
-      joined = on_ok_weaker c.join_cell.result (joined_at cells limit cell items was new at) (rw (kept, slot) at c.join_cell.ensures.joined);
+      joined = on_ok_weaker c.join_cell.result (joined_at cells limit cell items was new at)
+          (rw (kept, slot) at c.join_cell.ensures.joined);
       unchanged = on_err_weaker c.join_cell.result (same_at cells cell items was new at) c.join_cell.ensures.unchanged;
-      of_schema = record { layout = c.requires.of_schema.layout; sized = map-set_same limit items cell.archive was new at c.join_cell.ensures.limit ∙ c.requires.of_schema.sized };
+      of_schema = record {
+        layout = c.requires.of_schema.layout;
+        sized =
+            map-set_same limit items cell.archive was new at c.join_cell.ensures.limit ∙ c.requires.of_schema.sized;
+      };
       room = λ ready. c.join_cell.ensures.room (rw (kept, slot) (ready was at));
     }

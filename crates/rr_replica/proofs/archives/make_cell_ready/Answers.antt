@@ -9,8 +9,10 @@ use Rattle.rr_replica.proofs.archives.make_cell_ready.Goals as goal
 pub ready-requires : goal.ready-requires
 ready-requires g c =
     let kept : to_z w64 (of_z w64 c.slot-slot.result) ≡ c.slot-slot.result = search rules in
-    let slot : c.slot-slot.result ≡ slot_of c.args.schema.now c.args.cell.now.archive c.args.cell.now.contribution.last_time = search rules in
-    rw (kept, slot) (slot_is c.args.schema.now c.requires.of_schema.layout c.args.cell.now.archive c.args.cell.now.contribution.last_time (search rules))
+    let slot : c.slot-slot.result ≡ slot_of c.args.schema.now c.args.cell.now.archive
+    c.args.cell.now.contribution.last_time = search rules in
+    rw (kept, slot) (slot_is c.args.schema.now c.requires.of_schema.layout c.args.cell.now.archive
+    c.args.cell.now.contribution.last_time (search rules))
 
 pub returns : goal.returns
 returns g c =
@@ -23,12 +25,19 @@ returns g c =
     let many = sized_many limit c.args.schema.now items c.requires.of_schema.sized in
     let of_schema = c.requires.cell.archive in
     let within : cell.archive < length items = omega arith in
-    let at : slice_get items cell.archive ≡ Some was = slice_get-get_or items cell.archive was within ∙ ap (λ a. Some a) (sym c.index_mut-archive.ensures.value) in
+    let at : slice_get items cell.archive ≡ Some was = slice_get-get_or items cell.archive was within
+    ∙ ap (λ a. Some a) (sym c.index_mut-archive.ensures.value) in
     let kept : to_z w64 (of_z w64 c.slot-slot.result) ≡ c.slot-slot.result = search rules in
-    let found : c.slot-slot.result ≡ slot_of c.args.schema.now cell.archive cell.contribution.last_time = search rules in
+    let found : c.slot-slot.result ≡ slot_of c.args.schema.now cell.archive cell.contribution.last_time =
+    search rules in
     let slot : c.slot-slot.result ≡ cell.slot = found ∙ c.requires.cell.valid.in_slot in
     record {
       unchanged = same_more cells cell.archive items items was new (same_itself cells items) at c.ready.ensures.cells;
-      of_schema = record { layout = c.requires.of_schema.layout; sized = map-set_same limit items cell.archive was new at c.ready.ensures.limit ∙ c.requires.of_schema.sized };
-      room = on_ok_weaker c.ready.result (λ ready. ready_set g.A.Cells.is_ready items cell.archive new within ready) (rw (kept, slot) at c.ready.ensures.room);
+      of_schema = record {
+        layout = c.requires.of_schema.layout;
+        sized =
+            map-set_same limit items cell.archive was new at c.ready.ensures.limit ∙ c.requires.of_schema.sized;
+      };
+      room = on_ok_weaker c.ready.result (λ ready. ready_set g.A.Cells.is_ready items cell.archive new within ready)
+          (rw (kept, slot) at c.ready.ensures.room);
     }

@@ -5,13 +5,21 @@ use Rattle.rr_replica.proofs.Each.{can_take_same, put_after_same, same_after_sam
 use Rattle.rr_replica.proofs.archives.put_into.Goals as goal
 
 pub put_ready-requires-clause-newer : goal.put_ready-requires-clause-newer
-put_ready-requires-clause-newer g c = can_take_same g.A.Cells.cells g.A.Cells.row_limit c.args.schema.now c.args.sample.now c.args.archives.now.items c.make_ready.new.archives.items c.make_ready.ensures.unchanged c.requires.newer
+put_ready-requires-clause-newer g c = can_take_same g.A.Cells.cells g.A.Cells.row_limit c.args.schema.now
+    c.args.sample.now c.args.archives.now.items c.make_ready.new.archives.items c.make_ready.ensures.unchanged
+    c.requires.newer
 
 pub returns-clause-put : goal.returns-clause-put
-returns-clause-put g c = on_ok_weaker c.put_ready.result (put_after_same g.A.Cells.cells g.A.Cells.row_limit c.args.schema.now c.args.sample.now c.args.archives.now.items c.make_ready.new.archives.items c.put_ready.new.archives.items c.make_ready.ensures.unchanged) c.put_ready.ensures.put
+returns-clause-put g c = on_ok_weaker c.put_ready.result
+    (put_after_same g.A.Cells.cells g.A.Cells.row_limit c.args.schema.now c.args.sample.now c.args.archives.now.items
+    c.make_ready.new.archives.items c.put_ready.new.archives.items c.make_ready.ensures.unchanged)
+    c.put_ready.ensures.put
 
 pub returns-clause-unchanged : goal.returns-clause-unchanged
-returns-clause-unchanged g c = on_err_weaker c.put_ready.result (same_after_same g.A.Cells.cells g.A.Cells.row_limit c.args.schema.now c.args.sample.now c.args.archives.now.items c.make_ready.new.archives.items c.put_ready.new.archives.items c.make_ready.ensures.unchanged) c.put_ready.ensures.unchanged
+returns-clause-unchanged g c = on_err_weaker c.put_ready.result
+    (same_after_same g.A.Cells.cells g.A.Cells.row_limit c.args.schema.now c.args.sample.now c.args.archives.now.items
+    c.make_ready.new.archives.items c.put_ready.new.archives.items c.make_ready.ensures.unchanged)
+    c.put_ready.ensures.unchanged
 
 pub put_ready-requires-clause-ready : goal.put_ready-requires-clause-ready
 put_ready-requires-clause-ready g c =
@@ -29,4 +37,6 @@ pub returns-clause-room : goal.returns-clause-room
 returns-clause-room g c = λ room.
     let back : to_z w64 (of_z w64 c.args.sample.now.time) ≡ c.args.sample.now.time = search rules in
     let ready = rw back at c.in_ok-make_ready.ensures.ready in
-    c.put_ready.ensures.room (ready_all g.A.Cells.cells g.A.Cells.row_limit g.A.Cells.is_ready c.args.schema.now c.args.sample.now.time c.args.sample.now.origin 1 c.args.archives.now.items c.make_ready.new.archives.items c.make_ready.ensures.before ready room)
+    c.put_ready.ensures.room (ready_all g.A.Cells.cells g.A.Cells.row_limit g.A.Cells.is_ready c.args.schema.now
+    c.args.sample.now.time c.args.sample.now.origin 1 c.args.archives.now.items c.make_ready.new.archives.items
+    c.make_ready.ensures.before ready room)

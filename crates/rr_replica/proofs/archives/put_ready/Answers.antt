@@ -7,18 +7,22 @@ use Rattle.rr_replica.proofs.Each.{on_err_from, found_at, map-set_same, put_none
 use Rattle.rr_replica.proofs.archives.put_ready.Goals as goal
 
 pub loop-i-init : goal.loop-i-init
-loop-i-init g c = put_none g.A.Cells.cells g.A.Cells.row_limit c.args.schema.now c.args.sample.now c.args.archives.now.items c.requires.of_schema.sized
+loop-i-init g c = put_none g.A.Cells.cells g.A.Cells.row_limit c.args.schema.now c.args.sample.now
+    c.args.archives.now.items c.requires.of_schema.sized
 
 pub put-requires-clause-slot : goal.put-requires-clause-slot
 put-requires-clause-slot g c =
     let kept : to_z w64 (of_z w64 c.slot_near-slot.result) ≡ c.slot_near-slot.result = search rules in
     let slot : c.slot_near-slot.result ≡ slot_of c.args.schema.now c.loop-i.i c.args.sample.now.time = search rules in
-    rw (kept, slot) (slot_is c.args.schema.now c.requires.of_schema.layout c.loop-i.i c.args.sample.now.time (search rules))
+    rw (kept, slot) (slot_is c.args.schema.now c.requires.of_schema.layout c.loop-i.i c.args.sample.now.time
+    (search rules))
 
 pub put-requires-clause-newer : goal.put-requires-clause-newer
 put-requires-clause-newer g c =
-    let at = found_at c.loop-i.archives.items c.loop-i.i c.index_mut.result.now (search rules) c.index_mut.ensures.value in
-    let was : slice_get c.args.archives.now.items c.loop-i.i ≡ Some c.index_mut.result.now = sym (c.loop-i.invariant.rest c.loop-i.i (omega arith)) ∙ at in
+    let at = found_at c.loop-i.archives.items c.loop-i.i c.index_mut.result.now (search rules)
+    c.index_mut.ensures.value in
+    let was : slice_get c.args.archives.now.items c.loop-i.i ≡ Some c.index_mut.result.now =
+    sym (c.loop-i.invariant.rest c.loop-i.i (omega arith)) ∙ at in
     let kept : to_z w64 (of_z w64 c.slot_near-slot.result) ≡ c.slot_near-slot.result = search rules in
     let slot : c.slot_near-slot.result ≡ slot_of c.args.schema.now c.loop-i.i c.args.sample.now.time = search rules in
     rw (kept, slot) (c.requires.newer c.loop-i.i c.index_mut.result.now was)
@@ -27,12 +31,16 @@ put-requires-clause-newer g c =
 pub returns-in_err-put-clause-unchanged : goal.returns-in_err-put-clause-unchanged
 returns-in_err-put-clause-unchanged g c =
     let cells = g.A.Cells.cells in
-    let at = found_at c.loop-i.archives.items c.loop-i.i c.index_mut.result.now (search rules) c.index_mut.ensures.value in
-    let was : slice_get c.args.archives.now.items c.loop-i.i ≡ Some c.index_mut.result.now = sym (c.loop-i.invariant.rest c.loop-i.i (omega arith)) ∙ at in
+    let at = found_at c.loop-i.archives.items c.loop-i.i c.index_mut.result.now (search rules)
+    c.index_mut.ensures.value in
+    let was : slice_get c.args.archives.now.items c.loop-i.i ≡ Some c.index_mut.result.now =
+    sym (c.loop-i.invariant.rest c.loop-i.i (omega arith)) ∙ at in
     let kept : to_z w64 (of_z w64 c.slot_near-slot.result) ≡ c.slot_near-slot.result = search rules in
     let slot : c.slot_near-slot.result ≡ slot_of c.args.schema.now c.loop-i.i c.args.sample.now.time = search rules in
     on_err_from c.from_residual.result (⊎_elim
-    (λ first. put_failed cells g.A.Cells.row_limit c.args.schema.now c.args.sample.now c.loop-i.i c.args.archives.now.items c.loop-i.archives.items c.index_mut.result.now c.put.new.self c.loop-i.invariant first at (search rules))
+    (λ first. put_failed cells g.A.Cells.row_limit c.args.schema.now c.args.sample.now c.loop-i.i
+    c.args.archives.now.items c.loop-i.archives.items c.index_mut.result.now c.put.new.self c.loop-i.invariant first
+    at (search rules))
     (λ later.
     let ready = c.requires.ready c.loop-i.i c.index_mut.result.now was later in
     let ok : IsOk c.put.result = c.put.ensures.room (rw (kept, slot) ready) in
@@ -45,7 +53,8 @@ returns-in_err-put-clause-of_schema g c =
     let at = found_at items c.loop-i.i c.index_mut.result.now (search rules) c.index_mut.ensures.value in
     record {
       layout = c.requires.of_schema.layout;
-      sized = map-set_same g.A.Cells.row_limit items c.loop-i.i c.index_mut.result.now c.put.new.self at c.put.ensures.limit ∙ c.loop-i.invariant.sized;
+      sized = map-set_same g.A.Cells.row_limit items c.loop-i.i c.index_mut.result.now c.put.new.self at
+          c.put.ensures.limit ∙ c.loop-i.invariant.sized;
     }
 
 pub loop-i-preserved : goal.loop-i-preserved
@@ -59,17 +68,22 @@ loop-i-preserved g c =
     let time : to_z w64 (of_z w64 c.args.sample.now.time) ≡ c.args.sample.now.time = search rules in
     let value : to_z w64 (of_z w64 c.args.sample.now.value) ≡ c.args.sample.now.value = search rules in
     let cells = rw (kept, slot, place, time, value) at c.in_ok-put.ensures.put in
-    put_more g.A.Cells.cells g.A.Cells.row_limit c.args.schema.now c.args.sample.now c.loop-i.i c.args.archives.now.items items c.index_mut.result.now c.put.new.self c.loop-i.invariant at cells limit
+    put_more g.A.Cells.cells g.A.Cells.row_limit c.args.schema.now c.args.sample.now c.loop-i.i
+    c.args.archives.now.items items c.index_mut.result.now c.put.new.self c.loop-i.invariant at cells limit
 
 pub returns-clause-put : goal.returns-clause-put
 returns-clause-put g c =
-    put_all g.A.Cells.cells g.A.Cells.row_limit c.args.schema.now c.args.sample.now c.loop-i.i c.args.archives.now.items c.loop-i.archives.items c.loop-i.invariant
-    (let many = c.loop-i.invariant.many in let len : c.len-i-end.result ≡ length c.args.archives.now.items = search rules in omega arith)
+    put_all g.A.Cells.cells g.A.Cells.row_limit c.args.schema.now c.args.sample.now c.loop-i.i c.args.archives.now.items
+    c.loop-i.archives.items c.loop-i.invariant
+    (let many = c.loop-i.invariant.many in let len : c.len-i-end.result ≡ length c.args.archives.now.items =
+    search rules in omega arith)
 
 pub returns-in_err-put-clause-room : goal.returns-in_err-put-clause-room
 returns-in_err-put-clause-room g c = λ room.
-    let at = found_at c.loop-i.archives.items c.loop-i.i c.index_mut.result.now (search rules) c.index_mut.ensures.value in
-    let was : slice_get c.args.archives.now.items c.loop-i.i ≡ Some c.index_mut.result.now = sym (c.loop-i.invariant.rest c.loop-i.i (omega arith)) ∙ at in
+    let at = found_at c.loop-i.archives.items c.loop-i.i c.index_mut.result.now (search rules)
+    c.index_mut.ensures.value in
+    let was : slice_get c.args.archives.now.items c.loop-i.i ≡ Some c.index_mut.result.now =
+    sym (c.loop-i.invariant.rest c.loop-i.i (omega arith)) ∙ at in
     let kept : to_z w64 (of_z w64 c.slot_near-slot.result) ≡ c.slot_near-slot.result = search rules in
     let slot : c.slot_near-slot.result ≡ slot_of c.args.schema.now c.loop-i.i c.args.sample.now.time = search rules in
     let ready = room c.loop-i.i c.index_mut.result.now was (omega arith) in

@@ -13,7 +13,8 @@ pub index_mut-requires : goal.index_mut-requires
 index_mut-requires g c =
     let m = c.args.series.now in
     let at : Some c.in-Some.index ≡ index_of m.indices.entries c.args.cell.now.key = c.in-Some.ensures in
-    let within = index_within m.keys.items m.indices.entries m.archives.items c.requires.indexed c.args.cell.now.key c.in-Some.index at in
+    let within = index_within m.keys.items m.indices.entries m.archives.items c.requires.indexed c.args.cell.now.key
+    c.in-Some.index at in
     let len = m.archives.ok.0 in
     omega (arith, within, len)
 
@@ -23,7 +24,8 @@ join_into-requires-clause-of_schema g c =
     let old = entries_of m in
     let at : Some c.in-Some.index ≡ index_of m.indices.entries c.args.cell.now.key = c.in-Some.ensures in
     let was = c.index_mut.result.now in
-    let found = element_found m.keys.items m.indices.entries m.archives.items c.requires.indexed c.args.cell.now.key c.in-Some.index was at c.index_mut.ensures.value in
+    let found = element_found m.keys.items m.indices.entries m.archives.items c.requires.indexed c.args.cell.now.key
+    c.in-Some.index was at c.index_mut.ensures.value in
     record { layout = c.requires.layout; sized = c.requires.sized c.args.cell.now.key was (sym found) }
 
 pub returns-in-Some : goal.returns-in-Some
@@ -36,10 +38,12 @@ returns-in-Some g c =
     let old = entries_of m in
     let at : Some c.in-Some.index ≡ index_of m.indices.entries c.args.cell.now.key = c.in-Some.ensures in
     let was = c.index_mut.result.now in
-    let found = element_found m.keys.items m.indices.entries m.archives.items c.requires.indexed c.args.cell.now.key c.in-Some.index was at c.index_mut.ensures.value in
+    let found = element_found m.keys.items m.indices.entries m.archives.items c.requires.indexed c.args.cell.now.key
+    c.in-Some.index was at c.index_mut.ensures.value in
     let now = c.join_into.new.archives in
     let new = entries_at m.indices.entries (set m.archives.items c.in-Some.index now) in
-    let sets = sets_at m.keys.items m.indices.entries m.archives.items c.requires.indexed c.args.cell.now.key c.in-Some.index now at in
+    let sets = sets_at m.keys.items m.indices.entries m.archives.items c.requires.indexed c.args.cell.now.key
+    c.in-Some.index now at in
     let still = still_indexed m.keys.items m.indices.entries m.archives.items c.requires.indexed c.in-Some.index now in
     let ordered_before = entries_ordered m.keys.items m.indices.entries m.archives.items c.requires.indexed in
     let ordered = entries_ordered m.keys.items m.indices.entries (set m.archives.items c.in-Some.index now) still in
@@ -49,8 +53,10 @@ returns-in-Some g c =
     let is_within = c.requires.cell.archive in
     let within : cell.archive < length was.items = omega arith in
     record {
-      joined = on_ok_weaker c.join_into.result (cells_joined cells limit schema c.requires.layout cell old new now sets ordered_before ordered c.requires.live was.items sized before within) c.join_into.ensures.joined;
-      unchanged = on_err_weaker c.join_into.result (cells_unchanged cells limit schema c.requires.layout cell old new now sets ordered_before ordered c.requires.live was.items before) c.join_into.ensures.unchanged;
+      joined = on_ok_weaker c.join_into.result (cells_joined cells limit schema c.requires.layout cell old new now sets
+          ordered_before ordered c.requires.live was.items sized before within) c.join_into.ensures.joined;
+      unchanged = on_err_weaker c.join_into.result (cells_unchanged cells limit schema c.requires.layout cell old new
+          now sets ordered_before ordered c.requires.live was.items before) c.join_into.ensures.unchanged;
       sized = sized_with limit schema cell.key old new now c.requires.sized sets c.join_into.ensures.of_schema.sized;
       room = λ h. c.join_into.ensures.room (room_found g.A.Cells.is_ready schema (Join cell) old was found h);
       indexed = still;
@@ -65,36 +71,43 @@ returns-in_ok-insert-in-None-clause-joined g c =
     let m = c.args.series.now in
     let old = entries_of m in
     let unknown : None ≡ index_of m.indices.entries c.args.cell.now.key = c.in-None.ensures in
-    let none = sym (archives_nowhere m.keys.items m.indices.entries m.archives.items c.requires.indexed c.args.cell.now.key unknown) in
+    let none = sym (archives_nowhere m.keys.items m.indices.entries m.archives.items c.requires.indexed
+    c.args.cell.now.key unknown) in
     let fresh = c.in_ok-archives-in-None in
     let next = c.insert.new.self in
     let new = entries_of next in
     let sets = c.in_ok-insert-in-None.ensures.sets in
     let ordered_before = entries_ordered m.keys.items m.indices.entries m.archives.items c.requires.indexed in
-    let ordered = entries_ordered next.keys.items next.indices.entries next.archives.items c.insert.ensures.indexed_now in
+    let ordered = entries_ordered next.keys.items next.indices.entries next.archives.items
+    c.insert.ensures.indexed_now in
     let before = before_fresh cells cell.key old ordered_before fresh.archives.items none fresh.ensures.empty in
     let many = sized_many limit schema fresh.archives.items fresh.ensures.of_schema.sized in
     let is_within = c.requires.cell.archive in
     let within : cell.archive < length fresh.archives.items = omega arith in
-    cells_joined cells limit schema c.requires.layout cell old new c.join_into-in-None.new.archives sets ordered_before ordered c.requires.live fresh.archives.items fresh.ensures.of_schema.sized before within c.in_ok-join_into-in-None.ensures.joined
+    cells_joined cells limit schema c.requires.layout cell old new c.join_into-in-None.new.archives sets ordered_before
+    ordered c.requires.live fresh.archives.items fresh.ensures.of_schema.sized before within
+    c.in_ok-join_into-in-None.ensures.joined
 
 pub returns-in_err-archives-in-None-clause-room : goal.returns-in_err-archives-in-None-clause-room
 returns-in_err-archives-in-None-clause-room g c = λ h.
     let m = c.args.series.now in
     let unknown : None ≡ index_of m.indices.entries c.args.cell.now.key = c.in-None.ensures in
-    let none = sym (archives_nowhere m.keys.items m.indices.entries m.archives.items c.requires.indexed c.args.cell.now.key unknown) in
+    let none = sym (archives_nowhere m.keys.items m.indices.entries m.archives.items c.requires.indexed
+    c.args.cell.now.key unknown) in
     absurd (room_nowhere g.A.Cells.is_ready c.args.schema.now (Join c.args.cell.now) (entries_of m) none h)
 
 pub returns-in_err-join_into-in-None-clause-room : goal.returns-in_err-join_into-in-None-clause-room
 returns-in_err-join_into-in-None-clause-room g c = λ h.
     let m = c.args.series.now in
     let unknown : None ≡ index_of m.indices.entries c.args.cell.now.key = c.in-None.ensures in
-    let none = sym (archives_nowhere m.keys.items m.indices.entries m.archives.items c.requires.indexed c.args.cell.now.key unknown) in
+    let none = sym (archives_nowhere m.keys.items m.indices.entries m.archives.items c.requires.indexed
+    c.args.cell.now.key unknown) in
     absurd (room_nowhere g.A.Cells.is_ready c.args.schema.now (Join c.args.cell.now) (entries_of m) none h)
 
 pub returns-in_err-insert-in-None-clause-room : goal.returns-in_err-insert-in-None-clause-room
 returns-in_err-insert-in-None-clause-room g c = λ h.
     let m = c.args.series.now in
     let unknown : None ≡ index_of m.indices.entries c.args.cell.now.key = c.in-None.ensures in
-    let none = sym (archives_nowhere m.keys.items m.indices.entries m.archives.items c.requires.indexed c.args.cell.now.key unknown) in
+    let none = sym (archives_nowhere m.keys.items m.indices.entries m.archives.items c.requires.indexed
+    c.args.cell.now.key unknown) in
     absurd (room_nowhere g.A.Cells.is_ready c.args.schema.now (Join c.args.cell.now) (entries_of m) none h)

@@ -12,7 +12,8 @@ pub index_mut-requires : goal.index_mut-requires
 index_mut-requires g c =
     let m = c.args.series.now in
     let at : Some c.in-Some.index ≡ index_of m.indices.entries c.key-key.result.now = c.in-Some.ensures in
-    let within = index_within m.keys.items m.indices.entries m.archives.items c.requires.indexed c.key-key.result.now c.in-Some.index at in
+    let within = index_within m.keys.items m.indices.entries m.archives.items c.requires.indexed c.key-key.result.now
+    c.in-Some.index at in
     let len = m.archives.ok.0 in
     omega (arith, within, len)
 
@@ -22,7 +23,8 @@ make_room-requires-clause-of_schema g c =
     let old = entries_of m in
     let at : Some c.in-Some.index ≡ index_of m.indices.entries c.key-key.result.now = c.in-Some.ensures in
     let was = c.index_mut.result.now in
-    let found = element_found m.keys.items m.indices.entries m.archives.items c.requires.indexed c.key-key.result.now c.in-Some.index was at c.index_mut.ensures.value in
+    let found = element_found m.keys.items m.indices.entries m.archives.items c.requires.indexed c.key-key.result.now
+    c.in-Some.index was at c.index_mut.ensures.value in
     record { layout = c.requires.layout; sized = c.requires.sized c.key-key.result.now was (sym found) }
 
 pub returns-in-Some-clause-unchanged : goal.returns-in-Some-clause-unchanged
@@ -32,15 +34,18 @@ returns-in-Some-clause-unchanged g c =
     let old = entries_of m in
     let at : Some c.in-Some.index ≡ index_of m.indices.entries c.key-key.result.now = c.in-Some.ensures in
     let was = c.index_mut.result.now in
-    let found = element_found m.keys.items m.indices.entries m.archives.items c.requires.indexed c.key-key.result.now c.in-Some.index was at c.index_mut.ensures.value in
+    let found = element_found m.keys.items m.indices.entries m.archives.items c.requires.indexed c.key-key.result.now
+    c.in-Some.index was at c.index_mut.ensures.value in
     let now = c.make_room.new.archives in
     let new = entries_at m.indices.entries (set m.archives.items c.in-Some.index now) in
-    let sets = sets_at m.keys.items m.indices.entries m.archives.items c.requires.indexed c.key-key.result.now c.in-Some.index now at in
+    let sets = sets_at m.keys.items m.indices.entries m.archives.items c.requires.indexed c.key-key.result.now
+    c.in-Some.index now at in
     let still = still_indexed m.keys.items m.indices.entries m.archives.items c.requires.indexed c.in-Some.index now in
     let ordered_before = entries_ordered m.keys.items m.indices.entries m.archives.items c.requires.indexed in
     let ordered = entries_ordered m.keys.items m.indices.entries (set m.archives.items c.in-Some.index now) still in
     cells_same cells old new c.key-key.result.now now sets ordered_before ordered
-    (λ i. held_same cells was.items now.items i c.make_room.ensures.unchanged ∙ sym (before_found cells c.key-key.result.now old ordered_before was found i))
+    (λ i. held_same cells was.items now.items i c.make_room.ensures.unchanged
+    ∙ sym (before_found cells c.key-key.result.now old ordered_before was found i))
 
 pub returns-in-Some-clause-sized : goal.returns-in-Some-clause-sized
 returns-in-Some-clause-sized g c =
@@ -48,14 +53,17 @@ returns-in-Some-clause-sized g c =
     let old = entries_of m in
     let at : Some c.in-Some.index ≡ index_of m.indices.entries c.key-key.result.now = c.in-Some.ensures in
     let was = c.index_mut.result.now in
-    let found = element_found m.keys.items m.indices.entries m.archives.items c.requires.indexed c.key-key.result.now c.in-Some.index was at c.index_mut.ensures.value in
+    let found = element_found m.keys.items m.indices.entries m.archives.items c.requires.indexed c.key-key.result.now
+    c.in-Some.index was at c.index_mut.ensures.value in
     let now = c.make_room.new.archives in
     let new = entries_at m.indices.entries (set m.archives.items c.in-Some.index now) in
-    let sets = sets_at m.keys.items m.indices.entries m.archives.items c.requires.indexed c.key-key.result.now c.in-Some.index now at in
+    let sets = sets_at m.keys.items m.indices.entries m.archives.items c.requires.indexed c.key-key.result.now
+    c.in-Some.index now at in
     let still = still_indexed m.keys.items m.indices.entries m.archives.items c.requires.indexed c.in-Some.index now in
     let ordered_before = entries_ordered m.keys.items m.indices.entries m.archives.items c.requires.indexed in
     let ordered = entries_ordered m.keys.items m.indices.entries (set m.archives.items c.in-Some.index now) still in
-    sized_with g.A.Cells.row_limit c.args.schema.now c.key-key.result.now old new now c.requires.sized sets c.make_room.ensures.of_schema.sized
+    sized_with g.A.Cells.row_limit c.args.schema.now c.key-key.result.now old new now c.requires.sized sets
+    c.make_room.ensures.of_schema.sized
 
 pub returns-in-Some-clause-room : goal.returns-in-Some-clause-room
 returns-in-Some-clause-room g c =
@@ -63,14 +71,17 @@ returns-in-Some-clause-room g c =
     let old = entries_of m in
     let at : Some c.in-Some.index ≡ index_of m.indices.entries c.key-key.result.now = c.in-Some.ensures in
     let was = c.index_mut.result.now in
-    let found = element_found m.keys.items m.indices.entries m.archives.items c.requires.indexed c.key-key.result.now c.in-Some.index was at c.index_mut.ensures.value in
+    let found = element_found m.keys.items m.indices.entries m.archives.items c.requires.indexed c.key-key.result.now
+    c.in-Some.index was at c.index_mut.ensures.value in
     let now = c.make_room.new.archives in
     let new = entries_at m.indices.entries (set m.archives.items c.in-Some.index now) in
-    let sets = sets_at m.keys.items m.indices.entries m.archives.items c.requires.indexed c.key-key.result.now c.in-Some.index now at in
+    let sets = sets_at m.keys.items m.indices.entries m.archives.items c.requires.indexed c.key-key.result.now
+    c.in-Some.index now at in
     let still = still_indexed m.keys.items m.indices.entries m.archives.items c.requires.indexed c.in-Some.index now in
     let ordered_before = entries_ordered m.keys.items m.indices.entries m.archives.items c.requires.indexed in
     let ordered = entries_ordered m.keys.items m.indices.entries (set m.archives.items c.in-Some.index now) still in
-    on_ok_weaker c.make_room.result (room_set g.A.Cells.is_ready c.args.schema.now c.args.op.now c.key-key.result.now c.key-key.ensures old new now sets) c.make_room.ensures.room
+    on_ok_weaker c.make_room.result (room_set g.A.Cells.is_ready c.args.schema.now c.args.op.now c.key-key.result.now
+    c.key-key.ensures old new now sets) c.make_room.ensures.room
 
 pub returns-in_ok-insert-in-None-clause-unchanged : goal.returns-in_ok-insert-in-None-clause-unchanged
 returns-in_ok-insert-in-None-clause-unchanged g c =
@@ -78,28 +89,35 @@ returns-in_ok-insert-in-None-clause-unchanged g c =
     let m = c.args.series.now in
     let old = entries_of m in
     let unknown : None ≡ index_of m.indices.entries c.key-key.result.now = c.in-None.ensures in
-    let none = sym (archives_nowhere m.keys.items m.indices.entries m.archives.items c.requires.indexed c.key-key.result.now unknown) in
+    let none = sym (archives_nowhere m.keys.items m.indices.entries m.archives.items c.requires.indexed
+    c.key-key.result.now unknown) in
     let fresh = c.in_ok-archives-in-None in
     let next = c.insert.new.self in
     let new = entries_of next in
     let sets = c.in_ok-insert-in-None.ensures.sets in
     let ordered_before = entries_ordered m.keys.items m.indices.entries m.archives.items c.requires.indexed in
-    let ordered = entries_ordered next.keys.items next.indices.entries next.archives.items c.insert.ensures.indexed_now in
+    let ordered = entries_ordered next.keys.items next.indices.entries next.archives.items
+    c.insert.ensures.indexed_now in
     let now = c.make_room-in-None.new.archives in
     cells_same cells old new c.key-key.result.now now sets ordered_before ordered
-    (λ i. held_same cells fresh.archives.items now.items i c.make_room-in-None.ensures.unchanged ∙ sym (before_fresh cells c.key-key.result.now old ordered_before fresh.archives.items none fresh.ensures.empty i))
+    (λ i. held_same cells fresh.archives.items now.items i c.make_room-in-None.ensures.unchanged
+    ∙ sym (before_fresh cells c.key-key.result.now old ordered_before fresh.archives.items none fresh.ensures.empty
+    i))
 
 pub returns-in_ok-insert-in-None-clause-room : goal.returns-in_ok-insert-in-None-clause-room
 returns-in_ok-insert-in-None-clause-room g c =
     let m = c.args.series.now in
     let old = entries_of m in
     let unknown : None ≡ index_of m.indices.entries c.key-key.result.now = c.in-None.ensures in
-    let none = sym (archives_nowhere m.keys.items m.indices.entries m.archives.items c.requires.indexed c.key-key.result.now unknown) in
+    let none = sym (archives_nowhere m.keys.items m.indices.entries m.archives.items c.requires.indexed
+    c.key-key.result.now unknown) in
     let fresh = c.in_ok-archives-in-None in
     let next = c.insert.new.self in
     let new = entries_of next in
     let sets = c.in_ok-insert-in-None.ensures.sets in
     let ordered_before = entries_ordered m.keys.items m.indices.entries m.archives.items c.requires.indexed in
-    let ordered = entries_ordered next.keys.items next.indices.entries next.archives.items c.insert.ensures.indexed_now in
+    let ordered = entries_ordered next.keys.items next.indices.entries next.archives.items
+    c.insert.ensures.indexed_now in
     let now = c.make_room-in-None.new.archives in
-    room_set g.A.Cells.is_ready c.args.schema.now c.args.op.now c.key-key.result.now c.key-key.ensures old new now sets c.in_ok-make_room-in-None.ensures.room
+    room_set g.A.Cells.is_ready c.args.schema.now c.args.op.now c.key-key.result.now c.key-key.ensures old new now sets
+    c.in_ok-make_room-in-None.ensures.room

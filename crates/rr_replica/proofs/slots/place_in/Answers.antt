@@ -15,4 +15,5 @@ returns-then-archive-eq1-clause-place c =
     let s = c.args.schema.now in
     let one : (archive_at s c.args.archive).steps ≡ 1 = search rules in
     let q = int_div_euclid c.args.time (pos (s.step * 1_000_000_000)) in
-    sym (rem_one q) ∙ ap (λ (n : ℕ). unsigned_abs (int_rem_euclid q (pos n))) (sym one) ∙ rem_is_place s c.args.archive c.args.time (omega (arith, one))
+    sym (rem_one q) ∙ ap (λ (n : ℕ). unsigned_abs (int_rem_euclid q (pos n))) (sym one)
+    ∙ rem_is_place s c.args.archive c.args.time (omega (arith, one))

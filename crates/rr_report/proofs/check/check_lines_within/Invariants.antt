@@ -6,7 +6,8 @@ use Rattle.rr_report.proofs.check.check_lines_within.Given as goal
 -- what was taken of the input is reported, by one read at each turn
 abbrev pub invariant-loop : goal.invariant-loop
 invariant-loop g l = record {
-  written : HasWritten l.checker (g.R.Read.remaining (inner_of l.initial.input)) (g.R.Read.remaining (inner_of l.input)) (g.W.Write.contents (inner_of l.initial.output)) (g.W.Write.contents (inner_of l.output));
+  written : HasWritten l.checker (g.R.Read.remaining (inner_of l.initial.input)) (g.R.Read.remaining (inner_of l.input))
+      (g.W.Write.contents (inner_of l.initial.output)) (g.W.Write.contents (inner_of l.output));
   going : l.checker.feed.ended ≡ false;
   precision : l.checker.precision ≡ l.fn.precision;
   now : l.checker.now ≡ l.fn.now;

@@ -41,10 +41,13 @@ pub push_field-requires : goal.push_field-requires
 push_field-requires c =
     let p = point_view c.args.point.now in
     let Keyed : List ℕ × ℤ → Type 0 = λ field. making_fault (names_of p field.0) ≡ None in
-    let keyed : AllByRecursion Keyed (map field_view c.deref-field-items.result.now) = subst (λ (items : List Field). AllByRecursion Keyed (map field_view items)) (sym c.deref-field-items.ensures.value) c.requires in
+    let keyed : AllByRecursion Keyed (map field_view c.deref-field-items.result.now) =
+    subst (λ (items : List Field). AllByRecursion Keyed (map field_view items))
+    (sym c.deref-field-items.ensures.value) c.requires in
     let digits : c.as_bytes-digits.result.now ≡ signed_decimal c.unwrap_or-time.result = search rules in
     record {
-      keyed = field_at Keyed field_view c.deref-field-items.result.now c.loop-field.field-index any keyed c.loop-field-test.true;
+      keyed = field_at Keyed field_view c.deref-field-items.result.now c.loop-field.field-index any keyed
+          c.loop-field-test.true;
       time = subst IsPlain (sym digits) (plain_signed c.unwrap_or-time.result (search rules));
     }
 
@@ -53,6 +56,7 @@ returns c =
     let items = c.deref-field-items.result.now in
     let back = to_z-of_z {w = w64} {z = c.unwrap_or-time.result} (search rules) in
     let now = to_z-of_z {w = w64} {z = c.args.now} (search rules) in
-    let all : take c.loop-field.field-index items ≡ c.args.point.now.fields.items = take_all c.loop-field.field-index items c.loop-field-test.false ∙ c.deref-field-items.ensures.value in
+    let all : take c.loop-field.field-index items ≡ c.args.point.now.fields.items =
+    take_all c.loop-field.field-index items c.loop-field-test.false ∙ c.deref-field-items.ensures.value in
     let time = rw now at c.unwrap_or-time.ensures in
     rw (back, all, time) at c.loop-field.invariant

@@ -8,4 +8,6 @@ use Rattle.rr_report.proofs.report.push_point.Given as goal
 -- the samples of the fields so far are added
 abbrev pub invariant-loop-field : goal.invariant-loop-field
 invariant-loop-field l =
-    l.report.items ≡ l.initial.report.items ++ flat_map (λ (field : List ℕ × ℤ). sample_text (key_text (point_view l.point) field.0) field.1 l.time) (map field_view (take l.field-index l.field-items))
+    l.report.items ≡ l.initial.report.items ++ flat_map
+    (λ (field : List ℕ × ℤ). sample_text (key_text (point_view l.point) field.0) field.1 l.time)
+    (map field_view (take l.field-index l.field-items))

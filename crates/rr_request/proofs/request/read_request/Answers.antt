@@ -18,8 +18,11 @@ returns-clause-value c =
     let before : int_lt c.in_ok-start.start c.in_ok-end.end ≡ true = search rules in
     let start_back = to_z-of_z {w = w64} {z = c.in_ok-start.start} (search rules) in
     let end_back = to_z-of_z {w = w64} {z = c.in_ok-end.end} (search rules) in
-    let rows = rw (start_back, end_back, c.choose-archive.ensures.value) at (c.in_ok-first.ensures.value w.key c.in_ok-cf.cf) in
-    rw (back, key, c.choose-archive.ensures.value) (read_by_words c.args.schema.now w c.in_ok-cf.cf c.in_ok-resolution.resolution c.in_ok-start.start c.in_ok-end.end _ function resolution start end c.in_ok-key.ensures.value before rows)
+    let rows = rw (start_back, end_back, c.choose-archive.ensures.value) at
+    (c.in_ok-first.ensures.value w.key c.in_ok-cf.cf) in
+    rw (back, key, c.choose-archive.ensures.value)
+    (read_by_words c.args.schema.now w c.in_ok-cf.cf c.in_ok-resolution.resolution c.in_ok-start.start
+    c.in_ok-end.end _ function resolution start end c.in_ok-key.ensures.value before rows)
 
 pub returns-clause-fetchable : goal.returns-clause-fetchable
 returns-clause-fetchable c =

@@ -14,4 +14,5 @@ returns-in-Err-clause-value c =
 
 pub returns-in-Err-2-clause-value : goal.returns-in-Err-2-clause-value
 returns-in-Err-2-clause-value c =
-    key_unless_bad c.args.text.now (λ bad. let is_bad = same_fault _ _ (c.in-Err.ensures.refused.1 bad) in let other = rw is_bad at c.if-eq.ensures in absurd cc)
+    key_unless_bad c.args.text.now (λ bad. let is_bad = same_fault _ _ (c.in-Err.ensures.refused.1 bad) in let other =
+    rw is_bad at c.if-eq.ensures in absurd cc)

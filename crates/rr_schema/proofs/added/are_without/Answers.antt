@@ -17,7 +17,8 @@ returns-then-eq c =
     let archives = c.args.archives.now in
     let others = c.args.others.now in
     let fronts = slice_eq-Decides same c.split_at.result.0.now (take i archives) c.eq.result c.eq.ensures in
-    let rests = slice_eq-Decides same c.split_at.result.1.now c.split_at-then-eq.result.1.now c.eq-then-eq.result c.eq-then-eq.ensures in
+    let rests = slice_eq-Decides same c.split_at.result.1.now c.split_at-then-eq.result.1.now c.eq-then-eq.result
+    c.eq-then-eq.ensures in
     let front : take i others ≡ take i archives = sym c.split_at.ensures.front ∙ fronts.0 c.if-eq.true in
     let of_others : c.split_at.result.1.now ≡ drop i others = c.split_at.ensures.back in
     let of_archives : c.split_at-then-eq.result.1.now ≡ drop (i + 1) archives = c.split_at-then-eq.ensures.back in (
@@ -31,5 +32,6 @@ returns-else-eq c =
     let archives = c.args.archives.now in
     let others = c.args.others.now in
     let fronts = slice_eq-Decides same c.split_at.result.0.now (take i archives) c.eq.result c.eq.ensures in
-    let differ : c.eq.result ≡ true → (others ≡ without i archives) = λ t. absurd (true≢false (sym t ∙ c.if-eq.false)) in
+    let differ : c.eq.result ≡ true → (others ≡ without i archives) =
+    λ t. absurd (true≢false (sym t ∙ c.if-eq.false)) in
     (differ, λ e. fronts.1 (c.split_at.ensures.front ∙ front_is_without i archives others c.requires e))

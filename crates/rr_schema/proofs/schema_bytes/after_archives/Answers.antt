@@ -13,7 +13,8 @@ loop-archive-preserved c =
     let archives = c.args.archives.now in
     let i = c.loop-archive.archive-index in
     let rest = c.in-Some.rest.now in
-    second_after (flat_map archive_bytes (take i archives)) (archive_bytes (get_or archives i any)) c.args.bytes.now c.loop-archive.left.now (Some rest) c.loop-archive.invariant c.in-Some.ensures
+    second_after (flat_map archive_bytes (take i archives)) (archive_bytes (get_or archives i any)) c.args.bytes.now
+    c.loop-archive.left.now (Some rest) c.loop-archive.invariant c.in-Some.ensures
     ∙ ap (λ (l : List ℕ). l ++ rest) (archives_so_far archives i any c.loop-archive-test.true)
 
 pub returns-in_default : goal.returns-in_default
@@ -23,6 +24,11 @@ returns-in_default c =
     let i = c.loop-archive.archive-index in
     let front = flat_map archive_bytes (take i archives) in
     let one = archive_bytes (get_or archives i any) in
-    let missing : IsAfter (front ++ one) bytes None = second_after front one bytes c.loop-archive.left.now None c.loop-archive.invariant c.in_default.ensures in
-    let so_far : IsAfter (flat_map archive_bytes (take (i + 1) archives)) bytes None = subst (λ (l : List ℕ). IsAfter l bytes None) (archives_so_far archives i any c.loop-archive-test.true) missing in
-    subst (λ (l : List ℕ). IsAfter l bytes None) (all_archives archives (i + 1)) (first_missing (flat_map archive_bytes (take (i + 1) archives)) (flat_map archive_bytes (drop (i + 1) archives)) bytes so_far)
+    let missing : IsAfter (front ++ one) bytes None =
+    second_after front one bytes c.loop-archive.left.now None c.loop-archive.invariant c.in_default.ensures in
+    let so_far : IsAfter (flat_map archive_bytes (take (i + 1) archives)) bytes None =
+    subst (λ (l : List ℕ). IsAfter l bytes None) (archives_so_far archives i any c.loop-archive-test.true)
+    missing in
+    subst (λ (l : List ℕ). IsAfter l bytes None) (all_archives archives (i + 1))
+    (first_missing (flat_map archive_bytes (take (i + 1) archives)) (flat_map archive_bytes (drop (i + 1) archives))
+    bytes so_far)

@@ -8,8 +8,13 @@ use Rattle.rr_schema.proofs.schema_bytes.are_archives_without.Goals as goal
 pub returns-in-None : goal.returns-in-None
 returns-in-None c =
     let i = c.args.number in
-    let archives = c.args.archives.now in
-    ((λ t. absurd (true≢false (sym t))), λ e. absurd (not_missing (first_missing (flat_map archive_bytes (take i archives)) (flat_map archive_bytes (drop (i + 1) archives)) c.args.bytes.now c.in-None.ensures) (e ∙ flat_map-append archive_bytes (take i archives) (drop (i + 1) archives))))
+    let archives = c.args.archives.now in (
+      (λ t. absurd (true≢false (sym t))),
+      λ e. absurd
+          (not_missing (first_missing (flat_map archive_bytes (take i archives))
+          (flat_map archive_bytes (drop (i + 1) archives)) c.args.bytes.now c.in-None.ensures)
+          (e ∙ flat_map-append archive_bytes (take i archives) (drop (i + 1) archives))),
+    )
 
 pub returns-in-Some : goal.returns-in-Some
 returns-in-Some c =

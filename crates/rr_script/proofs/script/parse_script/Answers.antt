@@ -6,9 +6,11 @@ pub loop-line-preserved : goal.loop-line-preserved
 loop-line-preserved c =
     record {
       counted = omega (arith, c.in-Some.ensures.shorter);
-      same = line_taken c.loop-line.number c.loop-line.rest.now c.in-Some.line.now c.in-Some.after.now _ _ _ c.in_ok-push_line.ensures c.in-Some.ensures.parts c.loop-line.invariant.same;
+      same = line_taken c.loop-line.number c.loop-line.rest.now c.in-Some.line.now c.in-Some.after.now _ _ _
+          c.in_ok-push_line.ensures c.in-Some.ensures.parts c.loop-line.invariant.same;
     }
 
 pub returns : goal.returns
 returns c =
-    last_taken c.loop-line.number c.loop-line.rest.now _ _ _ c.in_ok-push_line-2.ensures c.in_default.ensures.parts c.loop-line.invariant.same
+    last_taken c.loop-line.number c.loop-line.rest.now _ _ _ c.in_ok-push_line-2.ensures c.in_default.ensures.parts
+    c.loop-line.invariant.same

@@ -4,7 +4,7 @@ use Rattle.std.specs.FinMap.{empty}
 use Rattle.std.proofs.lemmas.Bool.{or_left, or_right, or_from}
 use Rattle.std.proofs.lemmas.Result.{err_from_is_err_and}
 use Rattle.rr_io.specs.Counted.{inner_of}
-use Rattle.rr_replica.specs.Standing.{held}
+use Rattle.rr_replica.specs.ReplicaWithRoom.{replica_state}
 use Rattle.rr_parts.specs.declared.fault.LoadFault.TheVariants.{Memory}
 use Rattle.rr_parts.proofs.FrontLemmas.{read_then}
 use Rattle.rr_parts.proofs.BodyLemmas.{body_read}
@@ -29,7 +29,8 @@ returns-in_err-has_own-clause-read g c =
     let s = c.args.schema.now in
     let p = err_from_is_err_and c.from_residual-in_err-has_own.result c.from_residual-in_err-has_own.ensures.1 in
     let head = c.in_ok-head.ensures.read in
-    rw (p.1, p.2) (cells_failed s c.args.replica.now.origin h c.in_err-has_own.field-0.0 old now head c.in_err-has_own.ensures.read)
+    rw (p.1, p.2) (cells_failed s c.args.replica.now.origin h c.in_err-has_own.field-0.0 old now head
+    c.in_err-has_own.ensures.read)
 
 pub returns-in_err-digest_from-clause-read : goal.returns-in_err-digest_from-clause-read
 returns-in_err-digest_from-clause-read g c =
@@ -40,9 +41,13 @@ returns-in_err-digest_from-clause-read g c =
     let s = c.args.schema.now in
     let joined = c.in_ok-has_own.ensures.read in
     let head = c.in_ok-head.ensures.read in
-    let body = body_read s h joined.0 c.finalize.result old now mid c.new-hasher.result c.head_from.new.hasher c.join_cells_after.new.hasher head joined.2 c.new-hasher.ensures c.in_ok-head.ensures.digest c.in_ok-has_own.ensures.digest c.finalize.ensures in
-    let p = err_from_is_err_and c.from_residual-in_err-digest_from.result c.from_residual-in_err-digest_from.ensures.1 in
-    rw (p.1, p.2) (digest_failed s c.args.replica.now.origin h joined.0 c.finalize.result c.in_err-digest_from.field-0.0 old now mid body c.in_err-digest_from.ensures.read)
+    let body = body_read s h joined.0 c.finalize.result old now mid c.new-hasher.result c.head_from.new.hasher
+    c.join_cells_after.new.hasher head joined.2 c.new-hasher.ensures c.in_ok-head.ensures.digest
+    c.in_ok-has_own.ensures.digest c.finalize.ensures in
+    let p = err_from_is_err_and c.from_residual-in_err-digest_from.result
+    c.from_residual-in_err-digest_from.ensures.1 in
+    rw (p.1, p.2) (digest_failed s c.args.replica.now.origin h joined.0 c.finalize.result c.in_err-digest_from.field-0.0
+    old now mid body c.in_err-digest_from.ensures.read)
 
 pub returns-in_err-end_from-clause-read : goal.returns-in_err-end_from-clause-read
 returns-in_err-end_from-clause-read g c =
@@ -54,9 +59,12 @@ returns-in_err-end_from-clause-read g c =
     let s = c.args.schema.now in
     let joined = c.in_ok-has_own.ensures.read in
     let head = c.in_ok-head.ensures.read in
-    let body = body_read s h joined.0 c.finalize.result old now mid c.new-hasher.result c.head_from.new.hasher c.join_cells_after.new.hasher head joined.2 c.new-hasher.ensures c.in_ok-head.ensures.digest c.in_ok-has_own.ensures.digest c.finalize.ensures in
+    let body = body_read s h joined.0 c.finalize.result old now mid c.new-hasher.result c.head_from.new.hasher
+    c.join_cells_after.new.hasher head joined.2 c.new-hasher.ensures c.in_ok-head.ensures.digest
+    c.in_ok-has_own.ensures.digest c.finalize.ensures in
     let p = err_from_is_err_and c.from_residual-in_err-end_from.result c.from_residual-in_err-end_from.ensures.1 in
-    rw (p.1, p.2) (end_failed s c.args.replica.now.origin h joined.0 c.finalize.result c.in_err-end_from.field-0.0 old now mid new body c.in_ok-digest_from.ensures.read c.in_err-end_from.ensures.read)
+    rw (p.1, p.2) (end_failed s c.args.replica.now.origin h joined.0 c.finalize.result c.in_err-end_from.field-0.0 old
+    now mid new body c.in_ok-digest_from.ensures.read c.in_err-end_from.ensures.read)
 
 either_used : (a b : Bool) → (a ≡ true) ⊎ ((a ≡ false) × (b ≡ true)) → a || b ≡ true
 either_used a b (inl e) = or_left a b e
@@ -74,10 +82,15 @@ returns-then-eq-clause-read g c =
     let s = c.args.schema.now in
     let joined = c.in_ok-has_own.ensures.read in
     let head = c.in_ok-head.ensures.read in
-    let body = body_read s h joined.0 c.finalize.result old now mid c.new-hasher.result c.head_from.new.hasher c.join_cells_after.new.hasher head joined.2 c.new-hasher.ensures c.in_ok-head.ensures.digest c.in_ok-has_own.ensures.digest c.finalize.ensures in
-    let read = all_read s o h joined.0 c.finalize.result old now mid new end body c.in_ok-digest_from.ensures.read c.in_ok-end_from.ensures.read in
-    let saver : c.eq.result ≡ (h.origin == o) = c.eq.ensures ∙ ap (λ (n : ℕ). h.origin == n) (c.origin.ensures ∙ joined.1.origin) in
-    let used : (h.origin == o) || is_among o joined.0 ≡ true = (λ i. sym saver i || sym joined.1.any i) ∙ either_used c.eq.result c.in_ok-has_own.has_own c.then-eq.either in
+    let body = body_read s h joined.0 c.finalize.result old now mid c.new-hasher.result c.head_from.new.hasher
+    c.join_cells_after.new.hasher head joined.2 c.new-hasher.ensures c.in_ok-head.ensures.digest
+    c.in_ok-has_own.ensures.digest c.finalize.ensures in
+    let read = all_read s o h joined.0 c.finalize.result old now mid new end body c.in_ok-digest_from.ensures.read
+    c.in_ok-end_from.ensures.read in
+    let saver : c.eq.result ≡ (h.origin == o) = c.eq.ensures
+    ∙ ap (λ (n : ℕ). h.origin == n) (c.origin.ensures ∙ joined.1.origin) in
+    let used : (h.origin == o) || is_among o joined.0 ≡ true = (λ i. sym saver i || sym joined.1.any i)
+    ∙ either_used c.eq.result c.in_ok-has_own.has_own c.then-eq.either in
     used_origin s o h joined.0 old used read
 
 pub returns-clause-read : goal.returns-clause-read
@@ -92,33 +105,74 @@ returns-clause-read g c =
     let s = c.args.schema.now in
     let joined = c.in_ok-has_own.ensures.read in
     let head = c.in_ok-head.ensures.read in
-    let body = body_read s h joined.0 c.finalize.result old now mid c.new-hasher.result c.head_from.new.hasher c.join_cells_after.new.hasher head joined.2 c.new-hasher.ensures c.in_ok-head.ensures.digest c.in_ok-has_own.ensures.digest c.finalize.ensures in
-    let read = all_read s o h joined.0 c.finalize.result old now mid new end body c.in_ok-digest_from.ensures.read c.in_ok-end_from.ensures.read in
-    let saver : c.eq.result ≡ (h.origin == o) = c.eq.ensures ∙ ap (λ (n : ℕ). h.origin == n) (c.origin.ensures ∙ joined.1.origin) in
-    let free : (h.origin == o) || is_among o joined.0 ≡ false = (λ i. sym saver i || sym joined.1.any i) ∙ or_from c.eq.result c.in_ok-has_own.has_own c.if-eq.false c.if-has_own.false in
-    let held_none : held c.args.replica.now ≡ record { schema = s; origin = o; next = 1; cells = empty } = λ i. record { schema = c.requires.schema i; origin = o; next = c.requires.next i; cells = c.requires.cells i } in
-    let is = joined_replica s h.addition o (held c.args.replica.now) (held c.join_cells_after.new.replica) c.in_ok-has_own.has_own joined.0 held_none joined.1 c.if-has_own.false in
+    let body = body_read s h joined.0 c.finalize.result old now mid c.new-hasher.result c.head_from.new.hasher
+    c.join_cells_after.new.hasher head joined.2 c.new-hasher.ensures c.in_ok-head.ensures.digest
+    c.in_ok-has_own.ensures.digest c.finalize.ensures in
+    let read = all_read s o h joined.0 c.finalize.result old now mid new end body c.in_ok-digest_from.ensures.read
+    c.in_ok-end_from.ensures.read in
+    let saver : c.eq.result ≡ (h.origin == o) = c.eq.ensures
+    ∙ ap (λ (n : ℕ). h.origin == n) (c.origin.ensures ∙ joined.1.origin) in
+    let free : (h.origin == o) || is_among o joined.0 ≡ false = (λ i. sym saver i || sym joined.1.any i)
+    ∙ or_from c.eq.result c.in_ok-has_own.has_own c.if-eq.false c.if-has_own.false in
+    let held_none : replica_state c.args.replica.now ≡ record { schema = s; origin = o; next = 1; cells = empty } =
+    λ i. record { schema = c.requires.schema i; origin = o; next = c.requires.next i; cells = c.requires.cells i }
+    in
+    let is = joined_replica s h.addition o (replica_state c.args.replica.now)
+    (replica_state c.join_cells_after.new.replica) c.in_ok-has_own.has_own joined.0 held_none joined.1
+    c.if-has_own.false in
     new_origin s o h joined.0 c.join_cells_after.new.replica old free is read
 
 pub returns-in_err-has_own-clause-front : goal.returns-in_err-has_own-clause-front
 returns-in_err-has_own-clause-front g c =
-    read_then (g.R.Read.remaining (inner_of c.args.input.now)) (g.R.Read.remaining (inner_of c.head_from.new.input)) (g.R.Read.remaining (inner_of c.join_cells_after.new.input)) c.head_from.ensures.front c.join_cells_after.ensures.front
+    read_then (g.R.Read.remaining (inner_of c.args.input.now)) (g.R.Read.remaining (inner_of c.head_from.new.input))
+    (g.R.Read.remaining (inner_of c.join_cells_after.new.input)) c.head_from.ensures.front
+    c.join_cells_after.ensures.front
 
 pub returns-in_err-digest_from-clause-front : goal.returns-in_err-digest_from-clause-front
 returns-in_err-digest_from-clause-front g c =
-    read_then (g.R.Read.remaining (inner_of c.args.input.now)) (g.R.Read.remaining (inner_of c.join_cells_after.new.input)) (g.R.Read.remaining (inner_of c.digest_from.new.input)) (read_then (g.R.Read.remaining (inner_of c.args.input.now)) (g.R.Read.remaining (inner_of c.head_from.new.input)) (g.R.Read.remaining (inner_of c.join_cells_after.new.input)) c.head_from.ensures.front c.join_cells_after.ensures.front) c.digest_from.ensures.front
+    read_then (g.R.Read.remaining (inner_of c.args.input.now))
+    (g.R.Read.remaining (inner_of c.join_cells_after.new.input))
+    (g.R.Read.remaining (inner_of c.digest_from.new.input))
+    (read_then (g.R.Read.remaining (inner_of c.args.input.now))
+    (g.R.Read.remaining (inner_of c.head_from.new.input))
+    (g.R.Read.remaining (inner_of c.join_cells_after.new.input)) c.head_from.ensures.front
+    c.join_cells_after.ensures.front) c.digest_from.ensures.front
 
 pub returns-in_err-end_from-clause-front : goal.returns-in_err-end_from-clause-front
 returns-in_err-end_from-clause-front g c =
-    read_then (g.R.Read.remaining (inner_of c.args.input.now)) (g.R.Read.remaining (inner_of c.digest_from.new.input)) (g.R.Read.remaining (inner_of c.end_from.new.input)) (read_then (g.R.Read.remaining (inner_of c.args.input.now)) (g.R.Read.remaining (inner_of c.join_cells_after.new.input)) (g.R.Read.remaining (inner_of c.digest_from.new.input)) (read_then (g.R.Read.remaining (inner_of c.args.input.now)) (g.R.Read.remaining (inner_of c.head_from.new.input)) (g.R.Read.remaining (inner_of c.join_cells_after.new.input)) c.head_from.ensures.front c.join_cells_after.ensures.front) c.digest_from.ensures.front) c.end_from.ensures.front
+    read_then (g.R.Read.remaining (inner_of c.args.input.now)) (g.R.Read.remaining (inner_of c.digest_from.new.input))
+    (g.R.Read.remaining (inner_of c.end_from.new.input))
+    (read_then (g.R.Read.remaining (inner_of c.args.input.now))
+    (g.R.Read.remaining (inner_of c.join_cells_after.new.input))
+    (g.R.Read.remaining (inner_of c.digest_from.new.input))
+    (read_then (g.R.Read.remaining (inner_of c.args.input.now))
+    (g.R.Read.remaining (inner_of c.head_from.new.input))
+    (g.R.Read.remaining (inner_of c.join_cells_after.new.input)) c.head_from.ensures.front
+    c.join_cells_after.ensures.front) c.digest_from.ensures.front) c.end_from.ensures.front
 
 pub returns-then-eq-clause-front : goal.returns-then-eq-clause-front
 returns-then-eq-clause-front g c =
-    read_then (g.R.Read.remaining (inner_of c.args.input.now)) (g.R.Read.remaining (inner_of c.digest_from.new.input)) (g.R.Read.remaining (inner_of c.end_from.new.input)) (read_then (g.R.Read.remaining (inner_of c.args.input.now)) (g.R.Read.remaining (inner_of c.join_cells_after.new.input)) (g.R.Read.remaining (inner_of c.digest_from.new.input)) (read_then (g.R.Read.remaining (inner_of c.args.input.now)) (g.R.Read.remaining (inner_of c.head_from.new.input)) (g.R.Read.remaining (inner_of c.join_cells_after.new.input)) c.head_from.ensures.front c.join_cells_after.ensures.front) c.digest_from.ensures.front) c.end_from.ensures.front
+    read_then (g.R.Read.remaining (inner_of c.args.input.now)) (g.R.Read.remaining (inner_of c.digest_from.new.input))
+    (g.R.Read.remaining (inner_of c.end_from.new.input))
+    (read_then (g.R.Read.remaining (inner_of c.args.input.now))
+    (g.R.Read.remaining (inner_of c.join_cells_after.new.input))
+    (g.R.Read.remaining (inner_of c.digest_from.new.input))
+    (read_then (g.R.Read.remaining (inner_of c.args.input.now))
+    (g.R.Read.remaining (inner_of c.head_from.new.input))
+    (g.R.Read.remaining (inner_of c.join_cells_after.new.input)) c.head_from.ensures.front
+    c.join_cells_after.ensures.front) c.digest_from.ensures.front) c.end_from.ensures.front
 
 pub returns-clause-front : goal.returns-clause-front
 returns-clause-front g c =
-    read_then (g.R.Read.remaining (inner_of c.args.input.now)) (g.R.Read.remaining (inner_of c.digest_from.new.input)) (g.R.Read.remaining (inner_of c.end_from.new.input)) (read_then (g.R.Read.remaining (inner_of c.args.input.now)) (g.R.Read.remaining (inner_of c.join_cells_after.new.input)) (g.R.Read.remaining (inner_of c.digest_from.new.input)) (read_then (g.R.Read.remaining (inner_of c.args.input.now)) (g.R.Read.remaining (inner_of c.head_from.new.input)) (g.R.Read.remaining (inner_of c.join_cells_after.new.input)) c.head_from.ensures.front c.join_cells_after.ensures.front) c.digest_from.ensures.front) c.end_from.ensures.front
+    read_then (g.R.Read.remaining (inner_of c.args.input.now)) (g.R.Read.remaining (inner_of c.digest_from.new.input))
+    (g.R.Read.remaining (inner_of c.end_from.new.input))
+    (read_then (g.R.Read.remaining (inner_of c.args.input.now))
+    (g.R.Read.remaining (inner_of c.join_cells_after.new.input))
+    (g.R.Read.remaining (inner_of c.digest_from.new.input))
+    (read_then (g.R.Read.remaining (inner_of c.args.input.now))
+    (g.R.Read.remaining (inner_of c.head_from.new.input))
+    (g.R.Read.remaining (inner_of c.join_cells_after.new.input)) c.head_from.ensures.front
+    c.join_cells_after.ensures.front) c.digest_from.ensures.front) c.end_from.ensures.front
 
 pub returns-then-eq-clause-failed : goal.returns-then-eq-clause-failed
 returns-then-eq-clause-failed g c = λ e. absurd (cc e)
@@ -127,16 +181,35 @@ pub returns-clause-failed : goal.returns-clause-failed
 returns-clause-failed g c = λ e. absurd (cc e)
 
 pub returns-in_err-digest_from-clause-count : goal.returns-in_err-digest_from-clause-count
-returns-in_err-digest_from-clause-count g c = omega (arith, c.head_from.ensures.count, c.join_cells_after.ensures.count, c.digest_from.ensures.count)
+returns-in_err-digest_from-clause-count g c = omega
+    (arith, c.head_from.ensures.count, c.join_cells_after.ensures.count, c.digest_from.ensures.count)
 
 pub returns-in_err-end_from-clause-count : goal.returns-in_err-end_from-clause-count
-returns-in_err-end_from-clause-count g c = omega (arith, c.head_from.ensures.count, c.join_cells_after.ensures.count, c.digest_from.ensures.count, c.end_from.ensures.count)
+returns-in_err-end_from-clause-count g c = omega (
+  arith,
+  c.head_from.ensures.count,
+  c.join_cells_after.ensures.count,
+  c.digest_from.ensures.count,
+  c.end_from.ensures.count,
+)
 
 pub returns-then-eq-clause-count : goal.returns-then-eq-clause-count
-returns-then-eq-clause-count g c = omega (arith, c.head_from.ensures.count, c.join_cells_after.ensures.count, c.digest_from.ensures.count, c.end_from.ensures.count)
+returns-then-eq-clause-count g c = omega (
+  arith,
+  c.head_from.ensures.count,
+  c.join_cells_after.ensures.count,
+  c.digest_from.ensures.count,
+  c.end_from.ensures.count,
+)
 
 pub returns-clause-count : goal.returns-clause-count
-returns-clause-count g c = omega (arith, c.head_from.ensures.count, c.join_cells_after.ensures.count, c.digest_from.ensures.count, c.end_from.ensures.count)
+returns-clause-count g c = omega (
+  arith,
+  c.head_from.ensures.count,
+  c.join_cells_after.ensures.count,
+  c.digest_from.ensures.count,
+  c.end_from.ensures.count,
+)
 
 pub returns-in_err-has_own-clause-memory : goal.returns-in_err-has_own-clause-memory
 returns-in_err-has_own-clause-memory g c =

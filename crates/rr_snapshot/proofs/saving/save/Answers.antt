@@ -11,54 +11,85 @@ use Rattle.rr_snapshot.proofs.saving.save.Goals as goal
 pub returns-in_err-write_piece-clause-front : goal.returns-in_err-write_piece-clause-front
 returns-in_err-write_piece-clause-front g c =
     let es = entries c.args.replica.now.cells in
-    let counted = count_is (len c.args.replica.now.cells) c.cell_count-count.result c.cell_count-count.ensures (omega (arith, c.if-count.false)) in
-    let is = piece_is c.deref.result.now c.in_ok-head.head.items c.args.replica.now.schema c.schema.result.now c.args.replica.now.origin c.origin.result _ es c.deref.ensures.value c.in_ok-head.ensures c.schema.ensures.value c.origin.ensures (omega (arith, counted, len-entries c.args.replica.now.cells)) in
+    let counted = count_is (len c.args.replica.now.cells) c.cell_count-count.result c.cell_count-count.ensures
+    (omega (arith, c.if-count.false)) in
+    let is = piece_is c.deref.result.now c.in_ok-head.head.items c.args.replica.now.schema c.schema.result.now
+    c.args.replica.now.origin c.origin.result _ es c.deref.ensures.value c.in_ok-head.ensures c.schema.ensures.value
+    c.origin.ensures (omega (arith, counted, len-entries c.args.replica.now.cells)) in
     let a = g.W.Write.contents (inner_of c.args.output.now) in
     let b = g.W.Write.contents (inner_of c.write_piece.new.output) in
-    front_of_head c.args.replica.now.schema c.args.replica.now.origin es c.deref.result.now is a b c.in_err-write_piece.ensures.front
+    front_of_head c.args.replica.now.schema c.args.replica.now.origin es c.deref.result.now is a b
+    c.in_err-write_piece.ensures.front
 
 pub returns-in_err-write_cells-clause-front : goal.returns-in_err-write_cells-clause-front
 returns-in_err-write_cells-clause-front g c =
     let es = entries c.args.replica.now.cells in
-    let counted = count_is (len c.args.replica.now.cells) c.cell_count-count.result c.cell_count-count.ensures (omega (arith, c.if-count.false)) in
-    let is = piece_is c.deref.result.now c.in_ok-head.head.items c.args.replica.now.schema c.schema.result.now c.args.replica.now.origin c.origin.result _ es c.deref.ensures.value c.in_ok-head.ensures c.schema.ensures.value c.origin.ensures (omega (arith, counted, len-entries c.args.replica.now.cells)) in
+    let counted = count_is (len c.args.replica.now.cells) c.cell_count-count.result c.cell_count-count.ensures
+    (omega (arith, c.if-count.false)) in
+    let is = piece_is c.deref.result.now c.in_ok-head.head.items c.args.replica.now.schema c.schema.result.now
+    c.args.replica.now.origin c.origin.result _ es c.deref.ensures.value c.in_ok-head.ensures c.schema.ensures.value
+    c.origin.ensures (omega (arith, counted, len-entries c.args.replica.now.cells)) in
     let a = g.W.Write.contents (inner_of c.args.output.now) in
     let b = g.W.Write.contents (inner_of c.write_piece.new.output) in
     let d = g.W.Write.contents (inner_of c.write_cells.new.output) in
-    front_of_cells c.args.replica.now.schema c.args.replica.now.origin es c.deref.result.now is a b d c.in_ok-write_piece.ensures.whole c.in_err-write_cells.ensures.front
+    front_of_cells c.args.replica.now.schema c.args.replica.now.origin es c.deref.result.now is a b d
+    c.in_ok-write_piece.ensures.whole c.in_err-write_cells.ensures.front
 
 pub returns-in_err-write_all-clause-front : goal.returns-in_err-write_all-clause-front
 returns-in_err-write_all-clause-front g c =
     let es = entries c.args.replica.now.cells in
-    let counted = count_is (len c.args.replica.now.cells) c.cell_count-count.result c.cell_count-count.ensures (omega (arith, c.if-count.false)) in
-    let is = piece_is c.deref.result.now c.in_ok-head.head.items c.args.replica.now.schema c.schema.result.now c.args.replica.now.origin c.origin.result _ es c.deref.ensures.value c.in_ok-head.ensures c.schema.ensures.value c.origin.ensures (omega (arith, counted, len-entries c.args.replica.now.cells)) in
+    let counted = count_is (len c.args.replica.now.cells) c.cell_count-count.result c.cell_count-count.ensures
+    (omega (arith, c.if-count.false)) in
+    let is = piece_is c.deref.result.now c.in_ok-head.head.items c.args.replica.now.schema c.schema.result.now
+    c.args.replica.now.origin c.origin.result _ es c.deref.ensures.value c.in_ok-head.ensures c.schema.ensures.value
+    c.origin.ensures (omega (arith, counted, len-entries c.args.replica.now.cells)) in
     let a = g.W.Write.contents (inner_of c.args.output.now) in
     let b = g.W.Write.contents (inner_of c.write_piece.new.output) in
     let d = g.W.Write.contents (inner_of c.write_cells.new.output) in
     let e = g.W.Write.contents (inner_of c.write_all.new.output) in
-    let digest = digest_is c.args.replica.now.schema c.args.replica.now.origin es c.deref.result.now is c.finalize.result (c.finalize.ensures (c.deref.result.now ++ flat_map (cell_text latest) es) (c.in_ok-write_cells.ensures.digest c.deref.result.now (c.write_piece.ensures.digest [] c.new-hasher.ensures))) in
-    front_of_digest c.args.replica.now.schema c.args.replica.now.origin es c.deref.result.now is a b d e c.finalize.result c.in_ok-write_piece.ensures.whole c.in_ok-write_cells.ensures.whole digest c.in_err-write_all.ensures.front
+    let digest = digest_is c.args.replica.now.schema c.args.replica.now.origin es c.deref.result.now is
+    c.finalize.result (c.finalize.ensures (c.deref.result.now ++ flat_map (cell_text latest) es)
+    (c.in_ok-write_cells.ensures.digest c.deref.result.now (c.write_piece.ensures.digest [] c.new-hasher.ensures)))
+    in
+    front_of_digest c.args.replica.now.schema c.args.replica.now.origin es c.deref.result.now is a b d e
+    c.finalize.result c.in_ok-write_piece.ensures.whole c.in_ok-write_cells.ensures.whole digest
+    c.in_err-write_all.ensures.front
 
 pub returns-clause-whole : goal.returns-clause-whole
 returns-clause-whole g c =
     let es = entries c.args.replica.now.cells in
-    let counted = count_is (len c.args.replica.now.cells) c.cell_count-count.result c.cell_count-count.ensures (omega (arith, c.if-count.false)) in
-    let is = piece_is c.deref.result.now c.in_ok-head.head.items c.args.replica.now.schema c.schema.result.now c.args.replica.now.origin c.origin.result _ es c.deref.ensures.value c.in_ok-head.ensures c.schema.ensures.value c.origin.ensures (omega (arith, counted, len-entries c.args.replica.now.cells)) in
+    let counted = count_is (len c.args.replica.now.cells) c.cell_count-count.result c.cell_count-count.ensures
+    (omega (arith, c.if-count.false)) in
+    let is = piece_is c.deref.result.now c.in_ok-head.head.items c.args.replica.now.schema c.schema.result.now
+    c.args.replica.now.origin c.origin.result _ es c.deref.ensures.value c.in_ok-head.ensures c.schema.ensures.value
+    c.origin.ensures (omega (arith, counted, len-entries c.args.replica.now.cells)) in
     let a = g.W.Write.contents (inner_of c.args.output.now) in
     let b = g.W.Write.contents (inner_of c.write_piece.new.output) in
     let d = g.W.Write.contents (inner_of c.write_cells.new.output) in
     let e = g.W.Write.contents (inner_of c.write_all.new.output) in
-    let digest = digest_is c.args.replica.now.schema c.args.replica.now.origin es c.deref.result.now is c.finalize.result (c.finalize.ensures (c.deref.result.now ++ flat_map (cell_text latest) es) (c.in_ok-write_cells.ensures.digest c.deref.result.now (c.write_piece.ensures.digest [] c.new-hasher.ensures))) in
-    written_whole c.args.replica.now.schema c.args.replica.now.origin es c.deref.result.now is a b d e c.finalize.result c.in_ok-write_piece.ensures.whole c.in_ok-write_cells.ensures.whole digest c.in_ok-write_all.ensures.whole
+    let digest = digest_is c.args.replica.now.schema c.args.replica.now.origin es c.deref.result.now is
+    c.finalize.result (c.finalize.ensures (c.deref.result.now ++ flat_map (cell_text latest) es)
+    (c.in_ok-write_cells.ensures.digest c.deref.result.now (c.write_piece.ensures.digest [] c.new-hasher.ensures)))
+    in
+    written_whole c.args.replica.now.schema c.args.replica.now.origin es c.deref.result.now is a b d e c.finalize.result
+    c.in_ok-write_piece.ensures.whole c.in_ok-write_cells.ensures.whole digest c.in_ok-write_all.ensures.whole
 
 pub returns-clause-front : goal.returns-clause-front
 returns-clause-front g c =
     let es = entries c.args.replica.now.cells in
-    let counted = count_is (len c.args.replica.now.cells) c.cell_count-count.result c.cell_count-count.ensures (omega (arith, c.if-count.false)) in
-    let is = piece_is c.deref.result.now c.in_ok-head.head.items c.args.replica.now.schema c.schema.result.now c.args.replica.now.origin c.origin.result _ es c.deref.ensures.value c.in_ok-head.ensures c.schema.ensures.value c.origin.ensures (omega (arith, counted, len-entries c.args.replica.now.cells)) in
+    let counted = count_is (len c.args.replica.now.cells) c.cell_count-count.result c.cell_count-count.ensures
+    (omega (arith, c.if-count.false)) in
+    let is = piece_is c.deref.result.now c.in_ok-head.head.items c.args.replica.now.schema c.schema.result.now
+    c.args.replica.now.origin c.origin.result _ es c.deref.ensures.value c.in_ok-head.ensures c.schema.ensures.value
+    c.origin.ensures (omega (arith, counted, len-entries c.args.replica.now.cells)) in
     let a = g.W.Write.contents (inner_of c.args.output.now) in
     let b = g.W.Write.contents (inner_of c.write_piece.new.output) in
     let d = g.W.Write.contents (inner_of c.write_cells.new.output) in
     let e = g.W.Write.contents (inner_of c.write_all.new.output) in
-    let digest = digest_is c.args.replica.now.schema c.args.replica.now.origin es c.deref.result.now is c.finalize.result (c.finalize.ensures (c.deref.result.now ++ flat_map (cell_text latest) es) (c.in_ok-write_cells.ensures.digest c.deref.result.now (c.write_piece.ensures.digest [] c.new-hasher.ensures))) in
-    whole_is_front a e _ (written_whole c.args.replica.now.schema c.args.replica.now.origin es c.deref.result.now is a b d e c.finalize.result c.in_ok-write_piece.ensures.whole c.in_ok-write_cells.ensures.whole digest c.in_ok-write_all.ensures.whole)
+    let digest = digest_is c.args.replica.now.schema c.args.replica.now.origin es c.deref.result.now is
+    c.finalize.result (c.finalize.ensures (c.deref.result.now ++ flat_map (cell_text latest) es)
+    (c.in_ok-write_cells.ensures.digest c.deref.result.now (c.write_piece.ensures.digest [] c.new-hasher.ensures)))
+    in
+    whole_is_front a e _ (written_whole c.args.replica.now.schema c.args.replica.now.origin es c.deref.result.now is a b
+    d e c.finalize.result c.in_ok-write_piece.ensures.whole c.in_ok-write_cells.ensures.whole digest
+    c.in_ok-write_all.ensures.whole)

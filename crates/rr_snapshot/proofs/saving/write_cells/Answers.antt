@@ -16,24 +16,33 @@ use Rattle.rr_snapshot.proofs.saving.write_cells.Goals as goal
 
 pub returns-in_default-clause-whole : goal.returns-in_default-clause-whole
 returns-in_default-clause-whole g c =
-    let all = none_left (entries c.args.replica.now.cells) c.loop.counter c.loop.next c.loop.invariant.next c.in_default.is in
-    subst (λ es. Appends (g.W.Write.contents (inner_of c.args.output.now)) (g.W.Write.contents (inner_of c.loop.output)) (flat_map (cell_text latest) es)) all c.loop.invariant.written
+    let all = none_left (entries c.args.replica.now.cells) c.loop.counter c.loop.next c.loop.invariant.next
+    c.in_default.is in
+    subst (λ es. Appends (g.W.Write.contents (inner_of c.args.output.now)) (g.W.Write.contents (inner_of c.loop.output))
+    (flat_map (cell_text latest) es)) all c.loop.invariant.written
 
 pub returns-in_default-clause-front : goal.returns-in_default-clause-front
 returns-in_default-clause-front g c =
-    let all = none_left (entries c.args.replica.now.cells) c.loop.counter c.loop.next c.loop.invariant.next c.in_default.is in
-    whole_is_front _ _ _ (subst (λ es. Appends (g.W.Write.contents (inner_of c.args.output.now)) (g.W.Write.contents (inner_of c.loop.output)) (flat_map (cell_text latest) es)) all c.loop.invariant.written)
+    let all = none_left (entries c.args.replica.now.cells) c.loop.counter c.loop.next c.loop.invariant.next
+    c.in_default.is in
+    whole_is_front _ _ _ (subst (λ es. Appends (g.W.Write.contents (inner_of c.args.output.now))
+    (g.W.Write.contents (inner_of c.loop.output)) (flat_map (cell_text latest) es)) all c.loop.invariant.written)
 
 pub returns-in_default-clause-digest : goal.returns-in_default-clause-digest
 returns-in_default-clause-digest g c =
-    let all = none_left (entries c.args.replica.now.cells) c.loop.counter c.loop.next c.loop.invariant.next c.in_default.is in
+    let all = none_left (entries c.args.replica.now.cells) c.loop.counter c.loop.next c.loop.invariant.next
+    c.in_default.is in
     λ m h. subst (λ es. Holds256 c.loop.hasher (m ++ flat_map (cell_text latest) es)) all (c.loop.invariant.digest m h)
 
 pub returns-in_err-write_cell-clause-front : goal.returns-in_err-write_cell-clause-front
 returns-in_err-write_cell-clause-front g c =
     let all = entries c.args.replica.now.cells in
-    let at : slice_get all c.loop.counter ≡ Some (seen_cell c.in-Some.cell) = sym c.loop.invariant.next ∙ ap (option_map seen_cell) c.in-Some.is in
-    cells_front (cell_text latest) all c.loop.counter (seen_cell c.in-Some.cell) (g.W.Write.contents (inner_of c.args.output.now)) (g.W.Write.contents (inner_of c.loop.output)) (g.W.Write.contents (inner_of c.write_cell.new.output)) at c.loop.invariant.written c.in_err-write_cell.ensures.front
+    let at : slice_get all c.loop.counter ≡ Some (seen_cell c.in-Some.cell) = sym c.loop.invariant.next
+    ∙ ap (option_map seen_cell) c.in-Some.is in
+    cells_front (cell_text latest) all c.loop.counter (seen_cell c.in-Some.cell)
+    (g.W.Write.contents (inner_of c.args.output.now)) (g.W.Write.contents (inner_of c.loop.output))
+    (g.W.Write.contents (inner_of c.write_cell.new.output)) at c.loop.invariant.written
+    c.in_err-write_cell.ensures.front
 
 pub loop-init : goal.loop-init
 loop-init g c = record {
@@ -48,7 +57,8 @@ loop-preserved g c =
     let all = entries c.args.replica.now.cells in
     let i = c.loop.counter in
     let cell = c.in-Some.cell in
-    let at : slice_get all i ≡ Some (seen_cell cell) = sym c.loop.invariant.next ∙ ap (option_map seen_cell) c.in-Some.is in
+    let at : slice_get all i ≡ Some (seen_cell cell) = sym c.loop.invariant.next
+    ∙ ap (option_map seen_cell) c.in-Some.is in
     let slot : to_z w64 (of_z w64 cell.slot) ≡ cell.slot = search rules in
     let more = text_more (cell_text latest) all i (seen_cell cell) at in
     let done = flat_map (cell_text latest) (take i all) in
@@ -56,9 +66,13 @@ loop-preserved g c =
     let old = g.W.Write.contents (inner_of c.args.output.now) in
     let new = g.W.Write.contents (inner_of c.write_cell.new.output) in
     record {
-      next = rw slot at c.next_cell-next.ensures.first ∙ next_of_sorted all i (seen_cell cell) (entries_sorted c.args.replica.now.cells) at;
-      written = subst (Appends old new) (sym more) (Appends-trans old (g.W.Write.contents (inner_of c.loop.output)) new done piece c.loop.invariant.written c.in_ok-write_cell.ensures.whole);
-      digest = λ m h. subst (Holds256 c.write_cell.new.hasher) (append_assoc m done piece ∙ ap (λ (l : List ℕ). m ++ l) (sym more)) (c.in_ok-write_cell.ensures.digest (m ++ done) (c.loop.invariant.digest m h));
+      next = rw slot at c.next_cell-next.ensures.first
+          ∙ next_of_sorted all i (seen_cell cell) (entries_sorted c.args.replica.now.cells) at;
+      written = subst (Appends old new) (sym more) (Appends-trans old (g.W.Write.contents (inner_of c.loop.output)) new
+          done piece c.loop.invariant.written c.in_ok-write_cell.ensures.whole);
+      digest = λ m h. subst (Holds256 c.write_cell.new.hasher)
+          (append_assoc m done piece ∙ ap (λ (l : List ℕ). m ++ l) (sym more))
+          (c.in_ok-write_cell.ensures.digest (m ++ done) (c.loop.invariant.digest m h));
       count = search rules;
     }
 
@@ -66,19 +80,24 @@ pub returns-clause-whole : goal.returns-clause-whole
 returns-clause-whole g c =
     let past = c.loop-test.false in
     let count = c.requires.count_given in
-    let all = all_taken (entries c.args.replica.now.cells) c.loop.counter (omega (arith, past, count, len-entries c.args.replica.now.cells)) in
-    subst (λ es. Appends (g.W.Write.contents (inner_of c.args.output.now)) (g.W.Write.contents (inner_of c.loop.output)) (flat_map (cell_text latest) es)) all c.loop.invariant.written
+    let all = all_taken (entries c.args.replica.now.cells) c.loop.counter
+    (omega (arith, past, count, len-entries c.args.replica.now.cells)) in
+    subst (λ es. Appends (g.W.Write.contents (inner_of c.args.output.now)) (g.W.Write.contents (inner_of c.loop.output))
+    (flat_map (cell_text latest) es)) all c.loop.invariant.written
 
 pub returns-clause-front : goal.returns-clause-front
 returns-clause-front g c =
     let past = c.loop-test.false in
     let count = c.requires.count_given in
-    let all = all_taken (entries c.args.replica.now.cells) c.loop.counter (omega (arith, past, count, len-entries c.args.replica.now.cells)) in
-    whole_is_front _ _ _ (subst (λ es. Appends (g.W.Write.contents (inner_of c.args.output.now)) (g.W.Write.contents (inner_of c.loop.output)) (flat_map (cell_text latest) es)) all c.loop.invariant.written)
+    let all = all_taken (entries c.args.replica.now.cells) c.loop.counter
+    (omega (arith, past, count, len-entries c.args.replica.now.cells)) in
+    whole_is_front _ _ _ (subst (λ es. Appends (g.W.Write.contents (inner_of c.args.output.now))
+    (g.W.Write.contents (inner_of c.loop.output)) (flat_map (cell_text latest) es)) all c.loop.invariant.written)
 
 pub returns-clause-digest : goal.returns-clause-digest
 returns-clause-digest g c =
     let past = c.loop-test.false in
     let count = c.requires.count_given in
-    let all = all_taken (entries c.args.replica.now.cells) c.loop.counter (omega (arith, past, count, len-entries c.args.replica.now.cells)) in
+    let all = all_taken (entries c.args.replica.now.cells) c.loop.counter
+    (omega (arith, past, count, len-entries c.args.replica.now.cells)) in
     λ m h. subst (λ es. Holds256 c.loop.hasher (m ++ flat_map (cell_text latest) es)) all (c.loop.invariant.digest m h)

@@ -14,7 +14,9 @@ use Rattle.rr_snapshot.proofs.saving.write_cells.Given as goal
 abbrev pub invariant-loop : goal.invariant-loop
 invariant-loop g l = record {
   next : option_map seen_cell l.next ≡ slice_get (entries l.replica.cells) l.counter;
-  written : Appends (g.W.Write.contents (inner_of l.initial.output)) (g.W.Write.contents (inner_of l.output)) (flat_map (cell_text latest) (take l.counter (entries l.replica.cells)));
-  digest : (m : List ℕ) → Holds256 l.initial.hasher m → Holds256 l.hasher (m ++ flat_map (cell_text latest) (take l.counter (entries l.replica.cells)));
+  written : Appends (g.W.Write.contents (inner_of l.initial.output)) (g.W.Write.contents (inner_of l.output))
+      (flat_map (cell_text latest) (take l.counter (entries l.replica.cells)));
+  digest : (m : List ℕ) → Holds256 l.initial.hasher m
+      → Holds256 l.hasher (m ++ flat_map (cell_text latest) (take l.counter (entries l.replica.cells)));
   count : failures_of l.initial.output ≤ failures_of l.output;
 }

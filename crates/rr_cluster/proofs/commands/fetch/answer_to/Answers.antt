@@ -9,16 +9,19 @@ use Rattle.rr_cluster.proofs.commands.fetch.answer_to.Goals as goal
 
 pub returns-in_default : goal.returns-in_default
 returns-in_default g c = λ m is.
-    no_node cell_model m c.args.node.now (parts c.args.request.now) (node_at c.args.cluster.now m is c.args.node.now None (sym c.in_default.ensures.value))
+    no_node cell_model m c.args.node.now (parts c.args.request.now)
+    (node_at c.args.cluster.now m is c.args.node.now None (sym c.in_default.ensures.value))
 
 pub returns-in_err-request : goal.returns-in_err-request
 returns-in_err-request g c = λ m is.
     let given = err_from_is_err_and c.from_residual.result c.from_residual.ensures.1 in
     let due = rw c.schema.ensures.value at c.in_err-request.ensures.value in
-    rw given.1 (fetch_refused c.args.cluster.now m is c.args.node.now (parts c.args.request.now) c.in-Some.replica.now c.in-Some.ensures.value request_view c.in_err-request.field-0.0 given.0 due given.2)
+    rw given.1 (fetch_refused c.args.cluster.now m is c.args.node.now (parts c.args.request.now) c.in-Some.replica.now
+    c.in-Some.ensures.value request_view c.in_err-request.field-0.0 given.0 due given.2)
 
 pub returns : goal.returns
 returns g c = λ m is.
     let said = rw c.schema.ensures.value at c.in_ok-request.ensures.value in
-    fetch_answered c.args.cluster.now m is c.args.node.now (parts c.args.request.now) c.in-Some.replica.now c.in-Some.ensures.value
+    fetch_answered c.args.cluster.now m is c.args.node.now (parts c.args.request.now) c.in-Some.replica.now
+    c.in-Some.ensures.value
     (request_view c.in_ok-request.request) said c.in_ok-answer_text.field-0.items c.in_ok-answer_text.ensures

@@ -14,14 +14,21 @@ returns-in_err-clock g c = λ m is.
 pub returns-in_err-lead : goal.returns-in_err-lead
 returns-in_err-lead g c = λ m is.
     let p = err_from_is_err_and c.from_residual-in_err-lead.result c.from_residual-in_err-lead.ensures.1 in
-    let lead = lead_read c.args.cluster.now m is (word_of c.args.lead) (Err c.in_err-lead.field-0.0) c.in_err-lead.ensures in
-    rw (p.1, p.2) (bad_lead m c.args.time.now (word_of c.args.lead) c.in_ok-clock.clock c.in_ok-clock.ensures c.in_err-lead.field-0.0 lead, is)
+    let lead = lead_read c.args.cluster.now m is (word_of c.args.lead) (Err c.in_err-lead.field-0.0)
+    c.in_err-lead.ensures in
+    rw (p.1, p.2) (
+      bad_lead m c.args.time.now (word_of c.args.lead) c.in_ok-clock.clock c.in_ok-clock.ensures
+          c.in_err-lead.field-0.0 lead,
+      is,
+    )
 
 pub returns : goal.returns
 returns g c = λ m is.
     let lead = lead_read c.args.cluster.now m is (word_of c.args.lead) (Ok c.in_ok-lead.lead) c.in_ok-lead.ensures in
     let back = to_z-of_z {w = w64} {z = c.in_ok-clock.clock} (search rules) in (
       record m { clock = c.in_ok-clock.clock; lead = c.in_ok-lead.lead },
-      clock_is_set m c.args.time.now (word_of c.args.lead) c.in_ok-clock.clock c.in_ok-clock.ensures c.in_ok-lead.lead lead,
-      represents_with_clock c.args.cluster.now m is _ c.in_ok-clock.clock c.in_ok-lead.lead refl back refl refl refl refl refl,
+      clock_is_set m c.args.time.now (word_of c.args.lead) c.in_ok-clock.clock c.in_ok-clock.ensures c.in_ok-lead.lead
+          lead,
+      represents_with_clock c.args.cluster.now m is _ c.in_ok-clock.clock c.in_ok-lead.lead refl back refl refl refl
+          refl refl,
     )

@@ -19,7 +19,9 @@ returns-in_default g c = λ m is.
 pub returns-in_err-snapshot : goal.returns-in_err-snapshot
 returns-in_err-snapshot g c = λ m is.
     let p = err_from_is_err_and c.from_residual.result c.from_residual.ensures.1 in
-    rw (p.1, p.2) (save_is_refused c.args.cluster.now m is c.args.name.now c.args.node.now (sym c.if-not-is_name.ensures) c.in-Some.replica.now (sym c.in-Some.ensures.value) c.in_err-snapshot.field-0.0 c.in_err-snapshot.ensures)
+    rw (p.1, p.2) (save_is_refused c.args.cluster.now m is c.args.name.now c.args.node.now
+    (sym c.if-not-is_name.ensures) c.in-Some.replica.now (sym c.in-Some.ensures.value) c.in_err-snapshot.field-0.0
+    c.in_err-snapshot.ensures)
 
 pub returns : goal.returns
 returns g c = λ m is.
@@ -31,7 +33,8 @@ returns g c = λ m is.
     let named = sym c.if-not-is_name.ensures in
     let x = snapshot_of cell_model (node_in h) in
     let bytes = c.in_ok-snapshot.snapshot in
-    let put = rw c.in_ok-name.ensures.items at (bytes_inserted old.snapshots c.insert.new.self c.in_ok-name.name bytes c.in_ok-insert.ensures.entries) in
+    let put = rw c.in_ok-name.ensures.items at (bytes_inserted old.snapshots c.insert.new.self c.in_ok-name.name bytes
+    c.in_ok-insert.ensures.entries) in
     let has = c.in_ok-snapshot.ensures in (
       _,
       node_is_saved old m is name node named h here bytes c.in_ok-snapshot.ensures,

@@ -14,12 +14,23 @@ returns-in-Some g c = λ m is.
     let here = sym c.in-Some.ensures.value in
     let written = (c.get_mut.follows.holds c.write_to.new.replica).0 in
     let back = to_z-of_z {w = w64} {z = old.clock} (search rules) in
-    leaves_written old _ m (record { schema = refl; clock = refl; lead = refl; pages = refl; snapshots = refl; origins = refl }) is name c.in-Some.replica.now c.write_to.new.replica here
-    (changed old.nodes (c.get_mut.follows.lender c.write_to.new.replica) name c.write_to.new.replica written (ap is_some here)) c.args.line.now c.write_to.result (rw back at c.write_to.ensures)
+    leaves_written old _ m (record {
+      schema = refl;
+      clock = refl;
+      lead = refl;
+      pages = refl;
+      snapshots = refl;
+      origins =
+          refl;
+    }) is name c.in-Some.replica.now c.write_to.new.replica here
+    (changed old.nodes (c.get_mut.follows.lender c.write_to.new.replica) name c.write_to.new.replica written
+    (ap is_some here)) c.args.line.now c.write_to.result (rw back at c.write_to.ensures)
 
 pub returns-in-None : goal.returns-in-None
 returns-in-None g c = λ m is.
     let same : c.get_mut.follows.lender-at-none ≡ c.args.cluster.now.nodes = c.get_mut.follows.holds-at-none in (
-      no_node cell_model m c.args.node.now c.args.line.now (node_at c.args.cluster.now m is c.args.node.now None (sym c.in-None.ensures.value)),
-      represents_same c.args.cluster.now _ m (record { schema = refl; clock = refl; lead = refl; pages = refl; snapshots = refl; origins = refl }) is same,
+      no_node cell_model m c.args.node.now c.args.line.now
+          (node_at c.args.cluster.now m is c.args.node.now None (sym c.in-None.ensures.value)),
+      represents_same c.args.cluster.now _ m (record
+          { schema = refl; clock = refl; lead = refl; pages = refl; snapshots = refl; origins = refl }) is same,
     )

@@ -29,13 +29,15 @@ high_by z s near le = omega (arith, ints)
 pub total_with-sum-requires-clause-low : goal.total_with-sum-requires-clause-low
 total_with-sum-requires-clause-low c =
     let sum : to_z w128 (of_z w128 c.args.self.now.sum) ≡ c.args.self.now.sum = search rules in
-    let few : c.args.self.now.count ≤ 2 ^ 40 = omega (arith, c.requires.counted, c.requires.newer, c.requires.known_number) in
+    let few : c.args.self.now.count ≤ 2 ^ 40 = omega
+    (arith, c.requires.counted, c.requires.newer, c.requires.known_number) in
     rw sum (low_by _ _ (times_near c.args.self.now.count c.args.self.now.min few (search rules)) c.requires.low)
 
 pub total_with-sum-requires-clause-high : goal.total_with-sum-requires-clause-high
 total_with-sum-requires-clause-high c =
     let sum : to_z w128 (of_z w128 c.args.self.now.sum) ≡ c.args.self.now.sum = search rules in
-    let few : c.args.self.now.count ≤ 2 ^ 40 = omega (arith, c.requires.counted, c.requires.newer, c.requires.known_number) in
+    let few : c.args.self.now.count ≤ 2 ^ 40 = omega
+    (arith, c.requires.counted, c.requires.newer, c.requires.known_number) in
     rw sum (high_by _ _ (times_near c.args.self.now.count c.args.self.now.max few (search rules)) c.requires.high)
 
 pub returns-clause-value : goal.returns-clause-value
@@ -44,8 +46,11 @@ returns-clause-value c =
     let least : to_z w64 (of_z w64 c.min.result) ≡ int_min c.args.self.now.min c.args.value = search rules in
     let most : to_z w64 (of_z w64 c.max.result) ≡ int_max c.args.self.now.max c.args.value = search rules in
     let time : to_z w64 (of_z w64 c.max-2.result) ≡ int_max c.args.self.now.last_time c.args.time = search rules in
-    let last : to_z w64 (of_z w64 c.last_value_with-last_value.result) ≡ cond (int_lt c.args.time c.args.self.now.last_time) c.args.self.now.last_value c.args.value = search rules in
-    let mask : bit_or c.args.self.now.mask (1 * 2 ^ c.args.place % 2 ^ width) ≡ bit_or c.args.self.now.mask (2 ^ c.args.place) = ap (bit_or c.args.self.now.mask) (one_shl c.args.place width c.requires.place) in
+    let last : to_z w64 (of_z w64 c.last_value_with-last_value.result)
+    ≡ cond (int_lt c.args.time c.args.self.now.last_time) c.args.self.now.last_value c.args.value = search rules in
+    let mask : bit_or c.args.self.now.mask (1 * 2 ^ c.args.place % 2 ^ width)
+    ≡ bit_or c.args.self.now.mask (2 ^ c.args.place) =
+    ap (bit_or c.args.self.now.mask) (one_shl c.args.place width c.requires.place) in
     λ i. record {
       version = c.args.number;
       count = c.args.self.now.count + 1;
@@ -60,9 +65,11 @@ returns-clause-value c =
 pub returns-clause-samples : goal.returns-clause-samples
 returns-clause-samples c =
     let x = slot_sample c.args.number c.args.place c.args.time c.args.value in
-    λ xs is. subst (λ r. contribution_of (x ∷ xs) ≡ Some r) (sym (returns-clause-value c)) (contribution_of-more x xs c.args.self.now is c.requires.newer)
+    λ xs is. subst (λ r. contribution_of (x ∷ xs) ≡ Some r) (sym (returns-clause-value c))
+    (contribution_of-more x xs c.args.self.now is c.requires.newer)
 
 pub returns-clause-valid : goal.returns-clause-valid
 returns-clause-valid c =
     let x = slot_sample c.args.number c.args.place c.args.time c.args.value in
-    subst (λ r. KeepsValid x c.args.self.now r) (sym (returns-clause-value c)) (keeps_valid c.args.self.now x c.requires.some_number c.requires.known_number c.requires.newer)
+    subst (λ r. KeepsValid x c.args.self.now r) (sym (returns-clause-value c))
+    (keeps_valid c.args.self.now x c.requires.some_number c.requires.known_number c.requires.newer)

@@ -34,4 +34,5 @@ returns-clause-samples c =
 pub returns-clause-valid : goal.returns-clause-valid
 returns-clause-valid c =
     let x = slot_sample c.args.number c.args.place c.args.time c.args.value in
-    subst (λ r. StartsValid x r) (sym (returns-clause-value c)) (starts_valid x c.requires.some_number c.requires.known_number)
+    subst (λ r. StartsValid x r) (sym (returns-clause-value c))
+    (starts_valid x c.requires.some_number c.requires.known_number)

@@ -6,5 +6,6 @@ use Rattle.rr_contrib.proofs.contribution.ContributionJoin.join.Goals as goal
 
 pub returns : goal.returns
 returns c =
-    let kept : Some c.join_max.result ≡ Some (ord_max contribution_cmp c.args.self.now c.args.other.now) = c.join_max.ensures.merged contribution_cmp-IsAntisymmetric in
+    let kept : Some c.join_max.result ≡ Some (ord_max contribution_cmp c.args.self.now c.args.other.now) =
+    c.join_max.ensures.merged contribution_cmp-IsAntisymmetric in
     cc

@@ -10,7 +10,9 @@ returns-clause-begins c e =
     let both = c.learn.new.self.log in
     let mine = c.self.inside in
     let its = c.other.inside in
-    let this : IsPrefix mine.seen.log both = subst (λ (l : List (List Op)). IsPrefix l both) (ap (λ s. s.log) c.again-both.ensures) c.learn.ensures.2 in
+    let this : IsPrefix mine.seen.log both = subst (λ (l : List (List Op)). IsPrefix l both)
+    (ap (λ s. s.log) c.again-both.ensures) c.learn.ensures.2 in
     let less : mine.count ≤ its.count = grind (arith, nat_tests) in
     let short : length mine.seen.log ≤ length its.seen.log = omega (arith, c.self.invariant, c.other.invariant) in
-    rw (← ap (λ s. s.editions) c.self.view_is, ← ap (λ s. s.editions) c.other.view_is) (prefix_short mine.seen.log its.seen.log both this c.learn.ensures.3 short)
+    rw (← ap (λ s. s.editions) c.self.view_is, ← ap (λ s. s.editions) c.other.view_is)
+    (prefix_short mine.seen.log its.seen.log both this c.learn.ensures.3 short)

@@ -13,5 +13,6 @@ compare_exchange-found-requires g c =
       ap (λ s. s.book) seen ∙ (sym same ∙ sym (ap (λ w. w.book) h)),
       pen.0 ∙ (ap (λ s. s.book) seen ∙ (sym same ∙ sym (ap (λ w. w.book) h))),
       offer.0,
-      rw (ap (λ w. w.key) h, pen.1, offer.3, seen) (adds_moves c.self.inside.seen.log g.K.Batch.batch g.K.Batch.batch c.self.inside.count (sym c.self.invariant)),
+      rw (ap (λ w. w.key) h, pen.1, offer.3, seen) (adds_moves c.self.inside.seen.log g.K.Batch.batch g.K.Batch.batch
+          c.self.inside.count (sym c.self.invariant)),
     )

@@ -1,4 +1,4 @@
-use Rattle.rr_copies.proofs.StandingLemmas.{own-state}
+use Rattle.rr_copies.proofs.KeeperStateLemmas.{own-state}
 use Rattle.rr_copies.proofs.copies.Copies.close.Goals as goal
 
 pub returns : goal.returns

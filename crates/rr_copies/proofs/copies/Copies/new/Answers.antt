@@ -1,4 +1,4 @@
-use Rattle.rr_copies.proofs.StandingLemmas.{keeper-open}
+use Rattle.rr_copies.proofs.KeeperStateLemmas.{keeper-open}
 use Rattle.rr_copies.proofs.copies.Copies.new.Goals as goal
 
 pub invariant_of-result : goal.invariant_of-result

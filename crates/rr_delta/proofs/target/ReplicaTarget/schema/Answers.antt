@@ -1,7 +1,7 @@
 use Rattle.std.proofs.lemmas.List.Elements.{All-from_recursion}
 use Rattle.rr_cells.proofs.HeldCells.{all_held}
-use Rattle.rr_replica.specs.Standing.{held}
+use Rattle.rr_replica.specs.ReplicaWithRoom.{replica_state}
 use Rattle.rr_delta.proofs.target.ReplicaTarget.schema.Goals as goal
 
 pub returns-clause-of_schema : goal.returns-clause-of_schema
-returns-clause-of_schema g c = All-from_recursion _ _ (all_held (held c.args.self.now) c.schema.ensures.holds)
+returns-clause-of_schema g c = All-from_recursion _ _ (all_held (replica_state c.args.self.now) c.schema.ensures.holds)

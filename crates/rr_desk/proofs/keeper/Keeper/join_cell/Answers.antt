@@ -9,5 +9,7 @@ use Rattle.rr_desk.proofs.keeper.Keeper.join_cell.Goals as goal
 pub push-requires : goal.push-requires
 push-requires g c =
     let s = c.args.self.now.schema in
-    let may = subst (λ (x : Cell). is_cell_of s (owned_cell x) ≡ true) (sym (c.in_ok-copy.ensures)) (cell_is_taken s (owned_cell c.args.cell.now) c.requires) in
-    subst (λ (l : Layout). is_cell_of l (owned_cell c.in_ok-copy.field-0) ≡ true) (sym (ap (λ k. k.schema) c.self.view_is)) may
+    let may = subst (λ (x : Cell). is_cell_of s (owned_cell x) ≡ true) (sym (c.in_ok-copy.ensures))
+    (cell_is_taken s (owned_cell c.args.cell.now) c.requires) in
+    subst (λ (l : Layout). is_cell_of l (owned_cell c.in_ok-copy.field-0) ≡ true)
+    (sym (ap (λ k. k.schema) c.self.view_is)) may

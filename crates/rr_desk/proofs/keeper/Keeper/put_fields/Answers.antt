@@ -10,7 +10,7 @@ use Rattle.rr_point.specs.Point.{field_view, point_view}
 use Rattle.rr_point.specs.declared.point.Field.{Field}
 use Rattle.rr_replica.proofs.FieldLemmas.{field_at, take-view, failed, passed}
 use Rattle.rr_desk.specs.Points.{with_put, with_puts}
-use Rattle.rr_copies.specs.Standing.{KeeperState}
+use Rattle.rr_copies.specs.KeeperState.{KeeperState}
 use Rattle.rr_desk.proofs.PointsLemmas.{with_puts-more}
 use Rattle.rr_desk.proofs.keeper.Keeper.put_fields.Goals as goal
 
@@ -19,7 +19,9 @@ put_field-requires-clause-keyed g c =
     let p = point_view c.args.point.now in
     let any : Field = record { key = record { ref_ptr = (0, 0); now = [] }; value = pos 0 } in
     let Keyed : List ℕ × ℤ → Type 0 = λ field. making_fault (names_of p field.0) ≡ None in
-    let keyed : AllByRecursion Keyed (map field_view c.deref-field-items.result.now) = subst (λ (items : List Field). AllByRecursion Keyed (map field_view items)) (sym c.deref-field-items.ensures.value) c.requires.keyed in
+    let keyed : AllByRecursion Keyed (map field_view c.deref-field-items.result.now) =
+    subst (λ (items : List Field). AllByRecursion Keyed (map field_view items))
+    (sym c.deref-field-items.ensures.value) c.requires.keyed in
     field_at Keyed field_view c.deref-field-items.result.now c.loop-field.field-index any keyed c.loop-field-test.true
 
 pub returns-then-is_err-clause-refused : goal.returns-then-is_err-clause-refused
@@ -28,9 +30,11 @@ returns-then-is_err-clause-refused g c =
     let back = to_z-of_z {w = w64} {z = c.args.time} (search rules) in
     let same = failed c.put_field.result c.put_field.ensures.unchanged c.if-is_err.ensures.value in
     let state = rw back at c.loop-field.invariant.put in
-    let first : map field_view (take c.loop-field.field-index c.deref-field-items.result.now) ≡ take c.loop-field.put (map field_view c.args.point.now.fields.items) =
+    let first : map field_view (take c.loop-field.field-index c.deref-field-items.result.now)
+    ≡ take c.loop-field.put (map field_view c.args.point.now.fields.items) =
     take-view field_view c.loop-field.field-index c.deref-field-items.result.now
-    ∙ ap (λ (items : List Field). take c.loop-field.field-index (map field_view items)) c.deref-field-items.ensures.value
+    ∙ ap (λ (items : List Field). take c.loop-field.field-index (map field_view items))
+    c.deref-field-items.ensures.value
     ∙ ap (λ (k : ℕ). take k (map field_view c.args.point.now.fields.items)) (sym c.loop-field.invariant.counted) in
     (c.loop-field.put, refl, same ∙ state ∙ ap (with_puts c.args.self.now p c.args.time) first)
 
@@ -49,5 +53,7 @@ loop-field-preserved g c =
     record {
       counted = omega (arith, c.loop-field.invariant.counted);
       numbered = omega (arith, next, c.loop-field.invariant.numbered);
-      put = rw back (written ∙ ap (λ (k : KeeperState). with_put k (key_text p field.0) c.args.time field.1) state ∙ sym (with_puts-more c.args.self.now p c.args.time before field) ∙ ap (with_puts c.args.self.now p c.args.time) (sym more));
+      put = rw back (written ∙ ap (λ (k : KeeperState). with_put k (key_text p field.0) c.args.time field.1) state
+          ∙ sym (with_puts-more c.args.self.now p c.args.time before field)
+          ∙ ap (with_puts c.args.self.now p c.args.time) (sym more));
     }

@@ -8,5 +8,6 @@ abbrev pub invariant-loop-field : goal.invariant-loop-field
 invariant-loop-field g l = record {
   counted : l.put ≡ l.field-index;
   numbered : l.self.next ≡ l.initial.self.next + l.field-index;
-  put : l.self ≡ with_puts l.initial.self (point_view l.point) l.time (map field_view (take l.field-index l.field-items));
+  put : l.self ≡ with_puts l.initial.self (point_view l.point) l.time
+      (map field_view (take l.field-index l.field-items));
 }

@@ -5,23 +5,27 @@ use Rattle.rr_io.specs.Counted.{inner_of}
 use Rattle.rr_io.specs.Stream.{AppendsPrefix}
 use Rattle.rr_page.specs.Version.{latest}
 use Rattle.rr_cells.specs.Cells.{Cells}
-use Rattle.rr_cells.specs.Holding.{Holding}
+use Rattle.rr_cells.specs.ReplicaState.{ReplicaState}
 use Rattle.rr_parts.specs.Snapshot.{snapshot_text}
 use Rattle.rr_parts.specs.declared.fault.SaveFault.TheVariants.{TooManyCells}
 use Rattle.rr_parts.specs.declared.heading.TheConstants.{MAX_SNAPSHOT_CELLS}
-use Rattle.rr_copies.specs.Standing.{cells_of, holding_of}
+use Rattle.rr_copies.specs.KeeperState.{cells_of, own_replica}
 use Rattle.rr_desk.proofs.keeper.Keeper.save.Goals as goal
 
 pub returns-clause-whole : goal.returns-clause-whole
 returns-clause-whole g c =
-    subst (λ (h : Holding). OnOk c.save.result (Appends (g.W.Write.contents (inner_of c.args.output.now)) (g.W.Write.contents (inner_of c.save.new.output)) (snapshot_text latest h.schema h.origin (entries h.cells))))
-    (c.replica.ensures.holding ∙ ap holding_of c.self.view_is) c.save.ensures.whole
+    subst (λ (h : ReplicaState). OnOk c.save.result
+    (Appends (g.W.Write.contents (inner_of c.args.output.now)) (g.W.Write.contents (inner_of c.save.new.output))
+    (snapshot_text latest h.schema h.origin (entries h.cells))))
+    (c.replica.ensures.state ∙ ap own_replica c.self.view_is) c.save.ensures.whole
 
 pub returns-clause-front : goal.returns-clause-front
 returns-clause-front g c =
-    subst (λ (h : Holding). AppendsPrefix (g.W.Write.contents (inner_of c.args.output.now)) (g.W.Write.contents (inner_of c.save.new.output)) (snapshot_text latest h.schema h.origin (entries h.cells)))
-    (c.replica.ensures.holding ∙ ap holding_of c.self.view_is) c.save.ensures.front
+    subst (λ (h : ReplicaState). AppendsPrefix (g.W.Write.contents (inner_of c.args.output.now))
+    (g.W.Write.contents (inner_of c.save.new.output)) (snapshot_text latest h.schema h.origin (entries h.cells)))
+    (c.replica.ensures.state ∙ ap own_replica c.self.view_is) c.save.ensures.front
 
 pub returns-clause-too_many : goal.returns-clause-too_many
 returns-clause-too_many g c =
-    subst (λ (m : Cells). (c.save.result ≡ Err TooManyCells) ↔ (MAX_SNAPSHOT_CELLS < len m)) (c.replica.ensures.cells ∙ ap cells_of c.self.view_is) c.save.ensures.too_many
+    subst (λ (m : Cells). (c.save.result ≡ Err TooManyCells) ↔ (MAX_SNAPSHOT_CELLS < len m))
+    (c.replica.ensures.cells ∙ ap cells_of c.self.view_is) c.save.ensures.too_many

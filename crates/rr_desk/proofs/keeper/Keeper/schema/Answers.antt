@@ -1,7 +1,8 @@
 use Rattle.std.proofs.Common.{subst, ap, ◌∙◌}
-use Rattle.rr_cells.specs.Holding.{IsHolding}
-use Rattle.rr_copies.specs.Standing.{holding_of}
+use Rattle.rr_cells.specs.ReplicaState.{IsReplicaState}
+use Rattle.rr_copies.specs.KeeperState.{own_replica}
 use Rattle.rr_desk.proofs.keeper.Keeper.schema.Goals as goal
 
 pub returns-clause-holds : goal.returns-clause-holds
-returns-clause-holds g c = subst IsHolding (c.replica.ensures.holding ∙ ap holding_of c.self.view_is) c.schema.ensures.holds
+returns-clause-holds g c = subst IsReplicaState (c.replica.ensures.state ∙ ap own_replica c.self.view_is)
+    c.schema.ensures.holds

@@ -10,14 +10,18 @@ overflow_add-result-2 c =
     let more = c.args.contribution.now in
     let total : to_z w128 (of_z w128 c.args.self.total) ≡ c.args.self.total = search rules in
     let sum : to_z w128 (of_z w128 more.sum) ≡ more.sum = search rules in
-    let is = bounded_with c.args.self.count more.count c.args.self.total more.sum more.min more.max c.requires.bounded (search rules) (search rules) c.requires.summable.low c.requires.summable.high in
-    let few : c.args.self.count + more.count ≤ 65537 * 2 ^ 40 = omega (arith, c.requires.count_fits, c.requires.summable.few) in
+    let is = bounded_with c.args.self.count more.count c.args.self.total more.sum more.min more.max c.requires.bounded
+    (search rules) (search rules) c.requires.summable.low c.requires.summable.high in
+    let few : c.args.self.count + more.count ≤ 65537 * 2 ^ 40 =
+    omega (arith, c.requires.count_fits, c.requires.summable.few) in
     rw (total, sum) (bounded_fits _ _ few is)
 
-bounded : (c : goal.After-struct_told-2-1) → IsBounded (c.args.self.count + c.args.contribution.now.count) (c.args.self.total +ℤ c.args.contribution.now.sum)
+bounded : (c : goal.After-struct_told-2-1) → IsBounded (c.args.self.count + c.args.contribution.now.count)
+    (c.args.self.total +ℤ c.args.contribution.now.sum)
 bounded c =
     let more = c.args.contribution.now in
-    bounded_with c.args.self.count more.count c.args.self.total more.sum more.min more.max c.requires.bounded (search rules) (search rules) c.requires.summable.low c.requires.summable.high
+    bounded_with c.args.self.count more.count c.args.self.total more.sum more.min more.max c.requires.bounded
+    (search rules) (search rules) c.requires.summable.low c.requires.summable.high
 
 pub returns-clause-total : goal.returns-clause-total
 returns-clause-total c =
@@ -26,4 +30,5 @@ returns-clause-total c =
     omega (arith, ints)
 
 pub returns-clause-bounded : goal.returns-clause-bounded
-returns-clause-bounded c = subst (IsBounded (c.args.self.count + c.args.contribution.now.count)) (sym (returns-clause-total c)) (bounded c)
+returns-clause-bounded c = subst (IsBounded (c.args.self.count + c.args.contribution.now.count))
+    (sym (returns-clause-total c)) (bounded c)

@@ -12,13 +12,15 @@ pub encode-requires : goal.encode-requires
 encode-requires c =
     let p = c.self.inside in
     let is = c.part-cells.ensures ∙ ap (λ l. take MAX_PAGE_CELLS (drop p.sent l)) c.deref.ensures.value in
-    subst (IsPage p.schema) (sym (cut p.cells.items c.part-cells.result.now p.sent is)) (left_page p.schema (drop p.sent (map owned_cell p.cells.items)) c.self.invariant)
+    subst (IsPage p.schema) (sym (cut p.cells.items c.part-cells.result.now p.sent is))
+    (left_page p.schema (drop p.sent (map owned_cell p.cells.items)) c.self.invariant)
 
 pub invariant_of-self : goal.invariant_of-self
 invariant_of-self c =
     let p = c.self.inside in
     let is = c.part-cells.ensures ∙ ap (λ l. take MAX_PAGE_CELLS (drop p.sent l)) c.deref.ensures.value in
-    subst (λ es. AreLeft (p.schema, es)) (sym (cut_off p.cells.items c.part-cells.result.now p.sent is)) (left_after p.schema (drop p.sent (map owned_cell p.cells.items)) c.self.invariant)
+    subst (λ es. AreLeft (p.schema, es)) (sym (cut_off p.cells.items c.part-cells.result.now p.sent is))
+    (left_after p.schema (drop p.sent (map owned_cell p.cells.items)) c.self.invariant)
 
 pub returns-clause-page : goal.returns-clause-page
 returns-clause-page c =
@@ -39,5 +41,7 @@ pub returns-clause-fits : goal.returns-clause-fits
 returns-clause-fits c =
     let p = c.self.inside in
     let is = c.part-cells.ensures ∙ ap (λ l. take MAX_PAGE_CELLS (drop p.sent l)) c.deref.ensures.value in
-    let page = subst (IsPage p.schema) (sym (cut p.cells.items c.part-cells.result.now p.sent is)) (left_page p.schema (drop p.sent (map owned_cell p.cells.items)) c.self.invariant) in
-    subst (λ l. length l < MAX_FRAME_LEN) (sym c.in_ok-page.ensures) (page_fits p.schema (map owned_cell c.part-cells.result.now) c.archives-archives.ensures.within page)
+    let page = subst (IsPage p.schema) (sym (cut p.cells.items c.part-cells.result.now p.sent is))
+    (left_page p.schema (drop p.sent (map owned_cell p.cells.items)) c.self.invariant) in
+    subst (λ l. length l < MAX_FRAME_LEN) (sym c.in_ok-page.ensures)
+    (page_fits p.schema (map owned_cell c.part-cells.result.now) c.archives-archives.ensures.within page)

@@ -7,12 +7,17 @@ use Rattle.rr_gossip.proofs.puller.Stage.next_frame.Goals as goal
 
 pub frame_bytes-requires : goal.frame_bytes-requires
 frame_bytes-requires g c =
-    subst (λ l. length l < MAX_FRAME_LEN) (sym (c.deref.ensures.value ∙ c.in_ok-own-in-Opening.ensures ∙ ap schema_bytes c.schema.ensures.value)) (schema_fits (g.T.Target.layout c.args.target.now) c.schema.ensures.within)
+    subst (λ l. length l < MAX_FRAME_LEN) (sym (c.deref.ensures.value ∙ c.in_ok-own-in-Opening.ensures
+    ∙ ap schema_bytes c.schema.ensures.value)) (schema_fits (g.T.Target.layout c.args.target.now)
+    c.schema.ensures.within)
 
 pub listed-requires-clause-names_fit : goal.listed-requires-clause-names_fit
-listed-requires-clause-names_fit g c = few_listed c.in_ok-names-in-Listing.names.items MAX_ENTRIES _ c.in_ok-names-in-Listing.ensures.listed
+listed-requires-clause-names_fit g c = few_listed c.in_ok-names-in-Listing.names.items MAX_ENTRIES _
+    c.in_ok-names-in-Listing.ensures.listed
 
 pub listed-requires-clause-fits : goal.listed-requires-clause-fits
 listed-requires-clause-fits g c =
     let names = c.in_ok-names-in-Listing.names.items in
-    summary_fits (g.T.Target.layout c.args.target.now) names (few_listed names MAX_ENTRIES _ c.in_ok-names-in-Listing.ensures.listed) c.in_ok-names-in-Listing.ensures.of_schema
+    summary_fits (g.T.Target.layout c.args.target.now) names
+    (few_listed names MAX_ENTRIES _ c.in_ok-names-in-Listing.ensures.listed)
+    c.in_ok-names-in-Listing.ensures.of_schema

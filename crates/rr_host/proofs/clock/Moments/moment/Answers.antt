@@ -9,7 +9,8 @@ pub returns-in-Some : goal.returns-in-Some
 returns-in-Some c =
     let inside = c.self.inside in
     let xs = inside.moments.items in
-    let place : c.min-place.result ≡ min inside.asked (length xs - 1) = omega (arith, c.min-place.ensures, c.saturating_sub.ensures, c.len.ensures) in
+    let place : c.min-place.result ≡ min inside.asked (length xs - 1) =
+    omega (arith, c.min-place.ensures, c.saturating_sub.ensures, c.len.ensures) in
     let looked = c.in-Some.ensures.lookup.3.1 (pos 0) in
     let view = ap (λ (m : MomentsState). moment_at m.moments m.asked) c.self.view_is in
     to_z-of_z {w = w64} {z = c.in-Some.moment.now} (search rules)

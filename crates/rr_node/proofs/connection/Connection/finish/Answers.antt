@@ -3,7 +3,7 @@ use Rattle.std.proofs.lemmas.List.{append-nil}
 use Rattle.std.proofs.lemmas.Result.{err_from_is_err_and}
 use Rattle.std.proofs.KnownBytes.{Appends-trans}
 use Rattle.rr_io.specs.Counted.{inner_of}
-use Rattle.rr_copies.specs.Standing.{KeeperState}
+use Rattle.rr_copies.specs.KeeperState.{KeeperState}
 use Rattle.rr_feed.specs.Feed.{FeedState}
 use Rattle.rr_node.specs.declared.rules.Rules.{Rules}
 use Rattle.rr_node.specs.Connection.{ComesAfter, IsWhole, Stops}
@@ -19,8 +19,11 @@ returns-in_err-answer_lines-clause-stopped g c =
       stopped.0,
       stopped.1,
       λ start pushed said text first has appends.
-          let last = HasServed-end c.args.self.now _ start c.args.keeper.now pushed text said c.end.ensures (record { lines = refl; report = refl; rules = refl }) has in
-          stops_of _ c.args.self.now.rules start _ (ComesAfter c.end.new.self pushed) (λ bytes. bytes ≡ pushed) (said ++ stopped.0) first _ refl (comes_at_end c.end.new.self pushed) (stopped.2 start pushed said text first last appends),
+          let last = HasServed-end c.args.self.now _ start c.args.keeper.now pushed text said c.end.ensures
+          (record { lines = refl; report = refl; rules = refl }) has in
+          stops_of _ c.args.self.now.rules start _ (ComesAfter c.end.new.self pushed) (λ bytes. bytes ≡ pushed)
+          (said ++ stopped.0) first _ refl (comes_at_end c.end.new.self pushed)
+          (stopped.2 start pushed said text first last appends),
     )
 
 pub returns-in_err-publish-clause-stopped : goal.returns-in_err-publish-clause-stopped
@@ -32,15 +35,21 @@ returns-in_err-publish-clause-stopped g c =
       served.0,
       served.2,
       λ start pushed said text first has appends.
-          let last = HasServed-end c.args.self.now _ start c.args.keeper.now pushed text said c.end.ensures (record { lines = refl; report = refl; rules = refl }) has in
-          let stops = stops_answering _ c.answer_lines.new.self start c.args.keeper.now c.answer_lines.new.keeper pushed text served.1 said served.0 first _ since served.4 last appends (served.1, [], sym (append-nil served.1), served.3) in
-          subst (λ (k : KeeperState). Stops c.args.self.now.rules start k (λ bytes. bytes ≡ pushed) (said ++ served.0) first since) (sym c.in_err-publish.ensures.unchanged)
-          (stops_of _ c.args.self.now.rules start c.answer_lines.new.keeper (ComesAfter c.end.new.self pushed) (λ bytes. bytes ≡ pushed) (said ++ served.0) first since refl (comes_at_end c.end.new.self pushed) stops),
+          let last = HasServed-end c.args.self.now _ start c.args.keeper.now pushed text said c.end.ensures
+          (record { lines = refl; report = refl; rules = refl }) has in
+          let stops = stops_answering _ c.answer_lines.new.self start c.args.keeper.now c.answer_lines.new.keeper pushed
+          text served.1 said served.0 first _ since served.4 last appends
+          (served.1, [], sym (append-nil served.1), served.3) in
+          subst (λ (k : KeeperState). Stops c.args.self.now.rules start k (λ bytes. bytes ≡ pushed) (said ++ served.0)
+          first since) (sym c.in_err-publish.ensures.unchanged)
+          (stops_of _ c.args.self.now.rules start c.answer_lines.new.keeper (ComesAfter c.end.new.self pushed)
+          (λ bytes. bytes ≡ pushed) (said ++ served.0) first since refl (comes_at_end c.end.new.self pushed) stops),
     )
 
 pub returns-in_err-send_report-clause-stopped : goal.returns-in_err-send_report-clause-stopped
 returns-in_err-send_report-clause-stopped g c =
-    let given = err_from_is_err_and c.from_residual-in_err-send_report.result c.from_residual-in_err-send_report.ensures.1 in
+    let given = err_from_is_err_and c.from_residual-in_err-send_report.result
+    c.from_residual-in_err-send_report.ensures.1 in
     let served = c.in_ok-answer_lines.ensures.served in
     let new = c.answer_lines.new.self in
     let ended = served.4.ended ∙ ap (λ (s : FeedState). s.ended) c.end.ensures in
@@ -48,10 +57,20 @@ returns-in_err-send_report-clause-stopped g c =
       served.0,
       served.2,
       λ start pushed said text first has appends.
-          let last = HasServed-end c.args.self.now _ start c.args.keeper.now pushed text said c.end.ensures (record { lines = refl; report = refl; rules = refl }) has in
-          let done : IsDone new start c.answer_lines.new.keeper pushed (said ++ served.0) (text ++ served.1) = record { has = served.4.served start pushed said text last; nothing = c.in_ok-answer_lines.ensures.all_taken; ended = ended } in
-          stops_of new.rules c.args.self.now.rules start c.publish.new.self (λ bytes. bytes ≡ pushed) (λ bytes. bytes ≡ pushed) (said ++ served.0) first _ served.4.rules (λ bytes e. e)
-          (stops_reporting new start c.answer_lines.new.keeper c.publish.new.self pushed (text ++ served.1) (said ++ served.0) first _ _ done c.in_ok-publish.ensures.published (Appends-trans _ _ _ text served.1 appends served.3) c.in_err-send_report.ensures.front),
+          let last = HasServed-end c.args.self.now _ start c.args.keeper.now pushed text said c.end.ensures
+          (record { lines = refl; report = refl; rules = refl }) has in
+          let done : IsDone new start c.answer_lines.new.keeper pushed (said ++ served.0) (text ++ served.1) =
+          record {
+            has = served.4.served start pushed said text last;
+            nothing =
+                c.in_ok-answer_lines.ensures.all_taken;
+            ended = ended;
+          } in
+          stops_of new.rules c.args.self.now.rules start c.publish.new.self (λ bytes. bytes ≡ pushed)
+          (λ bytes. bytes ≡ pushed) (said ++ served.0) first _ served.4.rules (λ bytes e. e)
+          (stops_reporting new start c.answer_lines.new.keeper c.publish.new.self pushed (text ++ served.1)
+          (said ++ served.0) first _ _ done c.in_ok-publish.ensures.published
+          (Appends-trans _ _ _ text served.1 appends served.3) c.in_err-send_report.ensures.front),
     )
 
 pub returns-clause-served : goal.returns-clause-served
@@ -62,8 +81,18 @@ returns-clause-served g c =
       served.0,
       served.2,
       λ start pushed said text first has appends.
-          let last = HasServed-end c.args.self.now _ start c.args.keeper.now pushed text said c.end.ensures (record { lines = refl; report = refl; rules = refl }) has in
-          let done : IsDone new start c.answer_lines.new.keeper pushed (said ++ served.0) (text ++ served.1) = record { has = served.4.served start pushed said text last; nothing = c.in_ok-answer_lines.ensures.all_taken; ended = ended } in
-          subst (λ (r : Rules). IsWhole r start c.publish.new.self new.report pushed (said ++ served.0) first (g.W.Write.contents (inner_of c.send_report.new.output))) served.4.rules
-          (whole_of new start c.answer_lines.new.keeper c.publish.new.self pushed (text ++ served.1) (said ++ served.0) new.report first _ _ done c.in_ok-publish.ensures.published refl (Appends-trans _ _ _ text served.1 appends served.3) c.in_ok-send_report.ensures.whole),
+          let last = HasServed-end c.args.self.now _ start c.args.keeper.now pushed text said c.end.ensures
+          (record { lines = refl; report = refl; rules = refl }) has in
+          let done : IsDone new start c.answer_lines.new.keeper pushed (said ++ served.0) (text ++ served.1) =
+          record {
+            has = served.4.served start pushed said text last;
+            nothing =
+                c.in_ok-answer_lines.ensures.all_taken;
+            ended = ended;
+          } in
+          subst (λ (r : Rules). IsWhole r start c.publish.new.self new.report pushed (said ++ served.0) first
+          (g.W.Write.contents (inner_of c.send_report.new.output))) served.4.rules
+          (whole_of new start c.answer_lines.new.keeper c.publish.new.self pushed (text ++ served.1) (said ++ served.0)
+          new.report first _ _ done c.in_ok-publish.ensures.published refl
+          (Appends-trans _ _ _ text served.1 appends served.3) c.in_ok-send_report.ensures.whole),
     )

@@ -9,20 +9,28 @@ use Rattle.rr_node.proofs.ConnectionLemmas.{Serves-nothing, Serves-item, Serves-
 use Rattle.rr_node.proofs.connection.Connection.write_lines.Goals as goal
 
 pub loop-item-init : goal.loop-item-init
-loop-item-init g c = ([], [], HasGiven-nil _, sym (append-nil c.args.answers.now.items), Serves-nothing c.args.self.now c.args.keeper.now)
+loop-item-init g c = (
+  [],
+  [],
+  HasGiven-nil _,
+  sym (append-nil c.args.answers.now.items),
+  Serves-nothing c.args.self.now c.args.keeper.now,
+)
 
 pub returns-in_err-answer-clause-ended : goal.returns-in_err-answer-clause-ended
 returns-in_err-answer-clause-ended g c =
     let given = err_from_is_err_and c.from_residual.result c.from_residual.ensures.1 in
     let old = c.loop-item.self in
     let item = item_view c.in-Some.item in
-    let hands : HandsOut old.feed (Some item) c.next_line.follows.lender-at-none = rw c.in-Some.is at c.next_line.follows.holds-at-none in
+    let hands : HandsOut old.feed (Some item) c.next_line.follows.lender-at-none =
+    rw c.in-Some.is at c.next_line.follows.holds-at-none in
     let so_far = c.loop-item.invariant in
     let takes = c.in_err-answer.ensures.taken in
     rw given.1 (
       so_far.0 ++ takes.asked,
       HasGiven-trans _ _ _ so_far.0 takes.asked so_far.2 takes.gave,
-      Ends-taking c.args.self.now old _ c.args.keeper.now c.loop-item.keeper _ so_far.0 takes.asked so_far.1 item _ so_far.4 hands takes.taken,
+      Ends-taking c.args.self.now old _ c.args.keeper.now c.loop-item.keeper _ so_far.0 takes.asked so_far.1 item _
+          so_far.4 hands takes.taken,
     )
 
 pub returns-in_err-count-clause-ended : goal.returns-in_err-count-clause-ended
@@ -30,36 +38,42 @@ returns-in_err-count-clause-ended g c =
     let given = err_from_is_err_and c.from_residual-in_err-count.result c.from_residual-in_err-count.ensures.1 in
     let old = c.loop-item.self in
     let item = item_view c.in-Some.item in
-    let hands : HandsOut old.feed (Some item) c.next_line.follows.lender-at-none = rw c.in-Some.is at c.next_line.follows.holds-at-none in
+    let hands : HandsOut old.feed (Some item) c.next_line.follows.lender-at-none =
+    rw c.in-Some.is at c.next_line.follows.holds-at-none in
     let so_far = c.loop-item.invariant in
     let takes = c.in_ok-answer.ensures.taken in
     let whole = taken_whole old.rules item takes.asked c.loop-item.keeper _ _ takes.taken in
     rw given.1 (
       so_far.0 ++ takes.asked,
       HasGiven-trans _ _ _ so_far.0 takes.asked so_far.2 takes.gave,
-      Ends-after c.args.self.now old _ c.args.keeper.now c.loop-item.keeper _ so_far.0 takes.asked so_far.1 item so_far.4 hands whole.0 whole.1,
+      Ends-after c.args.self.now old _ c.args.keeper.now c.loop-item.keeper _ so_far.0 takes.asked so_far.1 item
+          so_far.4 hands whole.0 whole.1,
     )
 
 pub returns-in_err-publish_in_turn-clause-ended : goal.returns-in_err-publish_in_turn-clause-ended
 returns-in_err-publish_in_turn-clause-ended g c =
-    let given = err_from_is_err_and c.from_residual-in_err-publish_in_turn.result c.from_residual-in_err-publish_in_turn.ensures.1 in
+    let given = err_from_is_err_and c.from_residual-in_err-publish_in_turn.result
+    c.from_residual-in_err-publish_in_turn.ensures.1 in
     let old = c.loop-item.self in
     let item = item_view c.in-Some.item in
-    let hands : HandsOut old.feed (Some item) c.next_line.follows.lender-at-none = rw c.in-Some.is at c.next_line.follows.holds-at-none in
+    let hands : HandsOut old.feed (Some item) c.next_line.follows.lender-at-none =
+    rw c.in-Some.is at c.next_line.follows.holds-at-none in
     let so_far = c.loop-item.invariant in
     let takes = c.in_ok-answer.ensures.taken in
     let whole = taken_whole old.rules item takes.asked c.loop-item.keeper _ _ takes.taken in
     rw given.1 (
       so_far.0 ++ takes.asked,
       HasGiven-trans _ _ _ so_far.0 takes.asked so_far.2 takes.gave,
-      Ends-after c.args.self.now old _ c.args.keeper.now c.loop-item.keeper _ so_far.0 takes.asked so_far.1 item so_far.4 hands whole.0 (c.in_err-publish_in_turn.ensures.unchanged ∙ whole.1),
+      Ends-after c.args.self.now old _ c.args.keeper.now c.loop-item.keeper _ so_far.0 takes.asked so_far.1 item
+          so_far.4 hands whole.0 (c.in_err-publish_in_turn.ensures.unchanged ∙ whole.1),
     )
 
 pub loop-item-preserved : goal.loop-item-preserved
 loop-item-preserved g c =
     let old = c.loop-item.self in
     let item = item_view c.in-Some.item in
-    let hands : HandsOut old.feed (Some item) c.next_line.follows.lender-at-none = rw c.in-Some.is at c.next_line.follows.holds-at-none in
+    let hands : HandsOut old.feed (Some item) c.next_line.follows.lender-at-none =
+    rw c.in-Some.is at c.next_line.follows.holds-at-none in
     let so_far = c.loop-item.invariant in
     let takes = c.in_ok-answer.ensures.taken in
     let answer = c.in_ok-answer.answer in
@@ -71,25 +85,35 @@ loop-item-preserved g c =
       so_far.1 ++ text,
       HasGiven-trans _ _ _ so_far.0 takes.asked so_far.2 takes.gave,
       counted.answered ∙ ap (λ (t : List ℕ). t ++ text) so_far.3 ∙ append_assoc c.args.answers.now.items so_far.1 text,
-      Serves-item c.args.self.now old c.count.new.self c.args.keeper.now c.loop-item.keeper _ so_far.0 takes.asked so_far.1 item answer (record {
-        hands = rw counted.feed hands;
-        few = whole.0;
-        keeper = rw (lines, whole.1) at c.in_ok-publish_in_turn.ensures.published;
-        told = whole.2;
-        lines = lines;
-        report = counted.report;
-        rules = counted.rules;
-        pieces = counted.pieces;
-      }) so_far.4,
+      Serves-item c.args.self.now old c.count.new.self c.args.keeper.now c.loop-item.keeper _ so_far.0 takes.asked
+          so_far.1 item answer (record {
+            hands = rw counted.feed hands;
+            few = whole.0;
+            keeper = rw (lines, whole.1) at c.in_ok-publish_in_turn.ensures.published;
+            told = whole.2;
+            lines = lines;
+            report = counted.report;
+            rules = counted.rules;
+            pieces = counted.pieces;
+          }) so_far.4,
     )
 
 pub returns-clause-served : goal.returns-clause-served
 returns-clause-served g c =
-    let hands : HandsOut c.loop-item.self.feed None c.next_line.follows.lender-at-none = rw c.in_default.is at c.next_line.follows.holds-at-none in
-    let so_far = c.loop-item.invariant in
-    (so_far.0, so_far.1, so_far.2, so_far.3, Serves-none c.args.self.now c.loop-item.self _ c.args.keeper.now c.loop-item.keeper so_far.0 so_far.1 hands (record { lines = refl; report = refl; rules = refl }) refl so_far.4)
+    let hands : HandsOut c.loop-item.self.feed None c.next_line.follows.lender-at-none =
+    rw c.in_default.is at c.next_line.follows.holds-at-none in
+    let so_far = c.loop-item.invariant in (
+      so_far.0,
+      so_far.1,
+      so_far.2,
+      so_far.3,
+      Serves-none c.args.self.now c.loop-item.self _ c.args.keeper.now
+          c.loop-item.keeper so_far.0 so_far.1 hands (record { lines = refl; report = refl; rules = refl }) refl
+          so_far.4,
+    )
 
 pub returns-clause-all_taken : goal.returns-clause-all_taken
 returns-clause-all_taken g c =
-    let hands : HandsOut c.loop-item.self.feed None c.next_line.follows.lender-at-none = rw c.in_default.is at c.next_line.follows.holds-at-none in
+    let hands : HandsOut c.loop-item.self.feed None c.next_line.follows.lender-at-none =
+    rw c.in_default.is at c.next_line.follows.holds-at-none in
     sym (items_left-handed None _ _ hands) ∙ hands.none refl

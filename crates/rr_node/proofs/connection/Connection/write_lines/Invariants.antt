@@ -1,6 +1,6 @@
 use Rattle.std.proofs.Common.{◌≡◌, ℕ, ℤ, List, ◌++◌, length}
 use Rattle.rr_host.specs.Clock.{HasGiven}
-use Rattle.rr_node.specs.Connection.{Serves}
+use Rattle.rr_node.specs.Connection.{ServedItems}
 use Rattle.rr_node.proofs.connection.Connection.write_lines.Given as goal
 
 -- what was handed out is served
@@ -8,7 +8,7 @@ abbrev pub invariant-loop-item : goal.invariant-loop-item
 invariant-loop-item g l = (moments : List ℤ) × (text : List ℕ)
     × HasGiven (g.C.Clock.given l.initial.clock) (g.C.Clock.given l.clock) moments
     × (l.answers.items ≡ l.initial.answers.items ++ text)
-    × Serves l.initial.self l.self l.initial.keeper l.keeper moments text
+    × ServedItems l.initial.self l.self l.initial.keeper l.keeper moments text
 
 abbrev pub decreases-loop-item : goal.decreases-loop-item
 decreases-loop-item g l = length l.self.feed.left

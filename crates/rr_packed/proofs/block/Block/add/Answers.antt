@@ -17,24 +17,46 @@ returns-in-Some-clause-added c =
     let was = c.args.self.now in
     let old = c.reading_of.new.self in
     let k = c.args.number in
-    let none : item_in old.rows k ≡ None = ap (λ (r : Sparse Entries). item_in r k) c.reading_of.ensures.rows ∙ item_none was.rows.mask was.rows.items.items k c.requires.rows in
-    let read : entries_read old.source (Some c.in-Some.reading) ≡ entry_after [] c.args.origin c.args.change.now ∷ [] = search rules in
-    let mid : Block = record { alloc = old.alloc; source = old.source; readings = c.insert-added.new.self; rows = old.rows } in
-    on_ok_weaker c.insert-added.result (λ added. λ n. ap (λ f. f n) c.give_back.ensures ∙ reading_added old mid k c.in-Some.reading (entry_after [] c.args.origin c.args.change.now) (λ n. refl) none refl added read n ∙ ap (λ f. cond (eqb n k) (entry_after [] c.args.origin c.args.change.now ∷ []) (f n)) c.reading_of.ensures.same) c.insert-added.ensures.added
+    let none : item_in old.rows k ≡ None = ap (λ (r : Sparse Entries). item_in r k) c.reading_of.ensures.rows
+    ∙ item_none was.rows.mask was.rows.items.items k c.requires.rows in
+    let read : entries_read old.source (Some c.in-Some.reading) ≡ entry_after [] c.args.origin c.args.change.now ∷ [] =
+    search rules in
+    let mid : Block = record {
+      alloc = old.alloc;
+      source = old.source;
+      readings = c.insert-added.new.self;
+      rows =
+          old.rows;
+    } in
+    on_ok_weaker c.insert-added.result (λ added. λ n. ap (λ f. f n) c.give_back.ensures
+    ∙ reading_added old mid k c.in-Some.reading (entry_after [] c.args.origin c.args.change.now) (λ n. refl) none
+    refl added read n ∙ ap (λ f. cond (eqb n k) (entry_after [] c.args.origin c.args.change.now ∷ []) (f n))
+    c.reading_of.ensures.same) c.insert-added.ensures.added
 
 pub returns-in-Some-clause-unchanged : goal.returns-in-Some-clause-unchanged
 returns-in-Some-clause-unchanged c =
-    on_err_weaker c.insert-added.result (λ same. c.give_back.ensures ∙ block_same c.reading_of.new.self _ (λ n. refl) refl (λ n. ap (λ f. f n) same) ∙ c.reading_of.ensures.same) c.insert-added.ensures.unchanged
+    on_err_weaker c.insert-added.result (λ same. c.give_back.ensures
+    ∙ block_same c.reading_of.new.self _ (λ n. refl) refl (λ n. ap (λ f. f n) same) ∙ c.reading_of.ensures.same)
+    c.insert-added.ensures.unchanged
 
 pub returns-in-None-clause-added : goal.returns-in-None-clause-added
 returns-in-None-clause-added c =
     let old = c.reading_of.new.self in
     let k = c.args.number in
     let entry : Entry = record { origin = c.args.origin; contribution = c.contribution_after-contribution.result } in
-    let is : (entry ∷ []) ≡ (entry_after [] c.args.origin c.args.change.now ∷ []) = (λ i. record { origin = c.args.origin; contribution = c.contribution_after-contribution.ensures i } ∷ []) in
-    let new : Block = record { alloc = old.alloc; source = old.source; readings = old.readings; rows = c.insert.new.self } in
-    on_ok_weaker c.insert.result (λ added. λ n. entries_set old new k (One entry) added refl (λ n. refl) n ∙ (λ i. cond (eqb n k) (is i) (c.reading_of.ensures.same i n))) c.insert.ensures.added
+    let is : (entry ∷ []) ≡ (entry_after [] c.args.origin c.args.change.now ∷ []) =
+    (λ i. record { origin = c.args.origin; contribution = c.contribution_after-contribution.ensures i } ∷ []) in
+    let new : Block = record {
+      alloc = old.alloc;
+      source = old.source;
+      readings = old.readings;
+      rows =
+          c.insert.new.self;
+    } in
+    on_ok_weaker c.insert.result (λ added. λ n. entries_set old new k (One entry) added refl (λ n. refl) n
+    ∙ (λ i. cond (eqb n k) (is i) (c.reading_of.ensures.same i n))) c.insert.ensures.added
 
 pub returns-in-None-clause-unchanged : goal.returns-in-None-clause-unchanged
 returns-in-None-clause-unchanged c =
-    on_err_weaker c.insert.result (λ same. block_same c.reading_of.new.self _ (λ n. ap (λ f. f n) same) refl (λ n. refl) ∙ c.reading_of.ensures.same) c.insert.ensures.unchanged
+    on_err_weaker c.insert.result (λ same. block_same c.reading_of.new.self _ (λ n. ap (λ f. f n) same) refl (λ n. refl)
+    ∙ c.reading_of.ensures.same) c.insert.ensures.unchanged

@@ -15,23 +15,29 @@ pub returns-in-Some-clause-same : goal.returns-in-Some-clause-same
 returns-in-Some-clause-same c =
     let b = c.args.self.now in
     let k = c.args.number in
-    let none : item_in b.rows k ≡ None = none_from (item_in b.rows k) (sym c.has_entries.ensures.held ∙ c.if-has_entries.false) in
+    let none : item_in b.rows k ≡ None = none_from (item_in b.rows k)
+    (sym c.has_entries.ensures.held ∙ c.if-has_entries.false) in
     let here = items_by_reading b k none ∙ c.in-Some.ensures.found in
     either_way c.insert.result
-    (on_ok_weaker c.insert.result (λ added. row_set_same k (c.in-Some.entry ∷ []) _ _ (entries_set b _ k (One c.in-Some.entry) added refl (λ n. refl)) (sym here)) c.insert.ensures.added)
-    (on_err_weaker c.insert.result (λ same. block_same b _ (λ n. ap (λ f. f n) same) refl (λ n. refl)) c.insert.ensures.unchanged)
+    (on_ok_weaker c.insert.result (λ added. row_set_same k (c.in-Some.entry ∷ []) _ _
+    (entries_set b _ k (One c.in-Some.entry) added refl (λ n. refl)) (sym here)) c.insert.ensures.added)
+    (on_err_weaker c.insert.result (λ same. block_same b _ (λ n. ap (λ f. f n) same) refl (λ n. refl))
+    c.insert.ensures.unchanged)
 
 pub insert-requires-clause-free : goal.insert-requires-clause-free
-insert-requires-clause-free c = none_from (place_at c.args.self.now.rows.mask c.args.number) (sym c.has_entries.ensures.placed ∙ c.if-has_entries.false)
+insert-requires-clause-free c = none_from (place_at c.args.self.now.rows.mask c.args.number)
+    (sym c.has_entries.ensures.placed ∙ c.if-has_entries.false)
 
 -- a row that has room has no reading, unless it is held as entries
 unread : (c : goal.After-insert) (origin : ℕ) → IsTrue (has_room_in c.args.self.now c.args.number origin) → ⊥
 unread c origin room =
     let b = c.args.self.now in
     let k = c.args.number in
-    let none : item_in b.rows k ≡ None = none_from (item_in b.rows k) (sym c.has_entries.ensures.held ∙ c.if-has_entries.false) in
+    let none : item_in b.rows k ≡ None = none_from (item_in b.rows k)
+    (sym c.has_entries.ensures.held ∙ c.if-has_entries.false) in
     let free = room_is_free b k origin none room in
-    let nothing = ap (entries_read b.source) (item_none b.readings.mask b.readings.items.items k free.unread) ∙ none_read b.source in
+    let nothing = ap (entries_read b.source) (item_none b.readings.mask b.readings.items.items k free.unread)
+    ∙ none_read b.source in
     let something = c.in-Some.ensures.found in
     absurd (cc (nothing, something))
 

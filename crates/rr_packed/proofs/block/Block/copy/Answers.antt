@@ -9,7 +9,8 @@ pub invariant_of-result-2 : goal.invariant_of-result-2
 invariant_of-result-2 c =
     let old = c.args.self.now.rows in
     let all : c.deref-entries-items.result.now ≡ old.items.items = search rules in
-    let rows = c.loop-entries.invariant ∙ ap (map items_of) (take_all c.loop-entries.entries-index c.deref-entries-items.result.now c.loop-entries-test.false ∙ all) in
+    let rows = c.loop-entries.invariant ∙ ap (map items_of)
+    (take_all c.loop-entries.entries-index c.deref-entries-items.result.now c.loop-entries-test.false ∙ all) in
     let len = same_length c.loop-entries.rows.items old.items.items rows in
     let counted : count_ones old.mask ≡ vec_len old.items = old.counted in
     let was : vec_len old.items ≡ length old.items.items = search rules in
@@ -20,6 +21,7 @@ pub returns : goal.returns
 returns c =
     let old = c.args.self.now in
     let all : c.deref-entries-items.result.now ≡ old.rows.items.items = search rules in
-    let rows = c.loop-entries.invariant ∙ ap (map items_of) (take_all c.loop-entries.entries-index c.deref-entries-items.result.now c.loop-entries-test.false ∙ all) in
+    let rows = c.loop-entries.invariant ∙ ap (map items_of)
+    (take_all c.loop-entries.entries-index c.deref-entries-items.result.now c.loop-entries-test.false ∙ all) in
     let readings : c.in_ok-readings.readings.items ≡ old.readings.items.items = search rules in
     block_copied old _ refl refl readings refl rows

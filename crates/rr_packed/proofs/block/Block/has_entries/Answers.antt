@@ -6,7 +6,8 @@ pub returns-in-Some-clause-held : goal.returns-in-Some-clause-held
 returns-in-Some-clause-held c =
     let rows = c.args.self.now.rows in
     let within : c.in-Some._at < length rows.items.items = search rules in
-    sym (ap is_some (item_found rows.mask rows.items.items c.args.number c.in-Some._at c.in-Some.ensures.place) ∙ get_there rows.items.items c.in-Some._at within)
+    sym (ap is_some (item_found rows.mask rows.items.items c.args.number c.in-Some._at c.in-Some.ensures.place)
+    ∙ get_there rows.items.items c.in-Some._at within)
 
 pub returns-in-None-clause-held : goal.returns-in-None-clause-held
 returns-in-None-clause-held c =

@@ -4,7 +4,8 @@ use Rattle.rr_packed.proofs.BlockLemmas.{items_by_entries, items_by_reading}
 use Rattle.rr_packed.proofs.block.Block.row.Goals as goal
 
 pub returns-in-Some : goal.returns-in-Some
-returns-in-Some c = c.as_slice.ensures ∙ sym (items_by_entries c.args.self.now c.args.number c.in-Some.entries.now (sym c.in-Some.ensures.value))
+returns-in-Some c = c.as_slice.ensures ∙ sym (items_by_entries c.args.self.now c.args.number c.in-Some.entries.now
+    (sym c.in-Some.ensures.value))
 
 pub returns-in-Some-entry_read : goal.returns-in-Some-entry_read
 returns-in-Some-entry_read c =

@@ -16,7 +16,8 @@ unset b n e =
     let either = bit_at_or b.readings.mask b.rows.mask n in
     let readings : bit_at b.readings.mask n ≡ 0 = omega arith in
     let rows : bit_at b.rows.mask n ≡ 0 = omega arith in
-    items_none b n (item_none b.rows.mask b.rows.items.items n (place_none b.rows.mask n rows)) (item_none b.readings.mask b.readings.items.items n (place_none b.readings.mask n readings))
+    items_none b n (item_none b.rows.mask b.rows.items.items n (place_none b.rows.mask n rows))
+    (item_none b.readings.mask b.readings.items.items n (place_none b.readings.mask n readings))
 
 -- a bit of what is left of a mask
 left : (mask n i : ℕ) → 1 ≤ i → bit_at mask (n + i) ≡ bit_at (mask / 2 ^ n / 2 ^ 1) (i - 1)
@@ -35,7 +36,9 @@ record IsRest (b : Block) (n t : ℕ) : Type 0 where
   within : n + 1 + t < 64
   none : (i : ℕ) → 1 ≤ i → i < 1 + t → bit_at (bit_or b.readings.mask b.rows.mask) (n + i) ≡ 0
 
-rest_is : (b : Block) (n : ℕ) → b.readings.mask < 2 ^ 64 → b.rows.mask < 2 ^ 64 → (bit_or b.readings.mask b.rows.mask / 2 ^ n / 2 ^ 1 ≡ 0 → ⊥) → IsRest b n (trailing_zeros w64 (bit_or b.readings.mask b.rows.mask / 2 ^ n / 2 ^ 1))
+rest_is : (b : Block) (n : ℕ) → b.readings.mask < 2 ^ 64 → b.rows.mask < 2 ^ 64
+    → (bit_or b.readings.mask b.rows.mask / 2 ^ n / 2 ^ 1 ≡ 0 → ⊥)
+    → IsRest b n (trailing_zeros w64 (bit_or b.readings.mask b.rows.mask / 2 ^ n / 2 ^ 1))
 rest_is b n r s some =
     let mask = bit_or b.readings.mask b.rows.mask in
     let rest = mask / 2 ^ n / 2 ^ 1 in
@@ -44,12 +47,15 @@ rest_is b n r s some =
     let half : mask / 2 ^ n ≤ mask = shr_le mask n in
     let less : rest ≤ mask / 2 ^ n = shr_le (mask / 2 ^ n) 1 in
     let fits : rest < 2 ^ 64 = omega arith in
-    let more : 0 < rest = ⊎_elim (λ (low : rest < 1). absurd (some (omega arith))) (λ (high : 1 ≤ rest). omega arith) (cases_lt rest 1) in
+    let more : 0 < rest = ⊎_elim (λ (low : rest < 1). absurd (some (omega arith))) (λ (high : 1 ≤ rest). omega arith)
+    (cases_lt rest 1) in
     let low = bit_at-trailing_zeros w64 rest more fits in
     let has : bit_at mask (n + 1 + t) ≡ 1 = sym (bit_at_rest mask n t) ∙ low.1 in
     record {
       has = has;
-      within = ⊎_elim (λ (near : n + 1 + t < 64). near) (λ (far : 64 ≤ n + 1 + t). let clear = bit_at_above mask 64 (n + 1 + t) whole far in absurd (omega arith)) (cases_lt (n + 1 + t) 64);
+      within = ⊎_elim (λ (near : n + 1 + t < 64). near)
+          (λ (far : 64 ≤ n + 1 + t). let clear = bit_at_above mask 64 (n + 1 + t) whole far in absurd (omega arith))
+          (cases_lt (n + 1 + t) 64);
       none = λ i one h. left mask n i one ∙ low.2 (i - 1) (omega arith);
     }
 

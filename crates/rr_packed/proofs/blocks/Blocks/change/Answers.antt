@@ -18,13 +18,18 @@ change-requires-clause-fits c =
     let number : to_z w64 (of_z w64 c.block_of-number.result) ≡ block_of c.args.slot = search rules in
     let row : c.row_of-row.result ≡ row_of c.args.slot = search rules in
     let place : IsPlaceOf (block_of c.args.slot) bs c.in-Ok.at = rw number at c.in-Ok.ensures.found in
-    let has = block_there bs (block_of c.args.slot) c.in-Ok.at was c.args.self.now.ordered place c.index_mut.ensures.value in
-    subst (λ (es : List Entry). Fits (entry_at es c.args.origin) c.args.change.now) (slot_found bs c.args.slot was.1 (sym has) ∙ ap (items_in was.1) (sym row)) c.requires
+    let has = block_there bs (block_of c.args.slot) c.in-Ok.at was c.args.self.now.ordered place
+    c.index_mut.ensures.value in
+    subst (λ (es : List Entry). Fits (entry_at es c.args.origin) c.args.change.now)
+    (slot_found bs c.args.slot was.1 (sym has) ∙ ap (items_in was.1) (sym row)) c.requires
 
 pub invariant_of-self : goal.invariant_of-self
 invariant_of-self c =
     let bs = c.args.self.now.blocks.items in
-    record { ordered = ascend_put bs _ c.in-Ok.at c.index_mut.result.now c.change.new.self c.args.self.now.ordered c.in-Ok.ensures.found c.index_mut.ensures.value }
+    record {
+      ordered = ascend_put bs _ c.in-Ok.at c.index_mut.result.now c.change.new.self c.args.self.now.ordered
+          c.in-Ok.ensures.found c.index_mut.ensures.value;
+    }
 
 pub returns-in-Ok-clause-changed : goal.returns-in-Ok-clause-changed
 returns-in-Ok-clause-changed c =
@@ -33,8 +38,11 @@ returns-in-Ok-clause-changed c =
     let number : to_z w64 (of_z w64 c.block_of-number.result) ≡ block_of c.args.slot = search rules in
     let row : c.row_of-row.result ≡ row_of c.args.slot = search rules in
     let place : IsPlaceOf (block_of c.args.slot) bs c.in-Ok.at = rw number at c.in-Ok.ensures.found in
-    let has = block_there bs (block_of c.args.slot) c.in-Ok.at was c.args.self.now.ordered place c.index_mut.ensures.value in
-    on_ok_weaker c.change.result (λ changed. change_there bs _ c.args.slot was.1 c.change.new.self c.args.origin c.args.change.now (block_put bs (block_of c.args.slot) c.in-Ok.at was c.change.new.self c.args.self.now.ordered place c.index_mut.ensures.value) (sym has) changed) (rw row at c.change.ensures.changed)
+    let has = block_there bs (block_of c.args.slot) c.in-Ok.at was c.args.self.now.ordered place
+    c.index_mut.ensures.value in
+    on_ok_weaker c.change.result (λ changed. change_there bs _ c.args.slot was.1 c.change.new.self c.args.origin
+    c.args.change.now (block_put bs (block_of c.args.slot) c.in-Ok.at was c.change.new.self c.args.self.now.ordered
+    place c.index_mut.ensures.value) (sym has) changed) (rw row at c.change.ensures.changed)
 
 pub returns-in-Ok-clause-unchanged : goal.returns-in-Ok-clause-unchanged
 returns-in-Ok-clause-unchanged c =
@@ -42,8 +50,11 @@ returns-in-Ok-clause-unchanged c =
     let was = c.index_mut.result.now in
     let number : to_z w64 (of_z w64 c.block_of-number.result) ≡ block_of c.args.slot = search rules in
     let place : IsPlaceOf (block_of c.args.slot) bs c.in-Ok.at = rw number at c.in-Ok.ensures.found in
-    let has = block_there bs (block_of c.args.slot) c.in-Ok.at was c.args.self.now.ordered place c.index_mut.ensures.value in
-    on_err_weaker c.change.result (λ same. blocks_alike bs _ (block_of c.args.slot) c.change.new.self (block_put bs (block_of c.args.slot) c.in-Ok.at was c.change.new.self c.args.self.now.ordered place c.index_mut.ensures.value) (same ∙ ap items_of_block (sym has))) c.change.ensures.unchanged
+    let has = block_there bs (block_of c.args.slot) c.in-Ok.at was c.args.self.now.ordered place
+    c.index_mut.ensures.value in
+    on_err_weaker c.change.result (λ same. blocks_alike bs _ (block_of c.args.slot) c.change.new.self
+    (block_put bs (block_of c.args.slot) c.in-Ok.at was c.change.new.self c.args.self.now.ordered place
+    c.index_mut.ensures.value) (same ∙ ap items_of_block (sym has))) c.change.ensures.unchanged
 
 pub returns-in-Ok-clause-room : goal.returns-in-Ok-clause-room
 returns-in-Ok-clause-room c = λ room.
@@ -51,21 +62,25 @@ returns-in-Ok-clause-room c = λ room.
     let number : to_z w64 (of_z w64 c.block_of-number.result) ≡ block_of c.args.slot = search rules in
     let row : c.row_of-row.result ≡ row_of c.args.slot = search rules in
     let place : IsPlaceOf (block_of c.args.slot) bs c.in-Ok.at = rw number at c.in-Ok.ensures.found in
-    let has = block_there bs (block_of c.args.slot) c.in-Ok.at c.index_mut.result.now c.args.self.now.ordered place c.index_mut.ensures.value in
-    (rw row at c.change.ensures.room) (room_found c.args.self.now c.args.slot c.args.origin c.index_mut.result.now.1 (sym has) room)
+    let has = block_there bs (block_of c.args.slot) c.in-Ok.at c.index_mut.result.now c.args.self.now.ordered place
+    c.index_mut.ensures.value in
+    (rw row at c.change.ensures.room) (room_found c.args.self.now c.args.slot c.args.origin c.index_mut.result.now.1
+    (sym has) room)
 
 -- ---- it isn't
 
 pub returns-in_err-change-in-Err-clause-room : goal.returns-in_err-change-in-Err-clause-room
 returns-in_err-change-in-Err-clause-room c = λ room.
     let number : to_z w64 (of_z w64 c.block_of-number.result) ≡ block_of c.args.slot = search rules in
-    let gap : IsGapFor (block_of c.args.slot) c.args.self.now.blocks.items c.in-Err.at = rw number at c.in-Err.ensures.missing in
+    let gap : IsGapFor (block_of c.args.slot) c.args.self.now.blocks.items c.in-Err.at =
+    rw number at c.in-Err.ensures.missing in
     absurd (room_missing c.args.self.now c.args.slot c.args.origin (sym gap.0) room)
 
 pub returns-in_ok-change-in-Err-clause-room : goal.returns-in_ok-change-in-Err-clause-room
 returns-in_ok-change-in-Err-clause-room c = λ room.
     let number : to_z w64 (of_z w64 c.block_of-number.result) ≡ block_of c.args.slot = search rules in
-    let gap : IsGapFor (block_of c.args.slot) c.args.self.now.blocks.items c.in-Err.at = rw number at c.in-Err.ensures.missing in
+    let gap : IsGapFor (block_of c.args.slot) c.args.self.now.blocks.items c.in-Err.at =
+    rw number at c.in-Err.ensures.missing in
     absurd (room_missing c.args.self.now c.args.slot c.args.origin (sym gap.0) room)
 
 pub returns-in_ok-change-in-Err-clause-changed : goal.returns-in_ok-change-in-Err-clause-changed
@@ -74,7 +89,10 @@ returns-in_ok-change-in-Err-clause-changed c =
     let number : to_z w64 (of_z w64 c.block_of-number.result) ≡ block_of c.args.slot = search rules in
     let row : c.row_of-row.result ≡ row_of c.args.slot = search rules in
     let gap : IsGapFor (block_of c.args.slot) old c.in-Err.at = rw number at c.in-Err.ensures.missing in
-    on_ok_weaker c.insert.result (λ added. change_new old _ c.args.slot c.new-block.result c.change-in-Err.new.self c.args.origin c.args.change.now (rw number at added) (sym gap.0) c.new-block.ensures (rw row at c.in_ok-change-in-Err.ensures.changed)) c.insert.ensures.added
+    on_ok_weaker c.insert.result (λ added. change_new old _ c.args.slot c.new-block.result c.change-in-Err.new.self
+    c.args.origin c.args.change.now (rw number at added) (sym gap.0) c.new-block.ensures
+    (rw row at c.in_ok-change-in-Err.ensures.changed)) c.insert.ensures.added
 
 pub returns-in_ok-change-in-Err-clause-unchanged : goal.returns-in_ok-change-in-Err-clause-unchanged
-returns-in_ok-change-in-Err-clause-unchanged c = on_err_weaker c.insert.result (λ same. ap items_by_slot same) c.insert.ensures.unchanged
+returns-in_ok-change-in-Err-clause-unchanged c =
+    on_err_weaker c.insert.result (λ same. ap items_by_slot same) c.insert.ensures.unchanged

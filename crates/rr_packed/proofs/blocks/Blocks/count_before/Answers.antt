@@ -30,4 +30,6 @@ returns-in-Greater c =
     let bs = c.args.self.now.blocks.items in
     let n = c.args.number in
     let most = c.partition_point.ensures.bound in
-    count_by_parts n bs c.partition_point.result (search rules) (IsPartitionPoint-from_clause (λ (b : ℤ × Block). int_lt b.0 n) bs c.partition_point.result c.partition_point.ensures.partitioned (parted n bs c.args.self.now.ordered) (λ a r f called. search rules))
+    count_by_parts n bs c.partition_point.result (search rules)
+    (IsPartitionPoint-from_clause (λ (b : ℤ × Block). int_lt b.0 n) bs c.partition_point.result
+    c.partition_point.ensures.partitioned (parted n bs c.args.self.now.ordered) (λ a r f called. search rules))

@@ -9,6 +9,8 @@ loop-self-preserved c =
     let slot = to_z w64 (of_z w64 c.args.slot) in
     let bs = c.loop-self.self.blocks.items in
     let number : to_z w64 (of_z w64 c.block_of-number.result) ≡ block_of slot = search rules in
-    let before : starts_before (block_of slot) bs ≡ true = ap (λ n. starts_before n bs) (sym number) ∙ sym c.starts_before.ensures ∙ c.loop-self-test.true in
+    let before : starts_before (block_of slot) bs ≡ true = ap (λ n. starts_before n bs) (sym number)
+    ∙ sym c.starts_before.ensures ∙ c.loop-self-test.true in
     let rest : c.drop_first.new.self.blocks.items ≡ drop 1 bs = search rules in
-    subst (λ es. IsLeft slot (row_at c.args.self.now) (items_by_slot es)) (sym rest) (first_left slot bs (row_at c.args.self.now) c.loop-self.self.ordered before c.loop-self.invariant)
+    subst (λ es. IsLeft slot (row_at c.args.self.now) (items_by_slot es)) (sym rest)
+    (first_left slot bs (row_at c.args.self.now) c.loop-self.self.ordered before c.loop-self.invariant)

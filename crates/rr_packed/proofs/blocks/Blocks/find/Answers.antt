@@ -10,10 +10,14 @@ returns-else-other-number-clause-missing c =
     let there : ℤ × Block = c.in-Some.field-0.now in
     let at : c.count_before-at.result ≡ count_before c.args.number bs = search rules in
     let is : there ≡ get_or bs c.count_before-at.result there = search rules in
-    gap_at bs c.args.number c.count_before-at.result c.args.self.now.ordered at (λ place. let same : there.0 ≡ c.args.number = number_there bs c.args.number c.count_before-at.result there is place in search rules)
+    gap_at bs c.args.number c.count_before-at.result c.args.self.now.ordered at
+    (λ place. let same : there.0 ≡ c.args.number =
+    number_there bs c.args.number c.count_before-at.result there is place in search rules)
 
 pub returns-in_default-clause-missing : goal.returns-in_default-clause-missing
 returns-in_default-clause-missing c =
     let bs = c.args.self.now.blocks.items in
     let at : c.count_before-at.result ≡ count_before c.args.number bs = search rules in
-    gap_at bs c.args.number c.count_before-at.result c.args.self.now.ordered at (λ place. let within : c.count_before-at.result < length bs = place_within bs c.args.number c.count_before-at.result place in search rules)
+    gap_at bs c.args.number c.count_before-at.result c.args.self.now.ordered at
+    (λ place. let within : c.count_before-at.result < length bs =
+    place_within bs c.args.number c.count_before-at.result place in search rules)

@@ -8,4 +8,7 @@ returns-in-Ok c =
     let bs = c.args.self.now.blocks.items in
     let number : to_z w64 (of_z w64 c.args.number) ≡ c.args.number = search rules in
     let place : IsPlaceOf c.args.number bs c.in-Ok.at = rw number at c.in-Ok.ensures.found in
-    record { value = sym (block_there bs c.args.number c.in-Ok.at c.index.result.now c.args.self.now.ordered place c.index.ensures) }
+    record {
+      value = sym (block_there bs c.args.number c.in-Ok.at c.index.result.now c.args.self.now.ordered place
+          c.index.ensures);
+    }

@@ -18,11 +18,15 @@ invariant_of-self-2 c =
     let bs = c.args.self.now.blocks.items in
     let n = c.args.number in
     let items : c.insert.new.self.items ≡ insert bs c.args.at (n, c.args.block) = search rules in
-    record { ordered = subst Ascend (sym (items ∙ ap (λ i. insert bs i (n, c.args.block)) c.requires.1)) (ascend_with n c.args.block bs c.args.self.now.ordered c.requires.0) }
+    record {
+      ordered = subst Ascend (sym (items ∙ ap (λ i. insert bs i (n, c.args.block)) c.requires.1))
+          (ascend_with n c.args.block bs c.args.self.now.ordered c.requires.0);
+    }
 
 pub returns-clause-added : goal.returns-clause-added
 returns-clause-added c = λ q.
     let bs = c.args.self.now.blocks.items in
     let n = c.args.number in
     let items : c.insert.new.self.items ≡ insert bs c.args.at (n, c.args.block) = search rules in
-    ap (λ l. block_at l q) items ∙ lookup-insert (eq_by_cmp_equiv int_cmp_total) n c.args.block q bs c.args.at (none_passes_from_lookup (is_at (int_cmp n)) bs c.requires.0)
+    ap (λ l. block_at l q) items ∙ lookup-insert (eq_by_cmp_equiv int_cmp_total) n c.args.block q bs c.args.at
+    (none_passes_from_lookup (is_at (int_cmp n)) bs c.requires.0)

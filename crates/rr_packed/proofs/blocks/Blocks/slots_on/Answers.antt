@@ -9,7 +9,8 @@ returns-in-Some-clause-empty c = λ i some h.
     let blocks = c.args.self.now.blocks.items in
     let number : to_z w64 (of_z w64 c.block_of-number.result) ≡ block_of c.args.slot = search rules in
     let row : c.row_of-row.result ≡ row_of c.args.slot = search rules in
-    let has : Some c.in-Some.block.now ≡ block_at blocks (block_of c.args.slot) = rw number at c.in-Some.ensures.value in
+    let has : Some c.in-Some.block.now ≡ block_at blocks (block_of c.args.slot) =
+    rw number at c.in-Some.ensures.value in
     let near : row_of c.args.slot + i < 64 = omega arith in
     slots_after blocks c.args.slot i near
     ∙ (λ j. items_of_block (sym has j) (sym row j + i))

@@ -20,7 +20,8 @@ returns-then-not-is_live-clause-changed c =
     let a = c.args.self.now in
     let p = cell_slot c.args.slot c.args.origin in
     let dead : is_above a.rows a.newest c.args.slot ≡ false = search rules in
-    change_dead a.rows a.newest _ (row_at a.blocks) p (contribution_after (fin.get (cells_in a.rows a.newest a.blocks) p) c.args.change.now) a.held dead
+    change_dead a.rows a.newest _ (row_at a.blocks) p
+    (contribution_after (fin.get (cells_in a.rows a.newest a.blocks) p) c.args.change.now) a.held dead
 
 pub change-requires : goal.change-requires
 change-requires c =
@@ -29,7 +30,8 @@ change-requires c =
     let p = cell_slot c.args.slot c.args.origin in
     let slot : to_z w64 (of_z w64 c.args.slot) ≡ c.args.slot = search rules in
     let live : is_above a.rows a.newest c.args.slot ≡ true = search rules in
-    let known = get-cells_by f a.rows a.newest a.held.ascend a.held.none_later p ∙ ap (λ b. cond b (entry_at (f c.args.slot) c.args.origin) None) live in
+    let known = get-cells_by f a.rows a.newest a.held.ascend a.held.none_later p
+    ∙ ap (λ b. cond b (entry_at (f c.args.slot) c.args.origin) None) live in
     rw slot (subst (λ o. Fits o c.args.change.now) known c.requires.fits)
 
 pub first_live-requires : goal.first_live-requires
@@ -37,7 +39,8 @@ first_live-requires c =
     let a = c.args.self.now in
     let slot : to_z w64 (of_z w64 c.args.slot) ≡ c.args.slot = search rules in
     let top : to_z w64 (of_z w64 c.later-newest.result) ≡ c.later-newest.result = search rules in
-    let latest : Some c.later-newest.result ≡ greater int_cmp a.newest (Some c.args.slot) = c.later-newest.ensures ∙ ap (λ z. greater int_cmp a.newest (Some z)) slot in
+    let latest : Some c.later-newest.result ≡ greater int_cmp a.newest (Some c.args.slot) = c.later-newest.ensures
+    ∙ ap (λ z. greater int_cmp a.newest (Some z)) slot in
     rw top (later_is_slot a.newest c.args.slot c.later-newest.result latest c.requires.slot a.held.is_slot)
 
 -- what the steps did: the entry is set, the blocks past the horizon leave, and the newest slot is the later of
@@ -45,9 +48,12 @@ first_live-requires c =
 record Steps (c : goal.After-drop_before) : Type 0 where
   top : to_z w64 (of_z w64 c.later-newest.result) ≡ c.later-newest.result
   live : is_above c.args.self.now.rows c.args.self.now.newest c.args.slot ≡ true
-  known : fin.get (cells_in c.args.self.now.rows c.args.self.now.newest c.args.self.now.blocks) (cell_slot c.args.slot c.args.origin) ≡ entry_at (row_at c.args.self.now.blocks c.args.slot) c.args.origin
+  known : fin.get (cells_in c.args.self.now.rows c.args.self.now.newest c.args.self.now.blocks)
+      (cell_slot c.args.slot c.args.origin) ≡ entry_at (row_at c.args.self.now.blocks c.args.slot) c.args.origin
   latest : Some c.later-newest.result ≡ greater int_cmp c.args.self.now.newest (Some c.args.slot)
-  set : IsSetIn c.args.self.now.rows c.later-newest.result c.args.slot (entry_after (row_at c.args.self.now.blocks c.args.slot) c.args.origin c.args.change.now) (row_at c.args.self.now.blocks) (row_at c.drop_before.new.self)
+  set : IsSetIn c.args.self.now.rows c.later-newest.result c.args.slot
+      (entry_after (row_at c.args.self.now.blocks c.args.slot) c.args.origin c.args.change.now)
+      (row_at c.args.self.now.blocks) (row_at c.drop_before.new.self)
 
 steps : (c : goal.After-drop_before) → Steps c
 steps c =
@@ -56,18 +62,23 @@ steps c =
     let slot : to_z w64 (of_z w64 c.args.slot) ≡ c.args.slot = search rules in
     let live : is_above a.rows a.newest c.args.slot ≡ true = search rules in
     let top : to_z w64 (of_z w64 c.later-newest.result) ≡ c.later-newest.result = search rules in
-    let known = get-cells_by f a.rows a.newest a.held.ascend a.held.none_later (cell_slot c.args.slot c.args.origin) ∙ ap (λ b. cond b (entry_at (f c.args.slot) c.args.origin) None) live in
-    let latest : Some c.later-newest.result ≡ greater int_cmp a.newest (Some c.args.slot) = c.later-newest.ensures ∙ ap (λ z. greater int_cmp a.newest (Some z)) slot in
+    let known = get-cells_by f a.rows a.newest a.held.ascend a.held.none_later (cell_slot c.args.slot c.args.origin)
+    ∙ ap (λ b. cond b (entry_at (f c.args.slot) c.args.origin) None) live in
+    let latest : Some c.later-newest.result ≡ greater int_cmp a.newest (Some c.args.slot) = c.later-newest.ensures
+    ∙ ap (λ z. greater int_cmp a.newest (Some z)) slot in
     let e : Entry = entry_after (f c.args.slot) c.args.origin c.args.change.now in
     let set : IsSlotSet c.args.slot e f (row_at c.change.new.self) = rw slot at c.in_ok-change.ensures.changed in
-    let first : to_z w64 (of_z w64 c.first_live.result) ≡ (c.later-newest.result -ℤ pos a.rows) +ℤ pos 1 = search rules in
-    let left : IsLeft (to_z w64 (of_z w64 c.first_live.result)) (row_at c.change.new.self) (row_at c.drop_before.new.self) = c.drop_before.ensures in
+    let first : to_z w64 (of_z w64 c.first_live.result) ≡ (c.later-newest.result -ℤ pos a.rows) +ℤ pos 1 =
+    search rules in
+    let left : IsLeft (to_z w64 (of_z w64 c.first_live.result)) (row_at c.change.new.self)
+    (row_at c.drop_before.new.self) = c.drop_before.ensures in
     record {
       top = top;
       live = live;
       known = known;
       latest = latest;
-      set = set_in_packed a.rows a.newest _ c.later-newest.result c.args.slot (to_z w64 (of_z w64 c.first_live.result)) e f (row_at c.change.new.self) (row_at c.drop_before.new.self) a.held set left first latest;
+      set = set_in_packed a.rows a.newest _ c.later-newest.result c.args.slot (to_z w64 (of_z w64 c.first_live.result))
+          e f (row_at c.change.new.self) (row_at c.drop_before.new.self) a.held set left first latest;
     }
 
 pub invariant_of-self-2 : goal.invariant_of-self-2
@@ -77,10 +88,12 @@ invariant_of-self-2 c =
     let s = steps c in
     let top = s.top in
     let e : Entry = entry_after (f c.args.slot) c.args.origin c.args.change.now in
-    let in_range : IsInRange (cell_slot c.args.slot c.args.origin) = record { slot = c.requires.slot; origin = record { at_least = omega arith; at_most = omega arith } } in
+    let in_range : IsInRange (cell_slot c.args.slot c.args.origin) =
+    record { slot = c.requires.slot; origin = record { at_least = omega arith; at_most = omega arith } } in
     record {
       some_row = a.some_row;
-      held = rw top (change_held a.rows a.newest _ c.later-newest.result c.args.slot e f (row_at c.drop_before.new.self) a.some_row a.held s.set s.latest s.live _ refl in_range);
+      held = rw top (change_held a.rows a.newest _ c.later-newest.result c.args.slot e f (row_at c.drop_before.new.self)
+          a.some_row a.held s.set s.latest s.live _ refl in_range);
     }
 
 pub returns-clause-changed : goal.returns-clause-changed
@@ -91,5 +104,7 @@ returns-clause-changed c =
     let top = s.top in
     let p = cell_slot c.args.slot c.args.origin in
     let e : Entry = entry_after (f c.args.slot) c.args.origin c.args.change.now in
-    rw top (change_cells a.rows a.newest _ c.later-newest.result c.args.slot e f (row_at c.drop_before.new.self) a.some_row a.held s.set s.latest s.live
-    ∙ ap (λ o. trimmed (is_live_at a.rows) (fin.insert (cells_in a.rows a.newest a.blocks) p (contribution_after o c.args.change.now))) (sym s.known))
+    rw top (change_cells a.rows a.newest _ c.later-newest.result c.args.slot e f (row_at c.drop_before.new.self)
+    a.some_row a.held s.set s.latest s.live
+    ∙ ap (λ o. trimmed (is_live_at a.rows) (fin.insert (cells_in a.rows a.newest a.blocks) p
+    (contribution_after o c.args.change.now))) (sym s.known))

@@ -8,7 +8,8 @@ use Rattle.rr_packed.proofs.packed_archive.PackedArchiveCells.cell_at.Given as g
 
 abbrev pub invariant-loop-k : goal.invariant-loop-k
 invariant-loop-k l = record {
-  left : slice_get (cells_left (row_at l.self.blocks) l.first l.self.rows l.k) l.left ≡ slice_get (entries (cells_by l.self.rows l.self.newest (row_at l.self.blocks))) l.fn.i;
+  left : slice_get (cells_left (row_at l.self.blocks) l.first l.self.rows l.k) l.left
+      ≡ slice_get (entries (cells_by l.self.rows l.self.newest (row_at l.self.blocks))) l.fn.i;
   within : l.k ≤ l.self.rows;
 }
 

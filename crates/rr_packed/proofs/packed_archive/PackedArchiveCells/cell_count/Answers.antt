@@ -9,7 +9,8 @@ use Rattle.rr_packed.proofs.packed_archive.PackedArchiveCells.cell_count.Goals a
 pub returns-in_default : goal.returns-in_default
 returns-in_default c =
     let a = c.args.self.now in
-    sym (len-entries (cells_by a.rows a.newest (row_at a.blocks)) ∙ ap length (entries_none a.rows a.newest (row_at a.blocks) a.held.ascend c.in_default.is))
+    sym (len-entries (cells_by a.rows a.newest (row_at a.blocks))
+    ∙ ap length (entries_none a.rows a.newest (row_at a.blocks) a.held.ascend c.in_default.is))
 
 pub loop-k-init : goal.loop-k-init
 loop-k-init c =
@@ -17,7 +18,8 @@ loop-k-init c =
     let f = row_at a.blocks in
     let z = to_z w64 (of_z w64 c.first_live-first.result) in
     let first : z ≡ ((c.in-Some.newest -ℤ pos a.rows) +ℤ pos 1) = search rules in
-    let all = ap length (entries_live a.rows a.newest f a.held.ascend c.in-Some.newest z c.in-Some.is first) ∙ sym (len-entries (cells_by a.rows a.newest f)) in
+    let all = ap length (entries_live a.rows a.newest f a.held.ascend c.in-Some.newest z c.in-Some.is first)
+    ∙ sym (len-entries (cells_by a.rows a.newest f)) in
     record { counted = omega arith; within = omega arith }
 
 pub overflow_add-count : goal.overflow_add-count
@@ -45,7 +47,8 @@ loop-k-preserved c =
     let step = length_step f z a.rows c.loop-k.k within in
     let here = ap length row in
     let so_far = c.loop-k.invariant.counted in
-    let skipped = ap length (left_skip f z a.rows c.loop-k.k c.slots_on-k.result c.slots_on-k.ensures.some (omega arith) (λ j some h. ap (λ y. f (y +ℤ pos j)) (sym at_is) ∙ c.slots_on-k.ensures.empty j some h)) in
+    let skipped = ap length (left_skip f z a.rows c.loop-k.k c.slots_on-k.result c.slots_on-k.ensures.some (omega arith)
+    (λ j some h. ap (λ y. f (y +ℤ pos j)) (sym at_is) ∙ c.slots_on-k.ensures.empty j some h)) in
     record { counted = omega arith; within = omega arith }
 
 pub returns : goal.returns

@@ -7,7 +7,8 @@ use Rattle.rr_packed.proofs.packed_archive.PackedArchiveCells.cell_count.Given a
 
 abbrev pub invariant-loop-k : goal.invariant-loop-k
 invariant-loop-k l = record {
-  counted : l.count + length (cells_left (row_at l.self.blocks) l.first l.self.rows l.k) ≡ len (cells_by l.self.rows l.self.newest (row_at l.self.blocks));
+  counted : l.count + length (cells_left (row_at l.self.blocks) l.first l.self.rows l.k)
+      ≡ len (cells_by l.self.rows l.self.newest (row_at l.self.blocks));
   within : l.k ≤ l.self.rows;
 }
 

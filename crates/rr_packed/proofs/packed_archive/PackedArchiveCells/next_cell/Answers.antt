@@ -17,7 +17,8 @@ use Rattle.rr_packed.proofs.packed_archive.PackedArchiveCells.next_cell.Goals as
 pub returns-in_default : goal.returns-in_default
 returns-in_default c =
     let a = c.args.self.now in
-    sym (ap (λ es. option_map cell_of (find (is_past (cell_slot c.args.slot c.args.origin)) es)) (entries_none a.rows a.newest (row_at a.blocks) a.held.ascend c.in_default.is))
+    sym (ap (λ es. option_map cell_of (find (is_past (cell_slot c.args.slot c.args.origin)) es))
+    (entries_none a.rows a.newest (row_at a.blocks) a.held.ascend c.in_default.is))
 
 pub returns-then-newest-slot : goal.returns-then-newest-slot
 returns-then-newest-slot c =
@@ -41,7 +42,8 @@ loop-k-init c =
     let first : z ≡ ((c.in-Some.newest -ℤ pos a.rows) +ℤ pos 1) = search rules in
     record {
       first =
-          ap (option_map cell_of) (find_skip f z a.rows p c.rows_before-k.result c.rows_before-k.ensures.at_most c.rows_before-k.ensures.before
+          ap (option_map cell_of) (find_skip f z a.rows p c.rows_before-k.result c.rows_before-k.ensures.at_most
+          c.rows_before-k.ensures.before
           ∙ ap (find (is_past p)) (entries_live a.rows a.newest f a.held.ascend c.in-Some.newest z c.in-Some.is first));
       from = c.rows_before-k.ensures.from;
       within = c.rows_before-k.ensures.at_most;
@@ -65,12 +67,16 @@ returns-in-Some-first_after c =
     let at_is : to_z w64 (of_z w64 (z +ℤ to_z w64 (of_z w64 c.from.result))) ≡ at = search rules in
     let row : c.as_slice.result.now ≡ f at = search rules in
     let e : Entry = c.in-Some-first_after.entry in
-    let some : find (is_after (int_lt slot at) c.args.origin) (f at) ≡ Some e = (λ i. find (is_after (int_lt slot (sym at_is i)) c.args.origin) (sym row i)) ∙ sym c.first_after.ensures ∙ c.in-Some-first_after.is in
+    let some : find (is_after (int_lt slot at) c.args.origin) (f at) ≡ Some e =
+    (λ i. find (is_after (int_lt slot (sym at_is i)) c.args.origin) (sym row i)) ∙ sym c.first_after.ensures
+    ∙ c.in-Some-first_after.is in
     ap (λ y. Some (y, e)) at_is
-    ∙ sym (past_found slot at c.args.origin (f at) (cells_left f z a.rows (c.loop-k.k + 1)) e (not_before z slot c.loop-k.k c.loop-k.invariant.from) some)
+    ∙ sym (past_found slot at c.args.origin (f at) (cells_left f z a.rows (c.loop-k.k + 1)) e
+    (not_before z slot c.loop-k.k c.loop-k.invariant.from) some)
     ∙ ap (λ es. option_map cell_of (find (is_past p) es)) (sym (left_step f z a.rows c.loop-k.k c.loop-k-test.true))
     ∙ c.loop-k.invariant.first
-    ∙ ap (λ s. option_map cell_of (find (is_past (cell_slot s c.args.origin)) (entries (cells_by a.rows a.newest f)))) back
+    ∙ ap (λ s. option_map cell_of (find (is_past (cell_slot s c.args.origin)) (entries (cells_by a.rows a.newest f))))
+    back
 
 pub loop-k-preserved : goal.loop-k-preserved
 loop-k-preserved c =
@@ -81,14 +87,20 @@ loop-k-preserved c =
     let at = z +ℤ pos c.loop-k.k in
     let at_is : to_z w64 (of_z w64 (z +ℤ to_z w64 (of_z w64 c.from.result))) ≡ at = search rules in
     let row : c.as_slice.result.now ≡ f at = search rules in
-    let none : find (is_after (int_lt slot at) c.args.origin) (f at) ≡ None = (λ i. find (is_after (int_lt slot (sym at_is i)) c.args.origin) (sym row i)) ∙ sym c.first_after.ensures ∙ c.in_default-first_after.is in
+    let none : find (is_after (int_lt slot at) c.args.origin) (f at) ≡ None =
+    (λ i. find (is_after (int_lt slot (sym at_is i)) c.args.origin) (sym row i)) ∙ sym c.first_after.ensures
+    ∙ c.in_default-first_after.is in
     let within : c.loop-k.k < a.rows = omega arith in
-    let skipped : cells_left f z a.rows (c.loop-k.k + 1) ≡ cells_left f z a.rows (c.loop-k.k + c.slots_on-k.result) = left_skip f z a.rows c.loop-k.k c.slots_on-k.result c.slots_on-k.ensures.some (omega arith) (λ j some h. ap (λ y. f (y +ℤ pos j)) (sym at_is) ∙ c.slots_on-k.ensures.empty j some h) in
+    let skipped : cells_left f z a.rows (c.loop-k.k + 1) ≡ cells_left f z a.rows (c.loop-k.k + c.slots_on-k.result) =
+    left_skip f z a.rows c.loop-k.k c.slots_on-k.result c.slots_on-k.ensures.some (omega arith)
+    (λ j some h. ap (λ y. f (y +ℤ pos j)) (sym at_is) ∙ c.slots_on-k.ensures.empty j some h) in
     record {
       first =
           ap (λ es. option_map cell_of (find (is_past (cell_slot slot c.args.origin)) es)) (sym skipped)
-          ∙ past_none slot at c.args.origin (f at) (cells_left f z a.rows (c.loop-k.k + 1)) (not_before z slot c.loop-k.k c.loop-k.invariant.from) none
-          ∙ ap (λ es. option_map cell_of (find (is_past (cell_slot slot c.args.origin)) es)) (sym (left_step f z a.rows c.loop-k.k within))
+          ∙ past_none slot at c.args.origin (f at) (cells_left f z a.rows (c.loop-k.k + 1))
+          (not_before z slot c.loop-k.k c.loop-k.invariant.from) none
+          ∙ ap (λ es. option_map cell_of (find (is_past (cell_slot slot c.args.origin)) es))
+          (sym (left_step f z a.rows c.loop-k.k within))
           ∙ c.loop-k.invariant.first;
       from = further z slot c.loop-k.k c.slots_on-k.result c.loop-k.invariant.from;
       within = omega arith;
@@ -102,5 +114,7 @@ returns c =
     let slot = to_z w64 (of_z w64 c.args.slot) in
     let back : slot ≡ c.args.slot = search rules in
     let past : c.loop-k.k ≡ a.rows = omega arith in
-    let none = sym c.loop-k.invariant.first ∙ ap (λ es. option_map cell_of (find (is_past (cell_slot slot c.args.origin)) es)) (ap (cells_left f z a.rows) past ∙ left_none f z a.rows) in
-    sym (ap (λ s. option_map cell_of (find (is_past (cell_slot s c.args.origin)) (entries (cells_by a.rows a.newest f)))) (sym back) ∙ none)
+    let none = sym c.loop-k.invariant.first ∙ ap (λ es. option_map cell_of
+    (find (is_past (cell_slot slot c.args.origin)) es)) (ap (cells_left f z a.rows) past ∙ left_none f z a.rows) in
+    sym (ap (λ s. option_map cell_of (find (is_past (cell_slot s c.args.origin))
+    (entries (cells_by a.rows a.newest f)))) (sym back) ∙ none)

@@ -12,7 +12,10 @@ use Rattle.rr_packed.proofs.packed_archive.PackedArchiveCells.next_cell.Given as
 
 abbrev pub invariant-loop-k : goal.invariant-loop-k
 invariant-loop-k l = record {
-  first : option_map cell_of (find (is_past (cell_slot l.fn.slot l.fn.origin)) (cells_left (row_at l.self.blocks) l.first l.self.rows l.k)) ≡ option_map cell_of (find (is_past (cell_slot l.fn.slot l.fn.origin)) (entries (cells_by l.self.rows l.self.newest (row_at l.self.blocks))));
+  first : option_map cell_of (find (is_past (cell_slot l.fn.slot l.fn.origin))
+      (cells_left (row_at l.self.blocks) l.first l.self.rows l.k))
+      ≡ option_map cell_of (find (is_past (cell_slot l.fn.slot l.fn.origin))
+      (entries (cells_by l.self.rows l.self.newest (row_at l.self.blocks))));
   from : l.fn.slot ≤ℤ (l.first +ℤ pos l.k);
   within : l.k ≤ l.self.rows;
 }

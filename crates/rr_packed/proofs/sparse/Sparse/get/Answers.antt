@@ -8,7 +8,11 @@ returns-in-Some g c =
     let s = c.args.self.now in
     let at = c.in-Some.at in
     let within : at < length s.items.items = search rules in
-    record { value = ap (λ x. Some x) c.index.ensures ∙ sym (slice_get-get_or s.items.items at c.index.result.now within) ∙ sym (item_found s.mask s.items.items c.args.number at c.in-Some.ensures.place) }
+    record {
+      value = ap (λ x. Some x) c.index.ensures
+          ∙ sym (slice_get-get_or s.items.items at c.index.result.now within)
+          ∙ sym (item_found s.mask s.items.items c.args.number at c.in-Some.ensures.place);
+    }
 
 pub returns-in-None : goal.returns-in-None
 returns-in-None g c =

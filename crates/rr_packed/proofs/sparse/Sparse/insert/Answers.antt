@@ -12,7 +12,8 @@ invariant_of-self-2 g c =
     let new = bit_or s.mask (1 * 2 ^ k % 2 ^ 64) in
     let fits : s.mask < 2 ^ 64 = search rules in
     let more : HasOneMore s.mask new k = more_by_or s.mask k c.requires.number (none_tells s.mask k c.requires.free) in
-    let ones = ones_more s.mask new k more fits (or_lt 64 s.mask (1 * 2 ^ k % 2 ^ 64) fits (mod_below (1 * 2 ^ k) (2 ^ 64) (pow_pos 64))) c.requires.number in
+    let ones = ones_more s.mask new k more fits (or_lt 64 s.mask (1 * 2 ^ k % 2 ^ 64) fits
+    (mod_below (1 * 2 ^ k) (2 ^ 64) (pow_pos 64))) c.requires.number in
     let counted = s.counted in
     let len : vec_len c.insert.new.self ≡ vec_len s.items + 1 = search rules in
     record { counted = omega arith }
@@ -26,4 +27,5 @@ returns-clause-added g c = λ n.
     let at : c.rank-at.result ≡ rank s.mask k = c.rank-at.ensures.rank in
     let fits : rank s.mask k ≤ length s.items.items = omega arith in
     let items : c.insert.new.self.items ≡ insert s.items.items c.rank-at.result c.args.item = search rules in
-    ap (λ xs. item_at new xs n) (items ∙ ap (λ i. insert s.items.items i c.args.item) at) ∙ item_insert s.mask new s.items.items k c.args.item more fits n
+    ap (λ xs. item_at new xs n) (items ∙ ap (λ i. insert s.items.items i c.args.item) at)
+    ∙ item_insert s.mask new s.items.items k c.args.item more fits n

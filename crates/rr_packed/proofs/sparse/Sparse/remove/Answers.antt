@@ -22,7 +22,8 @@ returns-clause-removed g c = λ n.
     let less : HasOneMore left s.mask k = less_by_and s.mask k fits c.requires told.0 in
     let within : at < length s.items.items = search rules in
     let items : c.remove.new.self.items ≡ remove s.items.items at = search rules in
-    ap (λ xs. item_at left xs n) (items ∙ ap (remove s.items.items) told.1) ∙ item_remove left s.mask s.items.items k less (subst (λ i. i < length s.items.items) told.1 within) n
+    ap (λ xs. item_at left xs n) (items ∙ ap (remove s.items.items) told.1)
+    ∙ item_remove left s.mask s.items.items k less (subst (λ i. i < length s.items.items) told.1 within) n
 
 pub returns-clause-free : goal.returns-clause-free
 returns-clause-free g c =

@@ -15,10 +15,12 @@ returns-in-Some-clause-written c =
     let field = c.args.field.now in
     let front : c.in-Some.front.now ≡ _ = c.args.self.now.front_of c.in-Some.front (search rules) in
     let spelled : name_len Other field ≡ length field = search rules in
-    subst (λ (t : List ℕ). OnOk c.write_parts.result (c.write_parts.new.text.items ≡ t)) (key_after_front p c.in-Some.front.now field front spelled) c.write_parts.ensures
+    subst (λ (t : List ℕ). OnOk c.write_parts.result (c.write_parts.new.text.items ≡ t))
+    (key_after_front p c.in-Some.front.now field front spelled) c.write_parts.ensures
 
 -- where a text is written, it is a key text
-grammar_of : {T E : Type 0} (result : Result T E) (text key : List ℕ) → IsKeyText key → OnOk result (text ≡ key) → OnOk result (IsKeyText text)
+grammar_of : {T E : Type 0} (result : Result T E) (text key : List ℕ) → IsKeyText key → OnOk result (text ≡ key)
+    → OnOk result (IsKeyText text)
 grammar_of (Ok t) text key is written = subst IsKeyText (sym written) is
 grammar_of (Err e) text key is written = written
 
@@ -26,4 +28,5 @@ pub returns-in-Some-clause-grammar : goal.returns-in-Some-clause-grammar
 returns-in-Some-clause-grammar c =
     let p = point_view c.args.self.now in
     let key = key_text p c.args.field.now in
-    grammar_of c.write_parts.result c.write_parts.new.text.items key (IsKeyText-made (names_of p c.args.field.now) key c.requires refl) (returns-in-Some-clause-written c)
+    grammar_of c.write_parts.result c.write_parts.new.text.items key
+    (IsKeyText-made (names_of p c.args.field.now) key c.requires refl) (returns-in-Some-clause-written c)

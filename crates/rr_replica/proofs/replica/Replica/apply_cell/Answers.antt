@@ -6,4 +6,5 @@ use Rattle.rr_replica.proofs.replica.Replica.apply_cell.Goals as goal
 
 pub join_cell-requires : goal.join_cell-requires
 join_cell-requires g c =
-    subst (λ (s : Layout). IsCellOf s (owned_cell c.args.cell.now)) c.schema.ensures.value (c.is_of.ensures.cell.0 c.if-not-is_of.false)
+    subst (λ (s : Layout). IsCellOf s (owned_cell c.args.cell.now)) c.schema.ensures.value
+    (c.is_of.ensures.cell.0 c.if-not-is_of.false)

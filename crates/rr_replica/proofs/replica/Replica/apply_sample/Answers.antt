@@ -4,7 +4,7 @@ use Rattle.std.specs.Int.{w64}
 use Rattle.std.specs.Prelude.{IsOk}
 use Rattle.rr_cells.specs.Operations.{accepts}
 use Rattle.rr_cells.specs.declared.op.Op.TheVariants.{Put}
-use Rattle.rr_replica.specs.Standing.{held}
+use Rattle.rr_replica.specs.ReplicaWithRoom.{replica_state}
 use Rattle.rr_replica.proofs.replica.Replica.apply_sample.Goals as goal
 
 pub invariant_of-reading : goal.invariant_of-reading
@@ -14,7 +14,8 @@ invariant_of-reading g c =
 
 pub returns-in_err-put_reading-clause-room : goal.returns-in_err-put_reading-clause-room
 returns-in_err-put_reading-clause-room g c = λ ready.
-    let taken : accepts (held c.args.self.now) (Put c.args.sample.now) ≡ true = sym c.accepts_sample.ensures.accepted ∙ c.if-not-accepts_sample.false in
+    let taken : accepts (replica_state c.args.self.now) (Put c.args.sample.now) ≡ true =
+    sym c.accepts_sample.ensures.accepted ∙ c.if-not-accepts_sample.false in
     let back = to_z-of_z {w = w64} {z = c.args.sample.now.time} (search rules) in
     let ok : IsOk c.put_reading.result = (rw back at c.put_reading.ensures.room) (ready taken) in
     absurd (true≢false (sym (subst IsOk c.in_err-put_reading.was ok)))

@@ -2,7 +2,7 @@ use Rattle.std.proofs.Common.{rules, ◌≡◌, ◌+◌, [], ◌∷◌, ◌++◌
 use Rattle.std.specs.Option.{option_map}
 use Rattle.std.specs.FinMap as fin
 use Rattle.rr_cells.specs.Listing.{seen_cell, owned_cell}
-use Rattle.rr_replica.specs.Standing.{held}
+use Rattle.rr_replica.specs.ReplicaWithRoom.{replica_state}
 use Rattle.rr_cells.proofs.HeldCells.{listed_held}
 use Rattle.rr_replica.proofs.InTurn.{next_of_sorted, taken_more, taken_all, map-last}
 use Rattle.rr_replica.proofs.replica.Replica.cells_from.Goals as goal
@@ -19,7 +19,8 @@ loop-preserved g c =
     let i = c.loop.counter in
     let cell = c.in-Some.cell in
     let new = c.in_ok-to_cell.field-0 in
-    let at : slice_get all (c.args.from + i) ≡ Some (seen_cell cell) = sym c.loop.invariant.next ∙ ap (option_map seen_cell) c.in-Some.is in
+    let at : slice_get all (c.args.from + i) ≡ Some (seen_cell cell) = sym c.loop.invariant.next
+    ∙ ap (option_map seen_cell) c.in-Some.is in
     let owned : owned_cell new ≡ seen_cell cell = search rules in
     let items : c.push.new.self.items ≡ c.loop.cells.items ++ new ∷ [] = search rules in
     let slot : to_z w64 (of_z w64 cell.slot) ≡ cell.slot = search rules in
@@ -37,11 +38,13 @@ loop-preserved g c =
 pub returns-in_default-clause-listed : goal.returns-in_default-clause-listed
 returns-in_default-clause-listed g c =
     let all = fin.entries c.args.self.now.cells in
-    let past : slice_get all (c.args.from + c.loop.counter) ≡ None = sym c.loop.invariant.next ∙ ap (option_map seen_cell) c.in_default.is in
+    let past : slice_get all (c.args.from + c.loop.counter) ≡ None = sym c.loop.invariant.next
+    ∙ ap (option_map seen_cell) c.in_default.is in
     c.loop.invariant.taken ∙ taken_all all c.args.from c.loop.counter c.args.count past c.loop.auto.counter-end
 
 pub returns-in_default-clause-of_schema : goal.returns-in_default-clause-of_schema
-returns-in_default-clause-of_schema g c = listed_held (held c.args.self.now) c.args.from c.loop.counter c.loop.cells.items c.schema-schema.ensures.holds c.loop.invariant.taken
+returns-in_default-clause-of_schema g c = listed_held (replica_state c.args.self.now) c.args.from c.loop.counter
+    c.loop.cells.items c.schema-schema.ensures.holds c.loop.invariant.taken
 
 pub returns-clause-listed : goal.returns-clause-listed
 returns-clause-listed g c =
@@ -50,4 +53,5 @@ returns-clause-listed g c =
     c.loop.invariant.taken ∙ ap (λ n. take n (drop c.args.from (fin.entries c.args.self.now.cells))) (omega arith)
 
 pub returns-clause-of_schema : goal.returns-clause-of_schema
-returns-clause-of_schema g c = listed_held (held c.args.self.now) c.args.from c.loop.counter c.loop.cells.items c.schema-schema.ensures.holds c.loop.invariant.taken
+returns-clause-of_schema g c = listed_held (replica_state c.args.self.now) c.args.from c.loop.counter c.loop.cells.items
+    c.schema-schema.ensures.holds c.loop.invariant.taken

@@ -3,11 +3,11 @@ use Rattle.std.specs.Prelude.{IsOk}
 use Rattle.rr_replica.specs.SeriesMap.{entries_of}
 use Rattle.rr_cells.specs.CellBounds.{IsCellOf}
 use Rattle.rr_cells.specs.declared.op.Op.TheVariants.{Join}
-use Rattle.rr_replica.specs.Standing.{Standing, HasRoomFor}
+use Rattle.rr_replica.specs.ReplicaWithRoom.{ReplicaWithRoom, HasRoomFor}
 use Rattle.rr_cells.specs.Joining.{next_after}
 use Rattle.rr_cells.specs.Listing.{owned_cell}
-use Rattle.rr_replica.specs.Held.{IsHeld}
-use Rattle.rr_replica.proofs.HeldLemmas.{kept_same}
+use Rattle.rr_replica.specs.InMemory.{IsReplicaInMemory}
+use Rattle.rr_replica.proofs.InMemoryLemmas.{kept_same}
 use Rattle.rr_replica.proofs.IndexedLemmas.{entries_ordered}
 use Rattle.rr_replica.proofs.JoinedCell.{kept_joined}
 use Rattle.rr_replica.proofs.RoomLemmas.{room_there}
@@ -18,19 +18,26 @@ invariant_of-self g c =
     let r = c.self.inside in
     let new = c.join_in.new.series in
     let e = c.in_err-join_in.ensures in (
-      kept_same g.A.Cells.cells g.A.Cells.row_limit r.schema r.origin r.next (entries_of r.series) (entries_of new) c.self.invariant.0 e.unchanged e.sized (entries_ordered new.keys.items new.indices.entries new.archives.items e.indexed),
+      kept_same g.A.Cells.cells g.A.Cells.row_limit r.schema r.origin r.next (entries_of r.series) (entries_of new)
+          c.self.invariant.0 e.unchanged e.sized (entries_ordered new.keys.items new.indices.entries new.archives.items
+          e.indexed),
       e.indexed,
     )
 
 pub invariant_of-self-2 : goal.invariant_of-self-2
 invariant_of-self-2 g c =
     let r = c.self.inside in
-    let cell : IsCellOf r.schema (owned_cell c.args.cell.now) = subst (λ (h : Standing). IsCellOf h.schema (owned_cell c.args.cell.now)) (sym c.self.view_is) c.requires in
-    let next : c.next_after-self-inside.result ≡ next_after r.origin r.next (owned_cell c.args.cell.now) = c.next_after-self-inside.ensures in
+    let cell : IsCellOf r.schema (owned_cell c.args.cell.now) =
+    subst (λ (h : ReplicaWithRoom). IsCellOf h.schema (owned_cell c.args.cell.now)) (sym c.self.view_is)
+    c.requires in
+    let next : c.next_after-self-inside.result ≡ next_after r.origin r.next (owned_cell c.args.cell.now) =
+    c.next_after-self-inside.ensures in
     let new = c.join_in.new.series in
     let e = c.in_ok-join_in.ensures in (
-      subst (λ n. IsHeld g.A.Cells.cells g.A.Cells.row_limit r.schema r.origin n (entries_of new)) (sym next)
-          (kept_joined g.A.Cells.cells g.A.Cells.row_limit r.schema r.origin r.next c.args.cell.now (entries_of r.series) (entries_of new) c.self.invariant.0 cell e.joined e.sized (entries_ordered new.keys.items new.indices.entries new.archives.items e.indexed)),
+      subst (λ n. IsReplicaInMemory g.A.Cells.cells g.A.Cells.row_limit r.schema r.origin n (entries_of new)) (sym next)
+          (kept_joined g.A.Cells.cells g.A.Cells.row_limit r.schema r.origin r.next c.args.cell.now
+          (entries_of r.series) (entries_of new) c.self.invariant.0 cell e.joined e.sized
+          (entries_ordered new.keys.items new.indices.entries new.archives.items e.indexed)),
       e.indexed,
     )
 
@@ -38,7 +45,8 @@ pub returns-in_err-join_in-clause-room : goal.returns-in_err-join_in-clause-room
 returns-in_err-join_in-clause-room g c = λ h.
     let r = c.self.inside in
     let op = Join c.args.cell.now in
-    let told = subst (λ (st : Standing). HasRoomFor st op) (sym c.self.view_is) h in
-    let there = room_there g.A.Cells.is_ready g.A.Cells.cells g.A.Cells.row_limit r.schema c.self.invariant.0.holds.layout r.origin r.next (entries_of r.series) c.self.invariant.0.sized op told in
+    let told = subst (λ (st : ReplicaWithRoom). HasRoomFor st op) (sym c.self.view_is) h in
+    let there = room_there g.A.Cells.is_ready g.A.Cells.cells g.A.Cells.row_limit r.schema
+    c.self.invariant.0.holds.layout r.origin r.next (entries_of r.series) c.self.invariant.0.sized op told in
     let ok : IsOk c.join_in.result = c.join_in.ensures.room there in
     absurd (true≢false (sym (subst IsOk c.in_err-join_in.was ok)))

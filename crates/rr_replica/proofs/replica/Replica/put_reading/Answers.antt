@@ -2,8 +2,8 @@ use Rattle.std.proofs.Common.{true≢false, sym, subst}
 use Rattle.std.specs.Prelude.{IsOk}
 use Rattle.rr_replica.specs.SeriesMap.{entries_of}
 use Rattle.rr_cells.specs.declared.op.Op.TheVariants.{Put}
-use Rattle.rr_replica.specs.Held.{sample_of_reading}
-use Rattle.rr_replica.specs.Standing.{Standing, HasRoomFor}
+use Rattle.rr_replica.specs.InMemory.{sample_of_reading}
+use Rattle.rr_replica.specs.ReplicaWithRoom.{ReplicaWithRoom, HasRoomFor}
 use Rattle.rr_replica.proofs.RoomLemmas.{room_there}
 use Rattle.rr_replica.proofs.replica.Replica.put_reading.Goals as goal
 
@@ -11,7 +11,8 @@ pub returns-in_err-put_in-clause-room : goal.returns-in_err-put_in-clause-room
 returns-in_err-put_in-clause-room g c = λ h.
     let r = c.self.inside in
     let op = Put (sample_of_reading c.args.key.now c.args.sample) in
-    let told = subst (λ (st : Standing). HasRoomFor st op) (sym c.self.view_is) h in
-    let there = room_there g.A.Cells.is_ready g.A.Cells.cells g.A.Cells.row_limit r.schema c.self.invariant.0.holds.layout r.origin r.next (entries_of r.series) c.self.invariant.0.sized op told in
+    let told = subst (λ (st : ReplicaWithRoom). HasRoomFor st op) (sym c.self.view_is) h in
+    let there = room_there g.A.Cells.is_ready g.A.Cells.cells g.A.Cells.row_limit r.schema
+    c.self.invariant.0.holds.layout r.origin r.next (entries_of r.series) c.self.invariant.0.sized op told in
     let ok : IsOk c.put_in.result = c.put_in.ensures.room there in
     absurd (true≢false (sym (subst IsOk c.in_err-put_in.was ok)))

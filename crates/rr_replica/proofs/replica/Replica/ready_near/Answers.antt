@@ -2,10 +2,10 @@ use Rattle.std.proofs.Common.{◌≡◌, true, sym, subst, ◌∙◌}
 use Rattle.std.proofs.lemmas.Result.{on_ok_weaker}
 use Rattle.rr_replica.specs.SeriesMap.{entries_of}
 use Rattle.rr_replica.specs.Archives.{IsOpOf}
-use Rattle.rr_replica.specs.Held.{holding_of}
+use Rattle.rr_replica.specs.InMemory.{replica_state_in}
 use Rattle.rr_cells.specs.Operations.{accepts}
-use Rattle.rr_replica.specs.Standing.{Standing, held}
-use Rattle.rr_replica.proofs.HeldLemmas.{kept_same}
+use Rattle.rr_replica.specs.ReplicaWithRoom.{ReplicaWithRoom, replica_state}
+use Rattle.rr_replica.proofs.InMemoryLemmas.{kept_same}
 use Rattle.rr_replica.proofs.IndexedLemmas.{entries_ordered}
 use Rattle.rr_replica.proofs.RoomLemmas.{room_told, taken_origin}
 use Rattle.rr_replica.proofs.replica.Replica.ready_near.Goals as goal
@@ -15,7 +15,9 @@ invariant_of-self g c =
     let r = c.self.inside in
     let new = c.make_room_in.new.series in
     let e = c.make_room_in.ensures in (
-      kept_same g.A.Cells.cells g.A.Cells.row_limit r.schema r.origin r.next (entries_of r.series) (entries_of new) c.self.invariant.0 e.unchanged e.sized (entries_ordered new.keys.items new.indices.entries new.archives.items e.indexed),
+      kept_same g.A.Cells.cells g.A.Cells.row_limit r.schema r.origin r.next (entries_of r.series) (entries_of new)
+          c.self.invariant.0 e.unchanged e.sized (entries_ordered new.keys.items new.indices.entries new.archives.items
+          e.indexed),
       e.indexed,
     )
 
@@ -25,7 +27,13 @@ returns-clause-room g c =
     let op = c.args.op.now in
     let cells = g.A.Cells.cells in
     let new = (entries_of c.make_room_in.new.series) in
-    let of : IsOpOf r.schema op = subst (λ (st : Standing). IsOpOf st.schema op) (sym c.self.view_is) (c.accepts.ensures.op c.if-not-accepts.false) in
-    let taken : accepts (holding_of cells r.schema r.origin r.next (entries_of r.series)) op ≡ true = subst (λ (st : Standing). accepts (held st) op ≡ true) (sym c.self.view_is) (sym c.accepts.ensures.accepted ∙ c.if-not-accepts.false) in
-    let number = taken_origin (holding_of cells r.schema r.origin r.next (entries_of r.series)) op taken of c.self.invariant.0.holds.origin in
-    on_ok_weaker c.make_room_in.result (λ room. λ _. room_told g.A.Cells.is_ready cells g.A.Cells.row_limit r.schema c.self.invariant.0.holds.layout r.origin r.next new c.make_room_in.ensures.sized op of number room) c.make_room_in.ensures.room
+    let of : IsOpOf r.schema op = subst (λ (st : ReplicaWithRoom). IsOpOf st.schema op) (sym c.self.view_is)
+    (c.accepts.ensures.op c.if-not-accepts.false) in
+    let taken : accepts (replica_state_in cells r.schema r.origin r.next (entries_of r.series)) op ≡ true =
+    subst (λ (st : ReplicaWithRoom). accepts (replica_state st) op ≡ true) (sym c.self.view_is)
+    (sym c.accepts.ensures.accepted ∙ c.if-not-accepts.false) in
+    let number = taken_origin (replica_state_in cells r.schema r.origin r.next (entries_of r.series)) op taken of
+    c.self.invariant.0.holds.origin in
+    on_ok_weaker c.make_room_in.result (λ room. λ _. room_told g.A.Cells.is_ready cells g.A.Cells.row_limit r.schema
+    c.self.invariant.0.holds.layout r.origin r.next new c.make_room_in.ensures.sized op of number room)
+    c.make_room_in.ensures.room

@@ -8,9 +8,9 @@ use Rattle.rr_key.specs.Making.{making_fault}
 use Rattle.rr_point.specs.Key.{names_of, key_text}
 use Rattle.rr_point.specs.Point.{field_view, point_view}
 use Rattle.rr_point.specs.declared.point.Field.{Field}
-use Rattle.rr_cells.specs.Holding.{Holding, with_put}
+use Rattle.rr_cells.specs.ReplicaState.{ReplicaState, with_put}
 use Rattle.rr_replica.specs.Writing.{with_fields}
-use Rattle.rr_replica.specs.Standing.{held}
+use Rattle.rr_replica.specs.ReplicaWithRoom.{replica_state}
 use Rattle.rr_replica.proofs.FieldLemmas.{with_fields-append, field_at, take-view, failed, passed}
 use Rattle.rr_replica.proofs.replica.Replica.write_fields.Goals as goal
 
@@ -19,7 +19,9 @@ write_field-requires-clause-keyed g c =
     let p = point_view c.args.point.now in
     let any : Field = record { key = record { ref_ptr = (0, 0); now = [] }; value = pos 0 } in
     let Keyed : List ℕ × ℤ → Type 0 = λ field. making_fault (names_of p field.0) ≡ None in
-    let keyed : AllByRecursion Keyed (map field_view c.deref-field-items.result.now) = subst (λ (items : List Field). AllByRecursion Keyed (map field_view items)) (sym c.deref-field-items.ensures.value) c.requires.keyed in
+    let keyed : AllByRecursion Keyed (map field_view c.deref-field-items.result.now) =
+    subst (λ (items : List Field). AllByRecursion Keyed (map field_view items))
+    (sym c.deref-field-items.ensures.value) c.requires.keyed in
     field_at Keyed field_view c.deref-field-items.result.now c.loop-field.field-index any keyed c.loop-field-test.true
 
 pub returns-then-is_err-clause-stopped : goal.returns-then-is_err-clause-stopped
@@ -28,11 +30,13 @@ returns-then-is_err-clause-stopped g c =
     let back = to_z-of_z {w = w64} {z = c.args.time} (search rules) in
     let same = failed c.write_field.result c.write_field.ensures.unchanged c.if-is_err.ensures.value in
     let state = rw back at c.loop-field.invariant.put in
-    let first : map field_view (take c.loop-field.field-index c.deref-field-items.result.now) ≡ take c.loop-field.put (map field_view c.args.point.now.fields.items) =
+    let first : map field_view (take c.loop-field.field-index c.deref-field-items.result.now)
+    ≡ take c.loop-field.put (map field_view c.args.point.now.fields.items) =
     take-view field_view c.loop-field.field-index c.deref-field-items.result.now
-    ∙ ap (λ (items : List Field). take c.loop-field.field-index (map field_view items)) c.deref-field-items.ensures.value
+    ∙ ap (λ (items : List Field). take c.loop-field.field-index (map field_view items))
+    c.deref-field-items.ensures.value
     ∙ ap (λ (k : ℕ). take k (map field_view c.args.point.now.fields.items)) (sym c.loop-field.invariant.counted) in
-    (c.loop-field.put, refl, same ∙ state ∙ ap (with_fields (held c.args.self.now) p c.args.time) first)
+    (c.loop-field.put, refl, same ∙ state ∙ ap (with_fields (replica_state c.args.self.now) p c.args.time) first)
 
 pub loop-field-preserved : goal.loop-field-preserved
 loop-field-preserved g c =
@@ -45,9 +49,11 @@ loop-field-preserved g c =
     let before = map field_view (take c.loop-field.field-index items) in
     let field = field_view (get_or items c.loop-field.field-index any) in
     let more = map_more field_view items c.loop-field.field-index any c.loop-field-test.true in
-    let next = ap (λ (h : Holding). h.next) written in
+    let next = ap (λ (h : ReplicaState). h.next) written in
     record {
       counted = omega (arith, c.loop-field.invariant.counted);
       numbered = omega (arith, next, c.loop-field.invariant.numbered);
-      put = rw back (written ∙ ap (λ (h : Holding). with_put h (key_text p field.0) c.args.time field.1) state ∙ sym (with_fields-append (held c.args.self.now) p c.args.time before (field ∷ [])) ∙ ap (with_fields (held c.args.self.now) p c.args.time) (sym more));
+      put = rw back (written ∙ ap (λ (h : ReplicaState). with_put h (key_text p field.0) c.args.time field.1) state
+          ∙ sym (with_fields-append (replica_state c.args.self.now) p c.args.time before (field ∷ []))
+          ∙ ap (with_fields (replica_state c.args.self.now) p c.args.time) (sym more));
     }

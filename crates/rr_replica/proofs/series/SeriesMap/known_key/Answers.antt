@@ -15,4 +15,5 @@ pub returns-in-Some : goal.returns-in-Some
 returns-in-Some g c =
     let m = c.args.self.now in
     let at : Some c.in-Some.index ≡ index_of m.indices.entries c.args.key.now = c.in-Some.ensures in
-    key_found m.keys.items m.indices.entries c.requires.there c.args.key.now c.index.result.now c.in-Some.index at c.index.ensures
+    key_found m.keys.items m.indices.entries c.requires.there c.args.key.now c.index.result.now c.in-Some.index at
+    c.index.ensures

@@ -15,7 +15,8 @@ returns-in-Some c =
     let all : c.deref.result.now ≡ rows = search rules in
     let within : c.args.number < length c.deref.result.now = c.in-Some.ensures.lookup.3.0 in
     let has : slice_get rows c.args.number ≡ Some row =
-    ap (λ xs. slice_get xs c.args.number) (sym all) ∙ slice_get-get_or c.deref.result.now c.args.number row within ∙ ap (λ x. Some x) (sym c.in-Some.ensures.lookup.1) in
+    ap (λ xs. slice_get xs c.args.number) (sym all) ∙ slice_get-get_or c.deref.result.now c.args.number row within
+    ∙ ap (λ x. Some x) (sym c.in-Some.ensures.lookup.1) in
     c.entries.ensures ∙ ap (items_at (Some row)) slot ∙ ap (λ o. items_at o c.args.slot) (sym has)
 
 pub returns-in-None : goal.returns-in-None

@@ -9,7 +9,8 @@ pub loop-self-init : goal.loop-self-init
 loop-self-init c = block_same c.args.self.now _ (search rules)
 
 pub loop-self-preserved : goal.loop-self-preserved
-loop-self-preserved c = block_grown c.loop-self.self _ c.blank.result (search rules) c.blank.ensures ∙ c.loop-self.invariant
+loop-self-preserved c = block_grown c.loop-self.self _ c.blank.result (search rules) c.blank.ensures
+    ∙ c.loop-self.invariant
 
 pub returns-in_err-push-clause-same : goal.returns-in_err-push-clause-same
 returns-in_err-push-clause-same c = block_same c.loop-self.self _ (search rules) ∙ c.loop-self.invariant

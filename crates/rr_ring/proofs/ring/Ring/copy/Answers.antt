@@ -7,4 +7,5 @@ pub returns-clause-row : goal.returns-clause-row
 returns-clause-row c =
     let old = c.args.self.now.blocks.items in
     let past : length old ≤ c.loop-block.block-index = omega arith in
-    rows_same c.args.self.now _ refl (blocks_copied old c.loop-block.blocks.items (c.loop-block.invariant ∙ ap (map stored_rows) (take_all c.loop-block.block-index old past)))
+    rows_same c.args.self.now _ refl (blocks_copied old c.loop-block.blocks.items
+    (c.loop-block.invariant ∙ ap (map stored_rows) (take_all c.loop-block.block-index old past)))

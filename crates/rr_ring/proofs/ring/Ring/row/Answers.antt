@@ -15,11 +15,14 @@ returns-in-Some c =
     let block : Block = c.in-Some.block.now in
     let slot : to_z w64 (of_z w64 c.args.slot) ≡ c.args.slot = search rules in
     let n = c.position-position.result in
-    let at : n ≡ position_of ring.rows c.args.slot = c.position-position.ensures.position ∙ ap (position_of ring.rows) slot in
+    let at : n ≡ position_of ring.rows c.args.slot = c.position-position.ensures.position
+    ∙ ap (position_of ring.rows) slot in
     let all : c.deref.result.now ≡ ring.blocks.items = search rules in
     let within : n / BLOCK_ROWS < length c.deref.result.now = c.in-Some.ensures.lookup.3.0 in
     let has : slice_get ring.blocks.items (n / BLOCK_ROWS) ≡ Some block =
-    ap (λ xs. slice_get xs (n / BLOCK_ROWS)) (sym all) ∙ slice_get-get_or c.deref.result.now (n / BLOCK_ROWS) block within ∙ ap (λ x. Some x) (sym c.in-Some.ensures.lookup.1) in
+    ap (λ xs. slice_get xs (n / BLOCK_ROWS)) (sym all)
+    ∙ slice_get-get_or c.deref.result.now (n / BLOCK_ROWS) block within
+    ∙ ap (λ x. Some x) (sym c.in-Some.ensures.lookup.1) in
     c.entries.ensures ∙ ap (items_in block (n % BLOCK_ROWS)) slot
     ∙ ap (λ o. items_of_block o (n % BLOCK_ROWS) c.args.slot) (sym has)
     ∙ ap (λ k. items_by_position ring.blocks.items k c.args.slot) at
@@ -30,7 +33,10 @@ returns-in-None c =
     let ring = c.args.self.now in
     let slot : to_z w64 (of_z w64 c.args.slot) ≡ c.args.slot = search rules in
     let n = c.position-position.result in
-    let at : n ≡ position_of ring.rows c.args.slot = c.position-position.ensures.position ∙ ap (position_of ring.rows) slot in
+    let at : n ≡ position_of ring.rows c.args.slot = c.position-position.ensures.position
+    ∙ ap (position_of ring.rows) slot in
     let all : c.deref.result.now ≡ ring.blocks.items = search rules in
     let past : length ring.blocks.items ≤ n / BLOCK_ROWS = rw all at c.in-None.ensures.lookup.3 in
-    sym (ap (λ o. items_of_block o (n % BLOCK_ROWS) c.args.slot) (slice_get_past ring.blocks.items (n / BLOCK_ROWS) past)) ∙ ap (λ k. items_by_position ring.blocks.items k c.args.slot) at
+    sym (ap (λ o. items_of_block o (n % BLOCK_ROWS) c.args.slot)
+    (slice_get_past ring.blocks.items (n / BLOCK_ROWS) past))
+    ∙ ap (λ k. items_by_position ring.blocks.items k c.args.slot) at

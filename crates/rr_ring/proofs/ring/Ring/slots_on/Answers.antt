@@ -10,7 +10,9 @@ unfolding row_at
 returns-clause-empty c = λ i some h.
     let ring = c.args.self.now in
     let slot : to_z w64 (of_z w64 c.args.slot) ≡ c.args.slot = search rules in
-    let at : c.position.result ≡ position_of ring.rows c.args.slot = c.position.ensures.position ∙ ap (position_of ring.rows) slot in
+    let at : c.position.result ≡ position_of ring.rows c.args.slot = c.position.ensures.position
+    ∙ ap (position_of ring.rows) slot in
     let near : position_of ring.rows c.args.slot + i < ring.rows = omega arith in
-    ap (λ k. items_by_position ring.blocks.items k (c.args.slot +ℤ pos i)) (position_on ring.rows c.args.slot i ring.rows_at_least near ∙ ap (λ k. k + i) (sym at))
+    ap (λ k. items_by_position ring.blocks.items k (c.args.slot +ℤ pos i))
+    (position_on ring.rows c.args.slot i ring.rows_at_least near ∙ ap (λ k. k + i) (sym at))
     ∙ c.positions_on-on.ensures.empty i (c.args.slot +ℤ pos i) some (omega arith)

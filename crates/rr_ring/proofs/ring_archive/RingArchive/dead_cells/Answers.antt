@@ -18,7 +18,8 @@ loop-k-init c =
     let f = row_at a.ring in
     let z = to_z w64 (of_z w64 c.first_live-first.result) in
     let first : z ≡ ((c.in-Some.newest -ℤ pos a.ring.rows) +ℤ pos 1) = search rules in
-    let all = ap length (entries_live a.ring.rows a.newest f a.held.ascend c.in-Some.newest z c.in-Some.is first) ∙ sym (len-entries (cells_by a.ring.rows a.newest f)) in
+    let all = ap length (entries_live a.ring.rows a.newest f a.held.ascend c.in-Some.newest z c.in-Some.is first)
+    ∙ sym (len-entries (cells_by a.ring.rows a.newest f)) in
     omega arith
 
 pub overflow_add-dead : goal.overflow_add-dead
@@ -58,5 +59,7 @@ returns c =
     let was_is : to_z w64 (of_z w64 was) ≡ was = search rules in
     let passed : c.rows_passed-k-end.result ≡ k = omega arith in
     let before : (was +ℤ pos k) ≤ℤ c.args.top = rw (top_is, was_is, passed) at c.rows_passed-k-end.ensures.before in
-    let all : k < a.ring.rows → (was +ℤ pos k) ≡ c.args.top = rw (top_is, was_is, passed) at c.rows_passed-k-end.ensures.all in
-    dead_are a.ring.rows a.newest f a.held.ascend c.args.top z was k c.loop-k.dead c.in-Some.is first (omega arith) before all c.loop-k.invariant
+    let all : k < a.ring.rows → (was +ℤ pos k) ≡ c.args.top =
+    rw (top_is, was_is, passed) at c.rows_passed-k-end.ensures.all in
+    dead_are a.ring.rows a.newest f a.held.ascend c.args.top z was k c.loop-k.dead c.in-Some.is first (omega arith)
+    before all c.loop-k.invariant

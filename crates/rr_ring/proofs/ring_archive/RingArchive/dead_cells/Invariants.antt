@@ -6,4 +6,5 @@ use Rattle.rr_archive.proofs.LiveWalks.{cells_left}
 use Rattle.rr_ring.proofs.ring_archive.RingArchive.dead_cells.Given as goal
 
 abbrev pub invariant-loop-k : goal.invariant-loop-k
-invariant-loop-k l = l.dead + length (cells_left (row_at l.self.ring) l.first l.self.ring.rows l.k) ≡ len (cells_by l.self.ring.rows l.self.newest (row_at l.self.ring))
+invariant-loop-k l = l.dead + length (cells_left (row_at l.self.ring) l.first l.self.ring.rows l.k)
+    ≡ len (cells_by l.self.ring.rows l.self.newest (row_at l.self.ring))

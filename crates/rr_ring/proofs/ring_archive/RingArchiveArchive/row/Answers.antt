@@ -10,11 +10,13 @@ returns-then-is_live c =
     let live : is_above a.ring.rows a.newest c.args.slot ≡ true = search rules in
     let f = row_at a.ring in
     let found : c.row.result.now ≡ f c.args.slot = search rules in
-    found ∙ sym (row_of-cells_by f a.ring.rows a.newest a.held.ascend a.held.none_later c.args.slot ∙ ap (λ b. cond b (f c.args.slot) []) live)
+    found ∙ sym (row_of-cells_by f a.ring.rows a.newest a.held.ascend a.held.none_later c.args.slot
+    ∙ ap (λ b. cond b (f c.args.slot) []) live)
 
 pub returns-else-is_live : goal.returns-else-is_live
 returns-else-is_live c =
     let a = c.args.self.now in
     let dead : is_above a.ring.rows a.newest c.args.slot ≡ false = search rules in
     let f = row_at a.ring in
-    sym (row_of-cells_by f a.ring.rows a.newest a.held.ascend a.held.none_later c.args.slot ∙ ap (λ b. cond b (f c.args.slot) []) dead)
+    sym (row_of-cells_by f a.ring.rows a.newest a.held.ascend a.held.none_later c.args.slot
+    ∙ ap (λ b. cond b (f c.args.slot) []) dead)

@@ -8,7 +8,8 @@ use Rattle.rr_ring.proofs.ring_archive.RingArchiveCells.cell_at.Given as goal
 
 abbrev pub invariant-loop-k : goal.invariant-loop-k
 invariant-loop-k l = record {
-  left : slice_get (cells_left (row_at l.self.ring) l.first l.self.ring.rows l.k) l.left ≡ slice_get (entries (cells_by l.self.ring.rows l.self.newest (row_at l.self.ring))) l.fn.i;
+  left : slice_get (cells_left (row_at l.self.ring) l.first l.self.ring.rows l.k) l.left
+      ≡ slice_get (entries (cells_by l.self.ring.rows l.self.newest (row_at l.self.ring))) l.fn.i;
   within : l.k ≤ l.self.ring.rows;
 }
 

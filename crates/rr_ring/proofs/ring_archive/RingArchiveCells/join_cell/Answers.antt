@@ -12,4 +12,5 @@ returns-clause-joined c =
     let a = c.args.self.now in
     let back = to_z-of_z {w = w64} {z = c.args.slot} (search rules) in
     let ok = rw back at c.change.ensures.changed in
-    on_ok_weaker c.change.result (λ e. e ∙ join_cell-is a.ring.rows (cells_in a.newest a.ring) (cell_slot c.args.slot c.args.origin) c.args.contribution.now) ok
+    on_ok_weaker c.change.result (λ e. e ∙ join_cell-is a.ring.rows (cells_in a.newest a.ring)
+    (cell_slot c.args.slot c.args.origin) c.args.contribution.now) ok

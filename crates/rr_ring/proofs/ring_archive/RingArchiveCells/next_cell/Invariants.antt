@@ -12,7 +12,10 @@ use Rattle.rr_ring.proofs.ring_archive.RingArchiveCells.next_cell.Given as goal
 
 abbrev pub invariant-loop-k : goal.invariant-loop-k
 invariant-loop-k l = record {
-  first : option_map cell_of (find (is_past (cell_slot l.fn.slot l.fn.origin)) (cells_left (row_at l.self.ring) l.first l.self.ring.rows l.k)) ≡ option_map cell_of (find (is_past (cell_slot l.fn.slot l.fn.origin)) (entries (cells_by l.self.ring.rows l.self.newest (row_at l.self.ring))));
+  first : option_map cell_of (find (is_past (cell_slot l.fn.slot l.fn.origin))
+      (cells_left (row_at l.self.ring) l.first l.self.ring.rows l.k))
+      ≡ option_map cell_of (find (is_past (cell_slot l.fn.slot l.fn.origin))
+      (entries (cells_by l.self.ring.rows l.self.newest (row_at l.self.ring))));
   from : l.fn.slot ≤ℤ (l.first +ℤ pos l.k);
   within : l.k ≤ l.self.ring.rows;
 }

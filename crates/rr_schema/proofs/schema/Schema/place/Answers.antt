@@ -10,5 +10,6 @@ returns-clause-place c =
     let s = c.args.self.now in
     let steps = (archive_at s c.args.archive).steps in
     let some : 0 < steps = search rules in
-    let left : c.left_over.result ≡ unsigned_abs (int_rem_euclid (int_div_euclid c.args.time (pos (s.step * 1_000_000_000))) (pos steps)) = search rules in
+    let left : c.left_over.result ≡ unsigned_abs (int_rem_euclid
+    (int_div_euclid c.args.time (pos (s.step * 1_000_000_000))) (pos steps)) = search rules in
     left ∙ rem_is_place s c.args.archive c.args.time some

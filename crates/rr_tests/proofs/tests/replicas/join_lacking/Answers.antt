@@ -8,4 +8,5 @@ use Rattle.rr_tests.proofs.tests.replicas.join_lacking.Goals as goal
 pub join_cells-requires : goal.join_cells-requires
 join_cells-requires g c =
     subst (λ s. All (λ cell. IsCellOf s (owned_cell cell)) c.deref-2.result.now) (sym c.requires)
-    (subst (λ cells. All (λ cell. IsCellOf c.args.other.now.schema (owned_cell cell)) cells) (sym c.deref-2.ensures.value) c.in_ok-cells.ensures.of_schema)
+    (subst (λ cells. All (λ cell. IsCellOf c.args.other.now.schema (owned_cell cell)) cells)
+    (sym c.deref-2.ensures.value) c.in_ok-cells.ensures.of_schema)

@@ -11,7 +11,7 @@ use Rattle.rr_contrib.specs.declared.contribution.Contribution.{Contribution}
 use Rattle.rr_archive.specs.declared.entry.Entry.{Entry}
 use Rattle.rr_join.specs.Horizon.{is_above}
 use Rattle.rr_archive.specs.CellSlots.{CellSlot, cell_slot, newest_of}
-use Rattle.rr_archive.specs.Cells.{Rows, AreInRange, IsTrimmed}
+use Rattle.rr_archive.specs.Cells.{ArchiveCells, AreInRange, IsTrimmed}
 use Rattle.rr_archive.specs.Row.{entry_at, ascends}
 
 -- the row of a slot, if there is one
@@ -28,7 +28,7 @@ cell_slots_in [] = []
 cell_slots_in (r ∷ rs) = map (λ e. cell_slot r.0 e.origin) r.1.items ++ cell_slots_in rs
 
 -- the cells that the rows hold
-unfoldable pub cells_in : List (ℤ × Vec Entry) → Rows
+unfoldable pub cells_in : List (ℤ × Vec Entry) → ArchiveCells
 cells_in rows = map_of (cell_slots_in rows) (cell_in rows)
 
 -- whether the row of the cell slot can take an entry more without memory
@@ -60,7 +60,7 @@ first_len (r ∷ rs) = length r.1.items
 
 -- of an archive of `limit` rows: how many cells they hold, the newest slot of a cell, and what each cell
 -- keeps to
-pub record IsHeld (limit count : ℕ) (newest : Option ℤ) (rows : List (ℤ × Vec Entry)) : Type 0 where
+pub record IsArchiveState (limit count : ℕ) (newest : Option ℤ) (rows : List (ℤ × Vec Entry)) : Type 0 where
   pub rows_at_least : 1 ≤ limit
   pub counted : count ≡ len (cells_in rows)
   pub latest : newest ≡ newest_of (keys (cells_in rows))

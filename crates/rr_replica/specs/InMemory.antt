@@ -7,13 +7,13 @@ use Rattle.std.specs.BTreeMap.{is_at}
 use Rattle.std.specs.Option.{option_map}
 use Rattle.rr_schema.specs.Schema.{Layout}
 use Rattle.rr_archive.specs.CellSlots.{CellSlot}
-use Rattle.rr_archive.specs.Cells.{Rows}
+use Rattle.rr_archive.specs.Cells.{ArchiveCells}
 use Rattle.rr_model.specs.Samples as model
 use Rattle.rr_replica.specs.declared.reading.Reading.{Reading}
 use Rattle.rr_cells.specs.declared.sample.Sample.{Sample}
 use Rattle.rr_cells.specs.declared.op.Op.{Op}
 use Rattle.rr_cells.specs.Operations.{sample_of, key_of}
-use Rattle.rr_cells.specs.Holding.{Holding, IsHolding}
+use Rattle.rr_cells.specs.ReplicaState.{ReplicaState, IsReplicaState}
 use Rattle.rr_text.specs.Bytes.{bytes_cmp}
 use Rattle.rr_replica.specs.Series.{Series, cells_of}
 use Rattle.rr_replica.specs.Archives.{AreSized, HaveRoomFor}
@@ -28,7 +28,7 @@ keyed_sample key x = sample_of (sample_of_reading key x)
 
 module _ {X : Type 0} where
   -- the archives of each key, each seen as a map
-  abbrev pub held_series : (X → Rows) → List (List ℕ × Vec X) → Series
+  abbrev pub held_series : (X → ArchiveCells) → List (List ℕ × Vec X) → Series
   held_series cells entries = map (λ e. (e.0, map cells e.1.items)) entries
 
   -- the archives of a key, if it has any
@@ -36,26 +36,31 @@ module _ {X : Type 0} where
   archives_of entries key = lookup (is_at (bytes_cmp key)) entries
 
   -- what an archive holds, and how many rows it keeps
-  abbrev pub seen_archive : (X → Rows) → (X → ℕ) → X → Rows × ℕ
+  abbrev pub seen_archive : (X → ArchiveCells) → (X → ℕ) → X → ArchiveCells × ℕ
   seen_archive cells limit a = (cells a, limit a)
 
   -- this of each archive of a key, if it has any
-  abbrev pub seen_at : (X → Rows) → (X → ℕ) → List (List ℕ × Vec X) → List ℕ → Option (List (Rows × ℕ))
-  seen_at cells limit entries key = option_map (λ (v : Vec X). map (seen_archive cells limit) v.items) (archives_of entries key)
+  abbrev pub seen_at : (X → ArchiveCells) → (X → ℕ) → List (List ℕ × Vec X) → List ℕ → Option (List (ArchiveCells × ℕ))
+  seen_at cells limit entries key = option_map (λ (v : Vec X). map (seen_archive cells limit) v.items)
+      (archives_of entries key)
 
-  abbrev pub holding_of : (X → Rows) → Layout → ℕ → ℕ → List (List ℕ × Vec X) → Holding
-  holding_of cells schema origin next entries = record { schema = schema; origin = origin; next = next; cells = cells_of (held_series cells entries) }
+  abbrev pub replica_state_in : (X → ArchiveCells) → Layout → ℕ → ℕ → List (List ℕ × Vec X) → ReplicaState
+  replica_state_in cells schema origin next entries =
+      record { schema = schema; origin = origin; next = next; cells = cells_of (held_series cells entries) }
 
   -- the key of an operation has archives, and these have room for it
   abbrev pub HasRoom : (X → CellSlot → Bool) → Layout → Op → List (List ℕ × Vec X) → Type 0
-  HasRoom is_ready s op entries = (archives : Vec X) × (archives_of entries (key_of op) ≡ Some archives) × HaveRoomFor is_ready s op archives.items
+  HasRoom is_ready s op entries = (archives : Vec X) × (archives_of entries (key_of op) ≡ Some archives)
+      × HaveRoomFor is_ready s op archives.items
 
   -- each key has an archive for each of the schema's, of its rows
   abbrev pub AreAllSized : (X → ℕ) → Layout → List (List ℕ × Vec X) → Type 0
-  AreAllSized limit schema entries = (key : List ℕ) (archives : Vec X) → archives_of entries key ≡ Some archives → AreSized limit schema archives.items
+  AreAllSized limit schema entries = (key : List ℕ) (archives : Vec X) → archives_of entries key ≡ Some archives
+      → AreSized limit schema archives.items
 
   -- what a replica keeps to, by what it has in memory: its cells, and an archive of the schema's rows for each
-  pub record IsHeld (cells : X → Rows) (limit : X → ℕ) (schema : Layout) (origin next : ℕ) (entries : List (List ℕ × Vec X)) : Type 0 where
-    pub holds : IsHolding (holding_of cells schema origin next entries)
+  pub record IsReplicaInMemory (cells : X → ArchiveCells) (limit : X → ℕ) (schema : Layout) (origin next : ℕ)
+      (entries : List (List ℕ × Vec X)) : Type 0 where
+    pub holds : IsReplicaState (replica_state_in cells schema origin next entries)
     pub sized : AreAllSized limit schema entries
     pub ordered : IsStrictlySortedBy bytes_cmp (keys_of entries)

@@ -11,14 +11,14 @@ use Rattle.rr_text.specs.Bytes.{bytes_cmp}
 use Rattle.rr_schema.specs.Schema.{Layout, slot_of}
 use Rattle.rr_text.specs.declared.limits.TheConstants.{MAX_ORIGIN, MAX_SECOND}
 use Rattle.rr_archive.specs.CellSlots.{CellSlot, cell_slot, cell_slot_cmp}
-use Rattle.rr_archive.specs.Cells.{Rows}
+use Rattle.rr_archive.specs.Cells.{ArchiveCells}
 use Rattle.rr_archive.specs.Codes.{coded_cell_slot, coded_contribution}
 use Rattle.rr_cells.specs.declared.op.Op.{Op}
 use Rattle.rr_cells.specs.declared.op.Op.TheVariants.{Put, Join}
 use Rattle.rr_cells.specs.Cells.{Cells}
 use Rattle.rr_replica.specs.Series.{cells_of}
-use Rattle.rr_replica.specs.Held.{held_series}
-use Rattle.rr_cells.specs.Holding.{Holding, coded_layout, coded_name}
+use Rattle.rr_replica.specs.InMemory.{held_series}
+use Rattle.rr_cells.specs.ReplicaState.{ReplicaState, coded_layout, coded_name}
 use Rattle.rr_cells.specs.Operations.{accepts}
 
 -- ---- room
@@ -53,7 +53,7 @@ all_cell_slots = cell_slots_within MAX_SECOND MAX_ORIGIN
 -- ---- standings
 
 -- a holding, and its room
-pub record Standing : Type 0 where
+pub record ReplicaWithRoom : Type 0 where
   pub schema : Layout
   pub origin : ℕ
   pub next : ℕ
@@ -61,21 +61,22 @@ pub record Standing : Type 0 where
   pub room : Room
 
 -- what is held, whatever the room
-abbrev pub held : Standing → Holding
-held r = record { schema = r.schema; origin = r.origin; next = r.next; cells = r.cells }
+abbrev pub replica_state : ReplicaWithRoom → ReplicaState
+replica_state r = record { schema = r.schema; origin = r.origin; next = r.next; cells = r.cells }
 
 -- room for a cell in an archive of a key
-abbrev pub HasRoomAt : Standing → List ℕ → ℕ → CellSlot → Type 0
+abbrev pub HasRoomAt : ReplicaWithRoom → List ℕ → ℕ → CellSlot → Type 0
 HasRoomAt r key i p = IsTrue (is_one_of (room_at r.room key i) p)
 
 -- room for an operation: for a sample in each archive, for a cell in its own
-abbrev pub HasRoomFor : Standing → Op → Type 0
-HasRoomFor r (Put x) = (i : ℕ) → i < length r.schema.archives → HasRoomAt r x.key i (cell_slot (slot_of r.schema i x.time) x.origin)
+abbrev pub HasRoomFor : ReplicaWithRoom → Op → Type 0
+HasRoomFor r (Put x) = (i : ℕ) → i < length r.schema.archives
+    → HasRoomAt r x.key i (cell_slot (slot_of r.schema i x.time) x.origin)
 HasRoomFor r (Join c) = HasRoomAt r c.key c.archive (cell_slot c.slot c.origin)
 
 -- room for an operation, if it is one that the replica takes
-abbrev pub IsReadyFor : Standing → Op → Type 0
-IsReadyFor r op = accepts (held r) op ≡ true → HasRoomFor r op
+abbrev pub IsReadyFor : ReplicaWithRoom → Op → Type 0
+IsReadyFor r op = accepts (replica_state r) op ≡ true → HasRoomFor r op
 
 -- ---- by what a replica has in memory
 
@@ -83,8 +84,9 @@ module _ {X : Type 0} where
   abbrev pub room_in : (X → CellSlot → Bool) → List (List ℕ × Vec X) → Room
   room_in is_ready entries = map (λ e. (e.0, map (λ a. filter (is_ready a) all_cell_slots) e.1.items)) entries
 
-  abbrev pub standing_of : (X → Rows) → (X → CellSlot → Bool) → Layout → ℕ → ℕ → List (List ℕ × Vec X) → Standing
-  standing_of cells is_ready schema origin next entries = record {
+  abbrev pub replica_with_room : (X → ArchiveCells) → (X → CellSlot → Bool) → Layout → ℕ → ℕ → List (List ℕ × Vec X)
+      → ReplicaWithRoom
+  replica_with_room cells is_ready schema origin next entries = record {
     schema = schema;
     origin = origin;
     next = next;
@@ -97,5 +99,8 @@ module _ {X : Type 0} where
 abbrev pub coded_room : Coded Room
 coded_room = coded_list (coded× (coded_list coded_ℕ) (coded_list (coded_list coded_cell_slot)))
 
-abbrev pub coded_standing : Coded Standing
-coded_standing = code_by (Layout × (ℕ × (ℕ × (Cells × Room)))) (coded× coded_layout (coded× coded_ℕ (coded× coded_ℕ (coded× (fin.code coded_name coded_contribution) coded_room)))) (λ r. (r.schema, (r.origin, (r.next, (r.cells, r.room))))) (λ p. record { schema = p.0; origin = p.1.0; next = p.1.1.0; cells = p.1.1.1.0; room = p.1.1.1.1 }) (λ _. refl)
+abbrev pub coded_replica_with_room : Coded ReplicaWithRoom
+coded_replica_with_room = code_by (Layout × (ℕ × (ℕ × (Cells × Room))))
+    (coded× coded_layout (coded× coded_ℕ (coded× coded_ℕ (coded× (fin.code coded_name coded_contribution) coded_room))))
+    (λ r. (r.schema, (r.origin, (r.next, (r.cells, r.room)))))
+    (λ p. record { schema = p.0; origin = p.1.0; next = p.1.1.0; cells = p.1.1.1.0; room = p.1.1.1.1 }) (λ _. refl)

@@ -4,12 +4,12 @@ use Rattle.logbook.specs.Pages.{Book}
 use Rattle.rr_schema.specs.Schema.{Layout}
 use Rattle.rr_cells.specs.declared.op.Op.{Op}
 use Rattle.rr_cells.specs.Cells.{Cells}
-use Rattle.rr_cells.specs.Holding.{Holding}
+use Rattle.rr_cells.specs.ReplicaState.{ReplicaState}
 use Rattle.rr_cells.specs.Operations.{outcome_of, with_op, step, joins_of, AllAccepted}
 use Rattle.rr_copies.specs.declared.rule.View.{View}
 use Rattle.rr_copies.specs.declared.shown.Change.{Change}
-use Rattle.rr_copies.specs.Changes.{ops_in, mark_in}
-use Rattle.rr_copies.specs.Editions.{Sighting, flat, Begins}
+use Rattle.rr_copies.specs.Changes.{ops_in, front_after}
+use Rattle.rr_copies.specs.Editions.{BookFront, flat, Begins}
 
 -- a keeper: its desk; the schema, origin and next number of its own replica; the operations that are published, and
 -- those that are pending
@@ -26,8 +26,8 @@ abbrev pub cells_of : KeeperState → Cells
 cells_of k = outcome_of k.schema (k.published ++ k.pending)
 
 -- what its own replica holds
-abbrev pub holding_of : KeeperState → Holding
-holding_of k = record { schema = k.schema; origin = k.origin; next = k.next; cells = cells_of k }
+abbrev pub own_replica : KeeperState → ReplicaState
+own_replica k = record { schema = k.schema; origin = k.origin; next = k.next; cells = cells_of k }
 
 -- with an operation more that is pending
 abbrev pub with_pending : KeeperState → Op → KeeperState
@@ -35,7 +35,7 @@ with_pending k op = record {
   desk = k.desk;
   schema = k.schema;
   origin = k.origin;
-  next = (with_op (holding_of k) op).next;
+  next = (with_op (own_replica k) op).next;
   published = k.published;
   pending = k.pending ++ op ∷ [];
 }
@@ -52,13 +52,21 @@ with_all_published k = record {
 }
 
 -- a keeper that has opened a desk with what a replica holds
-abbrev pub keeper_at_opening : Holding → Book → KeeperState
-keeper_at_opening h b = record { desk = b; schema = h.schema; origin = h.origin; next = h.next; published = joins_of h.cells; pending = [] }
+abbrev pub keeper_at_opening : ReplicaState → Book → KeeperState
+keeper_at_opening h b = record {
+  desk = b;
+  schema = h.schema;
+  origin = h.origin;
+  next = h.next;
+  published =
+      joins_of h.cells;
+  pending = [];
+}
 
 -- ---- what keepers keep to
 
 -- the keeper's view fits the copy that is shown, and its own replica holds the pending operations too
-pub record IsTied (v : View) (shown own : Holding) (pending : List Op) : Type 0 where
+pub record IsTied (v : View) (shown own : ReplicaState) (pending : List Op) : Type 0 where
   pub writes : v.writes ≡ true
   pub joined : v.joined ≡ true
   pub schema : v.schema ≡ own.schema
@@ -67,22 +75,23 @@ pub record IsTied (v : View) (shown own : Holding) (pending : List Op) : Type 0 
   pub applied : own ≡ fold step shown pending
 
 -- the copy's book has what is published, and the keeper's has that and perhaps some of what is pending
-pub record IsBooked (v : View) (copy all : Sighting) (pending : List Op) : Type 0 where
+pub record IsBooked (v : View) (copy all : BookFront) (pending : List Op) : Type 0 where
   pub copy_desk : copy.desk ≡ v.desk
   pub all_desk : all.desk ≡ v.desk
   pub shown : flat copy.editions ≡ v.seen
   pub whole : Begins (flat all.editions) (v.seen ++ pending)
 
 -- the pending changes can be published: the last mark among them has what is published and all that is pending
-pub record IsReady (v : View) (shown : Holding) (front : Sighting) (cs : List Change) : Type 0 where
+pub record IsReady (v : View) (shown : ReplicaState) (front : BookFront) (cs : List Change) : Type 0 where
   pub writes : v.writes ≡ true
   pub joined : v.joined ≡ true
   pub accepted : AllAccepted shown (ops_in cs)
-  pub marked : flat (mark_in front cs).editions ≡ v.seen ++ ops_in cs
-  pub desk : (mark_in front cs).desk ≡ v.desk
+  pub ended : flat (front_after front cs).editions ≡ v.seen ++ ops_in cs
+  pub desk : (front_after front cs).desk ≡ v.desk
 
 -- what a keeper keeps to, with the changes that are pending, and whether the last of them is a mark of all
-pub record IsKeeper (v : View) (shown own : Holding) (front all : Sighting) (cs : List Change) (marked : Bool) : Type 0 where
+pub record IsKeeper (v : View) (shown own : ReplicaState) (front all : BookFront) (cs : List Change)
+    (ended : Bool) : Type 0 where
   pub tied : IsTied v shown own (ops_in cs)
   pub booked : IsBooked v front all (ops_in cs)
-  pub ready : marked ≡ true → IsReady v shown front cs
+  pub ready : ended ≡ true → IsReady v shown front cs
