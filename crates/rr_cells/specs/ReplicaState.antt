@@ -53,7 +53,7 @@ pub record IsReplicaState (h : ReplicaState) : Type 0 where
   pub few : (key : List ℕ) (archive : ℕ) (origins : List ℕ) → HasOriginsIn h.cells key archive origins
       → len (archive_cells h.cells key archive) ≤ (archive_at h.schema archive).rows * length origins
 
--- ---- codes, which show that holdings are a set
+-- ---- codes, which show that states of replicas are a set
 
 abbrev pub coded_spec : Coded ArchiveSpec
 coded_spec = code_by (ℕ × (ℕ × (ℕ × ℕ))) (coded× coded_ℕ (coded× coded_ℕ (coded× coded_ℕ coded_ℕ)))

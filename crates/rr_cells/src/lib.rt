@@ -8,7 +8,7 @@
 //! there.
 //!
 //! With a schema, an origin and a next number the cells are what a replica holds
-//! (`specs/Holding.antt`). An [`Op`] is one step of it as a value, a [`Sample`] put or a cell
+//! (`specs/ReplicaState.antt`). An [`Op`] is one step of it as a value, a [`Sample`] put or a cell
 //! joined: a list of them makes the same cells of each replica of the schema
 //! (`specs/Operations.antt`).
 #![tactic(auto)]

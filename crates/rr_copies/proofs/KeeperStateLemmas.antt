@@ -120,7 +120,7 @@ booked-open v own copy all cs is same book none =
     subst (λ (z : View × BookFront × List Op). IsBooked z.0 z.1 all z.2)
     (λ i. (sym is i, sym same i, ops_in (sym none i))) whole
 
--- a mark of a book that has all makes the pending changes ready
+-- the end of an edition that has all makes the pending changes ready
 pub ended : (v : View) (shown : ReplicaState) (front all : BookFront) (cs more : List Change) → v.writes ≡ true
     → v.joined ≡ true → AllAccepted shown (ops_in cs) → all.desk ≡ v.desk → flat all.editions ≡ v.seen ++ ops_in cs
     → more ≡ cs ++ Edition all ∷ [] → IsReady v shown front more

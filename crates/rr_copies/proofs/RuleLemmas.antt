@@ -241,7 +241,7 @@ starts seat v x y layout live off on same book views k at =
       refl,
     )
 
--- where one mark alone is pending
+-- where the end of one edition alone is pending
 pub starts_ended : (seat : ℕ) (v : View) (x y : CopyState) (m : BookFront) (cs : List Change) → IsLayout x.held.schema
     → IsTrimmed x.held.schema x.held.cells → x.started ≡ false → cs ≡ Edition m ∷ []
     → flat m.editions ≡ joins_of x.held.cells → y ≡ fold copy_after x cs

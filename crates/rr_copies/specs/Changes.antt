@@ -17,7 +17,7 @@ ops_in [] = []
 ops_in (Apply op ∷ cs) = op ∷ ops_in cs
 ops_in (Edition front ∷ cs) = ops_in cs
 
--- the last mark among these changes, or else the one before them
+-- the front of the book after these changes: that of the last edition that ends among them, or else the one before
 abbrev pub front_after : BookFront → List Change → BookFront
 front_after s [] = s
 front_after s (Apply op ∷ cs) = front_after s cs

@@ -81,7 +81,7 @@ pub record IsBooked (v : View) (copy all : BookFront) (pending : List Op) : Type
   pub shown : flat copy.editions ≡ v.seen
   pub whole : Begins (flat all.editions) (v.seen ++ pending)
 
--- the pending changes can be published: the last mark among them has what is published and all that is pending
+-- the pending changes can be published: the last edition that ends among them has what is published and all that is pending
 pub record IsReady (v : View) (shown : ReplicaState) (front : BookFront) (cs : List Change) : Type 0 where
   pub writes : v.writes ≡ true
   pub joined : v.joined ≡ true
@@ -89,7 +89,7 @@ pub record IsReady (v : View) (shown : ReplicaState) (front : BookFront) (cs : L
   pub ended : flat (front_after front cs).editions ≡ v.seen ++ ops_in cs
   pub desk : (front_after front cs).desk ≡ v.desk
 
--- what a keeper keeps to, with the changes that are pending, and whether the last of them is a mark of all
+-- what a keeper keeps to, with the changes that are pending, and whether the last of them ends an edition of all
 pub record IsKeeper (v : View) (shown own : ReplicaState) (front all : BookFront) (cs : List Change)
     (ended : Bool) : Type 0 where
   pub tied : IsTied v shown own (ops_in cs)

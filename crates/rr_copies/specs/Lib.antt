@@ -1,6 +1,6 @@
 pub mod Editions
 pub mod Changes
 pub mod Rule
-pub mod ReplicaWithRoom
+pub mod KeeperState
 pub mod Waiting
 pub mod Writers

@@ -33,7 +33,7 @@ where
     writer: DeskWriter<A>,
     own: Replica<A>,
     book: Editions,
-    /// Whether the last pending change is a mark of the whole book.
+    /// Whether the last pending change is the end of an edition that has all of the book.
     ended: bool,
 }
 

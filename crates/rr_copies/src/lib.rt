@@ -2,7 +2,7 @@
 //!
 //! [`Copies`] is the keeper's part: a replica with all operations, and the writer of the two
 //! copies. [`Copies::push`] makes an operation pending, and [`Copies::publish`] shows all pending
-//! ones at one step, by a mark of the book of editions and a swap of the copies. A reader has a
+//! ones at one step, by the end of an edition in the book and a swap of the copies. A reader has a
 //! [`ReadHandle`], enters the copy that is shown, and leaves it.
 //!
 //! ```text
@@ -12,7 +12,7 @@
 //! In `specs/` all lists of operations that are seen, told or published are beginnings of one list:
 //! that is the rule of the copies (`Rule.antt`), which every step keeps. No list is in memory. A
 //! book of editions (`Editions.antt`), of which code keeps the number alone, says whether a copy
-//! has what another had. What the keeper keeps to is in `Standing.antt`.
+//! has what another had. What the keeper keeps to is in `KeeperState.antt`.
 #![tactic(auto)]
 
 mod book;

@@ -85,8 +85,8 @@ fn unopened_writer<A: Cells>(
     DeskWriter::new(alloc, first, second, readers)
 }
 
-/// One whose pending change is a mark of the book, which gets its first edition.
-fn marked_writer<A: Cells, R: Wait>(
+/// One whose pending change is the end of the first edition, which the book gets.
+fn first_writer<A: Cells, R: Wait>(
     alloc: Global,
     rt: &R,
     replica: &Replica<A>,
@@ -130,7 +130,7 @@ pub fn started_writer<A: Cells, R: Wait>(
     ensures pending { IfOk result (λ w. changes w ≡ []) }
     ensures book { OnOk result (flat book.new.editions ≡ joins_of replica.now.cells) }
 {
-    let writer = marked_writer(alloc, rt, replica, readers, book)?;
+    let writer = first_writer(alloc, rt, replica, readers, book)?;
     match start(rt, writer, &*book) {
         (writer, Ok(())) => Ok(writer),
         (writer, Err(_)) => Err(discard(writer, rt)),

@@ -25,8 +25,8 @@ use std::sync::Wait;
 /// The keeper's side of the copies.
 pub type DeskWriter<A> = Writer<Shown<A>, Change, View, Published>;
 
-/// The first publication: readers may come, and see one join for each cell. A mark alone is
-/// pending.
+/// The first publication: readers may come, and see one join for each cell. The end of an edition
+/// alone is pending.
 pub fn start<A: Cells, R: Wait>(
     rt: &R,
     writer: DeskWriter<A>,
@@ -130,8 +130,8 @@ fn reach<A: Cells>(book: &mut Editions, writer: &DeskWriter<A>) -> Result<(), Al
     reach_batch::<A, Brand>(book, writer)
 }
 
-/// Makes the pending changes ready to be published, unless they are `marked` already: the book has
-/// all of them, and the last is a mark of it.
+/// Makes the pending changes ready to be published, unless they are so already (`ended`): the book
+/// then has all of them, and the last is the end of its edition.
 pub fn end_edition<A: Cells>(
     book: &mut Editions,
     writer: &mut DeskWriter<A>,

@@ -1,4 +1,4 @@
-pub mod ReplicaWithRoom
+pub mod ReaderState
 pub mod Joining
 pub mod Points
 pub mod Fault

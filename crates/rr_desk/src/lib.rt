@@ -8,9 +8,9 @@
 //! published.
 //!
 //! In `specs/` a keeper stands for two lists of operations, the published and the pending ones, a
-//! reader for the list that it has seen (`specs/Standing.antt`). What a reader answers is made of
-//! the cells after its list. All of these lists, of one desk, are beginnings of one list: that is
-//! the rule of the copies, which are in [`rr_copies`] with the keeper's replica and the book of
+//! reader for the list that it has seen (`specs/ReaderState.antt`). What a reader answers is made
+//! of the cells after its list. All of these lists, of one desk, are beginnings of one list: that
+//! is the rule of the copies, which are in [`rr_copies`] with the keeper's replica and the book of
 //! editions. The book says whether a copy has what a note is of.
 #![tactic(auto)]
 

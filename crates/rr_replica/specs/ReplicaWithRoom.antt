@@ -50,9 +50,9 @@ cell_slots_within (suc n) origins =
 unfoldable pub all_cell_slots : List CellSlot
 all_cell_slots = cell_slots_within MAX_SECOND MAX_ORIGIN
 
--- ---- standings
+-- ---- replicas with their room
 
--- a holding, and its room
+-- the state of a replica, and where it has room
 pub record ReplicaWithRoom : Type 0 where
   pub schema : Layout
   pub origin : ℕ
@@ -60,7 +60,7 @@ pub record ReplicaWithRoom : Type 0 where
   pub cells : Cells
   pub room : Room
 
--- what is held, whatever the room
+-- its state, whatever the room
 abbrev pub replica_state : ReplicaWithRoom → ReplicaState
 replica_state r = record { schema = r.schema; origin = r.origin; next = r.next; cells = r.cells }
 
@@ -94,7 +94,7 @@ module _ {X : Type 0} where
     room = room_in is_ready entries;
   }
 
--- ---- a code, which shows that standings are a set
+-- ---- a code, which shows that replicas with their room are a set
 
 abbrev pub coded_room : Coded Room
 coded_room = coded_list (coded× (coded_list coded_ℕ) (coded_list (coded_list coded_cell_slot)))

@@ -5,16 +5,16 @@ use rr_key::SeriesKey;
 use std::alloc::{AllocError, Global};
 use std::hash::{FoldHasher, Hasher};
 
-/// How many slots of the table may have the index of a key.
-const TRIES: usize = 8;
+/// How many buckets of the table may have the index of a key.
+const MAX_PROBES: usize = 8;
 
-/// How many slots the table has at first, a power of two, as its number of slots always is.
-const FEWEST: usize = 16;
+/// How many buckets the table has at first, a power of two, as their number always is.
+const FIRST_BUCKETS: usize = 16;
 
-/// A slot that has no index.
-const FREE: u32 = 4_294_967_295;
+/// What stands in a bucket that has no index.
+const EMPTY: u32 = u32::MAX;
 
-/// A table of the indices of keys, each near the slot that the hash of its key says.
+/// A table of the indices of keys, each near the bucket that the hash of its key says.
 ///
 /// It may lack keys, and an index in it may be of another key: whoever asks compares the keys, and
 /// looks elsewhere for those that aren't found. So keys that are chosen for their hashes only
@@ -22,15 +22,15 @@ const FREE: u32 = 4_294_967_295;
 #[derive(Drop)]
 pub(crate) struct Hints {
     alloc: Global,
-    slots: Vec<u32>,
+    buckets: Vec<u32>,
 }
 
 impl Hints {
-    /// A table without slots. Takes no memory.
+    /// A table without buckets. Takes no memory.
     pub(crate) fn new(alloc: Global) -> Hints {
         Hints {
             alloc,
-            slots: Vec::new(alloc),
+            buckets: Vec::new(alloc),
         }
     }
 
@@ -40,7 +40,7 @@ impl Hints {
         ensures { IfSome result (λ i. slice_get keys.now i ≡ Some key.now) }
     {
         let first = hash_of(key);
-        for i in 0..TRIES {
+        for i in 0..MAX_PROBES {
             let index = self.index_at(first.wrapping_add(i))?;
             if keys.get(index)? == key {
                 return Some(index);
@@ -49,9 +49,9 @@ impl Hints {
         None
     }
 
-    /// Adds the last of the keys. Without memory for more slots some keys stay without one.
+    /// Adds the last of the keys. Without memory for more buckets some keys stay without one.
     pub(crate) fn add(&mut self, keys: &[SeriesKey]) {
-        if self.slots.len() / 2 < keys.len() && self.grow(keys).is_ok() {
+        if self.buckets.len() / 2 < keys.len() && self.grow(keys).is_ok() {
             return;
         }
         if let Some(last) = keys.last() {
@@ -59,42 +59,42 @@ impl Hints {
         }
     }
 
-    /// Makes twice as many slots, for all of the keys.
+    /// Makes twice as many buckets, for all of the keys.
     fn grow(&mut self, keys: &[SeriesKey]) -> Result<(), AllocError> {
-        let count = self.slots.len().saturating_mul(2).max(FEWEST);
-        self.slots = vec![in self.alloc; FREE; count]?;
+        let count = self.buckets.len().saturating_mul(2).max(FIRST_BUCKETS);
+        self.buckets = vec![in self.alloc; EMPTY; count]?;
         for i in 0..keys.len() {
             self.put(&keys[i], i);
         }
         Ok(())
     }
 
-    /// Writes the index of a key into the first of its slots that is free, if there is one.
+    /// Writes the index of a key into the first of its buckets that is empty, if there is one.
     fn put(&mut self, key: &SeriesKey, index: usize) {
         let Ok(index) = u32::try_from(index) else {
             return;
         };
         let first = hash_of(key);
-        for i in 0..TRIES {
+        for i in 0..MAX_PROBES {
             let at = self.wrapped(first.wrapping_add(i));
-            if self.slots.get(at) == Some(&FREE) {
-                self.slots[at] = index;
+            if self.buckets.get(at) == Some(&EMPTY) {
+                self.buckets[at] = index;
                 return;
             }
         }
     }
 
-    /// The index at a slot, if the slot has one.
-    fn index_at(&self, slot: usize) -> Option<usize> {
-        match self.slots.get(self.wrapped(slot)) {
+    /// The index in a bucket, if it has one.
+    fn index_at(&self, bucket: usize) -> Option<usize> {
+        match self.buckets.get(self.wrapped(bucket)) {
             Some(index) => Some(*index as usize),
             None => None,
         }
     }
 
-    /// A slot of the table, after the last of which the first comes again.
-    fn wrapped(&self, slot: usize) -> usize {
-        slot & self.slots.len().wrapping_sub(1)
+    /// A bucket of the table, after the last of which the first comes again.
+    fn wrapped(&self, bucket: usize) -> usize {
+        bucket & self.buckets.len().wrapping_sub(1)
     }
 }
 

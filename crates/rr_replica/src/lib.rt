@@ -9,7 +9,7 @@
 //! name.
 //!
 //! Either of the two steps is an [`Op`] too, as a value. Room for it is made before it is applied,
-//! which then can't fail (`specs/Standing.antt`).
+//! which then can't fail (`specs/ReplicaWithRoom.antt`).
 #![tactic(auto)]
 
 mod applying;

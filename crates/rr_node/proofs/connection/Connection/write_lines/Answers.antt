@@ -5,7 +5,7 @@ use Rattle.rr_feed.specs.Feed.{HandsOut}
 use Rattle.rr_feed.proofs.FedLemmas.{items_left-handed}
 use Rattle.rr_node.specs.Connection.{text_to}
 use Rattle.rr_host.proofs.ClockLemmas.{HasGiven-nil, HasGiven-trans}
-use Rattle.rr_node.proofs.ConnectionLemmas.{Serves-nothing, Serves-item, Serves-none, Ends-taking, Ends-after, taken_whole}
+use Rattle.rr_node.proofs.ConnectionLemmas.{ServedItems-nothing, ServedItems-item, ServedItems-none, StoppedByMemory-taking, StoppedByMemory-after, taken_whole}
 use Rattle.rr_node.proofs.connection.Connection.write_lines.Goals as goal
 
 pub loop-item-init : goal.loop-item-init
@@ -14,7 +14,7 @@ loop-item-init g c = (
   [],
   HasGiven-nil _,
   sym (append-nil c.args.answers.now.items),
-  Serves-nothing c.args.self.now c.args.keeper.now,
+  ServedItems-nothing c.args.self.now c.args.keeper.now,
 )
 
 pub returns-in_err-answer-clause-ended : goal.returns-in_err-answer-clause-ended
@@ -29,7 +29,7 @@ returns-in_err-answer-clause-ended g c =
     rw given.1 (
       so_far.0 ++ takes.asked,
       HasGiven-trans _ _ _ so_far.0 takes.asked so_far.2 takes.gave,
-      Ends-taking c.args.self.now old _ c.args.keeper.now c.loop-item.keeper _ so_far.0 takes.asked so_far.1 item _
+      StoppedByMemory-taking c.args.self.now old _ c.args.keeper.now c.loop-item.keeper _ so_far.0 takes.asked so_far.1 item _
           so_far.4 hands takes.taken,
     )
 
@@ -46,7 +46,7 @@ returns-in_err-count-clause-ended g c =
     rw given.1 (
       so_far.0 ++ takes.asked,
       HasGiven-trans _ _ _ so_far.0 takes.asked so_far.2 takes.gave,
-      Ends-after c.args.self.now old _ c.args.keeper.now c.loop-item.keeper _ so_far.0 takes.asked so_far.1 item
+      StoppedByMemory-after c.args.self.now old _ c.args.keeper.now c.loop-item.keeper _ so_far.0 takes.asked so_far.1 item
           so_far.4 hands whole.0 whole.1,
     )
 
@@ -64,7 +64,7 @@ returns-in_err-publish_in_turn-clause-ended g c =
     rw given.1 (
       so_far.0 ++ takes.asked,
       HasGiven-trans _ _ _ so_far.0 takes.asked so_far.2 takes.gave,
-      Ends-after c.args.self.now old _ c.args.keeper.now c.loop-item.keeper _ so_far.0 takes.asked so_far.1 item
+      StoppedByMemory-after c.args.self.now old _ c.args.keeper.now c.loop-item.keeper _ so_far.0 takes.asked so_far.1 item
           so_far.4 hands whole.0 (c.in_err-publish_in_turn.ensures.unchanged ∙ whole.1),
     )
 
@@ -85,7 +85,7 @@ loop-item-preserved g c =
       so_far.1 ++ text,
       HasGiven-trans _ _ _ so_far.0 takes.asked so_far.2 takes.gave,
       counted.answered ∙ ap (λ (t : List ℕ). t ++ text) so_far.3 ∙ append_assoc c.args.answers.now.items so_far.1 text,
-      Serves-item c.args.self.now old c.count.new.self c.args.keeper.now c.loop-item.keeper _ so_far.0 takes.asked
+      ServedItems-item c.args.self.now old c.count.new.self c.args.keeper.now c.loop-item.keeper _ so_far.0 takes.asked
           so_far.1 item answer (record {
             hands = rw counted.feed hands;
             few = whole.0;
@@ -107,7 +107,7 @@ returns-clause-served g c =
       so_far.1,
       so_far.2,
       so_far.3,
-      Serves-none c.args.self.now c.loop-item.self _ c.args.keeper.now
+      ServedItems-none c.args.self.now c.loop-item.self _ c.args.keeper.now
           c.loop-item.keeper so_far.0 so_far.1 hands (record { lines = refl; report = refl; rules = refl }) refl
           so_far.4,
     )
