@@ -2,13 +2,13 @@ use Rattle.std.proofs.Common.{◌≡◌, Result, Ok, Err, OnOk, sym, ap, ◌∙�
 use Rattle.rr_cells.specs.Cells.{Cells}
 use Rattle.rr_cells.specs.Joins.{join}
 use Rattle.rr_cells.specs.Joining.{with_cell}
-use Rattle.rr_cells.specs.ReplicaState.{Holding, IsReplicaState}
+use Rattle.rr_cells.specs.ReplicaState.{ReplicaState, IsReplicaState}
 use Rattle.rr_cells.specs.Laws.{JoinIsCommutative, JoinIsAssociative}
 use Rattle.rr_replica.specs.ReplicaWithRoom.{replica_state}
 use Rattle.rr_tests.proofs.tests.replicas.join_either_way.Goals as goal
 
 -- two maps are joined into a third in either order
-either_order : JoinIsCommutative → JoinIsAssociative → (h : Holding) → IsReplicaState h → (m n : Cells)
+either_order : JoinIsCommutative → JoinIsAssociative → (h : ReplicaState) → IsReplicaState h → (m n : Cells)
     → join h.schema (join h.schema h.cells m) n ≡ join h.schema (join h.schema h.cells n) m
 either_order commutative associative h is m n =
     associative h.schema h.cells m n is.layout ∙ ap (join h.schema h.cells) (commutative h.schema m n is.layout)
@@ -25,11 +25,11 @@ returns g c =
     let first = c.args.first.now in
     let second = c.args.second.now in
     let there = c.in_ok-join_cell-2.ensures.joined
-    ∙ ap (λ (h : Holding). with_cell h second) c.in_ok-join_cell.ensures.joined in
-    let here = c.in_ok-join_cell-3.ensures.joined ∙ ap (λ (h : Holding). with_cell h second) (sym c.requires.alike) in
+    ∙ ap (λ (h : ReplicaState). with_cell h second) c.in_ok-join_cell.ensures.joined in
+    let here = c.in_ok-join_cell-3.ensures.joined ∙ ap (λ (h : ReplicaState). with_cell h second) (sym c.requires.alike) in
     on_ok c.join_cell-4.result (λ joined.
-    ap (λ (h : Holding). h.cells) there
+    ap (λ (h : ReplicaState). h.cells) there
     ∙ either_order c.join_keeps_the_live.ensures.commutative c.join_keeps_the_live.ensures.associative
     (replica_state one) c.schema-schema.ensures.holds _ _
-    ∙ sym (ap (λ (h : Holding). h.cells) (joined ∙ ap (λ (h : Holding). with_cell h first) here)))
+    ∙ sym (ap (λ (h : ReplicaState). h.cells) (joined ∙ ap (λ (h : ReplicaState). with_cell h first) here)))
     c.join_cell-4.ensures.joined
