@@ -2,8 +2,9 @@
 """Runs the gate and writes what it cost, crate by crate, in seconds of processor time, to docs/GATE.md.
 
 Takes the commit that is checked out, in a fresh clone; what the gate printed goes to the file that is named, if one is.
-Nothing that an earlier gate proved on this machine is taken. Times are read from /proc twice a second, so up to half
-a second of each command is missed.
+Nothing that an earlier gate proved on this machine is taken, but with --keep, which also keeps what passes for the next
+gate: the times are those of a whole gate only if nothing was kept before. Times are read from /proc twice a second, so up
+to half a second of each command is missed.
 
 Processor time is no fixed measure: a processor is slower while its neighbours work, which on a virtual machine
 may be those of others. So a fixed piece of work is timed now and then, and its shortest, median and longest
@@ -83,8 +84,10 @@ class Times:
         return sums
 
 
-def gate():
-    """The words that run the gate from nothing; some toolchains take what an earlier one proved unless they are told."""
+def gate(keeps):
+    """The words that run the gate, from nothing if it keeps nothing; some toolchains take what was proved unless told."""
+    if keeps:
+        return ["rt", "ci"]
     told = subprocess.run(["rt", "help"], capture_output=True, text=True)
     return ["rt", "ci", *(["--anew"] if "--anew" in told.stdout + told.stderr else [])]
 
@@ -120,14 +123,15 @@ The gate's last line: {last}.
 def main():
     parser = argparse.ArgumentParser(description=__doc__, formatter_class=argparse.RawDescriptionHelpFormatter)
     parser.add_argument("log", nargs="?", help="the file for what the gate prints")
-    log = parser.parse_args().log
+    parser.add_argument("--keep", action="store_true", help="take and keep what passes on this machine")
+    args = parser.parse_args()
     with tempfile.TemporaryDirectory(prefix="rr-gate-") as room:
         clone = pathlib.Path(room) / "rr"
         subprocess.run(["git", "clone", "-q", str(TOP), str(clone)], check=True)
-        said = pathlib.Path(log or f"{room}/said").resolve()
+        said = pathlib.Path(args.log or f"{room}/said").resolve()
         began = time.monotonic()
         with said.open("w") as output:
-            run = subprocess.Popen(gate(), cwd=clone, stdout=output, stderr=subprocess.STDOUT, start_new_session=True)
+            run = subprocess.Popen(gate(args.keep), cwd=clone, stdout=output, stderr=subprocess.STDOUT, start_new_session=True)
             times = Times(run.pid)
             works = [fixed_work()]
             for reading in itertools.count(1):
