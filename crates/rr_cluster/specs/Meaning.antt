@@ -89,8 +89,7 @@ HasOrigins set origins = (origin : ℕ) → contains nat_cmp set origin ≡ list
 
 module _ {A : Type 0} {g : Ghosts A} where
   -- a cluster has the schema, clock, nodes, pages, snapshots and origins of a state; the nodes have the schema of all,
-  -- and
-  -- each page and each snapshot is kept as its bytes
+  -- and each page and each snapshot is kept as its bytes
   pub record Represents (c : Cluster A g) (m : State Cells) : Type 0 where
     pub schema : c.schema ≡ m.schema
     pub clock : c.clock ≡ m.clock

@@ -1,6 +1,5 @@
 -- What scripts keep true of the sample model: what was written is within the limits, each node knows all that its
--- origin
--- wrote, and what nodes, pages and snapshots hold has no gaps.
+-- origin wrote, and what nodes, pages and snapshots hold has no gaps.
 use Rattle.std.specs.Prelude.{◌≡◌, ℕ, ◌+◌, ◌<◌, ◌≤◌, ◌==◌, List, [], ◌∷◌, take, Option, None, Some, Result, IfOk, IfSome, IsTrue}
 use Rattle.std.specs.List.{list_any}
 use Rattle.std.specs.FinMap.{get}

@@ -19,8 +19,7 @@ pub record Snapshot (K : Type 0) : Type 0 where
   pub contents : K
 
 -- the schema, the clock and the lead, the nodes, the pages and the snapshots by their names, the origins that were
--- used,
--- and all that was written; a page holds what a node can hold
+-- used, and all that was written; a page holds what a node can hold
 pub record State (K : Type 0) : Type 0 where
   pub schema : Layout
   pub clock : ℤ

@@ -1,6 +1,5 @@
 -- The rule of the two copies: what readers have seen and were told, and what the keeper has published, are beginnings
--- of
--- one list.
+-- of one list.
 use Rattle.std.specs.Prelude.{◌≡◌, ℕ, true, false, ◌||◌, if◌then◌else◌, List, [], ◌++◌}
 use mathlib.Core.Option.{some}
 use mathlib.Core.List.{IsPrefix}

@@ -121,8 +121,7 @@ OthersWrite =
     → HasHistory h z (turns ++ elsewhere x ∷ []) k
 
 -- what a replica with the cells of such a knowledge was saved as is loaded, under an origin that wrote nothing, as one
--- with
--- these cells again
+-- with these cells again
 abbrev pub LoadedIsKnown : Type 0
 LoadedIsKnown =
     (h : ReplicaState) (z : HistoryState) (origin : ℕ) → Knows h z → IsReplicaState h → len h.cells ≤ MAX_SNAPSHOT_CELLS

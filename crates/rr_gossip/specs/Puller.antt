@@ -138,8 +138,7 @@ pub record AreFront {X : Type 0} (es : List NamedCell) (read : Result ((X × Lis
   pub parts : found.0.1 ≡ es ++ others
 
 -- a frame was taken: its cells are joined, one by one and in order; or it is refused and no cell is joined; or memory
--- ran
--- out, and then its first cells may be joined. `joined` says which cells a target has joined
+-- ran out, and then its first cells may be joined. `joined` says which cells a target has joined
 abbrev pub Takes : {X : Type 0} → (List NamedCell → Type 0) → X → Result Bool GossipFault
     → Result ((X × List NamedCell) × Bool) GossipFault → Type 0
 Takes joined x (Ok last) read = (es : List NamedCell) × (read ≡ Ok ((x, es), last)) × joined es

@@ -48,8 +48,7 @@ pub record HasPulled (s : Layout) (first : Puller) (had left : Option (List ℕ)
   pub done : last.stage ≡ puller.Done
 
 -- it took frames, and stopped at the next; these are the cells of the pages of those, in order, and where memory ran
--- out
--- perhaps the first cells of the next page
+-- out perhaps the first cells of the next page
 pub record HasStoppedPulling (s : Layout) (first : Puller) (had left : Option (List ℕ)) (fault : GossipFault)
     (cells : List NamedCell) : Type 0 where
   pub frames : List (List ℕ)
@@ -162,8 +161,7 @@ GivesAnswer =
     → (answer ≡ concat (replied_by s names m)) × (left ≡ Some more) × AreLeft (s, newer_cells names (entries m))
 
 -- a pull that read what a side replies of some cells, and perhaps more behind it, has exactly these cells, in order,
--- and
--- left what is behind
+-- and left what is behind
 abbrev pub PullsTakeTheReply : Type 0
 PullsTakeTheReply =
     (s : Layout) (es cells : List NamedCell) (n limit : ℕ) (more : List ℕ) (left : Option (List ℕ))

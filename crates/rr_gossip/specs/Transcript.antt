@@ -147,8 +147,7 @@ pub record IsSession (s : Layout) (m given : Cells) (limit : ℕ) (cells : List 
   pub is_taken : puller_after s puller [] (contents pages) ≡ Ok (last, cells)
 
 -- it brings what the puller lacks, in order, and so the join of both sides' cells, where equal versions of one cell
--- mean
--- equal contents
+-- mean equal contents
 abbrev pub SessionsBringTheJoin : Type 0
 SessionsBringTheJoin =
     (s : Layout) (m given : Cells) (limit : ℕ) → IsLayout s → IsTrimmed s m → All (IsCellOf s) (entries m)

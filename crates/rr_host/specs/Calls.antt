@@ -10,8 +10,7 @@ Grows (Some old) None added = ⊤
 Grows (Some old) (Some new) added = new ≡ old ++ added
 
 -- a call of a dial: an address is passed over, as it isn't due; or it was reached by a stream, or can't be reached; or
--- a
--- stream was handed back
+-- a stream was handed back
 pub data DialCall : Type 0 where
   passed_over : (address : List ℕ) → DialCall
   reached : (address : List ℕ) → Stream → DialCall

@@ -24,8 +24,7 @@ EndsSession old new before after (Some fault) =
     × HasStoppedPulling old new before.input.left after.input.left before.output.written after.output.written why
 
 -- the peer at an address isn't due, and nothing is done; or it can't be reached; or it is, and its stream is handed
--- back
--- when the session is over
+-- back when the session is over
 abbrev pub EndsPull : List ℕ → KeeperState → KeeperState → List DialCall → Option NodeFault → Type 0
 EndsPull address old new dialed fault =
     ((dialed ≡ passed_over address ∷ []) × (new ≡ old) × (fault ≡ None))

@@ -25,8 +25,7 @@ came_in (Ok came) = Some came
 came_in (Err fault) = None
 
 -- what a connection is, by what became of its lines: its report is told if they were served to the end, and memory
--- alone
--- ends the round
+-- alone ends the round
 abbrev pub going_on : Result Report NodeFault → Option Lines
 going_on (Ok report) = Some (lines.Taken (Some report))
 going_on (Err fault) = if is_memory fault then None else Some (lines.Taken None)
@@ -75,8 +74,7 @@ EndsRest config came old new dialed shelved =
     × (shelved ≡ told ++ pulled (at_most_usize (len (cells_of new))) ∷ saved))
 
 -- a whole round: where no connection will come, and where memory ran out in one, there is nothing else; else the shelf
--- is
--- told the connection's report first
+-- is told the connection's report first
 abbrev pub EndsRound : Config → Option Bool → KeeperState → KeeperState → Option (List ℤ) → Option (List ℤ) → List Call
     → List DialCall → List ShelfCall → Type 0
 EndsRound config came old new given since calls dialed shelved =

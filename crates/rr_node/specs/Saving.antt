@@ -32,8 +32,7 @@ sufficed (Err why.WriteFailed) = true
 sufficed (Err why.TooManyCells) = true
 
 -- a writer was opened, all of the snapshot was written, or a front of it as the writer failed or memory ran out, or
--- none
--- as there are too many cells; and the writer was handed back
+-- none as there are too many cells; and the writer was handed back
 pub record IsWritten (k : KeeperState) (saved : Result (Unit {0}) SaveFault) (shelved : List ShelfCall) : Type 0 where
   pub before : Output
   pub after : Output

@@ -34,10 +34,8 @@ abbrev pub Desks : Type 0
 Desks = FinMap nat_cmp Desk
 
 -- a desk of a new replica is opened; its keeper puts a sample, joins a cell of what another desk's operations made, up
--- to
--- one of them, or publishes; it closes the desk, and one is opened of its replica; a desk is opened of a replica that
--- is
--- loaded of what another's operations made
+-- to one of them, or publishes; it closes the desk, and one is opened of its replica; a desk is opened of a replica
+-- that is loaded of what another's operations made
 pub data Call : Type 0 where
   opens : (origin : ℕ) (b : Book) → Call
   puts : (origin : ℕ) (key : List ℕ) (time value : ℤ) → Call

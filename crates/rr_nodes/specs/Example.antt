@@ -25,8 +25,7 @@ abbrev pub takes_first : ℕ → ℕ → Deed
 takes_first origin minute = took origin (now_at 1) (record { key = load; archive = 0; slot = pos minute; origin = 1 })
 
 -- the first node writes in two minutes, the second in the latter. A page of the first node's two cells comes to the
--- third
--- node twice. It comes to the second node cut after its first cell. A page of the second node comes to nobody
+-- third node twice. It comes to the second node cut after its first cell. A page of the second node comes to nobody
 abbrev pub deeds_of_three : List Deed
 deeds_of_three =
     opened 1 ∷ opened 2 ∷ opened 3 ∷ reads 1 0 (pos 10) ∷ reads 1 1 (pos 20) ∷ reads 2 1 (pos 7)

@@ -108,8 +108,7 @@ pub record Answers (s : Layout) (deeds : List Deed) (at : Moment) (q : Request) 
   pub text_is : text ≡ fetch_text s known q
 
 -- so whatever was done, a reader at any of the nodes answers by exactly the marks that had reached its node when it had
--- the
--- operations that the reader has seen
+-- the operations that the reader has seen
 abbrev pub ReadersAnswerFromSamples : Type 0
 ReadersAnswerFromSamples =
     (s : Layout) (deeds : List Deed) (origin : ℕ) (opening : List Op) (k : KeeperState) (n : Node Cells)

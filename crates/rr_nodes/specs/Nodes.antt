@@ -9,8 +9,7 @@ use Rattle.rr_model.specs.CellNames.{CellName}
 use Rattle.rr_model.specs.Samples.{Sample}
 
 -- a node, which is a replica from when it is made or loaded on: the number of its next sample, what it holds, and all
--- that
--- it held before, the newest first
+-- that it held before, the newest first
 pub record Node (K : Type 0) : Type 0 where
   pub next : ℕ
   pub now : K
@@ -26,8 +25,7 @@ pub record Moment : Type 0 where
   pub ago : ℕ
 
 -- what is done: a node is opened that holds nothing; a node writes a sample; it takes one cell of what some node held
--- at
--- some moment; a node is loaded with all that some node held at some moment
+-- at some moment; a node is loaded with all that some node held at some moment
 pub data Deed : Type 0 where
   opened : (origin : ℕ) → Deed
   wrote : (origin : ℕ) (key : List ℕ) (time value : ℤ) → Deed

@@ -22,8 +22,7 @@ TakesAreInOrder {K} model =
     ≡ insert ns origin (fold (λ o name. taken model s origin o k name) n names)
 
 -- whatever was done, once a node has taken all cells that another held at one moment and it lacked, it has the live
--- marks
--- of what either knew
+-- marks of what either knew
 abbrev pub PullsBringAll : Type 0
 PullsBringAll =
     (s : Layout) (deeds : List Deed) (origin : ℕ) (there : Moment) (n : Node Knowledge) (k : Knowledge) → IsLayout s

@@ -37,9 +37,8 @@ abbrev pub names_lacking : Cells → Cells → List CellName
 names_lacking given had = map (λ e. e.0) (lacking given had)
 
 -- a whole session of two sides: the one that gives heard what the other sends, of which it may have read the first
--- bytes
--- before, and the one that pulls read what that wrote, of which these are the cells; more may come behind in either
--- direction
+-- bytes before, and the one that pulls read what that wrote, of which these are the cells; more may come behind in
+-- either direction
 pub record IsSession (s : Layout) (had given : Cells) (cells : List NamedCell) : Type 0 where
   pub before : List ℕ
   pub heard : List ℕ
@@ -62,8 +61,7 @@ SessionsBringWhatIsLacking =
     → cells ≡ lacking given had
 
 -- a session that is cut: the side that gives heard the same, and of its answer, which it may not have written whole,
--- the
--- side that pulls could read a beginning, and stopped; these are the cells that it had by then
+-- the side that pulls could read a beginning, and stopped; these are the cells that it had by then
 pub record IsCutSession (s : Layout) (had given : Cells) (cells : List NamedCell) : Type 0 where
   pub before : List ℕ
   pub heard : List ℕ

@@ -86,8 +86,7 @@ IsOfScript fault = (fault ≡ load.SchemaDiffers) ⊎ (fault ≡ load.OriginUsed
 module _ (s : Layout) (layout : IsLayout s) (x : Snapshot Cells) (bytes : List ℕ) (has : HasSnapshotText x bytes)
     (number : ℕ) where
   -- the bytes of a snapshot are loaded as its cells, unless its schema is another, or the origin is its own or that of
-  -- one
-  -- of them
+  -- one of them
   due : Option Addition → Result ReplicaState LoadFault
   due None = Err load.SchemaDiffers
   due (Some a) = unless load.OriginUsed (has_origin cell_model x number)
