@@ -10,8 +10,8 @@ use rr_gossip::GossipFault;
 use rr_key::KeyFault;
 use rr_line::LineFault;
 use rr_page::PageFault;
+use rr_process::ToolFault;
 use rr_replica::{JoinFault, PutFault, WriteFault};
-use rr_report::ToolFault;
 use std::alloc::{AllocError, Global};
 use std::fmt::Display;
 

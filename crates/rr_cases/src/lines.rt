@@ -7,7 +7,7 @@ use crate::repeats::expanded;
 use crate::settings::{Settings, written};
 use anyhow::{Result, bail};
 use rr_line::Precision;
-use rr_report::{check_lines, check_lines_within};
+use rr_process::{check_lines, check_lines_within};
 use rr_words::{Order, read_words};
 use std::alloc::Global;
 

@@ -22,9 +22,9 @@ use Rattle.rr_cluster.specs.declared.stop.Stop.{Stop}
 use Rattle.rr_cluster.specs.declared.stop.Stop.TheVariants.{Refused, Memory}
 use Rattle.rr_page.specs.Page.{IsPage}
 use Rattle.rr_page.specs.Version.{latest}
-use Rattle.rr_parts.specs.declared.fault.SaveFault.TheVariants.{TooManyCells}
-use Rattle.rr_parts.specs.declared.heading.TheConstants.{MAX_SNAPSHOT_CELLS}
-use Rattle.rr_parts.specs.Snapshot.{IsSnapshot, snapshot_text}
+use Rattle.rr_snapshot.specs.declared.fault.SaveFault.TheVariants.{TooManyCells}
+use Rattle.rr_snapshot.specs.declared.heading.TheConstants.{MAX_SNAPSHOT_CELLS}
+use Rattle.rr_snapshot.specs.Snapshot.{IsSnapshot, snapshot_text}
 use Rattle.rr_cluster.specs.Commands.Bytes.{bytes_of_page}
 use Rattle.rr_cluster.specs.Commands.Save.{snapshot_of}
 use Rattle.rr_cluster.specs.Commands.Write.{with_all_written}

@@ -25,8 +25,8 @@ use Rattle.rr_delta.specs.Difference.{newer_cells}
 use Rattle.rr_delta.specs.Names.{NamedVersion}
 use Rattle.rr_fetch.specs.Answers.{cells_text}
 use Rattle.rr_page.specs.Version.{latest}
-use Rattle.rr_parts.specs.declared.heading.TheConstants.{MAX_SNAPSHOT_CELLS}
-use Rattle.rr_parts.specs.Snapshot.{snapshot_text}
+use Rattle.rr_snapshot.specs.declared.heading.TheConstants.{MAX_SNAPSHOT_CELLS}
+use Rattle.rr_snapshot.specs.Snapshot.{snapshot_text}
 use Rattle.rr_raising.specs.Raising.{raised_knowledge}
 use Rattle.rr_snapshot.specs.Loading.{loaded_at}
 use Rattle.rr_desk.specs.Points.{with_put, with_puts}

@@ -14,8 +14,8 @@ ghost use Rattle.rr_delta.specs.Difference.{IsSummary};
 ghost use Rattle.rr_delta.specs.Names.{IsNameOf, name_in, named_version, owned_name, versions_of};
 ghost use Rattle.rr_delta.specs.Summaries.{cells_after};
 ghost use Rattle.rr_page.specs.Version.{latest};
-ghost use Rattle.rr_parts.specs.Snapshot.{snapshot_text};
-ghost use Rattle.rr_parts.specs.declared.heading.TheConstants.{MAX_SNAPSHOT_CELLS};
+ghost use Rattle.rr_snapshot.specs.Snapshot.{snapshot_text};
+ghost use Rattle.rr_snapshot.specs.declared.heading.TheConstants.{MAX_SNAPSHOT_CELLS};
 ghost use Rattle.rr_desk.specs.Points.{with_put};
 ghost use Rattle.rr_copies.specs.KeeperState.{cells_of, own_replica, with_all_published, with_pending};
 

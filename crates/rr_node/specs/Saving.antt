@@ -6,10 +6,10 @@ use Rattle.rr_io.specs.Counted.{HasRisen}
 use Rattle.rr_io.specs.Stream.{AppendsPrefix}
 use Rattle.rr_copies.specs.KeeperState.{KeeperState, cells_of}
 use Rattle.rr_page.specs.Version.{latest}
-use Rattle.rr_parts.specs.declared.fault.SaveFault.{SaveFault}
-use Rattle.rr_parts.specs.declared.fault.SaveFault.TheVariants as why
-use Rattle.rr_parts.specs.declared.heading.TheConstants.{MAX_SNAPSHOT_CELLS}
-use Rattle.rr_parts.specs.Snapshot.{snapshot_text}
+use Rattle.rr_snapshot.specs.declared.fault.SaveFault.{SaveFault}
+use Rattle.rr_snapshot.specs.declared.fault.SaveFault.TheVariants as why
+use Rattle.rr_snapshot.specs.declared.heading.TheConstants.{MAX_SNAPSHOT_CELLS}
+use Rattle.rr_snapshot.specs.Snapshot.{snapshot_text}
 use Rattle.rr_host.specs.Streams.{Output}
 use Rattle.rr_node.specs.Shelf.{ShelfCall, opened, put_back, save_failed, unopened, unwanted}
 

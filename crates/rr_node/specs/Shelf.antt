@@ -3,7 +3,7 @@ use Rattle.std.specs.Prelude.{ℕ, Bool, Option}
 use Rattle.rr_host.specs.Streams.{Output}
 use Rattle.rr_node.specs.declared.fault.NodeFault.{NodeFault}
 use Rattle.rr_node.specs.declared.report.Report.{Report}
-use Rattle.rr_parts.specs.declared.fault.SaveFault.{SaveFault}
+use Rattle.rr_snapshot.specs.declared.fault.SaveFault.{SaveFault}
 
 -- a call of a shelf: it was told the report of a connection, or that there is none; that a peer brought cells of the
 -- keeper's own origin which the keeper never wrote, that the pull of a peer failed, or that all pulls are over, with

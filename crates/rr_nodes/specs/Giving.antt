@@ -11,8 +11,8 @@ use Rattle.rr_copies.specs.KeeperState.{KeeperState, cells_of, own_replica}
 use Rattle.rr_delta.specs.Difference.{newer_cells}
 use Rattle.rr_delta.specs.Names.{NamedVersion}
 use Rattle.rr_page.specs.Version.{latest}
-use Rattle.rr_parts.specs.declared.heading.TheConstants.{MAX_SNAPSHOT_CELLS}
-use Rattle.rr_parts.specs.Snapshot.{snapshot_text}
+use Rattle.rr_snapshot.specs.declared.heading.TheConstants.{MAX_SNAPSHOT_CELLS}
+use Rattle.rr_snapshot.specs.Snapshot.{snapshot_text}
 use Rattle.rr_snapshot.specs.Loading.{loaded_at}
 use Rattle.rr_nodes.specs.Nodes.{Node, Moment, Deed, held_at, after_all}
 use Rattle.rr_nodes.specs.Models.{cell_model}

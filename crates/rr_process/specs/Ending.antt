@@ -2,7 +2,7 @@
 use Rattle.std.specs.Prelude.{ℕ, ◌==◌, if◌then◌else◌}
 use Rattle.rr_process.specs.declared.ending.Ending.{Ending}
 use Rattle.rr_process.specs.declared.ending.Ending.TheVariants as ending
-use Rattle.rr_command.specs.declared.fault.ToolFault.TheVariants as fault
+use Rattle.rr_process.specs.declared.fault.ToolFault.TheVariants as fault
 use Rattle.rr_words.specs.declared.fault.WordsFault.{WordsFault}
 use Rattle.rr_words.specs.declared.fault.WordsFault.TheVariants as words
 

@@ -1,2 +1,5 @@
+pub mod Fault
+pub mod Report
+pub mod Checker
 pub mod Ending
 pub mod Orders

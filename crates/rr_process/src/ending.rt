@@ -2,7 +2,7 @@
 
 ghost use Rattle.std.specs.Prelude.{◌≡◌};
 
-use rr_command::ToolFault;
+use crate::fault::ToolFault;
 use rr_words::WordsFault;
 use std::io;
 

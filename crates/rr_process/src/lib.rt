@@ -1,26 +1,38 @@
 //! The program as a process: its words, an order obeyed over two streams, and how that ends.
 //!
 //! ```text
-//! words ── read_order ──> an order ── obey ──> the output, and an ending with its status
+//! words ── read_order ──> an order ── obey ──┬── run_script ──> what a script prints ──> the output
+//!                                            └── check_lines ─> records and refusals ──> the output
 //! ```
 //!
 //! [`read_order`] reads the words of a process, and [`obey`] picks its streams, both by the traits
-//! of a runtime, so that a test can stand in for the process. [`obey_order`] runs a script or
-//! checks lines, from a reader to a writer, and its contract says what is written. What runs
-//! scripts is handed in, as an `rr_command::RunScript`, so that all of this stands below it.
-//! Streams are counted, so that one is blamed only where a call of it failed.
+//! of a runtime, so that a test can stand in for the process. [`obey_order`] runs a script
+//! ([`run_script`]) or checks lines ([`check_lines`]), from a reader to a writer, and its contract
+//! says what is written: what the sample model prints for the script (`specs/Orders.antt`), or the
+//! report of the lines (`specs/Report.antt`), which is written piece by piece as they come. What is
+//! written is a front of that wherever a run ends. Streams are counted, so that one is blamed only
+//! where a call of it failed ([`ToolFault`]).
 //!
 //! A run ends with status 0 where it is done, 1 where lines were refused, 2 where the command line
 //! is, or what a node is told to begin with, and 3 where reading or writing failed, an address was
 //! bad or memory ran out ([`Ending`]).
 #![tactic(auto)]
 
+mod check;
+mod checker;
 mod ending;
+mod fault;
 mod orders;
 mod process;
+mod report;
+mod script;
+mod streams;
 mod words;
 
+pub use check::{check_lines, check_lines_within};
 pub use ending::Ending;
+pub use fault::ToolFault;
 pub use orders::obey_order;
 pub use process::{file_fault, obey};
+pub use script::run_script;
 pub use words::read_order;

@@ -5,39 +5,38 @@ ghost use Rattle.std.specs.Io.KnownBytes.{Appends};
 ghost use Rattle.rr_io.specs.Counted.{inner_of, failures_of, reads_of, ends_of, HasRisen, HasRisenBy};
 ghost use Rattle.rr_io.specs.Stream.{AppendsPrefix};
 ghost use Rattle.rr_text.specs.declared.limits.TheConstants.{MAX_READS};
-ghost use Rattle.rr_process.specs.Orders.{ending_of, output_of};
+ghost use Rattle.rr_process.specs.Orders.{ending_of, printed_for};
 ghost use Rattle.rr_words.specs.Words.{asked_by};
 
+use crate::check::check_lines;
 use crate::ending::Ending;
-use rr_command::{RunScript, ToolFault, run_script};
+use crate::fault::ToolFault;
+use crate::script::run_script;
 use rr_io::Counted;
-use rr_report::check_lines;
 use rr_words::Order;
 use std::alloc::Global;
 use std::io::{Read, Write};
 
-/// Obeys an order over two streams: its script, which `scripts` runs, or its lines are what `input`
-/// still has, and what they print is written to `output`. An order to serve has no such streams:
+/// Obeys an order over two streams: its script or its lines are what `input` still has, and what they print is written to `output`. An order to serve has no such streams:
 /// nothing is read or written.
 ///
 /// What is written is a front of that wherever a run ends.
-pub fn obey_order<S: RunScript, R: Read, W: Write>(
+pub fn obey_order<R: Read, W: Write>(
     alloc: Global,
-    scripts: &S,
     order: &Order,
     input: &mut Counted<R>,
     output: &mut Counted<W>,
 ) -> Result<Ending, ToolFault>
     ensures printed { OnOk result (IfSome (R.remaining (inner_of input.old))
         (λ bytes. Appends (W.contents (inner_of output.old)) (W.contents (inner_of output.new))
-        (output_of S.output (asked_by order.now) bytes))) }
+        (printed_for (asked_by order.now) bytes))) }
     ensures ending { IfOk result (λ ending. IfSome (R.remaining (inner_of input.old))
         (λ bytes. ending ≡ ending_of (asked_by order.now) bytes)) }
 
     // What is written however the run ends.
     ensures front { IfSome (R.remaining (inner_of input.old))
         (λ bytes. AppendsPrefix (W.contents (inner_of output.old))
-        (W.contents (inner_of output.new)) (output_of S.output (asked_by order.now) bytes)) }
+        (W.contents (inner_of output.new)) (printed_for (asked_by order.now) bytes)) }
 
     // When a stream is to blame.
     ensures read_failed { result ≡ Err ToolFault.ReadFailed
@@ -51,7 +50,7 @@ pub fn obey_order<S: RunScript, R: Read, W: Write>(
 {
     match order {
         Order::Sim { file: _ } => {
-            run_script(alloc, scripts, input, output)?;
+            run_script(alloc, input, output)?;
             Ok(Ending::Done)
         }
         Order::CheckLines { precision, now } => {

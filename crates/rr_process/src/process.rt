@@ -1,8 +1,8 @@
 //! The streams of a process.
 
 use crate::ending::Ending;
+use crate::fault::ToolFault;
 use crate::orders::obey_order;
-use rr_command::{RunScript, ToolFault};
 use rr_io::Counted;
 use rr_words::Order;
 use std::io::ErrorKind;
@@ -27,28 +27,15 @@ pub fn file_fault(rt: &impl Eprint, file: &str, error: &io::Error) -> ToolFault 
 /// named on standard error.
 pub fn obey(
     rt: &(impl AllocGlobal + Files + Input + Print + Eprint),
-    scripts: &impl RunScript,
     order: &Order,
 ) -> Result<Ending, ToolFault> {
     let alloc = rt.alloc();
     let mut output = Counted::new(io::writer(rt));
     let Order::Sim { file: Some(file) } = order else {
-        return obey_order(
-            alloc,
-            scripts,
-            order,
-            &mut Counted::new(rt.reader()),
-            &mut output,
-        );
+        return obey_order(alloc, order, &mut Counted::new(rt.reader()), &mut output);
     };
     match fs::open(rt, file.as_str()) {
-        Ok(script) => obey_order(
-            alloc,
-            scripts,
-            order,
-            &mut Counted::new(script),
-            &mut output,
-        ),
+        Ok(script) => obey_order(alloc, order, &mut Counted::new(script), &mut output),
         Err(error) => Err(file_fault(rt, file.as_str(), &error)),
     }
 }

@@ -1,10 +1,9 @@
 //! The files that a node begins with.
 
-use rr_command::ToolFault;
 use rr_config::{Config, ConfigFault, remarks};
 use rr_io::Counted;
 use rr_packed::PackedArchive;
-use rr_process::{Ending, file_fault};
+use rr_process::{Ending, ToolFault, file_fault};
 use rr_replica::Replica;
 use rr_schema::{Origin, Schema};
 use rr_snapshot::{LoadFault, load};

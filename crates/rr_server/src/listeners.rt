@@ -1,9 +1,8 @@
 //! Where the connections of a node come from.
 
-use rr_command::ToolFault;
 use rr_config::Config;
 use rr_node::{Flag, HaltFlag, Listening, StartBarrier};
-use rr_process::Ending;
+use rr_process::{Ending, ToolFault};
 use std::io;
 use std::io::ErrorKind;
 use std::net::{Net, TcpListener, TcpStream};

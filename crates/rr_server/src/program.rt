@@ -1,7 +1,6 @@
 //! The order of a process's words, obeyed.
 
 use crate::server::Server;
-use rr_cluster::Simulator;
 use rr_process::{Ending, obey, read_order};
 use rr_words::Order;
 use std::env::Env;
@@ -48,7 +47,7 @@ where
         save,
     } = &order
     else {
-        return match obey(rt, &Simulator, &order) {
+        return match obey(rt, &order) {
             Ok(ending) => ending,
             Err(fault) => Ending::Failed(fault),
         };

@@ -4,7 +4,6 @@ use crate::files::{check_folder, first_replica, read_config};
 use crate::greeting::greeting;
 use crate::listeners::Listeners;
 use crate::program::lent;
-use rr_command::ToolFault;
 use rr_config::Config;
 use rr_desk::{Keeper, Reader, open};
 use rr_node::{
@@ -12,7 +11,7 @@ use rr_node::{
     SystemClock, TcpSeats, serve_node,
 };
 use rr_packed::PackedArchive;
-use rr_process::Ending;
+use rr_process::{Ending, ToolFault};
 use rr_replica::Replica;
 use rr_schema::Origin;
 use std::alloc::AllocError;

@@ -1,5 +1,12 @@
-pub mod WriteLemmas
-pub mod JoinedLemmas
-pub mod LoadLemmas
-pub mod SavedLemmas
-pub mod MemoryLemmas
+pub mod FrontLemmas
+pub mod SaveLemmas
+pub mod WidthLemmas
+pub mod StreamLemmas
+pub mod PieceLemmas
+pub mod ChainLemmas
+pub mod CellsLemmas
+pub mod ToldLemmas
+pub mod BodyLemmas
+pub mod TakenLemmas
+pub mod SnapshotLemmas
+pub mod CutLemmas

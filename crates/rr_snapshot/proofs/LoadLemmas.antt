@@ -6,12 +6,12 @@ use Rattle.rr_schema.specs.Schema.{Layout}
 use Rattle.rr_cells.specs.CellBounds.{NamedCell}
 use Rattle.rr_cells.specs.ReplicaState.{ReplicaState}
 use Rattle.rr_replica.specs.ReplicaWithRoom.{ReplicaWithRoom, replica_state}
-use Rattle.rr_parts.specs.declared.fault.LoadFault.{LoadFault}
-use Rattle.rr_parts.specs.declared.fault.LoadFault.TheVariants.{ReadFailed, OriginUsed, Memory}
-use Rattle.rr_parts.specs.declared.heading.Head.{Head}
-use Rattle.rr_parts.specs.SnapshotReading.{head_at, digest_at, end_at, bytes_before, cells_after, snapshot_at}
-use Rattle.rr_parts.proofs.BodyLemmas.{after_cells, after_head, of_rest, HeadRead, digest_of_taken, IsBodyRead}
-use Rattle.rr_parts.proofs.ChainLemmas.{Gave}
+use Rattle.rr_snapshot.specs.declared.fault.LoadFault.{LoadFault}
+use Rattle.rr_snapshot.specs.declared.fault.LoadFault.TheVariants.{ReadFailed, OriginUsed, Memory}
+use Rattle.rr_snapshot.specs.declared.heading.Head.{Head}
+use Rattle.rr_snapshot.specs.SnapshotReading.{head_at, digest_at, end_at, bytes_before, cells_after, snapshot_at}
+use Rattle.rr_snapshot.proofs.BodyLemmas.{after_cells, after_head, of_rest, HeadRead, digest_of_taken, IsBodyRead}
+use Rattle.rr_snapshot.proofs.ChainLemmas.{Gave}
 use Rattle.rr_snapshot.specs.Loading.{is_used, replica_of, loaded_at, GivesIfRead}
 
 -- ---- where all bytes are known

@@ -11,13 +11,13 @@ use Rattle.rr_page.specs.Reading.{cell_at}
 use Rattle.rr_page.proofs.FieldLemmas.{bind_ok, ok_is, unless_ok}
 use Rattle.rr_page.proofs.LoopLemmas.{with_front}
 use Rattle.rr_cells.specs.CellBounds.{NamedCell}
-use Rattle.rr_parts.specs.declared.fault.LoadFault.{LoadFault}
+use Rattle.rr_snapshot.specs.declared.fault.LoadFault.{LoadFault}
 use Rattle.rr_schema.specs.Added.{older}
-use Rattle.rr_parts.specs.declared.heading.Head.{Head}
-use Rattle.rr_parts.specs.SnapshotReading.{as_in_page, cells_after}
-use Rattle.rr_parts.specs.Stream.{HasRead}
-use Rattle.rr_parts.proofs.BodyLemmas.{HeadRead}
-use Rattle.rr_parts.proofs.CellsLemmas.{IsSoFar, Read, page_ok}
+use Rattle.rr_snapshot.specs.declared.heading.Head.{Head}
+use Rattle.rr_snapshot.specs.SnapshotReading.{as_in_page, cells_after}
+use Rattle.rr_snapshot.specs.Stream.{HasRead}
+use Rattle.rr_snapshot.proofs.BodyLemmas.{HeadRead}
+use Rattle.rr_snapshot.proofs.CellsLemmas.{IsSoFar, Read, page_ok}
 use Rattle.rr_snapshot.specs.Loading.{HasBehind, StopsAmong, behind_cells}
 
 -- what was read before is left out

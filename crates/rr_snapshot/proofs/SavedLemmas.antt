@@ -24,14 +24,14 @@ use Rattle.rr_cells.specs.Joins.{join_cells}
 use Rattle.rr_cells.proofs.CellByCell.{join_goes_by_cells, join_nothing, trimmed_none}
 use Rattle.rr_cells.proofs.HeldCells.{all_entries, all_held}
 use Rattle.rr_cells.proofs.JoinLaws.{join_commutes}
-use Rattle.rr_parts.specs.declared.fault.LoadFault.{LoadFault}
-use Rattle.rr_parts.specs.declared.fault.LoadFault.TheVariants.{OriginUsed, SchemaDiffers}
-use Rattle.rr_parts.specs.declared.heading.Head.{Head}
-use Rattle.rr_parts.specs.declared.heading.TheConstants.{MAX_SNAPSHOT_CELLS}
-use Rattle.rr_parts.specs.Snapshot.{IsSnapshot, snapshot_text}
-use Rattle.rr_parts.specs.SnapshotReading.{snapshot_at}
-use Rattle.rr_parts.proofs.BodyLemmas.{after_head}
-use Rattle.rr_parts.proofs.SnapshotLemmas.{snapshot_read, other_schema}
+use Rattle.rr_snapshot.specs.declared.fault.LoadFault.{LoadFault}
+use Rattle.rr_snapshot.specs.declared.fault.LoadFault.TheVariants.{OriginUsed, SchemaDiffers}
+use Rattle.rr_snapshot.specs.declared.heading.Head.{Head}
+use Rattle.rr_snapshot.specs.declared.heading.TheConstants.{MAX_SNAPSHOT_CELLS}
+use Rattle.rr_snapshot.specs.Snapshot.{IsSnapshot, snapshot_text}
+use Rattle.rr_snapshot.specs.SnapshotReading.{snapshot_at}
+use Rattle.rr_snapshot.proofs.BodyLemmas.{after_head}
+use Rattle.rr_snapshot.proofs.SnapshotLemmas.{snapshot_read, other_schema}
 use Rattle.rr_raising.specs.Raising.{renamed, raised_name, raised_cell, raised_cells}
 use Rattle.rr_raising.proofs.Raised.{same_cells}
 use Rattle.rr_raising.proofs.Joined.{join_cells_is_raised}

@@ -8,9 +8,9 @@ use Rattle.rr_contrib.specs.declared.contribution.Contribution.{Contribution}
 use Rattle.rr_model.specs.CellNames.{CellName}
 use Rattle.rr_cells.specs.ReplicaState.{IsReplicaState, ReplicaState}
 use Rattle.rr_page.specs.Version.{latest}
-use Rattle.rr_parts.specs.declared.fault.LoadFault.TheVariants.{SchemaDiffers}
-use Rattle.rr_parts.specs.declared.heading.TheConstants.{MAX_SNAPSHOT_CELLS}
-use Rattle.rr_parts.specs.Snapshot.{snapshot_text}
+use Rattle.rr_snapshot.specs.declared.fault.LoadFault.TheVariants.{SchemaDiffers}
+use Rattle.rr_snapshot.specs.declared.heading.TheConstants.{MAX_SNAPSHOT_CELLS}
+use Rattle.rr_snapshot.specs.Snapshot.{snapshot_text}
 use Rattle.rr_raising.specs.Raising.{raised_cells}
 use Rattle.rr_snapshot.specs.Loading.{loaded_at}
 

@@ -1,2 +1,5 @@
-pub mod Loading
-pub mod Laws
+pub mod Fault
+pub mod Snapshot
+pub mod SnapshotReading
+pub mod Stream
+pub mod TextLaws

@@ -12,10 +12,10 @@ use Rattle.rr_page.specs.PageReading.{cells_at}
 use Rattle.rr_cells.specs.CellBounds.{NamedCell}
 use Rattle.rr_cells.specs.ReplicaState.{ReplicaState}
 use Rattle.rr_cells.specs.Joins.{join_cells}
-use Rattle.rr_parts.specs.declared.fault.LoadFault.{LoadFault}
-use Rattle.rr_parts.specs.declared.fault.LoadFault.TheVariants.{ReadFailed, OriginUsed, Memory}
-use Rattle.rr_parts.specs.declared.heading.Head.{Head}
-use Rattle.rr_parts.specs.SnapshotReading.{head_at, cells_after, snapshot_at}
+use Rattle.rr_snapshot.specs.declared.fault.LoadFault.{LoadFault}
+use Rattle.rr_snapshot.specs.declared.fault.LoadFault.TheVariants.{ReadFailed, OriginUsed, Memory}
+use Rattle.rr_snapshot.specs.declared.heading.Head.{Head}
+use Rattle.rr_snapshot.specs.SnapshotReading.{head_at, cells_after, snapshot_at}
 use Rattle.rr_raising.specs.Raising.{raised_cell}
 
 -- whether an origin is that of one of these cells

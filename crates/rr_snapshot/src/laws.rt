@@ -1,5 +1,22 @@
-//! The laws of what was saved, with no work to do: the functions have empty bodies.
+//! The laws of the texts of snapshots and of what was saved, with no work to do: the functions have
+//! empty bodies.
+ghost use Rattle.rr_snapshot.specs.TextLaws.{SnapshotsAreTheirText, NoSnapshotBeginsAnother, FrontsAreShort};
 ghost use Rattle.rr_snapshot.specs.Laws.{SavedIsLoaded, SavedIsRaised, OtherSchemasDiffer};
+
+/// A snapshot is read exactly where the bytes are the text of a snapshot of the schema.
+pub fn snapshots_are_their_text()
+    ensures { SnapshotsAreTheirText }
+{}
+
+/// No snapshot's bytes begin those of another snapshot.
+pub fn no_snapshot_begins_another()
+    ensures { NoSnapshotBeginsAnother }
+{}
+
+/// The bytes of a snapshot that is cut short are refused as `Short`, wherever it is cut.
+pub fn fronts_are_short()
+    ensures { FrontsAreShort }
+{}
 
 /// What a replica was saved as is loaded, under its schema and an origin that is neither its own
 /// nor that of one of its cells, as a replica of that origin with the same cells, whose next number

@@ -1,17 +1,30 @@
-//! A replica's cells as a stream of bytes, and back.
+//! A replica's cells as a stream of bytes with a digest, and back.
 //!
-//! A snapshot has a head, the cells of a replica, strictly ascending by their names, and the
-//! SHA-256 digest of all of this; its parts are those of the crate `rr_parts`. [`save`] writes it,
-//! one cell after the other, so that nothing of it but one cell is in memory. [`load`] reads it
-//! field by field up to the first fault and joins each cell into a replica of a new origin as it
-//! comes (`specs/Loading.antt`), so that of the bytes it too holds one cell's at a time. [`laws`]
-//! says that a replica that was saved is loaded with the same cells.
+//! A snapshot (`specs/Snapshot.antt`) has a head, the cells of a replica, strictly ascending by their
+//! names, and the SHA-256 digest of all of this. [`save`] writes it, one cell after the other, so
+//! that nothing of it but one cell is in memory. [`load`] reads it part by part up to the first fault
+//! (`specs/SnapshotReading.antt`) and joins each cell into a replica of a new origin as it comes
+//! (`specs/Loading.antt`), so that of the bytes it too holds one cell's at a time. [`laws`] says that
+//! what is read is what was written, that no snapshot begins another, and that a replica that was
+//! saved is loaded with the same cells.
+//!
+//! ```text
+//! replica ── save ─> head_bytes, write_cell .., the digest ──> stream
+//! stream ─── load ─> head_from, cell_from .., digest_from, end_from ──> replica of a new origin
+//! ```
 #![tactic(auto)]
 
+mod ending;
+mod fault;
+mod fields;
+mod heading;
 pub mod laws;
 mod loading;
 mod saving;
+mod stream;
+mod writing;
 
+pub use fault::{LoadFault, SaveFault};
+pub use heading::MAX_SNAPSHOT_CELLS;
 pub use loading::load;
-pub use rr_parts::{LoadFault, MAX_SNAPSHOT_CELLS, SaveFault};
 pub use saving::save;

@@ -10,13 +10,15 @@ ghost use Rattle.rr_page.specs.CellText.{cell_text};
 ghost use Rattle.rr_page.specs.Version.{latest};
 ghost use Rattle.rr_cells.specs.ReplicaState.{IsReplicaState};
 ghost use Rattle.rr_replica.specs.ReplicaWithRoom.{replica_state};
-ghost use Rattle.rr_parts.specs.Snapshot.{snapshot_text};
-ghost use Rattle.rr_parts.specs.declared.heading.TheConstants.{MAX_SNAPSHOT_CELLS};
+ghost use Rattle.rr_snapshot.specs.Snapshot.{snapshot_text};
+ghost use Rattle.rr_snapshot.specs.declared.heading.TheConstants.{MAX_SNAPSHOT_CELLS};
 
+use crate::fault::SaveFault;
+use crate::heading::{MAX_SNAPSHOT_CELLS, head_bytes};
+use crate::writing::{write_cell, write_piece};
 use rr_archive::Cells;
 use rr_io::Counted;
 use rr_io::stream::write_all;
-use rr_parts::{MAX_SNAPSHOT_CELLS, SaveFault, head_bytes, write_cell, write_piece};
 use rr_replica::Replica;
 use sha2::{Digest, Sha256};
 use std::alloc::Global;

@@ -1,4 +1,4 @@
-//! The words of the program's command line, as `clap` reads them by `rr_cli`.
+//! The words of the program's command line, as `clap` reads them.
 //!
 //! ```text
 //! none, sim [FILE]                                        Order::Sim
@@ -6,12 +6,13 @@
 //! serve CONFIG --origin N [--load FILE] [--save FILE]     Order::Serve
 //! ```
 //!
-//! [`read_words`] makes an [`Order`] of them, or a [`WordsFault`] with the text for whoever wrote
-//! them. In `specs/` what words ask for is a function of the words and of clap's rules for the
-//! program's command line (`Program.antt` of `rr_cli`); [`laws`] says what it makes of written-out
-//! ones.
+//! The subcommands, their arguments and their help are built with `clap` (`command_line.rt`).
+//! [`read_words`] makes an [`Order`] of words, or a [`WordsFault`] with the text for whoever wrote
+//! them. In `specs/` what words ask for (`Words.antt`) is a function of the words and of the rules
+//! that `clap` reads them by (`Program.antt`); [`laws`] says what it makes of written-out ones.
 #![tactic(auto)]
 
+mod command_line;
 mod fault;
 pub mod laws;
 mod order;

@@ -16,8 +16,8 @@ use Rattle.rr_model.specs.World.{IsClosed}
 use Rattle.rr_cells.specs.Cells.{Cells}
 use Rattle.rr_cells.specs.ReplicaState.{ReplicaState}
 use Rattle.rr_replica.specs.ReplicaWithRoom.{ReplicaWithRoom, replica_state}
-use Rattle.rr_parts.specs.declared.fault.LoadFault.{LoadFault}
-use Rattle.rr_parts.specs.declared.fault.LoadFault.TheVariants as load
+use Rattle.rr_snapshot.specs.declared.fault.LoadFault.{LoadFault}
+use Rattle.rr_snapshot.specs.declared.fault.LoadFault.TheVariants as load
 use Rattle.rr_snapshot.specs.Loading.{loaded_at}
 use Rattle.rr_cells.specs.State.{cells_of_knowledge}
 use Rattle.rr_raising.specs.Raising.{raised_knowledge, raised_cells}

@@ -17,10 +17,10 @@ use Rattle.rr_cells.specs.ReplicaState.{IsReplicaState, ReplicaState}
 use Rattle.rr_replica.specs.ReplicaWithRoom.{ReplicaWithRoom, replica_state}
 use Rattle.rr_cells.specs.State.{cells_of_knowledge}
 use Rattle.rr_cells.proofs.WholeCells.{live_makes_the_same}
-use Rattle.rr_parts.specs.declared.fault.SaveFault.{SaveFault}
-use Rattle.rr_parts.specs.declared.fault.SaveFault.TheVariants.{TooManyCells, WriteFailed, Memory}
-use Rattle.rr_parts.specs.declared.heading.TheConstants.{MAX_SNAPSHOT_CELLS}
-use Rattle.rr_parts.specs.Snapshot.{snapshot_text}
+use Rattle.rr_snapshot.specs.declared.fault.SaveFault.{SaveFault}
+use Rattle.rr_snapshot.specs.declared.fault.SaveFault.TheVariants.{TooManyCells, WriteFailed, Memory}
+use Rattle.rr_snapshot.specs.declared.heading.TheConstants.{MAX_SNAPSHOT_CELLS}
+use Rattle.rr_snapshot.specs.Snapshot.{snapshot_text}
 use Rattle.rr_snapshot.proofs.SavedLemmas.{replica_state_is_snapshot}
 use Rattle.rr_cluster.specs.declared.cluster.Cluster.{Cluster}
 use Rattle.rr_cluster.specs.declared.fault.CommandFault.TheVariants.{BadName, NoNode, Save}

@@ -1,8 +1,8 @@
 -- save NAME NODE
 use Rattle.std.specs.Prelude.{ℕ, nat_le, List, length, Result, Ok, ok_or}
 use Rattle.std.specs.FinMap.{get, insert, entries}
-use Rattle.rr_parts.specs.declared.fault.SaveFault.TheVariants.{TooManyCells}
-use Rattle.rr_parts.specs.declared.heading.TheConstants.{MAX_SNAPSHOT_CELLS}
+use Rattle.rr_snapshot.specs.declared.fault.SaveFault.TheVariants.{TooManyCells}
+use Rattle.rr_snapshot.specs.declared.heading.TheConstants.{MAX_SNAPSHOT_CELLS}
 use Rattle.rr_cluster.specs.declared.fault.CommandFault.{CommandFault}
 use Rattle.rr_cluster.specs.declared.fault.CommandFault.TheVariants.{BadName, NoNode, Save}
 use Rattle.rr_text.specs.Results.{◌>>=◌, check}

@@ -1,7 +1,6 @@
 //! Scripts run and lines checked from a stream to another that holds bytes back.
 
 use rr_base::Counted;
-use rr_cluster::Simulator;
 use rr_fakes::holding::Holding;
 use rr_fakes::pieces::in_pieces;
 use rr_line::Precision;
@@ -17,13 +16,7 @@ fn passed_on(alloc: Global, order: &Order, input: &[u8]) -> Result<Vec<u8>, Fail
         held: Vec::new(alloc),
         passed: &mut passed,
     });
-    let done = obey_order(
-        alloc,
-        &Simulator,
-        order,
-        &mut in_pieces(input, 100),
-        &mut output,
-    );
+    let done = obey_order(alloc, order, &mut in_pieces(input, 100), &mut output);
     drop(output);
     done?;
     Ok(passed)

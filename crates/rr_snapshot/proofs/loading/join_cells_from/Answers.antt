@@ -10,14 +10,14 @@ use Rattle.rr_schema.specs.declared.added.Addition.{Addition}
 use Rattle.rr_schema.specs.Schema.{Layout}
 use Rattle.rr_model.specs.CellNames.{CellName}
 use Rattle.rr_page.specs.Reading.{cell_at}
-use Rattle.rr_parts.specs.declared.fault.LoadFault.TheVariants.{Memory}
-use Rattle.rr_parts.specs.Stream.{HasRead}
+use Rattle.rr_snapshot.specs.declared.fault.LoadFault.TheVariants.{Memory}
+use Rattle.rr_snapshot.specs.Stream.{HasRead}
 use Rattle.rr_page.specs.PageReading.{is_after, last_name}
 use Rattle.rr_page.proofs.LoopLemmas.{last_name_push}
 use Rattle.rr_cells.specs.Listing.{owned_cell}
 use Rattle.rr_replica.specs.ReplicaWithRoom.{replica_state}
-use Rattle.rr_parts.proofs.FrontLemmas.{none_read, read_then}
-use Rattle.rr_parts.proofs.CellsLemmas.{nothing_yet, goes_on_stream, falls_stream, passed_made, done_stream, same_schema, same_schema_read}
+use Rattle.rr_snapshot.proofs.FrontLemmas.{none_read, read_then}
+use Rattle.rr_snapshot.proofs.CellsLemmas.{nothing_yet, goes_on_stream, falls_stream, passed_made, done_stream, same_schema, same_schema_read}
 use Rattle.rr_cells.specs.CellBounds.{NamedCell, IsCellOf}
 use Rattle.rr_cells.specs.Joining.{with_named}
 use Rattle.rr_raising.specs.Raising.{raised, raised_cell, raised_name}

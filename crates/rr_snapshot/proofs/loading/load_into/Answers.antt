@@ -5,9 +5,9 @@ use Rattle.std.proofs.lemmas.Bool.{or_left, or_right, or_from}
 use Rattle.std.proofs.lemmas.Result.{err_from_is_err_and}
 use Rattle.rr_io.specs.Counted.{inner_of}
 use Rattle.rr_replica.specs.ReplicaWithRoom.{replica_state}
-use Rattle.rr_parts.specs.declared.fault.LoadFault.TheVariants.{Memory}
-use Rattle.rr_parts.proofs.FrontLemmas.{read_then}
-use Rattle.rr_parts.proofs.BodyLemmas.{body_read}
+use Rattle.rr_snapshot.specs.declared.fault.LoadFault.TheVariants.{Memory}
+use Rattle.rr_snapshot.proofs.FrontLemmas.{read_then}
+use Rattle.rr_snapshot.proofs.BodyLemmas.{body_read}
 use Rattle.rr_snapshot.specs.Loading.{is_among}
 use Rattle.rr_snapshot.proofs.MemoryLemmas.{stops_in_snapshot}
 use Rattle.rr_snapshot.proofs.JoinedLemmas.{joined_replica}

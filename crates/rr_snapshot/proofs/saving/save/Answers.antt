@@ -4,7 +4,7 @@ use Rattle.std.specs.List.{flat_map}
 use Rattle.rr_io.specs.Counted.{inner_of}
 use Rattle.rr_page.specs.CellText.{cell_text}
 use Rattle.rr_page.specs.Version.{latest}
-use Rattle.rr_parts.proofs.SaveLemmas.{count_is, piece_is, digest_is, front_of_head, front_of_cells, front_of_digest, written_whole}
+use Rattle.rr_snapshot.proofs.SaveLemmas.{count_is, piece_is, digest_is, front_of_head, front_of_cells, front_of_digest, written_whole}
 use Rattle.rr_snapshot.proofs.WriteLemmas.{whole_is_front}
 use Rattle.rr_snapshot.proofs.saving.save.Goals as goal
 

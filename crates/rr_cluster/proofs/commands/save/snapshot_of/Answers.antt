@@ -1,7 +1,7 @@
 use Rattle.std.proofs.Common.{ℕ, ◌∙◌, ap, Err}
 use Rattle.std.specs.Global.{Vec}
 use Rattle.std.proofs.lemmas.Result.{err_from_is_err_and}
-use Rattle.rr_parts.specs.declared.fault.SaveFault.{SaveFault}
+use Rattle.rr_snapshot.specs.declared.fault.SaveFault.{SaveFault}
 use Rattle.rr_replica.specs.ReplicaWithRoom.{replica_state}
 use Rattle.rr_cluster.proofs.CommandsLemmas.Save.{save_refused, saved}
 use Rattle.rr_cluster.proofs.commands.save.snapshot_of.Goals as goal

@@ -1,5 +1,0 @@
-use Rattle.rr_parts.proofs.SnapshotLemmas.{no_snapshot_begins_another}
-use Rattle.rr_parts.proofs.laws.no_snapshot_begins_another.Goals as goal
-
-pub returns : goal.returns
-returns c = no_snapshot_begins_another

@@ -1,5 +1,0 @@
-use Rattle.rr_parts.proofs.SnapshotLemmas.{snapshots_are_their_text}
-use Rattle.rr_parts.proofs.laws.snapshots_are_their_text.Goals as goal
-
-pub returns : goal.returns
-returns c = snapshots_are_their_text

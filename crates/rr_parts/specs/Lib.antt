@@ -1,5 +1,0 @@
-pub mod Fault
-pub mod Snapshot
-pub mod SnapshotReading
-pub mod Stream
-pub mod Laws

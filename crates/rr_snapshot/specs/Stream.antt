@@ -1,0 +1,54 @@
+-- Cells from a stream whose bytes may be known.
+use Rattle.std.specs.Prelude.{◌≡◌, ◌⊎◌, ◌+◌, ℕ, nat_lt, ◌||◌, ◌==◌, List, ◌++◌, length, Option, Some, Result, Ok, Err, IfSome, if◌then◌else◌}
+use Rattle.std.specs.Int.{w16}
+use Rattle.std.specs.Io.KnownBytes.{Consumes}
+use Rattle.sha2.specs.Hashers.{Holds256}
+use Rattle.sha2.specs.declared.Sha256.{Sha256}
+use Rattle.rr_text.specs.declared.limits.TheConstants.{MAX_KEY_TEXT}
+use Rattle.rr_page.specs.declared.fault.PageFault.{PageFault}
+use Rattle.rr_page.specs.declared.version.Version.{Version}
+use Rattle.rr_page.specs.Reading.{number_at}
+use Rattle.rr_page.specs.Version.{fields_len}
+use Rattle.rr_cells.specs.CellBounds.{NamedCell}
+use Rattle.rr_snapshot.specs.declared.fault.LoadFault.{LoadFault}
+use Rattle.rr_snapshot.specs.declared.fault.LoadFault.TheVariants.{ReadFailed, Memory}
+
+-- how many bytes a cell has whose first bytes these are, after the length of its key is read; where no cell begins
+-- so, as many as there are
+abbrev pub len_by : Version → List ℕ → Result (ℕ × List ℕ) PageFault → ℕ
+len_by v bytes (Ok len) = if ((len.0 == 0) || nat_lt MAX_KEY_TEXT len.0) then length bytes else fields_len v + len.0
+len_by v bytes (Err fault) = length bytes
+
+abbrev pub whole_len : Version → List ℕ → ℕ
+whole_len v bytes = len_by v bytes (number_at w16 bytes)
+
+-- bytes were taken from the front of what a reader had, where that is known, and added after those that were there
+abbrev pub Adds : Option (List ℕ) → Option (List ℕ) → List ℕ → List ℕ → Type 0
+Adds old new before after = (front : List ℕ) × (after ≡ before ++ front) × Consumes old new front
+
+-- where the bytes of a stream are known, the result of a call, seen by a view, is what is read of them, and what
+-- follows it is left; or the reader failed, or memory ran out
+abbrev pub StreamGives : {X Y : Type 0} → (X → Y) → Result X LoadFault → Option (List ℕ) → Option (List ℕ)
+    → (List ℕ → Result (Y × List ℕ) LoadFault) → Type 0
+StreamGives view (Ok x) old new read = IfSome old
+    (λ all. (rest : List ℕ) × (new ≡ Some rest) × (read all ≡ Ok (view x, rest)))
+StreamGives view (Err fault) old new read = (fault ≡ ReadFailed) ⊎ (fault ≡ Memory)
+    ⊎ IfSome old (λ all. read all ≡ Err fault)
+
+-- where the bytes of a stream are known, something is read of them, and what follows it is left
+abbrev pub HasRead : {Y E : Type 0} → Option (List ℕ) → Option (List ℕ) → (List ℕ → Result (Y × List ℕ) E) → Type 0
+HasRead {Y} old new read = IfSome old (λ all. (x : Y) × (rest : List ℕ) × (new ≡ Some rest) × (read all ≡ Ok (x, rest)))
+
+-- the bytes that were taken from a reader were added to what is digested
+abbrev pub Digests : Option (List ℕ) → Option (List ℕ) → Sha256 → Sha256 → Type 0
+Digests old new before after = (taken : List ℕ) × Consumes old new taken
+    × ((m : List ℕ) → Holds256 before m → Holds256 after (m ++ taken))
+
+-- the result of a call is made of some cells; where the bytes of a stream are known, these are what is read of them,
+-- and what follows them is left; or the reader failed, or memory ran out
+abbrev pub StreamMakes : {X : Type 0} → (X → List NamedCell → Type 0) → Result X LoadFault → Option (List ℕ)
+    → Option (List ℕ) → (List ℕ → Result (List NamedCell × List ℕ) LoadFault) → Type 0
+StreamMakes made (Ok x) old new read = (es : List NamedCell) × made x es
+    × IfSome old (λ all. (rest : List ℕ) × (new ≡ Some rest) × (read all ≡ Ok (es, rest)))
+StreamMakes made (Err fault) old new read = (fault ≡ ReadFailed) ⊎ (fault ≡ Memory)
+    ⊎ IfSome old (λ all. read all ≡ Err fault)

@@ -1,0 +1,65 @@
+//! What a snapshot has after its cells.
+ghost use Rattle.std.specs.Prelude.{◌≡◌, ◌≢◌, ◌≤◌, Err, OnOk};
+ghost use Rattle.std.specs.Io.KnownBytes.{IsAtEnd};
+ghost use Rattle.rr_io.specs.Counted.{inner_of, failures_of, HasRisen};
+ghost use Rattle.rr_io.specs.Stream.{ConsumesSome, TakesAtMost};
+ghost use Rattle.rr_snapshot.specs.SnapshotReading.{digest_at, end_at};
+ghost use Rattle.rr_snapshot.specs.Stream.{StreamGives};
+
+use crate::fault::LoadFault;
+use rr_io::Counted;
+use rr_io::stream::fill;
+use rr_page::fields::bytes_at;
+use std::io::Read;
+
+/// How many bytes a digest has.
+const DIGEST_LEN: usize = 32;
+
+const _: () = prove!(DIGEST_LEN == 32);
+
+/// Reads a digest at the front of what the input has, which must be this one.
+pub(crate) fn digest_from<R: Read>(
+    input: &mut Counted<R>,
+    digest: &[u8; DIGEST_LEN],
+) -> Result<(), LoadFault>
+    ensures read { StreamGives (λ x. x) result (R.remaining (inner_of input.old))
+        (R.remaining (inner_of input.new)) (digest_at digest.now) }
+    ensures no_memory { result ≢ Err LoadFault.Memory }
+    ensures front { ConsumesSome (R.remaining (inner_of input.old))
+        (R.remaining (inner_of input.new)) }
+    ensures most { TakesAtMost DIGEST_LEN (R.remaining (inner_of input.old))
+        (R.remaining (inner_of input.new)) }
+    ensures count { failures_of input.old ≤ failures_of input.new }
+    ensures failed { result ≡ Err LoadFault.ReadFailed
+        → HasRisen (failures_of input.old) (failures_of input.new) }
+{
+    let mut buffer = [0u8; DIGEST_LEN];
+    let got = fill(input, &mut buffer)?;
+    let (field, _) = bytes_at(&buffer[..got], DIGEST_LEN)?;
+    if field != digest.as_slice() {
+        return Err(LoadFault::BadDigest);
+    }
+    Ok(())
+}
+
+/// Reads one byte, which must not be there.
+pub(crate) fn end_from<R: Read>(input: &mut Counted<R>) -> Result<(), LoadFault>
+    ensures read { StreamGives (λ x. x) result (R.remaining (inner_of input.old))
+        (R.remaining (inner_of input.new)) end_at }
+    ensures end { OnOk result (IsAtEnd (R.remaining (inner_of input.new))) }
+    ensures no_memory { result ≢ Err LoadFault.Memory }
+    ensures front { ConsumesSome (R.remaining (inner_of input.old))
+        (R.remaining (inner_of input.new)) }
+    ensures most { TakesAtMost 1 (R.remaining (inner_of input.old))
+        (R.remaining (inner_of input.new)) }
+    ensures count { failures_of input.old ≤ failures_of input.new }
+    ensures failed { result ≡ Err LoadFault.ReadFailed
+        → HasRisen (failures_of input.old) (failures_of input.new) }
+{
+    let mut byte = [0u8; 1];
+    let got = fill(input, &mut byte)?;
+    if got > 0 {
+        return Err(LoadFault::TrailingBytes);
+    }
+    Ok(())
+}

@@ -1,0 +1,250 @@
+//! The fields before the cells of a snapshot, read in three pieces.
+ghost use Rattle.std.specs.Prelude.{◌≡◌, ◌≢◌, ◌≤◌, ◌+◌, ◌*◌, IfOk, OnOk, Err, length};
+ghost use Rattle.std.specs.Int.{w32};
+ghost use Rattle.std.specs.List.{find, range_with_len};
+ghost use Rattle.std.specs.Option.{option_map};
+ghost use Rattle.std.specs.Prelude.{map};
+ghost use Rattle.rr_text.specs.Results.{Gives};
+ghost use Rattle.rr_io.specs.Counted.{inner_of, failures_of, HasRisen};
+ghost use Rattle.rr_io.specs.Stream.{ConsumesSome, TakesAtMost};
+ghost use Rattle.rr_schema.specs.Added.{IsAddition, older};
+ghost use Rattle.rr_schema.specs.declared.added.Addition.TheVariants.{Archive};
+ghost use Rattle.rr_page.specs.Reading.{number_at};
+ghost use Rattle.rr_snapshot.specs.Stream.{Digests, StreamGives};
+ghost use Rattle.rr_snapshot.specs.SnapshotReading.{as_in_page, may_have_had, start_at, is_told, addition_told, archives_at};
+
+use crate::fault::LoadFault;
+use rr_io::Counted;
+use rr_io::stream::fill;
+use rr_page::fields::{bytes_at, u8_at, u16_at, u32_at};
+use rr_page::{PageFault, Version, version_of};
+use rr_schema::{Addition, Schema};
+use rr_text::limits::MAX_ARCHIVES;
+use sha2::{Digest, Sha256};
+use std::io::Read;
+
+/// The bytes that every snapshot begins with.
+pub(crate) const MAGIC: [u8; 4] = *b"RRSN";
+
+/// How many bytes these, the version, the step and the number of archives have.
+pub(crate) const START_LEN: usize = 10;
+
+/// How many bytes an archive has.
+pub(crate) const ARCHIVE_LEN: usize = 9;
+
+/// How many bytes the origin has.
+pub(crate) const ORIGIN_LEN: usize = 2;
+
+/// How many bytes the number of cells has.
+pub(crate) const COUNT_LEN: usize = 4;
+
+const _: () = prove!(START_LEN == 10);
+
+const _: () = prove!(ARCHIVE_LEN == 9);
+
+const _: () = prove!(ORIGIN_LEN == 2);
+
+const _: () = prove!(COUNT_LEN == 4);
+
+/// Whether a schema may have had this step and so many archives before an addition.
+fn may_have_had(schema: &Schema, step: u32, number: u8) -> bool
+    ensures { result ≡ may_have_had schema.now step number }
+{
+    let now = schema.archives().len();
+    let number = number as usize;
+    step == schema.step() && number != 0 && (number == now || number + 1 == now)
+}
+
+/// The version and the number of archives, and what follows them. No memory is taken.
+#[tactic(auto, unfolding(crate::specs::SnapshotReading::start_at))]
+fn start_of<'a>(schema: &Schema, bytes: &'a [u8]) -> Result<(Version, u8, &'a [u8]), PageFault>
+    ensures read { Gives (λ x. ((x.0, x.1), x.2.now)) result (start_at schema.now bytes.now) }
+    ensures some { IfOk result (λ x. 1 ≤ x.1) }
+    ensures few { IfOk result (λ x. x.1 ≤ length schema.now.archives) }
+    ensures no_memory { result ≢ Err PageFault.Memory }
+{
+    let (start, rest) = bytes_at(bytes, MAGIC.len())?;
+    if start != MAGIC.as_slice() {
+        return Err(PageFault::BadMagic);
+    }
+    let (version, rest) = version_of(rest)?;
+    let (step, rest) = u32_at(rest)?;
+    let (number, rest) = u8_at(rest)?;
+    if !may_have_had(schema, step, number) {
+        return Err(PageFault::SchemaDiffers);
+    }
+    Ok((version, number, rest))
+}
+
+/// The version and the number of archives at the front of what the input has.
+pub(crate) fn start_from<R: Read>(
+    input: &mut Counted<R>,
+    schema: &Schema,
+    hasher: &mut Sha256,
+) -> Result<(Version, u8), LoadFault>
+    ensures read { StreamGives (λ x. (x.0, x.1)) result (R.remaining (inner_of input.old))
+        (R.remaining (inner_of input.new)) (λ all. as_in_page (start_at schema.now all)) }
+    ensures some { IfOk result (λ x. 1 ≤ x.1) }
+    ensures few { IfOk result (λ x. x.1 ≤ length schema.now.archives) }
+    ensures digest { OnOk result (Digests (R.remaining (inner_of input.old))
+        (R.remaining (inner_of input.new)) hasher.old hasher.new) }
+    ensures front { ConsumesSome (R.remaining (inner_of input.old))
+        (R.remaining (inner_of input.new)) }
+    ensures most { TakesAtMost START_LEN (R.remaining (inner_of input.old))
+        (R.remaining (inner_of input.new)) }
+    ensures no_memory { result ≢ Err LoadFault.Memory }
+    ensures count { failures_of input.old ≤ failures_of input.new }
+    ensures failed { result ≡ Err LoadFault.ReadFailed
+        → HasRisen (failures_of input.old) (failures_of input.new) }
+{
+    let mut buffer = [0u8; START_LEN];
+    let got = fill(input, &mut buffer)?;
+    let (version, number, _) = start_of(schema, &buffer[..got])?;
+    hasher.update(&buffer[..got]);
+    Ok((version, number))
+}
+
+/// Whether these are the bytes of the archives before an addition, and the version has masks for
+/// them.
+fn is_told(version: Version, schema: &Schema, field: &[u8], addition: Addition) -> bool
+    requires { IsAddition schema.now addition }
+    ensures { result ≡ is_told version schema.now field.now addition }
+{
+    version.had_masks_for(schema, addition) && schema.had_archives(addition, field)
+}
+
+/// The number of the archive that was added since these were the bytes of the archives, if one was.
+fn archive_told(version: Version, schema: &Schema, field: &[u8]) -> Option<u8>
+    ensures { option_map Archive result ≡ find (is_told version schema.now field.now)
+        (map Archive (range_with_len 0 (length schema.now.archives))) }
+{
+    let count = schema.archives().len() as u8;
+    for number in 0..count {
+        if is_told(version, schema, field, Addition::Archive(number)) {
+            return Some(number);
+        }
+    }
+    None
+}
+
+/// What was added to the schema since these were the bytes of its archives.
+fn addition_told(version: Version, schema: &Schema, field: &[u8]) -> Option<Addition>
+    ensures { result ≡ addition_told version schema.now field.now }
+{
+    if is_told(version, schema, field, Addition::Nothing) {
+        return Some(Addition::Nothing);
+    }
+    archive_told(version, schema, field).map(|number: u8| Addition::Archive(number))
+}
+
+/// What was added since there were so many archives, and the origin, and what follows them. No
+/// memory is taken.
+#[tactic(auto, unfolding(crate::specs::SnapshotReading::archives_at))]
+fn archives_of<'a>(
+    version: Version,
+    schema: &Schema,
+    number: u8,
+    bytes: &'a [u8],
+) -> Result<(Addition, u16, &'a [u8]), PageFault>
+    ensures read { Gives (λ x. ((x.0, x.1), x.2.now)) result
+        (archives_at version schema.now number bytes.now) }
+    ensures addition { IfOk result (λ x. IsAddition schema.now x.0) }
+    ensures many { IfOk result (λ x. number ≡ length (older schema.now x.0).archives) }
+    ensures no_memory { result ≢ Err PageFault.Memory }
+{
+    let (field, rest) = bytes_at(bytes, ARCHIVE_LEN * number as usize)?;
+    let Some(addition) = addition_told(version, schema, field) else {
+        return Err(PageFault::SchemaDiffers);
+    };
+    let (origin, rest) = u16_at(rest)?;
+    Ok((addition, origin, rest))
+}
+
+/// The same at the front of what the input has, read into a buffer of their length.
+fn archives_into<R: Read>(
+    input: &mut Counted<R>,
+    version: Version,
+    schema: &Schema,
+    number: u8,
+    buffer: &mut [u8],
+    hasher: &mut Sha256,
+) -> Result<(Addition, u16), LoadFault>
+    requires { length buffer.old ≡ ARCHIVE_LEN * number + ORIGIN_LEN }
+    ensures read { StreamGives (λ x. (x.0, x.1)) result (R.remaining (inner_of input.old))
+        (R.remaining (inner_of input.new))
+        (λ all. as_in_page (archives_at version schema.now number all)) }
+    ensures addition { IfOk result (λ x. IsAddition schema.now x.0) }
+    ensures many { IfOk result (λ x. number ≡ length (older schema.now x.0).archives) }
+    ensures digest { OnOk result (Digests (R.remaining (inner_of input.old))
+        (R.remaining (inner_of input.new)) hasher.old hasher.new) }
+    ensures front { ConsumesSome (R.remaining (inner_of input.old))
+        (R.remaining (inner_of input.new)) }
+    ensures most { TakesAtMost (ARCHIVE_LEN * number + ORIGIN_LEN)
+        (R.remaining (inner_of input.old)) (R.remaining (inner_of input.new)) }
+    ensures no_memory { result ≢ Err LoadFault.Memory }
+    ensures count { failures_of input.old ≤ failures_of input.new }
+    ensures failed { result ≡ Err LoadFault.ReadFailed
+        → HasRisen (failures_of input.old) (failures_of input.new) }
+{
+    let got = fill(input, buffer)?;
+    let (addition, origin, _) = archives_of(version, schema, number, &buffer[..got])?;
+    hasher.update(&buffer[..got]);
+    Ok((addition, origin))
+}
+
+/// What was added since there were so many archives, and the origin, at the front of what the input
+/// has.
+pub(crate) fn archives_from<R: Read>(
+    input: &mut Counted<R>,
+    version: Version,
+    schema: &Schema,
+    number: u8,
+    hasher: &mut Sha256,
+) -> Result<(Addition, u16), LoadFault>
+    requires { number ≤ length schema.now.archives }
+    ensures read { StreamGives (λ x. (x.0, x.1)) result (R.remaining (inner_of input.old))
+        (R.remaining (inner_of input.new))
+        (λ all. as_in_page (archives_at version schema.now number all)) }
+    ensures addition { IfOk result (λ x. IsAddition schema.now x.0) }
+    ensures many { IfOk result (λ x. number ≡ length (older schema.now x.0).archives) }
+    ensures digest { OnOk result (Digests (R.remaining (inner_of input.old))
+        (R.remaining (inner_of input.new)) hasher.old hasher.new) }
+    ensures front { ConsumesSome (R.remaining (inner_of input.old))
+        (R.remaining (inner_of input.new)) }
+    ensures most { TakesAtMost (ARCHIVE_LEN * number + ORIGIN_LEN)
+        (R.remaining (inner_of input.old)) (R.remaining (inner_of input.new)) }
+    ensures no_memory { result ≢ Err LoadFault.Memory }
+    ensures count { failures_of input.old ≤ failures_of input.new }
+    ensures failed { result ≡ Err LoadFault.ReadFailed
+        → HasRisen (failures_of input.old) (failures_of input.new) }
+{
+    let _archives = schema.archives(); // their contract says that they are few
+    let mut buffer = [0u8; ARCHIVE_LEN * MAX_ARCHIVES + ORIGIN_LEN];
+    let len = ARCHIVE_LEN * number as usize + ORIGIN_LEN;
+    archives_into(input, version, schema, number, &mut buffer[..len], hasher)
+}
+
+/// The number of cells at the front of what the input has.
+pub(crate) fn count_from<R: Read>(
+    input: &mut Counted<R>,
+    hasher: &mut Sha256,
+) -> Result<u32, LoadFault>
+    ensures read { StreamGives (λ x. x) result (R.remaining (inner_of input.old))
+        (R.remaining (inner_of input.new)) (λ all. as_in_page (number_at w32 all)) }
+    ensures digest { OnOk result (Digests (R.remaining (inner_of input.old))
+        (R.remaining (inner_of input.new)) hasher.old hasher.new) }
+    ensures front { ConsumesSome (R.remaining (inner_of input.old))
+        (R.remaining (inner_of input.new)) }
+    ensures most { TakesAtMost COUNT_LEN (R.remaining (inner_of input.old))
+        (R.remaining (inner_of input.new)) }
+    ensures no_memory { result ≢ Err LoadFault.Memory }
+    ensures count { failures_of input.old ≤ failures_of input.new }
+    ensures failed { result ≡ Err LoadFault.ReadFailed
+        → HasRisen (failures_of input.old) (failures_of input.new) }
+{
+    let mut buffer = [0u8; COUNT_LEN];
+    let got = fill(input, &mut buffer)?;
+    let (count, _) = u32_at(&buffer[..got])?;
+    hasher.update(&buffer[..got]);
+    Ok(count)
+}

@@ -1,0 +1,139 @@
+//! The program's command line, built with `clap`.
+
+ghost use Rattle.std.specs.Prelude.{◌≡◌, false, IfOk};
+ghost use Rattle.clap.specs.Words.{app_of, rule_of};
+ghost use Rattle.clap.specs.declared.builder.command.Command.TheViews.{out-Command as fields_of};
+ghost use Rattle.rr_words.specs.Program.{sim_app, option_rule, check_lines_app, config_rule, origin_rule, bare_serve_app, serve_app, bare_app, script_command_app, stream_commands_app, program_app};
+
+use clap::{Arg, Command};
+use std::alloc::{AllocError, Global};
+
+/// The version of the program: that of the pages and snapshots that it writes.
+const VERSION: &str = "2";
+
+/// `--NAME VALUE`.
+fn option<'a>(alloc: Global, name: &'a str, value: &'a str, help: &'a str) -> Arg<'a>
+    ensures rule { rule_of result ≡ option_rule name.entry.now }
+    ensures local { result.global ≡ false }
+{
+    Arg::new(alloc, name)
+        .long(name)
+        .value_name(value)
+        .help(help)
+}
+
+/// `sim [FILE]`.
+fn sim<'a>(alloc: Global) -> Result<Command<'a>, AllocError>
+    ensures app { IfOk result (λ c. app_of c ≡ sim_app) }
+    ensures local { IfOk result (λ c. (fields_of c).has_globals ≡ false) }
+{
+    let file = Arg::new(alloc, "FILE").help("The script, in place of standard input");
+    Command::new(alloc, "sim")
+        .about("Runs a script of several nodes (the default)")
+        .arg(file)
+}
+
+/// `check-lines [--precision P] [--now T]`.
+fn check_lines<'a>(alloc: Global) -> Result<Command<'a>, AllocError>
+    ensures app { IfOk result (λ c. app_of c ≡ check_lines_app) }
+    ensures local { IfOk result (λ c. (fields_of c).has_globals ≡ false) }
+{
+    Command::new(alloc, "check-lines")
+        .about("Checks lines on standard input and prints their samples")
+        .arg(option(
+            alloc,
+            "precision",
+            "P",
+            "The unit of times: ns, us, ms or s [default: ns]",
+        ))?
+        .arg(option(
+            alloc,
+            "now",
+            "T",
+            "The time of lines without one, in nanoseconds; below zero as --now=T [default: 0]",
+        ))
+}
+
+/// `CONFIG`.
+fn config_arg<'a>(alloc: Global) -> Arg<'a>
+    ensures rule { rule_of result ≡ config_rule }
+    ensures local { result.global ≡ false }
+{
+    Arg::new(alloc, "CONFIG")
+        .required(true)
+        .help("The configuration of the node, in TOML")
+}
+
+/// `--origin N`.
+fn origin_arg<'a>(alloc: Global) -> Arg<'a>
+    ensures rule { rule_of result ≡ origin_rule }
+    ensures local { result.global ≡ false }
+{
+    option(
+        alloc,
+        "origin",
+        "N",
+        "The origin of this node's samples, 1 to 65535: another one at each start",
+    )
+    .required(true)
+}
+
+/// `serve CONFIG --origin N`.
+fn bare_serve<'a>(alloc: Global) -> Result<Command<'a>, AllocError>
+    ensures app { IfOk result (λ c. app_of c ≡ bare_serve_app) }
+    ensures local { IfOk result (λ c. (fields_of c).has_globals ≡ false) }
+{
+    Command::new(alloc, "serve")
+        .about("Serves as a node: takes lines, answers fetches and pulls from peers")
+        .arg(config_arg(alloc))?
+        .arg(origin_arg(alloc))
+}
+
+/// `serve CONFIG --origin N [--load FILE] [--save FILE]`.
+fn serve<'a>(alloc: Global) -> Result<Command<'a>, AllocError>
+    ensures app { IfOk result (λ c. app_of c ≡ serve_app) }
+    ensures local { IfOk result (λ c. (fields_of c).has_globals ≡ false) }
+{
+    bare_serve(alloc)?
+        .arg(option(alloc, "load", "FILE", "A snapshot to begin with"))?
+        .arg(option(
+            alloc,
+            "save",
+            "FILE",
+            "The file that a snapshot is saved to after each line connection",
+        ))
+}
+
+/// The program without subcommands; its words are those after its name.
+fn bare<'a>(alloc: Global) -> Result<Command<'a>, AllocError>
+    ensures { IfOk result (λ c. app_of c ≡ bare_app) }
+{
+    let program = Command::new(alloc, "rr")
+        .bin_name("rr")?
+        .about("A replicated round-robin store for integer time series")
+        .version(VERSION)
+        .no_binary_name(true);
+    Ok(program)
+}
+
+/// The program with the subcommand that runs scripts.
+fn script_command<'a>(alloc: Global) -> Result<Command<'a>, AllocError>
+    ensures { IfOk result (λ c. app_of c ≡ script_command_app) }
+{
+    bare(alloc)?.subcommand(sim(alloc)?)
+}
+
+/// The program with the subcommands that read one stream and write another.
+fn stream_commands<'a>(alloc: Global) -> Result<Command<'a>, AllocError>
+    ensures { IfOk result (λ c. app_of c ≡ stream_commands_app) }
+{
+    script_command(alloc)?.subcommand(check_lines(alloc)?)
+}
+
+/// The program and its subcommands, by the names of arguments that the module docs list. `Err`
+/// where memory ran out.
+pub(crate) fn program<'a>(alloc: Global) -> Result<Command<'a>, AllocError>
+    ensures { IfOk result (λ c. app_of c ≡ program_app) }
+{
+    stream_commands(alloc)?.subcommand(serve(alloc)?)
+}
