@@ -9,4 +9,5 @@ pub mod Puller
 pub mod Transcript
 pub mod Stream
 pub mod Session
+pub mod Calls
 pub mod Laws

@@ -5,6 +5,7 @@ ghost use Rattle.std.specs.List.{concat};
 ghost use Rattle.rr_io.specs.Counted.{inner_of, failures_of, is_flushed, HasRisen};
 ghost use Rattle.rr_io.specs.Stream.{AppendsPrefix};
 ghost use Rattle.rr_gossip.specs.declared.frame.TheConstants.{MAX_FRAMES};
+ghost use Rattle.rr_gossip.specs.Calls.{Gives};
 ghost use Rattle.rr_gossip.specs.Session.{CannotSend, HasFailedToGive, HasGiven, HasHeard, HasStoppedHearing, is_giving, reply_left};
 
 use crate::fault::GossipFault;
@@ -136,26 +137,11 @@ pub fn give<S: Source, R: Read, W: Write>(
     output: &mut Counted<W>,
     source: &mut S,
 ) -> Result<(), GossipFault>
-    ensures given { OnOk result (HasGiven MAX_FRAMES
+    ensures session { Gives R.remaining W.contents MAX_FRAMES
         (S.layout source.old) (S.cells source.new) []
-        (R.remaining (inner_of input.old)) (R.remaining (inner_of input.new))
-        (W.contents (inner_of output.old)) (W.contents (inner_of output.new))) }
-    ensures flushed { OnOk result (is_flushed output.new ≡ true) }
-    ensures stopped { IfErr result (HasFailedToGive MAX_FRAMES
-        (S.layout source.old) (S.cells source.new) []
-        (R.remaining (inner_of input.old)) (R.remaining (inner_of input.new))
-        (W.contents (inner_of output.old)) (W.contents (inner_of output.new))) }
+        input.old input.new output.old output.new result }
     ensures schema { S.layout source.new ≡ S.layout source.old }
     ensures kept { S.may_become source.old source.new }
-
-    // When a stream is to blame.
-    ensures ended { result ≡ Err GossipFault.Ended → IsAtEnd (R.remaining (inner_of input.new)) }
-    ensures read_failed { result ≡ Err GossipFault.ReadFailed
-        → HasRisen (failures_of input.old) (failures_of input.new) }
-    ensures write_failed { result ≡ Err GossipFault.WriteFailed
-        → HasRisen (failures_of output.old) (failures_of output.new) }
-    ensures read_count { failures_of input.old ≤ failures_of input.new }
-    ensures write_count { failures_of output.old ≤ failures_of output.new }
 {
     give_from(alloc, &[], input, output, source, MAX_FRAMES)
 }
@@ -169,26 +155,11 @@ pub fn give_within<S: Source, R: Read, W: Write>(
     frames: u32,
 ) -> Result<(), GossipFault>
     requires { frames ≤ MAX_FRAMES }
-    ensures given { OnOk result (HasGiven frames
+    ensures session { Gives R.remaining W.contents frames
         (S.layout source.old) (S.cells source.new) []
-        (R.remaining (inner_of input.old)) (R.remaining (inner_of input.new))
-        (W.contents (inner_of output.old)) (W.contents (inner_of output.new))) }
-    ensures flushed { OnOk result (is_flushed output.new ≡ true) }
-    ensures stopped { IfErr result (HasFailedToGive frames
-        (S.layout source.old) (S.cells source.new) []
-        (R.remaining (inner_of input.old)) (R.remaining (inner_of input.new))
-        (W.contents (inner_of output.old)) (W.contents (inner_of output.new))) }
+        input.old input.new output.old output.new result }
     ensures schema { S.layout source.new ≡ S.layout source.old }
     ensures kept { S.may_become source.old source.new }
-
-    // When a stream is to blame.
-    ensures ended { result ≡ Err GossipFault.Ended → IsAtEnd (R.remaining (inner_of input.new)) }
-    ensures read_failed { result ≡ Err GossipFault.ReadFailed
-        → HasRisen (failures_of input.old) (failures_of input.new) }
-    ensures write_failed { result ≡ Err GossipFault.WriteFailed
-        → HasRisen (failures_of output.old) (failures_of output.new) }
-    ensures read_count { failures_of input.old ≤ failures_of input.new }
-    ensures write_count { failures_of output.old ≤ failures_of output.new }
 {
     give_from(alloc, &[], input, output, source, frames)
 }
@@ -201,26 +172,11 @@ pub fn give_after<S: Source, R: Read, W: Write>(
     output: &mut Counted<W>,
     source: &mut S,
 ) -> Result<(), GossipFault>
-    ensures given { OnOk result (HasGiven MAX_FRAMES
+    ensures session { Gives R.remaining W.contents MAX_FRAMES
         (S.layout source.old) (S.cells source.new) (first ∷ [])
-        (R.remaining (inner_of input.old)) (R.remaining (inner_of input.new))
-        (W.contents (inner_of output.old)) (W.contents (inner_of output.new))) }
-    ensures flushed { OnOk result (is_flushed output.new ≡ true) }
-    ensures stopped { IfErr result (HasFailedToGive MAX_FRAMES
-        (S.layout source.old) (S.cells source.new) (first ∷ [])
-        (R.remaining (inner_of input.old)) (R.remaining (inner_of input.new))
-        (W.contents (inner_of output.old)) (W.contents (inner_of output.new))) }
+        input.old input.new output.old output.new result }
     ensures schema { S.layout source.new ≡ S.layout source.old }
     ensures kept { S.may_become source.old source.new }
-
-    // When a stream is to blame.
-    ensures ended { result ≡ Err GossipFault.Ended → IsAtEnd (R.remaining (inner_of input.new)) }
-    ensures read_failed { result ≡ Err GossipFault.ReadFailed
-        → HasRisen (failures_of input.old) (failures_of input.new) }
-    ensures write_failed { result ≡ Err GossipFault.WriteFailed
-        → HasRisen (failures_of output.old) (failures_of output.new) }
-    ensures read_count { failures_of input.old ≤ failures_of input.new }
-    ensures write_count { failures_of output.old ≤ failures_of output.new }
 {
     give_from(alloc, &[first], input, output, source, MAX_FRAMES)
 }
@@ -235,26 +191,11 @@ pub fn give_after_within<S: Source, R: Read, W: Write>(
     frames: u32,
 ) -> Result<(), GossipFault>
     requires { frames ≤ MAX_FRAMES }
-    ensures given { OnOk result (HasGiven frames
+    ensures session { Gives R.remaining W.contents frames
         (S.layout source.old) (S.cells source.new) (first ∷ [])
-        (R.remaining (inner_of input.old)) (R.remaining (inner_of input.new))
-        (W.contents (inner_of output.old)) (W.contents (inner_of output.new))) }
-    ensures flushed { OnOk result (is_flushed output.new ≡ true) }
-    ensures stopped { IfErr result (HasFailedToGive frames
-        (S.layout source.old) (S.cells source.new) (first ∷ [])
-        (R.remaining (inner_of input.old)) (R.remaining (inner_of input.new))
-        (W.contents (inner_of output.old)) (W.contents (inner_of output.new))) }
+        input.old input.new output.old output.new result }
     ensures schema { S.layout source.new ≡ S.layout source.old }
     ensures kept { S.may_become source.old source.new }
-
-    // When a stream is to blame.
-    ensures ended { result ≡ Err GossipFault.Ended → IsAtEnd (R.remaining (inner_of input.new)) }
-    ensures read_failed { result ≡ Err GossipFault.ReadFailed
-        → HasRisen (failures_of input.old) (failures_of input.new) }
-    ensures write_failed { result ≡ Err GossipFault.WriteFailed
-        → HasRisen (failures_of output.old) (failures_of output.new) }
-    ensures read_count { failures_of input.old ≤ failures_of input.new }
-    ensures write_count { failures_of output.old ≤ failures_of output.new }
 {
     give_from(alloc, &[first], input, output, source, frames)
 }

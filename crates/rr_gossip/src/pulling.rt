@@ -7,6 +7,7 @@ ghost use Rattle.rr_io.specs.Counted.{inner_of, failures_of, is_flushed, HasRise
 ghost use Rattle.rr_io.specs.Stream.{AppendsPrefix};
 ghost use Rattle.rr_gossip.specs.declared.frame.TheConstants.{MAX_FRAMES};
 ghost use Rattle.rr_gossip.specs.Puller.{first_puller};
+ghost use Rattle.rr_gossip.specs.Calls.{Pulls};
 ghost use Rattle.rr_gossip.specs.Session.{CannotSend, HasFailedToPull, HasPulled, HasStoppedPulling, sent_by};
 ghost use Rattle.rr_gossip.specs.Transcript.{waiting};
 
@@ -82,62 +83,8 @@ fn take_pages<T: Target, R: Read>(
     }
 }
 
-/// Pulls cells from the other side of a stream: sends the schema of a target and the names and
-/// versions of all its cells, and joins the cells that the other side answers, page by page, each
-/// in its order.
-///
-/// Names are asked of the target 256 at a time, and each frame is written before the next is made;
-/// of the answer one frame is in memory at a time. No byte after the end of the pages is read.
-///
-/// Refused as `WriteFailed`; as `ReadFailed`; as `Ended` where the input ends before the end of the
-/// pages; by a frame as [`Puller::take`] refuses it, and as `FrameTooLong` on its length alone,
-/// before more is read; as `TooManyFrames` where a frame would be one above 16,777,216, either way;
-/// and as `Memory`. The pages before the refused frame are then joined, and where memory ran out
-/// perhaps some cells of its page, from the first on. A front of the frames is written wherever the
-/// call ends.
-///
-/// The cost is that of `Target::names_after` and `Target::join_cell`, and linear in the bytes.
-pub fn pull<T: Target, R: Read, W: Write>(
-    alloc: Global,
-    input: &mut Counted<R>,
-    output: &mut Counted<W>,
-    target: &mut T,
-) -> Result<(), GossipFault>
-    // What is sent.
-    ensures sent { OnOk result (Appends (W.contents (inner_of output.old))
-        (W.contents (inner_of output.new))
-        (concat (sent_by (T.layout target.old) (T.cells target.old)))) }
-    ensures front { AppendsPrefix (W.contents (inner_of output.old))
-        (W.contents (inner_of output.new))
-        (concat (sent_by (T.layout target.old) (T.cells target.old))) }
-    ensures flushed { OnOk result (is_flushed output.new ≡ true) }
-
-    // What is read, and which cells are joined, one by one and in order.
-    ensures pulled { OnOk result ((cells : List NamedCell)
-        × T.has_joined target.old target.new cells
-        × HasPulled (T.layout target.old)
-        (waiting (length (sent_by (T.layout target.old) (T.cells target.old))) 0 MAX_FRAMES)
-        (R.remaining (inner_of input.old)) (R.remaining (inner_of input.new)) cells) }
-    ensures stopped { IfErr result (λ fault. (cells : List NamedCell)
-        × T.has_joined target.old target.new cells
-        × HasFailedToPull MAX_FRAMES (T.layout target.old) (T.cells target.old)
-        (R.remaining (inner_of input.old)) (R.remaining (inner_of input.new))
-        (W.contents (inner_of output.old)) (W.contents (inner_of output.new)) fault cells) }
-
-    // When a stream is to blame.
-    ensures ended { result ≡ Err GossipFault.Ended → IsAtEnd (R.remaining (inner_of input.new)) }
-    ensures read_failed { result ≡ Err GossipFault.ReadFailed
-        → HasRisen (failures_of input.old) (failures_of input.new) }
-    ensures write_failed { result ≡ Err GossipFault.WriteFailed
-        → HasRisen (failures_of output.old) (failures_of output.new) }
-    ensures read_count { failures_of input.old ≤ failures_of input.new }
-    ensures write_count { failures_of output.old ≤ failures_of output.new }
-{
-    pull_within(alloc, input, output, target, MAX_FRAMES)
-}
-
-/// Pulls as [`pull`] does, in a session of at most `frames` frames each way.
-pub fn pull_within<T: Target, R: Read, W: Write>(
+/// Pulls in a session of at most `frames` frames each way.
+fn pull_from<T: Target, R: Read, W: Write>(
     alloc: Global,
     input: &mut Counted<R>,
     output: &mut Counted<W>,
@@ -178,4 +125,48 @@ pub fn pull_within<T: Target, R: Read, W: Write>(
     let mut puller = Puller::with_limit(frames);
     send_names(alloc, &mut puller, output, target)?;
     take_pages(alloc, &mut puller, input, target)
+}
+
+/// Pulls cells from the other side of a stream: sends the schema of a target and the names and
+/// versions of all its cells, and joins the cells that the other side answers, page by page, each
+/// in its order.
+///
+/// Names are asked of the target 256 at a time, and each frame is written before the next is made;
+/// of the answer one frame is in memory at a time. No byte after the end of the pages is read.
+///
+/// Refused as `WriteFailed`; as `ReadFailed`; as `Ended` where the input ends before the end of the
+/// pages; by a frame as [`Puller::take`] refuses it, and as `FrameTooLong` on its length alone,
+/// before more is read; as `TooManyFrames` where a frame would be one above 16,777,216, either way;
+/// and as `Memory`. The pages before the refused frame are then joined, and where memory ran out
+/// perhaps some cells of its page, from the first on. A front of the frames is written wherever the
+/// call ends.
+///
+/// The cost is that of `Target::names_after` and `Target::join_cell`, and linear in the bytes.
+pub fn pull<T: Target, R: Read, W: Write>(
+    alloc: Global,
+    input: &mut Counted<R>,
+    output: &mut Counted<W>,
+    target: &mut T,
+) -> Result<(), GossipFault>
+    ensures session { Pulls R.remaining W.contents MAX_FRAMES
+        (T.layout target.old) (T.cells target.old) (T.has_joined target.old target.new)
+        input.old input.new output.old output.new result }
+{
+    pull_from(alloc, input, output, target, MAX_FRAMES)
+}
+
+/// Pulls as [`pull`] does, in a session of at most `frames` frames each way.
+pub fn pull_within<T: Target, R: Read, W: Write>(
+    alloc: Global,
+    input: &mut Counted<R>,
+    output: &mut Counted<W>,
+    target: &mut T,
+    frames: u32,
+) -> Result<(), GossipFault>
+    requires { frames ≤ MAX_FRAMES }
+    ensures session { Pulls R.remaining W.contents frames
+        (T.layout target.old) (T.cells target.old) (T.has_joined target.old target.new)
+        input.old input.new output.old output.new result }
+{
+    pull_from(alloc, input, output, target, frames)
 }

@@ -1,0 +1,52 @@
+-- What a call that pulls or gives over two streams has done once it returns: what was read and written, and when a stream
+-- is to blame.
+use Rattle.std.specs.Prelude.{◌≡◌, ◌≤◌, ℕ, true, List, [], length, Option, Result, Err, OnOk, IfErr}
+use Rattle.std.specs.Io.KnownBytes.{Appends, IsAtEnd}
+use Rattle.std.specs.List.{concat}
+use Rattle.rr_schema.specs.Schema.{Layout}
+use Rattle.rr_io.specs.declared.counted.Counted.{Counted}
+use Rattle.rr_io.specs.Counted.{inner_of, failures_of, is_flushed, HasRisen}
+use Rattle.rr_io.specs.Stream.{AppendsPrefix}
+use Rattle.rr_cells.specs.CellBounds.{NamedCell}
+use Rattle.rr_cells.specs.Cells.{Cells}
+use Rattle.rr_gossip.specs.declared.fault.GossipFault.{GossipFault}
+use Rattle.rr_gossip.specs.declared.fault.GossipFault.TheVariants.{Ended, ReadFailed, WriteFailed}
+use Rattle.rr_gossip.specs.Session.{HasFailedToGive, HasFailedToPull, HasGiven, HasPulled, sent_by}
+use Rattle.rr_gossip.specs.Transcript.{waiting}
+
+-- when one of two streams is to blame for a fault, the counts of whose failures never fall
+pub record Blames {R W : Type 0} (remaining : R → Option (List ℕ)) (input input_new : Counted R)
+    (output output_new : Counted W) (result : Result (Unit {0}) GossipFault) : Type 0 where
+  pub ended : result ≡ Err Ended → IsAtEnd (remaining (inner_of input_new))
+  pub read_failed : result ≡ Err ReadFailed → HasRisen (failures_of input) (failures_of input_new)
+  pub write_failed : result ≡ Err WriteFailed → HasRisen (failures_of output) (failures_of output_new)
+  pub read_count : failures_of input ≤ failures_of input_new
+  pub write_count : failures_of output ≤ failures_of output_new
+
+-- a call that gives of the cells m, in a session of at most so many frames, to a side of which some bytes were read before
+pub record Gives {R W : Type 0} (remaining : R → Option (List ℕ)) (contents : W → Option (List ℕ)) (limit : ℕ)
+    (s : Layout) (m : Cells) (before : List ℕ) (input input_new : Counted R) (output output_new : Counted W)
+    (result : Result (Unit {0}) GossipFault) : Type 0 where
+  pub given : OnOk result (HasGiven limit s m before (remaining (inner_of input)) (remaining (inner_of input_new))
+      (contents (inner_of output)) (contents (inner_of output_new)))
+  pub stopped : IfErr result (HasFailedToGive limit s m before (remaining (inner_of input))
+      (remaining (inner_of input_new)) (contents (inner_of output)) (contents (inner_of output_new)))
+  pub flushed : OnOk result (is_flushed output_new ≡ true)
+  pub blame : Blames remaining input input_new output output_new result
+
+-- a call that pulls into the cells m, in a session of at most so many frames; `joined` says which cells a target joined
+pub record Pulls {R W : Type 0} (remaining : R → Option (List ℕ)) (contents : W → Option (List ℕ)) (limit : ℕ)
+    (s : Layout) (m : Cells) (joined : List NamedCell → Type 0) (input input_new : Counted R)
+    (output output_new : Counted W) (result : Result (Unit {0}) GossipFault) : Type 0 where
+  -- what is sent
+  pub sent : OnOk result (Appends (contents (inner_of output)) (contents (inner_of output_new)) (concat (sent_by s m)))
+  pub front : AppendsPrefix (contents (inner_of output)) (contents (inner_of output_new)) (concat (sent_by s m))
+  pub flushed : OnOk result (is_flushed output_new ≡ true)
+  -- what is read, and which cells are joined, one by one and in order
+  pub pulled : OnOk result ((cells : List NamedCell) × joined cells
+      × HasPulled s (waiting (length (sent_by s m)) 0 limit) (remaining (inner_of input))
+      (remaining (inner_of input_new)) cells)
+  pub stopped : IfErr result (λ fault. (cells : List NamedCell) × joined cells
+      × HasFailedToPull limit s m (remaining (inner_of input)) (remaining (inner_of input_new))
+      (contents (inner_of output)) (contents (inner_of output_new)) fault cells)
+  pub blame : Blames remaining input input_new output output_new result
