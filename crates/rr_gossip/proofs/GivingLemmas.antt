@@ -348,8 +348,8 @@ first_replies g giving none = record { going = by_stage g.stage giving; all_are 
     by_stage Done e = absurd cc
     by_stage Failed e = absurd cc
 
-pub record OneReplied (all : List (List ℕ)) (limit : ℕ) (g q : Giver) (before : List (List ℕ)) (frame : List ℕ) : Type
-    0 where
+pub record OneReplied (all : List (List ℕ)) (limit : ℕ) (g q : Giver) (before : List (List ℕ)) (frame : List ℕ)
+    : Type 0 where
   pub replies : Replies all limit q (before ++ frame ∷ [])
   pub left : List (List ℕ)
   pub all_are : all ≡ before ++ frame ∷ left

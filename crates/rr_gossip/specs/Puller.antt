@@ -130,8 +130,8 @@ puller_takes s p content = do
 -- ---- what is joined
 
 -- the first of the cells of a frame that is read, perhaps all, perhaps none
-pub record AreFront {X : Type 0} (es : List NamedCell) (read : Result ((X × List NamedCell) × Bool) GossipFault) : Type
-    0 where
+pub record AreFront {X : Type 0} (es : List NamedCell) (read : Result ((X × List NamedCell) × Bool) GossipFault)
+    : Type 0 where
   pub found : (X × List NamedCell) × Bool
   pub is_read : read ≡ Ok found
   pub others : List NamedCell

@@ -99,8 +99,8 @@ is_giving stage.Failed = false
 
 -- it took frames to the end of the names and nothing after them, of which some bytes may have been read before, and has
 -- the difference of its source's cells m against all names to send, which are cells of the schema
-pub record HasHeard (s : Layout) (m : Cells) (first last : Giver) (before : List ℕ) (had left : Option (List ℕ)) : Type
-    0 where
+pub record HasHeard (s : Layout) (m : Cells) (first last : Giver) (before : List ℕ) (had left : Option (List ℕ))
+    : Type 0 where
   pub frames : List (List ℕ)
   pub read : WasRead before had left frames []
   pub taken : giver_after m s first (contents frames) ≡ Ok last

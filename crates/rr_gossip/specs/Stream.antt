@@ -46,8 +46,8 @@ pub record BreaksOff (bytes : List ℕ) (fault : GossipFault) : Type 0 where
       ⊎ ((frame_at bytes).0 ≡ Err fault)
 
 -- a frame was read and is refused, or memory ran out
-pub record IsRefused {X : Type 0} (takes : List ℕ → Result X GossipFault) (bytes : List ℕ) (fault : GossipFault) : Type
-    0 where
+pub record IsRefused {X : Type 0} (takes : List ℕ → Result X GossipFault) (bytes : List ℕ) (fault : GossipFault)
+    : Type 0 where
   pub frame : IsFrame bytes
   pub why : (fault ≡ Memory) ⊎ (takes (drop 4 bytes) ≡ Err fault)
 
@@ -56,8 +56,8 @@ abbrev pub Stops : {X : Type 0} → (List ℕ → Result X GossipFault) → List
 Stops takes bytes fault = BreaksOff bytes fault ⊎ IsRefused takes bytes fault
 
 -- whole frames were read, and a piece of the next, of which some bytes may have been there before
-pub record WasRead (before : List ℕ) (had left : Option (List ℕ)) (frames : List (List ℕ)) (piece : List ℕ) : Type
-    0 where
+pub record WasRead (before : List ℕ) (had left : Option (List ℕ)) (frames : List (List ℕ)) (piece : List ℕ)
+    : Type 0 where
   pub bytes : List ℕ
   pub consumed : Consumes had left bytes
   pub cut : before ++ bytes ≡ concat frames ++ piece

@@ -17,8 +17,8 @@ pub record LinesTell {X : Type 0} (result : Result X NodeFault) (before after : 
   pub write : result ≡ Err node.WriteFailed → HasRisen before.output.failures after.output.failures
 
 -- and of those of a session
-pub record SessionTells {X F : Type 0} (result : Result X F) (by : GossipFault → F) (before after : Stream) : Type
-    0 where
+pub record SessionTells {X F : Type 0} (result : Result X F) (by : GossipFault → F) (before after : Stream)
+    : Type 0 where
   pub read : result ≡ Err (by session.ReadFailed) → HasRisen before.input.failures after.input.failures
   pub write : result ≡ Err (by session.WriteFailed) → HasRisen before.output.failures after.output.failures
 

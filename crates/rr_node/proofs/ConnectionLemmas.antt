@@ -80,8 +80,8 @@ asked_more rules handed item given asked before here =
     )
 
 -- an item is handed out, the keeper takes it with the moments that it asked for, and it is counted and answered
-pub record Counts (old new : Connection) (k now : KeeperState) (item : Item) (asked : List ℤ) (answer : Answer) : Type
-    0 where
+pub record Counts (old new : Connection) (k now : KeeperState) (item : Item) (asked : List ℤ) (answer : Answer)
+    : Type 0 where
   pub hands : HandsOut old.feed (Some item) new.feed
   pub few : length asked ≡ moments_asked old.rules item
   pub keeper : now ≡ published_after (old.lines + 1)

@@ -135,8 +135,8 @@ pub comes_at_end : (feed : FeedState) (pushed bytes : List ℕ) → bytes ≡ pu
 comes_at_end feed pushed bytes e = ([], e ∙ sym (append-nil pushed), λ ended. (refl, refl))
 
 -- all lines are served, and all is published
-pub record IsDone (c : Connection) (start k : KeeperState) (pushed : List ℕ) (given : List ℤ) (text : List ℕ) : Type
-    0 where
+pub record IsDone (c : Connection) (start k : KeeperState) (pushed : List ℕ) (given : List ℤ) (text : List ℕ)
+    : Type 0 where
   pub has : HasServed c start pushed given k text
   pub nothing : items_left c.feed ≡ []
   pub ended : c.feed.ended ≡ true

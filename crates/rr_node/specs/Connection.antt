@@ -92,8 +92,8 @@ pub record HasServed (c : Connection) (start : KeeperState) (pushed : List ℕ) 
   pub served : (later : List ℤ) → after c.rules start (moments ++ later) handed ≡ served_so_far c now answers later
 
 -- items were handed out and served with these moments and answers
-pub record ServedItems (old new : Connection) (before now : KeeperState) (moments : List ℤ) (answers : List ℕ) : Type
-    0 where
+pub record ServedItems (old new : Connection) (before now : KeeperState) (moments : List ℤ) (answers : List ℕ)
+    : Type 0 where
   pub served : (start : KeeperState) (pushed : List ℕ) (given : List ℤ) (text : List ℕ)
       → HasServed old start pushed given before text
       → HasServed new start pushed (given ++ moments) now (text ++ answers)
@@ -107,8 +107,8 @@ ComesAfter feed pushed bytes = (more : List ℕ) × (bytes ≡ pushed ++ more) �
 
 -- these lines, which are a front of the items whatever comes, were served with these moments, and the first operations
 -- of one more; or they are all of them, and all was published
-pub record EndsWithin (rules : Rules) (start now : KeeperState) (Comes : List ℕ → Type 0) (moments : List ℤ) : Type
-    0 where
+pub record EndsWithin (rules : Rules) (start now : KeeperState) (Comes : List ℕ → Type 0) (moments : List ℤ)
+    : Type 0 where
   pub lines : List Item
   pub last : List Item
   pub count : ℕ

@@ -42,8 +42,8 @@ AreRounds (suc n) config old new log =
     × (log ≡ and_then first last)
 
 -- fewer rounds than these, and one more that ended otherwise
-pub record AreFewer (most : ℕ) (config : Config) (came : Option Bool) (old new : KeeperAndClock) (log : Log) : Type
-    0 where
+pub record AreFewer (most : ℕ) (config : Config) (came : Option Bool) (old new : KeeperAndClock) (log : Log)
+    : Type 0 where
   pub n : ℕ
   pub few : n < most
   pub mid : KeeperAndClock

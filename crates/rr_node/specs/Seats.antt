@@ -8,8 +8,8 @@ use Rattle.rr_host.specs.Streams.{Stream}
 use Rattle.rr_host.specs.Visits.{Call, Gave, Failed, Over, TookBack}
 
 -- a connection was given, served with this result, and handed back
-pub record IsStreamServed (result : Result (Unit {0}) NodeFault) (calls : List Call) (old new : ReaderAndGate) : Type
-    0 where
+pub record IsStreamServed (result : Result (Unit {0}) NodeFault) (calls : List Call) (old new : ReaderAndGate)
+    : Type 0 where
   pub before : Stream
   pub after : Stream
   pub made : calls ≡ Gave before ∷ TookBack after ∷ []

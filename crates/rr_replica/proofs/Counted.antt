@@ -98,8 +98,8 @@ get_named key archive (x ∷ es) zero e h = ap (λ o. Some (name_at key archive 
 get_named key archive (x ∷ es) (suc i) e h = get_named key archive es i e h
 
 -- so many of the cells are in the archives before one with a number, and what is left of them
-pub record IsLeft {X : Type 0} (cells : X → ArchiveCells) (key : List ℕ) (archives : List X) (number i left : ℕ) : Type
-    0 where
+pub record IsLeft {X : Type 0} (cells : X → ArchiveCells) (key : List ℕ) (archives : List X) (number i left : ℕ)
+    : Type 0 where
   pub before : number ≡ count_of (map cells (take i archives)) + left
   pub same : slice_get (cells_from key i (map cells (drop i archives))) left
       ≡ slice_get (cells_from key 0 (map cells archives)) number
