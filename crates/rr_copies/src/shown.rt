@@ -107,7 +107,7 @@ impl Model for Held {
 /// What the two copies have in common. No value of it is made.
 pub struct CopyState {
     /// What the replica holds.
-    pub replica_state: Held,
+    pub held: Held,
     /// Whether it has been opened for readers.
     pub started: bool,
     /// The editions that it has.
