@@ -135,6 +135,23 @@ pub trait Cells: Drop {
     fn copy(&self, alloc: Global) -> Result<Self, AllocError>
         ensures cells { IfOk result (λ a. cells a ≡ cells self.now) }
         ensures limit { IfOk result (λ a. row_limit a ≡ row_limit self.now) };
+
+    /// Makes rows that are likely to stay as they are ready to be shared by other archives. It changes no
+    /// cell. An archive that has no memory for it, or shares no rows, does nothing.
+    fn finish_rows(&mut self)
+        ensures cells { cells self.new ≡ cells self.old }
+        ensures limit { row_limit self.new ≡ row_limit self.old }
+    {
+    }
+
+    /// Shares the rows that another archive has made ready in place of its own, where both hold the same in
+    /// them. It changes no cell. An archive that has no memory for it, or shares no rows, does nothing.
+    fn share_rows(&mut self, other: &Self)
+        ensures cells { cells self.new ≡ cells self.old }
+        ensures limit { row_limit self.new ≡ row_limit self.old }
+    {
+        let _ = other;
+    }
 }
 
 /// An archive that has its entries in memory as they are, and can lend them.

@@ -97,7 +97,26 @@ impl<A: Cells> Copies<A> {
 
     /// Makes an operation pending that the replica takes, and applies it there. Room is
     /// made first, so that it is taken whole or not at all.
+    ///
+    /// Finished rows of the series at the hint are first shared with the copy that is shown.
     pub fn push(&mut self, hint: Hint, op: Op) -> Result<(), AllocError>
+        requires { accepts (own_replica self.old) op ≡ true }
+        ensures pending { OnOk result (self.new ≡ with_pending self.old op) }
+        ensures unchanged { OnErr result (self.new ≡ self.old) }
+    {
+        self.share_rows(hint);
+        self.append(hint, op)
+    }
+
+    /// Shares finished rows of the series at a hint with the copy that is shown.
+    fn share_rows(&mut self, hint: Hint)
+        ensures { self.new ≡ self.old }
+    {
+        self.own.share_rows(hint, &self.writer.published().replica);
+    }
+
+    /// `push`, without sharing rows.
+    fn append(&mut self, hint: Hint, op: Op) -> Result<(), AllocError>
         requires { accepts (own_replica self.old) op ≡ true }
         ensures pending { OnOk result (self.new ≡ with_pending self.old op) }
         ensures unchanged { OnErr result (self.new ≡ self.old) }

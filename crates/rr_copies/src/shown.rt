@@ -64,6 +64,32 @@ impl Hinted {
         };
         Ok(())
     }
+
+    /// Applies it to the copy that takes it first, and makes rows ready to be shared that it finished.
+    fn apply_first<A: Cells>(&self, replica: &mut Replica<A>) -> Result<(), AllocError>
+        ensures applied { OnOk result (replica_state replica.new
+            ≡ step (replica_state replica.old) self.now) }
+        ensures unchanged { OnErr result (replica_state replica.new ≡ replica_state replica.old) }
+    {
+        self.apply_to(replica)?;
+        replica.finish_rows(self.hint);
+        Ok(())
+    }
+
+    /// Applies it to the copy that takes it second, and shares rows with the first.
+    fn apply_second<A: Cells>(
+        &self,
+        replica: &mut Replica<A>,
+        first: &Replica<A>,
+    ) -> Result<(), AllocError>
+        ensures applied { OnOk result (replica_state replica.new
+            ≡ step (replica_state replica.old) self.now) }
+        ensures unchanged { OnErr result (replica_state replica.new ≡ replica_state replica.old) }
+    {
+        self.apply_to(replica)?;
+        replica.share_rows(self.hint, first);
+        Ok(())
+    }
 }
 
 /// What both copies take in.
@@ -126,12 +152,26 @@ impl<A: Cells> Absorb<Change> for Shown<A> {
 
     fn absorb_first(&mut self, operation: &Change, _other: &Shown<A>) -> Result<(), AllocError> {
         match operation {
-            Change::Apply(hinted) => hinted.apply_to(&mut self.replica)?,
+            Change::Apply(hinted) => hinted.apply_first(&mut self.replica)?,
             Change::Edition(front) => {
                 self.started = true;
                 self.front = front.again();
             }
         }
         Ok(())
+    }
+
+    fn absorb_second(&mut self, operation: Change, other: &Shown<A>) -> Result<(), Change> {
+        match operation {
+            Change::Apply(hinted) => match hinted.apply_second(&mut self.replica, &other.replica) {
+                Ok(()) => Ok(()),
+                Err(_) => Err(Change::Apply(hinted)),
+            },
+            Change::Edition(front) => {
+                self.started = true;
+                self.front = front;
+                Ok(())
+            }
+        }
     }
 }

@@ -16,10 +16,10 @@ use Rattle.rr_archive.specs.declared.entry.Entry.{Entry}
 use Rattle.rr_archive.specs.declared.change.Change.{Change}
 use Rattle.rr_archive.specs.Row.{with_entry}
 use Rattle.rr_archive.specs.Changes.{entry_after}
-use Rattle.rr_packed.specs.declared.block.Block.{Block}
+use Rattle.rr_packed.specs.declared.held_block.HeldBlock.{HeldBlock}
 use Rattle.rr_packed.specs.declared.blocks.Blocks.{Blocks}
 use Rattle.rr_packed.specs.Slots.{block_of, row_of}
-use Rattle.rr_packed.specs.Blocks.{items_in, IsRowSet, block_at, items_of_block, items_by_slot, has_room_in, block_has_room, has_room_at, starts_before, IsBlockSet, IsSlotSet}
+use Rattle.rr_packed.specs.Blocks.{stored_in, IsRowSet, block_at, items_of_block, items_by_slot, has_room_held, block_has_room, has_room_at, starts_before, IsBlockSet, IsSlotSet}
 use Rattle.rr_packed.proofs.SlotLemmas.{same_slot_by, block_on, row_on, before_block}
 
 same_number : (a b : ℤ) → is_at (int_cmp a) b ≡ true → a ≡ b
@@ -35,18 +35,18 @@ other_slot : (a b : ℤ) → int_eq a b ≡ false → a ≡ b → ⊥
 other_slot a b h e = grind (arith, ints)
 
 -- a slot whose block is there, and of one that isn't
-pub slot_found : (blocks : List (ℤ × Block)) (slot : ℤ) (b : Block) → Some b ≡ block_at blocks (block_of slot)
-    → items_by_slot blocks slot ≡ items_in b (row_of slot)
+pub slot_found : (blocks : List (ℤ × HeldBlock)) (slot : ℤ) (b : HeldBlock) → Some b ≡ block_at blocks (block_of slot)
+    → items_by_slot blocks slot ≡ stored_in b (row_of slot)
 unfolding items_by_slot
 slot_found blocks slot b has = ap (λ o. items_of_block o (row_of slot)) (sym has)
 
-pub slot_missing : (blocks : List (ℤ × Block)) (slot : ℤ) → None ≡ block_at blocks (block_of slot)
+pub slot_missing : (blocks : List (ℤ × HeldBlock)) (slot : ℤ) → None ≡ block_at blocks (block_of slot)
     → items_by_slot blocks slot ≡ []
 unfolding items_by_slot
 slot_missing blocks slot none = ap (λ o. items_of_block o (row_of slot)) (sym none)
 
 -- the slots that follow one in its block
-pub slots_after : (blocks : List (ℤ × Block)) (slot : ℤ) (i : ℕ) → row_of slot + i < 64
+pub slots_after : (blocks : List (ℤ × HeldBlock)) (slot : ℤ) (i : ℕ) → row_of slot + i < 64
     → items_by_slot blocks (slot +ℤ pos i) ≡ items_of_block (block_at blocks (block_of slot)) (row_of slot + i)
 unfolding items_by_slot
 slots_after blocks slot i near = λ j. items_of_block (block_at blocks (block_on slot i near j)) (row_on slot i near j)
@@ -59,8 +59,8 @@ either (Ok x) p q = p
 either (Err e) p q = q
 
 -- with a block that stores what the number's does
-pub blocks_alike : (old new : List (ℤ × Block)) (number : ℤ) (b : Block) → IsBlockSet number b old new
-    → items_in b ≡ items_of_block (block_at old number) → items_by_slot new ≡ items_by_slot old
+pub blocks_alike : (old new : List (ℤ × HeldBlock)) (number : ℤ) (b : HeldBlock) → IsBlockSet number b old new
+    → stored_in b ≡ items_of_block (block_at old number) → items_by_slot new ≡ items_by_slot old
 unfolding items_by_slot
 blocks_alike old new number b sets same = λ i s. (
     ap (λ o. items_of_block o (row_of s)) (sets (block_of s))
@@ -74,9 +74,9 @@ blocks_alike old new number b sets same = λ i s. (
     ] refl) i
 
 -- with a block in which an entry of the slot's row is set
-pub blocks_changed : (old new : List (ℤ × Block)) (slot : ℤ) (b : Block) (e : Entry)
+pub blocks_changed : (old new : List (ℤ × HeldBlock)) (slot : ℤ) (b : HeldBlock) (e : Entry)
     → IsBlockSet (block_of slot) b old new → IsRowSet (row_of slot) (with_entry (items_by_slot old slot) e)
-    (items_of_block (block_at old (block_of slot))) (items_in b)
+    (items_of_block (block_at old (block_of slot))) (stored_in b)
     → IsSlotSet slot e (items_by_slot old) (items_by_slot new)
 unfolding items_by_slot
 blocks_changed old new slot b e sets set = λ s.
@@ -121,10 +121,10 @@ blocks_changed old new slot b e sets set = λ s.
     ] refl
 
 -- with the entry of an origin changed in a block that is there
-pub change_there : (old new : List (ℤ × Block)) (slot : ℤ) (was b : Block) (origin : ℕ) (change : Change)
+pub change_there : (old new : List (ℤ × HeldBlock)) (slot : ℤ) (was b : HeldBlock) (origin : ℕ) (change : Change)
     → IsBlockSet (block_of slot) b old new → Some was ≡ block_at old (block_of slot)
-    → IsRowSet (row_of slot) (with_entry (items_in was (row_of slot))
-    (entry_after (items_in was (row_of slot)) origin change)) (items_in was) (items_in b)
+    → IsRowSet (row_of slot) (with_entry (stored_in was (row_of slot))
+    (entry_after (stored_in was (row_of slot)) origin change)) (stored_in was) (stored_in b)
     → IsSlotSet slot (entry_after (items_by_slot old slot) origin change) (items_by_slot old) (items_by_slot new)
 change_there old new slot was b origin change sets has changed =
     let here = sym (slot_found old slot was has) in
@@ -133,10 +133,10 @@ change_there old new slot was b origin change sets has changed =
     (items_of_block (has i) n)))
 
 -- and in a block that is new
-pub change_new : (old new : List (ℤ × Block)) (slot : ℤ) (was b : Block) (origin : ℕ) (change : Change)
-    → IsBlockSet (block_of slot) b old new → None ≡ block_at old (block_of slot) → ((n : ℕ) → items_in was n ≡ [])
-    → IsRowSet (row_of slot) (with_entry (items_in was (row_of slot))
-    (entry_after (items_in was (row_of slot)) origin change)) (items_in was) (items_in b)
+pub change_new : (old new : List (ℤ × HeldBlock)) (slot : ℤ) (was b : HeldBlock) (origin : ℕ) (change : Change)
+    → IsBlockSet (block_of slot) b old new → None ≡ block_at old (block_of slot) → ((n : ℕ) → stored_in was n ≡ [])
+    → IsRowSet (row_of slot) (with_entry (stored_in was (row_of slot))
+    (entry_after (stored_in was (row_of slot)) origin change)) (stored_in was) (stored_in b)
     → IsSlotSet slot (entry_after (items_by_slot old slot) origin change) (items_by_slot old) (items_by_slot new)
 change_new old new slot was b origin change sets none empty changed =
     let here = empty (row_of slot) ∙ sym (slot_missing old slot none) in
@@ -148,8 +148,8 @@ change_new old new slot was b origin change sets none empty changed =
 
 -- ---- room in the row of a slot
 
-pub room_found : (bs : Blocks) (slot : ℤ) (origin : ℕ) (b : Block) → Some b ≡ block_at bs.blocks.items (block_of slot)
-    → IsTrue (has_room_at bs slot origin) → IsTrue (has_room_in b (row_of slot) origin)
+pub room_found : (bs : Blocks) (slot : ℤ) (origin : ℕ) (b : HeldBlock) → Some b ≡ block_at bs.blocks.items (block_of slot)
+    → IsTrue (has_room_at bs slot origin) → IsTrue (has_room_held b (row_of slot) origin)
 unfolding has_room_at
 room_found bs slot origin b has room = subst (λ o. block_has_room o (row_of slot) origin ≡ true) (sym has) room
 
@@ -159,8 +159,8 @@ unfolding has_room_at
 room_missing bs slot origin none room = true≢false
     (sym (subst (λ o. block_has_room o (row_of slot) origin ≡ true) (sym none) room))
 
-pub room_at : (old : List (ℤ × Block)) (new : Blocks) (slot : ℤ) (origin : ℕ) (b : Block)
-    → IsBlockSet (block_of slot) b old new.blocks.items → IsTrue (has_room_in b (row_of slot) origin)
+pub room_at : (old : List (ℤ × HeldBlock)) (new : Blocks) (slot : ℤ) (origin : ℕ) (b : HeldBlock)
+    → IsBlockSet (block_of slot) b old new.blocks.items → IsTrue (has_room_held b (row_of slot) origin)
     → IsTrue (has_room_at new slot origin)
 unfolding has_room_at
 room_at old new slot origin b sets here = subst (λ o. block_has_room o (row_of slot) origin ≡ true)
@@ -168,14 +168,14 @@ room_at old new slot origin b sets here = subst (λ o. block_has_room o (row_of 
     (number_same (block_of slot)))) here
 
 -- a block without an entry, where there was none
-pub blocks_added : (old new : List (ℤ × Block)) (number : ℤ) (b : Block) → IsBlockSet number b old new
-    → None ≡ block_at old number → ((n : ℕ) → items_in b n ≡ []) → items_by_slot new ≡ items_by_slot old
+pub blocks_added : (old new : List (ℤ × HeldBlock)) (number : ℤ) (b : HeldBlock) → IsBlockSet number b old new
+    → None ≡ block_at old number → ((n : ℕ) → stored_in b n ≡ []) → items_by_slot new ≡ items_by_slot old
 blocks_added old new number b sets none empty = blocks_alike old new number b sets
     (λ i n. (empty n ∙ ap (λ o. items_of_block o n) none) i)
 
 -- ---- the first block taken out
 
-none_later : (s q : ℤ) (bs : List (ℤ × Block)) → s ≡ q → AllByRecursion (λ t. int_cmp s t ≡ Less) (keys_of bs)
+none_later : (s q : ℤ) (bs : List (ℤ × HeldBlock)) → s ≡ q → AllByRecursion (λ t. int_cmp s t ≡ Less) (keys_of bs)
     → block_at bs q ≡ None
 none_later s q [] e h = refl
 none_later s q (b ∷ bs) e h = ap (λ c. cond c (Some b.1) (block_at bs q))
@@ -185,7 +185,7 @@ none_later s q (b ∷ bs) e h = ap (λ c. cond c (Some b.1) (block_at bs q))
 abbrev pub IsLeft : ℤ → (ℤ → List Entry) → (ℤ → List Entry) → Type 0
 IsLeft slot old new = (s : ℤ) → (new s ≡ old s) ⊎ ((new s ≡ []) × IsTrue (int_lt s slot))
 
-pub first_left : (slot : ℤ) (bs : List (ℤ × Block)) (old : ℤ → List Entry) → IsStrictlySortedBy int_cmp (keys_of bs)
+pub first_left : (slot : ℤ) (bs : List (ℤ × HeldBlock)) (old : ℤ → List Entry) → IsStrictlySortedBy int_cmp (keys_of bs)
     → starts_before (block_of slot) bs ≡ true → IsLeft slot old (items_by_slot bs)
     → IsLeft slot old (items_by_slot (drop 1 bs))
 unfolding IsStrictlySortedBy items_by_slot
@@ -208,37 +208,37 @@ first_left slot (b ∷ bs) old sorted before left =
 -- ---- blocks that are copied one by one
 
 -- a block as what it stores, with its number
-abbrev stored : ℤ × Block → ℤ × (ℕ → List Entry)
-stored b = (b.0, items_in b.1)
+abbrev stored : ℤ × HeldBlock → ℤ × (ℕ → List Entry)
+stored b = (b.0, stored_in b.1)
 
 -- what has been copied and what is still to be copied are the blocks
-abbrev pub IsCopied : List (ℤ × Block) → List (ℤ × Block) → List (ℤ × Block) → Type 0
+abbrev pub IsCopied : List (ℤ × HeldBlock) → List (ℤ × HeldBlock) → List (ℤ × HeldBlock) → Type 0
 IsCopied blocks left new = map stored new ++ map stored left ≡ map stored blocks
 
-pub copied_more : (blocks left rest new more : List (ℤ × Block)) (number : ℤ) (b copy : Block)
-    → IsCopied blocks left new → left ≡ (number, b) ∷ rest → items_in copy ≡ items_in b
+pub copied_more : (blocks left rest new more : List (ℤ × HeldBlock)) (number : ℤ) (b copy : HeldBlock)
+    → IsCopied blocks left new → left ≡ (number, b) ∷ rest → stored_in copy ≡ stored_in b
     → more ≡ new ++ (number, copy) ∷ [] → IsCopied blocks rest more
 copied_more blocks left rest new more number b copy c is same add =
     ap (λ l. map stored l ++ map stored rest) add
     ∙ ap (λ l. l ++ map stored rest) (map-append stored new ((number, copy) ∷ []))
-    ∙ append_assoc (map stored new) ((number, items_in copy) ∷ []) (map stored rest)
+    ∙ append_assoc (map stored new) ((number, stored_in copy) ∷ []) (map stored rest)
     ∙ ap (λ f. map stored new ++ (number, f) ∷ map stored rest) same
     ∙ ap (λ l. map stored new ++ map stored l) (sym is)
     ∙ c
 
-pub all_copied : (blocks left new : List (ℤ × Block)) → IsCopied blocks left new → left ≡ []
+pub all_copied : (blocks left new : List (ℤ × HeldBlock)) → IsCopied blocks left new → left ≡ []
     → map stored new ≡ map stored blocks
 all_copied blocks left new c none = sym (append-nil (map stored new))
     ∙ ap (λ l. map stored new ++ map stored l) (sym none) ∙ c
 
-pub copied_numbers : (blocks new : List (ℤ × Block)) → map stored new ≡ map stored blocks → keys_of new ≡ keys_of blocks
+pub copied_numbers : (blocks new : List (ℤ × HeldBlock)) → map stored new ≡ map stored blocks → keys_of new ≡ keys_of blocks
 copied_numbers blocks new same = sym (numbers new) ∙ ap keys_of same ∙ numbers blocks
   where
-    numbers : (bs : List (ℤ × Block)) → keys_of (map stored bs) ≡ keys_of bs
+    numbers : (bs : List (ℤ × HeldBlock)) → keys_of (map stored bs) ≡ keys_of bs
     numbers [] = refl
     numbers (b ∷ bs) = ap (λ ks. b.0 ∷ ks) (numbers bs)
 
-pub copied_rows : (blocks new : List (ℤ × Block)) → map stored new ≡ map stored blocks
+pub copied_rows : (blocks new : List (ℤ × HeldBlock)) → map stored new ≡ map stored blocks
     → items_by_slot new ≡ items_by_slot blocks
 unfolding items_by_slot
 copied_rows blocks new same = λ i s. (
@@ -250,11 +250,11 @@ copied_rows blocks new same = λ i s. (
     read None n = []
     read (Some f) n = f n
 
-    read_of : (o : Option Block) (n : ℕ) → items_of_block o n ≡ read (option_map items_in o) n
+    read_of : (o : Option HeldBlock) (n : ℕ) → items_of_block o n ≡ read (option_map stored_in o) n
     read_of None n = refl
     read_of (Some b) n = refl
 
-    by_stored : (bs : List (ℤ × Block)) (q : ℤ) (n : ℕ)
+    by_stored : (bs : List (ℤ × HeldBlock)) (q : ℤ) (n : ℕ)
         → items_of_block (block_at bs q) n ≡ read (lookup (is_at (int_cmp q)) (map stored bs)) n
     by_stored bs q n = read_of (block_at bs q) n ∙ ap (λ o. read o n)
-        (sym (lookup-map_values items_in (is_at (int_cmp q)) bs))
+        (sym (lookup-map_values stored_in (is_at (int_cmp q)) bs))

@@ -12,24 +12,24 @@ use Rattle.std.proofs.lemmas.List.{get_or_default}
 use Rattle.std.proofs.lemmas.Map.{lookup-none}
 use Rattle.std.proofs.lemmas.Map.Entries.{none_below_head, lookup_from_place}
 use Rattle.std.proofs.lemmas.Map.Keys.{IsDistinct-from_sorted}
-use Rattle.rr_packed.specs.declared.block.Block.{Block}
+use Rattle.rr_packed.specs.declared.held_block.HeldBlock.{HeldBlock}
 use Rattle.rr_packed.specs.Blocks.{block_at, count_before, IsBlockSet, IsPlaceOf, IsGapFor}
 
-abbrev pub Ascend : List (ℤ × Block) → Type 0
+abbrev pub Ascend : List (ℤ × HeldBlock) → Type 0
 Ascend bs = IsStrictlySortedBy int_cmp (keys_of bs)
 
-abbrev IsBelow : ℤ → List (ℤ × Block) → Type 0
+abbrev IsBelow : ℤ → List (ℤ × HeldBlock) → Type 0
 IsBelow n bs = AllByRecursion (λ k. int_cmp n k ≡ Less) (keys_of bs)
 
 -- ---- what is before a number
 
-less_at : (n : ℤ) (bs : List (ℤ × Block)) (i : ℕ) (d : ℤ × Block) → IsBelow n bs → i < length bs
+less_at : (n : ℤ) (bs : List (ℤ × HeldBlock)) (i : ℕ) (d : ℤ × HeldBlock) → IsBelow n bs → i < length bs
     → int_cmp n (get_or bs i d).0 ≡ Less
 less_at n [] i d h within = absurd (omega arith)
 less_at n (b ∷ bs) zero d h within = h.0
 less_at n (b ∷ bs) (suc i) d h within = less_at n bs i d h.1 (omega arith)
 
-ascend_at : (bs : List (ℤ × Block)) (i j : ℕ) (d : ℤ × Block) → Ascend bs → i < j → j < length bs
+ascend_at : (bs : List (ℤ × HeldBlock)) (i j : ℕ) (d : ℤ × HeldBlock) → Ascend bs → i < j → j < length bs
     → int_cmp (get_or bs i d).0 (get_or bs j d).0 ≡ Less
 unfolding IsStrictlySortedBy
 ascend_at [] i j d up low within = absurd (omega arith)
@@ -41,7 +41,7 @@ lt_trans : (a b n : ℤ) → int_cmp a b ≡ Less → int_lt b n ≡ true → in
 lt_trans a b n p q = grind (arith, ints)
 
 -- as a search in two halves asks
-pub parted : (n : ℤ) (bs : List (ℤ × Block)) → Ascend bs → IsPartitionedBy (λ b. int_lt b.0 n) bs
+pub parted : (n : ℤ) (bs : List (ℤ × HeldBlock)) → Ascend bs → IsPartitionedBy (λ b. int_lt b.0 n) bs
 parted n bs up i j d most within before = ⊎_elim
     (λ (low : i < j). lt_trans _ _ n (ascend_at bs i j d up low within) before)
     (λ (high : j ≤ i). let same : j ≡ i = omega arith in ap (λ k. int_lt (get_or bs k d).0 n) (sym same) ∙ before)
@@ -58,31 +58,31 @@ prefix_is p (x ∷ xs) (suc i) most low high =
     let more : suc i ≡ 1 + prefix_len p xs = omega arith in
     more ∙ sym (ap (λ b. cond b (1 + prefix_len p xs) 0) (low 0 x (omega arith)))
 
-pub count_by_parts : (n : ℤ) (bs : List (ℤ × Block)) (i : ℕ) → i ≤ length bs
+pub count_by_parts : (n : ℤ) (bs : List (ℤ × HeldBlock)) (i : ℕ) → i ≤ length bs
     → IsPartitionPoint (λ b. int_lt b.0 n ≡ true) (λ b. int_lt b.0 n ≡ false) bs i → i ≡ count_before n bs
 count_by_parts n bs i most point = prefix_is (λ b. int_lt b.0 n) bs i most
     (λ k d below. point.0 k d (omega arith) below) (λ d within. point.1 i d (omega arith) within)
 
 -- the last block is before the number, or of it
-pub count_all : (n : ℤ) (bs : List (ℤ × Block)) (last : ℤ × Block) → Ascend bs → 0 < length bs
+pub count_all : (n : ℤ) (bs : List (ℤ × HeldBlock)) (last : ℤ × HeldBlock) → Ascend bs → 0 < length bs
     → last ≡ get_or bs (length bs - 1) last → int_cmp last.0 n ≡ Less → length bs ≡ count_before n bs
 count_all n bs last up some is less = prefix_is (λ b. int_lt b.0 n) bs (length bs) (omega arith)
     (λ k d below. parted n bs up k (length bs - 1) d (omega arith) (omega arith)
-    (before _ n (ap (λ (b : ℤ × Block). int_cmp b.0 n)
+    (before _ n (ap (λ (b : ℤ × HeldBlock). int_cmp b.0 n)
     (get_or_default bs (length bs - 1) d last (omega arith) ∙ sym is) ∙ less)))
     (λ d within. absurd (omega arith))
   where
     before : (a n : ℤ) → int_cmp a n ≡ Less → int_lt a n ≡ true
     before a n e = grind (arith, ints)
 
-pub count_but_last : (n : ℤ) (bs : List (ℤ × Block)) (last : ℤ × Block) → Ascend bs → 0 < length bs
+pub count_but_last : (n : ℤ) (bs : List (ℤ × HeldBlock)) (last : ℤ × HeldBlock) → Ascend bs → 0 < length bs
     → last ≡ get_or bs (length bs - 1) last → int_cmp last.0 n ≡ Equal → length bs - 1 ≡ count_before n bs
 count_but_last n bs last up some is same = prefix_is (λ b. int_lt b.0 n) bs (length bs - 1) (omega arith)
     (λ k d below. before _ _ n (ascend_at bs k (length bs - 1) d up below (omega arith)) (its_number d))
     (λ d within. not_before _ n (its_number d))
   where
-    its_number : (d : ℤ × Block) → int_cmp (get_or bs (length bs - 1) d).0 n ≡ Equal
-    its_number d = ap (λ (b : ℤ × Block). int_cmp b.0 n)
+    its_number : (d : ℤ × HeldBlock) → int_cmp (get_or bs (length bs - 1) d).0 n ≡ Equal
+    its_number d = ap (λ (b : ℤ × HeldBlock). int_cmp b.0 n)
         (get_or_default bs (length bs - 1) d last (omega arith) ∙ sym is) ∙ same
 
     before : (a b n : ℤ) → int_cmp a b ≡ Less → int_cmp b n ≡ Equal → int_lt a n ≡ true
@@ -91,19 +91,19 @@ count_but_last n bs last up some is same = prefix_is (λ b. int_lt b.0 n) bs (le
     not_before : (a n : ℤ) → int_cmp a n ≡ Equal → int_lt a n ≡ false
     not_before a n e = grind (arith, ints)
 
-pub ascend_rest : (bs : List (ℤ × Block)) → Ascend bs → Ascend (drop 1 bs)
+pub ascend_rest : (bs : List (ℤ × HeldBlock)) → Ascend bs → Ascend (drop 1 bs)
 unfolding IsStrictlySortedBy
 ascend_rest [] up = tt
 ascend_rest (b ∷ bs) up = up.1
 
-count_within : (n : ℤ) (bs : List (ℤ × Block)) → count_before n bs ≤ length bs
+count_within : (n : ℤ) (bs : List (ℤ × HeldBlock)) → count_before n bs ≤ length bs
 count_within n [] = omega arith
 count_within n (b ∷ bs) = elim (int_lt b.0 n) as (λ c. cond c (1 + count_before n bs) 0 ≤ length (b ∷ bs)) [
   | true ↦ let rest = count_within n bs in omega arith
   | false ↦ omega arith
 ]
 
-pub gap_within : (bs : List (ℤ × Block)) (n : ℤ) (at : ℕ) → IsGapFor n bs at → at ≤ length bs
+pub gap_within : (bs : List (ℤ × HeldBlock)) (n : ℤ) (at : ℕ) → IsGapFor n bs at → at ≤ length bs
 gap_within bs n at gap = let most = count_within n bs in let is = gap.1 in omega arith
 
 -- ---- what is found
@@ -118,7 +118,7 @@ one_on : (i : ℕ) → 1 + i ≡ suc i
 one_on i = omega arith
 
 -- where the number isn't at its place, there is no block of it
-no_block : (n : ℤ) (bs : List (ℤ × Block)) → Ascend bs → (slice_get (keys_of bs) (count_before n bs) ≡ Some n → ⊥)
+no_block : (n : ℤ) (bs : List (ℤ × HeldBlock)) → Ascend bs → (slice_get (keys_of bs) (count_before n bs) ≡ Some n → ⊥)
     → block_at bs n ≡ None
 unfolding IsStrictlySortedBy
 no_block n [] up apart = refl
@@ -131,43 +131,50 @@ no_block n (b ∷ bs) up apart = elim (int_lt b.0 n) as
           (none_below_head int_cmp_total n b bs up (below_by n b.0 high (λ e. apart (ap Some e))))
     ] refl apart
 
-pub place_within : (bs : List (ℤ × Block)) (n : ℤ) (at : ℕ) → IsPlaceOf n bs at → at < length bs
+pub place_within : (bs : List (ℤ × HeldBlock)) (n : ℤ) (at : ℕ) → IsPlaceOf n bs at → at < length bs
 place_within [] n at place = absurd cc
 place_within (b ∷ bs) n zero place = omega arith
 place_within (b ∷ bs) n (suc at) place = let rest = place_within bs n at place in omega arith
 
 -- there is no block of a number whose place is past the last, or has another number
-pub gap_at : (bs : List (ℤ × Block)) (n : ℤ) (at : ℕ) → Ascend bs → at ≡ count_before n bs → (IsPlaceOf n bs at → ⊥)
+pub gap_at : (bs : List (ℤ × HeldBlock)) (n : ℤ) (at : ℕ) → Ascend bs → at ≡ count_before n bs → (IsPlaceOf n bs at → ⊥)
     → IsGapFor n bs at
 gap_at bs n at up is apart = (no_block n bs up (subst (λ i. IsPlaceOf n bs i → ⊥) is apart), is)
 
-pub number_there : (bs : List (ℤ × Block)) (n : ℤ) (at : ℕ) (b : ℤ × Block) → b ≡ get_or bs at b → IsPlaceOf n bs at
+pub number_there : (bs : List (ℤ × HeldBlock)) (n : ℤ) (at : ℕ) (b : ℤ × HeldBlock) → b ≡ get_or bs at b → IsPlaceOf n bs at
     → b.0 ≡ n
 number_there [] n at b is place = absurd cc
-number_there (x ∷ bs) n zero b is place = let number : x.0 ≡ n = cc in ap (λ (z : ℤ × Block). z.0) is ∙ number
+number_there (x ∷ bs) n zero b is place = let number : x.0 ≡ n = cc in ap (λ (z : ℤ × HeldBlock). z.0) is ∙ number
 number_there (x ∷ bs) n (suc at) b is place = number_there bs n at b is place
 
+-- the number of a pair that was read
+pub place_here : (bs : List (ℤ × HeldBlock)) (at : ℕ) (b : ℤ × HeldBlock) → at < length bs → b ≡ get_or bs at b
+    → IsPlaceOf b.0 bs at
+place_here [] at b h is = absurd (omega arith)
+place_here (x ∷ bs) zero b h is = ap (λ (z : ℤ × HeldBlock). Some z.0) (sym is)
+place_here (x ∷ bs) (suc at) b h is = place_here bs at b (omega arith) is
+
 -- the pair there, however it was read
-pair_at : (bs : List (ℤ × Block)) (n : ℤ) (at : ℕ) (b : ℤ × Block) → IsPlaceOf n bs at → b ≡ get_or bs at b
+pair_at : (bs : List (ℤ × HeldBlock)) (n : ℤ) (at : ℕ) (b : ℤ × HeldBlock) → IsPlaceOf n bs at → b ≡ get_or bs at b
     → slice_get bs at ≡ Some (n, b.1)
 pair_at [] n at b place is = absurd cc
-pair_at (x ∷ bs) n zero b place is = let number : x.0 ≡ n = cc in ap (λ (z : ℤ × Block). Some (z.0, z.1)) (sym is)
-    ∙ ap (λ k. Some (k, b.1)) (ap (λ (z : ℤ × Block). z.0) is ∙ number)
+pair_at (x ∷ bs) n zero b place is = let number : x.0 ≡ n = cc in ap (λ (z : ℤ × HeldBlock). Some (z.0, z.1)) (sym is)
+    ∙ ap (λ k. Some (k, b.1)) (ap (λ (z : ℤ × HeldBlock). z.0) is ∙ number)
 pair_at (x ∷ bs) n (suc at) b place is = pair_at bs n at b place is
 
-pub block_there : (bs : List (ℤ × Block)) (n : ℤ) (at : ℕ) (b : ℤ × Block) → Ascend bs → IsPlaceOf n bs at
+pub block_there : (bs : List (ℤ × HeldBlock)) (n : ℤ) (at : ℕ) (b : ℤ × HeldBlock) → Ascend bs → IsPlaceOf n bs at
     → b ≡ get_or bs at b → block_at bs n ≡ Some b.1
 block_there bs n at b up place is = lookup_from_place (eq_by_cmp_equiv int_cmp_total) bs at n b.1
     (IsDistinct-from_sorted int_cmp (keys_of bs) up) (pair_at bs n at b place is)
 
 -- ---- a block that is set
 
-less_there : (m n : ℤ) (bs : List (ℤ × Block)) (at : ℕ) → IsBelow m bs → IsPlaceOf n bs at → int_cmp m n ≡ Less
+less_there : (m n : ℤ) (bs : List (ℤ × HeldBlock)) (at : ℕ) → IsBelow m bs → IsPlaceOf n bs at → int_cmp m n ≡ Less
 less_there m n [] at h place = absurd cc
 less_there m n (b ∷ bs) zero h place = let number : b.0 ≡ n = cc in ap (int_cmp m) (sym number) ∙ h.0
 less_there m n (b ∷ bs) (suc at) h place = less_there m n bs at h.1 place
 
-block_set : (bs : List (ℤ × Block)) (n : ℤ) (at : ℕ) (b : Block) → Ascend bs → IsPlaceOf n bs at
+block_set : (bs : List (ℤ × HeldBlock)) (n : ℤ) (at : ℕ) (b : HeldBlock) → Ascend bs → IsPlaceOf n bs at
     → IsBlockSet n b bs (set bs at (n, b))
 unfolding IsStrictlySortedBy
 block_set [] n at b up place q = absurd cc
@@ -193,39 +200,39 @@ block_set (x ∷ bs) n (suc at) b up place q =
     other : (q k n : ℤ) → is_at (int_cmp q) k ≡ true → int_cmp k n ≡ Less → is_at (int_cmp n) q ≡ false
     other q k n t less = grind (arith, ints)
 
-numbers_stay : (bs : List (ℤ × Block)) (n : ℤ) (at : ℕ) (b : Block) → IsPlaceOf n bs at
+numbers_stay : (bs : List (ℤ × HeldBlock)) (n : ℤ) (at : ℕ) (b : HeldBlock) → IsPlaceOf n bs at
     → keys_of (set bs at (n, b)) ≡ keys_of bs
 numbers_stay [] n at b place = absurd cc
 numbers_stay (x ∷ bs) n zero b place = let number : x.0 ≡ n = cc in ap (λ k. k ∷ keys_of bs) (sym number)
 numbers_stay (x ∷ bs) n (suc at) b place = ap (λ ks. x.0 ∷ ks) (numbers_stay bs n at b place)
 
 -- as the pair there is written, whose number was read
-pub block_put : (bs : List (ℤ × Block)) (n : ℤ) (at : ℕ) (was : ℤ × Block) (b : Block) → Ascend bs → IsPlaceOf n bs at
+pub block_put : (bs : List (ℤ × HeldBlock)) (n : ℤ) (at : ℕ) (was : ℤ × HeldBlock) (b : HeldBlock) → Ascend bs → IsPlaceOf n bs at
     → was ≡ get_or bs at was → IsBlockSet n b bs (set bs at (was.0, b))
 block_put bs n at was b up place is = subst (λ k. IsBlockSet n b bs (set bs at (k, b)))
     (sym (number_there bs n at was is place)) (block_set bs n at b up place)
 
-pub ascend_put : (bs : List (ℤ × Block)) (n : ℤ) (at : ℕ) (was : ℤ × Block) (b : Block) → Ascend bs → IsPlaceOf n bs at
+pub ascend_put : (bs : List (ℤ × HeldBlock)) (n : ℤ) (at : ℕ) (was : ℤ × HeldBlock) (b : HeldBlock) → Ascend bs → IsPlaceOf n bs at
     → was ≡ get_or bs at was → Ascend (set bs at (was.0, b))
 ascend_put bs n at was b up place is = subst (IsStrictlySortedBy int_cmp)
     (sym (ap (λ k. keys_of (set bs at (k, b))) (number_there bs n at was is place) ∙ numbers_stay bs n at b place)) up
 
 -- ---- a block that is added
 
-all_inserted : (P : ℤ → Type 0) (bs : List (ℤ × Block)) (i : ℕ) (n : ℤ) (b : Block) → AllByRecursion P (keys_of bs)
+all_inserted : (P : ℤ → Type 0) (bs : List (ℤ × HeldBlock)) (i : ℕ) (n : ℤ) (b : HeldBlock) → AllByRecursion P (keys_of bs)
     → P n → AllByRecursion P (keys_of (insert bs i (n, b)))
 all_inserted P bs zero n b h p = (p, h)
 all_inserted P [] (suc i) n b h p = (p, h)
 all_inserted P (x ∷ bs) (suc i) n b h p = (h.0, all_inserted P bs i n b h.1 p)
 
-below_all : (m n : ℤ) (bs : List (ℤ × Block)) → int_cmp m n ≡ Less → IsBelow n bs → IsBelow m bs
+below_all : (m n : ℤ) (bs : List (ℤ × HeldBlock)) → int_cmp m n ≡ Less → IsBelow n bs → IsBelow m bs
 below_all m n [] less h = tt
 below_all m n (b ∷ bs) less h = (both m n b.0 less h.0, below_all m n bs less h.1)
   where
     both : (a b c : ℤ) → int_cmp a b ≡ Less → int_cmp b c ≡ Less → int_cmp a c ≡ Less
     both a b c p q = grind (arith, ints)
 
-pub ascend_with : (n : ℤ) (b : Block) (bs : List (ℤ × Block)) → Ascend bs → block_at bs n ≡ None
+pub ascend_with : (n : ℤ) (b : HeldBlock) (bs : List (ℤ × HeldBlock)) → Ascend bs → block_at bs n ≡ None
     → Ascend (insert bs (count_before n bs) (n, b))
 unfolding IsStrictlySortedBy
 ascend_with n b [] up none = (tt, tt)

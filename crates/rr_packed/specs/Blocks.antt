@@ -10,6 +10,8 @@ use Rattle.rr_archive.specs.Entries.{items_of, has_room}
 use Rattle.rr_archive.specs.Row.{with_entry}
 use Rattle.rr_packed.specs.declared.block.Block.{Block}
 use Rattle.rr_packed.specs.declared.blocks.Blocks.{Blocks}
+use Rattle.rr_packed.specs.declared.held_block.HeldBlock.{HeldBlock}
+use Rattle.rr_packed.specs.declared.held_block.HeldBlock.TheVariants.{Own, Shared}
 use Rattle.rr_packed.specs.Sparse.{item_in, place_at}
 use Rattle.rr_packed.specs.Sparse.{has_room as has_spare}
 use Rattle.rr_packed.specs.Readings.{entries_read}
@@ -40,41 +42,52 @@ has_room_in b number origin =
 abbrev pub IsRowSet : ℕ → List Entry → (ℕ → List Entry) → (ℕ → List Entry) → Type 0
 IsRowSet number es old new = (n : ℕ) → new n ≡ (if n == number then es else old n)
 
+-- ---- in one block that may be shared
+
+abbrev pub stored_in : HeldBlock → ℕ → List Entry
+stored_in (Own b) = items_in b
+stored_in (Shared b) = items_in b.value
+
+-- whether the entry of an origin takes no memory: a shared block is copied first
+abbrev pub has_room_held : HeldBlock → ℕ → ℕ → Bool
+has_room_held (Own b) number origin = has_room_in b number origin
+has_room_held (Shared b) number origin = false
+
 -- ---- in all blocks, by slot
 
 -- the block of a number, if it is there
-abbrev pub block_at : List (ℤ × Block) → ℤ → Option Block
+abbrev pub block_at : List (ℤ × HeldBlock) → ℤ → Option HeldBlock
 block_at blocks number = lookup (is_at (int_cmp number)) blocks
 
 -- how many blocks, from the first on, are before that of a number
-abbrev pub count_before : ℤ → List (ℤ × Block) → ℕ
+abbrev pub count_before : ℤ → List (ℤ × HeldBlock) → ℕ
 count_before number blocks = prefix_len (λ b. int_lt b.0 number) blocks
 
 -- the block of a number is at a place
-abbrev pub IsPlaceOf : ℤ → List (ℤ × Block) → ℕ → Type 0
+abbrev pub IsPlaceOf : ℤ → List (ℤ × HeldBlock) → ℕ → Type 0
 IsPlaceOf number blocks at = slice_get (keys_of blocks) at ≡ Some number
 
 -- it isn't there, and belongs at a place
-abbrev pub IsGapFor : ℤ → List (ℤ × Block) → ℕ → Type 0
+abbrev pub IsGapFor : ℤ → List (ℤ × HeldBlock) → ℕ → Type 0
 IsGapFor number blocks at = (block_at blocks number ≡ None) × (at ≡ count_before number blocks)
 
 -- the block of a number was set, and the others stay
-abbrev pub IsBlockSet : ℤ → Block → List (ℤ × Block) → List (ℤ × Block) → Type 0
+abbrev pub IsBlockSet : ℤ → HeldBlock → List (ℤ × HeldBlock) → List (ℤ × HeldBlock) → Type 0
 IsBlockSet number b old new = (q : ℤ) → block_at new q ≡ (if is_at (int_cmp number) q then Some b else block_at old q)
 
-abbrev pub items_of_block : Option Block → ℕ → List Entry
+abbrev pub items_of_block : Option HeldBlock → ℕ → List Entry
 items_of_block None number = []
-items_of_block (Some b) number = items_in b number
+items_of_block (Some b) number = stored_in b number
 
-unfoldable pub items_by_slot : List (ℤ × Block) → ℤ → List Entry
+unfoldable pub items_by_slot : List (ℤ × HeldBlock) → ℤ → List Entry
 items_by_slot blocks slot = items_of_block (block_at blocks (block_of slot)) (row_of slot)
 
-abbrev pub block_has_room : Option Block → ℕ → ℕ → Bool
+abbrev pub block_has_room : Option HeldBlock → ℕ → ℕ → Bool
 block_has_room None number origin = false
-block_has_room (Some b) number origin = has_room_in b number origin
+block_has_room (Some b) number origin = has_room_held b number origin
 
 -- whether the first block is before that of a number
-abbrev pub starts_before : ℤ → List (ℤ × Block) → Bool
+abbrev pub starts_before : ℤ → List (ℤ × HeldBlock) → Bool
 starts_before number [] = false
 starts_before number (b ∷ bs) = int_lt b.0 number
 

@@ -1,12 +1,13 @@
 //! The rows of 64 slots that follow one another.
-ghost use Rattle.std.specs.Prelude.{◌≡◌, ◌<◌, ◌≤◌, ◌+◌, ◌⊎◌, ℕ, None, Some, is_some, [], ◌∷◌, IfOk, IfSome, IsTrue, IsOk, OnOk, OnErr};
+ghost use Rattle.std.specs.Prelude.{◌≡◌, ◌<◌, ◌≤◌, ◌+◌, ◌⊎◌, ℕ, None, Some, is_some, [], ◌∷◌, map, IfOk, IfSome, IsTrue, IsOk, OnOk, OnErr};
 ghost use Rattle.rr_archive.specs.Row.{entry_at, with_entry};
 ghost use Rattle.rr_archive.specs.Changes.{Fits, entry_after};
+ghost use Rattle.rr_archive.specs.Entries.{items_of};
 ghost use Rattle.rr_packed.specs.Sparse.{place_at, item_in, has_room};
 ghost use Rattle.rr_packed.specs.Readings.{entries_of, entries_read};
 ghost use Rattle.rr_packed.specs.Blocks.{items_in, has_room_in, IsRowSet};
 
-use crate::reading::{Reading, Source};
+use crate::reading::{Reading, Source, are_same_readings, is_same_source};
 use crate::row::Row;
 use crate::sparse::Sparse;
 use rr_archive::Entry;
@@ -30,6 +31,28 @@ pub(crate) struct Block {
     source: Option<Source>,
     readings: Sparse<Reading>,
     rows: Sparse<Entries>,
+}
+
+/// Whether a row has the same entries as another.
+fn is_same_row(row: &Entries, other: &Entries) -> bool
+    ensures { IsTrue result → items_of row.now ≡ items_of other.now }
+{
+    row.as_slice() == other.as_slice()
+}
+
+/// Whether rows have the same entries as others.
+fn have_same_entries(rows: &[Entries], others: &[Entries]) -> bool
+    ensures { IsTrue result → map items_of rows.now ≡ map items_of others.now }
+{
+    if rows.len() != others.len() {
+        return false;
+    }
+    for i in 0..rows.len() {
+        if !is_same_row(&rows[i], &others[i]) {
+            return false;
+        }
+    }
+    true
 }
 
 impl Block {
@@ -138,8 +161,42 @@ impl Block {
         Ok(())
     }
 
+    /// Whether a row has no entry.
+    fn is_free(&self, number: u32) -> bool
+        requires { number < 64 }
+        ensures readings { IsTrue result → place_at self.now.readings.mask number ≡ None }
+        ensures rows { IsTrue result → place_at self.now.rows.mask number ≡ None }
+    {
+        self.readings.lacks(number) && self.rows.lacks(number)
+    }
+
     /// Makes room for an entry of an origin in a row.
     pub(crate) fn make_room(&mut self, number: u32, origin: Origin) -> Result<(), AllocError>
+        requires { number < 64 }
+        ensures same { items_in self.new ≡ items_in self.old }
+        ensures room { OnOk result (IsTrue (has_room_in self.new number origin)) }
+        ensures kept { IsTrue (has_room_in self.old number origin) → IsOk result }
+    {
+        if self.is_free(number) {
+            return self.make_free_room(number);
+        }
+        self.make_room_in_row(number, origin)
+    }
+
+    /// Makes room for a row of either kind, for one that has no entry.
+    fn make_free_room(&mut self, number: u32) -> Result<(), AllocError>
+        requires readings { place_at self.old.readings.mask number ≡ None }
+        requires rows { place_at self.old.rows.mask number ≡ None }
+        ensures same { items_in self.new ≡ items_in self.old }
+        ensures room { (origin : ℕ) → OnOk result (IsTrue (has_room_in self.new number origin)) }
+        ensures kept { (origin : ℕ) → IsTrue (has_room_in self.old number origin) → IsOk result }
+    {
+        self.readings.make_room()?;
+        self.rows.make_room()
+    }
+
+    /// `make_room`, for a row that has an entry.
+    fn make_room_in_row(&mut self, number: u32, origin: Origin) -> Result<(), AllocError>
         requires { number < 64 }
         ensures same { items_in self.new ≡ items_in self.old }
         ensures room { OnOk result (IsTrue (has_room_in self.new number origin)) }
@@ -237,6 +294,22 @@ impl Block {
         ensures unchanged { OnErr result (items_in self.new ≡ items_in self.old) }
         ensures room { IsTrue (has_room_in self.old number origin) → IsOk result }
     {
+        if self.is_free(number) {
+            return self.add(number, origin, change);
+        }
+        self.change_row(number, origin, change)
+    }
+
+    /// `change`, for a row that has an entry.
+    fn change_row(&mut self, number: u32, origin: Origin, change: &Change) -> Result<(), AllocError>
+        requires number { number < 64 }
+        requires fits { Fits (entry_at (items_in self.old number) origin) change.now }
+        ensures changed { OnOk result (IsRowSet number
+            (with_entry (items_in self.old number) (entry_after (items_in self.old number) origin change.now))
+            (items_in self.old) (items_in self.new)) }
+        ensures unchanged { OnErr result (items_in self.new ≡ items_in self.old) }
+        ensures room { IsTrue (has_room_in self.old number origin) → IsOk result }
+    {
         self.unpack(number)?;
         if let Some(at) = self.rows.find(number) {
             self.rows.items[at].change(self.alloc, origin, change)?;
@@ -245,7 +318,18 @@ impl Block {
         self.add(number, origin, change)
     }
 
-    /// The same rows.
+    /// Whether another block has the same rows, held in the same way.
+    pub(crate) fn is_same(&self, other: &Block) -> bool
+        ensures { IsTrue result → items_in self.now ≡ items_in other.now }
+    {
+        self.readings.mask == other.readings.mask
+            && self.rows.mask == other.rows.mask
+            && is_same_source(&self.source, &other.source)
+            && are_same_readings(&self.readings.items, &other.readings.items)
+            && have_same_entries(&self.rows.items, &other.rows.items)
+    }
+
+    /// The same rows, in no more memory than they need.
     pub(crate) fn copy(&self, alloc: Global) -> Result<Block, AllocError>
         ensures { IfOk result (λ new. items_in new ≡ items_in self.now) }
     {

@@ -1,5 +1,5 @@
 //! The blocks of an archive, in order of their numbers.
-ghost use Rattle.std.specs.Prelude.{◌≡◌, ◌<◌, ◌≤◌, ◌+ℤ◌, ◌⊎◌, ℕ, ℤ, pos, [], drop, int_lt, IfOk, IfErr, IsTrue, IsOk, OnOk, OnErr};
+ghost use Rattle.std.specs.Prelude.{◌≡◌, ◌<◌, ◌≤◌, ◌+ℤ◌, ◌⊎◌, ℕ, ℤ, pos, [], drop, length, int_lt, IfOk, IfErr, IsTrue, IsOk, OnOk, OnErr};
 ghost use Rattle.std.proofs.Props.{props};
 ghost use Rattle.std.specs.List.Sorted.{IsStrictlySortedBy};
 ghost use Rattle.std.specs.Map.{keys_of};
@@ -7,7 +7,7 @@ ghost use Rattle.std.specs.Option.{option_copied};
 ghost use Rattle.std.specs.Ordering.{int_cmp};
 ghost use Rattle.rr_packed.specs.Slots.{block_of, row_of};
 
-use crate::block::Block;
+use crate::held_block::HeldBlock;
 use crate::row::Row;
 use rr_archive::change::Change;
 use rr_schema::Origin;
@@ -22,7 +22,7 @@ use std::collections::VecDeque;
 #[derive(Drop)]
 pub(crate) struct Blocks {
     alloc: Global,
-    blocks: VecDeque<(i64, Block)>,
+    blocks: VecDeque<(i64, HeldBlock)>,
     ghost ordered: { IsStrictlySortedBy int_cmp (keys_of blocks.items) } by { Prim.hlevel props },
 }
 
@@ -87,7 +87,7 @@ impl Blocks {
     }
 
     /// The block of a number, if it is there.
-    fn get(&self, number: i64) -> Option<&Block>
+    fn get(&self, number: i64) -> Option<&HeldBlock>
         ensures value { option_copied result ≡ block_at self.now.blocks.items number }
     {
         match self.find(number) {
@@ -97,7 +97,7 @@ impl Blocks {
     }
 
     /// Adds the block of a number that has none, where it belongs.
-    fn insert(&mut self, at: usize, number: i64, block: Block) -> Result<(), AllocError>
+    fn insert(&mut self, at: usize, number: i64, block: HeldBlock) -> Result<(), AllocError>
         requires { IsGapFor number self.old.blocks.items at }
         ensures added { OnOk result (IsBlockSet number block self.old.blocks.items
             self.new.blocks.items) }
@@ -147,10 +147,10 @@ impl Blocks {
         let number = block_of(slot);
         let row = row_of(slot);
         match self.find(number) {
-            Ok(at) => self.blocks[at].1.make_room(row, origin),
+            Ok(at) => self.blocks[at].1.make_room(self.alloc, row, origin),
             Err(at) => {
-                let mut block = Block::new(self.alloc);
-                block.make_room(row, origin)?;
+                let mut block = HeldBlock::new(self.alloc);
+                block.make_room(self.alloc, row, origin)?;
                 self.insert(at, number, block)
             }
         }
@@ -173,10 +173,10 @@ impl Blocks {
         let number = block_of(slot);
         let row = row_of(slot);
         match self.find(number) {
-            Ok(at) => self.blocks[at].1.change(row, origin, change),
+            Ok(at) => self.blocks[at].1.change(self.alloc, row, origin, change),
             Err(at) => {
-                let mut block = Block::new(self.alloc);
-                block.change(row, origin, change)?;
+                let mut block = HeldBlock::new(self.alloc);
+                block.change(self.alloc, row, origin, change)?;
                 self.insert(at, number, block)
             }
         }
@@ -210,7 +210,55 @@ impl Blocks {
         }
     }
 
-    /// The same rows.
+    /// Makes a block ready to be shared. Answers whether it did.
+    fn finish_at(&mut self, at: usize) -> bool
+        requires { at < length self.old.blocks.items }
+        ensures same { row_at self.new ≡ row_at self.old }
+        ensures count { length self.new.blocks.items ≡ length self.old.blocks.items }
+    {
+        self.blocks[at].1.finish(self.alloc)
+    }
+
+    /// Makes the blocks before the last one ready to be shared, from it back to one that was.
+    pub(crate) fn finish(&mut self)
+        ensures { row_at self.new ≡ row_at self.old }
+    {
+        let mut at = self.blocks.len().saturating_sub(1);
+        while at > 0 {
+            at -= 1;
+            if !self.finish_at(at) {
+                return;
+            }
+        }
+    }
+
+    /// Shares the block of the same number of another list in place of one here, if both hold the same rows.
+    /// Answers whether it did.
+    fn share_at(&mut self, at: usize, other: &Blocks) -> bool
+        requires { at < length self.old.blocks.items }
+        ensures same { row_at self.new ≡ row_at self.old }
+        ensures count { length self.new.blocks.items ≡ length self.old.blocks.items }
+    {
+        match other.get(self.blocks[at].0) {
+            Some(theirs) => self.blocks[at].1.share(theirs),
+            None => false,
+        }
+    }
+
+    /// Shares the blocks before the last one with another list, from it back to one that was shared.
+    pub(crate) fn share(&mut self, other: &Blocks)
+        ensures { row_at self.new ≡ row_at self.old }
+    {
+        let mut at = self.blocks.len().saturating_sub(1);
+        while at > 0 {
+            at -= 1;
+            if !self.share_at(at, other) {
+                return;
+            }
+        }
+    }
+
+    /// The same rows, in blocks that are shared where they were.
     pub(crate) fn copy(&self, alloc: Global) -> Result<Blocks, AllocError>
         ensures { IfOk result (λ new. row_at new ≡ row_at self.now) }
     {

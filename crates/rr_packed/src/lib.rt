@@ -13,10 +13,14 @@
 //! that `Contribution::first` makes of the sample. Any other row is held as its entries. What is
 //! stored of a slot is one function (`specs/Blocks.antt`), and the cells are what it gives of the
 //! live slots, in order.
+//!
+//! A block is its archive's own, or shared with others ([`HeldBlock`](held_block::HeldBlock)): an archive makes
+//! its finished blocks ready, and another takes them in place of its own where both hold the same rows.
 #![tactic(auto)]
 
 mod block;
 mod blocks;
+mod held_block;
 mod packed_archive;
 mod reading;
 mod row;

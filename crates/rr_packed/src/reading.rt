@@ -13,7 +13,7 @@ use rr_text::limits::{MAX_NUMBER, MAX_STEPS};
 use std::mem::size_of;
 
 /// A sample without its origin and its place.
-#[derive(Clone, Copy)]
+#[derive(Clone, Copy, PartialEq, Eq)]
 pub(crate) struct Reading {
     pub(crate) number: u64,
     pub(crate) time: i64,
@@ -25,7 +25,7 @@ pub(crate) struct Reading {
 const _: () = prove!(size_of::<Reading>() == 24);
 
 /// What the readings of a block have in common: their origin, and the place of each in its slot.
-#[derive(Clone, Copy)]
+#[derive(Clone, Copy, PartialEq, Eq)]
 pub(crate) struct Source {
     pub(crate) origin: Origin,
     pub(crate) place: u32,
@@ -44,6 +44,20 @@ fn is_of_one(contribution: &Contribution, place: u32) -> bool
         && contribution.min == contribution.last_value
         && contribution.max == contribution.last_value
         && contribution.mask == 1 << place
+}
+
+/// Whether readings are the same as others.
+pub(crate) fn are_same_readings(readings: &[Reading], others: &[Reading]) -> bool
+    ensures { IsTrue result → readings.now ≡ others.now }
+{
+    readings == others
+}
+
+/// Whether the source of readings, if there is one, is the same as another.
+pub(crate) fn is_same_source(source: &Option<Source>, other: &Option<Source>) -> bool
+    ensures { IsTrue result → source.now ≡ other.now }
+{
+    source == other
 }
 
 impl Reading {

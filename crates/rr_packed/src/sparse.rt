@@ -1,5 +1,5 @@
 //! Items of some of 64 numbers.
-ghost use Rattle.std.specs.Prelude.{◌≡◌, ◌<◌, ◌≤◌, ℕ, None, Some, IfSome, IsTrue, IsOk, OnOk, OnErr, count_ones, vec_len};
+ghost use Rattle.std.specs.Prelude.{◌≡◌, ◌<◌, ◌≤◌, ◌+◌, ℕ, insert, vec_capacity, None, Some, IfSome, is_none, IsTrue, IsOk, OnOk, OnErr, count_ones, vec_len};
 
 use std::alloc::{AllocError, Global};
 
@@ -10,6 +10,23 @@ pub(crate) struct Sparse<T> {
     pub(crate) mask: u64,
     pub(crate) items: Vec<T>,
     ghost counted: { count_ones mask ≡ vec_len items },
+}
+
+/// Inserts an item into a list. Mostly it comes last, where no other has to move.
+fn insert_at<T: Drop>(items: &mut Vec<T>, at: usize, item: T) -> Result<(), AllocError>
+    requires { at ≤ vec_len items.old }
+    ensures items { OnOk result (items.new.items ≡ insert items.old.items at item) }
+    ensures len { OnOk result (vec_len items.new ≡ vec_len items.old + 1) }
+    ensures unchanged { OnErr result (items.new.items ≡ items.old.items) }
+    ensures same_len { OnErr result (vec_len items.new ≡ vec_len items.old) }
+    ensures room { vec_len items.old < vec_capacity items.old → IsOk result }
+{
+    if at == items.len() {
+        items.push(item)?;
+        return Ok(());
+    }
+    items.insert(at, item)?;
+    Ok(())
 }
 
 impl<T: Drop> Sparse<T> {
@@ -32,7 +49,18 @@ impl<T: Drop> Sparse<T> {
         ensures rank { result ≡ rank self.now.mask number }
         ensures at_most { result ≤ vec_len self.now.items }
     {
+        if self.mask >> number == 0 {
+            return self.items.len();
+        }
         (self.mask & ((1 << number) - 1)).count_ones() as usize
+    }
+
+    /// Whether a number has no item.
+    pub(crate) fn lacks(&self, number: u32) -> bool
+        requires { number < 64 }
+        ensures { result ≡ is_none (place_at self.now.mask number) }
+    {
+        self.mask >> number & 1 == 0
     }
 
     /// Where in the list the item of a number is, if it has one.
@@ -101,7 +129,7 @@ impl<T: Drop> Sparse<T> {
         let at = self.rank(number);
         let mask = self.mask | 1 << number;
         self.make_room()?;
-        self.items.insert(at, item)?;
+        insert_at(&mut self.items, at, item)?;
         self.mask = mask;
         Ok(())
     }

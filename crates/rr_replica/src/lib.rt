@@ -27,6 +27,7 @@ mod reading;
 mod replica;
 mod room;
 mod series;
+mod sharing;
 mod slots;
 mod writing;
 

@@ -44,7 +44,7 @@ pub struct Replica<A: Cells> {
     schema: Schema,
     origin: Origin,
     next: u64,
-    series: SeriesMap<A>,
+    pub(crate) series: SeriesMap<A>,
     /// Where key texts of points are written, one over the other.
     text: Vec<u8>,
 }

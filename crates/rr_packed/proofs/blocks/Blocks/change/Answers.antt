@@ -4,7 +4,7 @@ use Rattle.rr_archive.specs.declared.entry.Entry.{Entry}
 use Rattle.rr_archive.specs.Row.{entry_at}
 use Rattle.rr_archive.specs.Changes.{Fits}
 use Rattle.rr_packed.specs.Slots.{block_of, row_of}
-use Rattle.rr_packed.specs.Blocks.{items_in, items_of_block, items_by_slot, IsPlaceOf, IsGapFor}
+use Rattle.rr_packed.specs.Blocks.{stored_in, items_of_block, items_by_slot, IsPlaceOf, IsGapFor}
 use Rattle.rr_packed.proofs.NumberLemmas.{block_there, block_put, ascend_put}
 use Rattle.rr_packed.proofs.BlocksLemmas.{blocks_alike, slot_found, room_found, room_missing, change_there, change_new}
 use Rattle.rr_packed.proofs.blocks.Blocks.change.Goals as goal
@@ -21,7 +21,7 @@ change-requires-clause-fits c =
     let has = block_there bs (block_of c.args.slot) c.in-Ok.at was c.args.self.now.ordered place
     c.index_mut.ensures.value in
     subst (λ (es : List Entry). Fits (entry_at es c.args.origin) c.args.change.now)
-    (slot_found bs c.args.slot was.1 (sym has) ∙ ap (items_in was.1) (sym row)) c.requires
+    (slot_found bs c.args.slot was.1 (sym has) ∙ ap (stored_in was.1) (sym row)) c.requires
 
 pub invariant_of-self : goal.invariant_of-self
 invariant_of-self c =

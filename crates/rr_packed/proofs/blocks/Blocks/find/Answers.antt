@@ -1,5 +1,5 @@
 use Rattle.std.proofs.Common.{rules, ◌≡◌, ◌<◌, ℤ, length, get_or}
-use Rattle.rr_packed.specs.declared.block.Block.{Block}
+use Rattle.rr_packed.specs.declared.held_block.HeldBlock.{HeldBlock}
 use Rattle.rr_packed.specs.Blocks.{count_before}
 use Rattle.rr_packed.proofs.NumberLemmas.{gap_at, number_there, place_within}
 use Rattle.rr_packed.proofs.blocks.Blocks.find.Goals as goal
@@ -7,7 +7,7 @@ use Rattle.rr_packed.proofs.blocks.Blocks.find.Goals as goal
 pub returns-else-other-number-clause-missing : goal.returns-else-other-number-clause-missing
 returns-else-other-number-clause-missing c =
     let bs = c.args.self.now.blocks.items in
-    let there : ℤ × Block = c.in-Some.field-0.now in
+    let there : ℤ × HeldBlock = c.in-Some.field-0.now in
     let at : c.count_before-at.result ≡ count_before c.args.number bs = search rules in
     let is : there ≡ get_or bs c.count_before-at.result there = search rules in
     gap_at bs c.args.number c.count_before-at.result c.args.self.now.ordered at

@@ -1,6 +1,6 @@
 use Rattle.std.proofs.Common.{rules, ◌≡◌, sym, ap, ◌∙◌, Some, None, to_z, of_z, w64}
 use Rattle.rr_packed.specs.Slots.{block_of, row_of}
-use Rattle.rr_packed.specs.Blocks.{items_in, block_at}
+use Rattle.rr_packed.specs.Blocks.{stored_in, block_at}
 use Rattle.rr_packed.proofs.BlocksLemmas.{slot_found, slot_missing}
 use Rattle.rr_packed.proofs.blocks.Blocks.row.Goals as goal
 
@@ -12,7 +12,7 @@ returns-in-Some c =
     let row : c.row_of.result ≡ row_of c.args.slot = search rules in
     let has : Some c.in-Some.block.now ≡ block_at blocks (block_of c.args.slot) =
     rw number at c.in-Some.ensures.value in
-    c.row.ensures ∙ ap (items_in c.in-Some.block.now) row ∙ sym (slot_found blocks c.args.slot c.in-Some.block.now has)
+    c.row.ensures ∙ ap (stored_in c.in-Some.block.now) row ∙ sym (slot_found blocks c.args.slot c.in-Some.block.now has)
 
 pub returns-in-None : goal.returns-in-None
 returns-in-None c =

@@ -15,7 +15,7 @@ invariant_of-self-2 g c =
     let ones = ones_more s.mask new k more fits (or_lt 64 s.mask (1 * 2 ^ k % 2 ^ 64) fits
     (mod_below (1 * 2 ^ k) (2 ^ 64) (pow_pos 64))) c.requires.number in
     let counted = s.counted in
-    let len : vec_len c.insert.new.self ≡ vec_len s.items + 1 = search rules in
+    let len : vec_len c.insert_at.new.items ≡ vec_len s.items + 1 = search rules in
     record { counted = omega arith }
 
 pub returns-clause-added : goal.returns-clause-added
@@ -26,6 +26,6 @@ returns-clause-added g c = λ n.
     let more : HasOneMore s.mask new k = more_by_or s.mask k c.requires.number (none_tells s.mask k c.requires.free) in
     let at : c.rank-at.result ≡ rank s.mask k = c.rank-at.ensures.rank in
     let fits : rank s.mask k ≤ length s.items.items = omega arith in
-    let items : c.insert.new.self.items ≡ insert s.items.items c.rank-at.result c.args.item = search rules in
+    let items : c.insert_at.new.items.items ≡ insert s.items.items c.rank-at.result c.args.item = search rules in
     ap (λ xs. item_at new xs n) (items ∙ ap (λ i. insert s.items.items i c.args.item) at)
     ∙ item_insert s.mask new s.items.items k c.args.item more fits n

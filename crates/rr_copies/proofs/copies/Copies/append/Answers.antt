@@ -11,7 +11,7 @@ use Rattle.rr_copies.specs.KeeperState.{KeeperState, IsKeeper}
 use Rattle.rr_copies.specs.Writers.{changes}
 use Rattle.rr_copies.proofs.ChangesLemmas.{ops_in-apply}
 use Rattle.rr_copies.proofs.KeeperStateLemmas.{keeper-push, own-state, push-state}
-use Rattle.rr_copies.proofs.copies.Copies.push.Goals as goal
+use Rattle.rr_copies.proofs.copies.Copies.append.Goals as goal
 
 pub invariant_of-self-2 : goal.invariant_of-self-2
 invariant_of-self-2 g c =

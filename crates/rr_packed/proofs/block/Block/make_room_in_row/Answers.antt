@@ -8,7 +8,7 @@ use Rattle.rr_packed.specs.Sparse.{item_in, place_at}
 use Rattle.rr_packed.specs.Sparse.{has_room as has_spare}
 use Rattle.rr_packed.proofs.SparseLemmas.{item_none}
 use Rattle.rr_packed.proofs.BlockLemmas.{block_same, found_entries, entries_alike, room_there, room_of_entries, room_is_free, free_has_room}
-use Rattle.rr_packed.proofs.block.Block.make_room.Goals as goal
+use Rattle.rr_packed.proofs.block.Block.make_room_in_row.Goals as goal
 
 -- ---- the row is held as its entries
 

@@ -1,0 +1,63 @@
+use Rattle.std.proofs.Common.{rules, ◌≡◌, refl, ap, ◌∙◌, subst, sym, true≢false, None}
+use Rattle.std.specs.Prelude.{IsOk, IsTrue}
+use Rattle.std.proofs.lemmas.Result.{on_ok_weaker}
+use Rattle.rr_packed.specs.declared.block.Block.{Block}
+use Rattle.rr_packed.specs.Sparse.{item_in, place_at}
+use Rattle.rr_packed.specs.Sparse.{has_room as has_spare}
+use Rattle.rr_packed.proofs.SparseLemmas.{item_none}
+use Rattle.rr_packed.proofs.BlockLemmas.{block_same, room_is_free, free_has_room}
+use Rattle.rr_packed.proofs.block.Block.make_free_room.Goals as goal
+
+pub returns-in_err-make_room-clause-same : goal.returns-in_err-make_room-clause-same
+returns-in_err-make_room-clause-same c =
+    let b = c.args.self.now in
+    let new : Block = record { alloc = b.alloc; source = b.source; readings = c.make_room.new.self; rows = b.rows } in
+    block_same b new (λ n. refl) refl (λ n. ap (λ f. f n) c.make_room.ensures.same)
+
+pub returns-in_err-make_room-clause-kept : goal.returns-in_err-make_room-clause-kept
+returns-in_err-make_room-clause-kept c = λ origin room.
+    let b = c.args.self.now in
+    let k = c.args.number in
+    let none : item_in b.rows k ≡ None = item_none b.rows.mask b.rows.items.items k c.requires.rows in
+    let free = room_is_free b k origin none room in
+    let ok : IsOk c.make_room.result = c.make_room.ensures.kept free.readings in
+    absurd (true≢false (sym (subst IsOk c.in_err-make_room.was ok)))
+
+pub returns-clause-same : goal.returns-clause-same
+returns-clause-same c =
+    let b = c.args.self.now in
+    let new : Block = record {
+      alloc = b.alloc;
+      source = b.source;
+      readings = c.make_room.new.self;
+      rows = c.make_room-2.new.self;
+    } in
+    block_same b new (λ n. ap (λ f. f n) c.make_room-2.ensures.same) refl (λ n. ap (λ f. f n) c.make_room.ensures.same)
+
+pub returns-clause-room : goal.returns-clause-room
+returns-clause-room c = λ origin.
+    let b = c.args.self.now in
+    let k = c.args.number in
+    let new : Block = record {
+      alloc = b.alloc;
+      source = b.source;
+      readings = c.make_room.new.self;
+      rows = c.make_room-2.new.self;
+    } in
+    let none : item_in b.rows k ≡ None = item_none b.rows.mask b.rows.items.items k c.requires.rows in
+    let readings : IsTrue (has_spare c.make_room.new.self) = search rules in
+    on_ok_weaker c.make_room-2.result
+    (λ rows. free_has_room new k origin (ap (λ f. f k) c.make_room-2.ensures.same ∙ none)
+    (record {
+      unread = ap (λ m. place_at m k) c.make_room.ensures.mask ∙ c.requires.readings;
+      readings = readings;
+      rows = rows;
+    }))
+    c.make_room-2.ensures.room
+
+pub returns-clause-kept : goal.returns-clause-kept
+returns-clause-kept c = λ origin room.
+    let b = c.args.self.now in
+    let k = c.args.number in
+    let none : item_in b.rows k ≡ None = item_none b.rows.mask b.rows.items.items k c.requires.rows in
+    c.make_room-2.ensures.kept (room_is_free b k origin none room).rows

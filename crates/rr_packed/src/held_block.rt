@@ -1,0 +1,159 @@
+//! A block that one archive has, or that several share.
+ghost use Rattle.std.specs.Prelude.{◌≡◌, ◌<◌, ◌≤◌, ◌+◌, ℕ, [], IfOk, IsTrue, IsOk, OnOk, OnErr};
+ghost use Rattle.rr_archive.specs.Row.{entry_at, with_entry};
+ghost use Rattle.rr_archive.specs.Changes.{Fits, entry_after};
+ghost use Rattle.rr_packed.specs.Readings.{entries_of};
+ghost use Rattle.rr_packed.specs.Blocks.{items_in, stored_in, has_room_held, IsRowSet};
+
+use crate::block::Block;
+use crate::row::Row;
+use rr_archive::change::Change;
+use rr_schema::Origin;
+use std::alloc::{AllocError, Global};
+use std::sync::Arc;
+
+/// A block as an archive holds it. One that is shared never changes: an archive that has to change it takes
+/// a copy in its place.
+#[derive(Drop)]
+pub(crate) enum HeldBlock {
+    /// The archive alone has it.
+    Own(Block),
+    /// Others may have it too.
+    Shared(Arc<Block>),
+}
+
+impl HeldBlock {
+    /// A block without an entry, of one archive. It takes no memory yet.
+    pub(crate) fn new(alloc: Global) -> HeldBlock
+        ensures { (number : ℕ) → stored_in result number ≡ [] }
+    {
+        HeldBlock::Own(Block::new(alloc))
+    }
+
+    /// The block.
+    fn block(&self) -> &Block
+        ensures { items_in result.now ≡ stored_in self.now }
+    {
+        match self {
+            HeldBlock::Own(block) => block,
+            HeldBlock::Shared(block) => block,
+        }
+    }
+
+    /// The entries of a row.
+    pub(crate) fn row(&self, number: u32) -> Row<'_>
+        requires { number < 64 }
+        ensures { entries_of result ≡ stored_in self.now number }
+    {
+        self.block().row(number)
+    }
+
+    /// As `Block::rows_on`.
+    pub(crate) fn rows_on(&self, number: u32) -> u32
+        requires { number < 64 }
+        ensures some { 1 ≤ result }
+        ensures within { number + result ≤ 64 }
+        ensures empty { (i : ℕ) → 1 ≤ i → i < result → stored_in self.now (number + i) ≡ [] }
+    {
+        self.block().rows_on(number)
+    }
+
+    /// Makes room for an entry of an origin in a row, in a block of this archive's own.
+    pub(crate) fn make_room(
+        &mut self,
+        alloc: Global,
+        number: u32,
+        origin: Origin,
+    ) -> Result<(), AllocError>
+        requires { number < 64 }
+        ensures same { stored_in self.new ≡ stored_in self.old }
+        ensures room { OnOk result (IsTrue (has_room_held self.new number origin)) }
+        ensures kept { IsTrue (has_room_held self.old number origin) → IsOk result }
+    {
+        match self {
+            HeldBlock::Own(block) => block.make_room(number, origin),
+            HeldBlock::Shared(block) => {
+                let mut own = block.copy(alloc)?;
+                own.make_room(number, origin)?;
+                *self = HeldBlock::Own(own);
+                Ok(())
+            }
+        }
+    }
+
+    /// Changes the entry of an origin in a row. A block that is shared is copied first.
+    pub(crate) fn change(
+        &mut self,
+        alloc: Global,
+        number: u32,
+        origin: Origin,
+        change: &Change,
+    ) -> Result<(), AllocError>
+        requires number { number < 64 }
+        requires fits { Fits (entry_at (stored_in self.old number) origin) change.now }
+        ensures changed { OnOk result (IsRowSet number
+            (with_entry (stored_in self.old number) (entry_after (stored_in self.old number) origin change.now))
+            (stored_in self.old) (stored_in self.new)) }
+        ensures unchanged { OnErr result (stored_in self.new ≡ stored_in self.old) }
+        ensures room { IsTrue (has_room_held self.old number origin) → IsOk result }
+    {
+        match self {
+            HeldBlock::Own(block) => block.change(number, origin, change),
+            HeldBlock::Shared(block) => {
+                let mut own = block.copy(alloc)?;
+                own.change(number, origin, change)?;
+                *self = HeldBlock::Own(own);
+                Ok(())
+            }
+        }
+    }
+
+    /// Makes a block of this archive alone ready to be shared, in no more memory than it needs. Answers whether
+    /// it did; it doesn't where there is no memory for it.
+    pub(crate) fn finish(&mut self, alloc: Global) -> bool
+        ensures { stored_in self.new ≡ stored_in self.old }
+    {
+        let HeldBlock::Own(block) = self else {
+            return false;
+        };
+        let Ok(copy) = block.copy(alloc) else {
+            return false;
+        };
+        let Ok(shared) = Arc::new(alloc, copy) else {
+            return false;
+        };
+        *self = HeldBlock::Shared(shared);
+        true
+    }
+
+    /// Shares the block of another archive in place of the own one, if both hold the same rows. Answers whether
+    /// it did.
+    pub(crate) fn share(&mut self, other: &HeldBlock) -> bool
+        ensures { stored_in self.new ≡ stored_in self.old }
+    {
+        let HeldBlock::Own(own) = self else {
+            return false;
+        };
+        let HeldBlock::Shared(shared) = other else {
+            return false;
+        };
+        if !own.is_same(shared) {
+            return false;
+        }
+        let Ok(further) = Arc::try_clone(shared) else {
+            return false;
+        };
+        *self = HeldBlock::Shared(further);
+        true
+    }
+
+    /// The same rows: shared, or copied where the block is of this archive alone.
+    pub(crate) fn copy(&self, alloc: Global) -> Result<HeldBlock, AllocError>
+        ensures { IfOk result (λ new. stored_in new ≡ stored_in self.now) }
+    {
+        match self {
+            HeldBlock::Own(block) => Ok(HeldBlock::Own(block.copy(alloc)?)),
+            HeldBlock::Shared(block) => Ok(HeldBlock::Shared(Arc::try_clone(block)?)),
+        }
+    }
+}

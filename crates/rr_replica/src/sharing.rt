@@ -1,0 +1,77 @@
+//! Rows that replicas share.
+ghost use Rattle.std.specs.Prelude.{◌≡◌, ℕ, List, map};
+ghost use Rattle.rr_replica.specs.InMemory.{seen_archive, seen_at};
+ghost use Rattle.rr_replica.specs.SeriesMap.{entries_of, IsIndexed};
+ghost use Rattle.rr_replica.specs.ReplicaWithRoom.{replica_state};
+
+use crate::hint::Hint;
+use crate::replica::Replica;
+use crate::series::SeriesMap;
+use rr_archive::Cells;
+
+/// Makes finished rows of archives ready to be shared.
+fn finish_archives<A: Cells>(archives: &mut Vec<A>)
+    ensures { map (seen_archive A.cells A.row_limit) archives.new.items
+        ≡ map (seen_archive A.cells A.row_limit) archives.old.items }
+{
+    for i in 0..archives.len() {
+        archives[i].finish_rows();
+    }
+}
+
+/// Shares rows of other archives, each with the one of the same number.
+fn share_archives<A: Cells>(archives: &mut Vec<A>, others: &[A])
+    ensures { map (seen_archive A.cells A.row_limit) archives.new.items
+        ≡ map (seen_archive A.cells A.row_limit) archives.old.items }
+{
+    for i in 0..archives.len().min(others.len()) {
+        archives[i].share_rows(&others[i]);
+    }
+}
+
+/// Makes finished rows of the series at an index ready to be shared, if there is one.
+fn finish_at<A: Cells>(series: &mut SeriesMap<A>, index: usize)
+    requires { IsIndexed series.old }
+    ensures same { (key : List ℕ)
+        → seen_at A.cells A.row_limit (entries_of series.new) key
+        ≡ seen_at A.cells A.row_limit (entries_of series.old) key }
+    ensures indexed { IsIndexed series.new }
+{
+    if index >= series.archives.len() {
+        return;
+    }
+    finish_archives(&mut series.archives[index]);
+}
+
+/// Shares rows of the series at an index with others at the same index, if both are there.
+fn share_at<A: Cells>(series: &mut SeriesMap<A>, index: usize, others: &SeriesMap<A>)
+    requires { IsIndexed series.old }
+    ensures same { (key : List ℕ)
+        → seen_at A.cells A.row_limit (entries_of series.new) key
+        ≡ seen_at A.cells A.row_limit (entries_of series.old) key }
+    ensures indexed { IsIndexed series.new }
+{
+    if index >= series.archives.len() {
+        return;
+    }
+    share_archives(&mut series.archives[index], others.at(index));
+}
+
+impl<A: Cells> Replica<A> {
+    /// Makes finished rows of the series at a hint ready to be shared by other replicas. It changes nothing
+    /// that the replica holds. The cost is that of a copy of these rows.
+    pub fn finish_rows(&mut self, hint: Hint)
+        ensures { replica_state self.new ≡ replica_state self.old }
+    {
+        finish_at(&mut self.series, hint.index);
+    }
+
+    /// Shares the finished rows of the series at a hint with another replica, which has made them ready, where
+    /// both hold the same in them. It changes nothing that the replica holds, whatever the hint and the other
+    /// replica are. The cost is that of comparing these rows.
+    pub fn share_rows(&mut self, hint: Hint, other: &Replica<A>)
+        ensures { replica_state self.new ≡ replica_state self.old }
+    {
+        share_at(&mut self.series, hint.index, &other.series);
+    }
+}
