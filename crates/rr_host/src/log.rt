@@ -1,6 +1,6 @@
 //! Logs of calls over memory.
 
-ghost use Rattle.std.specs.Prelude.{◌≡◌, ◌++◌, [], Some, None, List, IfOk, IfSome, option_to_list};
+ghost use Rattle.std.specs.Prelude.{◌≡◌, ◌++◌, [], Some, None, List, IfOk, IfSome, option_map, option_to_list};
 ghost use Rattle.rr_host.specs.Log.{HasNoted};
 
 use std::alloc::{AllocError, Global};
@@ -54,6 +54,16 @@ impl<C: Drop> CallLog<C> {
         ensures room { self.new.room ≡ self.old.room }
     {
         self.is_full = true;
+    }
+
+    /// The calls in order, if all are known.
+    pub fn calls(&self) -> Option<&[C]>
+        ensures { option_map (λ calls. calls.now) result ≡ self.now.calls }
+    {
+        if self.is_full {
+            return None;
+        }
+        Some(&self.calls)
     }
 
     /// The last call, if all are known.

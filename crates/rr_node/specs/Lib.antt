@@ -1,5 +1,6 @@
 pub mod Fault
 pub mod Shelf
+pub mod PreparedShelf
 pub mod Pull
 pub mod Peers
 pub mod Saving

@@ -11,7 +11,7 @@
 //! [`serve_node`] keeps rounds on one thread ([`keep_round`]) and serves each [`Seat`] on another.
 //! What is handed in stands behind small traits, each seen as the list of its calls: [`Visits`], a
 //! [`Dial`], a [`Halt`] and a [`Clock`] of [`rr_host`], and a [`Shelf`], which takes snapshots
-//! ([`FileShelf`], by turns [`PacedShelf`]).
+//! ([`FileShelf`], by turns [`PacedShelf`], over memory [`PreparedShelf`]).
 //!
 //! In `specs/` what lines make of a keeper, and what is answered, is a function of them and the
 //! clock's moments (`specs/Lines.antt`). The answer to a fetch is a function of the cells that the
@@ -30,6 +30,7 @@ mod lines;
 mod node;
 mod paced_shelf;
 mod peers;
+mod prepared_shelf;
 mod pull;
 mod reader;
 mod replaced;
@@ -51,6 +52,7 @@ pub use gates::OpenGate;
 pub use lines::{serve_lines, serve_lines_within};
 pub use node::{Seats, serve_node};
 pub use paced_shelf::PacedShelf;
+pub use prepared_shelf::{PreparedOpening, PreparedShelf, ShelfNote};
 pub use pull::pull_peer;
 pub use reader::serve_reader;
 pub use report::Report;
@@ -59,7 +61,7 @@ pub use round_log::RoundLog;
 pub use rr_config::{Config, ConfigFault};
 pub use rr_host::{
     Calling, Clock, Dial, Flag, Half, Halt, HaltFlag, Listening, Moments, PacedDial, Prepared,
-    StartBarrier, SystemClock, Visit, Visits, halves,
+    PreparedDial, PreparedPeer, StartBarrier, SystemClock, Visit, Visits, halves,
 };
 pub use save_file::SaveFile;
 pub use seat::{Seat, serve_seat};

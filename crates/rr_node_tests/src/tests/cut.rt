@@ -1,12 +1,15 @@
 //! Connections that fail in the middle, within a round and at a seat.
 
-use super::rounds::{CONFIG, Peers, Saves};
+use super::rounds::CONFIG;
 use rr_archive::PlainArchive;
 use rr_base::{Counted, Failing};
 use rr_desk::{Keeper, Reader, open};
 use rr_fakes::replicas::minutes;
 use rr_fakes::room::{Room, with_room};
-use rr_node::{Config, Moments, OpenGate, Seat, Visit, Visits, keep_round, serve_seat};
+use rr_node::{
+    Config, Moments, OpenGate, PreparedDial, PreparedShelf, Seat, Visit, Visits, keep_round,
+    serve_seat,
+};
 use std::alloc::Global;
 use std::io;
 use std::io::Read;
@@ -97,8 +100,8 @@ fn goes_on<R: Wait>(
     mut lines: Cut,
 ) -> Option<bool> {
     let config = Config::from_toml(alloc, CONFIG).ok()?;
-    let mut dial = Peers::new(alloc, b"");
-    let mut shelf = Saves::new(alloc);
+    let mut dial = PreparedDial::new(alloc, &[], 0).ok()?;
+    let mut shelf = PreparedShelf::new(alloc, &[], 0).ok()?;
     let mut clock = Moments::new(Vec::new(alloc));
     let came = keep_round(
         alloc, keeper, &mut lines, &mut dial, &mut shelf, &mut clock, &config, rt,

@@ -1,12 +1,15 @@
 //! Rounds of a keeper in which something fails.
 
-use super::rounds::{CONFIG, Peers};
+use super::rounds::CONFIG;
 use rr_archive::PlainArchive;
 use rr_base::Counted;
 use rr_desk::open;
 use rr_fakes::replicas::minutes;
 use rr_gossip::GossipFault;
-use rr_node::{Config, Moments, NodeFault, Opening, Prepared, Report, Shelf, keep_round};
+use rr_node::{
+    Config, Moments, NodeFault, Opening, Prepared, PreparedDial, PreparedPeer, Report, Shelf,
+    keep_round,
+};
 use rr_snapshot::SaveFault;
 use std::alloc::Global;
 use std::io;
@@ -102,9 +105,13 @@ fn told<R: Wait>(
 ) -> Option<Told> {
     let config = Config::from_toml(alloc, CONFIG).ok()?;
     let mut lines = Prepared::new(alloc, inputs).ok()?;
+    let peers = [PreparedPeer {
+        address: "yes",
+        sends: Some(b"\xff\xff\xff\xff".as_slice()),
+    }];
+    let mut dial = PreparedDial::new(alloc, &peers, 2).ok()?;
     let replica = minutes::<PlainArchive>(alloc, 2, 3).ok()?;
     let (mut keeper, _readers) = open(alloc, rt, replica, 1).ok()?;
-    let mut dial = Peers::new(alloc, b"\xff\xff\xff\xff");
     let mut shelf = NoRoom {
         opens,
         peer: None,

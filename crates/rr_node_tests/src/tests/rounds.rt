@@ -5,10 +5,11 @@ use rr_base::{Counted, Origin};
 use rr_desk::{Keeper, open};
 use rr_fakes::replicas::minutes;
 use rr_node::{
-    Config, Dial, HaltFlag, Moments, NodeFault, Opening, Prepared, Report, Seats, Shelf, serve_node,
+    Config, HaltFlag, Moments, NodeFault, Prepared, PreparedDial, PreparedOpening, PreparedPeer,
+    PreparedShelf, Seats, ShelfNote, serve_node,
 };
 use rr_replica::Replica;
-use rr_snapshot::{SaveFault, load};
+use rr_snapshot::load;
 use std::alloc::Global;
 use std::sync::Wait;
 use std::test::Fail;
@@ -33,110 +34,6 @@ pub(crate) const REPLY: [u8; 119] = [
     0, 0, 7, 0, 0, 0, 0x0d, 0xf8, 0x47, 0x58, 0, 0, 0, 0, 0, 0, 0, 0, 7, 0, 0, 0, 0, 0, 0, 0, 1, 0,
     0, 0, 1, 5,
 ];
-
-/// A dial that reaches the peer at `yes`, and keeps what was sent to it.
-#[derive(Drop)]
-pub(crate) struct Peers {
-    alloc: Global,
-    reply: &'static [u8],
-    sent: Option<Vec<u8>>,
-}
-
-impl Peers {
-    /// The peer gives this reply.
-    pub(crate) fn new(alloc: Global, reply: &'static [u8]) -> Peers {
-        Peers {
-            alloc,
-            reply,
-            sent: None,
-        }
-    }
-}
-
-impl Dial for Peers {
-    ghost use Rattle.std.specs.Prelude.{[], ◌∷◌, None};
-    ghost use Rattle.rr_host.specs.Calls.{Grows, handed_back};
-    ghost use Rattle.rr_host.specs.Streams.{stream_of};
-
-    type Input = &'static [u8];
-
-    type Output = Vec<u8>;
-
-    ghost calls = { λ d. None };
-
-    fn open(&mut self, address: &str) -> Option<(Counted<&'static [u8]>, Counted<Vec<u8>>)> {
-        if address != "yes" {
-            return None;
-        }
-        let input = Counted::new(self.reply);
-        Some((input, Counted::new(Vec::new(self.alloc))))
-    }
-
-    fn take_back(&mut self, input: Counted<&'static [u8]>, output: Counted<Vec<u8>>)
-        ensures { Grows None None (handed_back
-            (stream_of (λ _. None) (λ _. None) input.entry output) ∷ []) }
-    {
-        drop(input);
-        self.sent = Some(output.into_inner());
-    }
-}
-
-/// A shelf that keeps the last snapshot, and counts what it was told.
-#[derive(Drop)]
-pub(crate) struct Saves {
-    alloc: Global,
-    saved: Option<Vec<u8>>,
-    /// The number of the peer that failed last, and its fault.
-    failed: Option<(usize, NodeFault)>,
-}
-
-impl Saves {
-    /// Nothing was saved yet.
-    pub(crate) fn new(alloc: Global) -> Saves {
-        Saves {
-            alloc,
-            saved: None,
-            failed: None,
-        }
-    }
-}
-
-impl Shelf for Saves {
-    ghost use Rattle.std.specs.Prelude.{[], ◌∷◌, None};
-    ghost use Rattle.rr_host.specs.Calls.{Grows};
-    ghost use Rattle.rr_host.specs.Streams.{output_of};
-    ghost use Rattle.rr_node.specs.Shelf.{put_back};
-
-    type Output = Vec<u8>;
-
-    ghost calls = { λ s. None };
-
-    fn lines_taken(&mut self, _report: Option<Report>) {}
-
-    fn own_origin(&mut self, _number: usize) {}
-
-    fn pulls_ended(&mut self, _cells: usize) {}
-
-    fn open(&mut self) -> Opening<Vec<u8>> {
-        Opening::Writer(Counted::new(Vec::new(self.alloc)))
-    }
-
-    fn take_back(&mut self, output: Counted<Vec<u8>>, whole: bool)
-        ensures { Grows None None (put_back (output_of (λ _. None) output) whole ∷ []) }
-    {
-        self.saved = if whole {
-            Some(output.into_inner())
-        } else {
-            None
-        };
-    }
-
-    fn peer_failed(&mut self, number: usize, fault: NodeFault) {
-        self.failed = Some((number, fault));
-    }
-
-    fn save_failed(&mut self, _fault: SaveFault) {}
-}
 
 /// No seats; memory sufficed for them or not.
 #[derive(Drop)]
@@ -170,6 +67,21 @@ fn is_loaded(alloc: Global, config: &Config, bytes: &[u8]) -> Option<bool> {
     Some(held == (1, 1, 7))
 }
 
+/// The peer that failed and its fault, if a round's shelf was told of one alone, and else of a report, of
+/// one cell after the pulls and of a whole snapshot.
+fn told(calls: &[ShelfNote]) -> Option<(usize, NodeFault)> {
+    let mut failed = None;
+    for call in calls {
+        match call {
+            ShelfNote::PeerFailed(number, fault) => failed = Some((*number, *fault)),
+            ShelfNote::LinesTaken(Some(_)) | ShelfNote::PullsEnded(1) => {}
+            ShelfNote::Opened(PreparedOpening::Writer) | ShelfNote::TookBack(_, true) => {}
+            _ => return None,
+        }
+    }
+    if calls.len() == 5 { failed } else { None }
+}
+
 /// What a node did: how it ended, which peer failed, whether the right frames were sent to the
 /// other one, and whether that one's sample was saved.
 type Done = (
@@ -191,17 +103,28 @@ fn kept<R: Wait + Threads + Sync>(
     let inputs = [Some(b"".as_slice())];
     let mut lines = Prepared::new(alloc, &inputs).ok()?;
     let mut halt = HaltFlag::new(alloc).ok()?;
-    let mut dial = Peers::new(alloc, &REPLY);
-    let mut shelf = Saves::new(alloc);
+    let peers = [
+        PreparedPeer {
+            address: "no",
+            sends: None,
+        },
+        PreparedPeer {
+            address: "yes",
+            sends: Some(REPLY.as_slice()),
+        },
+    ];
+    let mut dial = PreparedDial::new(alloc, &peers, 3).ok()?;
+    let mut shelf = PreparedShelf::new(alloc, &[PreparedOpening::Writer], 5).ok()?;
     let mut seats = NoSeats { suffices };
     let mut clock = Moments::new(Vec::new(alloc));
     let served = serve_node(
         alloc, keeper, &mut lines, &mut dial, &mut shelf, &mut seats, &mut halt, &mut clock,
         config, rt,
     );
-    let is_sent = dial.sent?.as_slice() == SENT.as_slice();
-    let is_saved = is_loaded(alloc, config, &shelf.saved?);
-    Some((served, shelf.failed, is_sent, is_saved))
+    let failed = told(shelf.calls()?);
+    let is_sent = dial.into_last()?.as_slice() == SENT.as_slice();
+    let is_saved = is_loaded(alloc, config, &shelf.into_last()?);
+    Some((served, failed, is_sent, is_saved))
 }
 
 /// What the keeper of a new desk of origin 2 does, as [`kept`] has it.

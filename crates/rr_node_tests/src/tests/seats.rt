@@ -1,11 +1,13 @@
 //! A node with two seats, each of which is served on a thread of its own.
 
-use super::rounds::{Peers, Saves};
 use rr_archive::PlainArchive;
 use rr_base::Counted;
 use rr_desk::{Gate, Keeper, Reader, open};
 use rr_fakes::replicas::minutes;
-use rr_node::{Config, HaltFlag, Moments, Seat, Seats, Visit, Visits, serve_node, serve_seat};
+use rr_node::{
+    Config, HaltFlag, Moments, PreparedDial, PreparedShelf, Seat, Seats, Visit, Visits, serve_node,
+    serve_seat,
+};
 use std::alloc::Global;
 use std::io;
 use std::io::Read;
@@ -227,8 +229,8 @@ fn serve_both<R: Threads + Wait + Sync>(
     config: &Config,
 ) -> Option<()> {
     let mut lines = Asked::new(alloc, false);
-    let mut dial = Peers::new(alloc, b"");
-    let mut shelf = Saves::new(alloc);
+    let mut dial = PreparedDial::new(alloc, &[], 0).ok()?;
+    let mut shelf = PreparedShelf::new(alloc, &[], 0).ok()?;
     let mut halt = HaltFlag::new(alloc).ok()?;
     let mut clock = Moments::new(Vec::new(alloc));
     serve_node(
