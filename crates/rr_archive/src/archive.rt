@@ -136,16 +136,16 @@ pub trait Cells: Drop {
         ensures cells { IfOk result (λ a. cells a ≡ cells self.now) }
         ensures limit { IfOk result (λ a. row_limit a ≡ row_limit self.now) };
 
-    /// Makes rows that are likely to stay as they are ready to be shared by other archives. It changes no
-    /// cell. An archive that has no memory for it, or shares no rows, does nothing.
+    /// Makes rows that are likely to stay as they are ready to be shared by other archives. It
+    /// changes no cell. An archive that has no memory for it, or shares no rows, does nothing.
     fn finish_rows(&mut self)
         ensures cells { cells self.new ≡ cells self.old }
         ensures limit { row_limit self.new ≡ row_limit self.old }
-    {
-    }
+    {}
 
-    /// Shares the rows that another archive has made ready in place of its own, where both hold the same in
-    /// them. It changes no cell. An archive that has no memory for it, or shares no rows, does nothing.
+    /// Shares the rows that another archive has made ready in place of its own, where both hold the
+    /// same in them. It changes no cell. An archive that has no memory for it, or shares no rows,
+    /// does nothing.
     fn share_rows(&mut self, other: &Self)
         ensures cells { cells self.new ≡ cells self.old }
         ensures limit { row_limit self.new ≡ row_limit self.old }

@@ -81,7 +81,8 @@ pub record IsBooked (v : View) (copy all : BookFront) (pending : List Op) : Type
   pub shown : flat copy.editions ≡ v.seen
   pub whole : Begins (flat all.editions) (v.seen ++ pending)
 
--- the pending changes can be published: the last edition that ends among them has what is published and all that is pending
+-- the pending changes can be published: the last edition that ends among them has what is published and all that is
+-- pending
 pub record IsReady (v : View) (shown : ReplicaState) (front : BookFront) (cs : List Change) : Type 0 where
   pub writes : v.writes ≡ true
   pub joined : v.joined ≡ true

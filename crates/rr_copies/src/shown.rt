@@ -65,7 +65,8 @@ impl Hinted {
         Ok(())
     }
 
-    /// Applies it to the copy that takes it first, and makes rows ready to be shared that it finished.
+    /// Applies it to the copy that takes it first, and makes rows ready to be shared that it
+    /// finished.
     fn apply_first<A: Cells>(&self, replica: &mut Replica<A>) -> Result<(), AllocError>
         ensures applied { OnOk result (replica_state replica.new
             ≡ step (replica_state replica.old) self.now) }

@@ -1,4 +1,5 @@
--- What a call that pulls or gives over two streams has done once it returns: what was read and written, and when a stream
+-- What a call that pulls or gives over two streams has done once it returns: what was read and written, and when a
+-- stream
 -- is to blame.
 use Rattle.std.specs.Prelude.{◌≡◌, ◌≤◌, ℕ, true, List, [], length, Option, Result, Err, OnOk, IfErr}
 use Rattle.std.specs.Io.KnownBytes.{Appends, IsAtEnd}
@@ -23,7 +24,8 @@ pub record Blames {R W : Type 0} (remaining : R → Option (List ℕ)) (input in
   pub read_count : failures_of input ≤ failures_of input_new
   pub write_count : failures_of output ≤ failures_of output_new
 
--- a call that gives of the cells m, in a session of at most so many frames, to a side of which some bytes were read before
+-- a call that gives of the cells m, in a session of at most so many frames, to a side of which some bytes were read
+-- before
 pub record Gives {R W : Type 0} (remaining : R → Option (List ℕ)) (contents : W → Option (List ℕ)) (limit : ℕ)
     (s : Layout) (m : Cells) (before : List ℕ) (input input_new : Counted R) (output output_new : Counted W)
     (result : Result (Unit {0}) GossipFault) : Type 0 where

@@ -262,7 +262,8 @@ block_copied old new source mask readings rows_mask rows = λ i n. (
     ∙ sym (items_held-alike (item_in old.rows n) (entries_read old.source (item_in old.readings n)))) i
 
 -- one row more that has the same entries
-pub same_more : (xs ys : List Entries) (i : ℕ) (x y : Entries) → i < length xs → length xs ≡ length ys → x ≡ get_or xs i x
+pub same_more : (xs ys : List Entries) (i : ℕ) (x y : Entries) → i < length xs → length xs ≡ length ys
+    → x ≡ get_or xs i x
     → y ≡ get_or ys i y → items_of x ≡ items_of y → map items_of (take i xs) ≡ map items_of (take i ys)
     → map items_of (take (i + 1) xs) ≡ map items_of (take (i + 1) ys)
 same_more xs ys i x y within len is its same before =

@@ -148,7 +148,8 @@ change_new old new slot was b origin change sets none empty changed =
 
 -- ---- room in the row of a slot
 
-pub room_found : (bs : Blocks) (slot : ℤ) (origin : ℕ) (b : HeldBlock) → Some b ≡ block_at bs.blocks.items (block_of slot)
+pub room_found : (bs : Blocks) (slot : ℤ) (origin : ℕ) (b : HeldBlock)
+    → Some b ≡ block_at bs.blocks.items (block_of slot)
     → IsTrue (has_room_at bs slot origin) → IsTrue (has_room_held b (row_of slot) origin)
 unfolding has_room_at
 room_found bs slot origin b has room = subst (λ o. block_has_room o (row_of slot) origin ≡ true) (sym has) room
@@ -231,7 +232,8 @@ pub all_copied : (blocks left new : List (ℤ × HeldBlock)) → IsCopied blocks
 all_copied blocks left new c none = sym (append-nil (map stored new))
     ∙ ap (λ l. map stored new ++ map stored l) (sym none) ∙ c
 
-pub copied_numbers : (blocks new : List (ℤ × HeldBlock)) → map stored new ≡ map stored blocks → keys_of new ≡ keys_of blocks
+pub copied_numbers : (blocks new : List (ℤ × HeldBlock)) → map stored new ≡ map stored blocks
+    → keys_of new ≡ keys_of blocks
 copied_numbers blocks new same = sym (numbers new) ∙ ap keys_of same ∙ numbers blocks
   where
     numbers : (bs : List (ℤ × HeldBlock)) → keys_of (map stored bs) ≡ keys_of bs

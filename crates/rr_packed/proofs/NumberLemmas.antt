@@ -141,7 +141,8 @@ pub gap_at : (bs : List (ℤ × HeldBlock)) (n : ℤ) (at : ℕ) → Ascend bs �
     → IsGapFor n bs at
 gap_at bs n at up is apart = (no_block n bs up (subst (λ i. IsPlaceOf n bs i → ⊥) is apart), is)
 
-pub number_there : (bs : List (ℤ × HeldBlock)) (n : ℤ) (at : ℕ) (b : ℤ × HeldBlock) → b ≡ get_or bs at b → IsPlaceOf n bs at
+pub number_there : (bs : List (ℤ × HeldBlock)) (n : ℤ) (at : ℕ) (b : ℤ × HeldBlock) → b ≡ get_or bs at b
+    → IsPlaceOf n bs at
     → b.0 ≡ n
 number_there [] n at b is place = absurd cc
 number_there (x ∷ bs) n zero b is place = let number : x.0 ≡ n = cc in ap (λ (z : ℤ × HeldBlock). z.0) is ∙ number
@@ -207,19 +208,22 @@ numbers_stay (x ∷ bs) n zero b place = let number : x.0 ≡ n = cc in ap (λ k
 numbers_stay (x ∷ bs) n (suc at) b place = ap (λ ks. x.0 ∷ ks) (numbers_stay bs n at b place)
 
 -- as the pair there is written, whose number was read
-pub block_put : (bs : List (ℤ × HeldBlock)) (n : ℤ) (at : ℕ) (was : ℤ × HeldBlock) (b : HeldBlock) → Ascend bs → IsPlaceOf n bs at
+pub block_put : (bs : List (ℤ × HeldBlock)) (n : ℤ) (at : ℕ) (was : ℤ × HeldBlock) (b : HeldBlock) → Ascend bs
+    → IsPlaceOf n bs at
     → was ≡ get_or bs at was → IsBlockSet n b bs (set bs at (was.0, b))
 block_put bs n at was b up place is = subst (λ k. IsBlockSet n b bs (set bs at (k, b)))
     (sym (number_there bs n at was is place)) (block_set bs n at b up place)
 
-pub ascend_put : (bs : List (ℤ × HeldBlock)) (n : ℤ) (at : ℕ) (was : ℤ × HeldBlock) (b : HeldBlock) → Ascend bs → IsPlaceOf n bs at
+pub ascend_put : (bs : List (ℤ × HeldBlock)) (n : ℤ) (at : ℕ) (was : ℤ × HeldBlock) (b : HeldBlock) → Ascend bs
+    → IsPlaceOf n bs at
     → was ≡ get_or bs at was → Ascend (set bs at (was.0, b))
 ascend_put bs n at was b up place is = subst (IsStrictlySortedBy int_cmp)
     (sym (ap (λ k. keys_of (set bs at (k, b))) (number_there bs n at was is place) ∙ numbers_stay bs n at b place)) up
 
 -- ---- a block that is added
 
-all_inserted : (P : ℤ → Type 0) (bs : List (ℤ × HeldBlock)) (i : ℕ) (n : ℤ) (b : HeldBlock) → AllByRecursion P (keys_of bs)
+all_inserted : (P : ℤ → Type 0) (bs : List (ℤ × HeldBlock)) (i : ℕ) (n : ℤ) (b : HeldBlock)
+    → AllByRecursion P (keys_of bs)
     → P n → AllByRecursion P (keys_of (insert bs i (n, b)))
 all_inserted P bs zero n b h p = (p, h)
 all_inserted P [] (suc i) n b h p = (p, h)

@@ -305,7 +305,8 @@ impl Block {
         requires number { number < 64 }
         requires fits { Fits (entry_at (items_in self.old number) origin) change.now }
         ensures changed { OnOk result (IsRowSet number
-            (with_entry (items_in self.old number) (entry_after (items_in self.old number) origin change.now))
+            (with_entry (items_in self.old number)
+            (entry_after (items_in self.old number) origin change.now))
             (items_in self.old) (items_in self.new)) }
         ensures unchanged { OnErr result (items_in self.new ≡ items_in self.old) }
         ensures room { IsTrue (has_room_in self.old number origin) → IsOk result }

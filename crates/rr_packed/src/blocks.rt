@@ -232,8 +232,8 @@ impl Blocks {
         }
     }
 
-    /// Shares the block of the same number of another list in place of one here, if both hold the same rows.
-    /// Answers whether it did.
+    /// Shares the block of the same number of another list in place of one here, if both hold the
+    /// same rows. Answers whether it did.
     fn share_at(&mut self, at: usize, other: &Blocks) -> bool
         requires { at < length self.old.blocks.items }
         ensures same { row_at self.new ≡ row_at self.old }
@@ -245,7 +245,8 @@ impl Blocks {
         }
     }
 
-    /// Shares the blocks before the last one with another list, from it back to one that was shared.
+    /// Shares the blocks before the last one with another list, from it back to one that was
+    /// shared.
     pub(crate) fn share(&mut self, other: &Blocks)
         ensures { row_at self.new ≡ row_at self.old }
     {

@@ -12,8 +12,8 @@ use rr_schema::Origin;
 use std::alloc::{AllocError, Global};
 use std::sync::Arc;
 
-/// A block as an archive holds it. One that is shared never changes: an archive that has to change it takes
-/// a copy in its place.
+/// A block as an archive holds it. One that is shared never changes: an archive that has to change
+/// it takes a copy in its place.
 #[derive(Drop)]
 pub(crate) enum HeldBlock {
     /// The archive alone has it.
@@ -92,7 +92,8 @@ impl HeldBlock {
         requires number { number < 64 }
         requires fits { Fits (entry_at (stored_in self.old number) origin) change.now }
         ensures changed { OnOk result (IsRowSet number
-            (with_entry (stored_in self.old number) (entry_after (stored_in self.old number) origin change.now))
+            (with_entry (stored_in self.old number)
+            (entry_after (stored_in self.old number) origin change.now))
             (stored_in self.old) (stored_in self.new)) }
         ensures unchanged { OnErr result (stored_in self.new ≡ stored_in self.old) }
         ensures room { IsTrue (has_room_held self.old number origin) → IsOk result }
@@ -108,8 +109,8 @@ impl HeldBlock {
         }
     }
 
-    /// Makes a block of this archive alone ready to be shared, in no more memory than it needs. Answers whether
-    /// it did; it doesn't where there is no memory for it.
+    /// Makes a block of this archive alone ready to be shared, in no more memory than it needs.
+    /// Answers whether it did; it doesn't where there is no memory for it.
     pub(crate) fn finish(&mut self, alloc: Global) -> bool
         ensures { stored_in self.new ≡ stored_in self.old }
     {
@@ -126,8 +127,8 @@ impl HeldBlock {
         true
     }
 
-    /// Shares the block of another archive in place of the own one, if both hold the same rows. Answers whether
-    /// it did.
+    /// Shares the block of another archive in place of the own one, if both hold the same rows.
+    /// Answers whether it did.
     pub(crate) fn share(&mut self, other: &HeldBlock) -> bool
         ensures { stored_in self.new ≡ stored_in self.old }
     {

@@ -14,8 +14,9 @@
 //! stored of a slot is one function (`specs/Blocks.antt`), and the cells are what it gives of the
 //! live slots, in order.
 //!
-//! A block is its archive's own, or shared with others ([`HeldBlock`](held_block::HeldBlock)): an archive makes
-//! its finished blocks ready, and another takes them in place of its own where both hold the same rows.
+//! A block is its archive's own, or shared with others ([`HeldBlock`](held_block::HeldBlock)): an
+//! archive makes its finished blocks ready, and another takes them in place of its own where both
+//! hold the same rows.
 #![tactic(auto)]
 
 mod block;

@@ -32,9 +32,9 @@ use std::alloc::{AllocError, Global};
 /// for entries where a block has none. A row of one sample that is to be changed is held as its
 /// entries from then on, 112 bytes for the first of them.
 ///
-/// `finish_rows` looks at the block before the last one, and copies it into no more memory than it needs
-/// unless it was finished; `share_rows` compares it with the other archive's. Both go on with the blocks
-/// before it until one was shared. A change of a shared block copies it first.
+/// `finish_rows` looks at the block before the last one, and copies it into no more memory than it
+/// needs unless it was finished; `share_rows` compares it with the other archive's. Both go on with
+/// the blocks before it until one was shared. A change of a shared block copies it first.
 ///
 /// `entries_into` finds its block as `put` does; `cell_count`, and `cell_at` up to the cell, are
 /// linear in the rows that have an entry, and in the blocks that aren't there, each at the cost of

@@ -17,8 +17,9 @@ use rr_words::Order;
 use std::alloc::Global;
 use std::io::{Read, Write};
 
-/// Obeys an order over two streams: its script or its lines are what `input` still has, and what they print is written to `output`. An order to serve has no such streams:
-/// nothing is read or written.
+/// Obeys an order over two streams: its script or its lines are what `input` still has, and what
+/// they print is written to `output`. An order to serve has no such streams: nothing is read or
+/// written.
 ///
 /// What is written is a front of that wherever a run ends.
 pub fn obey_order<R: Read, W: Write>(

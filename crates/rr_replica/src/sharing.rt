@@ -58,17 +58,17 @@ fn share_at<A: Cells>(series: &mut SeriesMap<A>, index: usize, others: &SeriesMa
 }
 
 impl<A: Cells> Replica<A> {
-    /// Makes finished rows of the series at a hint ready to be shared by other replicas. It changes nothing
-    /// that the replica holds. The cost is that of a copy of these rows.
+    /// Makes finished rows of the series at a hint ready to be shared by other replicas. It changes
+    /// nothing that the replica holds. The cost is that of a copy of these rows.
     pub fn finish_rows(&mut self, hint: Hint)
         ensures { replica_state self.new ≡ replica_state self.old }
     {
         finish_at(&mut self.series, hint.index);
     }
 
-    /// Shares the finished rows of the series at a hint with another replica, which has made them ready, where
-    /// both hold the same in them. It changes nothing that the replica holds, whatever the hint and the other
-    /// replica are. The cost is that of comparing these rows.
+    /// Shares the finished rows of the series at a hint with another replica, which has made them
+    /// ready, where both hold the same in them. It changes nothing that the replica holds, whatever
+    /// the hint and the other replica are. The cost is that of comparing these rows.
     pub fn share_rows(&mut self, hint: Hint, other: &Replica<A>)
         ensures { replica_state self.new ≡ replica_state self.old }
     {

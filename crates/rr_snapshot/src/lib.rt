@@ -1,12 +1,12 @@
 //! A replica's cells as a stream of bytes with a digest, and back.
 //!
-//! A snapshot (`specs/Snapshot.antt`) has a head, the cells of a replica, strictly ascending by their
-//! names, and the SHA-256 digest of all of this. [`save`] writes it, one cell after the other, so
-//! that nothing of it but one cell is in memory. [`load`] reads it part by part up to the first fault
-//! (`specs/SnapshotReading.antt`) and joins each cell into a replica of a new origin as it comes
-//! (`specs/Loading.antt`), so that of the bytes it too holds one cell's at a time. [`laws`] says that
-//! what is read is what was written, that no snapshot begins another, and that a replica that was
-//! saved is loaded with the same cells.
+//! A snapshot (`specs/Snapshot.antt`) has a head, the cells of a replica, strictly ascending by
+//! their names, and the SHA-256 digest of all of this. [`save`] writes it, one cell after the
+//! other, so that nothing of it but one cell is in memory. [`load`] reads it part by part up to the
+//! first fault (`specs/SnapshotReading.antt`) and joins each cell into a replica of a new origin as
+//! it comes (`specs/Loading.antt`), so that of the bytes it too holds one cell's at a time.
+//! [`laws`] says that what is read is what was written, that no snapshot begins another, and that a
+//! replica that was saved is loaded with the same cells.
 //!
 //! ```text
 //! replica ── save ─> head_bytes, write_cell .., the digest ──> stream

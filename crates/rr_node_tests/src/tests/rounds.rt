@@ -67,8 +67,8 @@ fn is_loaded(alloc: Global, config: &Config, bytes: &[u8]) -> Option<bool> {
     Some(held == (1, 1, 7))
 }
 
-/// The peer that failed and its fault, if a round's shelf was told of one alone, and else of a report, of
-/// one cell after the pulls and of a whole snapshot.
+/// The peer that failed and its fault, if a round's shelf was told of one alone, and else of a
+/// report, of one cell after the pulls and of a whole snapshot.
 fn told(calls: &[ShelfNote]) -> Option<(usize, NodeFault)> {
     let mut failed = None;
     for call in calls {

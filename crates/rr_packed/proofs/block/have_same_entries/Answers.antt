@@ -10,5 +10,8 @@ loop-i-preserved c =
     let y = c.index-others-i.result in
     let same : items_of x ≡ items_of y = search rules in
     let within : c.loop-i.i < length c.args.rows.now = search rules in
-    let before = c.loop-i.invariant in
-    (before.0, same_more c.args.rows.now c.args.others.now c.loop-i.i x y within before.0 c.index-rows-i.is c.index-others-i.is same before.1)
+    let before = c.loop-i.invariant in (
+      before.0,
+      same_more c.args.rows.now c.args.others.now c.loop-i.i x y within before.0 c.index-rows-i.is
+          c.index-others-i.is same before.1,
+    )

@@ -24,7 +24,16 @@ same_sum a b = Decides-like ((own_sum).it a b)
       ap (λ c. c.version) e,
       (
         ap (λ c. c.count) e,
-        (ap (λ c. c.sum) e, (ap (λ c. c.min) e, (ap (λ c. c.max) e, (ap (λ c. c.last_time) e, (ap (λ c. c.last_value) e, ap (λ c. c.mask) e))))),
+        (
+          ap (λ c. c.sum) e,
+          (
+            ap (λ c. c.min) e,
+            (
+              ap (λ c. c.max) e,
+              (ap (λ c. c.last_time) e, (ap (λ c. c.last_value) e, ap (λ c. c.mask) e)),
+            ),
+          ),
+        ),
       ),
     ))
     (Decides-and _ _ (Decides-eqb a.version b.version)

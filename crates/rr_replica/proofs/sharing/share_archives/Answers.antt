@@ -9,8 +9,10 @@ loop-i-preserved g c =
     let was = c.index_mut.result.now in
     let now = c.share_rows.new.self in
     let at = found_at items c.loop-i.i was (search rules) c.index_mut.ensures.value in
-    let same : seen_archive g.A.Cells.cells g.A.Cells.row_limit now ≡ seen_archive g.A.Cells.cells g.A.Cells.row_limit was
+    let same : seen_archive g.A.Cells.cells g.A.Cells.row_limit now
+    ≡ seen_archive g.A.Cells.cells g.A.Cells.row_limit was
     = λ j. (c.share_rows.ensures.cells j, c.share_rows.ensures.limit j) in (
       length-set items c.loop-i.i now ∙ c.loop-i.invariant.0,
-      map-set_same (seen_archive g.A.Cells.cells g.A.Cells.row_limit) items c.loop-i.i was now at same ∙ c.loop-i.invariant.1,
+      map-set_same (seen_archive g.A.Cells.cells g.A.Cells.row_limit) items c.loop-i.i was now at same
+          ∙ c.loop-i.invariant.1,
     )

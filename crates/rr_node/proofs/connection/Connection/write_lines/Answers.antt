@@ -29,7 +29,8 @@ returns-in_err-answer-clause-ended g c =
     rw given.1 (
       so_far.0 ++ takes.asked,
       HasGiven-trans _ _ _ so_far.0 takes.asked so_far.2 takes.gave,
-      StoppedByMemory-taking c.args.self.now old _ c.args.keeper.now c.loop-item.keeper _ so_far.0 takes.asked so_far.1 item _
+      StoppedByMemory-taking c.args.self.now old _ c.args.keeper.now c.loop-item.keeper _ so_far.0 takes.asked so_far.1
+          item _
           so_far.4 hands takes.taken,
     )
 
@@ -46,7 +47,8 @@ returns-in_err-count-clause-ended g c =
     rw given.1 (
       so_far.0 ++ takes.asked,
       HasGiven-trans _ _ _ so_far.0 takes.asked so_far.2 takes.gave,
-      StoppedByMemory-after c.args.self.now old _ c.args.keeper.now c.loop-item.keeper _ so_far.0 takes.asked so_far.1 item
+      StoppedByMemory-after c.args.self.now old _ c.args.keeper.now c.loop-item.keeper _ so_far.0 takes.asked so_far.1
+          item
           so_far.4 hands whole.0 whole.1,
     )
 
@@ -64,7 +66,8 @@ returns-in_err-publish_in_turn-clause-ended g c =
     rw given.1 (
       so_far.0 ++ takes.asked,
       HasGiven-trans _ _ _ so_far.0 takes.asked so_far.2 takes.gave,
-      StoppedByMemory-after c.args.self.now old _ c.args.keeper.now c.loop-item.keeper _ so_far.0 takes.asked so_far.1 item
+      StoppedByMemory-after c.args.self.now old _ c.args.keeper.now c.loop-item.keeper _ so_far.0 takes.asked so_far.1
+          item
           so_far.4 hands whole.0 (c.in_err-publish_in_turn.ensures.unchanged ∙ whole.1),
     )
 

@@ -10,7 +10,8 @@ invariant_of-self c =
     let was = c.index_mut.result.now in
     let place : IsPlaceOf was.0 bs c.args.at = place_here bs c.args.at was c.requires c.index_mut.ensures.value in
     record {
-      ordered = ascend_put bs was.0 c.args.at was c.share.new.self c.args.self.now.ordered place c.index_mut.ensures.value;
+      ordered = ascend_put bs was.0 c.args.at was c.share.new.self c.args.self.now.ordered place
+          c.index_mut.ensures.value;
     }
 
 pub returns-in-Some-clause-same : goal.returns-in-Some-clause-same
@@ -19,5 +20,6 @@ returns-in-Some-clause-same c =
     let was = c.index_mut.result.now in
     let place : IsPlaceOf was.0 bs c.args.at = place_here bs c.args.at was c.requires c.index_mut.ensures.value in
     let has = block_there bs was.0 c.args.at was c.args.self.now.ordered place c.index_mut.ensures.value in
-    let put = block_put bs was.0 c.args.at was c.share.new.self c.args.self.now.ordered place c.index_mut.ensures.value in
+    let put = block_put bs was.0 c.args.at was c.share.new.self c.args.self.now.ordered place
+    c.index_mut.ensures.value in
     blocks_alike bs _ was.0 c.share.new.self put (c.share.ensures ∙ ap items_of_block (sym has))

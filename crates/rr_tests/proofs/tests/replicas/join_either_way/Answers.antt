@@ -26,7 +26,8 @@ returns g c =
     let second = c.args.second.now in
     let there = c.in_ok-join_cell-2.ensures.joined
     ∙ ap (λ (h : ReplicaState). with_cell h second) c.in_ok-join_cell.ensures.joined in
-    let here = c.in_ok-join_cell-3.ensures.joined ∙ ap (λ (h : ReplicaState). with_cell h second) (sym c.requires.alike) in
+    let here = c.in_ok-join_cell-3.ensures.joined ∙ ap (λ (h : ReplicaState). with_cell h second)
+    (sym c.requires.alike) in
     on_ok c.join_cell-4.result (λ joined.
     ap (λ (h : ReplicaState). h.cells) there
     ∙ either_order c.join_keeps_the_live.ensures.commutative c.join_keeps_the_live.ensures.associative
