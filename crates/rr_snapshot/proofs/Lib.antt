@@ -10,3 +10,8 @@ pub mod BodyLemmas
 pub mod TakenLemmas
 pub mod SnapshotLemmas
 pub mod CutLemmas
+pub mod WriteLemmas
+pub mod JoinedLemmas
+pub mod LoadLemmas
+pub mod SavedLemmas
+pub mod MemoryLemmas

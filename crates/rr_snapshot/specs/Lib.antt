@@ -3,3 +3,5 @@ pub mod Snapshot
 pub mod SnapshotReading
 pub mod Stream
 pub mod TextLaws
+pub mod Loading
+pub mod Laws
