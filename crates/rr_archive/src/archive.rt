@@ -1,5 +1,5 @@
 //! What an archive of one series does: its cells, and its rows where they can be lent.
-ghost use Rattle.std.specs.Prelude.{◌≡◌, ℕ, Bool, ◌<◌, ◌≤◌, IsTrue, IsFalse, IsOk, OnOk, OnErr, IfOk, IfSome, [], length, slice_get, vec_capacity};
+ghost use Rattle.std.specs.Prelude.{◌≡◌, ℕ, Bool, ◌<◌, ◌≤◌, IsTrue, IsFalse, IsOk, OnOk, OnErr, IfOk, IfSome, [], ◌∷◌, length, slice_get, vec_capacity};
 ghost use Rattle.std.specs.Option.{option_map};
 ghost use Rattle.std.specs.FinMap as fin;
 ghost use Rattle.rr_contrib.specs.Contributions.{slot_sample};
@@ -114,6 +114,17 @@ pub trait Cells: Drop {
         ensures written { OnOk result (row.new.items ≡ row_of (cells self.now) slot) }
         ensures emptied { OnErr result (row.new.items ≡ []) }
         ensures room { length (row_of (cells self.now) slot) ≤ vec_capacity row.old → IsOk result };
+
+    /// The entry of a slot that has no other, where it is found at once, and where to look for that
+    /// of the slot after it: `near` is what the call for the slot before answered, or 0. `None`
+    /// says nothing of the entries. The cost is that of `entries_into`, and mostly does not depend
+    /// on the rows if slots are asked for in order.
+    fn lone_entry(&self, slot: i64, near: usize) -> Option<(Entry, usize)>
+        ensures { IfSome result (λ found. row_of (cells self.now) slot ≡ found.0 ∷ []) }
+    {
+        let _ = (slot, near);
+        None
+    }
 
     /// How many cells there are. The cost is at most linear in the rows.
     fn cell_count(&self) -> usize

@@ -5,5 +5,8 @@ pub mod AnswerLemmas
 pub mod RowEntries
 pub mod PlaceBits
 pub mod SeenMarks
+pub mod RecordLemmas
 pub mod RowNames
 pub mod RowLaws
+pub mod OneEntry
+pub mod RowsOfArchive

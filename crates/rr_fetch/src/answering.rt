@@ -1,23 +1,25 @@
 //! What a replica answers to a request.
 
-ghost use Rattle.std.specs.Prelude.{◌≡◌, ◌*◌, ◌≤◌, ◌+◌, ◌+ℤ◌, ◌*ℤ◌, pos, unsigned_abs, Err, IfOk, OnOk, MatchOption};
+ghost use Rattle.std.specs.Prelude.{◌≡◌, ◌*◌, ◌<◌, ◌≤◌, ◌+◌, ◌+ℤ◌, ◌*ℤ◌, pos, unsigned_abs, [], ◌∷◌, length, Err, IfOk, IfSome, OnOk, MatchOption};
 ghost use Rattle.std.specs.FinMap.{empty};
 ghost use Rattle.std.specs.Io.KnownBytes.{Appends};
 ghost use Rattle.rr_io.specs.Counted.{inner_of, failures_of, HasRisen};
 ghost use Rattle.rr_io.specs.Stream.{AppendsPrefix};
 ghost use Rattle.rr_archive.specs.Cells.{ArchiveCells, row_of};
 ghost use Rattle.rr_fetch.specs.Answers.{cells_text};
+ghost use Rattle.rr_fetch.specs.Consolidation.{consolidation_of, IsRow};
 ghost use Rattle.rr_request.specs.Requests.{request_view, IsFetchable};
 
-use crate::consolidation::consolidate;
+use crate::consolidation::{consolidate, consolidate_one};
 use crate::fault::AnswerFault;
-use crate::record::push_row;
+use crate::record::{MAX_REST, push_row};
 use rr_archive::{Cells, Entry};
 use rr_io::Counted;
 use rr_io::stream::write_all;
 use rr_records::front_of;
 use rr_replica::Replica;
 use rr_request::Request;
+use rr_schema::Schema;
 use rr_text::limits::{MAX_FETCH_ROWS, MAX_SECOND, MAX_STEP, MAX_STEPS};
 use std::alloc::{AllocError, Global};
 use std::io::Write;
@@ -60,12 +62,52 @@ fn read_row<A: Cells>(
     }
 }
 
+/// The entry of a slot that has no other, where it is found at once, and where to look for that of
+/// the next slot.
+fn lone_entry<A: Cells>(archive: Option<&A>, slot: i64, near: usize) -> Option<(Entry, usize)>
+    ensures { (rows : ArchiveCells) → MatchOption archive.entry (rows ≡ empty)
+        (λ a. A.cells a.now ≡ rows) → IfSome result (λ found. row_of rows slot ≡ found.0 ∷ []) }
+{
+    match archive {
+        Some(archive) => archive.lone_entry(slot, near),
+        None => None,
+    }
+}
+
+/// What the request's function makes of a slot, and where to look for the entry of the next one.
+/// The entries are written over those of a row, unless there is one alone that is found at once.
+fn value_at<A: Cells>(
+    archive: Option<&A>,
+    slot: i64,
+    near: usize,
+    row: &mut Vec<Entry>,
+    schema: &Schema,
+    request: &Request,
+) -> Result<(Option<i64>, usize), AllocError>
+    requires archive_exists { request.now.archive < length schema.now.archives }
+    requires row { (rows : ArchiveCells) → MatchOption archive (rows ≡ empty)
+        (λ a. A.cells a.now ≡ rows) → IsRow (row_of rows slot) }
+    ensures { (rows : ArchiveCells) → MatchOption archive.entry (rows ≡ empty)
+        (λ a. A.cells a.now ≡ rows) → IfOk result (λ found. found.0
+        ≡ consolidation_of schema.now request.now.archive request.now.cf (row_of rows slot)) }
+{
+    if let Some((entry, next)) = lone_entry(archive, slot, near) {
+        let value = consolidate_one(&entry, schema, request.archive, request.cf);
+        return Ok((value, next));
+    }
+    read_row(archive, slot, row)?;
+    let value = consolidate(row, schema, request.archive, request.cf);
+    Ok((value, near))
+}
+
 /// The answer to a request as CSV: for each row a record of the key text, the start second and the
 /// value, or `U` for an unknown one, ended by a line feed.
 ///
-/// The request's archive is one of the replica's schema, its first slot is at most [`MAX_SECOND`]
-/// either side of the epoch, and its rows are from 1 to [`MAX_FETCH_ROWS`]. The cost is one look-up
-/// of the key and, for each row, one look-up of its slot and a pass over its entries.
+/// The request's archive is one of the replica's schema, its first slot is at most
+/// [`MAX_SECOND`] either side of the epoch, and its rows are from 1 to [`MAX_FETCH_ROWS`]. The cost
+/// is one look-up of the key and, for each row, a pass over its entries and a look-up of its slot,
+/// which an archive may spare where it follows the slot before. Memory is taken at once for the
+/// longest records that the rows can have.
 pub fn answer_text<A: Cells>(
     alloc: Global,
     replica: &Replica<A>,
@@ -79,14 +121,17 @@ pub fn answer_text<A: Cells>(
     let span = schema.span(request.archive);
     let archive = replica.archive(&request.key, request.archive);
     let front = front_of(alloc, request.key.text())?;
-    let mut text = Vec::new(alloc);
+    let room = (front.len() + MAX_REST).saturating_mul(request.rows as usize);
+    let mut text = Vec::with_capacity(alloc, room)?;
+    let mut rest = [0; MAX_REST];
     let mut entries = Vec::new(alloc);
+    let mut near = 0;
     for row in 0..request.rows {
         let slot = slot_of(request.first, row);
         let start = start_of(slot, span);
-        read_row(archive, slot, &mut entries)?;
-        let value = consolidate(&entries, schema, request.archive, request.cf);
-        push_row(&mut text, &front, start, value)?;
+        let (value, next) = value_at(archive, slot, near, &mut entries, schema, request)?;
+        push_row(&mut text, &mut rest, &front, start, value)?;
+        near = next;
     }
     Ok(text)
 }

@@ -1,13 +1,13 @@
 //! The row that the contributions of its origins make.
 
-ghost use Rattle.std.specs.Prelude.{◌≡◌, ◌<◌, Some, length, map, count_ones};
+ghost use Rattle.std.specs.Prelude.{◌≡◌, ◌<◌, ◌∷◌, [], Some, length, map, count_ones};
 ghost use Rattle.std.specs.Option.{option_map};
 ghost use Rattle.std.specs.Ordering.{int_cmp, is_lt, flip_args};
 ghost use Rattle.rr_join.specs.Maps.{greater, greatest};
 ghost use Rattle.rr_model.specs.Rows.{average};
 ghost use Rattle.rr_fetch.specs.Consolidation.{consolidation_of, count_of, last_cmp, total_of, mask_of_entries, IsRow};
 
-use crate::sum::sum_of;
+use crate::sum::{sum_of, sum_of_one};
 use rr_archive::Entry;
 use rr_contrib::Mask;
 use rr_schema::{ConsolidationFunction, Schema};
@@ -40,6 +40,30 @@ pub fn consolidate(
         ConsolidationFunction::Min => least(row),
         ConsolidationFunction::Max => greatest(row),
         ConsolidationFunction::Last => last_value(row),
+    }
+}
+
+/// What a function makes of a row of one entry, as [`consolidate`] does.
+#[tactic(auto, unfolding(crate::specs::Consolidation::consolidation_of))]
+pub(crate) fn consolidate_one(
+    entry: &Entry,
+    schema: &Schema,
+    archive: u8,
+    cf: ConsolidationFunction,
+) -> Option<i64>
+    requires archive_exists { archive < length schema.now.archives }
+    requires row { IsRow (entry.now ∷ []) }
+    ensures { result ≡ consolidation_of schema.now archive cf (entry.now ∷ []) }
+{
+    let contribution = &entry.contribution;
+    if !schema.known_enough(archive, contribution.mask.count_ones()) {
+        return None;
+    }
+    match cf {
+        ConsolidationFunction::Average => sum_of_one(contribution).average(),
+        ConsolidationFunction::Min => Some(contribution.min),
+        ConsolidationFunction::Max => Some(contribution.max),
+        ConsolidationFunction::Last => Some(contribution.last_value),
     }
 }
 

@@ -1,19 +1,57 @@
 //! A row as a record of CSV.
 
-ghost use Rattle.std.specs.Prelude.{◌≡◌, ◌++◌, [], ◌∷◌, ℕ, List, OnOk};
-ghost use Rattle.rr_model.specs.FetchText.{comma, field_text, record_text, value_text};
+ghost use Rattle.std.specs.Prelude.{◌≡◌, ◌≤◌, ◌+◌, ◌++◌, [], ◌∷◌, ℕ, List, OnOk, drop, length};
+ghost use Rattle.std.specs.Fmt.{signed_decimal};
+ghost use Rattle.rr_model.specs.FetchText.{comma, line_feed, field_text, record_text, value_text};
 
-use itoa::Buffer;
-use rr_records::push_behind;
+use rr_records::digits::{MAX_NUMBER_TEXT, write_byte, write_number};
+use rr_text::bytes::{COMMA, LINE_FEED};
 use std::alloc::AllocError;
 
 /// What is written for an unknown value.
-const UNKNOWN: &[u8] = b"U";
+const UNKNOWN: u8 = b'U';
+
+/// The most bytes of a record behind its first field and the comma after it.
+pub(crate) const MAX_REST: usize = 2 * MAX_NUMBER_TEXT + 2;
+
+const _: () = prove!(UNKNOWN == 85);
+
+const _: () = prove!(MAX_REST == 42);
+
+/// Writes a value, or `U` for an unknown one, before the bytes from `end` on, and says where it
+/// begins.
+fn write_value(text: &mut [u8], end: usize, value: Option<i64>) -> usize
+    requires room { MAX_NUMBER_TEXT ≤ end }
+    requires within { end ≤ length text.old }
+    ensures start { end ≤ result + MAX_NUMBER_TEXT }
+    ensures before { result ≤ end }
+    ensures written { drop result text.new ≡ value_text value ++ drop end text.old }
+{
+    match value {
+        Some(value) => write_number(text, end, value),
+        None => write_byte(text, end, UNKNOWN),
+    }
+}
+
+/// Writes what follows the first field of a row's record at the end of a buffer, and says where it
+/// begins.
+fn write_rest(rest: &mut [u8; MAX_REST], start: i64, value: Option<i64>) -> usize
+    ensures within { result ≤ MAX_REST }
+    ensures written { drop result rest.new ≡ signed_decimal start ++ comma ∷ value_text value
+        ++ line_feed ∷ [] }
+{
+    let end = write_byte(rest, MAX_REST, LINE_FEED);
+    let end = write_value(rest, end, value);
+    let end = write_byte(rest, end, COMMA);
+    write_number(rest, end, start)
+}
 
 /// Adds the record of a row: its start second and its value, behind what each row of its key begins
-/// with.
+/// with. The rest of it is made in a buffer that is used again, so that none is cleared for each
+/// row.
 pub(crate) fn push_row(
     text: &mut Vec<u8>,
+    rest: &mut [u8; MAX_REST],
     front: &[u8],
     start: i64,
     value: Option<i64>,
@@ -22,19 +60,8 @@ pub(crate) fn push_row(
         → OnOk result (text.new.items
         ≡ text.old.items ++ record_text key (start, value)) }
 {
-    let mut start_buffer = Buffer::new();
-    let mut value_buffer = Buffer::new();
-    let start = start_buffer.format(start).as_bytes();
-    let value = value_text(&mut value_buffer, value);
-    push_behind(text, front, start, value)
-}
-
-/// A value in decimal, or `U` for an unknown one.
-fn value_text(buffer: &mut Buffer, value: Option<i64>) -> &[u8]
-    ensures { result.now ≡ value_text value }
-{
-    match value {
-        Some(value) => buffer.format(value).as_bytes(),
-        None => UNKNOWN,
-    }
+    let from = write_rest(rest, start, value);
+    let (_, rest) = rest.split_at(from);
+    text.extend_from_slice(front)?;
+    text.extend_from_slice(rest)
 }

@@ -48,8 +48,22 @@ impl Sum {
         if self.count == 0 {
             return None;
         }
+        // Most rows have one sample, and a division takes longer than the rest.
+        if self.count == 1 {
+            return Some(self.total as i64);
+        }
         Some(self.total.div_euclid(i128::from(self.count)) as i64)
     }
+}
+
+/// The sum of the samples of a contribution.
+pub(crate) fn sum_of_one(contribution: &Contribution) -> Sum
+    requires { IsSummable contribution.now }
+    ensures count { result.count ≡ contribution.now.count }
+    ensures total { result.total ≡ contribution.now.sum }
+    ensures bounded { IsBounded result.count result.total }
+{
+    NONE.with(contribution)
 }
 
 /// The sum of all samples of a row.

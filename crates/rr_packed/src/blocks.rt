@@ -1,5 +1,5 @@
 //! The blocks of an archive, in order of their numbers.
-ghost use Rattle.std.specs.Prelude.{◌≡◌, ◌<◌, ◌≤◌, ◌+ℤ◌, ◌⊎◌, ℕ, ℤ, pos, [], drop, length, int_lt, IfOk, IfErr, IsTrue, IsOk, OnOk, OnErr};
+ghost use Rattle.std.specs.Prelude.{◌≡◌, ◌<◌, ◌≤◌, ◌+ℤ◌, ◌⊎◌, ℕ, ℤ, pos, [], ◌∷◌, drop, length, int_lt, IfOk, IfErr, IfSome, IsTrue, IsOk, OnOk, OnErr};
 ghost use Rattle.std.proofs.Props.{props};
 ghost use Rattle.std.specs.List.Sorted.{IsStrictlySortedBy};
 ghost use Rattle.std.specs.Map.{keys_of};
@@ -9,6 +9,7 @@ ghost use Rattle.rr_packed.specs.Slots.{block_of, row_of};
 
 use crate::held_block::HeldBlock;
 use crate::row::Row;
+use rr_archive::Entry;
 use rr_archive::change::Change;
 use rr_schema::Origin;
 use std::alloc::{AllocError, Global};
@@ -119,6 +120,39 @@ impl Blocks {
         match self.get(number) {
             Some(block) => block.row(row_of(slot)),
             None => Row::Lent(&[]),
+        }
+    }
+
+    /// Where in the list the block of a number is, if it is there. A place where it is likely to be
+    /// is looked at first.
+    fn find_near(&self, number: i64, near: usize) -> Option<usize>
+        ensures { IfSome result (IsPlaceOf number self.now.blocks.items) }
+    {
+        if self.is_at(number, near) {
+            return Some(near);
+        }
+        self.find(number).ok()
+    }
+
+    /// Whether the block of a number is at a place of the list.
+    fn is_at(&self, number: i64, at: usize) -> bool
+        ensures { IsTrue result → IsPlaceOf number self.now.blocks.items at }
+    {
+        match self.blocks.get(at) {
+            Some((other, _)) => *other == number,
+            None => false,
+        }
+    }
+
+    /// The entry that is stored of a slot, if it is one that is held as a reading, and the place of
+    /// its block. The block is looked for at a place first.
+    pub(crate) fn lone_entry(&self, slot: i64, near: usize) -> Option<(Entry, usize)>
+        ensures { IfSome result (λ found. row_at self.now slot ≡ found.0 ∷ []) }
+    {
+        let at = self.find_near(block_of(slot), near)?;
+        match self.blocks[at].1.row(row_of(slot)) {
+            Row::Made(entry) => Some((entry, at)),
+            Row::Lent(_) => None,
         }
     }
 

@@ -151,6 +151,13 @@ impl Cells for PackedArchive {
         row.extend_from_slice(entries.as_slice())
     }
 
+    fn lone_entry(&self, slot: i64, near: usize) -> Option<(Entry, usize)> {
+        if !is_live(self.rows, self.newest, slot) {
+            return None;
+        }
+        self.blocks.lone_entry(slot, near)
+    }
+
     fn cell_count(&self) -> usize {
         let Some(newest) = self.newest else {
             return 0;

@@ -21,10 +21,3 @@ pub at_ok : {E : Type 0} (result : Result (Unit {0}) E) (text all some whole : L
     → text ≡ (if is_ok result then all else some) → all ≡ whole → OnOk result (text ≡ whole)
 at_ok (Ok _) text all some whole e f = e ∙ f
 at_ok (Err _) text all some whole e f = tt
-
--- a text without its last byte
-pub without_last : (front text : List ℕ) (last n : ℕ) → text ≡ front ++ last ∷ [] → n ≡ length text
-    → take (n - 1) text ≡ front
-without_last front text last n is len =
-    let shorter : n - 1 ≡ length front = omega (arith, len, ap length is, length-append front (last ∷ [])) in
-    ap (λ k. take k text) shorter ∙ ap (take (length front)) is ∙ take-append_seam front (last ∷ [])

@@ -1,11 +1,10 @@
 //! Records of CSV, added to a text of one's own.
 
-ghost use Rattle.std.specs.Prelude.{◌≡◌, ◌++◌, ◌∷◌, [], ℕ, List, IfOk, OnOk};
+ghost use Rattle.std.specs.Prelude.{◌≡◌, ◌++◌, ◌∷◌, [], IfOk, OnOk};
 ghost use Rattle.std.specs.List.{list_any, flat_map};
 ghost use Rattle.rr_model.specs.FetchText.{comma, doubled, field_text, is_special};
 ghost use Rattle.rr_records.specs.Records.{record_text, IsPlain};
 
-use crate::records::Records;
 use rr_text::bytes::{COMMA, LINE_FEED, RETURN};
 use rr_text::text::cut;
 use std::alloc::{AllocError, Global};
@@ -38,33 +37,10 @@ pub fn push_plain(
 pub fn front_of(alloc: Global, first: &[u8]) -> Result<Vec<u8>, AllocError>
     ensures { IfOk result (λ front. front.items ≡ field_text first.now ++ comma ∷ []) }
 {
-    let mut records = Records::new(alloc);
-    records.push(&[first, b""])?;
-    let mut front = records.into_text()?;
-    // The line feed that ends the record.
-    front.pop();
+    let mut front = Vec::new(alloc);
+    push_field(&mut front, first)?;
+    front.extend_from_slice(b",")?;
     Ok(front)
-}
-
-/// Adds a record that begins so and goes on with two texts that CSV writes as they are, as numbers
-/// are. After an `Err` some of it may be there. The cost is linear in their bytes.
-pub fn push_behind(
-    text: &mut Vec<u8>,
-    front: &[u8],
-    second: &[u8],
-    third: &[u8],
-) -> Result<(), AllocError>
-    requires second { IsPlain second.now }
-    requires third { IsPlain third.now }
-    ensures { (first : List ℕ) → front.now ≡ field_text first ++ comma ∷ []
-        → OnOk result (text.new.items
-        ≡ text.old.items ++ record_text (first ∷ second.now ∷ third.now ∷ [])) }
-{
-    text.extend_from_slice(front)?;
-    text.extend_from_slice(second)?;
-    text.extend_from_slice(b",")?;
-    text.extend_from_slice(third)?;
-    text.extend_from_slice(b"\n")
 }
 
 /// Adds a field, in double quotes where CSV wants them.

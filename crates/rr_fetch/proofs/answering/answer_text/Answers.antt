@@ -1,4 +1,4 @@
-use Rattle.std.proofs.Common.{◌≡◌, ◌+ℤ◌, ◌*ℤ◌, ◌++◌, ◌∷◌, [], List, ℕ, pos, sym, ap, ◌∙◌, subst, rules}
+use Rattle.std.proofs.Common.{◌≡◌, ◌+ℤ◌, ◌*ℤ◌, ◌++◌, ◌∷◌, [], List, ℕ, pos, ℤ, sym, ap, ◌∙◌, subst, rules}
 use Rattle.std.proofs.Math.Facts.{to_z-of_z}
 use Rattle.std.specs.Int.{w64}
 use Rattle.rr_schema.specs.Schema.{span}
@@ -10,21 +10,25 @@ use Rattle.rr_request.specs.Requests.{request_view}
 use Rattle.rr_replica.specs.ReplicaWithRoom.{replica_state}
 use Rattle.rr_fetch.proofs.AnswerLemmas.{answer_none, answer_more}
 use Rattle.rr_fetch.proofs.RowEntries.{row_holds}
+use Rattle.rr_fetch.proofs.RowsOfArchive.{same_cells}
+use Rattle.rr_archive.specs.Cells.{row_of}
 use Rattle.rr_fetch.proofs.answering.answer_text.Goals as goal
 
 pub loop-row-init : goal.loop-row-init
 loop-row-init g c =
     let h = c.args.replica.now in
     let q = request_view c.args.request.now in
-    c.new-text.ensures.items ∙ sym (answer_none h.schema (value_of_cells h.schema h.cells q) q)
+    c.in_ok-text.ensures.items ∙ sym (answer_none h.schema (value_of_cells h.schema h.cells q) q)
 
-pub consolidate-value-requires-clause-row : goal.consolidate-value-requires-clause-row
-consolidate-value-requires-clause-row g c =
+pub value_at-requires-clause-row : goal.value_at-requires-clause-row
+value_at-requires-clause-row g c = λ rows are.
     let h = c.args.replica.now in
     let q = request_view c.args.request.now in
-    let read : c.deref.result.now ≡ c.read_row.new.row.items = search rules in
-    subst IsRow (sym (read ∙ c.in_ok-read_row.ensures (archive_cells h.cells q.key q.archive)
-    c.archive-archive.ensures)) (row_holds (replica_state h) c.schema-schema.ensures.holds q.key q.archive _)
+    let same = same_cells (λ a. g.A.Cells.cells a.now) c.archive-archive.result rows
+    (archive_cells h.cells q.key q.archive) are c.archive-archive.ensures in
+    let holds : (slot : ℤ) → IsRow (row_of rows slot) = λ slot. subst (λ r. IsRow (row_of r slot)) (sym same)
+    (row_holds (replica_state h) c.schema-schema.ensures.holds q.key q.archive slot) in
+    holds _
 
 pub loop-row-preserved : goal.loop-row-preserved
 loop-row-preserved g c =
@@ -35,17 +39,15 @@ loop-row-preserved g c =
     let at : c.slot_of-slot.result ≡ q.first +ℤ pos row = search rules in
     let start : c.start_of-start.result ≡ (q.first +ℤ pos row) *ℤ pos (span h.schema q.archive) = search rules in
     let back_slot = to_z-of_z {w = w64} {z = c.slot_of-slot.result} (search rules) in
-    let read : c.deref.result.now ≡ c.read_row.new.row.items = search rules in
-    let entries : c.deref.result.now ≡ row_at h.cells q.key q.archive c.slot_of-slot.result = read
-    ∙ rw back_slot at (c.in_ok-read_row.ensures (archive_cells h.cells q.key q.archive) c.archive-archive.ensures)
-    in
-    let here : c.consolidate-value.result ≡ consolidation_of h.schema q.archive q.function c.deref.result.now =
-    search rules in
-    let value : c.consolidate-value.result ≡ value_of (q.first +ℤ pos row) =
-    here ∙ ap (consolidation_of h.schema q.archive q.function) (entries ∙ ap (row_at h.cells q.key q.archive) at) in
+    let found = rw back_slot at (c.in_ok-value.ensures (archive_cells h.cells q.key q.archive)
+    c.archive-archive.ensures) in
+    let value : c.in_ok-value.value ≡ value_of (q.first +ℤ pos row) =
+    found ∙ ap (λ s. consolidation_of s q.archive q.function (row_at h.cells q.key q.archive c.slot_of-slot.result))
+    c.schema-schema.ensures.value
+    ∙ ap (λ slot. consolidation_of h.schema q.archive q.function (row_at h.cells q.key q.archive slot)) at in
     let back = to_z-of_z {w = w64} {z = c.start_of-start.result} (search rules) in
-    let front : c.deref-in-loop-row.result.now ≡ field_text q.key ++ comma ∷ [] = search rules in
+    let front : c.deref.result.now ≡ field_text q.key ++ comma ∷ [] = search rules in
     let pushed = rw back at c.in_ok-push_row.ensures q.key front in
     rw (answer_more h.schema value_of q row, ← start, ← value)
     (pushed ∙ ap (λ (text : List ℕ). text ++ record_text q.key
-    (c.start_of-start.result, c.consolidate-value.result)) c.loop-row.invariant)
+    (c.start_of-start.result, c.in_ok-value.value)) c.loop-row.invariant)

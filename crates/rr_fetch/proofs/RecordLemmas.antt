@@ -1,0 +1,25 @@
+-- The record of a row, by its parts.
+use Rattle.std.proofs.Common.{◌≡◌, ℤ, List, ℕ, [], ◌∷◌, ◌++◌, refl, Option, None, Some, FitsSigned, append_assoc}
+use Rattle.std.specs.Fmt.{signed_decimal}
+use Rattle.std.specs.Int.{w64}
+use Rattle.std.specs.Prelude.{IfSome}
+use Rattle.rr_model.specs.FetchText.{comma, line_feed, field_text, record_text, value_text}
+use Rattle.rr_records.specs.Records.{IsPlain}
+use Rattle.rr_records.proofs.CsvLemmas.{plain_signed}
+
+plain_value : (v : Option ℤ) → IfSome v (FitsSigned w64) → IsPlain (value_text v)
+plain_value None fits = refl
+plain_value (Some v) fits = plain_signed v fits
+
+regrouped : (old key start value : List ℕ) → (old ++ (key ++ 44 ∷ [])) ++ (start ++ 44 ∷ value ++ 10 ∷ []) ≡ old
+    ++ (key ++ 44 ∷ start ++ 44 ∷ value ++ 10 ∷ [])
+regrouped old key start value = simp append_assoc
+
+-- the front of a record and the rest of it
+pub front_and_rest : (old key front : List ℕ) (start : ℤ) (value : Option ℤ) → FitsSigned w64 start
+    → IfSome value (FitsSigned w64) → front ≡ field_text key ++ comma ∷ []
+    → (old ++ front) ++ (signed_decimal start ++ comma ∷ value_text value ++ line_feed ∷ []) ≡ old
+    ++ record_text key (start, value)
+front_and_rest old key front start value fits values is =
+    rw (is, plain_signed start fits, plain_value value values)
+    (regrouped old (field_text key) (signed_decimal start) (value_text value))

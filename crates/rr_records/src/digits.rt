@@ -1,0 +1,39 @@
+//! Numbers at the end of a buffer: a record's are written from its last byte on, and added at once.
+
+ghost use Rattle.std.specs.Prelude.{◌≡◌, ◌≤◌, ◌+◌, ◌∷◌, ◌++◌, length, drop};
+ghost use Rattle.std.specs.Fmt.{signed_decimal};
+
+use itoa::write_digits;
+use rr_text::bytes::MINUS;
+
+/// The most bytes of a number in decimal.
+pub const MAX_NUMBER_TEXT: usize = 20;
+
+const _: () = prove!(MAX_NUMBER_TEXT == 20);
+
+/// Writes a byte before those from `end` on, and says where it stands.
+pub fn write_byte(text: &mut [u8], end: usize, byte: u8) -> usize
+    requires room { 1 ≤ end }
+    requires within { end ≤ length text.old }
+    ensures start { result + 1 ≡ end }
+    ensures written { drop result text.new ≡ byte ∷ drop end text.old }
+{
+    let start = end - 1;
+    text[start] = byte;
+    start
+}
+
+/// Writes a number in decimal before the bytes from `end` on, and says where it begins.
+pub fn write_number(text: &mut [u8], end: usize, number: i64) -> usize
+    requires room { MAX_NUMBER_TEXT ≤ end }
+    requires within { end ≤ length text.old }
+    ensures start { end ≤ result + MAX_NUMBER_TEXT }
+    ensures before { result ≤ end }
+    ensures written { drop result text.new ≡ signed_decimal number ++ drop end text.old }
+{
+    let start = write_digits(number.unsigned_abs(), text, end);
+    if number < 0 {
+        return write_byte(text, start, MINUS);
+    }
+    start
+}
