@@ -5,7 +5,7 @@ use Rattle.std.specs.Option.{option_and_then}
 use Rattle.std.specs.Int.{bit_at, bit_not}
 use Rattle.std.specs.Int.Count.{ones_step}
 use Rattle.std.proofs.lemmas.Bool.{cases_order, cases_lt, cases_eq, eq-eqb, ne_eqb}
-use Rattle.std.proofs.lemmas.Nat.{ones_cat, ones_le_self, mod-pow-add, mod_below, pow_pos, one_shl, and_mask, and_le_l, shr-shr, shr_split}
+use Rattle.std.proofs.lemmas.Nat.{ones_cat, ones_le_self, mod-pow-add, mod_below, pow_pos, one_shl, and_mask, and_le_l, shr-shr}
 use Rattle.std.proofs.lemmas.Nat.Bits.{bit_at-lt, bit_at_above, shr_and_one, bit_at_set_same, bit_at_set_other, bit_at_clear_same, bit_at_clear_other}
 use Rattle.rr_archive.proofs.Lists.{get_set}
 use Rattle.rr_packed.specs.Sparse.{rank, place_at, item_at}
@@ -109,13 +109,6 @@ rank_lt mask m n h has = let more = rank_more mask m in let rest = rank_le mask 
 rank_all : (mask : ℕ) → mask < 2 ^ 64 → rank mask 64 ≡ count_ones mask
 unfolding rank
 rank_all mask fits = ap count_ones (mod-eq_of_lt fits)
-
--- all bits are below a number that none is at or above
-pub rank_of_all : (mask n : ℕ) → mask / 2 ^ n ≡ 0 → rank mask n ≡ count_ones mask
-unfolding rank
-rank_of_all mask n none =
-    let head : mask % 2 ^ n ≡ 0 * 2 ^ n + mask % 2 ^ n = omega arith in
-    ap count_ones (head ∙ ap (λ q. q * 2 ^ n + mask % 2 ^ n) (sym none) ∙ shr_split mask n)
 
 pub rank_at_most : (mask n : ℕ) → mask < 2 ^ 64 → n < 64 → rank mask n ≤ count_ones mask
 rank_at_most mask n fits low = let all = rank_all mask fits in let rest = rank_le mask n 64 (omega arith) in omega arith

@@ -267,15 +267,26 @@ impl Block {
                 self.give_back();
                 added
             }
-            None => {
-                let contribution = contribution_after(None, change);
-                let entry = Entry {
-                    origin,
-                    contribution,
-                };
-                self.rows.insert(number, Entries::One(entry))
-            }
+            None => self.add_entry(number, origin, change),
         }
+    }
+
+    /// `add`, as an entry whatever the change is.
+    fn add_entry(&mut self, number: u32, origin: Origin, change: &Change) -> Result<(), AllocError>
+        requires number { number < 64 }
+        requires fits { Fits (entry_at [] origin) change.now }
+        requires rows { place_at self.old.rows.mask number ≡ None }
+        ensures added { OnOk result (IsRowSet number (entry_after [] origin change.now ∷ [])
+            (items_in self.old) (items_in self.new)) }
+        ensures unchanged { OnErr result (items_in self.new ≡ items_in self.old) }
+        ensures room { IsTrue (has_room self.old.rows) → IsOk result }
+    {
+        let contribution = contribution_after(None, change);
+        let entry = Entry {
+            origin,
+            contribution,
+        };
+        self.rows.insert(number, Entries::One(entry))
     }
 
     /// Changes the entry of an origin in a row.
@@ -316,7 +327,7 @@ impl Block {
             self.rows.items[at].change(self.alloc, origin, change)?;
             return Ok(());
         }
-        self.add(number, origin, change)
+        self.add_entry(number, origin, change)
     }
 
     /// Whether another block has the same rows, held in the same way.

@@ -73,8 +73,22 @@ impl Blocks {
         }
     }
 
-    /// Where in the list the block of a number is; if there is none, where it belongs.
+    /// Where in the list the block of a number is; if there is none, where it belongs. Mostly it is the
+    /// last.
     fn find(&self, number: i64) -> Result<usize, usize>
+        ensures found { IfOk result (IsPlaceOf number self.now.blocks.items) }
+        ensures missing { IfErr result (IsGapFor number self.now.blocks.items) }
+    {
+        if let Some((last, _)) = self.blocks.back() {
+            if *last == number {
+                return Ok(self.blocks.len() - 1);
+            }
+        }
+        self.search(number)
+    }
+
+    /// `find`, in the whole list.
+    fn search(&self, number: i64) -> Result<usize, usize>
         ensures found { IfOk result (IsPlaceOf number self.now.blocks.items) }
         ensures missing { IfErr result (IsGapFor number self.now.blocks.items) }
     {
@@ -182,12 +196,22 @@ impl Blocks {
         let row = row_of(slot);
         match self.find(number) {
             Ok(at) => self.blocks[at].1.make_room(self.alloc, row, origin),
-            Err(at) => {
-                let mut block = HeldBlock::new(self.alloc);
-                block.make_room(self.alloc, row, origin)?;
-                self.insert(at, number, block)
-            }
+            Err(at) => self.make_new_room(at, slot, origin),
         }
+    }
+
+    /// `make_room`, in a block that isn't there.
+    fn make_new_room(&mut self, at: usize, slot: i64, origin: Origin) -> Result<(), AllocError>
+        requires { IsGapFor (block_of slot) self.old.blocks.items at }
+        ensures same { row_at self.new ≡ row_at self.old }
+        ensures room { OnOk result (IsTrue (has_room_at self.new slot origin)) }
+        ensures kept { IsTrue (has_room_at self.old slot origin) → IsOk result }
+    {
+        let number = block_of(slot);
+        let row = row_of(slot);
+        let mut block = HeldBlock::new(self.alloc);
+        block.make_room(self.alloc, row, origin)?;
+        self.insert(at, number, block)
     }
 
     /// Changes the entry of an origin in a slot.
@@ -208,12 +232,30 @@ impl Blocks {
         let row = row_of(slot);
         match self.find(number) {
             Ok(at) => self.blocks[at].1.change(self.alloc, row, origin, change),
-            Err(at) => {
-                let mut block = HeldBlock::new(self.alloc);
-                block.change(self.alloc, row, origin, change)?;
-                self.insert(at, number, block)
-            }
+            Err(at) => self.change_new(at, slot, origin, change),
         }
+    }
+
+    /// `change`, in a block that isn't there.
+    fn change_new(
+        &mut self,
+        at: usize,
+        slot: i64,
+        origin: Origin,
+        change: &Change,
+    ) -> Result<(), AllocError>
+        requires gap { IsGapFor (block_of slot) self.old.blocks.items at }
+        requires fits { Fits (entry_at (row_at self.old slot) origin) change.now }
+        ensures changed { OnOk result (IsSlotSet slot
+            (entry_after (row_at self.old slot) origin change.now) (row_at self.old) (row_at self.new)) }
+        ensures unchanged { OnErr result (row_at self.new ≡ row_at self.old) }
+        ensures room { IsTrue (has_room_at self.old slot origin) → IsOk result }
+    {
+        let number = block_of(slot);
+        let row = row_of(slot);
+        let mut block = HeldBlock::new(self.alloc);
+        block.change(self.alloc, row, origin, change)?;
+        self.insert(at, number, block)
     }
 
     /// Whether the first block is before that of a number.

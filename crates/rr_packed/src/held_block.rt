@@ -3,7 +3,7 @@ ghost use Rattle.std.specs.Prelude.{◌≡◌, ◌<◌, ◌≤◌, ◌+◌, ℕ,
 ghost use Rattle.rr_archive.specs.Row.{entry_at, with_entry};
 ghost use Rattle.rr_archive.specs.Changes.{Fits, entry_after};
 ghost use Rattle.rr_packed.specs.Readings.{entries_of};
-ghost use Rattle.rr_packed.specs.Blocks.{items_in, stored_in, has_room_held, IsRowSet};
+ghost use Rattle.rr_packed.specs.Blocks.{items_in, has_room_in, stored_in, has_room_held, IsRowSet};
 
 use crate::block::Block;
 use crate::row::Row;
@@ -20,6 +20,41 @@ pub(crate) enum HeldBlock {
     Own(Block),
     /// Others may have it too.
     Shared(Arc<Block>),
+}
+
+/// A copy of a block, with room for an entry of an origin in a row.
+fn copy_with_room(
+    block: &Block,
+    alloc: Global,
+    number: u32,
+    origin: Origin,
+) -> Result<Block, AllocError>
+    requires { number < 64 }
+    ensures same { IfOk result (λ new. items_in new ≡ items_in block.now) }
+    ensures room { IfOk result (λ new. IsTrue (has_room_in new number origin)) }
+{
+    let mut own = block.copy(alloc)?;
+    own.make_room(number, origin)?;
+    Ok(own)
+}
+
+/// A copy of a block, with the entry of an origin in a row changed.
+fn changed_copy(
+    block: &Block,
+    alloc: Global,
+    number: u32,
+    origin: Origin,
+    change: &Change,
+) -> Result<Block, AllocError>
+    requires number { number < 64 }
+    requires fits { Fits (entry_at (items_in block.now number) origin) change.now }
+    ensures { IfOk result (λ new. IsRowSet number
+        (with_entry (items_in block.now number) (entry_after (items_in block.now number) origin change.now))
+        (items_in block.now) (items_in new)) }
+{
+    let mut own = block.copy(alloc)?;
+    own.change(number, origin, change)?;
+    Ok(own)
 }
 
 impl HeldBlock {
@@ -73,8 +108,7 @@ impl HeldBlock {
         match self {
             HeldBlock::Own(block) => block.make_room(number, origin),
             HeldBlock::Shared(block) => {
-                let mut own = block.copy(alloc)?;
-                own.make_room(number, origin)?;
+                let own = copy_with_room(block, alloc, number, origin)?;
                 *self = HeldBlock::Own(own);
                 Ok(())
             }
@@ -101,8 +135,7 @@ impl HeldBlock {
         match self {
             HeldBlock::Own(block) => block.change(number, origin, change),
             HeldBlock::Shared(block) => {
-                let mut own = block.copy(alloc)?;
-                own.change(number, origin, change)?;
+                let own = changed_copy(block, alloc, number, origin, change)?;
                 *self = HeldBlock::Own(own);
                 Ok(())
             }

@@ -49,9 +49,6 @@ impl<T: Drop> Sparse<T> {
         ensures rank { result ≡ rank self.now.mask number }
         ensures at_most { result ≤ vec_len self.now.items }
     {
-        if self.mask >> number == 0 {
-            return self.items.len();
-        }
         (self.mask & ((1 << number) - 1)).count_ones() as usize
     }
 

@@ -1,5 +1,5 @@
 //! The slots and places of times, without a division where that can be.
-ghost use Rattle.std.specs.Prelude.{◌≡◌, ◌<◌, ◌≤◌, ◌*◌, ◌/◌, length, pos, IfSome, IsTrue};
+ghost use Rattle.std.specs.Prelude.{◌≡◌, ◌<◌, ◌≤◌, ◌+◌, ◌*◌, ◌/◌, ◌+ℤ◌, length, pos, IfSome};
 ghost use Rattle.std.specs.Int.{int_div_euclid};
 ghost use Rattle.rr_schema.specs.Schema.{archive_at, place_of, slot_of};
 ghost use Rattle.rr_text.specs.declared.limits.TheConstants.{MAX_STEP, MAX_STEPS};
@@ -43,38 +43,42 @@ fn near(span: u32, time: i64, newest: Option<i64>) -> Option<i64>
     ensures { IfSome result (λ slot. int_div_euclid time (pos (span * 1_000_000_000)) ≡ slot) }
 {
     let newest = newest?;
-    let next = newest.saturating_add(1);
     let length = u64::from(span) * NANOSECONDS;
-    if falls_in(next, time, length) {
-        Some(next)
-    } else if falls_in(newest, time, length) {
-        Some(newest)
-    } else {
-        None
+    match slots_on(newest, time, length) {
+        Some(on) => newest.checked_add(i64::from(on)),
+        None => None,
     }
 }
 
-/// Whether a time falls in a slot of as many nanoseconds, neither of which is before the epoch.
-fn falls_in(slot: i64, time: i64, length: u64) -> bool
+/// How many slots of as many nanoseconds the one of a time is after another: none or one, if neither is
+/// before the epoch.
+fn slots_on(slot: i64, time: i64, length: u64) -> Option<u32>
     requires { 0 < length }
-    ensures { IsTrue result → int_div_euclid time (pos length) ≡ slot }
+    ensures { IfSome result (λ on. int_div_euclid time (pos length) ≡ slot +ℤ pos on) }
 {
     let (Ok(slot), Ok(time)) = (u64::try_from(slot), u64::try_from(time)) else {
-        return false;
+        return None;
     };
-    is_within(slot, time, length)
+    whole_slots_on(slot, time, length)
 }
 
-/// Whether a time falls in a slot of as many nanoseconds.
-fn is_within(slot: u64, time: u64, length: u64) -> bool
+/// `slots_on`, since the epoch.
+fn whole_slots_on(slot: u64, time: u64, length: u64) -> Option<u32>
     requires { 0 < length }
-    ensures { IsTrue result → time / length ≡ slot }
+    ensures { IfSome result (λ on. time / length ≡ slot + on) }
 {
     let Some(start) = slot.checked_mul(length) else {
-        return false;
+        return None;
     };
     if time < start {
-        return false;
+        return None;
     }
-    time - start < length
+    let left = time - start;
+    if left < length {
+        return Some(0);
+    }
+    if left - length < length {
+        return Some(1);
+    }
+    None
 }

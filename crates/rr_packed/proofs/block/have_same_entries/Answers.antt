@@ -1,5 +1,4 @@
-use Rattle.std.proofs.Common.{rules, ◌≡◌, ◌<◌, length, refl, arith}
-use Rattle.std.proofs.lemmas.List.{take_all}
+use Rattle.std.proofs.Common.{rules, ◌≡◌, ◌<◌, length}
 use Rattle.rr_archive.specs.Entries.{items_of}
 use Rattle.rr_packed.proofs.BlockLemmas.{same_more}
 use Rattle.rr_packed.proofs.block.have_same_entries.Goals as goal

@@ -1,15 +1,13 @@
 use Rattle.std.proofs.Common.{rules, ◌≡◌, [], ◌∷◌, refl, ap, ◌∙◌, cond, eqb, None, Some}
 use Rattle.std.proofs.lemmas.Result.{on_ok_weaker, on_err_weaker}
-use Rattle.rr_archive.specs.declared.entry.Entry.{Entry}
 use Rattle.rr_archive.specs.declared.entries.Entries.{Entries}
 use Rattle.rr_archive.specs.Changes.{entry_after}
-use Rattle.rr_archive.specs.declared.entries.Entries.TheVariants.{One}
 use Rattle.rr_packed.specs.declared.block.Block.{Block}
 use Rattle.rr_packed.specs.declared.sparse.Sparse.{Sparse}
 use Rattle.rr_packed.specs.Sparse.{item_in}
 use Rattle.rr_packed.specs.Readings.{entries_read}
 use Rattle.rr_packed.proofs.SparseLemmas.{item_none}
-use Rattle.rr_packed.proofs.BlockLemmas.{block_same, reading_added, entries_set}
+use Rattle.rr_packed.proofs.BlockLemmas.{block_same, reading_added}
 use Rattle.rr_packed.proofs.block.Block.add.Goals as goal
 
 pub returns-in-Some-clause-added : goal.returns-in-Some-clause-added
@@ -41,22 +39,11 @@ returns-in-Some-clause-unchanged c =
 
 pub returns-in-None-clause-added : goal.returns-in-None-clause-added
 returns-in-None-clause-added c =
-    let old = c.reading_of.new.self in
     let k = c.args.number in
-    let entry : Entry = record { origin = c.args.origin; contribution = c.contribution_after-contribution.result } in
-    let is : (entry ∷ []) ≡ (entry_after [] c.args.origin c.args.change.now ∷ []) =
-    (λ i. record { origin = c.args.origin; contribution = c.contribution_after-contribution.ensures i } ∷ []) in
-    let new : Block = record {
-      alloc = old.alloc;
-      source = old.source;
-      readings = old.readings;
-      rows =
-          c.insert.new.self;
-    } in
-    on_ok_weaker c.insert.result (λ added. λ n. entries_set old new k (One entry) added refl (λ n. refl) n
-    ∙ (λ i. cond (eqb n k) (is i) (c.reading_of.ensures.same i n))) c.insert.ensures.added
+    on_ok_weaker c.add_entry.result (λ added. λ n. added n
+    ∙ ap (λ f. cond (eqb n k) (entry_after [] c.args.origin c.args.change.now ∷ []) (f n)) c.reading_of.ensures.same)
+    c.add_entry.ensures.added
 
 pub returns-in-None-clause-unchanged : goal.returns-in-None-clause-unchanged
 returns-in-None-clause-unchanged c =
-    on_err_weaker c.insert.result (λ same. block_same c.reading_of.new.self _ (λ n. ap (λ f. f n) same) refl (λ n. refl)
-    ∙ c.reading_of.ensures.same) c.insert.ensures.unchanged
+    on_err_weaker c.add_entry.result (λ same. same ∙ c.reading_of.ensures.same) c.add_entry.ensures.unchanged

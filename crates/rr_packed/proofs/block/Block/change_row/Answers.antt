@@ -77,8 +77,8 @@ returns-in-Some-clause-changed c = λ n.
 
 -- ---- it has no entry
 
-pub add-requires-clause-fits : goal.add-requires-clause-fits
-add-requires-clause-fits c =
+pub add_entry-requires-clause-fits : goal.add_entry-requires-clause-fits
+add_entry-requires-clause-fits c =
     let mid = c.unpack.new.self in
     let k = c.args.number in
     let rows : item_in mid.rows k ≡ None = item_none mid.rows.mask mid.rows.items.items k
@@ -97,9 +97,9 @@ returns-clause-changed c =
     let unpacked : place_at mid.readings.mask k ≡ None = search rules in
     let empty : items_in c.args.self.now k ≡ [] = sym (ap (λ f. f k) c.unpack.ensures.same)
     ∙ items_none mid k rows (item_none mid.readings.mask mid.readings.items.items k unpacked) in
-    on_ok_weaker c.add.result (λ added. λ n. added n
+    on_ok_weaker c.add_entry.result (λ added. λ n. added n
     ∙ (λ i. cond (eqb n k) (ap (λ l. with_entry l (entry_after l c.args.origin c.args.change.now)) (sym empty) i)
-    (c.unpack.ensures.same i n))) c.add.ensures.added
+    (c.unpack.ensures.same i n))) c.add_entry.ensures.added
 
 pub returns-clause-room : goal.returns-clause-room
 returns-clause-room c = λ room.
@@ -108,4 +108,4 @@ returns-clause-room c = λ room.
     let none : item_in mid.rows k ≡ None = item_none mid.rows.mask mid.rows.items.items k
     (sym c.in_default.ensures.place) in
     let free = room_is_free mid k c.args.origin none (c.unpack.ensures.kept c.args.origin room) in
-    c.add.ensures.room free.readings free.rows
+    c.add_entry.ensures.room free.rows

@@ -4,9 +4,9 @@ use Rattle.rr_archive.specs.declared.entry.Entry.{Entry}
 use Rattle.rr_archive.specs.Row.{entry_at}
 use Rattle.rr_archive.specs.Changes.{Fits}
 use Rattle.rr_packed.specs.Slots.{block_of, row_of}
-use Rattle.rr_packed.specs.Blocks.{stored_in, items_of_block, items_by_slot, IsPlaceOf, IsGapFor}
+use Rattle.rr_packed.specs.Blocks.{stored_in, items_of_block, IsPlaceOf}
 use Rattle.rr_packed.proofs.NumberLemmas.{block_there, block_put, ascend_put}
-use Rattle.rr_packed.proofs.BlocksLemmas.{blocks_alike, slot_found, room_found, room_missing, change_there, change_new}
+use Rattle.rr_packed.proofs.BlocksLemmas.{blocks_alike, slot_found, room_found, change_there}
 use Rattle.rr_packed.proofs.blocks.Blocks.change.Goals as goal
 
 -- ---- the block is there
@@ -69,30 +69,8 @@ returns-in-Ok-clause-room c = λ room.
 
 -- ---- it isn't
 
-pub returns-in_err-change-in-Err-clause-room : goal.returns-in_err-change-in-Err-clause-room
-returns-in_err-change-in-Err-clause-room c = λ room.
+pub change_new-requires-clause-gap : goal.change_new-requires-clause-gap
+change_new-requires-clause-gap c =
+    let slot : to_z w64 (of_z w64 c.args.slot) ≡ c.args.slot = search rules in
     let number : to_z w64 (of_z w64 c.block_of-number.result) ≡ block_of c.args.slot = search rules in
-    let gap : IsGapFor (block_of c.args.slot) c.args.self.now.blocks.items c.in-Err.at =
-    rw number at c.in-Err.ensures.missing in
-    absurd (room_missing c.args.self.now c.args.slot c.args.origin (sym gap.0) room)
-
-pub returns-in_ok-change-in-Err-clause-room : goal.returns-in_ok-change-in-Err-clause-room
-returns-in_ok-change-in-Err-clause-room c = λ room.
-    let number : to_z w64 (of_z w64 c.block_of-number.result) ≡ block_of c.args.slot = search rules in
-    let gap : IsGapFor (block_of c.args.slot) c.args.self.now.blocks.items c.in-Err.at =
-    rw number at c.in-Err.ensures.missing in
-    absurd (room_missing c.args.self.now c.args.slot c.args.origin (sym gap.0) room)
-
-pub returns-in_ok-change-in-Err-clause-changed : goal.returns-in_ok-change-in-Err-clause-changed
-returns-in_ok-change-in-Err-clause-changed c =
-    let old = c.args.self.now.blocks.items in
-    let number : to_z w64 (of_z w64 c.block_of-number.result) ≡ block_of c.args.slot = search rules in
-    let row : c.row_of-row.result ≡ row_of c.args.slot = search rules in
-    let gap : IsGapFor (block_of c.args.slot) old c.in-Err.at = rw number at c.in-Err.ensures.missing in
-    on_ok_weaker c.insert.result (λ added. change_new old _ c.args.slot c.new-block.result c.change-in-Err.new.self
-    c.args.origin c.args.change.now (rw number at added) (sym gap.0) c.new-block.ensures
-    (rw row at c.in_ok-change-in-Err.ensures.changed)) c.insert.ensures.added
-
-pub returns-in_ok-change-in-Err-clause-unchanged : goal.returns-in_ok-change-in-Err-clause-unchanged
-returns-in_ok-change-in-Err-clause-unchanged c =
-    on_err_weaker c.insert.result (λ same. ap items_by_slot same) c.insert.ensures.unchanged
+    rw slot (rw number at c.in-Err.ensures.missing)

@@ -1,4 +1,4 @@
-use Rattle.std.proofs.Common.{rules, ◌≡◌, ◌<◌, length, sym, ap, ◌∙◌}
+use Rattle.std.proofs.Common.{sym, ap, ◌∙◌}
 use Rattle.rr_packed.specs.Blocks.{items_of_block, IsPlaceOf}
 use Rattle.rr_packed.proofs.NumberLemmas.{place_here, block_there, block_put, ascend_put}
 use Rattle.rr_packed.proofs.BlocksLemmas.{blocks_alike}

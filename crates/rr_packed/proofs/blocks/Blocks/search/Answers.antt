@@ -2,7 +2,7 @@ use Rattle.std.proofs.Common.{rules, ◌≡◌, ◌<◌, ℤ, length, get_or}
 use Rattle.rr_packed.specs.declared.held_block.HeldBlock.{HeldBlock}
 use Rattle.rr_packed.specs.Blocks.{count_before}
 use Rattle.rr_packed.proofs.NumberLemmas.{gap_at, number_there, place_within}
-use Rattle.rr_packed.proofs.blocks.Blocks.find.Goals as goal
+use Rattle.rr_packed.proofs.blocks.Blocks.search.Goals as goal
 
 pub returns-else-other-number-clause-missing : goal.returns-else-other-number-clause-missing
 returns-else-other-number-clause-missing c =
