@@ -164,7 +164,11 @@ impl<A: Cells> Keeper<A> {
         ensures pending { OnOk result (self.new ≡ with_pending self.old (Join cell.now)) }
         ensures unchanged { OnErr result (self.new ≡ self.old) }
     {
-        self.copies.push(Hint::none(), Op::Join(cell.copy()?))
+        let (_key, hint) = self
+            .copies
+            .replica()
+            .known_key_near(Hint::none(), &cell.key)?;
+        self.copies.push(hint, Op::Join(cell.copy()?))
     }
 
     /// The names and versions of as many cells as `count` from a place on, in the order of the

@@ -315,6 +315,9 @@ impl Blocks {
         ensures same { row_at self.new ≡ row_at self.old }
         ensures count { length self.new.blocks.items ≡ length self.old.blocks.items }
     {
+        if self.blocks[at].1.is_shared() {
+            return false;
+        }
         match other.get(self.blocks[at].0) {
             Some(theirs) => self.blocks[at].1.share(theirs),
             None => false,

@@ -65,6 +65,14 @@ impl HeldBlock {
         HeldBlock::Own(Block::new(alloc))
     }
 
+    /// Whether others may have it too.
+    pub(crate) fn is_shared(&self) -> bool {
+        match self {
+            HeldBlock::Own(_) => false,
+            HeldBlock::Shared(_) => true,
+        }
+    }
+
     /// The block.
     fn block(&self) -> &Block
         ensures { items_in result.now ≡ stored_in self.now }
