@@ -11,6 +11,7 @@ ghost use Rattle.rr_copies.specs.Writers.{changes};
 
 use crate::book::{Editions, Front};
 use crate::shown::{Change, CopyState, Hinted, Shown};
+use crate::turn::shares_rows;
 use crate::writing::{DeskWriter, end_edition, publish};
 use core::mem::replace_with;
 use left_right::Absorb;
@@ -98,14 +99,25 @@ impl<A: Cells> Copies<A> {
     /// Makes an operation pending that the replica takes, and applies it there. Room is
     /// made first, so that it is taken whole or not at all.
     ///
-    /// Finished rows of the series at the hint are first shared with the copy that is shown.
+    /// Before some operations finished rows of the series at the hint are shared with the copy that
+    /// is shown.
     pub fn push(&mut self, hint: Hint, op: Op) -> Result<(), AllocError>
         requires { accepts (own_replica self.old) op ≡ true }
         ensures pending { OnOk result (self.new ≡ with_pending self.old op) }
         ensures unchanged { OnErr result (self.new ≡ self.old) }
     {
-        self.share_rows(hint);
+        self.share_before(hint, &op);
         self.append(hint, op)
+    }
+
+    /// Shares finished rows of the series at a hint, if the operation is one with which they are
+    /// looked for.
+    fn share_before(&mut self, hint: Hint, op: &Op)
+        ensures { self.new ≡ self.old }
+    {
+        if shares_rows(op) {
+            self.share_rows(hint);
+        }
     }
 
     /// Shares finished rows of the series at a hint with the copy that is shown.

@@ -21,6 +21,7 @@ mod opening;
 mod read_handle;
 mod rule;
 mod shown;
+mod turn;
 mod writing;
 
 pub use book::{Editions, Front};

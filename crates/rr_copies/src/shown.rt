@@ -1,6 +1,7 @@
 //! The two copies of a replica that readers read in turn.
 
 use crate::book::Front;
+use crate::turn::is_drawn;
 use left_right::Absorb;
 use rr_archive::Cells;
 use rr_cells::{Cell, Op, Sample};
@@ -73,8 +74,35 @@ impl Hinted {
         ensures unchanged { OnErr result (replica_state replica.new ≡ replica_state replica.old) }
     {
         self.apply_to(replica)?;
-        replica.finish_rows(self.hint);
+        self.finish_rows(replica);
         Ok(())
+    }
+
+    /// Makes rows of its series ready to be shared, if it is one after which they are looked for.
+    fn finish_rows<A: Cells>(&self, replica: &mut Replica<A>)
+        ensures { replica_state replica.new ≡ replica_state replica.old }
+    {
+        if self.shares_rows() {
+            replica.finish_rows(self.hint);
+        }
+    }
+
+    /// Shares rows of its series with the copy that was first, if it is one after which they are
+    /// looked for.
+    fn share_rows<A: Cells>(&self, replica: &mut Replica<A>, first: &Replica<A>)
+        ensures { replica_state replica.new ≡ replica_state replica.old }
+    {
+        if self.shares_rows() {
+            replica.share_rows(self.hint, first);
+        }
+    }
+
+    /// Whether finished rows are looked for after it.
+    fn shares_rows(&self) -> bool {
+        match &self.op {
+            Waiting::Put(sample) => is_drawn(sample.number),
+            Waiting::Join(cell) => is_drawn(cell.contribution.version),
+        }
     }
 
     /// Applies it to the copy that takes it second, and shares rows with the first.
@@ -88,7 +116,7 @@ impl Hinted {
         ensures unchanged { OnErr result (replica_state replica.new ≡ replica_state replica.old) }
     {
         self.apply_to(replica)?;
-        replica.share_rows(self.hint, first);
+        self.share_rows(replica, first);
         Ok(())
     }
 }

@@ -1,4 +1,4 @@
-use Rattle.std.proofs.Common.{◌≡◌, sym, ◌∙◌, subst}
+use Rattle.std.proofs.Common.{sym, ◌∙◌, subst}
 use Rattle.left_right.specs.Sides.{view}
 use Rattle.rr_cells.specs.ReplicaState.{ReplicaState}
 use Rattle.rr_replica.specs.ReplicaWithRoom.{replica_state}
