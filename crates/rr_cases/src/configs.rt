@@ -44,7 +44,19 @@ fn push_config(output: &mut String, config: &Config) -> Result<(), AllocError> {
     let (rounds, visits) = (config.rounds, config.visits);
     write!(output, "; rounds {rounds}; visits {visits}")?;
     push_times(output, config)?;
-    push_rounds(output, config)
+    push_rounds(output, config)?;
+    push_http(output, config)
+}
+
+/// Adds what a configuration says of HTTP.
+fn push_http(output: &mut String, config: &Config) -> Result<(), AllocError> {
+    match &config.http {
+        Some(http) => {
+            let (address, seats) = (http.address.as_str(), http.seats);
+            write!(output, "; http {address} seats {seats}")
+        }
+        None => Ok(()),
+    }
 }
 
 /// Adds what a configuration says of rounds by time, and of what a node says of them.

@@ -1,5 +1,5 @@
 -- What the TOML text of a configuration says: the configuration, or the first fault, key by key.
-use Rattle.std.specs.Prelude.{ℕ, Bool, false, List, [], map, codes, Option, None, Some, option_map, Result, Ok, Err}
+use Rattle.std.specs.Prelude.{ℕ, Bool, false, List, [], length, map, codes, Option, None, Some, option_map, Result, Ok, Err}
 use Rattle.std.specs.String.{string_bytes}
 use Rattle.toml.specs.Data.{Members, get_member}
 use Rattle.rr_schema.specs.declared.fault.SchemaFault.{SchemaFault}
@@ -12,6 +12,7 @@ use Rattle.rr_line.specs.declared.precision.Precision.TheVariants.{Ns}
 use Rattle.rr_config.specs.declared.config.Config.{Config}
 use Rattle.rr_config.specs.declared.fault.ConfigFault.{ConfigFault}
 use Rattle.rr_config.specs.Fault.{of_schema_fault}
+use Rattle.rr_config.specs.Http.{HttpView, http_in, http_view}
 use Rattle.rr_config.specs.Values.{needed, if_there, flag_of, text_of, some_text_of, count_of, some_count_of, some_seconds_of, texts_of, readers_of, precision_of}
 
 -- a configuration, with its texts by their bytes
@@ -28,6 +29,7 @@ pub record ConfigView : Type 0 where
   pub every : Option ℕ
   pub quiet : Bool
   pub status : Option (List ℕ)
+  pub http : Option HttpView
 
 abbrev pub config_view : Config → ConfigView
 config_view c = record {
@@ -43,6 +45,7 @@ config_view c = record {
   every = c.every;
   quiet = c.quiet;
   status = option_map string_bytes c.status;
+  http = option_map http_view c.http;
 }
 
 -- a step of a schema as one of the configuration
@@ -67,6 +70,7 @@ config_in table = do
   every ← if_there None some_seconds_of (get_member (codes "every") table)
   quiet ← if_there false flag_of (get_member (codes "quiet") table)
   status ← if_there None some_text_of (get_member (codes "status") table)
+  http ← http_in table rounds visits (length fetch)
   Ok (record {
     schema = schema;
     lines = lines;
@@ -80,7 +84,7 @@ config_in table = do
     idle = idle;
     every = every;
     quiet = quiet;
-    status = status;
+    status = status; http = http;
   })
 
 -- the configuration of a text

@@ -1,3 +1,4 @@
 pub mod Fault
 pub mod Values
+pub mod Http
 pub mod Config

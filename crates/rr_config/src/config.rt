@@ -12,6 +12,7 @@ ghost use Rattle.rr_config.specs.Config.{config_in, config_of, config_view};
 ghost use Rattle.rr_config.specs.Values.{if_there, count_of, flag_of, some_count_of, some_seconds_of, some_text_of, texts_of, precision_of};
 
 use crate::fault::ConfigFault;
+use crate::http::{Http, http_in};
 use crate::value;
 use crate::value::{find, readers_of, text_of, value_at};
 use rr_document::FromToml;
@@ -51,6 +52,8 @@ pub struct Config {
     pub quiet: bool,
     /// The file that counts of what the node did are written to, if any.
     pub status: Option<String>,
+    /// How the node is asked over HTTP, if it is.
+    pub http: Option<Http>,
 }
 
 /// The peers, none where the key is missing.
@@ -144,6 +147,7 @@ impl Config {
         let every = seconds_in(table, "every")?;
         let quiet = quiet_in(table)?;
         let status = status_in(alloc, table)?;
+        let http = http_in(alloc, table, rounds, visits, fetch.len())?;
         Ok(Config {
             schema,
             lines: String::from_str(alloc, lines)?,
@@ -157,6 +161,7 @@ impl Config {
             every,
             quiet,
             status,
+            http,
         })
     }
 
@@ -169,7 +174,8 @@ impl Config {
     /// text. All but `lines` and `fetch` may be missing. Other keys are ignored.
     ///
     /// Refusals, in this order: those of the schema; then key by key, in the order above,
-    /// `MissingField`, `WrongKind`, and `BadCount` or `BadPrecision`. `Memory` is answered where
+    /// `MissingField`, `WrongKind`, and `BadCount` or `BadPrecision`. `http` is refused as `BadCount` beside
+    /// `rounds` or `visits`, and `http_seats` if the readers are then more than 16. `Memory` is answered where
     /// memory runs out. The cost is that of reading the text once.
     pub fn from_toml(alloc: Global, text: &[u8]) -> Result<Config, ConfigFault>
         ensures read { GivesUnless ConfigFault.Memory config_view result (config_of text.now) }

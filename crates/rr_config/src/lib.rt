@@ -1,7 +1,7 @@
 //! The configuration of a node: what an operator writes in TOML.
 //!
 //! A [`Config`] has the schema of the store, the addresses that the node listens on, its peers, how
-//! long it serves, and how the times of lines are taken. It is read by [`Config::from_toml`];
+//! long it serves, how the times of lines are taken, and how it is asked over HTTP. It is read by [`Config::from_toml`];
 //! [`remarks`] tells an operator where a text is refused, and which of its keys are ignored.
 //!
 //! ```text
@@ -14,10 +14,12 @@
 
 mod config;
 mod fault;
+mod http;
 mod named_key;
 mod remark;
 mod value;
 
 pub use config::Config;
 pub use fault::ConfigFault;
+pub use http::Http;
 pub use remark::remarks;

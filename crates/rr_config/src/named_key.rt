@@ -2,6 +2,7 @@
 
 use crate::config::{count_in, lead_in, peers_in, precision_in, quiet_in, seconds_in, status_in};
 use crate::fault::ConfigFault;
+use crate::http::{address_in, seats_in};
 use crate::value::{find, readers_of, text_of, value_at};
 use rr_schema::{ArchiveSpec, Schema, SchemaFault};
 use std::alloc::Global;
@@ -59,6 +60,8 @@ fn refused_node_key(alloc: Global, table: &Table) -> Option<&'static str> {
         ("every", seconds_in(table, "every").is_err()),
         ("quiet", quiet_in(table).is_err()),
         ("status", status_in(alloc, table).is_err()),
+        ("http", is_no_http(alloc, table)),
+        ("http_seats", are_no_seats(alloc, table)),
     ];
     for (key, is_refused) in refusals {
         if is_refused {
@@ -74,6 +77,27 @@ fn is_no_address(table: &Table) -> bool {
         Ok(value) => text_of(value).is_err(),
         Err(_) => true,
     }
+}
+
+/// Whether the address of HTTP is refused.
+fn is_no_http(alloc: Global, table: &Table) -> bool {
+    let (Ok(rounds), Ok(visits)) = (count_in(table, "rounds"), count_in(table, "visits")) else {
+        return false;
+    };
+    address_in(alloc, table, rounds, visits).is_err()
+}
+
+/// Whether the number of seats for HTTP is refused.
+fn are_no_seats(alloc: Global, table: &Table) -> bool {
+    let is_asked = find(table, "http").is_some();
+    let readers = match value_at(table, "fetch") {
+        Ok(value) => match readers_of(alloc, value) {
+            Ok(readers) => readers.len(),
+            Err(_) => 0,
+        },
+        Err(_) => 0,
+    };
+    seats_in(table, is_asked, readers).is_err()
 }
 
 /// Whether the addresses of fetches are refused.

@@ -8,7 +8,7 @@ use std::str;
 use toml::Table;
 
 /// The keys of a node.
-const NODE_KEYS: [&str; 13] = [
+const NODE_KEYS: [&str; 15] = [
     "step",
     "archive",
     "lines",
@@ -22,6 +22,8 @@ const NODE_KEYS: [&str; 13] = [
     "every",
     "quiet",
     "status",
+    "http",
+    "http_seats",
 ];
 
 /// What an operator is told of a text beside its configuration or its fault, a line each.

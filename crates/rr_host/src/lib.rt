@@ -45,7 +45,7 @@ pub use clock::{Clock, Moments, SystemClock};
 pub use dial::Dial;
 pub use flag::Flag;
 pub use halt::{Halt, HaltFlag};
-pub use listening::Listening;
+pub use listening::{Accepted, Listening};
 pub use log::CallLog;
 pub use pace::Pace;
 pub use paced::PacedDial;

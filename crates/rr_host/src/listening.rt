@@ -47,6 +47,17 @@ pub struct Listening {
     differs: bool,
 }
 
+/// What comes of waiting for a connection whose halves aren't made yet.
+#[derive(Drop)]
+pub enum Accepted {
+    /// A connection.
+    Stream(TcpStream),
+    /// It failed.
+    Failed,
+    /// None will come any more.
+    Over,
+}
+
 /// What connections are waited for by turns.
 #[derive(Drop)]
 struct Turns {
@@ -126,6 +137,27 @@ impl Listening {
         }
     }
 
+    /// Waits for the next connection, which isn't handed back. It is as [`Visits::next`] gives it, but for its halves.
+    pub fn accept(&mut self) -> Accepted {
+        if self.halt.is_raised() || !self.has_started() {
+            return Accepted::Over;
+        }
+        for _ in 0..self.patience() {
+            if self.halt.is_raised() {
+                return Accepted::Over;
+            }
+            match self.listener.accept() {
+                Ok((stream, _)) => return Accepted::Stream(stream),
+                Err(error) if error.kind() == ErrorKind::WouldBlock => {}
+                Err(_) => {
+                    pause(PAUSE);
+                    return Accepted::Failed;
+                }
+            }
+        }
+        Accepted::Failed
+    }
+
     /// A connection that was taken.
     fn visit(&self, stream: TcpStream) -> Visit<Half, Half> {
         match halves(self.alloc, stream, self.idle, &self.halt) {
@@ -147,23 +179,11 @@ impl Visits for Listening {
     ghost calls = { λ l. None };
 
     fn next(&mut self) -> Visit<Half, Half> {
-        if self.halt.is_raised() || !self.has_started() {
-            return Visit::Over;
+        match self.accept() {
+            Accepted::Stream(stream) => self.visit(stream),
+            Accepted::Failed => Visit::Failed,
+            Accepted::Over => Visit::Over,
         }
-        for _ in 0..self.patience() {
-            if self.halt.is_raised() {
-                return Visit::Over;
-            }
-            match self.listener.accept() {
-                Ok((stream, _)) => return self.visit(stream),
-                Err(error) if error.kind() == ErrorKind::WouldBlock => {}
-                Err(_) => {
-                    pause(PAUSE);
-                    return Visit::Failed;
-                }
-            }
-        }
-        Visit::Failed
     }
 
     fn schema_differs(&mut self) {

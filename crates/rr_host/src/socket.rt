@@ -82,11 +82,16 @@ impl Half {
         }
     }
 
+    /// Ends what is sent over the connection, and answers whether that could be.
+    pub fn end(&mut self) -> bool {
+        self.socket.stream.shutdown(Shutdown::Write).is_ok()
+    }
+
     /// Ends what is sent over the connection, and reads what is still received, to its end or for
     /// 256 MiB. A connection that is closed before that cuts off a peer which still sends, whose
     /// next call then fails, where it should learn of the end.
     pub(crate) fn drain(&mut self) {
-        if self.socket.stream.shutdown(Shutdown::Write).is_err() {
+        if !self.end() {
             return;
         }
         let mut scrap = [0u8; SCRAP];
@@ -98,7 +103,7 @@ impl Half {
     }
 
     /// Whether a byte was read from it.
-    pub(crate) fn has_given(&self) -> bool {
+    pub fn has_given(&self) -> bool {
         self.has_given
     }
 }

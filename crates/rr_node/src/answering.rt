@@ -66,8 +66,9 @@ fn answer_request<A: Cells, G: Gate>(
     }
 }
 
-/// The answer to a line, or its refusal.
-fn answer_line<A: Cells, G: Gate>(
+/// The answer to a line of a fetch connection, or its refusal, without the empty line that follows
+/// it there. The cost is that of the fetch.
+pub fn answer_line<A: Cells, G: Gate>(
     alloc: Global,
     line: &[u8],
     reader: &mut Reader<A>,

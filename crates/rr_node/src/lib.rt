@@ -46,6 +46,7 @@ mod seats;
 mod shelf;
 mod tally;
 
+pub use answering::answer_line;
 pub use fault::NodeFault;
 pub use file_shelf::FileShelf;
 pub use gates::OpenGate;
@@ -58,6 +59,7 @@ pub use reader::serve_reader;
 pub use report::Report;
 pub use round::keep_round;
 pub use round_log::RoundLog;
+pub use rounds::keep_or_halt;
 pub use rr_config::{Config, ConfigFault};
 pub use rr_host::{
     Calling, Clock, Dial, Flag, Half, Halt, HaltFlag, Listening, Moments, PacedDial, Prepared,

@@ -49,8 +49,9 @@ fn keep_rounds<A: Cells, V: Visits, D: Dial, S: Shelf, C: Clock, T: Wait>(
     Ok(())
 }
 
-/// Keeps rounds, and halts the node where memory runs out.
-pub(crate) fn keep_or_halt<A: Cells, V: Visits, D: Dial, S: Shelf, H: Halt, C: Clock, T: Wait>(
+/// Keeps rounds, one after the other, until no connection will come, or until there were as many as
+/// the configuration says, and halts the node where memory runs out.
+pub fn keep_or_halt<A: Cells, V: Visits, D: Dial, S: Shelf, H: Halt, C: Clock, T: Wait>(
     alloc: Global,
     keeper: &mut Keeper<A>,
     lines: &mut V,

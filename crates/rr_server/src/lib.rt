@@ -18,5 +18,6 @@ mod greeting;
 mod listeners;
 mod program;
 mod server;
+mod web;
 
 pub use program::run;

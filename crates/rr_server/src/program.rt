@@ -5,6 +5,7 @@ use rr_process::{Ending, obey, read_order};
 use rr_words::Order;
 use std::env::Env;
 use std::net::{Net, TcpListener, TcpStream};
+use std::random::RandomSource;
 use std::rt::Files;
 use std::sync::Wait;
 use std::thread::Threads;
@@ -32,6 +33,7 @@ where
         + Eprint
         + Net<Listener = TcpListener, Stream = TcpStream>
         + Clock
+        + RandomSource
         + Threads
         + Wait
         + Sync,

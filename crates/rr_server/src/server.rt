@@ -16,19 +16,20 @@ use rr_replica::Replica;
 use rr_schema::Origin;
 use std::alloc::AllocError;
 use std::net::{Net, TcpListener, TcpStream};
+use std::random::RandomSource;
 use std::rt::Files;
 use std::sync::Wait;
 use std::thread::Threads;
 use std::time::Clock;
 
 /// The ending when memory runs out.
-const OUT_OF_MEMORY: Ending = Ending::Failed(ToolFault::Memory);
+pub(crate) const OUT_OF_MEMORY: Ending = Ending::Failed(ToolFault::Memory);
 
 /// What serves as a node, and where it saves.
 #[derive(Drop)]
 pub(crate) struct Server<'a, R> {
-    rt: &'a R,
-    config: Config,
+    pub(crate) rt: &'a R,
+    pub(crate) config: Config,
     save: Option<&'a str>,
 }
 
@@ -39,6 +40,7 @@ where
         + Eprint
         + Net<Listener = TcpListener, Stream = TcpStream>
         + Clock
+        + RandomSource
         + Threads
         + Wait
         + Sync,
@@ -77,27 +79,42 @@ where
         }
     }
 
-    /// Opens a desk over a replica, with a reader for each address of fetches, and serves at it.
+    /// Opens a desk over a replica, with a reader for each address of fetches and each seat of
+    /// HTTP, and serves at it.
     fn serve_replica(&self, replica: Replica<PackedArchive>, listeners: Listeners) -> Ending {
+        let readers = listeners.fetches.len().saturating_add(listeners.web.len());
+        let Ok((mut keeper, readers)) = open(self.rt.alloc(), self.rt, replica, readers) else {
+            return OUT_OF_MEMORY;
+        };
+        let served = match &self.config.http {
+            Some(http) => self.serve_web(http, &mut keeper, readers, listeners),
+            None => self.serve_plain(&mut keeper, readers, listeners),
+        };
+        keeper.close(self.rt);
+        match served {
+            Ok(ending) => ending,
+            Err(_) => OUT_OF_MEMORY,
+        }
+    }
+
+    /// Serves with a keeper that takes lines where they come, and with its readers.
+    fn serve_plain(
+        &self,
+        keeper: &mut Keeper<PackedArchive>,
+        readers: Vec<Reader<PackedArchive>>,
+        listeners: Listeners,
+    ) -> Result<Ending, AllocError> {
         let Listeners {
             lines,
             fetches,
             halt,
             wish,
             alarm,
+            ..
         } = listeners;
-        let Ok((mut keeper, readers)) = open(self.rt.alloc(), self.rt, replica, fetches.len())
-        else {
-            return OUT_OF_MEMORY;
-        };
-        let ending = match (self.seats(readers, fetches, &halt), self.shelf(wish, alarm)) {
-            (Ok(mut seats), Ok(shelf)) => {
-                self.serve_at(&mut keeper, lines, &mut seats, halt, shelf)
-            }
-            _ => OUT_OF_MEMORY,
-        };
-        keeper.close(self.rt);
-        ending
+        let mut seats = self.seats(readers, fetches, &halt)?;
+        let shelf = self.shelf(wish, alarm)?;
+        Ok(self.serve_at(keeper, lines, &mut seats, halt, shelf))
     }
 
     /// A seat for each reader, with the connections of its address.
@@ -123,7 +140,10 @@ where
     }
 
     /// What reaches the peers, each at most once in a turn.
-    fn dial(&self, halt: &HaltFlag) -> Result<PacedDial<'_, R, Calling<'a, R>>, AllocError> {
+    pub(crate) fn dial(
+        &self,
+        halt: &HaltFlag,
+    ) -> Result<PacedDial<'_, R, Calling<'a, R>>, AllocError> {
         let alloc = self.rt.alloc();
         let calling = Calling::new(self.rt, alloc, self.config.idle, halt.share()?);
         PacedDial::new(
@@ -137,7 +157,7 @@ where
 
     /// What takes the snapshots, at most one in a turn unless one is wished for, and tells of an
     /// alarm.
-    fn shelf(
+    pub(crate) fn shelf(
         &self,
         wish: Flag,
         alarm: Flag,

@@ -7,6 +7,7 @@ use std::fs::{Metadata, OpenOptions};
 use std::io;
 use std::io::{BufRead, ErrorKind, Lines};
 use std::net::{Net, SocketAddr, TcpListener, TcpStream};
+use std::random::RandomSource;
 use std::rt::Files;
 use std::sync::{Mutex, Wait};
 use std::thread::Threads;
@@ -161,6 +162,12 @@ impl<R> Clock for Process<'_, R> {
             Some(seconds) => Ok(Duration::from_secs(seconds)),
             None => Err(io::Error::from(ErrorKind::Unsupported)),
         }
+    }
+}
+
+impl<R: RandomSource> RandomSource for Process<'_, R> {
+    fn fill_bytes(&self, buf: &mut [u8]) -> io::Result<()> {
+        self.host.fill_bytes(buf)
     }
 }
 

@@ -1,0 +1,235 @@
+//! The desk at which requests are answered.
+
+use crate::body::{Body, LineAnswers};
+use crate::fetching::answer_fetch;
+use crate::response::{fill, fill_failed};
+use crate::visits::Queue;
+use bytes::Bytes;
+use http::{Request, header};
+use http_server::{Response, Service};
+use rr_desk::Reader;
+use rr_host::{Clock, HaltFlag, SystemClock};
+use rr_line::Precision;
+use rr_node::OpenGate;
+use rr_packed::PackedArchive;
+use rr_turns::{Slip, Told};
+use rr_web::{Ask, Kind, Reply, Status, asked_by, is_precision, parameter, write_reply};
+use std::alloc::{AllocError, Global};
+use std::sync::Wait;
+use std::time;
+use std::time::Duration;
+
+/// For how many seconds a body waits for a place in the queue.
+const SECONDS_FOR_PLACE: u64 = 1;
+
+/// For how many seconds a body waits for the keeper.
+const SECONDS_FOR_KEEPER: u64 = 4;
+
+/// What requests are answered from.
+#[derive(Drop)]
+pub struct Desk {
+    /// Where memory comes from.
+    pub alloc: Global,
+    /// Who answers fetches.
+    pub reader: Reader<PackedArchive>,
+    /// Where bodies wait.
+    pub queue: Queue,
+    /// The flag of the node.
+    pub halt: HaltFlag,
+    /// The unit of the times of lines.
+    pub precision: Precision,
+}
+
+/// Whoever answers requests at a desk.
+#[derive(Drop)]
+pub(crate) struct Clerk<'a, T> {
+    pub(crate) rt: &'a T,
+    pub(crate) desk: Desk,
+}
+
+/// A reply of JSON.
+fn json(alloc: Global, status: Status, text: &str) -> Result<Reply, AllocError> {
+    Ok(Reply {
+        status,
+        kind: Kind::Json,
+        text: Vec::from_slice(alloc, text.as_bytes())?,
+    })
+}
+
+/// The query of a request.
+fn query_of(request: &Request<Bytes>) -> &[u8] {
+    match request.uri().query() {
+        Some(query) => query.as_bytes(),
+        None => b"",
+    }
+}
+
+/// The name of a precision.
+fn name_of(precision: Precision) -> &'static str {
+    match precision {
+        Precision::Ns => "ns",
+        Precision::Us => "us",
+        Precision::Ms => "ms",
+        Precision::S => "s",
+    }
+}
+
+/// Whether the body of a request has a coding, of which none is undone here.
+fn has_coding(request: &Request<Bytes>) -> bool {
+    match request.headers().get(header::CONTENT_ENCODING) {
+        Some(coding) => coding.as_bytes() != b"identity".as_slice(),
+        None => false,
+    }
+}
+
+/// Whether what a fetch was answered is a refusal: each record has a comma, and no refusal has one.
+fn is_refusal(text: &[u8]) -> bool {
+    text.starts_with(b"error ") && !text.contains(&b',')
+}
+
+impl<T: Wait + time::Clock> Clerk<'_, T> {
+    /// The second after the present one, up to which `last` counts.
+    fn next_second(&self) -> i64 {
+        let mut clock = SystemClock::new(self.rt);
+        clock.now().div_euclid(1_000_000_000).saturating_add(1)
+    }
+
+    /// The answer to a fetch.
+    fn fetch(&mut self, request: &Request<Bytes>) -> Result<Reply, AllocError> {
+        let now = self.next_second();
+        let desk = &mut self.desk;
+        let mut gate = OpenGate::new();
+        let text = answer_fetch(
+            desk.alloc,
+            query_of(request),
+            now,
+            &mut desk.reader,
+            &mut gate,
+        )?;
+        if is_refusal(&text) {
+            return Ok(Reply {
+                status: Status::BadRequest,
+                kind: Kind::Plain,
+                text,
+            });
+        }
+        Ok(Reply {
+            status: Status::Ok,
+            kind: Kind::Csv,
+            text,
+        })
+    }
+
+    /// The answer to a write.
+    fn write(&self, request: &Request<Bytes>) -> Result<Reply, AllocError> {
+        let alloc = self.desk.alloc;
+        if has_coding(request) {
+            let text = "{\"error\":\"a body with a content-encoding is not read\"}\n";
+            return json(alloc, Status::UnknownCoding, text);
+        }
+        if let Some(named) = parameter(alloc, query_of(request), b"precision")?
+            && !is_precision(&named, self.desk.precision)
+        {
+            let own = name_of(self.desk.precision);
+            let text = format!(in alloc;
+                "{{\"error\":\"the precision of this node is {own}\"}}\n"
+            )?;
+            return json(alloc, Status::BadRequest, text.as_str());
+        }
+        match self.hand_in(Vec::from_slice(alloc, request.body())?)? {
+            Some(Told::Answer(lines)) => self.reply_to_lines(&lines),
+            Some(_) => json(alloc, Status::Failed, "{\"error\":\"the node ended\"}\n"),
+            None => json(
+                alloc,
+                Status::Busy,
+                "{\"error\":\"the node is behind: nothing was written\"}\n",
+            ),
+        }
+    }
+
+    /// The answer to a write whose lines were answered so.
+    fn reply_to_lines(&self, lines: &LineAnswers) -> Result<Reply, AllocError> {
+        let report = match &lines.report {
+            Some(report) => Some(report.as_slice()),
+            None => None,
+        };
+        write_reply(self.desk.alloc, lines.refusals.as_slice(), report)
+    }
+
+    /// Hands a body to the keeper, and waits for what its lines are answered. None is there if the
+    /// keeper didn't begin with it in time.
+    fn hand_in(&self, text: Vec<u8>) -> Result<Option<Told<LineAnswers>>, AllocError> {
+        let slip = Slip::new(self.desk.alloc)?;
+        let body = Body {
+            text,
+            slip: slip.share()?,
+        };
+        let patience = Duration::from_secs(SECONDS_FOR_PLACE);
+        if !self.desk.queue.turns.put_body(self.rt, body, patience) {
+            return Ok(None);
+        }
+        if !slip.withdraw(self.rt, Duration::from_secs(SECONDS_FOR_KEEPER)) {
+            return Ok(None);
+        }
+        for _ in 0..u64::MAX {
+            match slip.wait(self.rt, Duration::from_secs(1)) {
+                Told::Nothing if !self.desk.halt.is_raised() => {}
+                told => return Ok(Some(told)),
+            }
+        }
+        Ok(Some(Told::Unanswered))
+    }
+
+    /// The answer to a request.
+    fn reply(&mut self, request: &Request<Bytes>) -> Result<Reply, AllocError> {
+        let alloc = self.desk.alloc;
+        match asked_by(request.method().as_str(), request.uri().path()) {
+            Ask::Write => self.write(request),
+            Ask::Fetch => self.fetch(request),
+            Ask::Health => json(alloc, Status::Ok, "{\"name\":\"rr\",\"status\":\"pass\"}\n"),
+            Ask::OnlyPost => json(
+                alloc,
+                Status::OnlyPost,
+                "{\"error\":\"it is written by POST\"}\n",
+            ),
+            Ask::OnlyGet => json(
+                alloc,
+                Status::OnlyGet,
+                "{\"error\":\"it is read by GET\"}\n",
+            ),
+            Ask::Nothing => json(
+                alloc,
+                Status::NotFound,
+                "{\"error\":\"there is no such path\"}\n",
+            ),
+        }
+    }
+}
+
+impl<T: Wait + time::Clock> Clerk<'_, T> {
+    /// Answers a request.
+    fn answer(
+        &mut self,
+        request: &Request<Bytes>,
+        response: &mut Response,
+    ) -> Result<(), AllocError> {
+        let reply = self.reply(request)?;
+        fill(self.desk.alloc, response, reply)
+    }
+}
+
+impl<T: Wait + time::Clock> Service for Clerk<'_, T> {
+    ghost answers = { λ _ _ _ _. Unit {0} };
+
+    /// Where there is no memory for the answer, it is a 500: the request may have been obeyed.
+    fn call(
+        &mut self,
+        request: &Request<Bytes>,
+        response: &mut Response,
+    ) -> Result<(), AllocError> {
+        if self.answer(request, response).is_err() {
+            fill_failed(response);
+        }
+        Ok(())
+    }
+}

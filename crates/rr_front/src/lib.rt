@@ -1,0 +1,40 @@
+//! A node that is asked over HTTP too.
+//!
+//! ```text
+//! Door ── connections for lines ──┐
+//!                                 ├── rr_turns ──> Queued: the visits of the keeper, in turn
+//! WebSeat ── bodies of writes ────┘                     │
+//!    └──────────< a slip: what their lines were answered ┘
+//! WebSeat ── fetches ──> its own reader
+//! ```
+//!
+//! [`WebSeats`] are the seats of such a node: those of fetches and pulls, a [`Door`] for lines, and
+//! a [`WebSeat`] for each request that is answered beside others. The body of a write is a visit of
+//! the keeper like a connection for lines, so that rounds and what they mean stay as they are; of
+//! the two kinds the keeper takes one in turn. A fetch is answered as at the fetch port
+//! ([`answer_fetch`]). What stands in requests and answers is in `rr_web`.
+//!
+//! Each connection has one request, so that a sender which stays connected holds no seat. Of
+//! sockets nothing is known.
+#![tactic(auto)]
+
+mod body;
+mod desk;
+mod door;
+mod fetching;
+mod node;
+mod place;
+mod response;
+mod seat;
+mod stream;
+mod visits;
+
+pub use body::{Body, LineAnswers};
+pub use desk::Desk;
+pub use door::Door;
+pub use fetching::answer_fetch;
+pub use node::serve_web_node;
+pub use place::{Place, WebSeats};
+pub use seat::WebSeat;
+pub use stream::{Answers, Input, Output};
+pub use visits::{Queue, Queued};

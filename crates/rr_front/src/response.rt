@@ -1,0 +1,64 @@
+//! Replies as responses of HTTP.
+
+use bytes::Bytes;
+use http::{HeaderValue, StatusCode, header};
+use http_server::Response;
+use rr_web::{Kind, Reply, Status};
+use std::alloc::{AllocError, Global};
+
+/// The status of a response.
+fn status_of(status: Status) -> StatusCode {
+    match status {
+        Status::Ok => StatusCode::OK,
+        Status::NoContent => StatusCode::NO_CONTENT,
+        Status::BadRequest => StatusCode::BAD_REQUEST,
+        Status::NotFound => StatusCode::NOT_FOUND,
+        Status::OnlyPost | Status::OnlyGet => StatusCode::METHOD_NOT_ALLOWED,
+        Status::Failed => StatusCode::INTERNAL_SERVER_ERROR,
+        Status::UnknownCoding => StatusCode::NOT_IMPLEMENTED,
+        Status::Busy => StatusCode::SERVICE_UNAVAILABLE,
+    }
+}
+
+/// The media type of a text.
+fn media_type(kind: Kind) -> HeaderValue {
+    match kind {
+        Kind::Csv => HeaderValue::from_static("text/csv; charset=utf-8"),
+        Kind::Json => HeaderValue::from_static("application/json"),
+        Kind::Plain => HeaderValue::from_static("text/plain; charset=utf-8"),
+    }
+}
+
+/// Adds what a status asks for beside it.
+fn add_for_status(response: &mut Response, status: Status) -> Result<(), AllocError> {
+    match status {
+        Status::Busy => response.add_header(header::RETRY_AFTER, HeaderValue::from_static("1")),
+        Status::OnlyPost => response.add_header(header::ALLOW, HeaderValue::from_static("POST")),
+        Status::OnlyGet => {
+            response.add_header(header::ALLOW, HeaderValue::from_static("GET, HEAD"))
+        }
+        _ => Ok(()),
+    }
+}
+
+/// Fills a response, after which its connection closes.
+pub(crate) fn fill(alloc: Global, response: &mut Response, reply: Reply) -> Result<(), AllocError> {
+    response.status = status_of(reply.status);
+    add_for_status(response, reply.status)?;
+    response.add_header(header::CONNECTION, HeaderValue::from_static("close"))?;
+    if reply.status == Status::NoContent {
+        return Ok(());
+    }
+    response.add_header(header::CONTENT_TYPE, media_type(reply.kind))?;
+    response
+        .body
+        .push(Bytes::copy_from_slice(alloc, &reply.text)?)
+}
+
+/// Fills a response where memory ran out.
+pub(crate) fn fill_failed(response: &mut Response) {
+    response.clear();
+    response.status = StatusCode::INTERNAL_SERVER_ERROR;
+    // Without this field the connection ends when its time is over.
+    let _added = response.add_header(header::CONNECTION, HeaderValue::from_static("close"));
+}

@@ -1,0 +1,132 @@
+//! What waits, of two kinds.
+
+ghost use Rattle.std.specs.Prelude.{◌≡◌, ◌<◌, ◌≤◌, ◌++◌, ◌∷◌, [], true, false, length, nat_lt, not};
+ghost use Rattle.rr_turns.specs.Turns.{HasLeft, first_body, first_connection, taken_next, waiting};
+
+use std::alloc::Global;
+use std::collections::VecDeque;
+
+/// One that was taken.
+#[derive(Drop)]
+pub enum Taken<B, C> {
+    /// Of the first kind.
+    Body(B),
+    /// Of the second kind.
+    Connection(C),
+}
+
+/// What waits, of two kinds, each in the order in which it came, and no more of each than may.
+#[derive(Drop)]
+pub(crate) struct Places<B, C> {
+    bodies: VecDeque<B>,
+    connections: VecDeque<C>,
+    most_bodies: usize,
+    most_connections: usize,
+    /// Whether the next is a connection where both wait.
+    turn: bool,
+    ghost few_bodies: { length bodies.items ≤ most_bodies },
+    ghost few_connections: { length connections.items ≤ most_connections },
+}
+
+impl<B: Drop, C: Drop> Places<B, C> {
+    /// None wait.
+    pub(crate) fn new(alloc: Global, most_bodies: usize, most_connections: usize) -> Places<B, C>
+        ensures none { (result.bodies.items ≡ []) × (result.connections.items ≡ []) }
+    {
+        Places {
+            bodies: VecDeque::new(alloc),
+            connections: VecDeque::new(alloc),
+            most_bodies,
+            most_connections,
+            turn: false,
+        }
+    }
+
+    /// Whether none waits.
+    pub(crate) fn is_empty(&self) -> bool {
+        self.bodies.is_empty() && self.connections.is_empty()
+    }
+
+    /// Whether a body has to wait for a place.
+    pub(crate) fn lacks_body_place(&self) -> bool
+        ensures { result ≡ not (nat_lt (length self.now.bodies.items) self.now.most_bodies) }
+    {
+        self.bodies.len() >= self.most_bodies
+    }
+
+    /// Whether a connection has to wait for a place.
+    pub(crate) fn lacks_connection_place(&self) -> bool
+        ensures { result
+            ≡ not (nat_lt (length self.now.connections.items) self.now.most_connections) }
+    {
+        self.connections.len() >= self.most_connections
+    }
+
+    /// Takes a body in behind the others, if it has a place and memory; else it is dropped.
+    pub(crate) fn put_body(&mut self, body: B) -> bool
+        ensures put { result ≡ true → self.new.bodies.items ≡ self.old.bodies.items ++ body ∷ [] }
+        ensures dropped { result ≡ false → self.new.bodies.items ≡ self.old.bodies.items }
+        ensures others { self.new.connections.items ≡ self.old.connections.items }
+    {
+        if self.lacks_body_place() {
+            return false;
+        }
+        self.bodies.push_back(body).is_ok()
+    }
+
+    /// Takes a connection in behind the others, if it has a place and memory; else it is dropped.
+    pub(crate) fn put_connection(&mut self, connection: C) -> bool
+        ensures put { result ≡ true
+            → self.new.connections.items ≡ self.old.connections.items ++ connection ∷ [] }
+        ensures dropped { result ≡ false → self.new.connections.items ≡ self.old.connections.items }
+        ensures others { self.new.bodies.items ≡ self.old.bodies.items }
+    {
+        if self.lacks_connection_place() {
+            return false;
+        }
+        self.connections.push_back(connection).is_ok()
+    }
+
+    /// Takes the first body.
+    fn take_body(&mut self) -> Option<Taken<B, C>>
+        ensures taken { result ≡ first_body self.old.bodies.items }
+        ensures others { HasLeft
+            (waiting self.old.bodies.items self.old.connections.items self.old.turn) result
+            (waiting self.new.bodies.items self.new.connections.items self.new.turn) }
+    {
+        self.turn = true;
+        match self.bodies.pop_front() {
+            Some(body) => Some(Taken::Body(body)),
+            None => None,
+        }
+    }
+
+    /// Takes the first connection.
+    fn take_connection(&mut self) -> Option<Taken<B, C>>
+        ensures taken { result ≡ first_connection self.old.connections.items }
+        ensures others { HasLeft
+            (waiting self.old.bodies.items self.old.connections.items self.old.turn) result
+            (waiting self.new.bodies.items self.new.connections.items self.new.turn) }
+    {
+        self.turn = false;
+        match self.connections.pop_front() {
+            Some(connection) => Some(Taken::Connection(connection)),
+            None => None,
+        }
+    }
+
+    /// Takes the one whose turn it is.
+    pub(crate) fn take(&mut self) -> Option<Taken<B, C>>
+        ensures taken { result
+            ≡ taken_next (waiting self.old.bodies.items self.old.connections.items self.old.turn) }
+        ensures others { HasLeft
+            (waiting self.old.bodies.items self.old.connections.items self.old.turn) result
+            (waiting self.new.bodies.items self.new.connections.items self.new.turn) }
+    {
+        if self.bodies.is_empty() || (self.turn && !self.connections.is_empty()) {
+            self.take_connection()
+        } else {
+            self.take_body()
+        }
+    }
+}

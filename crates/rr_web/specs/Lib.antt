@@ -1,0 +1,5 @@
+pub mod Ask
+pub mod Query
+pub mod Precision
+pub mod Reply
+pub mod FetchLine

@@ -1,0 +1,42 @@
+-- What is answered to a request.
+use Rattle.std.specs.Prelude.{ℕ, ◌==◌, nat_eq, List, [], ◌∷◌, ◌++◌, codes, Option, None, Some, option_map, if◌then◌else◌}
+use Rattle.std.specs.Borrow.{Bor}
+use Rattle.std.specs.List.{ends_with, flat_map}
+use Rattle.rr_text.specs.declared.bytes.TheConstants.{LINE_FEED}
+use Rattle.rr_web.specs.declared.reply.Reply.{Reply}
+use Rattle.rr_web.specs.declared.reply.Status.{Status}
+use Rattle.rr_web.specs.declared.reply.Status.TheVariants.{NoContent, BadRequest, Failed}
+use Rattle.rr_web.specs.declared.reply.Kind.{Kind}
+use Rattle.rr_web.specs.declared.reply.Kind.TheVariants.{Json}
+
+-- a reply, with its text by its bytes
+pub record ReplyView : Type 0 where
+  pub status : Status
+  pub kind : Kind
+  pub text : List ℕ
+
+abbrev pub reply_of : Status → Kind → List ℕ → ReplyView
+reply_of status kind text = record { status = status; kind = kind; text = text }
+
+abbrev pub reply_view : Reply → ReplyView
+reply_view r = reply_of r.status r.kind r.text.items
+
+-- a byte of lines inside a text of JSON
+abbrev pub inside : ℕ → List ℕ
+inside byte = if byte == LINE_FEED then codes "; " else byte ∷ []
+
+-- the refusal of some lines, as InfluxDB words one
+abbrev pub partial_text : List ℕ → List ℕ → List ℕ
+partial_text refusals report =
+    codes "{\"error\":\"partial write: " ++ flat_map inside refusals ++ report ++ codes "\"}\n"
+
+-- a text that is lent, if there is one
+abbrev pub lent_text : Option (Bor (List ℕ)) → Option (List ℕ)
+lent_text text = option_map (λ t. t.now) text
+
+-- what is answered to a write, by the refusals of its lines and their report, which is missing where memory ran out
+abbrev pub write_reply_of : List ℕ → Option (List ℕ) → ReplyView
+write_reply_of refusals None = reply_of Failed Json (codes "{\"error\":\"the node ran out of memory\"}\n")
+write_reply_of refusals (Some report) =
+    if ends_with nat_eq report (codes " refused 0") then reply_of NoContent Json []
+    else reply_of BadRequest Json (partial_text refusals report)

@@ -1,0 +1,46 @@
+//! Replies, before they are responses of HTTP.
+
+/// How a request ended.
+#[derive(Clone, Copy, Debug, PartialEq, Eq)]
+pub enum Status {
+    /// 200: here is what was asked for.
+    Ok,
+    /// 204: all lines were taken.
+    NoContent,
+    /// 400: something in the request is refused.
+    BadRequest,
+    /// 404: there is no such thing.
+    NotFound,
+    /// 405: it is asked for by `POST` alone.
+    OnlyPost,
+    /// 405: it is asked for by `GET` and `HEAD` alone.
+    OnlyGet,
+    /// 500: it isn't known what became of the request.
+    Failed,
+    /// 501: the body has a coding that isn't undone here.
+    UnknownCoding,
+    /// 503: the node is behind. Nothing was done, so come again.
+    Busy,
+}
+
+/// What a reply's text is.
+#[derive(Clone, Copy, Debug, PartialEq, Eq)]
+pub enum Kind {
+    /// Records of CSV.
+    Csv,
+    /// JSON.
+    Json,
+    /// Lines of text.
+    Plain,
+}
+
+/// What is answered to a request.
+#[derive(Debug, Drop)]
+pub struct Reply {
+    /// How it ended.
+    pub status: Status,
+    /// What the text is.
+    pub kind: Kind,
+    /// The text.
+    pub text: Vec<u8>,
+}
