@@ -84,7 +84,8 @@ config_in table = do
     idle = idle;
     every = every;
     quiet = quiet;
-    status = status; http = http;
+    status = status;
+    http = http;
   })
 
 -- the configuration of a text

@@ -19,6 +19,7 @@ pub(crate) const HTTP_SEATS: u64 = 4;
 pub(crate) const MAX_HTTP_SEATS: u64 = 14;
 
 const _: () = prove!(HTTP_SEATS == 4);
+
 const _: () = prove!(MAX_HTTP_SEATS == 14);
 
 /// How a node is asked over HTTP.
@@ -26,7 +27,8 @@ const _: () = prove!(MAX_HTTP_SEATS == 14);
 pub struct Http {
     /// The address that it is asked on.
     pub address: String,
-    /// How many requests are answered beside each other, from 1 to 14, each with a reader of its own.
+    /// How many requests are answered beside each other, from 1 to 14, each with a reader of its
+    /// own.
     pub seats: u64,
 }
 
@@ -61,7 +63,8 @@ pub(crate) fn address_in(
     Ok(Some(String::from_str(alloc, address)?))
 }
 
-/// The number of seats beside so many readers of other addresses. With HTTP there may be 16 of both.
+/// The number of seats beside so many readers of other addresses. With HTTP there may be 16 of
+/// both.
 pub(crate) fn seats_in(table: &Table, is_asked: bool, readers: usize) -> Result<u64, ConfigFault>
     ensures { result ≡ seats_in (table_view table.now) is_asked readers }
 {
@@ -75,7 +78,8 @@ pub(crate) fn seats_in(table: &Table, is_asked: bool, readers: usize) -> Result<
     Ok(seats)
 }
 
-/// How a node is asked over HTTP, if it is, beside so many rounds, visits and readers of other addresses.
+/// How a node is asked over HTTP, if it is, beside so many rounds, visits and readers of other
+/// addresses.
 #[tactic(auto, unfolding(crate::specs::Http::http_in))]
 pub(crate) fn http_in(
     alloc: Global,

@@ -1,8 +1,9 @@
 //! The configuration of a node: what an operator writes in TOML.
 //!
 //! A [`Config`] has the schema of the store, the addresses that the node listens on, its peers, how
-//! long it serves, how the times of lines are taken, and how it is asked over HTTP. It is read by [`Config::from_toml`];
-//! [`remarks`] tells an operator where a text is refused, and which of its keys are ignored.
+//! long it serves, how the times of lines are taken, and how it is asked over HTTP. It is read by
+//! [`Config::from_toml`]; [`remarks`] tells an operator where a text is refused, and which of its
+//! keys are ignored.
 //!
 //! ```text
 //! TOML text ── toml ──> a table ── value, key by key ──> Config, or the first ConfigFault

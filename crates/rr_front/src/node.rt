@@ -14,9 +14,10 @@ use std::sync::Wait;
 use std::thread::{Threads, join_mut};
 use std::time;
 
-/// Serves as [`serve_node`](rr_node::serve_node) does, with a keeper that takes its visits from a queue, and with seats
-/// that put bodies and connections into it. It ends when the flag of the node is raised, as where memory runs out on one of
-/// its threads, which is `Memory`; there is no other fault.
+/// Serves as [`serve_node`](rr_node::serve_node) does, with a keeper that takes its visits from a
+/// queue, and with seats that put bodies and connections into it. It ends when the flag of the node
+/// is raised, as where memory runs out on one of its threads, which is `Memory`; there is no other
+/// fault.
 pub fn serve_web_node<
     A: Cells,
     D: Dial,

@@ -137,7 +137,8 @@ impl Listening {
         }
     }
 
-    /// Waits for the next connection, which isn't handed back. It is as [`Visits::next`] gives it, but for its halves.
+    /// Waits for the next connection, which isn't handed back. It is as [`Visits::next`] gives it,
+    /// but for its halves.
     pub fn accept(&mut self) -> Accepted {
         if self.halt.is_raised() || !self.has_started() {
             return Accepted::Over;

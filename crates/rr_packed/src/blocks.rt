@@ -73,8 +73,8 @@ impl Blocks {
         }
     }
 
-    /// Where in the list the block of a number is; if there is none, where it belongs. Mostly it is the
-    /// last.
+    /// Where in the list the block of a number is; if there is none, where it belongs. Mostly it is
+    /// the last.
     fn find(&self, number: i64) -> Result<usize, usize>
         ensures found { IfOk result (IsPlaceOf number self.now.blocks.items) }
         ensures missing { IfErr result (IsGapFor number self.now.blocks.items) }

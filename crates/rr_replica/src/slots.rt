@@ -50,8 +50,8 @@ fn near(span: u32, time: i64, newest: Option<i64>) -> Option<i64>
     }
 }
 
-/// How many slots of as many nanoseconds the one of a time is after another: none or one, if neither is
-/// before the epoch.
+/// How many slots of as many nanoseconds the one of a time is after another: none or one, if
+/// neither is before the epoch.
 fn slots_on(slot: i64, time: i64, length: u64) -> Option<u32>
     requires { 0 < length }
     ensures { IfSome result (λ on. int_div_euclid time (pos length) ≡ slot +ℤ pos on) }
