@@ -40,7 +40,7 @@ use Rattle.rr_cells.proofs.OneSampleMore.{put_is_one_sample_more}
 use Rattle.rr_cells.proofs.OperationsLemmas.{accepted-append, cell_is_taken, outcome_of-append, outcome_of-joins, outcome_of-more, step_accepted, step-origin, step-schema, steps-cells, steps-schema}
 use Rattle.rr_cells.proofs.States.{state_is_trimmed}
 use Rattle.rr_cells.proofs.WrittenCells.{versions_are_numbers}
-use Rattle.rr_copies.specs.KeeperState.{KeeperState, own_replica, with_pending}
+use Rattle.rr_desk.specs.KeeperState.{KeeperState, own_replica, with_pending}
 use Rattle.rr_delta.specs.Difference.{newer_cells}
 use Rattle.rr_delta.specs.Names.{NamedVersion}
 use Rattle.rr_delta.proofs.HeldLemmas.{all_filtered}
@@ -53,7 +53,7 @@ use Rattle.rr_snapshot.proofs.SavedLemmas.{saved_is_loaded, saved_is_raised}
 use Rattle.rr_desk.specs.Histories.{HistoryStep, elsewhere, put, joined, HistoryState, Knows, IsHistory, HasHistory, IsHonest, IsWhole, AreHonest, list_of, marks_in, next_scene, ops_of, scene_after}
 use Rattle.rr_desk.specs.Laws.{OpeningIsHistory, PutIsATurn, WriteIsTurns, JoinIsATurn, PublishIsNoTurn, OthersWrite, LoadedIsKnown, RaisedIsKnown}
 use Rattle.rr_desk.specs.Points.{with_put, with_puts}
-use Rattle.rr_copies.proofs.PrefixLemmas.{prefix_nil}
+use Rattle.rr_desk.proofs.PrefixLemmas.{prefix_nil}
 
 -- ---- one turn
 

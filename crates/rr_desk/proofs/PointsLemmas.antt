@@ -3,7 +3,7 @@ use Rattle.std.proofs.Common.{◌≡◌, ℤ, ℕ, List, [], ◌∷◌, ◌++◌
 use Rattle.rr_point.specs.Key.{key_text}
 use Rattle.rr_point.specs.Point.{PointView}
 use Rattle.rr_desk.specs.Points.{with_put, with_puts, with_samples}
-use Rattle.rr_copies.specs.KeeperState.{KeeperState}
+use Rattle.rr_desk.specs.KeeperState.{KeeperState}
 
 -- with one field more
 pub with_puts-more : (k : KeeperState) (p : PointView) (time : ℤ) (fields : List (List ℕ × ℤ)) (field : List ℕ × ℤ)

@@ -17,7 +17,7 @@ use Rattle.rr_cells.specs.ReplicaState.{ReplicaState}
 use Rattle.rr_cells.specs.Listing.{owned_cell}
 use Rattle.rr_cells.specs.Operations.{joins_of, sample_of, step, AllAccepted}
 use Rattle.rr_cells.specs.State.{cells_of_knowledge}
-use Rattle.rr_copies.specs.KeeperState.{KeeperState, own_replica}
+use Rattle.rr_desk.specs.KeeperState.{KeeperState, own_replica}
 
 -- what happens next: another origin writes a sample, the keeper puts one, or it joins a cell of what someone knows
 pub data HistoryStep : Type 0 where

@@ -9,7 +9,7 @@ use Rattle.rr_cells.specs.declared.op.Op.TheVariants.{Join}
 use Rattle.rr_cells.specs.Joins.{join_cell, join_cells}
 use Rattle.rr_cells.specs.Operations.{outcome_of, to_cell}
 use Rattle.rr_cells.proofs.OperationsLemmas.{outcome_of-more}
-use Rattle.rr_copies.specs.KeeperState.{KeeperState, cells_of, with_pending}
+use Rattle.rr_desk.specs.KeeperState.{KeeperState, cells_of, with_pending}
 use Rattle.rr_desk.specs.ReaderState.{HasJoined, with_joined}
 
 pub then_joined : (a b c : KeeperState) (es fs : List NamedCell) → HasJoined a b es → HasJoined b c fs

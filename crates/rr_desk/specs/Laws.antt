@@ -20,7 +20,7 @@ use Rattle.rr_cells.specs.ReplicaState.{ReplicaState, IsReplicaState}
 use Rattle.rr_cells.specs.Listing.{owned_cell}
 use Rattle.rr_cells.specs.Operations.{outcome_of, joins_of, step, to_cell, AllAccepted}
 use Rattle.rr_cells.specs.State.{cells_of_knowledge}
-use Rattle.rr_copies.specs.KeeperState.{KeeperState, keeper_at_opening, with_all_published, with_pending}
+use Rattle.rr_desk.specs.KeeperState.{KeeperState, keeper_at_opening, with_all_published, with_pending}
 use Rattle.rr_delta.specs.Difference.{newer_cells}
 use Rattle.rr_delta.specs.Names.{NamedVersion}
 use Rattle.rr_fetch.specs.Answers.{cells_text}

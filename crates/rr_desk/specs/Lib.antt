@@ -1,3 +1,9 @@
+pub mod Editions
+pub mod Changes
+pub mod Rule
+pub mod KeeperState
+pub mod Waiting
+pub mod Writers
 pub mod ReaderState
 pub mod Joining
 pub mod Points

@@ -5,7 +5,7 @@ use Rattle.rr_point.specs.Point.{PointView}
 use Rattle.rr_cells.specs.declared.op.Op.TheVariants.{Put}
 use Rattle.rr_replica.specs.declared.fault.WriteFault.{WriteFault}
 use Rattle.rr_replica.specs.declared.fault.WriteFault.TheVariants as why
-use Rattle.rr_copies.specs.KeeperState.{KeeperState, with_pending}
+use Rattle.rr_desk.specs.KeeperState.{KeeperState, with_pending}
 use Rattle.rr_desk.specs.declared.samples.KeyedValue.{KeyedValue}
 
 -- with a put of the next sample pending

@@ -9,9 +9,9 @@ use Rattle.rr_cells.specs.declared.op.Op.TheVariants.{Join}
 use Rattle.rr_cells.specs.CellBounds.{NamedCell}
 use Rattle.rr_cells.specs.Cells.{Cells}
 use Rattle.rr_cells.specs.Operations.{outcome_of, to_cell}
-use Rattle.rr_copies.specs.declared.rule.View.{View}
-use Rattle.rr_copies.specs.Rule.{newcomer}
-use Rattle.rr_copies.specs.KeeperState.{KeeperState, with_pending}
+use Rattle.rr_desk.specs.declared.rule.View.{View}
+use Rattle.rr_desk.specs.Rule.{newcomer}
+use Rattle.rr_desk.specs.KeeperState.{KeeperState, with_pending}
 
 -- with these cells joined, which are pending, in order
 abbrev pub with_joined : KeeperState → List Cell → KeeperState

@@ -17,14 +17,15 @@ ghost use Rattle.rr_page.specs.Version.{latest};
 ghost use Rattle.rr_snapshot.specs.Snapshot.{snapshot_text};
 ghost use Rattle.rr_snapshot.specs.declared.heading.TheConstants.{MAX_SNAPSHOT_CELLS};
 ghost use Rattle.rr_desk.specs.Points.{with_put};
-ghost use Rattle.rr_copies.specs.KeeperState.{cells_of, own_replica, with_all_published, with_pending};
+ghost use Rattle.rr_desk.specs.KeeperState.{cells_of, own_replica, with_all_published, with_pending};
 
+use crate::copies::Copies;
 use crate::note::Note;
 use crate::order::Order;
+use crate::shown::{Change, CopyState, Shown};
 use left_right::Absorb;
 use rr_archive::Cells;
 use rr_cells::{Cell, Op, Sample};
-use rr_copies::{Change, Copies, CopyState, Shown};
 use rr_delta::{Name, summary, summary_after};
 use rr_io::Counted;
 use rr_key::SeriesKey;
@@ -55,7 +56,7 @@ impl<A: Cells> Model for Keeper<A>
 where
     Shown<A>: Absorb<Change, State = CopyState>,
 {
-    ghost use Rattle.rr_copies.specs.KeeperState.{KeeperState};
+    ghost use Rattle.rr_desk.specs.KeeperState.{KeeperState};
 
     ghost Value = { KeeperState };
 

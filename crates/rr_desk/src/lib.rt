@@ -7,13 +7,23 @@
 //! for it. To answer a fetch it may ask a [`Gate`] first. A [`Note`] tells a reader what was
 //! published.
 //!
-//! In `specs/` a keeper stands for two lists of operations, the published and the pending ones, a
-//! reader for the list that it has seen (`specs/ReaderState.antt`). What a reader answers is made
-//! of the cells after its list. All of these lists, of one desk, are beginnings of one list: that
-//! is the rule of the copies, which are in [`rr_copies`] with the keeper's replica and the book of
-//! editions. The book says whether a copy has what a note is of.
+//! ```text
+//! put, write, join_cell ──> pending ── publish ──> book, and the copy that is shown ──> Reader
+//! ```
+//!
+//! Below these are the copies (`copies.rt`, `read_handle.rt`): the keeper's replica beside the two
+//! that readers read in turn. To publish is to end an edition in the book and to swap the copies.
+//!
+//! In `specs/` a keeper stands for two lists of operations, the published and the pending ones
+//! (`KeeperState.antt`), a reader for the list that it has seen (`ReaderState.antt`). What a reader
+//! answers is made of the cells after its list. All lists of one desk, seen, told or published, are
+//! beginnings of one list: that is the rule of the copies (`Rule.antt`), which every step keeps. No
+//! list is in memory. The book of editions (`Editions.antt`), of which code keeps the number alone,
+//! says whether a copy has what a note is of.
 #![tactic(auto)]
 
+mod book;
+mod copies;
 mod fault;
 mod gate;
 mod keeper;
@@ -22,10 +32,16 @@ mod note;
 mod opening;
 mod order;
 mod points;
+mod read_handle;
 mod reader;
 mod reading;
+mod rule;
 mod samples;
+mod shown;
 mod sides;
+mod started;
+mod turn;
+mod writing;
 
 pub use fault::{FetchFault, OpenFault};
 pub use gate::{Gate, GateCall};

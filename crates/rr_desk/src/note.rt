@@ -1,6 +1,6 @@
 //! Notes of what was published.
 
-use rr_copies::Front;
+use crate::book::Front;
 use std::marker::Model;
 
 /// A note of the operations that a keeper had published. Any thread may take it to a reader of the
@@ -11,7 +11,7 @@ pub struct Note {
 }
 
 impl Model for Note {
-    ghost use Rattle.rr_copies.specs.Editions.{flat};
+    ghost use Rattle.rr_desk.specs.Editions.{flat};
     ghost use Rattle.rr_desk.specs.ReaderState.{NoteState};
 
     ghost Value = { NoteState };

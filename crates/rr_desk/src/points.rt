@@ -4,7 +4,7 @@ ghost use Rattle.rr_text.specs.declared.limits.TheConstants.{MAX_FIELDS, MAX_NUM
 ghost use Rattle.rr_key.specs.Making.{making_fault};
 ghost use Rattle.rr_point.specs.Key.{HasKeys, IsWritable, key_text, names_of};
 ghost use Rattle.rr_point.specs.Point.{point_view};
-ghost use Rattle.rr_copies.specs.KeeperState.{own_replica};
+ghost use Rattle.rr_desk.specs.KeeperState.{own_replica};
 
 use crate::keeper::Keeper;
 use rr_archive::Cells;

@@ -10,14 +10,15 @@ ghost use Rattle.rr_delta.specs.Names.{owned_name};
 ghost use Rattle.rr_delta.specs.Difference.{IsSummary, newer_cells};
 ghost use Rattle.rr_fetch.specs.Answers.{cells_text};
 ghost use Rattle.rr_request.specs.Requests.{request_view, IsFetchable};
-ghost use Rattle.rr_copies.specs.Rule.{Saw};
+ghost use Rattle.rr_desk.specs.Rule.{Saw};
 ghost use Rattle.rr_desk.specs.Gate.{LetsPass};
 
 use crate::fault::FetchFault;
 use crate::gate::Gate;
+use crate::read_handle::ReadHandle;
+use crate::rule::Enters;
 use rr_archive::Cells;
 use rr_cells::Cell;
-use rr_copies::{Enters, ReadHandle};
 use rr_delta::{Name, difference};
 use rr_fetch::{Request, answer_text};
 use std::alloc::{AllocError, Global};

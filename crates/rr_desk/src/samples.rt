@@ -1,7 +1,7 @@
 //! Samples of series that are known, put one after the other.
 ghost use Rattle.std.specs.Prelude.{◌≡◌, ℕ, ◌≤◌, ◌↔◌, length, map, take, Err, IfOk, IfErr, OnOk, IsTrue, IsFalse, unwrap_or};
 ghost use Rattle.rr_text.specs.declared.limits.TheConstants.{MAX_FIELDS};
-ghost use Rattle.rr_copies.specs.KeeperState.{own_replica};
+ghost use Rattle.rr_desk.specs.KeeperState.{own_replica};
 
 use crate::keeper::Keeper;
 use rr_archive::Cells;

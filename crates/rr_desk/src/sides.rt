@@ -10,7 +10,7 @@ use std::alloc::{AllocError, Global};
 
 impl<A: Cells> Target for Keeper<A> {
     ghost use Rattle.std.specs.Prelude.{refl};
-    ghost use Rattle.rr_copies.specs.KeeperState.{cells_of};
+    ghost use Rattle.rr_desk.specs.KeeperState.{cells_of};
     ghost use Rattle.rr_desk.specs.Joining.{map_joined, then_joined};
     ghost use Rattle.rr_desk.specs.ReaderState.{HasJoined};
 

@@ -4,7 +4,7 @@ use Rattle.std.specs.Prelude.{count_by, fold, if◌then◌else◌}
 use Rattle.std.proofs.lemmas.List.{append-nil}
 use Rattle.std.proofs.lemmas.List.Sums.{fold-append, sum_by-append}
 use Rattle.std.specs.declared.alloc.AllocError.{AllocError}
-use Rattle.rr_copies.specs.KeeperState.{KeeperState, own_replica}
+use Rattle.rr_desk.specs.KeeperState.{KeeperState, own_replica}
 use Rattle.rr_feed.specs.Items.{Item, items}
 use Rattle.rr_feed.specs.Feed.{FeedState, state, items_left, with_more, HandsOut}
 use Rattle.rr_feed.specs.Laws.{IsFed}

@@ -1,7 +1,7 @@
 -- Connections and pulls that are over: their streams were given and handed back.
 use Rattle.std.proofs.Common.{◌≡◌, ℕ, ℤ, List, [], ◌∷◌, Option, Some, Result, Err, refl, inr}
 use Rattle.std.specs.Prelude.{IfOk, IfErr, OnErr}
-use Rattle.rr_copies.specs.KeeperState.{KeeperState}
+use Rattle.rr_desk.specs.KeeperState.{KeeperState}
 use Rattle.rr_config.specs.declared.config.Config.{Config}
 use Rattle.rr_gossip.specs.declared.fault.GossipFault.{GossipFault}
 use Rattle.rr_host.specs.Calls.{DialCall, Grows, handed_back, reached}

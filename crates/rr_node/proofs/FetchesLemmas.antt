@@ -14,7 +14,7 @@ use Rattle.rr_desk.specs.declared.gate.GateCall.{GateCall}
 use Rattle.rr_desk.specs.Gate.{WasAsked}
 use Rattle.rr_desk.specs.ReaderState.{ReaderState, HasSeenMore}
 use Rattle.rr_desk.proofs.GateLemmas.{not_asked}
-use Rattle.rr_copies.proofs.PrefixLemmas.{prefix_refl, prefix_trans}
+use Rattle.rr_desk.proofs.PrefixLemmas.{prefix_refl, prefix_trans}
 use Rattle.rr_node.specs.Answering.{HasHanded, HasWritten, HasWrittenSome, Next}
 use Rattle.rr_node.specs.Fetches.{ReaderAndGate, IsAnswered, AreAnswered}
 

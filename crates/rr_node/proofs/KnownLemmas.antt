@@ -10,7 +10,7 @@ use Rattle.rr_replica.specs.Writing.{is_ahead, lacks_numbers}
 use Rattle.rr_replica.specs.declared.fault.WriteFault.{WriteFault}
 use Rattle.rr_replica.specs.declared.fault.WriteFault.TheVariants as why
 use Rattle.rr_replica.proofs.FieldLemmas.{take-view}
-use Rattle.rr_copies.specs.KeeperState.{KeeperState, own_replica}
+use Rattle.rr_desk.specs.KeeperState.{KeeperState, own_replica}
 use Rattle.rr_desk.specs.Points.{with_put, with_puts, with_samples}
 use Rattle.rr_node.specs.declared.answer.Answer.TheVariants as says
 use Rattle.rr_node.specs.Connection.{IsAnswer, Handled}

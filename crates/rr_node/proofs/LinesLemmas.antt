@@ -8,8 +8,8 @@ use mathlib.Core.List.{IsPrefix}
 use Rattle.rr_feed.specs.Items.{Item, items}
 use Rattle.rr_point.specs.Point.{PointView}
 use Rattle.rr_desk.specs.Points.{with_puts, with_put}
-use Rattle.rr_copies.specs.KeeperState.{KeeperState, own_replica, with_all_published}
-use Rattle.rr_copies.proofs.PrefixLemmas.{prefix_refl, prefix_append, prefix_trans}
+use Rattle.rr_desk.specs.KeeperState.{KeeperState, own_replica, with_all_published}
+use Rattle.rr_desk.proofs.PrefixLemmas.{prefix_refl, prefix_append, prefix_trans}
 use Rattle.rr_cells.specs.declared.op.Op.{Op}
 use Rattle.rr_point.specs.Key.{key_text}
 use Rattle.rr_node.specs.declared.connection.Connection.{Connection}

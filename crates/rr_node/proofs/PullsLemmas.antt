@@ -5,7 +5,7 @@ use Rattle.rr_cells.specs.declared.op.Op.TheVariants.{Join}
 use Rattle.rr_cells.specs.CellBounds.{NamedCell}
 use Rattle.rr_cells.specs.Operations.{to_cell}
 use Rattle.rr_desk.specs.ReaderState.{HasJoined, with_joined}
-use Rattle.rr_copies.specs.KeeperState.{KeeperState, with_pending}
+use Rattle.rr_desk.specs.KeeperState.{KeeperState, with_pending}
 
 joined_desk : (cells : List Cell) (k : KeeperState) → (with_joined k cells).desk ≡ k.desk
 joined_desk [] k = refl

@@ -9,7 +9,7 @@ use Rattle.rr_line.specs.declared.fault.LineFault.TheVariants.{Memory}
 use Rattle.rr_line.specs.Fault.{line_fault_name}
 use Rattle.rr_line.specs.Line.{line_view}
 use Rattle.rr_line.specs.Reading.{reading}
-use Rattle.rr_copies.specs.KeeperState.{KeeperState}
+use Rattle.rr_desk.specs.KeeperState.{KeeperState}
 use Rattle.rr_host.proofs.ClockLemmas.{HasGiven-nil}
 use Rattle.rr_node.specs.declared.answer.Answer.{Answer}
 use Rattle.rr_node.specs.declared.rules.Rules.{Rules}

@@ -9,7 +9,7 @@ use Rattle.rr_io.proofs.StreamLemmas.{prefix_after, prefix_before}
 use Rattle.rr_feed.specs.Feed.{FeedState, items_left}
 use Rattle.rr_feed.specs.Items.{items}
 use Rattle.rr_feed.proofs.FedLemmas.{IsFed-all}
-use Rattle.rr_copies.specs.KeeperState.{KeeperState, with_all_published}
+use Rattle.rr_desk.specs.KeeperState.{KeeperState, with_all_published}
 use Rattle.rr_node.specs.declared.connection.Connection.{Connection}
 use Rattle.rr_node.specs.declared.report.Report.{Report}
 use Rattle.rr_node.specs.declared.rules.Rules.{Rules}

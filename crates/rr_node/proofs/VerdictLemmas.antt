@@ -12,7 +12,7 @@ use Rattle.rr_replica.specs.declared.fault.WriteFault.TheVariants as why
 use Rattle.rr_cells.specs.ReplicaState.{ReplicaState}
 use Rattle.rr_replica.specs.Writing.{is_ahead, lacks_numbers}
 use Rattle.rr_desk.specs.Points.{with_puts}
-use Rattle.rr_copies.specs.KeeperState.{KeeperState}
+use Rattle.rr_desk.specs.KeeperState.{KeeperState}
 use Rattle.rr_node.specs.declared.rules.Rules.{Rules}
 use Rattle.rr_node.specs.Lines.{Verdict, skipped, put, refused, verdict_by, verdict_of_point, verdict_of_line, verdict_of, is_point, asks_clock, keeper_with, keeper_with_some}
 

@@ -9,7 +9,7 @@ use Rattle.rr_feed.specs.Laws.{IsFed}
 use Rattle.rr_io.specs.Stream.{AppendsPrefix}
 use Rattle.rr_text.specs.declared.limits.TheConstants.{MAX_FIELDS}
 use Rattle.rr_records.specs.Records.{refusal_text}
-use Rattle.rr_copies.specs.KeeperState.{KeeperState, own_replica, with_all_published}
+use Rattle.rr_desk.specs.KeeperState.{KeeperState, own_replica, with_all_published}
 use Rattle.rr_node.specs.declared.answer.Answer.{Answer}
 use Rattle.rr_node.specs.declared.answer.Answer.TheVariants as says
 use Rattle.rr_node.specs.declared.connection.Connection.{Connection}

@@ -4,7 +4,7 @@ use Rattle.std.specs.Io.KnownBytes.{Appends}
 use Rattle.std.specs.List.{concat}
 use Rattle.rr_io.specs.Stream.{AppendsPrefix}
 use Rattle.rr_cells.specs.CellBounds.{NamedCell}
-use Rattle.rr_copies.specs.KeeperState.{KeeperState, cells_of, with_all_published}
+use Rattle.rr_desk.specs.KeeperState.{KeeperState, cells_of, with_all_published}
 use Rattle.rr_desk.specs.ReaderState.{HasJoined}
 use Rattle.rr_gossip.specs.declared.fault.GossipFault.{GossipFault}
 use Rattle.rr_gossip.specs.declared.fault.GossipFault.TheVariants.{Memory}

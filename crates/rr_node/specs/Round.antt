@@ -3,7 +3,7 @@ use Rattle.std.specs.Prelude.{◌≡◌, ◌⊎◌, ℕ, ℤ, Bool, true, false,
 use Rattle.std.specs.String.{string_bytes}
 use Rattle.std.specs.FinMap.{len}
 use Rattle.rr_cells.specs.Listing.{at_most_usize}
-use Rattle.rr_copies.specs.KeeperState.{KeeperState, cells_of}
+use Rattle.rr_desk.specs.KeeperState.{KeeperState, cells_of}
 use Rattle.rr_config.specs.declared.config.Config.{Config}
 use Rattle.rr_node.specs.declared.fault.NodeFault.{NodeFault}
 use Rattle.rr_node.specs.declared.report.Report.{Report}

@@ -1,6 +1,6 @@
 -- The rounds of a keeper, one after the other.
 use Rattle.std.specs.Prelude.{◌≡◌, ◌⊎◌, ℕ, zero, suc, ◌<◌, ◌==◌, ◌-◌, ◌^◌, ℤ, Bool, true, false, List, [], ◌∷◌, ◌++◌, Option, None, Some, if◌then◌else◌}
-use Rattle.rr_copies.specs.KeeperState.{KeeperState}
+use Rattle.rr_desk.specs.KeeperState.{KeeperState}
 use Rattle.rr_config.specs.declared.config.Config.{Config}
 use Rattle.rr_host.specs.Calls.{DialCall, Grows}
 use Rattle.rr_host.specs.Halt.{HaltCall, Halted}

@@ -4,7 +4,7 @@ use Rattle.std.specs.FinMap.{entries, len}
 use Rattle.std.specs.Io.KnownBytes.{Appends}
 use Rattle.rr_io.specs.Counted.{HasRisen}
 use Rattle.rr_io.specs.Stream.{AppendsPrefix}
-use Rattle.rr_copies.specs.KeeperState.{KeeperState, cells_of}
+use Rattle.rr_desk.specs.KeeperState.{KeeperState, cells_of}
 use Rattle.rr_page.specs.Version.{latest}
 use Rattle.rr_snapshot.specs.declared.fault.SaveFault.{SaveFault}
 use Rattle.rr_snapshot.specs.declared.fault.SaveFault.TheVariants as why

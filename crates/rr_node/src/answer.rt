@@ -3,7 +3,7 @@
 ghost use Rattle.std.specs.Prelude.{◌≡◌, ◌≢◌, ◌≤◌, ℤ, [], ◌∷◌, length, map, None, IfOk, IfSome, OnOk};
 ghost use Rattle.rr_text.specs.Bytes.{HasNoLineFeed};
 ghost use Rattle.rr_text.specs.declared.limits.TheConstants.{MAX_FIELDS};
-ghost use Rattle.rr_copies.specs.KeeperState.{own_replica};
+ghost use Rattle.rr_desk.specs.KeeperState.{own_replica};
 ghost use Rattle.rr_feed.specs.Items.{item_view, IsLine};
 ghost use Rattle.rr_feed.specs.Items as feed;
 ghost use Rattle.rr_line.specs.Fault.{line_fault_name};

@@ -5,7 +5,7 @@ ghost use Rattle.std.specs.Io.KnownBytes.{Appends};
 ghost use Rattle.rr_io.specs.Counted.{inner_of, failures_of, HasRisen};
 ghost use Rattle.rr_io.specs.Stream.{AppendsPrefix};
 ghost use Rattle.rr_text.specs.declared.limits.TheConstants.{MAX_FIELDS};
-ghost use Rattle.rr_copies.specs.KeeperState.{KeeperState};
+ghost use Rattle.rr_desk.specs.KeeperState.{KeeperState};
 ghost use Rattle.rr_feed.specs.Feed.{items_left, empty_feed};
 ghost use Rattle.rr_node.specs.declared.lines.TheConstants.{PIECE};
 ghost use Rattle.rr_host.specs.Clock.{HasGiven};

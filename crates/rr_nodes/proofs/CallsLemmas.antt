@@ -20,7 +20,7 @@ use Rattle.rr_cells.specs.Listing.{owned_cell}
 use Rattle.rr_cells.specs.Operations.{outcome_of}
 use Rattle.rr_cells.proofs.CellByCell.{trimmed_none}
 use Rattle.rr_cells.proofs.States.{state_is_trimmed}
-use Rattle.rr_copies.specs.KeeperState.{KeeperState, cells_of, own_replica, with_all_published, with_pending}
+use Rattle.rr_desk.specs.KeeperState.{KeeperState, cells_of, own_replica, with_all_published, with_pending}
 use Rattle.rr_desk.specs.Points.{with_put, with_puts}
 use Rattle.rr_desk.specs.ReaderState.{with_joined}
 use Rattle.rr_nodes.specs.Nodes.{Node, Nodes, Moment, Deed, opened, wrote, took, loaded, all_held, held_at, where_some, written, taken, with_new, after, after_all}

@@ -14,7 +14,7 @@ use Rattle.rr_cells.specs.Cells.{Cells}
 use Rattle.rr_cells.specs.State.{cells_of_knowledge}
 use Rattle.rr_cells.proofs.HeldCells.{all_entries}
 use Rattle.rr_cells.proofs.WrittenCells.{versions_are_numbers}
-use Rattle.rr_copies.specs.KeeperState.{cells_of, own_replica}
+use Rattle.rr_desk.specs.KeeperState.{cells_of, own_replica}
 use Rattle.rr_delta.specs.Difference.{newer_cells}
 use Rattle.rr_delta.proofs.HeldLemmas.{all_filtered}
 use Rattle.rr_snapshot.proofs.SavedLemmas.{saved_is_loaded}

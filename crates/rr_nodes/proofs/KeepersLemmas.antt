@@ -21,8 +21,8 @@ use Rattle.rr_cells.specs.Listing.{owned_cell}
 use Rattle.rr_cells.specs.Operations.{cell_step, joins_of, outcome_of, with_op}
 use Rattle.rr_cells.specs.Puts.{put_sample}
 use Rattle.rr_cells.proofs.OperationsLemmas.{outcome_of-joins, outcome_of-more}
-use Rattle.rr_copies.specs.KeeperState.{KeeperState, own_replica, with_pending}
-use Rattle.rr_copies.proofs.PrefixLemmas.{prefix_append, prefix_nil, prefix_refl, prefix_trans}
+use Rattle.rr_desk.specs.KeeperState.{KeeperState, own_replica, with_pending}
+use Rattle.rr_desk.proofs.PrefixLemmas.{prefix_append, prefix_nil, prefix_refl, prefix_trans}
 use Rattle.rr_model.proofs.Fetches.{fetches_are_of_the_live}
 use Rattle.rr_fetch.specs.Answers.{cells_text}
 use Rattle.rr_fetch.proofs.RowLaws.{answer_of_state}

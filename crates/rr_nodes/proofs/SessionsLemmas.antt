@@ -24,8 +24,8 @@ use Rattle.rr_cells.specs.Joins.{join_cell, join_cells}
 use Rattle.rr_cells.specs.Listing.{owned_cell}
 use Rattle.rr_cells.specs.Operations.{outcome_of, to_cell}
 use Rattle.rr_cells.proofs.HeldCells.{all_held as each_held}
-use Rattle.rr_copies.specs.KeeperState.{KeeperState, cells_of, own_replica}
-use Rattle.rr_copies.proofs.PrefixLemmas.{prefix_refl}
+use Rattle.rr_desk.specs.KeeperState.{KeeperState, cells_of, own_replica}
+use Rattle.rr_desk.proofs.PrefixLemmas.{prefix_refl}
 use Rattle.rr_delta.specs.Difference.{IsSummary, newer_cells}
 use Rattle.rr_delta.specs.Names.{IsNameOf, NamedVersion, versions_of}
 use Rattle.rr_delta.proofs.HeldLemmas.{named_all}

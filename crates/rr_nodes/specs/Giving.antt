@@ -7,7 +7,7 @@ use Rattle.rr_model.specs.CellNames.{CellName}
 use Rattle.rr_cells.specs.declared.op.Op.{Op}
 use Rattle.rr_cells.specs.Cells.{Cells}
 use Rattle.rr_cells.specs.ReplicaState.{IsReplicaState}
-use Rattle.rr_copies.specs.KeeperState.{KeeperState, cells_of, own_replica}
+use Rattle.rr_desk.specs.KeeperState.{KeeperState, cells_of, own_replica}
 use Rattle.rr_delta.specs.Difference.{newer_cells}
 use Rattle.rr_delta.specs.Names.{NamedVersion}
 use Rattle.rr_page.specs.Version.{latest}

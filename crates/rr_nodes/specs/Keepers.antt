@@ -16,7 +16,7 @@ use Rattle.rr_cells.specs.Cells.{Cells, IsTrimmed}
 use Rattle.rr_cells.specs.ReplicaState.{ReplicaState, IsReplicaState}
 use Rattle.rr_cells.specs.Listing.{owned_cell}
 use Rattle.rr_cells.specs.Operations.{joins_of, outcome_of}
-use Rattle.rr_copies.specs.KeeperState.{KeeperState, cells_of, own_replica, keeper_at_opening, with_all_published, with_pending}
+use Rattle.rr_desk.specs.KeeperState.{KeeperState, cells_of, own_replica, keeper_at_opening, with_all_published, with_pending}
 use Rattle.rr_fetch.specs.Answers.{cells_text}
 use Rattle.rr_desk.specs.Points.{with_put, with_puts}
 use Rattle.rr_desk.specs.ReaderState.{ReaderState, cells_seen, with_joined}

@@ -13,7 +13,7 @@ use Rattle.rr_cells.specs.Cells.{Cells}
 use Rattle.rr_cells.specs.ReplicaState.{IsReplicaState}
 use Rattle.rr_cells.specs.Joins.{join_cells}
 use Rattle.rr_cells.specs.Operations.{outcome_of, to_cell}
-use Rattle.rr_copies.specs.KeeperState.{KeeperState, cells_of, own_replica}
+use Rattle.rr_desk.specs.KeeperState.{KeeperState, cells_of, own_replica}
 use Rattle.rr_delta.specs.Difference.{newer_cells}
 use Rattle.rr_delta.specs.Names.{versions_of}
 use Rattle.rr_desk.specs.ReaderState.{HasJoined}

@@ -2,8 +2,8 @@ use Rattle.std.proofs.Common.{rules, ◌≡◌, All, subst}
 use Rattle.left_right.specs.Sides.{view}
 use Rattle.rr_schema.specs.Schema.{Layout}
 use Rattle.rr_replica.specs.ReplicaWithRoom.{replica_state}
-use Rattle.rr_copies.specs.declared.rule.View.{View}
-use Rattle.rr_copies.specs.Rule.{keeper_of}
+use Rattle.rr_desk.specs.declared.rule.View.{View}
+use Rattle.rr_desk.specs.Rule.{keeper_of}
 use Rattle.rr_desk.specs.ReaderState.{HasSeen}
 use Rattle.rr_desk.proofs.opening.begin.Goals as goal
 

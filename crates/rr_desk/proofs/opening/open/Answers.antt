@@ -1,5 +1,5 @@
 use Rattle.std.proofs.Common.{All, subst, sym}
-use Rattle.rr_copies.specs.KeeperState.{KeeperState}
+use Rattle.rr_desk.specs.KeeperState.{KeeperState}
 use Rattle.rr_desk.specs.ReaderState.{HasSeen}
 use Rattle.rr_desk.proofs.opening.open.Goals as goal
 

@@ -1,4 +1,4 @@
-use Rattle.rr_copies.proofs.RuleLemmas.{admits}
+use Rattle.rr_desk.proofs.RuleLemmas.{admits}
 use Rattle.rr_desk.proofs.opening.seat.Goals as goal
 
 pub reader-requires : goal.reader-requires

@@ -1,7 +1,7 @@
 use Rattle.std.proofs.Common.{rules, ◌≡◌, ℕ, ◌+◌, length, All, List, [], ◌∷◌, ◌++◌, sym, ap, ◌∙◌, subst, length-append}
 use Rattle.std.proofs.lemmas.List.Elements.{All-push}
 use Rattle.left_right.specs.Sides.{view}
-use Rattle.rr_copies.specs.declared.rule.View.{View}
+use Rattle.rr_desk.specs.declared.rule.View.{View}
 use Rattle.rr_desk.specs.ReaderState.{HasSeen, ReaderState}
 use Rattle.rr_desk.proofs.opening.seats.Goals as goal
 

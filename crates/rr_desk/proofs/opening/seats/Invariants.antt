@@ -1,7 +1,7 @@
 use Rattle.std.proofs.Common.{◌≡◌, length, All}
 use Rattle.left_right.specs.Sides.{view}
 use Rattle.rr_desk.specs.ReaderState.{HasSeen}
-use Rattle.rr_copies.specs.Writers.{changes}
+use Rattle.rr_desk.specs.Writers.{changes}
 use Rattle.rr_desk.proofs.opening.seats.Given as goal
 
 abbrev pub invariant-loop-n : goal.invariant-loop-n

@@ -1,5 +1,5 @@
 use Rattle.std.proofs.Common.{rules, ◌≡◌, true, [], ◌∷◌}
-use Rattle.rr_copies.proofs.RuleLemmas.{sees}
+use Rattle.rr_desk.proofs.RuleLemmas.{sees}
 use Rattle.rr_desk.specs.declared.gate.GateCall.TheVariants.{After, Before}
 use Rattle.rr_desk.proofs.GateLemmas.{asked_more}
 use Rattle.rr_desk.proofs.reading.answer.Goals as goal

@@ -1,6 +1,6 @@
 use Rattle.std.proofs.Common.{rules, ◌≡◌}
 use Rattle.left_right.specs.Sides.{view}
-use Rattle.rr_copies.proofs.RuleLemmas.{sees}
+use Rattle.rr_desk.proofs.RuleLemmas.{sees}
 use Rattle.rr_desk.proofs.reading.lacking.Goals as goal
 
 pub enter_as-requires : goal.enter_as-requires

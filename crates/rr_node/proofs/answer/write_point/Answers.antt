@@ -4,7 +4,7 @@ use Rattle.std.specs.Int.{w64}
 use Rattle.std.proofs.lemmas.List.{length-map}
 use Rattle.rr_point.specs.Point.{field_view, point_view}
 use Rattle.rr_replica.specs.declared.fault.WriteFault.TheVariants as why
-use Rattle.rr_copies.specs.KeeperState.{own_replica}
+use Rattle.rr_desk.specs.KeeperState.{own_replica}
 use Rattle.rr_node.specs.declared.answer.Answer.TheVariants as says
 use Rattle.rr_node.specs.Connection.{IsAnswer}
 use Rattle.rr_node.specs.Lines.{Verdict, keeper_with, keeper_with_some}

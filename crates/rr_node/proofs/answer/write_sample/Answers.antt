@@ -3,7 +3,7 @@ use Rattle.std.proofs.Common.{◌≡◌, Err, [], ◌∷◌, refl, sym, ◌∙�
 use Rattle.std.proofs.Math.Facts.{to_z-of_z}
 use Rattle.std.specs.Int.{w64}
 use Rattle.rr_replica.specs.declared.fault.WriteFault.TheVariants as why
-use Rattle.rr_copies.specs.KeeperState.{own_replica}
+use Rattle.rr_desk.specs.KeeperState.{own_replica}
 use Rattle.rr_node.specs.Lines.{verdict_of_point}
 use Rattle.rr_node.proofs.KnownLemmas.{none_of, takes_put, takes_spent, takes_ahead}
 use Rattle.rr_node.proofs.answer.write_sample.Goals as goal

@@ -1,5 +1,5 @@
 use Rattle.std.proofs.Common.{ap, ◌∙◌}
-use Rattle.rr_copies.specs.KeeperState.{KeeperState}
+use Rattle.rr_desk.specs.KeeperState.{KeeperState}
 use Rattle.rr_node.proofs.PullsLemmas.{desk_of_joined}
 use Rattle.rr_node.proofs.pull.pull_peer.Goals as goal
 

@@ -2,7 +2,7 @@ use Rattle.std.proofs.Common.{◌≡◌, All, IfOk, drop, map, subst, take, ap, 
 use Rattle.rr_schema.specs.Schema.{Layout}
 use Rattle.rr_cells.specs.Cells.{Cells}
 use Rattle.rr_delta.specs.Names.{IsNameOf, owned_name, versions_of}
-use Rattle.rr_copies.specs.KeeperState.{cells_of}
+use Rattle.rr_desk.specs.KeeperState.{cells_of}
 use Rattle.rr_desk.proofs.keeper.Keeper.names.Goals as goal
 
 pub returns-clause-listed : goal.returns-clause-listed

@@ -4,7 +4,7 @@ use Rattle.rr_schema.specs.Schema.{Layout}
 use Rattle.rr_cells.specs.Cells.{Cells}
 use Rattle.rr_delta.specs.Names.{IsNameOf, name_in, named_version, owned_name}
 use Rattle.rr_delta.specs.Summaries.{cells_after}
-use Rattle.rr_copies.specs.KeeperState.{cells_of}
+use Rattle.rr_desk.specs.KeeperState.{cells_of}
 use Rattle.rr_desk.proofs.keeper.Keeper.names_after.Goals as goal
 
 pub returns-clause-listed : goal.returns-clause-listed

@@ -10,7 +10,7 @@ use Rattle.rr_point.specs.Point.{field_view, point_view}
 use Rattle.rr_point.specs.declared.point.Field.{Field}
 use Rattle.rr_replica.proofs.FieldLemmas.{field_at, take-view, failed, passed}
 use Rattle.rr_desk.specs.Points.{with_put, with_puts}
-use Rattle.rr_copies.specs.KeeperState.{KeeperState}
+use Rattle.rr_desk.specs.KeeperState.{KeeperState}
 use Rattle.rr_desk.proofs.PointsLemmas.{with_puts-more}
 use Rattle.rr_desk.proofs.keeper.Keeper.put_fields.Goals as goal
 

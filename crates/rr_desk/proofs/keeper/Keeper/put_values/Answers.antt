@@ -6,7 +6,7 @@ use Rattle.std.specs.Int.{w64}
 use Rattle.rr_replica.proofs.FieldLemmas.{take-view, failed, passed}
 use Rattle.rr_desk.specs.Points.{keyed_value, with_put, with_samples}
 use Rattle.rr_desk.specs.declared.samples.KeyedValue.{KeyedValue}
-use Rattle.rr_copies.specs.KeeperState.{KeeperState}
+use Rattle.rr_desk.specs.KeeperState.{KeeperState}
 use Rattle.rr_desk.proofs.PointsLemmas.{with_samples-more}
 use Rattle.rr_desk.proofs.keeper.Keeper.put_values.Goals as goal
 

@@ -9,7 +9,7 @@ use Rattle.rr_cells.specs.ReplicaState.{ReplicaState}
 use Rattle.rr_snapshot.specs.Snapshot.{snapshot_text}
 use Rattle.rr_snapshot.specs.declared.fault.SaveFault.TheVariants.{TooManyCells}
 use Rattle.rr_snapshot.specs.declared.heading.TheConstants.{MAX_SNAPSHOT_CELLS}
-use Rattle.rr_copies.specs.KeeperState.{cells_of, own_replica}
+use Rattle.rr_desk.specs.KeeperState.{cells_of, own_replica}
 use Rattle.rr_desk.proofs.keeper.Keeper.save.Goals as goal
 
 pub returns-clause-whole : goal.returns-clause-whole

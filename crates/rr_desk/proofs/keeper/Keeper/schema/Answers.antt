@@ -1,6 +1,6 @@
 use Rattle.std.proofs.Common.{subst, ap, ◌∙◌}
 use Rattle.rr_cells.specs.ReplicaState.{IsReplicaState}
-use Rattle.rr_copies.specs.KeeperState.{own_replica}
+use Rattle.rr_desk.specs.KeeperState.{own_replica}
 use Rattle.rr_desk.proofs.keeper.Keeper.schema.Goals as goal
 
 pub returns-clause-holds : goal.returns-clause-holds

@@ -3,7 +3,7 @@ use Rattle.std.proofs.lemmas.List.{append-nil}
 use Rattle.std.proofs.lemmas.Result.{err_from_is_err_and}
 use Rattle.std.proofs.KnownBytes.{Appends-trans}
 use Rattle.rr_io.specs.Counted.{inner_of}
-use Rattle.rr_copies.specs.KeeperState.{KeeperState}
+use Rattle.rr_desk.specs.KeeperState.{KeeperState}
 use Rattle.rr_feed.specs.Feed.{FeedState}
 use Rattle.rr_node.specs.declared.rules.Rules.{Rules}
 use Rattle.rr_node.specs.Connection.{ComesAfter, IsWhole, Stops}

@@ -1,5 +1,0 @@
-pub mod PrefixLemmas
-pub mod EditionsLemmas
-pub mod ChangesLemmas
-pub mod RuleLemmas
-pub mod KeeperStateLemmas

@@ -1,5 +1,0 @@
-use Rattle.rr_copies.proofs.KeeperStateLemmas.{own-state}
-use Rattle.rr_copies.proofs.copies.Copies.close.Goals as goal
-
-pub returns : goal.returns
-returns g c = own-state _ _ _ _ _ _ _ _ _ c.self.invariant c.self.view_is

@@ -1,5 +1,0 @@
-use Rattle.rr_copies.proofs.KeeperStateLemmas.{keeper-open}
-use Rattle.rr_copies.proofs.copies.Copies.new.Goals as goal
-
-pub invariant_of-result : goal.invariant_of-result
-invariant_of-result g c = let h = c.requires in keeper-open _ _ _ _ _ _ h.holds h.view h.copy h.front h.book h.pending

@@ -1,6 +1,0 @@
-use Rattle.rr_copies.proofs.RuleLemmas.{holds_first}
-use Rattle.std.proofs.Common.{rules}
-use Rattle.rr_copies.proofs.opening.unopened_writer.Goals as goal
-
-pub new-requires-clause-rule : goal.new-requires-clause-rule
-new-requires-clause-rule g c = holds_first _ (search rules)

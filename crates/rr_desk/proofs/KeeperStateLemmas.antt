@@ -1,0 +1,272 @@
+-- What a keeper keeps to: the published copy, its own replica and the book beside each other.
+use Rattle.std.proofs.Common.{◌≡◌, Bool, true, false, List, [], ◌∷◌, ◌++◌, fold, append_assoc, append-nil, refl, sym, ap, ◌∙◌, subst}
+use Rattle.std.proofs.lemmas.List.Sums.{fold-append}
+use Rattle.logbook.specs.Pages.{Book}
+use Rattle.rr_schema.specs.Schema.{Layout}
+use Rattle.rr_cells.specs.declared.op.Op.{Op}
+use Rattle.rr_cells.specs.Cells.{Cells}
+use Rattle.rr_cells.specs.ReplicaState.{IsReplicaState, ReplicaState}
+use Rattle.rr_cells.specs.Operations.{accepts, with_op, cell_step, outcome_of, step, joins_of, AllAccepted}
+use Rattle.rr_cells.proofs.OperationsLemmas.{accepted-append, outcome_of-append, outcome_of-joins, step_accepted, step-origin, step-schema, steps-cells, steps-schema}
+use Rattle.rr_desk.specs.declared.rule.View.{View}
+use Rattle.rr_desk.specs.declared.shown.Change.{Change}
+use Rattle.rr_desk.specs.declared.shown.Change.TheVariants.{Apply, Edition}
+use Rattle.rr_desk.specs.Changes.{front_after, ops_in}
+use Rattle.rr_desk.specs.Editions.{BookFront, flat, Begins}
+use Rattle.rr_desk.specs.Rule.{with_published, keeper_of}
+use Rattle.rr_desk.specs.KeeperState.{KeeperState, cells_of, own_replica, with_pending, IsKeeper, IsTied, IsBooked, IsReady}
+use Rattle.rr_desk.proofs.EditionsLemmas.{begins-refl, begins-more}
+use Rattle.rr_desk.proofs.ChangesLemmas.{front_after-end_edition, ops_in-apply, ops_in-end_edition}
+
+-- ---- the keeper's own replica
+
+-- its cells are those after all operations, the published ones first
+pub tied-cells : (v : View) (shown own : ReplicaState) (pending : List Op) → IsTied v shown own pending
+    → own.cells ≡ outcome_of own.schema (v.seen ++ pending)
+tied-cells v shown own pending t =
+    let s = shown.schema in
+    let schema : own.schema ≡ s = ap (λ (h : ReplicaState). h.schema) t.applied ∙ steps-schema pending shown in
+    let cells : own.cells ≡ fold (cell_step s) shown.cells pending = ap (λ (h : ReplicaState). h.cells) t.applied
+    ∙ steps-cells pending shown t.accepted in
+    cells ∙ ap (λ (c : Cells). fold (cell_step s) c pending) t.cells ∙ sym (outcome_of-append s v.seen pending)
+    ∙ ap (λ (l : Layout). outcome_of l (v.seen ++ pending)) (sym schema)
+
+-- one operation more is pending
+pub tied-push : (v : View) (shown own new : ReplicaState) (pending all : List Op) (op : Op) → IsTied v shown own pending
+    → accepts own op ≡ true → new ≡ step own op → all ≡ pending ++ op ∷ [] → IsTied v shown new all
+tied-push v shown own new pending all op t may is more =
+    let here : accepts (fold step shown pending) op ≡ true = ap (λ (h : ReplicaState). accepts h op) (sym t.applied)
+    ∙ may in
+    let whole : IsTied v shown (step own op) (pending ++ op ∷ []) = record {
+      writes = t.writes;
+      joined = t.joined;
+      schema = t.schema ∙ sym (step-schema own op);
+      cells = t.cells;
+      accepted = accepted-append pending (op ∷ []) shown t.accepted (here, tt);
+      applied = ap (λ (h : ReplicaState). step h op) t.applied ∙ sym (fold-append step shown pending (op ∷ []));
+    } in
+    subst (λ (z : ReplicaState × List Op). IsTied v shown z.0 z.1) (λ i. (sym is i, sym more i)) whole
+
+-- a publication leaves the two tied
+tied-published : (v w : View) (x y own : ReplicaState) (pending : List Op) → w ≡ with_published v pending
+    → y ≡ fold step x pending → IsTied v x own pending → IsTied w y own []
+tied-published v w x y own pending now is t =
+    let same : y ≡ own = is ∙ sym t.applied in
+    let whole : IsTied (with_published v pending) own own [] = record {
+      writes = t.writes;
+      joined = t.joined;
+      schema = t.schema;
+      cells = tied-cells v x own pending t;
+      accepted = tt;
+      applied = refl;
+    } in
+    subst (λ (z : View × ReplicaState). IsTied z.0 z.1 own []) (λ i. (sym now i, sym same i)) whole
+
+-- an opened desk is tied
+pub tied-open : (v : View) (shown own : ReplicaState) (b : Book) (cs : List Change) → IsReplicaState own
+    → v ≡ keeper_of own b → shown ≡ own → cs ≡ [] → IsTied v shown own (ops_in cs)
+tied-open v shown own b cs holds is same none =
+    let whole : IsTied (keeper_of own b) own own [] =
+    record {
+      writes = refl;
+      joined = refl;
+      schema = refl;
+      cells =
+          sym (outcome_of-joins own.schema own.cells holds.layout holds.live);
+      accepted = tt;
+      applied = refl;
+    } in
+    subst (λ (z : View × ReplicaState × List Op). IsTied z.0 z.1 own z.2)
+    (λ i. (sym is i, sym same i, ops_in (sym none i))) whole
+
+-- ---- the book
+
+-- one operation more is pending, which the keeper's book may lack
+pub booked-push : (v : View) (copy all : BookFront) (pending more : List Op) (op : Op) → IsBooked v copy all pending
+    → more ≡ pending ++ op ∷ [] → IsBooked v copy all more
+booked-push v copy all pending more op b is = record {
+  copy_desk = b.copy_desk;
+  all_desk = b.all_desk;
+  shown = b.shown;
+  whole = subst (λ (l : List Op). Begins (flat all.editions) l)
+      (append_assoc v.seen pending (op ∷ []) ∙ ap (λ (l : List Op). v.seen ++ l) (sym is))
+      (begins-more (flat all.editions) (v.seen ++ pending) (op ∷ []) b.whole);
+}
+
+-- a publication leaves the keeper booked
+booked-published : (v w : View) (x : ReplicaState) (front new all : BookFront) (cs : List Change)
+    → w ≡ with_published v (ops_in cs) → new ≡ front_after front cs → IsReady v x front cs
+    → IsBooked v front all (ops_in cs) → IsBooked w new all []
+booked-published v w x front new all cs now last ready b =
+    let here : IsBooked (with_published v (ops_in cs)) (front_after front cs) all [] = record {
+      copy_desk = ready.desk;
+      all_desk = b.all_desk;
+      shown = ready.ended;
+      whole = subst (λ (l : List Op). Begins (flat all.editions) l) (sym (append-nil (v.seen ++ ops_in cs))) b.whole;
+    } in
+    subst (λ (z : View × BookFront). IsBooked z.0 z.1 all []) (λ i. (sym now i, sym last i)) here
+
+-- an opened desk is booked
+pub booked-open : (v : View) (own : ReplicaState) (copy all : BookFront) (cs : List Change) → v ≡ keeper_of own all.desk
+    → copy ≡ all → flat all.editions ≡ joins_of own.cells → cs ≡ [] → IsBooked v copy all (ops_in cs)
+booked-open v own copy all cs is same book none =
+    let whole : IsBooked (keeper_of own all.desk) all all [] = record {
+      copy_desk = refl;
+      all_desk = refl;
+      shown = book;
+      whole = subst (λ (l : List Op). Begins (flat all.editions) l) (book ∙ sym (append-nil (joins_of own.cells)))
+          (begins-refl (flat all.editions));
+    } in
+    subst (λ (z : View × BookFront × List Op). IsBooked z.0 z.1 all z.2)
+    (λ i. (sym is i, sym same i, ops_in (sym none i))) whole
+
+-- the end of an edition that has all makes the pending changes ready
+pub ended : (v : View) (shown : ReplicaState) (front all : BookFront) (cs more : List Change) → v.writes ≡ true
+    → v.joined ≡ true → AllAccepted shown (ops_in cs) → all.desk ≡ v.desk → flat all.editions ≡ v.seen ++ ops_in cs
+    → more ≡ cs ++ Edition all ∷ [] → IsReady v shown front more
+ended v shown front all cs more writes joined accepted desk book is =
+    let last : front_after front more ≡ all = ap (front_after front) is ∙ front_after-end_edition cs front all in
+    let same : ops_in cs ≡ ops_in more = sym (ap ops_in is ∙ ops_in-end_edition cs all) in record {
+      writes = writes;
+      joined = joined;
+      accepted = subst (AllAccepted shown) same accepted;
+      ended = ap (λ (s : BookFront). flat s.editions) last ∙ (book ∙ ap (λ (l : List Op). v.seen ++ l) same);
+      desk = ap (λ (s : BookFront). s.desk) last ∙ desk;
+    }
+
+-- ---- the keeper
+
+-- an opened desk
+pub keeper-open : (v : View) (shown own : ReplicaState) (front all : BookFront) (cs : List Change) → IsReplicaState own
+    → v ≡ keeper_of own all.desk → shown ≡ own → front ≡ all → flat all.editions ≡ joins_of own.cells → cs ≡ []
+    → IsKeeper v shown own front all cs false
+keeper-open v shown own front all cs holds is same begun book none = record {
+  tied = tied-open v shown own all.desk cs holds is same none;
+  booked = booked-open v own front all cs is begun book none;
+  ready = λ e. cc;
+}
+
+-- one operation more is pending
+pub keeper-push : (v : View) (shown own new : ReplicaState) (front all : BookFront) (cs more : List Change)
+    (ended : Bool) (op : Op) → IsKeeper v shown own front all cs ended → accepts own op ≡ true → new ≡ step own op
+    → more ≡ cs ++ Apply op ∷ [] → IsKeeper v shown new front all more false
+keeper-push v shown own new front all cs more ended op k may is longer =
+    let left : ops_in more ≡ ops_in cs ++ op ∷ [] = ap ops_in longer ∙ ops_in-apply cs op in record {
+      tied = tied-push v shown own new (ops_in cs) (ops_in more) op k.tied may is left;
+      booked = booked-push v front all (ops_in cs) (ops_in more) op k.booked left;
+      ready = λ e. cc;
+    }
+
+-- all is published
+pub keeper-published : (v w : View) (x y own : ReplicaState) (front new all : BookFront) (cs rest : List Change)
+    → w ≡ with_published v (ops_in cs) → rest ≡ [] → y ≡ fold step x (ops_in cs) → new ≡ front_after front cs
+    → IsKeeper v x own front all cs true → IsKeeper w y own new all rest false
+keeper-published v w x y own front new all cs rest now none is last k = record {
+  tied = subst (λ (l : List Change). IsTied w y own (ops_in l)) (sym none)
+      (tied-published v w x y own (ops_in cs) now is k.tied);
+  booked = subst (λ (l : List Change). IsBooked w new all (ops_in l)) (sym none)
+      (booked-published v w x front new all cs now last (k.ready refl) k.booked);
+  ready = λ e. cc;
+}
+
+-- nothing has changed
+pub keeper-same : {C : Type 0} (held : C → ReplicaState) (front : C → BookFront) (v w : View) (x y : C)
+    (own : ReplicaState) (all : BookFront) (cs rest : List Change) (ended : Bool) → w ≡ v → y ≡ x → rest ≡ cs
+    → IsKeeper v (held x) own (front x) all cs ended → IsKeeper w (held y) own (front y) all rest ended
+keeper-same {C = C} held front v w x y own all cs rest ended now same left k =
+    subst (λ (z : View × C × List Change). IsKeeper z.0 (held z.1) own (front z.1) all z.2 ended)
+    (λ i. (sym now i, sym same i, sym left i)) k
+
+-- the book has all, and the pending changes are marked
+pub keeper-ended : (v : View) (x own : ReplicaState) (front all new : BookFront) (cs more : List Change) (ended : Bool)
+    → IsKeeper v x own front all cs ended → new.desk ≡ all.desk → Begins (flat new.editions) (v.seen ++ ops_in cs)
+    → ops_in more ≡ ops_in cs → IsReady v x front more → IsKeeper v x own front new more true
+keeper-ended v x own front all new cs more ended k desk begins same ready = record {
+  tied = subst (λ (l : List Op). IsTied v x own l) (sym same) k.tied;
+  booked = subst (λ (l : List Op). IsBooked v front new l) (sym same)
+      (record {
+        copy_desk = k.booked.copy_desk;
+        all_desk = desk
+            ∙ k.booked.all_desk;
+        shown = k.booked.shown;
+        whole = begins;
+      });
+  ready = λ e. ready;
+}
+
+-- the book has perhaps more of what is pending
+pub keeper-unmarked : (v : View) (x own : ReplicaState) (front all new : BookFront) (cs more : List Change)
+    (ended : Bool) → IsKeeper v x own front all cs ended → new.desk ≡ all.desk
+    → Begins (flat new.editions) (v.seen ++ ops_in cs) → more ≡ cs → IsKeeper v x own front new more ended
+keeper-unmarked v x own front all new cs more ended k desk begins same =
+    subst (λ (l : List Change). IsKeeper v x own front new l ended) (sym same) (record {
+      tied = k.tied;
+      booked = record {
+        copy_desk = k.booked.copy_desk;
+        all_desk = desk
+            ∙ k.booked.all_desk;
+        shown = k.booked.shown;
+        whole = begins;
+      };
+      ready = k.ready;
+    })
+
+-- ---- what contracts see
+
+-- the keeper's own replica holds what all operations make
+pub own-state : (v : View) (shown own : ReplicaState) (front all : BookFront) (cs : List Change) (ended : Bool)
+    (b : Book) (k : KeeperState) → IsKeeper v shown own front all cs ended
+    → record {
+      desk = b;
+      schema = own.schema;
+      origin = own.origin;
+      next = own.next;
+      published = v.seen;
+      pending =
+          ops_in cs;
+    } ≡ k → own ≡ own_replica k
+own-state v shown own front all cs ended b k keeps is =
+    let e = tied-cells v shown own (ops_in cs) keeps.tied in
+    (λ i. record { schema = own.schema; origin = own.origin; next = own.next; cells = e i }) ∙ ap own_replica is
+
+pub cells-state : (v : View) (shown own : ReplicaState) (front all : BookFront) (cs : List Change) (ended : Bool)
+    (b : Book) (k : KeeperState) → IsKeeper v shown own front all cs ended
+    → record {
+      desk = b;
+      schema = own.schema;
+      origin = own.origin;
+      next = own.next;
+      published = v.seen;
+      pending =
+          ops_in cs;
+    } ≡ k → own.cells ≡ cells_of k
+cells-state v shown own front all cs ended b k keeps is =
+    ap (λ (h : ReplicaState). h.cells) (own-state v shown own front all cs ended b k keeps is)
+
+-- with one operation more that is pending
+pub push-state : (k : KeeperState) (new : ReplicaState) (op : Op) (b : Book) (published pending : List Op)
+    → accepts (own_replica k) op ≡ true → new ≡ step (own_replica k) op → b ≡ k.desk → published ≡ k.published
+    → pending ≡ k.pending ++ op ∷ []
+    → record {
+      desk = b;
+      schema = new.schema;
+      origin = new.origin;
+      next = new.next;
+      published = published;
+      pending =
+          pending;
+    } ≡ with_pending k op
+push-state k new op b published pending may is desk seen more =
+    let h = own_replica k in
+    let schema : new.schema ≡ k.schema = ap (λ (x : ReplicaState). x.schema) is ∙ step-schema h op in
+    let origin : new.origin ≡ k.origin = ap (λ (x : ReplicaState). x.origin) is ∙ step-origin h op in
+    let next : new.next ≡ (with_op h op).next = ap (λ (x : ReplicaState). x.next) (is ∙ step_accepted h op may) in
+    λ i. record {
+      desk = desk i;
+      schema = schema i;
+      origin = origin i;
+      next = next i;
+      published = seen i;
+      pending =
+          more i;
+    }

@@ -1,0 +1,20 @@
+use Rattle.std.proofs.Common.{rules, ◌≡◌, List, sym, ap, ◌∙◌, subst}
+use mathlib.Core.List.{IsPrefix}
+use Rattle.left_right.specs.Sides.{view}
+use Rattle.rr_cells.specs.declared.op.Op.{Op}
+use Rattle.rr_desk.specs.Editions.{flat}
+use Rattle.rr_desk.proofs.EditionsLemmas.{flat-prefix}
+use Rattle.rr_desk.proofs.RuleLemmas.{sees}
+use Rattle.rr_desk.proofs.read_handle.look_for.Goals as goal
+
+pub enter_as-requires : goal.enter_as-requires
+enter_as-requires g c x = sees _ _ _
+
+pub returns-then-newer-clause-told : goal.returns-then-newer-clause-told
+returns-then-newer-clause-told g c =
+    let x = c.in-Ok.reading.part.value in
+    let book : flat x.front.editions ≡ (view c.in-Ok.reading.place).seen = search rules in
+    let left : view c.leave-seat.result.place ≡ view c.in-Ok.reading.place = search rules in
+    let begins : IsPrefix c.args.front.now.editions x.front.editions = search rules in
+    subst (λ (l : List Op). IsPrefix (flat c.args.front.now.editions) l) (book ∙ sym (ap (λ v. v.seen) left))
+    (flat-prefix c.args.front.now.editions x.front.editions begins)

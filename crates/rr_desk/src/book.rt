@@ -1,0 +1,214 @@
+//! The book of a desk: what each edition adds. Only the number of editions is in memory.
+//!
+//! An edition is what one publication adds. [`Editions`], which the keeper owns, counts them in one
+//! word; a [`Front`] is a beginning of the book that was seen. It may go to any thread, and two of
+//! them can be compared: of two beginnings of one list the shorter begins the longer.
+ghost use Rattle.std.specs.Prelude.{◌≡◌, [], ◌∷◌, ◌++◌, length, nat_le, IsTrue, IfOk, OnErr, OnOk};
+ghost use mathlib.Core.List.{IsPrefix};
+ghost use Rattle.rr_desk.specs.Editions.{head_of};
+
+use logbook::{Gain, Offer, Plain, Play, Rule, Seen, Start, Word};
+use rr_cells::Op;
+use std::alloc::AllocError;
+use std::collections::LinkedList;
+use std::marker::{Brand, Model, PhantomData};
+
+/// The rule of a book: its word counts the editions.
+pub struct Law;
+
+impl Rule<LinkedList<Op>, u64> for Law {
+    ghost use Rattle.std.specs.Prelude.{[]};
+    ghost use base.Fml.{ftrue};
+    ghost use Rattle.rr_desk.specs.Editions.{IsCounted};
+
+    ghost holds = { λ words editions. IsCounted words editions };
+
+    ghost first = { [] };
+
+    ghost hinted = { λ n editions. Unit {0} };
+
+    ghost shows = { λ editions. [] };
+
+    ghost keeps = { λ names editions. ftrue };
+
+    ghost moves = { λ ask before after answer. Unit {0} };
+}
+
+/// What a step gives its caller to keep: nothing.
+pub struct Nothing;
+
+impl Gain<LinkedList<Op>, u64> for Nothing {
+    ghost use base.Fml.{ftrue};
+
+    ghost after = { λ names about answer. ftrue };
+}
+
+/// Which operations a step is about. No value of it is made: each call picks them in its proof.
+pub trait Batch {
+    ghost use Rattle.std.specs.Prelude.{List};
+    ghost use Rattle.rr_cells.specs.declared.op.Op.{Op};
+
+    ghost batch: { List Op };
+}
+
+impl Batch for Brand {
+    ghost use Rattle.std.specs.Prelude.{[]};
+
+    ghost batch = { [] };
+}
+
+/// The step that adds an edition.
+pub struct Adds<K> {
+    of: PhantomData<K>,
+}
+
+impl<K: Batch> Play<LinkedList<Op>, u64> for Adds<K> {
+    ghost use Rattle.rr_desk.specs.Editions.{Adds};
+
+    ghost then = { Adds K.batch };
+}
+
+impl<K: Batch> Plain<(), LinkedList<Op>, u64> for Adds<K> {
+    ghost use Rattle.std.specs.Prelude.{None};
+
+    ghost ask = { λ _. K.batch };
+
+    ghost state = { λ _. None };
+}
+
+/// Which desk it is, by its book. No value of it is made.
+pub struct DeskName {
+    number: u64,
+    log_name: u64,
+    cells_name: u64,
+}
+
+impl Model for DeskName {
+    ghost use Rattle.logbook.specs.Pages.{Book, book_coded};
+
+    ghost Value = { Book };
+
+    ghost coded = { book_coded };
+
+    ghost view = { λ d. record { number = d.number; log_name = d.log_name; cells_name = d.cells_name } };
+}
+
+/// A beginning of a desk's book, as far as it was seen. It takes eight bytes.
+#[derive(Drop)]
+pub struct Front {
+    count: u64,
+    seen: Seen<LinkedList<Op>, u64, Law>,
+}
+
+impl Model for Front {
+    ghost use Rattle.std.specs.Prelude.{◌≡◌, length};
+    ghost use Rattle.rr_desk.specs.Editions.{BookFront};
+
+    ghost Value = { BookFront };
+
+    ghost view = { λ f. record { desk = f.seen.book; editions = f.seen.log } };
+
+    ghost invariant = { λ f. f.count ≡ length f.seen.log };
+}
+
+impl Front {
+    /// The same beginning once more, without memory.
+    pub fn again(&self) -> Front
+        ensures { result ≡ self.now }
+    {
+        Front {
+            count: self.count,
+            seen: self.seen.again(),
+        }
+    }
+
+    /// Whether another front of the same book begins with this one, as it does where it isn't
+    /// shorter.
+    pub fn begins(&self, other: &Front) -> bool
+        requires { self.now.desk ≡ other.now.desk }
+        ensures length { result ≡ nat_le (length self.now.editions) (length other.now.editions) }
+        ensures begins { IsTrue result → IsPrefix self.now.editions other.now.editions }
+    {
+        let mut both = self.seen.again();
+        both.learn(&other.seen);
+        self.count <= other.count
+    }
+
+    /// This front and an edition more, which the word counts too. Refused where the word has
+    /// counted another one, or can count no more.
+    fn next<K: Batch>(&self, head: &Word<LinkedList<Op>, u64, Law>) -> Result<Front, AllocError>
+        requires { head.now ≡ head_of self.now.desk }
+        ensures { IfOk result (λ f.
+            f ≡ record { desk = self.now.desk; editions = self.now.editions ++ K.batch ∷ [] }) }
+    {
+        let old = self.count;
+        if old == u64::MAX {
+            return Err(AllocError);
+        }
+        let mut seen = self.seen.again();
+        let mut offer: Offer<LinkedList<Op>, u64, Law, Nothing> = seen.plain::<
+            Nothing,
+            (),
+            Adds<K>,
+        >(&());
+        let mut pen = seen.no_pen();
+        let new = old + 1;
+        let found = head.compare_exchange::<Adds<K>, Nothing>(
+            old, new, &mut seen, &mut offer, &mut pen,
+        );
+        if found != old {
+            return Err(AllocError);
+        }
+        Ok(Front { count: new, seen })
+    }
+}
+
+/// The book in its keeper's hands, with all editions that it has.
+#[derive(Drop)]
+pub struct Editions {
+    head: Word<LinkedList<Op>, u64, Law>,
+    front: Front,
+}
+
+impl Model for Editions {
+    ghost use Rattle.std.specs.Prelude.{◌≡◌};
+    ghost use Rattle.rr_desk.specs.Editions.{BookFront, head_of};
+
+    ghost Value = { BookFront };
+
+    ghost view = { λ b. b.front };
+
+    ghost invariant = { λ b. b.head ≡ head_of b.front.desk };
+}
+
+impl Editions {
+    /// A new book, with no edition.
+    pub fn open() -> Editions
+        ensures { result.editions ≡ [] }
+    {
+        let (seen, mut first, _second) = Seen::open(Start::alone(), 0, 0);
+        Editions {
+            head: Word::tracked(0, &mut first),
+            front: Front { count: 0, seen },
+        }
+    }
+
+    /// All that it has, as a front.
+    pub fn front(&self) -> Front
+        ensures { result ≡ self.now }
+    {
+        self.front.again()
+    }
+
+    /// Adds an edition. It could be refused only where another keeper had added one to this book,
+    /// or where 2^64 - 1 have been added.
+    pub fn add<K: Batch>(&mut self) -> Result<(), AllocError>
+        ensures added { OnOk result (self.new
+            ≡ record { desk = self.old.desk; editions = self.old.editions ++ K.batch ∷ [] }) }
+        ensures unchanged { OnErr result (self.new ≡ self.old) }
+    {
+        let next = self.front.next::<K>(&self.head)?;
+        self.front = next;
+        Ok(())
+    }
+}

@@ -1,0 +1,184 @@
+//! A keeper's replica beside its two published copies.
+ghost use Rattle.std.specs.Prelude.{◌≡◌, [], true, OnErr, OnOk};
+ghost use Rattle.left_right.specs.Sides.{view};
+ghost use Rattle.rr_cells.specs.ReplicaState.{IsReplicaState};
+ghost use Rattle.rr_cells.specs.Operations.{accepts, joins_of};
+ghost use Rattle.rr_replica.specs.ReplicaWithRoom.{replica_state};
+ghost use Rattle.rr_desk.specs.Editions.{flat};
+ghost use Rattle.rr_desk.specs.Rule.{keeper_of};
+ghost use Rattle.rr_desk.specs.KeeperState.{cells_of, own_replica, keeper_at_opening, with_all_published, with_pending};
+ghost use Rattle.rr_desk.specs.Writers.{changes};
+
+use crate::book::{Editions, Front};
+use crate::shown::{Change, CopyState, Hinted, Shown};
+use crate::turn::shares_rows;
+use crate::writing::{DeskWriter, end_edition, publish};
+use core::mem::replace_with;
+use left_right::Absorb;
+use rr_archive::Cells;
+use rr_cells::Op;
+use rr_replica::{Hint, Replica};
+use std::alloc::{AllocError, Global};
+use std::marker::Model;
+use std::sync::Wait;
+
+/// A keeper's replica, with all operations, published or pending, and the two copies that readers
+/// read in turn, with what is published.
+///
+/// It is not `Drop`: it ends by [`Copies::close`].
+pub struct Copies<A: Cells>
+where
+    Shown<A>: Absorb<Change, State = CopyState>,
+{
+    alloc: Global,
+    writer: DeskWriter<A>,
+    own: Replica<A>,
+    book: Editions,
+    /// Whether the last pending change is the end of an edition that has all of the book.
+    ended: bool,
+}
+
+impl<A: Cells> Model for Copies<A>
+where
+    Shown<A>: Absorb<Change, State = CopyState>,
+{
+    ghost use Rattle.rr_desk.specs.KeeperState.{KeeperState, IsKeeper};
+
+    ghost Value = { KeeperState };
+
+    ghost use Rattle.left_right.specs.Sides.{view as seat_view};
+    ghost use Rattle.rr_replica.specs.ReplicaWithRoom.{replica_state};
+    ghost use Rattle.rr_desk.specs.Changes.{ops_in};
+    ghost use Rattle.rr_desk.specs.Writers.{changes};
+
+    ghost view = { λ k. record {
+      desk = (seat_view k.writer.desk.place).desk;
+      schema = k.own.schema;
+      origin = k.own.origin;
+      next = k.own.next;
+      published = (seat_view k.writer.desk.place).seen;
+      pending = ops_in (changes k.writer);
+    } };
+
+    ghost invariant = { λ k. IsKeeper (seat_view k.writer.desk.place)
+        (replica_state k.writer.desk.shown.value.replica) (replica_state k.own)
+        k.writer.desk.shown.value.front k.book (changes k.writer) k.ended };
+}
+
+impl<A: Cells> Copies<A> {
+    /// A replica beside its two copies, which are opened, with their book.
+    pub fn new(alloc: Global, writer: DeskWriter<A>, own: Replica<A>, book: Editions) -> Copies<A>
+        requires holds { IsReplicaState (replica_state own) }
+        requires view { view writer.desk.place ≡ keeper_of (replica_state own) book.desk }
+        requires copy { replica_state writer.desk.shown.value.replica ≡ replica_state own }
+        requires front { writer.desk.shown.value.front ≡ book }
+        requires pending { changes writer ≡ [] }
+        requires book { flat book.editions ≡ joins_of own.cells }
+        ensures { result ≡ keeper_at_opening (replica_state own) book.desk }
+    {
+        Copies {
+            alloc,
+            writer,
+            own,
+            book,
+            ended: false,
+        }
+    }
+
+    /// The keeper's replica.
+    pub fn replica(&self) -> &Replica<A>
+        ensures state { replica_state result.now ≡ own_replica self.now }
+        ensures cells { result.now.cells ≡ cells_of self.now }
+        ensures next { result.now.next ≡ self.now.next }
+        ensures origin { result.now.origin ≡ self.now.origin }
+        ensures schema { result.now.schema ≡ self.now.schema }
+    {
+        &self.own
+    }
+
+    /// Makes an operation pending that the replica takes, and applies it there. Room is
+    /// made first, so that it is taken whole or not at all.
+    ///
+    /// Before some operations finished rows of the series at the hint are shared with the copy that
+    /// is shown.
+    pub fn push(&mut self, hint: Hint, op: Op) -> Result<(), AllocError>
+        requires { accepts (own_replica self.old) op ≡ true }
+        ensures pending { OnOk result (self.new ≡ with_pending self.old op) }
+        ensures unchanged { OnErr result (self.new ≡ self.old) }
+    {
+        self.share_before(hint, &op);
+        self.append(hint, op)
+    }
+
+    /// Shares finished rows of the series at a hint, if the operation is one with which they are
+    /// looked for.
+    fn share_before(&mut self, hint: Hint, op: &Op)
+        ensures { self.new ≡ self.old }
+    {
+        if shares_rows(op) {
+            self.share_rows(hint);
+        }
+    }
+
+    /// Shares finished rows of the series at a hint with the copy that is shown.
+    fn share_rows(&mut self, hint: Hint)
+        ensures { self.new ≡ self.old }
+    {
+        self.own.share_rows(hint, &self.writer.published().replica);
+    }
+
+    /// `push`, without sharing rows.
+    fn append(&mut self, hint: Hint, op: Op) -> Result<(), AllocError>
+        requires { accepts (own_replica self.old) op ≡ true }
+        ensures pending { OnOk result (self.new ≡ with_pending self.old op) }
+        ensures unchanged { OnErr result (self.new ≡ self.old) }
+    {
+        let shown = Hinted::of(self.alloc, hint, &op)?;
+        self.own.ready_near(hint, &op)?;
+        if self.writer.append(Change::Apply(shown)).is_err() {
+            return Err(AllocError);
+        }
+        self.own.apply_near(hint, &op)?;
+        self.ended = false;
+        Ok(())
+    }
+
+    /// Shows readers all pending operations, at one step. It waits for readers that are still in
+    /// the copy that is not shown. Where it is refused, nothing has changed, and readers see what
+    /// they saw.
+    ///
+    /// The cost is that of applying the operations to each copy once, however large the replica is.
+    pub fn publish<R: Wait>(&mut self, rt: &R) -> Result<(), AllocError>
+        ensures published { OnOk result (self.new ≡ with_all_published self.old) }
+        ensures unchanged { OnErr result (self.new ≡ self.old) }
+    {
+        end_edition(&mut self.book, &mut self.writer, self.ended)?;
+        self.ended = true;
+        replace_with(&mut self.writer, rt, |writer, rt| publish(rt, writer))?;
+        self.ended = false;
+        Ok(())
+    }
+
+    /// The editions of the copy that is shown.
+    pub fn front(&self) -> Front
+        ensures desk { result.desk ≡ self.now.desk }
+        ensures published { flat result.editions ≡ self.now.published }
+    {
+        self.writer.published().front.again()
+    }
+
+    /// Gives the replica. It waits for readers that are in a copy; after it no reader enters.
+    pub fn close<R: Wait>(self, rt: &R) -> Replica<A>
+        ensures { replica_state result ≡ own_replica self }
+    {
+        let Copies {
+            alloc: _,
+            writer,
+            own,
+            book: _,
+            ended: _,
+        } = self;
+        drop(writer.take(rt));
+        own
+    }
+}

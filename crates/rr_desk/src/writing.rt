@@ -1,0 +1,180 @@
+//! What the keeper does with the copies, each under the rule.
+ghost use Rattle.std.specs.Prelude.{◌≡◌, true, false, [], ◌∷◌, ◌++◌, fold, OnErr, OnOk, MatchResult};
+ghost use Rattle.left_right.specs.Sides.{view};
+ghost use Rattle.rr_schema.specs.Schema.{IsLayout};
+ghost use Rattle.rr_cells.specs.Cells.{IsTrimmed};
+ghost use Rattle.rr_cells.specs.Operations.{joins_of, step, AllAccepted};
+ghost use Rattle.rr_replica.specs.ReplicaWithRoom.{replica_state};
+ghost use Rattle.rr_desk.specs.Changes.{front_after, ops_in};
+ghost use Rattle.rr_desk.specs.Editions.{after, flat, Begins};
+ghost use Rattle.rr_desk.specs.Rule.{with_published, with_news, keeper_of};
+ghost use Rattle.rr_desk.specs.KeeperState.{IsReady};
+ghost use Rattle.rr_desk.specs.Writers.{changes};
+ghost use Rattle.rr_desk.specs.declared.shown.Change.TheVariants.{Edition};
+
+use crate::book::{Batch, Editions};
+use crate::read_handle::ReadHandle;
+use crate::rule::{Introduces, Opens, Published, Publishes, View};
+use crate::shown::{Change, Shown};
+use left_right::writer::Writer;
+use rr_archive::Cells;
+use std::alloc::AllocError;
+use std::marker::Brand;
+use std::sync::Wait;
+
+/// The keeper's side of the copies.
+pub type DeskWriter<A> = Writer<Shown<A>, Change, View, Published>;
+
+/// The first publication: readers may come, and see one join for each cell. The end of an edition
+/// alone is pending.
+pub fn start<A: Cells, R: Wait>(
+    rt: &R,
+    writer: DeskWriter<A>,
+    book: &Editions,
+) -> (DeskWriter<A>, Result<(), AllocError>)
+    requires layout { IsLayout writer.desk.shown.value.replica.schema }
+    requires live { IsTrimmed writer.desk.shown.value.replica.schema
+        writer.desk.shown.value.replica.cells }
+    requires fresh { writer.desk.shown.value.started ≡ false }
+    requires pending { changes writer ≡ Edition book.now ∷ [] }
+    requires book { flat book.now.editions ≡ joins_of writer.desk.shown.value.replica.cells }
+    ensures { MatchResult result.1
+        (λ _. (view result.0.desk.place ≡ keeper_of (replica_state writer.desk.shown.value.replica)
+        book.now.desk)
+        × (replica_state result.0.desk.shown.value.replica
+        ≡ replica_state writer.desk.shown.value.replica)
+        × (result.0.desk.shown.value.front ≡ book.now)
+        × (changes result.0 ≡ []))
+        (λ _. (view result.0.desk.place ≡ view writer.desk.place)
+        × (result.0.desk.shown.value ≡ writer.desk.shown.value)
+        × (changes result.0 ≡ changes writer)) }
+{
+    writer.publish_as::<Opens, R>(rt)
+}
+
+/// `publish`, of the operations that are picked.
+fn publish_batch<A: Cells, K: Batch, R: Wait>(
+    rt: &R,
+    writer: DeskWriter<A>,
+) -> (DeskWriter<A>, Result<(), AllocError>)
+    requires batch { K.batch ≡ ops_in (changes writer) }
+    requires ready { IsReady (view writer.desk.place)
+        (replica_state writer.desk.shown.value.replica)
+        writer.desk.shown.value.front (changes writer) }
+    ensures { MatchResult result.1
+        (λ _. (view result.0.desk.place ≡ with_published (view writer.desk.place)
+        (ops_in (changes writer)))
+        × (changes result.0 ≡ [])
+        × (replica_state result.0.desk.shown.value.replica
+        ≡ fold step (replica_state writer.desk.shown.value.replica) (ops_in (changes writer)))
+        × (result.0.desk.shown.value.front ≡ front_after writer.desk.shown.value.front
+        (changes writer)))
+        (λ _. (view result.0.desk.place ≡ view writer.desk.place)
+        × (result.0.desk.shown.value ≡ writer.desk.shown.value)
+        × (changes result.0 ≡ changes writer)) }
+{
+    writer.publish_as::<Publishes<K>, R>(rt)
+}
+
+/// Shows readers all pending changes at one step. Where it is refused, they see what they saw.
+pub fn publish<A: Cells, R: Wait>(
+    rt: &R,
+    writer: DeskWriter<A>,
+) -> (DeskWriter<A>, Result<(), AllocError>)
+    requires ready { IsReady (view writer.desk.place)
+        (replica_state writer.desk.shown.value.replica)
+        writer.desk.shown.value.front (changes writer) }
+    ensures { MatchResult result.1
+        (λ _. (view result.0.desk.place ≡ with_published (view writer.desk.place)
+        (ops_in (changes writer)))
+        × (changes result.0 ≡ [])
+        × (replica_state result.0.desk.shown.value.replica
+        ≡ fold step (replica_state writer.desk.shown.value.replica) (ops_in (changes writer)))
+        × (result.0.desk.shown.value.front ≡ front_after writer.desk.shown.value.front
+        (changes writer)))
+        (λ _. (view result.0.desk.place ≡ view writer.desk.place)
+        × (result.0.desk.shown.value ≡ writer.desk.shown.value)
+        × (changes result.0 ≡ changes writer)) }
+{
+    publish_batch::<A, Brand, R>(rt, writer)
+}
+
+/// `reach`, of the operations that are picked.
+fn reach_batch<A: Cells, K: Batch>(
+    book: &mut Editions,
+    writer: &DeskWriter<A>,
+) -> Result<(), AllocError>
+    requires batch { K.batch ≡ after (flat book.old.editions)
+        ((view writer.now.desk.place).seen ++ ops_in (changes writer.now)) }
+    requires begins { Begins (flat book.old.editions)
+        ((view writer.now.desk.place).seen ++ ops_in (changes writer.now)) }
+    ensures reached { OnOk result (flat book.new.editions
+        ≡ (view writer.now.desk.place).seen ++ ops_in (changes writer.now)) }
+    ensures desk { book.new.desk ≡ book.old.desk }
+    ensures unchanged { OnErr result (book.new ≡ book.old) }
+{
+    let _ = writer;
+    book.add::<K>()
+}
+
+/// Adds an edition to the book of all that it lacks: it has what is published, and then all that is
+/// pending.
+fn reach<A: Cells>(book: &mut Editions, writer: &DeskWriter<A>) -> Result<(), AllocError>
+    requires begins { Begins (flat book.old.editions)
+        ((view writer.now.desk.place).seen ++ ops_in (changes writer.now)) }
+    ensures reached { OnOk result (flat book.new.editions
+        ≡ (view writer.now.desk.place).seen ++ ops_in (changes writer.now)) }
+    ensures desk { book.new.desk ≡ book.old.desk }
+    ensures unchanged { OnErr result (book.new ≡ book.old) }
+{
+    reach_batch::<A, Brand>(book, writer)
+}
+
+/// Makes the pending changes ready to be published, unless they are so already (`ended`): the book
+/// then has all of them, and the last is the end of its edition.
+pub fn end_edition<A: Cells>(
+    book: &mut Editions,
+    writer: &mut DeskWriter<A>,
+    ended: bool,
+) -> Result<(), AllocError>
+    requires writes { (view writer.old.desk.place).writes ≡ true }
+    requires joined { (view writer.old.desk.place).joined ≡ true }
+    requires desk { book.old.desk ≡ (view writer.old.desk.place).desk }
+    requires accepted { AllAccepted (replica_state writer.old.desk.shown.value.replica)
+        (ops_in (changes writer.old)) }
+    requires begins { Begins (flat book.old.editions)
+        ((view writer.old.desk.place).seen ++ ops_in (changes writer.old)) }
+    requires ended { ended ≡ true → IsReady (view writer.old.desk.place)
+        (replica_state writer.old.desk.shown.value.replica)
+        writer.old.desk.shown.value.front (changes writer.old) }
+    ensures same_copy { writer.new.desk ≡ writer.old.desk }
+    ensures same_desk { book.new.desk ≡ book.old.desk }
+    ensures pending { ops_in (changes writer.new) ≡ ops_in (changes writer.old) }
+    ensures unmarked { OnErr result (changes writer.new ≡ changes writer.old) }
+    ensures begins { Begins (flat book.new.editions)
+        ((view writer.old.desk.place).seen ++ ops_in (changes writer.old)) }
+    ensures ready { OnOk result (IsReady (view writer.new.desk.place)
+        (replica_state writer.new.desk.shown.value.replica)
+        writer.new.desk.shown.value.front (changes writer.new)) }
+{
+    if ended {
+        return Ok(());
+    }
+    reach(book, &*writer)?;
+    if writer.append(Change::Edition(book.front())).is_err() {
+        return Err(AllocError);
+    }
+    Ok(())
+}
+
+/// Tells a new reader of the desk, and of what is published.
+pub fn introduce<A: Cells>(writer: &mut DeskWriter<A>, seat: &mut ReadHandle<A>)
+    requires { seat.old.place.table_id ≡ writer.old.desk.place.table_id }
+    ensures told { view seat.new.place ≡ with_news (view seat.old.place)
+        (view writer.old.desk.place) }
+    ensures view { view writer.new.desk.place ≡ view writer.old.desk.place }
+    ensures shown { writer.new.desk.shown ≡ writer.old.desk.shown }
+    ensures pending { changes writer.new ≡ changes writer.old }
+{
+    seat.learn::<Introduces>(writer.tell::<Introduces>());
+}
