@@ -3,32 +3,31 @@
 ghost use Rattle.std.specs.Thread.{IsSync};
 
 use crate::place::WebSeats;
-use crate::visits::Queued;
 use rr_archive::Cells;
 use rr_config::Config;
 use rr_desk::Keeper;
-use rr_host::{Clock, Dial, HaltFlag};
+use rr_host::{Clock, Dial, HaltFlag, Visits};
 use rr_node::{NodeFault, Shelf, keep_or_halt};
 use std::alloc::Global;
 use std::sync::Wait;
 use std::thread::{Threads, join_mut};
 use std::time;
 
-/// Serves as [`serve_node`](rr_node::serve_node) does, with a keeper that takes its visits from a
-/// queue, and with seats that put bodies and connections into it. It ends when the flag of the node
+/// Serves as [`serve_node`](rr_node::serve_node) does, with seats that put bodies and connections
+/// into the queue which the keeper takes its visits from ([`Queued`](crate::Queued)). It ends when the flag of the node
 /// is raised, as where memory runs out on one of its threads, which is `Memory`; there is no other
 /// fault.
 pub fn serve_web_node<
     A: Cells,
+    V: Visits,
     D: Dial,
     S: Shelf,
     C: Clock,
-    R: Wait + time::Clock,
     T: Threads + Wait + time::Clock + Sync,
 >(
     alloc: Global,
     keeper: &mut Keeper<A>,
-    visits: &mut Queued<'_, R>,
+    visits: &mut V,
     dial: &mut D,
     shelf: &mut S,
     seats: &mut WebSeats,
