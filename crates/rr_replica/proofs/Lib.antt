@@ -1,3 +1,5 @@
+pub mod Keeping
+pub mod KeysLemmas
 pub mod SeriesLemmas
 pub mod Each
 pub mod Shown

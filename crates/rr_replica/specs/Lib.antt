@@ -6,5 +6,7 @@ pub mod Indexed
 pub mod SeriesMap
 pub mod InMemory
 pub mod ReplicaWithRoom
+pub mod Horizon
+pub mod Keys
 pub mod Writing
 pub mod Fault

@@ -1,0 +1,46 @@
+//! Samples past the horizon, which leave no trace.
+ghost use Rattle.std.specs.Prelude.{◌≡◌, ◌<◌, length};
+ghost use Rattle.std.specs.FinMap.{keys};
+ghost use Rattle.rr_archive.specs.CellSlots.{newest_of};
+ghost use Rattle.rr_cells.specs.Cells.{archive_cells};
+ghost use Rattle.rr_replica.specs.Horizon.{keeps, keeps_in};
+
+use crate::replica::Replica;
+use rr_archive::Cells;
+use rr_archive::live_slots::is_live;
+use rr_key::SeriesKey;
+
+impl<A: Cells> Replica<A> {
+    /// Whether a sample of a key at a time, in nanoseconds since the Unix epoch, would be kept: in
+    /// some archive its slot is not past the horizon. One that is put where this is false leaves no
+    /// trace but its number. The cost is that of [`Replica::archive`] for each archive.
+    pub fn keeps(&self, key: &SeriesKey, time: i64) -> bool
+        ensures { result ≡ keeps self.now.schema self.now.cells key.now time }
+    {
+        let mut kept = false;
+        for i in 0..self.schema().archives().len() {
+            kept |= self.keeps_in(key, time, i as u8);
+        }
+        kept
+    }
+
+    /// Whether an archive would keep a sample of a key at a time.
+    fn keeps_in(&self, key: &SeriesKey, time: i64, archive: u8) -> bool
+        requires { archive < length self.now.schema.archives }
+        ensures { result ≡ keeps_in self.now.schema self.now.cells key.now time archive }
+    {
+        let schema = self.schema();
+        let newest = self.newest(key, archive);
+        is_live(schema.archive(archive).rows, newest, schema.slot(archive, time))
+    }
+
+    /// The greatest slot of a cell in an archive of a key, if there is a cell.
+    fn newest(&self, key: &SeriesKey, archive: u8) -> Option<i64>
+        ensures { result ≡ newest_of (keys (archive_cells self.now.cells key.now archive)) }
+    {
+        match self.archive(key, archive) {
+            Some(archive) => archive.newest(),
+            None => None,
+        }
+    }
+}
