@@ -215,7 +215,7 @@ impl<A: Cells> Keeper<A> {
             (snapshot_text latest self.now.schema self.now.origin (entries (cells_of self.now))) }
         ensures too_many { (result ≡ Err SaveFault.TooManyCells)
             ↔ (MAX_SNAPSHOT_CELLS < len (cells_of self.now)) }
-        ensures count { failures_of output.old ≤ failures_of output.new }
+        ensures failures_never_fall { failures_of output.old ≤ failures_of output.new }
         ensures failed { result ≡ Err SaveFault.WriteFailed
             → HasRisen (failures_of output.old) (failures_of output.new) }
     {

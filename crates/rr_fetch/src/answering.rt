@@ -154,7 +154,7 @@ pub fn answer<A: Cells, W: Write>(
     ensures front { result ≡ Err AnswerFault.WriteFailed
         → AppendsPrefix (W.contents (inner_of output.old)) (W.contents (inner_of output.new))
         (cells_text replica.now.schema replica.now.cells (request_view request.now)) }
-    ensures count { failures_of output.old ≤ failures_of output.new }
+    ensures failures_never_fall { failures_of output.old ≤ failures_of output.new }
     ensures failed { result ≡ Err AnswerFault.WriteFailed
         → HasRisen (failures_of output.old) (failures_of output.new) }
 {

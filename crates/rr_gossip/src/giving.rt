@@ -35,11 +35,11 @@ fn take_names<S: Source, R: Read>(
         giver.old before.now
         (R.remaining (inner_of input.old)) (R.remaining (inner_of input.new))) }
     ensures schema { S.layout source.new ≡ S.layout source.old }
-    ensures kept { S.may_become source.old source.new }
+    ensures may_become { S.may_become source.old source.new }
     ensures sent { OnOk result (giver.new.sent ≡ giver.old.sent) }
     ensures limit { OnOk result (giver.new.limit ≡ giver.old.limit) }
     ensures ended { result ≡ Err GossipFault.Ended → IsAtEnd (R.remaining (inner_of input.new)) }
-    ensures count { failures_of input.old ≤ failures_of input.new }
+    ensures failures_never_fall { failures_of input.old ≤ failures_of input.new }
     ensures failed { result ≡ Err GossipFault.ReadFailed
         → HasRisen (failures_of input.old) (failures_of input.new) }
 {
@@ -70,7 +70,7 @@ fn send_pages<S: Source, W: Write>(
     ensures refused { IfErr result (CannotSend giver.old.limit (reply_left giver.old.stage)) }
     ensures flushed { OnOk result (is_flushed output.new ≡ true) }
     ensures unchanged { source.new ≡ source.old }
-    ensures count { failures_of output.old ≤ failures_of output.new }
+    ensures failures_never_fall { failures_of output.old ≤ failures_of output.new }
     ensures failed { result ≡ Err GossipFault.WriteFailed
         → HasRisen (failures_of output.old) (failures_of output.new) }
 {
@@ -102,7 +102,7 @@ fn give_from<S: Source, R: Read, W: Write>(
         (R.remaining (inner_of input.old)) (R.remaining (inner_of input.new))
         (W.contents (inner_of output.old)) (W.contents (inner_of output.new))) }
     ensures schema { S.layout source.new ≡ S.layout source.old }
-    ensures kept { S.may_become source.old source.new }
+    ensures may_become { S.may_become source.old source.new }
 
     // When a stream is to blame.
     ensures ended { result ≡ Err GossipFault.Ended → IsAtEnd (R.remaining (inner_of input.new)) }
@@ -141,7 +141,7 @@ pub fn give<S: Source, R: Read, W: Write>(
         (S.layout source.old) (S.cells source.new) []
         input.old input.new output.old output.new result }
     ensures schema { S.layout source.new ≡ S.layout source.old }
-    ensures kept { S.may_become source.old source.new }
+    ensures may_become { S.may_become source.old source.new }
 {
     give_from(alloc, &[], input, output, source, MAX_FRAMES)
 }
@@ -159,7 +159,7 @@ pub fn give_within<S: Source, R: Read, W: Write>(
         (S.layout source.old) (S.cells source.new) []
         input.old input.new output.old output.new result }
     ensures schema { S.layout source.new ≡ S.layout source.old }
-    ensures kept { S.may_become source.old source.new }
+    ensures may_become { S.may_become source.old source.new }
 {
     give_from(alloc, &[], input, output, source, frames)
 }
@@ -176,7 +176,7 @@ pub fn give_after<S: Source, R: Read, W: Write>(
         (S.layout source.old) (S.cells source.new) (first ∷ [])
         input.old input.new output.old output.new result }
     ensures schema { S.layout source.new ≡ S.layout source.old }
-    ensures kept { S.may_become source.old source.new }
+    ensures may_become { S.may_become source.old source.new }
 {
     give_from(alloc, &[first], input, output, source, MAX_FRAMES)
 }
@@ -195,7 +195,7 @@ pub fn give_after_within<S: Source, R: Read, W: Write>(
         (S.layout source.old) (S.cells source.new) (first ∷ [])
         input.old input.new output.old output.new result }
     ensures schema { S.layout source.new ≡ S.layout source.old }
-    ensures kept { S.may_become source.old source.new }
+    ensures may_become { S.may_become source.old source.new }
 {
     give_from(alloc, &[first], input, output, source, frames)
 }

@@ -41,7 +41,7 @@ fn send_names<T: Target, W: Write>(
     ensures refused { IfErr result (CannotSend puller.old.limit
         (sent_by (T.layout target.now) (T.cells target.now))) }
     ensures flushed { OnOk result (is_flushed output.new ≡ true) }
-    ensures count { failures_of output.old ≤ failures_of output.new }
+    ensures failures_never_fall { failures_of output.old ≤ failures_of output.new }
     ensures failed { result ≡ Err GossipFault.WriteFailed
         → HasRisen (failures_of output.old) (failures_of output.new) }
 {
@@ -69,7 +69,7 @@ fn take_pages<T: Target, R: Read>(
         × HasStoppedPulling (T.layout target.old) puller.old
         (R.remaining (inner_of input.old)) (R.remaining (inner_of input.new)) fault cells) }
     ensures ended { result ≡ Err GossipFault.Ended → IsAtEnd (R.remaining (inner_of input.new)) }
-    ensures count { failures_of input.old ≤ failures_of input.new }
+    ensures failures_never_fall { failures_of input.old ≤ failures_of input.new }
     ensures failed { result ≡ Err GossipFault.ReadFailed
         → HasRisen (failures_of input.old) (failures_of input.new) }
 {

@@ -36,7 +36,7 @@ fn read_until<R: Read>(
         × (length read ≤ len)
         × ReadsFewer fault (length read) len) }
     ensures ended { result ≡ Err GossipFault.Ended → IsAtEnd (R.remaining (inner_of input.new)) }
-    ensures count { failures_of input.old ≤ failures_of input.new }
+    ensures failures_never_fall { failures_of input.old ≤ failures_of input.new }
     ensures failed { result ≡ Err GossipFault.ReadFailed
         → HasRisen (failures_of input.old) (failures_of input.new) }
 {
@@ -83,7 +83,7 @@ pub(crate) fn read_frame<R: Read>(
         frame.old.items read
         × BreaksOff read fault) }
     ensures ended { result ≡ Err GossipFault.Ended → IsAtEnd (R.remaining (inner_of input.new)) }
-    ensures count { failures_of input.old ≤ failures_of input.new }
+    ensures failures_never_fall { failures_of input.old ≤ failures_of input.new }
     ensures failed { result ≡ Err GossipFault.ReadFailed
         → HasRisen (failures_of input.old) (failures_of input.new) }
 {

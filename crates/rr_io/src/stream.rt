@@ -50,7 +50,7 @@ pub fn read_once<R: Read>(
     ensures reads { reads_of input.new ≡ one_more (reads_of input.old) }
     ensures ends { ends_of input.new ≡ (if tells_end result (length buf.new)
         then one_more (ends_of input.old) else ends_of input.old) }
-    ensures count { failures_of input.old ≤ failures_of input.new }
+    ensures failures_never_fall { failures_of input.old ≤ failures_of input.new }
     ensures interrupted { result ≡ Ok None
         → HasRisen (failures_of input.old) (failures_of input.new) }
     ensures failed { OnErr result (HasRisen (failures_of input.old) (failures_of input.new)) }
@@ -72,7 +72,7 @@ pub fn read_some<R: Read>(input: &mut Counted<R>, buf: &mut [u8]) -> Result<usiz
     ensures bound { ReadsAtMost result buf.new }
     ensures bytes { ReadConsumes (R.remaining (inner_of input.old))
         (R.remaining (inner_of input.new)) result buf.new }
-    ensures count { failures_of input.old ≤ failures_of input.new }
+    ensures failures_never_fall { failures_of input.old ≤ failures_of input.new }
     ensures failed { OnErr result (HasRisen (failures_of input.old) (failures_of input.new)) }
 {
     for _ in 0..MAX_INTERRUPTS {
@@ -95,7 +95,7 @@ pub fn fill<R: Read>(input: &mut Counted<R>, buf: &mut [u8]) -> Result<usize, Re
         (R.remaining (inner_of input.new)) }
     ensures most { TakesAtMost (length buf.new) (R.remaining (inner_of input.old))
         (R.remaining (inner_of input.new)) }
-    ensures count { failures_of input.old ≤ failures_of input.new }
+    ensures failures_never_fall { failures_of input.old ≤ failures_of input.new }
     ensures failed { OnErr result (HasRisen (failures_of input.old) (failures_of input.new)) }
 {
     let mut filled = 0;
@@ -177,7 +177,7 @@ pub fn read_to_end<R: Read>(input: &mut Counted<R>, bytes: &mut Vec<u8>) -> Resu
     ensures consumed { OnOk result (IfSome (R.remaining (inner_of input.old))
         (Consumes (R.remaining (inner_of input.old)) (R.remaining (inner_of input.new)))) }
     ensures front { AddsFront (R.remaining (inner_of input.old)) bytes.old.items bytes.new.items }
-    ensures count { failures_of input.old ≤ failures_of input.new }
+    ensures failures_never_fall { failures_of input.old ≤ failures_of input.new }
     ensures failed { result ≡ Err ReadFault.ReadFailed
         → HasRisen (failures_of input.old) (failures_of input.new) }
     ensures limit { reads_of input.new ≤ reads_of input.old + MAX_READS }
@@ -205,7 +205,7 @@ pub fn read_to_end_within<R: Read>(
     ensures consumed { OnOk result (IfSome (R.remaining (inner_of input.old))
         (Consumes (R.remaining (inner_of input.old)) (R.remaining (inner_of input.new)))) }
     ensures front { AddsFront (R.remaining (inner_of input.old)) bytes.old.items bytes.new.items }
-    ensures count { failures_of input.old ≤ failures_of input.new }
+    ensures failures_never_fall { failures_of input.old ≤ failures_of input.new }
     ensures failed { result ≡ Err ReadFault.ReadFailed
         → HasRisen (failures_of input.old) (failures_of input.new) }
     ensures limit { reads_of input.new ≤ reads_of input.old + reads }
@@ -235,7 +235,7 @@ fn write_some<W: Write>(output: &mut Counted<W>, piece: &[u8]) -> Result<usize, 
     ensures bound { WritesAtMost result piece.now }
     ensures bytes { WriteAppends (W.contents (inner_of output.old))
         (W.contents (inner_of output.new)) result piece.now }
-    ensures count { failures_of output.old ≤ failures_of output.new }
+    ensures failures_never_fall { failures_of output.old ≤ failures_of output.new }
     ensures failed { OnErr result (HasRisen (failures_of output.old) (failures_of output.new)) }
 {
     for _ in 0..MAX_INTERRUPTS {
@@ -258,7 +258,7 @@ pub fn write_all<W: Write>(output: &mut Counted<W>, text: &[u8]) -> Result<(), W
         (W.contents (inner_of output.new)) text.now) }
     ensures front { AppendsPrefix (W.contents (inner_of output.old))
         (W.contents (inner_of output.new)) text.now }
-    ensures count { failures_of output.old ≤ failures_of output.new }
+    ensures failures_never_fall { failures_of output.old ≤ failures_of output.new }
     ensures failed { OnErr result (HasRisen (failures_of output.old) (failures_of output.new)) }
 {
     let mut rest = text;
@@ -273,7 +273,7 @@ pub fn write_all<W: Write>(output: &mut Counted<W>, text: &[u8]) -> Result<(), W
 pub fn flush<W: Write>(output: &mut Counted<W>) -> Result<(), WriteFailed>
     ensures flushed { OnOk result (is_flushed output.new ≡ true) }
     ensures bytes { Keeps (W.contents (inner_of output.old)) (W.contents (inner_of output.new)) }
-    ensures count { failures_of output.old ≤ failures_of output.new }
+    ensures failures_never_fall { failures_of output.old ≤ failures_of output.new }
     ensures failed { OnErr result (HasRisen (failures_of output.old) (failures_of output.new)) }
 {
     for _ in 0..MAX_INTERRUPTS {

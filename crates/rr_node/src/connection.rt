@@ -171,7 +171,7 @@ impl Connection {
             × HasGiven (C.given clock.old) (C.given clock.new) moments
             × StoppedWriting self.old keeper.old keeper.new moments
             (W.contents (inner_of output.old)) (W.contents (inner_of output.new))) }
-        ensures count { failures_of output.old ≤ failures_of output.new }
+        ensures failures_never_fall { failures_of output.old ≤ failures_of output.new }
         ensures failed { result ≡ Err NodeFault.WriteFailed
             → HasRisen (failures_of output.old) (failures_of output.new) }
         ensures faults { IfErr result IsOfWriting }
@@ -199,7 +199,7 @@ impl Connection {
             × HasGiven (C.given clock.old) (C.given clock.new) moments
             × StoppedAtEnd self.old keeper.old keeper.new moments (W.contents (inner_of output.old))
             (W.contents (inner_of output.new))) }
-        ensures count { failures_of output.old ≤ failures_of output.new }
+        ensures failures_never_fall { failures_of output.old ≤ failures_of output.new }
         ensures failed { result ≡ Err NodeFault.WriteFailed
             → HasRisen (failures_of output.old) (failures_of output.new) }
         ensures faults { IfErr result IsOfWriting }
@@ -218,7 +218,7 @@ fn send<W: Write>(output: &mut Counted<W>, text: &[u8]) -> Result<(), WriteFaile
         (W.contents (inner_of output.new)) text.now) }
     ensures front { AppendsPrefix (W.contents (inner_of output.old))
         (W.contents (inner_of output.new)) text.now }
-    ensures count { failures_of output.old ≤ failures_of output.new }
+    ensures failures_never_fall { failures_of output.old ≤ failures_of output.new }
     ensures failed { OnErr result (HasRisen (failures_of output.old) (failures_of output.new)) }
 {
     if text.is_empty() {
@@ -238,7 +238,7 @@ fn send_report<W: Write>(
         (W.contents (inner_of output.new)) (report_text report.now)) }
     ensures front { AppendsPrefix (W.contents (inner_of output.old))
         (W.contents (inner_of output.new)) (report_text report.now) }
-    ensures count { failures_of output.old ≤ failures_of output.new }
+    ensures failures_never_fall { failures_of output.old ≤ failures_of output.new }
     ensures failed { result ≡ Err NodeFault.WriteFailed
         → HasRisen (failures_of output.old) (failures_of output.new) }
     ensures faults { IfErr result IsOfWriting }

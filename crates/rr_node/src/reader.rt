@@ -39,7 +39,7 @@ fn read_first<R: Read>(input: &mut Counted<R>) -> Result<(Option<u8>, u32), Node
     ensures limit { reads_of input.new ≤ reads_of input.old + MAX_READS }
     ensures faults { IfErr result (λ fault. (fault ≡ NodeFault.ReadFailed)
         ⊎ (fault ≡ NodeFault.TooManyReads)) }
-    ensures count { failures_of input.old ≤ failures_of input.new }
+    ensures failures_never_fall { failures_of input.old ≤ failures_of input.new }
     ensures failed { result ≡ Err NodeFault.ReadFailed
         → HasRisen (failures_of input.old) (failures_of input.new) }
     ensures too_many { result ≡ Err NodeFault.TooManyReads
@@ -79,7 +79,7 @@ fn answer_items<A: Cells, W: Write, G: Gate>(
     ensures part_written { OnErr result (HasWrittenSome feed.old feed.new
         (sight reader.old (G.calls gate.old)) reader.new
         (W.contents (inner_of output.old)) (W.contents (inner_of output.new))) }
-    ensures count { failures_of output.old ≤ failures_of output.new }
+    ensures failures_never_fall { failures_of output.old ≤ failures_of output.new }
     ensures failed { result ≡ Err NodeFault.WriteFailed
         → HasRisen (failures_of output.old) (failures_of output.new) }
     ensures faults { IfErr result (λ fault. (fault ≡ NodeFault.WriteFailed)

@@ -114,7 +114,7 @@ impl Checker {
             → MayCome self.old.feed more true
             → AppendsPrefix start (W.contents (inner_of output.new))
             (report_of self.old.precision self.old.now (pushed ++ more)) }
-        ensures count { failures_of output.old ≤ failures_of output.new }
+        ensures failures_never_fall { failures_of output.old ≤ failures_of output.new }
         ensures failed { result ≡ Err ToolFault.WriteFailed
             → HasRisen (failures_of output.old) (failures_of output.new) }
         ensures faults { IfErr result (λ fault. (fault ≡ ToolFault.WriteFailed)
@@ -142,7 +142,7 @@ impl Checker {
             → AppendsPrefix start (W.contents (inner_of output.new))
             (report_of self.old.precision self.old.now pushed) }
         ensures flushed { OnOk result (is_flushed output.new ≡ true) }
-        ensures count { failures_of output.old ≤ failures_of output.new }
+        ensures failures_never_fall { failures_of output.old ≤ failures_of output.new }
         ensures failed { result ≡ Err ToolFault.WriteFailed
             → HasRisen (failures_of output.old) (failures_of output.new) }
         ensures faults { IfErr result (λ fault. (fault ≡ ToolFault.WriteFailed)

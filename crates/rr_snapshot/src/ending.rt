@@ -29,7 +29,7 @@ pub(crate) fn digest_from<R: Read>(
         (R.remaining (inner_of input.new)) }
     ensures most { TakesAtMost DIGEST_LEN (R.remaining (inner_of input.old))
         (R.remaining (inner_of input.new)) }
-    ensures count { failures_of input.old ≤ failures_of input.new }
+    ensures failures_never_fall { failures_of input.old ≤ failures_of input.new }
     ensures failed { result ≡ Err LoadFault.ReadFailed
         → HasRisen (failures_of input.old) (failures_of input.new) }
 {
@@ -52,7 +52,7 @@ pub(crate) fn end_from<R: Read>(input: &mut Counted<R>) -> Result<(), LoadFault>
         (R.remaining (inner_of input.new)) }
     ensures most { TakesAtMost 1 (R.remaining (inner_of input.old))
         (R.remaining (inner_of input.new)) }
-    ensures count { failures_of input.old ≤ failures_of input.new }
+    ensures failures_never_fall { failures_of input.old ≤ failures_of input.new }
     ensures failed { result ≡ Err LoadFault.ReadFailed
         → HasRisen (failures_of input.old) (failures_of input.new) }
 {

@@ -59,8 +59,8 @@ fn may_have_had(schema: &Schema, step: u32, number: u8) -> bool
 #[tactic(auto, unfolding(crate::specs::SnapshotReading::start_at))]
 fn start_of<'a>(schema: &Schema, bytes: &'a [u8]) -> Result<(Version, u8, &'a [u8]), PageFault>
     ensures read { Gives (λ x. ((x.0, x.1), x.2.now)) result (start_at schema.now bytes.now) }
-    ensures some { IfOk result (λ x. 1 ≤ x.1) }
-    ensures few { IfOk result (λ x. x.1 ≤ length schema.now.archives) }
+    ensures number_at_least { IfOk result (λ x. 1 ≤ x.1) }
+    ensures number_at_most { IfOk result (λ x. x.1 ≤ length schema.now.archives) }
     ensures no_memory { result ≢ Err PageFault.Memory }
 {
     let (start, rest) = bytes_at(bytes, MAGIC.len())?;
@@ -84,8 +84,8 @@ pub(crate) fn start_from<R: Read>(
 ) -> Result<(Version, u8), LoadFault>
     ensures read { StreamGives (λ x. (x.0, x.1)) result (R.remaining (inner_of input.old))
         (R.remaining (inner_of input.new)) (λ all. as_in_page (start_at schema.now all)) }
-    ensures some { IfOk result (λ x. 1 ≤ x.1) }
-    ensures few { IfOk result (λ x. x.1 ≤ length schema.now.archives) }
+    ensures number_at_least { IfOk result (λ x. 1 ≤ x.1) }
+    ensures number_at_most { IfOk result (λ x. x.1 ≤ length schema.now.archives) }
     ensures digest { OnOk result (Digests (R.remaining (inner_of input.old))
         (R.remaining (inner_of input.new)) hasher.old hasher.new) }
     ensures front { ConsumesSome (R.remaining (inner_of input.old))
@@ -93,7 +93,7 @@ pub(crate) fn start_from<R: Read>(
     ensures most { TakesAtMost START_LEN (R.remaining (inner_of input.old))
         (R.remaining (inner_of input.new)) }
     ensures no_memory { result ≢ Err LoadFault.Memory }
-    ensures count { failures_of input.old ≤ failures_of input.new }
+    ensures failures_never_fall { failures_of input.old ≤ failures_of input.new }
     ensures failed { result ≡ Err LoadFault.ReadFailed
         → HasRisen (failures_of input.old) (failures_of input.new) }
 {
@@ -149,7 +149,7 @@ fn archives_of<'a>(
     ensures read { Gives (λ x. ((x.0, x.1), x.2.now)) result
         (archives_at version schema.now number bytes.now) }
     ensures addition { IfOk result (λ x. IsAddition schema.now x.0) }
-    ensures many { IfOk result (λ x. number ≡ length (older schema.now x.0).archives) }
+    ensures archive_count { IfOk result (λ x. number ≡ length (older schema.now x.0).archives) }
     ensures no_memory { result ≢ Err PageFault.Memory }
 {
     let (field, rest) = bytes_at(bytes, ARCHIVE_LEN * number as usize)?;
@@ -174,7 +174,7 @@ fn archives_into<R: Read>(
         (R.remaining (inner_of input.new))
         (λ all. as_in_page (archives_at version schema.now number all)) }
     ensures addition { IfOk result (λ x. IsAddition schema.now x.0) }
-    ensures many { IfOk result (λ x. number ≡ length (older schema.now x.0).archives) }
+    ensures archive_count { IfOk result (λ x. number ≡ length (older schema.now x.0).archives) }
     ensures digest { OnOk result (Digests (R.remaining (inner_of input.old))
         (R.remaining (inner_of input.new)) hasher.old hasher.new) }
     ensures front { ConsumesSome (R.remaining (inner_of input.old))
@@ -182,7 +182,7 @@ fn archives_into<R: Read>(
     ensures most { TakesAtMost (ARCHIVE_LEN * number + ORIGIN_LEN)
         (R.remaining (inner_of input.old)) (R.remaining (inner_of input.new)) }
     ensures no_memory { result ≢ Err LoadFault.Memory }
-    ensures count { failures_of input.old ≤ failures_of input.new }
+    ensures failures_never_fall { failures_of input.old ≤ failures_of input.new }
     ensures failed { result ≡ Err LoadFault.ReadFailed
         → HasRisen (failures_of input.old) (failures_of input.new) }
 {
@@ -206,7 +206,7 @@ pub(crate) fn archives_from<R: Read>(
         (R.remaining (inner_of input.new))
         (λ all. as_in_page (archives_at version schema.now number all)) }
     ensures addition { IfOk result (λ x. IsAddition schema.now x.0) }
-    ensures many { IfOk result (λ x. number ≡ length (older schema.now x.0).archives) }
+    ensures archive_count { IfOk result (λ x. number ≡ length (older schema.now x.0).archives) }
     ensures digest { OnOk result (Digests (R.remaining (inner_of input.old))
         (R.remaining (inner_of input.new)) hasher.old hasher.new) }
     ensures front { ConsumesSome (R.remaining (inner_of input.old))
@@ -214,7 +214,7 @@ pub(crate) fn archives_from<R: Read>(
     ensures most { TakesAtMost (ARCHIVE_LEN * number + ORIGIN_LEN)
         (R.remaining (inner_of input.old)) (R.remaining (inner_of input.new)) }
     ensures no_memory { result ≢ Err LoadFault.Memory }
-    ensures count { failures_of input.old ≤ failures_of input.new }
+    ensures failures_never_fall { failures_of input.old ≤ failures_of input.new }
     ensures failed { result ≡ Err LoadFault.ReadFailed
         → HasRisen (failures_of input.old) (failures_of input.new) }
 {
@@ -238,7 +238,7 @@ pub(crate) fn count_from<R: Read>(
     ensures most { TakesAtMost COUNT_LEN (R.remaining (inner_of input.old))
         (R.remaining (inner_of input.new)) }
     ensures no_memory { result ≢ Err LoadFault.Memory }
-    ensures count { failures_of input.old ≤ failures_of input.new }
+    ensures failures_never_fall { failures_of input.old ≤ failures_of input.new }
     ensures failed { result ≡ Err LoadFault.ReadFailed
         → HasRisen (failures_of input.old) (failures_of input.new) }
 {

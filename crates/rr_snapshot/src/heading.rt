@@ -73,7 +73,7 @@ pub(crate) fn head_from<R: Read>(
     ensures read { StreamGives (λ x. x) result (R.remaining (inner_of input.old))
         (R.remaining (inner_of input.new)) (head_at schema.now) }
     ensures addition { IfOk result (λ head. IsAddition schema.now head.addition) }
-    ensures some { IfOk result (λ head. 1 ≤ length (older schema.now head.addition).archives) }
+    ensures older_has_archives { IfOk result (λ head. 1 ≤ length (older schema.now head.addition).archives) }
     ensures digest { OnOk result (Digests (R.remaining (inner_of input.old))
         (R.remaining (inner_of input.new)) hasher.old hasher.new) }
     ensures front { ConsumesSome (R.remaining (inner_of input.old))
@@ -84,7 +84,7 @@ pub(crate) fn head_from<R: Read>(
         → TakesAtMost (length (schema_bytes schema.now) + BESIDES_LEN - COUNT_LEN)
         (R.remaining (inner_of input.old)) (R.remaining (inner_of input.new)) }
     ensures no_memory { result ≢ Err LoadFault.Memory }
-    ensures count { failures_of input.old ≤ failures_of input.new }
+    ensures failures_never_fall { failures_of input.old ≤ failures_of input.new }
     ensures failed { result ≡ Err LoadFault.ReadFailed
         → HasRisen (failures_of input.old) (failures_of input.new) }
 {

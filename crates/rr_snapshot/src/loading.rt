@@ -80,7 +80,7 @@ fn join_cells_from<A: Cells, R: Read>(
         (R.remaining (inner_of input.new)) }
     ensures memory { result ≡ Err LoadFault.Memory → StopsAmong replica.old.schema head
         (R.remaining (inner_of input.old)) (R.remaining (inner_of input.new)) }
-    ensures count { failures_of input.old ≤ failures_of input.new }
+    ensures failures_never_fall { failures_of input.old ≤ failures_of input.new }
     ensures failed { result ≡ Err LoadFault.ReadFailed
         → HasRisen (failures_of input.old) (failures_of input.new) }
 {
@@ -114,7 +114,7 @@ fn join_cells_after<A: Cells, R: Read>(
 ) -> Result<bool, LoadFault>
     requires schema { schema.now ≡ replica.old.schema }
     requires addition { IsAddition schema.now head.addition }
-    requires some { 1 ≤ length (older schema.now head.addition).archives }
+    requires older_has_archives { 1 ≤ length (older schema.now head.addition).archives }
     ensures read { StreamMakes (HasJoined head.addition (replica_state replica.old)
         (replica_state replica.new)) result
         (R.remaining (inner_of input.old)) (R.remaining (inner_of input.new))
@@ -125,7 +125,7 @@ fn join_cells_after<A: Cells, R: Read>(
         (R.remaining (inner_of input.new)) }
     ensures memory { result ≡ Err LoadFault.Memory → StopsAmong schema.now head
         (R.remaining (inner_of input.old)) (R.remaining (inner_of input.new)) }
-    ensures count { failures_of input.old ≤ failures_of input.new }
+    ensures failures_never_fall { failures_of input.old ≤ failures_of input.new }
     ensures failed { result ≡ Err LoadFault.ReadFailed
         → HasRisen (failures_of input.old) (failures_of input.new) }
 {
@@ -160,7 +160,7 @@ fn load_into<A: Cells, R: Read>(
         (R.remaining (inner_of input.new)) }
     ensures memory { result ≡ Err LoadFault.Memory → StopsBeforeDigest schema.now
         (R.remaining (inner_of input.old)) (R.remaining (inner_of input.new)) }
-    ensures count { failures_of input.old ≤ failures_of input.new }
+    ensures failures_never_fall { failures_of input.old ≤ failures_of input.new }
     ensures failed { result ≡ Err LoadFault.ReadFailed
         → HasRisen (failures_of input.old) (failures_of input.new) }
 {
@@ -207,7 +207,7 @@ pub fn load<A: Cells, R: Read>(
         (R.remaining (inner_of input.new)) }
     ensures memory { result ≡ Err LoadFault.Memory → StopsBeforeDigest schema.now
         (R.remaining (inner_of input.old)) (R.remaining (inner_of input.new)) }
-    ensures count { failures_of input.old ≤ failures_of input.new }
+    ensures failures_never_fall { failures_of input.old ≤ failures_of input.new }
     ensures failed { result ≡ Err LoadFault.ReadFailed
         → HasRisen (failures_of input.old) (failures_of input.new) }
 {

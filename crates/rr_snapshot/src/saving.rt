@@ -42,7 +42,7 @@ fn write_cells<A: Cells, W: Write>(
     ensures digest { OnOk result ((m : List ℕ) → Holds256 hasher.old m
         → Holds256 hasher.new (m ++ flat_map (cell_text latest) (entries replica.now.cells))) }
     ensures fits { result ≢ Err SaveFault.TooManyCells }
-    ensures count { failures_of output.old ≤ failures_of output.new }
+    ensures failures_never_fall { failures_of output.old ≤ failures_of output.new }
     ensures failed { result ≡ Err SaveFault.WriteFailed
         → HasRisen (failures_of output.old) (failures_of output.new) }
 {
@@ -79,7 +79,7 @@ pub fn save<A: Cells, W: Write>(
     ensures nothing_written { result ≡ Err SaveFault.TooManyCells
         → Keeps (W.contents (inner_of output.old)) (W.contents (inner_of output.new)) }
     ensures holds { OnOk result (IsReplicaState (replica_state replica.now)) }
-    ensures count { failures_of output.old ≤ failures_of output.new }
+    ensures failures_never_fall { failures_of output.old ≤ failures_of output.new }
     ensures failed { result ≡ Err SaveFault.WriteFailed
         → HasRisen (failures_of output.old) (failures_of output.new) }
 {

@@ -74,7 +74,7 @@ fn fill_up_to<R: Read>(
         (R.remaining (inner_of input.new)) }
     ensures most { TakesAtMost (len - filled) (R.remaining (inner_of input.old))
         (R.remaining (inner_of input.new)) }
-    ensures count { failures_of input.old ≤ failures_of input.new }
+    ensures failures_never_fall { failures_of input.old ≤ failures_of input.new }
     ensures failed { OnErr result (HasRisen (failures_of input.old) (failures_of input.new)) }
 {
     let more = fill(input, &mut buffer[filled..len])?;
@@ -105,7 +105,7 @@ pub(crate) fn cell_from<R: Read>(
         (R.remaining (inner_of input.new)) }
     ensures memory { result ≡ Err LoadFault.Memory → HasRead (R.remaining (inner_of input.old))
         (R.remaining (inner_of input.new)) (cell_at version schema.now) }
-    ensures count { failures_of input.old ≤ failures_of input.new }
+    ensures failures_never_fall { failures_of input.old ≤ failures_of input.new }
     ensures failed { result ≡ Err LoadFault.ReadFailed
         → HasRisen (failures_of input.old) (failures_of input.new) }
 {

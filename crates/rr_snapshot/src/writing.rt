@@ -28,7 +28,7 @@ pub(crate) fn write_piece<W: Write>(
     ensures front { AppendsPrefix (W.contents (inner_of output.old))
         (W.contents (inner_of output.new)) piece.now }
     ensures digest { (m : List ℕ) → Holds256 hasher.old m → Holds256 hasher.new (m ++ piece.now) }
-    ensures count { failures_of output.old ≤ failures_of output.new }
+    ensures failures_never_fall { failures_of output.old ≤ failures_of output.new }
     ensures failed { OnErr result (HasRisen (failures_of output.old) (failures_of output.new)) }
 {
     hasher.update(piece);
@@ -49,7 +49,7 @@ pub(crate) fn write_cell<W: Write>(
     ensures digest { OnOk result ((m : List ℕ) → Holds256 hasher.old m
         → Holds256 hasher.new (m ++ cell_text latest (seen_cell cell.now))) }
     ensures fits { result ≢ Err SaveFault.TooManyCells }
-    ensures count { failures_of output.old ≤ failures_of output.new }
+    ensures failures_never_fall { failures_of output.old ≤ failures_of output.new }
     ensures failed { result ≡ Err SaveFault.WriteFailed
         → HasRisen (failures_of output.old) (failures_of output.new) }
 {
