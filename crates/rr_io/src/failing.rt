@@ -3,7 +3,7 @@
 ghost use Rattle.std.specs.Prelude.{◌≡◌, Some, true, IsErr};
 ghost use Rattle.std.specs.Io.{ReadsAtMost, WritesAtMost};
 ghost use Rattle.std.specs.Io.KnownBytes.{Keeps, ReadConsumes, WriteAppends};
-ghost use Rattle.rr_base.specs.Failing.{stream_in, calls_left, one_call_less, fails_next};
+ghost use Rattle.rr_io.specs.Failing.{stream_in, calls_left, one_call_less, fails_next};
 
 use std::io;
 use std::io::{ErrorKind, Read, Write};
