@@ -170,7 +170,7 @@ impl<A: Cells> Keeper<A> {
         self.copies.push(hint, Op::Join(cell.copy()?))
     }
 
-    /// The names and versions of as many cells as `count` from a place on, in the order of the
+    /// The names and versions of as many cells as `count` from an offset on, in the order of the
     /// names; fewer where there are fewer. They are those of all operations, pending ones too. The
     /// cost is that of [`rr_delta::summary`].
     pub fn names(&self, alloc: Global, from: usize, count: usize) -> Result<Vec<Name>, AllocError>
