@@ -21,6 +21,9 @@ import time
 LINES, FETCH, PEER = 8141, 8142, 8143
 OTHER_LINES, OTHER_FETCH = 8144, 8145
 
+# Nanoseconds of a year, which is past the horizon of the archive below.
+YEAR = 31_536_000_000_000_000
+
 ARCHIVE = "[[archive]]\nsteps = 1\nrows = 1440\nxff_num = 0\nxff_den = 1\n"
 
 
@@ -94,23 +97,24 @@ def by_time(program, folder):
     keys = f'every = 1\nidle = 1\nstatus = "{status}"\npeers = ["127.0.0.1:{PEER}"]\n'
     with socket.create_server(("127.0.0.1", PEER)):
         node = Node(program, folder, config(keys) + "every = 2\n", "--save", "node.snapshot")
-        report = send(f"m v=1i {time.time_ns()}\nm v\n")
-        check("lines are taken", report == "line 2: MissingFieldValue\npoints 1 samples 1 refused 1\n", report)
+        now = time.time_ns()
+        report = send(f"m v=1i {now}\nm v\nm v=2i {now - YEAR}\n")
+        check("lines are taken", report == "line 2: MissingFieldValue\npoints 2 samples 2 refused 1\n", report)
         time.sleep(12)
         first = node.snapshot.stat().st_mtime
         time.sleep(4)
         check("a snapshot is saved without lines", node.snapshot.stat().st_mtime > first)
         counts = dict(line.split() for line in status.read_text().splitlines() if line[0] != "#")
-        found = [counts[f"rr_{name}"] for name in ("connections_total", "refused_total", "cells")]
-        check("counts", found == ["1", "1", "1"], counts)
+        found = [counts[f"rr_{name}"] for name in ("connections_total", "refused_total", "past_horizon_total", "cells")]
+        check("counts", found == ["1", "1", "1", "1"], counts)
     said = node.end()
     addresses = f"lines 127.0.0.1:{LINES} fetch 127.0.0.1:{FETCH}"
     check("the start", said[1] == f"rr: version 2 origin 1 {addresses} series 0 cells 0", said)
     check("an unknown key", said[0].endswith("node.toml: every of archive 1: this key is unknown, and ignored"), said)
-    counts = r"connections (\d+) points (\d+) samples (\d+) refused (\d+)"
+    counts = r"connections (\d+) points (\d+) samples (\d+) refused (\d+) past (\d+)"
     form = re.compile(rf"round: {counts} cells 1 pulls \d+\.\d{{3}} save \d+\.\d{{3}}")
     rounds = [found.groups() for line in said if (found := form.fullmatch(line))]
-    check("a line a turn", rounds.count(("1", "1", "1", "1")) == 1 and rounds.count(("0",) * 4) >= 5, said)
+    check("a line a turn", rounds.count(("1", "2", "2", "1", "1")) == 1 and rounds.count(("0",) * 5) >= 5, said)
     # It is called in turns 1, 3, 6, 11: of 16 seconds it holds a few, though it is silent for one each time.
     calls = said.count("peer 1: ReadFailed")
     check("a silent peer is passed over", 2 <= calls <= 4, said)

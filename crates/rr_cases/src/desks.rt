@@ -17,6 +17,8 @@
 //! | `save` | what is written of a snapshot of the keeper, in hexadecimal |
 //! | `names` | how many cells the keeper has |
 //! | `cells` | a line for each cell that the reader gives to a side that has none |
+//! | `keys` | a line for each key that the reader sees; the input is `COUNT KEY`, as of a call of a replica |
+//! | `past` | how many samples the keeper put that no archive kept |
 //!
 //! An answer ends with a line that says how the call did.
 
@@ -25,6 +27,7 @@ use crate::documents::texts;
 use crate::growths::{begin, end};
 use crate::repeats::expanded;
 use crate::replicas::{cell_of, push_cell};
+use crate::series::{behind_of, key_lines};
 use crate::settings::{Settings, written};
 use crate::words::Words;
 use anyhow::{Context, Result, bail};
@@ -96,6 +99,7 @@ fn answer<A: Cells, T: Wait>(
         "publish" => publish(alloc, rt, keeper, &settings),
         "names" => names(alloc, keeper),
         "cells" => cells(alloc, reader),
+        "keys" => keys(alloc, reader, &settings, input),
         _ => answer_of_keeper(alloc, keeper, name, &settings, input),
     }
 }
@@ -113,6 +117,7 @@ fn answer_of_keeper<A: Cells>(
         "put" => put(alloc, keeper, settings, words),
         "join" => join(alloc, keeper, settings, words),
         "save" => save(alloc, keeper, settings),
+        "past" => Ok((format!(in alloc; "{}", keeper.past_horizon())?, Vec::new(alloc))),
         _ => bail!("an unknown call"),
     }
 }
@@ -320,4 +325,21 @@ fn cells<A: Cells>(alloc: Global, reader: &mut Reader<A>) -> Result<Answer> {
         push_cell(&mut listed, as_ref(cell))?;
     }
     Ok((text_of(alloc, "done")?, listed.into_bytes()))
+}
+
+fn keys<A: Cells>(
+    alloc: Global,
+    reader: &mut Reader<A>,
+    settings: &Settings,
+    input: &[u8],
+) -> Result<Answer> {
+    let words = Words::of(str::from_utf8(input)?.trim_end());
+    let (count, after) = behind_of(alloc, words)?;
+    begin(alloc, settings.growths);
+    let keys = reader.keys_after(alloc, after.as_ref(), count);
+    end(alloc, settings.growths);
+    match keys {
+        Ok(keys) => Ok((text_of(alloc, "done")?, key_lines(alloc, &keys)?.into_bytes())),
+        Err(AllocError) => ending(alloc, Err(AllocError)),
+    }
 }

@@ -25,6 +25,7 @@ mod pages;
 mod repeats;
 mod replicas;
 mod scripts;
+mod series;
 mod sessions;
 mod settings;
 mod sides;

@@ -17,6 +17,8 @@
 //! | `puller`, `giver` and words | what one side of a session answers, frame by frame ([`crate::sides`]) |
 //! | `answer SIZE WRITES REQUEST` | the answer to a request, written as `save` writes, and how that ended |
 //! | `after ARCHIVE SLOT ORIGIN KEY` | the first cell after a name, or `none` |
+//! | `keys COUNT KEY` | a line for each key that has a cell, from the first one behind KEY on, or of all if that is missing |
+//! | `keeps TIME KEY` | `kept` or `past the horizon` of a sample at that time |
 //! | `save SIZE WRITES` | the bytes of a snapshot that are written, in hexadecimal, and how that ended ([`crate::stored`]) |
 //! | `load ORIGIN SIZE READS BYTES` | how a snapshot is loaded in the place of the replica ([`crate::stored`]) |
 //! | `copy CALL` | what the call of a copy answers, and then a line for each cell of the copy |
@@ -31,6 +33,7 @@ ghost use Rattle.rr_cells.specs.Listing.{owned_cell};
 
 use crate::growths::{begin, end};
 use crate::operations::op_of;
+use crate::series::{behind_of, key_lines};
 use crate::sessions::{Session, push_session};
 use crate::settings::written;
 use crate::sides::{Side, giver, puller, push_steps};
@@ -176,6 +179,8 @@ impl<A: Cells> Calls<A> {
             "give-after" => self.hold(Session::GiveAfter, words),
             "puller" | "giver" => self.take_steps(name, words),
             "after" => self.push_after(words),
+            "keys" => self.push_keys(words),
+            "keeps" => self.push_kept(words),
             "answer" => self.answer(words),
             "save" => push_saved(self.alloc, &self.replica, words, &mut self.output),
             "load" => self.load(words),
@@ -325,6 +330,26 @@ impl<A: Cells> Calls<A> {
             Some(cell) => Ok(push_cell(&mut self.output, cell)?),
             None => Ok(self.output.push_str("none\n")?),
         }
+    }
+
+    /// Adds the keys behind one.
+    fn push_keys(&mut self, words: Words<'_>) -> Result<()> {
+        let (count, after) = behind_of(self.alloc, words)?;
+        begin(self.alloc, words.growths);
+        let keys = self.replica.keys_after(self.alloc, after.as_ref(), count);
+        end(self.alloc, words.growths);
+        match keys {
+            Ok(keys) => Ok(self.output.push_str(&key_lines(self.alloc, &keys)?)?),
+            Err(AllocError) => Ok(self.output.push_str("Memory\n")?),
+        }
+    }
+
+    /// Adds whether a sample would be kept.
+    fn push_kept(&mut self, mut words: Words<'_>) -> Result<()> {
+        let time = words.number()?;
+        let key = SeriesKey::parse_text(self.alloc, words.rest().as_bytes())?;
+        let is_kept = self.replica.keeps(&key, time);
+        self.push_word(Ok(if is_kept { "kept" } else { "past the horizon" }))
     }
 
     fn push_cells(&mut self) -> Result<(), AllocError> {

@@ -8,6 +8,7 @@ ghost use Rattle.rr_cells.specs.ReplicaState.{IsReplicaState};
 ghost use Rattle.rr_cells.specs.Listing.{at_most_usize, owned_cell};
 ghost use Rattle.rr_cells.specs.declared.op.Op.TheVariants.{Join};
 ghost use Rattle.rr_replica.specs.ReplicaWithRoom.{replica_state};
+ghost use Rattle.rr_replica.specs.Horizon.{keeps};
 ghost use Rattle.rr_delta.specs.Difference.{IsSummary};
 ghost use Rattle.rr_delta.specs.Names.{IsNameOf, name_in, named_version, owned_name, versions_of};
 ghost use Rattle.rr_delta.specs.Summaries.{cells_after};
@@ -18,6 +19,7 @@ ghost use Rattle.rr_desk.specs.Points.{with_put};
 ghost use Rattle.rr_desk.specs.KeeperState.{cells_of, own_replica, with_all_published, with_pending};
 
 use crate::copies::Copies;
+use crate::horizon::Horizon;
 use crate::note::Note;
 use crate::order::Order;
 use crate::shown::{Change, CopyState, Shown};
@@ -48,6 +50,7 @@ where
     /// Where key texts of points are written, one over the other.
     pub(crate) text: Vec<u8>,
     pub(crate) order: Order,
+    pub(crate) horizon: Horizon,
 }
 
 impl<A: Cells> Model for Keeper<A>
@@ -134,9 +137,27 @@ impl<A: Cells> Keeper<A> {
             time,
             value,
         };
+        let is_kept = self.horizon.is_within(time) || self.keeps(&sample.key, time);
         self.copies.push(hint, Op::Put(sample))?;
         self.order.note(hint);
+        self.horizon.note(time);
+        if !is_kept {
+            self.horizon.count();
+        }
         Ok(number)
+    }
+
+    /// Whether a sample of a key at a time would be kept by some archive, as `Replica::keeps` says.
+    pub fn keeps(&self, key: &SeriesKey, time: i64) -> bool
+        ensures { result ≡ keeps self.now.schema (cells_of self.now) key.now time }
+    {
+        self.copies.replica().keeps(key, time)
+    }
+
+    /// How many samples were put since the desk was opened of which [`Keeper::keeps`] was false
+    /// then: they left no trace but their numbers. No contract says how many.
+    pub fn past_horizon(&self) -> u64 {
+        self.horizon.past()
     }
 
     /// Where the series is that is likely to be put to next: the one that came after the last one
@@ -167,7 +188,9 @@ impl<A: Cells> Keeper<A> {
             .copies
             .replica()
             .known_key_near(Hint::none(), &cell.key)?;
-        self.copies.push(hint, Op::Join(cell.copy()?))
+        self.copies.push(hint, Op::Join(cell.copy()?))?;
+        self.horizon.note(cell.contribution.last_time);
+        Ok(())
     }
 
     /// The names and versions of as many cells as `count` from an offset on, in the order of the
@@ -248,6 +271,7 @@ impl<A: Cells> Keeper<A> {
             copies,
             text: _,
             order: _,
+            horizon: _,
         } = self;
         copies.close(rt)
     }

@@ -26,6 +26,7 @@ mod book;
 mod copies;
 mod fault;
 mod gate;
+mod horizon;
 mod keeper;
 pub mod laws;
 mod note;

@@ -15,6 +15,7 @@ ghost use Rattle.rr_desk.specs.declared.fault.OpenFault.TheVariants.{BadCount};
 use crate::book::Editions;
 use crate::copies::Copies;
 use crate::fault::OpenFault;
+use crate::horizon::Horizon;
 use crate::keeper::Keeper;
 use crate::order::Order;
 use crate::read_handle::look;
@@ -131,11 +132,13 @@ pub fn open<A: Cells, R: Wait>(
     }
     match begin(alloc, rt, &replica, readers) {
         Ok((writer, book, all)) => {
+            let horizon = Horizon::of(&replica);
             let keeper = Keeper {
                 alloc,
                 copies: Copies::new(alloc, writer, replica, book),
                 text: Vec::new(alloc),
                 order: Order::new(alloc),
+                horizon,
             };
             Ok((keeper, all))
         }

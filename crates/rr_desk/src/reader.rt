@@ -6,6 +6,7 @@ ghost use Rattle.rr_schema.specs.Schema.{IsLayout};
 ghost use Rattle.rr_model.specs.CellNames.{cell_name_cmp};
 ghost use Rattle.rr_cells.specs.CellBounds.{IsCellOf};
 ghost use Rattle.rr_cells.specs.Listing.{owned_cell};
+ghost use Rattle.rr_replica.specs.Keys.{keys_after, lent_key};
 ghost use Rattle.rr_delta.specs.Names.{owned_name};
 ghost use Rattle.rr_delta.specs.Difference.{IsSummary, newer_cells};
 ghost use Rattle.rr_fetch.specs.Answers.{cells_text};
@@ -17,11 +18,12 @@ use crate::fault::FetchFault;
 use crate::gate::Gate;
 use crate::note::Note;
 use crate::read_handle::{ReadHandle, look_for};
-use crate::reading::{answer, lacking};
+use crate::reading::{answer, lacking, listed};
 use rr_archive::Cells;
 use rr_cells::Cell;
 use rr_delta::Name;
 use rr_fetch::Request;
+use rr_key::SeriesKey;
 use rr_schema::Schema;
 use std::alloc::{AllocError, Global};
 use std::marker::Model;
@@ -149,5 +151,27 @@ impl<A: Cells> Reader<A> {
         let (seat, cells) = lacking(seat, alloc, summary);
         self.seat = Some(seat);
         cells
+    }
+
+    /// As many keys as `count` that have a cell, in order, from the first one behind a key on, or
+    /// from the first of all; fewer where there are fewer. They are those after the operations that
+    /// the reader has seen when the call returns. The cost is that of
+    /// [`rr_replica::Replica::keys_after`].
+    pub fn keys_after(
+        &mut self,
+        alloc: Global,
+        after: Option<&SeriesKey>,
+        count: usize,
+    ) -> Result<Vec<SeriesKey>, AllocError>
+        ensures seen { HasSeenMore self.old self.new }
+        ensures listed { IfOk result (λ keys. keys.items
+            ≡ keys_after (lent_key after.entry) count (entries (cells_seen self.new))) }
+    {
+        let Some(seat) = self.seat.take() else {
+            unreachable!();
+        };
+        let (seat, keys) = listed(seat, alloc, after, count);
+        self.seat = Some(seat);
+        keys
     }
 }

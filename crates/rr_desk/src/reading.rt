@@ -6,6 +6,7 @@ ghost use Rattle.rr_model.specs.CellNames.{cell_name_cmp};
 ghost use Rattle.rr_cells.specs.CellBounds.{IsCellOf};
 ghost use Rattle.rr_cells.specs.Listing.{owned_cell};
 ghost use Rattle.rr_cells.specs.Operations.{outcome_of};
+ghost use Rattle.rr_replica.specs.Keys.{keys_after, lent_key};
 ghost use Rattle.rr_delta.specs.Names.{owned_name};
 ghost use Rattle.rr_delta.specs.Difference.{IsSummary, newer_cells};
 ghost use Rattle.rr_fetch.specs.Answers.{cells_text};
@@ -21,6 +22,7 @@ use rr_archive::Cells;
 use rr_cells::Cell;
 use rr_delta::{Name, difference};
 use rr_fetch::{Request, answer_text};
+use rr_key::SeriesKey;
 use std::alloc::{AllocError, Global};
 
 /// The answer to a request from the copy that is shown, if the gate lets it be made.
@@ -75,6 +77,27 @@ pub fn lacking<A: Cells>(
         Ok(reading) => {
             let cells = difference(alloc, &reading.get().replica, summary);
             (reading.leave(), cells)
+        }
+        Err(seat) => (seat, Err(AllocError)),
+    }
+}
+
+/// The keys behind one that have a cell in the copy that is shown, as many as `count`.
+pub fn listed<A: Cells>(
+    seat: ReadHandle<A>,
+    alloc: Global,
+    after: Option<&SeriesKey>,
+    count: usize,
+) -> (ReadHandle<A>, Result<Vec<SeriesKey>, AllocError>)
+    requires joined { (view seat.place).joined ≡ true }
+    ensures seen { Saw (view seat.place) (view result.0.place) }
+    ensures listed { IfOk result.1 (λ keys. keys.items ≡ keys_after (lent_key after.entry) count
+        (entries (outcome_of (view seat.place).schema (view result.0.place).seen))) }
+{
+    match seat.enter_as::<Enters>() {
+        Ok(reading) => {
+            let keys = reading.get().replica.keys_after(alloc, after, count);
+            (reading.leave(), keys)
         }
         Err(seat) => (seat, Err(AllocError)),
     }

@@ -86,6 +86,11 @@ impl<R: Files + Eprint + Clock, S: Shelf> Shelf for PacedShelf<'_, R, S> {
         self.shelf.pulls_ended(cells);
     }
 
+    fn past_horizon(&mut self, samples: u64) {
+        self.log.are_past_horizon(samples);
+        self.shelf.past_horizon(samples);
+    }
+
     fn open(&mut self) -> Opening<S::Output> {
         if !self.is_wanted() {
             return Opening::Unwanted;

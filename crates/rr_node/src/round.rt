@@ -104,6 +104,7 @@ pub fn keep_round<A: Cells, V: Visits, D: Dial, S: Shelf, C: Clock, T: Wait>(
     };
     shelf.lines_taken(report);
     pull_peers(alloc, &config.peers, dial, shelf, keeper, rt)?;
+    shelf.past_horizon(keeper.past_horizon());
     shelf.pulls_ended(keeper.cell_count());
     save_to(alloc, shelf, keeper)?;
     Ok(true)

@@ -31,6 +31,9 @@ pub struct RoundLog<'a, R> {
     /// The connections since the last line, and all of them.
     since: Tally,
     all: Tally,
+    /// How many samples no archive kept, up to the last line and in all.
+    past_before: u64,
+    past: u64,
     /// How many cells there are after the pulls of this round.
     cells: usize,
     /// When the pulls or the save of this round began.
@@ -59,6 +62,8 @@ impl<'a, R: Files + Eprint + Clock> RoundLog<'a, R> {
             file,
             since: Tally::new(),
             all: Tally::new(),
+            past_before: 0,
+            past: 0,
             cells: 0,
             began: None,
             pulls: Duration::ZERO,
@@ -74,6 +79,11 @@ impl<'a, R: Files + Eprint + Clock> RoundLog<'a, R> {
             self.all.add(&report);
         }
         self.began = Instant::now(self.rt).ok();
+    }
+
+    /// So many samples were put since the start that no archive kept.
+    pub(crate) fn are_past_horizon(&mut self, samples: u64) {
+        self.past = samples;
     }
 
     /// The pulls are over, with so many cells; the save begins.
@@ -109,6 +119,7 @@ impl<'a, R: Files + Eprint + Clock> RoundLog<'a, R> {
             file.remove_beside();
         }
         self.since = Tally::new();
+        self.past_before = self.past;
         self.pulls = Duration::ZERO;
     }
 
@@ -120,10 +131,11 @@ impl<'a, R: Files + Eprint + Clock> RoundLog<'a, R> {
             samples,
             refused,
         } = self.since;
+        let past = self.past.saturating_sub(self.past_before);
         let (cells, pulls, save) = (self.cells, Seconds(self.pulls), Seconds(self.save));
         // If this can't be printed, there is no one to tell.
         let _printed = eprintln!(self.rt;
-            "round: connections {connections} points {points} samples {samples} refused {refused} cells {cells} pulls {pulls} save {save}"
+            "round: connections {connections} points {points} samples {samples} refused {refused} past {past} cells {cells} pulls {pulls} save {save}"
         );
     }
 
@@ -143,6 +155,7 @@ impl<'a, R: Files + Eprint + Clock> RoundLog<'a, R> {
             ("rr_points_total", self.all.points),
             ("rr_samples_total", self.all.samples),
             ("rr_refused_total", self.all.refused),
+            ("rr_past_horizon_total", self.past),
         ] {
             write!(text, "# TYPE {name} counter\n{name} {count}\n")?;
         }

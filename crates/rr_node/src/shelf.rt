@@ -52,6 +52,14 @@ pub trait Shelf {
     fn pulls_ended(&mut self, cells: usize)
         ensures { Grows (calls self.old) (calls self.new) (pulled cells ∷ []) };
 
+    /// Is told how many samples the keeper was given since it began that no archive kept. It isn't
+    /// one of the calls that are seen.
+    fn past_horizon(&mut self, samples: u64)
+        ensures { calls self.new ≡ calls self.old }
+    {
+        let _ = samples;
+    }
+
     /// Opens a writer for a snapshot, where one is wanted.
     fn open(&mut self) -> Opening<Self::Output>
         ensures opened { (writer : _) → result ≡ opening.Writer writer

@@ -32,7 +32,7 @@ returns-in_err-save_to-clause-round g c =
     let p = rw c.in-Taken.is at c.in_ok-report.ensures in
     let q = c.in_ok-pull_peers.ensures in
     let s = c.in_err-save_to.ensures in
-    let told = rw c.cell_count.ensures at c.pulls_ended.ensures in
+    let told = rw (c.cell_count.ensures, c.past_horizon-2.ensures) at c.pulls_ended.ensures in
     let done = rw c.deref.ensures.value at q.4 in
     rw e.1 (
       p.0,
@@ -50,7 +50,7 @@ returns-clause-round g c =
     let p = rw c.in-Taken.is at c.in_ok-report.ensures in
     let q = c.in_ok-pull_peers.ensures in
     let s = c.in_ok-save_to.ensures in
-    let told = rw c.cell_count.ensures at c.pulls_ended.ensures in
+    let told = rw (c.cell_count.ensures, c.past_horizon-2.ensures) at c.pulls_ended.ensures in
     let done = rw c.deref.ensures.value at q.4 in (
       p.0,
       q.0,
