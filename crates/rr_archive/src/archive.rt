@@ -49,7 +49,7 @@ pub trait Cells: Drop {
         ensures cells { cells self.new ≡ cells self.old }
         ensures limit { row_limit self.new ≡ row_limit self.old }
         ensures room { OnOk result (IsTrue (is_ready self.new (cell_slot slot origin))) }
-        ensures kept { IsTrue (is_ready self.old (cell_slot slot origin)) → IsOk result };
+        ensures room_suffices { IsTrue (is_ready self.old (cell_slot slot origin)) → IsOk result };
 
     /// Puts a sample of an origin into a slot. Its number, place, time and value are those of
     /// `Contribution::first`, or where the cell is there, of `Contribution::add`.

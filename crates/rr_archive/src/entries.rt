@@ -114,7 +114,7 @@ impl Entries {
     pub fn make_room(&mut self, alloc: Global, origin: Origin) -> Result<(), AllocError>
         ensures items { items_of self.new ≡ items_of self.old }
         ensures room { OnOk result (IsTrue (has_room self.new origin)) }
-        ensures kept { IsTrue (has_room self.old origin) → IsOk result }
+        ensures room_suffices { IsTrue (has_room self.old origin) → IsOk result }
     {
         match self {
             Entries::Empty => Ok(()),

@@ -75,7 +75,7 @@ impl Slots {
         ensures cells { cells_in self.new.rows.entries ≡ cells_in self.old.rows.entries }
         ensures room { (origin : ℕ)
             → OnOk result (IsTrue (has_room_in self.new.rows.entries (cell_slot slot origin))) }
-        ensures kept { (origin : ℕ)
+        ensures room_suffices { (origin : ℕ)
             → IsTrue (has_room_in self.old.rows.entries (cell_slot slot origin)) → IsOk result }
     {
         match self.rows.get_mut(&slot) {

@@ -1,5 +1,5 @@
 //! Bytes in hexadecimal, and changes of them. The first line of a text has the bytes; each further
-//! line a place from 0, a space, and the bytes that stand there instead, or `end` where the bytes
+//! line an offset from 0, a space, and the bytes that stand there instead, or `end` where the bytes
 //! end there. A line before these may set what the bytes are read as.
 
 use anyhow::{Context, Result};
@@ -34,9 +34,9 @@ fn with_change(alloc: Global, bytes: &[u8], line: &str) -> Result<Vec<u8>> {
     changed_at(alloc, bytes, at.parse()?, change)
 }
 
-/// The bytes with some changed from a place on.
+/// The bytes with some changed from an offset on.
 fn changed_at(alloc: Global, bytes: &[u8], at: usize, change: &str) -> Result<Vec<u8>> {
-    let (front, back) = bytes.split_at_checked(at).context("a place past the end")?;
+    let (front, back) = bytes.split_at_checked(at).context("an offset past the end")?;
     if change == "end" {
         return Ok(Vec::from_slice(alloc, front)?);
     }

@@ -1,4 +1,4 @@
--- The entries of a part are those from a place on.
+-- The entries of a part are those from an offset on.
 use Rattle.std.proofs.Common.{◌≡◌, ℕ, zero, suc, Bool, true, false, cond, ◌||◌, List, [], ◌∷◌, map, take, drop, refl, sym, ap, ◌∙◌, true≢false, Ordering}
 use Rattle.std.specs.List.{filter, list_any}
 use Rattle.std.specs.Ordering.{eq_by_cmp}

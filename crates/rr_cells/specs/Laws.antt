@@ -101,7 +101,7 @@ JoinCellUnites =
 
 -- ---- whole cells, and differences
 
--- the cells of a part are those from a place on, as many as there are up to a count
+-- the cells of a part are those from an offset on, as many as there are up to a count
 abbrev pub PartsAreCutFromEntries : Type 0
 PartsAreCutFromEntries =
     (s : Layout) (k : Knowledge) (from count : ℕ) → IsLayout s

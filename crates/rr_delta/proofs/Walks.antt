@@ -164,7 +164,7 @@ walked_on n (x ∷ xs) h = elim (is_past n x) as (λ b. is_past n x ≡ b
     skipped t (Some y) e = ap (λ b. y ∷ cond b (x ∷ filter (is_past y.0) xs) (filter (is_past y.0) xs))
         (not_after y t (found_passes n xs y e))
 
--- a walk from a place on comes to the cells from there on
+-- a walk from an offset on comes to the cells from there on
 pub walked_to : (i : ℕ) (es : List NamedCell) → T (is_sorted cell_name_cmp es)
     → cells_from (slice_get es i) es ≡ drop i es
 walked_to zero [] h = refl

@@ -48,7 +48,7 @@ DifferenceUnites =
     → join_cells s (cells_of_knowledge s l) (newer_cells (versions_of (cells_of_knowledge s l))
     (entries (cells_of_knowledge s k))) ≡ cells_of_knowledge s (union l k)
 
--- the cells of a part of the difference of closed knowledges are those from a place on, as many as there are up to a
+-- the cells of a part of the difference of closed knowledges are those from an offset on, as many as there are up to a
 -- count
 abbrev pub DifferencesAreCutFromEntries : Type 0
 DifferencesAreCutFromEntries =

@@ -100,7 +100,7 @@ pub fn difference<A: Cells>(
     Ok(cells)
 }
 
-/// As many cells of a list as `count` from a place on; fewer where there are fewer, and none past
+/// As many cells of a list as `count` from an offset on; fewer where there are fewer, and none past
 /// the end. The cost is constant.
 pub fn part(list: &[Cell], from: usize, count: usize) -> &[Cell]
     ensures { result.now ≡ take count (drop from list.now) }

@@ -41,7 +41,7 @@ fn listed_from<'a, A: Cells>(
     Ok(names)
 }
 
-/// The names and versions of as many cells as `count` from a place on, in the order of the names;
+/// The names and versions of as many cells as `count` from an offset on, in the order of the names;
 /// fewer where there are fewer.
 ///
 /// The cost is that of `Replica::cell_at` for the first, and for each further one that of

@@ -45,7 +45,7 @@ pub trait Source {
         ensures of_schema { IfOk result (λ found. All
             (λ c. IsCellOf (layout self.new) (owned_cell c)) found.items) }
         ensures schema { layout self.new ≡ layout self.old }
-        ensures kept { may_become self.old self.new };
+        ensures may_become { may_become self.old self.new };
 
     ghost may_stay: { (x : Self) → may_become x x };
 
@@ -76,7 +76,7 @@ impl<A: Cells> Source for Replica<A> {
         ensures of_schema { IfOk result (λ found. All
             (λ c. IsCellOf (self.new.schema) (owned_cell c)) found.items) }
         ensures schema { self.new.schema ≡ self.old.schema }
-        ensures kept { self.new ≡ self.old }
+        ensures may_become { self.new ≡ self.old }
     {
         difference(alloc, self, summary)
     }

@@ -40,7 +40,7 @@ pub trait Target {
         ensures live { IsTrimmed (layout self.now) (cells self.now) }
         ensures of_schema { All (IsCellOf (layout self.now)) (entries (cells self.now)) };
 
-    /// The names and versions of as many cells as `count` from a place on, in the order of the
+    /// The names and versions of as many cells as `count` from an offset on, in the order of the
     /// names; fewer where there are fewer.
     fn names(&self, alloc: Global, from: usize, count: usize) -> Result<Vec<Name>, AllocError>
         ensures listed { IfOk result (λ names.

@@ -1,10 +1,8 @@
 //! The keeper of a desk, which alone writes.
 ghost use Rattle.std.specs.Prelude.{◌≡◌, ◌<◌, ◌≤◌, ◌↔◌, All, Err, IfOk, OnErr, OnOk, map, take, drop};
 ghost use Rattle.std.specs.FinMap.{entries, len};
-ghost use Rattle.std.specs.Io.KnownBytes.{Appends};
 ghost use Rattle.rr_text.specs.declared.limits.TheConstants.{MAX_NUMBER};
-ghost use Rattle.rr_io.specs.Counted.{inner_of, failures_of, HasRisen};
-ghost use Rattle.rr_io.specs.Stream.{AppendsPrefix};
+ghost use Rattle.rr_io.specs.Stream.{HasFailed, KeepsFailures, WritesFront, WritesWhole};
 ghost use Rattle.rr_cells.specs.CellBounds.{IsCellOf};
 ghost use Rattle.rr_cells.specs.ReplicaState.{IsReplicaState};
 ghost use Rattle.rr_cells.specs.Listing.{at_most_usize, owned_cell};
@@ -195,7 +193,7 @@ impl<A: Cells> Keeper<A> {
         Ok(())
     }
 
-    /// The names and versions of as many cells as `count` from a place on, in the order of the
+    /// The names and versions of as many cells as `count` from an offset on, in the order of the
     /// names; fewer where there are fewer. They are those of all operations, pending ones too. The
     /// cost is that of [`rr_delta::summary`].
     pub fn names(&self, alloc: Global, from: usize, count: usize) -> Result<Vec<Name>, AllocError>
@@ -230,17 +228,14 @@ impl<A: Cells> Keeper<A> {
     /// Writes the cells of all operations, pending ones too, as a snapshot: see
     /// `rr_snapshot::save`, whose cost it has.
     pub fn save<W: Write>(&self, alloc: Global, output: &mut Counted<W>) -> Result<(), SaveFault>
-        ensures whole { OnOk result (Appends (W.contents (inner_of output.old))
-            (W.contents (inner_of output.new))
-            (snapshot_text latest self.now.schema self.now.origin (entries (cells_of self.now)))) }
-        ensures front { AppendsPrefix (W.contents (inner_of output.old))
-            (W.contents (inner_of output.new))
-            (snapshot_text latest self.now.schema self.now.origin (entries (cells_of self.now))) }
+        ensures whole { OnOk result (WritesWhole W.contents output.old output.new (snapshot_text
+            latest self.now.schema self.now.origin (entries (cells_of self.now)))) }
+        ensures front { WritesFront W.contents output.old output.new (snapshot_text latest
+            self.now.schema self.now.origin (entries (cells_of self.now))) }
         ensures too_many { (result ≡ Err SaveFault.TooManyCells)
             ↔ (MAX_SNAPSHOT_CELLS < len (cells_of self.now)) }
-        ensures count { failures_of output.old ≤ failures_of output.new }
-        ensures failed { result ≡ Err SaveFault.WriteFailed
-            → HasRisen (failures_of output.old) (failures_of output.new) }
+        ensures failures_never_fall { KeepsFailures output.old output.new }
+        ensures failed { result ≡ Err SaveFault.WriteFailed → HasFailed output.old output.new }
     {
         rr_snapshot::save(alloc, self.copies.replica(), output)
     }

@@ -35,7 +35,7 @@ pub fn look_for<A: Cells>(
     requires joined { (view seat.place).joined ≡ true }
     requires desk { front.now.desk ≡ (view seat.place).desk }
     ensures seen { Saw (view seat.place) (view result.0.place) }
-    ensures told { IfOk result.1 (λ _. IsPrefix (flat front.now.editions)
+    ensures front_seen { IfOk result.1 (λ _. IsPrefix (flat front.now.editions)
         (view result.0.place).seen) }
 {
     match seat.enter_as::<Enters>() {

@@ -84,7 +84,7 @@ impl<A: Cells> Reader<A> {
     pub fn learn(&mut self, note: Note) -> Result<(), AllocError>
         requires { note.desk ≡ self.old.desk }
         ensures seen { HasSeenMore self.old self.new }
-        ensures told { IfOk result (λ _. IsPrefix note.list self.new.list) }
+        ensures note_seen { IfOk result (λ _. IsPrefix note.list self.new.list) }
     {
         let Some(seat) = self.seat.take() else {
             unreachable!();

@@ -170,7 +170,7 @@ pub fn end_edition<A: Cells>(
 /// Tells a new reader of the desk, and of what is published.
 pub fn introduce<A: Cells>(writer: &mut DeskWriter<A>, seat: &mut ReadHandle<A>)
     requires { seat.old.place.table_id ≡ writer.old.desk.place.table_id }
-    ensures told { view seat.new.place ≡ with_news (view seat.old.place)
+    ensures news { view seat.new.place ≡ with_news (view seat.old.place)
         (view writer.old.desk.place) }
     ensures view { view writer.new.desk.place ≡ view writer.old.desk.place }
     ensures shown { writer.new.desk.shown ≡ writer.old.desk.shown }

@@ -2,9 +2,7 @@
 
 ghost use Rattle.std.specs.Prelude.{◌≡◌, ◌*◌, ◌<◌, ◌≤◌, ◌+◌, ◌+ℤ◌, ◌*ℤ◌, pos, unsigned_abs, [], ◌∷◌, length, Err, IfOk, IfSome, OnOk, MatchOption};
 ghost use Rattle.std.specs.FinMap.{empty};
-ghost use Rattle.std.specs.Io.KnownBytes.{Appends};
-ghost use Rattle.rr_io.specs.Counted.{inner_of, failures_of, HasRisen};
-ghost use Rattle.rr_io.specs.Stream.{AppendsPrefix};
+ghost use Rattle.rr_io.specs.Stream.{HasFailed, KeepsFailures, WritesFront, WritesWhole};
 ghost use Rattle.rr_archive.specs.Cells.{ArchiveCells, row_of};
 ghost use Rattle.rr_fetch.specs.Answers.{cells_text};
 ghost use Rattle.rr_fetch.specs.Consolidation.{consolidation_of, IsRow};
@@ -147,16 +145,13 @@ pub fn answer<A: Cells, W: Write>(
     output: &mut Counted<W>,
 ) -> Result<(), AnswerFault>
     requires { IsFetchable replica.now.schema (request_view request.now) }
-    ensures whole { OnOk result (Appends (W.contents (inner_of output.old))
-        (W.contents (inner_of output.new))
-        (cells_text replica.now.schema replica.now.cells (request_view request.now))) }
+    ensures whole { OnOk result (WritesWhole W.contents output.old output.new (cells_text
+        replica.now.schema replica.now.cells (request_view request.now))) }
     ensures nothing { result ≡ Err AnswerFault.Memory → output.new ≡ output.old }
-    ensures front { result ≡ Err AnswerFault.WriteFailed
-        → AppendsPrefix (W.contents (inner_of output.old)) (W.contents (inner_of output.new))
-        (cells_text replica.now.schema replica.now.cells (request_view request.now)) }
-    ensures count { failures_of output.old ≤ failures_of output.new }
-    ensures failed { result ≡ Err AnswerFault.WriteFailed
-        → HasRisen (failures_of output.old) (failures_of output.new) }
+    ensures front { result ≡ Err AnswerFault.WriteFailed → WritesFront W.contents output.old
+        output.new (cells_text replica.now.schema replica.now.cells (request_view request.now)) }
+    ensures failures_never_fall { KeepsFailures output.old output.new }
+    ensures failed { result ≡ Err AnswerFault.WriteFailed → HasFailed output.old output.new }
 {
     let text = answer_text(alloc, replica, request)?;
     write_all(output, &text)?;

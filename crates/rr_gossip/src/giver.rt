@@ -89,7 +89,7 @@ impl Stage {
             (end_taken (S.cells source.new) (S.layout source.old) (names_in self.old) body.now) }
         ensures fit { OnOk result (AreFit self.new) }
         ensures schema { S.layout source.new ≡ S.layout source.old }
-        ensures kept { S.may_become source.old source.new }
+        ensures may_become { S.may_become source.old source.new }
     {
         let Stage::Listing(names) = self else {
             return Err(GossipFault::UnexpectedFrame);
@@ -117,7 +117,7 @@ impl Stage {
         ensures fit { OnOk result (AreFit self.new) }
         ensures listing { result ≡ Err GossipFault.Memory → IsTrue (is_listing self.old) }
         ensures schema { S.layout source.new ≡ S.layout source.old }
-        ensures kept { S.may_become source.old source.new }
+        ensures may_become { S.may_become source.old source.new }
     {
         match kind {
             Kind::Hello => {
@@ -218,7 +218,7 @@ impl Giver {
         ensures listing { result ≡ Err GossipFault.Memory → IsTrue (is_listing self.old.stage) }
         ensures failed { OnErr result (HasFailed self.new) }
         ensures schema { S.layout source.new ≡ S.layout source.old }
-        ensures kept { S.may_become source.old source.new }
+        ensures may_become { S.may_become source.old source.new }
     {
         let result = self.take_frame(alloc, frame, source);
         if result.is_err() {
@@ -241,7 +241,7 @@ impl Giver {
         ensures memory { NeedsMemoryAfter GossipFault.Memory (frame_due self.old frame.now) result }
         ensures listing { result ≡ Err GossipFault.Memory → IsTrue (is_listing self.old.stage) }
         ensures schema { S.layout source.new ≡ S.layout source.old }
-        ensures kept { S.may_become source.old source.new }
+        ensures may_become { S.may_become source.old source.new }
     {
         if matches!(&self.stage, Stage::Failed) {
             return Err(GossipFault::Failed);

@@ -1,9 +1,8 @@
 //! The answer to a pull, over streams.
 ghost use Rattle.std.specs.Prelude.{◌≡◌, ◌≤◌, [], ◌∷◌, Err, true, IfErr, IsTrue, OnOk, length};
-ghost use Rattle.std.specs.Io.KnownBytes.{Appends, IsAtEnd};
 ghost use Rattle.std.specs.List.{concat};
-ghost use Rattle.rr_io.specs.Counted.{inner_of, failures_of, is_flushed, HasRisen};
-ghost use Rattle.rr_io.specs.Stream.{AppendsPrefix};
+ghost use Rattle.rr_io.specs.Counted.{inner_of, is_flushed};
+ghost use Rattle.rr_io.specs.Stream.{HasFailed, IsReadOut, KeepsFailures, WritesFront, WritesWhole};
 ghost use Rattle.rr_gossip.specs.declared.frame.TheConstants.{MAX_FRAMES};
 ghost use Rattle.rr_gossip.specs.Calls.{Gives};
 ghost use Rattle.rr_gossip.specs.Session.{CannotSend, HasFailedToGive, HasGiven, HasHeard, HasStoppedHearing, is_giving, reply_left};
@@ -35,13 +34,12 @@ fn take_names<S: Source, R: Read>(
         giver.old before.now
         (R.remaining (inner_of input.old)) (R.remaining (inner_of input.new))) }
     ensures schema { S.layout source.new ≡ S.layout source.old }
-    ensures kept { S.may_become source.old source.new }
+    ensures may_become { S.may_become source.old source.new }
     ensures sent { OnOk result (giver.new.sent ≡ giver.old.sent) }
     ensures limit { OnOk result (giver.new.limit ≡ giver.old.limit) }
-    ensures ended { result ≡ Err GossipFault.Ended → IsAtEnd (R.remaining (inner_of input.new)) }
-    ensures count { failures_of input.old ≤ failures_of input.new }
-    ensures failed { result ≡ Err GossipFault.ReadFailed
-        → HasRisen (failures_of input.old) (failures_of input.new) }
+    ensures ended { result ≡ Err GossipFault.Ended → IsReadOut R.remaining input.new }
+    ensures failures_never_fall { KeepsFailures input.old input.new }
+    ensures failed { result ≡ Err GossipFault.ReadFailed → HasFailed input.old input.new }
 {
     let mut frame = Vec::from_slice(alloc, before)?;
     loop {
@@ -63,16 +61,15 @@ fn send_pages<S: Source, W: Write>(
 ) -> Result<(), GossipFault>
     requires giving { IsTrue (is_giving giver.old.stage) }
     requires fresh { giver.old.sent ≡ 0 }
-    ensures sent { OnOk result (Appends (W.contents (inner_of output.old))
-        (W.contents (inner_of output.new)) (concat (reply_left giver.old.stage))) }
-    ensures front { AppendsPrefix (W.contents (inner_of output.old))
-        (W.contents (inner_of output.new)) (concat (reply_left giver.old.stage)) }
+    ensures sent { OnOk result (WritesWhole W.contents output.old output.new (concat (reply_left
+        giver.old.stage))) }
+    ensures front { WritesFront W.contents output.old output.new (concat (reply_left
+        giver.old.stage)) }
     ensures refused { IfErr result (CannotSend giver.old.limit (reply_left giver.old.stage)) }
     ensures flushed { OnOk result (is_flushed output.new ≡ true) }
     ensures unchanged { source.new ≡ source.old }
-    ensures count { failures_of output.old ≤ failures_of output.new }
-    ensures failed { result ≡ Err GossipFault.WriteFailed
-        → HasRisen (failures_of output.old) (failures_of output.new) }
+    ensures failures_never_fall { KeepsFailures output.old output.new }
+    ensures failed { result ≡ Err GossipFault.WriteFailed → HasFailed output.old output.new }
 {
     while let Some(frame) = giver.next_frame(alloc, source)? {
         write_all(output, &frame)?;
@@ -102,16 +99,14 @@ fn give_from<S: Source, R: Read, W: Write>(
         (R.remaining (inner_of input.old)) (R.remaining (inner_of input.new))
         (W.contents (inner_of output.old)) (W.contents (inner_of output.new))) }
     ensures schema { S.layout source.new ≡ S.layout source.old }
-    ensures kept { S.may_become source.old source.new }
+    ensures may_become { S.may_become source.old source.new }
 
     // When a stream is to blame.
-    ensures ended { result ≡ Err GossipFault.Ended → IsAtEnd (R.remaining (inner_of input.new)) }
-    ensures read_failed { result ≡ Err GossipFault.ReadFailed
-        → HasRisen (failures_of input.old) (failures_of input.new) }
-    ensures write_failed { result ≡ Err GossipFault.WriteFailed
-        → HasRisen (failures_of output.old) (failures_of output.new) }
-    ensures read_count { failures_of input.old ≤ failures_of input.new }
-    ensures write_count { failures_of output.old ≤ failures_of output.new }
+    ensures ended { result ≡ Err GossipFault.Ended → IsReadOut R.remaining input.new }
+    ensures read_failed { result ≡ Err GossipFault.ReadFailed → HasFailed input.old input.new }
+    ensures write_failed { result ≡ Err GossipFault.WriteFailed → HasFailed output.old output.new }
+    ensures read_count { KeepsFailures input.old input.new }
+    ensures write_count { KeepsFailures output.old output.new }
 {
     let mut giver = Giver::with_limit(frames);
     take_names(alloc, &mut giver, before, input, source)?;
@@ -141,7 +136,7 @@ pub fn give<S: Source, R: Read, W: Write>(
         (S.layout source.old) (S.cells source.new) []
         input.old input.new output.old output.new result }
     ensures schema { S.layout source.new ≡ S.layout source.old }
-    ensures kept { S.may_become source.old source.new }
+    ensures may_become { S.may_become source.old source.new }
 {
     give_from(alloc, &[], input, output, source, MAX_FRAMES)
 }
@@ -159,7 +154,7 @@ pub fn give_within<S: Source, R: Read, W: Write>(
         (S.layout source.old) (S.cells source.new) []
         input.old input.new output.old output.new result }
     ensures schema { S.layout source.new ≡ S.layout source.old }
-    ensures kept { S.may_become source.old source.new }
+    ensures may_become { S.may_become source.old source.new }
 {
     give_from(alloc, &[], input, output, source, frames)
 }
@@ -176,7 +171,7 @@ pub fn give_after<S: Source, R: Read, W: Write>(
         (S.layout source.old) (S.cells source.new) (first ∷ [])
         input.old input.new output.old output.new result }
     ensures schema { S.layout source.new ≡ S.layout source.old }
-    ensures kept { S.may_become source.old source.new }
+    ensures may_become { S.may_become source.old source.new }
 {
     give_from(alloc, &[first], input, output, source, MAX_FRAMES)
 }
@@ -195,7 +190,7 @@ pub fn give_after_within<S: Source, R: Read, W: Write>(
         (S.layout source.old) (S.cells source.new) (first ∷ [])
         input.old input.new output.old output.new result }
     ensures schema { S.layout source.new ≡ S.layout source.old }
-    ensures kept { S.may_become source.old source.new }
+    ensures may_become { S.may_become source.old source.new }
 {
     give_from(alloc, &[first], input, output, source, frames)
 }

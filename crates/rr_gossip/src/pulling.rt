@@ -1,10 +1,9 @@
 //! A pull over streams.
 ghost use Rattle.std.specs.Prelude.{◌≡◌, ◌≤◌, Err, List, true, IfErr, OnOk, length};
-ghost use Rattle.std.specs.Io.KnownBytes.{Appends, IsAtEnd};
 ghost use Rattle.std.specs.List.{concat};
 ghost use Rattle.rr_cells.specs.CellBounds.{NamedCell};
-ghost use Rattle.rr_io.specs.Counted.{inner_of, failures_of, is_flushed, HasRisen};
-ghost use Rattle.rr_io.specs.Stream.{AppendsPrefix};
+ghost use Rattle.rr_io.specs.Counted.{inner_of, is_flushed};
+ghost use Rattle.rr_io.specs.Stream.{HasFailed, IsReadOut, KeepsFailures, WritesFront, WritesWhole};
 ghost use Rattle.rr_gossip.specs.declared.frame.TheConstants.{MAX_FRAMES};
 ghost use Rattle.rr_gossip.specs.Puller.{first_puller};
 ghost use Rattle.rr_gossip.specs.Calls.{Pulls};
@@ -29,21 +28,18 @@ fn send_names<T: Target, W: Write>(
     target: &T,
 ) -> Result<(), GossipFault>
     requires { puller.old ≡ first_puller puller.old.limit }
-    ensures sent { OnOk result (Appends (W.contents (inner_of output.old))
-        (W.contents (inner_of output.new))
-        (concat (sent_by (T.layout target.now) (T.cells target.now)))) }
-    ensures front { AppendsPrefix (W.contents (inner_of output.old))
-        (W.contents (inner_of output.new))
-        (concat (sent_by (T.layout target.now) (T.cells target.now))) }
+    ensures sent { OnOk result (WritesWhole W.contents output.old output.new (concat (sent_by
+        (T.layout target.now) (T.cells target.now)))) }
+    ensures front { WritesFront W.contents output.old output.new (concat (sent_by (T.layout
+        target.now) (T.cells target.now))) }
     ensures waits { OnOk result (puller.new
         ≡ waiting (length (sent_by (T.layout target.now) (T.cells target.now))) 0
         puller.old.limit) }
     ensures refused { IfErr result (CannotSend puller.old.limit
         (sent_by (T.layout target.now) (T.cells target.now))) }
     ensures flushed { OnOk result (is_flushed output.new ≡ true) }
-    ensures count { failures_of output.old ≤ failures_of output.new }
-    ensures failed { result ≡ Err GossipFault.WriteFailed
-        → HasRisen (failures_of output.old) (failures_of output.new) }
+    ensures failures_never_fall { KeepsFailures output.old output.new }
+    ensures failed { result ≡ Err GossipFault.WriteFailed → HasFailed output.old output.new }
 {
     while let Some(frame) = puller.next_frame(alloc, target)? {
         write_all(output, &frame)?;
@@ -68,10 +64,9 @@ fn take_pages<T: Target, R: Read>(
         × T.has_joined target.old target.new cells
         × HasStoppedPulling (T.layout target.old) puller.old
         (R.remaining (inner_of input.old)) (R.remaining (inner_of input.new)) fault cells) }
-    ensures ended { result ≡ Err GossipFault.Ended → IsAtEnd (R.remaining (inner_of input.new)) }
-    ensures count { failures_of input.old ≤ failures_of input.new }
-    ensures failed { result ≡ Err GossipFault.ReadFailed
-        → HasRisen (failures_of input.old) (failures_of input.new) }
+    ensures ended { result ≡ Err GossipFault.Ended → IsReadOut R.remaining input.new }
+    ensures failures_never_fall { KeepsFailures input.old input.new }
+    ensures failed { result ≡ Err GossipFault.ReadFailed → HasFailed input.old input.new }
 {
     let mut frame = Vec::new(alloc);
     loop {
@@ -93,12 +88,10 @@ fn pull_from<T: Target, R: Read, W: Write>(
 ) -> Result<(), GossipFault>
     requires { frames ≤ MAX_FRAMES }
     // What is sent.
-    ensures sent { OnOk result (Appends (W.contents (inner_of output.old))
-        (W.contents (inner_of output.new))
-        (concat (sent_by (T.layout target.old) (T.cells target.old)))) }
-    ensures front { AppendsPrefix (W.contents (inner_of output.old))
-        (W.contents (inner_of output.new))
-        (concat (sent_by (T.layout target.old) (T.cells target.old))) }
+    ensures sent { OnOk result (WritesWhole W.contents output.old output.new (concat (sent_by
+        (T.layout target.old) (T.cells target.old)))) }
+    ensures front { WritesFront W.contents output.old output.new (concat (sent_by (T.layout
+        target.old) (T.cells target.old))) }
     ensures flushed { OnOk result (is_flushed output.new ≡ true) }
 
     // What is read, and which cells are joined, one by one and in order.
@@ -114,13 +107,11 @@ fn pull_from<T: Target, R: Read, W: Write>(
         (W.contents (inner_of output.old)) (W.contents (inner_of output.new)) fault cells) }
 
     // When a stream is to blame.
-    ensures ended { result ≡ Err GossipFault.Ended → IsAtEnd (R.remaining (inner_of input.new)) }
-    ensures read_failed { result ≡ Err GossipFault.ReadFailed
-        → HasRisen (failures_of input.old) (failures_of input.new) }
-    ensures write_failed { result ≡ Err GossipFault.WriteFailed
-        → HasRisen (failures_of output.old) (failures_of output.new) }
-    ensures read_count { failures_of input.old ≤ failures_of input.new }
-    ensures write_count { failures_of output.old ≤ failures_of output.new }
+    ensures ended { result ≡ Err GossipFault.Ended → IsReadOut R.remaining input.new }
+    ensures read_failed { result ≡ Err GossipFault.ReadFailed → HasFailed input.old input.new }
+    ensures write_failed { result ≡ Err GossipFault.WriteFailed → HasFailed output.old output.new }
+    ensures read_count { KeepsFailures input.old input.new }
+    ensures write_count { KeepsFailures output.old output.new }
 {
     let mut puller = Puller::with_limit(frames);
     send_names(alloc, &mut puller, output, target)?;

@@ -1,8 +1,8 @@
 //! Frames from a reader.
 ghost use Rattle.std.specs.Prelude.{◌≡◌, ◌≤◌, Ok, Err, IfErr, OnOk, List, ℕ, [], drop, length};
 ghost use Rattle.std.specs.Int.{w32};
-ghost use Rattle.std.specs.Io.KnownBytes.{IsAtEnd};
-ghost use Rattle.rr_io.specs.Counted.{inner_of, failures_of, HasRisen};
+ghost use Rattle.rr_io.specs.Counted.{inner_of};
+ghost use Rattle.rr_io.specs.Stream.{HasFailed, IsReadOut, KeepsFailures};
 ghost use Rattle.rr_page.specs.Reading.{number_at};
 ghost use Rattle.rr_gossip.specs.Stream.{BreaksOff, Grows, IsFrame, ReadsFewer};
 
@@ -35,10 +35,9 @@ fn read_until<R: Read>(
         bytes.old.items read
         × (length read ≤ len)
         × ReadsFewer fault (length read) len) }
-    ensures ended { result ≡ Err GossipFault.Ended → IsAtEnd (R.remaining (inner_of input.new)) }
-    ensures count { failures_of input.old ≤ failures_of input.new }
-    ensures failed { result ≡ Err GossipFault.ReadFailed
-        → HasRisen (failures_of input.old) (failures_of input.new) }
+    ensures ended { result ≡ Err GossipFault.Ended → IsReadOut R.remaining input.new }
+    ensures failures_never_fall { KeepsFailures input.old input.new }
+    ensures failed { result ≡ Err GossipFault.ReadFailed → HasFailed input.old input.new }
 {
     let mut piece = [0u8; PIECE];
     while bytes.len() < len {
@@ -82,10 +81,9 @@ pub(crate) fn read_frame<R: Read>(
         × Grows (R.remaining (inner_of input.old)) (R.remaining (inner_of input.new))
         frame.old.items read
         × BreaksOff read fault) }
-    ensures ended { result ≡ Err GossipFault.Ended → IsAtEnd (R.remaining (inner_of input.new)) }
-    ensures count { failures_of input.old ≤ failures_of input.new }
-    ensures failed { result ≡ Err GossipFault.ReadFailed
-        → HasRisen (failures_of input.old) (failures_of input.new) }
+    ensures ended { result ≡ Err GossipFault.Ended → IsReadOut R.remaining input.new }
+    ensures failures_never_fall { KeepsFailures input.old input.new }
+    ensures failed { result ≡ Err GossipFault.ReadFailed → HasFailed input.old input.new }
 {
     read_until(input, frame, LENGTH_LEN)?;
     let len = content_len(frame);

@@ -1,3 +1,4 @@
 pub mod Counted
 pub mod Stream
 pub mod Fault
+pub mod Failing

@@ -1,6 +1,8 @@
 -- What calls of a stream did, also where one failed.
-use Rattle.std.specs.Prelude.{◌≡◌, ℕ, ◌<◌, ◌≤◌, List, ◌++◌, length, take, Option, None, Some, IfSome, Result, Ok, Err, Bool, false, not, ◌&&◌, ◌==◌}
+use Rattle.std.specs.Prelude.{◌≡◌, ℕ, ◌<◌, ◌≤◌, List, ◌++◌, ◌+◌, length, take, Option, None, Some, IfSome, Result, Ok, Err, Bool, false, not, ◌&&◌, ◌==◌}
 use Rattle.std.specs.Io.KnownBytes.{Appends, Consumes, IsAtEnd, Keeps}
+use Rattle.rr_io.specs.declared.counted.Counted.{Counted}
+use Rattle.rr_io.specs.Counted.{inner_of, failures_of, reads_of, HasRisen, HasRisenBy}
 
 -- where the bytes of a writer are known, a front of the text was written after them, and nothing else
 abbrev pub AppendsPrefix : Option (List ℕ) → Option (List ℕ) → List ℕ → Type 0
@@ -37,3 +39,41 @@ ReadsOnce old new (Ok (Some given)) buf =
     (given ≤ length buf) × Consumes old new (take given buf) × (given ≡ 0 → 0 < length buf → IsAtEnd new)
 ReadsOnce old new (Ok None) buf = Keeps old new
 ReadsOnce old new (Err fault) buf = Keeps old new
+
+-- ---- what was done with a counted reader or writer, from an old state to a new one
+
+-- a text was written after what was there
+abbrev pub WritesWhole : {W : Type 0} → (W → Option (List ℕ)) → Counted W → Counted W → List ℕ → Type 0
+WritesWhole contents old new text = Appends (contents (inner_of old)) (contents (inner_of new)) text
+
+-- a front of a text was, and nothing else
+abbrev pub WritesFront : {W : Type 0} → (W → Option (List ℕ)) → Counted W → Counted W → List ℕ → Type 0
+WritesFront contents old new text = AppendsPrefix (contents (inner_of old)) (contents (inner_of new)) text
+
+-- some bytes were taken, or none
+abbrev pub ReadsSome : {R : Type 0} → (R → Option (List ℕ)) → Counted R → Counted R → Type 0
+ReadsSome remaining old new = ConsumesSome (remaining (inner_of old)) (remaining (inner_of new))
+
+-- at most so many bytes were
+abbrev pub ReadsUpTo : {R : Type 0} → ℕ → (R → Option (List ℕ)) → Counted R → Counted R → Type 0
+ReadsUpTo n remaining old new = TakesAtMost n (remaining (inner_of old)) (remaining (inner_of new))
+
+-- all its bytes were
+abbrev pub IsReadOut : {R : Type 0} → (R → Option (List ℕ)) → Counted R → Type 0
+IsReadOut remaining new = IsAtEnd (remaining (inner_of new))
+
+-- a call failed, as far as the count can tell
+abbrev pub HasFailed : {S : Type 0} → Counted S → Counted S → Type 0
+HasFailed old new = HasRisen (failures_of old) (failures_of new)
+
+-- no failure is forgotten
+abbrev pub KeepsFailures : {S : Type 0} → Counted S → Counted S → Type 0
+KeepsFailures old new = failures_of old ≤ failures_of new
+
+-- it was read this often, as far as the count can tell
+abbrev pub HasReads : {R : Type 0} → ℕ → Counted R → Counted R → Type 0
+HasReads n old new = HasRisenBy n (reads_of old) (reads_of new)
+
+-- it was read no more often than this
+abbrev pub HasFewReads : {R : Type 0} → ℕ → Counted R → Counted R → Type 0
+HasFewReads n old new = reads_of new ≤ reads_of old + n

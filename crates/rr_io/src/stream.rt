@@ -10,10 +10,10 @@
 
 ghost use Rattle.std.specs.Prelude.{◌≡◌, ◌<◌, ◌≤◌, ◌+◌, ◌++◌, Ok, Err, None, Some, length, take, true, IfSome, IfOk, OnOk, OnErr, if◌then◌else◌};
 ghost use Rattle.std.specs.Io.{ReadsAtMost, WritesAtMost};
-ghost use Rattle.std.specs.Io.KnownBytes.{Appends, Consumes, IsAtEnd, Keeps, ReadConsumes, WriteAppends};
-ghost use Rattle.rr_io.specs.Counted.{inner_of, failures_of, reads_of, ends_of, is_flushed, one_more, HasRisen, HasRisenBy};
+ghost use Rattle.std.specs.Io.KnownBytes.{Consumes, Keeps, ReadConsumes, WriteAppends};
+ghost use Rattle.rr_io.specs.Counted.{inner_of, reads_of, ends_of, is_flushed, one_more};
 ghost use Rattle.rr_text.specs.declared.limits.TheConstants.{MAX_READS};
-ghost use Rattle.rr_io.specs.Stream.{AddsFront, AppendsPrefix, ConsumesSome, ReadsOnce, TakesAtMost, TakesMore, tells_end};
+ghost use Rattle.rr_io.specs.Stream.{AddsFront, HasFailed, HasFewReads, HasReads, IsReadOut, KeepsFailures, ReadsOnce, ReadsSome, ReadsUpTo, TakesMore, WritesFront, WritesWhole, tells_end};
 
 use crate::counted::Counted;
 use rr_text::limits::MAX_READS;
@@ -50,10 +50,9 @@ pub fn read_once<R: Read>(
     ensures reads { reads_of input.new ≡ one_more (reads_of input.old) }
     ensures ends { ends_of input.new ≡ (if tells_end result (length buf.new)
         then one_more (ends_of input.old) else ends_of input.old) }
-    ensures count { failures_of input.old ≤ failures_of input.new }
-    ensures interrupted { result ≡ Ok None
-        → HasRisen (failures_of input.old) (failures_of input.new) }
-    ensures failed { OnErr result (HasRisen (failures_of input.old) (failures_of input.new)) }
+    ensures failures_never_fall { KeepsFailures input.old input.new }
+    ensures interrupted { result ≡ Ok None → HasFailed input.old input.new }
+    ensures failed { OnErr result (HasFailed input.old input.new) }
 {
     match input.read(buf) {
         Ok(given) => Ok(Some(given)),
@@ -72,8 +71,8 @@ pub fn read_some<R: Read>(input: &mut Counted<R>, buf: &mut [u8]) -> Result<usiz
     ensures bound { ReadsAtMost result buf.new }
     ensures bytes { ReadConsumes (R.remaining (inner_of input.old))
         (R.remaining (inner_of input.new)) result buf.new }
-    ensures count { failures_of input.old ≤ failures_of input.new }
-    ensures failed { OnErr result (HasRisen (failures_of input.old) (failures_of input.new)) }
+    ensures failures_never_fall { KeepsFailures input.old input.new }
+    ensures failed { OnErr result (HasFailed input.old input.new) }
 {
     for _ in 0..MAX_INTERRUPTS {
         if let Some(given) = read_once(input, buf)? {
@@ -90,13 +89,11 @@ pub fn fill<R: Read>(input: &mut Counted<R>, buf: &mut [u8]) -> Result<usize, Re
     ensures bytes { IfOk result (λ filled. Consumes (R.remaining (inner_of input.old))
         (R.remaining (inner_of input.new)) (take filled buf.new)) }
     ensures end { IfOk result (λ filled. filled < length buf.new
-        → IsAtEnd (R.remaining (inner_of input.new))) }
-    ensures front { ConsumesSome (R.remaining (inner_of input.old))
-        (R.remaining (inner_of input.new)) }
-    ensures most { TakesAtMost (length buf.new) (R.remaining (inner_of input.old))
-        (R.remaining (inner_of input.new)) }
-    ensures count { failures_of input.old ≤ failures_of input.new }
-    ensures failed { OnErr result (HasRisen (failures_of input.old) (failures_of input.new)) }
+        → IsReadOut R.remaining input.new) }
+    ensures front { ReadsSome R.remaining input.old input.new }
+    ensures most { ReadsUpTo (length buf.new) R.remaining input.old input.new }
+    ensures failures_never_fall { KeepsFailures input.old input.new }
+    ensures failed { OnErr result (HasFailed input.old input.new) }
 {
     let mut filled = 0;
     while filled < buf.len() {
@@ -177,12 +174,11 @@ pub fn read_to_end<R: Read>(input: &mut Counted<R>, bytes: &mut Vec<u8>) -> Resu
     ensures consumed { OnOk result (IfSome (R.remaining (inner_of input.old))
         (Consumes (R.remaining (inner_of input.old)) (R.remaining (inner_of input.new)))) }
     ensures front { AddsFront (R.remaining (inner_of input.old)) bytes.old.items bytes.new.items }
-    ensures count { failures_of input.old ≤ failures_of input.new }
-    ensures failed { result ≡ Err ReadFault.ReadFailed
-        → HasRisen (failures_of input.old) (failures_of input.new) }
-    ensures limit { reads_of input.new ≤ reads_of input.old + MAX_READS }
+    ensures failures_never_fall { KeepsFailures input.old input.new }
+    ensures failed { result ≡ Err ReadFault.ReadFailed → HasFailed input.old input.new }
+    ensures limit { HasFewReads MAX_READS input.old input.new }
     ensures too_many { result ≡ Err ReadFault.TooManyReads
-        → HasRisenBy MAX_READS (reads_of input.old) (reads_of input.new) }
+        → HasReads MAX_READS input.old input.new }
     ensures no_end { result ≡ Err ReadFault.TooManyReads → ends_of input.new ≡ ends_of input.old }
     ensures memory { result ≡ Err ReadFault.Memory → TakesMore (R.remaining (inner_of input.old))
         (R.remaining (inner_of input.new)) bytes.old.items bytes.new.items }
@@ -205,12 +201,10 @@ pub fn read_to_end_within<R: Read>(
     ensures consumed { OnOk result (IfSome (R.remaining (inner_of input.old))
         (Consumes (R.remaining (inner_of input.old)) (R.remaining (inner_of input.new)))) }
     ensures front { AddsFront (R.remaining (inner_of input.old)) bytes.old.items bytes.new.items }
-    ensures count { failures_of input.old ≤ failures_of input.new }
-    ensures failed { result ≡ Err ReadFault.ReadFailed
-        → HasRisen (failures_of input.old) (failures_of input.new) }
-    ensures limit { reads_of input.new ≤ reads_of input.old + reads }
-    ensures too_many { result ≡ Err ReadFault.TooManyReads
-        → HasRisenBy reads (reads_of input.old) (reads_of input.new) }
+    ensures failures_never_fall { KeepsFailures input.old input.new }
+    ensures failed { result ≡ Err ReadFault.ReadFailed → HasFailed input.old input.new }
+    ensures limit { HasFewReads reads input.old input.new }
+    ensures too_many { result ≡ Err ReadFault.TooManyReads → HasReads reads input.old input.new }
     ensures no_end { result ≡ Err ReadFault.TooManyReads → ends_of input.new ≡ ends_of input.old }
     ensures memory { result ≡ Err ReadFault.Memory → TakesMore (R.remaining (inner_of input.old))
         (R.remaining (inner_of input.new)) bytes.old.items bytes.new.items }
@@ -235,8 +229,8 @@ fn write_some<W: Write>(output: &mut Counted<W>, piece: &[u8]) -> Result<usize, 
     ensures bound { WritesAtMost result piece.now }
     ensures bytes { WriteAppends (W.contents (inner_of output.old))
         (W.contents (inner_of output.new)) result piece.now }
-    ensures count { failures_of output.old ≤ failures_of output.new }
-    ensures failed { OnErr result (HasRisen (failures_of output.old) (failures_of output.new)) }
+    ensures failures_never_fall { KeepsFailures output.old output.new }
+    ensures failed { OnErr result (HasFailed output.old output.new) }
 {
     for _ in 0..MAX_INTERRUPTS {
         match output.write(piece) {
@@ -254,12 +248,10 @@ fn write_some<W: Write>(output: &mut Counted<W>, piece: &[u8]) -> Result<usize, 
 
 /// Writes the text whole. Where that fails, a front of it was written.
 pub fn write_all<W: Write>(output: &mut Counted<W>, text: &[u8]) -> Result<(), WriteFailed>
-    ensures whole { OnOk result (Appends (W.contents (inner_of output.old))
-        (W.contents (inner_of output.new)) text.now) }
-    ensures front { AppendsPrefix (W.contents (inner_of output.old))
-        (W.contents (inner_of output.new)) text.now }
-    ensures count { failures_of output.old ≤ failures_of output.new }
-    ensures failed { OnErr result (HasRisen (failures_of output.old) (failures_of output.new)) }
+    ensures whole { OnOk result (WritesWhole W.contents output.old output.new text.now) }
+    ensures front { WritesFront W.contents output.old output.new text.now }
+    ensures failures_never_fall { KeepsFailures output.old output.new }
+    ensures failed { OnErr result (HasFailed output.old output.new) }
 {
     let mut rest = text;
     while !rest.is_empty() {
@@ -273,8 +265,8 @@ pub fn write_all<W: Write>(output: &mut Counted<W>, text: &[u8]) -> Result<(), W
 pub fn flush<W: Write>(output: &mut Counted<W>) -> Result<(), WriteFailed>
     ensures flushed { OnOk result (is_flushed output.new ≡ true) }
     ensures bytes { Keeps (W.contents (inner_of output.old)) (W.contents (inner_of output.new)) }
-    ensures count { failures_of output.old ≤ failures_of output.new }
-    ensures failed { OnErr result (HasRisen (failures_of output.old) (failures_of output.new)) }
+    ensures failures_never_fall { KeepsFailures output.old output.new }
+    ensures failed { OnErr result (HasFailed output.old output.new) }
 {
     for _ in 0..MAX_INTERRUPTS {
         match output.flush() {

@@ -8,7 +8,7 @@ use std::cmp::Ordering;
 
 /// The greater of two values by `cmp`, and `a` on a tie.
 pub fn join_max<T: Copy + Ord>(a: T, b: T) -> T
-    ensures kept { result ≡ (if is_lt (T.cmp a b) then b else a) }
+    ensures greater { result ≡ (if is_lt (T.cmp a b) then b else a) }
     ensures merged { IsAntisymmetric T.cmp → Some result ≡ greater T.cmp (Some a) (Some b) }
 {
     match a.cmp(&b) {

@@ -92,7 +92,7 @@ impl<'l, 'k> KnownLine<'l, 'k> {
 
     /// Whether a field of this front and this key may come after those that were read.
     fn may_precede(&self, front: &[u8], field: &[u8]) -> bool
-        ensures few { OnTrue result (self.now.count < MAX_FIELDS) }
+        ensures fields_fit { OnTrue result (self.now.count < MAX_FIELDS) }
         ensures same { OnTrue result (front.now ≡ self.now.front.now) }
         ensures above { OnTrue result (is_lt (bytes_cmp self.now.field.now field.now) ≡ true) }
     {

@@ -88,7 +88,7 @@ fn read_point<'a>(
     precision: Precision,
 ) -> Result<Point<'a>, LineFault>
     requires one_line { HasNoLineFeed text.now }
-    requires said { is_nothing text.now ≡ false }
+    requires says_something { is_nothing text.now ≡ false }
     ensures read { GivesUnless LineFault.Memory point_view result (point_at precision text.now) }
     ensures memory { NeedsMemoryAfter LineFault.Memory
         (name_at Measurement NoMeasurement text.now) result }

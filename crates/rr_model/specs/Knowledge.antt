@@ -52,7 +52,7 @@ cells_where s k test = retain_keys (live s k) (λ m. test (name_of s m))
 abbrev pub cells_named : Layout → Knowledge → List CellName → Knowledge
 cells_named s k ns = cells_where s k (λ n. list_any (eq_by_cmp cell_name_cmp n) ns)
 
--- the cells of `count` names from a place on, or of as many as there are
+-- the cells of `count` names from an offset on, or of as many as there are
 abbrev pub part : Layout → Knowledge → ℕ → ℕ → Knowledge
 part s k from count = cells_named s k (take count (drop from (names s k)))
 

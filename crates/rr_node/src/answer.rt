@@ -147,9 +147,9 @@ fn read_next<A: Cells>(
     last: &mut LastTime,
     line: &[u8],
 ) -> Option<(Vec<KeyedValue>, Option<i64>)>
-    ensures said { IfSome result (λ said.
+    ensures samples { IfSome result (λ said.
         SaysSamples precision line.now (map keyed_value said.0.items) said.1) }
-    ensures few { IfSome result (λ said. length said.0.items ≤ MAX_FIELDS) }
+    ensures fields_fit { IfSome result (λ said. length said.0.items ≤ MAX_FIELDS) }
 {
     let mut at = keeper.likely_next();
     let key = keeper.key_at(at)?;

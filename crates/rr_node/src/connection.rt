@@ -1,9 +1,8 @@
 //! Lines of a connection as they come in pieces, handed to the keeper.
 
 ghost use Rattle.std.specs.Prelude.{◌≡◌, ℕ, ◌+◌, ◌*◌, ◌<◌, ◌≤◌, ◌^◌, ℤ, List, Option, true, false, [], ◌++◌, length, Err, IfOk, IfErr, OnOk, OnErr};
-ghost use Rattle.std.specs.Io.KnownBytes.{Appends};
-ghost use Rattle.rr_io.specs.Counted.{inner_of, failures_of, HasRisen};
-ghost use Rattle.rr_io.specs.Stream.{AppendsPrefix};
+ghost use Rattle.rr_io.specs.Counted.{inner_of};
+ghost use Rattle.rr_io.specs.Stream.{HasFailed, KeepsFailures, WritesFront, WritesWhole};
 ghost use Rattle.rr_text.specs.declared.limits.TheConstants.{MAX_FIELDS};
 ghost use Rattle.rr_desk.specs.KeeperState.{KeeperState};
 ghost use Rattle.rr_feed.specs.Feed.{items_left, empty_feed};
@@ -162,18 +161,16 @@ impl Connection {
         clock: &mut C,
         rt: &T,
     ) -> Result<(), NodeFault>
-        ensures served { OnOk result ((moments : List ℤ) × (text : List ℕ)
-            × HasGiven (C.given clock.old) (C.given clock.new) moments
-            × Appends (W.contents (inner_of output.old)) (W.contents (inner_of output.new)) text
-            × ServedItems self.old self.new keeper.old keeper.new moments text) }
+        ensures served { OnOk result ((moments : List ℤ) × (text : List ℕ) × HasGiven (C.given
+            clock.old) (C.given clock.new) moments × WritesWhole W.contents output.old output.new
+            text × ServedItems self.old self.new keeper.old keeper.new moments text) }
         ensures all_taken { OnOk result (items_left self.new.feed ≡ []) }
         ensures stopped { OnErr result ((moments : List ℤ)
             × HasGiven (C.given clock.old) (C.given clock.new) moments
             × StoppedWriting self.old keeper.old keeper.new moments
             (W.contents (inner_of output.old)) (W.contents (inner_of output.new))) }
-        ensures count { failures_of output.old ≤ failures_of output.new }
-        ensures failed { result ≡ Err NodeFault.WriteFailed
-            → HasRisen (failures_of output.old) (failures_of output.new) }
+        ensures failures_never_fall { KeepsFailures output.old output.new }
+        ensures failed { result ≡ Err NodeFault.WriteFailed → HasFailed output.old output.new }
         ensures faults { IfErr result IsOfWriting }
     {
         let mut answers = Vec::new(self.alloc);
@@ -199,9 +196,8 @@ impl Connection {
             × HasGiven (C.given clock.old) (C.given clock.new) moments
             × StoppedAtEnd self.old keeper.old keeper.new moments (W.contents (inner_of output.old))
             (W.contents (inner_of output.new))) }
-        ensures count { failures_of output.old ≤ failures_of output.new }
-        ensures failed { result ≡ Err NodeFault.WriteFailed
-            → HasRisen (failures_of output.old) (failures_of output.new) }
+        ensures failures_never_fall { KeepsFailures output.old output.new }
+        ensures failed { result ≡ Err NodeFault.WriteFailed → HasFailed output.old output.new }
         ensures faults { IfErr result IsOfWriting }
     {
         self.feed.end();
@@ -214,12 +210,10 @@ impl Connection {
 
 /// Writes a text and has the writer pass it on; nothing is done where it is empty.
 fn send<W: Write>(output: &mut Counted<W>, text: &[u8]) -> Result<(), WriteFailed>
-    ensures whole { OnOk result (Appends (W.contents (inner_of output.old))
-        (W.contents (inner_of output.new)) text.now) }
-    ensures front { AppendsPrefix (W.contents (inner_of output.old))
-        (W.contents (inner_of output.new)) text.now }
-    ensures count { failures_of output.old ≤ failures_of output.new }
-    ensures failed { OnErr result (HasRisen (failures_of output.old) (failures_of output.new)) }
+    ensures whole { OnOk result (WritesWhole W.contents output.old output.new text.now) }
+    ensures front { WritesFront W.contents output.old output.new text.now }
+    ensures failures_never_fall { KeepsFailures output.old output.new }
+    ensures failed { OnErr result (HasFailed output.old output.new) }
 {
     if text.is_empty() {
         return Ok(());
@@ -234,13 +228,11 @@ fn send_report<W: Write>(
     output: &mut Counted<W>,
     report: &Report,
 ) -> Result<(), NodeFault>
-    ensures whole { OnOk result (Appends (W.contents (inner_of output.old))
-        (W.contents (inner_of output.new)) (report_text report.now)) }
-    ensures front { AppendsPrefix (W.contents (inner_of output.old))
-        (W.contents (inner_of output.new)) (report_text report.now) }
-    ensures count { failures_of output.old ≤ failures_of output.new }
-    ensures failed { result ≡ Err NodeFault.WriteFailed
-        → HasRisen (failures_of output.old) (failures_of output.new) }
+    ensures whole { OnOk result (WritesWhole W.contents output.old output.new (report_text
+        report.now)) }
+    ensures front { WritesFront W.contents output.old output.new (report_text report.now) }
+    ensures failures_never_fall { KeepsFailures output.old output.new }
+    ensures failed { result ≡ Err NodeFault.WriteFailed → HasFailed output.old output.new }
     ensures faults { IfErr result IsOfWriting }
 {
     let mut text = Vec::new(alloc);

@@ -2,7 +2,8 @@
 
 ghost use Rattle.std.specs.Prelude.{◌≡◌, ◌+◌, ◌≤◌, Err, IfErr, IfOk, OnErr};
 ghost use Rattle.rr_node.specs.Fault.{IsOfLines};
-ghost use Rattle.rr_io.specs.Counted.{inner_of, failures_of, reads_of, HasRisen, HasRisenBy};
+ghost use Rattle.rr_io.specs.Counted.{inner_of};
+ghost use Rattle.rr_io.specs.Stream.{HasFailed, HasFewReads, HasReads};
 ghost use Rattle.rr_text.specs.declared.limits.TheConstants.{MAX_READS};
 ghost use Rattle.rr_node.specs.Lines.{rules_of, HasStopped, IsServed};
 
@@ -71,14 +72,12 @@ pub fn serve_lines<A: Cells, R: Read, W: Write, C: Clock, T: Wait>(
     })) }
 
     // When a stream is to blame.
-    ensures read_failed { result ≡ Err NodeFault.ReadFailed
-        → HasRisen (failures_of input.old) (failures_of input.new) }
+    ensures read_failed { result ≡ Err NodeFault.ReadFailed → HasFailed input.old input.new }
     ensures faults { IfErr result IsOfLines }
-    ensures limit { reads_of input.new ≤ reads_of input.old + MAX_READS }
+    ensures limit { HasFewReads MAX_READS input.old input.new }
     ensures too_many { result ≡ Err NodeFault.TooManyReads
-        → HasRisenBy MAX_READS (reads_of input.old) (reads_of input.new) }
-    ensures write_failed { result ≡ Err NodeFault.WriteFailed
-        → HasRisen (failures_of output.old) (failures_of output.new) }
+        → HasReads MAX_READS input.old input.new }
+    ensures write_failed { result ≡ Err NodeFault.WriteFailed → HasFailed output.old output.new }
 {
     serve_lines_within(
         alloc, input, output, keeper, clock, precision, lead, rt, MAX_READS,
@@ -123,14 +122,11 @@ pub fn serve_lines_within<A: Cells, R: Read, W: Write, C: Clock, T: Wait>(
     })) }
 
     // When a stream is to blame.
-    ensures read_failed { result ≡ Err NodeFault.ReadFailed
-        → HasRisen (failures_of input.old) (failures_of input.new) }
+    ensures read_failed { result ≡ Err NodeFault.ReadFailed → HasFailed input.old input.new }
     ensures faults { IfErr result IsOfLines }
-    ensures limit { reads_of input.new ≤ reads_of input.old + reads }
-    ensures too_many { result ≡ Err NodeFault.TooManyReads
-        → HasRisenBy reads (reads_of input.old) (reads_of input.new) }
-    ensures write_failed { result ≡ Err NodeFault.WriteFailed
-        → HasRisen (failures_of output.old) (failures_of output.new) }
+    ensures limit { HasFewReads reads input.old input.new }
+    ensures too_many { result ≡ Err NodeFault.TooManyReads → HasReads reads input.old input.new }
+    ensures write_failed { result ≡ Err NodeFault.WriteFailed → HasFailed output.old output.new }
 {
     let mut connection = Connection::new(alloc, Rules { precision, lead });
     let mut piece = [0u8; PIECE];

@@ -1,8 +1,8 @@
 //! A pull from a peer, published.
 
 ghost use Rattle.std.specs.Prelude.{◌≡◌, Err, IfErr, OnOk};
-ghost use Rattle.std.specs.Io.KnownBytes.{IsAtEnd};
-ghost use Rattle.rr_io.specs.Counted.{inner_of, failures_of, HasRisen};
+ghost use Rattle.rr_io.specs.Counted.{inner_of};
+ghost use Rattle.rr_io.specs.Stream.{HasFailed, IsReadOut};
 ghost use Rattle.rr_node.specs.Pull.{HasPulledAll, HasStoppedPulling};
 
 use rr_archive::Cells;
@@ -37,11 +37,9 @@ pub fn pull_peer<A: Cells, R: Read, W: Write, T: Wait>(
     ensures same_desk { keeper.new.desk ≡ keeper.old.desk }
 
     // When a stream is to blame.
-    ensures ended { result ≡ Err GossipFault.Ended → IsAtEnd (R.remaining (inner_of input.new)) }
-    ensures read_failed { result ≡ Err GossipFault.ReadFailed
-        → HasRisen (failures_of input.old) (failures_of input.new) }
-    ensures write_failed { result ≡ Err GossipFault.WriteFailed
-        → HasRisen (failures_of output.old) (failures_of output.new) }
+    ensures ended { result ≡ Err GossipFault.Ended → IsReadOut R.remaining input.new }
+    ensures read_failed { result ≡ Err GossipFault.ReadFailed → HasFailed input.old input.new }
+    ensures write_failed { result ≡ Err GossipFault.WriteFailed → HasFailed output.old output.new }
 {
     pull(alloc, input, output, keeper)?;
     keeper.publish(rt)?;

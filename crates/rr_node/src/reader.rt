@@ -1,8 +1,9 @@
 //! The connections of a reader: fetches, or one session in which a peer pulls.
 
 ghost use Rattle.std.specs.Prelude.{◌≡◌, ◌⊎◌, ◌+◌, ◌≤◌, ◌∷◌, ◌++◌, [], false, true, Err, None, IfErr, IfOk, IfSome, OnErr, OnOk, option_to_list};
-ghost use Rattle.std.specs.Io.KnownBytes.{Consumes, IsAtEnd};
-ghost use Rattle.rr_io.specs.Counted.{inner_of, failures_of, reads_of, HasRisen, HasRisenBy};
+ghost use Rattle.std.specs.Io.KnownBytes.{Consumes};
+ghost use Rattle.rr_io.specs.Counted.{inner_of};
+ghost use Rattle.rr_io.specs.Stream.{HasFailed, HasFewReads, HasReads, IsReadOut, KeepsFailures};
 ghost use Rattle.rr_text.specs.declared.limits.TheConstants.{MAX_READS};
 ghost use Rattle.rr_feed.specs.Feed.{items_left};
 ghost use Rattle.rr_gossip.specs.declared.frame.TheConstants.{MAX_FRAMES};
@@ -31,19 +32,16 @@ const PIECE: usize = 65_536;
 fn read_first<R: Read>(input: &mut Counted<R>) -> Result<(Option<u8>, u32), NodeFault>
     ensures bytes { IfOk result (λ first. Consumes (R.remaining (inner_of input.old))
         (R.remaining (inner_of input.new)) (option_to_list first.0)) }
-    ensures end { IfOk result (λ first. first.0 ≡ None
-        → IsAtEnd (R.remaining (inner_of input.new))) }
-    ensures reads { IfOk result (λ first. (first.1 ≤ MAX_READS)
-        × HasRisenBy first.1 (reads_of input.old) (reads_of input.new)
-        × (reads_of input.new ≤ reads_of input.old + first.1)) }
-    ensures limit { reads_of input.new ≤ reads_of input.old + MAX_READS }
+    ensures end { IfOk result (λ first. first.0 ≡ None → IsReadOut R.remaining input.new) }
+    ensures reads { IfOk result (λ first. (first.1 ≤ MAX_READS) × HasReads first.1 input.old
+        input.new × (HasFewReads first.1 input.old input.new)) }
+    ensures limit { HasFewReads MAX_READS input.old input.new }
     ensures faults { IfErr result (λ fault. (fault ≡ NodeFault.ReadFailed)
         ⊎ (fault ≡ NodeFault.TooManyReads)) }
-    ensures count { failures_of input.old ≤ failures_of input.new }
-    ensures failed { result ≡ Err NodeFault.ReadFailed
-        → HasRisen (failures_of input.old) (failures_of input.new) }
+    ensures failures_never_fall { KeepsFailures input.old input.new }
+    ensures failed { result ≡ Err NodeFault.ReadFailed → HasFailed input.old input.new }
     ensures too_many { result ≡ Err NodeFault.TooManyReads
-        → HasRisenBy MAX_READS (reads_of input.old) (reads_of input.new) }
+        → HasReads MAX_READS input.old input.new }
 {
     let mut byte = [0u8; 1];
     for used in 0..MAX_READS {
@@ -79,9 +77,8 @@ fn answer_items<A: Cells, W: Write, G: Gate>(
     ensures part_written { OnErr result (HasWrittenSome feed.old feed.new
         (sight reader.old (G.calls gate.old)) reader.new
         (W.contents (inner_of output.old)) (W.contents (inner_of output.new))) }
-    ensures count { failures_of output.old ≤ failures_of output.new }
-    ensures failed { result ≡ Err NodeFault.WriteFailed
-        → HasRisen (failures_of output.old) (failures_of output.new) }
+    ensures failures_never_fall { KeepsFailures output.old output.new }
+    ensures failed { result ≡ Err NodeFault.WriteFailed → HasFailed output.old output.new }
     ensures faults { IfErr result (λ fault. (fault ≡ NodeFault.WriteFailed)
         ⊎ (fault ≡ NodeFault.Memory)) }
 {
@@ -110,15 +107,12 @@ fn answer_lines<A: Cells, R: Read, W: Write, G: Gate>(
         HasAnsweredSome (first ∷ rest) (sight reader.old (G.calls gate.old)) reader.new
         (W.contents (inner_of output.old)) (W.contents (inner_of output.new)))) }
     ensures seen { HasSeenMore reader.old reader.new }
-    ensures read_failed { result ≡ Err NodeFault.ReadFailed
-        → HasRisen (failures_of input.old) (failures_of input.new) }
-    ensures too_many { result ≡ Err NodeFault.TooManyReads
-        → HasRisenBy reads (reads_of input.old) (reads_of input.new) }
-    ensures write_failed { result ≡ Err NodeFault.WriteFailed
-        → HasRisen (failures_of output.old) (failures_of output.new) }
+    ensures read_failed { result ≡ Err NodeFault.ReadFailed → HasFailed input.old input.new }
+    ensures too_many { result ≡ Err NodeFault.TooManyReads → HasReads reads input.old input.new }
+    ensures write_failed { result ≡ Err NodeFault.WriteFailed → HasFailed output.old output.new }
     ensures faults { IfErr result IsOfLines }
     ensures no_session { IfErr result (λ fault. is_of_session fault ≡ false) }
-    ensures limit { reads_of input.new ≤ reads_of input.old + reads }
+    ensures limit { HasFewReads reads input.old input.new }
 {
     let mut feed = Feed::new(alloc);
     push(&mut feed, &[first])?;
@@ -153,10 +147,10 @@ fn give_session<A: Cells, R: Read, W: Write>(
         (W.contents (inner_of output.old)) (W.contents (inner_of output.new))) }
     ensures seen { HasSeenMore reader.old reader.new }
     ensures faults { IfErr result IsOfSession }
-    ensures read_failed { result ≡ Err (NodeFault.Session GossipFault.ReadFailed)
-        → HasRisen (failures_of input.old) (failures_of input.new) }
-    ensures write_failed { result ≡ Err (NodeFault.Session GossipFault.WriteFailed)
-        → HasRisen (failures_of output.old) (failures_of output.new) }
+    ensures read_failed { result ≡ Err (NodeFault.Session GossipFault.ReadFailed) → HasFailed
+        input.old input.new }
+    ensures write_failed { result ≡ Err (NodeFault.Session GossipFault.WriteFailed) → HasFailed
+        output.old output.new }
 {
     give_after(alloc, 0, input, output, reader)?;
     Ok(())
@@ -190,21 +184,19 @@ pub fn serve_reader<A: Cells, R: Read, W: Write, G: Gate>(
         (sight reader.old (G.calls gate.old)) (sight reader.new (G.calls gate.new)) }
 
     // Within which reads lines are answered.
-    ensures limit { IfSome (R.remaining (inner_of input.old)) (λ bytes. is_pull bytes ≡ false
-        → reads_of input.new ≤ reads_of input.old + MAX_READS) }
+    ensures limit { IfSome (R.remaining (inner_of input.old)) (λ bytes. is_pull bytes ≡ false →
+        HasFewReads MAX_READS input.old input.new) }
 
     // When a stream is to blame.
     ensures faults { IfErr result IsOfReader }
-    ensures read_failed { result ≡ Err NodeFault.ReadFailed
-        → HasRisen (failures_of input.old) (failures_of input.new) }
+    ensures read_failed { result ≡ Err NodeFault.ReadFailed → HasFailed input.old input.new }
     ensures too_many { result ≡ Err NodeFault.TooManyReads
-        → HasRisenBy MAX_READS (reads_of input.old) (reads_of input.new) }
-    ensures write_failed { result ≡ Err NodeFault.WriteFailed
-        → HasRisen (failures_of output.old) (failures_of output.new) }
-    ensures session_read_failed { result ≡ Err (NodeFault.Session GossipFault.ReadFailed)
-        → HasRisen (failures_of input.old) (failures_of input.new) }
-    ensures session_write_failed { result ≡ Err (NodeFault.Session GossipFault.WriteFailed)
-        → HasRisen (failures_of output.old) (failures_of output.new) }
+        → HasReads MAX_READS input.old input.new }
+    ensures write_failed { result ≡ Err NodeFault.WriteFailed → HasFailed output.old output.new }
+    ensures session_read_failed { result ≡ Err (NodeFault.Session GossipFault.ReadFailed) →
+        HasFailed input.old input.new }
+    ensures session_write_failed { result ≡ Err (NodeFault.Session GossipFault.WriteFailed) →
+        HasFailed output.old output.new }
 {
     let (first, used) = read_first(input)?;
     match first {

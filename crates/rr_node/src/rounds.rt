@@ -62,7 +62,7 @@ pub fn keep_or_halt<A: Cells, V: Visits, D: Dial, S: Shelf, H: Halt, C: Clock, T
     config: &Config,
     rt: &T,
 ) -> Result<(), NodeFault>
-    ensures kept { HasKept config.now (is_ok result) (V.calls lines.old) (V.calls lines.new)
+    ensures rounds { HasKept config.now (is_ok result) (V.calls lines.old) (V.calls lines.new)
         (D.calls dial.old) (D.calls dial.new) (S.calls shelf.old) (S.calls shelf.new)
         (post keeper.old (C.given clock.old)) (post keeper.new (C.given clock.new)) }
     ensures halted { Grows (H.calls halt.old) (H.calls halt.new) (halts (is_ok result)) }

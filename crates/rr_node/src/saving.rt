@@ -13,7 +13,7 @@ use std::alloc::{AllocError, Global};
 
 /// Tells the shelf that a save failed, unless memory ran out.
 fn tell<S: Shelf>(shelf: &mut S, saved: Result<(), SaveFault>) -> Result<(), AllocError>
-    ensures told { Grows (S.calls shelf.old) (S.calls shelf.new) (told_of_save saved) }
+    ensures reported { Grows (S.calls shelf.old) (S.calls shelf.new) (told_of_save saved) }
     ensures memory { is_ok result ≡ sufficed saved }
 {
     match saved {

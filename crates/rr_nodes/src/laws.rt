@@ -21,7 +21,7 @@ pub fn nodes_answer_from_samples()
 /// has all marks of its own origin, whose next number is past them. Only deeds write, so within the
 /// limits all that is held are cells of the schema.
 pub fn premises_are_kept()
-    ensures kept { PremisesAreKept }
+    ensures premises { PremisesAreKept }
     ensures of_schema { HeldAreOfTheSchema }
 {}
 

@@ -103,7 +103,7 @@ impl Block {
     /// have no entry.
     pub(crate) fn rows_on(&self, number: u32) -> u32
         requires { number < 64 }
-        ensures some { 1 ≤ result }
+        ensures at_least_one { 1 ≤ result }
         ensures within { number + result ≤ 64 }
         ensures empty { (i : ℕ) → 1 ≤ i → i < result → items_in self.now (number + i) ≡ [] }
     {
@@ -135,7 +135,7 @@ impl Block {
         ensures spare { OnOk result (entries_read self.new.source (item_in self.new.readings number)
             ≡ [] ⊎ IsTrue (is_some (item_in self.new.rows number))) }
         ensures room { (origin : ℕ) → IsTrue (has_room_in self.old number origin) → IsOk result }
-        ensures kept { (origin : ℕ) → IsTrue (has_room_in self.old number origin)
+        ensures rows_stay { (origin : ℕ) → IsTrue (has_room_in self.old number origin)
             → self.new.rows ≡ self.old.rows }
     {
         if self.has_entries(number) {
@@ -153,7 +153,7 @@ impl Block {
         ensures same { items_in self.new ≡ items_in self.old }
         ensures unpacked { OnOk result (place_at self.new.readings.mask number ≡ None) }
         ensures room { (origin : ℕ) → IsTrue (has_room_in self.old number origin) → IsOk result }
-        ensures kept { (origin : ℕ) → IsTrue (has_room_in self.old number origin)
+        ensures room_stays { (origin : ℕ) → IsTrue (has_room_in self.old number origin)
             → IsTrue (has_room_in self.new number origin) }
     {
         self.add_entries(number)?;
@@ -175,7 +175,7 @@ impl Block {
         requires { number < 64 }
         ensures same { items_in self.new ≡ items_in self.old }
         ensures room { OnOk result (IsTrue (has_room_in self.new number origin)) }
-        ensures kept { IsTrue (has_room_in self.old number origin) → IsOk result }
+        ensures room_suffices { IsTrue (has_room_in self.old number origin) → IsOk result }
     {
         if self.is_free(number) {
             return self.make_free_room(number);
@@ -189,7 +189,7 @@ impl Block {
         requires rows { place_at self.old.rows.mask number ≡ None }
         ensures same { items_in self.new ≡ items_in self.old }
         ensures room { (origin : ℕ) → OnOk result (IsTrue (has_room_in self.new number origin)) }
-        ensures kept { (origin : ℕ) → IsTrue (has_room_in self.old number origin) → IsOk result }
+        ensures room_suffices { (origin : ℕ) → IsTrue (has_room_in self.old number origin) → IsOk result }
     {
         self.readings.make_room()?;
         self.rows.make_room()
@@ -200,7 +200,7 @@ impl Block {
         requires { number < 64 }
         ensures same { items_in self.new ≡ items_in self.old }
         ensures room { OnOk result (IsTrue (has_room_in self.new number origin)) }
-        ensures kept { IsTrue (has_room_in self.old number origin) → IsOk result }
+        ensures room_suffices { IsTrue (has_room_in self.old number origin) → IsOk result }
     {
         self.unpack(number)?;
         if let Some(at) = self.rows.find(number) {

@@ -174,7 +174,7 @@ impl Blocks {
     /// those between. A block that isn't there is passed over in one step.
     pub(crate) fn slots_on(&self, slot: i64, most: u32) -> u32
         requires { 1 ≤ most }
-        ensures some { 1 ≤ result }
+        ensures at_least_one { 1 ≤ result }
         ensures at_most { result ≤ most }
         ensures empty { (i : ℕ) → 1 ≤ i → i < result → row_at self.now (slot +ℤ pos i) ≡ [] }
     {
@@ -190,7 +190,7 @@ impl Blocks {
     pub(crate) fn make_room(&mut self, slot: i64, origin: Origin) -> Result<(), AllocError>
         ensures same { row_at self.new ≡ row_at self.old }
         ensures room { OnOk result (IsTrue (has_room_at self.new slot origin)) }
-        ensures kept { IsTrue (has_room_at self.old slot origin) → IsOk result }
+        ensures room_suffices { IsTrue (has_room_at self.old slot origin) → IsOk result }
     {
         let number = block_of(slot);
         let row = row_of(slot);
@@ -205,7 +205,7 @@ impl Blocks {
         requires { IsGapFor (block_of slot) self.old.blocks.items at }
         ensures same { row_at self.new ≡ row_at self.old }
         ensures room { OnOk result (IsTrue (has_room_at self.new slot origin)) }
-        ensures kept { IsTrue (has_room_at self.old slot origin) → IsOk result }
+        ensures room_suffices { IsTrue (has_room_at self.old slot origin) → IsOk result }
     {
         let number = block_of(slot);
         let row = row_of(slot);

@@ -94,7 +94,7 @@ impl HeldBlock {
     /// As `Block::rows_on`.
     pub(crate) fn rows_on(&self, number: u32) -> u32
         requires { number < 64 }
-        ensures some { 1 ≤ result }
+        ensures at_least_one { 1 ≤ result }
         ensures within { number + result ≤ 64 }
         ensures empty { (i : ℕ) → 1 ≤ i → i < result → stored_in self.now (number + i) ≡ [] }
     {
@@ -111,7 +111,7 @@ impl HeldBlock {
         requires { number < 64 }
         ensures same { stored_in self.new ≡ stored_in self.old }
         ensures room { OnOk result (IsTrue (has_room_held self.new number origin)) }
-        ensures kept { IsTrue (has_room_held self.old number origin) → IsOk result }
+        ensures room_suffices { IsTrue (has_room_held self.old number origin) → IsOk result }
     {
         match self {
             HeldBlock::Own(block) => block.make_room(number, origin),

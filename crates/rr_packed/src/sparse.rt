@@ -97,7 +97,7 @@ impl<T: Drop> Sparse<T> {
         ensures mask { self.new.mask ≡ self.old.mask }
         ensures items { self.new.items.items ≡ self.old.items.items }
         ensures room { OnOk result (IsTrue (has_room self.new)) }
-        ensures kept { IsTrue (has_room self.old) → IsOk result }
+        ensures room_suffices { IsTrue (has_room self.old) → IsOk result }
     {
         if self.has_room() {
             return Ok(());

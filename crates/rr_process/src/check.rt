@@ -1,9 +1,8 @@
 //! Lines from a reader, reported to a writer.
 
 ghost use Rattle.std.specs.Prelude.{◌≡◌, ◌+◌, ◌≤◌, Err, true, IfSome, IfOk, OnOk};
-ghost use Rattle.std.specs.Io.KnownBytes.{Appends};
-ghost use Rattle.rr_io.specs.Counted.{inner_of, failures_of, reads_of, ends_of, is_flushed, HasRisen, HasRisenBy};
-ghost use Rattle.rr_io.specs.Stream.{AppendsPrefix};
+ghost use Rattle.rr_io.specs.Counted.{inner_of, ends_of, is_flushed};
+ghost use Rattle.rr_io.specs.Stream.{HasFailed, HasFewReads, HasReads, WritesFront, WritesWhole};
 ghost use Rattle.rr_text.specs.declared.limits.TheConstants.{MAX_READS};
 ghost use Rattle.rr_process.specs.Report.{refused_count, report_of};
 
@@ -37,27 +36,23 @@ pub fn check_lines<R: Read, W: Write>(
     precision: Precision,
     now: i64,
 ) -> Result<u64, ToolFault>
-    ensures reported { OnOk result (IfSome (R.remaining (inner_of input.old))
-        (λ bytes. Appends (W.contents (inner_of output.old)) (W.contents (inner_of output.new))
-        (report_of precision now bytes))) }
+    ensures reported { OnOk result (IfSome (R.remaining (inner_of input.old)) (λ bytes. WritesWhole
+        W.contents output.old output.new (report_of precision now bytes))) }
     ensures refused { IfOk result (λ refused. IfSome (R.remaining (inner_of input.old))
         (λ bytes. refused ≡ refused_count precision bytes)) }
     ensures flushed { OnOk result (is_flushed output.new ≡ true) }
 
     // What is written however the call ends.
-    ensures front { IfSome (R.remaining (inner_of input.old))
-        (λ bytes. AppendsPrefix (W.contents (inner_of output.old))
-        (W.contents (inner_of output.new)) (report_of precision now bytes)) }
+    ensures front { IfSome (R.remaining (inner_of input.old)) (λ bytes. WritesFront W.contents
+        output.old output.new (report_of precision now bytes)) }
 
     // When a stream is to blame.
-    ensures read_failed { result ≡ Err ToolFault.ReadFailed
-        → HasRisen (failures_of input.old) (failures_of input.new) }
-    ensures limit { reads_of input.new ≤ reads_of input.old + MAX_READS }
+    ensures read_failed { result ≡ Err ToolFault.ReadFailed → HasFailed input.old input.new }
+    ensures limit { HasFewReads MAX_READS input.old input.new }
     ensures too_many { result ≡ Err ToolFault.TooManyReads
-        → HasRisenBy MAX_READS (reads_of input.old) (reads_of input.new) }
+        → HasReads MAX_READS input.old input.new }
     ensures no_end { result ≡ Err ToolFault.TooManyReads → ends_of input.new ≡ ends_of input.old }
-    ensures write_failed { result ≡ Err ToolFault.WriteFailed
-        → HasRisen (failures_of output.old) (failures_of output.new) }
+    ensures write_failed { result ≡ Err ToolFault.WriteFailed → HasFailed output.old output.new }
 {
     check_lines_within(alloc, input, output, precision, now, MAX_READS)
 }
@@ -75,27 +70,22 @@ pub fn check_lines_within<R: Read, W: Write>(
     now: i64,
     reads: u32,
 ) -> Result<u64, ToolFault>
-    ensures reported { OnOk result (IfSome (R.remaining (inner_of input.old))
-        (λ bytes. Appends (W.contents (inner_of output.old)) (W.contents (inner_of output.new))
-        (report_of precision now bytes))) }
+    ensures reported { OnOk result (IfSome (R.remaining (inner_of input.old)) (λ bytes. WritesWhole
+        W.contents output.old output.new (report_of precision now bytes))) }
     ensures refused { IfOk result (λ refused. IfSome (R.remaining (inner_of input.old))
         (λ bytes. refused ≡ refused_count precision bytes)) }
     ensures flushed { OnOk result (is_flushed output.new ≡ true) }
 
     // What is written however the call ends.
-    ensures front { IfSome (R.remaining (inner_of input.old))
-        (λ bytes. AppendsPrefix (W.contents (inner_of output.old))
-        (W.contents (inner_of output.new)) (report_of precision now bytes)) }
+    ensures front { IfSome (R.remaining (inner_of input.old)) (λ bytes. WritesFront W.contents
+        output.old output.new (report_of precision now bytes)) }
 
     // When a stream is to blame.
-    ensures read_failed { result ≡ Err ToolFault.ReadFailed
-        → HasRisen (failures_of input.old) (failures_of input.new) }
-    ensures limit { reads_of input.new ≤ reads_of input.old + reads }
-    ensures too_many { result ≡ Err ToolFault.TooManyReads
-        → HasRisenBy reads (reads_of input.old) (reads_of input.new) }
+    ensures read_failed { result ≡ Err ToolFault.ReadFailed → HasFailed input.old input.new }
+    ensures limit { HasFewReads reads input.old input.new }
+    ensures too_many { result ≡ Err ToolFault.TooManyReads → HasReads reads input.old input.new }
     ensures no_end { result ≡ Err ToolFault.TooManyReads → ends_of input.new ≡ ends_of input.old }
-    ensures write_failed { result ≡ Err ToolFault.WriteFailed
-        → HasRisen (failures_of output.old) (failures_of output.new) }
+    ensures write_failed { result ≡ Err ToolFault.WriteFailed → HasFailed output.old output.new }
 {
     let mut checker = Checker::new(alloc, precision, now);
     let mut piece = [0u8; PIECE];

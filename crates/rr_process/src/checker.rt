@@ -2,8 +2,8 @@
 
 ghost use Rattle.std.specs.Prelude.{◌≡◌, ◌⊎◌, ◌+◌, ◌*◌, ◌<◌, ◌≤◌, ◌^◌, ◌++◌, ℕ, List, Option, true, false, [], Err, length, IfOk, IfErr, OnOk};
 ghost use Rattle.std.specs.Io.KnownBytes.{Appends};
-ghost use Rattle.rr_io.specs.Counted.{inner_of, failures_of, is_flushed, HasRisen};
-ghost use Rattle.rr_io.specs.Stream.{AppendsPrefix};
+ghost use Rattle.rr_io.specs.Counted.{inner_of, is_flushed};
+ghost use Rattle.rr_io.specs.Stream.{AppendsPrefix, HasFailed, KeepsFailures, WritesWhole};
 ghost use Rattle.rr_feed.specs.Feed.{items_left, empty_feed, MayCome};
 ghost use Rattle.rr_process.specs.declared.check.TheConstants.{PIECE};
 ghost use Rattle.rr_process.specs.Report.{refused_count, report_of};
@@ -105,8 +105,8 @@ impl Checker {
 
     /// Writes the report of the items that can be handed out.
     pub(crate) fn write_items<W: Write>(&mut self, output: &mut Counted<W>) -> Result<(), ToolFault>
-        ensures reported { OnOk result ((text : List ℕ) × Reports self.old self.new text
-            × Appends (W.contents (inner_of output.old)) (W.contents (inner_of output.new)) text) }
+        ensures reported { OnOk result ((text : List ℕ) × Reports self.old self.new text ×
+            WritesWhole W.contents output.old output.new text) }
         ensures all_taken { OnOk result (items_left self.new.feed ≡ []) }
         ensures front { (pushed before more : List ℕ) (start : Option (List ℕ))
             → HasReported self.old pushed before
@@ -114,9 +114,8 @@ impl Checker {
             → MayCome self.old.feed more true
             → AppendsPrefix start (W.contents (inner_of output.new))
             (report_of self.old.precision self.old.now (pushed ++ more)) }
-        ensures count { failures_of output.old ≤ failures_of output.new }
-        ensures failed { result ≡ Err ToolFault.WriteFailed
-            → HasRisen (failures_of output.old) (failures_of output.new) }
+        ensures failures_never_fall { KeepsFailures output.old output.new }
+        ensures failed { result ≡ Err ToolFault.WriteFailed → HasFailed output.old output.new }
         ensures faults { IfErr result (λ fault. (fault ≡ ToolFault.WriteFailed)
             ⊎ (fault ≡ ToolFault.Memory)) }
     {
@@ -142,9 +141,8 @@ impl Checker {
             → AppendsPrefix start (W.contents (inner_of output.new))
             (report_of self.old.precision self.old.now pushed) }
         ensures flushed { OnOk result (is_flushed output.new ≡ true) }
-        ensures count { failures_of output.old ≤ failures_of output.new }
-        ensures failed { result ≡ Err ToolFault.WriteFailed
-            → HasRisen (failures_of output.old) (failures_of output.new) }
+        ensures failures_never_fall { KeepsFailures output.old output.new }
+        ensures failed { result ≡ Err ToolFault.WriteFailed → HasFailed output.old output.new }
         ensures faults { IfErr result (λ fault. (fault ≡ ToolFault.WriteFailed)
             ⊎ (fault ≡ ToolFault.Memory)) }
     {

@@ -1,9 +1,8 @@
 //! An order, obeyed over two streams.
 
 ghost use Rattle.std.specs.Prelude.{◌≡◌, ◌+◌, ◌≤◌, Err, IfSome, IfOk, OnOk};
-ghost use Rattle.std.specs.Io.KnownBytes.{Appends};
-ghost use Rattle.rr_io.specs.Counted.{inner_of, failures_of, reads_of, ends_of, HasRisen, HasRisenBy};
-ghost use Rattle.rr_io.specs.Stream.{AppendsPrefix};
+ghost use Rattle.rr_io.specs.Counted.{inner_of, ends_of};
+ghost use Rattle.rr_io.specs.Stream.{HasFailed, HasFewReads, HasReads, WritesFront, WritesWhole};
 ghost use Rattle.rr_text.specs.declared.limits.TheConstants.{MAX_READS};
 ghost use Rattle.rr_process.specs.Orders.{ending_of, printed_for};
 ghost use Rattle.rr_words.specs.Words.{asked_by};
@@ -28,26 +27,22 @@ pub fn obey_order<R: Read, W: Write>(
     input: &mut Counted<R>,
     output: &mut Counted<W>,
 ) -> Result<Ending, ToolFault>
-    ensures printed { OnOk result (IfSome (R.remaining (inner_of input.old))
-        (λ bytes. Appends (W.contents (inner_of output.old)) (W.contents (inner_of output.new))
-        (printed_for (asked_by order.now) bytes))) }
+    ensures printed { OnOk result (IfSome (R.remaining (inner_of input.old)) (λ bytes. WritesWhole
+        W.contents output.old output.new (printed_for (asked_by order.now) bytes))) }
     ensures ending { IfOk result (λ ending. IfSome (R.remaining (inner_of input.old))
         (λ bytes. ending ≡ ending_of (asked_by order.now) bytes)) }
 
     // What is written however the run ends.
-    ensures front { IfSome (R.remaining (inner_of input.old))
-        (λ bytes. AppendsPrefix (W.contents (inner_of output.old))
-        (W.contents (inner_of output.new)) (printed_for (asked_by order.now) bytes)) }
+    ensures front { IfSome (R.remaining (inner_of input.old)) (λ bytes. WritesFront W.contents
+        output.old output.new (printed_for (asked_by order.now) bytes)) }
 
     // When a stream is to blame.
-    ensures read_failed { result ≡ Err ToolFault.ReadFailed
-        → HasRisen (failures_of input.old) (failures_of input.new) }
-    ensures limit { reads_of input.new ≤ reads_of input.old + MAX_READS }
+    ensures read_failed { result ≡ Err ToolFault.ReadFailed → HasFailed input.old input.new }
+    ensures limit { HasFewReads MAX_READS input.old input.new }
     ensures too_many { result ≡ Err ToolFault.TooManyReads
-        → HasRisenBy MAX_READS (reads_of input.old) (reads_of input.new) }
+        → HasReads MAX_READS input.old input.new }
     ensures no_end { result ≡ Err ToolFault.TooManyReads → ends_of input.new ≡ ends_of input.old }
-    ensures write_failed { result ≡ Err ToolFault.WriteFailed
-        → HasRisen (failures_of output.old) (failures_of output.new) }
+    ensures write_failed { result ≡ Err ToolFault.WriteFailed → HasFailed output.old output.new }
 {
     match order {
         Order::Sim { file: _ } => {

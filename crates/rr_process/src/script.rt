@@ -1,9 +1,8 @@
 //! A script, from a reader's bytes to a writer's.
 
 ghost use Rattle.std.specs.Prelude.{◌≡◌, ◌≢◌, ◌+◌, ◌≤◌, Err, true, IfSome, OnOk, IfErr};
-ghost use Rattle.std.specs.Io.KnownBytes.{Appends};
-ghost use Rattle.rr_io.specs.Counted.{inner_of, failures_of, reads_of, ends_of, is_flushed, HasRisen, HasRisenBy};
-ghost use Rattle.rr_io.specs.Stream.{AppendsPrefix};
+ghost use Rattle.rr_io.specs.Counted.{inner_of, ends_of, is_flushed};
+ghost use Rattle.rr_io.specs.Stream.{HasFailed, HasFewReads, HasReads, WritesFront, WritesWhole};
 ghost use Rattle.rr_cluster.specs.Model.{sample_model};
 ghost use Rattle.rr_cluster.specs.Output.{output_of};
 ghost use Rattle.rr_text.specs.declared.limits.TheConstants.{MAX_READS};
@@ -23,27 +22,23 @@ pub fn run_script<R: Read, W: Write>(
     input: &mut Counted<R>,
     output: &mut Counted<W>,
 ) -> Result<(), ToolFault>
-    ensures done { OnOk result (IfSome (R.remaining (inner_of input.old))
-        (λ script. Appends (W.contents (inner_of output.old)) (W.contents (inner_of output.new))
-        (output_of sample_model script))) }
+    ensures done { OnOk result (IfSome (R.remaining (inner_of input.old)) (λ script. WritesWhole
+        W.contents output.old output.new (output_of sample_model script))) }
     ensures flushed { OnOk result (is_flushed output.new ≡ true) }
 
     // What is written after a fault.
     ensures unwritten { IfErr result (λ fault. fault ≢ ToolFault.WriteFailed
         → output.new ≡ output.old) }
-    ensures front { IfSome (R.remaining (inner_of input.old))
-        (λ script. AppendsPrefix (W.contents (inner_of output.old))
-        (W.contents (inner_of output.new)) (output_of sample_model script)) }
+    ensures front { IfSome (R.remaining (inner_of input.old)) (λ script. WritesFront W.contents
+        output.old output.new (output_of sample_model script)) }
 
     // When a stream is to blame.
-    ensures read_failed { result ≡ Err ToolFault.ReadFailed
-        → HasRisen (failures_of input.old) (failures_of input.new) }
-    ensures limit { reads_of input.new ≤ reads_of input.old + MAX_READS }
+    ensures read_failed { result ≡ Err ToolFault.ReadFailed → HasFailed input.old input.new }
+    ensures limit { HasFewReads MAX_READS input.old input.new }
     ensures too_many { result ≡ Err ToolFault.TooManyReads
-        → HasRisenBy MAX_READS (reads_of input.old) (reads_of input.new) }
+        → HasReads MAX_READS input.old input.new }
     ensures no_end { result ≡ Err ToolFault.TooManyReads → ends_of input.new ≡ ends_of input.old }
-    ensures write_failed { result ≡ Err ToolFault.WriteFailed
-        → HasRisen (failures_of output.old) (failures_of output.new) }
+    ensures write_failed { result ≡ Err ToolFault.WriteFailed → HasFailed output.old output.new }
 {
     let script = read_script(alloc, input)?;
     let text = run(alloc, &script)?;

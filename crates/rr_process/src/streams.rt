@@ -1,9 +1,8 @@
 //! A whole input, and a whole output.
 
 ghost use Rattle.std.specs.Prelude.{◌≡◌, ◌≢◌, ◌+◌, ◌≤◌, Err, true, IfSome, IfOk, OnOk, IfErr};
-ghost use Rattle.std.specs.Io.KnownBytes.{Appends};
-ghost use Rattle.rr_io.specs.Counted.{inner_of, failures_of, reads_of, ends_of, is_flushed, HasRisen, HasRisenBy};
-ghost use Rattle.rr_io.specs.Stream.{AppendsPrefix};
+ghost use Rattle.rr_io.specs.Counted.{inner_of, ends_of, is_flushed};
+ghost use Rattle.rr_io.specs.Stream.{HasFailed, HasFewReads, HasReads, WritesFront, WritesWhole};
 ghost use Rattle.rr_text.specs.declared.limits.TheConstants.{MAX_READS};
 
 use crate::fault::ToolFault;
@@ -16,11 +15,10 @@ use std::io::{Read, Write};
 pub fn read_script<R: Read>(alloc: Global, input: &mut Counted<R>) -> Result<Vec<u8>, ToolFault>
     ensures read { IfOk result (λ script. IfSome (R.remaining (inner_of input.old))
         (λ bytes. script.items ≡ bytes)) }
-    ensures read_failed { result ≡ Err ToolFault.ReadFailed
-        → HasRisen (failures_of input.old) (failures_of input.new) }
-    ensures limit { reads_of input.new ≤ reads_of input.old + MAX_READS }
+    ensures read_failed { result ≡ Err ToolFault.ReadFailed → HasFailed input.old input.new }
+    ensures limit { HasFewReads MAX_READS input.old input.new }
     ensures too_many { result ≡ Err ToolFault.TooManyReads
-        → HasRisenBy MAX_READS (reads_of input.old) (reads_of input.new) }
+        → HasReads MAX_READS input.old input.new }
     ensures no_end { result ≡ Err ToolFault.TooManyReads → ends_of input.new ≡ ends_of input.old }
     ensures failed { IfErr result (λ fault. fault ≢ ToolFault.WriteFailed) }
 {
@@ -31,14 +29,11 @@ pub fn read_script<R: Read>(alloc: Global, input: &mut Counted<R>) -> Result<Vec
 
 /// Writes the text whole, and has the writer pass on what it holds back of it.
 pub fn write_text<W: Write>(output: &mut Counted<W>, text: &[u8]) -> Result<(), ToolFault>
-    ensures whole { OnOk result (Appends (W.contents (inner_of output.old))
-        (W.contents (inner_of output.new)) text.now) }
+    ensures whole { OnOk result (WritesWhole W.contents output.old output.new text.now) }
     ensures flushed { OnOk result (is_flushed output.new ≡ true) }
-    ensures front { AppendsPrefix (W.contents (inner_of output.old))
-        (W.contents (inner_of output.new)) text.now }
+    ensures front { WritesFront W.contents output.old output.new text.now }
     ensures failed { IfErr result (λ fault. fault ≡ ToolFault.WriteFailed) }
-    ensures write_failed { result ≡ Err ToolFault.WriteFailed
-        → HasRisen (failures_of output.old) (failures_of output.new) }
+    ensures write_failed { result ≡ Err ToolFault.WriteFailed → HasFailed output.old output.new }
 {
     write_all(output, text)?;
     flush(output)?;

@@ -1,4 +1,4 @@
--- Cells in order, one after the other from a place on.
+-- Cells in order, one after the other from an offset on.
 use Rattle.std.proofs.Common.{◌≡◌, ℕ, zero, suc, ◌+◌, ◌≤◌, true, false, cond, T, List, [], ◌∷◌, ◌++◌, map, take, drop, length, slice_get, unwrap_or, refl, sym, ap, ◌∙◌, subst, arith, Some, None, Ordering, Less, Equal, Greater}
 use Rattle.std.specs.List.{AllByRecursion, find}
 use Rattle.std.specs.Cmp.{tied_itself}
@@ -56,7 +56,7 @@ next_of_sorted (x ∷ es) (suc i) e sorted at =
         reversed Equal h = absurd cc
         reversed Greater h = absurd cc
 
--- one cell more of those from a place on
+-- one cell more of those from an offset on
 pub taken_more : (es : List NamedCell) (from i : ℕ) (e : NamedCell) → slice_get es (from + i) ≡ Some e
     → take (i + 1) (drop from es) ≡ take i (drop from es) ++ e ∷ []
 taken_more es zero i e at = from_start es i (ap (slice_get es) (from_zero i) ∙ at)

@@ -40,7 +40,7 @@ fn make_ready<A: Cells>(
     ensures of_schema { AreOf A.row_limit schema.now archives.new.items }
     ensures ready { OnOk result (AreReadyFrom first A.is_ready schema.now time origin
         archives.new.items) }
-    ensures kept { AreReadyFrom first A.is_ready schema.now time origin archives.old.items
+    ensures room_suffices { AreReadyFrom first A.is_ready schema.now time origin archives.old.items
         → IsOk result }
 {
     for i in first..archives.len() {

@@ -5,7 +5,7 @@
 //! whatever the archives are made of. A sample that is put gets the replica's next number, and in
 //! each archive it is added to the cell that its time falls in. Of a [`Cell`] from elsewhere and
 //! what stands at its name the greater is kept, and the next number moves past a cell of the
-//! replica's own origin. Cells are listed in the order of their names, from a place on or after a
+//! replica's own origin. Cells are listed in the order of their names, from an offset on or after a
 //! name.
 //!
 //! Either of the two steps is an [`Op`] too, as a value. Room for it is made before it is applied,

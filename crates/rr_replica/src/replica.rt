@@ -283,7 +283,7 @@ impl<A: Cells> Replica<A> {
         next_cell(&self.series, &name)
     }
 
-    /// As many cells as `count` from a place on, in the same order; fewer where there are fewer.
+    /// As many cells as `count` from an offset on, in the same order; fewer where there are fewer.
     /// The cost is that of `cell_at` for the first, and for each further cell that of `next_cell`.
     pub fn cells_from(
         &self,

@@ -38,7 +38,7 @@ pub(crate) fn place_in(schema: &Schema, archive: u8, time: i64) -> u32
 
 /// Of the newest slot and the next one that in which a time falls, if it falls in either.
 fn near(span: u32, time: i64, newest: Option<i64>) -> Option<i64>
-    requires some { 0 < span }
+    requires span_positive { 0 < span }
     requires fits { span ≤ MAX_STEP * MAX_STEPS }
     ensures { IfSome result (λ slot. int_div_euclid time (pos (span * 1_000_000_000)) ≡ slot) }
 {

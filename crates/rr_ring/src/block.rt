@@ -56,7 +56,7 @@ impl Block {
     fn make_rows(&mut self, number: usize, len: usize) -> Result<(), AllocError>
         ensures same { items_in self.new ≡ items_in self.old }
         ensures made { OnOk result (number < length self.new.rows.items) }
-        ensures kept { number < length self.old.rows.items
+        ensures rows_stay { number < length self.old.rows.items
             → self.new.rows.items ≡ self.old.rows.items }
         ensures room { number < length self.old.rows.items → IsOk result }
     {
@@ -81,7 +81,7 @@ impl Block {
     ) -> Result<(), AllocError>
         ensures same { items_in self.new ≡ items_in self.old }
         ensures room { OnOk result (IsTrue (has_room_in self.new number slot origin)) }
-        ensures kept { IsTrue (has_room_in self.old number slot origin) → IsOk result }
+        ensures room_suffices { IsTrue (has_room_in self.old number slot origin) → IsOk result }
     {
         self.make_rows(number, len)?;
         self.rows[number].make_room(self.alloc, slot, origin)

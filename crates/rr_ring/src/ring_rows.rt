@@ -51,7 +51,7 @@ impl Ring {
     /// store nothing.
     fn positions_on(&self, position: usize) -> usize
         requires { position < self.now.rows }
-        ensures some { 1 ≤ result }
+        ensures at_least_one { 1 ≤ result }
         ensures at_most { result ≤ BLOCK_ROWS }
         ensures within { position + result ≤ self.now.rows }
         ensures empty { (i : ℕ) (slot : ℤ)
@@ -69,7 +69,7 @@ impl Ring {
     /// those between. A block that isn't made is passed over in one step.
     pub(crate) fn slots_on(&self, slot: i64, most: u32) -> u32
         requires { 1 ≤ most }
-        ensures some { 1 ≤ result }
+        ensures at_least_one { 1 ≤ result }
         ensures at_most { result ≤ most }
         ensures empty { (i : ℕ) → 1 ≤ i → i < result → row_at self.now (slot +ℤ pos i) ≡ [] }
     {
@@ -82,7 +82,7 @@ impl Ring {
         ensures same { items_by_position self.new.blocks.items
             ≡ items_by_position self.old.blocks.items }
         ensures added { OnOk result (number < length self.new.blocks.items) }
-        ensures kept { number < length self.old.blocks.items
+        ensures blocks_stay { number < length self.old.blocks.items
             → self.new.blocks.items ≡ self.old.blocks.items }
         ensures room { number < length self.old.blocks.items → IsOk result }
         ensures rows { self.new.rows ≡ self.old.rows }
@@ -103,7 +103,7 @@ impl Ring {
     pub(crate) fn make_room(&mut self, slot: i64, origin: Origin) -> Result<(), AllocError>
         ensures same { row_at self.new ≡ row_at self.old }
         ensures room { OnOk result (IsTrue (has_room self.new slot origin)) }
-        ensures kept { IsTrue (has_room self.old slot origin) → IsOk result }
+        ensures room_suffices { IsTrue (has_room self.old slot origin) → IsOk result }
         ensures rows { self.new.rows ≡ self.old.rows }
     {
         let position = self.position(slot);

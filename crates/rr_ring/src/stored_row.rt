@@ -79,7 +79,7 @@ impl StoredRow {
     ) -> Result<(), AllocError>
         ensures same { slot_and_entries self.new ≡ slot_and_entries self.old }
         ensures room { OnOk result (IsTrue (has_room_at (Some self.new) slot origin)) }
-        ensures kept { IsTrue (has_room_at (Some self.old) slot origin) → IsOk result }
+        ensures room_suffices { IsTrue (has_room_at (Some self.old) slot origin) → IsOk result }
     {
         if self.slot == slot {
             self.entries.make_room(alloc, origin)

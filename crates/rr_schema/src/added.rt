@@ -43,7 +43,7 @@ pub(crate) fn archives_without(
 
 /// The number of an archive without which the archives are the others, if there is one.
 pub(crate) fn number_of_added(archives: &[ArchiveSpec], others: &[ArchiveSpec]) -> Option<usize>
-    ensures some { IfSome result (λ i. i < length archives.now) }
+    ensures in_archives { IfSome result (λ i. i < length archives.now) }
     ensures others { IfSome result (λ i. others.now ≡ without i archives.now) }
     ensures none { IfNone result ((i : ℕ) → i < length archives.now
         → others.now ≢ without i archives.now) }

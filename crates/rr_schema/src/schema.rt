@@ -173,7 +173,7 @@ impl Schema {
     /// and the archives of the older one, in their order, and one more. No memory is taken; the
     /// cost is quadratic in the archives, of which there are few.
     pub fn added(&self, old: &Schema) -> Option<u8>
-        ensures some { IfSome result (λ i. HasAdded i self.now old.now) }
+        ensures added { IfSome result (λ i. HasAdded i self.now old.now) }
         ensures none { IfNone result ((i : ℕ) → HasAdded i self.now old.now → ⊥) }
     {
         if self.step != old.step {

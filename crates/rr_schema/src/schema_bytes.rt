@@ -105,7 +105,7 @@ pub(crate) fn are_archives_without(number: usize, archives: &[ArchiveSpec], byte
 
 /// Whether the bytes are a step, the number of archives and their bytes. No memory is taken.
 pub(crate) fn are_of_schema(step: u32, archives: &[ArchiveSpec], bytes: &[u8]) -> bool
-    requires few { length archives.now < 256 }
+    requires archives_fit { length archives.now < 256 }
     requires each { All IsArchive archives.now }
     ensures { IsTrue result ↔ (bytes.now
         ≡ to_be_bytes w32 step ++ length archives.now ∷ flat_map archive_bytes archives.now) }

@@ -1,8 +1,7 @@
 //! What a snapshot has after its cells.
 ghost use Rattle.std.specs.Prelude.{◌≡◌, ◌≢◌, ◌≤◌, Err, OnOk};
-ghost use Rattle.std.specs.Io.KnownBytes.{IsAtEnd};
-ghost use Rattle.rr_io.specs.Counted.{inner_of, failures_of, HasRisen};
-ghost use Rattle.rr_io.specs.Stream.{ConsumesSome, TakesAtMost};
+ghost use Rattle.rr_io.specs.Counted.{inner_of};
+ghost use Rattle.rr_io.specs.Stream.{HasFailed, IsReadOut, KeepsFailures, ReadsSome, ReadsUpTo};
 ghost use Rattle.rr_snapshot.specs.SnapshotReading.{digest_at, end_at};
 ghost use Rattle.rr_snapshot.specs.Stream.{StreamGives};
 
@@ -25,13 +24,10 @@ pub(crate) fn digest_from<R: Read>(
     ensures read { StreamGives (λ x. x) result (R.remaining (inner_of input.old))
         (R.remaining (inner_of input.new)) (digest_at digest.now) }
     ensures no_memory { result ≢ Err LoadFault.Memory }
-    ensures front { ConsumesSome (R.remaining (inner_of input.old))
-        (R.remaining (inner_of input.new)) }
-    ensures most { TakesAtMost DIGEST_LEN (R.remaining (inner_of input.old))
-        (R.remaining (inner_of input.new)) }
-    ensures count { failures_of input.old ≤ failures_of input.new }
-    ensures failed { result ≡ Err LoadFault.ReadFailed
-        → HasRisen (failures_of input.old) (failures_of input.new) }
+    ensures front { ReadsSome R.remaining input.old input.new }
+    ensures most { ReadsUpTo DIGEST_LEN R.remaining input.old input.new }
+    ensures failures_never_fall { KeepsFailures input.old input.new }
+    ensures failed { result ≡ Err LoadFault.ReadFailed → HasFailed input.old input.new }
 {
     let mut buffer = [0u8; DIGEST_LEN];
     let got = fill(input, &mut buffer)?;
@@ -46,15 +42,12 @@ pub(crate) fn digest_from<R: Read>(
 pub(crate) fn end_from<R: Read>(input: &mut Counted<R>) -> Result<(), LoadFault>
     ensures read { StreamGives (λ x. x) result (R.remaining (inner_of input.old))
         (R.remaining (inner_of input.new)) end_at }
-    ensures end { OnOk result (IsAtEnd (R.remaining (inner_of input.new))) }
+    ensures end { OnOk result (IsReadOut R.remaining input.new) }
     ensures no_memory { result ≢ Err LoadFault.Memory }
-    ensures front { ConsumesSome (R.remaining (inner_of input.old))
-        (R.remaining (inner_of input.new)) }
-    ensures most { TakesAtMost 1 (R.remaining (inner_of input.old))
-        (R.remaining (inner_of input.new)) }
-    ensures count { failures_of input.old ≤ failures_of input.new }
-    ensures failed { result ≡ Err LoadFault.ReadFailed
-        → HasRisen (failures_of input.old) (failures_of input.new) }
+    ensures front { ReadsSome R.remaining input.old input.new }
+    ensures most { ReadsUpTo 1 R.remaining input.old input.new }
+    ensures failures_never_fall { KeepsFailures input.old input.new }
+    ensures failed { result ≡ Err LoadFault.ReadFailed → HasFailed input.old input.new }
 {
     let mut byte = [0u8; 1];
     let got = fill(input, &mut byte)?;

@@ -5,8 +5,8 @@ ghost use Rattle.std.specs.List.{find, range_with_len};
 ghost use Rattle.std.specs.Option.{option_map};
 ghost use Rattle.std.specs.Prelude.{map};
 ghost use Rattle.rr_text.specs.Results.{Gives};
-ghost use Rattle.rr_io.specs.Counted.{inner_of, failures_of, HasRisen};
-ghost use Rattle.rr_io.specs.Stream.{ConsumesSome, TakesAtMost};
+ghost use Rattle.rr_io.specs.Counted.{inner_of};
+ghost use Rattle.rr_io.specs.Stream.{HasFailed, KeepsFailures, ReadsSome, ReadsUpTo};
 ghost use Rattle.rr_schema.specs.Added.{IsAddition, older};
 ghost use Rattle.rr_schema.specs.declared.added.Addition.TheVariants.{Archive};
 ghost use Rattle.rr_page.specs.Reading.{number_at};
@@ -59,8 +59,8 @@ fn may_have_had(schema: &Schema, step: u32, number: u8) -> bool
 #[tactic(auto, unfolding(crate::specs::SnapshotReading::start_at))]
 fn start_of<'a>(schema: &Schema, bytes: &'a [u8]) -> Result<(Version, u8, &'a [u8]), PageFault>
     ensures read { Gives (λ x. ((x.0, x.1), x.2.now)) result (start_at schema.now bytes.now) }
-    ensures some { IfOk result (λ x. 1 ≤ x.1) }
-    ensures few { IfOk result (λ x. x.1 ≤ length schema.now.archives) }
+    ensures number_at_least { IfOk result (λ x. 1 ≤ x.1) }
+    ensures number_at_most { IfOk result (λ x. x.1 ≤ length schema.now.archives) }
     ensures no_memory { result ≢ Err PageFault.Memory }
 {
     let (start, rest) = bytes_at(bytes, MAGIC.len())?;
@@ -84,18 +84,15 @@ pub(crate) fn start_from<R: Read>(
 ) -> Result<(Version, u8), LoadFault>
     ensures read { StreamGives (λ x. (x.0, x.1)) result (R.remaining (inner_of input.old))
         (R.remaining (inner_of input.new)) (λ all. as_in_page (start_at schema.now all)) }
-    ensures some { IfOk result (λ x. 1 ≤ x.1) }
-    ensures few { IfOk result (λ x. x.1 ≤ length schema.now.archives) }
+    ensures number_at_least { IfOk result (λ x. 1 ≤ x.1) }
+    ensures number_at_most { IfOk result (λ x. x.1 ≤ length schema.now.archives) }
     ensures digest { OnOk result (Digests (R.remaining (inner_of input.old))
         (R.remaining (inner_of input.new)) hasher.old hasher.new) }
-    ensures front { ConsumesSome (R.remaining (inner_of input.old))
-        (R.remaining (inner_of input.new)) }
-    ensures most { TakesAtMost START_LEN (R.remaining (inner_of input.old))
-        (R.remaining (inner_of input.new)) }
+    ensures front { ReadsSome R.remaining input.old input.new }
+    ensures most { ReadsUpTo START_LEN R.remaining input.old input.new }
     ensures no_memory { result ≢ Err LoadFault.Memory }
-    ensures count { failures_of input.old ≤ failures_of input.new }
-    ensures failed { result ≡ Err LoadFault.ReadFailed
-        → HasRisen (failures_of input.old) (failures_of input.new) }
+    ensures failures_never_fall { KeepsFailures input.old input.new }
+    ensures failed { result ≡ Err LoadFault.ReadFailed → HasFailed input.old input.new }
 {
     let mut buffer = [0u8; START_LEN];
     let got = fill(input, &mut buffer)?;
@@ -149,7 +146,7 @@ fn archives_of<'a>(
     ensures read { Gives (λ x. ((x.0, x.1), x.2.now)) result
         (archives_at version schema.now number bytes.now) }
     ensures addition { IfOk result (λ x. IsAddition schema.now x.0) }
-    ensures many { IfOk result (λ x. number ≡ length (older schema.now x.0).archives) }
+    ensures archive_count { IfOk result (λ x. number ≡ length (older schema.now x.0).archives) }
     ensures no_memory { result ≢ Err PageFault.Memory }
 {
     let (field, rest) = bytes_at(bytes, ARCHIVE_LEN * number as usize)?;
@@ -174,17 +171,14 @@ fn archives_into<R: Read>(
         (R.remaining (inner_of input.new))
         (λ all. as_in_page (archives_at version schema.now number all)) }
     ensures addition { IfOk result (λ x. IsAddition schema.now x.0) }
-    ensures many { IfOk result (λ x. number ≡ length (older schema.now x.0).archives) }
+    ensures archive_count { IfOk result (λ x. number ≡ length (older schema.now x.0).archives) }
     ensures digest { OnOk result (Digests (R.remaining (inner_of input.old))
         (R.remaining (inner_of input.new)) hasher.old hasher.new) }
-    ensures front { ConsumesSome (R.remaining (inner_of input.old))
-        (R.remaining (inner_of input.new)) }
-    ensures most { TakesAtMost (ARCHIVE_LEN * number + ORIGIN_LEN)
-        (R.remaining (inner_of input.old)) (R.remaining (inner_of input.new)) }
+    ensures front { ReadsSome R.remaining input.old input.new }
+    ensures most { ReadsUpTo (ARCHIVE_LEN * number + ORIGIN_LEN) R.remaining input.old input.new }
     ensures no_memory { result ≢ Err LoadFault.Memory }
-    ensures count { failures_of input.old ≤ failures_of input.new }
-    ensures failed { result ≡ Err LoadFault.ReadFailed
-        → HasRisen (failures_of input.old) (failures_of input.new) }
+    ensures failures_never_fall { KeepsFailures input.old input.new }
+    ensures failed { result ≡ Err LoadFault.ReadFailed → HasFailed input.old input.new }
 {
     let got = fill(input, buffer)?;
     let (addition, origin, _) = archives_of(version, schema, number, &buffer[..got])?;
@@ -206,17 +200,14 @@ pub(crate) fn archives_from<R: Read>(
         (R.remaining (inner_of input.new))
         (λ all. as_in_page (archives_at version schema.now number all)) }
     ensures addition { IfOk result (λ x. IsAddition schema.now x.0) }
-    ensures many { IfOk result (λ x. number ≡ length (older schema.now x.0).archives) }
+    ensures archive_count { IfOk result (λ x. number ≡ length (older schema.now x.0).archives) }
     ensures digest { OnOk result (Digests (R.remaining (inner_of input.old))
         (R.remaining (inner_of input.new)) hasher.old hasher.new) }
-    ensures front { ConsumesSome (R.remaining (inner_of input.old))
-        (R.remaining (inner_of input.new)) }
-    ensures most { TakesAtMost (ARCHIVE_LEN * number + ORIGIN_LEN)
-        (R.remaining (inner_of input.old)) (R.remaining (inner_of input.new)) }
+    ensures front { ReadsSome R.remaining input.old input.new }
+    ensures most { ReadsUpTo (ARCHIVE_LEN * number + ORIGIN_LEN) R.remaining input.old input.new }
     ensures no_memory { result ≢ Err LoadFault.Memory }
-    ensures count { failures_of input.old ≤ failures_of input.new }
-    ensures failed { result ≡ Err LoadFault.ReadFailed
-        → HasRisen (failures_of input.old) (failures_of input.new) }
+    ensures failures_never_fall { KeepsFailures input.old input.new }
+    ensures failed { result ≡ Err LoadFault.ReadFailed → HasFailed input.old input.new }
 {
     let _archives = schema.archives(); // their contract says that they are few
     let mut buffer = [0u8; ARCHIVE_LEN * MAX_ARCHIVES + ORIGIN_LEN];
@@ -233,14 +224,11 @@ pub(crate) fn count_from<R: Read>(
         (R.remaining (inner_of input.new)) (λ all. as_in_page (number_at w32 all)) }
     ensures digest { OnOk result (Digests (R.remaining (inner_of input.old))
         (R.remaining (inner_of input.new)) hasher.old hasher.new) }
-    ensures front { ConsumesSome (R.remaining (inner_of input.old))
-        (R.remaining (inner_of input.new)) }
-    ensures most { TakesAtMost COUNT_LEN (R.remaining (inner_of input.old))
-        (R.remaining (inner_of input.new)) }
+    ensures front { ReadsSome R.remaining input.old input.new }
+    ensures most { ReadsUpTo COUNT_LEN R.remaining input.old input.new }
     ensures no_memory { result ≢ Err LoadFault.Memory }
-    ensures count { failures_of input.old ≤ failures_of input.new }
-    ensures failed { result ≡ Err LoadFault.ReadFailed
-        → HasRisen (failures_of input.old) (failures_of input.new) }
+    ensures failures_never_fall { KeepsFailures input.old input.new }
+    ensures failed { result ≡ Err LoadFault.ReadFailed → HasFailed input.old input.new }
 {
     let mut buffer = [0u8; COUNT_LEN];
     let got = fill(input, &mut buffer)?;

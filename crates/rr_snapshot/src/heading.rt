@@ -1,7 +1,7 @@
 //! What a snapshot has before its cells.
 ghost use Rattle.std.specs.Prelude.{◌≡◌, ◌≢◌, ◌≤◌, ◌+◌, ◌-◌, IfOk, OnOk, Err, length};
-ghost use Rattle.rr_io.specs.Counted.{inner_of, failures_of, HasRisen};
-ghost use Rattle.rr_io.specs.Stream.{ConsumesSome, TakesAtMost};
+ghost use Rattle.rr_io.specs.Counted.{inner_of};
+ghost use Rattle.rr_io.specs.Stream.{HasFailed, KeepsFailures, ReadsSome, ReadsUpTo};
 ghost use Rattle.rr_schema.specs.Added.{IsAddition, older};
 ghost use Rattle.rr_schema.specs.SchemaBytes.{schema_bytes};
 ghost use Rattle.rr_page.specs.Version.{latest};
@@ -73,20 +73,17 @@ pub(crate) fn head_from<R: Read>(
     ensures read { StreamGives (λ x. x) result (R.remaining (inner_of input.old))
         (R.remaining (inner_of input.new)) (head_at schema.now) }
     ensures addition { IfOk result (λ head. IsAddition schema.now head.addition) }
-    ensures some { IfOk result (λ head. 1 ≤ length (older schema.now head.addition).archives) }
+    ensures older_has_archives { IfOk result (λ head. 1 ≤ length (older schema.now head.addition).archives) }
     ensures digest { OnOk result (Digests (R.remaining (inner_of input.old))
         (R.remaining (inner_of input.new)) hasher.old hasher.new) }
-    ensures front { ConsumesSome (R.remaining (inner_of input.old))
-        (R.remaining (inner_of input.new)) }
-    ensures most { TakesAtMost (length (schema_bytes schema.now) + BESIDES_LEN)
-        (R.remaining (inner_of input.old)) (R.remaining (inner_of input.new)) }
-    ensures bad_origin { result ≡ Err LoadFault.BadOrigin
-        → TakesAtMost (length (schema_bytes schema.now) + BESIDES_LEN - COUNT_LEN)
-        (R.remaining (inner_of input.old)) (R.remaining (inner_of input.new)) }
+    ensures front { ReadsSome R.remaining input.old input.new }
+    ensures most { ReadsUpTo (length (schema_bytes schema.now) + BESIDES_LEN) R.remaining input.old
+        input.new }
+    ensures bad_origin { result ≡ Err LoadFault.BadOrigin → ReadsUpTo (length (schema_bytes
+        schema.now) + BESIDES_LEN - COUNT_LEN) R.remaining input.old input.new }
     ensures no_memory { result ≢ Err LoadFault.Memory }
-    ensures count { failures_of input.old ≤ failures_of input.new }
-    ensures failed { result ≡ Err LoadFault.ReadFailed
-        → HasRisen (failures_of input.old) (failures_of input.new) }
+    ensures failures_never_fall { KeepsFailures input.old input.new }
+    ensures failed { result ≡ Err LoadFault.ReadFailed → HasFailed input.old input.new }
 {
     let (version, number) = start_from(input, schema, hasher)?;
     let (addition, origin) = archives_from(input, version, schema, number, hasher)?;

@@ -1,10 +1,9 @@
 //! A replica from a snapshot, read cell by cell.
 ghost use Rattle.std.specs.Prelude.{◌≡◌, ◌≤◌, ◌<◌, length, Err, IfSome, IfOk, OnOk};
 ghost use Rattle.std.specs.FinMap.{empty};
-ghost use Rattle.std.specs.Io.KnownBytes.{IsAtEnd};
 ghost use Rattle.std.specs.Option.{option_map};
-ghost use Rattle.rr_io.specs.Counted.{inner_of, failures_of, HasRisen};
-ghost use Rattle.rr_io.specs.Stream.{ConsumesSome};
+ghost use Rattle.rr_io.specs.Counted.{inner_of};
+ghost use Rattle.rr_io.specs.Stream.{HasFailed, IsReadOut, KeepsFailures, ReadsSome};
 ghost use Rattle.rr_schema.specs.Added.{IsAddition, older};
 ghost use Rattle.rr_page.specs.PageReading.{is_after};
 ghost use Rattle.rr_cells.specs.Listing.{owned_cell};
@@ -76,13 +75,11 @@ fn join_cells_from<A: Cells, R: Read>(
         (cells_after replica.old.schema head) }
     ensures digest { OnOk result (Digests (R.remaining (inner_of input.old))
         (R.remaining (inner_of input.new)) hasher.old hasher.new) }
-    ensures front { ConsumesSome (R.remaining (inner_of input.old))
-        (R.remaining (inner_of input.new)) }
+    ensures front { ReadsSome R.remaining input.old input.new }
     ensures memory { result ≡ Err LoadFault.Memory → StopsAmong replica.old.schema head
         (R.remaining (inner_of input.old)) (R.remaining (inner_of input.new)) }
-    ensures count { failures_of input.old ≤ failures_of input.new }
-    ensures failed { result ≡ Err LoadFault.ReadFailed
-        → HasRisen (failures_of input.old) (failures_of input.new) }
+    ensures failures_never_fall { KeepsFailures input.old input.new }
+    ensures failed { result ≡ Err LoadFault.ReadFailed → HasFailed input.old input.new }
 {
     let _archives = own.archives(); // their contract says that they are few
     let origin = replica.origin();
@@ -114,20 +111,18 @@ fn join_cells_after<A: Cells, R: Read>(
 ) -> Result<bool, LoadFault>
     requires schema { schema.now ≡ replica.old.schema }
     requires addition { IsAddition schema.now head.addition }
-    requires some { 1 ≤ length (older schema.now head.addition).archives }
+    requires older_has_archives { 1 ≤ length (older schema.now head.addition).archives }
     ensures read { StreamMakes (HasJoined head.addition (replica_state replica.old)
         (replica_state replica.new)) result
         (R.remaining (inner_of input.old)) (R.remaining (inner_of input.new))
         (cells_after schema.now head) }
     ensures digest { OnOk result (Digests (R.remaining (inner_of input.old))
         (R.remaining (inner_of input.new)) hasher.old hasher.new) }
-    ensures front { ConsumesSome (R.remaining (inner_of input.old))
-        (R.remaining (inner_of input.new)) }
+    ensures front { ReadsSome R.remaining input.old input.new }
     ensures memory { result ≡ Err LoadFault.Memory → StopsAmong schema.now head
         (R.remaining (inner_of input.old)) (R.remaining (inner_of input.new)) }
-    ensures count { failures_of input.old ≤ failures_of input.new }
-    ensures failed { result ≡ Err LoadFault.ReadFailed
-        → HasRisen (failures_of input.old) (failures_of input.new) }
+    ensures failures_never_fall { KeepsFailures input.old input.new }
+    ensures failed { result ≡ Err LoadFault.ReadFailed → HasFailed input.old input.new }
 {
     match head.addition {
         Addition::Nothing => join_cells_from(alloc, input, head, schema, replica, hasher),
@@ -155,14 +150,12 @@ fn load_into<A: Cells, R: Read>(
     ensures schema { OnOk result (replica.new.schema ≡ schema.now) }
     ensures origin { OnOk result (replica.new.origin ≡ replica.old.origin) }
     ensures next { OnOk result (replica.new.next ≡ 1) }
-    ensures end { OnOk result (IsAtEnd (R.remaining (inner_of input.new))) }
-    ensures front { ConsumesSome (R.remaining (inner_of input.old))
-        (R.remaining (inner_of input.new)) }
+    ensures end { OnOk result (IsReadOut R.remaining input.new) }
+    ensures front { ReadsSome R.remaining input.old input.new }
     ensures memory { result ≡ Err LoadFault.Memory → StopsBeforeDigest schema.now
         (R.remaining (inner_of input.old)) (R.remaining (inner_of input.new)) }
-    ensures count { failures_of input.old ≤ failures_of input.new }
-    ensures failed { result ≡ Err LoadFault.ReadFailed
-        → HasRisen (failures_of input.old) (failures_of input.new) }
+    ensures failures_never_fall { KeepsFailures input.old input.new }
+    ensures failed { result ≡ Err LoadFault.ReadFailed → HasFailed input.old input.new }
 {
     let mut hasher = Sha256::new();
     let head = head_from(input, schema, &mut hasher)?;
@@ -202,14 +195,12 @@ pub fn load<A: Cells, R: Read>(
     ensures schema { IfOk result (λ replica. replica.schema ≡ schema.now) }
     ensures origin { IfOk result (λ replica. replica.origin ≡ new_origin) }
     ensures next { IfOk result (λ replica. replica.next ≡ 1) }
-    ensures end { OnOk result (IsAtEnd (R.remaining (inner_of input.new))) }
-    ensures front { ConsumesSome (R.remaining (inner_of input.old))
-        (R.remaining (inner_of input.new)) }
+    ensures end { OnOk result (IsReadOut R.remaining input.new) }
+    ensures front { ReadsSome R.remaining input.old input.new }
     ensures memory { result ≡ Err LoadFault.Memory → StopsBeforeDigest schema.now
         (R.remaining (inner_of input.old)) (R.remaining (inner_of input.new)) }
-    ensures count { failures_of input.old ≤ failures_of input.new }
-    ensures failed { result ≡ Err LoadFault.ReadFailed
-        → HasRisen (failures_of input.old) (failures_of input.new) }
+    ensures failures_never_fall { KeepsFailures input.old input.new }
+    ensures failed { result ≡ Err LoadFault.ReadFailed → HasFailed input.old input.new }
 {
     let mut replica = Replica::new(alloc, schema, new_origin)?;
     load_into(alloc, input, schema, &mut replica)?;

@@ -1,8 +1,8 @@
 //! A cell from a stream, in one buffer.
 ghost use Rattle.std.specs.Prelude.{◌≡◌, ◌++◌, ◌<◌, ◌≤◌, ◌-◌, List, ℕ, IfOk, OnErr, Err, length, take};
-ghost use Rattle.std.specs.Io.KnownBytes.{Consumes, IsAtEnd};
-ghost use Rattle.rr_io.specs.Counted.{inner_of, failures_of, HasRisen};
-ghost use Rattle.rr_io.specs.Stream.{ConsumesSome, TakesAtMost};
+ghost use Rattle.std.specs.Io.KnownBytes.{Consumes};
+ghost use Rattle.rr_io.specs.Counted.{inner_of};
+ghost use Rattle.rr_io.specs.Stream.{HasFailed, IsReadOut, KeepsFailures, ReadsSome, ReadsUpTo};
 ghost use Rattle.rr_page.specs.Reading.{cell_at};
 ghost use Rattle.rr_page.specs.Version.{fields_len};
 ghost use Rattle.rr_page.specs.declared.writing.TheConstants.{FIELDS_LEN};
@@ -68,14 +68,12 @@ fn fill_up_to<R: Read>(
     ensures more { IfOk result (λ now. (filled ≤ now) × (now ≤ len)) }
     ensures bytes { IfOk result (λ now. Adds (R.remaining (inner_of input.old))
         (R.remaining (inner_of input.new)) (take filled buffer.old) (take now buffer.new)) }
-    ensures end { IfOk result (λ now. now < len → IsAtEnd (R.remaining (inner_of input.new))) }
+    ensures end { IfOk result (λ now. now < len → IsReadOut R.remaining input.new) }
     ensures buffer_len { length buffer.new ≡ length buffer.old }
-    ensures front { ConsumesSome (R.remaining (inner_of input.old))
-        (R.remaining (inner_of input.new)) }
-    ensures most { TakesAtMost (len - filled) (R.remaining (inner_of input.old))
-        (R.remaining (inner_of input.new)) }
-    ensures count { failures_of input.old ≤ failures_of input.new }
-    ensures failed { OnErr result (HasRisen (failures_of input.old) (failures_of input.new)) }
+    ensures front { ReadsSome R.remaining input.old input.new }
+    ensures most { ReadsUpTo (len - filled) R.remaining input.old input.new }
+    ensures failures_never_fall { KeepsFailures input.old input.new }
+    ensures failed { OnErr result (HasFailed input.old input.new) }
 {
     let more = fill(input, &mut buffer[filled..len])?;
     Ok(filled + more)
@@ -99,15 +97,12 @@ pub(crate) fn cell_from<R: Read>(
     ensures fits { IfOk result (λ x. x.1 ≤ MAX_CELL_LEN) }
     ensures cell { IfOk result (λ x. IsCellOf schema.now (owned_cell x.0)) }
     ensures buffer_len { length buffer.new ≡ length buffer.old }
-    ensures front { ConsumesSome (R.remaining (inner_of input.old))
-        (R.remaining (inner_of input.new)) }
-    ensures most { TakesAtMost MAX_CELL_LEN (R.remaining (inner_of input.old))
-        (R.remaining (inner_of input.new)) }
+    ensures front { ReadsSome R.remaining input.old input.new }
+    ensures most { ReadsUpTo MAX_CELL_LEN R.remaining input.old input.new }
     ensures memory { result ≡ Err LoadFault.Memory → HasRead (R.remaining (inner_of input.old))
         (R.remaining (inner_of input.new)) (cell_at version schema.now) }
-    ensures count { failures_of input.old ≤ failures_of input.new }
-    ensures failed { result ≡ Err LoadFault.ReadFailed
-        → HasRisen (failures_of input.old) (failures_of input.new) }
+    ensures failures_never_fall { KeepsFailures input.old input.new }
+    ensures failed { result ≡ Err LoadFault.ReadFailed → HasFailed input.old input.new }
 {
     let head = fill_up_to(input, buffer, 0, 2)?;
     let len = cell_len(&buffer[..head], version);

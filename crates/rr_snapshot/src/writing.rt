@@ -1,9 +1,7 @@
 //! The pieces of a snapshot, written and digested.
 ghost use Rattle.std.specs.Prelude.{◌≡◌, ◌≢◌, ◌≤◌, ◌++◌, Err, OnOk, OnErr, List, ℕ};
-ghost use Rattle.std.specs.Io.KnownBytes.{Appends};
 ghost use Rattle.sha2.specs.Hashers.{Holds256};
-ghost use Rattle.rr_io.specs.Counted.{inner_of, failures_of, HasRisen};
-ghost use Rattle.rr_io.specs.Stream.{AppendsPrefix};
+ghost use Rattle.rr_io.specs.Stream.{HasFailed, KeepsFailures, WritesFront, WritesWhole};
 ghost use Rattle.rr_page.specs.CellText.{cell_text};
 ghost use Rattle.rr_page.specs.Version.{latest};
 ghost use Rattle.rr_cells.specs.Listing.{seen_cell};
@@ -23,13 +21,11 @@ pub(crate) fn write_piece<W: Write>(
     hasher: &mut Sha256,
     piece: &[u8],
 ) -> Result<(), WriteFailed>
-    ensures whole { OnOk result (Appends (W.contents (inner_of output.old))
-        (W.contents (inner_of output.new)) piece.now) }
-    ensures front { AppendsPrefix (W.contents (inner_of output.old))
-        (W.contents (inner_of output.new)) piece.now }
+    ensures whole { OnOk result (WritesWhole W.contents output.old output.new piece.now) }
+    ensures front { WritesFront W.contents output.old output.new piece.now }
     ensures digest { (m : List ℕ) → Holds256 hasher.old m → Holds256 hasher.new (m ++ piece.now) }
-    ensures count { failures_of output.old ≤ failures_of output.new }
-    ensures failed { OnErr result (HasRisen (failures_of output.old) (failures_of output.new)) }
+    ensures failures_never_fall { KeepsFailures output.old output.new }
+    ensures failed { OnErr result (HasFailed output.old output.new) }
 {
     hasher.update(piece);
     write_all(output, piece)
@@ -42,16 +38,15 @@ pub(crate) fn write_cell<W: Write>(
     output: &mut Counted<W>,
     hasher: &mut Sha256,
 ) -> Result<(), SaveFault>
-    ensures whole { OnOk result (Appends (W.contents (inner_of output.old))
-        (W.contents (inner_of output.new)) (cell_text latest (seen_cell cell.now))) }
-    ensures front { AppendsPrefix (W.contents (inner_of output.old))
-        (W.contents (inner_of output.new)) (cell_text latest (seen_cell cell.now)) }
+    ensures whole { OnOk result (WritesWhole W.contents output.old output.new (cell_text latest
+        (seen_cell cell.now))) }
+    ensures front { WritesFront W.contents output.old output.new (cell_text latest (seen_cell
+        cell.now)) }
     ensures digest { OnOk result ((m : List ℕ) → Holds256 hasher.old m
         → Holds256 hasher.new (m ++ cell_text latest (seen_cell cell.now))) }
     ensures fits { result ≢ Err SaveFault.TooManyCells }
-    ensures count { failures_of output.old ≤ failures_of output.new }
-    ensures failed { result ≡ Err SaveFault.WriteFailed
-        → HasRisen (failures_of output.old) (failures_of output.new) }
+    ensures failures_never_fall { KeepsFailures output.old output.new }
+    ensures failed { result ≡ Err SaveFault.WriteFailed → HasFailed output.old output.new }
 {
     let cell = CellRef {
         key: cell.key,

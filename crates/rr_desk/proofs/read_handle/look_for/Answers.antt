@@ -10,8 +10,8 @@ use Rattle.rr_desk.proofs.read_handle.look_for.Goals as goal
 pub enter_as-requires : goal.enter_as-requires
 enter_as-requires g c x = sees _ _ _
 
-pub returns-then-newer-clause-told : goal.returns-then-newer-clause-told
-returns-then-newer-clause-told g c =
+pub returns-then-newer-clause-front_seen : goal.returns-then-newer-clause-front_seen
+returns-then-newer-clause-front_seen g c =
     let x = c.in-Ok.reading.part.value in
     let book : flat x.front.editions ≡ (view c.in-Ok.reading.place).seen = search rules in
     let left : view c.leave-seat.result.place ≡ view c.in-Ok.reading.place = search rules in

@@ -70,7 +70,7 @@ loop-frame-preserved g c =
       written = subst (Appends _ _) (sym (concat_more so_far.before frame))
           (Appends-trans _ _ _ _ _ so_far.written (rw c.deref.ensures.value at c.in_ok-write_all.ensures.whole));
       source = c.in_ok-frame.ensures.unchanged ∙ so_far.source;
-      count = omega (arith, so_far.count, c.in_ok-write_all.ensures.count);
+      count = omega (arith, so_far.count, c.in_ok-write_all.ensures.failures_never_fall);
     }
 
 pub returns-in_err-flush-clause-front : goal.returns-in_err-flush-clause-front

@@ -140,8 +140,8 @@ loop-frame-preserved g c =
       taken = λ n. frame_heard n s c.args.giver.now c.loop-frame.giver c.take.new.self so_far.frames frame _
           (so_far.taken n) (moves.going c.if-branch.false n);
       schema = c.in_ok-take.ensures.schema ∙ so_far.schema;
-      kept = g.met.S.Source.may_go_on _ _ _ so_far.kept c.in_ok-take.ensures.kept;
+      kept = g.met.S.Source.may_go_on _ _ _ so_far.kept c.in_ok-take.ensures.may_become;
       sent = moves.sent ∙ so_far.sent;
       limit = moves.limit ∙ so_far.limit;
-      count = omega (arith, so_far.count, c.in_ok-read_frame.ensures.count);
+      count = omega (arith, so_far.count, c.in_ok-read_frame.ensures.failures_never_fall);
     }

@@ -131,5 +131,5 @@ loop-frame-preserved g c =
       taken = frame_taken s c.args.puller.now c.loop-frame.puller c.take.new.self [] so_far.cells so_far.frames frame
           takes.0 c.in_ok-take.field-0 so_far.taken takes.1;
       joined = g.met.T.Target.joins_then _ _ _ so_far.cells takes.0 so_far.joined takes.2;
-      count = omega (arith, so_far.count, c.in_ok-read_frame.ensures.count);
+      count = omega (arith, so_far.count, c.in_ok-read_frame.ensures.failures_never_fall);
     }

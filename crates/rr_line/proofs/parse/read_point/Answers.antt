@@ -17,7 +17,7 @@ use Rattle.rr_line.proofs.parse.read_point.Goals as goal
 pub slice_bounds-front-count : goal.slice_bounds-front-count
 slice_bounds-front-count c =
     gap_within c.args.text.now (c.in_ok-measurement.measurement.now, c.in_ok-measurement.rest.now)
-    (tags_view c.in_ok-tags.tags.items, c.in_ok-tags.gap.now) c.requires.said c.in_ok-measurement.ensures
+    (tags_view c.in_ok-tags.tags.items, c.in_ok-tags.gap.now) c.requires.says_something c.in_ok-measurement.ensures
     c.in_ok-tags.ensures
 
 pub returns-in_err-fields-clause-read : goal.returns-in_err-fields-clause-read
@@ -28,7 +28,7 @@ returns-in_err-fields-clause-read c =
     length-take-le (length text - length tags.1) text (omega arith) in
     let fault = c.in_err-fields.field-0.0 in
     let whole = point_of_body c.args.precision text (c.in_ok-measurement.measurement.now, c.in_ok-measurement.rest.now)
-    tags _ c.requires.one_line c.requires.said c.in_ok-measurement.ensures c.in_ok-tags.ensures len in
+    tags _ c.requires.one_line c.requires.says_something c.in_ok-measurement.ensures c.in_ok-tags.ensures len in
     let said : (fault ≡ Memory) ⊎ (point_at c.args.precision text ≡ Err fault) =
     elim c.in_err-fields.ensures [ inl out ↦ inl out | inr is ↦ inr (whole ∙ rw is refl) ] in
     search rules
@@ -41,7 +41,7 @@ returns-clause-read c =
     let len : length (take (length text - length tags.1) text) ≡ length text - length tags.1 =
     length-take-le (length text - length tags.1) text (omega arith) in
     rw (c.new.ensures.measurement, c.new.ensures.tags, c.new.ensures.fields, c.new.ensures.time)
-    (point_of_body c.args.precision text measurement tags _ c.requires.one_line c.requires.said
+    (point_of_body c.args.precision text measurement tags _ c.requires.one_line c.requires.says_something
     c.in_ok-measurement.ensures c.in_ok-tags.ensures len
     ∙ ap (λ (r : Result (List Field × Option ℤ) LineFault). r >>= λ body. Ok
     (point_of measurement.0 tags.0 body.0 body.1)) c.in_ok-fields.ensures)
@@ -60,6 +60,6 @@ new-requires c =
     let plain : IsPlain front (tags_view c.as_slice.result.now) =
     subst (λ r. IfSome r (λ (f : Bor (List ℕ)). IsPlain front (tags_view c.as_slice.result.now))) is
     c.key_front-front.ensures.plain in
-    same ∙ front_text_of_steps text measurement tags gap.0 c.requires.one_line c.requires.said
+    same ∙ front_text_of_steps text measurement tags gap.0 c.requires.one_line c.requires.says_something
     c.in_ok-measurement.ensures c.in_ok-tags.ensures gap.1
     (subst (λ ts. IsPlain front (tags_view ts)) c.as_slice.ensures plain)

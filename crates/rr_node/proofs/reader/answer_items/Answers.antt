@@ -30,7 +30,7 @@ loop-text-preserved g c =
     record {
       written = written_more _ _ _ _ _ _ _ _ _ x.0 _ c.loop-text.invariant.written (hands_so _ _ _ _ x.1 next.1) x.2
           (rw c.deref.ensures.value at c.in_ok-write_all.ensures.whole);
-      count = omega (arith, c.loop-text.invariant.count, c.in_ok-write_all.ensures.count);
+      count = omega (arith, c.loop-text.invariant.count, c.in_ok-write_all.ensures.failures_never_fall);
     }
 
 pub returns-in_err-flush-clause-part_written : goal.returns-in_err-flush-clause-part_written

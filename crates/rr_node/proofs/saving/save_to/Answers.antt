@@ -15,7 +15,7 @@ returns g c =
     let back = grows_on _ _ _ _ _ opened (rw c.is_ok.ensures.value at c.take_back.ensures) in
     let save = c.save-saved.ensures in (
       _,
-      grows_on _ _ _ _ _ back c.tell.ensures.told,
+      grows_on _ _ _ _ _ back c.tell.ensures.reported,
       inr (inr (
         c.save-saved.result,
         c.tell.ensures.memory,

@@ -46,8 +46,8 @@ returns-in_err-ready-clause-of_schema g c =
           c.ready.ensures.limit ∙ c.loop-i.invariant.1.sized;
     }
 
-pub returns-in_err-ready-clause-kept : goal.returns-in_err-ready-clause-kept
-returns-in_err-ready-clause-kept g c = λ ready.
+pub returns-in_err-ready-clause-room_suffices : goal.returns-in_err-ready-clause-room_suffices
+returns-in_err-ready-clause-room_suffices g c = λ ready.
     let items = c.loop-i.archives.items in
     let at = found_at items c.loop-i.i c.index_mut.result.now (search rules) c.index_mut.ensures.value in
     let was : slice_get c.args.archives.now.items c.loop-i.i ≡ Some c.index_mut.result.now =
@@ -55,7 +55,7 @@ returns-in_err-ready-clause-kept g c = λ ready.
     let kept : to_z w64 (of_z w64 c.slot_near-slot.result) ≡ c.slot_near-slot.result = search rules in
     let slot : c.slot_near-slot.result ≡ slot_of c.args.schema.now c.loop-i.i c.args.time = search rules in
     let room = ready c.loop-i.i c.index_mut.result.now was c.loop-i.invariant.0 in
-    let ok : IsOk c.ready.result = c.ready.ensures.kept (rw (kept, slot) room) in
+    let ok : IsOk c.ready.result = c.ready.ensures.room_suffices (rw (kept, slot) room) in
     absurd (true≢false (sym (subst IsOk c.in_err-ready.was ok)))
 
 pub loop-i-preserved : goal.loop-i-preserved

@@ -29,7 +29,7 @@ put_ready-requires-clause-ready g c =
 pub returns-in_err-make_ready-clause-room : goal.returns-in_err-make_ready-clause-room
 returns-in_err-make_ready-clause-room g c = λ room.
     let back : to_z w64 (of_z w64 c.args.sample.now.time) ≡ c.args.sample.now.time = search rules in
-    let kept = rw back at c.make_ready.ensures.kept in
+    let kept = rw back at c.make_ready.ensures.room_suffices in
     let ok : IsOk c.make_ready.result = kept (λ i a at _. room i a at (omega arith)) in
     absurd (true≢false (sym (subst IsOk c.in_err-make_ready.was ok)))
 

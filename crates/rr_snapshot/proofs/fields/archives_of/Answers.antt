@@ -7,7 +7,7 @@ returns-clause-addition c = (archives_told c.args.version c.args.schema.now c.ar
     c.in_ok-field.field.now c.in_ok-field.rest.now c.in-Some.addition c.in_ok-field.ensures.read
     (sym c.in-Some.ensures)).0
 
-pub returns-clause-many : goal.returns-clause-many
-returns-clause-many c = (archives_told c.args.version c.args.schema.now c.args.number c.args.bytes.now
+pub returns-clause-archive_count : goal.returns-clause-archive_count
+returns-clause-archive_count c = (archives_told c.args.version c.args.schema.now c.args.number c.args.bytes.now
     c.in_ok-field.field.now c.in_ok-field.rest.now c.in-Some.addition c.in_ok-field.ensures.read
     (sym c.in-Some.ensures)).1

@@ -166,7 +166,7 @@ returns-in_err-addition-clause-most g c =
     let now = g.R.Read.remaining (inner_of c.archives_from.new.input) in
     let s = c.args.schema.now in
     let n = c.in_ok-version.number in
-    let few = c.in_ok-version.ensures.few in
+    let few = c.in_ok-version.ensures.number_at_most in
     let all = length (schema_bytes s) in
     took_more 10 (9 * n + 2) (all + 11) old mid now c.start_from.ensures.most c.archives_from.ensures.most
     (omega (arith, few, schema_len s))
@@ -178,7 +178,7 @@ returns-in-Err-clause-most g c =
     let now = g.R.Read.remaining (inner_of c.archives_from.new.input) in
     let s = c.args.schema.now in
     let n = c.in_ok-version.number in
-    let few = c.in_ok-version.ensures.few in
+    let few = c.in_ok-version.ensures.number_at_most in
     let all = length (schema_bytes s) in
     took_more 10 (9 * n + 2) (all + 11) old mid now c.start_from.ensures.most c.archives_from.ensures.most
     (omega (arith, few, schema_len s))
@@ -190,7 +190,7 @@ returns-in-Err-clause-bad_origin g c = λ e.
     let now = g.R.Read.remaining (inner_of c.archives_from.new.input) in
     let s = c.args.schema.now in
     let n = c.in_ok-version.number in
-    let few = c.in_ok-version.ensures.few in
+    let few = c.in_ok-version.ensures.number_at_most in
     let all = length (schema_bytes s) in
     took_more 10 (9 * n + 2) (all + 11 - 4) old mid now c.start_from.ensures.most c.archives_from.ensures.most
     (omega (arith, few, schema_len s))
@@ -203,7 +203,7 @@ returns-in_err-count-clause-most g c =
     let new = g.R.Read.remaining (inner_of c.count_from.new.input) in
     let s = c.args.schema.now in
     let n = c.in_ok-version.number in
-    let few = c.in_ok-version.ensures.few in
+    let few = c.in_ok-version.ensures.number_at_most in
     let all = length (schema_bytes s) in
     took_more (all + 7) 4 (all + 11) old now new (took_more 10 (9 * n + 2) (all + 7) old mid now
     c.start_from.ensures.most c.archives_from.ensures.most (omega (arith, few, schema_len s)))
@@ -217,7 +217,7 @@ returns-clause-most g c =
     let new = g.R.Read.remaining (inner_of c.count_from.new.input) in
     let s = c.args.schema.now in
     let n = c.in_ok-version.number in
-    let few = c.in_ok-version.ensures.few in
+    let few = c.in_ok-version.ensures.number_at_most in
     let all = length (schema_bytes s) in
     took_more (all + 7) 4 (all + 11) old now new (took_more 10 (9 * n + 2) (all + 7) old mid now
     c.start_from.ensures.most c.archives_from.ensures.most (omega (arith, few, schema_len s)))

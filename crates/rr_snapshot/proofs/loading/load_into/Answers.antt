@@ -180,35 +180,35 @@ returns-then-eq-clause-failed g c = λ e. absurd (cc e)
 pub returns-clause-failed : goal.returns-clause-failed
 returns-clause-failed g c = λ e. absurd (cc e)
 
-pub returns-in_err-digest_from-clause-count : goal.returns-in_err-digest_from-clause-count
-returns-in_err-digest_from-clause-count g c = omega
-    (arith, c.head_from.ensures.count, c.join_cells_after.ensures.count, c.digest_from.ensures.count)
+pub returns-in_err-digest_from-clause-failures_never_fall : goal.returns-in_err-digest_from-clause-failures_never_fall
+returns-in_err-digest_from-clause-failures_never_fall g c = omega
+    (arith, c.head_from.ensures.failures_never_fall, c.join_cells_after.ensures.failures_never_fall, c.digest_from.ensures.failures_never_fall)
 
-pub returns-in_err-end_from-clause-count : goal.returns-in_err-end_from-clause-count
-returns-in_err-end_from-clause-count g c = omega (
+pub returns-in_err-end_from-clause-failures_never_fall : goal.returns-in_err-end_from-clause-failures_never_fall
+returns-in_err-end_from-clause-failures_never_fall g c = omega (
   arith,
-  c.head_from.ensures.count,
-  c.join_cells_after.ensures.count,
-  c.digest_from.ensures.count,
-  c.end_from.ensures.count,
+  c.head_from.ensures.failures_never_fall,
+  c.join_cells_after.ensures.failures_never_fall,
+  c.digest_from.ensures.failures_never_fall,
+  c.end_from.ensures.failures_never_fall,
 )
 
-pub returns-then-eq-clause-count : goal.returns-then-eq-clause-count
-returns-then-eq-clause-count g c = omega (
+pub returns-then-eq-clause-failures_never_fall : goal.returns-then-eq-clause-failures_never_fall
+returns-then-eq-clause-failures_never_fall g c = omega (
   arith,
-  c.head_from.ensures.count,
-  c.join_cells_after.ensures.count,
-  c.digest_from.ensures.count,
-  c.end_from.ensures.count,
+  c.head_from.ensures.failures_never_fall,
+  c.join_cells_after.ensures.failures_never_fall,
+  c.digest_from.ensures.failures_never_fall,
+  c.end_from.ensures.failures_never_fall,
 )
 
-pub returns-clause-count : goal.returns-clause-count
-returns-clause-count g c = omega (
+pub returns-clause-failures_never_fall : goal.returns-clause-failures_never_fall
+returns-clause-failures_never_fall g c = omega (
   arith,
-  c.head_from.ensures.count,
-  c.join_cells_after.ensures.count,
-  c.digest_from.ensures.count,
-  c.end_from.ensures.count,
+  c.head_from.ensures.failures_never_fall,
+  c.join_cells_after.ensures.failures_never_fall,
+  c.digest_from.ensures.failures_never_fall,
+  c.end_from.ensures.failures_never_fall,
 )
 
 pub returns-in_err-has_own-clause-memory : goal.returns-in_err-has_own-clause-memory

@@ -44,5 +44,5 @@ unread c origin room =
 pub returns-in-Some-clause-room : goal.returns-in-Some-clause-room
 returns-in-Some-clause-room c = λ origin room. absurd (unread c origin room)
 
-pub returns-in-Some-clause-kept : goal.returns-in-Some-clause-kept
-returns-in-Some-clause-kept c = λ origin room. absurd (unread c origin room)
+pub returns-in-Some-clause-rows_stay : goal.returns-in-Some-clause-rows_stay
+returns-in-Some-clause-rows_stay c = λ origin room. absurd (unread c origin room)

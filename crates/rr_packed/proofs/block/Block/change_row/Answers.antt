@@ -57,7 +57,7 @@ returns-in_err-change-clause-room c = λ room.
     c.index_mut.ensures.value in
     let ok : IsOk c.change.result = c.change.ensures.room
     (room_of_entries mid k c.args.origin was (found_entries mid k c.in-Some.at was c.in-Some.ensures.place has)
-    (c.unpack.ensures.kept c.args.origin room)) in
+    (c.unpack.ensures.room_stays c.args.origin room)) in
     absurd (true≢false (sym (subst IsOk c.in_err-change.was ok)))
 
 pub returns-in-Some-clause-changed : goal.returns-in-Some-clause-changed
@@ -107,5 +107,5 @@ returns-clause-room c = λ room.
     let k = c.args.number in
     let none : item_in mid.rows k ≡ None = item_none mid.rows.mask mid.rows.items.items k
     (sym c.in_default.ensures.place) in
-    let free = room_is_free mid k c.args.origin none (c.unpack.ensures.kept c.args.origin room) in
+    let free = room_is_free mid k c.args.origin none (c.unpack.ensures.room_stays c.args.origin room) in
     c.add_entry.ensures.room free.rows

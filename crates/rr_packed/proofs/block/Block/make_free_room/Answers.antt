@@ -14,13 +14,13 @@ returns-in_err-make_room-clause-same c =
     let new : Block = record { alloc = b.alloc; source = b.source; readings = c.make_room.new.self; rows = b.rows } in
     block_same b new (λ n. refl) refl (λ n. ap (λ f. f n) c.make_room.ensures.same)
 
-pub returns-in_err-make_room-clause-kept : goal.returns-in_err-make_room-clause-kept
-returns-in_err-make_room-clause-kept c = λ origin room.
+pub returns-in_err-make_room-clause-room_suffices : goal.returns-in_err-make_room-clause-room_suffices
+returns-in_err-make_room-clause-room_suffices c = λ origin room.
     let b = c.args.self.now in
     let k = c.args.number in
     let none : item_in b.rows k ≡ None = item_none b.rows.mask b.rows.items.items k c.requires.rows in
     let free = room_is_free b k origin none room in
-    let ok : IsOk c.make_room.result = c.make_room.ensures.kept free.readings in
+    let ok : IsOk c.make_room.result = c.make_room.ensures.room_suffices free.readings in
     absurd (true≢false (sym (subst IsOk c.in_err-make_room.was ok)))
 
 pub returns-clause-same : goal.returns-clause-same
@@ -55,9 +55,9 @@ returns-clause-room c = λ origin.
     }))
     c.make_room-2.ensures.room
 
-pub returns-clause-kept : goal.returns-clause-kept
-returns-clause-kept c = λ origin room.
+pub returns-clause-room_suffices : goal.returns-clause-room_suffices
+returns-clause-room_suffices c = λ origin room.
     let b = c.args.self.now in
     let k = c.args.number in
     let none : item_in b.rows k ≡ None = item_none b.rows.mask b.rows.items.items k c.requires.rows in
-    c.make_room-2.ensures.kept (room_is_free b k origin none room).rows
+    c.make_room-2.ensures.room_suffices (room_is_free b k origin none room).rows

@@ -30,14 +30,14 @@ returns-in-Some-clause-room c = room_there c.make_room.result c.unpack.new.self 
     c.args.origin c.index_mut.result.now c.make_room.new.self c.in-Some.ensures.place (there c) refl refl
     c.make_room.ensures.room
 
-pub returns-in-Some-clause-kept : goal.returns-in-Some-clause-kept
-returns-in-Some-clause-kept c = λ room.
+pub returns-in-Some-clause-room_suffices : goal.returns-in-Some-clause-room_suffices
+returns-in-Some-clause-room_suffices c = λ room.
     let mid = c.unpack.new.self in
     let k = c.args.number in
     let was : Entries = c.index_mut.result.now in
-    c.make_room.ensures.kept (room_of_entries mid k c.args.origin was
+    c.make_room.ensures.room_suffices (room_of_entries mid k c.args.origin was
     (found_entries mid k c.in-Some.at was c.in-Some.ensures.place (there c))
-    (c.unpack.ensures.kept c.args.origin room))
+    (c.unpack.ensures.room_stays c.args.origin room))
 
 -- ---- it has no entry
 
@@ -53,14 +53,14 @@ returns-in_err-make_room-clause-same c =
     } in
     block_same mid new (λ n. refl) refl (λ n. ap (λ f. f n) c.make_room-2.ensures.same) ∙ c.unpack.ensures.same
 
-pub returns-in_err-make_room-clause-kept : goal.returns-in_err-make_room-clause-kept
-returns-in_err-make_room-clause-kept c = λ room.
+pub returns-in_err-make_room-clause-room_suffices : goal.returns-in_err-make_room-clause-room_suffices
+returns-in_err-make_room-clause-room_suffices c = λ room.
     let mid = c.unpack.new.self in
     let k = c.args.number in
     let none : item_in mid.rows k ≡ None = item_none mid.rows.mask mid.rows.items.items k
     (sym c.in_default.ensures.place) in
-    let free = room_is_free mid k c.args.origin none (c.unpack.ensures.kept c.args.origin room) in
-    let ok : IsOk c.make_room-2.result = c.make_room-2.ensures.kept free.readings in
+    let free = room_is_free mid k c.args.origin none (c.unpack.ensures.room_stays c.args.origin room) in
+    let ok : IsOk c.make_room-2.result = c.make_room-2.ensures.room_suffices free.readings in
     absurd (true≢false (sym (subst IsOk c.in_err-make_room.was ok)))
 
 pub returns-clause-same : goal.returns-clause-same
@@ -100,10 +100,10 @@ returns-clause-room c =
       rows = rows;
     })) c.make_room-3.ensures.room
 
-pub returns-clause-kept : goal.returns-clause-kept
-returns-clause-kept c = λ room.
+pub returns-clause-room_suffices : goal.returns-clause-room_suffices
+returns-clause-room_suffices c = λ room.
     let mid = c.unpack.new.self in
     let k = c.args.number in
     let none : item_in mid.rows k ≡ None = item_none mid.rows.mask mid.rows.items.items k
     (sym c.in_default.ensures.place) in
-    c.make_room-3.ensures.kept (room_is_free mid k c.args.origin none (c.unpack.ensures.kept c.args.origin room)).rows
+    c.make_room-3.ensures.room_suffices (room_is_free mid k c.args.origin none (c.unpack.ensures.room_stays c.args.origin room)).rows

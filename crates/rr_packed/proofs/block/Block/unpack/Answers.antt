@@ -17,12 +17,12 @@ returns-clause-same c =
     search rules in
     reading_removed mid new k (λ n. refl) refl c.remove.ensures.removed spare ∙ c.add_entries.ensures.same
 
-pub returns-clause-kept : goal.returns-clause-kept
-returns-clause-kept c = λ origin room.
+pub returns-clause-room_stays : goal.returns-clause-room_stays
+returns-clause-room_stays c = λ origin room.
     let mid = c.add_entries.new.self in
     let k = c.args.number in
     let new : Block = record { alloc = mid.alloc; source = mid.source; readings = c.remove.new.self; rows = mid.rows }
     in
-    room_kept c.args.self.now new k origin (c.add_entries.ensures.kept origin room)
+    room_kept c.args.self.now new k origin (c.add_entries.ensures.rows_stay origin room)
     (λ unread. c.remove.ensures.absent (ap (λ (r : Sparse Reading). place_at r.mask k)
     c.add_entries.ensures.readings ∙ unread) ∙ c.add_entries.ensures.readings) room

@@ -5,15 +5,15 @@ use Rattle.rr_packed.specs.Blocks.{items_by_slot, IsGapFor}
 use Rattle.rr_packed.proofs.BlocksLemmas.{either, blocks_added, room_missing, room_at}
 use Rattle.rr_packed.proofs.blocks.Blocks.make_new_room.Goals as goal
 
-pub returns-in_err-make_room-clause-kept : goal.returns-in_err-make_room-clause-kept
-returns-in_err-make_room-clause-kept c = λ room.
+pub returns-in_err-make_room-clause-room_suffices : goal.returns-in_err-make_room-clause-room_suffices
+returns-in_err-make_room-clause-room_suffices c = λ room.
     let number : to_z w64 (of_z w64 c.block_of-number.result) ≡ block_of c.args.slot = search rules in
     let gap : IsGapFor (block_of c.args.slot) c.args.self.now.blocks.items c.args.at =
     c.requires in
     absurd (room_missing c.args.self.now c.args.slot c.args.origin (sym gap.0) room)
 
-pub returns-clause-kept : goal.returns-clause-kept
-returns-clause-kept c = λ room.
+pub returns-clause-room_suffices : goal.returns-clause-room_suffices
+returns-clause-room_suffices c = λ room.
     let number : to_z w64 (of_z w64 c.block_of-number.result) ≡ block_of c.args.slot = search rules in
     let gap : IsGapFor (block_of c.args.slot) c.args.self.now.blocks.items c.args.at =
     c.requires in

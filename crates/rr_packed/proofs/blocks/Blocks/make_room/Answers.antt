@@ -39,15 +39,15 @@ returns-in-Ok-clause-room c =
     (block_put bs (block_of c.args.slot) c.in-Ok.at was c.make_room.new.self c.args.self.now.ordered place
     c.index_mut.ensures.value)) (rw row at c.make_room.ensures.room)
 
-pub returns-in-Ok-clause-kept : goal.returns-in-Ok-clause-kept
-returns-in-Ok-clause-kept c = λ room.
+pub returns-in-Ok-clause-room_suffices : goal.returns-in-Ok-clause-room_suffices
+returns-in-Ok-clause-room_suffices c = λ room.
     let bs = c.args.self.now.blocks.items in
     let number : to_z w64 (of_z w64 c.block_of-number.result) ≡ block_of c.args.slot = search rules in
     let row : c.row_of-row.result ≡ row_of c.args.slot = search rules in
     let place : IsPlaceOf (block_of c.args.slot) bs c.in-Ok.at = rw number at c.in-Ok.ensures.found in
     let has = block_there bs (block_of c.args.slot) c.in-Ok.at c.index_mut.result.now c.args.self.now.ordered place
     c.index_mut.ensures.value in
-    (rw row at c.make_room.ensures.kept) (room_found c.args.self.now c.args.slot c.args.origin c.index_mut.result.now.1
+    (rw row at c.make_room.ensures.room_suffices) (room_found c.args.self.now c.args.slot c.args.origin c.index_mut.result.now.1
     (sym has) room)
 
 -- ---- it isn't

@@ -47,7 +47,7 @@ loop-k-preserved c =
     let step = length_step f z a.rows c.loop-k.k within in
     let here = ap length row in
     let so_far = c.loop-k.invariant.counted in
-    let skipped = ap length (left_skip f z a.rows c.loop-k.k c.slots_on-k.result c.slots_on-k.ensures.some (omega arith)
+    let skipped = ap length (left_skip f z a.rows c.loop-k.k c.slots_on-k.result c.slots_on-k.ensures.at_least_one (omega arith)
     (λ j some h. ap (λ y. f (y +ℤ pos j)) (sym at_is) ∙ c.slots_on-k.ensures.empty j some h)) in
     record { counted = omega arith; within = omega arith }
 

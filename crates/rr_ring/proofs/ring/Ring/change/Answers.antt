@@ -82,7 +82,7 @@ returns-clause-room c = λ room.
     room in
     c.change.ensures.room (subst (λ z. IsTrue (has_room_in c.index_mut.result.now (at % BLOCK_ROWS) z c.args.origin))
     (sym f.slot) (blocks_room ring.blocks.items c.add_blocks.new.self.blocks.items at c.index_mut.result.now
-    c.args.slot c.args.origin c.add_blocks.ensures.kept f.has here))
+    c.args.slot c.args.origin c.add_blocks.ensures.blocks_stay f.has here))
 
 pub returns-clause-is_new : goal.returns-clause-is_new
 returns-clause-is_new c =

@@ -38,9 +38,9 @@ returns-clause-room c =
     c.args.origin)) is (blocks_room_made made.blocks.items at c.make_room.new.self c.args.slot c.args.origin within
     room)) (rw slot at c.make_room.ensures.room)
 
-pub returns-in_err-add_blocks-clause-kept : goal.returns-in_err-add_blocks-clause-kept
+pub returns-in_err-add_blocks-clause-room_suffices : goal.returns-in_err-add_blocks-clause-room_suffices
 unfolding has_room
-returns-in_err-add_blocks-clause-kept c = λ room.
+returns-in_err-add_blocks-clause-room_suffices c = λ room.
     let ring = c.args.self.now in
     let slot : to_z w64 (of_z w64 c.args.slot) ≡ c.args.slot = search rules in
     let at : c.position-position.result ≡ position_of ring.rows c.args.slot = c.position-position.ensures.position
@@ -50,9 +50,9 @@ returns-in_err-add_blocks-clause-kept c = λ room.
     (blocks_room_within ring.blocks.items c.position-position.result c.args.slot c.args.origin here) in
     absurd (true≢false (sym (subst IsOk c.in_err-add_blocks.was ok)))
 
-pub returns-clause-kept : goal.returns-clause-kept
+pub returns-clause-room_suffices : goal.returns-clause-room_suffices
 unfolding has_room
-returns-clause-kept c = λ room.
+returns-clause-room_suffices c = λ room.
     let ring = c.args.self.now in
     let at = c.position-position.result in
     let blocks = c.add_blocks.new.self.blocks.items in
@@ -64,6 +64,6 @@ returns-clause-kept c = λ room.
     slice_get-get_or blocks (at / BLOCK_ROWS) c.index_mut.result.now within
     ∙ ap (λ x. Some x) (sym c.index_mut.ensures.value) in
     let here = subst (λ k. IsTrue (has_room_by_position ring.blocks.items k c.args.slot c.args.origin)) (sym is) room in
-    c.make_room.ensures.kept (subst (λ z. IsTrue (has_room_in c.index_mut.result.now (at % BLOCK_ROWS) z c.args.origin))
+    c.make_room.ensures.room_suffices (subst (λ z. IsTrue (has_room_in c.index_mut.result.now (at % BLOCK_ROWS) z c.args.origin))
     (sym slot) (blocks_room ring.blocks.items blocks at c.index_mut.result.now c.args.slot c.args.origin
-    c.add_blocks.ensures.kept has here))
+    c.add_blocks.ensures.blocks_stay has here))

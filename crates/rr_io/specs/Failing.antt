@@ -1,6 +1,6 @@
 -- A stream of which one call fails: what it shows, and what a call does to it.
 use Rattle.std.specs.Prelude.{ℕ, ◌-◌, ◌==◌, Bool, false, Option, None, Some, if◌then◌else◌}
-use Rattle.rr_base.specs.declared.failing.Failing.{Failing}
+use Rattle.rr_io.specs.declared.failing.Failing.{Failing}
 
 -- the reader or writer inside
 abbrev pub stream_in : {S : Type 0} → Failing S → S

@@ -3,7 +3,7 @@
 ghost use Rattle.std.specs.Prelude.{◌≡◌, Some, true, IsErr};
 ghost use Rattle.std.specs.Io.{ReadsAtMost, WritesAtMost};
 ghost use Rattle.std.specs.Io.KnownBytes.{Keeps, ReadConsumes, WriteAppends};
-ghost use Rattle.rr_base.specs.Failing.{stream_in, calls_left, one_call_less, fails_next};
+ghost use Rattle.rr_io.specs.Failing.{stream_in, calls_left, one_call_less, fails_next};
 
 use std::io;
 use std::io::{ErrorKind, Read, Write};
@@ -72,7 +72,7 @@ impl<R: Read> Read for Failing<R> {
             (R.remaining (stream_in self.new)) result buf.new }
         ensures calls { calls_left self.new ≡ one_call_less (calls_left self.old) }
         ensures fails { fails_next (calls_left self.old) ≡ true → IsErr result }
-        ensures kept { fails_next (calls_left self.old) ≡ true
+        ensures unchanged { fails_next (calls_left self.old) ≡ true
             → stream_in self.new ≡ stream_in self.old }
     {
         if self.is_due() {
@@ -91,7 +91,7 @@ impl<W: Write> Write for Failing<W> {
             (W.contents (stream_in self.new)) result buf.now }
         ensures calls { calls_left self.new ≡ one_call_less (calls_left self.old) }
         ensures fails { fails_next (calls_left self.old) ≡ true → IsErr result }
-        ensures kept { fails_next (calls_left self.old) ≡ true
+        ensures unchanged { fails_next (calls_left self.old) ≡ true
             → stream_in self.new ≡ stream_in self.old }
     {
         if self.is_due() {
@@ -104,7 +104,7 @@ impl<W: Write> Write for Failing<W> {
         ensures bytes { Keeps (W.contents (stream_in self.old)) (W.contents (stream_in self.new)) }
         ensures calls { calls_left self.new ≡ one_call_less (calls_left self.old) }
         ensures fails { fails_next (calls_left self.old) ≡ true → IsErr result }
-        ensures kept { fails_next (calls_left self.old) ≡ true
+        ensures unchanged { fails_next (calls_left self.old) ≡ true
             → stream_in self.new ≡ stream_in self.old }
     {
         if self.is_due() {
