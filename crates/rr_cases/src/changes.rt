@@ -36,7 +36,9 @@ fn with_change(alloc: Global, bytes: &[u8], line: &str) -> Result<Vec<u8>> {
 
 /// The bytes with some changed from an offset on.
 fn changed_at(alloc: Global, bytes: &[u8], at: usize, change: &str) -> Result<Vec<u8>> {
-    let (front, back) = bytes.split_at_checked(at).context("an offset past the end")?;
+    let (front, back) = bytes
+        .split_at_checked(at)
+        .context("an offset past the end")?;
     if change == "end" {
         return Ok(Vec::from_slice(alloc, front)?);
     }

@@ -117,7 +117,10 @@ fn answer_of_keeper<A: Cells>(
         "put" => put(alloc, keeper, settings, words),
         "join" => join(alloc, keeper, settings, words),
         "save" => save(alloc, keeper, settings),
-        "past" => Ok((format!(in alloc; "{}", keeper.past_horizon())?, Vec::new(alloc))),
+        "past" => Ok((
+            format!(in alloc; "{}", keeper.past_horizon())?,
+            Vec::new(alloc),
+        )),
         _ => bail!("an unknown call"),
     }
 }
@@ -339,7 +342,10 @@ fn keys<A: Cells>(
     let keys = reader.keys_after(alloc, after.as_ref(), count);
     end(alloc, settings.growths);
     match keys {
-        Ok(keys) => Ok((text_of(alloc, "done")?, key_lines(alloc, &keys)?.into_bytes())),
+        Ok(keys) => Ok((
+            text_of(alloc, "done")?,
+            key_lines(alloc, &keys)?.into_bytes(),
+        )),
         Err(AllocError) => ending(alloc, Err(AllocError)),
     }
 }

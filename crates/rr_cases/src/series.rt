@@ -6,10 +6,7 @@ use rr_key::SeriesKey;
 use std::alloc::{AllocError, Global};
 
 /// The words COUNT and KEY: how many keys, and behind which, if there is one.
-pub(crate) fn behind_of(
-    alloc: Global,
-    mut words: Words<'_>,
-) -> Result<(usize, Option<SeriesKey>)> {
+pub(crate) fn behind_of(alloc: Global, mut words: Words<'_>) -> Result<(usize, Option<SeriesKey>)> {
     let count = words.number()?;
     let text = words.rest();
     if text.is_empty() {

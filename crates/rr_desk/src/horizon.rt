@@ -39,7 +39,9 @@ fn latest_in<A: Cells>(replica: &Replica<A>, key: &SeriesKey) -> i64 {
         if let Some(archive) = replica.archive(key, i as u8)
             && let Some(newest) = archive.newest()
         {
-            let end = newest.saturating_add(1).saturating_mul(i64::from(schema.span(i as u8)));
+            let end = newest
+                .saturating_add(1)
+                .saturating_mul(i64::from(schema.span(i as u8)));
             latest = end.saturating_mul(NANOSECONDS).max(latest);
         }
     }
