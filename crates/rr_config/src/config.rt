@@ -176,7 +176,8 @@ impl Config {
     /// Refusals, in this order: those of the schema; then key by key, in the order above,
     /// `MissingField`, `WrongKind`, and `BadCount` or `BadPrecision`. `http` is refused as
     /// `BadCount` beside `rounds` or `visits`, and `http_seats` if the readers are then more than
-    /// 16. `Memory` is answered where memory runs out. The cost is that of reading the text once.
+    /// 16; `durable` is `MissingField` without `http`. `Memory` is answered where memory runs out.
+    /// The cost is that of reading the text once.
     pub fn from_toml(alloc: Global, text: &[u8]) -> Result<Config, ConfigFault>
         ensures read { GivesUnless ConfigFault.Memory config_view result (config_of text.now) }
         ensures foreign { is_utf8 text.now ≡ false → result ≡ Err (ConfigFault.Schema BadToml) }

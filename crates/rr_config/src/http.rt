@@ -4,10 +4,10 @@ ghost use Rattle.std.specs.Prelude.{◌≡◌, option_map};
 ghost use Rattle.std.specs.String.{string_bytes};
 ghost use Rattle.toml.specs.View.{table_view, view};
 ghost use Rattle.rr_text.specs.Results.{GivesUnless};
-ghost use Rattle.rr_config.specs.Http.{address_in, http_in, http_view, seats_in, seats_of};
+ghost use Rattle.rr_config.specs.Http.{address_in, durable_in, http_in, http_view, seats_in, seats_of};
 
 use crate::fault::ConfigFault;
-use crate::value::{count_of, find, text_of};
+use crate::value::{count_of, find, flag_of, text_of};
 use rr_text::limits::MAX_READERS;
 use std::alloc::Global;
 use toml::{Table, Value};
@@ -30,6 +30,8 @@ pub struct Http {
     /// How many requests are answered beside each other, from 1 to 14, each with a reader of its
     /// own.
     pub seats: u64,
+    /// Whether a write is answered once a snapshot with it stands.
+    pub durable: bool,
 }
 
 /// The number of seats.
@@ -78,6 +80,21 @@ pub(crate) fn seats_in(table: &Table, is_asked: bool, readers: usize) -> Result<
     Ok(seats)
 }
 
+/// Whether writes wait for a snapshot, which they don't if the key is missing. It is refused for a
+/// node that isn't asked over HTTP.
+pub(crate) fn durable_in(table: &Table, is_asked: bool) -> Result<bool, ConfigFault>
+    ensures { result ≡ durable_in (table_view table.now) is_asked }
+{
+    let durable = match find(table, "durable") {
+        Some(value) => flag_of(value)?,
+        None => false,
+    };
+    if durable && !is_asked {
+        return Err(ConfigFault::MissingField);
+    }
+    Ok(durable)
+}
+
 /// How a node is asked over HTTP, if it is, beside so many rounds, visits and readers of other
 /// addresses.
 #[tactic(auto, unfolding(crate::specs::Http::http_in))]
@@ -93,8 +110,13 @@ pub(crate) fn http_in(
 {
     let address = address_in(alloc, table, rounds, visits)?;
     let seats = seats_in(table, address.is_some(), readers)?;
+    let durable = durable_in(table, address.is_some())?;
     match address {
-        Some(address) => Ok(Some(Http { address, seats })),
+        Some(address) => Ok(Some(Http {
+            address,
+            seats,
+            durable,
+        })),
         None => Ok(None),
     }
 }

@@ -2,7 +2,7 @@
 
 use crate::config::{count_in, lead_in, peers_in, precision_in, quiet_in, seconds_in, status_in};
 use crate::fault::ConfigFault;
-use crate::http::{address_in, seats_in};
+use crate::http::{address_in, durable_in, seats_in};
 use crate::value::{find, readers_of, text_of, value_at};
 use rr_schema::{ArchiveSpec, Schema, SchemaFault};
 use std::alloc::Global;
@@ -62,6 +62,7 @@ fn refused_node_key(alloc: Global, table: &Table) -> Option<&'static str> {
         ("status", status_in(alloc, table).is_err()),
         ("http", is_no_http(alloc, table)),
         ("http_seats", are_no_seats(alloc, table)),
+        ("durable", is_not_durable(table)),
     ];
     for (key, is_refused) in refusals {
         if is_refused {
@@ -98,6 +99,11 @@ fn are_no_seats(alloc: Global, table: &Table) -> bool {
         Err(_) => 0,
     };
     seats_in(table, is_asked, readers).is_err()
+}
+
+/// Whether it is refused that writes wait for a snapshot.
+fn is_not_durable(table: &Table) -> bool {
+    durable_in(table, find(table, "http").is_some()).is_err()
 }
 
 /// Whether the addresses of fetches are refused.

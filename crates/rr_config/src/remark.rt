@@ -8,7 +8,7 @@ use std::str;
 use toml::Table;
 
 /// The keys of a node.
-const NODE_KEYS: [&str; 15] = [
+const NODE_KEYS: [&str; 16] = [
     "step",
     "archive",
     "lines",
@@ -24,6 +24,7 @@ const NODE_KEYS: [&str; 15] = [
     "status",
     "http",
     "http_seats",
+    "durable",
 ];
 
 /// What an operator is told of a text beside its configuration or its fault, a line each.

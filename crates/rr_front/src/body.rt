@@ -9,6 +9,8 @@ pub struct LineAnswers {
     pub refusals: Vec<u8>,
     /// The report, without its line feed; missing if there was no memory for it.
     pub report: Option<Vec<u8>>,
+    /// Whether the lines were to be saved first, and aren't.
+    pub is_unsaved: bool,
 }
 
 /// The body of a write, and the slip on which is said what its lines were answered.

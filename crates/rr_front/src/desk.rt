@@ -2,18 +2,23 @@
 
 use crate::body::{Body, LineAnswers};
 use crate::fetching::answer_fetch;
+use crate::listing::list_keys;
 use crate::response::{fill, fill_failed};
 use crate::visits::Queue;
 use bytes::Bytes;
 use http::{Request, header};
 use http_server::{Response, Service};
 use rr_desk::Reader;
-use rr_host::{Clock, HaltFlag, SystemClock};
+use rr_host::{Board, Clock, HaltFlag, SystemClock};
+use rr_key::KeyFault;
 use rr_line::Precision;
 use rr_node::OpenGate;
 use rr_packed::PackedArchive;
 use rr_turns::{Slip, Told};
-use rr_web::{Ask, Kind, Reply, Status, asked_by, is_precision, parameter, write_reply};
+use rr_web::{
+    Ask, Kind, Reply, Status, asked_by, count_in, fetch_reply, form_in, is_precision, page_reply,
+    parameter, refusal_reply, write_reply,
+};
 use std::alloc::{AllocError, Global};
 use std::sync::Wait;
 use std::time;
@@ -38,6 +43,10 @@ pub struct Desk {
     pub halt: HaltFlag,
     /// The unit of the times of lines.
     pub precision: Precision,
+    /// What the node is, in the text form of Prometheus.
+    pub about: Vec<u8>,
+    /// What it did, as its keeper puts it up.
+    pub board: Board,
 }
 
 /// Whoever answers requests at a desk.
@@ -82,11 +91,6 @@ fn has_coding(request: &Request<Bytes>) -> bool {
     }
 }
 
-/// Whether what a fetch was answered is a refusal: each record has a comma, and no refusal has one.
-fn is_refusal(text: &[u8]) -> bool {
-    text.starts_with(b"error ") && !text.contains(&b',')
-}
-
 impl<T: Wait + time::Clock> Clerk<'_, T> {
     /// The second after the present one, up to which `last` counts.
     fn next_second(&self) -> i64 {
@@ -96,26 +100,43 @@ impl<T: Wait + time::Clock> Clerk<'_, T> {
 
     /// The answer to a fetch.
     fn fetch(&mut self, request: &Request<Bytes>) -> Result<Reply, AllocError> {
+        let alloc = self.desk.alloc;
+        let query = query_of(request);
+        let Some(form) = form_in(alloc, query)? else {
+            return refusal_reply(alloc, "BadFormat");
+        };
         let now = self.next_second();
-        let desk = &mut self.desk;
         let mut gate = OpenGate::new();
-        let text = answer_fetch(
-            desk.alloc,
-            query_of(request),
-            now,
-            &mut desk.reader,
-            &mut gate,
-        )?;
-        if is_refusal(&text) {
-            return Ok(Reply {
-                status: Status::BadRequest,
+        let text = answer_fetch(alloc, query, now, &mut self.desk.reader, &mut gate)?;
+        fetch_reply(alloc, form, query, text)
+    }
+
+    /// The keys of series, a line each.
+    fn series(&mut self, request: &Request<Bytes>) -> Result<Reply, AllocError> {
+        let alloc = self.desk.alloc;
+        let query = query_of(request);
+        let count = match count_in(alloc, query)? {
+            Ok(count) => count,
+            Err(fault) => return refusal_reply(alloc, fault.name()),
+        };
+        match list_keys(alloc, &mut self.desk.reader, query, count) {
+            Ok(text) => Ok(Reply {
+                status: Status::Ok,
                 kind: Kind::Plain,
                 text,
-            });
+            }),
+            Err(KeyFault::Memory) => Err(AllocError),
+            Err(fault) => refusal_reply(alloc, fault.name()),
         }
+    }
+
+    /// What the node is, and what it did until its last round.
+    fn metrics(&self) -> Result<Reply, AllocError> {
+        let mut text = Vec::from_slice(self.desk.alloc, &self.desk.about)?;
+        text.extend_from_slice(&self.desk.board.read(self.rt)?)?;
         Ok(Reply {
             status: Status::Ok,
-            kind: Kind::Csv,
+            kind: Kind::Metrics,
             text,
         })
     }
@@ -153,7 +174,8 @@ impl<T: Wait + time::Clock> Clerk<'_, T> {
             Some(report) => Some(report.as_slice()),
             None => None,
         };
-        write_reply(self.desk.alloc, lines.refusals.as_slice(), report)
+        let refusals = lines.refusals.as_slice();
+        write_reply(self.desk.alloc, refusals, report, lines.is_unsaved)
     }
 
     /// Hands a body to the keeper, and waits for what its lines are answered. None is there if the
@@ -186,6 +208,9 @@ impl<T: Wait + time::Clock> Clerk<'_, T> {
         match asked_by(request.method().as_str(), request.uri().path()) {
             Ask::Write => self.write(request),
             Ask::Fetch => self.fetch(request),
+            Ask::Series => self.series(request),
+            Ask::Metrics => self.metrics(),
+            page @ (Ask::Page | Ask::Script | Ask::Style) => page_reply(alloc, page),
             Ask::Health => json(alloc, Status::Ok, "{\"name\":\"rr\",\"status\":\"pass\"}\n"),
             Ask::OnlyPost => json(
                 alloc,

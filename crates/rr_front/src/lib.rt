@@ -4,7 +4,7 @@
 //! Door ── connections for lines ──┐
 //!                                 ├── rr_turns ──> Queued: the visits of the keeper, in turn
 //! WebSeat ── bodies of writes ────┘                     │
-//!    └──────────< a slip: what their lines were answered ┘
+//!    └──────────< a slip: what their lines were answered ┘  (Kept: once a snapshot has them)
 //! WebSeat ── fetches ──> its own reader
 //! ```
 //!
@@ -22,6 +22,8 @@ mod body;
 mod desk;
 mod door;
 mod fetching;
+mod kept;
+mod listing;
 mod node;
 mod place;
 mod response;
@@ -33,6 +35,7 @@ pub use body::{Body, LineAnswers};
 pub use desk::Desk;
 pub use door::Door;
 pub use fetching::answer_fetch;
+pub use kept::Kept;
 pub use node::serve_web_node;
 pub use place::{Place, WebSeats};
 pub use seat::WebSeat;

@@ -6,6 +6,10 @@ use http_server::Response;
 use rr_web::{Kind, Reply, Status};
 use std::alloc::{AllocError, Global};
 
+/// What the page may take from elsewhere: scripts, styles and answers of the node that it is of.
+const POLICY: &str = "default-src 'none'; script-src 'self'; style-src 'self'; connect-src 'self'; \
+    base-uri 'none'; form-action 'none'; frame-ancestors 'none'";
+
 /// The status of a response.
 fn status_of(status: Status) -> StatusCode {
     match status {
@@ -26,6 +30,10 @@ fn media_type(kind: Kind) -> HeaderValue {
         Kind::Csv => HeaderValue::from_static("text/csv; charset=utf-8"),
         Kind::Json => HeaderValue::from_static("application/json"),
         Kind::Plain => HeaderValue::from_static("text/plain; charset=utf-8"),
+        Kind::Metrics => HeaderValue::from_static("text/plain; version=0.0.4; charset=utf-8"),
+        Kind::Html => HeaderValue::from_static("text/html; charset=utf-8"),
+        Kind::Script => HeaderValue::from_static("text/javascript; charset=utf-8"),
+        Kind::Style => HeaderValue::from_static("text/css; charset=utf-8"),
     }
 }
 
@@ -41,6 +49,23 @@ fn add_for_status(response: &mut Response, status: Status) -> Result<(), AllocEr
     }
 }
 
+/// Adds the kind of a text, which a browser is not to guess, nor to keep.
+fn add_for_kind(response: &mut Response, kind: Kind) -> Result<(), AllocError> {
+    response.add_header(header::CONTENT_TYPE, media_type(kind))?;
+    response.add_header(
+        header::X_CONTENT_TYPE_OPTIONS,
+        HeaderValue::from_static("nosniff"),
+    )?;
+    response.add_header(header::CACHE_CONTROL, HeaderValue::from_static("no-store"))?;
+    match kind {
+        Kind::Html => response.add_header(
+            header::CONTENT_SECURITY_POLICY,
+            HeaderValue::from_static(POLICY),
+        ),
+        _ => Ok(()),
+    }
+}
+
 /// Fills a response, after which its connection closes.
 pub(crate) fn fill(alloc: Global, response: &mut Response, reply: Reply) -> Result<(), AllocError> {
     response.status = status_of(reply.status);
@@ -49,7 +74,7 @@ pub(crate) fn fill(alloc: Global, response: &mut Response, reply: Reply) -> Resu
     if reply.status == Status::NoContent {
         return Ok(());
     }
-    response.add_header(header::CONTENT_TYPE, media_type(reply.kind))?;
+    add_for_kind(response, reply.kind)?;
     response
         .body
         .push(Bytes::copy_from_slice(alloc, &reply.text)?)

@@ -74,10 +74,16 @@ impl Answers {
             .extend_from_slice(&text[..room.min(text.len())])
     }
 
-    /// Says on the slip what was answered.
-    pub(crate) fn tell<R: Wait>(self, rt: &R) {
+    /// Says on the slip what was answered, and whether the lines were to be saved first and aren't.
+    pub(crate) fn tell<R: Wait>(self, rt: &R, is_unsaved: bool) {
         let Answers { lines, slip, .. } = self;
-        slip.answer(rt, lines);
+        slip.answer(
+            rt,
+            LineAnswers {
+                is_unsaved,
+                ..lines
+            },
+        );
     }
 
     /// Says on the slip that there will be no answer.

@@ -1,6 +1,7 @@
 //! The visits of a keeper that takes lines on connections and over HTTP.
 
 use crate::body::{Body, LineAnswers};
+use crate::kept::Kept;
 use crate::stream::{Answers, Input, Output};
 use rr_host::{Flag, HaltFlag, StartBarrier, Visit, Visits, halves};
 use rr_io::Counted;
@@ -37,9 +38,9 @@ impl Queue {
 /// raised. Nothing is known of them.
 ///
 /// What the lines of a body were answered is said on its slip when the body is handed back, since
-/// its lines are published then. By turns ([`Queued::by_turns`]), a visit has failed where none
-/// came in time, and the flag is raised for each connection that brought no byte, as at a
-/// [`Listening`](rr_host::Listening).
+/// its lines are published then; or once they are saved ([`Queued::once_saved`]). By turns
+/// ([`Queued::by_turns`]), a visit has failed where none came in time, and the flag is raised for
+/// each connection that brought no byte, as at a [`Listening`](rr_host::Listening).
 #[derive(Drop)]
 pub struct Queued<'a, R> {
     rt: &'a R,
@@ -49,6 +50,8 @@ pub struct Queued<'a, R> {
     halt: HaltFlag,
     /// For how many seconds a visit is waited for, where that ends, and the flag for an empty one.
     turns: Option<(u64, Flag)>,
+    /// The answers that wait for a save, where they do.
+    kept: Option<Kept>,
     /// What is still to be waited at before the first visit.
     start: Option<StartBarrier>,
 }
@@ -76,6 +79,7 @@ impl<'a, R: Wait + Clock> Queued<'a, R> {
             idle,
             halt,
             turns: None,
+            kept: None,
             start: Some(start),
         }
     }
@@ -84,6 +88,14 @@ impl<'a, R: Wait + Clock> Queued<'a, R> {
     pub fn by_turns(self, every: u64, wish: Flag) -> Queued<'a, R> {
         Queued {
             turns: Some((every, wish)),
+            ..self
+        }
+    }
+
+    /// The same visits, of which bodies are answered once their lines are saved.
+    pub fn once_saved(self, kept: Kept) -> Queued<'a, R> {
+        Queued {
+            kept: Some(kept),
             ..self
         }
     }
@@ -124,6 +136,7 @@ impl<'a, R: Wait + Clock> Queued<'a, R> {
         let lines = LineAnswers {
             refusals: Vec::new(self.alloc),
             report: None,
+            is_unsaved: false,
         };
         let answers = Answers {
             alloc: self.alloc,
@@ -161,6 +174,9 @@ impl<R: Wait + Clock> Visits for Queued<'_, R> {
         if !self.has_started() {
             return Visit::Over;
         }
+        if let Some(kept) = &mut self.kept {
+            kept.tell(self.rt);
+        }
         for _ in 0..self.patience() {
             if self.halt.is_raised() {
                 return Visit::Over;
@@ -185,7 +201,10 @@ impl<R: Wait + Clock> Visits for Queued<'_, R> {
             wish.raise();
         }
         if let Output::Answers(answers) = output.into_inner() {
-            answers.tell(self.rt);
+            match &mut self.kept {
+                Some(kept) => kept.keep(self.rt, answers),
+                None => answers.tell(self.rt, false),
+            }
         }
     }
 }

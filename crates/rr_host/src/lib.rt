@@ -9,7 +9,8 @@
 //!
 //! What is done by turns has a [`Pace`]: a [`PacedDial`] calls each peer at most once in so many
 //! seconds, and a [`Listening`] by turns ends its wait after as many. A [`Flag`] asks for a
-//! snapshot before its time, or to be told of.
+//! snapshot before its time, or to be told of. On a [`Board`] one thread puts a text up that others
+//! read, and by [`SaveNews`] it is told what became of a save.
 //!
 //! ```text
 //! Listening, Prepared ─── next ──> Visit: an input and an output ── take_back ──> closed, or kept
@@ -25,6 +26,7 @@
 //! nothing is known.
 #![tactic(auto)]
 
+mod board;
 mod calling;
 mod clock;
 mod dial;
@@ -36,10 +38,12 @@ mod pace;
 mod paced;
 mod peers;
 mod prepared;
+mod saves;
 mod socket;
 mod start;
 mod visits;
 
+pub use board::Board;
 pub use calling::Calling;
 pub use clock::{Clock, Moments, SystemClock};
 pub use dial::Dial;
@@ -51,6 +55,7 @@ pub use pace::Pace;
 pub use paced::PacedDial;
 pub use peers::{PreparedDial, PreparedPeer};
 pub use prepared::Prepared;
+pub use saves::{SaveNews, Saved};
 pub use socket::{Half, halves};
 pub use start::StartBarrier;
 pub use visits::{Visit, Visits};

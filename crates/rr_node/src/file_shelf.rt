@@ -5,9 +5,12 @@ use crate::replaced::Replaced;
 use crate::report::Report;
 use crate::save_file::SaveFile;
 use crate::shelf::{Opening, Shelf};
+use rr_host::{SaveNews, Saved};
 use rr_io::Counted;
 use rr_snapshot::SaveFault;
 use std::alloc::{AllocError, Global};
+use std::io;
+use std::io::BufWriter;
 use std::rt::Files;
 
 /// Saves snapshots to a file, where one is named, and prints on standard error what failed: `peer
@@ -16,13 +19,16 @@ use std::rt::Files;
 /// reason.
 ///
 /// A snapshot is written to a file beside, whose name ends in `.new`, and then renamed, so that the
-/// file has the last snapshot or the new one, whatever ends the process.
+/// file has the last snapshot or the new one, whatever ends the process. File and folder are
+/// synced, so that this holds after a loss of power too, if the disk keeps what it says it has.
 #[derive(Drop)]
 pub struct FileShelf<'a, R> {
     rt: &'a R,
     file: Option<Replaced<'a, R>>,
     /// The numbers of the peers of which `own origin` was printed.
     met: Vec<usize>,
+    /// Where it is told how each save ended, if anyone waits for that.
+    news: Option<SaveNews>,
 }
 
 impl<'a, R: Files + Eprint> FileShelf<'a, R> {
@@ -40,13 +46,35 @@ impl<'a, R: Files + Eprint> FileShelf<'a, R> {
             rt,
             file,
             met: Vec::new(alloc),
+            news: None,
         })
     }
 
-    fn print_save(&self, fault: SaveFault) {
+    /// The same shelf, which also tells how each save ended.
+    pub fn with_news(self, news: SaveNews) -> FileShelf<'a, R> {
+        FileShelf {
+            news: Some(news),
+            ..self
+        }
+    }
+
+    fn tell(&self, saved: Saved) {
+        if let Some(news) = &self.news {
+            news.tell(saved);
+        }
+    }
+
+    fn save_is_lost(&self, fault: SaveFault) {
         let name = fault.name();
         // If this can't be printed, there is no one to tell.
         let _printed = eprintln!(self.rt; "save: {name}");
+        self.tell(Saved::Failed);
+    }
+
+    /// Puts a snapshot that is written whole in the place of the last one, for good.
+    fn keep(&self, file: &Replaced<'a, R>, written: BufWriter<R::File>) -> io::Result<()> {
+        file.replace(written)?;
+        file.sync_folder()
     }
 }
 
@@ -108,14 +136,17 @@ impl<R: Files + Eprint> Shelf for FileShelf<'_, R> {
             file.remove_beside();
             return;
         }
-        if let Err(error) = file.replace(written.into_file()) {
-            file.print_reason(&error);
-            file.remove_beside();
-            self.print_save(SaveFault::WriteFailed);
+        match self.keep(file, written.into_file()) {
+            Ok(()) => self.tell(Saved::Stands),
+            Err(error) => {
+                file.print_reason(&error);
+                file.remove_beside();
+                self.save_is_lost(SaveFault::WriteFailed);
+            }
         }
     }
 
     fn save_failed(&mut self, fault: SaveFault) {
-        self.print_save(fault);
+        self.save_is_lost(fault);
     }
 }

@@ -62,8 +62,9 @@ pub use round_log::RoundLog;
 pub use rounds::keep_or_halt;
 pub use rr_config::{Config, ConfigFault};
 pub use rr_host::{
-    Calling, Clock, Dial, Flag, Half, Halt, HaltFlag, Listening, Moments, PacedDial, Prepared,
-    PreparedDial, PreparedPeer, StartBarrier, SystemClock, Visit, Visits, halves,
+    Board, Calling, Clock, Dial, Flag, Half, Halt, HaltFlag, Listening, Moments, PacedDial,
+    Prepared, PreparedDial, PreparedPeer, SaveNews, Saved, StartBarrier, SystemClock, Visit,
+    Visits, halves,
 };
 pub use save_file::SaveFile;
 pub use seat::{Seat, serve_seat};

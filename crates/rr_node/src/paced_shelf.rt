@@ -8,6 +8,7 @@ use rr_host::{Flag, Pace};
 use rr_io::Counted;
 use rr_snapshot::SaveFault;
 use std::rt::Files;
+use std::sync::Wait;
 use std::time::Clock;
 
 /// A shelf that wants a snapshot at most once in a turn of so many seconds, or when a flag was
@@ -24,7 +25,7 @@ pub struct PacedShelf<'a, R, S> {
     log: RoundLog<'a, R>,
 }
 
-impl<'a, R: Files + Eprint + Clock, S> PacedShelf<'a, R, S> {
+impl<'a, R: Files + Eprint + Clock + Wait, S> PacedShelf<'a, R, S> {
     /// Hands a snapshot to a shelf once in so many seconds, or whenever there is one where that is
     /// missing; the wish asks for one before its time. The alarm is that a peer of another schema
     /// pulled.
@@ -54,7 +55,7 @@ impl<'a, R: Files + Eprint + Clock, S> PacedShelf<'a, R, S> {
     }
 }
 
-impl<R: Files + Eprint + Clock, S: Shelf> Shelf for PacedShelf<'_, R, S> {
+impl<R: Files + Eprint + Clock + Wait, S: Shelf> Shelf for PacedShelf<'_, R, S> {
     ghost use Rattle.std.specs.Prelude.{[], ◌∷◌, None};
     ghost use Rattle.rr_host.specs.Calls.{Grows};
     ghost use Rattle.rr_host.specs.Streams.{output_of};
@@ -93,6 +94,7 @@ impl<R: Files + Eprint + Clock, S: Shelf> Shelf for PacedShelf<'_, R, S> {
 
     fn open(&mut self) -> Opening<S::Output> {
         if !self.is_wanted() {
+            self.log.post();
             return Opening::Unwanted;
         }
         self.pace.done(self.rt);

@@ -3,7 +3,7 @@
 use crate::save_file::SaveFile;
 use std::alloc::{AllocError, Global};
 use std::fs::OpenFile;
-use std::io::BufWriter;
+use std::io::{BufWriter, ErrorKind};
 use std::rt::Files;
 use std::{fs, io};
 
@@ -19,6 +19,13 @@ pub(crate) struct Replaced<'a, R> {
     alloc: Global,
     path: String,
     beside: String,
+    folder: String,
+}
+
+/// The folder of a file.
+fn folder_of(alloc: Global, path: &str) -> Result<String, AllocError> {
+    let (folder, _) = path.rsplit_once('/').unwrap_or((".", path));
+    format!(in alloc; "{folder}/.")
 }
 
 impl<'a, R: Files + Eprint> Replaced<'a, R> {
@@ -31,6 +38,7 @@ impl<'a, R: Files + Eprint> Replaced<'a, R> {
             alloc,
             path: String::from_str(alloc, path)?,
             beside,
+            folder: folder_of(alloc, path)?,
         })
     }
 
@@ -46,6 +54,16 @@ impl<'a, R: Files + Eprint> Replaced<'a, R> {
         file.sync_all()?;
         drop(file);
         fs::rename(self.rt, self.beside.as_str(), self.path.as_str())
+    }
+
+    /// Puts the name of the file to the disk, so that it has the new content after a loss of power
+    /// too. A file system that does this for no folder is passed over.
+    pub(crate) fn sync_folder(&self) -> io::Result<()> {
+        let folder = fs::open(self.rt, self.folder.as_str())?;
+        match folder.sync_all() {
+            Err(error) if error.kind() == ErrorKind::InvalidInput => Ok(()),
+            synced => synced,
+        }
     }
 
     /// Removes the file beside: it isn't whole, or couldn't take the place of the last one.

@@ -3,9 +3,11 @@
 use crate::replaced::Replaced;
 use crate::report::Report;
 use crate::tally::Tally;
+use rr_host::Board;
 use std::alloc::{AllocError, Global};
 use std::io::Write;
 use std::rt::Files;
+use std::sync::Wait;
 use std::time::{Clock, Duration, Instant};
 use std::{fmt, io};
 
@@ -21,13 +23,15 @@ impl fmt::Display for Seconds {
 }
 
 /// Says what rounds did: a line on standard error, if there is to be one, and a file of counts, if
-/// one is named, which is written as a snapshot is. Nothing is known of what it says.
+/// one is named, which is written as a snapshot is. After each round the same counts are put on a
+/// board, if there is one. Nothing is known of what it says.
 #[derive(Drop)]
 pub struct RoundLog<'a, R> {
     rt: &'a R,
     alloc: Global,
     prints: bool,
     file: Option<Replaced<'a, R>>,
+    board: Option<Board>,
     /// The connections since the last line, and all of them.
     since: Tally,
     all: Tally,
@@ -43,7 +47,7 @@ pub struct RoundLog<'a, R> {
     save: Duration,
 }
 
-impl<'a, R: Files + Eprint + Clock> RoundLog<'a, R> {
+impl<'a, R: Files + Eprint + Clock + Wait> RoundLog<'a, R> {
     /// Says what rounds do that begin now.
     pub fn new(
         rt: &'a R,
@@ -60,6 +64,7 @@ impl<'a, R: Files + Eprint + Clock> RoundLog<'a, R> {
             alloc,
             prints,
             file,
+            board: None,
             since: Tally::new(),
             all: Tally::new(),
             past_before: 0,
@@ -69,6 +74,14 @@ impl<'a, R: Files + Eprint + Clock> RoundLog<'a, R> {
             pulls: Duration::ZERO,
             save: Duration::ZERO,
         })
+    }
+
+    /// The same log, which puts its counts on a board too.
+    pub fn on_board(self, board: Board) -> RoundLog<'a, R> {
+        RoundLog {
+            board: Some(board),
+            ..self
+        }
     }
 
     /// The lines of a connection were taken, with this report if they were served to the end; the
@@ -107,8 +120,19 @@ impl<'a, R: Files + Eprint + Clock> RoundLog<'a, R> {
         }
     }
 
+    /// Puts the counts on the board.
+    pub(crate) fn post(&self) {
+        // If there is no memory for them, the last ones stay.
+        if let Some(board) = &self.board
+            && let Ok(text) = self.text()
+        {
+            board.put(self.rt, text.into_bytes());
+        }
+    }
+
     /// Says what the rounds did since the last time.
     pub(crate) fn say(&mut self) {
+        self.post();
         if self.prints {
             self.print();
         }

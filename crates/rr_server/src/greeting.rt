@@ -7,7 +7,7 @@ use rr_schema::Origin;
 use std::alloc::{AllocError, Global};
 
 /// The version of the program: that of the snapshots and pages that it writes.
-const VERSION: u8 = 2;
+pub(crate) const VERSION: u8 = 2;
 
 /// How many series a replica has. The cost is a look-up for each.
 fn series_count<A: Cells>(replica: &Replica<A>) -> usize {

@@ -13,6 +13,7 @@
 //! node does in that of [`serve_node`](rr_node::serve_node).
 #![tactic(auto)]
 
+mod about;
 mod files;
 mod greeting;
 mod listeners;

@@ -4,7 +4,7 @@ use crate::files::{check_folder, first_replica, read_config};
 use crate::greeting::greeting;
 use crate::listeners::Listeners;
 use crate::program::lent;
-use rr_config::Config;
+use rr_config::{Config, ConfigFault};
 use rr_desk::{Keeper, Reader, open};
 use rr_node::{
     Calling, FileShelf, Flag, HaltFlag, Listening, OpenGate, PacedDial, PacedShelf, RoundLog, Seat,
@@ -59,13 +59,26 @@ where
     /// and visits are done. If there is no folder for the snapshots that are to be saved, it
     /// doesn't begin.
     pub(crate) fn serve(&self, origin: Origin, load: Option<&str>) -> Result<Ending, Ending> {
-        if let Some(file) = self.save {
-            check_folder(self.rt, file)?;
+        match self.save {
+            Some(file) => check_folder(self.rt, file)?,
+            None => self.check_unsaved()?,
         }
         let replica = first_replica(self.rt, &self.config.schema, origin, load)?;
         let listeners = Listeners::bind(self.rt, &self.config)?;
         self.greet(&replica);
         Ok(self.serve_replica(replica, listeners))
+    }
+
+    /// Refuses a configuration whose writes would wait for a save that never comes.
+    fn check_unsaved(&self) -> Result<(), Ending> {
+        match &self.config.http {
+            Some(http) if http.durable => {
+                // If this can't be printed, the ending still says what is missing.
+                let _printed = eprintln!(self.rt; "rr: durable: there is no --save");
+                Err(Ending::ConfigRefused(ConfigFault::MissingField.name()))
+            }
+            _ => Ok(()),
+        }
     }
 
     /// Says with what it starts, unless it is to be quiet.
@@ -82,12 +95,13 @@ where
     /// Opens a desk over a replica, with a reader for each address of fetches and each seat of
     /// HTTP, and serves at it.
     fn serve_replica(&self, replica: Replica<PackedArchive>, listeners: Listeners) -> Ending {
+        let origin = replica.origin();
         let readers = listeners.fetches.len().saturating_add(listeners.web.len());
         let Ok((mut keeper, readers)) = open(self.rt.alloc(), self.rt, replica, readers) else {
             return OUT_OF_MEMORY;
         };
         let served = match &self.config.http {
-            Some(http) => self.serve_web(http, &mut keeper, readers, listeners),
+            Some(http) => self.serve_web(http, origin, &mut keeper, readers, listeners),
             None => self.serve_plain(&mut keeper, readers, listeners),
         };
         keeper.close(self.rt);
@@ -113,7 +127,7 @@ where
             ..
         } = listeners;
         let mut seats = self.seats(readers, fetches, &halt)?;
-        let shelf = self.shelf(wish, alarm)?;
+        let shelf = self.shelf(self.files()?, self.log()?, wish, alarm);
         Ok(self.serve_at(keeper, lines, &mut seats, halt, shelf))
     }
 
@@ -155,19 +169,27 @@ where
         )
     }
 
+    /// The file that snapshots are saved to.
+    pub(crate) fn files(&self) -> Result<FileShelf<'a, R>, AllocError> {
+        FileShelf::new(self.rt, self.rt.alloc(), self.save)
+    }
+
+    /// What is said of rounds.
+    pub(crate) fn log(&self) -> Result<RoundLog<'a, R>, AllocError> {
+        let prints = self.config.every.is_some() && !self.config.quiet;
+        RoundLog::new(self.rt, self.rt.alloc(), prints, lent(&self.config.status))
+    }
+
     /// What takes the snapshots, at most one in a turn unless one is wished for, and tells of an
     /// alarm.
     pub(crate) fn shelf(
         &self,
+        files: FileShelf<'a, R>,
+        log: RoundLog<'a, R>,
         wish: Flag,
         alarm: Flag,
-    ) -> Result<PacedShelf<'a, R, FileShelf<'a, R>>, AllocError> {
-        let alloc = self.rt.alloc();
-        let files = FileShelf::new(self.rt, alloc, self.save)?;
-        let every = self.config.every;
-        let prints = every.is_some() && !self.config.quiet;
-        let log = RoundLog::new(self.rt, alloc, prints, lent(&self.config.status))?;
-        Ok(PacedShelf::new(self.rt, files, every, wish, alarm, log))
+    ) -> PacedShelf<'a, R, FileShelf<'a, R>> {
+        PacedShelf::new(self.rt, files, self.config.every, wish, alarm, log)
     }
 
     /// Serves with a keeper and its readers' seats, until a flag is raised that they share.

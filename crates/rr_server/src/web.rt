@@ -1,15 +1,18 @@
 //! A node at work that is asked over HTTP too.
 
+use crate::about::about;
 use crate::listeners::Listeners;
 use crate::server::Server;
 use rr_config::Http;
 use rr_desk::{Keeper, Reader};
-use rr_front::{Desk, Door, Place, Queue, Queued, WebSeat, WebSeats, serve_web_node};
+use rr_front::{Desk, Door, Kept, Place, Queue, Queued, WebSeat, WebSeats, serve_web_node};
 use rr_node::{
-    FileShelf, Flag, HaltFlag, Listening, OpenGate, PacedShelf, Seat, StartBarrier, SystemClock,
+    Board, FileShelf, Flag, HaltFlag, Listening, OpenGate, PacedShelf, SaveNews, Seat,
+    StartBarrier, SystemClock,
 };
 use rr_packed::PackedArchive;
 use rr_process::Ending;
+use rr_schema::Origin;
 use std::alloc::AllocError;
 use std::hash::RandomState;
 use std::net::{Net, TcpListener, TcpStream};
@@ -18,6 +21,15 @@ use std::rt::Files;
 use std::sync::Wait;
 use std::thread::Threads;
 use std::time::Clock;
+
+/// What the seats of HTTP share.
+#[derive(Drop)]
+struct Shared {
+    queue: Queue,
+    halt: HaltFlag,
+    origin: Origin,
+    board: Board,
+}
 
 impl<'a, R> Server<'a, R>
 where
@@ -36,6 +48,7 @@ where
     pub(crate) fn serve_web(
         &self,
         http: &Http,
+        origin: Origin,
         keeper: &mut Keeper<PackedArchive>,
         readers: Vec<Reader<PackedArchive>>,
         listeners: Listeners,
@@ -49,8 +62,19 @@ where
             alarm,
             start,
         } = listeners;
-        let queue = Queue::new(self.rt.alloc(), http.seats as usize)?;
-        let mut places = self.places(readers, fetches, web, &queue, &halt)?;
+        let shared = Shared {
+            queue: Queue::new(self.rt.alloc(), http.seats as usize)?,
+            halt,
+            origin,
+            board: Board::new(self.rt.alloc())?,
+        };
+        let mut places = self.places(readers, fetches, web, &shared)?;
+        let Shared {
+            queue,
+            halt,
+            board,
+            ..
+        } = shared;
         places.push(Place::Lines(Door {
             visits: lines,
             queue: queue.share()?,
@@ -61,7 +85,9 @@ where
             halt: halt.share()?,
         };
         let visits = self.queued(queue, &halt, &wish, start)?;
-        let shelf = self.shelf(wish, alarm)?;
+        let (visits, files) = self.saving(http, visits, &wish)?;
+        let log = self.log()?.on_board(board);
+        let shelf = self.shelf(files, log, wish, alarm);
         self.serve_at_web(keeper, visits, &mut seats, halt, shelf)
     }
 
@@ -100,8 +126,7 @@ where
         readers: Vec<Reader<PackedArchive>>,
         fetches: Vec<Listening>,
         web: Vec<Listening>,
-        queue: &Queue,
-        halt: &HaltFlag,
+        shared: &Shared,
     ) -> Result<Vec<Place>, AllocError> {
         let mut places = Vec::new(self.rt.alloc());
         let mut readers = readers.into_iter();
@@ -117,7 +142,7 @@ where
         }
         for visits in web {
             let reader = readers.next().ok_or(AllocError)?;
-            places.push(Place::Web(self.web_seat(reader, visits, queue, halt)?))?;
+            places.push(Place::Web(self.web_seat(reader, visits, shared)?))?;
         }
         Ok(places)
     }
@@ -127,23 +152,25 @@ where
         &self,
         reader: Reader<PackedArchive>,
         visits: Listening,
-        queue: &Queue,
-        halt: &HaltFlag,
+        shared: &Shared,
     ) -> Result<WebSeat, AllocError> {
         let Ok(keys) = RandomState::new(self.rt) else {
             return Err(AllocError);
         };
+        let alloc = self.rt.alloc();
         let desk = Desk {
-            alloc: self.rt.alloc(),
+            alloc,
             reader,
-            queue: queue.share()?,
-            halt: halt.share()?,
+            queue: shared.queue.share()?,
+            halt: shared.halt.share()?,
             precision: self.config.precision,
+            about: about(alloc, &self.config.schema, shared.origin)?.into_bytes(),
+            board: shared.board.share()?,
         };
         Ok(WebSeat {
             desk: Some(desk),
             visits,
-            halt: halt.share()?,
+            halt: shared.halt.share()?,
             idle: self.config.idle,
             keys,
         })
@@ -170,5 +197,23 @@ where
             Some(every) => Ok(visits.by_turns(every, wish.share()?)),
             None => Ok(visits),
         }
+    }
+
+    /// The visits, and the file that snapshots are saved to. If the configuration says so, bodies
+    /// are answered once they are saved; if as many wait as there are seats, that is at once.
+    fn saving(
+        &self,
+        http: &Http,
+        visits: Queued<'a, R>,
+        wish: &Flag,
+    ) -> Result<(Queued<'a, R>, FileShelf<'a, R>), AllocError> {
+        let files = self.files()?;
+        if !http.durable {
+            return Ok((visits, files));
+        }
+        let alloc = self.rt.alloc();
+        let news = SaveNews::new(alloc)?;
+        let kept = Kept::new(alloc, news.share()?, http.seats as usize, wish.share()?);
+        Ok((visits.once_saved(kept), files.with_news(news)))
     }
 }

@@ -3,3 +3,6 @@ pub mod Query
 pub mod Precision
 pub mod Reply
 pub mod FetchLine
+pub mod Json
+pub mod Answers
+pub mod Series

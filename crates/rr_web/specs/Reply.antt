@@ -1,5 +1,5 @@
 -- What is answered to a request.
-use Rattle.std.specs.Prelude.{ℕ, ◌==◌, nat_eq, List, [], ◌∷◌, ◌++◌, codes, Option, None, Some, option_map, if◌then◌else◌}
+use Rattle.std.specs.Prelude.{ℕ, Bool, true, false, ◌==◌, nat_eq, List, [], ◌∷◌, ◌++◌, codes, Option, None, Some, option_map, if◌then◌else◌}
 use Rattle.std.specs.Borrow.{Bor}
 use Rattle.std.specs.List.{ends_with, flat_map}
 use Rattle.rr_text.specs.declared.bytes.TheConstants.{LINE_FEED}
@@ -34,9 +34,13 @@ partial_text refusals report =
 abbrev pub lent_text : Option (Bor (List ℕ)) → Option (List ℕ)
 lent_text text = option_map (λ t. t.now) text
 
--- what is answered to a write, by the refusals of its lines and their report, which is missing where memory ran out
-abbrev pub write_reply_of : List ℕ → Option (List ℕ) → ReplyView
-write_reply_of refusals None = reply_of Failed Json (codes "{\"error\":\"the node ran out of memory\"}\n")
-write_reply_of refusals (Some report) =
+-- what is answered to a write, by whether it was to be saved and isn't, by the refusals of its lines, and by their
+-- report, which is missing where memory ran out
+abbrev pub write_reply_of : Bool → List ℕ → Option (List ℕ) → ReplyView
+write_reply_of is_unsaved refusals None =
+    reply_of Failed Json (codes "{\"error\":\"the node ran out of memory\"}\n")
+write_reply_of true refusals (Some report) =
+    reply_of Failed Json (codes "{\"error\":\"the lines are taken, but not saved\"}\n")
+write_reply_of false refusals (Some report) =
     if ends_with nat_eq report (codes " refused 0") then reply_of NoContent Json []
     else reply_of BadRequest Json (partial_text refusals report)

@@ -10,6 +10,14 @@ pub enum Ask {
     Write,
     /// A fetch.
     Fetch,
+    /// The keys of series.
+    Series,
+    /// The counts of what the node did.
+    Metrics,
+    /// The page, its script or its style.
+    Page,
+    Script,
+    Style,
     /// Whether the node is there.
     Health,
     /// What only `POST` asks for, by another method.
@@ -26,6 +34,11 @@ fn read_at(path: &str) -> Ask
 {
     match path {
         "/fetch" => Ask::Fetch,
+        "/series" => Ask::Series,
+        "/metrics" => Ask::Metrics,
+        "/" => Ask::Page,
+        "/rr.js" => Ask::Script,
+        "/rr.css" => Ask::Style,
         "/health" => Ask::Health,
         _ => Ask::Nothing,
     }

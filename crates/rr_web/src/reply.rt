@@ -32,6 +32,14 @@ pub enum Kind {
     Json,
     /// Lines of text.
     Plain,
+    /// Counts, in the text form of Prometheus.
+    Metrics,
+    /// A page.
+    Html,
+    /// The script of a page.
+    Script,
+    /// The style of a page.
+    Style,
 }
 
 /// What is answered to a request.

@@ -2,7 +2,7 @@
 
 ghost use Rattle.std.specs.Prelude.{◌≡◌, ◌++◌, IfOk, OnOk};
 ghost use Rattle.std.specs.List.{flat_map};
-ghost use Rattle.rr_web.specs.Reply.{inside, lent_text, partial_text, reply_view, write_reply_of};
+ghost use Rattle.rr_web.specs.Reply.{inside, lent_text, partial_text, reply_of, reply_view, write_reply_of};
 
 use crate::reply::{Kind, Reply, Status};
 use rr_text::bytes::LINE_FEED;
@@ -35,23 +35,39 @@ fn partial_text(alloc: Global, refusals: &[u8], report: &[u8]) -> Result<Vec<u8>
     Ok(text)
 }
 
+/// A request that failed, and why, as JSON.
+fn failed(alloc: Global, text: &[u8]) -> Result<Reply, AllocError>
+    ensures { IfOk result (λ reply. reply_view reply
+        ≡ reply_of Status.Failed Kind.Json text.now) }
+{
+    Ok(Reply {
+        status: Status::Failed,
+        kind: Kind::Json,
+        text: Vec::from_slice(alloc, text)?,
+    })
+}
+
 /// What is answered to a write whose lines were answered by these refusals and this report, which
-/// lacks its line feed; a report is missing where memory ran out before the end.
+/// lacks its line feed; a report is missing where memory ran out before the end. If the write was
+/// to be answered once it is saved, and the save failed, it `is_unsaved`.
 pub fn write_reply(
     alloc: Global,
     refusals: &[u8],
     report: Option<&[u8]>,
+    is_unsaved: bool,
 ) -> Result<Reply, AllocError>
     ensures { IfOk result (λ reply. reply_view reply
-        ≡ write_reply_of refusals.now (lent_text report.entry)) }
+        ≡ write_reply_of is_unsaved refusals.now (lent_text report.entry)) }
 {
     let Some(report) = report else {
-        return Ok(Reply {
-            status: Status::Failed,
-            kind: Kind::Json,
-            text: Vec::from_slice(alloc, b"{\"error\":\"the node ran out of memory\"}\n")?,
-        });
+        return failed(alloc, b"{\"error\":\"the node ran out of memory\"}\n");
     };
+    if is_unsaved {
+        return failed(
+            alloc,
+            b"{\"error\":\"the lines are taken, but not saved\"}\n",
+        );
+    }
     if report.ends_with(b" refused 0") {
         return Ok(Reply {
             status: Status::NoContent,

@@ -1,0 +1,69 @@
+//! The keys of series over HTTP.
+
+use rr_archive::Cells;
+use rr_desk::Reader;
+use rr_key::{KeyFault, SeriesKey};
+use rr_web::{parameter, push_key};
+use std::alloc::{AllocError, Global};
+
+/// How many keys are taken from a reader at a time.
+const PIECE: usize = 1_000;
+
+/// The key that a query names as its `after`, if it names one.
+fn after_in(alloc: Global, query: &[u8]) -> Result<Option<SeriesKey>, KeyFault> {
+    match parameter(alloc, query, b"after")? {
+        Some(text) => Ok(Some(SeriesKey::parse_text(alloc, &text)?)),
+        None => Ok(None),
+    }
+}
+
+/// The text that a query names as its `prefix`; an empty one if it names none.
+fn prefix_in(alloc: Global, query: &[u8]) -> Result<Vec<u8>, AllocError> {
+    match parameter(alloc, query, b"prefix")? {
+        Some(prefix) => Ok(prefix),
+        None => Ok(Vec::new(alloc)),
+    }
+}
+
+/// Adds a line for each key that begins with a prefix, as long as so many are left. The answer is
+/// how many are left then.
+fn push_keys(
+    text: &mut Vec<u8>,
+    keys: &[SeriesKey],
+    prefix: &[u8],
+    count: u64,
+) -> Result<u64, AllocError> {
+    let mut left = count;
+    for key in keys {
+        if left > 0 && key.text().starts_with(prefix) {
+            push_key(text, key.text())?;
+            left -= 1;
+        }
+    }
+    Ok(left)
+}
+
+/// The lines of at most so many keys that a query asks for, in the order of their bytes: those that
+/// begin with its `prefix`, behind the key of its `after` if it names one, which is refused as
+/// `BadKey` if it is no key. The cost is linear in the series behind that key.
+pub(crate) fn list_keys<A: Cells>(
+    alloc: Global,
+    reader: &mut Reader<A>,
+    query: &[u8],
+    count: u64,
+) -> Result<Vec<u8>, KeyFault> {
+    let prefix = prefix_in(alloc, query)?;
+    let mut after = after_in(alloc, query)?;
+    let mut text = Vec::new(alloc);
+    let mut left = count;
+    for _ in 0..u64::MAX {
+        let mut keys = reader.keys_after(alloc, after.as_ref(), PIECE)?;
+        left = push_keys(&mut text, &keys, &prefix, left)?;
+        let is_last = keys.len() < PIECE;
+        after = keys.pop();
+        if is_last || left == 0 {
+            break;
+        }
+    }
+    Ok(text)
+}

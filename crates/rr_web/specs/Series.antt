@@ -1,0 +1,20 @@
+-- How many keys of series are asked for, and the line of a key.
+use Rattle.std.specs.Prelude.{ℕ, ◌||◌, ◌==◌, nat_lt, List, [], ◌∷◌, ◌++◌, Option, None, Some, Result, Ok, Err, if◌then◌else◌}
+use Rattle.rr_text.specs.declared.bytes.TheConstants.{LINE_FEED}
+use Rattle.rr_text.specs.Text.{number_at}
+use Rattle.rr_web.specs.declared.series.CountFault.{CountFault}
+use Rattle.rr_web.specs.declared.series.CountFault.TheVariants.{BadCount, BadNumber}
+use Rattle.rr_web.specs.declared.series.TheConstants.{KEYS, MAX_KEYS}
+
+-- 1 to 10,000
+abbrev pub count_at : Option ℕ → Result ℕ CountFault
+count_at None = Err BadNumber
+count_at (Some count) = if count == 0 || nat_lt MAX_KEYS count then Err BadCount else Ok count
+
+-- 1,000 if a query doesn't say
+abbrev pub count_in : Option (List ℕ) → Result ℕ CountFault
+count_in None = Ok KEYS
+count_in (Some text) = count_at (number_at text)
+
+abbrev pub line_of : List ℕ → List ℕ
+line_of key = key ++ LINE_FEED ∷ []

@@ -1,0 +1,72 @@
+//! The keys of series, and how many of them are asked for.
+
+ghost use Rattle.std.specs.Prelude.{◌≡◌, ◌++◌, IfOk, OnOk, codes};
+ghost use Rattle.std.specs.List.{flat_map};
+ghost use Rattle.rr_text.specs.Text.{number_at};
+ghost use Rattle.rr_web.specs.Query.{parameter_of};
+ghost use Rattle.rr_web.specs.Series.{count_at, count_in, line_of};
+
+use crate::query::parameter;
+use rr_text::bytes::LINE_FEED;
+use rr_text::text::number;
+use std::alloc::{AllocError, Global};
+
+/// How many keys are answered at most, if a query doesn't say.
+const KEYS: u64 = 1_000;
+
+/// How many keys may be asked for.
+const MAX_KEYS: u64 = 10_000;
+
+const _: () = prove!(KEYS == 1_000);
+
+const _: () = prove!(MAX_KEYS == 10_000);
+
+/// Why a number of keys is refused.
+#[derive(Clone, Copy, Debug, PartialEq, Eq)]
+pub enum CountFault {
+    /// It is no number below 2^64.
+    BadNumber,
+    /// It isn't from 1 to 10,000.
+    BadCount,
+}
+
+impl CountFault {
+    /// The printed name.
+    pub fn name(&self) -> &'static str {
+        match self {
+            CountFault::BadNumber => "BadNumber",
+            CountFault::BadCount => "BadCount",
+        }
+    }
+}
+
+/// The number of keys that a text says.
+fn count_at(text: &[u8]) -> Result<u64, CountFault>
+    ensures { result ≡ count_at (number_at text.now) }
+{
+    match number(text) {
+        Some(count) if count == 0 || count > MAX_KEYS => Err(CountFault::BadCount),
+        Some(count) => Ok(count),
+        None => Err(CountFault::BadNumber),
+    }
+}
+
+/// How many keys a query asks for as its `count`: 1,000 if it doesn't say. The cost is linear in
+/// the query.
+pub fn count_in(alloc: Global, query: &[u8]) -> Result<Result<u64, CountFault>, AllocError>
+    ensures { IfOk result (λ count. count ≡ count_in (parameter_of query.now (codes "count"))) }
+{
+    match parameter(alloc, query, b"count")? {
+        Some(text) => Ok(count_at(&text)),
+        None => Ok(Ok(KEYS)),
+    }
+}
+
+/// Adds the line of a key.
+pub fn push_key(text: &mut Vec<u8>, key: &[u8]) -> Result<(), AllocError>
+    ensures { OnOk result (text.new.items ≡ text.old.items ++ line_of key.now) }
+{
+    text.extend_from_slice(key)?;
+    text.push(LINE_FEED)?;
+    Ok(())
+}
