@@ -228,10 +228,10 @@ impl<A: Cells> Keeper<A> {
     /// Writes the cells of all operations, pending ones too, as a snapshot: see
     /// `rr_snapshot::save`, whose cost it has.
     pub fn save<W: Write>(&self, alloc: Global, output: &mut Counted<W>) -> Result<(), SaveFault>
-        ensures whole { OnOk result (WritesWhole W.contents output.old output.new (snapshot_text
-            latest self.now.schema self.now.origin (entries (cells_of self.now)))) }
-        ensures front { WritesFront W.contents output.old output.new (snapshot_text latest
-            self.now.schema self.now.origin (entries (cells_of self.now))) }
+        ensures whole { OnOk result (WritesWhole W.contents output.old output.new
+            (snapshot_text latest self.now.schema self.now.origin (entries (cells_of self.now)))) }
+        ensures front { WritesFront W.contents output.old output.new
+            (snapshot_text latest self.now.schema self.now.origin (entries (cells_of self.now))) }
         ensures too_many { (result ≡ Err SaveFault.TooManyCells)
             ↔ (MAX_SNAPSHOT_CELLS < len (cells_of self.now)) }
         ensures failures_never_fall { KeepsFailures output.old output.new }

@@ -145,11 +145,12 @@ pub fn answer<A: Cells, W: Write>(
     output: &mut Counted<W>,
 ) -> Result<(), AnswerFault>
     requires { IsFetchable replica.now.schema (request_view request.now) }
-    ensures whole { OnOk result (WritesWhole W.contents output.old output.new (cells_text
-        replica.now.schema replica.now.cells (request_view request.now))) }
+    ensures whole { OnOk result (WritesWhole W.contents output.old output.new
+        (cells_text replica.now.schema replica.now.cells (request_view request.now))) }
     ensures nothing { result ≡ Err AnswerFault.Memory → output.new ≡ output.old }
-    ensures front { result ≡ Err AnswerFault.WriteFailed → WritesFront W.contents output.old
-        output.new (cells_text replica.now.schema replica.now.cells (request_view request.now)) }
+    ensures front { result ≡ Err AnswerFault.WriteFailed
+        → WritesFront W.contents output.old output.new (cells_text replica.now.schema
+        replica.now.cells (request_view request.now)) }
     ensures failures_never_fall { KeepsFailures output.old output.new }
     ensures failed { result ≡ Err AnswerFault.WriteFailed → HasFailed output.old output.new }
 {

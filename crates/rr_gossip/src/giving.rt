@@ -61,10 +61,10 @@ fn send_pages<S: Source, W: Write>(
 ) -> Result<(), GossipFault>
     requires giving { IsTrue (is_giving giver.old.stage) }
     requires fresh { giver.old.sent ≡ 0 }
-    ensures sent { OnOk result (WritesWhole W.contents output.old output.new (concat (reply_left
-        giver.old.stage))) }
-    ensures front { WritesFront W.contents output.old output.new (concat (reply_left
-        giver.old.stage)) }
+    ensures sent { OnOk result (WritesWhole W.contents output.old output.new
+        (concat (reply_left giver.old.stage))) }
+    ensures front { WritesFront W.contents output.old output.new
+        (concat (reply_left giver.old.stage)) }
     ensures refused { IfErr result (CannotSend giver.old.limit (reply_left giver.old.stage)) }
     ensures flushed { OnOk result (is_flushed output.new ≡ true) }
     ensures unchanged { source.new ≡ source.old }

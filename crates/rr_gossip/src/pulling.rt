@@ -28,10 +28,10 @@ fn send_names<T: Target, W: Write>(
     target: &T,
 ) -> Result<(), GossipFault>
     requires { puller.old ≡ first_puller puller.old.limit }
-    ensures sent { OnOk result (WritesWhole W.contents output.old output.new (concat (sent_by
-        (T.layout target.now) (T.cells target.now)))) }
-    ensures front { WritesFront W.contents output.old output.new (concat (sent_by (T.layout
-        target.now) (T.cells target.now))) }
+    ensures sent { OnOk result (WritesWhole W.contents output.old output.new
+        (concat (sent_by (T.layout target.now) (T.cells target.now)))) }
+    ensures front { WritesFront W.contents output.old output.new
+        (concat (sent_by (T.layout target.now) (T.cells target.now))) }
     ensures waits { OnOk result (puller.new
         ≡ waiting (length (sent_by (T.layout target.now) (T.cells target.now))) 0
         puller.old.limit) }
@@ -88,10 +88,10 @@ fn pull_from<T: Target, R: Read, W: Write>(
 ) -> Result<(), GossipFault>
     requires { frames ≤ MAX_FRAMES }
     // What is sent.
-    ensures sent { OnOk result (WritesWhole W.contents output.old output.new (concat (sent_by
-        (T.layout target.old) (T.cells target.old)))) }
-    ensures front { WritesFront W.contents output.old output.new (concat (sent_by (T.layout
-        target.old) (T.cells target.old))) }
+    ensures sent { OnOk result (WritesWhole W.contents output.old output.new
+        (concat (sent_by (T.layout target.old) (T.cells target.old)))) }
+    ensures front { WritesFront W.contents output.old output.new
+        (concat (sent_by (T.layout target.old) (T.cells target.old))) }
     ensures flushed { OnOk result (is_flushed output.new ≡ true) }
 
     // What is read, and which cells are joined, one by one and in order.

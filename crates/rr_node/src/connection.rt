@@ -161,9 +161,10 @@ impl Connection {
         clock: &mut C,
         rt: &T,
     ) -> Result<(), NodeFault>
-        ensures served { OnOk result ((moments : List ℤ) × (text : List ℕ) × HasGiven (C.given
-            clock.old) (C.given clock.new) moments × WritesWhole W.contents output.old output.new
-            text × ServedItems self.old self.new keeper.old keeper.new moments text) }
+        ensures served { OnOk result ((moments : List ℤ) × (text : List ℕ)
+            × HasGiven (C.given clock.old) (C.given clock.new) moments
+            × WritesWhole W.contents output.old output.new text
+            × ServedItems self.old self.new keeper.old keeper.new moments text) }
         ensures all_taken { OnOk result (items_left self.new.feed ≡ []) }
         ensures stopped { OnErr result ((moments : List ℤ)
             × HasGiven (C.given clock.old) (C.given clock.new) moments
@@ -228,8 +229,8 @@ fn send_report<W: Write>(
     output: &mut Counted<W>,
     report: &Report,
 ) -> Result<(), NodeFault>
-    ensures whole { OnOk result (WritesWhole W.contents output.old output.new (report_text
-        report.now)) }
+    ensures whole { OnOk result (WritesWhole W.contents output.old output.new
+        (report_text report.now)) }
     ensures front { WritesFront W.contents output.old output.new (report_text report.now) }
     ensures failures_never_fall { KeepsFailures output.old output.new }
     ensures failed { result ≡ Err NodeFault.WriteFailed → HasFailed output.old output.new }

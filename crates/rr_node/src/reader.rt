@@ -33,8 +33,8 @@ fn read_first<R: Read>(input: &mut Counted<R>) -> Result<(Option<u8>, u32), Node
     ensures bytes { IfOk result (λ first. Consumes (R.remaining (inner_of input.old))
         (R.remaining (inner_of input.new)) (option_to_list first.0)) }
     ensures end { IfOk result (λ first. first.0 ≡ None → IsReadOut R.remaining input.new) }
-    ensures reads { IfOk result (λ first. (first.1 ≤ MAX_READS) × HasReads first.1 input.old
-        input.new × (HasFewReads first.1 input.old input.new)) }
+    ensures reads { IfOk result (λ first. (first.1 ≤ MAX_READS)
+        × HasReads first.1 input.old input.new × (HasFewReads first.1 input.old input.new)) }
     ensures limit { HasFewReads MAX_READS input.old input.new }
     ensures faults { IfErr result (λ fault. (fault ≡ NodeFault.ReadFailed)
         ⊎ (fault ≡ NodeFault.TooManyReads)) }
@@ -147,10 +147,10 @@ fn give_session<A: Cells, R: Read, W: Write>(
         (W.contents (inner_of output.old)) (W.contents (inner_of output.new))) }
     ensures seen { HasSeenMore reader.old reader.new }
     ensures faults { IfErr result IsOfSession }
-    ensures read_failed { result ≡ Err (NodeFault.Session GossipFault.ReadFailed) → HasFailed
-        input.old input.new }
-    ensures write_failed { result ≡ Err (NodeFault.Session GossipFault.WriteFailed) → HasFailed
-        output.old output.new }
+    ensures read_failed { result ≡ Err (NodeFault.Session GossipFault.ReadFailed)
+        → HasFailed input.old input.new }
+    ensures write_failed { result ≡ Err (NodeFault.Session GossipFault.WriteFailed)
+        → HasFailed output.old output.new }
 {
     give_after(alloc, 0, input, output, reader)?;
     Ok(())
@@ -184,8 +184,8 @@ pub fn serve_reader<A: Cells, R: Read, W: Write, G: Gate>(
         (sight reader.old (G.calls gate.old)) (sight reader.new (G.calls gate.new)) }
 
     // Within which reads lines are answered.
-    ensures limit { IfSome (R.remaining (inner_of input.old)) (λ bytes. is_pull bytes ≡ false →
-        HasFewReads MAX_READS input.old input.new) }
+    ensures limit { IfSome (R.remaining (inner_of input.old)) (λ bytes. is_pull bytes ≡ false
+        → HasFewReads MAX_READS input.old input.new) }
 
     // When a stream is to blame.
     ensures faults { IfErr result IsOfReader }
@@ -193,10 +193,10 @@ pub fn serve_reader<A: Cells, R: Read, W: Write, G: Gate>(
     ensures too_many { result ≡ Err NodeFault.TooManyReads
         → HasReads MAX_READS input.old input.new }
     ensures write_failed { result ≡ Err NodeFault.WriteFailed → HasFailed output.old output.new }
-    ensures session_read_failed { result ≡ Err (NodeFault.Session GossipFault.ReadFailed) →
-        HasFailed input.old input.new }
-    ensures session_write_failed { result ≡ Err (NodeFault.Session GossipFault.WriteFailed) →
-        HasFailed output.old output.new }
+    ensures session_read_failed { result ≡ Err (NodeFault.Session GossipFault.ReadFailed)
+        → HasFailed input.old input.new }
+    ensures session_write_failed { result ≡ Err (NodeFault.Session GossipFault.WriteFailed)
+        → HasFailed output.old output.new }
 {
     let (first, used) = read_first(input)?;
     match first {

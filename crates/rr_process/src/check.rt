@@ -36,15 +36,15 @@ pub fn check_lines<R: Read, W: Write>(
     precision: Precision,
     now: i64,
 ) -> Result<u64, ToolFault>
-    ensures reported { OnOk result (IfSome (R.remaining (inner_of input.old)) (λ bytes. WritesWhole
-        W.contents output.old output.new (report_of precision now bytes))) }
+    ensures reported { OnOk result (IfSome (R.remaining (inner_of input.old))
+        (λ bytes. WritesWhole W.contents output.old output.new (report_of precision now bytes))) }
     ensures refused { IfOk result (λ refused. IfSome (R.remaining (inner_of input.old))
         (λ bytes. refused ≡ refused_count precision bytes)) }
     ensures flushed { OnOk result (is_flushed output.new ≡ true) }
 
     // What is written however the call ends.
-    ensures front { IfSome (R.remaining (inner_of input.old)) (λ bytes. WritesFront W.contents
-        output.old output.new (report_of precision now bytes)) }
+    ensures front { IfSome (R.remaining (inner_of input.old))
+        (λ bytes. WritesFront W.contents output.old output.new (report_of precision now bytes)) }
 
     // When a stream is to blame.
     ensures read_failed { result ≡ Err ToolFault.ReadFailed → HasFailed input.old input.new }
@@ -70,15 +70,15 @@ pub fn check_lines_within<R: Read, W: Write>(
     now: i64,
     reads: u32,
 ) -> Result<u64, ToolFault>
-    ensures reported { OnOk result (IfSome (R.remaining (inner_of input.old)) (λ bytes. WritesWhole
-        W.contents output.old output.new (report_of precision now bytes))) }
+    ensures reported { OnOk result (IfSome (R.remaining (inner_of input.old))
+        (λ bytes. WritesWhole W.contents output.old output.new (report_of precision now bytes))) }
     ensures refused { IfOk result (λ refused. IfSome (R.remaining (inner_of input.old))
         (λ bytes. refused ≡ refused_count precision bytes)) }
     ensures flushed { OnOk result (is_flushed output.new ≡ true) }
 
     // What is written however the call ends.
-    ensures front { IfSome (R.remaining (inner_of input.old)) (λ bytes. WritesFront W.contents
-        output.old output.new (report_of precision now bytes)) }
+    ensures front { IfSome (R.remaining (inner_of input.old))
+        (λ bytes. WritesFront W.contents output.old output.new (report_of precision now bytes)) }
 
     // When a stream is to blame.
     ensures read_failed { result ≡ Err ToolFault.ReadFailed → HasFailed input.old input.new }

@@ -105,8 +105,8 @@ impl Checker {
 
     /// Writes the report of the items that can be handed out.
     pub(crate) fn write_items<W: Write>(&mut self, output: &mut Counted<W>) -> Result<(), ToolFault>
-        ensures reported { OnOk result ((text : List ℕ) × Reports self.old self.new text ×
-            WritesWhole W.contents output.old output.new text) }
+        ensures reported { OnOk result ((text : List ℕ) × Reports self.old self.new text
+            × WritesWhole W.contents output.old output.new text) }
         ensures all_taken { OnOk result (items_left self.new.feed ≡ []) }
         ensures front { (pushed before more : List ℕ) (start : Option (List ℕ))
             → HasReported self.old pushed before

@@ -27,14 +27,16 @@ pub fn obey_order<R: Read, W: Write>(
     input: &mut Counted<R>,
     output: &mut Counted<W>,
 ) -> Result<Ending, ToolFault>
-    ensures printed { OnOk result (IfSome (R.remaining (inner_of input.old)) (λ bytes. WritesWhole
-        W.contents output.old output.new (printed_for (asked_by order.now) bytes))) }
+    ensures printed { OnOk result (IfSome (R.remaining (inner_of input.old))
+        (λ bytes. WritesWhole W.contents output.old output.new
+        (printed_for (asked_by order.now) bytes))) }
     ensures ending { IfOk result (λ ending. IfSome (R.remaining (inner_of input.old))
         (λ bytes. ending ≡ ending_of (asked_by order.now) bytes)) }
 
     // What is written however the run ends.
-    ensures front { IfSome (R.remaining (inner_of input.old)) (λ bytes. WritesFront W.contents
-        output.old output.new (printed_for (asked_by order.now) bytes)) }
+    ensures front { IfSome (R.remaining (inner_of input.old))
+        (λ bytes. WritesFront W.contents output.old output.new
+        (printed_for (asked_by order.now) bytes)) }
 
     // When a stream is to blame.
     ensures read_failed { result ≡ Err ToolFault.ReadFailed → HasFailed input.old input.new }

@@ -22,15 +22,15 @@ pub fn run_script<R: Read, W: Write>(
     input: &mut Counted<R>,
     output: &mut Counted<W>,
 ) -> Result<(), ToolFault>
-    ensures done { OnOk result (IfSome (R.remaining (inner_of input.old)) (λ script. WritesWhole
-        W.contents output.old output.new (output_of sample_model script))) }
+    ensures done { OnOk result (IfSome (R.remaining (inner_of input.old))
+        (λ script. WritesWhole W.contents output.old output.new (output_of sample_model script))) }
     ensures flushed { OnOk result (is_flushed output.new ≡ true) }
 
     // What is written after a fault.
     ensures unwritten { IfErr result (λ fault. fault ≢ ToolFault.WriteFailed
         → output.new ≡ output.old) }
-    ensures front { IfSome (R.remaining (inner_of input.old)) (λ script. WritesFront W.contents
-        output.old output.new (output_of sample_model script)) }
+    ensures front { IfSome (R.remaining (inner_of input.old))
+        (λ script. WritesFront W.contents output.old output.new (output_of sample_model script)) }
 
     // When a stream is to blame.
     ensures read_failed { result ≡ Err ToolFault.ReadFailed → HasFailed input.old input.new }

@@ -79,8 +79,9 @@ pub(crate) fn head_from<R: Read>(
     ensures front { ReadsSome R.remaining input.old input.new }
     ensures most { ReadsUpTo (length (schema_bytes schema.now) + BESIDES_LEN) R.remaining input.old
         input.new }
-    ensures bad_origin { result ≡ Err LoadFault.BadOrigin → ReadsUpTo (length (schema_bytes
-        schema.now) + BESIDES_LEN - COUNT_LEN) R.remaining input.old input.new }
+    ensures bad_origin { result ≡ Err LoadFault.BadOrigin
+        → ReadsUpTo (length (schema_bytes schema.now) + BESIDES_LEN - COUNT_LEN) R.remaining
+        input.old input.new }
     ensures no_memory { result ≢ Err LoadFault.Memory }
     ensures failures_never_fall { KeepsFailures input.old input.new }
     ensures failed { result ≡ Err LoadFault.ReadFailed → HasFailed input.old input.new }

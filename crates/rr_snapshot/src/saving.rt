@@ -33,10 +33,10 @@ fn write_cells<A: Cells, W: Write>(
     hasher: &mut Sha256,
 ) -> Result<(), SaveFault>
     requires count_given { count ≡ len replica.now.cells }
-    ensures whole { OnOk result (WritesWhole W.contents output.old output.new (flat_map (cell_text
-        latest) (entries replica.now.cells))) }
-    ensures front { WritesFront W.contents output.old output.new (flat_map (cell_text latest)
-        (entries replica.now.cells)) }
+    ensures whole { OnOk result (WritesWhole W.contents output.old output.new
+        (flat_map (cell_text latest) (entries replica.now.cells))) }
+    ensures front { WritesFront W.contents output.old output.new
+        (flat_map (cell_text latest) (entries replica.now.cells)) }
     ensures digest { OnOk result ((m : List ℕ) → Holds256 hasher.old m
         → Holds256 hasher.new (m ++ flat_map (cell_text latest) (entries replica.now.cells))) }
     ensures fits { result ≢ Err SaveFault.TooManyCells }
@@ -65,10 +65,10 @@ pub fn save<A: Cells, W: Write>(
     replica: &Replica<A>,
     output: &mut Counted<W>,
 ) -> Result<(), SaveFault>
-    ensures whole { OnOk result (WritesWhole W.contents output.old output.new (snapshot_text latest
-        replica.now.schema replica.now.origin (entries replica.now.cells))) }
-    ensures front { WritesFront W.contents output.old output.new (snapshot_text latest
-        replica.now.schema replica.now.origin (entries replica.now.cells)) }
+    ensures whole { OnOk result (WritesWhole W.contents output.old output.new
+        (snapshot_text latest replica.now.schema replica.now.origin (entries replica.now.cells))) }
+    ensures front { WritesFront W.contents output.old output.new
+        (snapshot_text latest replica.now.schema replica.now.origin (entries replica.now.cells)) }
     ensures too_many { (result ≡ Err SaveFault.TooManyCells)
         ↔ (MAX_SNAPSHOT_CELLS < len replica.now.cells) }
     ensures nothing_written { result ≡ Err SaveFault.TooManyCells

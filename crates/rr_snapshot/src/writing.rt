@@ -38,10 +38,10 @@ pub(crate) fn write_cell<W: Write>(
     output: &mut Counted<W>,
     hasher: &mut Sha256,
 ) -> Result<(), SaveFault>
-    ensures whole { OnOk result (WritesWhole W.contents output.old output.new (cell_text latest
-        (seen_cell cell.now))) }
-    ensures front { WritesFront W.contents output.old output.new (cell_text latest (seen_cell
-        cell.now)) }
+    ensures whole { OnOk result (WritesWhole W.contents output.old output.new
+        (cell_text latest (seen_cell cell.now))) }
+    ensures front { WritesFront W.contents output.old output.new
+        (cell_text latest (seen_cell cell.now)) }
     ensures digest { OnOk result ((m : List ℕ) → Holds256 hasher.old m
         → Holds256 hasher.new (m ++ cell_text latest (seen_cell cell.now))) }
     ensures fits { result ≢ Err SaveFault.TooManyCells }
