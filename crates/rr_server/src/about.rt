@@ -9,7 +9,10 @@ use std::alloc::{AllocError, Global};
 pub(crate) fn about(alloc: Global, schema: &Schema, origin: Origin) -> Result<String, AllocError> {
     let origin = origin.get();
     let mut text = String::from_str(alloc, "# TYPE rr_info gauge\n")?;
-    writeln!(text, "rr_info{{version=\"{VERSION}\",origin=\"{origin}\"}} 1")?;
+    writeln!(
+        text,
+        "rr_info{{version=\"{VERSION}\",origin=\"{origin}\"}} 1"
+    )?;
     text.push_str("# TYPE rr_archive_rows gauge\n")?;
     for archive in schema.archives() {
         let seconds = u64::from(schema.step()).saturating_mul(u64::from(archive.steps));

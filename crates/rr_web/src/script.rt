@@ -2,7 +2,8 @@
 
 /// Lists series, plots those that are chosen, and asks again every few seconds. It takes what it
 /// shows from `/series`, `/fetch` and `/metrics`.
-pub(crate) const SCRIPT: &str = r##"// The page of a node: it lists series, plots those that are chosen, and asks again every few seconds.
+pub(crate) const SCRIPT: &str =
+    r##"// The page of a node: it lists series, plots those that are chosen, and asks again every few seconds.
 "use strict";
 
 const REFRESH_SECONDS = 5;
