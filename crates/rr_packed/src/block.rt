@@ -189,7 +189,8 @@ impl Block {
         requires rows { place_at self.old.rows.mask number ≡ None }
         ensures same { items_in self.new ≡ items_in self.old }
         ensures room { (origin : ℕ) → OnOk result (IsTrue (has_room_in self.new number origin)) }
-        ensures room_suffices { (origin : ℕ) → IsTrue (has_room_in self.old number origin) → IsOk result }
+        ensures room_suffices { (origin : ℕ) → IsTrue (has_room_in self.old number origin)
+            → IsOk result }
     {
         self.readings.make_room()?;
         self.rows.make_room()

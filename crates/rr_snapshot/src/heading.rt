@@ -73,7 +73,8 @@ pub(crate) fn head_from<R: Read>(
     ensures read { StreamGives (λ x. x) result (R.remaining (inner_of input.old))
         (R.remaining (inner_of input.new)) (head_at schema.now) }
     ensures addition { IfOk result (λ head. IsAddition schema.now head.addition) }
-    ensures older_has_archives { IfOk result (λ head. 1 ≤ length (older schema.now head.addition).archives) }
+    ensures older_has_archives { IfOk result (λ head.
+        1 ≤ length (older schema.now head.addition).archives) }
     ensures digest { OnOk result (Digests (R.remaining (inner_of input.old))
         (R.remaining (inner_of input.new)) hasher.old hasher.new) }
     ensures front { ReadsSome R.remaining input.old input.new }
