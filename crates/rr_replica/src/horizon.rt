@@ -31,7 +31,11 @@ impl<A: Cells> Replica<A> {
     {
         let schema = self.schema();
         let newest = self.newest(key, archive);
-        is_live(schema.archive(archive).rows, newest, schema.slot(archive, time))
+        is_live(
+            schema.archive(archive).rows,
+            newest,
+            schema.slot(archive, time),
+        )
     }
 
     /// The greatest slot of a cell in an archive of a key, if there is a cell.
