@@ -52,7 +52,7 @@ pub struct Replica<A: Cells> {
 impl<A: Cells> Model for Replica<A> {
     ghost use Rattle.rr_replica.specs.ReplicaWithRoom.{ReplicaWithRoom, coded_replica_with_room, replica_with_room};
     ghost use Rattle.rr_replica.specs.InMemory.{IsReplicaInMemory};
-    ghost use Rattle.rr_replica.specs.SeriesMap.{entries_of, IsIndexed};
+    ghost use Rattle.rr_replica.specs.SeriesMap.{entries_of};
 
     ghost Value = { ReplicaWithRoom };
 
@@ -60,7 +60,7 @@ impl<A: Cells> Model for Replica<A> {
 
     ghost view = { λ r. replica_with_room A.cells A.is_ready r.schema r.origin r.next (entries_of r.series) };
 
-    ghost invariant = { λ r. IsReplicaInMemory A.cells A.row_limit r.schema r.origin r.next (entries_of r.series) × IsIndexed r.series };
+    ghost invariant = { λ r. IsReplicaInMemory A.cells A.row_limit r.schema r.origin r.next (entries_of r.series) };
 }
 
 impl<A: Cells> Replica<A> {
