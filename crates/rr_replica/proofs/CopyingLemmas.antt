@@ -1,21 +1,20 @@
--- The archives of keys that are copied one after the other.
-use Rattle.std.proofs.Common.{◌≡◌, ℕ, List, [], ◌∷◌, map, take, slice_get, arith, subst, refl, sym, zero, suc, ap, ◌∙◌, Option, Some, None, unwrap_or, true≢false, is_some}
+-- The archives of keys that are copied one after the other, and replicas over such archives.
+use Rattle.std.proofs.Common.{◌≡◌, ℕ, ◌<◌, List, [], ◌∷◌, length, map, take, set, get_or, slice_get, arith, subst, refl, sym, zero, suc, ap, ◌∙◌, Option, Some, None, unwrap_or, true≢false, is_some}
 use Rattle.std.specs.Global.{Vec}
-use Rattle.std.specs.List.Sorted.{IsStrictlySortedBy}
-use Rattle.std.specs.Map.{keys_of}
 use Rattle.std.specs.Option.{option_map}
-use Rattle.rr_text.specs.Bytes.{bytes_cmp}
 use Rattle.rr_schema.specs.Schema.{Layout}
 use Rattle.rr_archive.specs.Cells.{ArchiveCells}
 use Rattle.rr_replica.specs.Archives.{AreSized}
 use Rattle.rr_cells.specs.ReplicaState.{IsReplicaState}
-use Rattle.rr_replica.specs.InMemory.{archives_of, seen_archive, seen_at, held_series, AreAllSized, IsReplicaInMemory}
+use Rattle.rr_replica.specs.InMemory.{archives_of, seen_archive, seen_at, held_series, replica_state_in, AreAllSized, IsReplicaInMemory}
 use Rattle.rr_replica.specs.Series.{cells_of}
+use Rattle.rr_replica.specs.SeriesMap.{entries_of}
+use Rattle.rr_replica.specs.declared.series.SeriesMap.{SeriesMap}
 use Rattle.rr_cells.proofs.Local.{same_cells}
 use Rattle.rr_replica.proofs.Shown.{rows_shown, items_of, held_at}
 use Rattle.rr_replica.specs.Indexed.{index_of, entries_at, IsIndexed}
-use Rattle.rr_replica.proofs.Each.{slice_get-map}
-use Rattle.rr_replica.proofs.IndexedLemmas.{key_at, archives_found, archives_nowhere, slice_get-take}
+use Rattle.rr_replica.proofs.Each.{slice_get-map, found_at, map-set_same}
+use Rattle.rr_replica.proofs.IndexedLemmas.{key_at, archives_found, archives_nowhere, slice_get-take, keys_ordered, still_indexed}
 
 pub take_none : {Y : Type 0} (xs : List Y) → take 0 xs ≡ []
 take_none [] = refl
@@ -70,6 +69,16 @@ module _ {X : Type 0} (cells : X → ArchiveCells) (limit : X → ℕ) where
           ∙ sym (slice_get-map seen copies i) ∙ ap (λ l. slice_get l i) same ∙ slice_get-map seen archives i
           ∙ sym (ap (option_map seen) (archives_found keys indices archives is key i (sym e)))
 
+  -- and so are archives in the place of those that they are seen as
+  pub set_seen : (m : SeriesMap X) (i : ℕ) (was now : Vec X) → i < length m.archives.items
+      → was ≡ get_or m.archives.items i was → seen now ≡ seen was → (key : List ℕ)
+      → seen_at cells limit (entries_at m.indices.entries (set m.archives.items i now)) key
+      ≡ seen_at cells limit (entries_of m) key
+  set_seen m i was now within at same =
+      copies_seen m.keys.items m.indices.entries m.archives.items m.indices.entries (set m.archives.items i now)
+      m.indexed (still_indexed m.keys.items m.indices.entries m.archives.items m.indexed i now)
+      (map-set_same seen m.archives.items i was now (found_at m.archives.items i was within at) same)
+
   -- ---- the replica over them
 
   cells_from_seen : (o : Option (Vec X)) (i : ℕ) → held_at cells (items_of o) i
@@ -83,25 +92,25 @@ module _ {X : Type 0} (cells : X → ArchiveCells) (limit : X → ℕ) where
       in_list (a ∷ xs) zero = refl
       in_list (a ∷ xs) (suc i) = in_list xs i
 
-  module _ (old new : List (List ℕ × Vec X)) (same : (key : List ℕ)
-      → seen_at cells limit new key ≡ seen_at cells limit old key) (before : IsStrictlySortedBy bytes_cmp (keys_of old))
-      (after : IsStrictlySortedBy bytes_cmp (keys_of new)) where
-    pub same_cells_copied : cells_of (held_series cells new) ≡ cells_of (held_series cells old)
+  module _ (old new : SeriesMap X) (same : (key : List ℕ)
+      → seen_at cells limit (entries_of new) key ≡ seen_at cells limit (entries_of old) key) where
+    same_cells_copied : cells_of (held_series cells (entries_of new)) ≡ cells_of (held_series cells (entries_of old))
     same_cells_copied = same_cells _ _ (λ key i.
-        rows_shown cells new key i after
-        ∙ cells_from_seen (archives_of new key) i
+        rows_shown cells (entries_of new) key i (keys_ordered new)
+        ∙ cells_from_seen (archives_of (entries_of new) key) i
         ∙ ap (λ o. held_at (λ (p : ArchiveCells × ℕ). p.0) (unwrap_or o []) i) (same key)
-        ∙ sym (cells_from_seen (archives_of old key) i)
-        ∙ sym (rows_shown cells old key i before))
+        ∙ sym (cells_from_seen (archives_of (entries_of old) key) i)
+        ∙ sym (rows_shown cells (entries_of old) key i (keys_ordered old)))
 
-    same_sizes : (s : Layout) → AreAllSized limit s old → AreAllSized limit s new
-    same_sizes s sized key archives at = was (archives_of old key) refl (sym (ap (option_map seen) at) ∙ same key)
+    same_sizes : (s : Layout) → AreAllSized limit s (entries_of old) → AreAllSized limit s (entries_of new)
+    same_sizes s sized key archives at =
+        was (archives_of (entries_of old) key) refl (sym (ap (option_map seen) at) ∙ same key)
       where
         limits : (xs : List X) → map limit xs ≡ map (λ (p : ArchiveCells × ℕ). p.1) (map (seen_archive cells limit) xs)
         limits [] = refl
         limits (a ∷ xs) = ap (λ ls. limit a ∷ ls) (limits xs)
 
-        was : (o : Option (Vec X)) → archives_of old key ≡ o → Some (seen archives) ≡ option_map seen o
+        was : (o : Option (Vec X)) → archives_of (entries_of old) key ≡ o → Some (seen archives) ≡ option_map seen o
             → AreSized limit s archives.items
         was None e f = absurd (true≢false (ap is_some f))
         was (Some v) e f =
@@ -110,11 +119,15 @@ module _ {X : Type 0} (cells : X → ArchiveCells) (limit : X → ℕ) where
             ∙ sym (limits v.items)
             ∙ sized key v e
 
-    pub held_copied : (s : Layout) (origin next : ℕ) → IsReplicaInMemory cells limit s origin next old
-        → IsReplicaInMemory cells limit s origin next new
+    pub same_state : (s : Layout) (origin next : ℕ) → replica_state_in cells s origin next (entries_of new)
+        ≡ replica_state_in cells s origin next (entries_of old)
+    same_state s origin next i =
+        record { schema = s; origin = origin; next = next; cells = same_cells_copied i }
+
+    pub held_copied : (s : Layout) (origin next : ℕ) → IsReplicaInMemory cells limit s origin next (entries_of old)
+        → IsReplicaInMemory cells limit s origin next (entries_of new)
     held_copied s origin next held = record {
-      holds = subst (λ m. IsReplicaState (record { schema = s; origin = origin; next = next; cells = m }))
-          (sym same_cells_copied) held.holds;
+      holds = subst IsReplicaState (sym (same_state s origin next)) held.holds;
       sized = same_sizes s held.sized;
-      ordered = after;
+      ordered = keys_ordered new;
     }

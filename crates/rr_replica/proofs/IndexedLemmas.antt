@@ -17,6 +17,8 @@ use Rattle.rr_schema.specs.Schema.{Layout}
 use Rattle.rr_replica.specs.Archives.{AreSized}
 use Rattle.rr_replica.specs.InMemory.{archives_of, AreAllSized}
 use Rattle.rr_replica.specs.Indexed.{index_of, with_entry, entries_at, IsIndexed}
+use Rattle.rr_replica.specs.declared.series.SeriesMap.{SeriesMap}
+use Rattle.rr_replica.specs.SeriesMap.{entries_of}
 use Rattle.rr_replica.proofs.Counted.{get_append, get_first}
 use Rattle.rr_replica.proofs.Each.{found_at, slice_get-set_same, slice_get-set_other, length-set}
 use Rattle.rr_replica.proofs.Shown.{there}
@@ -171,6 +173,10 @@ module _ {X : Type 0} where
             ∙ ap (λ o. after o (set archives i now)) (sym at)
             ∙ slice_get-set_same archives i now (index_within key i at)
         by_key false t = apart t (index_of indices q) refl ∙ sym (archives_at keys indices archives is.there is.many q)
+
+  -- the keys of series are in order
+  pub keys_ordered : (m : SeriesMap X) → IsStrictlySortedBy bytes_cmp (keys_of (entries_of m))
+  keys_ordered m = entries_ordered m.keys.items m.indices.entries m.archives.items m.indexed
 
   -- ---- a key more
 

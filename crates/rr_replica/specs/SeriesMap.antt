@@ -8,7 +8,3 @@ module _ {X : Type 0} where
   -- the archives of each key, in order of the keys
   abbrev pub entries_of : SeriesMap X → List (List ℕ × Vec X)
   entries_of m = indexed.entries_at m.indices.entries m.archives.items
-
-  -- each key has an index, and its archives are at the same
-  abbrev pub IsIndexed : SeriesMap X → Type 0
-  IsIndexed m = indexed.IsIndexed m.keys.items m.indices.entries m.archives.items

@@ -9,7 +9,7 @@ ghost use Rattle.rr_cells.specs.Joining.{next_after};
 ghost use Rattle.rr_replica.specs.InMemory.{held_series, HasRoom, AreAllSized};
 ghost use Rattle.rr_cells.specs.Listing.{owned_cell};
 ghost use Rattle.rr_replica.specs.Series.{cells_of};
-ghost use Rattle.rr_replica.specs.SeriesMap.{entries_of, IsIndexed};
+ghost use Rattle.rr_replica.specs.SeriesMap.{entries_of};
 
 use crate::archives::{empty_archives, join_into};
 use crate::series::SeriesMap;
@@ -29,7 +29,6 @@ pub(crate) fn join_in<A: Cells>(
     requires cell { IsCellOf schema.now (owned_cell cell.now) }
     requires live { IsTrimmed schema.now (cells_of (held_series A.cells (entries_of series.old))) }
     requires sized { AreAllSized A.row_limit schema.now (entries_of series.old) }
-    requires indexed { IsIndexed series.old }
     ensures joined { OnOk result (cells_of (held_series A.cells (entries_of series.new))
         ≡ join_cell schema.now (cells_of (held_series A.cells (entries_of series.old)))
         (owned_cell cell.now).0 cell.now.contribution) }
@@ -38,7 +37,6 @@ pub(crate) fn join_in<A: Cells>(
     ensures sized { AreAllSized A.row_limit schema.now (entries_of series.new) }
     ensures room { HasRoom A.is_ready schema.now (Op.Join cell.now) (entries_of series.old)
         → IsOk result }
-    ensures indexed { IsIndexed series.new }
 {
     match series.find(&cell.key) {
         Some(index) => join_into(&mut series.archives[index], schema, cell),

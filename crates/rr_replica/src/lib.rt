@@ -14,6 +14,7 @@
 
 mod applying;
 mod archives;
+mod cells;
 mod copying;
 mod fault;
 mod hint;

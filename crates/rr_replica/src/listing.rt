@@ -3,13 +3,10 @@ ghost use Rattle.std.specs.Prelude.{◌≡◌, ◌+◌, ◌≤◌, length, map, 
 ghost use Rattle.rr_archive.specs.CellSlots.{cell_slot};
 ghost use Rattle.rr_archive.specs.Cells.{cell_of};
 ghost use Rattle.rr_cells.specs.Cells.{name_at};
-ghost use Rattle.rr_text.specs.Bytes.{bytes_cmp};
 ghost use Rattle.rr_replica.specs.Series.{cells_from, cells_of};
 ghost use Rattle.rr_replica.specs.InMemory.{held_series};
 ghost use Rattle.rr_replica.specs.SeriesMap.{entries_of};
 ghost use Rattle.std.specs.List.{AllByRecursion};
-ghost use Rattle.std.specs.List.Sorted.{IsStrictlySortedBy};
-ghost use Rattle.std.specs.Map.{keys_of};
 ghost use Rattle.std.specs.Option.{option_map};
 ghost use Rattle.std.specs.FinMap as fin;
 ghost use Rattle.rr_cells.specs.Listing.{seen_cell, count_of, at_most_usize};
@@ -80,7 +77,6 @@ pub(crate) fn nth_in<'a, A: Cells>(
 
 /// How many cells all series hold, as `count_in` counts.
 pub(crate) fn count_cells<A: Cells>(series: &SeriesMap<A>) -> usize
-    requires { IsStrictlySortedBy bytes_cmp (keys_of (entries_of series.now)) }
     ensures { result ≡ at_most_usize (fin.len
         (cells_of (held_series A.cells (entries_of series.now)))) }
 {
@@ -93,8 +89,7 @@ pub(crate) fn count_cells<A: Cells>(series: &SeriesMap<A>) -> usize
 
 /// The cell with a number among those of all series.
 pub(crate) fn nth_cell<A: Cells>(series: &SeriesMap<A>, number: usize) -> Option<CellRef<'_>>
-    requires ordered { IsStrictlySortedBy bytes_cmp (keys_of (entries_of series.now)) }
-    requires few_archives { AllByRecursion (λ e. length e.1.items ≤ MAX_ARCHIVES)
+    requires { AllByRecursion (λ e. length e.1.items ≤ MAX_ARCHIVES)
         (entries_of series.now) }
     ensures { option_map seen_cell result
         ≡ slice_get (fin.entries (cells_of (held_series A.cells (entries_of series.now)))) number }

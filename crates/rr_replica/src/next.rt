@@ -1,13 +1,11 @@
 //! The first cell after a name.
 ghost use Rattle.std.specs.Prelude.{◌≡◌, ◌≤◌, length, map, drop, slice_get, Some, IfSome, IsTrue};
 ghost use Rattle.std.specs.List.{AllByRecursion};
-ghost use Rattle.std.specs.List.Sorted.{IsStrictlySortedBy};
-ghost use Rattle.std.specs.Map.{keys_of};
 ghost use Rattle.std.specs.Option.{option_map};
 ghost use Rattle.std.specs.Ordering.{is_le};
 ghost use Rattle.rr_text.specs.Bytes.{bytes_cmp};
 ghost use Rattle.rr_replica.specs.InMemory.{held_series};
-ghost use Rattle.rr_replica.specs.SeriesMap.{entries_of, IsIndexed};
+ghost use Rattle.rr_replica.specs.SeriesMap.{entries_of};
 ghost use Rattle.rr_cells.specs.Listing.{seen_cell, first_after, next_cell};
 ghost use Rattle.rr_replica.specs.Listing.{seen_name};
 ghost use Rattle.rr_replica.specs.Series.{cells_from, cells_of};
@@ -69,8 +67,6 @@ fn next_in<'a, A: Cells>(
 
 /// The first cell after a name in its own archive, if that has one: found by the hash of its key.
 fn next_in_own<'a, A: Cells>(series: &'a SeriesMap<A>, name: &NameRef<'_>) -> Option<CellRef<'a>>
-    requires ordered { IsStrictlySortedBy bytes_cmp (keys_of (entries_of series.now)) }
-    requires indexed { IsIndexed series.now }
     ensures { IfSome result (λ c. next_cell
         (cells_of (held_series A.cells (entries_of series.now))) (seen_name name.now)
         ≡ Some (seen_cell c)) }
@@ -90,10 +86,8 @@ pub(crate) fn next_cell<'a, A: Cells>(
     series: &'a SeriesMap<A>,
     name: &NameRef<'_>,
 ) -> Option<CellRef<'a>>
-    requires ordered { IsStrictlySortedBy bytes_cmp (keys_of (entries_of series.now)) }
-    requires few_archives { AllByRecursion (λ e. length e.1.items ≤ MAX_ARCHIVES)
+    requires { AllByRecursion (λ e. length e.1.items ≤ MAX_ARCHIVES)
         (entries_of series.now) }
-    requires indexed { IsIndexed series.now }
     ensures { option_map seen_cell result
         ≡ next_cell (cells_of (held_series A.cells (entries_of series.now))) (seen_name name.now) }
 {

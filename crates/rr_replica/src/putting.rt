@@ -2,7 +2,7 @@
 ghost use Rattle.std.specs.Prelude.{◌≡◌, ◌+◌, IsOk, OnOk, OnErr};
 ghost use Rattle.rr_cells.specs.Puts.{put_sample};
 ghost use Rattle.rr_replica.specs.Series.{cells_of};
-ghost use Rattle.rr_replica.specs.SeriesMap.{entries_of, IsIndexed};
+ghost use Rattle.rr_replica.specs.SeriesMap.{entries_of};
 ghost use Rattle.rr_replica.specs.InMemory.{held_series, sample_of_reading, keyed_sample, HasRoom, IsReplicaInMemory};
 
 use crate::archives::{empty_archives, put_into};
@@ -26,7 +26,6 @@ pub(crate) fn put_in<A: Cells>(
 ) -> Result<(), AllocError>
     requires held { IsReplicaInMemory A.cells A.row_limit schema.now sample.origin sample.number
         (entries_of series.old) }
-    requires indexed { IsIndexed series.old }
     ensures put { OnOk result (cells_of (held_series A.cells (entries_of series.new))
         ≡ put_sample schema.now (cells_of (held_series A.cells (entries_of series.old)))
         (keyed_sample key.now sample)) }
@@ -36,7 +35,6 @@ pub(crate) fn put_in<A: Cells>(
         ≡ cells_of (held_series A.cells (entries_of series.old))) }
     ensures held { OnErr result (IsReplicaInMemory A.cells A.row_limit schema.now sample.origin
         sample.number (entries_of series.new)) }
-    ensures indexed { IsIndexed series.new }
     ensures room { HasRoom A.is_ready schema.now (Op.Put (sample_of_reading key.now sample))
         (entries_of series.old) → IsOk result }
 {

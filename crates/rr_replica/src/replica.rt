@@ -1,6 +1,5 @@
 //! A replica of the store.
-ghost use Rattle.std.specs.Prelude.{◌≡◌, ℕ, ◌<◌, ◌≤◌, ◌↔◌, All, length, map, take, drop, None, Err, IfSome, IfOk, IfErr, IsOk, OnOk, OnErr, MatchOption, slice_get};
-ghost use Rattle.std.specs.Option.{option_map};
+ghost use Rattle.std.specs.Prelude.{◌≡◌, ℕ, ◌<◌, ◌≤◌, ◌↔◌, All, length, None, Err, IfOk, IfErr, IsOk, OnOk, OnErr, MatchOption};
 ghost use Rattle.std.specs.FinMap as fin;
 ghost use Rattle.rr_key.specs.Making.{making_fault};
 ghost use Rattle.rr_point.specs.Key.{names_of, key_text};
@@ -9,7 +8,7 @@ ghost use Rattle.rr_cells.specs.CellBounds.{IsCellOf};
 ghost use Rattle.rr_cells.specs.Cells.{row_at, archive_cells};
 ghost use Rattle.rr_cells.specs.ReplicaState.{with_sample, with_put, IsReplicaState};
 ghost use Rattle.rr_replica.specs.InMemory.{sample_of_reading, keyed_sample};
-ghost use Rattle.rr_cells.specs.Listing.{seen_cell, owned_cell, at_most_usize, cell_name, next_cell};
+ghost use Rattle.rr_cells.specs.Listing.{owned_cell};
 ghost use Rattle.rr_replica.specs.ReplicaWithRoom.{replica_state, HasRoomFor, IsReadyFor};
 ghost use Rattle.rr_replica.specs.Writing.{lacks_numbers};
 
@@ -17,14 +16,12 @@ use crate::copying::copy_series;
 use crate::fault::{JoinFault, PutFault};
 use crate::hint::Hint;
 use crate::joining::{join_in, next_after};
-use crate::listing::{count_cells, nth_cell};
-use crate::next::{NameRef, next_cell};
 use crate::putting::put_in;
 use crate::reading::Reading;
 use crate::room::make_room_in;
 use crate::series::SeriesMap;
 use rr_archive::{Archive, Cells, Entry};
-use rr_cells::{Cell, CellRef, Op};
+use rr_cells::{Cell, Op};
 use rr_key::SeriesKey;
 use rr_point::{Field, Point};
 use rr_schema::{Origin, Schema};
@@ -52,7 +49,7 @@ pub struct Replica<A: Cells> {
 impl<A: Cells> Model for Replica<A> {
     ghost use Rattle.rr_replica.specs.ReplicaWithRoom.{ReplicaWithRoom, coded_replica_with_room, replica_with_room};
     ghost use Rattle.rr_replica.specs.InMemory.{IsReplicaInMemory};
-    ghost use Rattle.rr_replica.specs.SeriesMap.{entries_of, IsIndexed};
+    ghost use Rattle.rr_replica.specs.SeriesMap.{entries_of};
 
     ghost Value = { ReplicaWithRoom };
 
@@ -60,7 +57,7 @@ impl<A: Cells> Model for Replica<A> {
 
     ghost view = { λ r. replica_with_room A.cells A.is_ready r.schema r.origin r.next (entries_of r.series) };
 
-    ghost invariant = { λ r. IsReplicaInMemory A.cells A.row_limit r.schema r.origin r.next (entries_of r.series) × IsIndexed r.series };
+    ghost invariant = { λ r. IsReplicaInMemory A.cells A.row_limit r.schema r.origin r.next (entries_of r.series) };
 }
 
 impl<A: Cells> Replica<A> {
@@ -240,74 +237,6 @@ impl<A: Cells> Replica<A> {
             Some(archives) => archives.get(i as usize),
             None => None,
         }
-    }
-
-    /// How many cells there are; the greatest value of the type, where it can't hold that many. The
-    /// cost is linear in the series.
-    pub fn cell_count(&self) -> usize
-        ensures { result ≡ at_most_usize (fin.len self.now.cells) }
-    {
-        count_cells(&self.series)
-    }
-
-    /// The cell with a number, from 0, in order of key, archive, slot and origin. The cost is
-    /// linear in the series before it, each passed over by its count, and in the rows of its
-    /// archive.
-    pub fn cell_at(&self, i: usize) -> Option<CellRef<'_>>
-        ensures listed { option_map seen_cell result ≡ slice_get (fin.entries self.now.cells) i }
-        ensures of_schema { IfSome result (λ c. IsCellOf self.now.schema (seen_cell c)) }
-    {
-        nth_cell(&self.series, i)
-    }
-
-    /// The first cell after a name, in the same order, whether or not a cell is there. The cost is
-    /// one look-up of the key and that of the archives' `next_cell`: no series before the key is
-    /// walked over.
-    pub fn next_cell(
-        &self,
-        key: &SeriesKey,
-        archive: u8,
-        slot: i64,
-        origin: Origin,
-    ) -> Option<CellRef<'_>>
-        ensures first { option_map seen_cell result
-            ≡ next_cell self.now.cells (cell_name key.now archive slot origin) }
-        ensures of_schema { IfSome result (λ c. IsCellOf self.now.schema (seen_cell c)) }
-    {
-        let name = NameRef {
-            key,
-            archive,
-            slot,
-            origin,
-        };
-        next_cell(&self.series, &name)
-    }
-
-    /// As many cells as `count` from an offset on, in the same order; fewer where there are fewer.
-    /// The cost is that of `cell_at` for the first, and for each further cell that of `next_cell`.
-    pub fn cells_from(
-        &self,
-        alloc: Global,
-        from: usize,
-        count: usize,
-    ) -> Result<Vec<Cell>, AllocError>
-        ensures listed { IfOk result (λ cells.
-            map owned_cell cells.items ≡ take count (drop from (fin.entries self.now.cells))) }
-        ensures of_schema { IfOk result (λ cells. All (λ c. IsCellOf self.now.schema (owned_cell c))
-            cells.items) }
-    {
-        // The proof needs what the replica keeps to, which `schema` ensures.
-        let _schema = self.schema();
-        let mut cells = Vec::new(alloc);
-        let mut next = self.cell_at(from);
-        for _ in 0..count {
-            let Some(cell) = next else {
-                return Ok(cells);
-            };
-            cells.push(cell.to_cell()?)?;
-            next = self.next_cell(cell.key, cell.archive, cell.slot, cell.origin);
-        }
-        Ok(cells)
     }
 }
 

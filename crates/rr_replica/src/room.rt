@@ -3,7 +3,7 @@ ghost use Rattle.std.specs.Prelude.{◌≡◌, OnOk};
 ghost use Rattle.rr_schema.specs.Schema.{IsLayout};
 ghost use Rattle.rr_replica.specs.Archives.{IsOpOf};
 ghost use Rattle.rr_replica.specs.Series.{cells_of};
-ghost use Rattle.rr_replica.specs.SeriesMap.{entries_of, IsIndexed};
+ghost use Rattle.rr_replica.specs.SeriesMap.{entries_of};
 ghost use Rattle.rr_replica.specs.InMemory.{held_series, HasRoom, AreAllSized};
 
 use crate::archives::{empty_archives, make_room};
@@ -26,11 +26,9 @@ pub(crate) fn make_room_in<A: Cells>(
     requires layout { IsLayout schema.now }
     requires op { IsOpOf schema.now op.now }
     requires sized { AreAllSized A.row_limit schema.now (entries_of series.old) }
-    requires indexed { IsIndexed series.old }
     ensures unchanged { cells_of (held_series A.cells (entries_of series.new))
         ≡ cells_of (held_series A.cells (entries_of series.old)) }
     ensures sized { AreAllSized A.row_limit schema.now (entries_of series.new) }
-    ensures indexed { IsIndexed series.new }
     ensures room { OnOk result (HasRoom A.is_ready schema.now op.now (entries_of series.new)) }
 {
     let key = op.key();

@@ -4,7 +4,8 @@ ghost use Rattle.std.specs.Option.{option_map};
 ghost use Rattle.std.specs.BTreeMap.{is_at};
 ghost use Rattle.rr_text.specs.Bytes.{bytes_cmp};
 ghost use Rattle.rr_replica.specs.InMemory.{archives_of};
-ghost use Rattle.rr_replica.specs.Indexed.{index_of, items_of};
+ghost use Rattle.rr_replica.specs.Indexed.{index_of, items_of, IsIndexed};
+ghost use Rattle.std.proofs.Props.{props};
 
 use crate::hint::Hint;
 use crate::hints::Hints;
@@ -23,17 +24,17 @@ pub(crate) struct SeriesMap<A> {
     pub(crate) archives: Vec<Vec<A>>,
     pub(crate) indices: BTreeMap<SeriesKey, usize>,
     hints: Hints,
+    ghost indexed: { IsIndexed keys.items indices.entries archives.items } by { Prim.hlevel props },
 }
 
 impl<A: Drop> SeriesMap<A> {
-    ghost use Rattle.rr_replica.specs.SeriesMap.{entries_of, IsIndexed};
+    ghost use Rattle.rr_replica.specs.SeriesMap.{entries_of};
 
     /// No key yet. Takes no memory.
     pub(crate) fn new(alloc: Global) -> SeriesMap<A>
         ensures none { entries_of result ≡ [] }
         ensures no_keys { result.keys.items ≡ [] }
         ensures no_archives { result.archives.items ≡ [] }
-        ensures indexed { IsIndexed result }
     {
         SeriesMap {
             keys: Vec::new(alloc),
@@ -45,7 +46,6 @@ impl<A: Drop> SeriesMap<A> {
 
     /// The index of a key, if it is known.
     pub(crate) fn find(&self, key: &SeriesKey) -> Option<usize>
-        requires { IsIndexed self.now }
         ensures { result ≡ index_of self.now.indices.entries key.now }
     {
         match self.hints.find(&self.keys, key) {
@@ -67,7 +67,6 @@ impl<A: Drop> SeriesMap<A> {
 
     /// The index of a key, if it is known. The hint is tried first.
     pub(crate) fn find_near(&self, hint: Hint, key: &SeriesKey) -> Option<usize>
-        requires { IsIndexed self.now }
         ensures { result ≡ index_of self.now.indices.entries key.now }
     {
         match self.index_near(hint, key) {
@@ -79,7 +78,6 @@ impl<A: Drop> SeriesMap<A> {
     /// The key as it is known, with its index; one that isn't known as it is, with the index that
     /// it gets when it is added next. The hint is tried first.
     pub(crate) fn known_key<'a>(&'a self, hint: Hint, key: &'a SeriesKey) -> (&'a SeriesKey, usize)
-        requires { IsIndexed self.now }
         ensures { result.0.now ≡ key.now }
     {
         match self.find_near(hint, key) {
@@ -90,7 +88,6 @@ impl<A: Drop> SeriesMap<A> {
 
     /// The archives of a key, if it is known.
     pub(crate) fn get(&self, key: &SeriesKey) -> Option<&Vec<A>>
-        requires { IsIndexed self.now }
         ensures { option_map (λ archives. archives.now) result
             ≡ archives_of (entries_of self.now) key.now }
     {
@@ -102,7 +99,6 @@ impl<A: Drop> SeriesMap<A> {
 
     /// A key as it is known, and its archives, if it is known.
     pub(crate) fn known(&self, key: &SeriesKey) -> Option<(&SeriesKey, &Vec<A>)>
-        requires { IsIndexed self.now }
         ensures key { IfSome result (λ known. known.0.now ≡ key.now) }
         ensures archives { IfSome result (λ known. archives_of (entries_of self.now) key.now
             ≡ Some known.1.now) }
@@ -129,8 +125,7 @@ impl<A: Drop> SeriesMap<A> {
 
     /// Adds a key that isn't known yet, with its archives. After an error nothing has changed.
     pub(crate) fn insert(&mut self, key: &SeriesKey, archives: Vec<A>) -> Result<(), AllocError>
-        requires indexed { IsIndexed self.old }
-        requires unknown { index_of self.old.indices.entries key.now ≡ None }
+        requires { index_of self.old.indices.entries key.now ≡ None }
         ensures keys { OnOk result (self.new.keys.items ≡ self.old.keys.items ++ key.now ∷ []) }
         ensures archives { OnOk result (self.new.archives.items ≡ self.old.archives.items
             ++ archives ∷ []) }
@@ -138,7 +133,6 @@ impl<A: Drop> SeriesMap<A> {
             ≡ cond (is_at (bytes_cmp key.now) q) (Some archives)
             (archives_of (entries_of self.old) q)) }
         ensures unchanged { OnErr result (entries_of self.new ≡ entries_of self.old) }
-        ensures indexed_now { IsIndexed self.new }
     {
         self.keys.reserve(1)?;
         self.archives.reserve(1)?;

@@ -1,7 +1,7 @@
 //! Rows that replicas share.
 ghost use Rattle.std.specs.Prelude.{◌≡◌, ℕ, List, map};
 ghost use Rattle.rr_replica.specs.InMemory.{seen_archive, seen_at};
-ghost use Rattle.rr_replica.specs.SeriesMap.{entries_of, IsIndexed};
+ghost use Rattle.rr_replica.specs.SeriesMap.{entries_of};
 ghost use Rattle.rr_replica.specs.ReplicaWithRoom.{replica_state};
 
 use crate::hint::Hint;
@@ -31,11 +31,9 @@ fn share_archives<A: Cells>(archives: &mut Vec<A>, others: &[A])
 
 /// Makes finished rows of the series at an index ready to be shared, if there is one.
 fn finish_at<A: Cells>(series: &mut SeriesMap<A>, index: usize)
-    requires { IsIndexed series.old }
-    ensures same { (key : List ℕ)
+    ensures { (key : List ℕ)
         → seen_at A.cells A.row_limit (entries_of series.new) key
         ≡ seen_at A.cells A.row_limit (entries_of series.old) key }
-    ensures indexed { IsIndexed series.new }
 {
     if index >= series.archives.len() {
         return;
@@ -45,11 +43,9 @@ fn finish_at<A: Cells>(series: &mut SeriesMap<A>, index: usize)
 
 /// Shares rows of the series at an index with others at the same index, if both are there.
 fn share_at<A: Cells>(series: &mut SeriesMap<A>, index: usize, others: &SeriesMap<A>)
-    requires { IsIndexed series.old }
-    ensures same { (key : List ℕ)
+    ensures { (key : List ℕ)
         → seen_at A.cells A.row_limit (entries_of series.new) key
         ≡ seen_at A.cells A.row_limit (entries_of series.old) key }
-    ensures indexed { IsIndexed series.new }
 {
     if index >= series.archives.len() {
         return;

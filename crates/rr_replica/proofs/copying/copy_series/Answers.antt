@@ -10,29 +10,29 @@ loop-i-init g c = record {
   keys_so_far = c.new-copies.ensures.no_keys ∙ sym (take_none c.args.series.now.keys.items);
   seen_so_far = ap (map (seen g.A.Cells.cells g.A.Cells.row_limit))
       (c.new-copies.ensures.no_archives ∙ sym (take_none c.args.series.now.archives.items));
-  indexed = c.new-copies.ensures.indexed;
+  indexed = c.new-copies.result.indexed;
 }
 
-pub insert-requires-clause-unknown : goal.insert-requires-clause-unknown
-insert-requires-clause-unknown g c =
+pub insert-requires : goal.insert-requires
+insert-requires g c =
     let m = c.args.series.now in
     let copies = c.loop-i.copies in
     let within : c.loop-i.i < length m.keys.items = search rules in
     not_yet g.A.Cells.cells g.A.Cells.row_limit m.keys.items m.indices.entries m.archives.items copies.keys.items
-    copies.indices.entries copies.archives.items c.loop-i.i c.index.result.now c.requires c.loop-i.invariant
+    copies.indices.entries copies.archives.items c.loop-i.i c.index.result.now m.indexed c.loop-i.invariant
     (found_at m.keys.items c.loop-i.i c.index.result.now within (search rules))
 
-pub returns-clause-same : goal.returns-clause-same
-returns-clause-same g c =
+pub returns : goal.returns
+returns g c =
     let m = c.args.series.now in
     let copies = c.loop-i.copies in
     let past : length m.keys.items ≤ c.loop-i.i = search rules in
     let past_archives : length m.archives.items ≤ c.loop-i.i =
-    (let many = c.requires.many in omega (arith, many, past)) in
+    (let many = m.indexed.many in omega (arith, many, past)) in
     let keys = c.loop-i.invariant.keys_so_far ∙ take_all m.keys.items c.loop-i.i past in
     let archives = c.loop-i.invariant.seen_so_far ∙ ap (map (seen g.A.Cells.cells g.A.Cells.row_limit))
     (take_all m.archives.items c.loop-i.i past_archives) in
     copies_seen g.A.Cells.cells g.A.Cells.row_limit m.keys.items m.indices.entries m.archives.items
-    copies.indices.entries copies.archives.items c.requires
+    copies.indices.entries copies.archives.items m.indexed
     (subst (λ ks. IsIndexed ks copies.indices.entries copies.archives.items) keys c.loop-i.invariant.indexed)
     archives

@@ -5,6 +5,7 @@ use Rattle.rr_replica.specs.Series.{cells_from, all_cells}
 use Rattle.rr_replica.specs.SeriesMap.{entries_of}
 use Rattle.rr_replica.specs.InMemory.{held_series}
 use Rattle.rr_replica.proofs.Counted.{get-all_first, get-all_later, entries-held_series}
+use Rattle.rr_replica.proofs.IndexedLemmas.{keys_ordered}
 use Rattle.rr_replica.proofs.WalkLemmas.{AreFew, walk_cells, walk_few}
 use Rattle.rr_replica.proofs.listing.nth_cell.Goals as goal
 
@@ -19,7 +20,8 @@ nth_in-requires g c =
 pub returns-in-Ok : goal.returns-in-Ok
 returns-in-Ok g c =
     let cells = g.A.Cells.cells in
-    let archives = c.args.series.now.archives.items in
+    let m = c.args.series.now in
+    let archives = m.archives.items in
     let rest = c.next.new.self in
     let key = c.in-Some.key.now in
     let index = c.in-Some.index.now in
@@ -33,8 +35,7 @@ returns-in-Ok g c =
     ∙ ap (λ l. slice_get l c.loop-key.left) (sym (walk_cells cells (key, index) rest archives))
     ∙ ap (λ es. slice_get (all_cells (held_series cells (entries_at es archives))) c.loop-key.left) (sym more)
     ∙ c.loop-key.invariant.0
-    ∙ ap (λ es. slice_get es c.args.number) (sym (entries-held_series cells (entries_of c.args.series.now)
-    c.requires.ordered))
+    ∙ ap (λ es. slice_get es c.args.number) (sym (entries-held_series cells (entries_of m) (keys_ordered m)))
 
 pub loop-key-preserved : goal.loop-key-preserved
 loop-key-preserved g c =
@@ -58,9 +59,9 @@ loop-key-preserved g c =
 
 pub returns : goal.returns
 returns g c =
-    let archives = c.args.series.now.archives.items in
+    let m = c.args.series.now in
+    let archives = m.archives.items in
     let none : c.loop-key.key-iterator ≡ [] = search rules in
     ap (λ es. slice_get (all_cells (held_series g.A.Cells.cells (entries_at es archives))) c.loop-key.left) (sym none)
     ∙ c.loop-key.invariant.0
-    ∙ ap (λ es. slice_get es c.args.number) (sym (entries-held_series g.A.Cells.cells (entries_of c.args.series.now)
-    c.requires.ordered))
+    ∙ ap (λ es. slice_get es c.args.number) (sym (entries-held_series g.A.Cells.cells (entries_of m) (keys_ordered m)))

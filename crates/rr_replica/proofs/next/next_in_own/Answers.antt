@@ -11,12 +11,14 @@ use Rattle.rr_cells.specs.Cells.{name_at}
 use Rattle.rr_cells.specs.Listing.{first_after}
 use Rattle.rr_replica.proofs.Counted.{entries-held_series}
 use Rattle.rr_replica.proofs.NextCell.{is_past, own_found}
+use Rattle.rr_replica.proofs.IndexedLemmas.{keys_ordered}
 use Rattle.rr_replica.proofs.KnownKey.{first_of_own}
 use Rattle.rr_replica.proofs.next.next_in_own.Goals as goal
 
 pub returns : goal.returns
 returns g c =
     let m = c.args.series.now in
+    let ordered = keys_ordered m in
     let name = c.args.name.now in
     let archives = c.in_ok-key.archives.now in
     let back : to_z w64 (of_z w64 name.slot) ≡ name.slot = search rules in
@@ -33,7 +35,7 @@ returns g c =
       name_at key name.archive (cell_slot c.in_ok-cell.cell.0 c.in_ok-cell.cell.1.origin),
       c.in_ok-cell.cell.1.contribution,
     )) c.in_ok-key.ensures.key found in
-    ap (first_after (seen_name name)) (entries-held_series g.A.Cells.cells (entries_of m) c.requires.ordered)
+    ap (first_after (seen_name name)) (entries-held_series g.A.Cells.cells (entries_of m) ordered)
     ∙ first_of_own name.key.now name.archive (cell_slot name.slot name.origin) g.A.Cells.cells _ (entries_of m) archives
-    c.requires.ordered c.in_ok-key.ensures.archives found_own
+    ordered c.in_ok-key.ensures.archives found_own
     ∙ ap (λ (x : NamedCell). Some x) (sym c.named.ensures)

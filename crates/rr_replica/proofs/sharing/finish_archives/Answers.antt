@@ -1,4 +1,4 @@
-use Rattle.std.proofs.Common.{rules, ◌≡◌, ◌<◌, length, ◌∙◌}
+use Rattle.std.proofs.Common.{rules, ◌≡◌, ◌∙◌}
 use Rattle.rr_replica.specs.InMemory.{seen_archive}
 use Rattle.rr_replica.proofs.Each.{found_at, map-set_same, length-set}
 use Rattle.rr_replica.proofs.sharing.finish_archives.Goals as goal

@@ -1,4 +1,4 @@
-use Rattle.std.proofs.Common.{◌≡◌, ◌≤◌, map, length}
+use Rattle.std.proofs.Common.{◌≡◌, map, length}
 use Rattle.rr_replica.specs.InMemory.{seen_archive}
 use Rattle.rr_replica.proofs.sharing.finish_archives.Given as goal
 

@@ -10,7 +10,7 @@ returns-in-Some g c =
     let found : Some c.in-Some.archives.now ≡ archives_of (entries_of r.series) c.args.key.now = c.in-Some.ensures in
     let lookup = rw c.deref.ensures.value at c.get-in-Some.ensures.lookup in
     rw (← c.self.view_is) (archive_found g.A.Cells.cells g.A.Cells.row_limit r.schema r.origin r.next
-    (entries_of r.series) c.args.key.now c.args.i c.self.invariant.0 c.in-Some.archives.now c.get-in-Some.result
+    (entries_of r.series) c.args.key.now c.args.i c.self.invariant c.in-Some.archives.now c.get-in-Some.result
     found lookup.1 lookup.0)
 
 pub returns-in-None : goal.returns-in-None
@@ -18,4 +18,4 @@ returns-in-None g c =
     let r = c.self.inside in
     let none : None ≡ archives_of (entries_of r.series) c.args.key.now = c.in-None.ensures in
     rw (← c.self.view_is) (archive_unknown g.A.Cells.cells g.A.Cells.row_limit r.schema r.origin r.next
-    (entries_of r.series) c.args.key.now c.args.i c.self.invariant.0 none)
+    (entries_of r.series) c.args.key.now c.args.i c.self.invariant none)

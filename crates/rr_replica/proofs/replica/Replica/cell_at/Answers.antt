@@ -9,13 +9,13 @@ use Rattle.rr_replica.proofs.Counted.{few_held}
 use Rattle.rr_cells.proofs.HeldCells.{at_held}
 use Rattle.rr_replica.proofs.replica.Replica.cell_at.Goals as goal
 
-pub nth_cell-requires-clause-few_archives : goal.nth_cell-requires-clause-few_archives
-nth_cell-requires-clause-few_archives g c = let r = c.self.inside in
-    few_held g.A.Cells.cells g.A.Cells.row_limit r.schema r.origin r.next (entries_of r.series) c.self.invariant.0
+pub nth_cell-requires : goal.nth_cell-requires
+nth_cell-requires g c = let r = c.self.inside in
+    few_held g.A.Cells.cells g.A.Cells.row_limit r.schema r.origin r.next (entries_of r.series) c.self.invariant
 
 pub returns-clause-of_schema : goal.returns-clause-of_schema
 returns-clause-of_schema g c =
     let r = c.self.inside in
     let h = replica_state_in g.A.Cells.cells r.schema r.origin r.next (entries_of r.series) in
     subst (λ (k : ReplicaWithRoom). IfSome c.nth_cell.result (λ x. IsCellOf k.schema (seen_cell x))) c.self.view_is
-    (at_held h c.self.invariant.0.holds c.nth_cell.result c.args.i c.nth_cell.ensures)
+    (at_held h c.self.invariant.holds c.nth_cell.result c.args.i c.nth_cell.ensures)

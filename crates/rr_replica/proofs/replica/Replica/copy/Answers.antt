@@ -1,10 +1,9 @@
 use Rattle.std.proofs.Common.{subst, sym, ap, ◌∙◌}
 use Rattle.rr_schema.specs.Schema.{Layout}
 use Rattle.rr_replica.specs.SeriesMap.{entries_of}
-use Rattle.rr_replica.specs.InMemory.{IsReplicaInMemory}
+use Rattle.rr_replica.specs.InMemory.{IsReplicaInMemory, replica_state_in}
 use Rattle.rr_replica.specs.ReplicaWithRoom.{replica_state}
-use Rattle.rr_replica.proofs.IndexedLemmas.{entries_ordered}
-use Rattle.rr_replica.proofs.CopyingLemmas.{same_cells_copied, held_copied}
+use Rattle.rr_replica.proofs.CopyingLemmas.{same_state, held_copied}
 use Rattle.rr_replica.proofs.replica.Replica.copy.Goals as goal
 
 pub invariant_of-result : goal.invariant_of-result
@@ -13,14 +12,9 @@ invariant_of-result g c =
     let cells = g.A.Cells.cells in
     let limit = g.A.Cells.row_limit in
     let new = c.in_ok-copy_series.field-0 in
-    let copied = entries_of new in
-    let same = c.in_ok-copy_series.ensures in
-    let ordered = entries_ordered new.keys.items new.indices.entries new.archives.items same.indexed in (
-      subst (λ (s : Layout). IsReplicaInMemory cells limit s r.origin r.next copied) (sym c.in_ok-copy.ensures.same)
-          (held_copied cells limit (entries_of r.series) copied same.same c.self.invariant.0.ordered ordered r.schema
-          r.origin r.next c.self.invariant.0),
-      same.indexed,
-    )
+    subst (λ (s : Layout). IsReplicaInMemory cells limit s r.origin r.next (entries_of new))
+    (sym c.in_ok-copy.ensures.same) (held_copied cells limit r.series new c.in_ok-copy_series.ensures r.schema r.origin
+    r.next c.self.invariant)
 
 pub returns : goal.returns
 returns g c =
@@ -28,9 +22,6 @@ returns g c =
     let cells = g.A.Cells.cells in
     let limit = g.A.Cells.row_limit in
     let new = c.in_ok-copy_series.field-0 in
-    let copied = entries_of new in
-    let same = c.in_ok-copy_series.ensures in
-    let ordered = entries_ordered new.keys.items new.indices.entries new.archives.items same.indexed in
-    let all = same_cells_copied cells limit (entries_of r.series) copied same.same c.self.invariant.0.ordered ordered in
-    (λ i. record { schema = c.in_ok-copy.ensures.same i; origin = r.origin; next = r.next; cells = all i })
+    ap (λ (s : Layout). replica_state_in cells s r.origin r.next (entries_of new)) c.in_ok-copy.ensures.same
+    ∙ same_state cells limit r.series new c.in_ok-copy_series.ensures r.schema r.origin r.next
     ∙ ap replica_state c.self.view_is

@@ -1,7 +1,5 @@
-use Rattle.std.proofs.Common.{rules, ◌≡◌, sym, ap, ◌∙◌, to_z, of_z, w64, Some, arith, pos}
-use Rattle.std.specs.Option.{option_map}
+use Rattle.std.proofs.Common.{sym, ap, ◌∙◌, arith, pos}
 use Rattle.std.specs.FinMap.{entries}
-use Rattle.rr_cells.specs.Listing.{seen_cell}
 use Rattle.rr_replica.specs.Keys.{first_behind, lent_key}
 use Rattle.rr_replica.specs.ReplicaWithRoom.{replica_state}
 use Rattle.rr_replica.proofs.KeysLemmas.{behind, first_of_all}

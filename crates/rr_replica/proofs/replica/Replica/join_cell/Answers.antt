@@ -8,7 +8,7 @@ use Rattle.rr_cells.specs.Joining.{next_after}
 use Rattle.rr_cells.specs.Listing.{owned_cell}
 use Rattle.rr_replica.specs.InMemory.{IsReplicaInMemory}
 use Rattle.rr_replica.proofs.InMemoryLemmas.{kept_same}
-use Rattle.rr_replica.proofs.IndexedLemmas.{entries_ordered}
+use Rattle.rr_replica.proofs.IndexedLemmas.{keys_ordered}
 use Rattle.rr_replica.proofs.JoinedCell.{kept_joined}
 use Rattle.rr_replica.proofs.RoomLemmas.{room_there}
 use Rattle.rr_replica.proofs.replica.Replica.join_cell.Goals as goal
@@ -17,12 +17,9 @@ pub invariant_of-self : goal.invariant_of-self
 invariant_of-self g c =
     let r = c.self.inside in
     let new = c.join_in.new.series in
-    let e = c.in_err-join_in.ensures in (
-      kept_same g.A.Cells.cells g.A.Cells.row_limit r.schema r.origin r.next (entries_of r.series) (entries_of new)
-          c.self.invariant.0 e.unchanged e.sized (entries_ordered new.keys.items new.indices.entries new.archives.items
-          e.indexed),
-      e.indexed,
-    )
+    let e = c.in_err-join_in.ensures in
+    kept_same g.A.Cells.cells g.A.Cells.row_limit r.schema r.origin r.next (entries_of r.series) (entries_of new)
+    c.self.invariant e.unchanged e.sized (keys_ordered new)
 
 pub invariant_of-self-2 : goal.invariant_of-self-2
 invariant_of-self-2 g c =
@@ -33,13 +30,10 @@ invariant_of-self-2 g c =
     let next : c.next_after-self-inside.result ≡ next_after r.origin r.next (owned_cell c.args.cell.now) =
     c.next_after-self-inside.ensures in
     let new = c.join_in.new.series in
-    let e = c.in_ok-join_in.ensures in (
-      subst (λ n. IsReplicaInMemory g.A.Cells.cells g.A.Cells.row_limit r.schema r.origin n (entries_of new)) (sym next)
-          (kept_joined g.A.Cells.cells g.A.Cells.row_limit r.schema r.origin r.next c.args.cell.now
-          (entries_of r.series) (entries_of new) c.self.invariant.0 cell e.joined e.sized
-          (entries_ordered new.keys.items new.indices.entries new.archives.items e.indexed)),
-      e.indexed,
-    )
+    let e = c.in_ok-join_in.ensures in
+    subst (λ n. IsReplicaInMemory g.A.Cells.cells g.A.Cells.row_limit r.schema r.origin n (entries_of new)) (sym next)
+    (kept_joined g.A.Cells.cells g.A.Cells.row_limit r.schema r.origin r.next c.args.cell.now
+    (entries_of r.series) (entries_of new) c.self.invariant cell e.joined e.sized (keys_ordered new))
 
 pub returns-in_err-join_in-clause-room : goal.returns-in_err-join_in-clause-room
 returns-in_err-join_in-clause-room g c = λ h.
@@ -47,6 +41,6 @@ returns-in_err-join_in-clause-room g c = λ h.
     let op = Join c.args.cell.now in
     let told = subst (λ (st : ReplicaWithRoom). HasRoomFor st op) (sym c.self.view_is) h in
     let there = room_there g.A.Cells.is_ready g.A.Cells.cells g.A.Cells.row_limit r.schema
-    c.self.invariant.0.holds.layout r.origin r.next (entries_of r.series) c.self.invariant.0.sized op told in
+    c.self.invariant.holds.layout r.origin r.next (entries_of r.series) c.self.invariant.sized op told in
     let ok : IsOk c.join_in.result = c.join_in.ensures.room there in
     absurd (true≢false (sym (subst IsOk c.in_err-join_in.was ok)))

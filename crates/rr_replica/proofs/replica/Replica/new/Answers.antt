@@ -9,11 +9,9 @@ pub invariant_of-result : goal.invariant_of-result
 invariant_of-result g c =
     let none : (entries_of c.new.result) ≡ [] = c.new.ensures.none in
     let within : IsLayout c.in_ok-copy.field-0 = search rules in
-    let in_range : IsOrigin c.args.origin = record { at_least = omega arith; at_most = omega arith } in (
-      kept_none g.A.Cells.cells g.A.Cells.row_limit c.in_ok-copy.field-0 c.args.origin (entries_of c.new.result) within
-          in_range none,
-      c.new.ensures.indexed,
-    )
+    let in_range : IsOrigin c.args.origin = record { at_least = omega arith; at_most = omega arith } in
+    kept_none g.A.Cells.cells g.A.Cells.row_limit c.in_ok-copy.field-0 c.args.origin (entries_of c.new.result) within
+    in_range none
 
 pub returns : goal.returns
 returns g c =

@@ -9,13 +9,13 @@ use Rattle.rr_replica.proofs.Counted.{few_held}
 use Rattle.rr_cells.proofs.HeldCells.{next_held}
 use Rattle.rr_replica.proofs.replica.Replica.next_cell.Goals as goal
 
-pub next_cell-requires-clause-few_archives : goal.next_cell-requires-clause-few_archives
-next_cell-requires-clause-few_archives g c = let r = c.self.inside in
-    few_held g.A.Cells.cells g.A.Cells.row_limit r.schema r.origin r.next (entries_of r.series) c.self.invariant.0
+pub next_cell-requires : goal.next_cell-requires
+next_cell-requires g c = let r = c.self.inside in
+    few_held g.A.Cells.cells g.A.Cells.row_limit r.schema r.origin r.next (entries_of r.series) c.self.invariant
 
 pub returns-clause-of_schema : goal.returns-clause-of_schema
 returns-clause-of_schema g c =
     let r = c.self.inside in
     let h = replica_state_in g.A.Cells.cells r.schema r.origin r.next (entries_of r.series) in
     subst (λ (k : ReplicaWithRoom). IfSome c.next_cell.result (λ x. IsCellOf k.schema (seen_cell x))) c.self.view_is
-    (next_held h c.self.invariant.0.holds c.next_cell.result _ c.next_cell.ensures)
+    (next_held h c.self.invariant.holds c.next_cell.result _ c.next_cell.ensures)

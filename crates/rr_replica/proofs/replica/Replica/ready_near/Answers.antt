@@ -6,7 +6,7 @@ use Rattle.rr_replica.specs.InMemory.{replica_state_in}
 use Rattle.rr_cells.specs.Operations.{accepts}
 use Rattle.rr_replica.specs.ReplicaWithRoom.{ReplicaWithRoom, replica_state}
 use Rattle.rr_replica.proofs.InMemoryLemmas.{kept_same}
-use Rattle.rr_replica.proofs.IndexedLemmas.{entries_ordered}
+use Rattle.rr_replica.proofs.IndexedLemmas.{keys_ordered}
 use Rattle.rr_replica.proofs.RoomLemmas.{room_told, taken_origin}
 use Rattle.rr_replica.proofs.replica.Replica.ready_near.Goals as goal
 
@@ -14,12 +14,9 @@ pub invariant_of-self : goal.invariant_of-self
 invariant_of-self g c =
     let r = c.self.inside in
     let new = c.make_room_in.new.series in
-    let e = c.make_room_in.ensures in (
-      kept_same g.A.Cells.cells g.A.Cells.row_limit r.schema r.origin r.next (entries_of r.series) (entries_of new)
-          c.self.invariant.0 e.unchanged e.sized (entries_ordered new.keys.items new.indices.entries new.archives.items
-          e.indexed),
-      e.indexed,
-    )
+    let e = c.make_room_in.ensures in
+    kept_same g.A.Cells.cells g.A.Cells.row_limit r.schema r.origin r.next (entries_of r.series) (entries_of new)
+    c.self.invariant e.unchanged e.sized (keys_ordered new)
 
 pub returns-clause-room : goal.returns-clause-room
 returns-clause-room g c =
@@ -33,7 +30,7 @@ returns-clause-room g c =
     subst (λ (st : ReplicaWithRoom). accepts (replica_state st) op ≡ true) (sym c.self.view_is)
     (sym c.accepts.ensures.accepted ∙ c.if-not-accepts.false) in
     let number = taken_origin (replica_state_in cells r.schema r.origin r.next (entries_of r.series)) op taken of
-    c.self.invariant.0.holds.origin in
+    c.self.invariant.holds.origin in
     on_ok_weaker c.make_room_in.result (λ room. λ _. room_told g.A.Cells.is_ready cells g.A.Cells.row_limit r.schema
-    c.self.invariant.0.holds.layout r.origin r.next new c.make_room_in.ensures.sized op of number room)
+    c.self.invariant.holds.layout r.origin r.next new c.make_room_in.ensures.sized op of number room)
     c.make_room_in.ensures.room

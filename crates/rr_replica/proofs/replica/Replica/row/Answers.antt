@@ -21,7 +21,7 @@ returns-in-Some-get g c =
     let slot : to_z w64 (of_z w64 c.args.slot) ≡ c.args.slot = search rules in
     rw (← c.self.view_is) (c.row.ensures ∙ ap (row_of (g.A.Cells.cells c.in-Some-get.archive.now)) slot
     ∙ row_found g.A.Cells.cells g.A.Cells.row_limit r.schema r.origin r.next (entries_of r.series) c.args.key.now
-    c.args.archive c.args.slot c.in-Some.archives.now c.in-Some-get.archive.now c.self.invariant.0 found at)
+    c.args.archive c.args.slot c.in-Some.archives.now c.in-Some-get.archive.now c.self.invariant found at)
 
 pub returns-in-None-get : goal.returns-in-None-get
 returns-in-None-get g c =
@@ -31,7 +31,7 @@ returns-in-None-get g c =
     ap (λ items. slice_get items c.args.archive) (sym c.deref.ensures.value)
     ∙ slice_get_past c.deref.result.now c.args.archive (c.in-None-get.ensures.lookup).3 in
     rw (← c.self.view_is) (row_missing g.A.Cells.cells g.A.Cells.row_limit r.schema r.origin r.next
-    (entries_of r.series) c.args.key.now c.args.archive c.args.slot c.in-Some.archives.now c.self.invariant.0 found
+    (entries_of r.series) c.args.key.now c.args.archive c.args.slot c.in-Some.archives.now c.self.invariant found
     at)
 
 pub returns-in-None : goal.returns-in-None
@@ -39,4 +39,4 @@ returns-in-None g c =
     let r = c.self.inside in
     let none : None ≡ archives_of (entries_of r.series) c.args.key.now = c.in-None.ensures in
     rw (← c.self.view_is) (row_unknown g.A.Cells.cells g.A.Cells.row_limit r.schema r.origin r.next
-    (entries_of r.series) c.args.key.now c.args.archive c.args.slot c.self.invariant.0 none)
+    (entries_of r.series) c.args.key.now c.args.archive c.args.slot c.self.invariant none)

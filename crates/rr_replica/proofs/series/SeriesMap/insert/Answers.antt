@@ -20,11 +20,11 @@ returns-clause-sets g c =
     (index_of old.indices.entries q) = updates.0 in
     let archives : c.push_reserved-2.new.self.items ≡ old.archives.items ++ c.args.archives ∷ [] = search rules in
     λ q. ap (λ l. archives_of (entries_at more l) q) archives
-    ∙ sets_more old.keys.items old.indices.entries old.archives.items c.requires.indexed key c.requires.unknown more
+    ∙ sets_more old.keys.items old.indices.entries old.archives.items old.indexed key c.requires more
     c.len.result last entries sets c.insert.ensures.ordered c.args.archives q
 
-pub returns-clause-indexed_now : goal.returns-clause-indexed_now
-returns-clause-indexed_now g c =
+pub invariant_of-self-2 : goal.invariant_of-self-2
+invariant_of-self-2 g c =
     let old = c.args.self.now in
     let key = c.args.key.now in
     let more = c.insert.new.self.entries in
@@ -37,5 +37,7 @@ returns-clause-indexed_now g c =
     (index_of old.indices.entries q) = updates.0 in
     let keys : c.push_reserved.new.self.items ≡ old.keys.items ++ key ∷ [] = search rules in
     let archives : c.push_reserved-2.new.self.items ≡ old.archives.items ++ c.args.archives ∷ [] = search rules in
-    rw (keys, archives) (indexed_more old.keys.items old.indices.entries old.archives.items c.requires.indexed key
-    c.requires.unknown more c.len.result last entries sets c.insert.ensures.ordered c.args.archives)
+    record {
+      indexed = rw (keys, archives) (indexed_more old.keys.items old.indices.entries old.archives.items old.indexed key
+          c.requires more c.len.result last entries sets c.insert.ensures.ordered c.args.archives);
+    }

@@ -7,7 +7,7 @@ pub index-known-requires : goal.index-known-requires
 index-known-requires g c =
     let m = c.args.self.now in
     let at : Some c.in-Some.index ≡ index_of m.indices.entries c.args.key.now = c.in-Some.ensures in
-    let within = key_within m.keys.items m.indices.entries c.requires.there c.args.key.now c.in-Some.index at in
+    let within = key_within m.keys.items m.indices.entries m.indexed.there c.args.key.now c.in-Some.index at in
     let len = m.keys.ok.0 in
     omega (arith, within, len)
 
@@ -15,7 +15,7 @@ pub index-archives-requires : goal.index-archives-requires
 index-archives-requires g c =
     let m = c.args.self.now in
     let at : Some c.in-Some.index ≡ index_of m.indices.entries c.args.key.now = c.in-Some.ensures in
-    let within = index_within m.keys.items m.indices.entries m.archives.items c.requires c.args.key.now c.in-Some.index
+    let within = index_within m.keys.items m.indices.entries m.archives.items m.indexed c.args.key.now c.in-Some.index
     at in
     let len = m.archives.ok.0 in
     omega (arith, within, len)
@@ -24,12 +24,12 @@ pub returns-in-Some-clause-key : goal.returns-in-Some-clause-key
 returns-in-Some-clause-key g c =
     let m = c.args.self.now in
     let at : Some c.in-Some.index ≡ index_of m.indices.entries c.args.key.now = c.in-Some.ensures in
-    key_found m.keys.items m.indices.entries c.requires.there c.args.key.now c.index-known.result.now c.in-Some.index at
+    key_found m.keys.items m.indices.entries m.indexed.there c.args.key.now c.index-known.result.now c.in-Some.index at
     c.index-known.ensures
 
 pub returns-in-Some-clause-archives : goal.returns-in-Some-clause-archives
 returns-in-Some-clause-archives g c =
     let m = c.args.self.now in
     let at : Some c.in-Some.index ≡ index_of m.indices.entries c.args.key.now = c.in-Some.ensures in
-    sym (element_found m.keys.items m.indices.entries m.archives.items c.requires c.args.key.now c.in-Some.index
+    sym (element_found m.keys.items m.indices.entries m.archives.items m.indexed c.args.key.now c.in-Some.index
     c.index-archives.result.now at c.index-archives.ensures)

@@ -7,7 +7,7 @@ pub index-requires : goal.index-requires
 index-requires g c =
     let m = c.args.self.now in
     let at : Some c.in-Some.index ≡ index_of m.indices.entries c.args.key.now = c.in-Some.ensures in
-    let within = key_within m.keys.items m.indices.entries c.requires.there c.args.key.now c.in-Some.index at in
+    let within = key_within m.keys.items m.indices.entries m.indexed.there c.args.key.now c.in-Some.index at in
     let len = m.keys.ok.0 in
     omega (arith, within, len)
 
@@ -15,5 +15,5 @@ pub returns-in-Some : goal.returns-in-Some
 returns-in-Some g c =
     let m = c.args.self.now in
     let at : Some c.in-Some.index ≡ index_of m.indices.entries c.args.key.now = c.in-Some.ensures in
-    key_found m.keys.items m.indices.entries c.requires.there c.args.key.now c.index.result.now c.in-Some.index at
+    key_found m.keys.items m.indices.entries m.indexed.there c.args.key.now c.index.result.now c.in-Some.index at
     c.index.ensures

@@ -1,0 +1,85 @@
+//! The cells of a replica, in order.
+ghost use Rattle.std.specs.Prelude.{◌≡◌, All, map, take, drop, IfSome, IfOk, slice_get};
+ghost use Rattle.std.specs.Option.{option_map};
+ghost use Rattle.std.specs.FinMap as fin;
+ghost use Rattle.rr_cells.specs.CellBounds.{IsCellOf};
+ghost use Rattle.rr_cells.specs.Listing.{seen_cell, owned_cell, at_most_usize, cell_name, next_cell};
+
+use crate::listing::{count_cells, nth_cell};
+use crate::next::{NameRef, next_cell};
+use crate::replica::Replica;
+use rr_archive::Cells;
+use rr_cells::{Cell, CellRef};
+use rr_key::SeriesKey;
+use rr_schema::Origin;
+use std::alloc::{AllocError, Global};
+
+impl<A: Cells> Replica<A> {
+    /// How many cells there are; the greatest value of the type, where it can't hold that many. The
+    /// cost is linear in the series.
+    pub fn cell_count(&self) -> usize
+        ensures { result ≡ at_most_usize (fin.len self.now.cells) }
+    {
+        count_cells(&self.series)
+    }
+
+    /// The cell with a number, from 0, in order of key, archive, slot and origin. The cost is
+    /// linear in the series before it, each passed over by its count, and in the rows of its
+    /// archive.
+    pub fn cell_at(&self, i: usize) -> Option<CellRef<'_>>
+        ensures listed { option_map seen_cell result ≡ slice_get (fin.entries self.now.cells) i }
+        ensures of_schema { IfSome result (λ c. IsCellOf self.now.schema (seen_cell c)) }
+    {
+        nth_cell(&self.series, i)
+    }
+
+    /// The first cell after a name, in the same order, whether or not a cell is there. The cost is
+    /// one look-up of the key and that of the archives' `next_cell`: no series before the key is
+    /// walked over.
+    pub fn next_cell(
+        &self,
+        key: &SeriesKey,
+        archive: u8,
+        slot: i64,
+        origin: Origin,
+    ) -> Option<CellRef<'_>>
+        ensures first { option_map seen_cell result
+            ≡ next_cell self.now.cells (cell_name key.now archive slot origin) }
+        ensures of_schema { IfSome result (λ c. IsCellOf self.now.schema (seen_cell c)) }
+    {
+        let name = NameRef {
+            key,
+            archive,
+            slot,
+            origin,
+        };
+        next_cell(&self.series, &name)
+    }
+
+    /// As many cells as `count` from an offset on, in the same order; fewer where there are fewer.
+    /// The cost is that of `cell_at` for the first, and for each further cell that of `next_cell`.
+    pub fn cells_from(
+        &self,
+        alloc: Global,
+        from: usize,
+        count: usize,
+    ) -> Result<Vec<Cell>, AllocError>
+        ensures listed { IfOk result (λ cells.
+            map owned_cell cells.items ≡ take count (drop from (fin.entries self.now.cells))) }
+        ensures of_schema { IfOk result (λ cells. All (λ c. IsCellOf self.now.schema (owned_cell c))
+            cells.items) }
+    {
+        // The proof needs what the replica keeps to, which `schema` ensures.
+        let _schema = self.schema();
+        let mut cells = Vec::new(alloc);
+        let mut next = self.cell_at(from);
+        for _ in 0..count {
+            let Some(cell) = next else {
+                return Ok(cells);
+            };
+            cells.push(cell.to_cell()?)?;
+            next = self.next_cell(cell.key, cell.archive, cell.slot, cell.origin);
+        }
+        Ok(cells)
+    }
+}
