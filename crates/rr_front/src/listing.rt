@@ -7,7 +7,16 @@ use rr_web::{parameter, push_key};
 use std::alloc::{AllocError, Global};
 
 /// How many keys are taken from a reader at a time.
-const PIECE: usize = 1_000;
+const PIECE: u64 = 1_000;
+
+/// How many keys are taken next: no more than are wanted, if all of them are.
+fn piece(prefix: &[u8], left: u64) -> usize {
+    if prefix.is_empty() {
+        left.min(PIECE) as usize
+    } else {
+        PIECE as usize
+    }
+}
 
 /// The key that a query names as its `after`, if it names one.
 fn after_in(alloc: Global, query: &[u8]) -> Result<Option<SeriesKey>, KeyFault> {
@@ -26,7 +35,7 @@ fn prefix_in(alloc: Global, query: &[u8]) -> Result<Vec<u8>, AllocError> {
 }
 
 /// Adds a line for each key that begins with a prefix, as long as so many are left. The answer is
-/// how many are left then.
+/// how many are left then: none, if a key comes behind all that begin with it.
 fn push_keys(
     text: &mut Vec<u8>,
     keys: &[SeriesKey],
@@ -35,8 +44,12 @@ fn push_keys(
 ) -> Result<u64, AllocError> {
     let mut left = count;
     for key in keys {
-        if left > 0 && key.text().starts_with(prefix) {
-            push_key(text, key.text())?;
+        let key = key.text();
+        if left == 0 || (!key.starts_with(prefix) && key.cmp(prefix).is_gt()) {
+            return Ok(0);
+        }
+        if key.starts_with(prefix) {
+            push_key(text, key)?;
             left -= 1;
         }
     }
@@ -45,7 +58,8 @@ fn push_keys(
 
 /// The lines of at most so many keys that a query asks for, in the order of their bytes: those that
 /// begin with its `prefix`, behind the key of its `after` if it names one, which is refused as
-/// `BadKey` if it is no key. The cost is linear in the series behind that key.
+/// `BadKey` if it is no key. The cost is that of [`Reader::keys_after`] for the series from behind
+/// that key up to the last one.
 pub(crate) fn list_keys<A: Cells>(
     alloc: Global,
     reader: &mut Reader<A>,
@@ -57,9 +71,10 @@ pub(crate) fn list_keys<A: Cells>(
     let mut text = Vec::new(alloc);
     let mut left = count;
     for _ in 0..u64::MAX {
-        let mut keys = reader.keys_after(alloc, after.as_ref(), PIECE)?;
+        let piece = piece(&prefix, left);
+        let mut keys = reader.keys_after(alloc, after.as_ref(), piece)?;
         left = push_keys(&mut text, &keys, &prefix, left)?;
-        let is_last = keys.len() < PIECE;
+        let is_last = keys.len() < piece;
         after = keys.pop();
         if is_last || left == 0 {
             break;

@@ -3,7 +3,7 @@
 /// Lists series, plots those that are chosen, and asks again every few seconds. It takes what it
 /// shows from `/series`, `/fetch` and `/metrics`.
 pub(crate) const SCRIPT: &str =
-    r##"// The page of a node: it lists series, plots those that are chosen, and asks again every few seconds.
+    r##"// Lists series, plots those that are chosen, and asks again every few seconds.
 "use strict";
 
 const REFRESH_SECONDS = 5;
@@ -17,11 +17,19 @@ const RIGHT = WIDTH - 10;
 const TOP = 10;
 const BOTTOM = HEIGHT - 26;
 const DAY = 86400;
-const TIME_STEPS = [60, 300, 600, 1800, 3600, 10800, 21600, 43200, DAY, 2 * DAY, 7 * DAY, 30 * DAY, 90 * DAY, 365 * DAY];
+const TIME_STEPS = [
+    60, 300, 600, 1800, 3600, 10800, 21600, 43200,
+    DAY, 2 * DAY, 7 * DAY, 30 * DAY, 90 * DAY, 365 * DAY,
+];
 const STATE = [
-    ["rr_cells", "cells"], ["rr_connections_total", "connections"], ["rr_points_total", "points"],
-    ["rr_samples_total", "samples"], ["rr_refused_total", "refused"], ["rr_past_horizon_total", "past the horizon"],
-    ["rr_pulls_seconds", "s of pulls"], ["rr_save_seconds", "s of the save"],
+    ["rr_cells", "cells"],
+    ["rr_connections_total", "connections"],
+    ["rr_points_total", "points"],
+    ["rr_samples_total", "samples"],
+    ["rr_refused_total", "refused"],
+    ["rr_past_horizon_total", "past the horizon"],
+    ["rr_pulls_seconds", "pulls", " s"],
+    ["rr_save_seconds", "save", " s"],
 ];
 
 // Each chosen key, with its colour and its rows.
@@ -57,7 +65,8 @@ async function ask(path, parameters = {}) {
     return text;
 }
 
-// The rows of a series, with values as they are written: a number may have more digits than one of this language.
+// The rows of a series, with values as they are written: a number may have more digits than one of
+// this language.
 async function rowsOf(key) {
     const range = Number(at("range").value);
     const resolution = at("resolution").value || Math.max(1, Math.floor(range / POINTS_WANTED));
@@ -90,8 +99,8 @@ async function showState() {
         else if (name) counts.set(name, value);
     }
     const shown = STATE.filter(([name]) => counts.has(name));
-    at("state").replaceChildren(...shown.map(([name, label]) =>
-        make("div", {}, make("dt", {}, label), make("dd", {}, counts.get(name)))));
+    at("state").replaceChildren(...shown.map(([name, label, unit = ""]) =>
+        make("div", {}, make("dt", {}, label), make("dd", {}, counts.get(name) + unit))));
 }
 
 function offerResolution(seconds) {
@@ -99,13 +108,13 @@ function offerResolution(seconds) {
     at("resolution").append(make("option", { value: seconds }, `${seconds} s`));
 }
 
-// ---- what is chosen, which stands behind the # of the address, so that a link shows the same
+// ---- what is chosen, which stands in the address, so that a link shows the same
 
 function choose(key) {
     if (!chosen.delete(key)) {
         const taken = new Set([...chosen.values()].map(({ color }) => color));
-        const free = [...Array(COLORS).keys()].find((color) => !taken.has(color)) ?? chosen.size % COLORS;
-        chosen.set(key, { color: free, rows: [] });
+        const free = [...Array(COLORS).keys()].find((color) => !taken.has(color));
+        chosen.set(key, { color: free ?? chosen.size % COLORS, rows: [] });
     }
     for (const button of at("series").querySelectorAll("button")) {
         button.setAttribute("aria-pressed", chosen.has(button.textContent));
@@ -116,10 +125,13 @@ function choose(key) {
 function readAddress() {
     const wanted = new URLSearchParams(location.hash.slice(1));
     for (const id of ["cf", "resolution", "range"]) {
-        if (id === "resolution" && Number(wanted.get(id))) offerResolution(Number(wanted.get(id)));
-        if (wanted.has(id)) at(id).value = wanted.get(id);
+        const value = wanted.get(id);
+        if (id === "resolution" && Number(value)) offerResolution(Number(value));
+        if (value !== null) at(id).value = value;
     }
-    wanted.getAll("key").forEach((key, place) => chosen.set(key, { color: place % COLORS, rows: [] }));
+    wanted.getAll("key").forEach((key, place) => {
+        chosen.set(key, { color: place % COLORS, rows: [] });
+    });
 }
 
 function writeAddress() {
@@ -143,7 +155,8 @@ function timeTicks(from, to) {
     const step = TIME_STEPS.find((seconds) => (to - from) / seconds <= 8) ?? (to - from) / 8;
     const zone = new Date(from * 1000).getTimezoneOffset() * 60;
     const ticks = [];
-    for (let second = Math.ceil((from - zone) / step) * step + zone; second <= to; second += step) ticks.push(second);
+    const first = Math.ceil((from - zone) / step) * step + zone;
+    for (let second = first; second <= to; second += step) ticks.push(second);
     return ticks.map((second) => [second, step < DAY ? "time" : "date"]);
 }
 
@@ -171,13 +184,16 @@ function pathOf(rows, x, y) {
 }
 
 function boundsOf(series) {
-    const values = series.flatMap(({ rows }) => rows.filter(({ value }) => value !== null).map(({ value }) => Number(value)));
+    const written = series.flatMap(({ rows }) => rows.map(({ value }) => value));
+    const values = written.filter((value) => value !== null).map(Number);
     const low = values.reduce((least, value) => Math.min(least, value), Infinity);
     const high = values.reduce((most, value) => Math.max(most, value), -Infinity);
     if (low > high) return [0, 1];
     const room = (high - low || Math.abs(high) || 1) * 0.06;
     return [low - room, high + room];
 }
+
+const rule = (x1, x2, y1, y2, kind = "grid") => draw("line", { class: kind, x1, x2, y1, y2 });
 
 function plot() {
     const series = [...chosen.values()];
@@ -190,12 +206,14 @@ function plot() {
     picture.setAttribute("viewBox", `0 0 ${WIDTH} ${HEIGHT}`);
     picture.replaceChildren();
     for (const value of valueTicks(low, high)) {
-        picture.append(draw("line", { class: "grid", x1: LEFT, x2: RIGHT, y1: y(value), y2: y(value) }));
-        picture.append(draw("text", { x: LEFT - 8, y: y(value) + 4, "text-anchor": "end" }, valueText(value)));
+        const place = y(value);
+        const label = { x: LEFT - 8, y: place + 4, "text-anchor": "end" };
+        picture.append(rule(LEFT, RIGHT, place, place), draw("text", label, valueText(value)));
     }
     for (const [second, kind] of timeTicks(from, to)) {
-        picture.append(draw("line", { class: "grid", x1: x(second), x2: x(second), y1: TOP, y2: BOTTOM }));
-        picture.append(draw("text", { x: x(second), y: BOTTOM + 18, "text-anchor": "middle" }, timeText(second, kind)));
+        const place = x(second);
+        const label = { x: place, y: BOTTOM + 18, "text-anchor": "middle" };
+        picture.append(rule(place, place, TOP, BOTTOM), draw("text", label, timeText(second, kind)));
     }
     for (const [key, { color, rows }] of chosen) {
         const shown = rows.filter(({ second }) => second >= from);
@@ -208,11 +226,13 @@ function plot() {
 function legend(second) {
     at("legend").replaceChildren(...[...chosen].map(([key, { color, rows }]) => {
         const known = rows.filter(({ value }) => value !== null);
-        const row = second === null ? known.at(-1) : rows.findLast((other) => other.second <= second);
+        const row = second === null ? known.at(-1) : rows.findLast((one) => one.second <= second);
         const swatch = make("span", { class: "swatch" });
         const value = make("span", { class: "value" }, row?.value ?? "unknown");
-        const when = row ? new Date(row.second * 1000).toLocaleString() : "";
-        return make("li", { class: `c${color}` }, swatch, make("span", { class: "key" }, key), value, when);
+        const time = row ? new Date(row.second * 1000).toLocaleString() : "";
+        const when = make("span", { class: "when" }, time);
+        const name = make("span", { class: "key" }, key);
+        return make("li", { class: `c${color}` }, swatch, name, value, when);
     }));
 }
 
@@ -222,7 +242,7 @@ function point(event) {
     if (place < LEFT || place > RIGHT) return;
     const range = Number(at("range").value);
     at("plot").querySelector(".hair")?.remove();
-    at("plot").append(draw("line", { class: "hair", x1: place, x2: place, y1: TOP, y2: BOTTOM }));
+    at("plot").append(rule(place, place, TOP, BOTTOM, "hair"));
     legend(Date.now() / 1000 - range + ((place - LEFT) / (RIGHT - LEFT)) * range);
 }
 
@@ -244,7 +264,8 @@ async function refresh() {
         await showState();
         at("note").textContent = keys.length ? "" : "Choose a series.";
     } catch (error) {
-        at("note").textContent = error instanceof TypeError ? "The node doesn't answer." : error.message;
+        const isSilent = error instanceof TypeError;
+        at("note").textContent = isSilent ? "The node doesn't answer." : error.message;
     }
     if (own === turn) plot();
 }
@@ -260,7 +281,9 @@ function begin() {
     at("more").addEventListener("click", () => listKeys(lastKey).catch(tell));
     at("plot").addEventListener("pointermove", point);
     at("plot").addEventListener("pointerleave", unpoint);
-    setInterval(() => { if (at("live").checked && !document.hidden) refresh(); }, REFRESH_SECONDS * 1000);
+    setInterval(() => {
+        if (at("live").checked && !document.hidden) refresh();
+    }, REFRESH_SECONDS * 1000);
     listKeys(null).catch(tell);
     refresh();
 }
