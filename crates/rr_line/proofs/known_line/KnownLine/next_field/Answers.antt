@@ -19,7 +19,7 @@ returns c = λ line samples read.
     let whole = comma ∙ ap (λ (t : List ℕ). COMMA ∷ t) c.in_ok-value_text.ensures in
     let begins = next_read line samples known.front.now known.field.now known.rest.now key value front field
     value_text c.in_ok-value.rest.now
-    c.requires c.in_ok-front.ensures read.begins may.same (omega (arith, read.count, may.few)) may.above whole
+    c.requires c.in_ok-front.ensures read.begins may.same (omega (arith, read.count, may.fields_fit)) may.above whole
     c.in_ok-value.ensures in
     let kept : to_z w64 (of_z w64 value) ≡ value = search rules in
     rw kept (record { begins = begins; count = omega (arith, read.count, length-append samples ((key, value) ∷ [])) })
