@@ -3,77 +3,27 @@
 
     examples/http.py PROGRAM
 
-PROGRAM is the built program, crates/rr_tool/out/rr_tool. Writes in the forms of both versions of InfluxDB, fetches beside
-those of the fetch port, each refusal, 16 senders of 1,000 lines at once, a keeper that is held, and requests that are no
-requests. After each of these the node has to answer. Ends with status 1 where something else comes.
+PROGRAM is the built program, crates/rr_tool/out/rr_tool. Writes in the forms of both versions of InfluxDB and of the clients
+that are common, fetches beside those of the fetch port, keys, counts, the page's texts, each refusal, 16 senders of 1,000
+lines at once, a keeper that is held, and requests that are no requests. After each of these the node has to answer. Then
+nodes whose writes wait for their snapshot, which are killed once they have answered. Ends with status 1 where something else
+comes.
 """
 
 import concurrent.futures
 import gzip
 import json
 import pathlib
+import shutil
 import socket
 import subprocess
 import sys
 import tempfile
 import time
 
-IDLE = 5
+from http_node import IDLE, Node, check, fail, read_all
+
 SENDERS, LINES_OF_ONE = 16, 1000
-CONFIG = """\
-step = 60
-lines = "127.0.0.1:{0}"
-fetch = ["127.0.0.1:{1}"]
-http = "127.0.0.1:{2}"
-idle = {idle}
-lead = 300_000_000_000
-quiet = true
-
-[[archive]]
-steps = 1
-rows = 100000
-xff_num = 0
-xff_den = 1
-"""
-
-
-def fail(text):
-    sys.exit(f"http.py: {text}")
-
-
-def check(what, got, want):
-    if got != want:
-        fail(f"{what}: {got!r} in place of {want!r}")
-    print(f"{what}: as expected")
-
-
-def free_ports(count):
-    """Ports of this machine on which nothing listens."""
-    with_ports = [socket.create_server(("127.0.0.1", 0)) for _ in range(count)]
-    ports = [listener.getsockname()[1] for listener in with_ports]
-    for listener in with_ports:
-        listener.close()
-    return ports
-
-
-def answer_of(port, request, timeout=30):
-    """All that is answered on a connection to bytes, after which this side stays open."""
-    with socket.create_connection(("127.0.0.1", port), timeout=timeout) as stream:
-        try:
-            stream.sendall(request)
-        except ConnectionError:
-            pass
-        return read_all(stream)
-
-
-def read_all(stream):
-    text = b""
-    try:
-        while piece := stream.recv(65536):
-            text += piece
-    except ConnectionError:
-        pass
-    return text
 
 
 def status_of(answer):
@@ -86,41 +36,6 @@ def ask_port(port, text):
         stream.sendall(text.encode())
         stream.shutdown(socket.SHUT_WR)
         return read_all(stream).decode()
-
-
-class Node:
-    """A node, and what curl is answered by it."""
-
-    def __init__(self, program, folder):
-        self.lines, self.fetch, self.http = free_ports(3)
-        config = pathlib.Path(folder, "node.toml")
-        config.write_text(CONFIG.format(self.lines, self.fetch, self.http, idle=IDLE))
-        words = [program, "serve", str(config), "--origin", "1", "--save", str(pathlib.Path(folder, "saved"))]
-        self.process = subprocess.Popen(words)
-        for _ in range(200):
-            try:
-                socket.create_connection(("127.0.0.1", self.http)).close()
-                return
-            except ConnectionRefusedError:
-                time.sleep(0.05)
-        fail("the node doesn't listen")
-
-    def curl(self, path, *words, body=None):
-        """The status and the text that curl is answered."""
-        if body is not None:
-            words += ("--data-binary", "@-")
-        url = f"http://127.0.0.1:{self.http}{path}"
-        run = subprocess.run(
-            ["curl", "-sS", "-g", "--max-time", "30", "-w", "\n%{http_code}", *words, url],
-            input=body, capture_output=True, check=False)
-        text, _, status = run.stdout.rpartition(b"\n")
-        return int(status), text.decode()
-
-    def ask(self, request):
-        return answer_of(self.http, request)
-
-    def is_well(self, what):
-        check(f"{what}: then /health", self.curl("/health")[0], 200)
 
 
 def writes(node):
@@ -152,6 +67,94 @@ def fetches(node):
     check("the last minute", (status, text.splitlines()[-1].split(",")[-1]), (200, "7"))
     check("a measurement named error", node.curl("/write", body=b"error n=1i 0\n")[0], 204)
     check("its rows", node.curl("/fetch?cf=MAX&resolution=60&start=0&end=60&key=error+n"), (200, "error n,0,1\n"))
+
+
+def as_json(node):
+    words = "cf=LAST&resolution=60&start=0&end=180"
+    text = '{"key":"boiler temp","rows":[[0,null],[60,21],[120,null]]}\n'
+    check("a fetch as JSON", node.curl(f"/fetch?{words}&key=boiler+temp&format=json"), (200, text))
+    csv = node.curl(f"/fetch?{words}&key=boiler+temp")
+    check("a fetch as CSV", node.curl(f"/fetch?{words}&key=boiler+temp&format=csv"), csv)
+    check("another form", node.curl(f"/fetch?{words}&key=boiler+temp&format=xml"), (400, "error BadFormat\n"))
+    check("a refusal", node.curl(f"/fetch?{words}&key=boiler&format=json"), (400, "error BadKey\n"))
+    check("a key of all sorts", node.curl("/write", body=b'all,q="\\a,x=\x01\xff n=-7i 60000000000\n')[0], 204)
+    key = "all,q=%22%5Ca,x=%01%FF+n"
+    status, text = node.curl(f"/fetch?{words}&key={key}&format=json")
+    check("as JSON", (status, json.loads(text)), (200, {
+        "key": 'all,q="\\a,x=\x01\ufffd n', "rows": [[0, None], [60, -7], [120, None]]}))
+
+
+def keys(node):
+    lines = "".join(f"many,n={i:05} v=1i 0\n" for i in range(2500))
+    check("many series", node.curl("/write", body=lines.encode())[0], 204)
+    of_many = [f"many,n={i:05} v" for i in range(2500)]
+
+    def listed(query):
+        status, text = node.curl(f"/series?{query}")
+        return status, text.splitlines()
+
+    check("keys", listed("prefix=many"), (200, of_many[:1000]))
+    check("all of them", listed("prefix=many&count=10000"), (200, of_many))
+    check("from behind one", listed("prefix=many&after=many,n=00999+v&count=3"), (200, of_many[1000:1003]))
+    check("from behind one that isn't there", listed("after=many,n=009985+v&count=1"), (200, of_many[999:1000]))
+    check("none left", listed("after=many,n=02499+v&prefix=many"), (200, []))
+    check("of another prefix", listed("prefix=nobody"), (200, []))
+    check("behind no key", listed("after=many"), (400, ["error BadKey"]))
+    check("too many", listed("count=10001"), (400, ["error BadCount"]))
+    check("none", listed("count=0"), (400, ["error BadCount"]))
+    check("no number", listed("count=x"), (400, ["error BadNumber"]))
+
+
+def counts(node):
+    status, before = node.curl("/metrics")
+    node.curl("/write", body=b"counted n=1i 0\nrefused\n")
+    # The answer comes before the round is over, in which the counts are put up.
+    for _ in range(100):
+        after = node.curl("/metrics")[1]
+        if after != before:
+            break
+        time.sleep(0.05)
+
+    def count(text, name):
+        return int(next(line for line in text.splitlines() if line.startswith(f"{name} ")).split()[1])
+
+    for name, more in (("rr_connections_total", 1), ("rr_points_total", 1), ("rr_refused_total", 1)):
+        check(name, count(after, name) - count(before, name), more)
+    check("what the node is", 'rr_info{version="2",origin="1"} 1' in after, True)
+    check("its archives", 'rr_archive_rows{resolution="60"} 2000' in after, True)
+
+
+def page(node):
+    for path, kind, text in (("/", "text/html", "<!doctype html>"), ("/rr.js", "text/javascript", '"use strict"'),
+                             ("/rr.css", "text/css", ":root")):
+        status, answer = node.curl(path, "-i")
+        head, _, body = answer.lower().replace("\r\n", "\n").partition("\n\n")
+        check(path, (status, f"content-type: {kind}" in head, text in body), (200, True, True))
+        check(f"{path}: nosniff", "x-content-type-options: nosniff" in head, True)
+        check(f"{path}: its policy", "default-src 'none'" in head, path == "/")
+
+
+def clients(node):
+    """Requests as clients send them: Telegraf's outputs.influxdb, InfluxDB's Python clients of both versions."""
+    line = b"client n=1i 0\n"
+    chunked = b"%x\r\n%s\r\n0\r\n\r\n" % (len(line), line)
+    plain = b"Content-Length: %d\r\n\r\n%s" % (len(line), line)
+    requests = {
+        "Telegraf": b"POST /write?db=telegraf HTTP/1.1\r\nHost: a:8086\r\nUser-Agent: Telegraf/1.28.3 Go/1.21.3\r\n"
+                    b"Transfer-Encoding: chunked\r\nContent-Type: text/plain; charset=utf-8\r\nAccept-Encoding: gzip"
+                    b"\r\n\r\n" + chunked,
+        "influxdb of Python": b"POST /write?db=a&precision=n HTTP/1.1\r\nHost: a:8086\r\nUser-Agent: python-requests/2.31"
+                              b"\r\nAccept-Encoding: gzip, deflate\r\nAccept: application/x-msgpack\r\nConnection: "
+                              b"keep-alive\r\nContent-Type: application/octet-stream\r\n" + plain,
+        "influxdb-client of Python": b"POST /api/v2/write?org=a&bucket=b&precision=ns HTTP/1.1\r\nHost: a:8086\r\n"
+                                     b"Accept-Encoding: identity\r\nContent-Encoding: identity\r\nContent-Type: text/plain"
+                                     b"\r\nAccept: application/json\r\nAuthorization: Token t\r\nUser-Agent: "
+                                     b"influxdb-client-python/1.38.0\r\n" + plain,
+        "curl --data-binary": b"POST /write HTTP/1.1\r\nHost: a:8086\r\nUser-Agent: curl/7.88.1\r\nAccept: */*\r\n"
+                              b"Content-Type: application/x-www-form-urlencoded\r\n" + plain,
+    }
+    for name, request in requests.items():
+        check(name, status_of(node.ask(request)), 204)
 
 
 def refusals(node):
@@ -214,6 +217,9 @@ def hostile(node):
     check("no HTTP", status_of(node.ask(b"\x00" * 1000 + b"\r\n\r\n")), 400)
     key = b"GET /fetch?key=" + b"a" * 100_000 + b" HTTP/1.1\r\nHost: a\r\n\r\n"
     check("a key of 100 KB", status_of(node.ask(key)), 414)
+    for _ in range(1000):
+        socket.create_connection(("127.0.0.1", node.http)).close()
+    node.is_well("a thousand connections that ask nothing")
     two = node.ask(b"GET /health HTTP/1.1\r\nHost: a\r\n\r\n" * 2)
     check("two requests at once", two.count(b"HTTP/1.1 200"), 1)
     node.is_well("nonsense")
@@ -228,18 +234,79 @@ def hostile(node):
         stream.close()
 
 
+def restarted(program, folder, node):
+    """What a node has that begins with the snapshot of another, which is killed."""
+    node.close()
+    return Node(program, folder, "durable = true\n", load=node.saved, origin=2)
+
+
+def at_once(node, count):
+    """The statuses of so many writes, each of a series of its own, and how long all of them took."""
+    def send(number):
+        return node.curl("/write", body=f"kept,n={number} v={number}i 0\n".encode())[0]
+
+    began = time.monotonic()
+    with concurrent.futures.ThreadPoolExecutor(count) as pool:
+        return list(pool.map(send, range(count))), time.monotonic() - began
+
+
+def durable(program, folder):
+    """Writes that wait for their snapshot: after the answer the node is killed, and another begins with the snapshot."""
+    for more, count, within in (("", 4, 20), ("every = 2\n", 6, 20), ("every = 3600\nhttp_seats = 3\n", 3, 20)):
+        what = more.replace("\n", " ").strip() or "without every"
+        node = Node(program, folder, f"durable = true\n{more}")
+        try:
+            # The first turn begins at once, so that its save isn't the one that is looked at.
+            check(f"{what}: a first write", node.curl("/write", body=b"first v=1i 0\n")[0], 204)
+            statuses, seconds = at_once(node, count)
+            check(f"{what}: writes", (statuses, seconds < within), ([204] * count, True))
+            node = restarted(program, folder, node)
+            got = [line for line in node.curl("/series?prefix=kept")[1].splitlines()]
+            check(f"{what}: what is kept", got, [f"kept,n={number} v" for number in range(count)])
+        finally:
+            node.close()
+
+
+def failing_save(program, folder):
+    """The folder of the snapshot goes while the node runs: writes are answered as taken, and not as saved."""
+    folder = pathlib.Path(folder, "gone")
+    folder.mkdir()
+    node = Node(program, folder, "durable = true\n")
+    try:
+        check("a write that is saved", node.curl("/write", body=b"a v=1i 0\n")[0], 204)
+        shutil.rmtree(folder)
+        answer = node.curl("/write", body=b"b v=1i 0\n")
+        check("a write that isn't", answer, (500, '{"error":"the lines are taken, but not saved"}\n'))
+        check("it is taken", node.curl("/fetch?cf=LAST&resolution=60&start=0&end=60&key=b+v"), (200, "b v,0,1\n"))
+    finally:
+        node.close()
+
+
+def unsaved(program, folder):
+    """A configuration whose writes would wait for a save that never comes."""
+    config = pathlib.Path(folder, "node.toml")
+    run = subprocess.run([program, "serve", str(config), "--origin", "1"], capture_output=True, text=True, check=False)
+    check("durable without --save", (run.returncode, run.stderr.splitlines()),
+          (2, ["rr: durable: there is no --save", "config: MissingField"]))
+
+
 def main():
     if len(sys.argv) != 2:
         fail("give the program")
+    program = sys.argv[1]
     with tempfile.TemporaryDirectory() as folder:
-        node = Node(sys.argv[1], folder)
+        node = Node(program, folder)
         try:
-            for step in (writes, fetches, refusals, many_senders, held_keeper, hostile):
+            for step in (writes, clients, fetches, as_json, keys, counts, page, refusals, many_senders, held_keeper, hostile):
                 step(node)
             check("the node", node.process.poll(), None)
         finally:
-            node.process.kill()
-            node.process.wait()
+            node.close()
+    for step in (durable, failing_save):
+        with tempfile.TemporaryDirectory() as folder:
+            step(program, folder)
+            if step is durable:
+                unsaved(program, folder)
 
 
 main()
