@@ -3,7 +3,7 @@
 use rr_archive::Cells;
 use rr_desk::Reader;
 use rr_key::{KeyFault, SeriesKey};
-use rr_web::{parameter, push_key};
+use rr_web::{parameter, push_keys};
 use std::alloc::{AllocError, Global};
 
 /// How many keys are taken from a reader at a time.
@@ -34,32 +34,18 @@ fn prefix_in(alloc: Global, query: &[u8]) -> Result<Vec<u8>, AllocError> {
     }
 }
 
-/// Adds a line for each key that begins with a prefix, as long as so many are left. The answer is
-/// how many are left then: none, if a key comes behind all that begin with it.
-fn push_keys(
-    text: &mut Vec<u8>,
-    keys: &[SeriesKey],
-    prefix: &[u8],
-    count: u64,
-) -> Result<u64, AllocError> {
-    let mut left = count;
-    for key in keys {
-        let key = key.text();
-        if left == 0 || (!key.starts_with(prefix) && key.cmp(prefix).is_gt()) {
-            return Ok(0);
-        }
-        if key.starts_with(prefix) {
-            push_key(text, key)?;
-            left -= 1;
-        }
+/// Whether no key behind this one begins with a prefix. Of no key that is so too.
+fn is_past(key: &Option<SeriesKey>, prefix: &[u8]) -> bool {
+    match key {
+        Some(key) => !key.text().starts_with(prefix) && key.text().cmp(prefix).is_gt(),
+        None => true,
     }
-    Ok(left)
 }
 
 /// The lines of at most so many keys that a query asks for, in the order of their bytes: those that
 /// begin with its `prefix`, behind the key of its `after` if it names one, which is refused as
 /// `BadKey` if it is no key. The cost is that of [`Reader::keys_after`] for the series from behind
-/// that key up to the last one.
+/// that key on, up to the last one that begins with the prefix.
 pub(crate) fn list_keys<A: Cells>(
     alloc: Global,
     reader: &mut Reader<A>,
@@ -76,7 +62,7 @@ pub(crate) fn list_keys<A: Cells>(
         left = push_keys(&mut text, &keys, &prefix, left)?;
         let is_last = keys.len() < piece;
         after = keys.pop();
-        if is_last || left == 0 {
+        if is_last || left == 0 || is_past(&after, &prefix) {
             break;
         }
     }

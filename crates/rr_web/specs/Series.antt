@@ -1,5 +1,6 @@
 -- How many keys of series are asked for, and the line of a key.
-use Rattle.std.specs.Prelude.{ℕ, ◌||◌, ◌==◌, nat_lt, List, [], ◌∷◌, ◌++◌, Option, None, Some, Result, Ok, Err, if◌then◌else◌}
+use Rattle.std.specs.Prelude.{ℕ, Bool, nat_eq, ◌||◌, ◌==◌, nat_lt, List, [], ◌∷◌, ◌++◌, Option, None, Some, Result, Ok, Err, if◌then◌else◌}
+use Rattle.std.specs.List.{starts_with}
 use Rattle.rr_text.specs.declared.bytes.TheConstants.{LINE_FEED}
 use Rattle.rr_text.specs.Text.{number_at}
 use Rattle.rr_web.specs.declared.series.CountFault.{CountFault}
@@ -18,3 +19,6 @@ count_in (Some text) = count_at (number_at text)
 
 abbrev pub line_of : List ℕ → List ℕ
 line_of key = key ++ LINE_FEED ∷ []
+
+abbrev pub begins_with : List ℕ → List ℕ → Bool
+begins_with prefix key = starts_with nat_eq key prefix

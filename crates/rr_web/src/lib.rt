@@ -8,7 +8,7 @@
 //! query ── form_in, count_in ──> a form of answers, a number of keys
 //! what lines were answered ── write_reply ──> Reply: a status, a kind of text, and the text
 //! what a fetch was answered ── fetch_reply ──> Reply, as CSV or as JSON
-//! key of a series ── push_key ──> its line
+//! keys of series ── push_keys ──> the lines of those that begin with a prefix
 //! page_reply ──> a page, its script and its style
 //! ```
 //!
@@ -38,6 +38,6 @@ pub use fetches::fetch_line;
 pub use precision::is_precision;
 pub use query::parameter;
 pub use reply::{Kind, Reply, Status};
-pub use series::{CountFault, count_in, push_key};
+pub use series::{CountFault, count_in, push_keys};
 pub use texts::{found, page_reply};
 pub use writes::write_reply;

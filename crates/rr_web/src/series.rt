@@ -1,12 +1,13 @@
 //! The keys of series, and how many of them are asked for.
 
-ghost use Rattle.std.specs.Prelude.{◌≡◌, ◌++◌, IfOk, OnOk, codes};
+ghost use Rattle.std.specs.Prelude.{◌≡◌, ◌-◌, ◌++◌, filter, length, take, IfOk, OnOk, codes};
 ghost use Rattle.std.specs.List.{flat_map};
 ghost use Rattle.rr_text.specs.Text.{number_at};
 ghost use Rattle.rr_web.specs.Query.{parameter_of};
-ghost use Rattle.rr_web.specs.Series.{count_at, count_in, line_of};
+ghost use Rattle.rr_web.specs.Series.{begins_with, count_at, count_in, line_of};
 
 use crate::query::parameter;
+use rr_key::SeriesKey;
 use rr_text::bytes::LINE_FEED;
 use rr_text::text::number;
 use std::alloc::{AllocError, Global};
@@ -63,10 +64,33 @@ pub fn count_in(alloc: Global, query: &[u8]) -> Result<Result<u64, CountFault>, 
 }
 
 /// Adds the line of a key.
-pub fn push_key(text: &mut Vec<u8>, key: &[u8]) -> Result<(), AllocError>
+fn push_key(text: &mut Vec<u8>, key: &[u8]) -> Result<(), AllocError>
     ensures { OnOk result (text.new.items ≡ text.old.items ++ line_of key.now) }
 {
     text.extend_from_slice(key)?;
     text.push(LINE_FEED)?;
     Ok(())
+}
+
+/// Adds a line for each key that begins with a prefix, as long as so many are left. The answer is
+/// how many are left then. The cost is linear in the keys.
+pub fn push_keys(
+    text: &mut Vec<u8>,
+    keys: &[SeriesKey],
+    prefix: &[u8],
+    count: u64,
+) -> Result<u64, AllocError>
+    ensures lines { OnOk result (text.new.items ≡ text.old.items
+        ++ flat_map line_of (take count (filter (begins_with prefix.now) keys.now))) }
+    ensures left { IfOk result (λ left.
+        left ≡ count - length (filter (begins_with prefix.now) keys.now)) }
+{
+    let mut left = count;
+    for key in keys {
+        if left > 0 && key.text().starts_with(prefix) {
+            push_key(text, key.text())?;
+            left -= 1;
+        }
+    }
+    Ok(left)
 }
