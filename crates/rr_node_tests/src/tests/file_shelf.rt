@@ -1,6 +1,7 @@
 //! Snapshots in a file.
 
-use rr_node::{FileShelf, Opening, Shelf};
+use rr_node::{FileShelf, Opening, SaveNews, Saved, Shelf};
+use rr_snapshot::SaveFault;
 use std::fs;
 use std::io::Write;
 use std::rt::Files;
@@ -33,5 +34,30 @@ fn a_cut_snapshot_leaves_the_last_one(rt: HostRuntime) -> Result<(), Fail> {
     fs::remove_file(&rt, "shelf.snapshot")?;
     assert!(rt; (whole, cut, beside) == (Some(()), Some(()), false));
     assert!(rt; left.as_slice() == b"whole".as_slice());
+    Ok(())
+}
+
+/// What a shelf tells of a save to a file.
+fn told(rt: &(impl AllocGlobal + Files + Eprint), news: &SaveNews, file: &str) -> Option<Saved> {
+    let shelf = FileShelf::new(rt, rt.alloc(), Some(file)).ok()?;
+    let mut shelf = shelf.with_news(news.share().ok()?);
+    match shelf.open() {
+        Opening::Writer(output) => shelf.take_back(output, true),
+        Opening::Failed => shelf.save_failed(SaveFault::WriteFailed),
+        Opening::Unwanted => {}
+    }
+    news.take()
+}
+
+#[test]
+fn each_save_is_told_once(rt: HostRuntime) -> Result<(), Fail> {
+    let news = SaveNews::new(rt.alloc())?;
+    let stands = told(&rt, &news, "told.snapshot");
+    let failed = told(&rt, &news, "no-such-folder/told.snapshot");
+    let nothing = news.take();
+    fs::remove_file(&rt, "told.snapshot")?;
+    assert!(rt; stands == Some(Saved::Stands));
+    assert!(rt; failed == Some(Saved::Failed));
+    assert!(rt; nothing.is_none());
     Ok(())
 }
