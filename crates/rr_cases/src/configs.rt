@@ -53,7 +53,11 @@ fn push_http(output: &mut String, config: &Config) -> Result<(), AllocError> {
     match &config.http {
         Some(http) => {
             let (address, seats) = (http.address.as_str(), http.seats);
-            write!(output, "; http {address} seats {seats}")
+            write!(output, "; http {address} seats {seats}")?;
+            if http.durable {
+                output.push_str(" durable")?;
+            }
+            Ok(())
         }
         None => Ok(()),
     }
