@@ -1,5 +1,6 @@
 //! The desk at which requests are answered.
 
+use crate::answered::Answered;
 use crate::body::{Body, LineAnswers};
 use crate::fetching::answer_fetch;
 use crate::listing::list_keys;
@@ -47,6 +48,8 @@ pub struct Desk {
     pub about: Vec<u8>,
     /// What it did, as its keeper puts it up.
     pub board: Board,
+    /// What was answered at this desk and the others of the node.
+    pub answered: Answered,
 }
 
 /// Whoever answers requests at a desk.
@@ -134,6 +137,8 @@ impl<T: Wait + time::Clock> Clerk<'_, T> {
     fn metrics(&self) -> Result<Reply, AllocError> {
         let mut text = Vec::from_slice(self.desk.alloc, &self.desk.about)?;
         text.extend_from_slice(&self.desk.board.read(self.rt)?)?;
+        let answered = self.desk.answered.text(self.desk.alloc)?;
+        text.extend_from_slice(answered.as_bytes())?;
         Ok(Reply {
             status: Status::Ok,
             kind: Kind::Metrics,
@@ -239,7 +244,10 @@ impl<T: Wait + time::Clock> Clerk<'_, T> {
         response: &mut Response,
     ) -> Result<(), AllocError> {
         let reply = self.reply(request)?;
-        fill(self.desk.alloc, response, reply)
+        let status = reply.status;
+        fill(self.desk.alloc, response, reply)?;
+        self.desk.answered.count(status);
+        Ok(())
     }
 }
 
@@ -254,6 +262,7 @@ impl<T: Wait + time::Clock> Service for Clerk<'_, T> {
     ) -> Result<(), AllocError> {
         if self.answer(request, response).is_err() {
             fill_failed(response);
+            self.desk.answered.count(Status::Failed);
         }
         Ok(())
     }

@@ -18,6 +18,7 @@
 //! sockets nothing is known.
 #![tactic(auto)]
 
+mod answered;
 mod body;
 mod desk;
 mod door;
@@ -31,6 +32,7 @@ mod seat;
 mod stream;
 mod visits;
 
+pub use answered::Answered;
 pub use body::{Body, LineAnswers};
 pub use desk::Desk;
 pub use door::Door;

@@ -5,7 +5,9 @@ use crate::listeners::Listeners;
 use crate::server::Server;
 use rr_config::Http;
 use rr_desk::{Keeper, Reader};
-use rr_front::{Desk, Door, Kept, Place, Queue, Queued, WebSeat, WebSeats, serve_web_node};
+use rr_front::{
+    Answered, Desk, Door, Kept, Place, Queue, Queued, WebSeat, WebSeats, serve_web_node,
+};
 use rr_node::{
     Board, FileShelf, Flag, HaltFlag, Listening, OpenGate, PacedShelf, SaveNews, Seat,
     StartBarrier, SystemClock,
@@ -29,6 +31,7 @@ struct Shared {
     halt: HaltFlag,
     origin: Origin,
     board: Board,
+    answered: Answered,
 }
 
 impl<'a, R> Server<'a, R>
@@ -67,6 +70,7 @@ where
             halt,
             origin,
             board: Board::new(self.rt.alloc())?,
+            answered: Answered::new(self.rt.alloc())?,
         };
         let mut places = self.places(readers, fetches, web, &shared)?;
         let Shared {
@@ -166,6 +170,7 @@ where
             precision: self.config.precision,
             about: about(alloc, &self.config.schema, shared.origin)?.into_bytes(),
             board: shared.board.share()?,
+            answered: shared.answered.share()?,
         };
         Ok(WebSeat {
             desk: Some(desk),
