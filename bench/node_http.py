@@ -1,7 +1,7 @@
 #!/usr/bin/env python3
 """Samples a second into a node over HTTP, from 16 senders at once.
 
-    bench/http.py PROGRAM [--requests N] [--every SECONDS]
+    bench/node_http.py PROGRAM [--requests N] [--every SECONDS]
 
 PROGRAM is the built program, crates/rr_tool/out/rr_tool. Each of 16 senders posts N requests, 20 if not given, of 1,000
 lines each, a connection for each, and posts again what was answered 503. Then as many lines are sent over one raw
