@@ -164,9 +164,10 @@ def two_schemas(program, folder):
     # It says so in its next round, which is over once another connection is taken.
     send("")
     send("")
-    said = first.end(), other.end()
-    check("the side that gives says why", set(said[0]) == {"session: SchemaDiffers"}, said)
-    check("the side that pulls learns that it was ended", set(said[1]) == {"peer 1: Ended"}, said)
+    # The one that pulls is ended first, so that it calls no peer that isn't there.
+    pulled, gave = other.end(), first.end()
+    check("the side that gives says why", set(gave) == {"session: SchemaDiffers"}, gave)
+    check("the side that pulls learns that it was ended", set(pulled) == {"peer 1: Ended"}, pulled)
 
 
 def main():
