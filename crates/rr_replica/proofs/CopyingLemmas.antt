@@ -14,7 +14,7 @@ use Rattle.rr_cells.proofs.Local.{same_cells}
 use Rattle.rr_replica.proofs.Shown.{rows_shown, items_of, held_at}
 use Rattle.rr_replica.specs.Indexed.{index_of, entries_at, IsIndexed}
 use Rattle.rr_replica.proofs.Each.{slice_get-map, found_at, map-set_same}
-use Rattle.rr_replica.proofs.IndexedLemmas.{key_at, archives_found, archives_nowhere, slice_get-take, keys_ordered, still_indexed}
+use Rattle.rr_replica.proofs.IndexedLemmas.{key_at, archives_found, archives_nowhere, slice_get-take, entries_ordered, still_indexed}
 
 pub take_none : {Y : Type 0} (xs : List Y) → take 0 xs ≡ []
 take_none [] = refl
@@ -31,43 +31,46 @@ module _ {X : Type 0} (cells : X → ArchiveCells) (limit : X → ℕ) where
     pub seen_so_far : map seen copies ≡ map seen (take i archives)
     pub indexed : IsIndexed copied indices copies
 
-  -- the next key isn't known yet
-  pub not_yet : (keys : List (List ℕ)) (indices : List (List ℕ × ℕ)) (archives : List (Vec X)) (copied : List (List ℕ))
-      (more : List (List ℕ × ℕ)) (copies : List (Vec X)) (i : ℕ) (key : List ℕ) → IsIndexed keys indices archives
-      → AreCopied keys archives copied more copies i → slice_get keys i ≡ Some key → index_of more key ≡ None
-  not_yet keys indices archives copied more copies i key is c at = none (index_of more key) refl
-    where
-      none : (o : Option ℕ) → index_of more key ≡ o → o ≡ None
-      none None e = refl
-      none (Some j) e =
-          let there = ap (λ l. slice_get l j) (sym c.keys_so_far) ∙ key_at copied more c.indexed.there key j e in
-          let below = slice_get-take keys i j key there in
-          let same : Some i ≡ Some j = sym (is.found i key at) ∙ is.found j key below.0 in
-          let equal : i ≡ j = ap (λ p. unwrap_or p i) same in
-          absurd (let less = below.1 in omega (arith, equal, less))
+  module _ {keys : List (List ℕ)} {indices : List (List ℕ × ℕ)} {archives : List (Vec X)}
+      (is : IsIndexed keys indices archives) {copied : List (List ℕ)} {more : List (List ℕ × ℕ)}
+      {copies : List (Vec X)} where
+    -- the next key isn't known yet
+    pub not_yet : {i : ℕ} → AreCopied keys archives copied more copies i → (key : List ℕ)
+        → slice_get keys i ≡ Some key → index_of more key ≡ None
+    not_yet {i = i} c key at = none (index_of more key) refl
+      where
+        none : (o : Option ℕ) → index_of more key ≡ o → o ≡ None
+        none None e = refl
+        none (Some j) e =
+            let there = ap (λ l. slice_get l j) (sym c.keys_so_far) ∙ key_at copied more c.indexed.there key j e in
+            let below = slice_get-take keys i j key there in
+            let same : Some i ≡ Some j = sym (is.found i key at) ∙ is.found j key below.0 in
+            let equal : i ≡ j = ap (λ p. unwrap_or p i) same in
+            absurd (let less = below.1 in omega (arith, equal, less))
 
-  -- copies of all archives are seen at each key
-  pub copies_seen : (keys : List (List ℕ)) (indices : List (List ℕ × ℕ)) (archives : List (Vec X))
-      (more : List (List ℕ × ℕ)) (copies : List (Vec X)) → IsIndexed keys indices archives → IsIndexed keys more copies
-      → map seen copies ≡ map seen archives → (key : List ℕ)
-      → seen_at cells limit (entries_at more copies) key ≡ seen_at cells limit (entries_at indices archives) key
-  copies_seen keys indices archives more copies is now same key = by_index (index_of indices key) refl
-    where
-      other : index_of indices key ≡ None → (o : Option ℕ) → index_of more key ≡ o → o ≡ None
-      other none None e = refl
-      other none (Some j) e = absurd (true≢false (ap is_some
-          (sym (is.found j key (key_at keys more now.there key j e)) ∙ none)))
+  module _ {keys : List (List ℕ)} {indices more : List (List ℕ × ℕ)} {archives copies : List (Vec X)}
+      (is : IsIndexed keys indices archives) (now : IsIndexed keys more copies)
+      (same : map seen copies ≡ map seen archives) where
+    -- copies of all archives are seen at each key
+    pub copies_seen : (key : List ℕ)
+        → seen_at cells limit (entries_at more copies) key ≡ seen_at cells limit (entries_at indices archives) key
+    copies_seen key = by_index (index_of indices key) refl
+      where
+        other : index_of indices key ≡ None → (o : Option ℕ) → index_of more key ≡ o → o ≡ None
+        other none None e = refl
+        other none (Some j) e = absurd (true≢false (ap is_some
+            (sym (is.found j key (key_at keys more now.there key j e)) ∙ none)))
 
-      by_index : (o : Option ℕ) → index_of indices key ≡ o
-          → seen_at cells limit (entries_at more copies) key ≡ seen_at cells limit (entries_at indices archives) key
-      by_index None e =
-          ap (option_map seen) (archives_nowhere keys more copies now key (sym (other e (index_of more key) refl)))
-          ∙ sym (ap (option_map seen) (archives_nowhere keys indices archives is key (sym e)))
-      by_index (Some i) e =
-          ap (option_map seen) (archives_found keys more copies now key i
-          (sym (now.found i key (key_at keys indices is.there key i e))))
-          ∙ sym (slice_get-map seen copies i) ∙ ap (λ l. slice_get l i) same ∙ slice_get-map seen archives i
-          ∙ sym (ap (option_map seen) (archives_found keys indices archives is key i (sym e)))
+        by_index : (o : Option ℕ) → index_of indices key ≡ o
+            → seen_at cells limit (entries_at more copies) key ≡ seen_at cells limit (entries_at indices archives) key
+        by_index None e =
+            ap (option_map seen) (archives_nowhere now key (sym (other e (index_of more key) refl)))
+            ∙ sym (ap (option_map seen) (archives_nowhere is key (sym e)))
+        by_index (Some i) e =
+            ap (option_map seen) (archives_found now key i
+            (sym (now.found i key (key_at keys indices is.there key i e))))
+            ∙ sym (slice_get-map seen copies i) ∙ ap (λ l. slice_get l i) same ∙ slice_get-map seen archives i
+            ∙ sym (ap (option_map seen) (archives_found is key i (sym e)))
 
   -- and so are archives in the place of those that they are seen as
   pub set_seen : (m : SeriesMap X) (i : ℕ) (was now : Vec X) → i < length m.archives.items
@@ -75,8 +78,7 @@ module _ {X : Type 0} (cells : X → ArchiveCells) (limit : X → ℕ) where
       → seen_at cells limit (entries_at m.indices.entries (set m.archives.items i now)) key
       ≡ seen_at cells limit (entries_of m) key
   set_seen m i was now within at same =
-      copies_seen m.keys.items m.indices.entries m.archives.items m.indices.entries (set m.archives.items i now)
-      m.indexed (still_indexed m.keys.items m.indices.entries m.archives.items m.indexed i now)
+      copies_seen m.indexed (still_indexed m.indexed i now)
       (map-set_same seen m.archives.items i was now (found_at m.archives.items i was within at) same)
 
   -- ---- the replica over them
@@ -96,11 +98,11 @@ module _ {X : Type 0} (cells : X → ArchiveCells) (limit : X → ℕ) where
       → seen_at cells limit (entries_of new) key ≡ seen_at cells limit (entries_of old) key) where
     same_cells_copied : cells_of (held_series cells (entries_of new)) ≡ cells_of (held_series cells (entries_of old))
     same_cells_copied = same_cells _ _ (λ key i.
-        rows_shown cells (entries_of new) key i (keys_ordered new)
+        rows_shown cells (entries_of new) key i (entries_ordered new.indexed)
         ∙ cells_from_seen (archives_of (entries_of new) key) i
         ∙ ap (λ o. held_at (λ (p : ArchiveCells × ℕ). p.0) (unwrap_or o []) i) (same key)
         ∙ sym (cells_from_seen (archives_of (entries_of old) key) i)
-        ∙ sym (rows_shown cells (entries_of old) key i (keys_ordered old)))
+        ∙ sym (rows_shown cells (entries_of old) key i (entries_ordered old.indexed)))
 
     same_sizes : (s : Layout) → AreAllSized limit s (entries_of old) → AreAllSized limit s (entries_of new)
     same_sizes s sized key archives at =
@@ -129,5 +131,5 @@ module _ {X : Type 0} (cells : X → ArchiveCells) (limit : X → ℕ) where
     held_copied s origin next held = record {
       holds = subst IsReplicaState (sym (same_state s origin next)) held.holds;
       sized = same_sizes s held.sized;
-      ordered = keys_ordered new;
+      ordered = entries_ordered new.indexed;
     }

@@ -17,8 +17,6 @@ use Rattle.rr_schema.specs.Schema.{Layout}
 use Rattle.rr_replica.specs.Archives.{AreSized}
 use Rattle.rr_replica.specs.InMemory.{archives_of, AreAllSized}
 use Rattle.rr_replica.specs.Indexed.{index_of, with_entry, entries_at, IsIndexed}
-use Rattle.rr_replica.specs.declared.series.SeriesMap.{SeriesMap}
-use Rattle.rr_replica.specs.SeriesMap.{entries_of}
 use Rattle.rr_replica.proofs.Counted.{get_append, get_first}
 use Rattle.rr_replica.proofs.Each.{found_at, slice_get-set_same, slice_get-set_other, length-set}
 use Rattle.rr_replica.proofs.Shown.{there}
@@ -115,7 +113,7 @@ module _ {X : Type 0} where
       ap (λ o. keys_of (with_entry e.0 o (entries_at es archives))) has.1
       ∙ ap (λ ks. e.0 ∷ ks) (keys_at keys es archives all.1 many)
 
-  module _ (keys : List (List ℕ)) (indices : List (List ℕ × ℕ)) (archives : List (Vec X))
+  module _ {keys : List (List ℕ)} {indices : List (List ℕ × ℕ)} {archives : List (Vec X)}
       (is : IsIndexed keys indices archives) where
     pub entries_ordered : IsStrictlySortedBy bytes_cmp (keys_of (entries_at indices archives))
     entries_ordered = subst (IsStrictlySortedBy bytes_cmp) (sym (keys_at keys indices archives is.there is.many))
@@ -174,13 +172,9 @@ module _ {X : Type 0} where
             ∙ slice_get-set_same archives i now (index_within key i at)
         by_key false t = apart t (index_of indices q) refl ∙ sym (archives_at keys indices archives is.there is.many q)
 
-  -- the keys of series are in order
-  pub keys_ordered : (m : SeriesMap X) → IsStrictlySortedBy bytes_cmp (keys_of (entries_of m))
-  keys_ordered m = entries_ordered m.keys.items m.indices.entries m.archives.items m.indexed
-
   -- ---- a key more
 
-  module _ (keys : List (List ℕ)) (indices : List (List ℕ × ℕ)) (archives : List (Vec X))
+  module _ {keys : List (List ℕ)} {indices : List (List ℕ × ℕ)} {archives : List (Vec X)}
       (is : IsIndexed keys indices archives) (key : List ℕ) (none : index_of indices key ≡ None)
       (more : List (List ℕ × ℕ)) (n : ℕ) (last : n ≡ length keys)
       (entries : more ≡ insert_entry bytes_cmp indices key n)
@@ -233,7 +227,7 @@ module _ {X : Type 0} where
       where
         earlier : (o : Option ℕ) → index_of indices q ≡ o → after o (archives ++ now ∷ []) ≡ after o archives
         earlier None e = refl
-        earlier (Some j) e = let a = there archives j (index_within keys indices archives is q j (sym e)) in
+        earlier (Some j) e = let a = there archives j (index_within is q j (sym e)) in
             get_first archives (now ∷ []) j a.0 a.1 ∙ sym a.1
 
 -- what stands in the front of a list

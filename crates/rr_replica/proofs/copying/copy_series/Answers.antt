@@ -16,10 +16,8 @@ loop-i-init g c = record {
 pub insert-requires : goal.insert-requires
 insert-requires g c =
     let m = c.args.series.now in
-    let copies = c.loop-i.copies in
     let within : c.loop-i.i < length m.keys.items = search rules in
-    not_yet g.A.Cells.cells g.A.Cells.row_limit m.keys.items m.indices.entries m.archives.items copies.keys.items
-    copies.indices.entries copies.archives.items c.loop-i.i c.index.result.now m.indexed c.loop-i.invariant
+    not_yet g.A.Cells.cells g.A.Cells.row_limit m.indexed c.loop-i.invariant c.index.result.now
     (found_at m.keys.items c.loop-i.i c.index.result.now within (search rules))
 
 pub returns : goal.returns
@@ -32,7 +30,5 @@ returns g c =
     let keys = c.loop-i.invariant.keys_so_far ∙ take_all m.keys.items c.loop-i.i past in
     let archives = c.loop-i.invariant.seen_so_far ∙ ap (map (seen g.A.Cells.cells g.A.Cells.row_limit))
     (take_all m.archives.items c.loop-i.i past_archives) in
-    copies_seen g.A.Cells.cells g.A.Cells.row_limit m.keys.items m.indices.entries m.archives.items
-    copies.indices.entries copies.archives.items m.indexed
-    (subst (λ ks. IsIndexed ks copies.indices.entries copies.archives.items) keys c.loop-i.invariant.indexed)
-    archives
+    copies_seen g.A.Cells.cells g.A.Cells.row_limit m.indexed
+    (subst (λ ks. IsIndexed ks copies.indices.entries copies.archives.items) keys c.loop-i.invariant.indexed) archives

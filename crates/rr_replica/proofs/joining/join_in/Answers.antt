@@ -3,7 +3,7 @@ use Rattle.std.proofs.lemmas.Result.{on_ok_weaker, on_err_weaker}
 use Rattle.rr_cells.specs.declared.op.Op.TheVariants.{Join}
 use Rattle.rr_replica.specs.Indexed.{index_of, entries_at}
 use Rattle.rr_replica.specs.SeriesMap.{entries_of}
-use Rattle.rr_replica.proofs.IndexedLemmas.{index_within, element_found, archives_nowhere, entries_ordered, keys_ordered, sets_at, still_indexed, sized_with}
+use Rattle.rr_replica.proofs.IndexedLemmas.{index_within, element_found, archives_nowhere, entries_ordered, sets_at, still_indexed, sized_with}
 use Rattle.rr_replica.proofs.Each.{sized_many}
 use Rattle.rr_replica.proofs.JoinedCell.{cells_joined, cells_unchanged, before_found, before_fresh}
 use Rattle.rr_replica.proofs.RoomLemmas.{room_found, room_nowhere}
@@ -13,8 +13,7 @@ pub index_mut-requires : goal.index_mut-requires
 index_mut-requires g c =
     let m = c.args.series.now in
     let at : Some c.in-Some.index ≡ index_of m.indices.entries c.args.cell.now.key = c.in-Some.ensures in
-    let within = index_within m.keys.items m.indices.entries m.archives.items m.indexed c.args.cell.now.key
-    c.in-Some.index at in
+    let within = index_within m.indexed c.args.cell.now.key c.in-Some.index at in
     let len = m.archives.ok.0 in
     omega (arith, within, len)
 
@@ -24,8 +23,7 @@ join_into-requires-clause-of_schema g c =
     let old = entries_of m in
     let at : Some c.in-Some.index ≡ index_of m.indices.entries c.args.cell.now.key = c.in-Some.ensures in
     let was = c.index_mut.result.now in
-    let found = element_found m.keys.items m.indices.entries m.archives.items m.indexed c.args.cell.now.key
-    c.in-Some.index was at c.index_mut.ensures.value in
+    let found = element_found m.indexed c.args.cell.now.key c.in-Some.index was at c.index_mut.ensures.value in
     record { layout = c.requires.layout; sized = c.requires.sized c.args.cell.now.key was (sym found) }
 
 pub returns-in-Some : goal.returns-in-Some
@@ -38,15 +36,12 @@ returns-in-Some g c =
     let old = entries_of m in
     let at : Some c.in-Some.index ≡ index_of m.indices.entries c.args.cell.now.key = c.in-Some.ensures in
     let was = c.index_mut.result.now in
-    let found = element_found m.keys.items m.indices.entries m.archives.items m.indexed c.args.cell.now.key
-    c.in-Some.index was at c.index_mut.ensures.value in
+    let found = element_found m.indexed c.args.cell.now.key c.in-Some.index was at c.index_mut.ensures.value in
     let now = c.join_into.new.archives in
     let new = entries_at m.indices.entries (set m.archives.items c.in-Some.index now) in
-    let sets = sets_at m.keys.items m.indices.entries m.archives.items m.indexed c.args.cell.now.key
-    c.in-Some.index now at in
-    let still = still_indexed m.keys.items m.indices.entries m.archives.items m.indexed c.in-Some.index now in
-    let ordered_before = keys_ordered m in
-    let ordered = entries_ordered m.keys.items m.indices.entries (set m.archives.items c.in-Some.index now) still in
+    let sets = sets_at m.indexed c.args.cell.now.key c.in-Some.index now at in
+    let ordered_before = entries_ordered m.indexed in
+    let ordered = entries_ordered (still_indexed m.indexed c.in-Some.index now) in
     let before = before_found cells cell.key old ordered_before was found in
     let sized = c.requires.sized cell.key was (sym found) in
     let many = sized_many limit schema was.items sized in
@@ -70,14 +65,13 @@ returns-in_ok-insert-in-None-clause-joined g c =
     let m = c.args.series.now in
     let old = entries_of m in
     let unknown : None ≡ index_of m.indices.entries c.args.cell.now.key = c.in-None.ensures in
-    let none = sym (archives_nowhere m.keys.items m.indices.entries m.archives.items m.indexed
-    c.args.cell.now.key unknown) in
+    let none = sym (archives_nowhere m.indexed c.args.cell.now.key unknown) in
     let fresh = c.in_ok-archives-in-None in
     let next = c.insert.new.self in
     let new = entries_of next in
     let sets = c.in_ok-insert-in-None.ensures.sets in
-    let ordered_before = keys_ordered m in
-    let ordered = keys_ordered next in
+    let ordered_before = entries_ordered m.indexed in
+    let ordered = entries_ordered next.indexed in
     let before = before_fresh cells cell.key old ordered_before fresh.archives.items none fresh.ensures.empty in
     let many = sized_many limit schema fresh.archives.items fresh.ensures.of_schema.sized in
     let is_within = c.requires.cell.archive in
@@ -90,22 +84,19 @@ pub returns-in_err-archives-in-None-clause-room : goal.returns-in_err-archives-i
 returns-in_err-archives-in-None-clause-room g c = λ h.
     let m = c.args.series.now in
     let unknown : None ≡ index_of m.indices.entries c.args.cell.now.key = c.in-None.ensures in
-    let none = sym (archives_nowhere m.keys.items m.indices.entries m.archives.items m.indexed
-    c.args.cell.now.key unknown) in
+    let none = sym (archives_nowhere m.indexed c.args.cell.now.key unknown) in
     absurd (room_nowhere g.A.Cells.is_ready c.args.schema.now (Join c.args.cell.now) (entries_of m) none h)
 
 pub returns-in_err-join_into-in-None-clause-room : goal.returns-in_err-join_into-in-None-clause-room
 returns-in_err-join_into-in-None-clause-room g c = λ h.
     let m = c.args.series.now in
     let unknown : None ≡ index_of m.indices.entries c.args.cell.now.key = c.in-None.ensures in
-    let none = sym (archives_nowhere m.keys.items m.indices.entries m.archives.items m.indexed
-    c.args.cell.now.key unknown) in
+    let none = sym (archives_nowhere m.indexed c.args.cell.now.key unknown) in
     absurd (room_nowhere g.A.Cells.is_ready c.args.schema.now (Join c.args.cell.now) (entries_of m) none h)
 
 pub returns-in_err-insert-in-None-clause-room : goal.returns-in_err-insert-in-None-clause-room
 returns-in_err-insert-in-None-clause-room g c = λ h.
     let m = c.args.series.now in
     let unknown : None ≡ index_of m.indices.entries c.args.cell.now.key = c.in-None.ensures in
-    let none = sym (archives_nowhere m.keys.items m.indices.entries m.archives.items m.indexed
-    c.args.cell.now.key unknown) in
+    let none = sym (archives_nowhere m.indexed c.args.cell.now.key unknown) in
     absurd (room_nowhere g.A.Cells.is_ready c.args.schema.now (Join c.args.cell.now) (entries_of m) none h)

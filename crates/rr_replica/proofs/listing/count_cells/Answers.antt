@@ -5,7 +5,7 @@ use Rattle.rr_replica.specs.Series.{all_cells}
 use Rattle.rr_replica.specs.SeriesMap.{entries_of}
 use Rattle.rr_replica.specs.InMemory.{held_series}
 use Rattle.rr_replica.proofs.Counted.{at_most-then, at_most-start, at_most-fits, len-held_series}
-use Rattle.rr_replica.proofs.IndexedLemmas.{keys_ordered}
+use Rattle.rr_replica.proofs.IndexedLemmas.{entries_ordered}
 use Rattle.rr_replica.proofs.WalkLemmas.{walk_length}
 use Rattle.rr_replica.proofs.listing.count_cells.Goals as goal
 
@@ -39,4 +39,4 @@ returns g c =
     ∙ ap (λ es. at_most_usize (c.loop-index.count + length
     (all_cells (held_series g.A.Cells.cells (entries_at es archives))))) (sym none)
     ∙ c.loop-index.invariant.0
-    ∙ ap at_most_usize (sym (len-held_series g.A.Cells.cells (entries_of m) (keys_ordered m)))
+    ∙ ap at_most_usize (sym (len-held_series g.A.Cells.cells (entries_of m) (entries_ordered m.indexed)))

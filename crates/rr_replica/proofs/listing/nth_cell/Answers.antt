@@ -5,7 +5,7 @@ use Rattle.rr_replica.specs.Series.{cells_from, all_cells}
 use Rattle.rr_replica.specs.SeriesMap.{entries_of}
 use Rattle.rr_replica.specs.InMemory.{held_series}
 use Rattle.rr_replica.proofs.Counted.{get-all_first, get-all_later, entries-held_series}
-use Rattle.rr_replica.proofs.IndexedLemmas.{keys_ordered}
+use Rattle.rr_replica.proofs.IndexedLemmas.{entries_ordered}
 use Rattle.rr_replica.proofs.WalkLemmas.{AreFew, walk_cells, walk_few}
 use Rattle.rr_replica.proofs.listing.nth_cell.Goals as goal
 
@@ -35,7 +35,7 @@ returns-in-Ok g c =
     ∙ ap (λ l. slice_get l c.loop-key.left) (sym (walk_cells cells (key, index) rest archives))
     ∙ ap (λ es. slice_get (all_cells (held_series cells (entries_at es archives))) c.loop-key.left) (sym more)
     ∙ c.loop-key.invariant.0
-    ∙ ap (λ es. slice_get es c.args.number) (sym (entries-held_series cells (entries_of m) (keys_ordered m)))
+    ∙ ap (λ es. slice_get es c.args.number) (sym (entries-held_series cells (entries_of m) (entries_ordered m.indexed)))
 
 pub loop-key-preserved : goal.loop-key-preserved
 loop-key-preserved g c =
@@ -64,4 +64,5 @@ returns g c =
     let none : c.loop-key.key-iterator ≡ [] = search rules in
     ap (λ es. slice_get (all_cells (held_series g.A.Cells.cells (entries_at es archives))) c.loop-key.left) (sym none)
     ∙ c.loop-key.invariant.0
-    ∙ ap (λ es. slice_get es c.args.number) (sym (entries-held_series g.A.Cells.cells (entries_of m) (keys_ordered m)))
+    ∙ ap (λ es. slice_get es c.args.number) (sym (entries-held_series g.A.Cells.cells (entries_of m)
+    (entries_ordered m.indexed)))

@@ -9,7 +9,7 @@ use Rattle.rr_cells.specs.Listing.{seen_cell, first_after}
 use Rattle.rr_replica.specs.Listing.{seen_name}
 use Rattle.rr_replica.specs.SeriesMap.{entries_of}
 use Rattle.rr_replica.proofs.Counted.{entries-held_series}
-use Rattle.rr_replica.proofs.IndexedLemmas.{keys_ordered}
+use Rattle.rr_replica.proofs.IndexedLemmas.{entries_ordered}
 use Rattle.rr_replica.proofs.NextCell.{LeftFrom, left_from, left_none}
 use Rattle.rr_replica.proofs.WalkLemmas.{AreFew, AreFrom, walk_few, between_at, between_few, from_key, walk_more, walk_found}
 use Rattle.rr_replica.proofs.next.next_cell.Goals as goal
@@ -55,7 +55,8 @@ returns-in-Some-next_in g c =
     let left = subst (λ es. LeftFrom name.key.now name.archive (cell_slot name.slot name.origin) g.A.Cells.cells
     (entries_of m) (entries_at es m.archives.items)) more c.loop-key.invariant.0 in
     let found = sym (rw c.at.ensures at c.next_in.ensures) ∙ ap (option_map seen_cell) c.in-Some-next_in.is in
-    sym (ap (first_after (seen_name name)) (entries-held_series g.A.Cells.cells (entries_of m) (keys_ordered m))
+    sym (ap (first_after (seen_name name)) (entries-held_series g.A.Cells.cells (entries_of m)
+    (entries_ordered m.indexed))
     ∙ walk_found name.key.now name.archive (cell_slot name.slot name.origin) g.A.Cells.cells (entries_of m)
     (entries_at rest m.archives.items) key (slice_get m.archives.items index) (seen_cell c.in-Some-next_in.cell)
     left found)
@@ -85,6 +86,7 @@ returns g c =
     let past : c.loop-key.key-iterator ≡ [] = search rules in
     let none : entries_at c.loop-key.key-iterator m.archives.items ≡ [] =
     ap (λ es. entries_at es m.archives.items) past in
-    sym (ap (first_after (seen_name name)) (entries-held_series g.A.Cells.cells (entries_of m) (keys_ordered m))
+    sym (ap (first_after (seen_name name)) (entries-held_series g.A.Cells.cells (entries_of m)
+    (entries_ordered m.indexed))
     ∙ left_none name.key.now name.archive (cell_slot name.slot name.origin) g.A.Cells.cells (entries_of m)
     (entries_at c.loop-key.key-iterator m.archives.items) c.loop-key.invariant.0 none)

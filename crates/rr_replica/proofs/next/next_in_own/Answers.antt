@@ -11,14 +11,14 @@ use Rattle.rr_cells.specs.Cells.{name_at}
 use Rattle.rr_cells.specs.Listing.{first_after}
 use Rattle.rr_replica.proofs.Counted.{entries-held_series}
 use Rattle.rr_replica.proofs.NextCell.{is_past, own_found}
-use Rattle.rr_replica.proofs.IndexedLemmas.{keys_ordered}
+use Rattle.rr_replica.proofs.IndexedLemmas.{entries_ordered}
 use Rattle.rr_replica.proofs.KnownKey.{first_of_own}
 use Rattle.rr_replica.proofs.next.next_in_own.Goals as goal
 
 pub returns : goal.returns
 returns g c =
     let m = c.args.series.now in
-    let ordered = keys_ordered m in
+    let ordered = entries_ordered m.indexed in
     let name = c.args.name.now in
     let archives = c.in_ok-key.archives.now in
     let back : to_z w64 (of_z w64 name.slot) ≡ name.slot = search rules in

@@ -8,7 +8,7 @@ use Rattle.rr_cells.specs.Joining.{next_after}
 use Rattle.rr_cells.specs.Listing.{owned_cell}
 use Rattle.rr_replica.specs.InMemory.{IsReplicaInMemory}
 use Rattle.rr_replica.proofs.InMemoryLemmas.{kept_same}
-use Rattle.rr_replica.proofs.IndexedLemmas.{keys_ordered}
+use Rattle.rr_replica.proofs.IndexedLemmas.{entries_ordered}
 use Rattle.rr_replica.proofs.JoinedCell.{kept_joined}
 use Rattle.rr_replica.proofs.RoomLemmas.{room_there}
 use Rattle.rr_replica.proofs.replica.Replica.join_cell.Goals as goal
@@ -19,7 +19,7 @@ invariant_of-self g c =
     let new = c.join_in.new.series in
     let e = c.in_err-join_in.ensures in
     kept_same g.A.Cells.cells g.A.Cells.row_limit r.schema r.origin r.next (entries_of r.series) (entries_of new)
-    c.self.invariant e.unchanged e.sized (keys_ordered new)
+    c.self.invariant e.unchanged e.sized (entries_ordered new.indexed)
 
 pub invariant_of-self-2 : goal.invariant_of-self-2
 invariant_of-self-2 g c =
@@ -33,7 +33,7 @@ invariant_of-self-2 g c =
     let e = c.in_ok-join_in.ensures in
     subst (λ n. IsReplicaInMemory g.A.Cells.cells g.A.Cells.row_limit r.schema r.origin n (entries_of new)) (sym next)
     (kept_joined g.A.Cells.cells g.A.Cells.row_limit r.schema r.origin r.next c.args.cell.now
-    (entries_of r.series) (entries_of new) c.self.invariant cell e.joined e.sized (keys_ordered new))
+    (entries_of r.series) (entries_of new) c.self.invariant cell e.joined e.sized (entries_ordered new.indexed))
 
 pub returns-in_err-join_in-clause-room : goal.returns-in_err-join_in-clause-room
 returns-in_err-join_in-clause-room g c = λ h.

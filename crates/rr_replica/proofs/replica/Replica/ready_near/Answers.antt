@@ -6,7 +6,7 @@ use Rattle.rr_replica.specs.InMemory.{replica_state_in}
 use Rattle.rr_cells.specs.Operations.{accepts}
 use Rattle.rr_replica.specs.ReplicaWithRoom.{ReplicaWithRoom, replica_state}
 use Rattle.rr_replica.proofs.InMemoryLemmas.{kept_same}
-use Rattle.rr_replica.proofs.IndexedLemmas.{keys_ordered}
+use Rattle.rr_replica.proofs.IndexedLemmas.{entries_ordered}
 use Rattle.rr_replica.proofs.RoomLemmas.{room_told, taken_origin}
 use Rattle.rr_replica.proofs.replica.Replica.ready_near.Goals as goal
 
@@ -16,7 +16,7 @@ invariant_of-self g c =
     let new = c.make_room_in.new.series in
     let e = c.make_room_in.ensures in
     kept_same g.A.Cells.cells g.A.Cells.row_limit r.schema r.origin r.next (entries_of r.series) (entries_of new)
-    c.self.invariant e.unchanged e.sized (keys_ordered new)
+    c.self.invariant e.unchanged e.sized (entries_ordered new.indexed)
 
 pub returns-clause-room : goal.returns-clause-room
 returns-clause-room g c =

@@ -10,10 +10,10 @@ returns-in-Some g c =
     let at : Some c.in-Some.index ≡ index_of m.indices.entries c.args.key.now = c.in-Some.ensures in
     let lookup = rw c.deref.ensures.value at c.get.ensures.lookup in
     sym (lent_at m.archives.items c.in-Some.index c.get.result lookup.1 lookup.0)
-    ∙ sym (archives_found m.keys.items m.indices.entries m.archives.items m.indexed c.args.key.now c.in-Some.index at)
+    ∙ sym (archives_found m.indexed c.args.key.now c.in-Some.index at)
 
 pub returns-in-None : goal.returns-in-None
 returns-in-None g c =
     let m = c.args.self.now in
     let none : None ≡ index_of m.indices.entries c.args.key.now = c.in-None.ensures in
-    sym (archives_nowhere m.keys.items m.indices.entries m.archives.items m.indexed c.args.key.now none)
+    sym (archives_nowhere m.indexed c.args.key.now none)

@@ -20,7 +20,7 @@ returns-clause-sets g c =
     (index_of old.indices.entries q) = updates.0 in
     let archives : c.push_reserved-2.new.self.items ≡ old.archives.items ++ c.args.archives ∷ [] = search rules in
     λ q. ap (λ l. archives_of (entries_at more l) q) archives
-    ∙ sets_more old.keys.items old.indices.entries old.archives.items old.indexed key c.requires more
+    ∙ sets_more old.indexed key c.requires more
     c.len.result last entries sets c.insert.ensures.ordered c.args.archives q
 
 pub invariant_of-self-2 : goal.invariant_of-self-2
@@ -38,6 +38,6 @@ invariant_of-self-2 g c =
     let keys : c.push_reserved.new.self.items ≡ old.keys.items ++ key ∷ [] = search rules in
     let archives : c.push_reserved-2.new.self.items ≡ old.archives.items ++ c.args.archives ∷ [] = search rules in
     record {
-      indexed = rw (keys, archives) (indexed_more old.keys.items old.indices.entries old.archives.items old.indexed key
+      indexed = rw (keys, archives) (indexed_more old.indexed key
           c.requires more c.len.result last entries sets c.insert.ensures.ordered c.args.archives);
     }

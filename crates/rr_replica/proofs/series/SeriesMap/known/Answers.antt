@@ -15,8 +15,7 @@ pub index-archives-requires : goal.index-archives-requires
 index-archives-requires g c =
     let m = c.args.self.now in
     let at : Some c.in-Some.index ≡ index_of m.indices.entries c.args.key.now = c.in-Some.ensures in
-    let within = index_within m.keys.items m.indices.entries m.archives.items m.indexed c.args.key.now c.in-Some.index
-    at in
+    let within = index_within m.indexed c.args.key.now c.in-Some.index at in
     let len = m.archives.ok.0 in
     omega (arith, within, len)
 
@@ -31,5 +30,4 @@ pub returns-in-Some-clause-archives : goal.returns-in-Some-clause-archives
 returns-in-Some-clause-archives g c =
     let m = c.args.self.now in
     let at : Some c.in-Some.index ≡ index_of m.indices.entries c.args.key.now = c.in-Some.ensures in
-    sym (element_found m.keys.items m.indices.entries m.archives.items m.indexed c.args.key.now c.in-Some.index
-    c.index-archives.result.now at c.index-archives.ensures)
+    sym (element_found m.indexed c.args.key.now c.in-Some.index c.index-archives.result.now at c.index-archives.ensures)
