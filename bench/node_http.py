@@ -1,12 +1,13 @@
 #!/usr/bin/env python3
-"""Samples a second into a node over HTTP, from 16 senders at once.
+"""Samples a second into a node over HTTP, from 16 senders at once, beside 4 readers, and into other servers.
 
     bench/node_http.py PROGRAM [--requests N] [--every SECONDS]
 
 PROGRAM is the built program, crates/rr_tool/out/rr_tool. Each of 16 senders posts N requests, 20 if not given, of 1,000
-lines each, a connection for each, and posts again what was answered 503. Then as many lines are sent over one raw
-connection. Without --every a node pulls and saves after each body; here nothing is saved. Prints samples a second of
-both, the node's processor time for each, and how many answers were 503. Run it on an idle machine.
+lines each, a connection for each, and posts again what was answered 503, while 4 readers fetch 100 rows again and again.
+Then as many lines are sent over one raw connection, and the same requests to VictoriaMetrics and InfluxDB, if they are
+installed. Without --every a node pulls and saves after each body; here nothing is saved. Prints samples a second, the
+server's processor time for each, with that of the fetches, and how many answers were 503. Run it on an idle machine.
 """
 
 import argparse
@@ -14,16 +15,20 @@ import concurrent.futures
 import http.client
 import os
 import pathlib
+import shutil
 import socket
 import subprocess
 import tempfile
+import threading
 import time
 
-SENDERS, LINES = 16, 1000
+from peers import InfluxDb, VictoriaMetrics, Work
+
+SENDERS, READERS, LINES = 16, 4, 1000
 CONFIG = """\
 step = 60
 lines = "127.0.0.1:{0}"
-fetch = ["127.0.0.1:{1}"]
+fetch = [{1}]
 http = "127.0.0.1:{2}"
 lead = 300_000_000_000
 quiet = true
@@ -50,18 +55,18 @@ def lines_of(sender, request):
     return "".join(f"load,from={sender} n={i}i {(start + i) * 60}000000000\n" for i in range(LINES)).encode()
 
 
-def post(port, body):
+def post(port, body, path="/write"):
     """How many answers were 503 before one was 204."""
     for tries in range(1000):
         connection = http.client.HTTPConnection("127.0.0.1", port, timeout=60)
-        connection.request("POST", "/write", body)
+        connection.request("POST", path, body)
         status = connection.getresponse().status
         connection.close()
         if status == 204:
             return tries
         if status != 503:
-            raise SystemExit(f"http.py: {status}")
-    raise SystemExit("http.py: the node is behind for too long")
+            raise SystemExit(f"node_http.py: {status}")
+    raise SystemExit("node_http.py: the node is behind for too long")
 
 
 def send_raw(port, bodies):
@@ -87,6 +92,50 @@ def measured(process, what, samples, run):
     return result
 
 
+def send_all(port, bodies, path="/write"):
+    """How many answers were 503."""
+    with concurrent.futures.ThreadPoolExecutor(SENDERS) as pool:
+        return sum(pool.map(lambda own: sum(post(port, body, path) for body in own), bodies))
+
+
+def fetch_until(port, ended, counts):
+    """Fetches 100 rows again and again, and counts the fetches."""
+    with socket.create_connection(("127.0.0.1", port)) as stream, stream.makefile("rwb") as lines:
+        while not ended.is_set():
+            lines.write(b"fetch AVERAGE 60 0 6000 load,from=0 n\n")
+            lines.flush()
+            counts.append(sum(1 for _ in iter(lines.readline, b"\n")))
+
+
+def beside_readers(ports, run):
+    """What a run gives while readers fetch, and how many fetches they made."""
+    ended, counts = threading.Event(), []
+    readers = [threading.Thread(target=fetch_until, args=(port, ended, counts)) for port in ports]
+    for reader in readers:
+        reader.start()
+    result = run()
+    ended.set()
+    for reader in readers:
+        reader.join()
+    return result, len(counts)
+
+
+def peer(kind, path, bodies, samples):
+    """The same requests to another server, if it is installed."""
+    if not shutil.which(kind.needs):
+        print(f"{kind.name} isn't installed")
+        return
+    with tempfile.TemporaryDirectory() as folder:
+        server = kind(pathlib.Path(folder), Work(1, 1), None)
+        process = subprocess.Popen(server.words, stdout=subprocess.DEVNULL, stderr=subprocess.DEVNULL)
+        try:
+            server.begin()
+            measured(process, kind.name, samples, lambda: send_all(server.port, bodies, path))
+        finally:
+            process.kill()
+            process.wait()
+
+
 def main():
     parser = argparse.ArgumentParser()
     parser.add_argument("program")
@@ -96,27 +145,30 @@ def main():
     bodies = [[lines_of(sender, i) for i in range(asked.requests)] for sender in range(SENDERS)]
     samples = SENDERS * asked.requests * LINES
     with tempfile.TemporaryDirectory() as folder:
-        ports = free_ports(3)
+        lines, web, *fetches = free_ports(2 + READERS)
         config = pathlib.Path(folder, "node.toml")
-        config.write_text(CONFIG.format(*ports, every=f"every = {asked.every}" if asked.every else ""))
+        addresses = ", ".join(f'"127.0.0.1:{port}"' for port in fetches)
+        config.write_text(CONFIG.format(lines, addresses, web, every=f"every = {asked.every}" if asked.every else ""))
         process = subprocess.Popen([asked.program, "serve", str(config), "--origin", "1"])
         try:
             for _ in range(200):
                 try:
-                    socket.create_connection(("127.0.0.1", ports[2])).close()
+                    socket.create_connection(("127.0.0.1", web)).close()
                     break
                 except ConnectionRefusedError:
                     time.sleep(0.05)
-            with concurrent.futures.ThreadPoolExecutor(SENDERS) as pool:
-                def run():
-                    return sum(pool.map(lambda own: sum(post(ports[2], body) for body in own), bodies))
-                behind = measured(process, f"{SENDERS} senders over HTTP", samples, run)
-            print(f"answers that the node is behind: {behind}")
+            what = f"{SENDERS} senders over HTTP"
+            measured(process, what, samples, lambda: send_all(web, bodies))
+            what = f"the same beside {READERS} readers"
+            behind, count = measured(process, what, samples, lambda: beside_readers(fetches, lambda: send_all(web, bodies)))
+            print(f"fetches meanwhile: {count}; answers that the node is behind: {behind}")
             flat = [body for own in bodies for body in own]
-            measured(process, "one raw connection", samples, lambda: send_raw(ports[0], flat))
+            measured(process, "one raw connection", samples, lambda: send_raw(lines, flat))
         finally:
             process.kill()
             process.wait()
+    peer(VictoriaMetrics, "/write?precision=ns", bodies, samples)
+    peer(InfluxDb, "/write?db=m&precision=ns", bodies, samples)
 
 
 main()
