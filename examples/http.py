@@ -220,9 +220,9 @@ def hostile(node):
     check("no HTTP", status_of(node.ask(b"\x00" * 1000 + b"\r\n\r\n")), 400)
     key = b"GET /fetch?key=" + b"a" * 100_000 + b" HTTP/1.1\r\nHost: a\r\n\r\n"
     check("a key of 100 KB", status_of(node.ask(key)), 414)
-    for _ in range(1000):
+    for _ in range(10_000):
         socket.create_connection(("127.0.0.1", node.http)).close()
-    node.is_well("a thousand connections that ask nothing")
+    node.is_well("ten thousand connections that ask nothing")
     two = node.ask(b"GET /health HTTP/1.1\r\nHost: a\r\n\r\n" * 2)
     check("two requests at once", two.count(b"HTTP/1.1 200"), 1)
     node.is_well("nonsense")
