@@ -1,13 +1,13 @@
 -- What is stored of each slot, as blocks change, are added and leave.
-use Rattle.std.proofs.Common.{◌≡◌, ℕ, ◌+◌, ◌<◌, ℤ, pos, ◌+ℤ◌, true, false, cond, eqb, List, [], ◌∷◌, ◌++◌, map, drop, refl, sym, ap, ◌∙◌, subst, ◌⊎◌, inr, Option, Some, None, Result, Ok, Err, OnOk, OnErr, IsTrue, Less, int_cmp, arith, true≢false}
-use Rattle.std.specs.Prelude.{int_lt}
+use Rattle.std.proofs.Common.{◌≡◌, ℕ, ◌+◌, ◌-◌, ◌<◌, max, min, Bool, ℤ, pos, ◌+ℤ◌, ◌*ℤ◌, true, false, cond, eqb, List, [], ◌∷◌, ◌++◌, map, drop, length, get_or, refl, sym, ap, ◌∙◌, subst, ◌⊎◌, inr, Option, Some, None, Result, Ok, Err, OnOk, OnErr, IsTrue, Less, int_cmp, arith, true≢false}
+use Rattle.std.specs.Prelude.{int_lt, nat_lt}
 use Rattle.std.specs.List.{AllByRecursion}
 use Rattle.std.specs.List.Sorted.{IsStrictlySortedBy}
 use Rattle.std.specs.Map.{keys_of, lookup}
 use Rattle.std.specs.BTreeMap.{is_at}
 use Rattle.std.specs.Option.{option_map}
 use Rattle.std.specs.Ordering.{int_eq, is_eq}
-use Rattle.std.proofs.lemmas.Bool.{ne_eqb}
+use Rattle.std.proofs.lemmas.Bool.{ltb-true, ltb-false, ne_eqb}
 use Rattle.std.proofs.lemmas.Bool.Decides.{nat_tests}
 use Rattle.std.proofs.lemmas.Int.{ints}
 use Rattle.std.proofs.lemmas.List.{map-append, append_assoc, append-nil}
@@ -20,7 +20,7 @@ use Rattle.rr_packed.specs.declared.held_block.HeldBlock.{HeldBlock}
 use Rattle.rr_packed.specs.declared.blocks.Blocks.{Blocks}
 use Rattle.rr_packed.specs.Slots.{block_of, row_of}
 use Rattle.rr_packed.specs.Blocks.{stored_in, IsRowSet, block_at, items_of_block, items_by_slot, has_room_held, block_has_room, has_room_at, starts_before, IsBlockSet, IsSlotSet}
-use Rattle.rr_packed.proofs.SlotLemmas.{same_slot_by, block_on, row_on, before_block}
+use Rattle.rr_packed.proofs.SlotLemmas.{same_slot_by, block_on, row_on, before_block, earlier_block}
 
 same_number : (a b : ℤ) → is_at (int_cmp a) b ≡ true → a ≡ b
 same_number a b h = grind (arith, ints)
@@ -181,6 +181,32 @@ none_later : (s q : ℤ) (bs : List (ℤ × HeldBlock)) → s ≡ q → AllByRec
 none_later s q [] e h = refl
 none_later s q (b ∷ bs) e h = ap (λ c. cond c (Some b.1) (block_at bs q))
     (ap (λ z. is_eq (int_cmp z b.0)) (sym e) ∙ ap is_eq h.0) ∙ none_later s q bs e h.1
+
+all_later : (q l : ℤ) (bs : List (ℤ × HeldBlock)) → int_cmp q l ≡ Less
+    → AllByRecursion (λ t. int_cmp l t ≡ Less) (keys_of bs) → AllByRecursion (λ t. int_cmp q t ≡ Less) (keys_of bs)
+all_later q l [] less all = tt
+all_later q l (b ∷ bs) less all = (let here = all.0 in grind (arith, ints, less, here), all_later q l bs less all.1)
+
+-- nothing is stored of a slot before the first block
+pub empty_before : (bs : List (ℤ × HeldBlock)) (s : ℤ) (b : ℤ × HeldBlock) → IsStrictlySortedBy int_cmp (keys_of bs)
+    → 0 < length bs → b ≡ get_or bs 0 b → int_lt s (b.0 *ℤ pos 64) ≡ true → items_by_slot bs s ≡ []
+unfolding IsStrictlySortedBy items_by_slot
+empty_before [] s b sorted some is before = refl
+empty_before (first ∷ bs) s b sorted some is before =
+    let less : int_cmp (block_of s) first.0 ≡ Less =
+    earlier_block s first.0 (ap (λ (x : ℤ × HeldBlock). int_lt s (x.0 *ℤ pos 64)) (sym is) ∙ before) in
+    ap (λ o. items_of_block o (row_of s)) (none_later (block_of s) (block_of s) (first ∷ bs) refl
+    (less, all_later (block_of s) first.0 bs less sorted.0))
+
+-- of the slots that follow one whose block isn't there: those of the block, and those before the first block
+pub none_on : (bs : List (ℤ × HeldBlock)) (slot : ℤ) (most before i : ℕ) → None ≡ block_at bs (block_of slot)
+    → ((j : ℕ) → j < before → items_by_slot bs (slot +ℤ pos j) ≡ [])
+    → i < max (min most (64 - row_of slot)) before → items_by_slot bs (slot +ℤ pos i) ≡ []
+none_on bs slot most before i none empty h = by_row (nat_lt (row_of slot + i) 64) refl
+  where
+    by_row : (near : Bool) → nat_lt (row_of slot + i) 64 ≡ near → items_by_slot bs (slot +ℤ pos i) ≡ []
+    by_row true near = slots_after bs slot i (ltb-true _ _ near) ∙ ap (λ o. items_of_block o (row_of slot + i)) (sym none)
+    by_row false far = let past = ltb-false (row_of slot + i) 64 far in empty i (omega (arith, h, past))
 
 -- what is stored of each slot: what was, or nothing of a slot before this one
 abbrev pub IsLeft : ℤ → (ℤ → List Entry) → (ℤ → List Entry) → Type 0

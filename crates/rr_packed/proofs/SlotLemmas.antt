@@ -1,5 +1,5 @@
 -- A slot by the number of its block and that of its row there.
-use Rattle.std.proofs.Common.{◌≡◌, ℕ, ◌+◌, ◌-◌, ◌/◌, ◌<◌, ◌≤◌, ℤ, pos, negsuc, ◌+ℤ◌, true, refl, ap, ◌∙◌, arith}
+use Rattle.std.proofs.Common.{◌≡◌, ℕ, ◌+◌, ◌-◌, ◌/◌, ◌<◌, ◌≤◌, ℤ, pos, negsuc, ◌+ℤ◌, ◌*ℤ◌, true, Less, int_cmp, refl, ap, ◌∙◌, arith}
 use Rattle.std.specs.Prelude.{int_lt}
 use Rattle.std.proofs.lemmas.Bool.{ltb-true, lt-ltb}
 use Rattle.std.proofs.lemmas.Int.{ints}
@@ -41,3 +41,11 @@ before_block (pos a) (pos b) h = let low = ltb-true (a / 64) (b / 64) h in lt-lt
 before_block (pos a) (negsuc b) h = absurd cc
 before_block (negsuc a) (pos b) h = refl
 before_block (negsuc a) (negsuc b) h = let low = ltb-true (b / 64) (a / 64) h in lt-ltb b a (omega arith)
+
+-- a slot before the first of a block is of an earlier one
+pub earlier_block : (s f : ℤ) → int_lt s (f *ℤ pos 64) ≡ true → int_cmp (block_of s) f ≡ Less
+unfolding block_of
+earlier_block (pos a) (pos n) h = let less : a / 64 < n = omega (arith, ints, h) in grind (arith, ints, less)
+earlier_block (pos a) (negsuc n) h = absurd (omega (arith, ints, h))
+earlier_block (negsuc a) (pos n) h = refl
+earlier_block (negsuc a) (negsuc n) h = let less : n < a / 64 = omega (arith, ints, h) in grind (arith, ints, less)

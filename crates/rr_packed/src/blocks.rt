@@ -170,8 +170,23 @@ impl Blocks {
         }
     }
 
+    /// How many slots on from one the first block begins; 0 if it began before.
+    fn slots_to_first(&self, slot: i64) -> u128
+        ensures { (i : ℕ) → i < result → row_at self.now (slot +ℤ pos i) ≡ [] }
+    {
+        let Some((first, _)) = self.blocks.front() else {
+            return 0;
+        };
+        let ahead = i128::from(*first) * 64 - i128::from(slot);
+        if ahead <= 0 {
+            return 0;
+        }
+        ahead as u128
+    }
+
     /// How many slots on from one the next is to look at, at most `most`: nothing is stored of
-    /// those between. A block that isn't there is passed over in one step.
+    /// those between. What is before the first block, and a block that isn't there, is passed over
+    /// in one step.
     pub(crate) fn slots_on(&self, slot: i64, most: u32) -> u32
         requires { 1 ≤ most }
         ensures at_least_one { 1 ≤ result }
@@ -182,7 +197,10 @@ impl Blocks {
         let row = row_of(slot);
         match self.get(number) {
             Some(block) => most.min(block.rows_on(row)),
-            None => most.min(64 - row),
+            None => {
+                let to_first = self.slots_to_first(slot).min(u128::from(most)) as u32;
+                most.min(64 - row).max(to_first)
+            }
         }
     }
 

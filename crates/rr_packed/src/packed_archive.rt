@@ -37,8 +37,8 @@ use std::alloc::{AllocError, Global};
 /// the blocks before it until one was shared. A change of a shared block copies it first.
 ///
 /// `entries_into` finds its block as `put` does; `cell_count`, and `cell_at` up to the cell, are
-/// linear in the rows that have an entry, and in the blocks that aren't there, each at the cost of
-/// finding a block; `next_cell` in these up to the cell.
+/// linear in the rows that have an entry, and in the blocks between the first and the last that
+/// aren't there, each at the cost of finding a block; `next_cell` in these up to the cell.
 #[derive(Drop)]
 pub struct PackedArchive {
     rows: u32,
