@@ -4,3 +4,4 @@ pub mod BlockLemmas
 pub mod NumberLemmas
 pub mod BlocksLemmas
 pub mod PackedLemmas
+pub mod CountLemmas

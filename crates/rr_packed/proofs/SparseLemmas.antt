@@ -5,7 +5,8 @@ use Rattle.std.specs.Option.{option_and_then}
 use Rattle.std.specs.Int.{bit_at, bit_not}
 use Rattle.std.specs.Int.Count.{ones_step}
 use Rattle.std.proofs.lemmas.Bool.{cases_order, cases_lt, cases_eq, eq-eqb, ne_eqb}
-use Rattle.std.proofs.lemmas.Nat.{ones_cat, ones_le_self, mod-pow-add, mod_below, pow_pos, one_shl, and_mask, and_le_l, shr-shr}
+use Rattle.std.proofs.lemmas.Nat.{ones_cat, ones-le, ones_le_self, mod-pow-add, mod_below, pow_pos, one_shl, and_mask, and_le_l, shr-shr, shl-shr}
+use Rattle.std.proofs.Math.Nat.{mul-mod_left}
 use Rattle.std.proofs.lemmas.Nat.Bits.{bit_at-lt, bit_at_above, shr_and_one, bit_at_set_same, bit_at_set_other, bit_at_clear_same, bit_at_clear_other}
 use Rattle.rr_archive.proofs.Lists.{get_set}
 use Rattle.rr_packed.specs.Sparse.{rank, place_at, item_at}
@@ -73,11 +74,27 @@ one_bit b h =
     let none : count_ones (b / 2) ≡ 0 = ap count_ones half ∙ no_ones in
     omega arith
 
+-- those of a number that is shifted, as far as it stays in 64 bits
+ones_shifted : (x m : ℕ) → m ≤ 64 → count_ones (x * 2 ^ (64 - m) % 2 ^ 64) ≡ count_ones (x % 2 ^ m)
+ones_shifted x m fits =
+    let k = 64 - m in
+    let all : 64 ≡ m + k = omega arith in
+    let cat = ones_cat k (x % 2 ^ m) 0 (pow_pos k) in
+    ap (λ (j : ℕ). count_ones (x * 2 ^ k % 2 ^ j)) all
+    ∙ ap count_ones (mod-pow-add (x * 2 ^ k) m k)
+    ∙ (λ i. count_ones (shl-shr x k i % 2 ^ m * 2 ^ k + mul-mod_left x (2 ^ k) i))
+    ∙ cat
+    ∙ ap (λ n. count_ones (x % 2 ^ m) + n) no_ones
+    ∙ alone (count_ones (x % 2 ^ m))
+  where
+    alone : (a : ℕ) → a + 0 ≡ a
+    alone a = omega arith
+
 rank_none : (mask : ℕ) → rank mask 0 ≡ 0
 unfolding rank
 rank_none mask = let low : mask % 2 ^ 0 ≡ 0 = omega arith in ap count_ones low ∙ no_ones
 
-rank_more : (mask n : ℕ) → rank mask (n + 1) ≡ rank mask n + bit_at mask n
+pub rank_more : (mask n : ℕ) → rank mask (n + 1) ≡ rank mask n + bit_at mask n
 unfolding rank
 rank_more mask n =
     let k : n + 1 ≡ 1 + n = omega arith in
@@ -89,6 +106,23 @@ rank_more mask n =
     together : (a b c : ℕ) → a ≡ b → a + c ≡ c + b
     together a b c e = omega arith
 
+pub rank_on : (mask n m : ℕ) → m ≤ 64 → rank mask n + count_ones (mask / 2 ^ n * 2 ^ (64 - m) % 2 ^ 64)
+    ≡ rank mask (n + m)
+unfolding rank
+rank_on mask n m fits =
+    let on : n + m ≡ m + n = omega arith in
+    let low = mask % 2 ^ n in
+    let high = mask / 2 ^ n % 2 ^ m in
+    let cat = ones_cat n high low (mod_below mask (2 ^ n) (pow_pos n)) in
+    ap (λ a. count_ones low + a) (ones_shifted (mask / 2 ^ n) m fits)
+    ∙ turned (count_ones low) (count_ones high)
+    ∙ sym cat
+    ∙ ap count_ones (sym (mod-pow-add mask m n))
+    ∙ ap (λ (j : ℕ). count_ones (mask % 2 ^ j)) (sym on)
+  where
+    turned : (a b : ℕ) → a + b ≡ b + a
+    turned a b = omega arith
+
 rank_rises : (mask m d : ℕ) → rank mask m ≤ rank mask (m + d)
 rank_rises mask m zero = let same : rank mask (m + 0) ≡ rank mask m = ap (rank mask) (omega arith) in omega arith
 rank_rises mask m (suc d) =
@@ -97,7 +131,7 @@ rank_rises mask m (suc d) =
     let same : rank mask (m + suc d) ≡ rank mask ((m + d) + 1) = ap (rank mask) (omega arith) in
     omega arith
 
-rank_le : (mask m n : ℕ) → m ≤ n → rank mask m ≤ rank mask n
+pub rank_le : (mask m n : ℕ) → m ≤ n → rank mask m ≤ rank mask n
 rank_le mask m n h =
     let rise = rank_rises mask m (n - m) in
     let same : rank mask (m + (n - m)) ≡ rank mask n = ap (rank mask) (omega arith) in
@@ -110,8 +144,12 @@ rank_all : (mask : ℕ) → mask < 2 ^ 64 → rank mask 64 ≡ count_ones mask
 unfolding rank
 rank_all mask fits = ap count_ones (mod-eq_of_lt fits)
 
-pub rank_at_most : (mask n : ℕ) → mask < 2 ^ 64 → n < 64 → rank mask n ≤ count_ones mask
-rank_at_most mask n fits low = let all = rank_all mask fits in let rest = rank_le mask n 64 (omega arith) in omega arith
+pub rank_few : (mask n : ℕ) → rank mask n ≤ n
+unfolding rank
+rank_few mask n = ones-le n (mask % 2 ^ n) (mod_below mask (2 ^ n) (pow_pos n))
+
+pub rank_at_most : (mask n : ℕ) → mask < 2 ^ 64 → n ≤ 64 → rank mask n ≤ count_ones mask
+rank_at_most mask n fits low = let all = rank_all mask fits in let rest = rank_le mask n 64 low in omega arith
 
 pub rank_within : (mask n : ℕ) → mask < 2 ^ 64 → n < 64 → bit_at mask n ≡ 1 → rank mask n < count_ones mask
 rank_within mask n fits low has = let all = rank_all mask fits in let rest = rank_lt mask n 64 low has in omega arith
@@ -207,6 +245,9 @@ place_tells mask n at is = by_bit (bit_at mask n) (bit_at-lt mask n) is
 
 pub place_none : (mask n : ℕ) → bit_at mask n ≡ 0 → place_at mask n ≡ None
 place_none mask n e = ap (λ b. cond (eqb b 1) (Some (rank mask n)) None) e
+
+pub place_set : (mask n : ℕ) → bit_at mask n ≡ 1 → place_at mask n ≡ Some (rank mask n)
+place_set mask n e = ap (λ b. cond (eqb b 1) (Some (rank mask n)) None) e
 
 pub none_tells : (mask n : ℕ) → place_at mask n ≡ None → bit_at mask n ≡ 0
 none_tells mask n is = by_bit (bit_at mask n) (bit_at-lt mask n) is
@@ -327,6 +368,28 @@ item_set mask xs k x has fits n =
         (λ (l : n < k). let a = rank_lt mask n k l has_n in absurd (omega arith))
         (λ (g : k < n). let a = rank_lt mask k n g has in absurd (omega arith))
         apart
+
+-- how many items a number has is its bit
+abbrev pub one_of : {X : Type 0} → Option X → ℕ
+one_of None = 0
+one_of (Some x) = 1
+
+pub item_bit : {X : Type 0} (mask : ℕ) (xs : List X) (n : ℕ) → (bit_at mask n ≡ 1 → rank mask n < length xs)
+    → one_of (item_at mask xs n) ≡ bit_at mask n
+item_bit {X} mask xs n within = ⊎_elim
+    (λ (clear : bit_at mask n < 1).
+    let none : bit_at mask n ≡ 0 = omega arith in
+    ap one_of (item_none mask xs n (place_none mask n none)) ∙ sym none)
+    (λ (set : 1 ≤ bit_at mask n).
+    let small = bit_at-lt mask n in
+    let has : bit_at mask n ≡ 1 = omega arith in
+    ap one_of (item_found mask xs n (rank mask n) (sym (place_set mask n has)))
+    ∙ one_there (slice_get xs (rank mask n)) (get_there xs (rank mask n) (within has)) ∙ sym has)
+    (cases_lt (bit_at mask n) 1)
+  where
+    one_there : (o : Option X) → is_some o ≡ true → one_of o ≡ 1
+    one_there None e = absurd (true≢false (sym e))
+    one_there (Some x) e = refl
 
 -- ---- the code's masks
 

@@ -1,5 +1,5 @@
 -- What blocks store: the entries of a row by its number in a block, and by its slot.
-use Rattle.std.specs.Prelude.{◌≡◌, ℕ, ℤ, ◌==◌, Bool, false, ◌&&◌, List, [], ◌∷◌, Option, Some, None, is_none, slice_get, int_lt, if◌then◌else◌}
+use Rattle.std.specs.Prelude.{◌≡◌, ℕ, zero, suc, ◌+◌, ℤ, ◌==◌, Bool, false, ◌&&◌, List, [], ◌∷◌, length, Option, Some, None, is_none, slice_get, int_lt, if◌then◌else◌}
 use Rattle.std.specs.List.{prefix_len}
 use Rattle.std.specs.Map.{lookup, keys_of}
 use Rattle.std.specs.BTreeMap.{is_at}
@@ -16,6 +16,11 @@ use Rattle.rr_packed.specs.Sparse.{item_in, place_at}
 use Rattle.rr_packed.specs.Sparse.{has_room as has_spare}
 use Rattle.rr_packed.specs.Readings.{entries_read}
 use Rattle.rr_packed.specs.Slots.{block_of, row_of}
+
+-- how many entries the first `n` of the rows have in all
+unfoldable pub entries_in_all : (ℕ → List Entry) → ℕ → ℕ
+entries_in_all row zero = 0
+entries_in_all row (suc n) = entries_in_all row n + length (row n)
 
 -- ---- in one block, by the number of a row
 

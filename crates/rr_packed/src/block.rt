@@ -5,8 +5,9 @@ ghost use Rattle.rr_archive.specs.Changes.{Fits, entry_after};
 ghost use Rattle.rr_archive.specs.Entries.{items_of};
 ghost use Rattle.rr_packed.specs.Sparse.{place_at, item_in, has_room};
 ghost use Rattle.rr_packed.specs.Readings.{entries_of, entries_read};
-ghost use Rattle.rr_packed.specs.Blocks.{items_in, has_room_in, IsRowSet};
+ghost use Rattle.rr_packed.specs.Blocks.{items_in, has_room_in, entries_in_all, IsRowSet};
 
+use crate::mask::ones_on;
 use crate::reading::{Reading, Source, are_same_readings, is_same_source};
 use crate::row::Row;
 use crate::sparse::Sparse;
@@ -112,6 +113,24 @@ impl Block {
             return 64 - number;
         }
         1 + rest.trailing_zeros()
+    }
+
+    /// How many entries the rows of `most` numbers from one on have in all. Rows that are held as
+    /// readings are counted at once, by their bits; others one by one.
+    pub(crate) fn entries_on(&self, number: u32, most: u32) -> usize
+        requires some { 1 ≤ most }
+        requires within { number + most ≤ 64 }
+        ensures { result ≡ entries_in_all (λ i. items_in self.now (number + i)) most }
+    {
+        let read = self.readings.mask & !self.rows.mask;
+        let mut count = match self.source {
+            Some(_) => ones_on(read, number, most),
+            None => 0,
+        };
+        for entries in self.rows.items_on(number, most) {
+            count += entries.as_slice().len();
+        }
+        count
     }
 
     /// Whether a row is held as its entries.

@@ -1,5 +1,5 @@
 //! The blocks of an archive, in order of their numbers.
-ghost use Rattle.std.specs.Prelude.{◌≡◌, ◌<◌, ◌≤◌, ◌+ℤ◌, ◌⊎◌, ℕ, ℤ, pos, [], ◌∷◌, drop, length, int_lt, IfOk, IfErr, IfSome, IsTrue, IsOk, OnOk, OnErr};
+ghost use Rattle.std.specs.Prelude.{◌≡◌, ◌<◌, ◌≤◌, ◌+ℤ◌, ◌⊎◌, ℕ, ℤ, pos, None, [], ◌∷◌, drop, length, int_lt, IfOk, IfErr, IfSome, IsTrue, IsOk, OnOk, OnErr};
 ghost use Rattle.std.proofs.Props.{props};
 ghost use Rattle.std.specs.List.Sorted.{IsStrictlySortedBy};
 ghost use Rattle.std.specs.Map.{keys_of};
@@ -46,7 +46,7 @@ impl Blocks {
     ghost use Rattle.rr_archive.specs.Row.{entry_at};
     ghost use Rattle.rr_archive.specs.Changes.{Fits, entry_after};
     ghost use Rattle.rr_packed.specs.Readings.{entries_of};
-    ghost use Rattle.rr_packed.specs.Blocks.{block_at, count_before, row_at, has_room_at, starts_before, IsPlaceOf, IsGapFor, IsBlockSet, IsSlotSet};
+    ghost use Rattle.rr_packed.specs.Blocks.{block_at, count_before, row_at, has_room_at, starts_before, entries_in_all, IsPlaceOf, IsGapFor, IsBlockSet, IsSlotSet};
 
     /// No blocks. It takes no memory yet.
     pub(crate) fn new(alloc: Global) -> Blocks
@@ -194,13 +194,41 @@ impl Blocks {
         ensures empty { (i : ℕ) → 1 ≤ i → i < result → row_at self.now (slot +ℤ pos i) ≡ [] }
     {
         let number = block_of(slot);
+        match self.get(number) {
+            Some(block) => most.min(block.rows_on(row_of(slot))),
+            None => self.missing_on(slot, most),
+        }
+    }
+
+    /// As `slots_on`, for a slot whose block isn't there: nothing is stored of it either.
+    fn missing_on(&self, slot: i64, most: u32) -> u32
+        requires some { 1 ≤ most }
+        requires missing { block_at self.now.blocks.items (block_of slot) ≡ None }
+        ensures at_least_one { 1 ≤ result }
+        ensures at_most { result ≤ most }
+        ensures empty { (i : ℕ) → i < result → row_at self.now (slot +ℤ pos i) ≡ [] }
+    {
+        let to_first = self.slots_to_first(slot).min(u128::from(most)) as u32;
+        most.min(64 - row_of(slot)).max(to_first)
+    }
+
+    /// How many slots from one on are looked at in one step, at most `most`, and how many entries
+    /// are stored of them in all. A step ends with its block, or passes over slots as `slots_on`.
+    pub(crate) fn entries_on(&self, slot: i64, most: u32) -> (u32, usize)
+        requires some { 1 ≤ most }
+        ensures at_least_one { 1 ≤ result.0 }
+        ensures at_most { result.0 ≤ most }
+        ensures counted { result.1
+            ≡ entries_in_all (λ i. row_at self.now (slot +ℤ pos i)) result.0 }
+    {
+        let number = block_of(slot);
         let row = row_of(slot);
         match self.get(number) {
-            Some(block) => most.min(block.rows_on(row)),
-            None => {
-                let to_first = self.slots_to_first(slot).min(u128::from(most)) as u32;
-                most.min(64 - row).max(to_first)
+            Some(block) => {
+                let on = most.min(64 - row);
+                (on, block.entries_on(row, on))
             }
+            None => (self.missing_on(slot, most), 0),
         }
     }
 

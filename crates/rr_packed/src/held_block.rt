@@ -3,7 +3,7 @@ ghost use Rattle.std.specs.Prelude.{◌≡◌, ◌<◌, ◌≤◌, ◌+◌, ℕ,
 ghost use Rattle.rr_archive.specs.Row.{entry_at, with_entry};
 ghost use Rattle.rr_archive.specs.Changes.{Fits, entry_after};
 ghost use Rattle.rr_packed.specs.Readings.{entries_of};
-ghost use Rattle.rr_packed.specs.Blocks.{items_in, has_room_in, stored_in, has_room_held, IsRowSet};
+ghost use Rattle.rr_packed.specs.Blocks.{items_in, has_room_in, stored_in, has_room_held, entries_in_all, IsRowSet};
 
 use crate::block::Block;
 use crate::row::Row;
@@ -99,6 +99,15 @@ impl HeldBlock {
         ensures empty { (i : ℕ) → 1 ≤ i → i < result → stored_in self.now (number + i) ≡ [] }
     {
         self.block().rows_on(number)
+    }
+
+    /// As `Block::entries_on`.
+    pub(crate) fn entries_on(&self, number: u32, most: u32) -> usize
+        requires some { 1 ≤ most }
+        requires within { number + most ≤ 64 }
+        ensures { result ≡ entries_in_all (λ i. stored_in self.now (number + i)) most }
+    {
+        self.block().entries_on(number, most)
     }
 
     /// Makes room for an entry of an origin in a row, in a block of this archive's own.

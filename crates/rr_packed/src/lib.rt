@@ -22,6 +22,7 @@
 mod block;
 mod blocks;
 mod held_block;
+mod mask;
 mod packed_archive;
 mod reading;
 mod row;

@@ -36,9 +36,11 @@ use std::alloc::{AllocError, Global};
 /// needs unless it was finished; `share_rows` compares it with the other archive's. Both go on with
 /// the blocks before it until one was shared. A change of a shared block copies it first.
 ///
-/// `entries_into` finds its block as `put` does; `cell_count`, and `cell_at` up to the cell, are
-/// linear in the rows that have an entry, and in the blocks between the first and the last that
-/// aren't there, each at the cost of finding a block; `next_cell` in these up to the cell.
+/// `entries_into` finds its block as `put` does. `cell_count` finds each block between the first
+/// and the last, there or not, and is linear in these and in the rows that are held as their
+/// entries. `cell_at` is linear in the rows up to the cell that have an entry, and in the blocks up
+/// to it that aren't there, each at the cost of finding a block; `next_cell` in those from its slot
+/// on.
 #[derive(Drop)]
 pub struct PackedArchive {
     rows: u32,
@@ -167,9 +169,9 @@ impl Cells for PackedArchive {
         let mut k = 0;
         while k < self.rows {
             let slot = first + i64::from(k);
-            let row = self.blocks.row(slot);
-            count += row.as_slice().len();
-            k += self.blocks.slots_on(slot, self.rows - k);
+            let (on, entries) = self.blocks.entries_on(slot, self.rows - k);
+            count += entries;
+            k += on;
         }
         count
     }

@@ -1,6 +1,7 @@
 //! Items of some of 64 numbers.
-ghost use Rattle.std.specs.Prelude.{◌≡◌, ◌<◌, ◌≤◌, ◌+◌, ℕ, insert, vec_capacity, None, Some, IfSome, is_none, IsTrue, IsOk, OnOk, OnErr, count_ones, vec_len};
+ghost use Rattle.std.specs.Prelude.{◌≡◌, ◌<◌, ◌≤◌, ◌+◌, ℕ, insert, vec_capacity, slice_range, None, Some, IfSome, is_none, IsTrue, IsOk, OnOk, OnErr, count_ones, vec_len};
 
+use crate::mask::ones_on;
 use std::alloc::{AllocError, Global};
 
 /// Items of some of the numbers from 0 to 63, in order: a bit of the mask for each number that has
@@ -81,6 +82,18 @@ impl<T: Drop> Sparse<T> {
             Some(at) => Some(&self.items[at]),
             None => None,
         }
+    }
+
+    /// The items of `most` numbers from one on.
+    pub(crate) fn items_on(&self, number: u32, most: u32) -> &[T]
+        requires some { 1 ≤ most }
+        requires within { number + most ≤ 64 }
+        ensures { result.now ≡ slice_range self.now.items.items (rank self.now.mask number)
+            (rank self.now.mask (number + most)) }
+    {
+        let from = self.rank(number);
+        let to = from + ones_on(self.mask, number, most);
+        &self.items[from..to]
     }
 
     /// Whether one item more takes no memory.

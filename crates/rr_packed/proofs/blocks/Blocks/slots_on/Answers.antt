@@ -1,14 +1,14 @@
-use Rattle.std.proofs.Common.{rules, ◌≡◌, ℕ, ◌<◌, ◌-◌, ◌+◌, max, min, sym, ap, ◌∙◌, Some, None, arith, to_z, of_z, w64}
+use Rattle.std.proofs.Common.{rules, ◌≡◌, ◌<◌, ◌+◌, sym, ap, ◌∙◌, Some, None, arith, to_z, of_z, w64}
 use Rattle.rr_packed.specs.Slots.{block_of, row_of}
 use Rattle.rr_packed.specs.Blocks.{items_of_block, block_at}
-use Rattle.rr_packed.proofs.BlocksLemmas.{none_on, slots_after}
+use Rattle.rr_packed.proofs.BlocksLemmas.{slots_after}
 use Rattle.rr_packed.proofs.blocks.Blocks.slots_on.Goals as goal
 
 pub returns-in-Some-clause-empty : goal.returns-in-Some-clause-empty
 returns-in-Some-clause-empty c = λ i some h.
     let blocks = c.args.self.now.blocks.items in
     let number : to_z w64 (of_z w64 c.block_of-number.result) ≡ block_of c.args.slot = search rules in
-    let row : c.row_of-row.result ≡ row_of c.args.slot = search rules in
+    let row : c.row_of.result ≡ row_of c.args.slot = search rules in
     let has : Some c.in-Some.block.now ≡ block_at blocks (block_of c.args.slot) =
     rw number at c.in-Some.ensures.value in
     let near : row_of c.args.slot + i < 64 = omega arith in
@@ -16,14 +16,15 @@ returns-in-Some-clause-empty c = λ i some h.
     ∙ (λ j. items_of_block (sym has j) (sym row j + i))
     ∙ c.rows_on.ensures.empty i some (omega arith)
 
+pub missing_on-requires-clause-missing : goal.missing_on-requires-clause-missing
+missing_on-requires-clause-missing c =
+    let bs = c.args.self.now.blocks.items in
+    let slot : to_z w64 (of_z w64 c.args.slot) ≡ c.args.slot = search rules in
+    let number : to_z w64 (of_z w64 c.block_of-number.result) ≡ block_of c.args.slot = search rules in
+    let none : None ≡ block_at bs (block_of c.args.slot) = rw number at c.in-None.ensures.value in
+    ap (λ s. block_at bs (block_of s)) slot ∙ sym none
+
 pub returns-in-None-clause-empty : goal.returns-in-None-clause-empty
 returns-in-None-clause-empty c = λ i some h.
-    let bs = c.args.self.now.blocks.items in
-    let number : to_z w64 (of_z w64 c.block_of-number.result) ≡ block_of c.args.slot = search rules in
-    let row : c.row_of-row.result ≡ row_of c.args.slot = search rules in
-    let none : None ≡ block_at bs (block_of c.args.slot) = rw number at c.in-None.ensures.value in
-    let is : c.max.result ≡ max (min c.args.most (64 - c.row_of-row.result)) (min c.slots_to_first.result c.args.most) =
-    search rules in
     let slot : to_z w64 (of_z w64 c.args.slot) ≡ c.args.slot = search rules in
-    none_on bs c.args.slot c.args.most c.slots_to_first.result i none (rw slot at c.slots_to_first.ensures)
-    (omega (arith, is, row, h))
+    (rw slot at c.missing_on.ensures.empty) i h

@@ -1,9 +1,10 @@
-use Rattle.std.proofs.Common.{rules, ◌≡◌, ◌<◌, pos, ◌+ℤ◌, ◌-ℤ◌, length, sym, ap, ◌∙◌, arith, to_z, of_z, w64}
+use Rattle.std.proofs.Common.{rules, ◌≡◌, ◌+◌, ◌≤◌, pos, ◌+ℤ◌, ◌-ℤ◌, length, sym, ap, ◌∙◌, arith, to_z, of_z, w64}
 use Rattle.std.specs.FinMap.{len-entries}
 use Rattle.rr_archive.proofs.FewCells.{few_cells}
 use Rattle.rr_archive.specs.LiveRows.{cells_by}
-use Rattle.rr_archive.proofs.LiveWalks.{cells_left, length_step, left_none, left_skip, entries_live, entries_none}
-use Rattle.rr_packed.specs.Blocks.{row_at}
+use Rattle.rr_archive.proofs.LiveWalks.{cells_left, left_none, entries_live, entries_none}
+use Rattle.rr_packed.specs.Blocks.{row_at, entries_in_all}
+use Rattle.rr_packed.proofs.CountLemmas.{left_in_all}
 use Rattle.rr_packed.proofs.packed_archive.PackedArchiveCells.cell_count.Goals as goal
 
 pub returns-in_default : goal.returns-in_default
@@ -27,10 +28,11 @@ overflow_add-count c =
     let a = c.args.self.now in
     let f = row_at a.blocks in
     let z = to_z w64 (of_z w64 c.first_live-first.result) in
-    let row : c.as_slice.result.now ≡ f (z +ℤ pos c.loop-k.k) = search rules in
-    let within : c.loop-k.k < a.rows = omega arith in
-    let step = length_step f z a.rows c.loop-k.k within in
-    let here = ap length row in
+    let on = c.entries_on-on.result.0 in
+    let at_is : to_z w64 (of_z w64 (z +ℤ to_z w64 (of_z w64 c.from.result))) ≡ z +ℤ pos c.loop-k.k = search rules in
+    let within : c.loop-k.k + on ≤ a.rows = omega arith in
+    let step = left_in_all f z a.rows c.loop-k.k on within in
+    let entries = c.entries_on-on.ensures.counted ∙ ap (λ y. entries_in_all (λ i. f (y +ℤ pos i)) on) at_is in
     let few = few_cells (cells_by a.rows a.newest f) a.held.in_range in
     let so_far = c.loop-k.invariant.counted in
     record { fits = omega arith }
@@ -40,15 +42,12 @@ loop-k-preserved c =
     let a = c.args.self.now in
     let f = row_at a.blocks in
     let z = to_z w64 (of_z w64 c.first_live-first.result) in
-    let at = z +ℤ pos c.loop-k.k in
-    let at_is : to_z w64 (of_z w64 (z +ℤ to_z w64 (of_z w64 c.from.result))) ≡ at = search rules in
-    let row : c.as_slice.result.now ≡ f at = search rules in
-    let within : c.loop-k.k < a.rows = omega arith in
-    let step = length_step f z a.rows c.loop-k.k within in
-    let here = ap length row in
+    let on = c.entries_on-on.result.0 in
+    let at_is : to_z w64 (of_z w64 (z +ℤ to_z w64 (of_z w64 c.from.result))) ≡ z +ℤ pos c.loop-k.k = search rules in
+    let within : c.loop-k.k + on ≤ a.rows = omega arith in
+    let step = left_in_all f z a.rows c.loop-k.k on within in
+    let entries = c.entries_on-on.ensures.counted ∙ ap (λ y. entries_in_all (λ i. f (y +ℤ pos i)) on) at_is in
     let so_far = c.loop-k.invariant.counted in
-    let skipped = ap length (left_skip f z a.rows c.loop-k.k c.slots_on-k.result c.slots_on-k.ensures.at_least_one (omega arith)
-    (λ j some h. ap (λ y. f (y +ℤ pos j)) (sym at_is) ∙ c.slots_on-k.ensures.empty j some h)) in
     record { counted = omega arith; within = omega arith }
 
 pub returns : goal.returns

@@ -10,6 +10,6 @@ returns-clause-at_most g c =
     let s = c.args.self.now in
     let fits : s.mask < 2 ^ 64 = search rules in
     let is = rank_code s.mask c.args.number c.requires in
-    let most = rank_at_most s.mask c.args.number fits c.requires in
+    let most = rank_at_most s.mask c.args.number fits (omega arith) in
     let counted = s.counted in
     omega arith

@@ -1,0 +1,6 @@
+use Rattle.std.proofs.Common.{arith}
+use Rattle.rr_packed.proofs.SparseLemmas.{rank_on}
+use Rattle.rr_packed.proofs.mask.ones_on.Goals as goal
+
+pub returns : goal.returns
+returns c = rank_on c.args.mask c.args.number c.args.most (omega arith)
