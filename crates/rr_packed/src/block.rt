@@ -350,6 +350,14 @@ impl Block {
         self.add_entry(number, origin, change)
     }
 
+    /// Gives back what its lists don't need.
+    pub(crate) fn shrink(&mut self)
+        ensures { items_in self.new ≡ items_in self.old }
+    {
+        self.readings.shrink();
+        self.rows.shrink();
+    }
+
     /// Whether another block has the same rows, held in the same way.
     pub(crate) fn is_same(&self, other: &Block) -> bool
         ensures { IsTrue result → items_in self.now ≡ items_in other.now }

@@ -10,6 +10,7 @@ use crate::row::Row;
 use rr_archive::change::Change;
 use rr_schema::Origin;
 use std::alloc::{AllocError, Global};
+use std::mem::replace;
 use std::sync::Arc;
 
 /// A block as an archive holds it. One that is shared never changes: an archive that has to change
@@ -55,6 +56,16 @@ fn changed_copy(
     let mut own = block.copy(alloc)?;
     own.change(number, origin, change)?;
     Ok(own)
+}
+
+/// A block for others to have too, and whether it is one: without memory for that it stays as it is.
+fn shared(alloc: Global, block: Block) -> (HeldBlock, bool)
+    ensures { stored_in result.0 ≡ items_in block }
+{
+    match Arc::new(alloc, block) {
+        Ok(shared) => (HeldBlock::Shared(shared), true),
+        Err(failed) => (HeldBlock::Own(failed.value), false),
+    }
 }
 
 impl HeldBlock {
@@ -159,22 +170,23 @@ impl HeldBlock {
         }
     }
 
-    /// Makes a block of this archive alone ready to be shared, in no more memory than it needs.
+    /// Makes a block of this archive alone ready to be shared, in no more memory than its lists need.
     /// Answers whether it did; it doesn't where there is no memory for it.
     pub(crate) fn finish(&mut self, alloc: Global) -> bool
         ensures { stored_in self.new ≡ stored_in self.old }
     {
-        let HeldBlock::Own(block) = self else {
-            return false;
-        };
-        let Ok(copy) = block.copy(alloc) else {
-            return false;
-        };
-        let Ok(shared) = Arc::new(alloc, copy) else {
-            return false;
-        };
-        *self = HeldBlock::Shared(shared);
-        true
+        match replace(self, HeldBlock::new(alloc)) {
+            HeldBlock::Own(mut block) => {
+                block.shrink();
+                let (held, is_shared) = shared(alloc, block);
+                *self = held;
+                is_shared
+            }
+            held => {
+                *self = held;
+                false
+            }
+        }
     }
 
     /// Shares the block of another archive in place of the own one, if both hold the same rows.

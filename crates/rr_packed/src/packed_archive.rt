@@ -21,7 +21,8 @@ use std::alloc::{AllocError, Global};
 
 /// The cells of one archive of one series, packed: 24 bytes for a row of one sample, and none for a
 /// row that no sample came to. 64 rows that follow one another are a block, which takes 88 bytes
-/// beside them. The lists of blocks and of a block's rows take memory for 1, 2, 4, 8 .. of these.
+/// beside them. The list of blocks takes memory for 1, 2, 4, 8 .. of these, that of a block's rows for
+/// 1, 4, 16, 64.
 ///
 /// `ready`, `put` and `join_cell` find the newest block in one step and another in a time that is
 /// logarithmic in the blocks; they are linear in the entries of the row, in the rows of its block
@@ -32,9 +33,9 @@ use std::alloc::{AllocError, Global};
 /// for entries where a block has none. A row of one sample that is to be changed is held as its
 /// entries from then on, 112 bytes for the first of them.
 ///
-/// `finish_rows` looks at the block before the last one, and copies it into no more memory than it
-/// needs unless it was finished; `share_rows` compares it with the other archive's. Both go on with
-/// the blocks before it until one was shared. A change of a shared block copies it first.
+/// `finish_rows` looks at the block before the last one, and gives back the memory that its lists
+/// don't need unless it was finished; `share_rows` compares it with the other archive's. Both go on
+/// with the blocks before it until one was shared. A change of a shared block copies it first.
 ///
 /// `entries_into` finds its block as `put` does. `cell_count` finds each block between the first
 /// and the last, there or not, and is linear in these and in the rows that are held as their

@@ -103,8 +103,8 @@ impl<T: Drop> Sparse<T> {
         self.items.len() < self.items.capacity()
     }
 
-    /// Makes room for one item more. The list takes memory for 1, 2, 4, 8 .. items, since most
-    /// series have few rows.
+    /// Makes room for one item more. The list takes memory for 1, 4, 16, 64 items, since most series
+    /// have few rows.
     pub(crate) fn make_room(&mut self) -> Result<(), AllocError>
         ensures same { item_in self.new ≡ item_in self.old }
         ensures mask { self.new.mask ≡ self.old.mask }
@@ -115,7 +115,15 @@ impl<T: Drop> Sparse<T> {
         if self.has_room() {
             return Ok(());
         }
-        self.items.reserve_exact(self.items.len().max(1))
+        self.items
+            .reserve_exact(self.items.len().saturating_mul(3).max(1))
+    }
+
+    /// Gives back the memory that its items don't need.
+    pub(crate) fn shrink(&mut self)
+        ensures { item_in self.new ≡ item_in self.old }
+    {
+        self.items.shrink_to_fit();
     }
 
     /// Gives the memory back, if there is no item.
