@@ -1,19 +1,20 @@
 -- What the TOML text of a configuration says: the configuration, or the first fault, key by key.
-use Rattle.std.specs.Prelude.{ℕ, Bool, false, List, [], length, map, codes, Option, None, Some, option_map, Result, Ok, Err}
+use Rattle.std.specs.Prelude.{ℕ, Bool, List, length, map, Option, None, Some, option_map, Result, Ok, Err}
 use Rattle.std.specs.String.{string_bytes}
-use Rattle.toml.specs.Data.{Members, get_member}
+use Rattle.toml.specs.Data.{Members}
 use Rattle.rr_schema.specs.declared.fault.SchemaFault.{SchemaFault}
 use Rattle.rr_schema.specs.declared.fault.SchemaFault.TheVariants.{BadToml}
 use Rattle.rr_document.specs.Document.{layout_in, table_of}
 use Rattle.rr_text.specs.Results.{◌>>=◌}
 use Rattle.rr_schema.specs.Schema.{Layout}
 use Rattle.rr_line.specs.declared.precision.Precision.{Precision}
-use Rattle.rr_line.specs.declared.precision.Precision.TheVariants.{Ns}
 use Rattle.rr_config.specs.declared.config.Config.{Config}
 use Rattle.rr_config.specs.declared.fault.ConfigFault.{ConfigFault}
+use Rattle.rr_config.specs.Addresses.{addresses_in}
 use Rattle.rr_config.specs.Fault.{of_schema_fault}
+use Rattle.rr_config.specs.Habits.{habits_in}
 use Rattle.rr_config.specs.Http.{HttpView, http_in, http_view}
-use Rattle.rr_config.specs.Values.{needed, if_there, flag_of, text_of, some_text_of, count_of, some_count_of, some_seconds_of, texts_of, readers_of, precision_of}
+use Rattle.rr_config.specs.Intake.{intake_in}
 
 -- a configuration, with its texts by their bytes
 pub record ConfigView : Type 0 where
@@ -57,34 +58,23 @@ of_schema (Err fault) = Err (of_schema_fault fault)
 unfoldable pub config_in : Members → Result ConfigView ConfigFault
 config_in table = do
   schema ← of_schema (layout_in table)
-  address ← needed (get_member (codes "lines") table)
-  lines ← text_of address
-  addresses ← needed (get_member (codes "fetch") table)
-  fetch ← readers_of addresses
-  peers ← if_there [] texts_of (get_member (codes "peers") table)
-  rounds ← if_there 0 count_of (get_member (codes "rounds") table)
-  visits ← if_there 0 count_of (get_member (codes "visits") table)
-  lead ← if_there None some_count_of (get_member (codes "lead") table)
-  precision ← if_there Ns precision_of (get_member (codes "precision") table)
-  idle ← if_there None some_seconds_of (get_member (codes "idle") table)
-  every ← if_there None some_seconds_of (get_member (codes "every") table)
-  quiet ← if_there false flag_of (get_member (codes "quiet") table)
-  status ← if_there None some_text_of (get_member (codes "status") table)
-  http ← http_in table rounds visits (length fetch)
+  addresses ← addresses_in table
+  intake ← intake_in table
+  habits ← habits_in table
+  http ← http_in table intake.rounds intake.visits (length addresses.fetch)
   Ok (record {
     schema = schema;
-    lines = lines;
-    fetch = fetch;
-    peers = peers;
-    rounds = rounds;
-    visits = visits;
-    lead =
-        lead;
-    precision = precision;
-    idle = idle;
-    every = every;
-    quiet = quiet;
-    status = status;
+    lines = addresses.lines;
+    fetch = addresses.fetch;
+    peers = addresses.peers;
+    rounds = intake.rounds;
+    visits = intake.visits;
+    lead = intake.lead;
+    precision = intake.precision;
+    idle = habits.idle;
+    every = habits.every;
+    quiet = habits.quiet;
+    status = habits.status;
     http = http;
   })
 

@@ -10,9 +10,9 @@ use Rattle.rr_config.specs.declared.fault.ConfigFault.{ConfigFault}
 use Rattle.rr_config.specs.declared.fault.ConfigFault.TheVariants.{MissingField, WrongKind, BadCount, BadPrecision}
 
 -- a key that must be there
-abbrev pub needed : Option Data → Result Data ConfigFault
-needed None = Err MissingField
-needed (Some value) = Ok value
+abbrev pub needed : {A : Type 0} → (Data → Result A ConfigFault) → Option Data → Result A ConfigFault
+needed read None = Err MissingField
+needed read (Some value) = read value
 
 -- a key that may be missing, and what then stands in its place
 abbrev pub if_there : {A : Type 0} → A → (Data → Result A ConfigFault) → Option Data → Result A ConfigFault

@@ -1,20 +1,17 @@
 //! The configuration of a node.
 
-ghost use Rattle.std.specs.Prelude.{◌≡◌, Err, false, map, [], None, codes, option_map};
+ghost use Rattle.std.specs.Prelude.{◌≡◌, Err, false};
 ghost use Rattle.std.specs.Str.{is_utf8};
-ghost use Rattle.std.specs.String.{string_bytes};
-ghost use Rattle.toml.specs.Data.{get_member};
 ghost use Rattle.toml.specs.View.{table_view};
 ghost use Rattle.rr_text.specs.Results.{GivesUnless};
 ghost use Rattle.rr_schema.specs.declared.fault.SchemaFault.TheVariants.{BadToml};
-ghost use Rattle.rr_line.specs.declared.precision.Precision.TheVariants.{Ns};
 ghost use Rattle.rr_config.specs.Config.{config_in, config_of, config_view};
-ghost use Rattle.rr_config.specs.Values.{if_there, count_of, flag_of, some_count_of, some_seconds_of, some_text_of, texts_of, precision_of};
 
+use crate::addresses::addresses_in;
 use crate::fault::ConfigFault;
+use crate::habits::habits_in;
 use crate::http::{Http, http_in};
-use crate::value;
-use crate::value::{find, readers_of, text_of, value_at};
+use crate::intake::intake_in;
 use rr_document::FromToml;
 use rr_line::Precision;
 use rr_schema::{Schema, SchemaFault};
@@ -56,78 +53,6 @@ pub struct Config {
     pub http: Option<Http>,
 }
 
-/// The peers, none where the key is missing.
-pub(crate) fn peers_in(alloc: Global, table: &Table) -> Result<Vec<String>, ConfigFault>
-    ensures { GivesUnless ConfigFault.Memory (λ texts. map string_bytes texts.items) result
-        (if_there [] texts_of (get_member (codes "peers") (table_view table.now))) }
-{
-    match find(table, "peers") {
-        Some(value) => value::texts_of(alloc, value),
-        None => Ok(Vec::new(alloc)),
-    }
-}
-
-/// A number, 0 where the key is missing.
-pub(crate) fn count_in(table: &Table, key: &str) -> Result<u64, ConfigFault>
-    ensures { result ≡ if_there 0 count_of (get_member key.now (table_view table.now)) }
-{
-    match find(table, key) {
-        Some(value) => value::count_of(value),
-        None => Ok(0),
-    }
-}
-
-/// The lead, if the key is there.
-pub(crate) fn lead_in(table: &Table) -> Result<Option<u64>, ConfigFault>
-    ensures { result ≡ if_there None some_count_of (get_member (codes "lead") (table_view table.now)) }
-{
-    match find(table, "lead") {
-        Some(value) => Ok(Some(value::count_of(value)?)),
-        None => Ok(None),
-    }
-}
-
-/// The precision, nanoseconds where the key is missing.
-pub(crate) fn precision_in(table: &Table) -> Result<Precision, ConfigFault>
-    ensures { result ≡ if_there Ns precision_of (get_member (codes "precision") (table_view table.now)) }
-{
-    match find(table, "precision") {
-        Some(value) => value::precision_of(value),
-        None => Ok(Precision::Ns),
-    }
-}
-
-/// A number of seconds, if the key is there.
-pub(crate) fn seconds_in(table: &Table, key: &str) -> Result<Option<u64>, ConfigFault>
-    ensures { result ≡ if_there None some_seconds_of (get_member key.now (table_view table.now)) }
-{
-    match find(table, key) {
-        Some(value) => Ok(Some(value::seconds_of(value)?)),
-        None => Ok(None),
-    }
-}
-
-/// Whether a node is to say little, which it isn't where the key is missing.
-pub(crate) fn quiet_in(table: &Table) -> Result<bool, ConfigFault>
-    ensures { result ≡ if_there false flag_of (get_member (codes "quiet") (table_view table.now)) }
-{
-    match find(table, "quiet") {
-        Some(value) => value::flag_of(value),
-        None => Ok(false),
-    }
-}
-
-/// The file of counts, if the key is there.
-pub(crate) fn status_in(alloc: Global, table: &Table) -> Result<Option<String>, ConfigFault>
-    ensures { GivesUnless ConfigFault.Memory (option_map string_bytes) result
-        (if_there None some_text_of (get_member (codes "status") (table_view table.now))) }
-{
-    match find(table, "status") {
-        Some(value) => Ok(Some(String::from_str(alloc, text_of(value)?)?)),
-        None => Ok(None),
-    }
-}
-
 impl Config {
     /// The configuration that a TOML table writes. Other keys are ignored.
     #[tactic(auto, unfolding(crate::specs::Config::config_in))]
@@ -136,31 +61,24 @@ impl Config {
             (config_in (table_view table.now)) }
     {
         let schema = Schema::from_table(alloc, table)?;
-        let lines = text_of(value_at(table, "lines")?)?;
-        let fetch = readers_of(alloc, value_at(table, "fetch")?)?;
-        let peers = peers_in(alloc, table)?;
-        let rounds = count_in(table, "rounds")?;
-        let visits = count_in(table, "visits")?;
-        let lead = lead_in(table)?;
-        let precision = precision_in(table)?;
-        let idle = seconds_in(table, "idle")?;
-        let every = seconds_in(table, "every")?;
-        let quiet = quiet_in(table)?;
-        let status = status_in(alloc, table)?;
-        let http = http_in(alloc, table, rounds, visits, fetch.len())?;
+        let addresses = addresses_in(alloc, table)?;
+        let intake = intake_in(table)?;
+        let habits = habits_in(alloc, table)?;
+        let readers = addresses.fetch.len();
+        let http = http_in(alloc, table, intake.rounds, intake.visits, readers)?;
         Ok(Config {
             schema,
-            lines: String::from_str(alloc, lines)?,
-            fetch,
-            peers,
-            rounds,
-            visits,
-            lead,
-            precision,
-            idle,
-            every,
-            quiet,
-            status,
+            lines: addresses.lines,
+            fetch: addresses.fetch,
+            peers: addresses.peers,
+            rounds: intake.rounds,
+            visits: intake.visits,
+            lead: intake.lead,
+            precision: intake.precision,
+            idle: habits.idle,
+            every: habits.every,
+            quiet: habits.quiet,
+            status: habits.status,
             http,
         })
     }

@@ -13,9 +13,12 @@
 //! the first fault of a text that is refused.
 #![tactic(auto)]
 
+mod addresses;
 mod config;
 mod fault;
+mod habits;
 mod http;
+mod intake;
 mod named_key;
 mod remark;
 mod value;

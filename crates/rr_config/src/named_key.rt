@@ -1,9 +1,11 @@
 //! The key at which a configuration is refused.
 
-use crate::config::{count_in, lead_in, peers_in, precision_in, quiet_in, seconds_in, status_in};
+use crate::addresses::{fetch_in, lines_in, peers_in};
 use crate::fault::ConfigFault;
+use crate::habits::{quiet_in, seconds_in, status_in};
 use crate::http::{address_in, durable_in, seats_in};
-use crate::value::{find, readers_of, text_of, value_at};
+use crate::intake::{count_in, lead_in, precision_in};
+use crate::value::find;
 use rr_schema::{ArchiveSpec, Schema, SchemaFault};
 use std::alloc::Global;
 use std::fmt;
@@ -49,8 +51,8 @@ pub(crate) fn refused_key(
 /// The first key of a node, but for those of its schema, whose value is refused.
 fn refused_node_key(alloc: Global, table: &Table) -> Option<&'static str> {
     let refusals = [
-        ("lines", is_no_address(table)),
-        ("fetch", are_no_readers(alloc, table)),
+        ("lines", lines_in(alloc, table).is_err()),
+        ("fetch", fetch_in(alloc, table).is_err()),
         ("peers", peers_in(alloc, table).is_err()),
         ("rounds", count_in(table, "rounds").is_err()),
         ("visits", count_in(table, "visits").is_err()),
@@ -72,14 +74,6 @@ fn refused_node_key(alloc: Global, table: &Table) -> Option<&'static str> {
     None
 }
 
-/// Whether the address of lines is refused.
-fn is_no_address(table: &Table) -> bool {
-    match value_at(table, "lines") {
-        Ok(value) => text_of(value).is_err(),
-        Err(_) => true,
-    }
-}
-
 /// Whether the address of HTTP is refused.
 fn is_no_http(alloc: Global, table: &Table) -> bool {
     let (Ok(rounds), Ok(visits)) = (count_in(table, "rounds"), count_in(table, "visits")) else {
@@ -91,11 +85,8 @@ fn is_no_http(alloc: Global, table: &Table) -> bool {
 /// Whether the number of seats for HTTP is refused.
 fn are_no_seats(alloc: Global, table: &Table) -> bool {
     let is_asked = find(table, "http").is_some();
-    let readers = match value_at(table, "fetch") {
-        Ok(value) => match readers_of(alloc, value) {
-            Ok(readers) => readers.len(),
-            Err(_) => 0,
-        },
+    let readers = match fetch_in(alloc, table) {
+        Ok(readers) => readers.len(),
         Err(_) => 0,
     };
     seats_in(table, is_asked, readers).is_err()
@@ -104,14 +95,6 @@ fn are_no_seats(alloc: Global, table: &Table) -> bool {
 /// Whether it is refused that writes wait for a snapshot.
 fn is_not_durable(table: &Table) -> bool {
     durable_in(table, find(table, "http").is_some()).is_err()
-}
-
-/// Whether the addresses of fetches are refused.
-fn are_no_readers(alloc: Global, table: &Table) -> bool {
-    match value_at(table, "fetch") {
-        Ok(value) => readers_of(alloc, value).is_err(),
-        Err(_) => true,
-    }
 }
 
 /// The key at which the schema of a table is refused.

@@ -6,6 +6,7 @@ use crate::named_key::{ARCHIVE_KEYS, NamedKey, archives_of, refused_key};
 use std::alloc::{AllocError, Global};
 use std::str;
 use toml::Table;
+use toml::de::Error;
 
 /// The keys of a node.
 const NODE_KEYS: [&str; 16] = [
@@ -33,20 +34,29 @@ const NODE_KEYS: [&str; 16] = [
 /// ignored, and that there is no `lead`. The cost is that of reading the text twice.
 pub fn remarks(alloc: Global, text: &[u8]) -> Result<Vec<String>, AllocError> {
     let mut lines = Vec::new(alloc);
-    let Ok(text) = str::from_utf8(text) else {
-        lines.push(String::from_str(alloc, "the text is not UTF-8")?)?;
-        return Ok(lines);
-    };
-    match toml::table_from_str(alloc, text) {
-        Ok(table) => push_remarks(alloc, &mut lines, &table)?,
-        Err(error) => {
-            if error.is_memory() {
-                return Err(AllocError);
-            }
-            lines.push(on_one_line(alloc, format!(in alloc; "{error}")?.as_str())?)?;
-        }
+    match str::from_utf8(text) {
+        Ok(text) => push_remarks(alloc, &mut lines, text)?,
+        Err(_) => lines.push(String::from_str(alloc, "the text is not UTF-8")?)?,
     }
     Ok(lines)
+}
+
+/// Adds what is told of a text.
+fn push_remarks(alloc: Global, lines: &mut Vec<String>, text: &str) -> Result<(), AllocError> {
+    match toml::table_from_str(alloc, text) {
+        Ok(table) => push_table_remarks(alloc, lines, &table),
+        Err(error) => push_error(alloc, lines, &error),
+    }
+}
+
+/// Adds why a text is no TOML.
+fn push_error(alloc: Global, lines: &mut Vec<String>, error: &Error) -> Result<(), AllocError> {
+    if error.is_memory() {
+        return Err(AllocError);
+    }
+    let text = format!(in alloc; "{error}")?;
+    lines.push(on_one_line(alloc, text.as_str())?)?;
+    Ok(())
 }
 
 /// The lines of a text as one.
@@ -62,11 +72,15 @@ fn on_one_line(alloc: Global, text: &str) -> Result<String, AllocError> {
 }
 
 /// Adds what is told of a table.
-fn push_remarks(alloc: Global, lines: &mut Vec<String>, table: &Table) -> Result<(), AllocError> {
-    match Config::from_table(alloc, table) {
-        Ok(config) => {
+fn push_table_remarks(
+    alloc: Global,
+    lines: &mut Vec<String>,
+    table: &Table,
+) -> Result<(), AllocError> {
+    match has_lead(alloc, table) {
+        Ok(has_lead) => {
             push_unknown(alloc, lines, table)?;
-            if config.lead.is_none() {
+            if !has_lead {
                 let text = "no lead: one point from far in the future ends its series";
                 lines.push(String::from_str(alloc, text)?)?;
             }
@@ -75,6 +89,11 @@ fn push_remarks(alloc: Global, lines: &mut Vec<String>, table: &Table) -> Result
         Err(ConfigFault::Memory) => Err(AllocError),
         Err(fault) => push_refusal(alloc, lines, table, fault),
     }
+}
+
+/// Whether the configuration of a table has a lead.
+fn has_lead(alloc: Global, table: &Table) -> Result<bool, ConfigFault> {
+    Ok(Config::from_table(alloc, table)?.lead.is_some())
 }
 
 /// Adds where and why a table is refused.

@@ -6,7 +6,7 @@ ghost use Rattle.std.specs.String.{string_bytes};
 ghost use Rattle.toml.specs.Data.{get_member};
 ghost use Rattle.toml.specs.View.{view, table_view, array_view};
 ghost use Rattle.rr_text.specs.Results.{Gives, GivesUnless};
-ghost use Rattle.rr_config.specs.Values.{needed, text_of, flag_of, count_of, texts_in, texts_of, readers_of, precision_named, precision_of, seconds_of};
+ghost use Rattle.rr_config.specs.Values.{text_of, flag_of, count_of, texts_in, texts_of, readers_of, precision_named, precision_of, seconds_of};
 
 use crate::fault::ConfigFault;
 use rr_line::Precision;
@@ -22,19 +22,18 @@ pub(crate) fn find<'a>(table: &'a Table, key: &str) -> Option<&'a Value>
     table.get(key)
 }
 
-/// The value at a key that must be there.
-pub(crate) fn value_at<'a>(table: &'a Table, key: &str) -> Result<&'a Value, ConfigFault>
-    ensures { Gives (λ value. view value.now) result
-        (needed (get_member key.now (table_view table.now))) }
-{
-    find(table, key).ok_or(ConfigFault::MissingField)
-}
-
 /// A text.
 pub(crate) fn text_of(value: &Value) -> Result<&str, ConfigFault>
     ensures { Gives (λ text. text.now) result (text_of (view value.now)) }
 {
     value.as_str().ok_or(ConfigFault::WrongKind)
+}
+
+/// A text of the caller's own.
+pub(crate) fn owned_text_of(alloc: Global, value: &Value) -> Result<String, ConfigFault>
+    ensures { GivesUnless ConfigFault.Memory string_bytes result (text_of (view value.now)) }
+{
+    Ok(String::from_str(alloc, text_of(value)?)?)
 }
 
 /// Yes or no.

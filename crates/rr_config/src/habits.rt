@@ -1,0 +1,77 @@
+//! What a node does at which times, and what it tells.
+
+ghost use Rattle.std.specs.Prelude.{◌≡◌, false, None, codes, option_map};
+ghost use Rattle.std.specs.String.{string_bytes};
+ghost use Rattle.toml.specs.Data.{get_member};
+ghost use Rattle.toml.specs.View.{table_view};
+ghost use Rattle.rr_text.specs.Results.{GivesUnless};
+ghost use Rattle.rr_config.specs.Habits.{habits_in, habits_view};
+ghost use Rattle.rr_config.specs.Values.{if_there, flag_of, some_seconds_of, some_text_of};
+
+use crate::fault::ConfigFault;
+use crate::value::{find, flag_of, owned_text_of, seconds_of};
+use std::alloc::Global;
+use toml::Table;
+
+/// What a node does at which times, and what it tells.
+#[derive(Drop)]
+pub(crate) struct Habits {
+    /// For how many seconds it waits for a byte; without end where it is missing.
+    pub(crate) idle: Option<u64>,
+    /// At most once in how many seconds it pulls and saves; after each line connection where it is
+    /// missing.
+    pub(crate) every: Option<u64>,
+    /// Whether it says nothing of a start that succeeds and of rounds.
+    pub(crate) quiet: bool,
+    /// The file that it writes counts to, if any.
+    pub(crate) status: Option<String>,
+}
+
+/// A number of seconds, if the key is there.
+pub(crate) fn seconds_in(table: &Table, key: &str) -> Result<Option<u64>, ConfigFault>
+    ensures { result ≡ if_there None some_seconds_of (get_member key.now (table_view table.now)) }
+{
+    match find(table, key) {
+        Some(value) => Ok(Some(seconds_of(value)?)),
+        None => Ok(None),
+    }
+}
+
+/// Whether a node is to say little, which it isn't where the key is missing.
+pub(crate) fn quiet_in(table: &Table) -> Result<bool, ConfigFault>
+    ensures { result ≡ if_there false flag_of (get_member (codes "quiet") (table_view table.now)) }
+{
+    match find(table, "quiet") {
+        Some(value) => flag_of(value),
+        None => Ok(false),
+    }
+}
+
+/// The file of counts, if the key is there.
+pub(crate) fn status_in(alloc: Global, table: &Table) -> Result<Option<String>, ConfigFault>
+    ensures { GivesUnless ConfigFault.Memory (option_map string_bytes) result
+        (if_there None some_text_of (get_member (codes "status") (table_view table.now))) }
+{
+    match find(table, "status") {
+        Some(value) => Ok(Some(owned_text_of(alloc, value)?)),
+        None => Ok(None),
+    }
+}
+
+/// The habits of the node of a table.
+#[tactic(auto, unfolding(crate::specs::Habits::habits_in))]
+pub(crate) fn habits_in(alloc: Global, table: &Table) -> Result<Habits, ConfigFault>
+    ensures { GivesUnless ConfigFault.Memory habits_view result
+        (habits_in (table_view table.now)) }
+{
+    let idle = seconds_in(table, "idle")?;
+    let every = seconds_in(table, "every")?;
+    let quiet = quiet_in(table)?;
+    let status = status_in(alloc, table)?;
+    Ok(Habits {
+        idle,
+        every,
+        quiet,
+        status,
+    })
+}
