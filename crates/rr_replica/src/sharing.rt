@@ -55,11 +55,22 @@ fn share_at<A: Cells>(series: &mut SeriesMap<A>, index: usize, others: &SeriesMa
 
 impl<A: Cells> Replica<A> {
     /// Makes finished rows of the series at a hint ready to be shared by other replicas. It changes
-    /// nothing that the replica holds. The cost is that of a copy of these rows.
+    /// nothing that the replica holds. The cost is that of giving back the memory that they don't need.
     pub fn finish_rows(&mut self, hint: Hint)
         ensures { replica_state self.new ≡ replica_state self.old }
     {
         finish_at(&mut self.series, hint.index);
+    }
+
+    /// Makes finished rows of all series ready to be shared, as [`Replica::finish_rows`] does those of
+    /// one, so that copies of the replica share them. The cost is linear in the series and in the
+    /// blocks of rows that weren't ready.
+    pub fn finish_all_rows(&mut self)
+        ensures { replica_state self.new ≡ replica_state self.old }
+    {
+        for index in 0..self.series.archives.len() {
+            self.finish_rows(Hint { index });
+        }
     }
 
     /// Shares the finished rows of the series at a hint with another replica, which has made them

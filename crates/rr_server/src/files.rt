@@ -47,7 +47,8 @@ pub(crate) fn read_config(
     }
 }
 
-/// The replica that a snapshot in a file is loaded as.
+/// The replica that a snapshot in a file is loaded as, with its rows ready to be shared by the copies
+/// of a desk.
 fn load_replica(
     rt: &(impl AllocGlobal + Files + Eprint),
     file: &str,
@@ -63,7 +64,10 @@ fn load_replica(
         return Err(Ending::Failed(ToolFault::Memory));
     };
     match load(alloc, &mut Counted::new(input), schema, origin) {
-        Ok(replica) => Ok(replica),
+        Ok(mut replica) => {
+            replica.finish_all_rows();
+            Ok(replica)
+        }
         Err(LoadFault::Memory) => Err(Ending::Failed(ToolFault::Memory)),
         Err(fault) => {
             tell(rt, file, fault);
