@@ -1,25 +1,47 @@
 //! Where the connections of a node come from.
 
+use crate::server::OUT_OF_MEMORY;
 use rr_config::Config;
 use rr_node::{Flag, HaltFlag, Listening, StartBarrier};
-use rr_process::{Ending, ToolFault};
+use rr_process::Ending;
+use std::alloc::{AllocError, Global};
 use std::io;
 use std::io::ErrorKind;
 use std::net::{Net, TcpListener, TcpStream};
 
+/// What the threads of a node share.
+#[derive(Drop)]
+pub(crate) struct Signals {
+    /// The flag that ends its connections.
+    pub(crate) halt: HaltFlag,
+    /// The one by which an empty line connection asks for a snapshot.
+    pub(crate) wish: Flag,
+    /// The one that says that a peer of another schema pulled.
+    pub(crate) alarm: Flag,
+    /// The barrier at which they begin.
+    pub(crate) start: StartBarrier,
+}
+
+impl Signals {
+    /// Those of so many threads, with no flag raised.
+    fn new(alloc: Global, threads: usize) -> Result<Signals, AllocError> {
+        Ok(Signals {
+            halt: HaltFlag::new(alloc)?,
+            wish: Flag::new(alloc)?,
+            alarm: Flag::new(alloc)?,
+            start: StartBarrier::new(alloc, threads)?,
+        })
+    }
+}
+
 /// The listeners of a node: one for lines, one for each reader of an address of its own, and one
-/// for each seat of HTTP; the flag that ends them, the one by which an empty line connection asks
-/// for a snapshot, and the one that says that a peer of another schema pulled; and the barrier at
-/// which its threads begin.
+/// for each seat of HTTP; and what its threads share.
 #[derive(Drop)]
 pub(crate) struct Listeners {
     pub(crate) lines: Listening,
     pub(crate) fetches: Vec<Listening>,
     pub(crate) web: Vec<Listening>,
-    pub(crate) halt: HaltFlag,
-    pub(crate) wish: Flag,
-    pub(crate) alarm: Flag,
-    pub(crate) start: StartBarrier,
+    pub(crate) signals: Signals,
 }
 
 impl Listeners {
@@ -28,43 +50,14 @@ impl Listeners {
         rt: &(impl AllocGlobal + Eprint + Net<Listener = TcpListener, Stream = TcpStream>),
         config: &Config,
     ) -> Result<Listeners, Ending> {
-        let Ok(halt) = HaltFlag::new(rt.alloc()) else {
-            return Err(Ending::Failed(ToolFault::Memory));
+        let Ok(signals) = Signals::new(rt.alloc(), threads(config)) else {
+            return Err(OUT_OF_MEMORY);
         };
-        let Ok(wish) = Flag::new(rt.alloc()) else {
-            return Err(Ending::Failed(ToolFault::Memory));
-        };
-        let Ok(alarm) = Flag::new(rt.alloc()) else {
-            return Err(Ending::Failed(ToolFault::Memory));
-        };
-        let Ok(start) = StartBarrier::new(rt.alloc(), threads(config)) else {
-            return Err(Ending::Failed(ToolFault::Memory));
-        };
-        let lines = listen(rt, config.lines.as_str(), config.idle, &halt, &start)?;
-        // With HTTP the keeper waits at a queue, and not here.
-        let lines = match config.http {
-            Some(_) => lines,
-            None => by_turns(lines, config.every, &wish)?,
-        };
-        let mut fetches = Vec::new(rt.alloc());
-        for address in &config.fetch {
-            let listening = listen(rt, address.as_str(), config.idle, &halt, &start)?;
-            let Ok(shared) = alarm.share() else {
-                return Err(Ending::Failed(ToolFault::Memory));
-            };
-            if fetches.push(listening.with_alarm(shared)).is_err() {
-                return Err(Ending::Failed(ToolFault::Memory));
-            }
-        }
-        let web = listen_for_web(rt, config, &halt, &start)?;
         Ok(Listeners {
-            lines,
-            fetches,
-            web,
-            halt,
-            wish,
-            alarm,
-            start,
+            lines: listen_for_lines(rt, config, &signals)?,
+            fetches: listen_for_fetches(rt, config, &signals)?,
+            web: listen_for_web(rt, config, &signals)?,
+            signals,
         })
     }
 }
@@ -79,12 +72,55 @@ fn threads(config: &Config) -> usize {
     config.fetch.len().saturating_add(1).saturating_add(web)
 }
 
+/// Listens on the address of lines.
+fn listen_for_lines(
+    rt: &(impl AllocGlobal + Eprint + Net<Listener = TcpListener, Stream = TcpStream>),
+    config: &Config,
+    signals: &Signals,
+) -> Result<Listening, Ending> {
+    let lines = listen(rt, config.lines.as_str(), config.idle, signals)?;
+    // With HTTP the keeper waits at a queue, and not here.
+    match config.http {
+        Some(_) => Ok(lines),
+        None => by_turns(lines, config.every, &signals.wish),
+    }
+}
+
+/// Listens on the addresses of fetches.
+fn listen_for_fetches(
+    rt: &(impl AllocGlobal + Eprint + Net<Listener = TcpListener, Stream = TcpStream>),
+    config: &Config,
+    signals: &Signals,
+) -> Result<Vec<Listening>, Ending> {
+    let mut fetches = Vec::new(rt.alloc());
+    for address in &config.fetch {
+        let listening = listen_for_fetch(rt, address.as_str(), config.idle, signals)?;
+        if fetches.push(listening).is_err() {
+            return Err(OUT_OF_MEMORY);
+        }
+    }
+    Ok(fetches)
+}
+
+/// Listens on an address of fetches.
+fn listen_for_fetch(
+    rt: &(impl AllocGlobal + Eprint + Net<Listener = TcpListener, Stream = TcpStream>),
+    address: &str,
+    idle: Option<u64>,
+    signals: &Signals,
+) -> Result<Listening, Ending> {
+    let listening = listen(rt, address, idle, signals)?;
+    match signals.alarm.share() {
+        Ok(alarm) => Ok(listening.with_alarm(alarm)),
+        Err(_) => Err(OUT_OF_MEMORY),
+    }
+}
+
 /// Listens on the address of HTTP, if there is one, with a listener for each seat.
 fn listen_for_web(
     rt: &(impl AllocGlobal + Eprint + Net<Listener = TcpListener, Stream = TcpStream>),
     config: &Config,
-    halt: &HaltFlag,
-    start: &StartBarrier,
+    signals: &Signals,
 ) -> Result<Vec<Listening>, Ending> {
     let mut seats = Vec::new(rt.alloc());
     let Some(http) = &config.http else {
@@ -93,23 +129,33 @@ fn listen_for_web(
     let address = http.address.as_str();
     let listener = bind(rt, address)?;
     for _ in 0..http.seats {
-        let shared = match listener.try_clone() {
-            Ok(shared) => shared,
-            Err(error) => return Err(ending_of(rt, address, &error)),
-        };
-        let listening = listen_at(rt, address, shared, config.idle, halt, start)?;
+        let listening = listen_at_clone(rt, address, &listener, config.idle, signals)?;
         if seats.push(listening).is_err() {
-            return Err(Ending::Failed(ToolFault::Memory));
+            return Err(OUT_OF_MEMORY);
         }
     }
     Ok(seats)
+}
+
+/// Listens with a listener that others listen with too.
+fn listen_at_clone(
+    rt: &(impl AllocGlobal + Eprint),
+    address: &str,
+    listener: &TcpListener,
+    idle: Option<u64>,
+    signals: &Signals,
+) -> Result<Listening, Ending> {
+    match listener.try_clone() {
+        Ok(listener) => listen_at(rt, address, listener, idle, signals),
+        Err(error) => Err(ending_of(rt, address, &error)),
+    }
 }
 
 /// Why an address isn't listened on: memory ran out, or it can't be, which is told with the
 /// system's reason.
 fn ending_of(rt: &impl Eprint, address: &str, error: &io::Error) -> Ending {
     match error.kind() {
-        ErrorKind::OutOfMemory => Ending::Failed(ToolFault::Memory),
+        ErrorKind::OutOfMemory => OUT_OF_MEMORY,
         _ => {
             // If this can't be printed, the ending still says that an address is bad.
             let _printed = eprintln!(rt; "rr: {address}: {error}");
@@ -125,7 +171,7 @@ fn by_turns(lines: Listening, every: Option<u64>, wish: &Flag) -> Result<Listeni
     };
     match wish.share() {
         Ok(wish) => Ok(lines.by_turns(seconds, wish)),
-        Err(_) => Err(Ending::Failed(ToolFault::Memory)),
+        Err(_) => Err(OUT_OF_MEMORY),
     }
 }
 
@@ -146,10 +192,9 @@ fn listen(
     rt: &(impl AllocGlobal + Eprint + Net<Listener = TcpListener, Stream = TcpStream>),
     address: &str,
     idle: Option<u64>,
-    halt: &HaltFlag,
-    start: &StartBarrier,
+    signals: &Signals,
 ) -> Result<Listening, Ending> {
-    listen_at(rt, address, bind(rt, address)?, idle, halt, start)
+    listen_at(rt, address, bind(rt, address)?, idle, signals)
 }
 
 /// Listens so with a listener that is bound.
@@ -158,11 +203,10 @@ fn listen_at(
     address: &str,
     listener: TcpListener,
     idle: Option<u64>,
-    halt: &HaltFlag,
-    start: &StartBarrier,
+    signals: &Signals,
 ) -> Result<Listening, Ending> {
-    let (Ok(halt), Ok(start)) = (halt.share(), start.share()) else {
-        return Err(Ending::Failed(ToolFault::Memory));
+    let (Ok(halt), Ok(start)) = (signals.halt.share(), signals.start.share()) else {
+        return Err(OUT_OF_MEMORY);
     };
     match Listening::new(rt.alloc(), listener, idle, halt) {
         Ok(listening) => Ok(listening.after_start(start)),

@@ -2,7 +2,7 @@
 
 use crate::files::{check_folder, first_replica, read_config};
 use crate::greeting::greeting;
-use crate::listeners::Listeners;
+use crate::listeners::{Listeners, Signals};
 use crate::program::lent;
 use rr_config::{Config, ConfigFault};
 use rr_desk::{Keeper, Reader, open};
@@ -121,11 +121,15 @@ where
         let Listeners {
             lines,
             fetches,
+            signals,
+            ..
+        } = listeners;
+        let Signals {
             halt,
             wish,
             alarm,
             ..
-        } = listeners;
+        } = signals;
         let mut seats = self.seats(readers, fetches, &halt)?;
         let shelf = self.shelf(self.files()?, self.log()?, wish, alarm);
         Ok(self.serve_at(keeper, lines, &mut seats, halt, shelf))

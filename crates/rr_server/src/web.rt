@@ -1,7 +1,7 @@
 //! A node at work that is asked over HTTP too.
 
 use crate::about::about;
-use crate::listeners::Listeners;
+use crate::listeners::{Listeners, Signals};
 use crate::server::Server;
 use rr_config::Http;
 use rr_desk::{Keeper, Reader};
@@ -15,7 +15,7 @@ use rr_node::{
 use rr_packed::PackedArchive;
 use rr_process::Ending;
 use rr_schema::Origin;
-use std::alloc::AllocError;
+use std::alloc::{AllocError, Global};
 use std::hash::RandomState;
 use std::net::{Net, TcpListener, TcpStream};
 use std::random::RandomSource;
@@ -28,10 +28,78 @@ use std::time::Clock;
 #[derive(Drop)]
 struct Shared {
     queue: Queue,
-    halt: HaltFlag,
+    signals: Signals,
     origin: Origin,
     board: Board,
     answered: Answered,
+}
+
+/// What a desk has of what is shared.
+#[derive(Drop)]
+struct Share {
+    queue: Queue,
+    halt: HaltFlag,
+    board: Board,
+    answered: Answered,
+}
+
+impl Shared {
+    /// That of a node, with a queue for as many bodies as there are seats.
+    fn new(
+        alloc: Global,
+        http: &Http,
+        signals: Signals,
+        origin: Origin,
+    ) -> Result<Shared, AllocError> {
+        Ok(Shared {
+            queue: Queue::new(alloc, http.seats as usize)?,
+            signals,
+            origin,
+            board: Board::new(alloc)?,
+            answered: Answered::new(alloc)?,
+        })
+    }
+
+    /// What a desk has of it.
+    fn share(&self) -> Result<Share, AllocError> {
+        Ok(Share {
+            queue: self.queue.share()?,
+            halt: self.signals.halt.share()?,
+            board: self.board.share()?,
+            answered: self.answered.share()?,
+        })
+    }
+}
+
+/// The place of a reader at an address of fetches and pulls.
+fn fetch_place(
+    reader: Option<Reader<PackedArchive>>,
+    visits: Listening,
+) -> Result<Place, AllocError> {
+    // There are as many readers as listeners.
+    let reader = reader.ok_or(AllocError)?;
+    let gate = OpenGate::new();
+    Ok(Place::Fetches(Seat {
+        reader,
+        visits,
+        gate,
+    }))
+}
+
+/// The place at which connections of lines wait for the keeper.
+fn lines_place(visits: Listening, shared: &Shared) -> Result<Place, AllocError> {
+    Ok(Place::Lines(Door {
+        visits,
+        queue: shared.queue.share()?,
+        halt: shared.signals.halt.share()?,
+    }))
+}
+
+/// News of what is saved, and the bodies that wait for it.
+fn news_of_saves(alloc: Global, http: &Http, wish: &Flag) -> Result<(SaveNews, Kept), AllocError> {
+    let news = SaveNews::new(alloc)?;
+    let kept = Kept::new(alloc, news.share()?, http.seats as usize, wish.share()?);
+    Ok((news, kept))
 }
 
 impl<'a, R> Server<'a, R>
@@ -60,39 +128,43 @@ where
             lines,
             fetches,
             web,
+            signals,
+        } = listeners;
+        let shared = Shared::new(self.rt.alloc(), http, signals, origin)?;
+        let mut places = self.places(readers, fetches, web, &shared)?;
+        places.push(lines_place(lines, &shared)?)?;
+        let mut seats = WebSeats {
+            places,
+            halt: shared.signals.halt.share()?,
+        };
+        self.serve_queue(http, keeper, &mut seats, shared)
+    }
+
+    /// Serves with a keeper that takes lines from the queue, and with its readers' seats.
+    fn serve_queue(
+        &self,
+        http: &Http,
+        keeper: &mut Keeper<PackedArchive>,
+        seats: &mut WebSeats,
+        shared: Shared,
+    ) -> Result<Ending, AllocError> {
+        let Shared {
+            queue,
+            signals,
+            board,
+            ..
+        } = shared;
+        let Signals {
             halt,
             wish,
             alarm,
             start,
-        } = listeners;
-        let shared = Shared {
-            queue: Queue::new(self.rt.alloc(), http.seats as usize)?,
-            halt,
-            origin,
-            board: Board::new(self.rt.alloc())?,
-            answered: Answered::new(self.rt.alloc())?,
-        };
-        let mut places = self.places(readers, fetches, web, &shared)?;
-        let Shared {
-            queue,
-            halt,
-            board,
-            ..
-        } = shared;
-        places.push(Place::Lines(Door {
-            visits: lines,
-            queue: queue.share()?,
-            halt: halt.share()?,
-        }))?;
-        let mut seats = WebSeats {
-            places,
-            halt: halt.share()?,
-        };
+        } = signals;
         let visits = self.queued(queue, &halt, &wish, start)?;
         let (visits, files) = self.saving(http, visits, &wish)?;
         let log = self.log()?.on_board(board);
         let shelf = self.shelf(files, log, wish, alarm);
-        self.serve_at_web(keeper, visits, &mut seats, halt, shelf)
+        self.serve_at_web(keeper, visits, seats, halt, shelf)
     }
 
     /// Serves with a keeper, its visits and its readers' seats, until a flag is raised that they
@@ -135,20 +207,23 @@ where
         let mut places = Vec::new(self.rt.alloc());
         let mut readers = readers.into_iter();
         for visits in fetches {
-            // There are as many readers as listeners.
-            let reader = readers.next().ok_or(AllocError)?;
-            let gate = OpenGate::new();
-            places.push(Place::Fetches(Seat {
-                reader,
-                visits,
-                gate,
-            }))?;
+            places.push(fetch_place(readers.next(), visits)?)?;
         }
         for visits in web {
-            let reader = readers.next().ok_or(AllocError)?;
-            places.push(Place::Web(self.web_seat(reader, visits, shared)?))?;
+            places.push(self.web_place(readers.next(), visits, shared)?)?;
         }
         Ok(places)
+    }
+
+    /// The place of a reader at a seat of HTTP.
+    fn web_place(
+        &self,
+        reader: Option<Reader<PackedArchive>>,
+        visits: Listening,
+        shared: &Shared,
+    ) -> Result<Place, AllocError> {
+        let reader = reader.ok_or(AllocError)?;
+        Ok(Place::Web(self.web_seat(reader, visits, shared)?))
     }
 
     /// A seat of HTTP.
@@ -161,23 +236,34 @@ where
         let Ok(keys) = RandomState::new(self.rt) else {
             return Err(AllocError);
         };
-        let alloc = self.rt.alloc();
-        let desk = Desk {
-            alloc,
-            reader,
-            queue: shared.queue.share()?,
-            halt: shared.halt.share()?,
-            precision: self.config.precision,
-            about: about(alloc, &self.config.schema, shared.origin)?.into_bytes(),
-            board: shared.board.share()?,
-            answered: shared.answered.share()?,
-        };
         Ok(WebSeat {
-            desk: Some(desk),
+            desk: Some(self.desk(reader, shared)?),
             visits,
-            halt: shared.halt.share()?,
+            halt: shared.signals.halt.share()?,
             idle: self.config.idle,
             keys,
+        })
+    }
+
+    /// The desk of a seat of HTTP.
+    fn desk(&self, reader: Reader<PackedArchive>, shared: &Shared) -> Result<Desk, AllocError> {
+        let alloc = self.rt.alloc();
+        let about = about(alloc, &self.config.schema, shared.origin)?.into_bytes();
+        let Share {
+            queue,
+            halt,
+            board,
+            answered,
+        } = shared.share()?;
+        Ok(Desk {
+            alloc,
+            reader,
+            queue,
+            halt,
+            precision: self.config.precision,
+            about,
+            board,
+            answered,
         })
     }
 
@@ -216,9 +302,7 @@ where
         if !http.durable {
             return Ok((visits, files));
         }
-        let alloc = self.rt.alloc();
-        let news = SaveNews::new(alloc)?;
-        let kept = Kept::new(alloc, news.share()?, http.seats as usize, wish.share()?);
+        let (news, kept) = news_of_saves(self.rt.alloc(), http, wish)?;
         Ok((visits.once_saved(kept), files.with_news(news)))
     }
 }
