@@ -1,4 +1,4 @@
-"""A node that is asked over HTTP, for http.py and page.py."""
+"""A node that is asked over HTTP, for http_api.py, influx_client.py and page.py."""
 
 import pathlib
 import socket

@@ -1,7 +1,7 @@
 #!/usr/bin/env python3
 """A node that is asked over HTTP, by curl, by many senders at once, and by clients that no one should write.
 
-    examples/http.py PROGRAM
+    examples/http_api.py PROGRAM
 
 PROGRAM is the built program, crates/rr_tool/out/rr_tool. Writes in the forms of both versions of InfluxDB and of the clients
 that are common, fetches beside those of the fetch port, keys, counts, the page's texts, each refusal, 16 senders of 1,000
