@@ -19,7 +19,7 @@ use Rattle.rr_archive.specs.Changes.{entry_after}
 use Rattle.rr_packed.specs.declared.held_block.HeldBlock.{HeldBlock}
 use Rattle.rr_packed.specs.declared.blocks.Blocks.{Blocks}
 use Rattle.rr_packed.specs.Slots.{block_of, row_of}
-use Rattle.rr_packed.specs.Blocks.{stored_in, IsRowSet, block_at, items_of_block, items_by_slot, has_room_held, block_has_room, has_room_at, starts_before, IsBlockSet, IsSlotSet}
+use Rattle.rr_packed.specs.Blocks.{all_blocks, stored, stored_in, IsRowSet, block_at, items_of_block, items_by_slot, has_room_held, block_has_room, has_room_at, starts_before, IsBlockSet, IsSlotSet}
 use Rattle.rr_packed.proofs.SlotLemmas.{same_slot_by, block_on, row_on, before_block, earlier_block}
 
 same_number : (a b : ℤ) → is_at (int_cmp a) b ≡ true → a ≡ b
@@ -149,19 +149,19 @@ change_new old new slot was b origin change sets none empty changed =
 -- ---- room in the row of a slot
 
 pub room_found : (bs : Blocks) (slot : ℤ) (origin : ℕ) (b : HeldBlock)
-    → Some b ≡ block_at bs.blocks.items (block_of slot)
+    → Some b ≡ block_at (all_blocks bs) (block_of slot)
     → IsTrue (has_room_at bs slot origin) → IsTrue (has_room_held b (row_of slot) origin)
 unfolding has_room_at
 room_found bs slot origin b has room = subst (λ o. block_has_room o (row_of slot) origin ≡ true) (sym has) room
 
-pub room_missing : (bs : Blocks) (slot : ℤ) (origin : ℕ) → None ≡ block_at bs.blocks.items (block_of slot)
+pub room_missing : (bs : Blocks) (slot : ℤ) (origin : ℕ) → None ≡ block_at (all_blocks bs) (block_of slot)
     → IsTrue (has_room_at bs slot origin) → ⊥
 unfolding has_room_at
 room_missing bs slot origin none room = true≢false
     (sym (subst (λ o. block_has_room o (row_of slot) origin ≡ true) (sym none) room))
 
 pub room_at : (old : List (ℤ × HeldBlock)) (new : Blocks) (slot : ℤ) (origin : ℕ) (b : HeldBlock)
-    → IsBlockSet (block_of slot) b old new.blocks.items → IsTrue (has_room_held b (row_of slot) origin)
+    → IsBlockSet (block_of slot) b old (all_blocks new) → IsTrue (has_room_held b (row_of slot) origin)
     → IsTrue (has_room_at new slot origin)
 unfolding has_room_at
 room_at old new slot origin b sets here = subst (λ o. block_has_room o (row_of slot) origin ≡ true)
@@ -234,10 +234,6 @@ first_left slot (b ∷ bs) old sorted before left =
 
 -- ---- blocks that are copied one by one
 
--- a block as what it stores, with its number
-abbrev stored : ℤ × HeldBlock → ℤ × (ℕ → List Entry)
-stored b = (b.0, stored_in b.1)
-
 -- what has been copied and what is still to be copied are the blocks
 abbrev pub IsCopied : List (ℤ × HeldBlock) → List (ℤ × HeldBlock) → List (ℤ × HeldBlock) → Type 0
 IsCopied blocks left new = map stored new ++ map stored left ≡ map stored blocks
@@ -257,6 +253,12 @@ pub all_copied : (blocks left new : List (ℤ × HeldBlock)) → IsCopied blocks
     → map stored new ≡ map stored blocks
 all_copied blocks left new c none = sym (append-nil (map stored new))
     ∙ ap (λ l. map stored new ++ map stored l) (sym none) ∙ c
+
+-- the older ones and the newest
+pub both_copied : (older newest copied last : List (ℤ × HeldBlock)) → map stored copied ≡ map stored older
+    → map stored last ≡ map stored newest → map stored (copied ++ last) ≡ map stored (older ++ newest)
+both_copied older newest copied last p q = map-append stored copied last ∙ (λ i. p i ++ q i)
+    ∙ sym (map-append stored older newest)
 
 pub copied_numbers : (blocks new : List (ℤ × HeldBlock)) → map stored new ≡ map stored blocks
     → keys_of new ≡ keys_of blocks

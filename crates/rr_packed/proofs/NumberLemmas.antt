@@ -1,19 +1,22 @@
 -- Blocks by their numbers: found in the list, set there and added to it.
-use Rattle.std.proofs.Common.{◌≡◌, ℕ, zero, suc, ◌+◌, ◌-◌, ◌<◌, ◌≤◌, ℤ, true, false, cond, List, [], ◌∷◌, drop, length, get_or, set, insert, refl, sym, ap, ◌∙◌, subst, ⊎_elim, Some, None, Less, Equal, int_cmp, arith}
+use Rattle.std.proofs.Common.{◌≡◌, ℕ, zero, suc, ◌+◌, ◌-◌, ◌<◌, ◌≤◌, ℤ, true, false, cond, List, [], ◌∷◌, ◌++◌, drop, length, get_or, set, insert, refl, sym, ap, ◌∙◌, subst, ⊎_elim, Option, Some, None, Less, int_cmp, arith, true≢false}
 use Rattle.std.specs.Prelude.{int_lt, slice_get, Bool}
 use Rattle.std.specs.List.{AllByRecursion, prefix_len}
 use Rattle.std.specs.List.Sorted.{IsStrictlySortedBy, IsPartitionedBy, IsPartitionPoint}
 use Rattle.std.specs.Map.{keys_of}
+use Rattle.std.specs.Option.{option_to_list}
 use Rattle.std.specs.BTreeMap.{is_at}
 use Rattle.std.specs.Cmp.{int_cmp_total, eq_by_cmp_equiv}
 use Rattle.std.proofs.lemmas.Bool.{cases_lt}
 use Rattle.std.proofs.lemmas.Int.{ints}
-use Rattle.std.proofs.lemmas.List.{get_or_default}
-use Rattle.std.proofs.lemmas.Map.{lookup-none}
+use Rattle.std.proofs.lemmas.List.{get_or_default, get_or_append_left, set-append_left, length-append}
+use Rattle.std.proofs.Math.Seq.{get_or-append_seam, set-append_seam}
+use Rattle.std.proofs.lemmas.List.Edits.{insert-append_left}
+use Rattle.std.proofs.lemmas.Map.{lookup-insert, lookup-none, none_passes_from_lookup}
 use Rattle.std.proofs.lemmas.Map.Entries.{none_below_head, lookup_from_place}
 use Rattle.std.proofs.lemmas.Map.Keys.{IsDistinct-from_sorted}
 use Rattle.rr_packed.specs.declared.held_block.HeldBlock.{HeldBlock}
-use Rattle.rr_packed.specs.Blocks.{block_at, count_before, IsBlockSet, IsPlaceOf, IsGapFor}
+use Rattle.rr_packed.specs.Blocks.{block_at, count_before, starts_before, IsBlockSet, IsPlaceOf, IsGapFor}
 
 abbrev pub Ascend : List (ℤ × HeldBlock) → Type 0
 Ascend bs = IsStrictlySortedBy int_cmp (keys_of bs)
@@ -63,8 +66,8 @@ pub count_by_parts : (n : ℤ) (bs : List (ℤ × HeldBlock)) (i : ℕ) → i �
 count_by_parts n bs i most point = prefix_is (λ b. int_lt b.0 n) bs i most
     (λ k d below. point.0 k d (omega arith) below) (λ d within. point.1 i d (omega arith) within)
 
--- the last block is before the number, or of it
-pub count_all : (n : ℤ) (bs : List (ℤ × HeldBlock)) (last : ℤ × HeldBlock) → Ascend bs → 0 < length bs
+-- the last block is before the number
+count_all : (n : ℤ) (bs : List (ℤ × HeldBlock)) (last : ℤ × HeldBlock) → Ascend bs → 0 < length bs
     → last ≡ get_or bs (length bs - 1) last → int_cmp last.0 n ≡ Less → length bs ≡ count_before n bs
 count_all n bs last up some is less = prefix_is (λ b. int_lt b.0 n) bs (length bs) (omega arith)
     (λ k d below. parted n bs up k (length bs - 1) d (omega arith) (omega arith)
@@ -75,21 +78,36 @@ count_all n bs last up some is less = prefix_is (λ b. int_lt b.0 n) bs (length 
     before : (a n : ℤ) → int_cmp a n ≡ Less → int_lt a n ≡ true
     before a n e = grind (arith, ints)
 
-pub count_but_last : (n : ℤ) (bs : List (ℤ × HeldBlock)) (last : ℤ × HeldBlock) → Ascend bs → 0 < length bs
-    → last ≡ get_or bs (length bs - 1) last → int_cmp last.0 n ≡ Equal → length bs - 1 ≡ count_before n bs
-count_but_last n bs last up some is same = prefix_is (λ b. int_lt b.0 n) bs (length bs - 1) (omega arith)
-    (λ k d below. before _ _ n (ascend_at bs k (length bs - 1) d up below (omega arith)) (its_number d))
-    (λ d within. not_before _ n (its_number d))
+-- the newest block is before the number, or it isn't: then only older ones are
+pub count_past : (n : ℤ) (older : List (ℤ × HeldBlock)) (newest : Option (ℤ × HeldBlock))
+    → Ascend (older ++ option_to_list newest) → starts_before n (option_to_list newest) ≡ true
+    → length older + 1 ≡ count_before n (older ++ option_to_list newest)
+count_past n older None up before = absurd (true≢false (sym before))
+count_past n older (Some b) up before =
+    let size = length-append older (b ∷ []) in
+    let last : length (older ++ b ∷ []) - 1 ≡ length older = omega (arith, size) in
+    sym size ∙ count_all n (older ++ b ∷ []) b up (omega (arith, size))
+    (sym (ap (λ i. get_or (older ++ b ∷ []) i b) last ∙ get_or-append_seam older b [] b)) (less b.0 n before)
   where
-    its_number : (d : ℤ × HeldBlock) → int_cmp (get_or bs (length bs - 1) d).0 n ≡ Equal
-    its_number d = ap (λ (b : ℤ × HeldBlock). int_cmp b.0 n)
-        (get_or_default bs (length bs - 1) d last (omega arith) ∙ sym is) ∙ same
+    less : (a n : ℤ) → int_lt a n ≡ true → int_cmp a n ≡ Less
+    less a n low = grind (arith, ints)
 
-    before : (a b n : ℤ) → int_cmp a b ≡ Less → int_cmp b n ≡ Equal → int_lt a n ≡ true
-    before a b n p q = grind (arith, ints)
+pub count_older : (n : ℤ) (older : List (ℤ × HeldBlock)) (newest : Option (ℤ × HeldBlock))
+    → starts_before n (option_to_list newest) ≡ false
+    → count_before n older ≡ count_before n (older ++ option_to_list newest)
+count_older n [] None after = refl
+count_older n [] (Some b) after = sym (ap (λ c. cond c (1 + 0) 0) after)
+count_older n (x ∷ older) newest after =
+    ap (λ k. cond (int_lt x.0 n) (1 + k) 0) (count_older n older newest after)
 
-    not_before : (a n : ℤ) → int_cmp a n ≡ Equal → int_lt a n ≡ false
-    not_before a n e = grind (arith, ints)
+below_front : (n : ℤ) (xs ys : List (ℤ × HeldBlock)) → IsBelow n (xs ++ ys) → IsBelow n xs
+below_front n [] ys h = tt
+below_front n (x ∷ xs) ys h = (h.0, below_front n xs ys h.1)
+
+pub ascend_front : (xs ys : List (ℤ × HeldBlock)) → Ascend (xs ++ ys) → Ascend xs
+unfolding IsStrictlySortedBy
+ascend_front [] ys up = tt
+ascend_front (x ∷ xs) ys up = (below_front x.0 xs ys up.0, ascend_front xs ys up.1)
 
 pub ascend_rest : (bs : List (ℤ × HeldBlock)) → Ascend bs → Ascend (drop 1 bs)
 unfolding IsStrictlySortedBy
@@ -103,7 +121,7 @@ count_within n (b ∷ bs) = elim (int_lt b.0 n) as (λ c. cond c (1 + count_befo
   | false ↦ omega arith
 ]
 
-pub gap_within : (bs : List (ℤ × HeldBlock)) (n : ℤ) (at : ℕ) → IsGapFor n bs at → at ≤ length bs
+gap_within : (bs : List (ℤ × HeldBlock)) (n : ℤ) (at : ℕ) → IsGapFor n bs at → at ≤ length bs
 gap_within bs n at gap = let most = count_within n bs in let is = gap.1 in omega arith
 
 -- ---- what is found
@@ -149,7 +167,7 @@ number_there (x ∷ bs) n zero b is place = let number : x.0 ≡ n = cc in ap (�
 number_there (x ∷ bs) n (suc at) b is place = number_there bs n at b is place
 
 -- the number of a pair that was read
-pub place_here : (bs : List (ℤ × HeldBlock)) (at : ℕ) (b : ℤ × HeldBlock) → at < length bs → b ≡ get_or bs at b
+place_here : (bs : List (ℤ × HeldBlock)) (at : ℕ) (b : ℤ × HeldBlock) → at < length bs → b ≡ get_or bs at b
     → IsPlaceOf b.0 bs at
 place_here [] at b h is = absurd (omega arith)
 place_here (x ∷ bs) zero b h is = ap (λ (z : ℤ × HeldBlock). Some z.0) (sym is)
@@ -208,17 +226,75 @@ numbers_stay (x ∷ bs) n zero b place = let number : x.0 ≡ n = cc in ap (λ k
 numbers_stay (x ∷ bs) n (suc at) b place = ap (λ ks. x.0 ∷ ks) (numbers_stay bs n at b place)
 
 -- as the pair there is written, whose number was read
-pub block_put : (bs : List (ℤ × HeldBlock)) (n : ℤ) (at : ℕ) (was : ℤ × HeldBlock) (b : HeldBlock) → Ascend bs
+block_put : (bs : List (ℤ × HeldBlock)) (n : ℤ) (at : ℕ) (was : ℤ × HeldBlock) (b : HeldBlock) → Ascend bs
     → IsPlaceOf n bs at
     → was ≡ get_or bs at was → IsBlockSet n b bs (set bs at (was.0, b))
 block_put bs n at was b up place is = subst (λ k. IsBlockSet n b bs (set bs at (k, b)))
     (sym (number_there bs n at was is place)) (block_set bs n at b up place)
 
-pub ascend_put : (bs : List (ℤ × HeldBlock)) (n : ℤ) (at : ℕ) (was : ℤ × HeldBlock) (b : HeldBlock) → Ascend bs
+ascend_put : (bs : List (ℤ × HeldBlock)) (n : ℤ) (at : ℕ) (was : ℤ × HeldBlock) (b : HeldBlock) → Ascend bs
     → IsPlaceOf n bs at
     → was ≡ get_or bs at was → Ascend (set bs at (was.0, b))
 ascend_put bs n at was b up place is = subst (IsStrictlySortedBy int_cmp)
     (sym (ap (λ k. keys_of (set bs at (k, b))) (number_there bs n at was is place) ∙ numbers_stay bs n at b place)) up
+
+-- ---- among the older blocks, or as the newest
+
+-- the block of a number was there, and was set
+pub record IsPut (n : ℤ) (was b : HeldBlock) (old new : List (ℤ × HeldBlock)) : Type 0 where
+  pub has : block_at old n ≡ Some was
+  pub sets : IsBlockSet n b old new
+  pub ascend : Ascend new
+
+put_at : (bs new : List (ℤ × HeldBlock)) (n : ℤ) (at : ℕ) (was : ℤ × HeldBlock) (b : HeldBlock) → Ascend bs
+    → IsPlaceOf n bs at → was ≡ get_or bs at was → set bs at (was.0, b) ≡ new → IsPut n was.1 b bs new
+put_at bs new n at was b up place is same = record {
+  has = block_there bs n at was up place is;
+  sets = subst (IsBlockSet n b bs) same (block_put bs n at was b up place is);
+  ascend = subst Ascend same (ascend_put bs n at was b up place is);
+}
+
+pub older_put : (older rest : List (ℤ × HeldBlock)) (n : ℤ) (at : ℕ) (was : ℤ × HeldBlock) (b : HeldBlock)
+    → Ascend (older ++ rest) → IsPlaceOf n (older ++ rest) at → at < length older → was ≡ get_or older at was
+    → IsPut n was.1 b (older ++ rest) (set older at (was.0, b) ++ rest)
+older_put older rest n at was b up place within is =
+    put_at (older ++ rest) (set older at (was.0, b) ++ rest) n at was b up place
+    (is ∙ sym (get_or_append_left older rest was at within)) (set-append_left older rest at (was.0, b) within)
+
+-- as it was read
+pub older_here : (older rest : List (ℤ × HeldBlock)) (at : ℕ) (was : ℤ × HeldBlock) (b : HeldBlock)
+    → Ascend (older ++ rest) → at < length older → was ≡ get_or older at was
+    → IsPut was.0 was.1 b (older ++ rest) (set older at (was.0, b) ++ rest)
+older_here older rest at was b up within is =
+    let size = length-append older rest in
+    older_put older rest was.0 at was b up (place_here (older ++ rest) at was (omega (arith, size, within))
+    (is ∙ sym (get_or_append_left older rest was at within))) within is
+
+pub newest_put : (older : List (ℤ × HeldBlock)) (newest : Option (ℤ × HeldBlock)) (n : ℤ) (at : ℕ)
+    (was : ℤ × HeldBlock) (b : HeldBlock) → newest ≡ Some was → Ascend (older ++ option_to_list newest)
+    → IsPlaceOf n (older ++ option_to_list newest) at → length older ≤ at
+    → IsPut n was.1 b (older ++ option_to_list newest) (older ++ (was.0, b) ∷ [])
+newest_put older newest n at was b some up place past = subst
+    (λ o. Ascend (older ++ option_to_list o) → IsPlaceOf n (older ++ option_to_list o) at
+    → IsPut n was.1 b (older ++ option_to_list o) (older ++ (was.0, b) ∷ [])) (sym some) put up place
+  where
+    put : Ascend (older ++ was ∷ []) → IsPlaceOf n (older ++ was ∷ []) at
+        → IsPut n was.1 b (older ++ was ∷ []) (older ++ (was.0, b) ∷ [])
+    put up place =
+        let size = length-append older (was ∷ []) in
+        let within = place_within (older ++ was ∷ []) n at place in
+        let last : at ≡ length older = omega (arith, size, within, past) in
+        put_at (older ++ was ∷ []) (older ++ (was.0, b) ∷ []) n at was b up place
+        (sym (ap (λ i. get_or (older ++ was ∷ []) i was) last ∙ get_or-append_seam older was [] was))
+        (ap (λ i. set (older ++ was ∷ []) i (was.0, b)) last ∙ set-append_seam older was [] (was.0, b))
+
+-- no place is past the older ones if there is no newest
+pub none_past : (older : List (ℤ × HeldBlock)) (newest : Option (ℤ × HeldBlock)) (n : ℤ) (at : ℕ) → newest ≡ None
+    → IsPlaceOf n (older ++ option_to_list newest) at → length older ≤ at → ⊥
+none_past older newest n at none place past =
+    let size = length-append older [] in
+    let within = place_within (older ++ []) n at (subst (λ o. IsPlaceOf n (older ++ option_to_list o) at) none place) in
+    omega (arith, size, within, past)
 
 -- ---- a block that is added
 
@@ -236,7 +312,7 @@ below_all m n (b ∷ bs) less h = (both m n b.0 less h.0, below_all m n bs less 
     both : (a b c : ℤ) → int_cmp a b ≡ Less → int_cmp b c ≡ Less → int_cmp a c ≡ Less
     both a b c p q = grind (arith, ints)
 
-pub ascend_with : (n : ℤ) (b : HeldBlock) (bs : List (ℤ × HeldBlock)) → Ascend bs → block_at bs n ≡ None
+ascend_with : (n : ℤ) (b : HeldBlock) (bs : List (ℤ × HeldBlock)) → Ascend bs → block_at bs n ≡ None
     → Ascend (insert bs (count_before n bs) (n, b))
 unfolding IsStrictlySortedBy
 ascend_with n b [] up none = (tt, tt)
@@ -265,3 +341,40 @@ ascend_with n b (x ∷ bs) up none = elim (int_lt x.0 n) as
         let found : block_at (x ∷ bs) n ≡ Some x.1 =
         ap (λ c. cond c (Some x.1) (block_at bs n)) (ap (is_at (int_cmp n)) e ∙ itself n) in
         absurd cc
+
+-- a block was added
+pub record IsAdded (n : ℤ) (b : HeldBlock) (old new : List (ℤ × HeldBlock)) : Type 0 where
+  pub sets : IsBlockSet n b old new
+  pub ascend : Ascend new
+
+added_at : (bs new : List (ℤ × HeldBlock)) (n : ℤ) (at : ℕ) (b : HeldBlock) → Ascend bs → IsGapFor n bs at
+    → insert bs at (n, b) ≡ new → IsAdded n b bs new
+added_at bs new n at b up gap same = record {
+  sets = λ q. ap (λ l. block_at l q) (sym same) ∙ lookup-insert (eq_by_cmp_equiv int_cmp_total) n b q bs at
+      (none_passes_from_lookup (is_at (int_cmp n)) bs gap.0);
+  ascend = subst Ascend (ap (λ i. insert bs i (n, b)) (sym gap.1) ∙ same) (ascend_with n b bs up gap.0);
+}
+
+-- before the newest, and as the newest
+pub older_added : (older : List (ℤ × HeldBlock)) (newest : Option (ℤ × HeldBlock)) (n : ℤ) (at : ℕ) (b : HeldBlock)
+    → Ascend (older ++ option_to_list newest) → IsGapFor n (older ++ option_to_list newest) at
+    → at < length (older ++ option_to_list newest)
+    → IsAdded n b (older ++ option_to_list newest) (insert older at (n, b) ++ option_to_list newest)
+older_added older newest n at b up gap before =
+    added_at (older ++ option_to_list newest) (insert older at (n, b) ++ option_to_list newest) n at b up gap
+    (insert-append_left older (option_to_list newest) at (n, b) (within newest before))
+  where
+    within : (o : Option (ℤ × HeldBlock)) → at < length (older ++ option_to_list o) → at ≤ length older
+    within None h = let size = length-append older [] in omega (arith, size, h)
+    within (Some x) h = let size = length-append older (x ∷ []) in omega (arith, size, h)
+
+insert_last : (bs : List (ℤ × HeldBlock)) (b : ℤ × HeldBlock) → insert bs (length bs) b ≡ bs ++ b ∷ []
+insert_last [] b = refl
+insert_last (x ∷ bs) b = ap (λ l. x ∷ l) (insert_last bs b)
+
+pub newest_added : (bs : List (ℤ × HeldBlock)) (n : ℤ) (at : ℕ) (b : HeldBlock) → Ascend bs → IsGapFor n bs at
+    → length bs ≤ at → IsAdded n b bs (bs ++ (n, b) ∷ [])
+newest_added bs n at b up gap past =
+    let within = gap_within bs n at gap in
+    let last : at ≡ length bs = omega (arith, within, past) in
+    added_at bs (bs ++ (n, b) ∷ []) n at b up gap (ap (λ i. insert bs i (n, b)) last ∙ insert_last bs (n, b))

@@ -1,7 +1,8 @@
 -- What blocks store: the entries of a row by its number in a block, and by its slot.
-use Rattle.std.specs.Prelude.{◌≡◌, ℕ, zero, suc, ◌+◌, ℤ, ◌==◌, Bool, false, ◌&&◌, List, [], ◌∷◌, length, Option, Some, None, is_none, slice_get, int_lt, if◌then◌else◌}
+use Rattle.std.specs.Prelude.{◌≡◌, ℕ, zero, suc, ◌+◌, ℤ, ◌==◌, Bool, false, ◌&&◌, List, [], ◌∷◌, ◌++◌, length, Option, Some, None, is_none, slice_get, int_lt, if◌then◌else◌}
 use Rattle.std.specs.List.{prefix_len}
 use Rattle.std.specs.Map.{lookup, keys_of}
+use Rattle.std.specs.Option.{option_to_list}
 use Rattle.std.specs.BTreeMap.{is_at}
 use Rattle.std.specs.Ordering.{int_cmp, int_eq}
 use Rattle.rr_archive.specs.declared.entry.Entry.{Entry}
@@ -60,6 +61,14 @@ has_room_held (Shared b) number origin = false
 
 -- ---- in all blocks, by slot
 
+-- all blocks, ascending: the older ones, and the newest if there is one
+abbrev pub all_blocks : Blocks → List (ℤ × HeldBlock)
+all_blocks b = b.older.items ++ option_to_list b.newest
+
+-- a block as what it stores, with its number
+abbrev pub stored : ℤ × HeldBlock → ℤ × (ℕ → List Entry)
+stored b = (b.0, stored_in b.1)
+
 -- the block of a number, if it is there
 abbrev pub block_at : List (ℤ × HeldBlock) → ℤ → Option HeldBlock
 block_at blocks number = lookup (is_at (int_cmp number)) blocks
@@ -98,11 +107,11 @@ starts_before number (b ∷ bs) = int_lt b.0 number
 
 -- the entries that are stored of a slot, live or not
 abbrev pub row_at : Blocks → ℤ → List Entry
-row_at b = items_by_slot b.blocks.items
+row_at b = items_by_slot (all_blocks b)
 
 -- whether the entry of an origin in a slot takes no memory
 unfoldable pub has_room_at : Blocks → ℤ → ℕ → Bool
-has_room_at b slot origin = block_has_room (block_at b.blocks.items (block_of slot)) (row_of slot) origin
+has_room_at b slot origin = block_has_room (block_at (all_blocks b) (block_of slot)) (row_of slot) origin
 
 -- an entry was set in a slot, and other slots store what they did
 abbrev pub IsSlotSet : ℤ → Entry → (ℤ → List Entry) → (ℤ → List Entry) → Type 0

@@ -1,10 +1,11 @@
 //! The blocks of an archive, in order of their numbers.
-ghost use Rattle.std.specs.Prelude.{◌≡◌, ◌<◌, ◌≤◌, ◌+ℤ◌, ◌⊎◌, ℕ, ℤ, pos, None, [], ◌∷◌, drop, length, int_lt, IfOk, IfErr, IfSome, IsTrue, IsOk, OnOk, OnErr};
+ghost use Rattle.std.specs.Prelude.{◌≡◌, ◌<◌, ◌≤◌, ◌+ℤ◌, ◌⊎◌, ◌↔◌, ◌++◌, ℕ, ℤ, pos, None, [], ◌∷◌, drop, length, map, int_lt, slice_index_or, IfOk, IfErr, IfSome, IsSome, IsTrue, IsOk, OnOk, OnErr};
 ghost use Rattle.std.proofs.Props.{props};
 ghost use Rattle.std.specs.List.Sorted.{IsStrictlySortedBy};
 ghost use Rattle.std.specs.Map.{keys_of};
-ghost use Rattle.std.specs.Option.{option_copied};
+ghost use Rattle.std.specs.Option.{option_copied, option_to_list};
 ghost use Rattle.std.specs.Ordering.{int_cmp};
+ghost use Rattle.std.specs.VecDeque.{deque_len, deque_capacity};
 ghost use Rattle.rr_packed.specs.Slots.{block_of, row_of};
 
 use crate::held_block::HeldBlock;
@@ -19,12 +20,16 @@ use std::collections::VecDeque;
 /// Blocks with their numbers, ascending by these: that of a slot is a 64th of it, rounded to the
 /// floor.
 ///
-/// The list takes memory for 1, 2, 4, 8 .. blocks: most series have few rows.
+/// The newest block, which most samples are of, is held in place: it is found without a look at
+/// the list of the older ones, and a series with few rows takes no list. The list takes memory for
+/// 1, 2, 4, 8 .. blocks.
 #[derive(Drop)]
 pub(crate) struct Blocks {
     alloc: Global,
-    blocks: VecDeque<(i64, HeldBlock)>,
-    ghost ordered: { IsStrictlySortedBy int_cmp (keys_of blocks.items) } by { Prim.hlevel props },
+    older: VecDeque<(i64, HeldBlock)>,
+    newest: Option<(i64, HeldBlock)>,
+    ghost ordered: { IsStrictlySortedBy int_cmp
+        (keys_of (older.items ++ option_to_list newest)) } by { Prim.hlevel props },
 }
 
 /// The number of the block of a slot.
@@ -46,7 +51,7 @@ impl Blocks {
     ghost use Rattle.rr_archive.specs.Row.{entry_at};
     ghost use Rattle.rr_archive.specs.Changes.{Fits, entry_after};
     ghost use Rattle.rr_packed.specs.Readings.{entries_of};
-    ghost use Rattle.rr_packed.specs.Blocks.{block_at, count_before, row_at, has_room_at, starts_before, entries_in_all, IsPlaceOf, IsGapFor, IsBlockSet, IsSlotSet};
+    ghost use Rattle.rr_packed.specs.Blocks.{all_blocks, stored, block_at, count_before, row_at, has_room_at, starts_before, entries_in_all, IsPlaceOf, IsGapFor, IsBlockSet, IsSlotSet};
 
     /// No blocks. It takes no memory yet.
     pub(crate) fn new(alloc: Global) -> Blocks
@@ -54,46 +59,65 @@ impl Blocks {
     {
         Blocks {
             alloc,
-            blocks: VecDeque::new(alloc),
+            older: VecDeque::new(alloc),
+            newest: None,
         }
     }
 
-    /// How many blocks are before that of a number. The last is looked at first, since most samples
-    /// are of its slots.
+    /// The block at a place, with its number: the older ones come first, then the newest.
+    fn nth(&self, at: usize) -> Option<&(i64, HeldBlock)>
+        ensures variant { IsSome result ↔ (at < length (all_blocks self.now)) }
+        ensures lookup { IfSome result
+            (λ x. x.now ≡ slice_index_or (all_blocks self.now) at x.now) }
+    {
+        match at.cmp(&self.older.len()) {
+            Ordering::Less => self.older.get(at),
+            Ordering::Equal => self.newest.as_ref(),
+            Ordering::Greater => None,
+        }
+    }
+
+    /// Whether the newest block is before that of a number.
+    fn ends_before(&self, number: i64) -> bool
+        ensures { result ≡ starts_before number (option_to_list self.now.newest) }
+    {
+        match &self.newest {
+            Some((newest, _)) => *newest < number,
+            None => false,
+        }
+    }
+
+    /// How many blocks are before that of a number. The newest is looked at first.
     fn count_before(&self, number: i64) -> usize
-        ensures { result ≡ count_before number self.now.blocks.items }
+        ensures { result ≡ count_before number (all_blocks self.now) }
     {
-        let Some((last, _)) = self.blocks.back() else {
-            return 0;
-        };
-        match last.cmp(&number) {
-            Ordering::Less => self.blocks.len(),
-            Ordering::Equal => self.blocks.len() - 1,
-            Ordering::Greater => self.blocks.partition_point(|(other, _)| *other < number),
+        if self.ends_before(number) {
+            self.older.len() + 1
+        } else {
+            self.older.partition_point(|(other, _)| *other < number)
         }
     }
 
-    /// Where in the list the block of a number is; if there is none, where it belongs. Mostly it is
-    /// the last.
+    /// Where the block of a number is; if there is none, where it belongs. Mostly it is the newest.
     fn find(&self, number: i64) -> Result<usize, usize>
-        ensures found { IfOk result (IsPlaceOf number self.now.blocks.items) }
-        ensures missing { IfErr result (IsGapFor number self.now.blocks.items) }
+        ensures found { IfOk result (IsPlaceOf number (all_blocks self.now)) }
+        ensures missing { IfErr result (IsGapFor number (all_blocks self.now)) }
     {
-        if let Some((last, _)) = self.blocks.back() {
-            if *last == number {
-                return Ok(self.blocks.len() - 1);
+        if let Some((newest, _)) = &self.newest {
+            if *newest == number {
+                return Ok(self.older.len());
             }
         }
         self.search(number)
     }
 
-    /// `find`, in the whole list.
+    /// `find`, among all blocks.
     fn search(&self, number: i64) -> Result<usize, usize>
-        ensures found { IfOk result (IsPlaceOf number self.now.blocks.items) }
-        ensures missing { IfErr result (IsGapFor number self.now.blocks.items) }
+        ensures found { IfOk result (IsPlaceOf number (all_blocks self.now)) }
+        ensures missing { IfErr result (IsGapFor number (all_blocks self.now)) }
     {
         let at = self.count_before(number);
-        if let Some((other, _)) = self.blocks.get(at) {
+        if let Some((other, _)) = self.nth(at) {
             if *other == number {
                 return Ok(at);
             }
@@ -103,27 +127,59 @@ impl Blocks {
 
     /// The block of a number, if it is there.
     fn get(&self, number: i64) -> Option<&HeldBlock>
-        ensures value { option_copied result ≡ block_at self.now.blocks.items number }
+        ensures value { option_copied result ≡ block_at (all_blocks self.now) number }
     {
         match self.find(number) {
-            Ok(at) => Some(&self.blocks[at].1),
+            Ok(at) => {
+                let (_, block) = self.nth(at)?;
+                Some(block)
+            }
             Err(_) => None,
+        }
+    }
+
+    /// Makes place for one older block more.
+    fn make_place(&mut self) -> Result<(), AllocError>
+        ensures same { all_blocks self.new ≡ all_blocks self.old }
+        ensures newest { self.new.newest ≡ self.old.newest }
+        ensures place { OnOk result (deque_len self.new.older < deque_capacity self.new.older) }
+    {
+        let count = self.older.len();
+        let is_full = count == self.older.capacity();
+        let more = if is_full { count.max(1) } else { 0 };
+        self.older.reserve_exact(more)
+    }
+
+    /// Puts the newest block, if there is one, at the end of the older ones.
+    fn retire(&mut self) -> Result<(), AllocError>
+        ensures same { all_blocks self.new ≡ all_blocks self.old }
+        ensures none { OnOk result (self.new.newest ≡ None) }
+    {
+        if self.newest.is_none() {
+            return Ok(());
+        }
+        self.make_place()?;
+        match self.newest.take() {
+            Some(newest) => Ok(self.older.push_back(newest)?),
+            None => Ok(()),
         }
     }
 
     /// Adds the block of a number that has none, where it belongs.
     fn insert(&mut self, at: usize, number: i64, block: HeldBlock) -> Result<(), AllocError>
-        requires { IsGapFor number self.old.blocks.items at }
-        ensures added { OnOk result (IsBlockSet number block self.old.blocks.items
-            self.new.blocks.items) }
-        ensures unchanged { OnErr result (self.new.blocks.items ≡ self.old.blocks.items) }
+        requires { IsGapFor number (all_blocks self.old) at }
+        ensures added { OnOk result (IsBlockSet number block (all_blocks self.old)
+            (all_blocks self.new)) }
+        ensures unchanged { OnErr result (all_blocks self.new ≡ all_blocks self.old) }
     {
-        let count = self.blocks.len();
-        let is_full = count == self.blocks.capacity();
-        let more = if is_full { count.max(1) } else { 0 };
-        self.blocks.reserve_exact(more)?;
-        self.blocks.insert(at, (number, block))?;
-        Ok(())
+        if self.nth(at).is_some() {
+            self.make_place()?;
+            Ok(self.older.insert(at, (number, block))?)
+        } else {
+            self.retire()?;
+            self.newest = Some((number, block));
+            Ok(())
+        }
     }
 
     /// The entries that are stored of a slot.
@@ -137,10 +193,10 @@ impl Blocks {
         }
     }
 
-    /// Where in the list the block of a number is, if it is there. A place where it is likely to be
-    /// is looked at first.
+    /// Where the block of a number is, if it is there. A place where it is likely to be is looked
+    /// at first.
     fn find_near(&self, number: i64, near: usize) -> Option<usize>
-        ensures { IfSome result (IsPlaceOf number self.now.blocks.items) }
+        ensures { IfSome result (IsPlaceOf number (all_blocks self.now)) }
     {
         if self.is_at(number, near) {
             return Some(near);
@@ -148,11 +204,11 @@ impl Blocks {
         self.find(number).ok()
     }
 
-    /// Whether the block of a number is at a place of the list.
+    /// Whether the block of a number is at a place.
     fn is_at(&self, number: i64, at: usize) -> bool
-        ensures { IsTrue result → IsPlaceOf number self.now.blocks.items at }
+        ensures { IsTrue result → IsPlaceOf number (all_blocks self.now) at }
     {
-        match self.blocks.get(at) {
+        match self.nth(at) {
             Some((other, _)) => *other == number,
             None => false,
         }
@@ -164,7 +220,8 @@ impl Blocks {
         ensures { IfSome result (λ found. row_at self.now slot ≡ found.0 ∷ []) }
     {
         let at = self.find_near(block_of(slot), near)?;
-        match self.blocks[at].1.row(row_of(slot)) {
+        let (_, block) = self.nth(at)?;
+        match block.row(row_of(slot)) {
             Row::Made(entry) => Some((entry, at)),
             Row::Lent(_) => None,
         }
@@ -174,7 +231,7 @@ impl Blocks {
     fn slots_to_first(&self, slot: i64) -> u128
         ensures { (i : ℕ) → i < result → row_at self.now (slot +ℤ pos i) ≡ [] }
     {
-        let Some((first, _)) = self.blocks.front() else {
+        let Some((first, _)) = self.nth(0) else {
             return 0;
         };
         let ahead = i128::from(*first) * 64 - i128::from(slot);
@@ -203,7 +260,7 @@ impl Blocks {
     /// As `slots_on`, for a slot whose block isn't there: nothing is stored of it either.
     fn missing_on(&self, slot: i64, most: u32) -> u32
         requires some { 1 ≤ most }
-        requires missing { block_at self.now.blocks.items (block_of slot) ≡ None }
+        requires missing { block_at (all_blocks self.now) (block_of slot) ≡ None }
         ensures at_least_one { 1 ≤ result }
         ensures at_most { result ≤ most }
         ensures empty { (i : ℕ) → i < result → row_at self.now (slot +ℤ pos i) ≡ [] }
@@ -238,17 +295,32 @@ impl Blocks {
         ensures room { OnOk result (IsTrue (has_room_at self.new slot origin)) }
         ensures room_suffices { IsTrue (has_room_at self.old slot origin) → IsOk result }
     {
-        let number = block_of(slot);
-        let row = row_of(slot);
-        match self.find(number) {
-            Ok(at) => self.blocks[at].1.make_room(self.alloc, row, origin),
+        match self.find(block_of(slot)) {
+            Ok(at) => self.make_room_at(at, slot, origin),
             Err(at) => self.make_new_room(at, slot, origin),
+        }
+    }
+
+    /// `make_room`, in the block at a place.
+    fn make_room_at(&mut self, at: usize, slot: i64, origin: Origin) -> Result<(), AllocError>
+        requires { IsPlaceOf (block_of slot) (all_blocks self.old) at }
+        ensures same { row_at self.new ≡ row_at self.old }
+        ensures room { OnOk result (IsTrue (has_room_at self.new slot origin)) }
+        ensures room_suffices { IsTrue (has_room_at self.old slot origin) → IsOk result }
+    {
+        let row = row_of(slot);
+        if at < self.older.len() {
+            return self.older[at].1.make_room(self.alloc, row, origin);
+        }
+        match &mut self.newest {
+            Some((_, block)) => block.make_room(self.alloc, row, origin),
+            None => Ok(()),
         }
     }
 
     /// `make_room`, in a block that isn't there.
     fn make_new_room(&mut self, at: usize, slot: i64, origin: Origin) -> Result<(), AllocError>
-        requires { IsGapFor (block_of slot) self.old.blocks.items at }
+        requires { IsGapFor (block_of slot) (all_blocks self.old) at }
         ensures same { row_at self.new ≡ row_at self.old }
         ensures room { OnOk result (IsTrue (has_room_at self.new slot origin)) }
         ensures room_suffices { IsTrue (has_room_at self.old slot origin) → IsOk result }
@@ -274,11 +346,35 @@ impl Blocks {
         ensures unchanged { OnErr result (row_at self.new ≡ row_at self.old) }
         ensures room { IsTrue (has_room_at self.old slot origin) → IsOk result }
     {
-        let number = block_of(slot);
-        let row = row_of(slot);
-        match self.find(number) {
-            Ok(at) => self.blocks[at].1.change(self.alloc, row, origin, change),
+        match self.find(block_of(slot)) {
+            Ok(at) => self.change_at(at, slot, origin, change),
             Err(at) => self.change_new(at, slot, origin, change),
+        }
+    }
+
+    /// `change`, in the block at a place.
+    fn change_at(
+        &mut self,
+        at: usize,
+        slot: i64,
+        origin: Origin,
+        change: &Change,
+    ) -> Result<(), AllocError>
+        requires place { IsPlaceOf (block_of slot) (all_blocks self.old) at }
+        requires fits { Fits (entry_at (row_at self.old slot) origin) change.now }
+        ensures changed { OnOk result (IsSlotSet slot
+            (entry_after (row_at self.old slot) origin change.now) (row_at self.old)
+            (row_at self.new)) }
+        ensures unchanged { OnErr result (row_at self.new ≡ row_at self.old) }
+        ensures room { IsTrue (has_room_at self.old slot origin) → IsOk result }
+    {
+        let row = row_of(slot);
+        if at < self.older.len() {
+            return self.older[at].1.change(self.alloc, row, origin, change);
+        }
+        match &mut self.newest {
+            Some((_, block)) => block.change(self.alloc, row, origin, change),
+            None => Ok(()),
         }
     }
 
@@ -290,7 +386,7 @@ impl Blocks {
         origin: Origin,
         change: &Change,
     ) -> Result<(), AllocError>
-        requires gap { IsGapFor (block_of slot) self.old.blocks.items at }
+        requires gap { IsGapFor (block_of slot) (all_blocks self.old) at }
         requires fits { Fits (entry_at (row_at self.old slot) origin) change.now }
         ensures changed { OnOk result (IsSlotSet slot
             (entry_after (row_at self.old slot) origin change.now) (row_at self.old) (row_at self.new)) }
@@ -306,9 +402,9 @@ impl Blocks {
 
     /// Whether the first block is before that of a number.
     fn starts_before(&self, number: i64) -> bool
-        ensures { result ≡ starts_before number self.now.blocks.items }
+        ensures { result ≡ starts_before number (all_blocks self.now) }
     {
-        match self.blocks.front() {
+        match self.nth(0) {
             Some((first, _)) => *first < number,
             None => false,
         }
@@ -316,9 +412,12 @@ impl Blocks {
 
     /// Takes the first block out.
     fn drop_first(&mut self)
-        ensures { self.new.blocks.items ≡ drop 1 self.old.blocks.items }
+        ensures { all_blocks self.new ≡ drop 1 (all_blocks self.old) }
     {
-        let _block = self.blocks.pop_front();
+        match self.older.pop_front() {
+            Some(_block) => (),
+            None => self.newest = None,
+        }
     }
 
     /// Takes the blocks out whose slots are all before this one.
@@ -332,20 +431,20 @@ impl Blocks {
         }
     }
 
-    /// Makes a block ready to be shared. Answers whether it did.
+    /// Makes an older block ready to be shared. Answers whether it did.
     fn finish_at(&mut self, at: usize) -> bool
-        requires { at < length self.old.blocks.items }
+        requires { at < length self.old.older.items }
         ensures same { row_at self.new ≡ row_at self.old }
-        ensures count { length self.new.blocks.items ≡ length self.old.blocks.items }
+        ensures count { length self.new.older.items ≡ length self.old.older.items }
     {
-        self.blocks[at].1.finish(self.alloc)
+        self.older[at].1.finish(self.alloc)
     }
 
-    /// Makes the blocks before the last one ready to be shared, from it back to one that was.
+    /// Makes the older blocks ready to be shared, from the last one back to one that was.
     pub(crate) fn finish(&mut self)
         ensures { row_at self.new ≡ row_at self.old }
     {
-        let mut at = self.blocks.len().saturating_sub(1);
+        let mut at = self.older.len();
         while at > 0 {
             at -= 1;
             if !self.finish_at(at) {
@@ -354,28 +453,27 @@ impl Blocks {
         }
     }
 
-    /// Shares the block of the same number of another list in place of one here, if both hold the
-    /// same rows. Answers whether it did.
+    /// Shares the block of the same number of other blocks in place of an older one here, if both
+    /// hold the same rows. Answers whether it did.
     fn share_at(&mut self, at: usize, other: &Blocks) -> bool
-        requires { at < length self.old.blocks.items }
+        requires { at < length self.old.older.items }
         ensures same { row_at self.new ≡ row_at self.old }
-        ensures count { length self.new.blocks.items ≡ length self.old.blocks.items }
+        ensures count { length self.new.older.items ≡ length self.old.older.items }
     {
-        if self.blocks[at].1.is_shared() {
+        if self.older[at].1.is_shared() {
             return false;
         }
-        match other.get(self.blocks[at].0) {
-            Some(theirs) => self.blocks[at].1.share(theirs),
+        match other.get(self.older[at].0) {
+            Some(theirs) => self.older[at].1.share(theirs),
             None => false,
         }
     }
 
-    /// Shares the blocks before the last one with another list, from it back to one that was
-    /// shared.
+    /// Shares the older blocks with other blocks, from the last one back to one that was shared.
     pub(crate) fn share(&mut self, other: &Blocks)
         ensures { row_at self.new ≡ row_at self.old }
     {
-        let mut at = self.blocks.len().saturating_sub(1);
+        let mut at = self.older.len();
         while at > 0 {
             at -= 1;
             if !self.share_at(at, other) {
@@ -384,14 +482,29 @@ impl Blocks {
         }
     }
 
+    /// The newest block with its number, as `copy` has it.
+    fn copy_newest(&self, alloc: Global) -> Result<Option<(i64, HeldBlock)>, AllocError>
+        ensures { IfOk result (λ new. map stored (option_to_list new)
+            ≡ map stored (option_to_list self.now.newest)) }
+    {
+        match &self.newest {
+            Some((number, block)) => Ok(Some((*number, block.copy(alloc)?))),
+            None => Ok(None),
+        }
+    }
+
     /// The same rows, in blocks that are shared where they were.
     pub(crate) fn copy(&self, alloc: Global) -> Result<Blocks, AllocError>
         ensures { IfOk result (λ new. row_at new ≡ row_at self.now) }
     {
-        let mut blocks = VecDeque::with_capacity(alloc, self.blocks.len())?;
-        for (number, block) in &self.blocks {
-            blocks.push_back((*number, block.copy(alloc)?))?;
+        let mut older = VecDeque::with_capacity(alloc, self.older.len())?;
+        for (number, block) in &self.older {
+            older.push_back((*number, block.copy(alloc)?))?;
         }
-        Ok(Blocks { alloc, blocks })
+        Ok(Blocks {
+            alloc,
+            older,
+            newest: self.copy_newest(alloc)?,
+        })
     }
 }

@@ -1,8 +1,9 @@
 //! One archive of one series, packed: a row of one sample takes no more memory than its sample.
 //!
 //! A [`PackedArchive`] holds the same cells as a `PlainArchive` or a `RingArchive`, and is seen as
-//! the same map. Its rows are kept in blocks of 64 slots that follow one another, in a list in
-//! order of their numbers; a row that no sample came to takes nothing.
+//! the same map. Its rows are kept in blocks of 64 slots that follow one another: the newest in
+//! place, the older ones in a list in order of their numbers. A row that no sample came to takes
+//! nothing.
 //!
 //! ```text
 //! a slot ── its block's number ──> a block ── a bit of its masks ──> a reading, or the entries

@@ -21,10 +21,11 @@ use std::alloc::{AllocError, Global};
 
 /// The cells of one archive of one series, packed: 24 bytes for a row of one sample, and none for a
 /// row that no sample came to. 64 rows that follow one another are a block, which takes 88 bytes
-/// beside them. The list of blocks takes memory for 1, 2, 4, 8 .. of these, that of a block's rows for
-/// 1, 4, 16, 64.
+/// beside them. The newest block is held in place: a series with few rows takes no list of blocks.
+/// That of the older ones takes memory for 1, 2, 4, 8 .. blocks, that of a block's rows for 1, 4, 16,
+/// 64.
 ///
-/// `ready`, `put` and `join_cell` find the newest block in one step and another in a time that is
+/// `ready`, `put` and `join_cell` find the newest block in one step, and another in a time that is
 /// logarithmic in the blocks; they are linear in the entries of the row, in the rows of its block
 /// that are after it, and in the blocks that are past the horizon then. One that makes a block of
 /// an earlier slot moves the blocks before it, or those after it if these are fewer.
@@ -33,7 +34,7 @@ use std::alloc::{AllocError, Global};
 /// for entries where a block has none. A row of one sample that is to be changed is held as its
 /// entries from then on, 112 bytes for the first of them.
 ///
-/// `finish_rows` looks at the block before the last one, and gives back the memory that its lists
+/// `finish_rows` looks at the block before the newest, and gives back the memory that its lists
 /// don't need unless it was finished; `share_rows` compares it with the other archive's. Both go on
 /// with the blocks before it until one was shared. A change of a shared block copies it first.
 ///

@@ -1,8 +1,22 @@
-use Rattle.std.proofs.Common.{sym, subst}
-use Rattle.rr_packed.proofs.NumberLemmas.{Ascend, ascend_rest}
+use Rattle.std.proofs.Common.{[], ◌++◌, drop, sym, ap, ◌∙◌, subst}
+use Rattle.std.specs.Option.{option_to_list}
+use Rattle.std.proofs.lemmas.List.{append-nil}
+use Rattle.rr_packed.specs.Blocks.{all_blocks}
+use Rattle.rr_packed.proofs.NumberLemmas.{Ascend, ascend_front, ascend_rest}
 use Rattle.rr_packed.proofs.blocks.Blocks.drop_first.Goals as goal
 
 pub invariant_of-self : goal.invariant_of-self
 invariant_of-self c =
     let a = c.args.self.now in
-    record { ordered = subst Ascend (sym c.pop_front-block.ensures.rest) (ascend_rest a.blocks.items a.ordered) }
+    record {
+      ordered = subst Ascend (ap (λ l. drop 1 (l ++ option_to_list a.newest)) c.in-Some.ensures.items)
+          (ascend_rest (all_blocks a) a.ordered);
+    }
+
+pub invariant_of-self-in-None : goal.invariant_of-self-in-None
+invariant_of-self-in-None c =
+    let a = c.args.self.now in
+    record {
+      ordered = subst Ascend (sym (append-nil a.older.items) ∙ ap (λ l. l ++ []) c.in-None.ensures.items)
+          (ascend_front a.older.items (option_to_list a.newest) a.ordered);
+    }

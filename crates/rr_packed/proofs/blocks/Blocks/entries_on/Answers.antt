@@ -1,13 +1,13 @@
 use Rattle.std.proofs.Common.{rules, ◌≡◌, ◌<◌, ◌+◌, pos, ◌+ℤ◌, sym, ap, ◌∙◌, Some, None, arith, to_z, of_z, w64}
 use Rattle.rr_packed.specs.Slots.{block_of, row_of}
-use Rattle.rr_packed.specs.Blocks.{stored_in, row_at, items_of_block, block_at}
+use Rattle.rr_packed.specs.Blocks.{all_blocks, stored_in, row_at, items_of_block, block_at}
 use Rattle.rr_packed.proofs.BlocksLemmas.{slots_after}
 use Rattle.rr_packed.proofs.CountLemmas.{in_all_alike, in_all_empty}
 use Rattle.rr_packed.proofs.blocks.Blocks.entries_on.Goals as goal
 
 pub missing_on-requires-clause-missing : goal.missing_on-requires-clause-missing
 missing_on-requires-clause-missing c =
-    let bs = c.args.self.now.blocks.items in
+    let bs = all_blocks c.args.self.now in
     let slot : to_z w64 (of_z w64 c.args.slot) ≡ c.args.slot = search rules in
     let number : to_z w64 (of_z w64 c.block_of-number.result) ≡ block_of c.args.slot = search rules in
     let none : None ≡ block_at bs (block_of c.args.slot) = rw number at c.in-None.ensures.value in
@@ -15,7 +15,7 @@ missing_on-requires-clause-missing c =
 
 pub returns-in-Some-clause-counted : goal.returns-in-Some-clause-counted
 returns-in-Some-clause-counted c =
-    let bs = c.args.self.now.blocks.items in
+    let bs = all_blocks c.args.self.now in
     let b = c.in-Some.block.now in
     let number : to_z w64 (of_z w64 c.block_of-number.result) ≡ block_of c.args.slot = search rules in
     let row : c.row_of-row.result ≡ row_of c.args.slot = search rules in

@@ -1,32 +1,69 @@
-use Rattle.std.proofs.Common.{rules, ◌≡◌, insert, ap, ◌∙◌, subst, sym}
-use Rattle.std.proofs.lemmas.Map.{lookup-insert, none_passes_from_lookup}
-use Rattle.std.specs.BTreeMap.{is_at}
-use Rattle.std.specs.Cmp.{int_cmp_total, eq_by_cmp_equiv}
-use Rattle.std.specs.Ordering.{int_cmp}
-use Rattle.rr_packed.specs.Blocks.{block_at}
-use Rattle.rr_packed.proofs.NumberLemmas.{Ascend, ascend_with, gap_within}
+use Rattle.std.proofs.Common.{rules, ◌≡◌, ◌≤◌, ◌<◌, [], ◌∷◌, ◌++◌, insert, length, sym, ap, ◌∙◌, subst, to_z, of_z, w64}
+use Rattle.std.specs.Option.{option_to_list}
+use Rattle.std.proofs.lemmas.List.{append-nil}
+use Rattle.std.proofs.lemmas.Result.{on_ok_weaker, on_err_weaker}
+use Rattle.rr_packed.specs.Blocks.{all_blocks, IsBlockSet, IsGapFor}
+use Rattle.rr_packed.proofs.NumberLemmas.{Ascend, older_added, newest_added}
+use Rattle.rr_packed.proofs.BlocksLemmas.{either}
 use Rattle.rr_packed.proofs.blocks.Blocks.insert.Goals as goal
 
-pub insert-requires : goal.insert-requires
-insert-requires c =
-    let bs = c.args.self.now.blocks.items in
-    let within = gap_within bs c.args.number c.args.at c.requires in
-    search rules
+-- ---- before the newest
 
-pub invariant_of-self-2 : goal.invariant_of-self-2
-invariant_of-self-2 c =
-    let bs = c.args.self.now.blocks.items in
-    let n = c.args.number in
-    let items : c.insert.new.self.items ≡ insert bs c.args.at (n, c.args.block) = search rules in
+pub invariant_of-self : goal.invariant_of-self
+invariant_of-self c =
+    let p = c.make_place.new.self in
+    let number : to_z w64 (of_z w64 c.args.number) ≡ c.args.number = search rules in
+    let gap = subst (λ bs. IsGapFor c.args.number bs c.args.at) (sym c.make_place.ensures.same) c.requires in
+    let before : c.args.at < length (all_blocks c.args.self.now) = search rules in
+    let within = subst (λ bs. c.args.at < length bs) (sym c.make_place.ensures.same) before in
+    let added = older_added p.older.items p.newest c.args.number c.args.at c.args.block p.ordered gap within in
     record {
-      ordered = subst Ascend (sym (items ∙ ap (λ i. insert bs i (n, c.args.block)) c.requires.1))
-          (ascend_with n c.args.block bs c.args.self.now.ordered c.requires.0);
+      ordered = either c.insert.result
+          (on_ok_weaker c.insert.result (λ items. subst (λ l. Ascend (l ++ option_to_list p.newest))
+          (sym (items ∙ ap (λ n. insert p.older.items c.args.at (n, c.args.block)) number)) added.ascend)
+          c.insert.ensures.items)
+          (on_err_weaker c.insert.result (λ same. subst (λ l. Ascend (l ++ option_to_list p.newest)) (sym same.0)
+          p.ordered) c.insert.ensures.unchanged);
     }
 
-pub returns-clause-added : goal.returns-clause-added
-returns-clause-added c = λ q.
-    let bs = c.args.self.now.blocks.items in
+pub returns-in_ok-insert-clause-added : goal.returns-in_ok-insert-clause-added
+returns-in_ok-insert-clause-added c =
+    let p = c.make_place.new.self in
     let n = c.args.number in
-    let items : c.insert.new.self.items ≡ insert bs c.args.at (n, c.args.block) = search rules in
-    ap (λ l. block_at l q) items ∙ lookup-insert (eq_by_cmp_equiv int_cmp_total) n c.args.block q bs c.args.at
-    (none_passes_from_lookup (is_at (int_cmp n)) bs c.requires.0)
+    let gap = subst (λ bs. IsGapFor n bs c.args.at) (sym c.make_place.ensures.same) c.requires in
+    let before : c.args.at < length (all_blocks c.args.self.now) = search rules in
+    let within = subst (λ bs. c.args.at < length bs) (sym c.make_place.ensures.same) before in
+    let added = older_added p.older.items p.newest n c.args.at c.args.block p.ordered gap within in
+    let items : c.insert.new.self.items ≡ insert p.older.items c.args.at (n, c.args.block) = search rules in
+    subst (λ old. IsBlockSet n c.args.block old (c.insert.new.self.items ++ option_to_list p.newest))
+    c.make_place.ensures.same (subst (λ l. IsBlockSet n c.args.block (all_blocks p) (l ++ option_to_list p.newest))
+    (sym items) added.sets)
+
+-- ---- as the newest
+
+pub invariant_of-self-else-is_some : goal.invariant_of-self-else-is_some
+invariant_of-self-else-is_some c =
+    let r = c.retire.new.self in
+    let bs = all_blocks c.args.self.now in
+    let number : to_z w64 (of_z w64 c.args.number) ≡ c.args.number = search rules in
+    let past : length bs ≤ c.args.at = search rules in
+    let older : bs ≡ r.older.items = sym c.retire.ensures.same
+    ∙ ap (λ o. r.older.items ++ option_to_list o) c.in_ok-retire.ensures.none ∙ append-nil r.older.items in
+    record {
+      ordered = subst (λ l. Ascend (l ++ (to_z w64 (of_z w64 c.args.number), c.args.block) ∷ [])) older
+          (subst (λ n. Ascend (bs ++ (n, c.args.block) ∷ [])) (sym number)
+          (newest_added bs c.args.number c.args.at c.args.block c.args.self.now.ordered c.requires past).ascend);
+    }
+
+pub returns-in_ok-retire-clause-added : goal.returns-in_ok-retire-clause-added
+returns-in_ok-retire-clause-added c =
+    let r = c.retire.new.self in
+    let bs = all_blocks c.args.self.now in
+    let number : to_z w64 (of_z w64 c.args.number) ≡ c.args.number = search rules in
+    let past : length bs ≤ c.args.at = search rules in
+    let older : bs ≡ r.older.items = sym c.retire.ensures.same
+    ∙ ap (λ o. r.older.items ++ option_to_list o) c.in_ok-retire.ensures.none ∙ append-nil r.older.items in
+    subst (λ l. IsBlockSet c.args.number c.args.block bs
+    (l ++ (to_z w64 (of_z w64 c.args.number), c.args.block) ∷ [])) older
+    (subst (λ n. IsBlockSet c.args.number c.args.block bs (bs ++ (n, c.args.block) ∷ [])) (sym number)
+    (newest_added bs c.args.number c.args.at c.args.block c.args.self.now.ordered c.requires past).sets)

@@ -1,27 +1,27 @@
 use Rattle.std.proofs.Common.{rules, ◌≡◌, sym, ap, ◌∙◌, to_z, of_z, w64}
 use Rattle.std.proofs.lemmas.Result.{on_ok_weaker, on_err_weaker}
 use Rattle.rr_packed.specs.Slots.{block_of, row_of}
-use Rattle.rr_packed.specs.Blocks.{items_by_slot, IsGapFor}
+use Rattle.rr_packed.specs.Blocks.{all_blocks, items_by_slot, IsGapFor}
 use Rattle.rr_packed.proofs.BlocksLemmas.{either, blocks_added, room_missing, room_at}
 use Rattle.rr_packed.proofs.blocks.Blocks.make_new_room.Goals as goal
 
 pub returns-in_err-make_room-clause-room_suffices : goal.returns-in_err-make_room-clause-room_suffices
 returns-in_err-make_room-clause-room_suffices c = λ room.
     let number : to_z w64 (of_z w64 c.block_of-number.result) ≡ block_of c.args.slot = search rules in
-    let gap : IsGapFor (block_of c.args.slot) c.args.self.now.blocks.items c.args.at =
+    let gap : IsGapFor (block_of c.args.slot) (all_blocks c.args.self.now) c.args.at =
     c.requires in
     absurd (room_missing c.args.self.now c.args.slot c.args.origin (sym gap.0) room)
 
 pub returns-clause-room_suffices : goal.returns-clause-room_suffices
 returns-clause-room_suffices c = λ room.
     let number : to_z w64 (of_z w64 c.block_of-number.result) ≡ block_of c.args.slot = search rules in
-    let gap : IsGapFor (block_of c.args.slot) c.args.self.now.blocks.items c.args.at =
+    let gap : IsGapFor (block_of c.args.slot) (all_blocks c.args.self.now) c.args.at =
     c.requires in
     absurd (room_missing c.args.self.now c.args.slot c.args.origin (sym gap.0) room)
 
 pub returns-clause-same : goal.returns-clause-same
 returns-clause-same c =
-    let old = c.args.self.now.blocks.items in
+    let old = all_blocks c.args.self.now in
     let number : to_z w64 (of_z w64 c.block_of-number.result) ≡ block_of c.args.slot = search rules in
     let gap : IsGapFor (block_of c.args.slot) old c.args.at = c.requires in
     either c.insert.result
@@ -32,7 +32,7 @@ returns-clause-same c =
 
 pub returns-clause-room : goal.returns-clause-room
 returns-clause-room c =
-    let old = c.args.self.now.blocks.items in
+    let old = all_blocks c.args.self.now in
     let number : to_z w64 (of_z w64 c.block_of-number.result) ≡ block_of c.args.slot = search rules in
     let row : c.row_of-row.result ≡ row_of c.args.slot = search rules in
     on_ok_weaker c.insert.result (λ added. room_at old c.insert.new.self c.args.slot c.args.origin

@@ -1,11 +1,12 @@
 use Rattle.std.proofs.Common.{rules, ◌≡◌, ◌-◌, max, min, sym, arith, to_z, of_z, w64}
 use Rattle.rr_packed.specs.Slots.{row_of}
+use Rattle.rr_packed.specs.Blocks.{all_blocks}
 use Rattle.rr_packed.proofs.BlocksLemmas.{none_on}
 use Rattle.rr_packed.proofs.blocks.Blocks.missing_on.Goals as goal
 
 pub returns-clause-empty : goal.returns-clause-empty
 returns-clause-empty c = λ i h.
-    let bs = c.args.self.now.blocks.items in
+    let bs = all_blocks c.args.self.now in
     let row : c.row_of.result ≡ row_of c.args.slot = search rules in
     let is : c.max.result ≡ max (min c.args.most (64 - c.row_of.result)) (min c.slots_to_first.result c.args.most) =
     search rules in

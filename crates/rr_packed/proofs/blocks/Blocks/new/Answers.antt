@@ -1,4 +1,4 @@
-use Rattle.std.proofs.Common.{rules, ◌≡◌, [], ap, sym, subst, ◌∙◌, refl}
+use Rattle.std.proofs.Common.{rules, ◌≡◌, [], ◌++◌, ap, sym, subst, ◌∙◌, refl}
 use Rattle.std.specs.List.Sorted.{IsStrictlySortedBy}
 use Rattle.std.specs.Map.{keys_of}
 use Rattle.std.specs.Ordering.{int_cmp}
@@ -10,9 +10,9 @@ pub invariant_of-result : goal.invariant_of-result
 unfolding IsStrictlySortedBy
 invariant_of-result c =
     let none : c.new.result.items ≡ [] = search rules in
-    record { ordered = subst (λ es. IsStrictlySortedBy int_cmp (keys_of es)) (sym none) tt }
+    record { ordered = subst (λ es. IsStrictlySortedBy int_cmp (keys_of (es ++ []))) (sym none) tt }
 
 pub returns : goal.returns
 returns c = λ slot.
     let none : c.new.result.items ≡ [] = search rules in
-    ap (λ es. items_by_slot es slot) none ∙ slot_missing [] slot refl
+    ap (λ es. items_by_slot (es ++ []) slot) none ∙ slot_missing [] slot refl

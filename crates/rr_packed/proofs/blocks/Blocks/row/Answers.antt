@@ -1,12 +1,12 @@
 use Rattle.std.proofs.Common.{rules, ◌≡◌, sym, ap, ◌∙◌, Some, None, to_z, of_z, w64}
 use Rattle.rr_packed.specs.Slots.{block_of, row_of}
-use Rattle.rr_packed.specs.Blocks.{stored_in, block_at}
+use Rattle.rr_packed.specs.Blocks.{all_blocks, stored_in, block_at}
 use Rattle.rr_packed.proofs.BlocksLemmas.{slot_found, slot_missing}
 use Rattle.rr_packed.proofs.blocks.Blocks.row.Goals as goal
 
 pub returns-in-Some : goal.returns-in-Some
 returns-in-Some c =
-    let blocks = c.args.self.now.blocks.items in
+    let blocks = all_blocks c.args.self.now in
     let slot : to_z w64 (of_z w64 c.args.slot) ≡ c.args.slot = search rules in
     let number : to_z w64 (of_z w64 c.block_of-number.result) ≡ block_of c.args.slot = search rules in
     let row : c.row_of.result ≡ row_of c.args.slot = search rules in
@@ -16,7 +16,7 @@ returns-in-Some c =
 
 pub returns-in-None : goal.returns-in-None
 returns-in-None c =
-    let blocks = c.args.self.now.blocks.items in
+    let blocks = all_blocks c.args.self.now in
     let number : to_z w64 (of_z w64 c.block_of-number.result) ≡ block_of c.args.slot = search rules in
     let none : None ≡ block_at blocks (block_of c.args.slot) = rw number at c.in-None.ensures.value in
     sym (slot_missing blocks c.args.slot none)

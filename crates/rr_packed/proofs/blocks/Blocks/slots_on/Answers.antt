@@ -1,12 +1,12 @@
 use Rattle.std.proofs.Common.{rules, ◌≡◌, ◌<◌, ◌+◌, sym, ap, ◌∙◌, Some, None, arith, to_z, of_z, w64}
 use Rattle.rr_packed.specs.Slots.{block_of, row_of}
-use Rattle.rr_packed.specs.Blocks.{items_of_block, block_at}
+use Rattle.rr_packed.specs.Blocks.{all_blocks, items_of_block, block_at}
 use Rattle.rr_packed.proofs.BlocksLemmas.{slots_after}
 use Rattle.rr_packed.proofs.blocks.Blocks.slots_on.Goals as goal
 
 pub returns-in-Some-clause-empty : goal.returns-in-Some-clause-empty
 returns-in-Some-clause-empty c = λ i some h.
-    let blocks = c.args.self.now.blocks.items in
+    let blocks = all_blocks c.args.self.now in
     let number : to_z w64 (of_z w64 c.block_of-number.result) ≡ block_of c.args.slot = search rules in
     let row : c.row_of.result ≡ row_of c.args.slot = search rules in
     let has : Some c.in-Some.block.now ≡ block_at blocks (block_of c.args.slot) =
@@ -18,7 +18,7 @@ returns-in-Some-clause-empty c = λ i some h.
 
 pub missing_on-requires-clause-missing : goal.missing_on-requires-clause-missing
 missing_on-requires-clause-missing c =
-    let bs = c.args.self.now.blocks.items in
+    let bs = all_blocks c.args.self.now in
     let slot : to_z w64 (of_z w64 c.args.slot) ≡ c.args.slot = search rules in
     let number : to_z w64 (of_z w64 c.block_of-number.result) ≡ block_of c.args.slot = search rules in
     let none : None ≡ block_at bs (block_of c.args.slot) = rw number at c.in-None.ensures.value in

@@ -1,0 +1,87 @@
+use Rattle.std.proofs.Common.{rules, ◌≡◌, ◌<◌, ◌≤◌, length, sym, ap, ◌∙◌}
+use Rattle.std.specs.Option.{option_to_list}
+use Rattle.std.proofs.lemmas.Result.{on_ok_weaker}
+use Rattle.rr_packed.specs.Slots.{block_of, row_of}
+use Rattle.rr_packed.specs.Blocks.{all_blocks, items_of_block}
+use Rattle.rr_packed.proofs.NumberLemmas.{older_put, newest_put, none_past}
+use Rattle.rr_packed.proofs.BlocksLemmas.{blocks_alike, room_found, room_at}
+use Rattle.rr_packed.proofs.blocks.Blocks.make_room_at.Goals as goal
+
+-- ---- an older block
+
+pub invariant_of-self : goal.invariant_of-self
+invariant_of-self c =
+    let a = c.args.self.now in
+    let within : c.args.at < length a.older.items = search rules in
+    record {
+      ordered = (older_put a.older.items (option_to_list a.newest) (block_of c.args.slot) c.args.at
+          c.index_mut.result.now c.make_room.new.self a.ordered c.requires within c.index_mut.ensures.value).ascend;
+    }
+
+pub returns-then-at-len-clause-same : goal.returns-then-at-len-clause-same
+returns-then-at-len-clause-same c =
+    let a = c.args.self.now in
+    let within : c.args.at < length a.older.items = search rules in
+    let put = older_put a.older.items (option_to_list a.newest) (block_of c.args.slot) c.args.at
+    c.index_mut.result.now c.make_room.new.self a.ordered c.requires within c.index_mut.ensures.value in
+    blocks_alike (all_blocks a) _ (block_of c.args.slot) c.make_room.new.self put.sets
+    (c.make_room.ensures.same ∙ ap items_of_block (sym put.has))
+
+pub returns-then-at-len-clause-room : goal.returns-then-at-len-clause-room
+returns-then-at-len-clause-room c =
+    let a = c.args.self.now in
+    let row : c.row_of-row.result ≡ row_of c.args.slot = search rules in
+    let within : c.args.at < length a.older.items = search rules in
+    let put = older_put a.older.items (option_to_list a.newest) (block_of c.args.slot) c.args.at
+    c.index_mut.result.now c.make_room.new.self a.ordered c.requires within c.index_mut.ensures.value in
+    on_ok_weaker c.make_room.result (room_at (all_blocks a) _ c.args.slot c.args.origin c.make_room.new.self put.sets)
+    (rw row at c.make_room.ensures.room)
+
+pub returns-then-at-len-clause-room_suffices : goal.returns-then-at-len-clause-room_suffices
+returns-then-at-len-clause-room_suffices c = λ room.
+    let a = c.args.self.now in
+    let row : c.row_of-row.result ≡ row_of c.args.slot = search rules in
+    let within : c.args.at < length a.older.items = search rules in
+    let put = older_put a.older.items (option_to_list a.newest) (block_of c.args.slot) c.args.at
+    c.index_mut.result.now c.make_room.new.self a.ordered c.requires within c.index_mut.ensures.value in
+    (rw row at c.make_room.ensures.room_suffices) (room_found a c.args.slot c.args.origin c.index_mut.result.now.1
+    (sym put.has) room)
+
+-- ---- the newest
+
+pub returns-in-Some-clause-same : goal.returns-in-Some-clause-same
+returns-in-Some-clause-same c =
+    let a = c.args.self.now in
+    let past : length a.older.items ≤ c.args.at = search rules in
+    let put = newest_put a.older.items a.newest (block_of c.args.slot) c.args.at (c.in-Some.field-0-0, c.in-Some.block)
+    c.make_room-in-Some.new.self c.in-Some.is a.ordered c.requires past in
+    blocks_alike (all_blocks a) _ (block_of c.args.slot) c.make_room-in-Some.new.self put.sets
+    (c.make_room-in-Some.ensures.same ∙ ap items_of_block (sym put.has))
+
+pub returns-in-Some-clause-room : goal.returns-in-Some-clause-room
+returns-in-Some-clause-room c =
+    let a = c.args.self.now in
+    let row : c.row_of-row.result ≡ row_of c.args.slot = search rules in
+    let past : length a.older.items ≤ c.args.at = search rules in
+    let put = newest_put a.older.items a.newest (block_of c.args.slot) c.args.at (c.in-Some.field-0-0, c.in-Some.block)
+    c.make_room-in-Some.new.self c.in-Some.is a.ordered c.requires past in
+    on_ok_weaker c.make_room-in-Some.result (room_at (all_blocks a) _ c.args.slot c.args.origin
+    c.make_room-in-Some.new.self put.sets) (rw row at c.make_room-in-Some.ensures.room)
+
+pub returns-in-Some-clause-room_suffices : goal.returns-in-Some-clause-room_suffices
+returns-in-Some-clause-room_suffices c = λ room.
+    let a = c.args.self.now in
+    let row : c.row_of-row.result ≡ row_of c.args.slot = search rules in
+    let past : length a.older.items ≤ c.args.at = search rules in
+    let put = newest_put a.older.items a.newest (block_of c.args.slot) c.args.at (c.in-Some.field-0-0, c.in-Some.block)
+    c.make_room-in-Some.new.self c.in-Some.is a.ordered c.requires past in
+    (rw row at c.make_room-in-Some.ensures.room_suffices) (room_found a c.args.slot c.args.origin c.in-Some.block
+    (sym put.has) room)
+
+-- ---- none
+
+pub returns-in-None-clause-room : goal.returns-in-None-clause-room
+returns-in-None-clause-room c =
+    let a = c.args.self.now in
+    let past : length a.older.items ≤ c.args.at = search rules in
+    absurd (none_past a.older.items a.newest (block_of c.args.slot) c.args.at c.in-None.is c.requires past)
