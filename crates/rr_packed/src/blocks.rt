@@ -23,11 +23,15 @@ use std::collections::VecDeque;
 /// The newest block, which most samples are of, is held in place: it is found without a look at
 /// the list of the older ones, and a series with few rows takes no list. The list takes memory for
 /// 1, 2, 4, 8 .. blocks.
+///
+/// The number that the blocks were last dropped before is kept, so that the first of them is looked
+/// at again only when a later one is asked for: once in 64 slots.
 #[derive(Drop)]
 pub(crate) struct Blocks {
     alloc: Global,
     older: VecDeque<(i64, HeldBlock)>,
     newest: Option<(i64, HeldBlock)>,
+    dropped: i64,
     ghost ordered: { IsStrictlySortedBy int_cmp
         (keys_of (older.items ++ option_to_list newest)) } by { Prim.hlevel props },
 }
@@ -61,6 +65,7 @@ impl Blocks {
             alloc,
             older: VecDeque::new(alloc),
             newest: None,
+            dropped: i64::MIN,
         }
     }
 
@@ -426,9 +431,13 @@ impl Blocks {
             ⊎ ((row_at self.new s ≡ []) × IsTrue (int_lt s slot)) }
     {
         let number = block_of(slot);
+        if number <= self.dropped {
+            return;
+        }
         while self.starts_before(number) {
             self.drop_first();
         }
+        self.dropped = number;
     }
 
     /// Makes an older block ready to be shared. Answers whether it did.
@@ -505,6 +514,7 @@ impl Blocks {
             alloc,
             older,
             newest: self.copy_newest(alloc)?,
+            dropped: self.dropped,
         })
     }
 }
