@@ -288,7 +288,7 @@ newest_put older newest n at was b some up place past = subst
         (sym (ap (λ i. get_or (older ++ was ∷ []) i was) last ∙ get_or-append_seam older was [] was))
         (ap (λ i. set (older ++ was ∷ []) i (was.0, b)) last ∙ set-append_seam older was [] (was.0, b))
 
--- no place is past the older ones if there is no newest
+-- if there is no newest block, each place is one of the older ones
 pub none_past : (older : List (ℤ × HeldBlock)) (newest : Option (ℤ × HeldBlock)) (n : ℤ) (at : ℕ) → newest ≡ None
     → IsPlaceOf n (older ++ option_to_list newest) at → length older ≤ at → ⊥
 none_past older newest n at none place past =

@@ -28,23 +28,23 @@ use std::collections::VecDeque;
 /// at again only when a later one is asked for: once in 64 slots.
 #[derive(Drop)]
 pub(crate) struct Blocks {
-    alloc: Global,
-    older: VecDeque<(i64, HeldBlock)>,
-    newest: Option<(i64, HeldBlock)>,
-    dropped: i64,
+    pub(crate) alloc: Global,
+    pub(crate) older: VecDeque<(i64, HeldBlock)>,
+    pub(crate) newest: Option<(i64, HeldBlock)>,
+    pub(crate) dropped: i64,
     ghost ordered: { IsStrictlySortedBy int_cmp
         (keys_of (older.items ++ option_to_list newest)) } by { Prim.hlevel props },
 }
 
 /// The number of the block of a slot.
-fn block_of(slot: i64) -> i64
+pub(crate) fn block_of(slot: i64) -> i64
     ensures { result ≡ block_of slot }
 {
     slot.div_euclid(64)
 }
 
 /// The number of the row of a slot in its block.
-fn row_of(slot: i64) -> u32
+pub(crate) fn row_of(slot: i64) -> u32
     ensures row { result ≡ row_of slot }
     ensures within { result < 64 }
 {
@@ -55,7 +55,7 @@ impl Blocks {
     ghost use Rattle.rr_archive.specs.Row.{entry_at};
     ghost use Rattle.rr_archive.specs.Changes.{Fits, entry_after};
     ghost use Rattle.rr_packed.specs.Readings.{entries_of};
-    ghost use Rattle.rr_packed.specs.Blocks.{all_blocks, stored, block_at, count_before, row_at, has_room_at, starts_before, entries_in_all, IsPlaceOf, IsGapFor, IsBlockSet, IsSlotSet};
+    ghost use Rattle.rr_packed.specs.Blocks.{all_blocks, block_at, count_before, row_at, has_room_at, starts_before, IsPlaceOf, IsGapFor, IsBlockSet, IsSlotSet};
 
     /// No blocks. It takes no memory yet.
     pub(crate) fn new(alloc: Global) -> Blocks
@@ -70,7 +70,7 @@ impl Blocks {
     }
 
     /// The block at a place, with its number: the older ones come first, then the newest.
-    fn nth(&self, at: usize) -> Option<&(i64, HeldBlock)>
+    pub(crate) fn nth(&self, at: usize) -> Option<&(i64, HeldBlock)>
         ensures variant { IsSome result ↔ (at < length (all_blocks self.now)) }
         ensures lookup { IfSome result
             (λ x. x.now ≡ slice_index_or (all_blocks self.now) at x.now) }
@@ -131,7 +131,7 @@ impl Blocks {
     }
 
     /// The block of a number, if it is there.
-    fn get(&self, number: i64) -> Option<&HeldBlock>
+    pub(crate) fn get(&self, number: i64) -> Option<&HeldBlock>
         ensures value { option_copied result ≡ block_at (all_blocks self.now) number }
     {
         match self.find(number) {
@@ -229,68 +229,6 @@ impl Blocks {
         match block.row(row_of(slot)) {
             Row::Made(entry) => Some((entry, at)),
             Row::Lent(_) => None,
-        }
-    }
-
-    /// How many slots on from one the first block begins; 0 if it began before.
-    fn slots_to_first(&self, slot: i64) -> u128
-        ensures { (i : ℕ) → i < result → row_at self.now (slot +ℤ pos i) ≡ [] }
-    {
-        let Some((first, _)) = self.nth(0) else {
-            return 0;
-        };
-        let ahead = i128::from(*first) * 64 - i128::from(slot);
-        if ahead <= 0 {
-            return 0;
-        }
-        ahead as u128
-    }
-
-    /// How many slots on from one the next is to look at, at most `most`: nothing is stored of
-    /// those between. What is before the first block, and a block that isn't there, is passed over
-    /// in one step.
-    pub(crate) fn slots_on(&self, slot: i64, most: u32) -> u32
-        requires { 1 ≤ most }
-        ensures at_least_one { 1 ≤ result }
-        ensures at_most { result ≤ most }
-        ensures empty { (i : ℕ) → 1 ≤ i → i < result → row_at self.now (slot +ℤ pos i) ≡ [] }
-    {
-        let number = block_of(slot);
-        match self.get(number) {
-            Some(block) => most.min(block.rows_on(row_of(slot))),
-            None => self.missing_on(slot, most),
-        }
-    }
-
-    /// As `slots_on`, for a slot whose block isn't there: nothing is stored of it either.
-    fn missing_on(&self, slot: i64, most: u32) -> u32
-        requires some { 1 ≤ most }
-        requires missing { block_at (all_blocks self.now) (block_of slot) ≡ None }
-        ensures at_least_one { 1 ≤ result }
-        ensures at_most { result ≤ most }
-        ensures empty { (i : ℕ) → i < result → row_at self.now (slot +ℤ pos i) ≡ [] }
-    {
-        let to_first = self.slots_to_first(slot).min(u128::from(most)) as u32;
-        most.min(64 - row_of(slot)).max(to_first)
-    }
-
-    /// How many slots from one on are looked at in one step, at most `most`, and how many entries
-    /// are stored of them in all. A step ends with its block, or passes over slots as `slots_on`.
-    pub(crate) fn entries_on(&self, slot: i64, most: u32) -> (u32, usize)
-        requires some { 1 ≤ most }
-        ensures at_least_one { 1 ≤ result.0 }
-        ensures at_most { result.0 ≤ most }
-        ensures counted { result.1
-            ≡ entries_in_all (λ i. row_at self.now (slot +ℤ pos i)) result.0 }
-    {
-        let number = block_of(slot);
-        let row = row_of(slot);
-        match self.get(number) {
-            Some(block) => {
-                let on = most.min(64 - row);
-                (on, block.entries_on(row, on))
-            }
-            None => (self.missing_on(slot, most), 0),
         }
     }
 
@@ -438,83 +376,5 @@ impl Blocks {
             self.drop_first();
         }
         self.dropped = number;
-    }
-
-    /// Makes an older block ready to be shared. Answers whether it did.
-    fn finish_at(&mut self, at: usize) -> bool
-        requires { at < length self.old.older.items }
-        ensures same { row_at self.new ≡ row_at self.old }
-        ensures count { length self.new.older.items ≡ length self.old.older.items }
-    {
-        self.older[at].1.finish(self.alloc)
-    }
-
-    /// Makes the older blocks ready to be shared, from the last one back to one that was.
-    pub(crate) fn finish(&mut self)
-        ensures { row_at self.new ≡ row_at self.old }
-    {
-        let mut at = self.older.len();
-        while at > 0 {
-            at -= 1;
-            if !self.finish_at(at) {
-                return;
-            }
-        }
-    }
-
-    /// Shares the block of the same number of other blocks in place of an older one here, if both
-    /// hold the same rows. Answers whether it did.
-    fn share_at(&mut self, at: usize, other: &Blocks) -> bool
-        requires { at < length self.old.older.items }
-        ensures same { row_at self.new ≡ row_at self.old }
-        ensures count { length self.new.older.items ≡ length self.old.older.items }
-    {
-        if self.older[at].1.is_shared() {
-            return false;
-        }
-        match other.get(self.older[at].0) {
-            Some(theirs) => self.older[at].1.share(theirs),
-            None => false,
-        }
-    }
-
-    /// Shares the older blocks with other blocks, from the last one back to one that was shared.
-    pub(crate) fn share(&mut self, other: &Blocks)
-        ensures { row_at self.new ≡ row_at self.old }
-    {
-        let mut at = self.older.len();
-        while at > 0 {
-            at -= 1;
-            if !self.share_at(at, other) {
-                return;
-            }
-        }
-    }
-
-    /// The newest block with its number, as `copy` has it.
-    fn copy_newest(&self, alloc: Global) -> Result<Option<(i64, HeldBlock)>, AllocError>
-        ensures { IfOk result (λ new. map stored (option_to_list new)
-            ≡ map stored (option_to_list self.now.newest)) }
-    {
-        match &self.newest {
-            Some((number, block)) => Ok(Some((*number, block.copy(alloc)?))),
-            None => Ok(None),
-        }
-    }
-
-    /// The same rows, in blocks that are shared where they were.
-    pub(crate) fn copy(&self, alloc: Global) -> Result<Blocks, AllocError>
-        ensures { IfOk result (λ new. row_at new ≡ row_at self.now) }
-    {
-        let mut older = VecDeque::with_capacity(alloc, self.older.len())?;
-        for (number, block) in &self.older {
-            older.push_back((*number, block.copy(alloc)?))?;
-        }
-        Ok(Blocks {
-            alloc,
-            older,
-            newest: self.copy_newest(alloc)?,
-            dropped: self.dropped,
-        })
     }
 }

@@ -27,6 +27,8 @@ mod mask;
 mod packed_archive;
 mod reading;
 mod row;
+mod sharing;
 mod sparse;
+mod walking;
 
 pub use packed_archive::PackedArchive;

@@ -23,7 +23,7 @@ pub(crate) struct Signals {
 }
 
 impl Signals {
-    /// Those of so many threads, with no flag raised.
+    /// The signals of a node with so many threads. No flag is raised.
     fn new(alloc: Global, threads: usize) -> Result<Signals, AllocError> {
         Ok(Signals {
             halt: HaltFlag::new(alloc)?,

@@ -10,7 +10,7 @@ use Rattle.rr_packed.proofs.CountLemmas.{in_block, count_read, read_alone, len}
 use Rattle.rr_packed.proofs.block.Block.entries_on.Goals as goal
 use Rattle.rr_packed.proofs.block.Block.entries_on.Goals.{in-Some, in-None}
 
--- the lists are no more than the rows
+-- there are no more lists of entries than rows
 few_lists : (b : Block) (n m : ℕ) → n + m ≤ 64
     → length (slice_range b.rows.items.items (rank b.rows.mask n) (rank b.rows.mask (n + m))) ≤ 64
 few_lists b n m le =

@@ -1,0 +1,70 @@
+//! Walks over the slots of blocks, which pass over those that store nothing.
+ghost use Rattle.std.specs.Prelude.{◌≡◌, ◌<◌, ◌≤◌, ◌+ℤ◌, ℕ, pos, None, []};
+ghost use Rattle.rr_packed.specs.Blocks.{all_blocks, block_at, entries_in_all, row_at};
+ghost use Rattle.rr_packed.specs.Slots.{block_of};
+
+use crate::blocks::{Blocks, block_of, row_of};
+
+impl Blocks {
+    /// How many slots on from one the first block begins; 0 if it began before.
+    fn slots_to_first(&self, slot: i64) -> u128
+        ensures { (i : ℕ) → i < result → row_at self.now (slot +ℤ pos i) ≡ [] }
+    {
+        let Some((first, _)) = self.nth(0) else {
+            return 0;
+        };
+        let ahead = i128::from(*first) * 64 - i128::from(slot);
+        if ahead <= 0 {
+            return 0;
+        }
+        ahead as u128
+    }
+
+    /// How many slots on from one the next is to look at, at most `most`: nothing is stored of
+    /// those between. What is before the first block, and a block that isn't there, is passed over
+    /// in one step.
+    pub(crate) fn slots_on(&self, slot: i64, most: u32) -> u32
+        requires { 1 ≤ most }
+        ensures at_least_one { 1 ≤ result }
+        ensures at_most { result ≤ most }
+        ensures empty { (i : ℕ) → 1 ≤ i → i < result → row_at self.now (slot +ℤ pos i) ≡ [] }
+    {
+        let number = block_of(slot);
+        match self.get(number) {
+            Some(block) => most.min(block.rows_on(row_of(slot))),
+            None => self.missing_on(slot, most),
+        }
+    }
+
+    /// As `slots_on`, for a slot whose block isn't there: nothing is stored of it either.
+    fn missing_on(&self, slot: i64, most: u32) -> u32
+        requires some { 1 ≤ most }
+        requires missing { block_at (all_blocks self.now) (block_of slot) ≡ None }
+        ensures at_least_one { 1 ≤ result }
+        ensures at_most { result ≤ most }
+        ensures empty { (i : ℕ) → i < result → row_at self.now (slot +ℤ pos i) ≡ [] }
+    {
+        let to_first = self.slots_to_first(slot).min(u128::from(most)) as u32;
+        most.min(64 - row_of(slot)).max(to_first)
+    }
+
+    /// How many slots from one on are looked at in one step, at most `most`, and how many entries
+    /// are stored of them in all. A step ends with its block, or passes over slots as `slots_on`.
+    pub(crate) fn entries_on(&self, slot: i64, most: u32) -> (u32, usize)
+        requires some { 1 ≤ most }
+        ensures at_least_one { 1 ≤ result.0 }
+        ensures at_most { result.0 ≤ most }
+        ensures counted { result.1
+            ≡ entries_in_all (λ i. row_at self.now (slot +ℤ pos i)) result.0 }
+    {
+        let number = block_of(slot);
+        let row = row_of(slot);
+        match self.get(number) {
+            Some(block) => {
+                let on = most.min(64 - row);
+                (on, block.entries_on(row, on))
+            }
+            None => (self.missing_on(slot, most), 0),
+        }
+    }
+}
