@@ -22,10 +22,10 @@ use Rattle.rr_replica.proofs.Each.{found_at, slice_get-set_same, slice_get-set_o
 use Rattle.rr_replica.proofs.Shown.{there}
 use Rattle.rr_replica.proofs.SeriesLemmas.{bytes_cmp-IsAntisymmetric}
 
-is_same : (a b : List ℕ) → is_at (bytes_cmp a) b ≡ true → a ≡ b
+pub is_same : (a b : List ℕ) → is_at (bytes_cmp a) b ≡ true → a ≡ b
 is_same a b t = same_from_tie nat_list_cmp_total bytes_cmp-IsAntisymmetric a b t
 
-is_itself : (a : List ℕ) → is_at (bytes_cmp a) a ≡ true
+pub is_itself : (a : List ℕ) → is_at (bytes_cmp a) a ≡ true
 is_itself a = tie_itself nat_list_cmp_total bytes_cmp-IsAntisymmetric a
 
 -- what keys are equal to
@@ -57,6 +57,19 @@ key_found keys indices all key was i at is = ap (λ o. unwrap_or o was)
     (ap (λ k. Some k) is ∙ sym (slice_get-get_or keys i was (key_within keys indices all key i at))
     ∙ key_at keys indices all key i (sym at))
 
+-- the same, where the index is known to be within
+pub key_numbered : (keys : List (List ℕ)) (indices : List (List ℕ × ℕ))
+    → AllByRecursion (λ e. slice_get keys e.1 ≡ Some e.0) indices → (key : List ℕ) (i : ℕ)
+    → Some i ≡ index_of indices key → get_or keys i [] ≡ key
+key_numbered keys indices all key i at = ap (λ o. unwrap_or o key)
+    (sym (slice_get-get_or keys i [] (key_within keys indices all key i at)) ∙ key_at keys indices all key i (sym at))
+
+-- the key at an index, whatever stands for one that is past the last
+pub same_number : (keys : List (List ℕ)) (i : ℕ) (key : List ℕ) → i < length keys → key ≡ get_or keys i key
+    → key ≡ get_or keys i []
+same_number keys i key within is = ap (λ o. unwrap_or o key)
+    (ap (λ k. Some k) is ∙ (sym (slice_get-get_or keys i key within) ∙ slice_get-get_or keys i [] within))
+
 -- ---- a key more
 
 all_weaker : (keys : List (List ℕ)) (key : List ℕ) (es : List (List ℕ × ℕ))
@@ -76,7 +89,7 @@ all_with P (e ∷ es) key n all here = elim (bytes_cmp key e.0) as
       | Greater ↦ λ t. (all.0, all_with P es key n all.1 here)
     ] refl
 
-at_end : {Y : Type 0} (xs : List Y) (n : ℕ) (y : Y) → n ≡ length xs → slice_get (xs ++ y ∷ []) n ≡ Some y
+pub at_end : {Y : Type 0} (xs : List Y) (n : ℕ) (y : Y) → n ≡ length xs → slice_get (xs ++ y ∷ []) n ≡ Some y
 at_end xs n y e = ap (slice_get (xs ++ y ∷ [])) (e ∙ plus_none (length xs)) ∙ get_append xs (y ∷ []) 0
   where
     plus_none : (m : ℕ) → m ≡ m + 0
@@ -115,6 +128,10 @@ module _ {X : Type 0} where
 
   module _ {keys : List (List ℕ)} {indices : List (List ℕ × ℕ)} {archives : List (Vec X)}
       (is : IsIndexed keys indices archives) where
+    -- the key with a number has it as its index
+    pub number_found : (i : ℕ) → i < length keys → Some i ≡ index_of indices (get_or keys i [])
+    number_found i within = sym (is.found i (get_or keys i []) (slice_get-get_or keys i [] within))
+
     pub entries_ordered : IsStrictlySortedBy bytes_cmp (keys_of (entries_at indices archives))
     entries_ordered = subst (IsStrictlySortedBy bytes_cmp) (sym (keys_at keys indices archives is.there is.many))
         is.ordered

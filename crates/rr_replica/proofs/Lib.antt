@@ -14,6 +14,7 @@ pub mod JoinedCell
 pub mod JoinedMap
 pub mod Lending
 pub mod IndexedLemmas
+pub mod NumberedLemmas
 pub mod WalkLemmas
 pub mod KnownKey
 pub mod CopyingLemmas

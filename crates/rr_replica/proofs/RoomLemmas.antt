@@ -183,9 +183,9 @@ module _ {X : Type 0} (is_ready : X → CellSlot → Bool) where
   -- ---- room for an operation
 
   module _ (cells : X → ArchiveCells) (limit : X → ℕ) (s : Layout) (is : IsLayout s) (origin next : ℕ)
-      (entries : List (List ℕ × Vec X)) (sized : AreAllSized limit s entries) where
+      (keys : List (List ℕ)) (entries : List (List ℕ × Vec X)) (sized : AreAllSized limit s entries) where
     -- the archives have the room that is told
-    pub room_there : (op : Op) → HasRoomFor (replica_with_room cells is_ready s origin next entries) op
+    pub room_there : (op : Op) → HasRoomFor (replica_with_room cells is_ready s origin next keys entries) op
         → HasRoom is_ready s op entries
     room_there (Put x) h =
         let first = h 0 is.some_archive in
@@ -208,7 +208,7 @@ module _ {X : Type 0} (is_ready : X → CellSlot → Bool) where
 
     -- and what they have is told
     pub room_told : (op : Op) → IsOpOf s op → IsOrigin (origin_of op) → HasRoom is_ready s op entries
-        → HasRoomFor (replica_with_room cells is_ready s origin next entries) op
+        → HasRoomFor (replica_with_room cells is_ready s origin next keys entries) op
     room_told (Put x) fits number h = λ i within.
         let many = sized_many limit s h.0.items (sized x.key h.0 h.1) in
         let a = there h.0.items i (omega arith) in

@@ -3,6 +3,7 @@ pub mod Listing
 pub mod Joining
 pub mod Archives
 pub mod Indexed
+pub mod Numbered
 pub mod SeriesMap
 pub mod InMemory
 pub mod ReplicaWithRoom

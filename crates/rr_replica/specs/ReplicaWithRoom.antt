@@ -52,15 +52,16 @@ all_cell_slots = cell_slots_within MAX_SECOND MAX_ORIGIN
 
 -- ---- replicas with their room
 
--- the state of a replica, and where it has room
+-- the state of a replica, its keys in the order in which they came, and where it has room
 pub record ReplicaWithRoom : Type 0 where
   pub schema : Layout
   pub origin : ℕ
   pub next : ℕ
   pub cells : Cells
+  pub keys : List (List ℕ)
   pub room : Room
 
--- its state, whatever the room
+-- its state, whatever the order of the keys and the room
 abbrev pub replica_state : ReplicaWithRoom → ReplicaState
 replica_state r = record { schema = r.schema; origin = r.origin; next = r.next; cells = r.cells }
 
@@ -84,13 +85,14 @@ module _ {X : Type 0} where
   abbrev pub room_in : (X → CellSlot → Bool) → List (List ℕ × Vec X) → Room
   room_in is_ready entries = map (λ e. (e.0, map (λ a. filter (is_ready a) all_cell_slots) e.1.items)) entries
 
-  abbrev pub replica_with_room : (X → ArchiveCells) → (X → CellSlot → Bool) → Layout → ℕ → ℕ → List (List ℕ × Vec X)
-      → ReplicaWithRoom
-  replica_with_room cells is_ready schema origin next entries = record {
+  abbrev pub replica_with_room : (X → ArchiveCells) → (X → CellSlot → Bool) → Layout → ℕ → ℕ → List (List ℕ)
+      → List (List ℕ × Vec X) → ReplicaWithRoom
+  replica_with_room cells is_ready schema origin next keys entries = record {
     schema = schema;
     origin = origin;
     next = next;
     cells = cells_of (held_series cells entries);
+    keys = keys;
     room = room_in is_ready entries;
   }
 
@@ -100,7 +102,15 @@ abbrev pub coded_room : Coded Room
 coded_room = coded_list (coded× (coded_list coded_ℕ) (coded_list (coded_list coded_cell_slot)))
 
 abbrev pub coded_replica_with_room : Coded ReplicaWithRoom
-coded_replica_with_room = code_by (Layout × (ℕ × (ℕ × (Cells × Room))))
-    (coded× coded_layout (coded× coded_ℕ (coded× coded_ℕ (coded× (fin.code coded_name coded_contribution) coded_room))))
-    (λ r. (r.schema, (r.origin, (r.next, (r.cells, r.room)))))
-    (λ p. record { schema = p.0; origin = p.1.0; next = p.1.1.0; cells = p.1.1.1.0; room = p.1.1.1.1 }) (λ _. refl)
+coded_replica_with_room = code_by (Layout × (ℕ × (ℕ × (Cells × (List (List ℕ) × Room)))))
+    (coded× coded_layout (coded× coded_ℕ (coded× coded_ℕ (coded× (fin.code coded_name coded_contribution)
+    (coded× (coded_list (coded_list coded_ℕ)) coded_room)))))
+    (λ r. (r.schema, (r.origin, (r.next, (r.cells, (r.keys, r.room))))))
+    (λ p. record {
+      schema = p.0;
+      origin = p.1.0;
+      next = p.1.1.0;
+      cells = p.1.1.1.0;
+      keys = p.1.1.1.1.0;
+      room = p.1.1.1.1.1;
+    }) (λ _. refl)

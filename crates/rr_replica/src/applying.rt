@@ -1,11 +1,12 @@
 //! Operations, applied to a replica.
-ghost use Rattle.std.specs.Prelude.{◌≡◌, IsTrue, IfOk, IsOk, OnOk, OnErr};
+ghost use Rattle.std.specs.Prelude.{◌≡◌, true, fold, slice_get, Some, IsTrue, IfOk, IsOk, OnOk, OnErr};
 ghost use Rattle.rr_replica.specs.Archives.{IsOpOf};
-ghost use Rattle.rr_cells.specs.Operations.{accepts, step};
+ghost use Rattle.rr_cells.specs.Operations.{accepts, key_of, step};
 ghost use Rattle.rr_cells.specs.declared.op.Op.TheVariants.{Join, Put};
+ghost use Rattle.std.specs.List.{AllByRecursion};
+ghost use Rattle.rr_replica.specs.Numbered.{knows, puts_at};
 ghost use Rattle.rr_replica.specs.ReplicaWithRoom.{replica_state, IsReadyFor};
 
-use crate::hint::Hint;
 use crate::reading::Reading;
 use crate::replica::Replica;
 use rr_archive::Cells;
@@ -39,6 +40,40 @@ impl<A: Cells> Replica<A> {
             && sample.number <= MAX_NUMBER
     }
 
+    /// Puts a sample of the replica's own origin as [`Replica::apply`] takes the operation that puts
+    /// it, where its series is told by a number: they are counted from 0 in the order in which their
+    /// keys came. No key is looked for. Where there is no such series nothing changes.
+    pub fn put_numbered(
+        &mut self,
+        series: usize,
+        number: u64,
+        time: i64,
+        value: i64,
+    ) -> Result<(), AllocError>
+        ensures put { OnOk result (replica_state self.new ≡ fold step (replica_state self.old)
+            (puts_at self.old.keys self.old.origin series number time value)) }
+        ensures unchanged { OnErr result (replica_state self.new ≡ replica_state self.old) }
+        ensures keys { self.new.keys ≡ self.old.keys }
+        ensures room { AllByRecursion (IsReadyFor self.old)
+            (puts_at self.old.keys self.old.origin series number time value) → IsOk result }
+    {
+        // The proof needs what the replica keeps to, which `schema` ensures.
+        let _schema = self.schema();
+        if number < self.next_number() || number > MAX_NUMBER {
+            return Ok(());
+        }
+        if series >= self.series.keys.len() {
+            return Ok(());
+        }
+        let reading = Reading {
+            origin: self.origin(),
+            number,
+            time,
+            value,
+        };
+        self.put_reading_at(series, reading)
+    }
+
     /// Takes an operation whole: a sample is put under its number, and the next one comes after it;
     /// a cell is joined as [`Replica::join_cell`] does. The answer is whether it is taken.
     ///
@@ -53,27 +88,14 @@ impl<A: Cells> Replica<A> {
         ensures unchanged { OnErr result (replica_state self.new ≡ replica_state self.old) }
         ensures room { IsReadyFor self.old op.now → IsOk result }
     {
-        self.apply_near(Hint::none(), op)
-    }
-
-    /// Takes an operation as [`Replica::apply`] does, with a hint where its series is, which spares
-    /// the look-up of the key.
-    pub fn apply_near(&mut self, hint: Hint, op: &Op) -> Result<bool, AllocError>
-        ensures accepted { IfOk result (λ done. done ≡ accepts (replica_state self.old) op.now) }
-        ensures applied { OnOk result (replica_state self.new
-            ≡ step (replica_state self.old) op.now) }
-        ensures unchanged { OnErr result (replica_state self.new ≡ replica_state self.old) }
-        ensures room { IsReadyFor self.old op.now → IsOk result }
-    {
         match op {
-            Op::Put(sample) => self.apply_sample(hint, sample),
+            Op::Put(sample) => self.apply_sample(sample),
             Op::Join(cell) => self.apply_cell(cell),
         }
     }
 
-    /// Takes a sample as [`Replica::apply`] takes the operation that puts it, with a hint where its
-    /// series is.
-    pub fn apply_sample(&mut self, hint: Hint, sample: &Sample) -> Result<bool, AllocError>
+    /// Takes a sample as [`Replica::apply`] takes the operation that puts it.
+    fn apply_sample(&mut self, sample: &Sample) -> Result<bool, AllocError>
         ensures accepted { IfOk result (λ done. done
             ≡ accepts (replica_state self.old) (Put sample.now)) }
         ensures applied { OnOk result (replica_state self.new
@@ -90,8 +112,30 @@ impl<A: Cells> Replica<A> {
             time: sample.time,
             value: sample.value,
         };
-        self.put_reading(hint, &sample.key, reading)?;
+        self.put_reading(&sample.key, reading)?;
         Ok(true)
+    }
+
+    /// Takes an operation whose series is told by a number, as [`Replica::apply`] takes one that it
+    /// takes.
+    pub fn apply_numbered(&mut self, series: usize, op: &Op) -> Result<(), AllocError>
+        requires accepted { accepts (replica_state self.old) op.now ≡ true }
+        requires key { slice_get self.old.keys series ≡ Some (key_of op.now) }
+        ensures applied { OnOk result (replica_state self.new
+            ≡ step (replica_state self.old) op.now) }
+        ensures unchanged { OnErr result (replica_state self.new ≡ replica_state self.old) }
+        ensures keys { self.new.keys ≡ self.old.keys }
+        ensures room { IsReadyFor self.old op.now → IsOk result }
+    {
+        match op {
+            Op::Put(sample) => {
+                self.put_numbered(series, sample.number, sample.time, sample.value)
+            }
+            Op::Join(cell) => {
+                self.apply_cell(cell)?;
+                Ok(())
+            }
+        }
     }
 
     /// Takes a cell as [`Replica::apply`] takes the operation that joins it.
@@ -102,6 +146,7 @@ impl<A: Cells> Replica<A> {
             ≡ step (replica_state self.old) (Join cell.now)) }
         ensures unchanged { OnErr result (replica_state self.new ≡ replica_state self.old) }
         ensures room { IsReadyFor self.old (Join cell.now) → IsOk result }
+        ensures keys { knows self.old.keys cell.now.key ≡ true → self.new.keys ≡ self.old.keys }
     {
         if !cell.is_of(self.schema()) {
             return Ok(false);

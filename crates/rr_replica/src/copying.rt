@@ -24,7 +24,8 @@ pub(crate) fn copy_series<A: Cells>(
     alloc: Global,
     series: &SeriesMap<A>,
 ) -> Result<SeriesMap<A>, AllocError>
-    ensures { IfOk result (λ new. (key : List ℕ)
+    ensures keys { IfOk result (λ new. new.keys.items ≡ series.now.keys.items) }
+    ensures archives { IfOk result (λ new. (key : List ℕ)
         → seen_at A.cells A.row_limit (entries_of new) key
         ≡ seen_at A.cells A.row_limit (entries_of series.now) key) }
 {

@@ -1,5 +1,5 @@
 //! Cells from elsewhere, joined into the archives of their keys.
-ghost use Rattle.std.specs.Prelude.{◌≡◌, ◌≤◌, IsOk, OnOk, OnErr};
+ghost use Rattle.std.specs.Prelude.{◌≡◌, ◌≤◌, true, IsOk, OnOk, OnErr};
 ghost use Rattle.rr_schema.specs.Schema.{IsLayout};
 ghost use Rattle.rr_text.specs.declared.limits.TheConstants.{MAX_NUMBER};
 ghost use Rattle.rr_cells.specs.Cells.{IsTrimmed};
@@ -8,6 +8,7 @@ ghost use Rattle.rr_cells.specs.CellBounds.{IsCellOf};
 ghost use Rattle.rr_cells.specs.Joining.{next_after};
 ghost use Rattle.rr_replica.specs.InMemory.{held_series, HasRoom, AreAllSized};
 ghost use Rattle.rr_cells.specs.Listing.{owned_cell};
+ghost use Rattle.rr_replica.specs.Numbered.{knows};
 ghost use Rattle.rr_replica.specs.Series.{cells_of};
 ghost use Rattle.rr_replica.specs.SeriesMap.{entries_of};
 
@@ -37,6 +38,8 @@ pub(crate) fn join_in<A: Cells>(
     ensures sized { AreAllSized A.row_limit schema.now (entries_of series.new) }
     ensures room { HasRoom A.is_ready schema.now (Op.Join cell.now) (entries_of series.old)
         → IsOk result }
+    ensures keys { knows series.old.keys.items cell.now.key ≡ true
+        → series.new.keys.items ≡ series.old.keys.items }
 {
     match series.find(&cell.key) {
         Some(index) => join_into(&mut series.archives[index], schema, cell),

@@ -1,5 +1,6 @@
 //! A replica of the store.
-ghost use Rattle.std.specs.Prelude.{◌≡◌, ℕ, ◌<◌, ◌≤◌, ◌↔◌, All, length, None, Err, IfOk, IfErr, IsOk, OnOk, OnErr, MatchOption};
+ghost use Rattle.std.specs.Prelude.{◌≡◌, ℕ, ◌<◌, ◌≤◌, ◌↔◌, All, [], length, take, get_or, slice_get, true, false, None, Some, Err, IfOk, IfErr, IsOk, OnOk, OnErr, MatchOption};
+ghost use mathlib.Core.List.{IsPrefix};
 ghost use Rattle.std.specs.FinMap as fin;
 ghost use Rattle.rr_key.specs.Making.{making_fault};
 ghost use Rattle.rr_point.specs.Key.{names_of, key_text};
@@ -7,6 +8,8 @@ ghost use Rattle.rr_point.specs.Point.{point_view};
 ghost use Rattle.rr_cells.specs.CellBounds.{IsCellOf};
 ghost use Rattle.rr_cells.specs.Cells.{row_at, archive_cells};
 ghost use Rattle.rr_cells.specs.ReplicaState.{with_sample, with_put, IsReplicaState};
+ghost use Rattle.rr_cells.specs.Operations.{accepts, key_of};
+ghost use Rattle.rr_replica.specs.Numbered.{knows, with_key};
 ghost use Rattle.rr_replica.specs.InMemory.{sample_of_reading, keyed_sample};
 ghost use Rattle.rr_cells.specs.Listing.{owned_cell};
 ghost use Rattle.rr_replica.specs.ReplicaWithRoom.{replica_state, HasRoomFor, IsReadyFor};
@@ -16,9 +19,9 @@ use crate::copying::copy_series;
 use crate::fault::{JoinFault, PutFault};
 use crate::hint::Hint;
 use crate::joining::{join_in, next_after};
-use crate::putting::put_in;
+use crate::putting::{put_at, put_in};
 use crate::reading::Reading;
-use crate::room::make_room_in;
+use crate::room::{add_key_in, make_room_in};
 use crate::series::SeriesMap;
 use rr_archive::{Archive, Cells, Entry};
 use rr_cells::{Cell, Op};
@@ -55,7 +58,7 @@ impl<A: Cells> Model for Replica<A> {
 
     ghost coded = { coded_replica_with_room };
 
-    ghost view = { λ r. replica_with_room A.cells A.is_ready r.schema r.origin r.next (entries_of r.series) };
+    ghost view = { λ r. replica_with_room A.cells A.is_ready r.schema r.origin r.next r.series.keys.items (entries_of r.series) };
 
     ghost invariant = { λ r. IsReplicaInMemory A.cells A.row_limit r.schema r.origin r.next (entries_of r.series) };
 }
@@ -87,7 +90,8 @@ impl<A: Cells> Replica<A> {
     /// A replica that holds the same, under the same origin and next number; the keys' texts are
     /// shared. The cost is linear in the cells, and in the series times their logarithm.
     pub fn copy(&self, alloc: Global) -> Result<Replica<A>, AllocError>
-        ensures { IfOk result (λ r. replica_state r ≡ replica_state self.now) }
+        ensures state { IfOk result (λ r. replica_state r ≡ replica_state self.now) }
+        ensures keys { IfOk result (λ r. r.keys ≡ self.now.keys) }
     {
         Ok(Replica {
             alloc,
@@ -151,17 +155,12 @@ impl<A: Cells> Replica<A> {
             time,
             value,
         };
-        self.put_reading(Hint::none(), key, sample)?;
+        self.put_reading(key, sample)?;
         Ok(number)
     }
 
     /// Puts a sample of a key under its own number, after which the next one comes.
-    pub(crate) fn put_reading(
-        &mut self,
-        hint: Hint,
-        key: &SeriesKey,
-        sample: Reading,
-    ) -> Result<(), AllocError>
+    pub(crate) fn put_reading(&mut self, key: &SeriesKey, sample: Reading) -> Result<(), AllocError>
         requires origin { sample.origin ≡ self.old.origin }
         requires number { self.old.next ≤ sample.number }
         ensures put { OnOk result (replica_state self.new
@@ -171,15 +170,31 @@ impl<A: Cells> Replica<A> {
             → IsOk result }
     {
         let number = sample.number;
-        put_in(
-            &mut self.series,
-            self.alloc,
-            &self.schema,
-            hint,
-            key,
-            sample,
-        )?;
+        put_in(&mut self.series, self.alloc, &self.schema, key, sample)?;
         self.next = number + 1;
+        Ok(())
+    }
+
+    /// Puts a sample of the series with a number under its own number, after which the next one
+    /// comes.
+    pub(crate) fn put_reading_at(
+        &mut self,
+        series: usize,
+        sample: Reading,
+    ) -> Result<(), AllocError>
+        requires origin { sample.origin ≡ self.old.origin }
+        requires number { self.old.next ≤ sample.number }
+        requires there { series < length self.old.keys }
+        ensures put { OnOk result (replica_state self.new ≡ with_sample (replica_state self.old)
+            (keyed_sample (get_or self.old.keys series []) sample)) }
+        ensures unchanged { OnErr result (replica_state self.new ≡ replica_state self.old) }
+        ensures keys { self.new.keys ≡ self.old.keys }
+        ensures room { HasRoomFor self.old
+            (Op.Put (sample_of_reading (get_or self.old.keys series []) sample)) → IsOk result }
+    {
+        let last = sample.number;
+        put_at(&mut self.series, &self.schema, series, sample)?;
+        self.next = last + 1;
         Ok(())
     }
 
@@ -192,19 +207,58 @@ impl<A: Cells> Replica<A> {
         ensures unchanged { replica_state self.new ≡ replica_state self.old }
         ensures room { OnOk result (IsReadyFor self.new op.now) }
     {
-        self.ready_near(Hint::none(), op)
-    }
-
-    /// Makes room as [`Replica::ready`] does, with a hint where the series of the operation is: if
-    /// that is right, a comparison of two keys takes the place of the look-up.
-    pub fn ready_near(&mut self, hint: Hint, op: &Op) -> Result<(), AllocError>
-        ensures unchanged { replica_state self.new ≡ replica_state self.old }
-        ensures room { OnOk result (IsReadyFor self.new op.now) }
-    {
         if !self.accepts(op) {
             return Ok(());
         }
+        self.ready_series(Hint::none(), op)?;
+        Ok(())
+    }
+
+    /// Makes room as [`Replica::ready`] does for an operation that the replica takes, and answers
+    /// the number of its series: they are counted from 0 in the order in which their keys came. If
+    /// the hint is right, a comparison of two keys takes the place of the look-up.
+    pub fn ready_series(&mut self, hint: Hint, op: &Op) -> Result<usize, AllocError>
+        requires { accepts (replica_state self.old) op.now ≡ true }
+        ensures unchanged { replica_state self.new ≡ replica_state self.old }
+        ensures room { OnOk result (IsReadyFor self.new op.now) }
+        ensures key { IfOk result (λ i. slice_get self.new.keys i ≡ Some (key_of op.now)) }
+        ensures keys_grow { IsPrefix self.old.keys self.new.keys }
+    {
+        // The proof needs what the replica keeps to, which `accepts` ensures.
+        let _accepted = self.accepts(op);
         make_room_in(&mut self.series, self.alloc, &self.schema, hint, op)
+    }
+
+    /// Adds a key without a cell, unless the replica has it. The cost is one look-up of the key.
+    pub fn add_key(&mut self, key: &SeriesKey) -> Result<(), AllocError>
+        ensures unchanged { replica_state self.new ≡ replica_state self.old }
+        ensures added { OnOk result (self.new.keys ≡ with_key self.old.keys key.now) }
+        ensures same_keys { OnErr result (self.new.keys ≡ self.old.keys) }
+    {
+        add_key_in(&mut self.series, self.alloc, &self.schema, key)
+    }
+
+    /// Whether the replica has a key, with or without a cell. The cost is one look-up of the key.
+    pub fn knows(&self, key: &SeriesKey) -> bool
+        ensures { result ≡ knows self.now.keys key.now }
+    {
+        self.series.find(key).is_some()
+    }
+
+    /// How many keys the replica has, with or without a cell.
+    pub fn key_count(&self) -> usize
+        ensures { result ≡ length self.now.keys }
+    {
+        self.series.keys.len()
+    }
+
+    /// The key of the series with a number. None before it is the same.
+    pub fn key_numbered(&self, series: usize) -> &SeriesKey
+        requires { series < length self.now.keys }
+        ensures key { slice_get self.now.keys series ≡ Some result.now }
+        ensures first { knows (take series self.now.keys) result.now ≡ false }
+    {
+        &self.series.keys[series]
     }
 
     /// The key, and where its series is. Of a series that is known the key shares its text with
@@ -307,6 +361,7 @@ impl<A: Cells> Replica<A> {
             ≡ with_cell (replica_state self.old) cell.now) }
         ensures unchanged { OnErr result (replica_state self.new ≡ replica_state self.old) }
         ensures room { HasRoomFor self.old (Op.Join cell.now) → IsOk result }
+        ensures keys { knows self.old.keys cell.now.key ≡ true → self.new.keys ≡ self.old.keys }
     {
         join_in(&mut self.series, self.alloc, &self.schema, cell)?;
         self.next = next_after(self.origin, self.next, cell);

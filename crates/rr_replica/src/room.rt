@@ -1,7 +1,11 @@
 //! Room for operations, made before they are applied.
-ghost use Rattle.std.specs.Prelude.{◌≡◌, OnOk};
+ghost use Rattle.std.specs.Prelude.{◌≡◌, Some, slice_get, IfOk, OnErr, OnOk};
+ghost use mathlib.Core.List.{IsPrefix};
 ghost use Rattle.rr_schema.specs.Schema.{IsLayout};
 ghost use Rattle.rr_replica.specs.Archives.{IsOpOf};
+ghost use Rattle.rr_cells.specs.Operations.{key_of};
+ghost use Rattle.rr_replica.specs.Indexed.{index_of};
+ghost use Rattle.rr_replica.specs.Numbered.{with_key};
 ghost use Rattle.rr_replica.specs.Series.{cells_of};
 ghost use Rattle.rr_replica.specs.SeriesMap.{entries_of};
 ghost use Rattle.rr_replica.specs.InMemory.{held_series, HasRoom, AreAllSized};
@@ -11,18 +15,39 @@ use crate::hint::Hint;
 use crate::series::SeriesMap;
 use rr_archive::Cells;
 use rr_cells::Op;
+use rr_key::SeriesKey;
 use rr_schema::Schema;
 use std::alloc::{AllocError, Global};
 
-/// Makes room for an operation in the archives of its key, which are added where there are none. No
-/// cell changes.
+/// Makes room for an operation in the archives of its key, whose index this is. No cell changes.
+fn make_room_at<A: Cells>(
+    series: &mut SeriesMap<A>,
+    schema: &Schema,
+    index: usize,
+    op: &Op,
+) -> Result<(), AllocError>
+    requires layout { IsLayout schema.now }
+    requires op { IsOpOf schema.now op.now }
+    requires sized { AreAllSized A.row_limit schema.now (entries_of series.old) }
+    requires index { Some index ≡ index_of series.old.indices.entries (key_of op.now) }
+    ensures unchanged { cells_of (held_series A.cells (entries_of series.new))
+        ≡ cells_of (held_series A.cells (entries_of series.old)) }
+    ensures sized { AreAllSized A.row_limit schema.now (entries_of series.new) }
+    ensures room { OnOk result (HasRoom A.is_ready schema.now op.now (entries_of series.new)) }
+    ensures keys { series.new.keys.items ≡ series.old.keys.items }
+{
+    make_room(&mut series.archives[index], schema, op)
+}
+
+/// Makes room for an operation in the archives of its key, which are added where there are none, and
+/// says which series it is. No cell changes.
 pub(crate) fn make_room_in<A: Cells>(
     series: &mut SeriesMap<A>,
     alloc: Global,
     schema: &Schema,
     hint: Hint,
     op: &Op,
-) -> Result<(), AllocError>
+) -> Result<usize, AllocError>
     requires layout { IsLayout schema.now }
     requires op { IsOpOf schema.now op.now }
     requires sized { AreAllSized A.row_limit schema.now (entries_of series.old) }
@@ -30,13 +55,44 @@ pub(crate) fn make_room_in<A: Cells>(
         ≡ cells_of (held_series A.cells (entries_of series.old)) }
     ensures sized { AreAllSized A.row_limit schema.now (entries_of series.new) }
     ensures room { OnOk result (HasRoom A.is_ready schema.now op.now (entries_of series.new)) }
+    ensures key { IfOk result (λ i. slice_get series.new.keys.items i ≡ Some (key_of op.now)) }
+    ensures keys_grow { IsPrefix series.old.keys.items series.new.keys.items }
 {
     let key = op.key();
     match series.find_near(hint, key) {
-        Some(index) => make_room(&mut series.archives[index], schema, op),
+        Some(index) => {
+            make_room_at(series, schema, index, op)?;
+            Ok(index)
+        }
         None => {
             let mut archives = empty_archives(alloc, schema)?;
             make_room(&mut archives, schema, op)?;
+            let index = series.keys.len();
+            series.insert(key, archives)?;
+            Ok(index)
+        }
+    }
+}
+
+/// Adds a key with archives that hold no cell, unless it is known.
+pub(crate) fn add_key_in<A: Cells>(
+    series: &mut SeriesMap<A>,
+    alloc: Global,
+    schema: &Schema,
+    key: &SeriesKey,
+) -> Result<(), AllocError>
+    requires sized { AreAllSized A.row_limit schema.now (entries_of series.old) }
+    ensures unchanged { cells_of (held_series A.cells (entries_of series.new))
+        ≡ cells_of (held_series A.cells (entries_of series.old)) }
+    ensures sized { AreAllSized A.row_limit schema.now (entries_of series.new) }
+    ensures added { OnOk result (series.new.keys.items
+        ≡ with_key series.old.keys.items key.now) }
+    ensures same_keys { OnErr result (series.new.keys.items ≡ series.old.keys.items) }
+{
+    match series.find(key) {
+        Some(_) => Ok(()),
+        None => {
+            let archives = empty_archives(alloc, schema)?;
             series.insert(key, archives)?;
             Ok(())
         }

@@ -133,6 +133,7 @@ impl<A: Drop> SeriesMap<A> {
             ≡ cond (is_at (bytes_cmp key.now) q) (Some archives)
             (archives_of (entries_of self.old) q)) }
         ensures unchanged { OnErr result (entries_of self.new ≡ entries_of self.old) }
+        ensures same_keys { OnErr result (self.new.keys.items ≡ self.old.keys.items) }
     {
         self.keys.reserve(1)?;
         self.archives.reserve(1)?;

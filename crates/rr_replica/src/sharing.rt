@@ -4,7 +4,6 @@ ghost use Rattle.rr_replica.specs.InMemory.{seen_archive, seen_at};
 ghost use Rattle.rr_replica.specs.SeriesMap.{entries_of};
 ghost use Rattle.rr_replica.specs.ReplicaWithRoom.{replica_state};
 
-use crate::hint::Hint;
 use crate::replica::Replica;
 use crate::series::SeriesMap;
 use rr_archive::Cells;
@@ -31,7 +30,8 @@ fn share_archives<A: Cells>(archives: &mut Vec<A>, others: &[A])
 
 /// Makes finished rows of the series at an index ready to be shared, if there is one.
 fn finish_at<A: Cells>(series: &mut SeriesMap<A>, index: usize)
-    ensures { (key : List ℕ)
+    ensures keys { series.new.keys.items ≡ series.old.keys.items }
+    ensures archives { (key : List ℕ)
         → seen_at A.cells A.row_limit (entries_of series.new) key
         ≡ seen_at A.cells A.row_limit (entries_of series.old) key }
 {
@@ -43,7 +43,8 @@ fn finish_at<A: Cells>(series: &mut SeriesMap<A>, index: usize)
 
 /// Shares rows of the series at an index with others at the same index, if both are there.
 fn share_at<A: Cells>(series: &mut SeriesMap<A>, index: usize, others: &SeriesMap<A>)
-    ensures { (key : List ℕ)
+    ensures keys { series.new.keys.items ≡ series.old.keys.items }
+    ensures archives { (key : List ℕ)
         → seen_at A.cells A.row_limit (entries_of series.new) key
         ≡ seen_at A.cells A.row_limit (entries_of series.old) key }
 {
@@ -54,12 +55,13 @@ fn share_at<A: Cells>(series: &mut SeriesMap<A>, index: usize, others: &SeriesMa
 }
 
 impl<A: Cells> Replica<A> {
-    /// Makes finished rows of the series at a hint ready to be shared by other replicas. It changes
+    /// Makes finished rows of the series with a number ready to be shared by other replicas. It changes
     /// nothing that the replica holds. The cost is that of giving back the memory that they don't need.
-    pub fn finish_rows(&mut self, hint: Hint)
-        ensures { replica_state self.new ≡ replica_state self.old }
+    pub fn finish_rows(&mut self, series: usize)
+        ensures unchanged { replica_state self.new ≡ replica_state self.old }
+        ensures keys { self.new.keys ≡ self.old.keys }
     {
-        finish_at(&mut self.series, hint.index);
+        finish_at(&mut self.series, series);
     }
 
     /// Makes finished rows of all series ready to be shared, as [`Replica::finish_rows`] does those of
@@ -69,16 +71,17 @@ impl<A: Cells> Replica<A> {
         ensures { replica_state self.new ≡ replica_state self.old }
     {
         for index in 0..self.series.archives.len() {
-            self.finish_rows(Hint { index });
+            self.finish_rows(index);
         }
     }
 
-    /// Shares the finished rows of the series at a hint with another replica, which has made them
+    /// Shares the finished rows of the series with a number with another replica, which has made them
     /// ready, where both hold the same in them. It changes nothing that the replica holds, whatever
-    /// the hint and the other replica are. The cost is that of comparing these rows.
-    pub fn share_rows(&mut self, hint: Hint, other: &Replica<A>)
-        ensures { replica_state self.new ≡ replica_state self.old }
+    /// the number and the other replica are. The cost is that of comparing these rows.
+    pub fn share_rows(&mut self, series: usize, other: &Replica<A>)
+        ensures unchanged { replica_state self.new ≡ replica_state self.old }
+        ensures keys { self.new.keys ≡ self.old.keys }
     {
-        share_at(&mut self.series, hint.index, &other.series);
+        share_at(&mut self.series, series, &other.series);
     }
 }

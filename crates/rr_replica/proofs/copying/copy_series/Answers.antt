@@ -20,8 +20,8 @@ insert-requires g c =
     not_yet g.A.Cells.cells g.A.Cells.row_limit m.indexed c.loop-i.invariant c.index.result.now
     (found_at m.keys.items c.loop-i.i c.index.result.now within (search rules))
 
-pub returns : goal.returns
-returns g c =
+pub returns-clause-archives : goal.returns-clause-archives
+returns-clause-archives g c =
     let m = c.args.series.now in
     let copies = c.loop-i.copies in
     let past : length m.keys.items ≤ c.loop-i.i = search rules in

@@ -1,4 +1,4 @@
-use Rattle.std.proofs.Common.{◌≡◌, ◌<◌, length, set, Some, None, sym, arith}
+use Rattle.std.proofs.Common.{◌≡◌, ◌<◌, ℕ, List, length, set, Some, None, true≢false, refl, sym, ◌∙◌, arith}
 use Rattle.std.proofs.lemmas.Result.{on_ok_weaker, on_err_weaker}
 use Rattle.rr_cells.specs.declared.op.Op.TheVariants.{Join}
 use Rattle.rr_replica.specs.Indexed.{index_of, entries_at}
@@ -6,6 +6,7 @@ use Rattle.rr_replica.specs.SeriesMap.{entries_of}
 use Rattle.rr_replica.proofs.IndexedLemmas.{index_within, element_found, archives_nowhere, entries_ordered, sets_at, still_indexed, sized_with}
 use Rattle.rr_replica.proofs.Each.{sized_many}
 use Rattle.rr_replica.proofs.JoinedCell.{cells_joined, cells_unchanged, before_found, before_fresh}
+use Rattle.rr_replica.proofs.NumberedLemmas.{unknown}
 use Rattle.rr_replica.proofs.RoomLemmas.{room_found, room_nowhere}
 use Rattle.rr_replica.proofs.joining.join_in.Goals as goal
 
@@ -54,6 +55,7 @@ returns-in-Some g c =
           now sets ordered_before ordered c.requires.live was.items before) c.join_into.ensures.unchanged;
       sized = sized_with limit schema cell.key old new now c.requires.sized sets c.join_into.ensures.of_schema.sized;
       room = λ h. c.join_into.ensures.room (room_found g.A.Cells.is_ready schema (Join cell) old was found h);
+      keys = λ t. refl {A = List (List ℕ)};
     }
 
 pub returns-in_ok-insert-in-None-clause-joined : goal.returns-in_ok-insert-in-None-clause-joined
@@ -100,3 +102,7 @@ returns-in_err-insert-in-None-clause-room g c = λ h.
     let unknown : None ≡ index_of m.indices.entries c.args.cell.now.key = c.in-None.ensures in
     let none = sym (archives_nowhere m.indexed c.args.cell.now.key unknown) in
     absurd (room_nowhere g.A.Cells.is_ready c.args.schema.now (Join c.args.cell.now) (entries_of m) none h)
+
+pub returns-in_ok-insert-in-None-clause-keys : goal.returns-in_ok-insert-in-None-clause-keys
+returns-in_ok-insert-in-None-clause-keys g c = λ t.
+    absurd (true≢false (sym t ∙ unknown c.args.series.now.indexed c.args.cell.now.key c.in-None.ensures))

@@ -13,15 +13,15 @@ invariant_of-result g c =
     let limit = g.A.Cells.row_limit in
     let new = c.in_ok-copy_series.field-0 in
     subst (λ (s : Layout). IsReplicaInMemory cells limit s r.origin r.next (entries_of new))
-    (sym c.in_ok-copy.ensures.same) (held_copied cells limit r.series new c.in_ok-copy_series.ensures r.schema r.origin
+    (sym c.in_ok-copy.ensures.same) (held_copied cells limit r.series new c.in_ok-copy_series.ensures.archives r.schema r.origin
     r.next c.self.invariant)
 
-pub returns : goal.returns
-returns g c =
+pub returns-clause-state : goal.returns-clause-state
+returns-clause-state g c =
     let r = c.self.inside in
     let cells = g.A.Cells.cells in
     let limit = g.A.Cells.row_limit in
     let new = c.in_ok-copy_series.field-0 in
     ap (λ (s : Layout). replica_state_in cells s r.origin r.next (entries_of new)) c.in_ok-copy.ensures.same
-    ∙ same_state cells limit r.series new c.in_ok-copy_series.ensures r.schema r.origin r.next
+    ∙ same_state cells limit r.series new c.in_ok-copy_series.ensures.archives r.schema r.origin r.next
     ∙ ap replica_state c.self.view_is

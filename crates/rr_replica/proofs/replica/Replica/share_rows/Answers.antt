@@ -6,11 +6,11 @@ use Rattle.rr_replica.proofs.replica.Replica.share_rows.Goals as goal
 pub invariant_of-self : goal.invariant_of-self
 invariant_of-self g c =
     let r = c.self.inside in
-    held_copied g.A.Cells.cells g.A.Cells.row_limit r.series c.share_at.new.series c.share_at.ensures r.schema
+    held_copied g.A.Cells.cells g.A.Cells.row_limit r.series c.share_at.new.series c.share_at.ensures.archives r.schema
     r.origin r.next c.self.invariant
 
-pub returns : goal.returns
-returns g c =
+pub returns-clause-unchanged : goal.returns-clause-unchanged
+returns-clause-unchanged g c =
     let r = c.self.inside in
-    same_state g.A.Cells.cells g.A.Cells.row_limit r.series c.share_at.new.series c.share_at.ensures r.schema
+    same_state g.A.Cells.cells g.A.Cells.row_limit r.series c.share_at.new.series c.share_at.ensures.archives r.schema
     r.origin r.next ∙ ap replica_state c.self.view_is

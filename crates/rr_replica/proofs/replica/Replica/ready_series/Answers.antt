@@ -8,7 +8,7 @@ use Rattle.rr_replica.specs.ReplicaWithRoom.{ReplicaWithRoom, replica_state}
 use Rattle.rr_replica.proofs.InMemoryLemmas.{kept_same}
 use Rattle.rr_replica.proofs.IndexedLemmas.{entries_ordered}
 use Rattle.rr_replica.proofs.RoomLemmas.{room_told, taken_origin}
-use Rattle.rr_replica.proofs.replica.Replica.ready_near.Goals as goal
+use Rattle.rr_replica.proofs.replica.Replica.ready_series.Goals as goal
 
 pub invariant_of-self : goal.invariant_of-self
 invariant_of-self g c =
@@ -25,12 +25,12 @@ returns-clause-room g c =
     let cells = g.A.Cells.cells in
     let new = (entries_of c.make_room_in.new.series) in
     let of : IsOpOf r.schema op = subst (λ (st : ReplicaWithRoom). IsOpOf st.schema op) (sym c.self.view_is)
-    (c.accepts.ensures.op c.if-not-accepts.false) in
+    (c.accepts-accepted.ensures.op (c.accepts-accepted.ensures.accepted ∙ c.requires)) in
     let taken : accepts (replica_state_in cells r.schema r.origin r.next (entries_of r.series)) op ≡ true =
     subst (λ (st : ReplicaWithRoom). accepts (replica_state st) op ≡ true) (sym c.self.view_is)
-    (sym c.accepts.ensures.accepted ∙ c.if-not-accepts.false) in
+    c.requires in
     let number = taken_origin (replica_state_in cells r.schema r.origin r.next (entries_of r.series)) op taken of
     c.self.invariant.holds.origin in
     on_ok_weaker c.make_room_in.result (λ room. λ _. room_told g.A.Cells.is_ready cells g.A.Cells.row_limit r.schema
-    c.self.invariant.holds.layout r.origin r.next new c.make_room_in.ensures.sized op of number room)
+    c.self.invariant.holds.layout r.origin r.next c.make_room_in.new.series.keys.items new c.make_room_in.ensures.sized op of number room)
     c.make_room_in.ensures.room
