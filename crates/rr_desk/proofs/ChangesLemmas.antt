@@ -1,41 +1,105 @@
 -- What a list of changes makes of a copy.
-use Rattle.std.proofs.Common.{◌≡◌, true, List, [], ◌∷◌, ◌++◌, fold, refl, ap}
+use Rattle.std.proofs.Common.{◌≡◌, ℕ, true, List, [], ◌∷◌, ◌++◌, fold, refl, ap, sym, ◌∙◌, append_assoc, append-nil}
+use Rattle.std.proofs.lemmas.List.Sums.{fold-append}
 use Rattle.rr_cells.specs.declared.op.Op.{Op}
+use Rattle.rr_cells.specs.ReplicaState.{ReplicaState}
 use Rattle.rr_cells.specs.Operations.{step}
-use Rattle.rr_desk.specs.declared.shown.Change.{Change}
-use Rattle.rr_desk.specs.declared.shown.Change.TheVariants.{Apply, Edition}
+use Rattle.rr_cells.proofs.OperationsLemmas.{step-origin}
+use Rattle.rr_desk.specs.declared.change.Change.{Change}
+use Rattle.rr_desk.specs.declared.change.Change.TheVariants.{Put, Join, AddKey, Edition}
 use Rattle.rr_desk.specs.declared.shown.CopyState.{CopyState}
-use Rattle.rr_desk.specs.Changes.{copy_after, front_after, ops_in}
+use Rattle.rr_desk.specs.Changes.{Names, copy_after, copy_names, front_after, front_with, names_after, names_at, ops_in, ops_of}
 use Rattle.rr_desk.specs.Editions.{BookFront}
 
-pub changes-held : (cs : List Change) (x : CopyState) → (fold copy_after x cs).held ≡ fold step x.held (ops_in cs)
+pub steps-origin : (ops : List Op) (h : ReplicaState) → (fold step h ops).origin ≡ h.origin
+steps-origin [] h = refl
+steps-origin (op ∷ ops) h = steps-origin ops (step h op) ∙ step-origin h op
+
+-- ---- one change
+
+held-one : (x : CopyState) (c : Change) → (copy_after x c).held ≡ fold step x.held (ops_of (copy_names x) c)
+held-one x (Put p) = refl
+held-one x (Join j) = refl
+held-one x (AddKey key) = refl
+held-one x (Edition m) = refl
+
+names-one : (x : CopyState) (c : Change) → copy_names (copy_after x c) ≡ names_after (copy_names x) c
+names-one x (Put p) = λ i. record { origin = steps-origin (ops_of (copy_names x) (Put p)) x.held i; keys = x.keys }
+names-one x (Join j) = λ i. record { origin = steps-origin (ops_of (copy_names x) (Join j)) x.held i; keys = x.keys }
+names-one x (AddKey key) = refl
+names-one x (Edition m) = refl
+
+started-one : (x : CopyState) (c : Change) → x.started ≡ true → (copy_after x c).started ≡ true
+started-one x (Put p) h = h
+started-one x (Join j) h = h
+started-one x (AddKey key) h = h
+started-one x (Edition m) h = refl
+
+front-one : (x : CopyState) (c : Change) → (copy_after x c).front ≡ front_with x.front c
+front-one x (Put p) = refl
+front-one x (Join j) = refl
+front-one x (AddKey key) = refl
+front-one x (Edition m) = refl
+
+-- ---- all changes
+
+pub changes-held : (cs : List Change) (x : CopyState)
+    → (fold copy_after x cs).held ≡ fold step x.held (ops_in (copy_names x) cs)
 changes-held [] x = refl
-changes-held (Apply op ∷ cs) x = changes-held cs (copy_after x (Apply op))
-changes-held (Edition m ∷ cs) x = changes-held cs (copy_after x (Edition m))
+changes-held (c ∷ cs) x =
+    changes-held cs (copy_after x c)
+    ∙ (λ i. fold step (held-one x c i) (ops_in (names-one x c i) cs))
+    ∙ sym (fold-append step x.held (ops_of (copy_names x) c) (ops_in (names_after (copy_names x) c) cs))
+
+pub changes-names : (cs : List Change) (x : CopyState)
+    → copy_names (fold copy_after x cs) ≡ names_at (copy_names x) cs
+changes-names [] x = refl
+changes-names (c ∷ cs) x = changes-names cs (copy_after x c) ∙ ap (λ (n : Names). names_at n cs) (names-one x c)
 
 pub changes-started : (cs : List Change) (x : CopyState) → x.started ≡ true → (fold copy_after x cs).started ≡ true
 changes-started [] x h = h
-changes-started (Apply op ∷ cs) x h = changes-started cs (copy_after x (Apply op)) h
-changes-started (Edition m ∷ cs) x h = changes-started cs (copy_after x (Edition m)) refl
+changes-started (c ∷ cs) x h = changes-started cs (copy_after x c) (started-one x c h)
 
 pub changes-front : (cs : List Change) (x : CopyState) → (fold copy_after x cs).front ≡ front_after x.front cs
 changes-front [] x = refl
-changes-front (Apply op ∷ cs) x = changes-front cs (copy_after x (Apply op))
-changes-front (Edition m ∷ cs) x = changes-front cs (copy_after x (Edition m))
+changes-front (c ∷ cs) x = changes-front cs (copy_after x c)
+    ∙ ap (λ (s : BookFront). front_after s cs) (front-one x c)
 
 -- ---- one change more
 
-pub ops_in-apply : (cs : List Change) (op : Op) → ops_in (cs ++ Apply op ∷ []) ≡ ops_in cs ++ op ∷ []
-ops_in-apply [] op = refl
-ops_in-apply (Apply o ∷ cs) op = ap (λ (l : List Op). o ∷ l) (ops_in-apply cs op)
-ops_in-apply (Edition m ∷ cs) op = ops_in-apply cs op
+pub ops_in-more : (n : Names) (cs : List Change) (c : Change)
+    → ops_in n (cs ++ c ∷ []) ≡ ops_in n cs ++ ops_of (names_at n cs) c
+ops_in-more n [] c = append-nil (ops_of n c)
+ops_in-more n (d ∷ cs) c =
+    ap (λ (l : List Op). ops_of n d ++ l) (ops_in-more (names_after n d) cs c)
+    ∙ sym (append_assoc (ops_of n d) (ops_in (names_after n d) cs) (ops_of (names_at (names_after n d) cs) c))
 
-pub ops_in-end_edition : (cs : List Change) (m : BookFront) → ops_in (cs ++ Edition m ∷ []) ≡ ops_in cs
-ops_in-end_edition [] m = refl
-ops_in-end_edition (Apply o ∷ cs) m = ap (λ (l : List Op). o ∷ l) (ops_in-end_edition cs m)
-ops_in-end_edition (Edition o ∷ cs) m = ops_in-end_edition cs m
+pub names_at-more : (n : Names) (cs : List Change) (c : Change)
+    → names_at n (cs ++ c ∷ []) ≡ names_after (names_at n cs) c
+names_at-more n [] c = refl
+names_at-more n (d ∷ cs) c = names_at-more (names_after n d) cs c
 
-pub front_after-end_edition : (cs : List Change) (s m : BookFront) → front_after s (cs ++ Edition m ∷ []) ≡ m
-front_after-end_edition [] s m = refl
-front_after-end_edition (Apply o ∷ cs) s m = front_after-end_edition cs s m
-front_after-end_edition (Edition o ∷ cs) s m = front_after-end_edition cs o m
+pub front_after-more : (s : BookFront) (cs : List Change) (c : Change)
+    → front_after s (cs ++ c ∷ []) ≡ front_with (front_after s cs) c
+front_after-more s [] c = refl
+front_after-more s (d ∷ cs) c = front_after-more (front_with s d) cs c
+
+-- the end of an edition is no operation
+pub ops_in-end_edition : (n : Names) (cs : List Change) (m : BookFront)
+    → ops_in n (cs ++ Edition m ∷ []) ≡ ops_in n cs
+ops_in-end_edition n cs m = ops_in-more n cs (Edition m) ∙ append-nil (ops_in n cs)
+
+-- nor is a key that is added
+pub ops_in-add_key : (n : Names) (cs : List Change) (key : List ℕ) → ops_in n (cs ++ AddKey key ∷ []) ≡ ops_in n cs
+ops_in-add_key n cs key = ops_in-more n cs (AddKey key) ∙ append-nil (ops_in n cs)
+
+-- whose origin all names have
+origin-one : (n : Names) (c : Change) → (names_after n c).origin ≡ n.origin
+origin-one n (Put p) = refl
+origin-one n (Join j) = refl
+origin-one n (AddKey key) = refl
+origin-one n (Edition m) = refl
+
+pub names_at-origin : (n : Names) (cs : List Change) → (names_at n cs).origin ≡ n.origin
+names_at-origin n [] = refl
+names_at-origin n (c ∷ cs) = names_at-origin (names_after n c) cs ∙ origin-one n c

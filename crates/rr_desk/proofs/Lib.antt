@@ -1,6 +1,7 @@
 pub mod PrefixLemmas
 pub mod EditionsLemmas
 pub mod ChangesLemmas
+pub mod NamingLemmas
 pub mod RuleLemmas
 pub mod KeeperStateLemmas
 pub mod GateLemmas

@@ -12,14 +12,14 @@ use Rattle.rr_cells.specs.ReplicaState.{ReplicaState}
 use Rattle.rr_cells.specs.Operations.{cell_step, outcome_of, step, joins_of, AllAccepted}
 use Rattle.rr_cells.proofs.OperationsLemmas.{outcome_of-append, outcome_of-joins, steps-cells, steps-schema}
 use Rattle.rr_desk.specs.declared.rule.View.{View}
-use Rattle.rr_desk.specs.declared.shown.Change.{Change}
-use Rattle.rr_desk.specs.declared.shown.Change.TheVariants.{Edition}
+use Rattle.rr_desk.specs.declared.change.Change.{Change}
+use Rattle.rr_desk.specs.declared.change.Change.TheVariants.{Edition}
 use Rattle.rr_desk.specs.declared.shown.CopyState.{CopyState}
-use Rattle.rr_desk.specs.Changes.{copy_after, front_after, ops_in}
+use Rattle.rr_desk.specs.Changes.{Names, copy_after, copy_names, front_after, names_at, ops_in}
 use Rattle.rr_desk.specs.Editions.{BookFront, flat}
 use Rattle.rr_desk.specs.Rule.{newcomer, IsShown, Fits, Keeps, Sees, keeper_of, with_published, telling_of, with_news}
 use Rattle.rr_desk.proofs.PrefixLemmas.{prefix_refl, prefix_append, prefix_trans, prefix_nil, prefix_of_nil}
-use Rattle.rr_desk.proofs.ChangesLemmas.{changes-front, changes-held, changes-started}
+use Rattle.rr_desk.proofs.ChangesLemmas.{changes-front, changes-held, changes-names, changes-started}
 
 newcomer_fits : (x : CopyState) (list : List Op) (writer seat : ℕ) → Fits x list writer seat newcomer
 newcomer_fits x list writer seat = record {
@@ -162,23 +162,23 @@ publishes seat v x y more writes next book is views k at =
     )
 
 -- with all changes that are pending
-pub publishes_changes : (seat : ℕ) (v : View) (x y : CopyState) (cs : List Change) (batch : List Op) → batch ≡ ops_in cs
-    → v.writes ≡ true → v.joined ≡ true → AllAccepted x.held (ops_in cs)
-    → flat (front_after x.front cs).editions ≡ v.seen ++ ops_in cs → (front_after x.front cs).desk ≡ v.desk
+pub publishes_changes : (seat : ℕ) (v : View) (x y : CopyState) (cs : List Change) (batch : List Op) → batch ≡ ops_in (copy_names x) cs
+    → v.writes ≡ true → v.joined ≡ true → AllAccepted x.held (ops_in (copy_names x) cs)
+    → flat (front_after x.front cs).editions ≡ v.seen ++ ops_in (copy_names x) cs → (front_after x.front cs).desk ≡ v.desk
     → y ≡ fold copy_after x cs
     → (views : List View) → Keeps x views → get_elem? views seat ≡ some v
     → (w : View) × Keeps y (set views seat w) × (w ≡ with_published v batch)
 publishes_changes seat v x y cs batch same writes joined accepted ended desk is views k at =
     let f = k.each seat v at in
-    let held : y.held ≡ fold step x.held (ops_in cs) = ap (λ (z : CopyState). z.held) is ∙ changes-held cs x in
+    let held : y.held ≡ fold step x.held (ops_in (copy_names x) cs) = ap (λ (z : CopyState). z.held) is ∙ changes-held cs x in
     let front : y.front ≡ front_after x.front cs = ap (λ (z : CopyState). z.front) is ∙ changes-front cs x in
     let next : Follows x y = record {
       started = ap (λ (z : CopyState). z.started) is ∙ changes-started cs x (f.writes writes).started;
-      schema = ap (λ (h : ReplicaState). h.schema) held ∙ steps-schema (ops_in cs) x.held;
+      schema = ap (λ (h : ReplicaState). h.schema) held ∙ steps-schema (ops_in (copy_names x) cs) x.held;
       desk = ap (λ (s : BookFront). s.desk) front ∙ (desk ∙ sym (f.joined joined).desk);
     } in
-    let cells : y.held.cells ≡ fold (cell_step x.held.schema) x.held.cells (ops_in cs) =
-    ap (λ (h : ReplicaState). h.cells) held ∙ steps-cells (ops_in cs) x.held accepted in
+    let cells : y.held.cells ≡ fold (cell_step x.held.schema) x.held.cells (ops_in (copy_names x) cs) =
+    ap (λ (h : ReplicaState). h.cells) held ∙ steps-cells (ops_in (copy_names x) cs) x.held accepted in
     let book : flat y.front.editions ≡ v.seen ++ batch = ap (λ (s : BookFront). flat s.editions) front
     ∙ (ended ∙ ap (λ (l : List Op). v.seen ++ l) (sym same)) in
     publishes seat v x y batch writes next book (subst
@@ -186,17 +186,19 @@ publishes_changes seat v x y cs batch same writes joined accepted ended desk is 
 
 -- what a publication leaves, from what its call says
 pub published : {E C : Type 0} (r : Result (Unit {0}) E) (cs : List Change) (batch : List Op) (x y : CopyState)
-    (v w : View) (rest : List Change) (new old : C) → batch ≡ ops_in cs
+    (v w : View) (rest : List Change) (new old : C) → batch ≡ ops_in (copy_names x) cs
     → MatchResult r (λ _. (y ≡ fold copy_after x cs) × (rest ≡ [])) (λ _. (new ≡ old) × (rest ≡ cs))
     → MatchResult r (λ _. w ≡ with_published v batch) (λ _. w ≡ v)
-    → MatchResult r (λ _. (w ≡ with_published v (ops_in cs)) × (rest ≡ []) × (y.held ≡ fold step x.held (ops_in cs))
-    × (y.front ≡ front_after x.front cs)) (λ _. (w ≡ v) × (new ≡ old) × (rest ≡ cs))
+    → MatchResult r (λ _. (w ≡ with_published v (ops_in (copy_names x) cs)) × (rest ≡ [])
+    × (y.held ≡ fold step x.held (ops_in (copy_names x) cs)) × (y.front ≡ front_after x.front cs)
+    × (copy_names y ≡ names_at (copy_names x) cs)) (λ _. (w ≡ v) × (new ≡ old) × (rest ≡ cs))
 published (Ok u) cs batch x y v w rest new old is values rule = (
   rule ∙ ap (with_published v) is,
   values.1,
   ap (λ (z : CopyState). z.held) values.0
       ∙ changes-held cs x,
   ap (λ (z : CopyState). z.front) values.0 ∙ changes-front cs x,
+  ap copy_names values.0 ∙ changes-names cs x,
 )
 published (Err e) cs batch x y v w rest new old is values rule = (rule, values.0, values.1)
 

@@ -7,8 +7,8 @@ use Rattle.rr_cells.specs.Cells.{Cells}
 use Rattle.rr_cells.specs.ReplicaState.{ReplicaState}
 use Rattle.rr_cells.specs.Operations.{outcome_of, with_op, step, joins_of, AllAccepted}
 use Rattle.rr_desk.specs.declared.rule.View.{View}
-use Rattle.rr_desk.specs.declared.shown.Change.{Change}
-use Rattle.rr_desk.specs.Changes.{ops_in, front_after}
+use Rattle.rr_desk.specs.declared.change.Change.{Change}
+use Rattle.rr_desk.specs.Changes.{Names, ops_in, front_after}
 use Rattle.rr_desk.specs.Editions.{BookFront, flat, Begins}
 
 -- a keeper: its desk; the schema, origin and next number of its own replica; the operations that are published, and
@@ -81,18 +81,18 @@ pub record IsBooked (v : View) (copy all : BookFront) (pending : List Op) : Type
   pub shown : flat copy.editions ≡ v.seen
   pub whole : Begins (flat all.editions) (v.seen ++ pending)
 
--- the pending changes can be published: the last edition that ends among them has what is published and all that is
+-- the pending changes, by these names, can be published: the last edition that ends among them has what is published and all that is
 -- pending
-pub record IsReady (v : View) (shown : ReplicaState) (front : BookFront) (cs : List Change) : Type 0 where
+pub record IsReady (v : View) (shown : ReplicaState) (n : Names) (front : BookFront) (cs : List Change) : Type 0 where
   pub writes : v.writes ≡ true
   pub joined : v.joined ≡ true
-  pub accepted : AllAccepted shown (ops_in cs)
-  pub ended : flat (front_after front cs).editions ≡ v.seen ++ ops_in cs
+  pub accepted : AllAccepted shown (ops_in n cs)
+  pub ended : flat (front_after front cs).editions ≡ v.seen ++ ops_in n cs
   pub desk : (front_after front cs).desk ≡ v.desk
 
--- what a keeper keeps to, with the changes that are pending, and whether the last of them ends an edition of all
-pub record IsKeeper (v : View) (shown own : ReplicaState) (front all : BookFront) (cs : List Change)
-    (ended : Bool) : Type 0 where
-  pub tied : IsTied v shown own (ops_in cs)
-  pub booked : IsBooked v front all (ops_in cs)
-  pub ready : ended ≡ true → IsReady v shown front cs
+-- what a keeper keeps to, with the names of its copies, the changes that are pending, and whether the last of them ends an edition of all
+pub record IsKeeper (v : View) (shown : ReplicaState) (n : Names) (own : ReplicaState) (front all : BookFront)
+    (cs : List Change) (ended : Bool) : Type 0 where
+  pub tied : IsTied v shown own (ops_in n cs)
+  pub booked : IsBooked v front all (ops_in n cs)
+  pub ready : ended ≡ true → IsReady v shown n front cs

@@ -2,7 +2,6 @@ pub mod Editions
 pub mod Changes
 pub mod Rule
 pub mod KeeperState
-pub mod Waiting
 pub mod Writers
 pub mod ReaderState
 pub mod Joining

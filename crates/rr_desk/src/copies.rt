@@ -10,7 +10,9 @@ ghost use Rattle.rr_desk.specs.KeeperState.{cells_of, own_replica, keeper_at_ope
 ghost use Rattle.rr_desk.specs.Writers.{changes};
 
 use crate::book::{Editions, Front};
-use crate::shown::{Change, CopyState, Hinted, Shown};
+use crate::change::Change;
+use crate::naming::name_keys;
+use crate::shown::{CopyState, Shown};
 use crate::turn::shares_rows;
 use crate::writing::{DeskWriter, end_edition, publish};
 use core::mem::replace_with;
@@ -34,7 +36,9 @@ where
     writer: DeskWriter<A>,
     own: Replica<A>,
     book: Editions,
-    /// Whether the last pending change is the end of an edition that has all of the book.
+    /// How many of the keeper's keys the copies have after the pending changes: the first ones.
+    named: usize,
+    /// Whether the last pending operation is followed by the end of an edition that has all of them.
     ended: bool,
 }
 
@@ -48,7 +52,7 @@ where
 
     ghost use Rattle.left_right.specs.Sides.{view as seat_view};
     ghost use Rattle.rr_replica.specs.ReplicaWithRoom.{replica_state};
-    ghost use Rattle.rr_desk.specs.Changes.{ops_in};
+    ghost use Rattle.rr_desk.specs.Changes.{names_of, ops_in, AreNamed};
     ghost use Rattle.rr_desk.specs.Writers.{changes};
 
     ghost view = { λ k. record {
@@ -57,12 +61,14 @@ where
       origin = k.own.origin;
       next = k.own.next;
       published = (seat_view k.writer.desk.place).seen;
-      pending = ops_in (changes k.writer);
+      pending = ops_in (names_of k.writer.desk.shown.value.replica) (changes k.writer);
     } };
 
     ghost invariant = { λ k. IsKeeper (seat_view k.writer.desk.place)
-        (replica_state k.writer.desk.shown.value.replica) (replica_state k.own)
-        k.writer.desk.shown.value.front k.book (changes k.writer) k.ended };
+        (replica_state k.writer.desk.shown.value.replica)
+        (names_of k.writer.desk.shown.value.replica) (replica_state k.own)
+        k.writer.desk.shown.value.front k.book (changes k.writer) k.ended
+        × AreNamed (names_of k.writer.desk.shown.value.replica) k.own.keys (changes k.writer) k.named };
 }
 
 impl<A: Cells> Copies<A> {
@@ -71,16 +77,19 @@ impl<A: Cells> Copies<A> {
         requires holds { IsReplicaState (replica_state own) }
         requires view { view writer.desk.place ≡ keeper_of (replica_state own) book.desk }
         requires copy { replica_state writer.desk.shown.value.replica ≡ replica_state own }
+        requires keys { writer.desk.shown.value.replica.keys ≡ own.keys }
         requires front { writer.desk.shown.value.front ≡ book }
         requires pending { changes writer ≡ [] }
         requires book { flat book.editions ≡ joins_of own.cells }
         ensures { result ≡ keeper_at_opening (replica_state own) book.desk }
     {
+        let named = own.key_count();
         Copies {
             alloc,
             writer,
             own,
             book,
+            named,
             ended: false,
         }
     }
@@ -106,39 +115,33 @@ impl<A: Cells> Copies<A> {
         ensures pending { OnOk result (self.new ≡ with_pending self.old op) }
         ensures unchanged { OnErr result (self.new ≡ self.old) }
     {
-        self.share_before(hint, &op);
-        self.append(hint, op)
-    }
-
-    /// Shares finished rows of the series at a hint, if the operation is one with which they are
-    /// looked for.
-    fn share_before(&mut self, hint: Hint, op: &Op)
-        ensures { self.new ≡ self.old }
-    {
-        if shares_rows(op) {
+        if shares_rows(&op) {
             self.share_rows(hint);
         }
+        self.append(hint, &op)
     }
 
     /// Shares finished rows of the series at a hint with the copy that is shown.
     fn share_rows(&mut self, hint: Hint)
         ensures { self.new ≡ self.old }
     {
-        self.own.share_rows(hint, &self.writer.published().replica);
+        self.own
+            .share_rows(hint.index(), &self.writer.published().replica);
     }
 
     /// `push`, without sharing rows.
-    fn append(&mut self, hint: Hint, op: Op) -> Result<(), AllocError>
-        requires { accepts (own_replica self.old) op ≡ true }
-        ensures pending { OnOk result (self.new ≡ with_pending self.old op) }
+    fn append(&mut self, hint: Hint, op: &Op) -> Result<(), AllocError>
+        requires { accepts (own_replica self.old) op.now ≡ true }
+        ensures pending { OnOk result (self.new ≡ with_pending self.old op.now) }
         ensures unchanged { OnErr result (self.new ≡ self.old) }
     {
-        let shown = Hinted::of(self.alloc, hint, &op)?;
-        self.own.ready_near(hint, &op)?;
-        if self.writer.append(Change::Apply(shown)).is_err() {
+        let series = self.own.ready_series(hint, op)?;
+        name_keys(&mut self.writer, &self.own, &mut self.named)?;
+        let change = Change::of(self.alloc, series, op)?;
+        if self.writer.append(change).is_err() {
             return Err(AllocError);
         }
-        self.own.apply_near(hint, &op)?;
+        self.own.apply_numbered(series, op)?;
         self.ended = false;
         Ok(())
     }
@@ -176,6 +179,7 @@ impl<A: Cells> Copies<A> {
             writer,
             own,
             book: _,
+            named: _,
             ended: _,
         } = self;
         drop(writer.take(rt));

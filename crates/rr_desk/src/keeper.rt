@@ -18,11 +18,12 @@ ghost use Rattle.rr_snapshot.specs.declared.heading.TheConstants.{MAX_SNAPSHOT_C
 ghost use Rattle.rr_desk.specs.Points.{with_put};
 ghost use Rattle.rr_desk.specs.KeeperState.{cells_of, own_replica, with_all_published, with_pending};
 
+use crate::change::Change;
 use crate::copies::Copies;
 use crate::horizon::Horizon;
 use crate::note::Note;
 use crate::order::Order;
-use crate::shown::{Change, CopyState, Shown};
+use crate::shown::{CopyState, Shown};
 use left_right::Absorb;
 use rr_archive::Cells;
 use rr_cells::{Cell, Op, Sample};

@@ -23,12 +23,14 @@
 #![tactic(auto)]
 
 mod book;
+mod change;
 mod copies;
 mod fault;
 mod gate;
 mod horizon;
 mod keeper;
 pub mod laws;
+mod naming;
 mod note;
 mod opening;
 mod order;

@@ -92,6 +92,7 @@ fn begin<A: Cells, R: Wait>(
         ≡ keeper_of (replica_state replica.now) r.1.desk) }
     ensures copy { IfOk result (λ r. replica_state r.0.desk.shown.value.replica
         ≡ replica_state replica.now) }
+    ensures keys { IfOk result (λ r. r.0.desk.shown.value.replica.keys ≡ replica.now.keys) }
     ensures front { IfOk result (λ r. r.0.desk.shown.value.front ≡ r.1) }
     ensures pending { IfOk result (λ r. changes r.0 ≡ []) }
     ensures book { IfOk result (λ r. flat r.1.editions ≡ joins_of replica.now.cells) }

@@ -33,7 +33,7 @@ impl<A: Cells> Protocol<Shown<A>, View> for Published {
     ghost use Rattle.rr_replica.specs.ReplicaWithRoom.{replica_state};
     ghost use Rattle.rr_desk.specs.Rule.{Keeps, newcomer};
 
-    ghost holds = { λ x. Keeps (record { held = replica_state x.replica; started = x.started; front = x.front }) };
+    ghost holds = { λ x. Keeps (record { held = replica_state x.replica; keys = x.replica.keys; started = x.started; front = x.front }) };
 
     ghost first = { newcomer };
 }
@@ -45,7 +45,7 @@ impl<A: Cells> Outcome<Shown<A>, View> for Enters {
     ghost use Rattle.rr_replica.specs.ReplicaWithRoom.{replica_state};
     ghost use Rattle.rr_desk.specs.Rule.{Sees};
 
-    ghost then = { λ v x y w. Sees v (record { held = replica_state y.replica; started = y.started; front = y.front }) w };
+    ghost then = { λ v x y w. Sees v (record { held = replica_state y.replica; keys = y.replica.keys; started = y.started; front = y.front }) w };
 }
 
 /// The first publication: one join for each cell.

@@ -1,133 +1,66 @@
 //! The two copies of a replica that readers read in turn.
 
 use crate::book::Front;
+use crate::change::{Change, NumberedCell, NumberedSample};
 use crate::turn::is_drawn;
 use left_right::Absorb;
 use rr_archive::Cells;
-use rr_cells::{Cell, Op, Sample};
-use rr_replica::{Hint, Replica};
+use rr_key::SeriesKey;
+use rr_replica::Replica;
 use rr_schema::{Origin, Schema};
-use std::alloc::{AllocError, Global};
+use std::alloc::AllocError;
+use std::collections::LinkedList;
 use std::marker::Model;
 
-/// An operation as it waits for the copies. Most are samples, and a cell is many times as large as
-/// a sample: so that no sample takes the memory of one, cells are elsewhere.
-#[derive(Drop)]
-enum Waiting {
-    /// A sample is put under its number.
-    Put(Sample),
-    /// A cell is joined in.
-    Join(Box<Cell>),
-}
-
-/// An operation, with a hint where the series is that it is of.
-#[derive(Drop)]
-pub struct Hinted {
-    op: Waiting,
-    /// Where both copies are likely to have the series.
-    hint: Hint,
-}
-
-impl Model for Hinted {
-    ghost use Rattle.rr_cells.specs.declared.op.Op as declared;
-    ghost use Rattle.rr_desk.specs.Waiting.{op_of};
-
-    ghost Value = { declared.Op };
-
-    ghost view = { λ h. op_of h.op };
-}
-
-impl Hinted {
-    ghost use Rattle.std.specs.Prelude.{◌≡◌, IfOk, OnErr, OnOk};
+impl NumberedSample {
+    ghost use Rattle.std.specs.Prelude.{◌≡◌, fold, OnErr, OnOk};
     ghost use Rattle.rr_cells.specs.Operations.{step};
+    ghost use Rattle.rr_replica.specs.Numbered.{puts_at};
     ghost use Rattle.rr_replica.specs.ReplicaWithRoom.{replica_state};
 
-    /// The same operation, with a hint. The key's bytes are shared; for a cell memory is taken.
-    pub fn of(alloc: Global, hint: Hint, op: &Op) -> Result<Hinted, AllocError>
-        ensures { IfOk result (λ h. h ≡ op.now) }
-    {
-        let op = match op {
-            Op::Put(sample) => Waiting::Put(sample.copy()?),
-            Op::Join(cell) => Waiting::Join(Box::new(alloc, cell.copy()?)?),
-        };
-        Ok(Hinted { op, hint })
-    }
-
-    /// Applies it to a replica, if that takes it. After an error nothing has changed.
-    fn apply_to<A: Cells>(&self, replica: &mut Replica<A>) -> Result<(), AllocError>
-        ensures applied { OnOk result (replica_state replica.new
-            ≡ step (replica_state replica.old) self.now) }
+    /// Puts it to a replica, if that takes it. After an error nothing has changed.
+    fn put_to<A: Cells>(&self, replica: &mut Replica<A>) -> Result<(), AllocError>
+        ensures put { OnOk result (replica_state replica.new
+            ≡ fold step (replica_state replica.old) (puts_at replica.old.keys replica.old.origin
+            self.now.series self.now.number self.now.time self.now.value)) }
         ensures unchanged { OnErr result (replica_state replica.new ≡ replica_state replica.old) }
+        ensures keys { replica.new.keys ≡ replica.old.keys }
     {
-        match &self.op {
-            Waiting::Put(sample) => replica.apply_sample(self.hint, sample)?,
-            Waiting::Join(cell) => replica.apply_cell(cell)?,
-        };
-        Ok(())
-    }
-
-    /// Applies it to the copy that takes it first, and makes rows ready to be shared that it
-    /// finished.
-    fn apply_first<A: Cells>(&self, replica: &mut Replica<A>) -> Result<(), AllocError>
-        ensures applied { OnOk result (replica_state replica.new
-            ≡ step (replica_state replica.old) self.now) }
-        ensures unchanged { OnErr result (replica_state replica.new ≡ replica_state replica.old) }
-    {
-        self.apply_to(replica)?;
-        self.finish_rows(replica);
-        Ok(())
-    }
-
-    /// Makes rows of its series ready to be shared, if it is one after which they are looked for.
-    fn finish_rows<A: Cells>(&self, replica: &mut Replica<A>)
-        ensures { replica_state replica.new ≡ replica_state replica.old }
-    {
-        if self.shares_rows() {
-            replica.finish_rows(self.hint);
-        }
-    }
-
-    /// Shares rows of its series with the copy that was first, if it is one after which they are
-    /// looked for.
-    fn share_rows<A: Cells>(&self, replica: &mut Replica<A>, first: &Replica<A>)
-        ensures { replica_state replica.new ≡ replica_state replica.old }
-    {
-        if self.shares_rows() {
-            replica.share_rows(self.hint, first);
-        }
+        replica.put_numbered(self.series, self.number, self.time, self.value)
     }
 
     /// Whether finished rows are looked for after it.
     fn shares_rows(&self) -> bool {
-        match &self.op {
-            Waiting::Put(sample) => is_drawn(sample.number),
-            Waiting::Join(cell) => is_drawn(cell.contribution.version),
-        }
-    }
-
-    /// Applies it to the copy that takes it second, and shares rows with the first.
-    fn apply_second<A: Cells>(
-        &self,
-        replica: &mut Replica<A>,
-        first: &Replica<A>,
-    ) -> Result<(), AllocError>
-        ensures applied { OnOk result (replica_state replica.new
-            ≡ step (replica_state replica.old) self.now) }
-        ensures unchanged { OnErr result (replica_state replica.new ≡ replica_state replica.old) }
-    {
-        self.apply_to(replica)?;
-        self.share_rows(replica, first);
-        Ok(())
+        is_drawn(self.number)
     }
 }
 
-/// What both copies take in.
-#[derive(Drop)]
-pub enum Change {
-    /// An operation.
-    Apply(Hinted),
-    /// The copy then has all that is in the book so far, and may be read.
-    Edition(Front),
+impl NumberedCell {
+    ghost use Rattle.std.specs.Prelude.{◌≡◌, fold, OnErr, OnOk};
+    ghost use Rattle.rr_cells.specs.Operations.{step};
+    ghost use Rattle.rr_replica.specs.ReplicaWithRoom.{replica_state};
+    ghost use Rattle.rr_desk.specs.Changes.{joins_in};
+
+    /// Joins it into a replica that knows its key, if that takes it. After an error nothing has
+    /// changed.
+    fn join_to<A: Cells>(&self, replica: &mut Replica<A>) -> Result<(), AllocError>
+        ensures joined { OnOk result (replica_state replica.new
+            ≡ fold step (replica_state replica.old)
+            (joins_in replica.old.keys self.now.cell.value)) }
+        ensures unchanged { OnErr result (replica_state replica.new ≡ replica_state replica.old) }
+        ensures keys { replica.new.keys ≡ replica.old.keys }
+    {
+        if !replica.knows(&self.cell.key) {
+            return Ok(());
+        }
+        replica.apply_cell(&self.cell)?;
+        Ok(())
+    }
+
+    /// Whether finished rows are looked for after it.
+    fn shares_rows(&self) -> bool {
+        is_drawn(self.cell.contribution.version)
+    }
 }
 
 /// A copy of the replica, with the editions of the book that it has.
@@ -139,6 +72,35 @@ pub struct Shown<A: Cells> {
     pub started: bool,
     /// The editions that it has.
     pub front: Front,
+}
+
+impl<A: Cells> Shown<A> {
+    ghost use Rattle.std.specs.Prelude.{◌≡◌};
+    ghost use Rattle.rr_replica.specs.ReplicaWithRoom.{replica_state};
+
+    /// Makes finished rows of a series ready to be shared, if they are looked for.
+    fn finish_rows(&mut self, wanted: bool, series: usize)
+        ensures state { replica_state self.new.replica ≡ replica_state self.old.replica }
+        ensures keys { self.new.replica.keys ≡ self.old.replica.keys }
+        ensures started { self.new.started ≡ self.old.started }
+        ensures front { self.new.front ≡ self.old.front }
+    {
+        if wanted {
+            self.replica.finish_rows(series);
+        }
+    }
+
+    /// Shares rows of a series with the copy that was first, if they are looked for.
+    fn share_rows(&mut self, wanted: bool, series: usize, first: &Shown<A>)
+        ensures state { replica_state self.new.replica ≡ replica_state self.old.replica }
+        ensures keys { self.new.replica.keys ≡ self.old.replica.keys }
+        ensures started { self.new.started ≡ self.old.started }
+        ensures front { self.new.front ≡ self.old.front }
+    {
+        if wanted {
+            self.replica.share_rows(series, &first.replica);
+        }
+    }
 }
 
 /// What a replica holds. No value of it is made.
@@ -163,6 +125,8 @@ impl Model for Held {
 pub struct CopyState {
     /// What the replica holds.
     pub held: Held,
+    /// The keys of its series, by their numbers.
+    pub keys: LinkedList<SeriesKey>,
     /// Whether it has been opened for readers.
     pub started: bool,
     /// The editions that it has.
@@ -175,13 +139,26 @@ impl<A: Cells> Absorb<Change> for Shown<A> {
 
     type State = CopyState;
 
-    ghost state = { λ s. record { held = replica_state s.replica; started = s.started; front = s.front } };
+    ghost state = { λ s. record {
+      held = replica_state s.replica;
+      keys = s.replica.keys;
+      started = s.started;
+      front = s.front;
+    } };
 
     ghost applied = { copy_after };
 
     fn absorb_first(&mut self, operation: &Change, _other: &Shown<A>) -> Result<(), AllocError> {
         match operation {
-            Change::Apply(hinted) => hinted.apply_first(&mut self.replica)?,
+            Change::Put(sample) => {
+                sample.put_to(&mut self.replica)?;
+                self.finish_rows(sample.shares_rows(), sample.series);
+            }
+            Change::Join(cell) => {
+                cell.join_to(&mut self.replica)?;
+                self.finish_rows(cell.shares_rows(), cell.series);
+            }
+            Change::AddKey(key) => self.replica.add_key(key)?,
             Change::Edition(front) => {
                 self.started = true;
                 self.front = front.again();
@@ -192,9 +169,23 @@ impl<A: Cells> Absorb<Change> for Shown<A> {
 
     fn absorb_second(&mut self, operation: Change, other: &Shown<A>) -> Result<(), Change> {
         match operation {
-            Change::Apply(hinted) => match hinted.apply_second(&mut self.replica, &other.replica) {
+            Change::Put(sample) => match sample.put_to(&mut self.replica) {
+                Ok(()) => {
+                    self.share_rows(sample.shares_rows(), sample.series, other);
+                    Ok(())
+                }
+                Err(_) => Err(Change::Put(sample)),
+            },
+            Change::Join(cell) => match cell.join_to(&mut self.replica) {
+                Ok(()) => {
+                    self.share_rows(cell.shares_rows(), cell.series, other);
+                    Ok(())
+                }
+                Err(_) => Err(Change::Join(cell)),
+            },
+            Change::AddKey(key) => match self.replica.add_key(&key) {
                 Ok(()) => Ok(()),
-                Err(_) => Err(Change::Apply(hinted)),
+                Err(_) => Err(Change::AddKey(key)),
             },
             Change::Edition(front) => {
                 self.started = true;

@@ -8,10 +8,11 @@ ghost use Rattle.rr_replica.specs.ReplicaWithRoom.{replica_state};
 ghost use Rattle.rr_desk.specs.Editions.{flat};
 ghost use Rattle.rr_desk.specs.Rule.{keeper_of};
 ghost use Rattle.rr_desk.specs.Writers.{changes};
-ghost use Rattle.rr_desk.specs.declared.shown.Change.TheVariants.{Edition};
+ghost use Rattle.rr_desk.specs.declared.change.Change.TheVariants.{Edition};
 
 use crate::book::{Batch, Editions};
-use crate::shown::{Change, Shown};
+use crate::change::Change;
+use crate::shown::Shown;
 use crate::writing::{DeskWriter, start};
 use rr_archive::Cells;
 use rr_replica::Replica;
@@ -50,6 +51,7 @@ fn unopened<A: Cells>(
     book: &Editions,
 ) -> Result<Shown<A>, AllocError>
     ensures replica { IfOk result (λ copy. replica_state copy.replica ≡ replica_state replica.now) }
+    ensures keys { IfOk result (λ copy. copy.replica.keys ≡ replica.now.keys) }
     ensures unopened { IfOk result (λ copy. copy.started ≡ false) }
     ensures front { IfOk result (λ copy. copy.front ≡ book.now) }
 {
@@ -77,6 +79,7 @@ fn unopened_writer<A: Cells>(
     requires few_readers { readers ≤ MAX_READERS }
     ensures copy { IfOk result (λ w. replica_state w.desk.shown.value.replica
         ≡ replica_state replica.now) }
+    ensures keys { IfOk result (λ w. w.desk.shown.value.replica.keys ≡ replica.now.keys) }
     ensures unopened { IfOk result (λ w. w.desk.shown.value.started ≡ false) }
     ensures pending { IfOk result (λ w. changes w ≡ []) }
 {
@@ -98,6 +101,7 @@ fn first_writer<A: Cells, R: Wait>(
     requires fresh { book.old.editions ≡ [] }
     ensures copy { IfOk result (λ w. replica_state w.desk.shown.value.replica
         ≡ replica_state replica.now) }
+    ensures keys { IfOk result (λ w. w.desk.shown.value.replica.keys ≡ replica.now.keys) }
     ensures unopened { IfOk result (λ w. w.desk.shown.value.started ≡ false) }
     ensures pending { IfOk result (λ w. changes w ≡ Edition book.new ∷ []) }
     ensures book { OnOk result (flat book.new.editions ≡ joins_of replica.now.cells) }
@@ -126,6 +130,7 @@ pub fn started_writer<A: Cells, R: Wait>(
         ≡ keeper_of (replica_state replica.now) book.new.desk) }
     ensures copy { IfOk result (λ w. replica_state w.desk.shown.value.replica
         ≡ replica_state replica.now) }
+    ensures keys { IfOk result (λ w. w.desk.shown.value.replica.keys ≡ replica.now.keys) }
     ensures front { IfOk result (λ w. w.desk.shown.value.front ≡ book.new) }
     ensures pending { IfOk result (λ w. changes w ≡ []) }
     ensures book { OnOk result (flat book.new.editions ≡ joins_of replica.now.cells) }

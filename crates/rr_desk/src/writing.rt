@@ -5,17 +5,18 @@ ghost use Rattle.rr_schema.specs.Schema.{IsLayout};
 ghost use Rattle.rr_cells.specs.Cells.{IsTrimmed};
 ghost use Rattle.rr_cells.specs.Operations.{joins_of, step, AllAccepted};
 ghost use Rattle.rr_replica.specs.ReplicaWithRoom.{replica_state};
-ghost use Rattle.rr_desk.specs.Changes.{front_after, ops_in};
+ghost use Rattle.rr_desk.specs.Changes.{front_after, names_at, names_of, ops_in};
 ghost use Rattle.rr_desk.specs.Editions.{after, flat, Begins};
 ghost use Rattle.rr_desk.specs.Rule.{with_published, with_news, keeper_of};
 ghost use Rattle.rr_desk.specs.KeeperState.{IsReady};
 ghost use Rattle.rr_desk.specs.Writers.{changes};
-ghost use Rattle.rr_desk.specs.declared.shown.Change.TheVariants.{Edition};
+ghost use Rattle.rr_desk.specs.declared.change.Change.TheVariants.{Edition};
 
 use crate::book::{Batch, Editions};
+use crate::change::Change;
 use crate::read_handle::ReadHandle;
 use crate::rule::{Introduces, Opens, Published, Publishes, View};
-use crate::shown::{Change, Shown};
+use crate::shown::Shown;
 use left_right::writer::Writer;
 use rr_archive::Cells;
 use std::alloc::AllocError;
@@ -44,7 +45,8 @@ pub fn start<A: Cells, R: Wait>(
         × (replica_state result.0.desk.shown.value.replica
         ≡ replica_state writer.desk.shown.value.replica)
         × (result.0.desk.shown.value.front ≡ book.now)
-        × (changes result.0 ≡ []))
+        × (changes result.0 ≡ [])
+        × (result.0.desk.shown.value.replica.keys ≡ writer.desk.shown.value.replica.keys))
         (λ _. (view result.0.desk.place ≡ view writer.desk.place)
         × (result.0.desk.shown.value ≡ writer.desk.shown.value)
         × (changes result.0 ≡ changes writer)) }
@@ -57,18 +59,21 @@ fn publish_batch<A: Cells, K: Batch, R: Wait>(
     rt: &R,
     writer: DeskWriter<A>,
 ) -> (DeskWriter<A>, Result<(), AllocError>)
-    requires batch { K.batch ≡ ops_in (changes writer) }
+    requires batch { K.batch ≡ ops_in (names_of writer.desk.shown.value.replica) (changes writer) }
     requires ready { IsReady (view writer.desk.place)
         (replica_state writer.desk.shown.value.replica)
+        (names_of writer.desk.shown.value.replica)
         writer.desk.shown.value.front (changes writer) }
     ensures { MatchResult result.1
         (λ _. (view result.0.desk.place ≡ with_published (view writer.desk.place)
-        (ops_in (changes writer)))
+        (ops_in (names_of writer.desk.shown.value.replica) (changes writer)))
         × (changes result.0 ≡ [])
         × (replica_state result.0.desk.shown.value.replica
-        ≡ fold step (replica_state writer.desk.shown.value.replica) (ops_in (changes writer)))
+        ≡ fold step (replica_state writer.desk.shown.value.replica) (ops_in (names_of writer.desk.shown.value.replica) (changes writer)))
         × (result.0.desk.shown.value.front ≡ front_after writer.desk.shown.value.front
-        (changes writer)))
+        (changes writer))
+        × (names_of result.0.desk.shown.value.replica
+        ≡ names_at (names_of writer.desk.shown.value.replica) (changes writer)))
         (λ _. (view result.0.desk.place ≡ view writer.desk.place)
         × (result.0.desk.shown.value ≡ writer.desk.shown.value)
         × (changes result.0 ≡ changes writer)) }
@@ -83,15 +88,18 @@ pub fn publish<A: Cells, R: Wait>(
 ) -> (DeskWriter<A>, Result<(), AllocError>)
     requires ready { IsReady (view writer.desk.place)
         (replica_state writer.desk.shown.value.replica)
+        (names_of writer.desk.shown.value.replica)
         writer.desk.shown.value.front (changes writer) }
     ensures { MatchResult result.1
         (λ _. (view result.0.desk.place ≡ with_published (view writer.desk.place)
-        (ops_in (changes writer)))
+        (ops_in (names_of writer.desk.shown.value.replica) (changes writer)))
         × (changes result.0 ≡ [])
         × (replica_state result.0.desk.shown.value.replica
-        ≡ fold step (replica_state writer.desk.shown.value.replica) (ops_in (changes writer)))
+        ≡ fold step (replica_state writer.desk.shown.value.replica) (ops_in (names_of writer.desk.shown.value.replica) (changes writer)))
         × (result.0.desk.shown.value.front ≡ front_after writer.desk.shown.value.front
-        (changes writer)))
+        (changes writer))
+        × (names_of result.0.desk.shown.value.replica
+        ≡ names_at (names_of writer.desk.shown.value.replica) (changes writer)))
         (λ _. (view result.0.desk.place ≡ view writer.desk.place)
         × (result.0.desk.shown.value ≡ writer.desk.shown.value)
         × (changes result.0 ≡ changes writer)) }
@@ -105,11 +113,11 @@ fn reach_batch<A: Cells, K: Batch>(
     writer: &DeskWriter<A>,
 ) -> Result<(), AllocError>
     requires batch { K.batch ≡ after (flat book.old.editions)
-        ((view writer.now.desk.place).seen ++ ops_in (changes writer.now)) }
+        ((view writer.now.desk.place).seen ++ ops_in (names_of writer.now.desk.shown.value.replica) (changes writer.now)) }
     requires begins { Begins (flat book.old.editions)
-        ((view writer.now.desk.place).seen ++ ops_in (changes writer.now)) }
+        ((view writer.now.desk.place).seen ++ ops_in (names_of writer.now.desk.shown.value.replica) (changes writer.now)) }
     ensures reached { OnOk result (flat book.new.editions
-        ≡ (view writer.now.desk.place).seen ++ ops_in (changes writer.now)) }
+        ≡ (view writer.now.desk.place).seen ++ ops_in (names_of writer.now.desk.shown.value.replica) (changes writer.now)) }
     ensures desk { book.new.desk ≡ book.old.desk }
     ensures unchanged { OnErr result (book.new ≡ book.old) }
 {
@@ -121,9 +129,9 @@ fn reach_batch<A: Cells, K: Batch>(
 /// pending.
 fn reach<A: Cells>(book: &mut Editions, writer: &DeskWriter<A>) -> Result<(), AllocError>
     requires begins { Begins (flat book.old.editions)
-        ((view writer.now.desk.place).seen ++ ops_in (changes writer.now)) }
+        ((view writer.now.desk.place).seen ++ ops_in (names_of writer.now.desk.shown.value.replica) (changes writer.now)) }
     ensures reached { OnOk result (flat book.new.editions
-        ≡ (view writer.now.desk.place).seen ++ ops_in (changes writer.now)) }
+        ≡ (view writer.now.desk.place).seen ++ ops_in (names_of writer.now.desk.shown.value.replica) (changes writer.now)) }
     ensures desk { book.new.desk ≡ book.old.desk }
     ensures unchanged { OnErr result (book.new ≡ book.old) }
 {
@@ -141,20 +149,24 @@ pub fn end_edition<A: Cells>(
     requires joined { (view writer.old.desk.place).joined ≡ true }
     requires desk { book.old.desk ≡ (view writer.old.desk.place).desk }
     requires accepted { AllAccepted (replica_state writer.old.desk.shown.value.replica)
-        (ops_in (changes writer.old)) }
+        (ops_in (names_of writer.old.desk.shown.value.replica) (changes writer.old)) }
     requires begins { Begins (flat book.old.editions)
-        ((view writer.old.desk.place).seen ++ ops_in (changes writer.old)) }
+        ((view writer.old.desk.place).seen ++ ops_in (names_of writer.old.desk.shown.value.replica) (changes writer.old)) }
     requires ended { ended ≡ true → IsReady (view writer.old.desk.place)
         (replica_state writer.old.desk.shown.value.replica)
+        (names_of writer.old.desk.shown.value.replica)
         writer.old.desk.shown.value.front (changes writer.old) }
     ensures same_copy { writer.new.desk ≡ writer.old.desk }
     ensures same_desk { book.new.desk ≡ book.old.desk }
-    ensures pending { ops_in (changes writer.new) ≡ ops_in (changes writer.old) }
+    ensures pending { ops_in (names_of writer.old.desk.shown.value.replica) (changes writer.new) ≡ ops_in (names_of writer.old.desk.shown.value.replica) (changes writer.old) }
+    ensures names { names_at (names_of writer.old.desk.shown.value.replica) (changes writer.new)
+        ≡ names_at (names_of writer.old.desk.shown.value.replica) (changes writer.old) }
     ensures unmarked { OnErr result (changes writer.new ≡ changes writer.old) }
     ensures begins { Begins (flat book.new.editions)
-        ((view writer.old.desk.place).seen ++ ops_in (changes writer.old)) }
+        ((view writer.old.desk.place).seen ++ ops_in (names_of writer.old.desk.shown.value.replica) (changes writer.old)) }
     ensures ready { OnOk result (IsReady (view writer.new.desk.place)
         (replica_state writer.new.desk.shown.value.replica)
+        (names_of writer.new.desk.shown.value.replica)
         writer.new.desk.shown.value.front (changes writer.new)) }
 {
     if ended {

@@ -1,14 +1,13 @@
 use Rattle.std.proofs.Common.{rules, ◌≡◌, [], ◌∷◌, ◌++◌, sym, ap, ◌∙◌, subst}
 use Rattle.left_right.specs.Sides.{view}
-use Rattle.rr_cells.specs.ReplicaState.{ReplicaState}
-use Rattle.rr_replica.specs.ReplicaWithRoom.{replica_state}
+use Rattle.rr_replica.specs.ReplicaWithRoom.{ReplicaWithRoom, replica_state}
 use Rattle.rr_desk.specs.declared.rule.View.{View}
-use Rattle.rr_desk.specs.declared.shown.Change.TheVariants.{Edition}
-use Rattle.rr_desk.specs.Changes.{ops_in}
+use Rattle.rr_desk.specs.declared.change.Change.TheVariants.{Edition}
+use Rattle.rr_desk.specs.Changes.{names_at, names_of, ops_in}
 use Rattle.rr_desk.specs.Editions.{BookFront, flat}
 use Rattle.rr_desk.specs.KeeperState.{IsReady}
 use Rattle.rr_desk.specs.Writers.{changes}
-use Rattle.rr_desk.proofs.ChangesLemmas.{ops_in-end_edition}
+use Rattle.rr_desk.proofs.ChangesLemmas.{names_at-more, ops_in-end_edition}
 use Rattle.rr_desk.proofs.KeeperStateLemmas.{ended}
 use Rattle.rr_desk.proofs.writing.end_edition.Goals as goal
 
@@ -17,7 +16,8 @@ returns-clause-pending g c =
     let w = c.args.writer.now in
     let n = c.append.new.self in
     let more : changes n ≡ changes w ++ Edition c.reach.new.book ∷ [] = search rules in
-    ap ops_in more ∙ ops_in-end_edition (changes w) c.reach.new.book
+    let names = names_of w.desk.shown.value.replica in
+    ap (ops_in names) more ∙ ops_in-end_edition names (changes w) c.reach.new.book
 
 pub returns-clause-ready : goal.returns-clause-ready
 returns-clause-ready g c =
@@ -26,9 +26,18 @@ returns-clause-ready g c =
     let b = c.reach.new.book in
     let desk = sym c.append.ensures.desk in
     let more : changes n ≡ changes w ++ Edition b ∷ [] = search rules in
-    let whole : flat b.editions ≡ (view w.desk.place).seen ++ ops_in (changes w) = search rules in
+    let whole : flat b.editions ≡ (view w.desk.place).seen
+    ++ ops_in (names_of w.desk.shown.value.replica) (changes w) = search rules in
     let same : b.desk ≡ c.args.book.now.desk = search rules in
-    subst (λ (z : View × ReplicaState × BookFront). IsReady z.0 z.1 z.2 (changes n))
-    (λ i. (view (desk i).place, replica_state (desk i).shown.value.replica, (desk i).shown.value.front))
-    (ended (view w.desk.place) (replica_state w.desk.shown.value.replica) w.desk.shown.value.front b (changes w)
+    subst (λ (z : View × ReplicaWithRoom × BookFront). IsReady z.0 (replica_state z.1) (names_of z.1) z.2 (changes n))
+    (λ i. (view (desk i).place, (desk i).shown.value.replica, (desk i).shown.value.front))
+    (ended (view w.desk.place) (replica_state w.desk.shown.value.replica) (names_of w.desk.shown.value.replica) w.desk.shown.value.front b (changes w)
     (changes n) c.requires.writes c.requires.joined c.requires.accepted (same ∙ c.requires.desk) whole more)
+
+pub returns-clause-names : goal.returns-clause-names
+returns-clause-names g c =
+    let w = c.args.writer.now in
+    let n = c.append.new.self in
+    let more : changes n ≡ changes w ++ Edition c.reach.new.book ∷ [] = search rules in
+    let names = names_of w.desk.shown.value.replica in
+    ap (names_at names) more ∙ names_at-more names (changes w) (Edition c.reach.new.book)

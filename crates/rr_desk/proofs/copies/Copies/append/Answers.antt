@@ -1,65 +1,108 @@
-use Rattle.std.proofs.Common.{rules, true, false, ◌≡◌, [], ◌∷◌, ◌++◌, sym, ap, ◌∙◌, subst}
+use Rattle.std.proofs.Common.{rules, true, false, ◌≡◌, [], ◌∷◌, ◌++◌, true≢false, sym, ap, ◌∙◌, subst}
+use Rattle.std.specs.Prelude.{IsOk}
 use Rattle.left_right.specs.Sides.{view}
 use Rattle.rr_cells.specs.ReplicaState.{ReplicaState}
 use Rattle.rr_cells.specs.Operations.{accepts, step}
-use Rattle.rr_replica.specs.ReplicaWithRoom.{replica_state}
+use Rattle.rr_replica.specs.ReplicaWithRoom.{ReplicaWithRoom, replica_state}
 use Rattle.rr_desk.specs.declared.rule.View.{View}
-use Rattle.rr_desk.specs.declared.shown.Change.TheVariants.{Apply}
-use Rattle.rr_desk.specs.Changes.{ops_in}
+use Rattle.rr_desk.specs.Changes.{AreNamed, IsOwn, names_of, ops_in}
 use Rattle.rr_desk.specs.Editions.{BookFront}
 use Rattle.rr_desk.specs.KeeperState.{KeeperState, IsKeeper}
 use Rattle.rr_desk.specs.Writers.{changes}
-use Rattle.rr_desk.proofs.ChangesLemmas.{ops_in-apply}
-use Rattle.rr_desk.proofs.KeeperStateLemmas.{keeper-push, own-state, push-state}
+use Rattle.rr_desk.proofs.KeeperStateLemmas.{keeper-named, keeper-push, own-state, push-state, tied-origin}
+use Rattle.rr_desk.proofs.NamingLemmas.{named-pushed, ops-appended, own-accepted}
 use Rattle.rr_desk.proofs.copies.Copies.append.Goals as goal
 
 pub invariant_of-self-2 : goal.invariant_of-self-2
 invariant_of-self-2 g c =
-    let o = c.self.inside.writer in
+    let k = c.self.inside in
+    let o = k.writer in
+    let w = c.name_keys.new.writer in
     let n = c.append.new.self in
-    let op = c.args.op in
-    let desk = sym {a = n.desk} c.append.ensures.desk in
-    let longer : changes n ≡ changes o ++ Apply op ∷ [] = search rules in
-    let is : replica_state c.apply_near.new.self ≡ step (replica_state c.self.inside.own) op = search rules in
-    let may : accepts (replica_state c.self.inside.own) op ≡ true =
-    ap (λ (h : ReplicaState). accepts h op) (own-state _ _ _ _ _ _ _ _ _ c.self.invariant c.self.view_is)
+    let names = names_of o.desk.shown.value.replica in
+    let op = c.args.op.now in
+    let desk = sym (c.append.ensures.desk ∙ c.name_keys.ensures.desk) in
+    let may : accepts (replica_state k.own) op ≡ true =
+    ap (λ (h : ReplicaState). accepts h op) (own-state _ _ _ _ _ _ _ _ _ _ c.self.invariant.0 c.self.view_is)
     ∙ c.requires in
-    subst (λ (z : View × ReplicaState × BookFront). IsKeeper z.0 z.1 (replica_state c.apply_near.new.self) z.2
-    c.self.inside.book (changes n) false) (λ i. (
-      view (desk i).place,
-      replica_state (desk i).shown.value.replica,
-      (desk i).shown.value.front,
-    ))
-    (keeper-push _ _ _ _ _ _ _ _ _ op c.self.invariant may is longer)
+    let mine : IsOwn names.origin op = subst (λ origin. IsOwn origin op)
+    (tied-origin _ _ _ _ c.self.invariant.0.tied) (own-accepted (replica_state k.own) op may) in
+    let longer : changes n ≡ changes w ++ c.in_ok-change.change ∷ [] = search rules in
+    let left : ops_in names (changes n) ≡ ops_in names (changes o) ++ op ∷ [] = ops-appended names
+    c.ready_series.new.self.keys (changes o) (changes w) (changes n) c.name_keys.new.named c.in_ok-series.series op
+    c.in_ok-change.change c.in_ok-name_keys.ensures.named c.in_ok-name_keys.ensures.all c.in_ok-series.ensures.key mine
+    c.in_ok-change.ensures c.in_ok-name_keys.ensures.pending longer in
+    let is : replica_state c.apply_numbered.new.self ≡ step (replica_state k.own) op =
+    c.in_ok-apply_numbered.ensures.applied ∙ ap (λ (h : ReplicaState). step h op) c.ready_series.ensures.unchanged in
+    let named = named-pushed names c.ready_series.new.self.keys (changes w) c.name_keys.new.named
+    c.in_ok-name_keys.ensures.named c.in_ok-series.series op c.in_ok-change.change (changes n) c.in_ok-change.ensures
+    longer in
+    subst (λ (z : View × ReplicaWithRoom × BookFront). IsKeeper z.0 (replica_state z.1) (names_of z.1)
+    (replica_state c.apply_numbered.new.self) z.2 k.book (changes n) false
+    × AreNamed (names_of z.1) c.apply_numbered.new.self.keys (changes n) c.name_keys.new.named)
+    (λ i. (view (desk i).place, (desk i).shown.value.replica, (desk i).shown.value.front)) (
+      keeper-push (view o.desk.place) (replica_state o.desk.shown.value.replica) names (replica_state k.own)
+          (replica_state c.apply_numbered.new.self) o.desk.shown.value.front k.book (changes o) (changes n) k.ended op
+          c.self.invariant.0 may is left,
+      subst (λ keys. AreNamed names keys (changes n) c.name_keys.new.named) (sym c.apply_numbered.ensures.keys) named,
+    )
 
 pub returns-clause-pending : goal.returns-clause-pending
 returns-clause-pending g c =
-    let o = c.self.inside.writer in
+    let k = c.self.inside in
+    let o = k.writer in
+    let w = c.name_keys.new.writer in
     let n = c.append.new.self in
-    let op = c.args.op in
-    let k = c.args.self.now in
-    let desk = c.append.ensures.desk in
-    let longer : changes n ≡ changes o ++ Apply op ∷ [] = search rules in
-    let is : replica_state c.apply_near.new.self ≡ step (replica_state c.self.inside.own) op = search rules in
-    let own = own-state _ _ _ _ _ _ _ _ _ c.self.invariant c.self.view_is in
-    let seen : (view n.desk.place).seen ≡ k.published = (λ i. (view (desk i).place).seen)
-    ∙ ap (λ (s : KeeperState). s.published) c.self.view_is in
-    let same : (view n.desk.place).desk ≡ k.desk = (λ i. (view (desk i).place).desk)
-    ∙ ap (λ (s : KeeperState). s.desk) c.self.view_is in
-    let more : ops_in (changes n) ≡ k.pending ++ op ∷ [] = ap ops_in longer
-    ∙ (ops_in-apply (changes o) op ∙ ap (λ (s : KeeperState). s.pending ++ op ∷ []) c.self.view_is) in
-    push-state k (replica_state c.apply_near.new.self) op _ _ _ c.requires
-    (is ∙ ap (λ (h : ReplicaState). step h op) own) same seen more
+    let names = names_of o.desk.shown.value.replica in
+    let op = c.args.op.now in
+    let s = c.args.self.now in
+    let desk = c.append.ensures.desk ∙ c.name_keys.ensures.desk in
+    let may : accepts (replica_state k.own) op ≡ true =
+    ap (λ (h : ReplicaState). accepts h op) (own-state _ _ _ _ _ _ _ _ _ _ c.self.invariant.0 c.self.view_is)
+    ∙ c.requires in
+    let mine : IsOwn names.origin op = subst (λ origin. IsOwn origin op)
+    (tied-origin _ _ _ _ c.self.invariant.0.tied) (own-accepted (replica_state k.own) op may) in
+    let longer : changes n ≡ changes w ++ c.in_ok-change.change ∷ [] = search rules in
+    let left : ops_in names (changes n) ≡ ops_in names (changes o) ++ op ∷ [] = ops-appended names
+    c.ready_series.new.self.keys (changes o) (changes w) (changes n) c.name_keys.new.named c.in_ok-series.series op
+    c.in_ok-change.change c.in_ok-name_keys.ensures.named c.in_ok-name_keys.ensures.all c.in_ok-series.ensures.key mine
+    c.in_ok-change.ensures c.in_ok-name_keys.ensures.pending longer in
+    let own = own-state _ _ _ _ _ _ _ _ _ _ c.self.invariant.0 c.self.view_is in
+    let seen : (view n.desk.place).seen ≡ s.published = (λ i. (view (desk i).place).seen)
+    ∙ ap (λ (z : KeeperState). z.published) c.self.view_is in
+    let same : (view n.desk.place).desk ≡ s.desk = (λ i. (view (desk i).place).desk)
+    ∙ ap (λ (z : KeeperState). z.desk) c.self.view_is in
+    let more : ops_in (names_of n.desk.shown.value.replica) (changes n) ≡ s.pending ++ op ∷ [] =
+    (λ i. ops_in (names_of (desk i).shown.value.replica) (changes n))
+    ∙ (left ∙ ap (λ (z : KeeperState). z.pending ++ op ∷ []) c.self.view_is) in
+    push-state s (replica_state c.apply_numbered.new.self) op _ _ _ c.requires
+    (c.in_ok-apply_numbered.ensures.applied ∙ ap (λ (h : ReplicaState). step h op)
+    (c.ready_series.ensures.unchanged ∙ own)) same seen more
 
 -- where nothing could be appended, all is as before
 pub invariant_of-self-then-is_err : goal.invariant_of-self-then-is_err
 invariant_of-self-then-is_err g c =
-    let o = c.self.inside.writer in
+    let k = c.self.inside in
+    let o = k.writer in
+    let w = c.name_keys.new.writer in
     let n = c.append.new.self in
-    let desk = sym {a = n.desk} c.append.ensures.desk in
-    let same : changes n ≡ changes o = search rules in
-    let own : replica_state c.ready_near.new.self ≡ replica_state c.self.inside.own = c.ready_near.ensures.unchanged in
-    rw (own, same) (subst (λ (z : View × ReplicaState × BookFront). IsKeeper z.0 z.1 (replica_state c.self.inside.own)
-    z.2 c.self.inside.book (changes o) c.self.inside.ended)
-    (λ i. (view (desk i).place, replica_state (desk i).shown.value.replica, (desk i).shown.value.front))
-    c.self.invariant)
+    let names = names_of o.desk.shown.value.replica in
+    let desk = sym (c.append.ensures.desk ∙ c.name_keys.ensures.desk) in
+    let same : changes n ≡ changes w = search rules in
+    let kept = subst (λ (own : ReplicaState). IsKeeper (view o.desk.place)
+    (replica_state o.desk.shown.value.replica) names own o.desk.shown.value.front k.book (changes w) k.ended)
+    (sym c.ready_series.ensures.unchanged)
+    (keeper-named (view o.desk.place) (replica_state o.desk.shown.value.replica) names (replica_state k.own)
+    o.desk.shown.value.front k.book (changes o) (changes w) k.ended c.self.invariant.0
+    c.name_keys.ensures.pending (c.name_keys.ensures.front o.desk.shown.value.front)) in
+    rw same (subst (λ (z : View × ReplicaWithRoom × BookFront). IsKeeper z.0 (replica_state z.1) (names_of z.1)
+    (replica_state c.ready_series.new.self) z.2 k.book (changes w) k.ended
+    × AreNamed (names_of z.1) c.ready_series.new.self.keys (changes w) c.name_keys.new.named)
+    (λ i. (view (desk i).place, (desk i).shown.value.replica, (desk i).shown.value.front))
+    (kept, c.name_keys.ensures.named))
+
+-- room was made, so it is applied
+pub invariant_of-self-in_err-apply_numbered : goal.invariant_of-self-in_err-apply_numbered
+invariant_of-self-in_err-apply_numbered g c =
+    let ok : IsOk c.apply_numbered.result = c.apply_numbered.ensures.room c.in_ok-series.ensures.room in
+    absurd (true≢false (sym (subst IsOk c.in_err-apply_numbered.was ok)))

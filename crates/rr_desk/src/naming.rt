@@ -1,0 +1,61 @@
+//! Keys that the copies lack, which they get before operations on their series.
+ghost use Rattle.std.specs.Prelude.{◌≡◌, ◌+◌, ◌<◌, ◌≤◌, length, OnErr, OnOk};
+ghost use Rattle.rr_desk.specs.Changes.{front_after, names_of, ops_in, AreNamed};
+ghost use Rattle.rr_desk.specs.Editions.{BookFront};
+ghost use Rattle.rr_desk.specs.Writers.{changes};
+
+use crate::change::Change;
+use crate::writing::DeskWriter;
+use rr_archive::Cells;
+use rr_replica::Replica;
+use std::alloc::AllocError;
+
+/// Adds to the pending changes the first of the keeper's keys that the copies will lack.
+fn name_key<A: Cells>(
+    writer: &mut DeskWriter<A>,
+    own: &Replica<A>,
+    named: usize,
+) -> Result<(), AllocError>
+    requires there { named < length own.now.keys }
+    requires named { AreNamed (names_of writer.old.desk.shown.value.replica) own.now.keys
+        (changes writer.old) named }
+    ensures desk { writer.new.desk ≡ writer.old.desk }
+    ensures pending { ops_in (names_of writer.old.desk.shown.value.replica) (changes writer.new)
+        ≡ ops_in (names_of writer.old.desk.shown.value.replica) (changes writer.old) }
+    ensures front { (s : BookFront) → front_after s (changes writer.new)
+        ≡ front_after s (changes writer.old) }
+    ensures named { OnOk result (AreNamed (names_of writer.old.desk.shown.value.replica)
+        own.now.keys (changes writer.new) (named + 1)) }
+    ensures unchanged { OnErr result (changes writer.new ≡ changes writer.old) }
+{
+    let key = own.key_numbered(named).copy()?;
+    if writer.append(Change::AddKey(key)).is_err() {
+        return Err(AllocError);
+    }
+    Ok(())
+}
+
+/// Adds to the pending changes the keeper's keys that the copies will lack: it is at most one, unless
+/// memory ran out before. `named` says how many they will have.
+pub fn name_keys<A: Cells>(
+    writer: &mut DeskWriter<A>,
+    own: &Replica<A>,
+    named: &mut usize,
+) -> Result<(), AllocError>
+    requires { AreNamed (names_of writer.old.desk.shown.value.replica) own.now.keys
+        (changes writer.old) named.old }
+    ensures desk { writer.new.desk ≡ writer.old.desk }
+    ensures pending { ops_in (names_of writer.old.desk.shown.value.replica) (changes writer.new)
+        ≡ ops_in (names_of writer.old.desk.shown.value.replica) (changes writer.old) }
+    ensures front { (s : BookFront) → front_after s (changes writer.new)
+        ≡ front_after s (changes writer.old) }
+    ensures named { AreNamed (names_of writer.old.desk.shown.value.replica) own.now.keys
+        (changes writer.new) named.new }
+    ensures all { OnOk result (length own.now.keys ≤ named.new) }
+{
+    for number in *named..own.key_count() {
+        name_key(writer, own, number)?;
+        *named = number + 1;
+    }
+    Ok(())
+}
