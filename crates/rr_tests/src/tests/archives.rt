@@ -9,7 +9,6 @@ use rr_contrib::Contribution;
 use rr_packed::PackedArchive;
 use rr_ring::RingArchive;
 use std::alloc::{AllocError, Global};
-use std::test::Fail;
 
 /// An archive of three rows that holds no cell, with room for one.
 fn with_room<A: Cells>(alloc: Global, slot: i64, origin: Origin) -> Result<A, AllocError>
@@ -31,24 +30,32 @@ fn put_first<A: Cells>(archive: &mut A, slot: i64, origin: Origin) -> Result<(),
 
 /// The cells, the newest slot and the last value there of the copy of an archive, into which a
 /// sample was put for which there was room, and then a cell was joined.
-fn copied<A: Cells>(alloc: Global) -> Result<(usize, Option<i64>, Option<i64>), Fail> {
-    let origin = Origin::new(1)?;
-    let mut archive: A = with_room(alloc, 1, origin)?;
-    put_first(&mut archive, 1, origin)?;
-    archive.join_cell(2, origin, &Contribution::first(2, 0, 120_000_000_000, 9))?;
-    let copy = archive.copy(alloc)?;
+fn copied<A: Cells>(alloc: Global) -> Option<(usize, Option<i64>, Option<i64>)> {
+    let origin = Origin::new(1).ok()?;
+    let mut archive: A = with_room(alloc, 1, origin).ok()?;
+    put_first(&mut archive, 1, origin).ok()?;
+    let second = Contribution::first(2, 0, 120_000_000_000, 9);
+    archive.join_cell(2, origin, &second).ok()?;
+    let copy = archive.copy(alloc).ok()?;
+    Some((copy.cell_count(), copy.newest(), last_value(alloc, &copy)))
+}
+
+/// The last value of the first cell in slot 2 of an archive.
+fn last_value<A: Cells>(alloc: Global, archive: &A) -> Option<i64> {
     let mut row = Vec::new(alloc);
-    copy.entries_into(2, &mut row)?;
-    let last = row.first().map(|entry| entry.contribution.last_value);
-    Ok((copy.cell_count(), copy.newest(), last))
+    archive.entries_into(2, &mut row).ok()?;
+    row.first().map(|entry| entry.contribution.last_value)
+}
+
+/// Whether an archive of a kind takes both.
+fn takes_both<A: Cells>(alloc: Global) -> bool {
+    copied::<A>(alloc) == Some((2, Some(2), Some(9)))
 }
 
 #[test]
-fn an_archive_takes_samples_and_cells(rt: HostRuntime) -> Result<(), Fail> {
-    let plain = copied::<PlainArchive>(rt.alloc())?;
-    let ring = copied::<RingArchive>(rt.alloc())?;
-    let packed = copied::<PackedArchive>(rt.alloc())?;
-    let all = (2, Some(2), Some(9));
-    assert_eq!(rt; (plain, ring, packed), (all, all, all));
-    Ok(())
+fn an_archive_takes_samples_and_cells(rt: HostRuntime) {
+    let plain = takes_both::<PlainArchive>(rt.alloc());
+    let ring = takes_both::<RingArchive>(rt.alloc());
+    let packed = takes_both::<PackedArchive>(rt.alloc());
+    assert_eq!(rt; (plain, ring, packed), (true, true, true));
 }

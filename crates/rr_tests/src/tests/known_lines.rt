@@ -1,24 +1,39 @@
 //! Lines that are read by the key texts of their series.
 
-use anyhow::Result;
 use rr_key::SeriesKey;
 use rr_line::{KnownLine, LastTime, Precision, read_known};
 use std::alloc::Global;
-use std::fmt::Write;
 use std::test::Fail;
 
-/// What is read of a line by a key text: the value and the time, -1 where there is none, or `-`.
-fn known(alloc: Global, line: &str, key: &str, last: &mut LastTime) -> Result<String> {
-    let key = SeriesKey::parse_text(alloc, key.as_bytes())?;
-    let read = read_known(line.as_bytes(), key.text(), Precision::S, last);
-    let text = match read {
-        Some((value, time)) => format!(in alloc; "{value} {}", time.unwrap_or(-1))?,
-        None => format!(in alloc; "-")?,
-    };
-    Ok(text)
+/// Up to four numbers that were read one after the other, the last one at the end.
+type Numbers = [i64; 4];
+
+/// Adds a number at the end.
+fn push(numbers: &mut Numbers, number: i64) {
+    let [_, second, third, last] = *numbers;
+    *numbers = [second, third, last, number];
 }
 
-/// A line, the key text that is expected, and what is read, with a `|` between two of them.
+/// What is to be read, if a text says that: numbers, or nothing where it is `-`.
+fn wanted_of(text: &str) -> Option<Option<Numbers>> {
+    if text == "-" {
+        return Some(None);
+    }
+    let mut numbers = [0; 4];
+    for word in text.split(' ') {
+        push(&mut numbers, word.parse().ok()?);
+    }
+    Some(Some(numbers))
+}
+
+/// What is read of a line by a key.
+fn known(line: &str, key: &SeriesKey, last: &mut LastTime) -> Option<Numbers> {
+    let (value, time) = read_known(line.as_bytes(), key.text(), Precision::S, last)?;
+    Some([0, 0, value, time.unwrap_or(-1)])
+}
+
+/// A line, the key text that is expected, and what is read: the value and the time, -1 where there
+/// is none, or `-`. There is a `|` between two of them.
 const LINES: &str = "m,a=1 v=5i 7|m,a=1 v|5 7000000000
 m,a=1 v=-6i 7|m,a=1 v|-6 7000000000
   m,a=1 v=007i  7 |m,a=1 v|7 7000000000
@@ -43,54 +58,52 @@ m,a=1 v=5i 9223372037|m,a=1 v|-
 m v|m v|-
 |m v|-";
 
+/// Whether what a line of these says is read.
+fn is_known(alloc: Global, said: &str, last: &mut LastTime) -> Option<bool> {
+    let (line, rest) = said.split_once('|')?;
+    let (key, wanted) = rest.split_once('|')?;
+    let key = SeriesKey::parse_text(alloc, key.as_bytes()).ok()?;
+    Some(known(line, &key, last) == wanted_of(wanted)?)
+}
+
 #[test]
-fn lines_are_known_by_their_key_texts(rt: HostRuntime) -> Result<()> {
+fn lines_are_known_by_their_key_texts(rt: HostRuntime) -> Result<(), Fail> {
     let mut last = LastTime::new();
-    let mut agrees = true;
-    for line in LINES.split('\n') {
-        let parts: Vec<&str> = line.split('|').collect(rt.alloc())?;
-        if let [line, key, expected] = parts.as_slice() {
-            let read = known(rt.alloc(), line, key, &mut last)?;
-            agrees = agrees && read.as_str() == *expected;
-        } else {
-            agrees = false;
-        }
+    for said in LINES.split('\n') {
+        assert!(rt; is_known(rt.alloc(), said, &mut last) == Some(true));
     }
-    assert!(rt; agrees);
     Ok(())
 }
 
-/// What is read of a line by some key texts, one for each field: the values and the time, or `-`.
-fn known_fields(alloc: Global, line: &str, keys: &[&str], last: &mut LastTime) -> Result<String> {
-    let mut made: Vec<SeriesKey> = Vec::new(alloc);
-    for key in keys {
-        made.push(SeriesKey::parse_text(alloc, key.as_bytes())?)?;
+/// The keys of texts with a `|` between two.
+fn keys_of(alloc: Global, texts: &str) -> Option<Vec<SeriesKey>> {
+    let mut keys = Vec::new(alloc);
+    for text in texts.split('|') {
+        let key = SeriesKey::parse_text(alloc, text.as_bytes()).ok()?;
+        keys.push(key).ok()?;
     }
-    let mut text = String::new(alloc);
-    let none = format!(in alloc; "-")?;
-    let [first, others @ ..] = made.as_slice() else {
-        return Ok(none);
-    };
-    let Some((value, read)) = KnownLine::first_field(line.as_bytes(), first.text()) else {
-        return Ok(none);
-    };
-    write!(text, "{value} ")?;
-    let mut read = read;
-    for key in others {
-        let Some((value, next)) = read.next_field(key.text()) else {
-            return Ok(none);
-        };
-        write!(text, "{value} ")?;
-        read = next;
-    }
-    match read.time(Precision::S, last) {
-        Some(time) => write!(text, "{}", time.unwrap_or(-1))?,
-        None => return Ok(none),
-    }
-    Ok(text)
+    Some(keys)
 }
 
-/// A line, the key texts that are expected, and what is read, with a `|` between two of them.
+/// What is read of a line by some keys, one for each field.
+fn known_fields(line: &str, keys: &[SeriesKey], last: &mut LastTime) -> Option<Numbers> {
+    let [first, others @ ..] = keys else {
+        return None;
+    };
+    let (value, read) = KnownLine::first_field(line.as_bytes(), first.text())?;
+    let mut numbers = [0, 0, 0, value];
+    let mut read = read;
+    for key in others {
+        let (value, next) = read.next_field(key.text())?;
+        push(&mut numbers, value);
+        read = next;
+    }
+    let time = read.time(Precision::S, last)?;
+    push(&mut numbers, time.unwrap_or(-1));
+    Some(numbers)
+}
+
+/// A line, the key texts that are expected, and what is read: the values and the time, or `-`.
 const MANY: &str = "m,a=1 u=1i,v=2i,w=-3i 7|m,a=1 u|m,a=1 v|m,a=1 w|1 2 -3 7000000000
 m,a=1 u=1i,v=2i|m,a=1 u|m,a=1 v|1 2 -1
 m,a=1 u=1i 7|m,a=1 u|1 7000000000
@@ -105,19 +118,19 @@ m,a=1 u=1i,v\\ w=2i 7|m,a=1 u|m,a=1 v\\ w|-
 m,a=1 u=1i,v=2 7|m,a=1 u|m,a=1 v|-
 m,a=1 u=1i, v=2i 7|m,a=1 u|m,a=1 v|-";
 
+/// Whether what a line of these says is read.
+fn are_known(alloc: Global, said: &str, last: &mut LastTime) -> Option<bool> {
+    let (line, rest) = said.split_once('|')?;
+    let (texts, wanted) = rest.rsplit_once('|')?;
+    let keys = keys_of(alloc, texts)?;
+    Some(known_fields(line, &keys, last) == wanted_of(wanted)?)
+}
+
 #[test]
-fn fields_are_known_by_their_key_texts(rt: HostRuntime) -> Result<()> {
+fn fields_are_known_by_their_key_texts(rt: HostRuntime) -> Result<(), Fail> {
     let mut last = LastTime::new();
-    let mut agrees = true;
-    for line in MANY.split('\n') {
-        let parts: Vec<&str> = line.split('|').collect(rt.alloc())?;
-        if let [line, keys @ .., expected] = parts.as_slice() {
-            let read = known_fields(rt.alloc(), line, keys, &mut last)?;
-            agrees = agrees && read.as_str() == *expected;
-        } else {
-            agrees = false;
-        }
+    for said in MANY.split('\n') {
+        assert!(rt; are_known(rt.alloc(), said, &mut last) == Some(true));
     }
-    assert!(rt; agrees);
     Ok(())
 }
