@@ -95,6 +95,38 @@ type Told = (
     Option<bool>,
 );
 
+/// Keeps a round of a new desk with these connections, and a shelf without room.
+fn told_of<R: Wait>(
+    rt: &R,
+    alloc: Global,
+    lines: &mut Prepared,
+    dial: &mut PreparedDial,
+    config: &Config,
+    opens: Option<bool>,
+) -> Option<Told> {
+    let replica = minutes::<PlainArchive>(alloc, 2, 3).ok()?;
+    let (mut keeper, _readers) = open(alloc, rt, replica, 1).ok()?;
+    let mut shelf = NoRoom {
+        opens,
+        peer: None,
+        save: None,
+        whole: None,
+    };
+    let mut clock = Moments::new(Vec::new(alloc));
+    let came = keep_round(
+        alloc,
+        &mut keeper,
+        lines,
+        dial,
+        &mut shelf,
+        &mut clock,
+        config,
+        rt,
+    );
+    keeper.close(rt);
+    Some((came.ok(), shelf.peer, shelf.save, shelf.whole))
+}
+
 /// Keeps a round of a new desk to which these connections come, with a peer that sends no frame,
 /// and a shelf without room.
 fn told<R: Wait>(
@@ -110,27 +142,7 @@ fn told<R: Wait>(
         sends: Some(b"\xff\xff\xff\xff".as_slice()),
     }];
     let mut dial = PreparedDial::new(alloc, &peers, 2).ok()?;
-    let replica = minutes::<PlainArchive>(alloc, 2, 3).ok()?;
-    let (mut keeper, _readers) = open(alloc, rt, replica, 1).ok()?;
-    let mut shelf = NoRoom {
-        opens,
-        peer: None,
-        save: None,
-        whole: None,
-    };
-    let mut clock = Moments::new(Vec::new(alloc));
-    let came = keep_round(
-        alloc,
-        &mut keeper,
-        &mut lines,
-        &mut dial,
-        &mut shelf,
-        &mut clock,
-        &config,
-        rt,
-    );
-    keeper.close(rt);
-    Some((came.ok(), shelf.peer, shelf.save, shelf.whole))
+    told_of(rt, alloc, &mut lines, &mut dial, &config, opens)
 }
 
 /// The fault of the second peer.

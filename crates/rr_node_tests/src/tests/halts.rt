@@ -106,6 +106,36 @@ fn readers<R: Wait>(rt: &R, alloc: Global) -> Option<Vec<Reader<PackedArchive>>>
     Some(readers)
 }
 
+/// Two that send: one that is silent, and one that has sent the text.
+fn senders<R: Net<Stream = TcpStream>>(
+    rt: &R,
+    silent: SocketAddr,
+    sending: SocketAddr,
+) -> Option<(TcpStream, TcpStream)> {
+    let silent = TcpStream::connect(rt, silent).ok()?;
+    let mut sender = TcpStream::connect(rt, sending).ok()?;
+    sender.write_all(TEXT).ok()?;
+    Some((silent, sender))
+}
+
+/// Whether a node with a keeper for which memory runs out ends for want of memory.
+fn is_starved<R>(
+    rt: &R,
+    alloc: Global,
+    lines: &mut Listening,
+    seats: &mut TcpSeats,
+    config: &Config,
+) -> Option<bool>
+where
+    R: Files + Eprint + Net<Listener = TcpListener, Stream = TcpStream> + Threads + Wait + Sync,
+{
+    let replica = minutes::<Starved<PlainArchive>>(alloc, 2, 3).ok()?;
+    let (mut keeper, _readers) = open(alloc, rt, replica, 1).ok()?;
+    let served = serve(rt, alloc, &mut keeper, lines, seats, config);
+    keeper.close(rt);
+    Some(!served?)
+}
+
 /// Whether a node ends when its keeper, or else its second reader, runs out of memory over the
 /// text. Meanwhile the other of the two waits for a connection, and the first reader for a sender
 /// that is silent.
@@ -115,17 +145,13 @@ where
 {
     let config = Config::from_toml(alloc, CONFIG).ok()?;
     let halt = HaltFlag::new(alloc).ok()?;
+    let readers = readers(rt, alloc)?;
     let (mut lines, fetch, (keepers, first, second)) = listen_on_all(rt, alloc, &config, &halt)?;
-    let silent = TcpStream::connect(rt, first).ok()?;
-    let mut sender = TcpStream::connect(rt, if to_keeper { keepers } else { second }).ok()?;
-    sender.write_all(TEXT).ok()?;
-    let mut seats = seats(alloc, readers(rt, alloc)?, fetch, &halt)?;
-    let replica = minutes::<Starved<PlainArchive>>(alloc, 2, 3).ok()?;
-    let (mut keeper, _readers) = open(alloc, rt, replica, 1).ok()?;
-    let served = serve(rt, alloc, &mut keeper, &mut lines, &mut seats, &config);
-    keeper.close(rt);
-    drop(silent);
-    Some(!served?)
+    let mut seats = seats(alloc, readers, fetch, &halt)?;
+    let senders = senders(rt, first, if to_keeper { keepers } else { second })?;
+    let is_starved = is_starved(rt, alloc, &mut lines, &mut seats, &config);
+    drop(senders);
+    is_starved
 }
 
 #[test]

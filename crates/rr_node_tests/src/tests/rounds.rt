@@ -91,6 +91,20 @@ type Done = (
     Option<bool>,
 );
 
+/// What a node did that ended so, by what it dialed and what its shelf was told.
+fn done_by(
+    alloc: Global,
+    config: &Config,
+    served: Result<(), NodeFault>,
+    dial: PreparedDial,
+    shelf: PreparedShelf,
+) -> Option<Done> {
+    let failed = told(shelf.calls()?);
+    let is_sent = dial.into_last()?.as_slice() == SENT.as_slice();
+    let is_saved = is_loaded(alloc, config, &shelf.into_last()?);
+    Some((served, failed, is_sent, is_saved))
+}
+
 /// Serves as a node that keeps one round, to which an empty connection comes, and for whose seats
 /// memory suffices or not.
 fn kept<R: Wait + Threads + Sync>(
@@ -121,10 +135,7 @@ fn kept<R: Wait + Threads + Sync>(
         alloc, keeper, &mut lines, &mut dial, &mut shelf, &mut seats, &mut halt, &mut clock,
         config, rt,
     );
-    let failed = told(shelf.calls()?);
-    let is_sent = dial.into_last()?.as_slice() == SENT.as_slice();
-    let is_saved = is_loaded(alloc, config, &shelf.into_last()?);
-    Some((served, failed, is_sent, is_saved))
+    done_by(alloc, config, served, dial, shelf)
 }
 
 /// What the keeper of a new desk of origin 2 does, as [`kept`] has it.
