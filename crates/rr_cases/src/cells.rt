@@ -66,8 +66,17 @@ fn push_read(
 ) -> Result<(), AllocError> {
     push_fields(output, cell)?;
     let is_same = cell_bytes(alloc, as_ref(cell))?.as_slice() == bytes;
-    let which = if is_same { "the same" } else { "other" };
-    write!(output, ": {} bytes, {which} again", bytes.len())
+    write!(
+        output,
+        ": {} bytes, {} again",
+        bytes.len(),
+        sameness(is_same)
+    )
+}
+
+/// The word for bytes that are the same as others or aren't.
+pub(crate) fn sameness(is_same: bool) -> &'static str {
+    if is_same { "the same" } else { "other" }
 }
 
 /// A cell as it is lent.
@@ -81,11 +90,16 @@ pub(crate) fn as_ref(cell: &Cell) -> CellRef<'_> {
     }
 }
 
-/// The fields of a cell in their order.
-pub(crate) fn push_fields(output: &mut String, cell: &Cell) -> Result<(), AllocError> {
+/// The key, the archive, the slot and the origin of a cell.
+fn push_name(output: &mut String, cell: CellRef<'_>) -> Result<(), AllocError> {
     let key = str::from_utf8(cell.key.text()).unwrap_or("");
     let (archive, slot, origin) = (cell.archive, cell.slot, cell.origin.get());
-    write!(output, "{key} {archive} {slot} {origin} ")?;
+    write!(output, "{key} {archive} {slot} {origin} ")
+}
+
+/// The fields of a cell in their order.
+pub(crate) fn push_fields(output: &mut String, cell: &Cell) -> Result<(), AllocError> {
+    push_name(output, as_ref(cell))?;
     let summary = cell.contribution;
     let (version, count, sum) = (summary.version, summary.count, summary.sum);
     let (min, max) = (summary.min, summary.max);

@@ -2,9 +2,11 @@
 //! two of them.
 
 use crate::documents::{push_schema, texts};
+use crate::printed::push_line;
 use rr_config::{Config, remarks};
 use rr_line::Precision;
 use std::alloc::{AllocError, Global};
+use std::fmt::Display;
 
 /// For each text its configuration, the schema first, or why it is refused.
 pub(crate) fn answers(alloc: Global, input: &[u8]) -> Result<Vec<u8>, AllocError> {
@@ -20,13 +22,17 @@ pub(crate) fn answers(alloc: Global, input: &[u8]) -> Result<Vec<u8>, AllocError
 pub(crate) fn all_remarks(alloc: Global, input: &[u8]) -> Result<Vec<u8>, AllocError> {
     let mut output = String::new(alloc);
     for text in &texts(alloc, input)? {
-        for line in &remarks(alloc, text)? {
-            output.push_str(line.as_str())?;
-            output.push('\n')?;
-        }
+        push_lines(&mut output, &remarks(alloc, text)?)?;
         output.push_str("---\n")?;
     }
     Ok(output.into_bytes())
+}
+
+fn push_lines(output: &mut String, lines: &[String]) -> Result<(), AllocError> {
+    for line in lines {
+        push_line(output, line.as_str())?;
+    }
+    Ok(())
 }
 
 fn push_answer(alloc: Global, output: &mut String, text: &[u8]) -> Result<(), AllocError> {
@@ -38,26 +44,53 @@ fn push_answer(alloc: Global, output: &mut String, text: &[u8]) -> Result<(), Al
 
 fn push_config(output: &mut String, config: &Config) -> Result<(), AllocError> {
     push_schema(output, &config.schema)?;
-    write!(output, "; lines {}", config.lines.as_str())?;
-    push_texts(output, "fetch", &config.fetch)?;
-    push_texts(output, "peers", &config.peers)?;
-    let (rounds, visits) = (config.rounds, config.visits);
-    write!(output, "; rounds {rounds}; visits {visits}")?;
+    push_setting(output, "lines", config.lines.as_str())?;
+    push_texts(output, "; fetch", &config.fetch)?;
+    push_texts(output, "; peers", &config.peers)?;
+    push_setting(output, "rounds", config.rounds)?;
+    push_setting(output, "visits", config.visits)?;
     push_times(output, config)?;
     push_rounds(output, config)?;
     push_http(output, config)
+}
+
+/// Adds a setting, after its name.
+fn push_setting<D: Display + Drop>(
+    output: &mut String,
+    name: &str,
+    value: D,
+) -> Result<(), AllocError> {
+    write!(output, "; {name} {value}")
+}
+
+/// Adds a setting that may be missing.
+fn push_some<D: Display + Drop>(
+    output: &mut String,
+    name: &str,
+    value: Option<D>,
+) -> Result<(), AllocError> {
+    match value {
+        Some(value) => push_setting(output, name, value),
+        None => Ok(()),
+    }
+}
+
+/// Adds a word if it is said.
+fn push_said(output: &mut String, word: &str, is_said: bool) -> Result<(), AllocError> {
+    if is_said {
+        output.push_str(word)
+    } else {
+        Ok(())
+    }
 }
 
 /// Adds what a configuration says of HTTP.
 fn push_http(output: &mut String, config: &Config) -> Result<(), AllocError> {
     match &config.http {
         Some(http) => {
-            let (address, seats) = (http.address.as_str(), http.seats);
-            write!(output, "; http {address} seats {seats}")?;
-            if http.durable {
-                output.push_str(" durable")?;
-            }
-            Ok(())
+            push_setting(output, "http", http.address.as_str())?;
+            write!(output, " seats {}", http.seats)?;
+            push_said(output, " durable", http.durable)
         }
         None => Ok(()),
     }
@@ -65,35 +98,27 @@ fn push_http(output: &mut String, config: &Config) -> Result<(), AllocError> {
 
 /// Adds what a configuration says of rounds by time, and of what a node says of them.
 fn push_rounds(output: &mut String, config: &Config) -> Result<(), AllocError> {
-    if let Some(every) = config.every {
-        write!(output, "; every {every}")?;
-    }
-    if config.quiet {
-        output.push_str("; quiet")?;
-    }
+    push_some(output, "every", config.every)?;
+    push_said(output, "; quiet", config.quiet)?;
     match &config.status {
-        Some(status) => write!(output, "; status {}", status.as_str()),
+        Some(status) => push_setting(output, "status", status.as_str()),
         None => Ok(()),
     }
 }
 
 /// Adds what a configuration says of times.
 fn push_times(output: &mut String, config: &Config) -> Result<(), AllocError> {
-    if let Some(lead) = config.lead {
-        write!(output, "; lead {lead}")?;
-    }
-    output.push_str("; precision ")?;
-    output.push_str(name_of(config.precision))?;
-    match config.idle {
-        Some(idle) => write!(output, "; idle {idle}"),
-        None => Ok(()),
-    }
+    push_some(output, "lead", config.lead)?;
+    push_setting(output, "precision", name_of(config.precision))?;
+    push_some(output, "idle", config.idle)
 }
 
-fn push_texts(output: &mut String, key: &str, texts: &[String]) -> Result<(), AllocError> {
-    write!(output, "; {key}")?;
+/// Adds texts after a name.
+fn push_texts(output: &mut String, name: &str, texts: &[String]) -> Result<(), AllocError> {
+    output.push_str(name)?;
     for text in texts {
-        write!(output, " {}", text.as_str())?;
+        output.push(' ')?;
+        output.push_str(text.as_str())?;
     }
     Ok(())
 }

@@ -1,5 +1,6 @@
 //! Schemas as TOML texts. A line `---` stands between two of them.
 
+use crate::printed::push_line;
 use rr_base::{FromToml, Schema};
 use std::alloc::{AllocError, Global};
 use std::mem::replace;
@@ -37,10 +38,7 @@ fn push_answer(alloc: Global, output: &mut String, text: &[u8]) -> Result<(), Al
             push_schema(output, &schema)?;
             output.push('\n')
         }
-        Err(fault) => {
-            output.push_str(fault.name())?;
-            output.push('\n')
-        }
+        Err(fault) => push_line(output, fault.name()),
     }
 }
 

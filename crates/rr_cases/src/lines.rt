@@ -7,7 +7,7 @@ use crate::repeats::expanded;
 use crate::settings::{Settings, written};
 use anyhow::{Result, bail};
 use rr_line::Precision;
-use rr_process::{check_lines, check_lines_within};
+use rr_process::{ToolFault, check_lines, check_lines_within};
 use rr_words::{Order, read_words};
 use std::alloc::Global;
 
@@ -48,9 +48,15 @@ fn report(alloc: Global, words: &str, settings: &Settings, lines: &[u8]) -> Resu
         Some(reads) => check_lines_within(alloc, &mut source, &mut sink, precision, now, reads),
     };
     end(alloc, settings.growths);
-    let mut output = written(sink);
+    ended(written(sink), checked)
+}
+
+/// What was written, and after it the fault that the check ended with, if there is one.
+fn ended(mut output: Vec<u8>, checked: Result<u64, ToolFault>) -> Result<Vec<u8>> {
     if let Err(fault) = checked {
-        output.extend_from_slice(format!(in alloc; "== {}\n", fault.name())?.as_bytes())?;
+        for text in ["== ", fault.name(), "\n"] {
+            output.extend_from_slice(text.as_bytes())?;
+        }
     }
     Ok(output)
 }

@@ -8,6 +8,7 @@
 //! refused ([`growths`]). It ends with status 1 where a case differs.
 #![tactic(auto)]
 
+mod archives;
 mod case;
 mod cells;
 mod changes;
@@ -22,6 +23,7 @@ mod kind;
 mod lines;
 mod operations;
 mod pages;
+mod printed;
 mod repeats;
 mod replicas;
 mod scripts;

@@ -1,8 +1,9 @@
 //! Pages as bytes in hexadecimal, and changes of them ([`crate::changes`]). They are of three rows
 //! a minute, or where a first line is `# steps N` of two rows of N steps of a second.
 
-use crate::cells::{minutes, push_fields};
+use crate::cells::{minutes, push_fields, sameness};
 use crate::changes;
+use crate::printed::push_line;
 use anyhow::Result;
 use rr_base::{ArchiveSpec, Schema, SchemaFault};
 use rr_cells::Cell;
@@ -56,14 +57,18 @@ fn push_answer(
             let is_same = encode(alloc, schema, &cells)?.as_slice() == bytes;
             push_cells(output, &cells, is_same)
         }
-        Err(fault) => write!(output, "{}\n", fault.name()),
+        Err(fault) => push_line(output, fault.name()),
     }
 }
 
 /// How many cells were read, whether they are written as the same bytes, and their fields.
 fn push_cells(output: &mut String, cells: &[Cell], is_same: bool) -> Result<(), AllocError> {
-    let which = if is_same { "the same" } else { "other" };
-    write!(output, "{} cells, {which} bytes again\n", cells.len())?;
+    write!(
+        output,
+        "{} cells, {} bytes again\n",
+        cells.len(),
+        sameness(is_same)
+    )?;
     for cell in cells {
         push_fields(output, cell)?;
         output.push('\n')?;

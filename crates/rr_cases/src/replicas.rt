@@ -31,67 +31,32 @@ ghost use Rattle.std.specs.Prelude.{IfOk};
 ghost use Rattle.rr_cells.specs.CellBounds.{IsCellOf};
 ghost use Rattle.rr_cells.specs.Listing.{owned_cell};
 
+use crate::archives::replica_of;
 use crate::growths::{begin, end};
 use crate::operations::op_of;
+use crate::printed::push_line;
 use crate::series::{behind_of, key_lines};
 use crate::sessions::{Session, push_session};
-use crate::settings::written;
+use crate::settings::{sink_of, written};
 use crate::sides::{Side, giver, puller, push_steps};
 use crate::stored::{loaded, push_saved};
 use crate::words::Words;
 use anyhow::{Context, Result, bail};
 use rr_archive::Cells;
-use rr_base::{ArchiveSpec, Origin, Schema};
+use rr_base::Schema;
 use rr_cells::{Cell, CellRef};
 use rr_contrib::Contribution;
-use rr_fakes::room::failing_room;
-use rr_fetch::{answer, parse_request};
+use rr_fetch::{AnswerFault, answer, parse_request};
 use rr_key::SeriesKey;
 use rr_line::{LINE_FEED, Line, Precision, parse_line};
 use rr_page::{LATEST, cell_bytes, decode, read_cell};
 use rr_replica::{JoinFault, Replica, WriteFault};
 use rr_text::limits::MAX_NUMBER;
 use std::alloc::{AllocError, Global};
+use std::fmt::Display;
 
 /// The nanoseconds of a step.
 const MINUTE: i64 = 60_000_000_000;
-
-const ARCHIVES: [ArchiveSpec; 2] = [
-    ArchiveSpec {
-        steps: 1,
-        rows: 3,
-        num: 0,
-        den: 1,
-    },
-    ArchiveSpec {
-        steps: 5,
-        rows: 2,
-        num: 1,
-        den: 2,
-    },
-];
-
-/// Archives of which the last two have more steps than a mask of version 1 has bits.
-const WIDE: [ArchiveSpec; 3] = [
-    ArchiveSpec {
-        steps: 1,
-        rows: 3,
-        num: 0,
-        den: 1,
-    },
-    ArchiveSpec {
-        steps: 65,
-        rows: 3,
-        num: 0,
-        den: 1,
-    },
-    ArchiveSpec {
-        steps: 128,
-        rows: 3,
-        num: 0,
-        den: 1,
-    },
-];
 
 /// What the calls answer.
 pub(crate) fn answers<A: Cells>(alloc: Global, input: &[u8]) -> Result<Vec<u8>> {
@@ -102,25 +67,6 @@ pub(crate) fn answers<A: Cells>(alloc: Global, input: &[u8]) -> Result<Vec<u8>> 
         calls.push_answer(line)?;
     }
     Ok(calls.output.into_bytes())
-}
-
-/// The archives that a text names.
-fn archives_of(name: &str) -> Option<&'static [ArchiveSpec]> {
-    match name {
-        "1" => ARCHIVES.get(..1),
-        "2" => ARCHIVES.get(..2),
-        "steps 1 65" => WIDE.get(..2),
-        "steps 65" => WIDE.get(1..2),
-        "steps 65 128" => WIDE.get(1..3),
-        _ => None,
-    }
-}
-
-/// A replica with the archives that a text names.
-fn replica_of<A: Cells>(alloc: Global, name: &str) -> Result<Replica<A>> {
-    let archives = archives_of(name).context("no such archives")?;
-    let schema = Schema::new(alloc, 60, archives)?;
-    Ok(Replica::new(alloc, &schema, Origin::new(1)?)?)
 }
 
 /// A replica, and what its calls have answered.
@@ -184,15 +130,26 @@ impl<A: Cells> Calls<A> {
             "answer" => self.answer(words),
             "save" => push_saved(self.alloc, &self.replica, words, &mut self.output),
             "load" => self.load(words),
-            "next" => Ok(write!(self.output, "{}\n", self.replica.next_number())?),
+            "next" => self.push_next(),
             "cells" => Ok(self.push_cells()?),
             _ => bail!("an unknown call"),
         }
     }
 
+    /// Adds a line.
+    fn push_line<D: Display + Drop>(&mut self, line: D) -> Result<()> {
+        Ok(push_line(&mut self.output, line)?)
+    }
+
+    /// Adds that memory ran out after so many fields or cells.
+    fn push_memory<D: Display + Drop>(&mut self, done: D) -> Result<()> {
+        self.output.push_str("Memory ")?;
+        self.push_line(done)
+    }
+
     /// Adds the word that a call answers, or that memory ran out.
     fn push_word(&mut self, word: Result<&str, AllocError>) -> Result<()> {
-        Ok(write!(self.output, "{}\n", word.unwrap_or("Memory"))?)
+        self.push_line(word.unwrap_or("Memory"))
     }
 
     fn put(&mut self, mut words: Words<'_>) -> Result<()> {
@@ -202,8 +159,8 @@ impl<A: Cells> Calls<A> {
         let put = self.replica.put(&key, time, value);
         end(self.alloc, words.growths);
         match put {
-            Ok(number) => Ok(write!(self.output, "{number}\n")?),
-            Err(fault) => Ok(write!(self.output, "{}\n", fault.name())?),
+            Ok(number) => self.push_line(number),
+            Err(fault) => self.push_line(fault.name()),
         }
     }
 
@@ -211,9 +168,9 @@ impl<A: Cells> Calls<A> {
         let now = words.number()?;
         let lead = words.limit()?;
         match self.write_point(words, now, lead)? {
-            Ok(fields) => Ok(write!(self.output, "{fields}\n")?),
-            Err(WriteFault::Memory { put }) => Ok(write!(self.output, "Memory {put}\n")?),
-            Err(fault) => Ok(write!(self.output, "{}\n", fault.name())?),
+            Ok(fields) => self.push_line(fields),
+            Err(WriteFault::Memory { put }) => self.push_memory(put),
+            Err(fault) => self.push_line(fault.name()),
         }
     }
 
@@ -252,8 +209,8 @@ impl<A: Cells> Calls<A> {
         let joined = self.replica.join_cells(&cells);
         end(self.alloc, words.growths);
         match joined {
-            Ok(()) => Ok(self.output.push_str("joined\n")?),
-            Err(JoinFault::Memory { joined }) => Ok(write!(self.output, "Memory {joined}\n")?),
+            Ok(()) => self.push_line("joined"),
+            Err(JoinFault::Memory { joined }) => self.push_memory(joined),
         }
     }
 
@@ -276,20 +233,22 @@ impl<A: Cells> Calls<A> {
     }
 
     fn answer(&mut self, mut words: Words<'_>) -> Result<()> {
-        let size = words.limit()?.unwrap_or(usize::MAX);
-        let writes = words.limit()?.unwrap_or(u64::MAX);
-        let mut output = failing_room(self.alloc, size, usize::MAX, writes)?;
+        let mut output = sink_of(self.alloc, &mut words)?;
         let request = parse_request(self.alloc, words.rest().as_bytes(), self.replica.schema())?;
         begin(self.alloc, words.growths);
         let answered = answer(self.alloc, &self.replica, &request, &mut output);
         end(self.alloc, words.growths);
-        let ending = match &answered {
-            Ok(()) => "done",
-            Err(fault) => fault.name(),
-        };
-        let text = written(output);
-        self.output.push_str(str::from_utf8(&text)?)?;
-        Ok(write!(self.output, "== {ending}\n")?)
+        self.push_answered(answered, &written(output))
+    }
+
+    /// Adds what was written of an answer, and how that ended.
+    fn push_answered(&mut self, answered: Result<(), AnswerFault>, text: &[u8]) -> Result<()> {
+        self.output.push_str(str::from_utf8(text)?)?;
+        self.output.push_str("== ")?;
+        match answered {
+            Ok(()) => self.push_line("done"),
+            Err(fault) => self.push_line(fault.name()),
+        }
     }
 
     fn load(&mut self, words: Words<'_>) -> Result<()> {
@@ -342,6 +301,12 @@ impl<A: Cells> Calls<A> {
             Ok(keys) => Ok(self.output.push_str(&key_lines(self.alloc, &keys)?)?),
             Err(AllocError) => Ok(self.output.push_str("Memory\n")?),
         }
+    }
+
+    /// Adds the number of the next sample.
+    fn push_next(&mut self) -> Result<()> {
+        let number = self.replica.next_number();
+        self.push_line(number)
     }
 
     /// Adds whether a sample would be kept.

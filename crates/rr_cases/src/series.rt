@@ -1,5 +1,6 @@
 //! The keys of series, as calls of a replica and of a desk list them.
 
+use crate::printed::push_line;
 use crate::words::Words;
 use anyhow::Result;
 use rr_key::SeriesKey;
@@ -21,7 +22,7 @@ pub(crate) fn key_lines(alloc: Global, keys: &[SeriesKey]) -> Result<String, All
     let mut lines = String::new(alloc);
     for key in keys {
         let text = str::from_utf8(key.text()).unwrap_or("");
-        write!(lines, "{text}\n")?;
+        push_line(&mut lines, text)?;
     }
     Ok(lines)
 }

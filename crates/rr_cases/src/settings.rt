@@ -10,11 +10,16 @@
 //! | `now` | what the clock gives, one after the other, with a comma between two |
 //! | `growths` | how many growths of the call there are before one is refused |
 
+use crate::words::{Words, number_of};
 use anyhow::{Context, Result, bail};
 use rr_base::{Counted, Failing};
 use rr_fakes::pieces::{Pieces, failing_after};
 use rr_fakes::room::{Room, failing_room};
 use std::alloc::{AllocError, Global};
+use std::str::FromStr;
+
+/// A writer within limits.
+pub(crate) type Sink = Counted<Failing<Room>>;
 
 /// The limits of a call's streams and of its memory, and its clock.
 #[derive(Drop)]
@@ -61,21 +66,16 @@ impl Settings {
     fn set(&mut self, word: &str) -> Result<()> {
         let (name, value) = word.split_once('=').context("a word without a value")?;
         match name {
-            "size" => self.size = value.parse()?,
-            "read-fails" => self.read_fails = value.parse()?,
-            "write-fails" => self.write_fails = value.parse()?,
-            "room" => self.room = value.parse()?,
-            "reads" => self.reads = Some(value.parse()?),
-            "lead" => self.lead = Some(value.parse()?),
-            "growths" => self.growths = Some(value.parse()?),
-            "now" => {
-                for moment in value.split(',') {
-                    self.moments.push(moment.parse()?)?;
-                }
-            }
+            "size" => set(&mut self.size, value),
+            "read-fails" => set(&mut self.read_fails, value),
+            "write-fails" => set(&mut self.write_fails, value),
+            "room" => set(&mut self.room, value),
+            "reads" => set_some(&mut self.reads, value),
+            "lead" => set_some(&mut self.lead, value),
+            "growths" => set_some(&mut self.growths, value),
+            "now" => push_moments(&mut self.moments, value),
             _ => bail!("an unknown word"),
         }
-        Ok(())
     }
 
     /// A reader of an input, within these limits.
@@ -84,12 +84,46 @@ impl Settings {
     }
 
     /// A writer within these limits.
-    pub(crate) fn sink(&self, alloc: Global) -> Result<Counted<Failing<Room>>, AllocError> {
+    pub(crate) fn sink(&self, alloc: Global) -> Result<Sink, AllocError> {
         failing_room(alloc, self.size, self.room, self.write_fails)
     }
 }
 
+/// Sets a number to what a text says.
+fn set<N: FromStr + Drop>(number: &mut N, text: &str) -> Result<()>
+where
+    N::Err: Drop,
+{
+    *number = number_of(text)?;
+    Ok(())
+}
+
+/// Sets a number that may be missing to what a text says.
+fn set_some<N: FromStr + Drop>(number: &mut Option<N>, text: &str) -> Result<()>
+where
+    N::Err: Drop,
+{
+    *number = Some(number_of(text)?);
+    Ok(())
+}
+
+/// Adds the moments of a text, which has a comma between two.
+fn push_moments(moments: &mut Vec<i64>, text: &str) -> Result<()> {
+    for moment in text.split(',') {
+        moments.push(number_of(moment)?)?;
+    }
+    Ok(())
+}
+
+/// A writer with the limits of two words: how many bytes a write takes, and how many writes there
+/// are before one fails.
+pub(crate) fn sink_of(alloc: Global, words: &mut Words<'_>) -> Result<Sink> {
+    let size = words.limit()?.unwrap_or(usize::MAX);
+    let writes = words.limit()?.unwrap_or(u64::MAX);
+    Ok(failing_room(alloc, size, usize::MAX, writes)?)
+}
+
 /// What a writer took.
-pub(crate) fn written(sink: Counted<Failing<Room>>) -> Vec<u8> {
+pub(crate) fn written(sink: Sink) -> Vec<u8> {
     sink.into_inner().into_inner().into_written()
 }

@@ -9,6 +9,7 @@
 //! | a frame without its length, in hexadecimal; `-` is the empty one, `N*BYTES` has the bytes N times | it is taken: `last`, or `more` where it wasn't the last |
 
 use crate::growths::{begin, end};
+use crate::printed::push_line;
 use crate::words::Words;
 use anyhow::Result;
 use rr_archive::Cells;
@@ -111,11 +112,10 @@ fn push_next(
     answer: &mut String,
 ) -> Result<()> {
     match next {
-        Ok(Some(frame)) => answer.push_str(&hex::encode(alloc, &frame)?)?,
-        Ok(None) => answer.push_str("none")?,
-        Err(fault) => answer.push_str(fault.name())?,
+        Ok(Some(frame)) => Ok(push_line(answer, hex::encode(alloc, &frame)?)?),
+        Ok(None) => Ok(push_line(answer, "none")?),
+        Err(fault) => Ok(push_line(answer, fault.name())?),
     }
-    Ok(answer.push('\n')?)
 }
 
 fn push_taken(taken: Result<bool, GossipFault>, answer: &mut String) -> Result<()> {
@@ -124,5 +124,5 @@ fn push_taken(taken: Result<bool, GossipFault>, answer: &mut String) -> Result<(
         Ok(false) => "more",
         Err(fault) => fault.name(),
     };
-    Ok(write!(answer, "{word}\n")?)
+    Ok(push_line(answer, word)?)
 }

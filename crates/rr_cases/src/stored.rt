@@ -1,16 +1,16 @@
 //! Snapshots of a replica, as calls of it ([`crate::replicas`]).
 
 use crate::growths::{begin, end};
-use crate::settings::written;
+use crate::printed::push_line;
+use crate::settings::{sink_of, written};
 use crate::words::Words;
 use anyhow::Result;
 use rr_archive::Cells;
 use rr_base::Schema;
 use rr_fakes::pieces::failing_after;
-use rr_fakes::room::failing_room;
 use rr_replica::Replica;
-use rr_snapshot::{LoadFault, load, save};
-use std::alloc::Global;
+use rr_snapshot::{LoadFault, SaveFault, load, save};
+use std::alloc::{AllocError, Global};
 
 /// Adds the bytes that were written as a replica was saved, in hexadecimal, and how that ended. The
 /// words are how many bytes a write takes, and how many writes there are before one fails.
@@ -20,18 +20,23 @@ pub(crate) fn push_saved<A: Cells>(
     mut words: Words<'_>,
     answer: &mut String,
 ) -> Result<()> {
-    let size = words.limit()?.unwrap_or(usize::MAX);
-    let writes = words.limit()?.unwrap_or(u64::MAX);
-    let mut output = failing_room(alloc, size, usize::MAX, writes)?;
+    let mut output = sink_of(alloc, &mut words)?;
     begin(alloc, words.growths);
     let saved = save(alloc, replica, &mut output);
     end(alloc, words.growths);
-    let bytes = hex::encode(alloc, &written(output))?;
-    write!(answer, "{}\n", bytes.as_str())?;
-    if let Err(fault) = saved {
-        write!(answer, "{}\n", fault.name())?;
+    answer.push_str(&hex::encode(alloc, &written(output))?)?;
+    push_fault(answer, saved)
+}
+
+/// Ends a line, and adds one with the fault that a save ended with, if there is one.
+fn push_fault(answer: &mut String, saved: Result<(), SaveFault>) -> Result<()> {
+    match saved {
+        Ok(()) => Ok(answer.push('\n')?),
+        Err(fault) => {
+            answer.push('\n')?;
+            Ok(push_line(answer, fault.name())?)
+        }
     }
-    Ok(())
 }
 
 /// The replica that the bytes of some words are loaded as, if they are one; and adds how that
@@ -51,25 +56,24 @@ pub(crate) fn loaded<A: Cells>(
     begin(alloc, words.growths);
     let replica = load(alloc, &mut input, schema, origin);
     end(alloc, words.growths);
-    ending_of(replica, input.failures(), answer)
+    push_loaded(&replica, input.failures(), answer)?;
+    Ok(replica.ok())
 }
 
-/// The replica that was loaded, if one was; and adds how that ended, with how many reads failed.
-fn ending_of<A: Cells>(
-    replica: Result<Replica<A>, LoadFault>,
+/// Adds how a replica was loaded, with how many reads failed where it wasn't.
+fn push_loaded<A: Cells>(
+    loaded: &Result<Replica<A>, LoadFault>,
     failures: u64,
     answer: &mut String,
-) -> Result<Option<Replica<A>>> {
-    match replica {
+) -> Result<(), AllocError> {
+    match loaded {
         Ok(replica) => {
             let (origin, next) = (replica.origin().get(), replica.next_number());
-            write!(answer, "loaded as {origin}, next {next}\n")?;
-            Ok(Some(replica))
+            write!(answer, "loaded as {origin}, next {next}\n")
         }
         Err(fault) => {
             let name = fault.name();
-            write!(answer, "{name}, {failures} failed\n")?;
-            Ok(None)
+            write!(answer, "{name}, {failures} failed\n")
         }
     }
 }

@@ -66,7 +66,7 @@ impl<'a> Words<'a> {
 }
 
 /// The number that a word is.
-fn number_of<N: FromStr>(word: &str) -> Result<N>
+pub(crate) fn number_of<N: FromStr>(word: &str) -> Result<N>
 where
     N::Err: Drop,
 {
