@@ -7,7 +7,7 @@ use crate::report::Report;
 
 /// Counts of the line connections whose lines were served to the end, and of their lines. Each
 /// stops at its greatest value.
-#[derive(Clone, Copy, Debug, PartialEq, Eq)]
+#[derive(Clone, Copy)]
 pub(crate) struct Tally {
     /// The connections.
     pub(crate) connections: u64,
