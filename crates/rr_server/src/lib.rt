@@ -17,8 +17,11 @@ mod about;
 mod files;
 mod greeting;
 mod listeners;
+mod places;
+mod plain;
 mod program;
 mod server;
+mod tools;
 mod web;
 
 pub use program::run;

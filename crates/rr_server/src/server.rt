@@ -2,14 +2,11 @@
 
 use crate::files::{check_folder, first_replica, read_config};
 use crate::greeting::greeting;
-use crate::listeners::{Listeners, Signals};
-use crate::program::lent;
+use crate::listeners::Listeners;
+use crate::plain::{Plain, work};
+use crate::tools::{Parts, Tools};
 use rr_config::{Config, ConfigFault};
 use rr_desk::{Keeper, Reader, open};
-use rr_node::{
-    Calling, FileShelf, Flag, HaltFlag, Listening, OpenGate, PacedDial, PacedShelf, RoundLog, Seat,
-    SystemClock, TcpSeats, serve_node,
-};
 use rr_packed::PackedArchive;
 use rr_process::{Ending, ToolFault};
 use rr_replica::Replica;
@@ -30,7 +27,7 @@ pub(crate) const OUT_OF_MEMORY: Ending = Ending::Failed(ToolFault::Memory);
 pub(crate) struct Server<'a, R> {
     pub(crate) rt: &'a R,
     pub(crate) config: Config,
-    save: Option<&'a str>,
+    pub(crate) save: Option<&'a str>,
 }
 
 impl<'a, R> Server<'a, R>
@@ -118,112 +115,24 @@ where
         readers: Vec<Reader<PackedArchive>>,
         listeners: Listeners,
     ) -> Result<Ending, AllocError> {
-        let Listeners {
-            lines,
-            fetches,
-            signals,
-            ..
-        } = listeners;
-        let Signals {
+        let plain = Plain::new(self.rt.alloc(), readers, listeners)?;
+        let parts = Parts::new(self.rt, &self.config, self.save, &plain.halt)?;
+        let Plain {
+            mut lines,
+            mut seats,
             halt,
             wish,
             alarm,
-            ..
-        } = signals;
-        let mut seats = self.seats(readers, fetches, &halt)?;
-        let shelf = self.shelf(self.files()?, self.log()?, wish, alarm);
-        Ok(self.serve_at(keeper, lines, &mut seats, halt, shelf))
-    }
-
-    /// A seat for each reader, with the connections of its address.
-    fn seats(
-        &self,
-        readers: Vec<Reader<PackedArchive>>,
-        fetches: Vec<Listening>,
-        halt: &HaltFlag,
-    ) -> Result<TcpSeats, AllocError> {
-        let mut seats = Vec::new(self.rt.alloc());
-        for (reader, visits) in readers.into_iter().zip(fetches) {
-            let gate = OpenGate::new();
-            seats.push(Seat {
-                reader,
-                visits,
-                gate,
-            })?;
-        }
-        Ok(TcpSeats {
-            seats,
-            halt: halt.share()?,
-        })
-    }
-
-    /// What reaches the peers, each at most once in a turn.
-    pub(crate) fn dial(
-        &self,
-        halt: &HaltFlag,
-    ) -> Result<PacedDial<'_, R, Calling<'a, R>>, AllocError> {
-        let alloc = self.rt.alloc();
-        let calling = Calling::new(self.rt, alloc, self.config.idle, halt.share()?);
-        PacedDial::new(
-            self.rt,
-            alloc,
-            calling,
-            self.config.every,
-            &self.config.peers,
-        )
-    }
-
-    /// The file that snapshots are saved to.
-    pub(crate) fn files(&self) -> Result<FileShelf<'a, R>, AllocError> {
-        FileShelf::new(self.rt, self.rt.alloc(), self.save)
-    }
-
-    /// What is said of rounds.
-    pub(crate) fn log(&self) -> Result<RoundLog<'a, R>, AllocError> {
-        let prints = self.config.every.is_some() && !self.config.quiet;
-        RoundLog::new(self.rt, self.rt.alloc(), prints, lent(&self.config.status))
-    }
-
-    /// What takes the snapshots, at most one in a turn unless one is wished for, and tells of an
-    /// alarm.
-    pub(crate) fn shelf(
-        &self,
-        files: FileShelf<'a, R>,
-        log: RoundLog<'a, R>,
-        wish: Flag,
-        alarm: Flag,
-    ) -> PacedShelf<'a, R, FileShelf<'a, R>> {
-        PacedShelf::new(self.rt, files, self.config.every, wish, alarm, log)
-    }
-
-    /// Serves with a keeper and its readers' seats, until a flag is raised that they share.
-    fn serve_at(
-        &self,
-        keeper: &mut Keeper<PackedArchive>,
-        mut lines: Listening,
-        seats: &mut TcpSeats,
-        mut halt: HaltFlag,
-        mut shelf: PacedShelf<'a, R, FileShelf<'a, R>>,
-    ) -> Ending {
-        let alloc = self.rt.alloc();
-        let Ok(mut dial) = self.dial(&halt) else {
-            return OUT_OF_MEMORY;
-        };
-        let mut clock = SystemClock::new(self.rt);
-        match serve_node(
-            alloc,
+        } = plain;
+        let mut tools = Tools::new(self.rt, self.config.every, parts, halt, wish, alarm);
+        Ok(work(
+            self.rt.alloc(),
             keeper,
             &mut lines,
-            &mut dial,
-            &mut shelf,
-            seats,
-            &mut halt,
-            &mut clock,
+            &mut seats,
+            &mut tools,
             &self.config,
             self.rt,
-        ) {
-            Ok(()) => Ending::Done,
-            Err(_) => OUT_OF_MEMORY,
-        }
+        ))
     }
 }

@@ -1,22 +1,17 @@
 //! A node at work that is asked over HTTP too.
 
-use crate::about::about;
 use crate::listeners::{Listeners, Signals};
-use crate::server::Server;
-use rr_config::Http;
+use crate::places::{Shared, seats};
+use crate::server::{OUT_OF_MEMORY, Server};
+use crate::tools::{Parts, Tools};
+use rr_config::{Config, Http};
 use rr_desk::{Keeper, Reader};
-use rr_front::{
-    Answered, Desk, Door, Kept, Place, Queue, Queued, WebSeat, WebSeats, serve_web_node,
-};
-use rr_node::{
-    Board, FileShelf, Flag, HaltFlag, Listening, OpenGate, PacedShelf, SaveNews, Seat,
-    StartBarrier, SystemClock,
-};
+use rr_front::{Kept, Queued, WebSeats, serve_web_node};
+use rr_node::{Flag, HaltFlag, SaveNews};
 use rr_packed::PackedArchive;
 use rr_process::Ending;
 use rr_schema::Origin;
 use std::alloc::{AllocError, Global};
-use std::hash::RandomState;
 use std::net::{Net, TcpListener, TcpStream};
 use std::random::RandomSource;
 use std::rt::Files;
@@ -24,82 +19,147 @@ use std::sync::Wait;
 use std::thread::Threads;
 use std::time::Clock;
 
-/// What the seats of HTTP share.
+/// What the visits of a keeper look at and tell.
 #[derive(Drop)]
-struct Shared {
-    queue: Queue,
-    signals: Signals,
-    origin: Origin,
-    board: Board,
-    answered: Answered,
-}
-
-/// What a desk has of what is shared.
-#[derive(Drop)]
-struct Share {
-    queue: Queue,
+struct Marks {
+    /// The flag of the node.
     halt: HaltFlag,
-    board: Board,
-    answered: Answered,
+    /// For how many seconds a visit is waited for, and the flag for an empty one, if rounds are
+    /// kept by time.
+    turns: Option<(u64, Flag)>,
+    /// News of what is saved, and the bodies that wait for it, if the configuration says so.
+    saves: Option<(SaveNews, Kept)>,
 }
 
-impl Shared {
-    /// That of a node, with a queue for as many bodies as there are seats.
-    fn new(
-        alloc: Global,
-        http: &Http,
-        signals: Signals,
-        origin: Origin,
-    ) -> Result<Shared, AllocError> {
-        Ok(Shared {
-            queue: Queue::new(alloc, http.seats as usize)?,
-            signals,
-            origin,
-            board: Board::new(alloc)?,
-            answered: Answered::new(alloc)?,
-        })
-    }
-
-    /// What a desk has of it.
-    fn share(&self) -> Result<Share, AllocError> {
-        Ok(Share {
-            queue: self.queue.share()?,
-            halt: self.signals.halt.share()?,
-            board: self.board.share()?,
-            answered: self.answered.share()?,
-        })
+/// What tells of empty visits, if rounds are kept by time.
+fn turns(every: Option<u64>, wish: &Flag) -> Result<Option<(u64, Flag)>, AllocError> {
+    match every {
+        Some(every) => Ok(Some((every, wish.share()?))),
+        None => Ok(None),
     }
 }
 
-/// The place of a reader at an address of fetches and pulls.
-fn fetch_place(
-    reader: Option<Reader<PackedArchive>>,
-    visits: Listening,
-) -> Result<Place, AllocError> {
-    // There are as many readers as listeners.
-    let reader = reader.ok_or(AllocError)?;
-    let gate = OpenGate::new();
-    Ok(Place::Fetches(Seat {
-        reader,
-        visits,
-        gate,
-    }))
-}
-
-/// The place at which connections of lines wait for the keeper.
-fn lines_place(visits: Listening, shared: &Shared) -> Result<Place, AllocError> {
-    Ok(Place::Lines(Door {
-        visits,
-        queue: shared.queue.share()?,
-        halt: shared.signals.halt.share()?,
-    }))
-}
-
-/// News of what is saved, and the bodies that wait for it.
-fn news_of_saves(alloc: Global, http: &Http, wish: &Flag) -> Result<(SaveNews, Kept), AllocError> {
+/// News of what is saved, and the bodies that wait for it, if they are answered once they are
+/// saved. If as many wait as there are seats, a snapshot is asked for at once.
+fn saves(alloc: Global, http: &Http, wish: &Flag) -> Result<Option<(SaveNews, Kept)>, AllocError> {
+    if !http.durable {
+        return Ok(None);
+    }
     let news = SaveNews::new(alloc)?;
     let kept = Kept::new(alloc, news.share()?, http.seats as usize, wish.share()?);
-    Ok((news, kept))
+    Ok(Some((news, kept)))
+}
+
+impl Marks {
+    /// The marks of a configuration.
+    fn new(
+        alloc: Global,
+        config: &Config,
+        http: &Http,
+        signals: &Signals,
+    ) -> Result<Marks, AllocError> {
+        Ok(Marks {
+            halt: signals.halt.share()?,
+            turns: turns(config.every, &signals.wish)?,
+            saves: saves(alloc, http, &signals.wish)?,
+        })
+    }
+}
+
+/// The visits of a keeper, and what else it works with.
+#[derive(Drop)]
+struct Keeping<'c, 'a, R> {
+    visits: Queued<'a, R>,
+    tools: Tools<'c, 'a, R>,
+}
+
+/// The visits of a queue.
+fn queued<R: Wait + Clock>(visits: Queued<'_, R>, turns: Option<(u64, Flag)>) -> Queued<'_, R> {
+    match turns {
+        Some((every, wish)) => visits.by_turns(every, wish),
+        None => visits,
+    }
+}
+
+/// Puts what a keeper works with together.
+fn together<'c, 'a, R: Files + Eprint + Clock + Wait>(
+    rt: &'a R,
+    alloc: Global,
+    config: &Config,
+    shared: Shared,
+    marks: Marks,
+    parts: Parts<'c, 'a, R>,
+) -> Keeping<'c, 'a, R> {
+    let Shared { posts, signals, .. } = shared;
+    let Signals {
+        halt,
+        wish,
+        alarm,
+        start,
+    } = signals;
+    let visits = Queued::new(rt, alloc, posts.queue, config.idle, marks.halt, start);
+    let visits = queued(visits, marks.turns);
+    let parts = parts.on_board(posts.board);
+    match marks.saves {
+        Some((news, kept)) => Keeping {
+            visits: visits.once_saved(kept),
+            tools: Tools::new(rt, config.every, parts.with_news(news), halt, wish, alarm),
+        },
+        None => Keeping {
+            visits,
+            tools: Tools::new(rt, config.every, parts, halt, wish, alarm),
+        },
+    }
+}
+
+impl<'c, 'a, R> Keeping<'c, 'a, R>
+where
+    R: AllocGlobal + Files + Eprint + Net<Stream = TcpStream> + Clock + Wait,
+    'a: 'c,
+{
+    /// The visits of a keeper, which takes lines from the queue, and what else it works with.
+    fn new(
+        rt: &'a R,
+        config: &'c Config,
+        save: Option<&str>,
+        http: &Http,
+        shared: Shared,
+    ) -> Result<Keeping<'c, 'a, R>, AllocError> {
+        let alloc = rt.alloc();
+        let marks = Marks::new(alloc, config, http, &shared.signals)?;
+        let parts = Parts::new(rt, config, save, &shared.signals.halt)?;
+        Ok(together(rt, alloc, config, shared, marks, parts))
+    }
+}
+
+/// Serves with a keeper, its visits and its readers' seats, until a flag is raised that they share.
+fn work<R>(
+    alloc: Global,
+    keeper: &mut Keeper<PackedArchive>,
+    visits: &mut Queued<'_, R>,
+    seats: &mut WebSeats,
+    tools: &mut Tools<'_, '_, R>,
+    config: &Config,
+    rt: &R,
+) -> Ending
+where
+    R: Files + Eprint + Net<Stream = TcpStream> + Clock + Threads + Wait + Sync,
+{
+    match serve_web_node(
+        alloc,
+        keeper,
+        visits,
+        &mut tools.dial,
+        &mut tools.shelf,
+        seats,
+        &mut tools.halt,
+        &mut tools.clock,
+        config,
+        rt,
+    ) {
+        Ok(()) => Ending::Done,
+        Err(_) => OUT_OF_MEMORY,
+    }
 }
 
 impl<'a, R> Server<'a, R>
@@ -124,185 +184,19 @@ where
         readers: Vec<Reader<PackedArchive>>,
         listeners: Listeners,
     ) -> Result<Ending, AllocError> {
-        let Listeners {
-            lines,
-            fetches,
-            web,
-            signals,
-        } = listeners;
-        let shared = Shared::new(self.rt.alloc(), http, signals, origin)?;
-        let mut places = self.places(readers, fetches, web, &shared)?;
-        places.push(lines_place(lines, &shared)?)?;
-        let mut seats = WebSeats {
-            places,
-            halt: shared.signals.halt.share()?,
-        };
-        self.serve_queue(http, keeper, &mut seats, shared)
-    }
-
-    /// Serves with a keeper that takes lines from the queue, and with its readers' seats.
-    fn serve_queue(
-        &self,
-        http: &Http,
-        keeper: &mut Keeper<PackedArchive>,
-        seats: &mut WebSeats,
-        shared: Shared,
-    ) -> Result<Ending, AllocError> {
-        let Shared {
-            queue,
-            signals,
-            board,
-            ..
-        } = shared;
-        let Signals {
-            halt,
-            wish,
-            alarm,
-            start,
-        } = signals;
-        let visits = self.queued(queue, &halt, &wish, start)?;
-        let (visits, files) = self.saving(http, visits, &wish)?;
-        let log = self.log()?.on_board(board);
-        let shelf = self.shelf(files, log, wish, alarm);
-        self.serve_at_web(keeper, visits, seats, halt, shelf)
-    }
-
-    /// Serves with a keeper, its visits and its readers' seats, until a flag is raised that they
-    /// share.
-    fn serve_at_web(
-        &self,
-        keeper: &mut Keeper<PackedArchive>,
-        mut visits: Queued<'a, R>,
-        seats: &mut WebSeats,
-        mut halt: HaltFlag,
-        mut shelf: PacedShelf<'a, R, FileShelf<'a, R>>,
-    ) -> Result<Ending, AllocError> {
-        let mut dial = self.dial(&halt)?;
-        let mut clock = SystemClock::new(self.rt);
-        match serve_web_node(
+        let (mut seats, shared) = seats(self.rt, &self.config, http, origin, readers, listeners)?;
+        let Keeping {
+            mut visits,
+            mut tools,
+        } = Keeping::new(self.rt, &self.config, self.save, http, shared)?;
+        Ok(work(
             self.rt.alloc(),
             keeper,
             &mut visits,
-            &mut dial,
-            &mut shelf,
-            seats,
-            &mut halt,
-            &mut clock,
+            &mut seats,
+            &mut tools,
             &self.config,
             self.rt,
-        ) {
-            Ok(()) => Ok(Ending::Done),
-            Err(_) => Err(AllocError),
-        }
-    }
-
-    /// A place for each reader: those of fetches and pulls, and then those of HTTP.
-    fn places(
-        &self,
-        readers: Vec<Reader<PackedArchive>>,
-        fetches: Vec<Listening>,
-        web: Vec<Listening>,
-        shared: &Shared,
-    ) -> Result<Vec<Place>, AllocError> {
-        let mut places = Vec::new(self.rt.alloc());
-        let mut readers = readers.into_iter();
-        for visits in fetches {
-            places.push(fetch_place(readers.next(), visits)?)?;
-        }
-        for visits in web {
-            places.push(self.web_place(readers.next(), visits, shared)?)?;
-        }
-        Ok(places)
-    }
-
-    /// The place of a reader at a seat of HTTP.
-    fn web_place(
-        &self,
-        reader: Option<Reader<PackedArchive>>,
-        visits: Listening,
-        shared: &Shared,
-    ) -> Result<Place, AllocError> {
-        let reader = reader.ok_or(AllocError)?;
-        Ok(Place::Web(self.web_seat(reader, visits, shared)?))
-    }
-
-    /// A seat of HTTP.
-    fn web_seat(
-        &self,
-        reader: Reader<PackedArchive>,
-        visits: Listening,
-        shared: &Shared,
-    ) -> Result<WebSeat, AllocError> {
-        let Ok(keys) = RandomState::new(self.rt) else {
-            return Err(AllocError);
-        };
-        Ok(WebSeat {
-            desk: Some(self.desk(reader, shared)?),
-            visits,
-            halt: shared.signals.halt.share()?,
-            idle: self.config.idle,
-            keys,
-        })
-    }
-
-    /// The desk of a seat of HTTP.
-    fn desk(&self, reader: Reader<PackedArchive>, shared: &Shared) -> Result<Desk, AllocError> {
-        let alloc = self.rt.alloc();
-        let about = about(alloc, &self.config.schema, shared.origin)?.into_bytes();
-        let Share {
-            queue,
-            halt,
-            board,
-            answered,
-        } = shared.share()?;
-        Ok(Desk {
-            alloc,
-            reader,
-            queue,
-            halt,
-            precision: self.config.precision,
-            about,
-            board,
-            answered,
-        })
-    }
-
-    /// The visits of the keeper.
-    fn queued(
-        &self,
-        queue: Queue,
-        halt: &HaltFlag,
-        wish: &Flag,
-        start: StartBarrier,
-    ) -> Result<Queued<'a, R>, AllocError> {
-        let alloc = self.rt.alloc();
-        let visits = Queued::new(
-            self.rt,
-            alloc,
-            queue,
-            self.config.idle,
-            halt.share()?,
-            start,
-        );
-        match self.config.every {
-            Some(every) => Ok(visits.by_turns(every, wish.share()?)),
-            None => Ok(visits),
-        }
-    }
-
-    /// The visits, and the file that snapshots are saved to. If the configuration says so, bodies
-    /// are answered once they are saved; if as many wait as there are seats, that is at once.
-    fn saving(
-        &self,
-        http: &Http,
-        visits: Queued<'a, R>,
-        wish: &Flag,
-    ) -> Result<(Queued<'a, R>, FileShelf<'a, R>), AllocError> {
-        let files = self.files()?;
-        if !http.durable {
-            return Ok((visits, files));
-        }
-        let (news, kept) = news_of_saves(self.rt.alloc(), http, wish)?;
-        Ok((visits.once_saved(kept), files.with_news(news)))
+        ))
     }
 }
