@@ -94,6 +94,71 @@ fn has_coding(request: &Request<Bytes>) -> bool {
     }
 }
 
+/// Whether a write names a precision that isn't the one of the node.
+fn names_other_precision(
+    alloc: Global,
+    request: &Request<Bytes>,
+    precision: Precision,
+) -> Result<bool, AllocError> {
+    match parameter(alloc, query_of(request), b"precision")? {
+        Some(named) => Ok(!is_precision(&named, precision)),
+        None => Ok(false),
+    }
+}
+
+/// The refusal of a write that names another precision than the one of the node.
+fn refuse_precision(alloc: Global, precision: Precision) -> Result<Reply, AllocError> {
+    let own = name_of(precision);
+    let text = format!(in alloc; "{{\"error\":\"the precision of this node is {own}\"}}\n")?;
+    json(alloc, Status::BadRequest, text.as_str())
+}
+
+/// The answer to a write whose lines were answered so.
+fn reply_to_lines(alloc: Global, lines: &LineAnswers) -> Result<Reply, AllocError> {
+    let report = match &lines.report {
+        Some(report) => Some(report.as_slice()),
+        None => None,
+    };
+    write_reply(alloc, lines.refusals.as_slice(), report, lines.is_unsaved)
+}
+
+/// The answer to a write of which the keeper told this, or which it didn't begin with in time.
+fn reply_to_told(alloc: Global, told: Option<Told<LineAnswers>>) -> Result<Reply, AllocError> {
+    match told {
+        Some(Told::Answer(lines)) => reply_to_lines(alloc, &lines),
+        Some(_) => json(alloc, Status::Failed, "{\"error\":\"the node ended\"}\n"),
+        None => json(
+            alloc,
+            Status::Busy,
+            "{\"error\":\"the node is behind: nothing was written\"}\n",
+        ),
+    }
+}
+
+/// The answer to what asks for nothing that a desk has: a page, whether the node is there, or a path
+/// or a method that is refused.
+fn fixed_reply(alloc: Global, ask: Ask) -> Result<Reply, AllocError> {
+    match ask {
+        Ask::Health => json(alloc, Status::Ok, "{\"name\":\"rr\",\"status\":\"pass\"}\n"),
+        Ask::OnlyPost => json(
+            alloc,
+            Status::OnlyPost,
+            "{\"error\":\"it is written by POST\"}\n",
+        ),
+        Ask::OnlyGet => json(
+            alloc,
+            Status::OnlyGet,
+            "{\"error\":\"it is read by GET\"}\n",
+        ),
+        Ask::Nothing => json(
+            alloc,
+            Status::NotFound,
+            "{\"error\":\"there is no such path\"}\n",
+        ),
+        page => page_reply(alloc, page),
+    }
+}
+
 impl<T: Wait + time::Clock> Clerk<'_, T> {
     /// The second after the present one, up to which `last` counts.
     fn next_second(&self) -> i64 {
@@ -153,34 +218,11 @@ impl<T: Wait + time::Clock> Clerk<'_, T> {
             let text = "{\"error\":\"a body with a content-encoding is not read\"}\n";
             return json(alloc, Status::UnknownCoding, text);
         }
-        if let Some(named) = parameter(alloc, query_of(request), b"precision")?
-            && !is_precision(&named, self.desk.precision)
-        {
-            let own = name_of(self.desk.precision);
-            let text = format!(in alloc;
-                "{{\"error\":\"the precision of this node is {own}\"}}\n"
-            )?;
-            return json(alloc, Status::BadRequest, text.as_str());
+        if names_other_precision(alloc, request, self.desk.precision)? {
+            return refuse_precision(alloc, self.desk.precision);
         }
-        match self.hand_in(Vec::from_slice(alloc, request.body())?)? {
-            Some(Told::Answer(lines)) => self.reply_to_lines(&lines),
-            Some(_) => json(alloc, Status::Failed, "{\"error\":\"the node ended\"}\n"),
-            None => json(
-                alloc,
-                Status::Busy,
-                "{\"error\":\"the node is behind: nothing was written\"}\n",
-            ),
-        }
-    }
-
-    /// The answer to a write whose lines were answered so.
-    fn reply_to_lines(&self, lines: &LineAnswers) -> Result<Reply, AllocError> {
-        let report = match &lines.report {
-            Some(report) => Some(report.as_slice()),
-            None => None,
-        };
-        let refusals = lines.refusals.as_slice();
-        write_reply(self.desk.alloc, refusals, report, lines.is_unsaved)
+        let told = self.hand_in(Vec::from_slice(alloc, request.body())?)?;
+        reply_to_told(alloc, told)
     }
 
     /// Hands a body to the keeper, and waits for what its lines are answered. None is there if the
@@ -209,29 +251,12 @@ impl<T: Wait + time::Clock> Clerk<'_, T> {
 
     /// The answer to a request.
     fn reply(&mut self, request: &Request<Bytes>) -> Result<Reply, AllocError> {
-        let alloc = self.desk.alloc;
         match asked_by(request.method().as_str(), request.uri().path()) {
             Ask::Write => self.write(request),
             Ask::Fetch => self.fetch(request),
             Ask::Series => self.series(request),
             Ask::Metrics => self.metrics(),
-            page @ (Ask::Page | Ask::Script | Ask::Style) => page_reply(alloc, page),
-            Ask::Health => json(alloc, Status::Ok, "{\"name\":\"rr\",\"status\":\"pass\"}\n"),
-            Ask::OnlyPost => json(
-                alloc,
-                Status::OnlyPost,
-                "{\"error\":\"it is written by POST\"}\n",
-            ),
-            Ask::OnlyGet => json(
-                alloc,
-                Status::OnlyGet,
-                "{\"error\":\"it is read by GET\"}\n",
-            ),
-            Ask::Nothing => json(
-                alloc,
-                Status::NotFound,
-                "{\"error\":\"there is no such path\"}\n",
-            ),
+            ask => fixed_reply(self.desk.alloc, ask),
         }
     }
 }
