@@ -134,7 +134,8 @@ impl<A: Cells> Reader<A> {
 
     /// The cells whose name a summary lacks, or has with a smaller version, in the order of their
     /// names, after the operations that the reader has seen when the call returns. The names of the
-    /// summary strictly ascend. The cost is that of [`rr_delta::difference`].
+    /// summary strictly ascend. The cost is that of [`rr_delta::difference`]; the keeper may wait for
+    /// it only where keys have less than eight cells in the mean, or memory is short.
     pub fn difference(&mut self, alloc: Global, summary: &[Name]) -> Result<Vec<Cell>, AllocError>
         requires { IsSummary (map owned_name summary.now) }
         ensures seen { HasSeenMore self.old self.new }

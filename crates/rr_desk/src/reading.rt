@@ -1,5 +1,5 @@
 //! What readers make of the copies, each under the rule.
-ghost use Rattle.std.specs.Prelude.{◌≡◌, true, All, IfOk, IsTrue, map};
+ghost use Rattle.std.specs.Prelude.{◌≡◌, true, All, IfOk, IfSome, IsTrue, map};
 ghost use Rattle.std.specs.FinMap.{entries, is_sorted};
 ghost use Rattle.left_right.specs.Sides.{view};
 ghost use Rattle.rr_model.specs.CellNames.{cell_name_cmp};
@@ -7,6 +7,7 @@ ghost use Rattle.rr_cells.specs.CellBounds.{IsCellOf};
 ghost use Rattle.rr_cells.specs.Listing.{owned_cell};
 ghost use Rattle.rr_cells.specs.Operations.{outcome_of};
 ghost use Rattle.rr_replica.specs.Keys.{keys_after, lent_key};
+ghost use Rattle.rr_replica.specs.ReplicaWithRoom.{replica_state};
 ghost use Rattle.rr_delta.specs.Names.{owned_name};
 ghost use Rattle.rr_delta.specs.Difference.{IsSummary, newer_cells};
 ghost use Rattle.rr_fetch.specs.Answers.{cells_text};
@@ -23,6 +24,7 @@ use rr_cells::Cell;
 use rr_delta::{Name, difference};
 use rr_fetch::{Request, answer_text};
 use rr_key::SeriesKey;
+use rr_replica::Replica;
 use std::alloc::{AllocError, Global};
 
 /// The answer to a request from the copy that is shown, if the gate lets it be made.
@@ -56,7 +58,22 @@ pub fn answer<A: Cells, G: Gate>(
     }
 }
 
-/// The cells of the copy that is shown which a summary lacks.
+/// Of how many cells a key has to have in the mean for a replica to be copied before it is compared.
+const CELLS_OF_A_KEY: usize = 8;
+
+/// A copy of a replica, if there is memory for it and it is made in less time than the comparison of
+/// all cells takes: packed archives share their finished blocks with it.
+fn quick_copy<A: Cells>(alloc: Global, replica: &Replica<A>) -> Option<Replica<A>>
+    ensures { IfSome result (λ copy. replica_state copy ≡ replica_state replica.now) }
+{
+    if replica.cell_count() / CELLS_OF_A_KEY < replica.key_count() {
+        return None;
+    }
+    replica.copy(alloc).ok()
+}
+
+/// The cells of the copy that is shown which a summary lacks. If a copy of that is quickly made, it
+/// is compared, so that the keeper doesn't wait for the comparison.
 pub fn lacking<A: Cells>(
     seat: ReadHandle<A>,
     alloc: Global,
@@ -74,10 +91,13 @@ pub fn lacking<A: Cells>(
         All (λ c. IsCellOf (view seat.place).schema (owned_cell c)) cells.items) }
 {
     match seat.enter_as::<Enters>() {
-        Ok(reading) => {
-            let cells = difference(alloc, &reading.get().replica, summary);
-            (reading.leave(), cells)
-        }
+        Ok(reading) => match quick_copy(alloc, &reading.get().replica) {
+            Some(copy) => (reading.leave(), difference(alloc, &copy, summary)),
+            None => {
+                let cells = difference(alloc, &reading.get().replica, summary);
+                (reading.leave(), cells)
+            }
+        },
         Err(seat) => (seat, Err(AllocError)),
     }
 }
