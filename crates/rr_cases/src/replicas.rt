@@ -141,7 +141,7 @@ impl<A: Cells> Calls<A> {
         Ok(push_line(&mut self.output, line)?)
     }
 
-    /// Adds that memory ran out after so many fields or cells.
+    /// Adds a line that says after how many fields or cells memory ran out.
     fn push_memory<D: Display + Drop>(&mut self, done: D) -> Result<()> {
         self.output.push_str("Memory ")?;
         self.push_line(done)

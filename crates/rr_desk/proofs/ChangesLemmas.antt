@@ -84,7 +84,7 @@ pub front_after-more : (s : BookFront) (cs : List Change) (c : Change)
 front_after-more s [] c = refl
 front_after-more s (d ∷ cs) c = front_after-more (front_with s d) cs c
 
--- the end of an edition is no operation
+-- the end of an edition isn't an operation
 pub ops_in-end_edition : (n : Names) (cs : List Change) (m : BookFront)
     → ops_in n (cs ++ Edition m ∷ []) ≡ ops_in n cs
 ops_in-end_edition n cs m = ops_in-more n cs (Edition m) ∙ append-nil (ops_in n cs)

@@ -159,7 +159,7 @@ keeper-push v shown n own new front all cs more ended op k may is left = record 
   ready = λ e. cc;
 }
 
--- changes more are pending that are no operations
+-- further changes are pending, none of which is an operation
 pub keeper-named : (v : View) (shown : ReplicaState) (n : Names) (own : ReplicaState) (front all : BookFront)
     (cs more : List Change) (ended : Bool) → IsKeeper v shown n own front all cs ended
     → ops_in n more ≡ ops_in n cs → front_after front more ≡ front_after front cs

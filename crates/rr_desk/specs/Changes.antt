@@ -94,7 +94,7 @@ pub record IsChangeOf (series : ℕ) (o : Op) (c : Change) : Type 0 where
   pub ops : (n : Names) → slice_get n.keys series ≡ Some (key_of o) → IsOwn n.origin o → ops_of n c ≡ o ∷ []
   pub names : (n : Names) → names_after n c ≡ n
 
--- of the keeper's own keys the copies have so many after these changes, in the same order
+-- after these changes the copies have this many of the keeper's keys: the first ones, in the same order
 pub record AreNamed (n : Names) (own : List (List ℕ)) (cs : List Change) (named : ℕ) : Type 0 where
   pub front : IsPrefix (names_at n cs).keys own
   pub many : length (names_at n cs).keys ≡ named
