@@ -110,6 +110,7 @@ impl<A: Cells> Copies<A> {
     ///
     /// Before some operations finished rows of the series at the hint are shared with the copy that
     /// is shown.
+    #[inline(always)]
     pub fn push(&mut self, hint: Hint, op: Op) -> Result<(), AllocError>
         requires { accepts (own_replica self.old) op ≡ true }
         ensures pending { OnOk result (self.new ≡ with_pending self.old op) }
@@ -130,6 +131,7 @@ impl<A: Cells> Copies<A> {
     }
 
     /// `push`, without sharing rows.
+    #[inline(always)]
     fn append(&mut self, hint: Hint, op: &Op) -> Result<(), AllocError>
         requires { accepts (own_replica self.old) op.now ≡ true }
         ensures pending { OnOk result (self.new ≡ with_pending self.old op.now) }

@@ -181,6 +181,7 @@ impl Block {
     }
 
     /// Whether a row has no entry.
+    #[inline(always)]
     fn is_free(&self, number: u32) -> bool
         requires { number < 64 }
         ensures readings { IsTrue result → place_at self.now.readings.mask number ≡ None }
@@ -190,6 +191,7 @@ impl Block {
     }
 
     /// Makes room for an entry of an origin in a row.
+    #[inline(always)]
     pub(crate) fn make_room(&mut self, number: u32, origin: Origin) -> Result<(), AllocError>
         requires { number < 64 }
         ensures same { items_in self.new ≡ items_in self.old }
@@ -203,6 +205,7 @@ impl Block {
     }
 
     /// Makes room for a row of either kind, for one that has no entry.
+    #[inline(always)]
     fn make_free_room(&mut self, number: u32) -> Result<(), AllocError>
         requires readings { place_at self.old.readings.mask number ≡ None }
         requires rows { place_at self.old.rows.mask number ≡ None }
@@ -216,6 +219,7 @@ impl Block {
     }
 
     /// `make_room`, for a row that has an entry.
+    #[inline(never)]
     fn make_room_in_row(&mut self, number: u32, origin: Origin) -> Result<(), AllocError>
         requires { number < 64 }
         ensures same { items_in self.new ≡ items_in self.old }
@@ -232,6 +236,7 @@ impl Block {
 
     /// What a change makes of a row without an entry, as a reading of this block, if it can be one.
     /// The first reading of a block decides what the others have in common with it.
+    #[inline(always)]
     fn reading_of(&mut self, origin: Origin, change: &Change) -> Option<Reading>
         requires { Fits (entry_at [] origin) change.now }
         ensures same { items_in self.new ≡ items_in self.old }
@@ -270,6 +275,7 @@ impl Block {
     }
 
     /// Adds the entry of a row that has none.
+    #[inline(always)]
     fn add(&mut self, number: u32, origin: Origin, change: &Change) -> Result<(), AllocError>
         requires number { number < 64 }
         requires fits { Fits (entry_at [] origin) change.now }
@@ -292,6 +298,7 @@ impl Block {
     }
 
     /// `add`, as an entry whatever the change is.
+    #[inline(never)]
     fn add_entry(&mut self, number: u32, origin: Origin, change: &Change) -> Result<(), AllocError>
         requires number { number < 64 }
         requires fits { Fits (entry_at [] origin) change.now }
@@ -310,6 +317,7 @@ impl Block {
     }
 
     /// Changes the entry of an origin in a row.
+    #[inline(always)]
     pub(crate) fn change(
         &mut self,
         number: u32,
@@ -332,6 +340,7 @@ impl Block {
     }
 
     /// `change`, for a row that has an entry.
+    #[inline(never)]
     fn change_row(&mut self, number: u32, origin: Origin, change: &Change) -> Result<(), AllocError>
         requires number { number < 64 }
         requires fits { Fits (entry_at (items_in self.old number) origin) change.now }

@@ -104,6 +104,7 @@ impl Blocks {
     }
 
     /// Where the block of a number is; if there is none, where it belongs. Mostly it is the newest.
+    #[inline(always)]
     fn find(&self, number: i64) -> Result<usize, usize>
         ensures found { IfOk result (IsPlaceOf number (all_blocks self.now)) }
         ensures missing { IfErr result (IsGapFor number (all_blocks self.now)) }
@@ -117,6 +118,7 @@ impl Blocks {
     }
 
     /// `find`, among all blocks.
+    #[inline(never)]
     fn search(&self, number: i64) -> Result<usize, usize>
         ensures found { IfOk result (IsPlaceOf number (all_blocks self.now)) }
         ensures missing { IfErr result (IsGapFor number (all_blocks self.now)) }
@@ -233,6 +235,7 @@ impl Blocks {
     }
 
     /// Makes room for an entry of an origin in a slot.
+    #[inline(always)]
     pub(crate) fn make_room(&mut self, slot: i64, origin: Origin) -> Result<(), AllocError>
         ensures same { row_at self.new ≡ row_at self.old }
         ensures room { OnOk result (IsTrue (has_room_at self.new slot origin)) }
@@ -245,6 +248,7 @@ impl Blocks {
     }
 
     /// `make_room`, in the block at a place.
+    #[inline(always)]
     fn make_room_at(&mut self, at: usize, slot: i64, origin: Origin) -> Result<(), AllocError>
         requires { IsPlaceOf (block_of slot) (all_blocks self.old) at }
         ensures same { row_at self.new ≡ row_at self.old }
@@ -262,6 +266,7 @@ impl Blocks {
     }
 
     /// `make_room`, in a block that isn't there.
+    #[inline(never)]
     fn make_new_room(&mut self, at: usize, slot: i64, origin: Origin) -> Result<(), AllocError>
         requires { IsGapFor (block_of slot) (all_blocks self.old) at }
         ensures same { row_at self.new ≡ row_at self.old }
@@ -276,6 +281,7 @@ impl Blocks {
     }
 
     /// Changes the entry of an origin in a slot.
+    #[inline(always)]
     pub(crate) fn change(
         &mut self,
         slot: i64,
@@ -296,6 +302,7 @@ impl Blocks {
     }
 
     /// `change`, in the block at a place.
+    #[inline(always)]
     fn change_at(
         &mut self,
         at: usize,
@@ -322,6 +329,7 @@ impl Blocks {
     }
 
     /// `change`, in a block that isn't there.
+    #[inline(never)]
     fn change_new(
         &mut self,
         at: usize,

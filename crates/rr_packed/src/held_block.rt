@@ -24,6 +24,7 @@ pub(crate) enum HeldBlock {
 }
 
 /// A copy of a block, with room for an entry of an origin in a row.
+#[inline(never)]
 fn copy_with_room(
     block: &Block,
     alloc: Global,
@@ -40,6 +41,7 @@ fn copy_with_room(
 }
 
 /// A copy of a block, with the entry of an origin in a row changed.
+#[inline(never)]
 fn changed_copy(
     block: &Block,
     alloc: Global,
@@ -122,6 +124,7 @@ impl HeldBlock {
     }
 
     /// Makes room for an entry of an origin in a row, in a block of this archive's own.
+    #[inline(always)]
     pub(crate) fn make_room(
         &mut self,
         alloc: Global,
@@ -144,6 +147,7 @@ impl HeldBlock {
     }
 
     /// Changes the entry of an origin in a row. A block that is shared is copied first.
+    #[inline(always)]
     pub(crate) fn change(
         &mut self,
         alloc: Global,

@@ -54,6 +54,7 @@ pub struct PackedArchive {
 
 impl PackedArchive {
     /// Changes the cell of a slot and an origin. A change that is past the horizon is passed over.
+    #[inline(always)]
     fn change(&mut self, slot: i64, origin: Origin, change: &Change) -> Result<(), AllocError>
         requires slot { IsSlot slot }
         requires fits { Fits

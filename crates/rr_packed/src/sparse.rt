@@ -54,6 +54,7 @@ impl<T: Drop> Sparse<T> {
     }
 
     /// Whether a number has no item.
+    #[inline(always)]
     pub(crate) fn lacks(&self, number: u32) -> bool
         requires { number < 64 }
         ensures { result ≡ is_none (place_at self.now.mask number) }
@@ -62,6 +63,7 @@ impl<T: Drop> Sparse<T> {
     }
 
     /// Where in the list the item of a number is, if it has one.
+    #[inline(always)]
     pub(crate) fn find(&self, number: u32) -> Option<usize>
         requires { number < 64 }
         ensures place { result ≡ place_at self.now.mask number }
@@ -105,6 +107,7 @@ impl<T: Drop> Sparse<T> {
 
     /// Makes room for one item more. The list takes memory for 1, 4, 16, 64 items, since most series
     /// have few rows.
+    #[inline(always)]
     pub(crate) fn make_room(&mut self) -> Result<(), AllocError>
         ensures same { item_in self.new ≡ item_in self.old }
         ensures mask { self.new.mask ≡ self.old.mask }
@@ -136,6 +139,7 @@ impl<T: Drop> Sparse<T> {
     }
 
     /// Adds the item of a number that has none.
+    #[inline(always)]
     pub(crate) fn insert(&mut self, number: u32, item: T) -> Result<(), AllocError>
         requires number { number < 64 }
         requires free { place_at self.old.mask number ≡ None }

@@ -26,6 +26,7 @@ pub(crate) fn empty_archives<A: Cells>(alloc: Global, schema: &Schema) -> Result
 
 /// Makes room for a sample of a time and an origin in each archive from the one with a number on,
 /// and changes no cell.
+#[inline(always)]
 fn make_ready<A: Cells>(
     archives: &mut Vec<A>,
     schema: &Schema,
@@ -53,6 +54,7 @@ fn make_ready<A: Cells>(
 
 /// Puts a sample into each archive, those after the first having room for it. Where the first can't
 /// take it, nothing has changed yet.
+#[inline(always)]
 fn put_ready<A: Cells>(
     archives: &mut Vec<A>,
     schema: &Schema,
@@ -86,6 +88,7 @@ fn put_ready<A: Cells>(
 }
 
 /// Puts a sample into each archive, or into none.
+#[inline(always)]
 pub(crate) fn put_into<A: Cells>(
     archives: &mut Vec<A>,
     schema: &Schema,
@@ -126,6 +129,7 @@ pub(crate) fn join_into<A: Cells>(
 }
 
 /// Makes room for a cell in the archive that it is of, and changes no cell.
+#[inline(never)]
 fn make_cell_ready<A: Cells>(
     archives: &mut Vec<A>,
     schema: &Schema,
@@ -144,6 +148,7 @@ fn make_cell_ready<A: Cells>(
 }
 
 /// Makes room for an operation, and changes no cell.
+#[inline(always)]
 pub(crate) fn make_room<A: Cells>(
     archives: &mut Vec<A>,
     schema: &Schema,

@@ -15,6 +15,7 @@ use rr_schema::Schema;
 use std::alloc::{AllocError, Global};
 
 /// Puts a sample of the series with a number into each of its archives, or into none.
+#[inline(always)]
 pub(crate) fn put_at<A: Cells>(
     series: &mut SeriesMap<A>,
     schema: &Schema,

@@ -177,6 +177,7 @@ impl<A: Cells> Replica<A> {
 
     /// Puts a sample of the series with a number under its own number, after which the next one
     /// comes.
+    #[inline(always)]
     pub(crate) fn put_reading_at(
         &mut self,
         series: usize,

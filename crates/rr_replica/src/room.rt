@@ -20,6 +20,7 @@ use rr_schema::Schema;
 use std::alloc::{AllocError, Global};
 
 /// Makes room for an operation in the archives of its key, whose index this is. No cell changes.
+#[inline(always)]
 fn make_room_at<A: Cells>(
     series: &mut SeriesMap<A>,
     schema: &Schema,
