@@ -1,31 +1,34 @@
 //! Samples of series that are known, put one after the other.
-ghost use Rattle.std.specs.Prelude.{◌≡◌, ℕ, ◌≤◌, ◌↔◌, length, map, take, Err, IfOk, IfErr, OnOk, IsTrue, IsFalse, unwrap_or};
+ghost use Rattle.std.specs.Prelude.{◌≡◌, ℕ, ◌≤◌, ◌↔◌, length, map, take, Err, IfOk, IfErr, OnErr, OnOk, IsTrue, IsFalse, unwrap_or};
 ghost use Rattle.rr_text.specs.declared.limits.TheConstants.{MAX_FIELDS};
 ghost use Rattle.rr_desk.specs.KeeperState.{own_replica};
 
 use crate::keeper::Keeper;
 use rr_archive::Cells;
 use rr_key::SeriesKey;
-use rr_replica::{WriteFault, is_ahead};
+use rr_replica::{Hint, WriteFault, is_ahead};
+use std::alloc::AllocError;
 
 /// A value of a series.
 #[derive(Drop)]
 pub struct KeyedValue {
     /// The key of the series.
     pub key: SeriesKey,
+    /// Where the series is likely to be.
+    pub hint: Hint,
     /// The value.
     pub value: i64,
 }
 
 impl<A: Cells> Keeper<A> {
     ghost use Rattle.rr_replica.specs.Writing.{is_ahead, lacks_numbers};
-    ghost use Rattle.rr_desk.specs.Points.{keyed_value, put_before, with_samples};
+    ghost use Rattle.rr_desk.specs.Points.{keyed_value, put_before, with_put, with_samples};
 
     /// Puts a sample of each value, in order, as [`Keeper::write`] puts those of a point whose
     /// fields have these keys, and answers how many.
     ///
     /// Refused as `AheadOfClock`, as `NumbersSpent` and as `Memory` as there. The cost is that of
-    /// the puts.
+    /// the puts; of a series that is where its hint says, the key is compared once and not looked up.
     pub fn write_samples(
         &mut self,
         values: &[KeyedValue],
@@ -64,11 +67,24 @@ impl<A: Cells> Keeper<A> {
     {
         let mut put = 0;
         for value in values {
-            if self.put(&value.key, time, value.value).is_err() {
+            if self.put_value(value, time).is_err() {
                 return Err(WriteFault::Memory { put });
             }
             put += 1;
         }
         Ok(put)
+    }
+
+    /// Puts a sample of a value.
+    fn put_value(&mut self, value: &KeyedValue, time: i64) -> Result<(), AllocError>
+        ensures put { OnOk result (self.new
+            ≡ with_put self.old value.now.key time value.now.value) }
+        ensures unchanged { OnErr result (self.new ≡ self.old) }
+    {
+        let key = value.key.copy()?;
+        match self.put_at(value.hint, key, time, value.value) {
+            Ok(_) => Ok(()),
+            Err(_) => Err(AllocError),
+        }
     }
 }

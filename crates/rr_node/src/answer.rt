@@ -130,12 +130,12 @@ fn write_next<A: Cells, C: Clock>(
     Some(write_sample(keeper, clock, hint, key, value, time, rules.lead))
 }
 
-/// A value of a series, with a further owner of its key.
-fn keyed(key: &SeriesKey, value: i64) -> Option<KeyedValue>
+/// A value of the series at a hint, with a further owner of its key.
+fn keyed(key: &SeriesKey, hint: Hint, value: i64) -> Option<KeyedValue>
     ensures { IfSome result (λ keyed. keyed_value keyed ≡ (key.now, value)) }
 {
     let key = key.copy().ok()?;
-    Some(KeyedValue { key, value })
+    Some(KeyedValue { key, hint, value })
 }
 
 /// The values and the time of a line, if it says those of the series that are likely to come next,
@@ -155,7 +155,7 @@ fn read_next<A: Cells>(
     let key = keeper.key_at(at)?;
     let (value, mut known) = KnownLine::first_field(line, key.text())?;
     let mut values = Vec::new(alloc);
-    values.push(keyed(key, value)?).ok()?;
+    values.push(keyed(key, at, value)?).ok()?;
     for _ in 1..MAX_FIELDS {
         if let Some(time) = known.time(precision, last) {
             return Some((values, time));
@@ -163,7 +163,7 @@ fn read_next<A: Cells>(
         at = keeper.likely_after(at);
         let key = keeper.key_at(at)?;
         let (value, next) = known.next_field(key.text())?;
-        values.push(keyed(key, value)?).ok()?;
+        values.push(keyed(key, at, value)?).ok()?;
         known = next;
     }
     let time = known.time(precision, last)?;
