@@ -52,8 +52,8 @@ where
 
     ghost use Rattle.left_right.specs.Sides.{view as seat_view};
     ghost use Rattle.rr_replica.specs.ReplicaWithRoom.{replica_state};
-    ghost use Rattle.rr_desk.specs.Changes.{names_of, ops_in, AreNamed};
-    ghost use Rattle.rr_desk.specs.Writers.{changes};
+    ghost use Rattle.rr_desk.specs.Changes.{AreNamed};
+    ghost use Rattle.rr_desk.specs.Writers.{changes, pending_ops, shown_names};
 
     ghost view = { λ k. record {
       desk = (seat_view k.writer.desk.place).desk;
@@ -61,14 +61,14 @@ where
       origin = k.own.origin;
       next = k.own.next;
       published = (seat_view k.writer.desk.place).seen;
-      pending = ops_in (names_of k.writer.desk.shown.value.replica) (changes k.writer);
+      pending = pending_ops k.writer;
     } };
 
     ghost invariant = { λ k. IsKeeper (seat_view k.writer.desk.place)
         (replica_state k.writer.desk.shown.value.replica)
-        (names_of k.writer.desk.shown.value.replica) (replica_state k.own)
+        (shown_names k.writer) (replica_state k.own)
         k.writer.desk.shown.value.front k.book (changes k.writer) k.ended
-        × AreNamed (names_of k.writer.desk.shown.value.replica) k.own.keys (changes k.writer) k.named };
+        × AreNamed (shown_names k.writer) k.own.keys (changes k.writer) k.named };
 }
 
 impl<A: Cells> Copies<A> {

@@ -1,8 +1,8 @@
 //! Keys that the copies lack, which they get before operations on their series.
 ghost use Rattle.std.specs.Prelude.{◌≡◌, ◌+◌, ◌<◌, ◌≤◌, length, OnErr, OnOk};
-ghost use Rattle.rr_desk.specs.Changes.{front_after, names_of, ops_in, AreNamed};
+ghost use Rattle.rr_desk.specs.Changes.{front_after, ops_in, AreNamed};
 ghost use Rattle.rr_desk.specs.Editions.{BookFront};
-ghost use Rattle.rr_desk.specs.Writers.{changes};
+ghost use Rattle.rr_desk.specs.Writers.{changes, pending_ops, shown_names};
 
 use crate::change::Change;
 use crate::writing::DeskWriter;
@@ -17,14 +17,14 @@ fn name_key<A: Cells>(
     named: usize,
 ) -> Result<(), AllocError>
     requires there { named < length own.now.keys }
-    requires named { AreNamed (names_of writer.old.desk.shown.value.replica) own.now.keys
+    requires named { AreNamed (shown_names writer.old) own.now.keys
         (changes writer.old) named }
     ensures desk { writer.new.desk ≡ writer.old.desk }
-    ensures pending { ops_in (names_of writer.old.desk.shown.value.replica) (changes writer.new)
-        ≡ ops_in (names_of writer.old.desk.shown.value.replica) (changes writer.old) }
+    ensures pending { ops_in (shown_names writer.old) (changes writer.new)
+        ≡ pending_ops writer.old }
     ensures front { (s : BookFront) → front_after s (changes writer.new)
         ≡ front_after s (changes writer.old) }
-    ensures named { OnOk result (AreNamed (names_of writer.old.desk.shown.value.replica)
+    ensures named { OnOk result (AreNamed (shown_names writer.old)
         own.now.keys (changes writer.new) (named + 1)) }
     ensures unchanged { OnErr result (changes writer.new ≡ changes writer.old) }
 {
@@ -42,14 +42,14 @@ pub fn name_keys<A: Cells>(
     own: &Replica<A>,
     named: &mut usize,
 ) -> Result<(), AllocError>
-    requires { AreNamed (names_of writer.old.desk.shown.value.replica) own.now.keys
+    requires { AreNamed (shown_names writer.old) own.now.keys
         (changes writer.old) named.old }
     ensures desk { writer.new.desk ≡ writer.old.desk }
-    ensures pending { ops_in (names_of writer.old.desk.shown.value.replica) (changes writer.new)
-        ≡ ops_in (names_of writer.old.desk.shown.value.replica) (changes writer.old) }
+    ensures pending { ops_in (shown_names writer.old) (changes writer.new)
+        ≡ pending_ops writer.old }
     ensures front { (s : BookFront) → front_after s (changes writer.new)
         ≡ front_after s (changes writer.old) }
-    ensures named { AreNamed (names_of writer.old.desk.shown.value.replica) own.now.keys
+    ensures named { AreNamed (shown_names writer.old) own.now.keys
         (changes writer.new) named.new }
     ensures all { OnOk result (length own.now.keys ≤ named.new) }
 {

@@ -1,15 +1,14 @@
 //! What the keeper does with the copies, each under the rule.
-ghost use Rattle.std.specs.Prelude.{◌≡◌, true, false, [], ◌∷◌, ◌++◌, fold, OnErr, OnOk, MatchResult};
+ghost use Rattle.std.specs.Prelude.{◌≡◌, true, false, [], ◌∷◌, OnErr, OnOk, MatchResult};
 ghost use Rattle.left_right.specs.Sides.{view};
 ghost use Rattle.rr_schema.specs.Schema.{IsLayout};
 ghost use Rattle.rr_cells.specs.Cells.{IsTrimmed};
-ghost use Rattle.rr_cells.specs.Operations.{joins_of, step, AllAccepted};
+ghost use Rattle.rr_cells.specs.Operations.{joins_of, AllAccepted};
 ghost use Rattle.rr_replica.specs.ReplicaWithRoom.{replica_state};
-ghost use Rattle.rr_desk.specs.Changes.{front_after, names_at, names_of, ops_in};
+ghost use Rattle.rr_desk.specs.Changes.{names_at, ops_in};
 ghost use Rattle.rr_desk.specs.Editions.{after, flat, Begins};
-ghost use Rattle.rr_desk.specs.Rule.{with_published, with_news, keeper_of};
-ghost use Rattle.rr_desk.specs.KeeperState.{IsReady};
-ghost use Rattle.rr_desk.specs.Writers.{changes};
+ghost use Rattle.rr_desk.specs.Rule.{with_news, keeper_of};
+ghost use Rattle.rr_desk.specs.Writers.{all_ops, changes, pending_ops, shown_names, HasPublished, IsPublishable, IsUnpublished};
 ghost use Rattle.rr_desk.specs.declared.change.Change.TheVariants.{Edition};
 
 use crate::book::{Batch, Editions};
@@ -47,9 +46,7 @@ pub fn start<A: Cells, R: Wait>(
         × (result.0.desk.shown.value.front ≡ book.now)
         × (changes result.0 ≡ [])
         × (result.0.desk.shown.value.replica.keys ≡ writer.desk.shown.value.replica.keys))
-        (λ _. (view result.0.desk.place ≡ view writer.desk.place)
-        × (result.0.desk.shown.value ≡ writer.desk.shown.value)
-        × (changes result.0 ≡ changes writer)) }
+        (λ _. IsUnpublished writer result.0) }
 {
     writer.publish_as::<Opens, R>(rt)
 }
@@ -59,24 +56,10 @@ fn publish_batch<A: Cells, K: Batch, R: Wait>(
     rt: &R,
     writer: DeskWriter<A>,
 ) -> (DeskWriter<A>, Result<(), AllocError>)
-    requires batch { K.batch ≡ ops_in (names_of writer.desk.shown.value.replica) (changes writer) }
-    requires ready { IsReady (view writer.desk.place)
-        (replica_state writer.desk.shown.value.replica)
-        (names_of writer.desk.shown.value.replica)
-        writer.desk.shown.value.front (changes writer) }
-    ensures { MatchResult result.1
-        (λ _. (view result.0.desk.place ≡ with_published (view writer.desk.place)
-        (ops_in (names_of writer.desk.shown.value.replica) (changes writer)))
-        × (changes result.0 ≡ [])
-        × (replica_state result.0.desk.shown.value.replica
-        ≡ fold step (replica_state writer.desk.shown.value.replica) (ops_in (names_of writer.desk.shown.value.replica) (changes writer)))
-        × (result.0.desk.shown.value.front ≡ front_after writer.desk.shown.value.front
-        (changes writer))
-        × (names_of result.0.desk.shown.value.replica
-        ≡ names_at (names_of writer.desk.shown.value.replica) (changes writer)))
-        (λ _. (view result.0.desk.place ≡ view writer.desk.place)
-        × (result.0.desk.shown.value ≡ writer.desk.shown.value)
-        × (changes result.0 ≡ changes writer)) }
+    requires batch { K.batch ≡ pending_ops writer }
+    requires ready { IsPublishable writer }
+    ensures { MatchResult result.1 (λ _. HasPublished writer result.0)
+        (λ _. IsUnpublished writer result.0) }
 {
     writer.publish_as::<Publishes<K>, R>(rt)
 }
@@ -86,23 +69,9 @@ pub fn publish<A: Cells, R: Wait>(
     rt: &R,
     writer: DeskWriter<A>,
 ) -> (DeskWriter<A>, Result<(), AllocError>)
-    requires ready { IsReady (view writer.desk.place)
-        (replica_state writer.desk.shown.value.replica)
-        (names_of writer.desk.shown.value.replica)
-        writer.desk.shown.value.front (changes writer) }
-    ensures { MatchResult result.1
-        (λ _. (view result.0.desk.place ≡ with_published (view writer.desk.place)
-        (ops_in (names_of writer.desk.shown.value.replica) (changes writer)))
-        × (changes result.0 ≡ [])
-        × (replica_state result.0.desk.shown.value.replica
-        ≡ fold step (replica_state writer.desk.shown.value.replica) (ops_in (names_of writer.desk.shown.value.replica) (changes writer)))
-        × (result.0.desk.shown.value.front ≡ front_after writer.desk.shown.value.front
-        (changes writer))
-        × (names_of result.0.desk.shown.value.replica
-        ≡ names_at (names_of writer.desk.shown.value.replica) (changes writer)))
-        (λ _. (view result.0.desk.place ≡ view writer.desk.place)
-        × (result.0.desk.shown.value ≡ writer.desk.shown.value)
-        × (changes result.0 ≡ changes writer)) }
+    requires ready { IsPublishable writer }
+    ensures { MatchResult result.1 (λ _. HasPublished writer result.0)
+        (λ _. IsUnpublished writer result.0) }
 {
     publish_batch::<A, Brand, R>(rt, writer)
 }
@@ -112,12 +81,9 @@ fn reach_batch<A: Cells, K: Batch>(
     book: &mut Editions,
     writer: &DeskWriter<A>,
 ) -> Result<(), AllocError>
-    requires batch { K.batch ≡ after (flat book.old.editions)
-        ((view writer.now.desk.place).seen ++ ops_in (names_of writer.now.desk.shown.value.replica) (changes writer.now)) }
-    requires begins { Begins (flat book.old.editions)
-        ((view writer.now.desk.place).seen ++ ops_in (names_of writer.now.desk.shown.value.replica) (changes writer.now)) }
-    ensures reached { OnOk result (flat book.new.editions
-        ≡ (view writer.now.desk.place).seen ++ ops_in (names_of writer.now.desk.shown.value.replica) (changes writer.now)) }
+    requires batch { K.batch ≡ after (flat book.old.editions) (all_ops writer.now) }
+    requires begins { Begins (flat book.old.editions) (all_ops writer.now) }
+    ensures reached { OnOk result (flat book.new.editions ≡ all_ops writer.now) }
     ensures desk { book.new.desk ≡ book.old.desk }
     ensures unchanged { OnErr result (book.new ≡ book.old) }
 {
@@ -128,10 +94,8 @@ fn reach_batch<A: Cells, K: Batch>(
 /// Adds an edition to the book of all that it lacks: it has what is published, and then all that is
 /// pending.
 fn reach<A: Cells>(book: &mut Editions, writer: &DeskWriter<A>) -> Result<(), AllocError>
-    requires begins { Begins (flat book.old.editions)
-        ((view writer.now.desk.place).seen ++ ops_in (names_of writer.now.desk.shown.value.replica) (changes writer.now)) }
-    ensures reached { OnOk result (flat book.new.editions
-        ≡ (view writer.now.desk.place).seen ++ ops_in (names_of writer.now.desk.shown.value.replica) (changes writer.now)) }
+    requires begins { Begins (flat book.old.editions) (all_ops writer.now) }
+    ensures reached { OnOk result (flat book.new.editions ≡ all_ops writer.now) }
     ensures desk { book.new.desk ≡ book.old.desk }
     ensures unchanged { OnErr result (book.new ≡ book.old) }
 {
@@ -149,25 +113,18 @@ pub fn end_edition<A: Cells>(
     requires joined { (view writer.old.desk.place).joined ≡ true }
     requires desk { book.old.desk ≡ (view writer.old.desk.place).desk }
     requires accepted { AllAccepted (replica_state writer.old.desk.shown.value.replica)
-        (ops_in (names_of writer.old.desk.shown.value.replica) (changes writer.old)) }
-    requires begins { Begins (flat book.old.editions)
-        ((view writer.old.desk.place).seen ++ ops_in (names_of writer.old.desk.shown.value.replica) (changes writer.old)) }
-    requires ended { ended ≡ true → IsReady (view writer.old.desk.place)
-        (replica_state writer.old.desk.shown.value.replica)
-        (names_of writer.old.desk.shown.value.replica)
-        writer.old.desk.shown.value.front (changes writer.old) }
+        (pending_ops writer.old) }
+    requires begins { Begins (flat book.old.editions) (all_ops writer.old) }
+    requires ended { ended ≡ true → IsPublishable writer.old }
     ensures same_copy { writer.new.desk ≡ writer.old.desk }
     ensures same_desk { book.new.desk ≡ book.old.desk }
-    ensures pending { ops_in (names_of writer.old.desk.shown.value.replica) (changes writer.new) ≡ ops_in (names_of writer.old.desk.shown.value.replica) (changes writer.old) }
-    ensures names { names_at (names_of writer.old.desk.shown.value.replica) (changes writer.new)
-        ≡ names_at (names_of writer.old.desk.shown.value.replica) (changes writer.old) }
+    ensures pending { ops_in (shown_names writer.old) (changes writer.new)
+        ≡ pending_ops writer.old }
+    ensures names { names_at (shown_names writer.old) (changes writer.new)
+        ≡ names_at (shown_names writer.old) (changes writer.old) }
     ensures unmarked { OnErr result (changes writer.new ≡ changes writer.old) }
-    ensures begins { Begins (flat book.new.editions)
-        ((view writer.old.desk.place).seen ++ ops_in (names_of writer.old.desk.shown.value.replica) (changes writer.old)) }
-    ensures ready { OnOk result (IsReady (view writer.new.desk.place)
-        (replica_state writer.new.desk.shown.value.replica)
-        (names_of writer.new.desk.shown.value.replica)
-        writer.new.desk.shown.value.front (changes writer.new)) }
+    ensures begins { Begins (flat book.new.editions) (all_ops writer.old) }
+    ensures ready { OnOk result (IsPublishable writer.new) }
 {
     if ended {
         return Ok(());
