@@ -48,7 +48,6 @@ impl Change {
     ghost use Rattle.rr_desk.specs.Changes.{IsChangeOf};
 
     /// The change that puts a sample of the series with a number.
-    #[inline(always)]
     fn put(series: usize, sample: &Sample) -> Change
         ensures { IsChangeOf series (op.Put sample.now) result }
     {
@@ -61,7 +60,6 @@ impl Change {
     }
 
     /// The change that joins a cell of the series with a number. Memory is taken for it.
-    #[inline(never)]
     fn join(alloc: Global, series: usize, cell: &Cell) -> Result<Change, AllocError>
         ensures { IfOk result (IsChangeOf series (op.Join cell.now)) }
     {
@@ -70,7 +68,6 @@ impl Change {
     }
 
     /// The change that is an operation of the series with a number.
-    #[inline(always)]
     pub fn of(alloc: Global, series: usize, op: &Op) -> Result<Change, AllocError>
         ensures { IfOk result (IsChangeOf series op.now) }
     {

@@ -123,6 +123,7 @@ impl<A: Cells> Copies<A> {
     }
 
     /// Shares finished rows of the series at a hint with the copy that is shown.
+    #[inline(always)]
     fn share_rows(&mut self, hint: Hint)
         ensures { self.new ≡ self.old }
     {
@@ -131,7 +132,6 @@ impl<A: Cells> Copies<A> {
     }
 
     /// `push`, without sharing rows.
-    #[inline(always)]
     fn append(&mut self, hint: Hint, op: &Op) -> Result<(), AllocError>
         requires { accepts (own_replica self.old) op.now ≡ true }
         ensures pending { OnOk result (self.new ≡ with_pending self.old op.now) }

@@ -115,6 +115,7 @@ impl<A: Cells> Keeper<A> {
 
     /// Puts a sample of a key as [`Keeper::put`] does, with a hint where its series is. The
     /// operation takes the key over.
+    #[inline(always)]
     pub(crate) fn put_at(
         &mut self,
         hint: Hint,

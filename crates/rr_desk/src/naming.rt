@@ -37,6 +37,7 @@ fn name_key<A: Cells>(
 
 /// Adds to the pending changes the keeper's keys that the copies will lack: it is at most one, unless
 /// memory ran out before. `named` says how many they will have.
+#[inline(always)]
 pub fn name_keys<A: Cells>(
     writer: &mut DeskWriter<A>,
     own: &Replica<A>,

@@ -219,7 +219,6 @@ impl Block {
     }
 
     /// `make_room`, for a row that has an entry.
-    #[inline(never)]
     fn make_room_in_row(&mut self, number: u32, origin: Origin) -> Result<(), AllocError>
         requires { number < 64 }
         ensures same { items_in self.new ≡ items_in self.old }
@@ -266,6 +265,7 @@ impl Block {
     /// Gives back the room that was made for entries, if there are none and the readings have
     /// filled theirs: so it is asked for and given back a few times a block, and not at each
     /// reading.
+    #[inline(always)]
     fn give_back(&mut self)
         ensures { items_in self.new ≡ items_in self.old }
     {
@@ -298,7 +298,6 @@ impl Block {
     }
 
     /// `add`, as an entry whatever the change is.
-    #[inline(never)]
     fn add_entry(&mut self, number: u32, origin: Origin, change: &Change) -> Result<(), AllocError>
         requires number { number < 64 }
         requires fits { Fits (entry_at [] origin) change.now }
@@ -340,7 +339,6 @@ impl Block {
     }
 
     /// `change`, for a row that has an entry.
-    #[inline(never)]
     fn change_row(&mut self, number: u32, origin: Origin, change: &Change) -> Result<(), AllocError>
         requires number { number < 64 }
         requires fits { Fits (entry_at (items_in self.old number) origin) change.now }

@@ -118,7 +118,6 @@ impl Blocks {
     }
 
     /// `find`, among all blocks.
-    #[inline(never)]
     fn search(&self, number: i64) -> Result<usize, usize>
         ensures found { IfOk result (IsPlaceOf number (all_blocks self.now)) }
         ensures missing { IfErr result (IsGapFor number (all_blocks self.now)) }
@@ -266,7 +265,6 @@ impl Blocks {
     }
 
     /// `make_room`, in a block that isn't there.
-    #[inline(never)]
     fn make_new_room(&mut self, at: usize, slot: i64, origin: Origin) -> Result<(), AllocError>
         requires { IsGapFor (block_of slot) (all_blocks self.old) at }
         ensures same { row_at self.new ≡ row_at self.old }
@@ -329,7 +327,6 @@ impl Blocks {
     }
 
     /// `change`, in a block that isn't there.
-    #[inline(never)]
     fn change_new(
         &mut self,
         at: usize,
@@ -372,6 +369,7 @@ impl Blocks {
     }
 
     /// Takes the blocks out whose slots are all before this one.
+    #[inline(always)]
     pub(crate) fn drop_before(&mut self, slot: i64)
         ensures { (s : ℤ) → (row_at self.new s ≡ row_at self.old s)
             ⊎ ((row_at self.new s ≡ []) × IsTrue (int_lt s slot)) }

@@ -24,7 +24,6 @@ pub(crate) enum HeldBlock {
 }
 
 /// A copy of a block, with room for an entry of an origin in a row.
-#[inline(never)]
 fn copy_with_room(
     block: &Block,
     alloc: Global,
@@ -41,7 +40,6 @@ fn copy_with_room(
 }
 
 /// A copy of a block, with the entry of an origin in a row changed.
-#[inline(never)]
 fn changed_copy(
     block: &Block,
     alloc: Global,

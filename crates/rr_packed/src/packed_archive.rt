@@ -108,6 +108,7 @@ impl Cells for PackedArchive {
         }
     }
 
+    #[inline(always)]
     fn ready(&mut self, slot: i64, origin: Origin) -> Result<(), AllocError> {
         if is_live(self.rows, self.newest, slot) {
             self.blocks.make_room(slot, origin)

@@ -90,6 +90,7 @@ impl Reading {
 
     /// What a change makes of a row without an entry, as a reading with its source, if it is of one
     /// sample.
+    #[inline(always)]
     pub(crate) fn after(origin: Origin, change: &Change) -> Option<(Source, Reading)>
         requires { Fits (entry_at [] origin) change.now }
         ensures { IfSome result (λ r. entry_of r.0 r.1 ≡ entry_after [] origin change.now) }

@@ -14,6 +14,7 @@ pub(crate) struct Sparse<T> {
 }
 
 /// Inserts an item into a list. Mostly it comes last, where no other has to move.
+#[inline(always)]
 fn insert_at<T: Drop>(items: &mut Vec<T>, at: usize, item: T) -> Result<(), AllocError>
     requires { at ≤ vec_len items.old }
     ensures items { OnOk result (items.new.items ≡ insert items.old.items at item) }

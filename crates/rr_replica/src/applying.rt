@@ -118,6 +118,7 @@ impl<A: Cells> Replica<A> {
 
     /// Takes an operation whose series is told by a number, as [`Replica::apply`] takes one that it
     /// takes.
+    #[inline(always)]
     pub fn apply_numbered(&mut self, series: usize, op: &Op) -> Result<(), AllocError>
         requires accepted { accepts (replica_state self.old) op.now ≡ true }
         requires key { slice_get self.old.keys series ≡ Some (key_of op.now) }

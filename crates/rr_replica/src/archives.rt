@@ -129,7 +129,6 @@ pub(crate) fn join_into<A: Cells>(
 }
 
 /// Makes room for a cell in the archive that it is of, and changes no cell.
-#[inline(never)]
 fn make_cell_ready<A: Cells>(
     archives: &mut Vec<A>,
     schema: &Schema,

@@ -218,6 +218,7 @@ impl<A: Cells> Replica<A> {
     /// Makes room as [`Replica::ready`] does for an operation that the replica takes, and answers
     /// the number of its series: they are counted from 0 in the order in which their keys came. If
     /// the hint is right, a comparison of two keys takes the place of the look-up.
+    #[inline(always)]
     pub fn ready_series(&mut self, hint: Hint, op: &Op) -> Result<usize, AllocError>
         requires { accepts (replica_state self.old) op.now ≡ true }
         ensures unchanged { replica_state self.new ≡ replica_state self.old }

@@ -42,6 +42,7 @@ fn make_room_at<A: Cells>(
 
 /// Makes room for an operation in the archives of its key, which are added where there are none, and
 /// says which series it is. No cell changes.
+#[inline(always)]
 pub(crate) fn make_room_in<A: Cells>(
     series: &mut SeriesMap<A>,
     alloc: Global,

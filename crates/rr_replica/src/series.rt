@@ -66,6 +66,7 @@ impl<A: Drop> SeriesMap<A> {
     }
 
     /// The index of a key, if it is known. The hint is tried first.
+    #[inline(always)]
     pub(crate) fn find_near(&self, hint: Hint, key: &SeriesKey) -> Option<usize>
         ensures { result ≡ index_of self.now.indices.entries key.now }
     {

@@ -78,6 +78,7 @@ impl<A: Cells> Replica<A> {
     /// Shares the finished rows of the series with a number with another replica, which has made them
     /// ready, where both hold the same in them. It changes nothing that the replica holds, whatever
     /// the number and the other replica are. The cost is that of comparing these rows.
+    #[inline(always)]
     pub fn share_rows(&mut self, series: usize, other: &Replica<A>)
         ensures unchanged { replica_state self.new ≡ replica_state self.old }
         ensures keys { self.new.keys ≡ self.old.keys }
