@@ -45,7 +45,7 @@ module _ {D P A S : Type 0} {g : Ghosts (Shown D) Change S} where
       × (new.desk.shown.value.front ≡ front_after old.desk.shown.value.front (changes old))
       × (shown_names new ≡ names_at (shown_names old) (changes old))
 
-  -- readers see what they saw, and as much is pending
+  -- readers see what they saw, and the same changes are pending
   abbrev pub IsUnpublished : Writer (Shown D) Change View P A S g → Writer (Shown D) Change View P A S g → Type 0
   IsUnpublished old new = (view new.desk.place ≡ view old.desk.place)
       × (new.desk.shown.value ≡ old.desk.shown.value)

@@ -263,8 +263,7 @@ impl Block {
     }
 
     /// Gives back the room that was made for entries, if there are none and the readings have
-    /// filled theirs: so it is asked for and given back a few times a block, and not at each
-    /// reading.
+    /// filled theirs: so it is asked for a few times a block, and not at each reading.
     #[inline(always)]
     fn give_back(&mut self)
         ensures { items_in self.new ≡ items_in self.old }
