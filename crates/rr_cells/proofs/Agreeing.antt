@@ -5,11 +5,11 @@ use Rattle.std.specs.FinMap.{get}
 use Rattle.rr_schema.specs.Schema.{Layout, IsLayout}
 use Rattle.rr_join.proofs.Booleans.{same_test}
 use Rattle.rr_contrib.specs.declared.contribution.Contribution.{Contribution}
-use Rattle.rr_model.specs.CellNames.{CellName}
-use Rattle.rr_model.specs.Samples.{Mark}
-use Rattle.rr_model.specs.Knowledge.{Knowledge, knows, is_live_in}
-use Rattle.rr_model.specs.World.{World, IsClosed}
-use Rattle.rr_model.proofs.Knowing.{same_knowledge, is_in-keys_of}
+use Rattle.rr_cells.specs.CellNames.{CellName}
+use Rattle.rr_cells.specs.Samples.{Mark}
+use Rattle.rr_cells.specs.Knowledge.{Knowledge, knows, is_live_in}
+use Rattle.rr_cells.specs.World.{World, IsClosed}
+use Rattle.rr_cells.proofs.Knowing.{same_knowledge, is_in-keys_of}
 use Rattle.rr_cells.specs.State.{cells_of_knowledge}
 use Rattle.rr_cells.proofs.States.{value, marks_at, get-state, value_cell}
 use Rattle.rr_cells.proofs.Uniting.{value_top, reaches}

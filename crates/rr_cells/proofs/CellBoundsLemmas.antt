@@ -11,7 +11,7 @@ use Rattle.rr_contrib.specs.Contributions.{SlotSample, contribution_with}
 use Rattle.rr_contrib.specs.Validity.{IsValid}
 use Rattle.rr_archive.specs.CellSlots.{IsSlot}
 use Rattle.rr_key.specs.Series.{IsKeyText}
-use Rattle.rr_model.specs.CellNames.{CellName}
+use Rattle.rr_cells.specs.CellNames.{CellName}
 use Rattle.rr_cells.specs.CellBounds.{IsCellOf}
 
 -- ---- the sum

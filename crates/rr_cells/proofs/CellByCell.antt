@@ -15,11 +15,11 @@ use Rattle.rr_join.proofs.Members.{is_in, same_from_tie}
 use Rattle.rr_contrib.specs.declared.contribution.Contribution.{Contribution}
 use Rattle.rr_contrib.specs.Contributions.{contribution_cmp}
 use Rattle.rr_contrib.specs.ContributionOrder.{contribution_cmp_total, contribution_cmp-IsAntisymmetric}
-use Rattle.rr_model.specs.CellNames.{CellName, cell_name_cmp, is_live}
-use Rattle.rr_model.specs.Knowledge.{cells_where}
-use Rattle.rr_model.proofs.Orders.{cell_name_cmp_total, cell_name_cmp-IsAntisymmetric}
-use Rattle.rr_model.proofs.Horizon.{live_horizon}
-use Rattle.rr_model.proofs.WholeCells.{whole_cells_are_closed}
+use Rattle.rr_cells.specs.CellNames.{CellName, cell_name_cmp, is_live}
+use Rattle.rr_cells.specs.Knowledge.{cells_where}
+use Rattle.rr_cells.proofs.Orders.{cell_name_cmp_total, cell_name_cmp-IsAntisymmetric}
+use Rattle.rr_cells.proofs.Horizon.{live_horizon}
+use Rattle.rr_cells.proofs.ClosedCells.{whole_cells_are_closed}
 use Rattle.rr_cells.specs.Cells.{Cells, IsTrimmed}
 use Rattle.rr_cells.specs.Joins.{join, join_cells}
 use Rattle.rr_cells.specs.State.{cells_of_knowledge}

@@ -12,12 +12,12 @@ use Rattle.rr_join.proofs.Keys.{same_keys}
 use Rattle.rr_join.proofs.Lookups.{is_in-keys}
 use Rattle.rr_join.proofs.Members.{is_in, same_from_tie, found_of, any_from}
 use Rattle.rr_contrib.specs.declared.contribution.Contribution.{Contribution}
-use Rattle.rr_model.specs.CellNames.{CellName, cell_name_cmp}
-use Rattle.rr_model.specs.Samples.{Mark, name_of, names_of}
-use Rattle.rr_model.specs.Knowledge.{Knowledge, knows, is_live_in, live, cell, names, difference}
-use Rattle.rr_model.specs.World.{World, IsClosed}
-use Rattle.rr_model.proofs.Orders.{cell_name_cmp_total, cell_name_cmp-IsAntisymmetric, mark_cmp_total, mark_cmp-IsAntisymmetric}
-use Rattle.rr_model.proofs.Knowing.{is_in-keys_of, is_in-names_of, knows-live, knows-cell}
+use Rattle.rr_cells.specs.CellNames.{CellName, cell_name_cmp}
+use Rattle.rr_cells.specs.Samples.{Mark, name_of, names_of}
+use Rattle.rr_cells.specs.Knowledge.{Knowledge, knows, is_live_in, live, cell, names, difference}
+use Rattle.rr_cells.specs.World.{World, IsClosed}
+use Rattle.rr_cells.proofs.Orders.{cell_name_cmp_total, cell_name_cmp-IsAntisymmetric, mark_cmp_total, mark_cmp-IsAntisymmetric}
+use Rattle.rr_cells.proofs.Knowing.{is_in-keys_of, is_in-names_of, knows-live, knows-cell}
 use Rattle.rr_cells.specs.State.{cells_of_knowledge}
 use Rattle.rr_cells.specs.Versions.{is_newer, newer_names}
 use Rattle.rr_cells.specs.Laws.{DifferenceIsByVersions}

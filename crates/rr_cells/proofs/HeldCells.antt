@@ -12,8 +12,8 @@ use Rattle.rr_join.proofs.Lookups.{is_in-keys}
 use Rattle.rr_join.proofs.Members.{is_in, head_in}
 use Rattle.rr_contrib.specs.declared.contribution.Contribution.{Contribution}
 use Rattle.rr_contrib.specs.Contributions.{of_one, slot_sample}
-use Rattle.rr_model.specs.CellNames.{CellName, cell_name_cmp}
-use Rattle.rr_model.proofs.Orders.{cell_name_cmp_total, cell_name_cmp-IsAntisymmetric}
+use Rattle.rr_cells.specs.CellNames.{CellName, cell_name_cmp}
+use Rattle.rr_cells.proofs.Orders.{cell_name_cmp_total, cell_name_cmp-IsAntisymmetric}
 use Rattle.rr_cells.specs.declared.cell.Cell.{Cell}
 use Rattle.rr_cells.specs.declared.cell.CellRef.{CellRef}
 use Rattle.rr_cells.specs.CellBounds.{NamedCell, IsCellOf}

@@ -10,8 +10,8 @@ use Rattle.rr_contrib.specs.Contributions.{contribution_cmp}
 use Rattle.rr_contrib.specs.ContributionOrder.{contribution_cmp_total, contribution_cmp-IsAntisymmetric}
 use Rattle.rr_archive.specs.CellSlots.{is_live_at}
 use Rattle.rr_archive.proofs.CellSlotOrder.{cell_slot_cmp_total, cell_slot_cmp-IsAntisymmetric}
-use Rattle.rr_model.proofs.Orders.{cell_name_cmp_total, cell_name_cmp-IsAntisymmetric}
-use Rattle.rr_model.proofs.Horizon.{live_horizon}
+use Rattle.rr_cells.proofs.Orders.{cell_name_cmp_total, cell_name_cmp-IsAntisymmetric}
+use Rattle.rr_cells.proofs.Horizon.{live_horizon}
 use Rattle.rr_cells.specs.Cells.{name_at, archive_cells}
 use Rattle.rr_cells.specs.Laws.{JoinIsCommutative, JoinIsAssociative, JoinIsIdempotent, JoinIsTrimmed, JoinGoesByArchives, JoinUnites}
 use Rattle.rr_cells.proofs.Local.{get-archive_cells, trimmed_local}

@@ -1,3 +1,11 @@
+pub mod Orders
+pub mod Horizon
+pub mod Knowing
+pub mod Places
+pub mod Writes
+pub mod ClosedCells
+pub mod Deliveries
+pub mod Fetches
 pub mod Local
 pub mod PutsLemmas
 pub mod CellBoundsLemmas
@@ -19,3 +27,8 @@ pub mod OperationsLemmas
 pub mod JoiningLemmas
 pub mod ValidStates
 pub mod WrittenCells
+pub mod Renaming
+pub mod Numbers
+pub mod Raised
+pub mod Joined
+pub mod Upgrading

@@ -15,9 +15,9 @@ use Rattle.rr_join.proofs.Lookups.{get-map_of_all, get-trimmed, is_in-keys}
 use Rattle.rr_archive.specs.CellSlots.{CellSlot, cell_slot_cmp, is_live_at}
 use Rattle.rr_archive.proofs.CellSlotOrder.{cell_slot_cmp_total, cell_slot_cmp-IsAntisymmetric}
 use Rattle.rr_archive.proofs.Horizon.{is_past_at, live_at_horizon}
-use Rattle.rr_model.specs.CellNames.{CellName, cell_name_cmp, is_of, is_live}
-use Rattle.rr_model.proofs.Orders.{cell_name_cmp_total, cell_name_cmp-IsAntisymmetric}
-use Rattle.rr_model.proofs.Horizon.{is_past, is_of_says, archive_is, live_horizon}
+use Rattle.rr_cells.specs.CellNames.{CellName, cell_name_cmp, is_of, is_live}
+use Rattle.rr_cells.proofs.Orders.{cell_name_cmp_total, cell_name_cmp-IsAntisymmetric}
+use Rattle.rr_cells.proofs.Horizon.{is_past, is_of_says, archive_is, live_horizon}
 use Rattle.rr_cells.specs.Cells.{Cells, name_at, cell_slot_of, archive_cells}
 
 pub is_of_itself : (key : List ℕ) (archive : ℕ) (p : CellSlot) → is_of key archive (name_at key archive p) ≡ true

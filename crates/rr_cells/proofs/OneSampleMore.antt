@@ -12,12 +12,12 @@ use Rattle.rr_join.proofs.Lookups.{get-trimmed, is_in-keys}
 use Rattle.rr_join.proofs.Horizons.{live_by_members, live-append}
 use Rattle.rr_contrib.specs.declared.contribution.Contribution.{Contribution}
 use Rattle.rr_contrib.specs.Contributions.{contribution_with}
-use Rattle.rr_model.specs.CellNames.{CellName, cell_name_cmp, is_live}
-use Rattle.rr_model.specs.Samples.{Sample, Mark, mark_cmp, name_of, names_of}
-use Rattle.rr_model.specs.Knowledge.{Knowledge, knows, with_marks, is_live_in}
-use Rattle.rr_model.proofs.Orders.{cell_name_cmp_total, cell_name_cmp-IsAntisymmetric, mark_cmp_total, mark_cmp-IsAntisymmetric}
-use Rattle.rr_model.proofs.Horizon.{live_horizon}
-use Rattle.rr_model.proofs.Knowing.{same_knowledge, is_in-keys_of, knows-set_of, knows-with_marks, with_marks-nil, with_marks-cons, is_in-names_of, name_from_tie, live_in-union}
+use Rattle.rr_cells.specs.CellNames.{CellName, cell_name_cmp, is_live}
+use Rattle.rr_cells.specs.Samples.{Sample, Mark, mark_cmp, name_of, names_of}
+use Rattle.rr_cells.specs.Knowledge.{Knowledge, knows, with_marks, is_live_in}
+use Rattle.rr_cells.proofs.Orders.{cell_name_cmp_total, cell_name_cmp-IsAntisymmetric, mark_cmp_total, mark_cmp-IsAntisymmetric}
+use Rattle.rr_cells.proofs.Horizon.{live_horizon}
+use Rattle.rr_cells.proofs.Knowing.{same_knowledge, is_in-keys_of, knows-set_of, knows-with_marks, with_marks-nil, with_marks-cons, is_in-names_of, name_from_tie, live_in-union}
 use Rattle.rr_cells.specs.Puts.{slot_sample_of, put_mark, put_marks}
 use Rattle.rr_cells.specs.State.{cells_of_knowledge, PutIsOneSampleMore}
 use Rattle.rr_cells.proofs.PutsLemmas.{mark, marks_from}

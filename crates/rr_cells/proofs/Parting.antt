@@ -8,9 +8,9 @@ use Rattle.rr_join.proofs.Distinct.{IsDistinct, keys_distinct}
 use Rattle.rr_join.proofs.Distinct.IsDistinct.{more}
 use Rattle.rr_join.proofs.Keys.{entries-retain}
 use Rattle.rr_join.proofs.Members.{is_in, tie_itself}
-use Rattle.rr_model.specs.CellNames.{cell_name_cmp}
-use Rattle.rr_model.specs.Knowledge.{names}
-use Rattle.rr_model.proofs.Orders.{cell_name_cmp_total, cell_name_cmp-IsAntisymmetric}
+use Rattle.rr_cells.specs.CellNames.{cell_name_cmp}
+use Rattle.rr_cells.specs.Knowledge.{names}
+use Rattle.rr_cells.proofs.Orders.{cell_name_cmp_total, cell_name_cmp-IsAntisymmetric}
 use Rattle.rr_cells.specs.State.{cells_of_knowledge}
 use Rattle.rr_cells.specs.Laws.{PartsAreCutFromEntries}
 use Rattle.rr_cells.proofs.Differing.{state_keys}

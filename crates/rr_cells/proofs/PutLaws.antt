@@ -10,7 +10,7 @@ use Rattle.rr_contrib.specs.Contributions.{contribution_with}
 use Rattle.rr_archive.specs.CellSlots.{CellSlot}
 use Rattle.rr_archive.proofs.Trimming.{trimmed_dead}
 use Rattle.rr_archive.proofs.FewLive.{cells_are_few}
-use Rattle.rr_model.specs.Samples.{name_of, marks_of}
+use Rattle.rr_cells.specs.Samples.{name_of, marks_of}
 use Rattle.rr_cells.specs.Cells.{name_at, cell_slot_of, archive_cells}
 use Rattle.rr_cells.specs.Puts.{slot_sample_of}
 use Rattle.rr_cells.specs.Laws.{PutGoesByArchives, PutLeavesOtherKeys, PutIsTrimmed, DeadLeaveNoTrace, CellsAreFew, mark_in}

@@ -14,10 +14,10 @@ use Rattle.rr_contrib.specs.Contributions.{contribution_with}
 use Rattle.rr_archive.specs.CellSlots.{is_live_at}
 use Rattle.rr_archive.specs.Cells.{put_in_archive}
 use Rattle.rr_archive.specs.Cells as held
-use Rattle.rr_model.specs.CellNames.{is_of}
-use Rattle.rr_model.specs.Samples.{Sample, Mark, name_of}
-use Rattle.rr_model.proofs.Orders.{cell_name_cmp_total, cell_name_cmp-IsAntisymmetric}
-use Rattle.rr_model.proofs.Horizon.{live_horizon}
+use Rattle.rr_cells.specs.CellNames.{is_of}
+use Rattle.rr_cells.specs.Samples.{Sample, Mark, name_of}
+use Rattle.rr_cells.proofs.Orders.{cell_name_cmp_total, cell_name_cmp-IsAntisymmetric}
+use Rattle.rr_cells.proofs.Horizon.{live_horizon}
 use Rattle.rr_cells.specs.Cells.{Cells, IsTrimmed, cell_slot_of, archive_cells}
 use Rattle.rr_cells.specs.Puts.{slot_sample_of, put_mark, put_marks, put_sample}
 use Rattle.rr_cells.proofs.Local.{get-archive_cells, trimmed_local, insert_here, insert_elsewhere}

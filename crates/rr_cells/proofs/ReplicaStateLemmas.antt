@@ -19,9 +19,9 @@ use Rattle.rr_archive.specs.CellSlots.{CellSlot, cell_slot_cmp, is_live_at, IsSl
 use Rattle.rr_archive.specs.Cells.{ArchiveCells, put_in_archive}
 use Rattle.rr_archive.proofs.CellSlotOrder.{cell_slot_cmp_total, cell_slot_cmp-IsAntisymmetric}
 use Rattle.rr_key.specs.Series.{IsKeyText}
-use Rattle.rr_model.specs.CellNames.{CellName}
-use Rattle.rr_model.specs.Samples.{Sample, name_of, marks_of}
-use Rattle.rr_model.proofs.Horizon.{archive_is}
+use Rattle.rr_cells.specs.CellNames.{CellName}
+use Rattle.rr_cells.specs.Samples.{Sample, name_of, marks_of}
+use Rattle.rr_cells.proofs.Horizon.{archive_is}
 use Rattle.rr_cells.specs.CellBounds.{IsCellOf}
 use Rattle.rr_cells.specs.Cells.{Cells, IsTrimmed, cell_slot_of, archive_cells}
 use Rattle.rr_cells.specs.Puts.{slot_sample_of, put_sample}

@@ -6,7 +6,7 @@ use Rattle.std.proofs.Math.Nat.{div-lt_iff_lt-mul}
 use Rattle.std.proofs.lemmas.Int.{ints}
 use Rattle.rr_schema.specs.Schema.{Layout, IsLayout, archive_at, slot_of, span}
 use Rattle.rr_archive.specs.CellSlots.{IsSlot}
-use Rattle.rr_model.proofs.Horizon.{archive_is}
+use Rattle.rr_cells.proofs.Horizon.{archive_is}
 
 below_second : (t n : ℕ) → 1 ≤ n → t < 2 ^ 63 → t / (n * 1_000_000_000) < 9_223_372_037
 below_second t n some fits = (div-lt_iff_lt-mul {k = n * 1_000_000_000} (omega arith)).1 (omega arith)

@@ -11,12 +11,12 @@ use Rattle.rr_join.proofs.Lookups.{get-map_of_all, get-trimmed, is_in-keys, is_i
 use Rattle.rr_join.proofs.Horizons.{live_by_members, live-trimmed}
 use Rattle.rr_join.proofs.Joining.{trimmed-trimmed}
 use Rattle.rr_contrib.specs.declared.contribution.Contribution.{Contribution}
-use Rattle.rr_model.specs.CellNames.{CellName, cell_name_cmp, is_live}
-use Rattle.rr_model.specs.Samples.{Mark, mark_cmp, name_of, names_of}
-use Rattle.rr_model.specs.Knowledge.{Knowledge, knows, is_live_in, live, cell, names}
-use Rattle.rr_model.proofs.Orders.{cell_name_cmp_total, cell_name_cmp-IsAntisymmetric, mark_cmp_total, mark_cmp-IsAntisymmetric}
-use Rattle.rr_model.proofs.Horizon.{live_horizon}
-use Rattle.rr_model.proofs.Knowing.{same_knowledge, is_in-keys_of, knows-retain, no_keys, is_in-names_of, name_from_tie, knows-live, knows-cell}
+use Rattle.rr_cells.specs.CellNames.{CellName, cell_name_cmp, is_live}
+use Rattle.rr_cells.specs.Samples.{Mark, mark_cmp, name_of, names_of}
+use Rattle.rr_cells.specs.Knowledge.{Knowledge, knows, is_live_in, live, cell, names}
+use Rattle.rr_cells.proofs.Orders.{cell_name_cmp_total, cell_name_cmp-IsAntisymmetric, mark_cmp_total, mark_cmp-IsAntisymmetric}
+use Rattle.rr_cells.proofs.Horizon.{live_horizon}
+use Rattle.rr_cells.proofs.Knowing.{same_knowledge, is_in-keys_of, knows-retain, no_keys, is_in-names_of, name_from_tie, knows-live, knows-cell}
 use Rattle.rr_cells.specs.Cells.{Cells, IsTrimmed}
 use Rattle.rr_cells.specs.State.{value_of, cells_of_knowledge}
 

@@ -15,13 +15,13 @@ use Rattle.rr_contrib.specs.declared.contribution.Contribution.{Contribution}
 use Rattle.rr_contrib.specs.Contributions.{contribution_cmp}
 use Rattle.rr_contrib.specs.ContributionOrder.{contribution_cmp_total, contribution_cmp-IsAntisymmetric}
 use Rattle.rr_contrib.specs.Samples.{summary}
-use Rattle.rr_model.specs.CellNames.{CellName, cell_name_cmp}
-use Rattle.rr_model.specs.Samples.{Sample, Mark, mark_cmp, name_of}
-use Rattle.rr_model.specs.Knowledge.{Knowledge, knows, union, is_live_in}
-use Rattle.rr_model.specs.World.{World, IsWritten, IsClosed}
-use Rattle.rr_model.proofs.Orders.{cell_name_cmp_total, cell_name_cmp-IsAntisymmetric, mark_cmp_total, mark_cmp-IsAntisymmetric}
-use Rattle.rr_model.proofs.Horizon.{live_horizon}
-use Rattle.rr_model.proofs.Knowing.{same_knowledge, is_in-keys_of, knows-union, knows-live, live_in-union}
+use Rattle.rr_cells.specs.CellNames.{CellName, cell_name_cmp}
+use Rattle.rr_cells.specs.Samples.{Sample, Mark, mark_cmp, name_of}
+use Rattle.rr_cells.specs.Knowledge.{Knowledge, knows, union, is_live_in}
+use Rattle.rr_cells.specs.World.{World, IsWritten, IsClosed}
+use Rattle.rr_cells.proofs.Orders.{cell_name_cmp_total, cell_name_cmp-IsAntisymmetric, mark_cmp_total, mark_cmp-IsAntisymmetric}
+use Rattle.rr_cells.proofs.Horizon.{live_horizon}
+use Rattle.rr_cells.proofs.Knowing.{same_knowledge, is_in-keys_of, knows-union, knows-live, live_in-union}
 use Rattle.rr_cells.specs.Puts.{slot_sample_of}
 use Rattle.rr_cells.specs.Joins.{join}
 use Rattle.rr_cells.specs.State.{value_of, cells_of_knowledge}

@@ -21,13 +21,13 @@ use Rattle.rr_contrib.specs.Validity.{IsValid}
 use Rattle.rr_contrib.proofs.KeepsValidLemmas.{Falls, place_below, of_one_valid, with_sample_valid}
 use Rattle.rr_archive.specs.CellSlots.{IsSlot}
 use Rattle.rr_key.specs.Series.{IsKeyText}
-use Rattle.rr_model.specs.CellNames.{CellName, cell_name_cmp}
-use Rattle.rr_model.specs.Samples.{Sample, Mark, mark_cmp, name_of}
-use Rattle.rr_model.specs.Knowledge.{Knowledge, knows, is_live_in, cell}
-use Rattle.rr_model.specs.World.{World, IsWritten, IsMarkOf}
-use Rattle.rr_model.proofs.Horizon.{archive_is}
-use Rattle.rr_model.proofs.Knowing.{same_knowledge, is_in-keys_of, knows-retain, knows-cell, name_from_tie}
-use Rattle.rr_model.proofs.Orders.{mark_cmp_total, mark_cmp-IsAntisymmetric}
+use Rattle.rr_cells.specs.CellNames.{CellName, cell_name_cmp}
+use Rattle.rr_cells.specs.Samples.{Sample, Mark, mark_cmp, name_of}
+use Rattle.rr_cells.specs.Knowledge.{Knowledge, knows, is_live_in, cell}
+use Rattle.rr_cells.specs.World.{World, IsWritten, IsMarkOf}
+use Rattle.rr_cells.proofs.Horizon.{archive_is}
+use Rattle.rr_cells.proofs.Knowing.{same_knowledge, is_in-keys_of, knows-retain, knows-cell, name_from_tie}
+use Rattle.rr_cells.proofs.Orders.{mark_cmp_total, mark_cmp-IsAntisymmetric}
 use Rattle.rr_cells.specs.CellBounds.{IsCellOf, IsSoundSample}
 use Rattle.rr_cells.specs.Laws.{StatesAreValid}
 use Rattle.rr_cells.specs.Puts.{slot_sample_of}

@@ -19,10 +19,10 @@ use Rattle.rr_contrib.specs.Samples.{sample_cmp, last_of, mask_of, summary, cont
 use Rattle.rr_contrib.proofs.Orders.{sample_cmp_total, sample_cmp-IsAntisymmetric}
 use Rattle.rr_contrib.proofs.Masks.{or_swap}
 use Rattle.rr_contrib.proofs.Summing.{contribution_of-more, contribution_of-one}
-use Rattle.rr_model.specs.Samples.{Mark, mark_cmp}
-use Rattle.rr_model.specs.Knowledge.{Knowledge, knows}
-use Rattle.rr_model.proofs.Orders.{mark_cmp_total, mark_cmp-IsAntisymmetric}
-use Rattle.rr_model.proofs.Knowing.{is_in-keys_of}
+use Rattle.rr_cells.specs.Samples.{Mark, mark_cmp}
+use Rattle.rr_cells.specs.Knowledge.{Knowledge, knows}
+use Rattle.rr_cells.proofs.Orders.{mark_cmp_total, mark_cmp-IsAntisymmetric}
+use Rattle.rr_cells.proofs.Knowing.{is_in-keys_of}
 use Rattle.rr_cells.specs.Puts.{slot_sample_of}
 use Rattle.rr_cells.specs.State.{value_of}
 

@@ -7,13 +7,13 @@ use Rattle.rr_schema.specs.Schema.{Layout, IsLayout}
 use Rattle.rr_join.proofs.Booleans.{same_test, and_first, and_second}
 use Rattle.rr_join.proofs.Horizons.{live_fewer}
 use Rattle.rr_join.proofs.Members.{is_in, found_of, any_from}
-use Rattle.rr_model.specs.CellNames.{CellName, cell_name_cmp}
-use Rattle.rr_model.specs.Samples.{Mark, name_of, names_of}
-use Rattle.rr_model.specs.Knowledge.{Knowledge, knows, is_live_in, live, cell, cells_where}
-use Rattle.rr_model.proofs.Orders.{cell_name_cmp_total, cell_name_cmp-IsAntisymmetric, mark_cmp_total, mark_cmp-IsAntisymmetric}
-use Rattle.rr_model.proofs.Horizon.{live_horizon}
-use Rattle.rr_model.proofs.Knowing.{same_knowledge, is_in-keys_of, is_in-names_of, knows-live, knows-cell, name_from_tie}
-use Rattle.rr_model.proofs.WholeCells.{knows-cells_where}
+use Rattle.rr_cells.specs.CellNames.{CellName, cell_name_cmp}
+use Rattle.rr_cells.specs.Samples.{Mark, name_of, names_of}
+use Rattle.rr_cells.specs.Knowledge.{Knowledge, knows, is_live_in, live, cell, cells_where}
+use Rattle.rr_cells.proofs.Orders.{cell_name_cmp_total, cell_name_cmp-IsAntisymmetric, mark_cmp_total, mark_cmp-IsAntisymmetric}
+use Rattle.rr_cells.proofs.Horizon.{live_horizon}
+use Rattle.rr_cells.proofs.Knowing.{same_knowledge, is_in-keys_of, is_in-names_of, knows-live, knows-cell, name_from_tie}
+use Rattle.rr_cells.proofs.ClosedCells.{knows-cells_where}
 use Rattle.rr_cells.specs.State.{cells_of_knowledge}
 use Rattle.rr_cells.specs.Laws.{WholeCellsMakeTheirCells, LiveMakesTheSame, StateIsOfTheLive}
 use Rattle.rr_cells.proofs.States.{value, no_value, get-state}

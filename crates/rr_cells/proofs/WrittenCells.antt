@@ -14,11 +14,11 @@ use Rattle.rr_schema.specs.Schema.{Layout}
 use Rattle.rr_join.specs.Sums.{int_sum}
 use Rattle.rr_join.proofs.Booleans.{and_first, and_second}
 use Rattle.rr_contrib.specs.declared.contribution.Contribution.{Contribution}
-use Rattle.rr_model.specs.CellNames.{CellName, cell_name_cmp}
-use Rattle.rr_model.specs.Samples.{Sample, name_of}
-use Rattle.rr_model.specs.Knowledge.{Knowledge, knows, is_live_in, cell}
-use Rattle.rr_model.specs.World.{World, IsWritten, IsClosed}
-use Rattle.rr_model.proofs.Knowing.{is_in-keys_of, knows-cell, name_from_tie}
+use Rattle.rr_cells.specs.CellNames.{CellName, cell_name_cmp}
+use Rattle.rr_cells.specs.Samples.{Sample, name_of}
+use Rattle.rr_cells.specs.Knowledge.{Knowledge, knows, is_live_in, cell}
+use Rattle.rr_cells.specs.World.{World, IsWritten, IsClosed}
+use Rattle.rr_cells.proofs.Knowing.{is_in-keys_of, knows-cell, name_from_tie}
 use Rattle.rr_cells.specs.CellBounds.{NamedCell, IsCellOf}
 use Rattle.rr_cells.specs.Joining.{next_after, next_past}
 use Rattle.rr_cells.specs.Laws.{VersionsAreNumbers, NextStays, SumsAreSmall, JoinsMakeTheirCells, JoinsAreTaken}

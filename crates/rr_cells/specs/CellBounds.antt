@@ -8,8 +8,8 @@ use Rattle.rr_schema.specs.Schema.{Layout}
 use Rattle.rr_contrib.specs.declared.contribution.Contribution.{Contribution}
 use Rattle.rr_contrib.specs.Validity.{IsValid, is_valid}
 use Rattle.rr_key.specs.Series.{IsKeyText}
-use Rattle.rr_model.specs.CellNames.{CellName}
-use Rattle.rr_model.specs.Samples.{Sample}
+use Rattle.rr_cells.specs.CellNames.{CellName}
+use Rattle.rr_cells.specs.Samples.{Sample}
 
 -- a sample within the limits, of a key text, with a time and a value of 64 bits
 pub record IsSoundSample (x : Sample) : Type 0 where

@@ -8,7 +8,7 @@ use Rattle.rr_contrib.specs.declared.contribution.Contribution.{Contribution}
 use Rattle.rr_archive.specs.declared.entry.Entry.{Entry}
 use Rattle.rr_archive.specs.CellSlots.{CellSlot, cell_slot}
 use Rattle.rr_archive.specs.Cells as held
-use Rattle.rr_model.specs.CellNames.{CellName, cell_name_cmp, is_of, is_live}
+use Rattle.rr_cells.specs.CellNames.{CellName, cell_name_cmp, is_of, is_live}
 
 -- what each name contributes
 abbrev pub Cells : Type 0

@@ -5,7 +5,7 @@ use Rattle.rr_schema.specs.Schema.{Layout}
 use Rattle.rr_join.specs.Maps.{joined}
 use Rattle.rr_contrib.specs.declared.contribution.Contribution.{Contribution}
 use Rattle.rr_contrib.specs.Contributions.{contribution_cmp}
-use Rattle.rr_model.specs.CellNames.{CellName, is_live}
+use Rattle.rr_cells.specs.CellNames.{CellName, is_live}
 use Rattle.rr_cells.specs.CellBounds.{NamedCell}
 use Rattle.rr_cells.specs.Cells.{Cells}
 

@@ -7,16 +7,16 @@ use Rattle.rr_schema.specs.Schema.{Layout, IsLayout, archive_at, slot_of}
 use Rattle.rr_join.specs.Sums.{int_sum}
 use Rattle.rr_contrib.specs.declared.contribution.Contribution.{Contribution}
 use Rattle.rr_archive.specs.Cells.{put_in_archive, join_archive_cells}
-use Rattle.rr_model.specs.CellNames.{CellName, cell_name_cmp, is_slot_live}
-use Rattle.rr_model.specs.Samples.{Sample, Mark, name_of}
+use Rattle.rr_cells.specs.CellNames.{CellName, cell_name_cmp, is_slot_live}
+use Rattle.rr_cells.specs.Samples.{Sample, Mark, name_of}
 use Rattle.rr_cells.specs.declared.cell.Cell.{Cell}
 use Rattle.rr_cells.specs.CellBounds.{NamedCell, IsCellOf, IsSoundSample}
 use Rattle.rr_cells.specs.ReplicaState.{ReplicaState}
 use Rattle.rr_cells.specs.Joining.{next_past, with_cells}
 use Rattle.rr_cells.specs.Operations.{joins_of, outcome_of, AllAccepted}
 use Rattle.rr_cells.specs.Cells.{Cells, IsTrimmed, HasOriginsIn, cell_slot_of, archive_cells}
-use Rattle.rr_model.specs.Knowledge.{Knowledge, union, live, cells_where, part, difference}
-use Rattle.rr_model.specs.World.{World, IsWritten, IsClosed}
+use Rattle.rr_cells.specs.Knowledge.{Knowledge, union, live, cells_where, part, difference}
+use Rattle.rr_cells.specs.World.{World, IsWritten, IsClosed}
 use Rattle.rr_cells.specs.Puts.{slot_sample_of, put_sample}
 use Rattle.rr_cells.specs.Joins.{join, join_cell, join_cells}
 use Rattle.rr_cells.specs.State.{cells_of_knowledge}

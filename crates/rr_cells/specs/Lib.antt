@@ -1,3 +1,10 @@
+pub mod CellNames
+pub mod Samples
+pub mod Knowledge
+pub mod World
+pub mod Rows
+pub mod FetchText
+pub mod KnowledgeLaws
 pub mod Cells
 pub mod CellBounds
 pub mod Puts
@@ -9,3 +16,5 @@ pub mod Operations
 pub mod State
 pub mod Versions
 pub mod Laws
+pub mod Raising
+pub mod RaisingLaws

@@ -3,7 +3,7 @@ use Rattle.std.specs.Prelude.{◌≡◌, ℕ, nat_le, Bool, true, ◌==◌, ◌&
 use Rattle.std.specs.FinMap.{empty, entries}
 use Rattle.rr_text.specs.declared.limits.TheConstants.{MAX_NUMBER}
 use Rattle.rr_schema.specs.Schema.{Layout}
-use Rattle.rr_model.specs.Samples as model
+use Rattle.rr_cells.specs.Samples as model
 use Rattle.rr_cells.specs.declared.sample.Sample.{Sample}
 use Rattle.rr_cells.specs.declared.cell.Cell.{Cell}
 use Rattle.rr_cells.specs.declared.op.Op.{Op}

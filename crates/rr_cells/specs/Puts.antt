@@ -4,8 +4,8 @@ use Rattle.std.specs.FinMap.{get, insert}
 use Rattle.rr_schema.specs.Schema.{Layout, place_of}
 use Rattle.rr_join.specs.Maps.{trimmed}
 use Rattle.rr_contrib.specs.Contributions.{SlotSample, slot_sample, contribution_with}
-use Rattle.rr_model.specs.CellNames.{is_live}
-use Rattle.rr_model.specs.Samples.{Sample, Mark, name_of, marks_of}
+use Rattle.rr_cells.specs.CellNames.{is_live}
+use Rattle.rr_cells.specs.Samples.{Sample, Mark, name_of, marks_of}
 use Rattle.rr_cells.specs.Cells.{Cells}
 
 -- a sample, as the slot of an archive sees it

@@ -9,8 +9,8 @@ use Rattle.rr_schema.specs.Origin.{IsOrigin}
 use Rattle.rr_schema.specs.Schema.{Layout, IsLayout, archive_at}
 use Rattle.rr_contrib.specs.declared.contribution.Contribution.{Contribution}
 use Rattle.rr_archive.specs.Codes.{coded_contribution}
-use Rattle.rr_model.specs.CellNames.{CellName}
-use Rattle.rr_model.specs.Samples.{Sample}
+use Rattle.rr_cells.specs.CellNames.{CellName}
+use Rattle.rr_cells.specs.Samples.{Sample}
 use Rattle.rr_cells.specs.CellBounds.{IsCellOf}
 use Rattle.rr_cells.specs.Cells.{Cells, IsTrimmed, HasOriginsIn, archive_cells}
 use Rattle.rr_cells.specs.Puts.{put_sample}

@@ -5,8 +5,8 @@ use Rattle.rr_schema.specs.Schema.{Layout, IsLayout}
 use Rattle.rr_join.specs.Maps.{map_of}
 use Rattle.rr_contrib.specs.declared.contribution.Contribution.{Contribution}
 use Rattle.rr_contrib.specs.Samples.{contribution_of}
-use Rattle.rr_model.specs.Samples.{Sample, Mark, marks_of}
-use Rattle.rr_model.specs.Knowledge.{Knowledge, IsAheadOf, with_marks, names, cell}
+use Rattle.rr_cells.specs.Samples.{Sample, Mark, marks_of}
+use Rattle.rr_cells.specs.Knowledge.{Knowledge, IsAheadOf, with_marks, names, cell}
 use Rattle.rr_cells.specs.Cells.{Cells}
 use Rattle.rr_cells.specs.Puts.{slot_sample_of, put_sample}
 

@@ -3,7 +3,7 @@ use Rattle.std.specs.Prelude.{nat_lt, Bool, true, false, List, Option, Some, Non
 use Rattle.std.specs.List.{filter}
 use Rattle.std.specs.FinMap.{get, keys}
 use Rattle.rr_contrib.specs.declared.contribution.Contribution.{Contribution}
-use Rattle.rr_model.specs.CellNames.{CellName}
+use Rattle.rr_cells.specs.CellNames.{CellName}
 use Rattle.rr_cells.specs.Cells.{Cells}
 
 -- whether the first has a greater version than the second, or there is no second

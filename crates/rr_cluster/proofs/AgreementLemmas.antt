@@ -6,17 +6,17 @@ use Rattle.std.specs.Option.{option_map}
 use Rattle.std.proofs.lemmas.List.Elements.{All-head, All-tail}
 use Rattle.rr_text.specs.Bytes.{HasNoLineFeed}
 use Rattle.rr_schema.specs.Schema.{Layout, IsLayout}
-use Rattle.rr_model.specs.Knowledge.{Knowledge}
+use Rattle.rr_cells.specs.Knowledge.{Knowledge}
 use Rattle.rr_cells.specs.Cells.{Cells}
 use Rattle.rr_cluster.specs.declared.fault.CommandFault.{CommandFault}
 use Rattle.rr_cluster.specs.Agreement.{in_cells, step_in_cells, CommandsAgree, ScriptsAgree}
-use Rattle.rr_script.specs.Command.{IsOneLine, Command, schema, upgrade, node, now, write, page, delta, deliver, bytes, save, load, fetch}
+use Rattle.rr_cluster.specs.Command.{IsOneLine, Command, schema, upgrade, node, now, write, page, delta, deliver, bytes, save, load, fetch}
 use Rattle.rr_cluster.specs.Commands.{on_ok, step, silently, beginning, printing}
 use Rattle.rr_cluster.specs.Commands.Schema.{layout_of}
 use Rattle.rr_cluster.specs.Model.{cell_model, sample_model}
 use Rattle.rr_cluster.specs.Output.{after_line, unless_refused, output_from}
-use Rattle.rr_script.specs.Script.{commands_of, SaysOneLine}
-use Rattle.rr_script.specs.declared.fault.SyntaxFault.{SyntaxFault}
+use Rattle.rr_cluster.specs.Script.{commands_of, SaysOneLine}
+use Rattle.rr_cluster.specs.declared.script.fault.SyntaxFault.{SyntaxFault}
 use Rattle.rr_cluster.specs.Soundness.{IsSound, CommandsKeepSound, ScriptsAreSound, state_after}
 use Rattle.rr_cluster.specs.State.{State}
 use Rattle.rr_cluster.proofs.CommandsLemmas.Schema.{layout_is, first_states_agree, first_states_are_sound}
@@ -31,7 +31,7 @@ use Rattle.rr_cluster.proofs.CommandsLemmas.Bytes.{bytes_agree}
 use Rattle.rr_cluster.proofs.CommandsLemmas.Save.{save_agrees}
 use Rattle.rr_cluster.proofs.CommandsLemmas.Load.{load_agrees}
 use Rattle.rr_cluster.proofs.CommandsLemmas.Fetch.{fetch_agrees}
-use Rattle.rr_script.proofs.ScriptLemmas.{commands_are_one_line}
+use Rattle.rr_cluster.proofs.ScriptLemmas.{commands_are_one_line}
 use Rattle.rr_cluster.proofs.StepLemmas.{OfAnswer, Agrees, on_ok-agrees, same_answer, holds_after}
 
 abbrev Step : Type 0

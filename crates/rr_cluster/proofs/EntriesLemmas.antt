@@ -13,8 +13,8 @@ use Rattle.rr_join.proofs.Booleans.{T_and, first_T, second_T, true_from_T}
 use Rattle.rr_join.proofs.Distinct.{IsDistinct, keys_distinct}
 use Rattle.rr_join.proofs.Distinct.IsDistinct.{more}
 use Rattle.rr_join.proofs.Members.{is_in, same_from_tie, tie_itself}
-use Rattle.rr_model.specs.CellNames.{CellName, cell_name_cmp}
-use Rattle.rr_model.proofs.Orders.{cell_name_cmp_total, cell_name_cmp-IsAntisymmetric}
+use Rattle.rr_cells.specs.CellNames.{CellName, cell_name_cmp}
+use Rattle.rr_cells.proofs.Orders.{cell_name_cmp_total, cell_name_cmp-IsAntisymmetric}
 use Rattle.rr_page.specs.Page.{IsPage}
 use Rattle.rr_cells.specs.CellBounds.{NamedCell, IsCellOf}
 use Rattle.rr_cells.specs.Cells.{Cells}

@@ -1,3 +1,6 @@
+pub mod ScriptWordsLemmas
+pub mod CommandTextsLemmas
+pub mod ScriptLemmas
 pub mod LimitLemmas
 pub mod MeaningLemmas
 pub mod StepLemmas

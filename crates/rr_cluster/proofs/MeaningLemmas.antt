@@ -11,7 +11,7 @@ use Rattle.rr_archive.specs.declared.archive.Cells.{Ghosts}
 use Rattle.rr_schema.specs.Schema.{Layout}
 use Rattle.rr_join.specs.Values.{get_called}
 use Rattle.rr_join.proofs.ValuesLemmas.{get_called-insert, get_called-set}
-use Rattle.rr_model.specs.World.{World}
+use Rattle.rr_cells.specs.World.{World}
 use Rattle.rr_cells.specs.Cells.{Cells}
 use Rattle.rr_replica.specs.ReplicaWithRoom.{ReplicaWithRoom}
 use Rattle.rr_text.specs.Bytes.{bytes_cmp}

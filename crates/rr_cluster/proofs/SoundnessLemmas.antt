@@ -8,9 +8,9 @@ use Rattle.std.specs.FinMap.{get, insert}
 use Rattle.std.proofs.lemmas.Bool.{eq-eqb, eqb-true, or_left, or_right}
 use Rattle.rr_schema.specs.Schema.{Layout}
 use Rattle.rr_join.proofs.ValuesLemmas.{insert_cases}
-use Rattle.rr_model.specs.Knowledge.{Knowledge}
-use Rattle.rr_model.specs.Samples.{Sample}
-use Rattle.rr_model.specs.World.{World, IsWritten, IsClosed}
+use Rattle.rr_cells.specs.Knowledge.{Knowledge}
+use Rattle.rr_cells.specs.Samples.{Sample}
+use Rattle.rr_cells.specs.World.{World, IsWritten, IsClosed}
 use Rattle.rr_schema.specs.Origin.{IsOrigin}
 use Rattle.rr_cells.specs.CellBounds.{IsSoundSample}
 use Rattle.rr_cluster.specs.Soundness.{IsSound, IsSoundNode, IsSoundSnapshot, IsUsed}

@@ -3,10 +3,10 @@
 use Rattle.std.specs.Prelude.{◌≡◌, ℕ, List, Option, IfSome}
 use Rattle.std.specs.Option.{option_map}
 use Rattle.rr_join.specs.Values.{map_values}
-use Rattle.rr_model.specs.Knowledge.{Knowledge}
+use Rattle.rr_cells.specs.Knowledge.{Knowledge}
 use Rattle.rr_cells.specs.Cells.{Cells}
 use Rattle.rr_cells.specs.State.{cells_of_knowledge}
-use Rattle.rr_script.specs.Command.{Command}
+use Rattle.rr_cluster.specs.Command.{Command}
 use Rattle.rr_cluster.specs.Commands.{on_ok, step}
 use Rattle.rr_cluster.specs.Model.{cell_model, sample_model}
 use Rattle.rr_cluster.specs.Output.{output_of}

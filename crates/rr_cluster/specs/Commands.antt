@@ -17,7 +17,7 @@ use Rattle.std.specs.Cmp.Lexicographic.{pointwise}
 use Rattle.rr_schema.specs.Schema.{Layout}
 use Rattle.rr_cluster.specs.declared.fault.CommandFault.{CommandFault}
 use Rattle.rr_cluster.specs.declared.fault.CommandFault.TheVariants.{NoSchema, SchemaSet}
-use Rattle.rr_script.specs.Command.{Command, schema, upgrade, node, now, write, page, delta, deliver, bytes, save, load, fetch}
+use Rattle.rr_cluster.specs.Command.{Command, schema, upgrade, node, now, write, page, delta, deliver, bytes, save, load, fetch}
 use Rattle.rr_cluster.specs.Commands.Schema.{layout_of}
 use Rattle.rr_cluster.specs.Commands.Upgrade.{after_upgrade}
 use Rattle.rr_cluster.specs.Commands.Node.{after_node}

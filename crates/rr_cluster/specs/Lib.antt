@@ -1,5 +1,9 @@
-pub mod Words
 pub mod Fault
+pub mod ScriptWords
+pub mod Command
+pub mod CommandTexts
+pub mod Script
+pub mod Words
 pub mod Model
 pub mod State
 pub mod Commands

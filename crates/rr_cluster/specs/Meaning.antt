@@ -9,7 +9,7 @@ use Rattle.std.specs.Global.{Vec}
 use Rattle.std.specs.FinMap.{get, entries}
 use Rattle.rr_archive.specs.declared.archive.Cells.{Ghosts}
 use Rattle.rr_join.specs.Values.{get_called}
-use Rattle.rr_model.specs.Samples.{Sample}
+use Rattle.rr_cells.specs.Samples.{Sample}
 use Rattle.rr_cells.specs.Cells.{Cells, IsTrimmed}
 use Rattle.rr_cells.specs.ReplicaState.{ReplicaState}
 use Rattle.rr_replica.specs.ReplicaWithRoom.{ReplicaWithRoom, replica_state}

@@ -3,15 +3,15 @@ use Rattle.std.specs.Prelude.{ℕ, List, take, drop}
 use Rattle.std.specs.FinMap.{empty, entries, from_entries}
 use Rattle.rr_schema.specs.Schema.{Layout}
 use Rattle.rr_schema.specs.declared.added.Addition.{Addition}
-use Rattle.rr_model.specs.Samples.{Sample, marks_of}
-use Rattle.rr_model.specs.Knowledge.{Knowledge, union, with_marks, live, part, cells_named, difference}
-use Rattle.rr_model.specs.FetchText.{Request, fetch_text}
+use Rattle.rr_cells.specs.Samples.{Sample, marks_of}
+use Rattle.rr_cells.specs.Knowledge.{Knowledge, union, with_marks, live, part, cells_named, difference}
+use Rattle.rr_cells.specs.FetchText.{Request, fetch_text}
 use Rattle.rr_cells.specs.Cells.{Cells}
 use Rattle.rr_cells.specs.Joining.{next_past}
 use Rattle.rr_cells.specs.Joins.{join_cells}
 use Rattle.rr_cells.specs.Puts.{put_sample}
 use Rattle.rr_cells.specs.State.{cells_of_knowledge}
-use Rattle.rr_raising.specs.Raising.{raised_knowledge, raised_cells}
+use Rattle.rr_cells.specs.Raising.{raised_knowledge, raised_cells}
 use Rattle.rr_delta.specs.Difference.{newer_cells}
 use Rattle.rr_delta.specs.Names.{versions_of}
 use Rattle.rr_fetch.specs.Answers.{cells_text}

@@ -1,14 +1,14 @@
 -- The output of a script.
 use Rattle.std.specs.Prelude.{ℕ, List, [], ◌∷◌, ◌++◌, Option, None, Result, Ok, Err}
-use Rattle.rr_records.specs.Records.{refusal_text}
+use Rattle.rr_fetch.specs.Records.{refusal_text}
 use Rattle.rr_cluster.specs.declared.fault.CommandFault.{CommandFault}
 use Rattle.rr_cluster.specs.declared.fault.CommandFault.TheVariants.{Syntax}
-use Rattle.rr_script.specs.declared.fault.SyntaxFault.{SyntaxFault}
-use Rattle.rr_script.specs.Command.{Command}
+use Rattle.rr_cluster.specs.declared.script.fault.SyntaxFault.{SyntaxFault}
+use Rattle.rr_cluster.specs.Command.{Command}
 use Rattle.rr_cluster.specs.Commands.{step}
 use Rattle.rr_cluster.specs.Fault.{command_fault_name}
 use Rattle.rr_cluster.specs.Model.{Model}
-use Rattle.rr_script.specs.Script.{commands_of}
+use Rattle.rr_cluster.specs.Script.{commands_of}
 use Rattle.rr_cluster.specs.State.{State}
 
 -- a refused command prints `line N: NAME`, and changes nothing

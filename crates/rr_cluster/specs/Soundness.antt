@@ -8,15 +8,15 @@ use Rattle.rr_schema.specs.Origin.{IsOrigin}
 use Rattle.rr_schema.specs.Schema.{Layout, IsLayout}
 use Rattle.rr_text.specs.Text.{fits_i64}
 use Rattle.rr_cells.specs.CellBounds.{IsSoundSample}
-use Rattle.rr_model.specs.Samples.{Sample}
-use Rattle.rr_model.specs.Knowledge.{Knowledge}
-use Rattle.rr_model.specs.World.{World, IsWritten, IsClosed, HoldsAllOf}
-use Rattle.rr_script.specs.declared.fault.SyntaxFault.{SyntaxFault}
-use Rattle.rr_script.specs.Command.{Command, IsOneLine}
+use Rattle.rr_cells.specs.Samples.{Sample}
+use Rattle.rr_cells.specs.Knowledge.{Knowledge}
+use Rattle.rr_cells.specs.World.{World, IsWritten, IsClosed, HoldsAllOf}
+use Rattle.rr_cluster.specs.declared.script.fault.SyntaxFault.{SyntaxFault}
+use Rattle.rr_cluster.specs.Command.{Command, IsOneLine}
 use Rattle.rr_cluster.specs.Commands.{step}
 use Rattle.rr_cluster.specs.Model.{sample_model}
 use Rattle.rr_cluster.specs.Output.{after_line}
-use Rattle.rr_script.specs.Script.{commands_of}
+use Rattle.rr_cluster.specs.Script.{commands_of}
 use Rattle.rr_cluster.specs.State.{Node, Snapshot, State, first_state}
 
 -- what a node knows has no gaps, it knows all that was written under its origin, and its next number is past those;

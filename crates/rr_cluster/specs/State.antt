@@ -3,7 +3,7 @@ use Rattle.std.specs.Prelude.{ℕ, ℤ, pos, List, [], ◌∷◌, Option, None}
 use Rattle.std.specs.FinMap.{FinMap, empty, insert}
 use Rattle.rr_text.specs.Bytes.{bytes_cmp}
 use Rattle.rr_schema.specs.Schema.{Layout}
-use Rattle.rr_model.specs.World.{World}
+use Rattle.rr_cells.specs.World.{World}
 
 -- a node: its schema, its origin, the number of its next sample, and what it holds
 pub record Node (K : Type 0) : Type 0 where

@@ -2,7 +2,7 @@
 
 ghost use Rattle.std.specs.Prelude.{◌≡◌, ℕ, List, ◌++◌, Option, None, Some, Result};
 ghost use Rattle.rr_cells.specs.Cells.{Cells};
-ghost use Rattle.rr_script.specs.Command.{view_of, IsOneLine};
+ghost use Rattle.rr_cluster.specs.Command.{view_of, IsOneLine};
 ghost use Rattle.rr_cluster.specs.Commands.{step};
 ghost use Rattle.rr_cluster.specs.Meaning.{Begins, OptionRepresents, Obeys, Represents};
 ghost use Rattle.rr_cluster.specs.Model.{cell_model};
@@ -25,6 +25,7 @@ pub(crate) mod write;
 
 use crate::cluster::Cluster;
 use crate::fault::CommandFault;
+use crate::script::event::Event;
 use crate::stop::Stop;
 use bytes::hex_of_page;
 use deliver::deliver;
@@ -35,7 +36,6 @@ use node::add_node;
 use now::set_clock;
 use page::add_page;
 use rr_archive::Cells;
-use rr_script::Event;
 use save::save_node;
 use schema::schema_of;
 use std::alloc::Global;

@@ -5,17 +5,18 @@ ghost use Rattle.rr_cells.specs.Cells.{Cells};
 ghost use Rattle.rr_cluster.specs.Meaning.{OptionRepresents, Prints};
 ghost use Rattle.rr_cluster.specs.Model.{cell_model, sample_model};
 ghost use Rattle.rr_cluster.specs.Output.{after_line, output_of};
-ghost use Rattle.rr_script.specs.Script.{said_view, SaysOneLine};
+ghost use Rattle.rr_cluster.specs.Script.{said_view, SaysOneLine};
 ghost use Rattle.rr_cluster.specs.State.{State};
 
 use crate::cluster::Cluster;
 use crate::commands::run_command;
 use crate::fault::{CommandFault, RunFault};
+use crate::script::event::ScriptLine;
+use crate::script::parse_script;
 use crate::stop::Stop;
 use rr_archive::Cells;
-use rr_records::push_refusal;
+use rr_fetch::push_refusal;
 use rr_ring::RingArchive;
-use rr_script::{ScriptLine, parse_script};
 use std::alloc::Global;
 
 /// What a script prints: the answers of its fetches, and `line N: NAME` for each command that is

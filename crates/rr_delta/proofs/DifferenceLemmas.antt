@@ -6,8 +6,8 @@ use Rattle.std.specs.FinMap.{find, is_sorted}
 use Rattle.std.specs.FinMap.Entries.{below_all}
 use Rattle.rr_schema.specs.Schema.{Layout}
 use Rattle.rr_join.proofs.Booleans.{first_T, second_T, true_from_T}
-use Rattle.rr_model.specs.CellNames.{CellName, cell_name_cmp}
-use Rattle.rr_model.proofs.Orders.{cell_name_cmp_total}
+use Rattle.rr_cells.specs.CellNames.{CellName, cell_name_cmp}
+use Rattle.rr_cells.proofs.Orders.{cell_name_cmp_total}
 use Rattle.rr_cells.specs.CellBounds.{NamedCell, IsCellOf}
 use Rattle.rr_cells.specs.Listing.{first_after}
 use Rattle.rr_delta.specs.Names.{NamedVersion}

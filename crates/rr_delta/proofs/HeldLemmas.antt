@@ -5,7 +5,7 @@ use Rattle.std.specs.List.{All, AllByRecursion, filter}
 use Rattle.std.specs.FinMap.{entries}
 use Rattle.std.proofs.lemmas.List.Elements.{All-from_recursion, recursion_from_All}
 use Rattle.std.specs.Ordering.{is_lt}
-use Rattle.rr_model.specs.CellNames.{CellName, cell_name_cmp}
+use Rattle.rr_cells.specs.CellNames.{CellName, cell_name_cmp}
 use Rattle.rr_cells.specs.declared.cell.Cell.{Cell}
 use Rattle.rr_cells.specs.CellBounds.{NamedCell, IsCellOf}
 use Rattle.rr_cells.specs.ReplicaState.{IsReplicaState, ReplicaState}

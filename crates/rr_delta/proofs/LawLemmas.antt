@@ -15,9 +15,9 @@ use Rattle.rr_join.proofs.Lookups.{get-merged}
 use Rattle.rr_join.proofs.Members.{is_in, same_from_tie, tie_itself}
 use Rattle.rr_contrib.specs.declared.contribution.Contribution.{Contribution}
 use Rattle.rr_contrib.specs.Contributions.{contribution_cmp}
-use Rattle.rr_model.specs.CellNames.{CellName, cell_name_cmp, is_live}
-use Rattle.rr_model.specs.Knowledge.{cells_named, difference}
-use Rattle.rr_model.proofs.Orders.{cell_name_cmp_total, cell_name_cmp-IsAntisymmetric}
+use Rattle.rr_cells.specs.CellNames.{CellName, cell_name_cmp, is_live}
+use Rattle.rr_cells.specs.Knowledge.{cells_named, difference}
+use Rattle.rr_cells.proofs.Orders.{cell_name_cmp_total, cell_name_cmp-IsAntisymmetric}
 use Rattle.rr_cells.specs.CellBounds.{NamedCell}
 use Rattle.rr_cells.specs.Cells.{Cells}
 use Rattle.rr_cells.specs.Joins.{join_cells}

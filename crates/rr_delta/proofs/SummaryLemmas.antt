@@ -5,7 +5,7 @@ use Rattle.std.proofs.lemmas.List.{append-nil}
 use Rattle.std.specs.Global.{Vec}
 use Rattle.std.specs.FinMap.{is_sorted}
 use Rattle.rr_join.proofs.Booleans.{true_from_T}
-use Rattle.rr_model.specs.CellNames.{cell_name_cmp}
+use Rattle.rr_cells.specs.CellNames.{cell_name_cmp}
 use Rattle.rr_cells.specs.CellBounds.{NamedCell}
 use Rattle.rr_delta.specs.declared.name.Name.{Name}
 use Rattle.rr_delta.specs.Names.{NamedVersion, named_version, owned_name}

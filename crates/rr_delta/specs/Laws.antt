@@ -3,9 +3,9 @@ use Rattle.std.specs.Prelude.{◌≡◌, ℕ, map, take, drop, Some}
 use Rattle.std.specs.FinMap.{get, entries}
 use Rattle.rr_schema.specs.Schema.{Layout, IsLayout}
 use Rattle.rr_contrib.specs.declared.contribution.Contribution.{Contribution}
-use Rattle.rr_model.specs.CellNames.{CellName}
-use Rattle.rr_model.specs.Knowledge.{Knowledge, cells_named, difference, union}
-use Rattle.rr_model.specs.World.{World, IsClosed}
+use Rattle.rr_cells.specs.CellNames.{CellName}
+use Rattle.rr_cells.specs.Knowledge.{Knowledge, cells_named, difference, union}
+use Rattle.rr_cells.specs.World.{World, IsClosed}
 use Rattle.rr_cells.specs.Cells.{Cells, IsTrimmed}
 use Rattle.rr_cells.specs.Joins.{join, join_cells}
 use Rattle.rr_cells.specs.State.{cells_of_knowledge}

@@ -8,7 +8,7 @@ use Rattle.rr_text.specs.declared.limits.TheConstants.{MAX_NUMBER}
 use Rattle.rr_schema.specs.Origin.{IsOrigin}
 use Rattle.rr_schema.specs.Schema.{Layout}
 use Rattle.rr_key.specs.Series.{IsKeyText}
-use Rattle.rr_model.specs.CellNames.{CellName}
+use Rattle.rr_cells.specs.CellNames.{CellName}
 use Rattle.rr_cells.specs.CellBounds.{NamedCell}
 use Rattle.rr_cells.specs.Cells.{Cells}
 use Rattle.rr_delta.specs.declared.name.Name.{Name}

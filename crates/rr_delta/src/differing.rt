@@ -1,7 +1,7 @@
 //! What a summary lacks, and parts of a list.
 ghost use Rattle.std.specs.Prelude.{◌≡◌, ◌++◌, All, IfOk, OnOk, IsTrue, map, take, drop};
 ghost use Rattle.std.specs.FinMap.{entries, is_sorted};
-ghost use Rattle.rr_model.specs.CellNames.{cell_name_cmp};
+ghost use Rattle.rr_cells.specs.CellNames.{cell_name_cmp};
 ghost use Rattle.rr_cells.specs.CellBounds.{IsCellOf};
 ghost use Rattle.rr_cells.specs.Listing.{seen_cell, owned_cell};
 ghost use Rattle.rr_delta.specs.Names.{owned_name};

@@ -1,6 +1,6 @@
 //! Names of cells, with their versions.
 ghost use Rattle.std.specs.Prelude.{◌≡◌, IfOk};
-ghost use Rattle.rr_model.specs.CellNames.{cell_name_cmp};
+ghost use Rattle.rr_cells.specs.CellNames.{cell_name_cmp};
 ghost use Rattle.rr_cells.specs.Listing.{seen_cell};
 ghost use Rattle.rr_delta.specs.Names.{named_version, owned_name};
 

@@ -3,7 +3,7 @@ ghost use Rattle.std.specs.Prelude.{◌≡◌, All, IfOk, IsTrue, map, refl};
 ghost use Rattle.std.proofs.Common.{◌∙◌};
 ghost use Rattle.std.specs.FinMap.{entries, is_sorted};
 ghost use Rattle.rr_schema.specs.Schema.{Layout, IsLayout};
-ghost use Rattle.rr_model.specs.CellNames.{cell_name_cmp};
+ghost use Rattle.rr_cells.specs.CellNames.{cell_name_cmp};
 ghost use Rattle.rr_cells.specs.CellBounds.{IsCellOf};
 ghost use Rattle.rr_cells.specs.Cells.{Cells};
 ghost use Rattle.rr_cells.specs.Listing.{owned_cell};

@@ -13,14 +13,14 @@ use Rattle.rr_text.specs.declared.limits.TheConstants.{MAX_NUMBER}
 use Rattle.rr_schema.specs.Schema.{Layout}
 use Rattle.rr_contrib.specs.declared.contribution.Contribution.{Contribution}
 use Rattle.rr_point.specs.Key.{key_text}
-use Rattle.rr_model.specs.CellNames.{CellName, cell_name_cmp}
-use Rattle.rr_model.specs.Samples as model
-use Rattle.rr_model.specs.Samples.{Mark}
-use Rattle.rr_model.specs.FetchText.{Request, fetch_text}
-use Rattle.rr_model.specs.World.{IsWritten, IsNext, IsClosed, HoldsAllOf}
-use Rattle.rr_model.specs.Knowledge.{Knowledge, IsAheadOf}
-use Rattle.rr_model.proofs.Writes.{others_stay_closed, others_hold_own, writer_stays_closed, writer_holds_own, union_is_closed, union_holds_own, written_now}
-use Rattle.rr_model.proofs.WholeCells.{whole_cells_are_closed}
+use Rattle.rr_cells.specs.CellNames.{CellName, cell_name_cmp}
+use Rattle.rr_cells.specs.Samples as model
+use Rattle.rr_cells.specs.Samples.{Mark}
+use Rattle.rr_cells.specs.FetchText.{Request, fetch_text}
+use Rattle.rr_cells.specs.World.{IsWritten, IsNext, IsClosed, HoldsAllOf}
+use Rattle.rr_cells.specs.Knowledge.{Knowledge, IsAheadOf}
+use Rattle.rr_cells.proofs.Writes.{others_stay_closed, others_hold_own, writer_stays_closed, writer_holds_own, union_is_closed, union_holds_own, written_now}
+use Rattle.rr_cells.proofs.ClosedCells.{whole_cells_are_closed}
 use Rattle.rr_cells.specs.declared.cell.Cell.{Cell}
 use Rattle.rr_cells.specs.declared.op.Op.{Op}
 use Rattle.rr_cells.specs.declared.op.Op.TheVariants.{Join, Put}
@@ -47,8 +47,8 @@ use Rattle.rr_delta.proofs.HeldLemmas.{all_filtered}
 use Rattle.rr_fetch.specs.Answers.{cells_text}
 use Rattle.rr_fetch.proofs.RowLaws.{answer_of_state}
 use Rattle.rr_schema.proofs.AdditionLemmas.{additions_are_found}
-use Rattle.rr_raising.specs.Raising.{raised_cells}
-use Rattle.rr_raising.proofs.Raised.{raised_is_closed, raised_makes_raised_cells}
+use Rattle.rr_cells.specs.Raising.{raised_cells}
+use Rattle.rr_cells.proofs.Raised.{raised_is_closed, raised_makes_raised_cells}
 use Rattle.rr_snapshot.proofs.SavedLemmas.{saved_is_loaded, saved_is_raised}
 use Rattle.rr_desk.specs.Histories.{HistoryStep, elsewhere, put, joined, HistoryState, Knows, IsHistory, HasHistory, IsHonest, IsWhole, AreHonest, list_of, marks_in, next_scene, ops_of, scene_after}
 use Rattle.rr_desk.specs.Laws.{OpeningIsHistory, PutIsATurn, WriteIsTurns, JoinIsATurn, PublishIsNoTurn, OthersWrite, LoadedIsKnown, RaisedIsKnown}

@@ -3,11 +3,11 @@ use Rattle.std.specs.Prelude.{◌≡◌, ◌≢◌, ℕ, ◌<◌, List, [], ◌�
 use Rattle.std.specs.FinMap.{get}
 use Rattle.std.specs.Ordering.{eq_by_cmp}
 use Rattle.rr_schema.specs.Schema.{Layout, IsLayout}
-use Rattle.rr_model.specs.CellNames.{cell_name_cmp}
-use Rattle.rr_model.specs.Samples as model
-use Rattle.rr_model.specs.Samples.{marks_of}
-use Rattle.rr_model.specs.Knowledge.{Knowledge, union, with_marks, cells_where}
-use Rattle.rr_model.specs.World.{World, IsWritten, IsNext, IsClosed, HoldsAllOf, with_sample}
+use Rattle.rr_cells.specs.CellNames.{cell_name_cmp}
+use Rattle.rr_cells.specs.Samples as model
+use Rattle.rr_cells.specs.Samples.{marks_of}
+use Rattle.rr_cells.specs.Knowledge.{Knowledge, union, with_marks, cells_where}
+use Rattle.rr_cells.specs.World.{World, IsWritten, IsNext, IsClosed, HoldsAllOf, with_sample}
 use Rattle.rr_cells.specs.declared.cell.Cell.{Cell}
 use Rattle.rr_cells.specs.declared.op.Op.{Op}
 use Rattle.rr_cells.specs.declared.op.Op.TheVariants.{Join, Put}

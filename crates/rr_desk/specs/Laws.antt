@@ -8,10 +8,10 @@ use Rattle.rr_schema.specs.Schema.{Layout, IsLayout}
 use Rattle.rr_schema.specs.Added.{addition_since}
 use Rattle.rr_schema.specs.declared.added.Addition.{Addition}
 use Rattle.rr_point.specs.Point.{PointView}
-use Rattle.rr_model.specs.FetchText.{Request, fetch_text}
-use Rattle.rr_model.specs.Knowledge.{Knowledge}
-use Rattle.rr_model.specs.Samples.{Sample}
-use Rattle.rr_model.specs.World.{IsWritten}
+use Rattle.rr_cells.specs.FetchText.{Request, fetch_text}
+use Rattle.rr_cells.specs.Knowledge.{Knowledge}
+use Rattle.rr_cells.specs.Samples.{Sample}
+use Rattle.rr_cells.specs.World.{IsWritten}
 use Rattle.rr_cells.specs.declared.cell.Cell.{Cell}
 use Rattle.rr_cells.specs.declared.op.Op.{Op}
 use Rattle.rr_cells.specs.declared.op.Op.TheVariants.{Join}
@@ -27,7 +27,7 @@ use Rattle.rr_fetch.specs.Answers.{cells_text}
 use Rattle.rr_page.specs.Version.{latest}
 use Rattle.rr_snapshot.specs.declared.heading.TheConstants.{MAX_SNAPSHOT_CELLS}
 use Rattle.rr_snapshot.specs.Snapshot.{snapshot_text}
-use Rattle.rr_raising.specs.Raising.{raised_knowledge}
+use Rattle.rr_cells.specs.Raising.{raised_knowledge}
 use Rattle.rr_snapshot.specs.Loading.{loaded_at}
 use Rattle.rr_desk.specs.Points.{with_put, with_puts}
 use Rattle.rr_desk.specs.Histories.{HistoryStep, elsewhere, put, joined, HistoryState, Knows, IsHistory, HasHistory, IsHonest, IsWhole, AreHonest, list_of, ops_of, scene_after}

@@ -3,14 +3,14 @@ ghost use Rattle.std.specs.Prelude.{◌≡◌, All, IfOk, IsTrue, map};
 ghost use Rattle.std.specs.FinMap.{entries, is_sorted};
 ghost use mathlib.Core.List.{IsPrefix};
 ghost use Rattle.rr_schema.specs.Schema.{IsLayout};
-ghost use Rattle.rr_model.specs.CellNames.{cell_name_cmp};
+ghost use Rattle.rr_cells.specs.CellNames.{cell_name_cmp};
 ghost use Rattle.rr_cells.specs.CellBounds.{IsCellOf};
 ghost use Rattle.rr_cells.specs.Listing.{owned_cell};
 ghost use Rattle.rr_replica.specs.Keys.{keys_after, lent_key};
 ghost use Rattle.rr_delta.specs.Names.{owned_name};
 ghost use Rattle.rr_delta.specs.Difference.{IsSummary, newer_cells};
 ghost use Rattle.rr_fetch.specs.Answers.{cells_text};
-ghost use Rattle.rr_request.specs.Requests.{request_view, IsFetchable};
+ghost use Rattle.rr_fetch.specs.Requests.{request_view, IsFetchable};
 ghost use Rattle.rr_desk.specs.ReaderState.{cells_seen, HasSeenMore};
 ghost use Rattle.rr_desk.specs.Gate.{LetsPass};
 

@@ -2,7 +2,7 @@
 ghost use Rattle.std.specs.Prelude.{◌≡◌, true, All, IfOk, IfSome, IsTrue, map};
 ghost use Rattle.std.specs.FinMap.{entries, is_sorted};
 ghost use Rattle.left_right.specs.Sides.{view};
-ghost use Rattle.rr_model.specs.CellNames.{cell_name_cmp};
+ghost use Rattle.rr_cells.specs.CellNames.{cell_name_cmp};
 ghost use Rattle.rr_cells.specs.CellBounds.{IsCellOf};
 ghost use Rattle.rr_cells.specs.Listing.{owned_cell};
 ghost use Rattle.rr_cells.specs.Operations.{outcome_of};
@@ -11,7 +11,7 @@ ghost use Rattle.rr_replica.specs.ReplicaWithRoom.{replica_state};
 ghost use Rattle.rr_delta.specs.Names.{owned_name};
 ghost use Rattle.rr_delta.specs.Difference.{IsSummary, newer_cells};
 ghost use Rattle.rr_fetch.specs.Answers.{cells_text};
-ghost use Rattle.rr_request.specs.Requests.{request_view, IsFetchable};
+ghost use Rattle.rr_fetch.specs.Requests.{request_view, IsFetchable};
 ghost use Rattle.rr_desk.specs.Rule.{Saw};
 ghost use Rattle.rr_desk.specs.Gate.{LetsPass};
 

@@ -5,7 +5,7 @@ use Rattle.std.proofs.lemmas.Grind.{flat_map-append}
 use Rattle.std.proofs.lemmas.List.{map-append, append-nil}
 use Rattle.std.proofs.lemmas.List.FromFn.{map-range_with_len_more}
 use Rattle.rr_schema.specs.Schema.{Layout, span}
-use Rattle.rr_model.specs.FetchText.{Request, record_text, answer_text}
+use Rattle.rr_cells.specs.FetchText.{Request, record_text, answer_text}
 
 module _ (s : Layout) (value_at : ℤ → Option ℤ) (q : Request) where
   row_of : ℤ → ℤ × Option ℤ

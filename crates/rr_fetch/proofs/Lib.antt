@@ -1,3 +1,7 @@
+pub mod KeyLemmas
+pub mod RequestLemmas
+pub mod CsvLemmas
+pub mod PlainLemmas
 pub mod Gathering
 pub mod MoreEntries
 pub mod SumLemmas

@@ -8,7 +8,7 @@ use Rattle.rr_schema.specs.declared.consolidation.ConsolidationFunction.{Consoli
 use Rattle.rr_schema.specs.declared.consolidation.ConsolidationFunction.TheVariants.{Average}
 use Rattle.rr_schema.specs.Schema.{Layout, is_known_enough}
 use Rattle.rr_archive.specs.declared.entry.Entry.{Entry}
-use Rattle.rr_model.specs.Rows.{average}
+use Rattle.rr_cells.specs.Rows.{average}
 use Rattle.rr_fetch.specs.Consolidation.{of_entries, consolidation_of}
 
 module _ (s : Layout) (archive : ℕ) (f : ConsolidationFunction) (e : Entry) where

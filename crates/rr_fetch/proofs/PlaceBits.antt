@@ -12,7 +12,7 @@ use Rattle.std.proofs.lemmas.List.Elements.{filter_agree}
 use Rattle.std.proofs.lemmas.Nat.{or_lt, ones_le_self}
 use Rattle.std.proofs.lemmas.Nat.Bits.{bit_at_or, bit_at-pow_same, bit_at-pow_other, bit_at-zero, bit_at-lt}
 use Rattle.rr_contrib.specs.Samples.{mask_of}
-use Rattle.rr_model.specs.Rows.{places_where}
+use Rattle.rr_cells.specs.Rows.{places_where}
 
 one_most : (y : ℕ) → y < 2 → max 1 y ≡ 1
 one_most y h = omega arith

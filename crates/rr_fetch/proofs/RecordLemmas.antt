@@ -3,9 +3,9 @@ use Rattle.std.proofs.Common.{◌≡◌, ℤ, List, ℕ, [], ◌∷◌, ◌++◌
 use Rattle.std.specs.Fmt.{signed_decimal}
 use Rattle.std.specs.Int.{w64}
 use Rattle.std.specs.Prelude.{IfSome}
-use Rattle.rr_model.specs.FetchText.{comma, line_feed, field_text, record_text, value_text}
-use Rattle.rr_records.specs.Records.{IsPlain}
-use Rattle.rr_records.proofs.CsvLemmas.{plain_signed}
+use Rattle.rr_cells.specs.FetchText.{comma, line_feed, field_text, record_text, value_text}
+use Rattle.rr_fetch.specs.Records.{IsPlain}
+use Rattle.rr_fetch.proofs.CsvLemmas.{plain_signed}
 
 plain_value : (v : Option ℤ) → IfSome v (FitsSigned w64) → IsPlain (value_text v)
 plain_value None fits = refl

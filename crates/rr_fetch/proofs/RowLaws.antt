@@ -23,15 +23,15 @@ use Rattle.rr_contrib.specs.Contributions.{SlotSample}
 use Rattle.rr_contrib.specs.Samples as samples
 use Rattle.rr_contrib.specs.Samples.{mask_of, summary}
 use Rattle.rr_archive.specs.declared.entry.Entry.{Entry}
-use Rattle.rr_model.specs.CellNames.{CellName, cell_name_cmp}
-use Rattle.rr_model.specs.Samples.{Mark, mark_cmp, name_of}
-use Rattle.rr_model.specs.Knowledge.{Knowledge, live}
+use Rattle.rr_cells.specs.CellNames.{CellName, cell_name_cmp}
+use Rattle.rr_cells.specs.Samples.{Mark, mark_cmp, name_of}
+use Rattle.rr_cells.specs.Knowledge.{Knowledge, live}
 use Rattle.rr_join.specs.Sums.{int_sum}
-use Rattle.rr_model.specs.Rows.{average, last_of, of_marks, is_at, marks_of_row, known_places, row}
-use Rattle.rr_model.specs.FetchText.{Request, answer_text, fetch_text}
-use Rattle.rr_model.proofs.Orders.{cell_name_cmp_total, cell_name_cmp-IsAntisymmetric, mark_cmp_total, mark_cmp-IsAntisymmetric}
-use Rattle.rr_model.proofs.Horizon.{is_at_says}
-use Rattle.rr_model.proofs.Places.{place_below}
+use Rattle.rr_cells.specs.Rows.{average, last_of, of_marks, is_at, marks_of_row, known_places, row}
+use Rattle.rr_cells.specs.FetchText.{Request, answer_text, fetch_text}
+use Rattle.rr_cells.proofs.Orders.{cell_name_cmp_total, cell_name_cmp-IsAntisymmetric, mark_cmp_total, mark_cmp-IsAntisymmetric}
+use Rattle.rr_cells.proofs.Horizon.{is_at_says}
+use Rattle.rr_cells.proofs.Places.{place_below}
 use Rattle.rr_cells.specs.Cells.{row_at}
 use Rattle.rr_cells.specs.Puts.{slot_sample_of}
 use Rattle.rr_cells.specs.State.{cells_of_knowledge}

@@ -17,11 +17,11 @@ use Rattle.rr_archive.specs.declared.entry.Entry.{Entry}
 use Rattle.rr_archive.specs.Cells.{ArchiveCells}
 use Rattle.rr_archive.specs.CellSlots.{CellSlot, cell_slot_cmp}
 use Rattle.rr_archive.proofs.CellSlotOrder.{cell_slot_cmp_total, cell_slot_cmp-IsAntisymmetric}
-use Rattle.rr_model.specs.CellNames.{CellName, cell_name_cmp, is_of}
-use Rattle.rr_model.specs.Samples.{Mark, mark_cmp, name_of}
-use Rattle.rr_model.specs.Knowledge.{Knowledge, live, cell}
-use Rattle.rr_model.specs.Rows.{is_at, marks_of_row}
-use Rattle.rr_model.proofs.Orders.{cell_name_cmp_total, cell_name_cmp-IsAntisymmetric, mark_cmp_total, mark_cmp-IsAntisymmetric}
+use Rattle.rr_cells.specs.CellNames.{CellName, cell_name_cmp, is_of}
+use Rattle.rr_cells.specs.Samples.{Mark, mark_cmp, name_of}
+use Rattle.rr_cells.specs.Knowledge.{Knowledge, live, cell}
+use Rattle.rr_cells.specs.Rows.{is_at, marks_of_row}
+use Rattle.rr_cells.proofs.Orders.{cell_name_cmp_total, cell_name_cmp-IsAntisymmetric, mark_cmp_total, mark_cmp-IsAntisymmetric}
 use Rattle.rr_cells.specs.Cells.{name_at, cell_slot_of, archive_cells, row_at}
 use Rattle.rr_cells.specs.Puts.{slot_sample_of}
 use Rattle.rr_cells.specs.State.{value_of, cells_of_knowledge}

@@ -13,10 +13,10 @@ use Rattle.rr_join.proofs.Greater.{greatest_some}
 use Rattle.rr_join.proofs.Members.{is_in}
 use Rattle.rr_contrib.specs.Samples as samples
 use Rattle.rr_contrib.specs.Samples.{sample_cmp, mask_of, summary}
-use Rattle.rr_model.specs.CellNames.{CellName}
-use Rattle.rr_model.specs.Samples.{Mark, mark_cmp, name_of}
-use Rattle.rr_model.specs.Rows.{last_of}
-use Rattle.rr_model.proofs.Orders.{mark_cmp_total, mark_cmp-IsAntisymmetric}
+use Rattle.rr_cells.specs.CellNames.{CellName}
+use Rattle.rr_cells.specs.Samples.{Mark, mark_cmp, name_of}
+use Rattle.rr_cells.specs.Rows.{last_of}
+use Rattle.rr_cells.proofs.Orders.{mark_cmp_total, mark_cmp-IsAntisymmetric}
 use Rattle.rr_cells.specs.Puts.{slot_sample_of}
 use Rattle.rr_cells.specs.State.{value_of}
 use Rattle.rr_fetch.proofs.Gathering.{gather, greatest-map, greatest_agree}

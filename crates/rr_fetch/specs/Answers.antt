@@ -1,7 +1,7 @@
 -- The text that answers a request from cells.
 use Rattle.std.specs.Prelude.{ℕ, ℤ, List, Option}
 use Rattle.rr_schema.specs.Schema.{Layout}
-use Rattle.rr_model.specs.FetchText.{Request, answer_text}
+use Rattle.rr_cells.specs.FetchText.{Request, answer_text}
 use Rattle.rr_cells.specs.Cells.{Cells, row_at}
 use Rattle.rr_fetch.specs.Consolidation.{consolidation_of}
 

@@ -13,7 +13,7 @@ use Rattle.rr_contrib.specs.declared.contribution.Contribution.{Contribution}
 use Rattle.rr_archive.specs.declared.entry.Entry.{Entry}
 use Rattle.rr_archive.specs.Row.{ascends}
 use Rattle.rr_join.specs.Sums.{int_sum}
-use Rattle.rr_model.specs.Rows.{average}
+use Rattle.rr_cells.specs.Rows.{average}
 
 -- the places in which some origin has a sample, as one mask
 abbrev pub mask_of_entries : List Entry → ℕ

@@ -1,4 +1,7 @@
 pub mod Fault
+pub mod Words
+pub mod Requests
+pub mod Records
 pub mod Consolidation
 pub mod Answers
 pub mod Laws

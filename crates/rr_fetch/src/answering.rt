@@ -6,17 +6,17 @@ ghost use Rattle.rr_io.specs.Stream.{HasFailed, KeepsFailures, WritesFront, Writ
 ghost use Rattle.rr_archive.specs.Cells.{ArchiveCells, row_of};
 ghost use Rattle.rr_fetch.specs.Answers.{cells_text};
 ghost use Rattle.rr_fetch.specs.Consolidation.{consolidation_of, IsRow};
-ghost use Rattle.rr_request.specs.Requests.{request_view, IsFetchable};
+ghost use Rattle.rr_fetch.specs.Requests.{request_view, IsFetchable};
 
 use crate::consolidation::{consolidate, consolidate_one};
 use crate::fault::AnswerFault;
+use crate::plain::front_of;
 use crate::record::{MAX_REST, push_row};
+use crate::request::Request;
 use rr_archive::{Cells, Entry};
 use rr_io::Counted;
 use rr_io::stream::write_all;
-use rr_records::front_of;
 use rr_replica::Replica;
-use rr_request::Request;
 use rr_schema::Schema;
 use rr_text::limits::{MAX_FETCH_ROWS, MAX_SECOND, MAX_STEP, MAX_STEPS};
 use std::alloc::{AllocError, Global};

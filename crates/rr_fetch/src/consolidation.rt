@@ -4,7 +4,7 @@ ghost use Rattle.std.specs.Prelude.{◌≡◌, ◌<◌, ◌∷◌, [], Some, len
 ghost use Rattle.std.specs.Option.{option_map};
 ghost use Rattle.std.specs.Ordering.{int_cmp, is_lt, flip_args};
 ghost use Rattle.rr_join.specs.Maps.{greater, greatest};
-ghost use Rattle.rr_model.specs.Rows.{average};
+ghost use Rattle.rr_cells.specs.Rows.{average};
 ghost use Rattle.rr_fetch.specs.Consolidation.{consolidation_of, count_of, last_cmp, total_of, mask_of_entries, IsRow};
 
 use crate::sum::{sum_of, sum_of_one};

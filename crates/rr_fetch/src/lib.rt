@@ -1,25 +1,42 @@
 //! Fetches: what rows of a series are asked for, and the CSV that answers.
 //!
-//! A [`Request`] is read from the words of a fetch by `rr_request`, whose names are passed on.
-//! [`consolidate`] makes a row of the entries of its slot, what each origin contributes to it.
-//! [`answer_text`] looks up the entries of each slot of a request in a replica, and writes a record
-//! of CSV for each row; [`answer`] writes that text to a stream.
+//! ```text
+//! bytes ── request_words ──> five words ── read_request ──> a request: key, function, archive, slots
+//! request ── answer_text ──> entries of each slot ── consolidate ──> a row ── push_row ──> CSV
+//! ```
 //!
-//! In `specs/` a row is a function of the entries (`specs/Consolidation.antt`), and an answer one
-//! of the replica's cells (`specs/Answers.antt`). [`laws`] says that rows and answers are those of
-//! the samples that the cells were made from.
+//! [`request_words`] cuts a text into words, which a script may keep until it has a schema, and
+//! [`read_request`] reads a [`Request`] from them and the schema, which chooses the archive;
+//! [`parse_request`] does both. [`consolidate`] makes a row of the entries of its slot, what each
+//! origin contributes to it. [`answer_text`] looks up the entries of each slot of a request in a
+//! replica, and writes a record of CSV for each row, whose first field, the key, it writes once
+//! (`plain`), and whose numbers it writes into a buffer (`digits`); [`answer`] writes that text to a
+//! stream. [`push_plain`] and [`push_refusal`] add other records, and `line N: NAME` for what is
+//! refused.
+//!
+//! In `specs/` a request is a function of the bytes, or the first fault that they have
+//! (`specs/Requests.antt`), a row one of the entries (`specs/Consolidation.antt`), the text of a
+//! record one of its fields in CSV's own words (`specs/Records.antt`), and an answer one of the
+//! replica's cells (`specs/Answers.antt`). [`laws`] says that rows and answers are those of the
+//! samples that the cells were made from.
 #![tactic(auto)]
 
 mod answering;
 mod consolidation;
+mod digits;
 mod fault;
 pub mod laws;
+mod plain;
 mod record;
+mod refusal;
+mod request;
 mod sum;
+mod words;
 
 pub use answering::{answer, answer_text};
 pub use consolidation::consolidate;
-pub use fault::AnswerFault;
-pub use rr_request::{
-    Request, RequestFault, RequestWords, parse_request, read_request, request_words,
-};
+pub use fault::{AnswerFault, RequestFault};
+pub use plain::push_plain;
+pub use refusal::push_refusal;
+pub use request::{Request, parse_request, read_request};
+pub use words::{RequestWords, request_words};

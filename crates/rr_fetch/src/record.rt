@@ -2,9 +2,9 @@
 
 ghost use Rattle.std.specs.Prelude.{◌≡◌, ◌≤◌, ◌+◌, ◌++◌, [], ◌∷◌, ℕ, List, OnOk, drop, length};
 ghost use Rattle.std.specs.Fmt.{signed_decimal};
-ghost use Rattle.rr_model.specs.FetchText.{comma, line_feed, field_text, record_text, value_text};
+ghost use Rattle.rr_cells.specs.FetchText.{comma, line_feed, field_text, record_text, value_text};
 
-use rr_records::digits::{MAX_NUMBER_TEXT, write_byte, write_number};
+use crate::digits::{MAX_NUMBER_TEXT, write_byte, write_number};
 use rr_text::bytes::{COMMA, LINE_FEED};
 use std::alloc::AllocError;
 

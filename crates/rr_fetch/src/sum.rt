@@ -1,7 +1,7 @@
 //! The samples of a row, summed up.
 
 ghost use Rattle.std.specs.Prelude.{◌≡◌, ◌+◌, ◌*◌, ◌≤◌, ◌+ℤ◌, All, length};
-ghost use Rattle.rr_model.specs.Rows.{average};
+ghost use Rattle.rr_cells.specs.Rows.{average};
 ghost use Rattle.rr_fetch.specs.Consolidation.{IsBounded, IsSummable, total_of, count_of};
 
 use rr_archive::Entry;

@@ -13,7 +13,7 @@ use Rattle.rr_cells.specs.CellBounds.{NamedCell, IsCellOf}
 use Rattle.std.specs.FinMap.{entries, entries_sorted, is_sorted}
 use Rattle.std.proofs.lemmas.List.Elements.{All-from_recursion, recursion_from_All}
 use Rattle.rr_join.proofs.Booleans.{true_from_T}
-use Rattle.rr_model.specs.CellNames.{cell_name_cmp}
+use Rattle.rr_cells.specs.CellNames.{cell_name_cmp}
 use Rattle.std.specs.List.{AllByRecursion}
 use Rattle.rr_delta.specs.Names.{IsNameOf, versions_of}
 use Rattle.rr_delta.specs.Difference.{IsSummary, newer_cells}

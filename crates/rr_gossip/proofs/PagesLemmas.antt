@@ -8,7 +8,7 @@ use Rattle.std.specs.FinMap.{is_sorted}
 use Rattle.rr_text.specs.declared.limits.TheConstants.{MAX_PAGE_CELLS}
 use Rattle.rr_schema.specs.Schema.{Layout}
 use Rattle.rr_join.proofs.Booleans.{T_from_true, true_from_T}
-use Rattle.rr_model.specs.CellNames.{cell_name_cmp}
+use Rattle.rr_cells.specs.CellNames.{cell_name_cmp}
 use Rattle.rr_page.specs.Page.{IsPage, page_text}
 use Rattle.rr_page.specs.Version.{latest}
 use Rattle.rr_cells.specs.declared.cell.Cell.{Cell}

@@ -14,7 +14,7 @@ use Rattle.rr_delta.proofs.HeldLemmas.{named_all}
 use Rattle.rr_delta.proofs.LawLemmas.{difference_brings_the_join, knowledges_agree}
 use Rattle.rr_delta.proofs.Walks.{sorted_versions}
 use Rattle.rr_join.proofs.Booleans.{true_from_T}
-use Rattle.rr_model.specs.CellNames.{cell_name_cmp}
+use Rattle.rr_cells.specs.CellNames.{cell_name_cmp}
 use Rattle.rr_cells.specs.CellBounds.{NamedCell, IsCellOf}
 use Rattle.rr_cells.specs.Cells.{Cells}
 use Rattle.rr_cells.specs.Joins.{join_cells}

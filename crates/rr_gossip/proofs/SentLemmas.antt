@@ -12,7 +12,7 @@ use Rattle.rr_delta.specs.declared.name.Name.{Name}
 use Rattle.rr_delta.specs.Names.{NamedVersion, named_version, owned_name, versions_of}
 use Rattle.rr_delta.specs.Summaries.{cells_after, cells_from}
 use Rattle.rr_delta.proofs.Walks.{before_both, walked_to, sorted_after}
-use Rattle.rr_model.specs.CellNames.{CellName, cell_name_cmp}
+use Rattle.rr_cells.specs.CellNames.{CellName, cell_name_cmp}
 use Rattle.rr_replica.proofs.NextCell.{is_past}
 use Rattle.rr_cells.specs.CellBounds.{NamedCell}
 use Rattle.rr_cells.specs.Cells.{Cells}

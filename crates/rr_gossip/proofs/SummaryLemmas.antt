@@ -10,7 +10,7 @@ use Rattle.std.proofs.lemmas.List.Elements.{All-from_recursion, recursion_from_A
 use Rattle.rr_text.specs.Results.{◌>>=◌, unless, GivesUnless}
 use Rattle.rr_schema.specs.Schema.{Layout, IsLayout}
 use Rattle.rr_join.proofs.Booleans.{and_first, and_second, first_T, second_T, T_and, T_from_true, true_from_T}
-use Rattle.rr_model.specs.CellNames.{CellName, cell_name_cmp}
+use Rattle.rr_cells.specs.CellNames.{CellName, cell_name_cmp}
 use Rattle.rr_page.specs.declared.fault.PageFault.{PageFault}
 use Rattle.rr_page.specs.declared.fault.PageFault.TheVariants.{OutOfOrder, TooManyCells, TrailingBytes, Memory}
 use Rattle.rr_page.specs.Laws.{AreBytes}

@@ -13,7 +13,7 @@ use Rattle.rr_schema.specs.SchemaBytes.{schema_bytes}
 use Rattle.rr_delta.specs.Difference.{newer_cells}
 use Rattle.rr_delta.specs.Names.{NamedVersion, IsNameOf}
 use Rattle.rr_join.proofs.Booleans.{first_T, second_T, T_and, true_from_T, T_from_true}
-use Rattle.rr_model.specs.CellNames.{CellName, cell_name_cmp}
+use Rattle.rr_cells.specs.CellNames.{CellName, cell_name_cmp}
 use Rattle.rr_page.specs.PageReading.{is_after}
 use Rattle.rr_cells.specs.Cells.{Cells}
 use Rattle.rr_gossip.specs.declared.fault.GossipFault.TheVariants as why

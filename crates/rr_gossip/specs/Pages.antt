@@ -3,7 +3,7 @@ use Rattle.std.specs.Prelude.{ℕ, List, [], ◌∷◌, take, drop, All, IsTrue,
 use Rattle.std.specs.FinMap.{is_sorted}
 use Rattle.rr_text.specs.declared.limits.TheConstants.{MAX_PAGE_CELLS}
 use Rattle.rr_schema.specs.Schema.{Layout}
-use Rattle.rr_model.specs.CellNames.{cell_name_cmp}
+use Rattle.rr_cells.specs.CellNames.{cell_name_cmp}
 use Rattle.rr_page.specs.Page.{page_text}
 use Rattle.rr_page.specs.Version.{latest}
 use Rattle.rr_cells.specs.CellBounds.{NamedCell, IsCellOf}

@@ -13,8 +13,8 @@ use Rattle.rr_cells.specs.CellBounds.{NamedCell, IsCellOf}
 use Rattle.rr_cells.specs.Cells.{Cells, IsTrimmed}
 use Rattle.rr_cells.specs.Joins.{join, join_cells}
 use Rattle.rr_cells.specs.State.{cells_of_knowledge}
-use Rattle.rr_model.specs.Knowledge.{Knowledge, union}
-use Rattle.rr_model.specs.World.{World, IsClosed}
+use Rattle.rr_cells.specs.Knowledge.{Knowledge, union}
+use Rattle.rr_cells.specs.World.{World, IsClosed}
 use Rattle.rr_gossip.specs.declared.fault.GossipFault.{GossipFault}
 use Rattle.rr_gossip.specs.declared.fault.GossipFault.TheVariants.{TooManyFrames, WriteFailed, Memory}
 use Rattle.rr_gossip.specs.declared.giver.Giver.{Giver}

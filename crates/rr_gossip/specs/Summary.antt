@@ -3,7 +3,7 @@ use Rattle.std.specs.Prelude.{ℕ, ◌≤◌, Bool, true, ◌&&◌, List, [], �
 use Rattle.std.specs.Int.{w16, w64, to_be_bytes}
 use Rattle.std.specs.List.{flat_map, last_or}
 use Rattle.rr_schema.specs.Schema.{Layout}
-use Rattle.rr_model.specs.CellNames.{CellName}
+use Rattle.rr_cells.specs.CellNames.{CellName}
 use Rattle.rr_page.specs.CellText.{name_text}
 use Rattle.rr_page.specs.PageReading.{is_after}
 use Rattle.rr_delta.specs.Names.{NamedVersion, IsNameOf}

@@ -2,7 +2,7 @@
 ghost use Rattle.std.specs.Prelude.{◌≡◌, ◌<◌, All, IsTrue, IfOk, IfSome, OnOk, map, length};
 ghost use Rattle.std.specs.FinMap.{is_sorted};
 ghost use Rattle.std.specs.Option.{option_map};
-ghost use Rattle.rr_model.specs.CellNames.{cell_name_cmp};
+ghost use Rattle.rr_cells.specs.CellNames.{cell_name_cmp};
 ghost use Rattle.rr_cells.specs.CellBounds.{IsCellOf};
 ghost use Rattle.rr_cells.specs.Listing.{owned_cell};
 ghost use Rattle.rr_gossip.specs.declared.frame.TheConstants.{MAX_FRAME_LEN};

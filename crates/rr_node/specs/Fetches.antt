@@ -8,13 +8,13 @@ use Rattle.rr_schema.specs.Schema.{Layout}
 use Rattle.rr_io.specs.Stream.{AppendsPrefix}
 use Rattle.rr_text.specs.Text.{cut_at}
 use Rattle.rr_feed.specs.Items.{Item, Line, TooLong, items}
-use Rattle.rr_model.specs.FetchText.{Request}
+use Rattle.rr_cells.specs.FetchText.{Request}
 use Rattle.rr_cells.specs.Cells.{Cells}
-use Rattle.rr_request.specs.declared.fault.RequestFault.{RequestFault}
-use Rattle.rr_request.specs.declared.fault.RequestFault.TheVariants.{BadCommand}
+use Rattle.rr_fetch.specs.declared.fault.RequestFault.{RequestFault}
+use Rattle.rr_fetch.specs.declared.fault.RequestFault.TheVariants.{BadCommand}
 use Rattle.rr_fetch.specs.Answers.{cells_text}
-use Rattle.rr_request.specs.Fault.{request_fault_name}
-use Rattle.rr_request.specs.Requests.{request_of_words}
+use Rattle.rr_fetch.specs.Fault.{request_fault_name}
+use Rattle.rr_fetch.specs.Requests.{request_of_words}
 use Rattle.rr_desk.specs.declared.gate.GateCall.{GateCall}
 use Rattle.rr_desk.specs.declared.gate.GateCall.TheVariants.{After, Before}
 use Rattle.rr_desk.specs.Gate.{WasAsked}

@@ -10,7 +10,7 @@ use Rattle.rr_line.specs.Fault.{line_fault_name}
 use Rattle.rr_point.specs.Point.{PointView}
 use Rattle.rr_line.specs.Line.{LineView, nothing, point}
 use Rattle.rr_line.specs.Reading.{reading}
-use Rattle.rr_records.specs.Records.{refusal_text}
+use Rattle.rr_fetch.specs.Records.{refusal_text}
 use Rattle.rr_cells.specs.ReplicaState.{ReplicaState}
 use Rattle.rr_replica.specs.Writing.{is_ahead, lacks_numbers}
 use Rattle.rr_desk.specs.Points.{with_puts}

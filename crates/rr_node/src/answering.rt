@@ -4,7 +4,7 @@ ghost use Rattle.std.specs.Prelude.{◌≡◌, Option, Ok, IfOk, option_map};
 ghost use Rattle.rr_text.specs.Results.{GivesUnless};
 ghost use Rattle.rr_feed.specs.Feed.{HandsOut};
 ghost use Rattle.rr_feed.specs.Items.{Item, item_view};
-ghost use Rattle.rr_request.specs.Requests.{request_view, IsFetchable};
+ghost use Rattle.rr_fetch.specs.Requests.{request_view, IsFetchable};
 ghost use Rattle.rr_desk.specs.ReaderState.{HasSeenMore};
 ghost use Rattle.rr_node.specs.Answering.{Next};
 ghost use Rattle.rr_node.specs.Fetches.{after_fetch, by_name, error_text, request_in, sight, IsAnswer, IsAnswered};

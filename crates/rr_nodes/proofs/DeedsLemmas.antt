@@ -11,13 +11,13 @@ use Rattle.std.proofs.lemmas.Bool.{leb-true}
 use Rattle.rr_text.specs.declared.limits.TheConstants.{MAX_NUMBER}
 use Rattle.rr_schema.specs.Schema.{Layout, IsLayout}
 use Rattle.rr_join.proofs.ValuesLemmas.{insert_there, is_some-map_values, map_values-empty, map_values-insert}
-use Rattle.rr_model.specs.CellNames.{CellName, cell_name_cmp}
-use Rattle.rr_model.specs.FetchText.{fetch_text}
-use Rattle.rr_model.specs.Samples.{Sample, marks_of}
-use Rattle.rr_model.specs.Knowledge.{Knowledge, with_marks, live, cells_where}
-use Rattle.rr_model.specs.World.{World, IsWritten, IsClosed, id_cmp, with_sample}
-use Rattle.rr_model.proofs.WholeCells.{live_is_closed}
-use Rattle.rr_model.proofs.Writes.{nothing_is_closed, written_now}
+use Rattle.rr_cells.specs.CellNames.{CellName, cell_name_cmp}
+use Rattle.rr_cells.specs.FetchText.{fetch_text}
+use Rattle.rr_cells.specs.Samples.{Sample, marks_of}
+use Rattle.rr_cells.specs.Knowledge.{Knowledge, with_marks, live, cells_where}
+use Rattle.rr_cells.specs.World.{World, IsWritten, IsClosed, id_cmp, with_sample}
+use Rattle.rr_cells.proofs.ClosedCells.{live_is_closed}
+use Rattle.rr_cells.proofs.Writes.{nothing_is_closed, written_now}
 use Rattle.rr_cells.specs.CellBounds.{IsCellOf, IsSoundSample}
 use Rattle.rr_cells.specs.Cells.{Cells}
 use Rattle.rr_cells.specs.Puts.{put_sample}

@@ -14,12 +14,12 @@ use Rattle.rr_text.specs.Options.{◌>>=◌}
 use Rattle.rr_schema.specs.declared.consolidation.ConsolidationFunction.{ConsolidationFunction}
 use Rattle.rr_schema.specs.Schema.{Layout, IsArchive, IsLayout, is_known_enough, place_of}
 use Rattle.rr_join.specs.Maps.{map_of, set_of}
-use Rattle.rr_model.specs.CellNames.{CellName, cell_name_cmp, is_live, newest}
-use Rattle.rr_model.specs.FetchText.{Request, line_feed, answer_text, fetch_text, record_text, rows_of}
-use Rattle.rr_model.specs.Knowledge.{Knowledge, union, with_marks, live, cells_where}
-use Rattle.rr_model.specs.Rows.{is_at, known_places, marks_of_row, of_marks, row}
-use Rattle.rr_model.specs.Samples.{Sample, Mark, mark_cmp, name_of, names_of, marks_of}
-use Rattle.rr_model.proofs.Orders.{mark_cmp_total, mark_cmp-IsAntisymmetric}
+use Rattle.rr_cells.specs.CellNames.{CellName, cell_name_cmp, is_live, newest}
+use Rattle.rr_cells.specs.FetchText.{Request, line_feed, answer_text, fetch_text, record_text, rows_of}
+use Rattle.rr_cells.specs.Knowledge.{Knowledge, union, with_marks, live, cells_where}
+use Rattle.rr_cells.specs.Rows.{is_at, known_places, marks_of_row, of_marks, row}
+use Rattle.rr_cells.specs.Samples.{Sample, Mark, mark_cmp, name_of, names_of, marks_of}
+use Rattle.rr_cells.proofs.Orders.{mark_cmp_total, mark_cmp-IsAntisymmetric}
 use Rattle.rr_nodes.specs.Nodes.{Node, Nodes, Model, Moment, Deed, opened, wrote, took, loaded, where_some, all_held, held_at, holding, with_new, written, taken, after, after_all}
 use Rattle.rr_nodes.specs.Models.{sample_model}
 use Rattle.rr_nodes.specs.Sessions.{now_at}

@@ -23,7 +23,7 @@ use Rattle.rr_cells.specs.Puts.{put_sample}
 use Rattle.rr_cells.proofs.OperationsLemmas.{outcome_of-joins, outcome_of-more}
 use Rattle.rr_desk.specs.KeeperState.{KeeperState, own_replica, with_pending}
 use Rattle.rr_desk.proofs.PrefixLemmas.{prefix_append, prefix_nil, prefix_refl, prefix_trans}
-use Rattle.rr_model.proofs.Fetches.{fetches_are_of_the_live}
+use Rattle.rr_cells.proofs.Fetches.{fetches_are_of_the_live}
 use Rattle.rr_fetch.specs.Answers.{cells_text}
 use Rattle.rr_fetch.proofs.RowLaws.{answer_of_state}
 use Rattle.rr_desk.specs.Points.{with_put}

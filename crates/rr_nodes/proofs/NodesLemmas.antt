@@ -9,14 +9,14 @@ use Rattle.rr_text.specs.Options.{◌>>=◌}
 use Rattle.rr_schema.specs.Schema.{Layout, IsLayout}
 use Rattle.rr_join.proofs.Members.{same_from_tie}
 use Rattle.rr_join.proofs.ValuesLemmas.{insert_cases, get-insert_itself, get-map_values}
-use Rattle.rr_model.specs.CellNames.{CellName, cell_name_cmp}
-use Rattle.rr_model.specs.Samples.{Sample, name_of, marks_of}
-use Rattle.rr_model.specs.Knowledge.{Knowledge, IsAheadOf, union, with_marks, cell, cells_where, is_live_in}
-use Rattle.rr_model.specs.World.{World, IsWritten, IsNext, IsClosed, HoldsAllOf, with_sample}
-use Rattle.rr_model.proofs.Knowing.{knows-cell, knows-empty}
-use Rattle.rr_model.proofs.Orders.{cell_name_cmp_total, cell_name_cmp-IsAntisymmetric}
-use Rattle.rr_model.proofs.WholeCells.{whole_cells_are_closed}
-use Rattle.rr_model.proofs.Writes.{others_stay_closed, others_hold_own, writer_stays_closed, writer_holds_own, union_is_closed, union_holds_own, written_now}
+use Rattle.rr_cells.specs.CellNames.{CellName, cell_name_cmp}
+use Rattle.rr_cells.specs.Samples.{Sample, name_of, marks_of}
+use Rattle.rr_cells.specs.Knowledge.{Knowledge, IsAheadOf, union, with_marks, cell, cells_where, is_live_in}
+use Rattle.rr_cells.specs.World.{World, IsWritten, IsNext, IsClosed, HoldsAllOf, with_sample}
+use Rattle.rr_cells.proofs.Knowing.{knows-cell, knows-empty}
+use Rattle.rr_cells.proofs.Orders.{cell_name_cmp_total, cell_name_cmp-IsAntisymmetric}
+use Rattle.rr_cells.proofs.ClosedCells.{whole_cells_are_closed}
+use Rattle.rr_cells.proofs.Writes.{others_stay_closed, others_hold_own, writer_stays_closed, writer_holds_own, union_is_closed, union_holds_own, written_now}
 use Rattle.rr_cells.specs.Cells.{Cells}
 use Rattle.rr_cells.specs.Joining.{next_after}
 use Rattle.rr_cells.specs.Joins.{join, join_cell}

@@ -10,13 +10,13 @@ use Rattle.rr_text.specs.Options.{◌>>=◌}
 use Rattle.rr_schema.specs.Schema.{Layout}
 use Rattle.rr_join.proofs.Members.{same_from_tie}
 use Rattle.rr_join.proofs.ValuesLemmas.{get-insert_itself, insert_there, insert_twice}
-use Rattle.rr_model.specs.CellNames.{CellName, cell_name_cmp}
-use Rattle.rr_model.specs.Samples.{name_of}
-use Rattle.rr_model.specs.Knowledge.{Knowledge, knows, union, live, cells_where, cells_named, difference, is_live_in}
-use Rattle.rr_model.proofs.Deliveries.{difference_brings_all}
-use Rattle.rr_model.proofs.Knowing.{knows-union, same_knowledge}
-use Rattle.rr_model.proofs.Orders.{cell_name_cmp_total}
-use Rattle.rr_model.proofs.WholeCells.{knows-cells_where}
+use Rattle.rr_cells.specs.CellNames.{CellName, cell_name_cmp}
+use Rattle.rr_cells.specs.Samples.{name_of}
+use Rattle.rr_cells.specs.Knowledge.{Knowledge, knows, union, live, cells_where, cells_named, difference, is_live_in}
+use Rattle.rr_cells.proofs.Deliveries.{difference_brings_all}
+use Rattle.rr_cells.proofs.Knowing.{knows-union, same_knowledge}
+use Rattle.rr_cells.proofs.Orders.{cell_name_cmp_total}
+use Rattle.rr_cells.proofs.ClosedCells.{knows-cells_where}
 use Rattle.rr_nodes.specs.Nodes.{Node, Nodes, Model, Moment, took, all_held, held_at, after, after_all, taken, where_some}
 use Rattle.rr_nodes.specs.Models.{sample_model}
 use Rattle.rr_nodes.specs.Pulls.{takes, TakesAreInOrder, PullsBringAll}

@@ -3,7 +3,7 @@ use Rattle.std.specs.Prelude.{◌≡◌, ℕ, ◌*◌, ℤ, pos, List, [], ◌�
 use Rattle.std.specs.Option.{option_map}
 use Rattle.rr_schema.specs.declared.consolidation.ConsolidationFunction.TheVariants.{Max}
 use Rattle.rr_schema.specs.Schema.{Layout}
-use Rattle.rr_model.specs.FetchText.{Request, line_feed}
+use Rattle.rr_cells.specs.FetchText.{Request, line_feed}
 use Rattle.rr_fetch.specs.Answers.{cells_text}
 use Rattle.rr_nodes.specs.Nodes.{Deed, opened, wrote, took, held_at, after_all}
 use Rattle.rr_nodes.specs.Models.{cell_model}

@@ -9,10 +9,10 @@ use Rattle.rr_schema.specs.Origin.{IsOrigin}
 use Rattle.rr_schema.specs.Schema.{Layout, IsLayout}
 use Rattle.rr_join.specs.Values.{map_values}
 use Rattle.rr_key.specs.Series.{IsKeyText}
-use Rattle.rr_model.specs.FetchText.{Request, fetch_text}
-use Rattle.rr_model.specs.Knowledge.{Knowledge, live}
-use Rattle.rr_model.specs.Samples.{Sample}
-use Rattle.rr_model.specs.World.{World, IsWritten, IsClosed, HoldsAllOf}
+use Rattle.rr_cells.specs.FetchText.{Request, fetch_text}
+use Rattle.rr_cells.specs.Knowledge.{Knowledge, live}
+use Rattle.rr_cells.specs.Samples.{Sample}
+use Rattle.rr_cells.specs.World.{World, IsWritten, IsClosed, HoldsAllOf}
 use Rattle.rr_cells.specs.CellBounds.{IsCellOf}
 use Rattle.rr_cells.specs.Cells.{Cells}
 use Rattle.rr_cells.specs.State.{cells_of_knowledge}

@@ -1,9 +1,9 @@
 -- The two models: nodes that hold cells, as the program's do, and nodes that hold every mark that reached them.
 use Rattle.std.specs.Ordering.{eq_by_cmp}
 use Rattle.std.specs.FinMap.{empty, get}
-use Rattle.rr_model.specs.CellNames.{cell_name_cmp}
-use Rattle.rr_model.specs.Samples.{marks_of}
-use Rattle.rr_model.specs.Knowledge.{Knowledge, union, with_marks, live, cells_where}
+use Rattle.rr_cells.specs.CellNames.{cell_name_cmp}
+use Rattle.rr_cells.specs.Samples.{marks_of}
+use Rattle.rr_cells.specs.Knowledge.{Knowledge, union, with_marks, live, cells_where}
 use Rattle.rr_cells.specs.Cells.{Cells}
 use Rattle.rr_cells.specs.Joining.{next_after}
 use Rattle.rr_cells.specs.Joins.{join_cell}

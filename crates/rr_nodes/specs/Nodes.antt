@@ -5,8 +5,8 @@ use Rattle.std.specs.FinMap.{FinMap, empty, get, insert, contains_key}
 use Rattle.rr_text.specs.declared.limits.TheConstants.{MAX_NUMBER}
 use Rattle.rr_text.specs.Options.{◌>>=◌}
 use Rattle.rr_schema.specs.Schema.{Layout}
-use Rattle.rr_model.specs.CellNames.{CellName}
-use Rattle.rr_model.specs.Samples.{Sample}
+use Rattle.rr_cells.specs.CellNames.{CellName}
+use Rattle.rr_cells.specs.Samples.{Sample}
 
 -- a node, which is a replica from when it is made or loaded on: the number of its next sample, what it holds, and all
 -- that it held before, the newest first

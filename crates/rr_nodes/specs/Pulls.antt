@@ -3,8 +3,8 @@ use Rattle.std.specs.Prelude.{◌≡◌, ◌≢◌, ℕ, List, ◌++◌, map, fo
 use Rattle.std.specs.Option.{option_map}
 use Rattle.std.specs.FinMap.{get, insert}
 use Rattle.rr_schema.specs.Schema.{Layout, IsLayout}
-use Rattle.rr_model.specs.CellNames.{CellName}
-use Rattle.rr_model.specs.Knowledge.{Knowledge, union, live, difference}
+use Rattle.rr_cells.specs.CellNames.{CellName}
+use Rattle.rr_cells.specs.Knowledge.{Knowledge, union, live, difference}
 use Rattle.rr_nodes.specs.Nodes.{Node, Nodes, Model, Moment, Deed, took, held_at, after, after_all, taken}
 use Rattle.rr_nodes.specs.Models.{sample_model}
 

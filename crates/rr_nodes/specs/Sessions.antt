@@ -5,8 +5,8 @@ use Rattle.std.specs.FinMap.{get, entries}
 use Rattle.std.specs.List.{concat}
 use mathlib.Core.List.{IsPrefix}
 use Rattle.rr_schema.specs.Schema.{Layout, IsLayout}
-use Rattle.rr_model.specs.CellNames.{CellName}
-use Rattle.rr_model.specs.Knowledge.{Knowledge, union, live}
+use Rattle.rr_cells.specs.CellNames.{CellName}
+use Rattle.rr_cells.specs.Knowledge.{Knowledge, union, live}
 use Rattle.rr_cells.specs.declared.op.Op.{Op}
 use Rattle.rr_cells.specs.CellBounds.{NamedCell, IsCellOf}
 use Rattle.rr_cells.specs.Cells.{Cells}

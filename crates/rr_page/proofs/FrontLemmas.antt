@@ -12,7 +12,7 @@ use Rattle.rr_schema.specs.Schema.{Layout}
 use Rattle.rr_schema.specs.SchemaBytes.{schema_bytes}
 use Rattle.rr_contrib.specs.Validity.{is_valid}
 use Rattle.rr_key.specs.Reading.{is_key_text}
-use Rattle.rr_model.specs.CellNames.{CellName}
+use Rattle.rr_cells.specs.CellNames.{CellName}
 use Rattle.rr_cells.specs.CellBounds.{NamedCell}
 use Rattle.rr_page.specs.declared.fault.PageFault.{PageFault}
 use Rattle.rr_page.specs.declared.fault.PageFault.TheVariants.{Short, BadMagic, BadVersion, SchemaDiffers, TooManyCells, BadKey, BadArchive, BadContribution, OutOfOrder, TrailingBytes}

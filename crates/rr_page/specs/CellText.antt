@@ -2,7 +2,7 @@
 use Rattle.std.specs.Prelude.{ℕ, ℤ, List, [], ◌∷◌, ◌++◌, length}
 use Rattle.std.specs.Int.{Width, w16, w64, w128, cast_unsigned, to_be_bytes}
 use Rattle.rr_contrib.specs.declared.contribution.Contribution.{Contribution}
-use Rattle.rr_model.specs.CellNames.{CellName}
+use Rattle.rr_cells.specs.CellNames.{CellName}
 use Rattle.rr_cells.specs.CellBounds.{NamedCell}
 use Rattle.rr_page.specs.declared.version.Version.{Version}
 use Rattle.rr_page.specs.Version.{mask_width}

@@ -8,14 +8,14 @@ ghost use Rattle.rr_line.specs.Fault.{line_fault_name};
 ghost use Rattle.rr_point.specs.Key.{HasKeys, key_text, names_of};
 ghost use Rattle.rr_point.specs.Point.{point_view};
 ghost use Rattle.rr_line.specs.Reading.{reading};
-ghost use Rattle.rr_records.specs.Records.{record_text, refusal_text, IsPlain};
+ghost use Rattle.rr_fetch.specs.Records.{record_text, refusal_text, IsPlain};
 ghost use Rattle.std.specs.Fmt.{signed_decimal};
 ghost use Rattle.rr_process.specs.Report.{is_refused, item_text, line_text, point_text};
 
 use itoa::Buffer;
 use rr_feed::{FeedLine, LINE_TOO_LONG};
 use rr_line::{Field, Line, LineFault, Point, Precision, parse_line};
-use rr_records::{push_plain, push_refusal};
+use rr_fetch::{push_plain, push_refusal};
 use std::alloc::{AllocError, Global};
 
 /// Adds the record of a sample: its key text, its value and the text of its time.

@@ -11,7 +11,7 @@ use Rattle.rr_contrib.specs.declared.contribution.Contribution.{Contribution}
 use Rattle.rr_archive.specs.declared.entry.Entry.{Entry}
 use Rattle.rr_archive.specs.CellSlots.{CellSlot, cell_slot}
 use Rattle.rr_archive.specs.Cells.{ArchiveCells, cell_of}
-use Rattle.rr_model.specs.CellNames.{CellName}
+use Rattle.rr_cells.specs.CellNames.{CellName}
 use Rattle.rr_cells.specs.Cells.{name_at}
 use Rattle.rr_text.specs.declared.limits.TheConstants.{MAX_ARCHIVES}
 use Rattle.rr_schema.specs.Schema.{Layout}

@@ -18,7 +18,7 @@ use Rattle.rr_archive.specs.Cells.{ArchiveCells, entry_of, row_of}
 use Rattle.rr_replica.specs.declared.reading.Reading.{Reading}
 use Rattle.rr_cells.specs.Cells.{Cells, name_at, archive_cells, row_at}
 use Rattle.rr_contrib.specs.declared.contribution.Contribution.{Contribution}
-use Rattle.rr_model.specs.CellNames.{cell_name_cmp}
+use Rattle.rr_cells.specs.CellNames.{cell_name_cmp}
 use Rattle.rr_cells.specs.Puts.{put_sample}
 use Rattle.rr_text.specs.Bytes.{bytes_cmp}
 use Rattle.rr_replica.specs.Series.{cells_of}

@@ -7,8 +7,8 @@ use Rattle.std.specs.FinMap.{is_sorted}
 use Rattle.std.specs.FinMap.Entries.{below_all}
 use Rattle.std.proofs.lemmas.List.{length-drop}
 use Rattle.rr_join.proofs.Booleans.{first_T, second_T, true_from_T}
-use Rattle.rr_model.specs.CellNames.{CellName, cell_name_cmp}
-use Rattle.rr_model.proofs.Orders.{cell_name_cmp_total}
+use Rattle.rr_cells.specs.CellNames.{CellName, cell_name_cmp}
+use Rattle.rr_cells.proofs.Orders.{cell_name_cmp_total}
 use Rattle.rr_cells.specs.CellBounds.{NamedCell}
 use Rattle.rr_replica.proofs.Counted.{past_end, take_all}
 use Rattle.rr_replica.proofs.NextCell.{is_past, first_past}

@@ -25,9 +25,9 @@ use Rattle.rr_archive.specs.CellSlots.{cell_slot_cmp, cell_slot}
 use Rattle.rr_archive.specs.Cells.{ArchiveCells, join_archive_cells}
 use Rattle.rr_archive.specs.Cells as held
 use Rattle.rr_archive.proofs.CellSlotOrder.{cell_slot_cmp_total, cell_slot_cmp-IsAntisymmetric}
-use Rattle.rr_model.specs.CellNames.{CellName, cell_name_cmp, is_of, is_live}
-use Rattle.rr_model.proofs.Horizon.{live_horizon}
-use Rattle.rr_model.proofs.Orders.{cell_name_cmp_total, cell_name_cmp-IsAntisymmetric}
+use Rattle.rr_cells.specs.CellNames.{CellName, cell_name_cmp, is_of, is_live}
+use Rattle.rr_cells.proofs.Horizon.{live_horizon}
+use Rattle.rr_cells.proofs.Orders.{cell_name_cmp_total, cell_name_cmp-IsAntisymmetric}
 use Rattle.rr_cells.specs.declared.cell.Cell.{Cell}
 use Rattle.rr_replica.specs.Archives.{Each, AreSized, AreSame, HaveJoined}
 use Rattle.rr_cells.specs.CellBounds.{IsCellOf}

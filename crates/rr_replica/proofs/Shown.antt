@@ -14,7 +14,7 @@ use Rattle.std.proofs.lemmas.Option.{slice_get_past}
 use Rattle.rr_schema.specs.Schema.{Layout, IsLayout, archive_at}
 use Rattle.rr_join.proofs.Members.{same_from_tie, tie_itself}
 use Rattle.rr_archive.specs.Cells.{ArchiveCells, put_in_archive}
-use Rattle.rr_model.specs.Samples as model
+use Rattle.rr_cells.specs.Samples as model
 use Rattle.rr_replica.specs.declared.reading.Reading.{Reading}
 use Rattle.rr_cells.specs.Cells.{Cells, IsTrimmed, archive_cells}
 use Rattle.rr_cells.specs.Puts.{put_sample}

@@ -8,7 +8,7 @@ use Rattle.std.specs.Option.{option_map}
 use Rattle.rr_schema.specs.Schema.{Layout}
 use Rattle.rr_archive.specs.CellSlots.{CellSlot}
 use Rattle.rr_archive.specs.Cells.{ArchiveCells}
-use Rattle.rr_model.specs.Samples as model
+use Rattle.rr_cells.specs.Samples as model
 use Rattle.rr_replica.specs.declared.reading.Reading.{Reading}
 use Rattle.rr_cells.specs.declared.sample.Sample.{Sample}
 use Rattle.rr_cells.specs.declared.op.Op.{Op}

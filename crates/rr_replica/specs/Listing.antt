@@ -1,5 +1,5 @@
 -- The name from which cells are listed.
-use Rattle.rr_model.specs.CellNames.{CellName}
+use Rattle.rr_cells.specs.CellNames.{CellName}
 use Rattle.rr_replica.specs.declared.next.NameRef.{NameRef}
 
 -- a name with its key lent

@@ -1,7 +1,7 @@
 //! The laws of replicas, with no work to do: each function has an empty body.
 ghost use Rattle.rr_replica.specs.Writing.{WritingGoesOn};
 
-pub use rr_cells::laws::{
+pub use rr_cells::laws::cells::{
     a_difference_is_by_versions, a_join_is_a_union, a_put_is_one_sample_more,
     cells_of_samples_are_valid, join_keeps_the_live, joining_goes_on, joins_make_their_cells,
     live_cells_are_few, puts_go_by_archives, whole_cells_make_their_cells,

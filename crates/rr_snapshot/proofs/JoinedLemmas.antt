@@ -7,15 +7,15 @@ use Rattle.std.proofs.lemmas.List.Folds.{list_any-append}
 use Rattle.rr_schema.specs.Schema.{Layout}
 use Rattle.rr_schema.specs.declared.added.Addition.{Addition}
 use Rattle.rr_schema.specs.declared.added.Addition.TheVariants.{Nothing, Archive}
-use Rattle.rr_model.specs.CellNames.{CellName}
+use Rattle.rr_cells.specs.CellNames.{CellName}
 use Rattle.rr_page.specs.PageReading.{is_after}
 use Rattle.rr_cells.specs.CellBounds.{NamedCell}
 use Rattle.rr_cells.specs.Cells.{Cells}
 use Rattle.rr_cells.specs.ReplicaState.{ReplicaState}
 use Rattle.rr_cells.specs.Joining.{next_after, with_named}
 use Rattle.rr_cells.specs.Joins.{join_cell, join_cells}
-use Rattle.rr_raising.specs.Raising.{raised_cell, raised_name}
-use Rattle.rr_raising.proofs.Numbers.{raised_name_cmp}
+use Rattle.rr_cells.specs.Raising.{raised_cell, raised_name}
+use Rattle.rr_cells.proofs.Numbers.{raised_name_cmp}
 use Rattle.rr_snapshot.specs.Loading.{is_among, replica_of, HasJoined}
 
 joined_more : (s : Layout) (m : Cells) (es : List NamedCell) (e : NamedCell)

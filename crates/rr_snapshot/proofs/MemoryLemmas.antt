@@ -2,7 +2,7 @@
 use Rattle.std.proofs.Common.{◌≡◌, ℕ, suc, ◌+◌, ◌-◌, ◌<◌, not, List, ◌∷◌, ◌++◌, Option, None, Some, IfSome, Result, Ok, Err, sym, ap, subst, ◌∙◌, arith}
 use Rattle.rr_text.specs.Results.{◌>>=◌, unless}
 use Rattle.rr_schema.specs.Schema.{Layout}
-use Rattle.rr_model.specs.CellNames.{CellName}
+use Rattle.rr_cells.specs.CellNames.{CellName}
 use Rattle.rr_page.specs.declared.fault.PageFault.{PageFault}
 use Rattle.rr_page.specs.declared.fault.PageFault.TheVariants.{OutOfOrder}
 use Rattle.rr_page.specs.declared.version.Version.{Version}

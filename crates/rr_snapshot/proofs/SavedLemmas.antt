@@ -14,7 +14,7 @@ use Rattle.rr_schema.specs.declared.added.Addition.TheVariants.{Nothing}
 use Rattle.rr_schema.proofs.AdditionLemmas.{additions_are_found}
 use Rattle.rr_contrib.specs.declared.contribution.Contribution.{Contribution}
 use Rattle.rr_join.proofs.Booleans.{true_from_T}
-use Rattle.rr_model.specs.CellNames.{CellName, cell_name_cmp}
+use Rattle.rr_cells.specs.CellNames.{CellName, cell_name_cmp}
 use Rattle.rr_page.specs.Version.{latest}
 use Rattle.rr_page.proofs.HeadLemmas.{masks_wide}
 use Rattle.rr_cells.specs.CellBounds.{NamedCell, IsCellOf}
@@ -32,9 +32,9 @@ use Rattle.rr_snapshot.specs.Snapshot.{IsSnapshot, snapshot_text}
 use Rattle.rr_snapshot.specs.SnapshotReading.{snapshot_at}
 use Rattle.rr_snapshot.proofs.BodyLemmas.{after_head}
 use Rattle.rr_snapshot.proofs.SnapshotLemmas.{snapshot_read, other_schema}
-use Rattle.rr_raising.specs.Raising.{renamed, raised_name, raised_cell, raised_cells}
-use Rattle.rr_raising.proofs.Raised.{same_cells}
-use Rattle.rr_raising.proofs.Joined.{join_cells_is_raised}
+use Rattle.rr_cells.specs.Raising.{renamed, raised_name, raised_cell, raised_cells}
+use Rattle.rr_cells.proofs.Raised.{same_cells}
+use Rattle.rr_cells.proofs.Joined.{join_cells_is_raised}
 use Rattle.rr_snapshot.specs.Laws.{SavedIsLoaded, SavedIsRaised, OtherSchemasDiffer}
 use Rattle.rr_snapshot.specs.Loading.{is_among, is_used, replica_of, loaded_at}
 

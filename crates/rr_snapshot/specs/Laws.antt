@@ -5,13 +5,13 @@ use Rattle.rr_schema.specs.Schema.{Layout, IsLayout}
 use Rattle.rr_schema.specs.Added.{addition_since}
 use Rattle.rr_schema.specs.declared.added.Addition.{Addition}
 use Rattle.rr_contrib.specs.declared.contribution.Contribution.{Contribution}
-use Rattle.rr_model.specs.CellNames.{CellName}
+use Rattle.rr_cells.specs.CellNames.{CellName}
 use Rattle.rr_cells.specs.ReplicaState.{IsReplicaState, ReplicaState}
 use Rattle.rr_page.specs.Version.{latest}
 use Rattle.rr_snapshot.specs.declared.fault.LoadFault.TheVariants.{SchemaDiffers}
 use Rattle.rr_snapshot.specs.declared.heading.TheConstants.{MAX_SNAPSHOT_CELLS}
 use Rattle.rr_snapshot.specs.Snapshot.{snapshot_text}
-use Rattle.rr_raising.specs.Raising.{raised_cells}
+use Rattle.rr_cells.specs.Raising.{raised_cells}
 use Rattle.rr_snapshot.specs.Loading.{loaded_at}
 
 -- what a replica was saved as is loaded, under its schema and an origin that is neither its own nor that of one of its

@@ -6,7 +6,7 @@ use Rattle.rr_text.specs.Results.{◌>>=◌, unless}
 use Rattle.rr_schema.specs.Schema.{Layout}
 use Rattle.rr_schema.specs.Added.{older}
 use Rattle.rr_schema.specs.declared.added.Addition.{Addition}
-use Rattle.rr_model.specs.CellNames.{CellName}
+use Rattle.rr_cells.specs.CellNames.{CellName}
 use Rattle.rr_page.specs.declared.version.Version.{Version}
 use Rattle.rr_page.specs.PageReading.{cells_at}
 use Rattle.rr_cells.specs.CellBounds.{NamedCell}
@@ -16,7 +16,7 @@ use Rattle.rr_snapshot.specs.declared.fault.LoadFault.{LoadFault}
 use Rattle.rr_snapshot.specs.declared.fault.LoadFault.TheVariants.{ReadFailed, OriginUsed, Memory}
 use Rattle.rr_snapshot.specs.declared.heading.Head.{Head}
 use Rattle.rr_snapshot.specs.SnapshotReading.{head_at, cells_after, snapshot_at}
-use Rattle.rr_raising.specs.Raising.{raised_cell}
+use Rattle.rr_cells.specs.Raising.{raised_cell}
 
 -- whether an origin is that of one of these cells
 abbrev pub is_among : ℕ → List NamedCell → Bool

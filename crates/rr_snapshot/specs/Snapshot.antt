@@ -8,7 +8,7 @@ use Rattle.rr_schema.specs.Origin.{IsOrigin}
 use Rattle.rr_schema.specs.Schema.{Layout}
 use Rattle.rr_schema.specs.Added.{IsAddition, older}
 use Rattle.rr_schema.specs.SchemaBytes.{schema_bytes}
-use Rattle.rr_model.specs.CellNames.{cell_name_cmp}
+use Rattle.rr_cells.specs.CellNames.{cell_name_cmp}
 use Rattle.rr_cells.specs.CellBounds.{NamedCell, IsCellOf}
 use Rattle.rr_page.specs.declared.version.Version.{Version}
 use Rattle.rr_page.specs.CellText.{cell_text}

@@ -8,7 +8,7 @@ ghost use Rattle.rr_schema.specs.Added.{IsAddition, older};
 ghost use Rattle.rr_page.specs.PageReading.{is_after};
 ghost use Rattle.rr_cells.specs.Listing.{owned_cell};
 ghost use Rattle.rr_replica.specs.ReplicaWithRoom.{replica_state};
-ghost use Rattle.rr_raising.specs.Raising.{raised};
+ghost use Rattle.rr_cells.specs.Raising.{raised};
 ghost use Rattle.rr_snapshot.specs.SnapshotReading.{cells_after};
 ghost use Rattle.rr_snapshot.specs.Stream.{Digests, StreamMakes};
 ghost use Rattle.rr_snapshot.specs.Loading.{HasJoined, GivesIfRead, StopsAmong, StopsBeforeDigest, loaded_at};

@@ -4,7 +4,7 @@ use Rattle.std.specs.FinMap as map
 use Rattle.hex.specs.Hex.{encode_lower}
 use Rattle.rr_archive.specs.declared.archive.Cells.{Ghosts}
 use Rattle.rr_text.specs.declared.bytes.TheConstants.{LINE_FEED}
-use Rattle.rr_model.specs.Knowledge.{Knowledge}
+use Rattle.rr_cells.specs.Knowledge.{Knowledge}
 use Rattle.rr_cells.specs.Cells.{Cells}
 use Rattle.rr_cells.specs.State.{cells_of_knowledge}
 use Rattle.rr_cluster.specs.declared.cluster.Cluster.{Cluster}

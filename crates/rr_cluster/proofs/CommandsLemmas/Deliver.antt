@@ -4,9 +4,9 @@ use Rattle.std.specs.FinMap as fin
 use Rattle.std.proofs.lemmas.List.Elements.{All-from_recursion}
 use Rattle.rr_archive.specs.declared.archive.Cells.{Ghosts}
 use Rattle.rr_schema.specs.Schema.{Layout, IsLayout}
-use Rattle.rr_model.specs.Knowledge.{Knowledge}
-use Rattle.rr_model.specs.World.{World, IsClosed}
-use Rattle.rr_model.proofs.Writes.{union_is_closed, union_holds_own}
+use Rattle.rr_cells.specs.Knowledge.{Knowledge}
+use Rattle.rr_cells.specs.World.{World, IsClosed}
+use Rattle.rr_cells.proofs.Writes.{union_is_closed, union_holds_own}
 use Rattle.rr_page.specs.declared.fault.PageFault.{PageFault}
 use Rattle.rr_cells.specs.CellBounds.{NamedCell}
 use Rattle.rr_cells.specs.declared.cell.Cell.{Cell}

@@ -15,10 +15,10 @@ use Rattle.rr_delta.specs.declared.name.Name.{Name}
 use Rattle.rr_delta.specs.Names.{named_version, owned_name, versions_of}
 use Rattle.rr_delta.proofs.LawLemmas.{differences_are_cut}
 use Rattle.rr_join.proofs.Booleans.{T_and, T_from_true, first_T, second_T, true_from_T}
-use Rattle.rr_model.specs.CellNames.{CellName, cell_name_cmp}
-use Rattle.rr_model.specs.Knowledge.{Knowledge}
-use Rattle.rr_model.specs.World.{IsClosed}
-use Rattle.rr_model.proofs.WholeCells.{whole_cells_are_closed}
+use Rattle.rr_cells.specs.CellNames.{CellName, cell_name_cmp}
+use Rattle.rr_cells.specs.Knowledge.{Knowledge}
+use Rattle.rr_cells.specs.World.{IsClosed}
+use Rattle.rr_cells.proofs.ClosedCells.{whole_cells_are_closed}
 use Rattle.rr_page.specs.Page.{IsPage, page_text}
 use Rattle.rr_page.specs.Version.{latest}
 use Rattle.rr_cells.specs.CellBounds.{NamedCell, IsCellOf}

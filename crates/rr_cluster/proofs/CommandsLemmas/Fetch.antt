@@ -3,13 +3,13 @@ use Rattle.std.proofs.Common.{◌≡◌, inl, inr, ℕ, List, None, Some, Result
 use Rattle.std.specs.FinMap as map
 use Rattle.rr_archive.specs.declared.archive.Cells.{Ghosts}
 use Rattle.rr_fetch.specs.Answers.{cells_text}
-use Rattle.rr_request.specs.Requests.{read}
-use Rattle.rr_request.specs.Words.{Parts}
-use Rattle.rr_request.specs.declared.fault.RequestFault.{RequestFault}
-use Rattle.rr_request.specs.declared.fault.RequestFault.TheVariants.{Memory}
+use Rattle.rr_fetch.specs.Requests.{read}
+use Rattle.rr_fetch.specs.Words.{Parts}
+use Rattle.rr_fetch.specs.declared.fault.RequestFault.{RequestFault}
+use Rattle.rr_fetch.specs.declared.fault.RequestFault.TheVariants.{Memory}
 use Rattle.rr_fetch.proofs.RowLaws.{answer_of_state}
-use Rattle.rr_model.specs.FetchText.{Request}
-use Rattle.rr_model.specs.Knowledge.{Knowledge}
+use Rattle.rr_cells.specs.FetchText.{Request}
+use Rattle.rr_cells.specs.Knowledge.{Knowledge}
 use Rattle.rr_cells.specs.Cells.{Cells}
 use Rattle.rr_replica.specs.ReplicaWithRoom.{ReplicaWithRoom}
 use Rattle.rr_cluster.specs.declared.cluster.Cluster.{Cluster}

@@ -11,8 +11,8 @@ use Rattle.rr_schema.specs.Schema.{Layout, IsLayout}
 use Rattle.rr_schema.specs.Added.{addition_since}
 use Rattle.rr_schema.specs.declared.added.Addition.{Addition}
 use Rattle.rr_schema.proofs.AdditionLemmas.{additions_are_found}
-use Rattle.rr_model.specs.Knowledge.{Knowledge}
-use Rattle.rr_model.specs.World.{IsClosed}
+use Rattle.rr_cells.specs.Knowledge.{Knowledge}
+use Rattle.rr_cells.specs.World.{IsClosed}
 use Rattle.rr_cells.specs.Cells.{Cells}
 use Rattle.rr_cells.specs.ReplicaState.{ReplicaState}
 use Rattle.rr_replica.specs.ReplicaWithRoom.{ReplicaWithRoom, replica_state}
@@ -20,8 +20,8 @@ use Rattle.rr_snapshot.specs.declared.fault.LoadFault.{LoadFault}
 use Rattle.rr_snapshot.specs.declared.fault.LoadFault.TheVariants as load
 use Rattle.rr_snapshot.specs.Loading.{loaded_at}
 use Rattle.rr_cells.specs.State.{cells_of_knowledge}
-use Rattle.rr_raising.specs.Raising.{raised_knowledge, raised_cells}
-use Rattle.rr_raising.proofs.Raised.{raised_is_closed, raised_makes_raised_cells}
+use Rattle.rr_cells.specs.Raising.{raised_knowledge, raised_cells}
+use Rattle.rr_cells.proofs.Raised.{raised_is_closed, raised_makes_raised_cells}
 use Rattle.rr_snapshot.proofs.SavedLemmas.{snapshot_is_loaded, other_is_refused}
 use Rattle.rr_cluster.specs.declared.cluster.Cluster.{Cluster}
 use Rattle.rr_cluster.specs.declared.fault.CommandFault.{CommandFault}

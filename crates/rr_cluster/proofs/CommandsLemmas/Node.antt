@@ -16,13 +16,13 @@ use Rattle.rr_join.specs.Values.{map_values}
 use Rattle.rr_join.proofs.Booleans.{same_test}
 use Rattle.rr_join.proofs.Members.{same_from_tie, tie_from_same}
 use Rattle.rr_join.proofs.ValuesLemmas.{is_some-map_values, map_values-insert}
-use Rattle.rr_model.specs.CellNames.{cell_name_cmp}
-use Rattle.rr_model.specs.Knowledge.{Knowledge, is_live_in, cell}
-use Rattle.rr_model.specs.Samples.{name_of}
-use Rattle.rr_model.specs.World.{World}
-use Rattle.rr_model.proofs.Knowing.{knows-empty, knows-cell}
-use Rattle.rr_model.proofs.Orders.{cell_name_cmp_total, cell_name_cmp-IsAntisymmetric}
-use Rattle.rr_model.proofs.Writes.{nothing_is_closed}
+use Rattle.rr_cells.specs.CellNames.{cell_name_cmp}
+use Rattle.rr_cells.specs.Knowledge.{Knowledge, is_live_in, cell}
+use Rattle.rr_cells.specs.Samples.{name_of}
+use Rattle.rr_cells.specs.World.{World}
+use Rattle.rr_cells.proofs.Knowing.{knows-empty, knows-cell}
+use Rattle.rr_cells.proofs.Orders.{cell_name_cmp_total, cell_name_cmp-IsAntisymmetric}
+use Rattle.rr_cells.proofs.Writes.{nothing_is_closed}
 use Rattle.rr_cells.specs.Cells.{Cells}
 use Rattle.rr_replica.specs.ReplicaWithRoom.{ReplicaWithRoom, replica_state}
 use Rattle.rr_cells.specs.State.{cells_of_knowledge}

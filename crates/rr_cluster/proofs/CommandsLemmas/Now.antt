@@ -1,7 +1,7 @@
 -- now T [LEAD]
 use Rattle.std.proofs.Common.{◌≡◌, ℕ, ℤ, List, Option, Result, Ok, Err, refl, sym, ap, ◌∙◌}
 use Rattle.rr_archive.specs.declared.archive.Cells.{Ghosts}
-use Rattle.rr_model.specs.Knowledge.{Knowledge}
+use Rattle.rr_cells.specs.Knowledge.{Knowledge}
 use Rattle.rr_cells.specs.Cells.{Cells}
 use Rattle.rr_cluster.specs.declared.cluster.Cluster.{Cluster}
 use Rattle.rr_cluster.specs.declared.fault.CommandFault.{CommandFault}

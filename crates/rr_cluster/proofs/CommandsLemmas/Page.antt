@@ -8,9 +8,9 @@ use Rattle.rr_text.specs.Results.{check}
 use Rattle.rr_schema.specs.Schema.{Layout}
 use Rattle.rr_join.specs.Values.{map_values}
 use Rattle.rr_join.proofs.ValuesLemmas.{insert_cases, map_values-insert}
-use Rattle.rr_model.specs.Knowledge.{Knowledge, part}
-use Rattle.rr_model.specs.World.{IsClosed}
-use Rattle.rr_model.proofs.WholeCells.{whole_cells_are_closed}
+use Rattle.rr_cells.specs.Knowledge.{Knowledge, part}
+use Rattle.rr_cells.specs.World.{IsClosed}
+use Rattle.rr_cells.proofs.ClosedCells.{whole_cells_are_closed}
 use Rattle.rr_page.specs.Page.{IsPage, page_text}
 use Rattle.rr_page.specs.Version.{latest}
 use Rattle.rr_cells.specs.Cells.{Cells}

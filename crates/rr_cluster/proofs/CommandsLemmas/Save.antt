@@ -9,8 +9,8 @@ use Rattle.rr_archive.specs.declared.archive.Cells.{Ghosts}
 use Rattle.rr_text.specs.Results.{check}
 use Rattle.rr_join.specs.Values.{map_values}
 use Rattle.rr_join.proofs.ValuesLemmas.{insert_cases, map_values-insert}
-use Rattle.rr_model.specs.Knowledge.{Knowledge}
-use Rattle.rr_model.proofs.WholeCells.{live_is_closed}
+use Rattle.rr_cells.specs.Knowledge.{Knowledge}
+use Rattle.rr_cells.proofs.ClosedCells.{live_is_closed}
 use Rattle.rr_page.specs.Version.{latest}
 use Rattle.rr_cells.specs.Cells.{Cells}
 use Rattle.rr_cells.specs.ReplicaState.{IsReplicaState, ReplicaState}

@@ -9,11 +9,11 @@ use Rattle.rr_schema.specs.Check.{schema_fault}
 use Rattle.rr_schema.specs.Schema.{Layout, IsLayout}
 use Rattle.rr_schema.proofs.Checked.{checked_layout}
 use Rattle.rr_join.proofs.ValuesLemmas.{map_values-empty}
-use Rattle.rr_model.specs.Knowledge.{Knowledge}
+use Rattle.rr_cells.specs.Knowledge.{Knowledge}
 use Rattle.rr_cells.specs.Cells.{Cells}
 use Rattle.rr_cells.specs.State.{cells_of_knowledge}
 use Rattle.rr_text.specs.Bytes.{bytes_cmp}
-use Rattle.rr_raising.specs.Raising.{with_archive, place_for}
+use Rattle.rr_cells.specs.Raising.{with_archive, place_for}
 use Rattle.rr_cluster.specs.declared.cluster.Cluster.{Cluster}
 use Rattle.rr_cluster.specs.declared.fault.CommandFault.{CommandFault}
 use Rattle.rr_cluster.specs.declared.fault.CommandFault.TheVariants.{BadNumber}

@@ -20,10 +20,10 @@ use Rattle.rr_point.specs.Point.{PointView}
 use Rattle.rr_line.specs.Line.{LineView, nothing, point}
 use Rattle.rr_line.specs.Reading.{reading}
 use Rattle.rr_line.proofs.LineLemmas.{line_found, keys_of_point}
-use Rattle.rr_model.specs.Knowledge.{Knowledge, IsAheadOf, with_marks}
-use Rattle.rr_model.specs.Samples.{Sample, marks_of}
-use Rattle.rr_model.specs.World.{World, IsNext, HoldsAllOf, with_sample}
-use Rattle.rr_model.proofs.Writes.{writer_stays_closed, writer_holds_own, others_stay_closed, others_hold_own, written_now}
+use Rattle.rr_cells.specs.Knowledge.{Knowledge, IsAheadOf, with_marks}
+use Rattle.rr_cells.specs.Samples.{Sample, marks_of}
+use Rattle.rr_cells.specs.World.{World, IsNext, HoldsAllOf, with_sample}
+use Rattle.rr_cells.proofs.Writes.{writer_stays_closed, writer_holds_own, others_stay_closed, others_hold_own, written_now}
 use Rattle.rr_replica.specs.declared.fault.WriteFault.{WriteFault}
 use Rattle.rr_replica.specs.declared.fault.WriteFault.TheVariants as why
 use Rattle.rr_replica.specs.declared.fault.WriteFault.TheVariants.{AheadOfClock, NumbersSpent}

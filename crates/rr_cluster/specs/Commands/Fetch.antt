@@ -1,10 +1,10 @@
 -- fetch NODE CF RESOLUTION START END KEY
 use Rattle.std.specs.Prelude.{ℕ, List, Result, Ok, Err, ok_or}
 use Rattle.std.specs.FinMap.{get}
-use Rattle.rr_model.specs.FetchText.{Request}
-use Rattle.rr_request.specs.declared.fault.RequestFault.{RequestFault}
-use Rattle.rr_request.specs.Requests.{read}
-use Rattle.rr_request.specs.Words.{Parts}
+use Rattle.rr_cells.specs.FetchText.{Request}
+use Rattle.rr_fetch.specs.declared.fault.RequestFault.{RequestFault}
+use Rattle.rr_fetch.specs.Requests.{read}
+use Rattle.rr_fetch.specs.Words.{Parts}
 use Rattle.rr_cluster.specs.declared.fault.CommandFault.{CommandFault}
 use Rattle.rr_cluster.specs.declared.fault.CommandFault.TheVariants.{NoNode, Fetch}
 use Rattle.rr_text.specs.Results.{◌>>=◌}

@@ -4,7 +4,7 @@ use Rattle.std.specs.FinMap.{empty}
 use Rattle.rr_schema.specs.declared.archive.ArchiveSpec.{ArchiveSpec}
 use Rattle.rr_schema.specs.Schema.{Layout}
 use Rattle.rr_schema.specs.Check.{schema_fault}
-use Rattle.rr_raising.specs.Raising.{with_archive}
+use Rattle.rr_cells.specs.Raising.{with_archive}
 use Rattle.rr_cluster.specs.declared.fault.CommandFault.{CommandFault}
 use Rattle.rr_cluster.specs.declared.fault.CommandFault.TheVariants.{BadNumber}
 use Rattle.rr_text.specs.Results.{◌>>=◌}

@@ -8,8 +8,8 @@ use Rattle.rr_point.specs.Point.{PointView}
 use Rattle.rr_line.specs.Line.{LineView, nothing, point}
 use Rattle.rr_point.specs.Key.{key_text}
 use Rattle.rr_line.specs.Reading.{reading}
-use Rattle.rr_model.specs.Samples.{Sample}
-use Rattle.rr_model.specs.World.{World, with_sample}
+use Rattle.rr_cells.specs.Samples.{Sample}
+use Rattle.rr_cells.specs.World.{World, with_sample}
 use Rattle.rr_replica.specs.declared.fault.WriteFault.TheVariants.{AheadOfClock, NumbersSpent}
 use Rattle.rr_replica.specs.Writing.{is_ahead}
 use Rattle.rr_cluster.specs.declared.fault.CommandFault.{CommandFault}

@@ -1,6 +1,6 @@
 //! `fetch NODE CF RESOLUTION START END KEY`: prints rows of a series.
 
-ghost use Rattle.rr_request.specs.Words.{parts};
+ghost use Rattle.rr_fetch.specs.Words.{parts};
 ghost use Rattle.rr_cells.specs.Cells.{Cells};
 ghost use Rattle.rr_cluster.specs.Commands.Fetch.{answer_to};
 ghost use Rattle.rr_cluster.specs.Meaning.{Represents};

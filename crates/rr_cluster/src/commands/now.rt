@@ -1,7 +1,7 @@
 //! `now T [LEAD]`: sets the clock, and how far ahead of it a point's own time may be.
 
 ghost use Rattle.rr_cells.specs.Cells.{Cells};
-ghost use Rattle.rr_script.specs.Command.{word_of};
+ghost use Rattle.rr_cluster.specs.Command.{word_of};
 ghost use Rattle.rr_cluster.specs.Commands.Now.{after_now};
 ghost use Rattle.rr_cluster.specs.Meaning.{Leaves, Represents};
 ghost use Rattle.rr_cluster.specs.State.{State};

@@ -3,16 +3,16 @@
 ghost use Rattle.std.specs.Prelude.{◌≡◌, ◌<◌, [], ◌∷◌, Some, IfOk, IfSome, MatchOption};
 ghost use Rattle.std.specs.Option.{option_map};
 ghost use Rattle.rr_schema.specs.Schema.{IsLayout};
-ghost use Rattle.rr_script.specs.Command.{archive_words, bytes_left};
+ghost use Rattle.rr_cluster.specs.Command.{archive_words, bytes_left};
 ghost use Rattle.rr_cluster.specs.Commands.Schema.{layout_of};
 ghost use Rattle.rr_cluster.specs.Stop.{Gives};
 ghost use Rattle.rr_cluster.specs.Words.{archives_of};
 
 use crate::fault::CommandFault;
+use crate::script::words::first_word;
 use crate::stop::Stop;
 use crate::words::{archive_of, number_u32};
 use rr_schema::{ArchiveSpec, Schema};
-use rr_script::first_word;
 use std::alloc::{AllocError, Global};
 
 /// The first of the words that are left, if there is one, and the rest.

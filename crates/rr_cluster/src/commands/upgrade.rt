@@ -3,7 +3,7 @@
 ghost use Rattle.std.specs.Prelude.{◌≡◌, ◌≤◌, length, IfOk};
 ghost use Rattle.rr_cells.specs.Cells.{Cells};
 ghost use Rattle.rr_schema.specs.Schema.{IsLayout};
-ghost use Rattle.rr_raising.specs.Raising.{place_for, with_archive};
+ghost use Rattle.rr_cells.specs.Raising.{place_for, with_archive};
 ghost use Rattle.rr_cluster.specs.Commands.Upgrade.{after_upgrade, layout_with};
 ghost use Rattle.rr_cluster.specs.Meaning.{Leaves, Represents};
 ghost use Rattle.rr_cluster.specs.State.{State};

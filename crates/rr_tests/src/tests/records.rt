@@ -1,31 +1,25 @@
 //! Records of CSV, and refusals.
 
-use rr_records::Records;
+use rr_fetch::{push_plain, push_refusal};
 use std::alloc::{AllocError, Global};
 use std::test::Fail;
 
-/// The text of some records and a refusal.
-fn text_of(alloc: Global, all: &[&[&[u8]]]) -> Result<Vec<u8>, AllocError> {
-    let mut records = Records::new(alloc);
-    for fields in all {
-        records.push(fields)?;
+/// The records of these names, each with the numbers 1 and -2, and a refusal.
+fn text_of(alloc: Global, names: &[&[u8]]) -> Result<Vec<u8>, AllocError> {
+    let mut text = Vec::new(alloc);
+    for name in names {
+        push_plain(&mut text, name, b"1", b"-2")?;
     }
-    records.push_refusal(18_446_744_073_709_551_615, "NoFields")?;
-    records.into_text()
+    push_refusal(&mut text, 18_446_744_073_709_551_615, "NoFields")?;
+    Ok(text)
 }
 
 #[test]
-fn fields_are_quoted_where_they_have_to_be(rt: HostRuntime) -> Result<(), Fail> {
-    let all: [&[&[u8]]; 5] = [
-        &[b"a,b", b"say \"hi\"", b"c\rd", b"e\nf", b"g h"],
-        &[b"", b"", b"c"],
-        &[],
-        &[b""],
-        &[b"a", b"b"],
-    ];
-    let text = text_of(rt.alloc(), &all)?;
-    let want = b"\"a,b\",\"say \"\"hi\"\"\",\"c\rd\",\"e\nf\",g h\n,,c\n\"\"\n\"\"\na,b\n\
-        line 18446744073709551615: NoFields\n"
+fn names_are_quoted_where_they_have_to_be(rt: HostRuntime) -> Result<(), Fail> {
+    let names: [&[u8]; 6] = [b"a,b", b"say \"hi\"", b"c\rd", b"e\nf", b"g h", b""];
+    let text = text_of(rt.alloc(), &names)?;
+    let want = b"\"a,b\",1,-2\n\"say \"\"hi\"\"\",1,-2\n\"c\rd\",1,-2\n\"e\nf\",1,-2\n\
+        g h,1,-2\n,1,-2\nline 18446744073709551615: NoFields\n"
         .as_slice();
     assert!(rt; text.as_slice() == want);
     Ok(())

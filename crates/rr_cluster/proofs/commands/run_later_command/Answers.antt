@@ -1,7 +1,7 @@
 use Rattle.rr_cluster.specs.Commands.Bytes.{hex_of_page}
 use Rattle.rr_cluster.specs.Commands.Fetch.{answer_to}
 use Rattle.rr_cluster.specs.Model.{cell_model}
-use Rattle.rr_request.specs.Words.{parts}
+use Rattle.rr_fetch.specs.Words.{parts}
 use Rattle.rr_cluster.proofs.MeaningLemmas.{obeys_printing}
 use Rattle.rr_cluster.proofs.commands.run_later_command.Goals as goal
 

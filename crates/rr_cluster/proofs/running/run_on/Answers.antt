@@ -1,13 +1,13 @@
 use Rattle.std.proofs.Common.{◌≡◌, ◌+◌, ◌++◌, ℕ, List, [], None, Ok, map, drop, length, get_or, append_assoc, refl, sym, ap, ◌∙◌, arith}
 use Rattle.std.proofs.lemmas.List.{at_drop_more, append-nil}
 use Rattle.std.proofs.Math.Seq.{drop-length}
-use Rattle.rr_script.specs.declared.event.Event.TheVariants as event
-use Rattle.rr_script.specs.declared.event.ScriptLine.{ScriptLine}
+use Rattle.rr_cluster.specs.declared.script.event.Event.TheVariants as event
+use Rattle.rr_cluster.specs.declared.script.event.ScriptLine.{ScriptLine}
 use Rattle.rr_cluster.specs.Model.{cell_model}
 use Rattle.rr_cluster.specs.Output.{after_line, output_from}
-use Rattle.rr_script.specs.Script.{line_view, said_view}
+use Rattle.rr_cluster.specs.Script.{line_view, said_view}
 use Rattle.rr_cluster.proofs.AgreementLemmas.{scripts_agree}
-use Rattle.rr_script.proofs.ScriptLemmas.{line_says_one_line}
+use Rattle.rr_cluster.proofs.ScriptLemmas.{line_says_one_line}
 use Rattle.rr_cluster.proofs.running.run_on.Goals as goal
 
 abbrev any : ScriptLine

@@ -3,7 +3,7 @@ use Rattle.rr_cells.specs.Cells.{Cells}
 use Rattle.rr_cluster.specs.Meaning.{OptionRepresents}
 use Rattle.rr_cluster.specs.Model.{cell_model}
 use Rattle.rr_cluster.specs.Output.{output_from, output_of}
-use Rattle.rr_script.specs.Script.{line_view}
+use Rattle.rr_cluster.specs.Script.{line_view}
 use Rattle.rr_cluster.specs.State.{State}
 use Rattle.rr_cluster.proofs.running.run_on.Given as goal
 

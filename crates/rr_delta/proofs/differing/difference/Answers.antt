@@ -4,7 +4,7 @@ use Rattle.std.specs.Option.{option_map}
 use Rattle.std.specs.FinMap.{entries, entries_sorted, is_sorted}
 use Rattle.std.proofs.lemmas.List.{append-nil}
 use Rattle.rr_join.proofs.Booleans.{T_from_true, true_from_T}
-use Rattle.rr_model.specs.CellNames.{cell_name_cmp}
+use Rattle.rr_cells.specs.CellNames.{cell_name_cmp}
 use Rattle.rr_cells.specs.Listing.{seen_cell, owned_cell}
 use Rattle.rr_replica.proofs.NextCell.{is_past}
 use Rattle.rr_delta.specs.Names.{owned_name}

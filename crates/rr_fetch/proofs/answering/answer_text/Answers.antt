@@ -2,11 +2,11 @@ use Rattle.std.proofs.Common.{◌≡◌, ◌+ℤ◌, ◌*ℤ◌, ◌++◌, ◌�
 use Rattle.std.proofs.Math.Facts.{to_z-of_z}
 use Rattle.std.specs.Int.{w64}
 use Rattle.rr_schema.specs.Schema.{span}
-use Rattle.rr_model.specs.FetchText.{comma, field_text, record_text}
+use Rattle.rr_cells.specs.FetchText.{comma, field_text, record_text}
 use Rattle.rr_cells.specs.Cells.{row_at, archive_cells}
 use Rattle.rr_fetch.specs.Answers.{value_of_cells}
 use Rattle.rr_fetch.specs.Consolidation.{consolidation_of, IsRow}
-use Rattle.rr_request.specs.Requests.{request_view}
+use Rattle.rr_fetch.specs.Requests.{request_view}
 use Rattle.rr_replica.specs.ReplicaWithRoom.{replica_state}
 use Rattle.rr_fetch.proofs.AnswerLemmas.{answer_none, answer_more}
 use Rattle.rr_fetch.proofs.RowEntries.{row_holds}

@@ -1,7 +1,7 @@
 use Rattle.std.proofs.Common.{◌≡◌}
-use Rattle.rr_model.specs.FetchText.{answer_text}
+use Rattle.rr_cells.specs.FetchText.{answer_text}
 use Rattle.rr_fetch.specs.Answers.{value_of_cells}
-use Rattle.rr_request.specs.Requests.{request_view}
+use Rattle.rr_fetch.specs.Requests.{request_view}
 use Rattle.rr_fetch.proofs.answering.answer_text.Given as goal
 
 -- the records so far are the answer to a request for the rows so far

@@ -1,7 +1,7 @@
 use Rattle.std.proofs.Common.{rules, ◌≡◌, ◌++◌, [], ◌∷◌, drop, ap, ◌∙◌, sym, append_assoc}
 use Rattle.std.specs.Fmt.{signed_decimal}
 use Rattle.std.proofs.lemmas.List.{drop_all}
-use Rattle.rr_model.specs.FetchText.{comma, line_feed, value_text}
+use Rattle.rr_cells.specs.FetchText.{comma, line_feed, value_text}
 use Rattle.rr_fetch.proofs.record.write_rest.Goals as goal
 
 pub returns-clause-written : goal.returns-clause-written

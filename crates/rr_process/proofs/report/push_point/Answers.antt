@@ -8,8 +8,8 @@ use Rattle.rr_point.specs.Key.{names_of, key_text}
 use Rattle.rr_point.specs.Point.{PointView, field_view, point_view}
 use Rattle.rr_point.specs.declared.point.Field.{Field}
 use Rattle.std.specs.Fmt.{signed_decimal}
-use Rattle.rr_records.specs.Records.{IsPlain}
-use Rattle.rr_records.proofs.CsvLemmas.{plain_signed}
+use Rattle.rr_fetch.specs.Records.{IsPlain}
+use Rattle.rr_fetch.proofs.CsvLemmas.{plain_signed}
 use Rattle.rr_process.specs.Report.{sample_text}
 use Rattle.rr_process.proofs.PointLemmas.{field_at, texts_more}
 use Rattle.rr_process.proofs.report.push_point.Goals as goal

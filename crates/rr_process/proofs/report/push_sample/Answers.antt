@@ -1,7 +1,7 @@
 use Rattle.std.proofs.Common.{rules, ◌≡◌, sym, subst}
 use Rattle.std.specs.Fmt.{signed_decimal}
-use Rattle.rr_records.specs.Records.{IsPlain}
-use Rattle.rr_records.proofs.CsvLemmas.{plain_signed}
+use Rattle.rr_fetch.specs.Records.{IsPlain}
+use Rattle.rr_fetch.proofs.CsvLemmas.{plain_signed}
 use Rattle.rr_process.proofs.report.push_sample.Goals as goal
 
 pub push_plain-requires-clause-first : goal.push_plain-requires-clause-first

@@ -8,7 +8,7 @@ use Rattle.std.specs.Option.{option_map}
 use Rattle.rr_schema.specs.Added.{older}
 use Rattle.rr_schema.specs.declared.added.Addition.{Addition}
 use Rattle.rr_schema.specs.Schema.{Layout}
-use Rattle.rr_model.specs.CellNames.{CellName}
+use Rattle.rr_cells.specs.CellNames.{CellName}
 use Rattle.rr_page.specs.Reading.{cell_at}
 use Rattle.rr_snapshot.specs.declared.fault.LoadFault.TheVariants.{Memory}
 use Rattle.rr_snapshot.specs.Stream.{HasRead}
@@ -20,8 +20,8 @@ use Rattle.rr_snapshot.proofs.FrontLemmas.{none_read, read_then}
 use Rattle.rr_snapshot.proofs.CellsLemmas.{nothing_yet, goes_on_stream, falls_stream, passed_made, done_stream, same_schema, same_schema_read}
 use Rattle.rr_cells.specs.CellBounds.{NamedCell, IsCellOf}
 use Rattle.rr_cells.specs.Joining.{with_named}
-use Rattle.rr_raising.specs.Raising.{raised, raised_cell, raised_name}
-use Rattle.rr_raising.proofs.Joined.{raised_is_cell}
+use Rattle.rr_cells.specs.Raising.{raised, raised_cell, raised_name}
+use Rattle.rr_cells.proofs.Joined.{raised_is_cell}
 use Rattle.rr_snapshot.specs.Loading.{HasJoined}
 use Rattle.rr_snapshot.proofs.MemoryLemmas.{has_read, stops_among}
 use Rattle.rr_snapshot.proofs.JoinedLemmas.{HasJoined-none, HasJoined-more, after_raised}

@@ -9,7 +9,7 @@ use Rattle.rr_cells.specs.Listing.{owned_cell}
 use Rattle.rr_replica.specs.ReplicaWithRoom.{replica_state}
 use Rattle.rr_snapshot.specs.Stream.{Digests}
 use Rattle.rr_snapshot.proofs.CellsLemmas.{IsSoFar}
-use Rattle.rr_raising.specs.Raising.{raised_name}
+use Rattle.rr_cells.specs.Raising.{raised_name}
 use Rattle.rr_snapshot.specs.Loading.{HasJoined}
 use Rattle.rr_snapshot.proofs.loading.join_cells_from.Given as goal
 

@@ -1,7 +1,7 @@
 use Rattle.std.proofs.Common.{None, sym}
 use Rattle.std.proofs.lemmas.Result.{err_from_is_err_and}
-use Rattle.rr_request.specs.Requests.{request_view}
-use Rattle.rr_request.specs.Words.{parts}
+use Rattle.rr_fetch.specs.Requests.{request_view}
+use Rattle.rr_fetch.specs.Words.{parts}
 use Rattle.rr_cluster.specs.Model.{cell_model}
 use Rattle.rr_cluster.proofs.CommandsLemmas.Fetch.{no_node, fetch_refused, fetch_answered}
 use Rattle.rr_cluster.proofs.MeaningLemmas.{node_at}

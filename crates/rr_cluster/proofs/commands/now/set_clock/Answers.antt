@@ -2,7 +2,7 @@ use Rattle.std.proofs.Common.{Ok, Err, refl, rules}
 use Rattle.std.proofs.Math.Facts.{to_z-of_z}
 use Rattle.std.specs.Int.{w64}
 use Rattle.std.proofs.lemmas.Result.{err_from_is_err_and}
-use Rattle.rr_script.specs.Command.{word_of}
+use Rattle.rr_cluster.specs.Command.{word_of}
 use Rattle.rr_cluster.proofs.CommandsLemmas.Now.{bad_time, bad_lead, clock_is_set, lead_read, represents_with_clock}
 use Rattle.rr_cluster.proofs.commands.now.set_clock.Goals as goal
 

@@ -1,6 +1,6 @@
 use Rattle.std.proofs.Common.{◌≡◌, ◌++◌, option_map, List}
 use Rattle.rr_schema.specs.declared.archive.ArchiveSpec.{ArchiveSpec}
-use Rattle.rr_script.specs.Command.{archive_words, bytes_left}
+use Rattle.rr_cluster.specs.Command.{archive_words, bytes_left}
 use Rattle.rr_cluster.specs.Words.{archives_of}
 use Rattle.rr_cluster.proofs.commands.schema.archives_of.Given as goal
 

@@ -1,5 +1,5 @@
 use Rattle.std.proofs.Common.{◌≡◌, ◌++◌, ◌∷◌, [], take, drop, ◌∙◌, append_assoc, rules}
-use Rattle.rr_raising.specs.Raising.{place_for}
+use Rattle.rr_cells.specs.Raising.{place_for}
 use Rattle.rr_cluster.proofs.CommandsLemmas.Upgrade.{put_in_place}
 use Rattle.rr_cluster.proofs.commands.upgrade.archives_with.Goals as goal
 

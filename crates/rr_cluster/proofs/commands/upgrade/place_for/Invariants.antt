@@ -1,5 +1,5 @@
 use Rattle.std.proofs.Common.{◌≡◌, ◌+◌, drop}
-use Rattle.rr_raising.specs.Raising.{place_for}
+use Rattle.rr_cells.specs.Raising.{place_for}
 use Rattle.rr_cluster.proofs.commands.upgrade.place_for.Given as goal
 
 -- the archives so far have no more steps

@@ -1,5 +1,0 @@
-use Rattle.rr_cells.proofs.Differing.{difference_is_by_versions}
-use Rattle.rr_cells.proofs.laws.a_difference_is_by_versions.Goals as goal
-
-pub returns : goal.returns
-returns c = difference_is_by_versions

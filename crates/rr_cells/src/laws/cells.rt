@@ -1,0 +1,77 @@
+//! Puts, joins and differences of cells.
+ghost use Rattle.rr_cells.specs.State.{PutIsOneSampleMore};
+ghost use Rattle.rr_cells.specs.Laws.{PutGoesByArchives, PutLeavesOtherKeys, PutIsTrimmed, DeadLeaveNoTrace, CellsAreFew, JoinIsCommutative, JoinIsAssociative, JoinIsIdempotent, JoinIsTrimmed, JoinGoesByArchives, JoinUnites, JoinGoesByCells, JoinCellUnites, PartsAreCutFromEntries, WholeCellsMakeTheirCells, LiveMakesTheSame, StateIsOfTheLive, DifferenceIsByVersions, StatesAreValid, VersionsAreNumbers, NextStays, SumsAreSmall, JoinsMakeTheirCells, JoinsAreTaken, JoiningGoesOn};
+
+/// To put a sample is to put it into each archive of its key alone; where it is past the horizon it
+/// leaves no trace.
+pub fn puts_go_by_archives()
+    ensures here { PutGoesByArchives }
+    ensures nowhere_else { PutLeavesOtherKeys }
+    ensures dead { DeadLeaveNoTrace }
+    ensures trimmed { PutIsTrimmed }
+{}
+
+/// An archive of a key has at most as many live cells as its rows times the origins that have one
+/// there, whatever was written.
+pub fn live_cells_are_few()
+    ensures { CellsAreFew }
+{}
+
+/// To put a sample that is newer than all that is known of its origin is to know it too, in each
+/// archive, dead or live: the cells are those that the samples known then make.
+pub fn a_put_is_one_sample_more()
+    ensures { PutIsOneSampleMore }
+{}
+
+/// To join maps of cells is to do it in any order, in any grouping and any number of times; what is
+/// joined is trimmed, and it goes by the archives of each key.
+pub fn join_keeps_the_live()
+    ensures commutative { JoinIsCommutative }
+    ensures associative { JoinIsAssociative }
+    ensures idempotent { JoinIsIdempotent }
+    ensures trimmed { JoinIsTrimmed }
+    ensures local { JoinGoesByArchives }
+    ensures cells { JoinGoesByCells }
+{}
+
+/// To join the cells of two closed knowledges is to unite what is known, through the horizon.
+pub fn a_join_is_a_union()
+    ensures whole { JoinUnites }
+    ensures cell { JoinCellUnites }
+{}
+
+/// Whole cells of what is known, as in a page, make these cells; all live marks, as in a snapshot,
+/// make all.
+pub fn whole_cells_make_their_cells()
+    ensures part { WholeCellsMakeTheirCells }
+    ensures cut { PartsAreCutFromEntries }
+    ensures live { LiveMakesTheSame }
+    ensures live_alone { StateIsOfTheLive }
+{}
+
+/// To join some cells, and then the rest of them where memory ran out, is to join them all.
+pub fn joining_goes_on()
+    ensures { JoiningGoesOn }
+{}
+
+/// What one closed knowledge has and another lacks is read from the versions of their cells.
+pub fn a_difference_is_by_versions()
+    ensures { DifferenceIsByVersions }
+{}
+
+/// What is known of samples within the limits makes cells of the schema. Their versions are numbers
+/// that their origins wrote, so joined at one of these origins they leave its next number; and no
+/// sum of a row comes near the end of its type.
+pub fn cells_of_samples_are_valid()
+    ensures valid { StatesAreValid }
+    ensures versions { VersionsAreNumbers }
+    ensures next { NextStays }
+    ensures sums { SumsAreSmall }
+{}
+
+/// One join for each cell of a map makes the map, from no cell, and a replica of their schema takes
+/// each of them.
+pub fn joins_make_their_cells()
+    ensures made { JoinsMakeTheirCells }
+    ensures taken { JoinsAreTaken }
+{}

@@ -1,0 +1,25 @@
+-- The text of a record, in CSV's own words, and of a refusal.
+use Rattle.std.specs.Prelude.{ℕ, List, [], ◌∷◌, ◌++◌, codes, decimal, IsFalse}
+use Rattle.std.specs.List.{list_any}
+use Rattle.rr_cells.specs.FetchText.{comma, double_quote, field_text, is_special, line_feed}
+
+-- the fields after a record's first, each after a comma, and the line feed
+abbrev pub rest_text : List (List ℕ) → List ℕ
+rest_text [] = line_feed ∷ []
+rest_text (field ∷ more) = comma ∷ field_text field ++ rest_text more
+
+-- The fields of a record, a comma between two, and a line feed. No field and one empty field would
+-- both show an empty line, which is no record: they are written as an empty field in quotes.
+abbrev pub record_text : List (List ℕ) → List ℕ
+record_text [] = double_quote ∷ double_quote ∷ line_feed ∷ []
+record_text ([] ∷ []) = double_quote ∷ double_quote ∷ line_feed ∷ []
+record_text ((byte ∷ bytes) ∷ []) = field_text (byte ∷ bytes) ++ line_feed ∷ []
+record_text (first ∷ next ∷ more) = field_text first ++ rest_text (next ∷ more)
+
+-- a text that CSV writes as it is
+abbrev pub IsPlain : List ℕ → Type 0
+IsPlain text = IsFalse (list_any is_special text)
+
+-- line N: NAME, which says that the line of this number is refused
+abbrev pub refusal_text : ℕ → List ℕ → List ℕ
+refusal_text number name = codes "line " ++ decimal number ++ codes ": " ++ name ++ line_feed ∷ []

@@ -1,0 +1,77 @@
+//! Records of CSV, added to a text of one's own.
+
+ghost use Rattle.std.specs.Prelude.{◌≡◌, ◌++◌, ◌∷◌, [], IfOk, OnOk};
+ghost use Rattle.std.specs.List.{list_any, flat_map};
+ghost use Rattle.rr_cells.specs.FetchText.{comma, doubled, field_text, is_special};
+ghost use Rattle.rr_fetch.specs.Records.{record_text, IsPlain};
+
+use rr_text::bytes::{COMMA, LINE_FEED, RETURN};
+use rr_text::text::cut;
+use std::alloc::{AllocError, Global};
+
+const DOUBLE_QUOTE: u8 = b'"';
+
+/// Adds the record of a name and of two texts that CSV writes as they are, as numbers are. After an
+/// `Err` some of it may be there. The cost is linear in their bytes.
+pub fn push_plain(
+    text: &mut Vec<u8>,
+    name: &[u8],
+    first: &[u8],
+    second: &[u8],
+) -> Result<(), AllocError>
+    requires first { IsPlain first.now }
+    requires second { IsPlain second.now }
+    ensures { OnOk result (text.new.items
+        ≡ text.old.items ++ record_text (name.now ∷ first.now ∷ second.now ∷ [])) }
+{
+    push_field(text, name)?;
+    text.extend_from_slice(b",")?;
+    text.extend_from_slice(first)?;
+    text.extend_from_slice(b",")?;
+    text.extend_from_slice(second)?;
+    text.extend_from_slice(b"\n")
+}
+
+/// How each record with this first field begins: the field, in double quotes where CSV wants them,
+/// and a comma. The cost is linear in its bytes.
+pub fn front_of(alloc: Global, first: &[u8]) -> Result<Vec<u8>, AllocError>
+    ensures { IfOk result (λ front. front.items ≡ field_text first.now ++ comma ∷ []) }
+{
+    let mut front = Vec::new(alloc);
+    push_field(&mut front, first)?;
+    front.extend_from_slice(b",")?;
+    Ok(front)
+}
+
+/// Adds a field, in double quotes where CSV wants them.
+fn push_field(text: &mut Vec<u8>, field: &[u8]) -> Result<(), AllocError>
+    ensures { OnOk result (text.new.items ≡ text.old.items ++ field_text field.now) }
+{
+    if !needs_quotes(field) {
+        return text.extend_from_slice(field);
+    }
+    text.extend_from_slice(b"\"")?;
+    push_doubled(text, field)?;
+    text.extend_from_slice(b"\"")
+}
+
+/// Whether a field has a comma, a double quote, CR or LF.
+fn needs_quotes(field: &[u8]) -> bool
+    ensures { result ≡ list_any is_special field.now }
+{
+    field.iter().any(|byte| matches!(*byte, COMMA | DOUBLE_QUOTE | RETURN | LINE_FEED))
+}
+
+/// Adds a field with each double quote doubled.
+fn push_doubled(text: &mut Vec<u8>, field: &[u8]) -> Result<(), AllocError>
+    ensures { OnOk result (text.new.items ≡ text.old.items ++ flat_map doubled field.now) }
+{
+    let mut rest = field;
+    while let Some((before, after)) = cut(DOUBLE_QUOTE, rest) {
+        text.extend_from_slice(before)?;
+        text.extend_from_slice(b"\"\"")?;
+        rest = after;
+    }
+    text.extend_from_slice(rest)?;
+    Ok(())
+}

@@ -1,5 +1,0 @@
-use Rattle.rr_model.proofs.Fetches.{rows_are_of_the_live, fetches_are_of_the_live, live_answers_alike}
-use Rattle.rr_model.proofs.laws.fetches_are_of_the_live.Goals as goal
-
-pub returns : goal.returns
-returns c = record { rows = rows_are_of_the_live; texts = fetches_are_of_the_live; live_alone = live_answers_alike }

@@ -1,2 +1,0 @@
-pub mod CsvLemmas
-pub mod PlainLemmas

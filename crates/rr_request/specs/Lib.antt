@@ -1,3 +1,0 @@
-pub mod Fault
-pub mod Words
-pub mod Requests

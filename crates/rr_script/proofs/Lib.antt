@@ -1,3 +1,0 @@
-pub mod WordsLemmas
-pub mod CommandsLemmas
-pub mod ScriptLemmas

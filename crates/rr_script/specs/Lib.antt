@@ -1,5 +1,0 @@
-pub mod Fault
-pub mod Words
-pub mod Command
-pub mod Commands
-pub mod Script
