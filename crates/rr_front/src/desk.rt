@@ -2,7 +2,6 @@
 
 use crate::answered::Answered;
 use crate::body::{Body, LineAnswers};
-use crate::fetching::answer_fetch;
 use crate::listing::list_keys;
 use crate::response::{fill, fill_failed};
 use crate::visits::Queue;
@@ -13,7 +12,7 @@ use rr_desk::Reader;
 use rr_host::{Board, Clock, HaltFlag, SystemClock};
 use rr_key::KeyFault;
 use rr_line::Precision;
-use rr_node::OpenGate;
+use rr_node::{OpenGate, answer_fetch};
 use rr_packed::PackedArchive;
 use rr_turns::{Slip, Told};
 use rr_web::{

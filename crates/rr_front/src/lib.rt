@@ -12,7 +12,7 @@
 //! a [`WebSeat`] for each request that is answered beside others. The body of a write is a visit of
 //! the keeper like a connection for lines, so that rounds and what they mean stay as they are; of
 //! the two kinds the keeper takes one in turn. A fetch is answered as at the fetch port
-//! ([`answer_fetch`]). What stands in requests and answers is in `rr_web`.
+//! (`answer_fetch` of `rr_node`). What stands in requests and answers is in `rr_web`.
 //!
 //! Each connection has one request, so that a sender which stays connected holds no seat. Of
 //! sockets nothing is known.
@@ -22,7 +22,6 @@ mod answered;
 mod body;
 mod desk;
 mod door;
-mod fetching;
 mod kept;
 mod listing;
 mod node;
@@ -36,7 +35,6 @@ pub use answered::Answered;
 pub use body::{Body, LineAnswers};
 pub use desk::Desk;
 pub use door::Door;
-pub use fetching::answer_fetch;
 pub use kept::Kept;
 pub use node::serve_web_node;
 pub use place::{Place, WebSeats};

@@ -3,12 +3,12 @@ use Rattle.std.specs.Prelude.{◌≡◌, ◌⊎◌, ℕ, ◌+◌, ◌≤◌, ℤ
 use Rattle.std.specs.declared.alloc.AllocError.{AllocError}
 use Rattle.std.specs.Io.KnownBytes.{Appends}
 use mathlib.Core.List.{IsPrefix}
-use Rattle.rr_feed.specs.Feed.{FeedState, state, MayCome}
+use Rattle.rr_feed.specs.Feed.{FeedState, empty_feed, state, MayCome}
 use Rattle.rr_feed.specs.Items.{Item, items}
 use Rattle.rr_feed.specs.Laws.{IsFed}
 use Rattle.rr_io.specs.Stream.{AppendsPrefix}
 use Rattle.rr_text.specs.declared.limits.TheConstants.{MAX_FIELDS}
-use Rattle.rr_records.specs.Records.{refusal_text}
+use Rattle.rr_fetch.specs.Records.{refusal_text}
 use Rattle.rr_desk.specs.KeeperState.{KeeperState, own_replica, with_all_published}
 use Rattle.rr_node.specs.declared.answer.Answer.{Answer}
 use Rattle.rr_node.specs.declared.answer.Answer.TheVariants as says
@@ -90,6 +90,12 @@ pub record HasServed (c : Connection) (start : KeeperState) (pushed : List ℕ) 
   pub fed : IsFed pushed handed c.feed
   pub asked : length moments ≡ count_by (asks_clock c.rules) handed
   pub served : (later : List ℤ) → after c.rules start (moments ++ later) handed ≡ served_so_far c now answers later
+
+-- no line came yet
+pub record IsNew (c : Connection) : Type 0 where
+  pub feed : c.feed ≡ empty_feed
+  pub pieces : c.pieces ≡ 0
+  pub served : (start : KeeperState) → HasServed c start [] [] start []
 
 -- items were handed out and served with these moments and answers
 pub record ServedItems (old new : Connection) (before now : KeeperState) (moments : List ℤ) (answers : List ℕ)

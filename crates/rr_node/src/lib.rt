@@ -46,7 +46,7 @@ mod seats;
 mod shelf;
 mod tally;
 
-pub use answering::answer_line;
+pub use answering::{answer_fetch, answer_line};
 pub use fault::NodeFault;
 pub use file_shelf::FileShelf;
 pub use gates::OpenGate;

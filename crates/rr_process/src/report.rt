@@ -14,8 +14,8 @@ ghost use Rattle.rr_process.specs.Report.{is_refused, item_text, line_text, poin
 
 use itoa::Buffer;
 use rr_feed::{FeedLine, LINE_TOO_LONG};
-use rr_line::{Field, Line, LineFault, Point, Precision, parse_line};
 use rr_fetch::{push_plain, push_refusal};
+use rr_line::{Field, Line, LineFault, Point, Precision, parse_line};
 use std::alloc::{AllocError, Global};
 
 /// Adds the record of a sample: its key text, its value and the text of its time.

@@ -1,25 +1,65 @@
-//! Fetches: the longest answer.
+//! Connections of readers.
 
+use super::rounds::SENT;
 use rr_archive::PlainArchive;
-use rr_fakes::replicas::one_sample;
-use rr_fetch::{answer_text, parse_request};
-use rr_replica::Replica;
+use rr_desk::{Reader, open};
+use rr_fakes::replicas::minutes;
+use rr_node::{OpenGate, Prepared, Seat, serve_seat};
 use std::alloc::Global;
 use std::test::Fail;
 
-/// The greatest answer of a replica, and how many rows it has.
-fn greatest_answer(alloc: Global, replica: &Replica<PlainArchive>) -> Option<(Vec<u8>, u32)> {
-    let request = parse_request(alloc, b"MIN 60 0 6000000 m v", replica.schema()).ok()?;
-    let text = answer_text(alloc, replica, &request).ok()?;
-    Some((text, request.rows))
+/// Two minutes are asked for, and then what no function is named so.
+const REQUESTS: &[u8] = b"fetch LAST 60 0 120 m v\nfetch MEDIAN 60 0 60 m v";
+
+/// The answers where nothing is known.
+const ANSWERS: &[u8] = b"m v,0,U\nm v,60,U\n\nerror BadCf\n\n";
+
+/// The first frame of one that pulls, and the length of a frame of 4 GB.
+const HUGE: [u8; 23] = [
+    0, 0, 0, 0x0f, 1, 0, 0, 0, 0x3c, 1, 1, 0, 0, 0, 3, 0, 0, 0, 1, 0xff, 0xff, 0xff, 0xff,
+];
+
+/// Random bytes that begin as a session does.
+const NOISE: [u8; 12] = [0, 0, 0, 6, 0x9c, 0x41, 0xe3, 0x0a, 0x77, 0xd2, 0x18, 0xb5];
+
+/// What a seat writes to the last of six connections, all but which are no client's: they fail,
+/// close at once, or bring half a frame, one of 4 GB, or random bytes.
+fn last_answer(alloc: Global, reader: Reader<PlainArchive>) -> Option<Vec<u8>> {
+    let inputs = [
+        None,
+        Some(b"".as_slice()),
+        Some(&SENT[..7]),
+        Some(HUGE.as_slice()),
+        Some(NOISE.as_slice()),
+        Some(REQUESTS),
+    ];
+    let visits = Prepared::new(alloc, &inputs).ok()?;
+    let gate = OpenGate::new();
+    let mut seat = Seat {
+        reader,
+        visits,
+        gate,
+    };
+    serve_seat(alloc, &mut seat, 6).ok()?;
+    let Seat {
+        reader: _,
+        visits,
+        gate: _,
+    } = seat;
+    visits.into_last()
 }
 
 #[test]
-fn an_answer_has_at_most_100_000_rows(rt: HostRuntime) -> Result<(), Fail> {
-    let replica = one_sample::<PlainArchive>(rt.alloc(), 1)?;
-    let (text, rows) = greatest_answer(rt.alloc(), &replica).expect(&rt, "an answer");
-    // A row has 7 bytes besides the digits of its start, of which all have 681,479.
-    let begins = text.starts_with(b"m v,0,U\nm v,60,7\nm v,120,U\n");
-    assert_eq!(rt; (begins, text.len(), rows), (true, 1_381_479, 100_000));
+fn a_seat_goes_on_after_hostile_connections(rt: HostRuntime) -> Result<(), Fail> {
+    let replica = minutes::<PlainArchive>(rt.alloc(), 1, 3)?;
+    let Ok((keeper, mut readers)) = open(rt.alloc(), &rt, replica, 1) else {
+        panic!(&rt; "no desk");
+    };
+    let answer = match readers.pop() {
+        Some(reader) => last_answer(rt.alloc(), reader),
+        None => None,
+    };
+    keeper.close(&rt);
+    assert!(rt; answer.is_some_and(|text| text.as_slice() == ANSWERS));
     Ok(())
 }

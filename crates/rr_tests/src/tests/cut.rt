@@ -1,5 +1,6 @@
 //! Connections that fail in the middle, within a round and at a seat.
 
+use super::calls::keep;
 use super::rounds::CONFIG;
 use rr_archive::PlainArchive;
 use rr_base::{Counted, Failing};
@@ -7,8 +8,7 @@ use rr_desk::{Keeper, Reader, open};
 use rr_fakes::replicas::minutes;
 use rr_fakes::room::{Room, with_room};
 use rr_node::{
-    Config, Moments, OpenGate, PreparedDial, PreparedShelf, Seat, Visit, Visits, keep_round,
-    serve_seat,
+    Config, Moments, OpenGate, PreparedDial, PreparedShelf, Seat, Visit, Visits, serve_seat,
 };
 use std::alloc::Global;
 use std::io;
@@ -97,14 +97,14 @@ fn goes_on<R: Wait>(
     rt: &R,
     alloc: Global,
     keeper: &mut Keeper<PlainArchive>,
-    mut lines: Cut,
+    lines: &mut Cut,
 ) -> Option<bool> {
     let config = Config::from_toml(alloc, CONFIG).ok()?;
     let mut dial = PreparedDial::new(alloc, &[], 0).ok()?;
     let mut shelf = PreparedShelf::new(alloc, &[], 0).ok()?;
     let mut clock = Moments::new(Vec::new(alloc));
-    let came = keep_round(
-        alloc, keeper, &mut lines, &mut dial, &mut shelf, &mut clock, &config, rt,
+    let came = keep(
+        alloc, keeper, lines, &mut dial, &mut shelf, &mut clock, &config, rt,
     );
     Some(came.ok()? && lines.done == 1)
 }
@@ -129,7 +129,7 @@ fn serves_both(alloc: Global, reader: Reader<PlainArchive>, visits: Cut) -> bool
 fn go_on<R: Wait>(rt: &R, alloc: Global, reads: u64, room: usize) -> Option<bool> {
     let replica = minutes::<PlainArchive>(alloc, 2, 3).ok()?;
     let (mut keeper, mut readers) = open(alloc, rt, replica, 1).ok()?;
-    let round = goes_on(rt, alloc, &mut keeper, Cut::new(alloc, reads, room));
+    let round = goes_on(rt, alloc, &mut keeper, &mut Cut::new(alloc, reads, room));
     let seat = readers.pop().map(|reader| serves_both(alloc, reader, Cut::new(alloc, reads, room)));
     keeper.close(rt);
     Some(round? && seat?)
