@@ -128,6 +128,19 @@ impl WebSeat {
         self.idle.unwrap_or(SECONDS)
     }
 
+    /// Answers what comes on a connection. The answer is whether it was refused before it was read
+    /// whole.
+    fn is_refused<T: Wait + Clock>(
+        &self,
+        clerk: &mut Clerk<'_, T>,
+        input: &mut Half,
+        output: &mut Half,
+    ) -> bool {
+        let mut connection = Connection::new(clerk.desk.alloc, self.keys, limits());
+        talk(clerk, &mut connection, input, output, self.seconds());
+        matches!(connection.state(), State::Closing(Reason::Refused(_)))
+    }
+
     /// Serves one connection.
     fn serve_stream<T: Wait + Clock>(&self, clerk: &mut Clerk<'_, T>, stream: TcpStream) {
         let alloc = clerk.desk.alloc;
@@ -135,9 +148,7 @@ impl WebSeat {
         let Some((mut input, mut output)) = halves(alloc, stream, Some(seconds), &self.halt) else {
             return;
         };
-        let mut connection = Connection::new(alloc, self.keys, limits());
-        talk(clerk, &mut connection, &mut input, &mut output, seconds);
-        if matches!(connection.state(), State::Closing(Reason::Refused(_))) {
+        if self.is_refused(clerk, &mut input, &mut output) {
             drain(clerk.rt, &mut input, seconds);
         }
     }
