@@ -6,7 +6,8 @@ use crate::tools::Tools;
 use rr_config::Config;
 use rr_desk::{Keeper, Reader};
 use rr_node::{
-    Dial, Flag, Halt, HaltFlag, Listening, OpenGate, Seat, Shelf, TcpSeats, Visits, serve_node,
+    Dial, Flag, Halt, HaltFlag, Listening, NodeFault, OpenGate, Seat, Shelf, TcpSeats, Visits,
+    serve_node,
 };
 use rr_packed::PackedArchive;
 use rr_process::Ending;
@@ -76,8 +77,7 @@ impl Plain {
     }
 }
 
-/// Serves as [`serve_node`] does, and says how the program ends. It has no clause, as [`work`] has
-/// none.
+/// Serves as [`serve_node`] does. It has no clause, as [`work`] has none.
 fn served<V: Visits, D: Dial, S: Shelf, H: Halt, C: rr_node::Clock, T: Threads + Wait + Sync>(
     alloc: Global,
     keeper: &mut Keeper<PackedArchive>,
@@ -89,13 +89,10 @@ fn served<V: Visits, D: Dial, S: Shelf, H: Halt, C: rr_node::Clock, T: Threads +
     clock: &mut C,
     config: &Config,
     rt: &T,
-) -> Ending {
-    match serve_node(
+) -> Result<(), NodeFault> {
+    serve_node(
         alloc, keeper, lines, dial, shelf, seats, halt, clock, config, rt,
-    ) {
-        Ok(()) => Ending::Done,
-        Err(_) => OUT_OF_MEMORY,
-    }
+    )
 }
 
 /// Serves with a keeper and its readers' seats, until a flag is raised that they share.
@@ -111,7 +108,7 @@ pub(crate) fn work<R>(
 where
     R: Files + Eprint + Net<Stream = TcpStream> + Clock + Threads + Wait + Sync,
 {
-    served(
+    match served(
         alloc,
         keeper,
         lines,
@@ -122,5 +119,8 @@ where
         &mut tools.clock,
         config,
         rt,
-    )
+    ) {
+        Ok(()) => Ending::Done,
+        Err(_) => OUT_OF_MEMORY,
+    }
 }
