@@ -13,7 +13,7 @@ use Rattle.std.proofs.lemmas.Fmt.{decimal_is_IsNumeral}
 use Rattle.rr_cells.specs.FetchText.{is_special, doubled}
 use Rattle.rr_fetch.specs.Records.{IsPlain}
 
--- a digit is no special byte
+-- no digit is a special byte
 plain_digit : (byte : ℕ) → digit_value byte < 10 → is_special byte ≡ false
 plain_digit byte digit =
     let other : (special : ℕ) → (digit_value special < 10 → ⊥) → eqb byte special ≡ false = λ special bad.
