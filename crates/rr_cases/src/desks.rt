@@ -32,18 +32,12 @@ use crate::settings::{Settings, written};
 use crate::words::Words;
 use anyhow::{Context, Result, bail};
 use rr_archive::Cells;
-use rr_base::Counted;
 use rr_desk::{Keeper, Reader, open};
 use rr_fakes::replicas::minutes;
-use rr_gossip::GossipFault;
 use rr_key::SeriesKey;
 use rr_line::Precision;
-use rr_node::{
-    Clock, Moments, NodeFault, OpenGate, Report, pull_peer, serve_lines, serve_lines_within,
-    serve_reader,
-};
+use rr_node::{Moments, OpenGate, pull_peer, serve_lines, serve_lines_within, serve_reader};
 use std::alloc::{AllocError, Global};
-use std::io::{Read, Write};
 use std::sync::Wait;
 
 /// What the calls answer.
@@ -156,48 +150,6 @@ fn text_of(alloc: Global, name: &str) -> Result<String> {
     Ok(String::from_str(alloc, name)?)
 }
 
-/// Serves lines, within a limit of reads if there is one. Like [`fetched`] and [`pulled`] it has no
-/// clause, so that those of a node aren't carried through a case.
-fn served<A: Cells, R: Read, W: Write, C: Clock, T: Wait>(
-    alloc: Global,
-    input: &mut Counted<R>,
-    output: &mut Counted<W>,
-    keeper: &mut Keeper<A>,
-    clock: &mut C,
-    lead: Option<u64>,
-    reads: Option<u32>,
-    rt: &T,
-) -> Result<Report, NodeFault> {
-    let unit = Precision::Ns;
-    match reads {
-        None => serve_lines(alloc, input, output, keeper, clock, unit, lead, rt),
-        Some(reads) => {
-            serve_lines_within(alloc, input, output, keeper, clock, unit, lead, rt, reads)
-        }
-    }
-}
-
-/// Serves fetches through an open gate.
-fn fetched<A: Cells, R: Read, W: Write>(
-    alloc: Global,
-    input: &mut Counted<R>,
-    output: &mut Counted<W>,
-    reader: &mut Reader<A>,
-) -> Result<(), NodeFault> {
-    serve_reader(alloc, input, output, reader, &mut OpenGate::new())
-}
-
-/// Pulls from a peer.
-fn pulled<A: Cells, R: Read, W: Write, T: Wait>(
-    alloc: Global,
-    input: &mut Counted<R>,
-    output: &mut Counted<W>,
-    keeper: &mut Keeper<A>,
-    rt: &T,
-) -> Result<(), GossipFault> {
-    pull_peer(alloc, input, output, keeper, rt)
-}
-
 fn lines<A: Cells, T: Wait>(
     alloc: Global,
     rt: &T,
@@ -209,17 +161,31 @@ fn lines<A: Cells, T: Wait>(
     let mut sink = settings.sink(alloc)?;
     let (reads, lead, growths) = (settings.reads, settings.lead, settings.growths);
     let mut clock = Moments::new(settings.moments);
+    let unit = Precision::Ns;
     begin(alloc, growths);
-    let served = served(
-        alloc,
-        &mut source,
-        &mut sink,
-        keeper,
-        &mut clock,
-        lead,
-        reads,
-        rt,
-    );
+    let served = match reads {
+        None => serve_lines(
+            alloc,
+            &mut source,
+            &mut sink,
+            keeper,
+            &mut clock,
+            unit,
+            lead,
+            rt,
+        ),
+        Some(reads) => serve_lines_within(
+            alloc,
+            &mut source,
+            &mut sink,
+            keeper,
+            &mut clock,
+            unit,
+            lead,
+            rt,
+            reads,
+        ),
+    };
     end(alloc, growths);
     let ending = match served {
         Ok(report) => {
@@ -239,8 +205,9 @@ fn fetches<A: Cells>(
 ) -> Result<Answer> {
     let mut source = settings.source(input);
     let mut sink = settings.sink(alloc)?;
+    let mut gate = OpenGate::new();
     begin(alloc, settings.growths);
-    let served = fetched(alloc, &mut source, &mut sink, reader);
+    let served = serve_reader(alloc, &mut source, &mut sink, reader, &mut gate);
     end(alloc, settings.growths);
     let ending = match served {
         Ok(()) => "done",
@@ -282,7 +249,7 @@ fn pull<A: Cells, T: Wait>(
     let mut source = settings.source(&bytes);
     let mut sink = settings.sink(alloc)?;
     begin(alloc, settings.growths);
-    let pulled = pulled(alloc, &mut source, &mut sink, keeper, rt);
+    let pulled = pull_peer(alloc, &mut source, &mut sink, keeper, rt);
     end(alloc, settings.growths);
     let ending = match pulled {
         Ok(()) => "done",

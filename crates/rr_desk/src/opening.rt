@@ -6,7 +6,7 @@ ghost use Rattle.rr_cells.specs.ReplicaState.{IsReplicaState};
 ghost use Rattle.rr_cells.specs.Operations.{joins_of};
 ghost use Rattle.rr_replica.specs.ReplicaWithRoom.{replica_state};
 ghost use Rattle.rr_desk.specs.Editions.{flat};
-ghost use Rattle.rr_desk.specs.Rule.{keeper_of, newcomer, with_news, Looked};
+ghost use Rattle.rr_desk.specs.Rule.{keeper_of};
 ghost use Rattle.rr_desk.specs.KeeperState.{keeper_at_opening};
 ghost use Rattle.rr_desk.specs.ReaderState.{HasSeen};
 ghost use Rattle.rr_desk.specs.Writers.{changes};
@@ -18,7 +18,7 @@ use crate::fault::OpenFault;
 use crate::horizon::Horizon;
 use crate::keeper::Keeper;
 use crate::order::Order;
-use crate::read_handle::{ReadHandle, look};
+use crate::read_handle::look;
 use crate::reader::Reader;
 use crate::started::{discard, started_writer};
 use crate::writing::{DeskWriter, introduce};
@@ -28,23 +28,6 @@ use rr_schema::Schema;
 use rr_text::limits::MAX_READERS;
 use std::alloc::{AllocError, Global};
 use std::sync::Wait;
-
-/// A handle that has seen what is published.
-fn new_seat<A: Cells>(writer: &mut DeskWriter<A>) -> Result<ReadHandle<A>, AllocError>
-    requires joined { (view writer.old.desk.place).joined ≡ true }
-    ensures view { view writer.new.desk.place ≡ view writer.old.desk.place }
-    ensures shown { writer.new.desk.shown ≡ writer.old.desk.shown }
-    ensures pending { changes writer.new ≡ changes writer.old }
-    ensures looked { IfOk result (λ seat.
-        Looked (with_news newcomer (view writer.old.desk.place)) (view seat.place)) }
-{
-    let mut seat = writer.factory().reader()?;
-    introduce(writer, &mut seat);
-    match look(seat) {
-        Ok(seat) => Ok(seat),
-        Err(_) => Err(AllocError),
-    }
-}
 
 /// A reader that has seen what is published.
 fn seat<A: Cells>(
@@ -61,11 +44,15 @@ fn seat<A: Cells>(
         (view writer.old.desk.place).seen) }
 {
     let schema = schema.copy(alloc)?;
-    let seat = new_seat(writer)?;
-    Ok(Reader {
-        schema,
-        seat: Some(seat),
-    })
+    let mut seat = writer.factory().reader()?;
+    introduce(writer, &mut seat);
+    match look(seat) {
+        Ok(seat) => Ok(Reader {
+            schema,
+            seat: Some(seat),
+        }),
+        Err(_) => Err(AllocError),
+    }
 }
 
 /// As many readers.

@@ -13,22 +13,6 @@ use std::sync::Wait;
 use std::thread::{Threads, join_mut};
 use std::time;
 
-/// Keeps rounds as [`keep_or_halt`] does. It has no clause, since [`serve_web_node`] has none to
-/// prove from those.
-fn keep<A: Cells, V: Visits, D: Dial, S: Shelf, C: Clock, T: Wait>(
-    alloc: Global,
-    keeper: &mut Keeper<A>,
-    visits: &mut V,
-    dial: &mut D,
-    shelf: &mut S,
-    halt: &mut HaltFlag,
-    clock: &mut C,
-    config: &Config,
-    rt: &T,
-) -> Result<(), NodeFault> {
-    keep_or_halt(alloc, keeper, visits, dial, shelf, halt, clock, config, rt)
-}
-
 /// Serves as [`serve_node`](rr_node::serve_node) does, with seats that put bodies and connections
 /// into the queue which the keeper takes its visits from ([`Queued`](crate::Queued)). It ends when the flag of the node
 /// is raised, as where memory runs out on one of its threads, which is `Memory`; there is no other
@@ -57,7 +41,7 @@ pub fn serve_web_node<
         requires { IsSync T.row }
     { seats.serve(rt, alloc, most) };
     let mut keeping = || -> Result<(), NodeFault> {
-        keep(alloc, keeper, visits, dial, shelf, halt, clock, config, rt)
+        keep_or_halt(alloc, keeper, visits, dial, shelf, halt, clock, config, rt)
     };
     let (served, kept) = join_mut(rt, &mut seating, &mut keeping);
     match kept {

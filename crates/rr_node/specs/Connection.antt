@@ -3,7 +3,7 @@ use Rattle.std.specs.Prelude.{◌≡◌, ◌⊎◌, ℕ, ◌+◌, ◌≤◌, ℤ
 use Rattle.std.specs.declared.alloc.AllocError.{AllocError}
 use Rattle.std.specs.Io.KnownBytes.{Appends}
 use mathlib.Core.List.{IsPrefix}
-use Rattle.rr_feed.specs.Feed.{FeedState, empty_feed, state, MayCome}
+use Rattle.rr_feed.specs.Feed.{FeedState, state, MayCome}
 use Rattle.rr_feed.specs.Items.{Item, items}
 use Rattle.rr_feed.specs.Laws.{IsFed}
 use Rattle.rr_io.specs.Stream.{AppendsPrefix}
@@ -90,12 +90,6 @@ pub record HasServed (c : Connection) (start : KeeperState) (pushed : List ℕ) 
   pub fed : IsFed pushed handed c.feed
   pub asked : length moments ≡ count_by (asks_clock c.rules) handed
   pub served : (later : List ℤ) → after c.rules start (moments ++ later) handed ≡ served_so_far c now answers later
-
--- no line came yet
-pub record IsNew (c : Connection) : Type 0 where
-  pub feed : c.feed ≡ empty_feed
-  pub pieces : c.pieces ≡ 0
-  pub served : (start : KeeperState) → HasServed c start [] [] start []
 
 -- items were handed out and served with these moments and answers
 pub record ServedItems (old new : Connection) (before now : KeeperState) (moments : List ℤ) (answers : List ℕ)

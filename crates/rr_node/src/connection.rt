@@ -4,7 +4,8 @@ ghost use Rattle.std.specs.Prelude.{◌≡◌, ℕ, ◌+◌, ◌*◌, ◌<◌, �
 ghost use Rattle.rr_io.specs.Counted.{inner_of};
 ghost use Rattle.rr_io.specs.Stream.{HasFailed, KeepsFailures, WritesFront, WritesWhole};
 ghost use Rattle.rr_text.specs.declared.limits.TheConstants.{MAX_FIELDS};
-ghost use Rattle.rr_feed.specs.Feed.{items_left};
+ghost use Rattle.rr_desk.specs.KeeperState.{KeeperState};
+ghost use Rattle.rr_feed.specs.Feed.{items_left, empty_feed};
 ghost use Rattle.rr_node.specs.declared.lines.TheConstants.{PIECE};
 ghost use Rattle.rr_host.specs.Clock.{HasGiven};
 ghost use Rattle.rr_node.specs.Fault.{IsOfWriting};
@@ -46,12 +47,14 @@ pub(crate) struct Connection {
 }
 
 impl Connection {
-    ghost use Rattle.rr_node.specs.Connection.{StoppedByMemory, StoppedWriting, StoppedAtEnd, ServedAll, IsFew, IsNew, ServedItems, PushedPiece, counted_in, text_to};
+    ghost use Rattle.rr_node.specs.Connection.{StoppedByMemory, StoppedWriting, StoppedAtEnd, ServedAll, HasServed, IsFew, ServedItems, PushedPiece, counted_in, text_to};
 
     /// No line came yet.
     pub(crate) fn new(alloc: Global, rules: Rules) -> Connection
-        ensures new { IsNew result }
+        ensures feed { result.feed ≡ empty_feed }
+        ensures pieces { result.pieces ≡ 0 }
         ensures rules { result.rules ≡ rules }
+        ensures nothing { (start : KeeperState) → HasServed result start [] [] start [] }
     {
         Connection {
             alloc,

@@ -5,7 +5,6 @@ ghost use Rattle.rr_node.specs.Fault.{IsOfLines};
 ghost use Rattle.rr_io.specs.Counted.{inner_of};
 ghost use Rattle.rr_io.specs.Stream.{HasFailed, HasFewReads, HasReads};
 ghost use Rattle.rr_text.specs.declared.limits.TheConstants.{MAX_READS};
-ghost use Rattle.rr_node.specs.Connection.{IsNew};
 ghost use Rattle.rr_node.specs.Lines.{rules_of, HasStopped, IsServed};
 
 use crate::connection::Connection;
@@ -130,44 +129,6 @@ pub fn serve_lines_within<A: Cells, R: Read, W: Write, C: Clock, T: Wait>(
     ensures write_failed { result ≡ Err NodeFault.WriteFailed → HasFailed output.old output.new }
 {
     let mut connection = Connection::new(alloc, Rules { precision, lead });
-    serve_pieces(&mut connection, input, output, keeper, clock, rt, reads)
-}
-
-/// Serves the pieces of a reader, of which none came yet, within a limit of reads.
-fn serve_pieces<A: Cells, R: Read, W: Write, C: Clock, T: Wait>(
-    connection: &mut Connection,
-    input: &mut Counted<R>,
-    output: &mut Counted<W>,
-    keeper: &mut Keeper<A>,
-    clock: &mut C,
-    rt: &T,
-    reads: u32,
-) -> Result<Report, NodeFault>
-    requires { IsNew connection.old }
-    ensures served { IfOk result (IsServed connection.old.rules (record {
-      old = keeper.old;
-      new = keeper.new;
-      given = C.given clock.old;
-      given_since = C.given clock.new;
-      input = R.remaining (inner_of input.old);
-      written = W.contents (inner_of output.old);
-      written_since = W.contents (inner_of output.new);
-    })) }
-    ensures stopped { OnErr result (HasStopped connection.old.rules (record {
-      old = keeper.old;
-      new = keeper.new;
-      given = C.given clock.old;
-      given_since = C.given clock.new;
-      input = R.remaining (inner_of input.old);
-      written = W.contents (inner_of output.old);
-      written_since = W.contents (inner_of output.new);
-    })) }
-    ensures read_failed { result ≡ Err NodeFault.ReadFailed → HasFailed input.old input.new }
-    ensures faults { IfErr result IsOfLines }
-    ensures limit { HasFewReads reads input.old input.new }
-    ensures too_many { result ≡ Err NodeFault.TooManyReads → HasReads reads input.old input.new }
-    ensures write_failed { result ≡ Err NodeFault.WriteFailed → HasFailed output.old output.new }
-{
     let mut piece = [0u8; PIECE];
     for _ in 0..reads {
         let Some(given) = read_once(input, &mut piece)? else {

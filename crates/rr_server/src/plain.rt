@@ -5,10 +5,7 @@ use crate::server::OUT_OF_MEMORY;
 use crate::tools::Tools;
 use rr_config::Config;
 use rr_desk::{Keeper, Reader};
-use rr_node::{
-    Dial, Flag, Halt, HaltFlag, Listening, NodeFault, OpenGate, Seat, Shelf, TcpSeats, Visits,
-    serve_node,
-};
+use rr_node::{Flag, HaltFlag, Listening, OpenGate, Seat, TcpSeats, serve_node};
 use rr_packed::PackedArchive;
 use rr_process::Ending;
 use std::alloc::{AllocError, Global};
@@ -77,24 +74,6 @@ impl Plain {
     }
 }
 
-/// Serves as [`serve_node`] does. It has no clause, as [`work`] has none.
-fn served<V: Visits, D: Dial, S: Shelf, H: Halt, C: rr_node::Clock, T: Threads + Wait + Sync>(
-    alloc: Global,
-    keeper: &mut Keeper<PackedArchive>,
-    lines: &mut V,
-    dial: &mut D,
-    shelf: &mut S,
-    seats: &mut TcpSeats,
-    halt: &mut H,
-    clock: &mut C,
-    config: &Config,
-    rt: &T,
-) -> Result<(), NodeFault> {
-    serve_node(
-        alloc, keeper, lines, dial, shelf, seats, halt, clock, config, rt,
-    )
-}
-
 /// Serves with a keeper and its readers' seats, until a flag is raised that they share.
 pub(crate) fn work<R>(
     alloc: Global,
@@ -108,7 +87,7 @@ pub(crate) fn work<R>(
 where
     R: Files + Eprint + Net<Stream = TcpStream> + Clock + Threads + Wait + Sync,
 {
-    match served(
+    match serve_node(
         alloc,
         keeper,
         lines,

@@ -1,5 +1,4 @@
 mod archives;
-mod calls;
 mod contributions;
 mod cut;
 mod desk;

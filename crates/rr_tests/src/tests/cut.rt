@@ -1,6 +1,5 @@
 //! Connections that fail in the middle, within a round and at a seat.
 
-use super::calls::keep;
 use super::rounds::CONFIG;
 use rr_archive::PlainArchive;
 use rr_base::{Counted, Failing};
@@ -8,7 +7,8 @@ use rr_desk::{Keeper, Reader, open};
 use rr_fakes::replicas::minutes;
 use rr_fakes::room::{Room, with_room};
 use rr_node::{
-    Config, Moments, OpenGate, PreparedDial, PreparedShelf, Seat, Visit, Visits, serve_seat,
+    Config, Moments, OpenGate, PreparedDial, PreparedShelf, Seat, Visit, Visits, keep_round,
+    serve_seat,
 };
 use std::alloc::Global;
 use std::io;
@@ -103,7 +103,7 @@ fn goes_on<R: Wait>(
     let mut dial = PreparedDial::new(alloc, &[], 0).ok()?;
     let mut shelf = PreparedShelf::new(alloc, &[], 0).ok()?;
     let mut clock = Moments::new(Vec::new(alloc));
-    let came = keep(
+    let came = keep_round(
         alloc, keeper, lines, &mut dial, &mut shelf, &mut clock, &config, rt,
     );
     Some(came.ok()? && lines.done == 1)

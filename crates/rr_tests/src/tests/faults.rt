@@ -1,6 +1,5 @@
 //! Rounds of a keeper in which something fails.
 
-use super::calls::keep;
 use super::rounds::CONFIG;
 use rr_archive::PlainArchive;
 use rr_base::Counted;
@@ -9,6 +8,7 @@ use rr_fakes::replicas::minutes;
 use rr_gossip::GossipFault;
 use rr_node::{
     Config, Moments, NodeFault, Opening, Prepared, PreparedDial, PreparedPeer, Report, Shelf,
+    keep_round,
 };
 use rr_snapshot::SaveFault;
 use std::alloc::Global;
@@ -113,7 +113,7 @@ fn told_of<R: Wait>(
         whole: None,
     };
     let mut clock = Moments::new(Vec::new(alloc));
-    let came = keep(
+    let came = keep_round(
         alloc,
         &mut keeper,
         lines,

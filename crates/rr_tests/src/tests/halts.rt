@@ -1,12 +1,13 @@
 //! A node without end that ends where memory runs out on one of its threads, whatever the others
 //! wait for.
 
-use super::calls;
 use super::starved::Starved;
 use rr_archive::PlainArchive;
 use rr_desk::{Keeper, Reader, open};
 use rr_fakes::replicas::minutes;
-use rr_node::{Calling, Config, FileShelf, HaltFlag, Listening, Moments, OpenGate, Seat, TcpSeats};
+use rr_node::{
+    Calling, Config, FileShelf, HaltFlag, Listening, Moments, OpenGate, Seat, TcpSeats, serve_node,
+};
 use rr_packed::PackedArchive;
 use std::alloc::Global;
 use std::io::Write;
@@ -91,7 +92,7 @@ where
     let mut shelf = FileShelf::new(rt, alloc, None).ok()?;
     let mut dial = Calling::new(rt, alloc, config.idle, seats.halt.share().ok()?);
     let mut clock = Moments::new(Vec::new(alloc));
-    let served = calls::serve(
+    let served = serve_node(
         alloc, keeper, lines, &mut dial, &mut shelf, seats, &mut halt, &mut clock, config, rt,
     );
     Some(served.is_ok())

@@ -1,13 +1,12 @@
 //! A node over memory: its rounds.
 
-use super::calls::serve;
 use rr_archive::PlainArchive;
 use rr_base::{Counted, Origin};
 use rr_desk::{Keeper, open};
 use rr_fakes::replicas::minutes;
 use rr_node::{
     Config, HaltFlag, Moments, NodeFault, Prepared, PreparedDial, PreparedOpening, PreparedPeer,
-    PreparedShelf, Seats, ShelfNote,
+    PreparedShelf, Seats, ShelfNote, serve_node,
 };
 use rr_replica::Replica;
 use rr_snapshot::load;
@@ -132,7 +131,7 @@ fn kept<R: Wait + Threads + Sync>(
     let mut shelf = PreparedShelf::new(alloc, &[PreparedOpening::Writer], 5).ok()?;
     let mut seats = NoSeats { suffices };
     let mut clock = Moments::new(Vec::new(alloc));
-    let served = serve(
+    let served = serve_node(
         alloc, keeper, &mut lines, &mut dial, &mut shelf, &mut seats, &mut halt, &mut clock,
         config, rt,
     );

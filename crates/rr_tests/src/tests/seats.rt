@@ -1,12 +1,12 @@
 //! A node with two seats, each of which is served on a thread of its own.
 
-use super::calls::serve;
 use rr_archive::PlainArchive;
 use rr_base::Counted;
 use rr_desk::{Gate, Keeper, Reader, open};
 use rr_fakes::replicas::minutes;
 use rr_node::{
-    Config, HaltFlag, Moments, PreparedDial, PreparedShelf, Seat, Seats, Visit, Visits, serve_seat,
+    Config, HaltFlag, Moments, PreparedDial, PreparedShelf, Seat, Seats, Visit, Visits, serve_node,
+    serve_seat,
 };
 use std::alloc::Global;
 use std::io;
@@ -233,7 +233,7 @@ fn serve_both<R: Threads + Wait + Sync>(
     let mut shelf = PreparedShelf::new(alloc, &[], 0).ok()?;
     let mut halt = HaltFlag::new(alloc).ok()?;
     let mut clock = Moments::new(Vec::new(alloc));
-    serve(
+    serve_node(
         alloc, keeper, &mut lines, &mut dial, &mut shelf, both, &mut halt, &mut clock, config, rt,
     )
     .ok()

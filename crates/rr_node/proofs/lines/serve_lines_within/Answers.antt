@@ -1,4 +1,4 @@
-use Rattle.std.proofs.Common.{◌≡◌, [], ◌++◌, false, take, refl, ap, ◌∙◌, arith, rules}
+use Rattle.std.proofs.Common.{◌≡◌, [], ◌++◌, false, take, ap, ◌∙◌, arith, rules}
 use Rattle.std.proofs.KnownBytes.{Consumes-nil, Consumes-trans, Appends-nil, Appends-trans}
 use Rattle.std.proofs.lemmas.Result.{err_from_is_err_and}
 use Rattle.rr_io.proofs.CountLemmas.{no_call, HasRisenBy-more, one_more_at_most}
@@ -8,7 +8,7 @@ use Rattle.rr_node.specs.Lines.{Run}
 use Rattle.rr_host.proofs.ClockLemmas.{HasGiven-nil, HasGiven-trans}
 use Rattle.rr_node.proofs.ConnectionLemmas.{HasServed-push}
 use Rattle.rr_node.proofs.LinesLemmas.{served_finally, stopped_finally, stopped_before, stopped_between}
-use Rattle.rr_node.proofs.lines.serve_pieces.Goals as goal
+use Rattle.rr_node.proofs.lines.serve_lines_within.Goals as goal
 
 pub loop-init : goal.loop-init
 loop-init g c = record {
@@ -18,12 +18,12 @@ loop-init g c = record {
     text = [];
     consumed = Consumes-nil _;
     gave = HasGiven-nil _;
-    served = c.requires.served c.args.keeper.now;
+    served = c.new-connection.ensures.nothing c.args.keeper.now;
     appended = Appends-nil _;
   };
-  going = ap (λ (s : FeedState). s.ended) c.requires.feed;
-  rules = refl;
-  pieces = omega (arith, c.requires.pieces);
+  going = ap (λ (s : FeedState). s.ended) c.new-connection.ensures.feed;
+  rules = c.new-connection.ensures.rules;
+  pieces = omega (arith, c.new-connection.ensures.pieces);
   made = no_call _;
   few = omega arith;
   in_count = omega arith;
@@ -155,15 +155,3 @@ loop-preserved g c =
       in_count = omega (arith, c.loop.invariant.in_count, c.in_ok-given.ensures.failures_never_fall);
       out_count = omega (arith, c.loop.invariant.out_count, c.in_ok-answer_lines.ensures.failures_never_fall);
     }
-
-pub loop-preserved-in_default : goal.loop-preserved-in_default
-loop-preserved-in_default g c = record {
-  serving = search rules;
-  going = c.loop.invariant.going;
-  rules = c.loop.invariant.rules;
-  pieces = omega (arith, c.loop.invariant.pieces);
-  made = HasRisenBy-more c.loop.counter _ _ _ c.loop.invariant.made c.in_ok-given.ensures.reads;
-  few = one_more_at_most c.loop.counter _ _ _ c.loop.invariant.few c.in_ok-given.ensures.reads;
-  in_count = omega (arith, c.loop.invariant.in_count, c.in_ok-given.ensures.failures_never_fall);
-  out_count = c.loop.invariant.out_count;
-}

@@ -1,7 +1,8 @@
 use Rattle.std.proofs.Common.{◌≡◌, ◌+◌, ◌≤◌, false}
 use Rattle.rr_io.specs.Counted.{inner_of, failures_of, reads_of, HasRisenBy}
+use Rattle.rr_node.specs.Lines.{rules_of}
 use Rattle.rr_node.proofs.LinesLemmas.{IsServing}
-use Rattle.rr_node.proofs.lines.serve_pieces.Given as goal
+use Rattle.rr_node.proofs.lines.serve_lines_within.Given as goal
 
 -- what was taken of the input is served, by one read at each turn
 abbrev pub invariant-loop : goal.invariant-loop
@@ -16,7 +17,7 @@ invariant-loop g l = record {
     written_since = g.W.Write.contents (inner_of l.output);
   }) (g.R.Read.remaining (inner_of l.input));
   going : l.connection.feed.ended ≡ false;
-  rules : l.connection.rules ≡ l.initial.connection.rules;
+  rules : l.connection.rules ≡ rules_of l.fn.precision l.fn.lead;
   pieces : l.connection.pieces ≤ l.counter;
   made : HasRisenBy l.counter (reads_of l.initial.input) (reads_of l.input);
   few : reads_of l.input ≤ reads_of l.initial.input + l.counter;
