@@ -2,3 +2,4 @@ pub mod Counted
 pub mod Stream
 pub mod Fault
 pub mod Failing
+pub mod ReadsToEnd

@@ -8,12 +8,13 @@
 //! Whoever reads an input to its end in pieces of its own calls [`read_once`] in a loop of at most
 //! as many turns as the input may take reads, as [`read_to_end_within`] does.
 
-ghost use Rattle.std.specs.Prelude.{◌≡◌, ◌<◌, ◌≤◌, ◌+◌, ◌++◌, Ok, Err, None, Some, length, take, true, IfSome, IfOk, OnOk, OnErr, if◌then◌else◌};
+ghost use Rattle.std.specs.Prelude.{◌≡◌, ◌<◌, ◌≤◌, Ok, None, length, take, true, IfOk, OnOk, OnErr, if◌then◌else◌};
 ghost use Rattle.std.specs.Io.{ReadsAtMost, WritesAtMost};
 ghost use Rattle.std.specs.Io.KnownBytes.{Consumes, Keeps, ReadConsumes, WriteAppends};
 ghost use Rattle.rr_io.specs.Counted.{inner_of, reads_of, ends_of, is_flushed, one_more};
 ghost use Rattle.rr_text.specs.declared.limits.TheConstants.{MAX_READS};
-ghost use Rattle.rr_io.specs.Stream.{AddsFront, HasFailed, HasFewReads, HasReads, IsReadOut, KeepsFailures, ReadsOnce, ReadsSome, ReadsUpTo, TakesMore, WritesFront, WritesWhole, tells_end};
+ghost use Rattle.rr_io.specs.Stream.{HasFailed, IsReadOut, KeepsFailures, ReadsOnce, ReadsSome, ReadsUpTo, WritesFront, WritesWhole, tells_end};
+ghost use Rattle.rr_io.specs.ReadsToEnd.{ReadsToEnd};
 
 use crate::counted::Counted;
 use rr_text::limits::MAX_READS;
@@ -169,19 +170,8 @@ impl From<AllocError> for ReadFault {
 /// Adds all that the input still has to `bytes`, as [`read_to_end_within`] the most reads that an
 /// input may take, [`MAX_READS`].
 pub fn read_to_end<R: Read>(input: &mut Counted<R>, bytes: &mut Vec<u8>) -> Result<(), ReadFault>
-    ensures whole { OnOk result (IfSome (R.remaining (inner_of input.old))
-        (λ rest. bytes.new.items ≡ bytes.old.items ++ rest)) }
-    ensures consumed { OnOk result (IfSome (R.remaining (inner_of input.old))
-        (Consumes (R.remaining (inner_of input.old)) (R.remaining (inner_of input.new)))) }
-    ensures front { AddsFront (R.remaining (inner_of input.old)) bytes.old.items bytes.new.items }
-    ensures failures_never_fall { KeepsFailures input.old input.new }
-    ensures failed { result ≡ Err ReadFault.ReadFailed → HasFailed input.old input.new }
-    ensures limit { HasFewReads MAX_READS input.old input.new }
-    ensures too_many { result ≡ Err ReadFault.TooManyReads
-        → HasReads MAX_READS input.old input.new }
-    ensures no_end { result ≡ Err ReadFault.TooManyReads → ends_of input.new ≡ ends_of input.old }
-    ensures memory { result ≡ Err ReadFault.Memory → TakesMore (R.remaining (inner_of input.old))
-        (R.remaining (inner_of input.new)) bytes.old.items bytes.new.items }
+    ensures { ReadsToEnd R.remaining MAX_READS input.old input.new bytes.old.items bytes.new.items
+        result }
 {
     read_to_end_within(input, bytes, MAX_READS)
 }
@@ -196,18 +186,8 @@ pub fn read_to_end_within<R: Read>(
     bytes: &mut Vec<u8>,
     reads: u32,
 ) -> Result<(), ReadFault>
-    ensures whole { OnOk result (IfSome (R.remaining (inner_of input.old))
-        (λ rest. bytes.new.items ≡ bytes.old.items ++ rest)) }
-    ensures consumed { OnOk result (IfSome (R.remaining (inner_of input.old))
-        (Consumes (R.remaining (inner_of input.old)) (R.remaining (inner_of input.new)))) }
-    ensures front { AddsFront (R.remaining (inner_of input.old)) bytes.old.items bytes.new.items }
-    ensures failures_never_fall { KeepsFailures input.old input.new }
-    ensures failed { result ≡ Err ReadFault.ReadFailed → HasFailed input.old input.new }
-    ensures limit { HasFewReads reads input.old input.new }
-    ensures too_many { result ≡ Err ReadFault.TooManyReads → HasReads reads input.old input.new }
-    ensures no_end { result ≡ Err ReadFault.TooManyReads → ends_of input.new ≡ ends_of input.old }
-    ensures memory { result ≡ Err ReadFault.Memory → TakesMore (R.remaining (inner_of input.old))
-        (R.remaining (inner_of input.new)) bytes.old.items bytes.new.items }
+    ensures { ReadsToEnd R.remaining reads input.old input.new bytes.old.items bytes.new.items
+        result }
 {
     let mut buffer = [0u8; PIECE];
     for _ in 0..reads {
