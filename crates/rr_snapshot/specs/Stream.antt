@@ -1,10 +1,12 @@
 -- Cells from a stream whose bytes may be known.
-use Rattle.std.specs.Prelude.{◌≡◌, ◌⊎◌, ◌+◌, ℕ, nat_lt, ◌||◌, ◌==◌, List, ◌++◌, length, Option, Some, Result, Ok, Err, IfSome, if◌then◌else◌}
+use Rattle.std.specs.Prelude.{◌≡◌, ◌≢◌, ◌⊎◌, ◌+◌, ℕ, nat_lt, ◌||◌, ◌==◌, List, ◌++◌, length, Option, Some, Result, Ok, Err, IfSome, if◌then◌else◌}
 use Rattle.std.specs.Int.{w16}
 use Rattle.std.specs.Io.KnownBytes.{Consumes}
 use Rattle.sha2.specs.Hashers.{Holds256}
 use Rattle.sha2.specs.declared.Sha256.{Sha256}
 use Rattle.rr_text.specs.declared.limits.TheConstants.{MAX_KEY_TEXT}
+use Rattle.rr_io.specs.declared.counted.Counted.{Counted}
+use Rattle.rr_io.specs.Stream.{HasFailed, KeepsFailures, ReadsSome, ReadsUpTo}
 use Rattle.rr_page.specs.declared.fault.PageFault.{PageFault}
 use Rattle.rr_page.specs.declared.version.Version.{Version}
 use Rattle.rr_page.specs.Reading.{number_at}
@@ -43,6 +45,21 @@ HasRead {Y} old new read = IfSome old (λ all. (x : Y) × (rest : List ℕ) × (
 abbrev pub Digests : Option (List ℕ) → Option (List ℕ) → Sha256 → Sha256 → Type 0
 Digests old new before after = (taken : List ℕ) × Consumes old new taken
     × ((m : List ℕ) → Holds256 before m → Holds256 after (m ++ taken))
+
+-- what a call did with the reader that it loads from: it took some bytes from the front, or none, and says that a read
+-- failed only if one did
+pub record LoadsFrom {R X : Type 0} (remaining : R → Option (List ℕ)) (old new : Counted R) (result : Result X LoadFault)
+    : Type 0 where
+  pub front : ReadsSome remaining old new
+  pub failures_never_fall : KeepsFailures old new
+  pub failed : result ≡ Err ReadFailed → HasFailed old new
+
+-- what one did that takes at most so many bytes, and no memory
+pub record LoadsPiece {R X : Type 0} (n : ℕ) (remaining : R → Option (List ℕ)) (old new : Counted R)
+    (result : Result X LoadFault) : Type 0 where
+  pub stream : LoadsFrom remaining old new result
+  pub most : ReadsUpTo n remaining old new
+  pub no_memory : result ≢ Err Memory
 
 -- the result of a call is made of some cells; where the bytes of a stream are known, these are what is read of them,
 -- and what follows them is left; or the reader failed, or memory ran out

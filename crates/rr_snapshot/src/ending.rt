@@ -1,9 +1,9 @@
 //! What a snapshot has after its cells.
-ghost use Rattle.std.specs.Prelude.{◌≡◌, ◌≢◌, ◌≤◌, Err, OnOk};
+ghost use Rattle.std.specs.Prelude.{OnOk};
 ghost use Rattle.rr_io.specs.Counted.{inner_of};
-ghost use Rattle.rr_io.specs.Stream.{HasFailed, IsReadOut, KeepsFailures, ReadsSome, ReadsUpTo};
+ghost use Rattle.rr_io.specs.Stream.{IsReadOut};
 ghost use Rattle.rr_snapshot.specs.SnapshotReading.{digest_at, end_at};
-ghost use Rattle.rr_snapshot.specs.Stream.{StreamGives};
+ghost use Rattle.rr_snapshot.specs.Stream.{LoadsPiece, StreamGives};
 
 use crate::fault::LoadFault;
 use rr_io::Counted;
@@ -23,11 +23,7 @@ pub(crate) fn digest_from<R: Read>(
 ) -> Result<(), LoadFault>
     ensures read { StreamGives (λ x. x) result (R.remaining (inner_of input.old))
         (R.remaining (inner_of input.new)) (digest_at digest.now) }
-    ensures no_memory { result ≢ Err LoadFault.Memory }
-    ensures front { ReadsSome R.remaining input.old input.new }
-    ensures most { ReadsUpTo DIGEST_LEN R.remaining input.old input.new }
-    ensures failures_never_fall { KeepsFailures input.old input.new }
-    ensures failed { result ≡ Err LoadFault.ReadFailed → HasFailed input.old input.new }
+    ensures piece { LoadsPiece DIGEST_LEN R.remaining input.old input.new result }
 {
     let mut buffer = [0u8; DIGEST_LEN];
     let got = fill(input, &mut buffer)?;
@@ -43,11 +39,7 @@ pub(crate) fn end_from<R: Read>(input: &mut Counted<R>) -> Result<(), LoadFault>
     ensures read { StreamGives (λ x. x) result (R.remaining (inner_of input.old))
         (R.remaining (inner_of input.new)) end_at }
     ensures end { OnOk result (IsReadOut R.remaining input.new) }
-    ensures no_memory { result ≢ Err LoadFault.Memory }
-    ensures front { ReadsSome R.remaining input.old input.new }
-    ensures most { ReadsUpTo 1 R.remaining input.old input.new }
-    ensures failures_never_fall { KeepsFailures input.old input.new }
-    ensures failed { result ≡ Err LoadFault.ReadFailed → HasFailed input.old input.new }
+    ensures piece { LoadsPiece 1 R.remaining input.old input.new result }
 {
     let mut byte = [0u8; 1];
     let got = fill(input, &mut byte)?;

@@ -6,14 +6,14 @@ ghost use Rattle.std.specs.Option.{option_map};
 ghost use Rattle.std.specs.Prelude.{map};
 ghost use Rattle.rr_text.specs.Results.{Gives};
 ghost use Rattle.rr_io.specs.Counted.{inner_of};
-ghost use Rattle.rr_io.specs.Stream.{HasFailed, KeepsFailures, ReadsSome, ReadsUpTo};
 ghost use Rattle.rr_schema.specs.Added.{IsAddition, older};
 ghost use Rattle.rr_schema.specs.declared.added.Addition.TheVariants.{Archive};
 ghost use Rattle.rr_page.specs.Reading.{number_at};
-ghost use Rattle.rr_snapshot.specs.Stream.{Digests, StreamGives};
+ghost use Rattle.rr_snapshot.specs.Stream.{Digests, LoadsPiece, StreamGives};
 ghost use Rattle.rr_snapshot.specs.SnapshotReading.{as_in_page, may_have_had, start_at, is_told, addition_told, archives_at};
 
 use crate::fault::LoadFault;
+use crate::stream::fill_up_to;
 use rr_io::Counted;
 use rr_io::stream::fill;
 use rr_page::fields::{bytes_at, u8_at, u16_at, u32_at};
@@ -88,11 +88,7 @@ pub(crate) fn start_from<R: Read>(
     ensures number_at_most { IfOk result (λ x. x.1 ≤ length schema.now.archives) }
     ensures digest { OnOk result (Digests (R.remaining (inner_of input.old))
         (R.remaining (inner_of input.new)) hasher.old hasher.new) }
-    ensures front { ReadsSome R.remaining input.old input.new }
-    ensures most { ReadsUpTo START_LEN R.remaining input.old input.new }
-    ensures no_memory { result ≢ Err LoadFault.Memory }
-    ensures failures_never_fall { KeepsFailures input.old input.new }
-    ensures failed { result ≡ Err LoadFault.ReadFailed → HasFailed input.old input.new }
+    ensures piece { LoadsPiece START_LEN R.remaining input.old input.new result }
 {
     let mut buffer = [0u8; START_LEN];
     let got = fill(input, &mut buffer)?;
@@ -157,35 +153,6 @@ fn archives_of<'a>(
     Ok((addition, origin, rest))
 }
 
-/// The same at the front of what the input has, read into a buffer of their length.
-fn archives_into<R: Read>(
-    input: &mut Counted<R>,
-    version: Version,
-    schema: &Schema,
-    number: u8,
-    buffer: &mut [u8],
-    hasher: &mut Sha256,
-) -> Result<(Addition, u16), LoadFault>
-    requires { length buffer.old ≡ ARCHIVE_LEN * number + ORIGIN_LEN }
-    ensures read { StreamGives (λ x. (x.0, x.1)) result (R.remaining (inner_of input.old))
-        (R.remaining (inner_of input.new))
-        (λ all. as_in_page (archives_at version schema.now number all)) }
-    ensures addition { IfOk result (λ x. IsAddition schema.now x.0) }
-    ensures archive_count { IfOk result (λ x. number ≡ length (older schema.now x.0).archives) }
-    ensures digest { OnOk result (Digests (R.remaining (inner_of input.old))
-        (R.remaining (inner_of input.new)) hasher.old hasher.new) }
-    ensures front { ReadsSome R.remaining input.old input.new }
-    ensures most { ReadsUpTo (ARCHIVE_LEN * number + ORIGIN_LEN) R.remaining input.old input.new }
-    ensures no_memory { result ≢ Err LoadFault.Memory }
-    ensures failures_never_fall { KeepsFailures input.old input.new }
-    ensures failed { result ≡ Err LoadFault.ReadFailed → HasFailed input.old input.new }
-{
-    let got = fill(input, buffer)?;
-    let (addition, origin, _) = archives_of(version, schema, number, &buffer[..got])?;
-    hasher.update(&buffer[..got]);
-    Ok((addition, origin))
-}
-
 /// What was added since there were so many archives, and the origin, at the front of what the input
 /// has.
 pub(crate) fn archives_from<R: Read>(
@@ -203,16 +170,16 @@ pub(crate) fn archives_from<R: Read>(
     ensures archive_count { IfOk result (λ x. number ≡ length (older schema.now x.0).archives) }
     ensures digest { OnOk result (Digests (R.remaining (inner_of input.old))
         (R.remaining (inner_of input.new)) hasher.old hasher.new) }
-    ensures front { ReadsSome R.remaining input.old input.new }
-    ensures most { ReadsUpTo (ARCHIVE_LEN * number + ORIGIN_LEN) R.remaining input.old input.new }
-    ensures no_memory { result ≢ Err LoadFault.Memory }
-    ensures failures_never_fall { KeepsFailures input.old input.new }
-    ensures failed { result ≡ Err LoadFault.ReadFailed → HasFailed input.old input.new }
+    ensures piece { LoadsPiece (ARCHIVE_LEN * number + ORIGIN_LEN) R.remaining
+        input.old input.new result }
 {
     let _archives = schema.archives(); // their contract says that they are few
     let mut buffer = [0u8; ARCHIVE_LEN * MAX_ARCHIVES + ORIGIN_LEN];
     let len = ARCHIVE_LEN * number as usize + ORIGIN_LEN;
-    archives_into(input, version, schema, number, &mut buffer[..len], hasher)
+    let got = fill_up_to(input, &mut buffer, 0, len)?;
+    let (addition, origin, _) = archives_of(version, schema, number, &buffer[..got])?;
+    hasher.update(&buffer[..got]);
+    Ok((addition, origin))
 }
 
 /// The number of cells at the front of what the input has.
@@ -224,11 +191,7 @@ pub(crate) fn count_from<R: Read>(
         (R.remaining (inner_of input.new)) (λ all. as_in_page (number_at w32 all)) }
     ensures digest { OnOk result (Digests (R.remaining (inner_of input.old))
         (R.remaining (inner_of input.new)) hasher.old hasher.new) }
-    ensures front { ReadsSome R.remaining input.old input.new }
-    ensures most { ReadsUpTo COUNT_LEN R.remaining input.old input.new }
-    ensures no_memory { result ≢ Err LoadFault.Memory }
-    ensures failures_never_fall { KeepsFailures input.old input.new }
-    ensures failed { result ≡ Err LoadFault.ReadFailed → HasFailed input.old input.new }
+    ensures piece { LoadsPiece COUNT_LEN R.remaining input.old input.new result }
 {
     let mut buffer = [0u8; COUNT_LEN];
     let got = fill(input, &mut buffer)?;

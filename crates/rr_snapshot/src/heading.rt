@@ -1,13 +1,13 @@
 //! What a snapshot has before its cells.
 ghost use Rattle.std.specs.Prelude.{◌≡◌, ◌≢◌, ◌≤◌, ◌+◌, ◌-◌, IfOk, OnOk, Err, length};
 ghost use Rattle.rr_io.specs.Counted.{inner_of};
-ghost use Rattle.rr_io.specs.Stream.{HasFailed, KeepsFailures, ReadsSome, ReadsUpTo};
+ghost use Rattle.rr_io.specs.Stream.{ReadsUpTo};
 ghost use Rattle.rr_schema.specs.Added.{IsAddition, older};
 ghost use Rattle.rr_schema.specs.SchemaBytes.{schema_bytes};
 ghost use Rattle.rr_page.specs.Version.{latest};
 ghost use Rattle.rr_snapshot.specs.Snapshot.{head_text};
 ghost use Rattle.rr_snapshot.specs.SnapshotReading.{head_at};
-ghost use Rattle.rr_snapshot.specs.Stream.{Digests, StreamGives};
+ghost use Rattle.rr_snapshot.specs.Stream.{Digests, LoadsPiece, StreamGives};
 
 use crate::fault::LoadFault;
 use crate::fields::{COUNT_LEN, MAGIC, archives_from, count_from, start_from};
@@ -77,15 +77,11 @@ pub(crate) fn head_from<R: Read>(
         1 ≤ length (older schema.now head.addition).archives) }
     ensures digest { OnOk result (Digests (R.remaining (inner_of input.old))
         (R.remaining (inner_of input.new)) hasher.old hasher.new) }
-    ensures front { ReadsSome R.remaining input.old input.new }
-    ensures most { ReadsUpTo (length (schema_bytes schema.now) + BESIDES_LEN) R.remaining input.old
-        input.new }
+    ensures piece { LoadsPiece (length (schema_bytes schema.now) + BESIDES_LEN) R.remaining
+        input.old input.new result }
     ensures bad_origin { result ≡ Err LoadFault.BadOrigin
         → ReadsUpTo (length (schema_bytes schema.now) + BESIDES_LEN - COUNT_LEN) R.remaining
         input.old input.new }
-    ensures no_memory { result ≢ Err LoadFault.Memory }
-    ensures failures_never_fall { KeepsFailures input.old input.new }
-    ensures failed { result ≡ Err LoadFault.ReadFailed → HasFailed input.old input.new }
 {
     let (version, number) = start_from(input, schema, hasher)?;
     let (addition, origin) = archives_from(input, version, schema, number, hasher)?;

@@ -9,7 +9,7 @@ ghost use Rattle.rr_page.specs.declared.writing.TheConstants.{FIELDS_LEN};
 ghost use Rattle.rr_cells.specs.CellBounds.{IsCellOf};
 ghost use Rattle.rr_cells.specs.Listing.{owned_cell};
 ghost use Rattle.rr_snapshot.specs.SnapshotReading.{as_in_page};
-ghost use Rattle.rr_snapshot.specs.Stream.{Adds, HasRead, StreamGives, whole_len};
+ghost use Rattle.rr_snapshot.specs.Stream.{Adds, HasRead, LoadsFrom, StreamGives, whole_len};
 
 use crate::fault::LoadFault;
 use rr_cells::Cell;
@@ -57,7 +57,7 @@ fn cell_len(front: &[u8], version: Version) -> usize
 
 /// Reads after the first bytes of a buffer, up to a length or the end of the input, and answers how
 /// many bytes are then in its front.
-fn fill_up_to<R: Read>(
+pub(crate) fn fill_up_to<R: Read>(
     input: &mut Counted<R>,
     buffer: &mut [u8],
     filled: usize,
@@ -97,12 +97,10 @@ pub(crate) fn cell_from<R: Read>(
     ensures fits { IfOk result (λ x. x.1 ≤ MAX_CELL_LEN) }
     ensures cell { IfOk result (λ x. IsCellOf schema.now (owned_cell x.0)) }
     ensures buffer_len { length buffer.new ≡ length buffer.old }
-    ensures front { ReadsSome R.remaining input.old input.new }
+    ensures stream { LoadsFrom R.remaining input.old input.new result }
     ensures most { ReadsUpTo MAX_CELL_LEN R.remaining input.old input.new }
     ensures memory { result ≡ Err LoadFault.Memory → HasRead (R.remaining (inner_of input.old))
         (R.remaining (inner_of input.new)) (cell_at version schema.now) }
-    ensures failures_never_fall { KeepsFailures input.old input.new }
-    ensures failed { result ≡ Err LoadFault.ReadFailed → HasFailed input.old input.new }
 {
     let head = fill_up_to(input, buffer, 0, 2)?;
     let len = cell_len(&buffer[..head], version);

@@ -1,4 +1,4 @@
-use Rattle.std.proofs.Common.{◌≡◌, ◌+◌, ◌-◌, ◌*◌, ◌<◌, ◌∙◌, length, Bool, true, false, List, ℕ, zero, suc, Result, ap, sym, subst, refl, arith, inr}
+use Rattle.std.proofs.Common.{rules, ◌≡◌, ◌+◌, ◌-◌, ◌*◌, ◌<◌, ◌∙◌, length, Bool, true, false, List, ℕ, zero, suc, Result, ap, sym, subst, refl, arith, inr}
 use Rattle.std.specs.Prelude.{◌==◌}
 use Rattle.std.specs.Int.{w32}
 use Rattle.std.proofs.lemmas.Bool.{ne_eqb}
@@ -14,7 +14,7 @@ use Rattle.rr_snapshot.specs.declared.fault.LoadFault.TheVariants.{BadOrigin}
 use Rattle.rr_snapshot.specs.declared.heading.Head.{Head}
 use Rattle.rr_snapshot.specs.SnapshotReading.{as_in_page, start_at, archives_at, head_at}
 use Rattle.rr_snapshot.proofs.BodyLemmas.{counted, after_archives, after_start}
-use Rattle.rr_snapshot.proofs.FrontLemmas.{read_then, took_more}
+use Rattle.rr_snapshot.proofs.FrontLemmas.{loads_then, loads_then_refused, took_more}
 use Rattle.rr_snapshot.proofs.ChainLemmas.{Gave, passes, refuses, then_gave, then_refused, fails_then, then_fails, Digests-then}
 use Rattle.rr_snapshot.proofs.heading.head_from.Goals as goal
 
@@ -127,61 +127,85 @@ returns-clause-digest g c =
     c.in_ok-version.ensures.digest c.in_ok-addition.ensures.digest)
     c.in_ok-count.ensures.digest
 
-pub returns-in_err-addition-clause-front : goal.returns-in_err-addition-clause-front
-returns-in_err-addition-clause-front g c =
-    let old = g.R.Read.remaining (inner_of c.args.input.now) in
-    let mid = g.R.Read.remaining (inner_of c.start_from.new.input) in
-    let now = g.R.Read.remaining (inner_of c.archives_from.new.input) in
-    read_then old mid now c.start_from.ensures.front c.archives_from.ensures.front
+pub returns-in_err-addition-clause-piece : goal.returns-in_err-addition-clause-piece
+returns-in_err-addition-clause-piece g c = record {
+  stream =
+      let p = err_from_is_err_and c.from_residual-in_err-addition.result c.from_residual-in_err-addition.ensures.1 in
+      rw (p.1, p.2) (loads_then_refused _ _ _ _ _ _ c.in_ok-version.ensures.piece.stream
+      c.in_err-addition.ensures.piece.stream);
+  most =
+      let old = g.R.Read.remaining (inner_of c.args.input.now) in
+      let mid = g.R.Read.remaining (inner_of c.start_from.new.input) in
+      let now = g.R.Read.remaining (inner_of c.archives_from.new.input) in
+      let s = c.args.schema.now in
+      let n = c.in_ok-version.number in
+      let few = c.in_ok-version.ensures.number_at_most in
+      let all = length (schema_bytes s) in
+      took_more 10 (9 * n + 2) (all + 11) old mid now c.start_from.ensures.piece.most c.archives_from.ensures.piece.most
+      (omega (arith, few, schema_len s));
+  no_memory = search rules;
+}
 
-pub returns-in-Err-clause-front : goal.returns-in-Err-clause-front
-returns-in-Err-clause-front g c =
-    let old = g.R.Read.remaining (inner_of c.args.input.now) in
-    let mid = g.R.Read.remaining (inner_of c.start_from.new.input) in
-    let now = g.R.Read.remaining (inner_of c.archives_from.new.input) in
-    read_then old mid now c.start_from.ensures.front c.archives_from.ensures.front
+pub returns-in-Err-clause-piece : goal.returns-in-Err-clause-piece
+returns-in-Err-clause-piece g c = record {
+  stream =
+      loads_then _ _ _ _ _ _ _ c.in_ok-version.ensures.piece.stream c.in_ok-addition.ensures.piece.stream
+      (λ e. absurd (cc e));
+  most =
+      let old = g.R.Read.remaining (inner_of c.args.input.now) in
+      let mid = g.R.Read.remaining (inner_of c.start_from.new.input) in
+      let now = g.R.Read.remaining (inner_of c.archives_from.new.input) in
+      let s = c.args.schema.now in
+      let n = c.in_ok-version.number in
+      let few = c.in_ok-version.ensures.number_at_most in
+      let all = length (schema_bytes s) in
+      took_more 10 (9 * n + 2) (all + 11) old mid now c.start_from.ensures.piece.most c.archives_from.ensures.piece.most
+      (omega (arith, few, schema_len s));
+  no_memory = search rules;
+}
 
-pub returns-in_err-count-clause-front : goal.returns-in_err-count-clause-front
-returns-in_err-count-clause-front g c =
-    let old = g.R.Read.remaining (inner_of c.args.input.now) in
-    let mid = g.R.Read.remaining (inner_of c.start_from.new.input) in
-    let now = g.R.Read.remaining (inner_of c.archives_from.new.input) in
-    let new = g.R.Read.remaining (inner_of c.count_from.new.input) in
-    read_then old now new (read_then old mid now c.start_from.ensures.front c.archives_from.ensures.front)
-    c.count_from.ensures.front
+pub returns-in_err-count-clause-piece : goal.returns-in_err-count-clause-piece
+returns-in_err-count-clause-piece g c = record {
+  stream =
+      let p = err_from_is_err_and c.from_residual-in_err-count.result c.from_residual-in_err-count.ensures.1 in
+      let two = loads_then _ _ _ _ _ _ c.archives_from.result c.start_from.ensures.piece.stream
+      c.archives_from.ensures.piece.stream (λ e. e) in
+      rw (p.1, p.2) (loads_then_refused _ _ _ _ _ _ two c.in_err-count.ensures.piece.stream);
+  most =
+      let old = g.R.Read.remaining (inner_of c.args.input.now) in
+      let mid = g.R.Read.remaining (inner_of c.start_from.new.input) in
+      let now = g.R.Read.remaining (inner_of c.archives_from.new.input) in
+      let new = g.R.Read.remaining (inner_of c.count_from.new.input) in
+      let s = c.args.schema.now in
+      let n = c.in_ok-version.number in
+      let few = c.in_ok-version.ensures.number_at_most in
+      let all = length (schema_bytes s) in
+      took_more (all + 7) 4 (all + 11) old now new (took_more 10 (9 * n + 2) (all + 7) old mid now
+      c.start_from.ensures.piece.most c.archives_from.ensures.piece.most (omega (arith, few, schema_len s)))
+      c.count_from.ensures.piece.most (omega arith);
+  no_memory = search rules;
+}
 
-pub returns-clause-front : goal.returns-clause-front
-returns-clause-front g c =
-    let old = g.R.Read.remaining (inner_of c.args.input.now) in
-    let mid = g.R.Read.remaining (inner_of c.start_from.new.input) in
-    let now = g.R.Read.remaining (inner_of c.archives_from.new.input) in
-    let new = g.R.Read.remaining (inner_of c.count_from.new.input) in
-    read_then old now new (read_then old mid now c.start_from.ensures.front c.archives_from.ensures.front)
-    c.count_from.ensures.front
-
-pub returns-in_err-addition-clause-most : goal.returns-in_err-addition-clause-most
-returns-in_err-addition-clause-most g c =
-    let old = g.R.Read.remaining (inner_of c.args.input.now) in
-    let mid = g.R.Read.remaining (inner_of c.start_from.new.input) in
-    let now = g.R.Read.remaining (inner_of c.archives_from.new.input) in
-    let s = c.args.schema.now in
-    let n = c.in_ok-version.number in
-    let few = c.in_ok-version.ensures.number_at_most in
-    let all = length (schema_bytes s) in
-    took_more 10 (9 * n + 2) (all + 11) old mid now c.start_from.ensures.most c.archives_from.ensures.most
-    (omega (arith, few, schema_len s))
-
-pub returns-in-Err-clause-most : goal.returns-in-Err-clause-most
-returns-in-Err-clause-most g c =
-    let old = g.R.Read.remaining (inner_of c.args.input.now) in
-    let mid = g.R.Read.remaining (inner_of c.start_from.new.input) in
-    let now = g.R.Read.remaining (inner_of c.archives_from.new.input) in
-    let s = c.args.schema.now in
-    let n = c.in_ok-version.number in
-    let few = c.in_ok-version.ensures.number_at_most in
-    let all = length (schema_bytes s) in
-    took_more 10 (9 * n + 2) (all + 11) old mid now c.start_from.ensures.most c.archives_from.ensures.most
-    (omega (arith, few, schema_len s))
+pub returns-clause-piece : goal.returns-clause-piece
+returns-clause-piece g c = record {
+  stream =
+      let two = loads_then _ _ _ _ _ _ c.archives_from.result c.start_from.ensures.piece.stream
+      c.archives_from.ensures.piece.stream (λ e. e) in
+      loads_then _ _ _ _ _ _ _ two c.count_from.ensures.piece.stream (λ e. absurd (cc e));
+  most =
+      let old = g.R.Read.remaining (inner_of c.args.input.now) in
+      let mid = g.R.Read.remaining (inner_of c.start_from.new.input) in
+      let now = g.R.Read.remaining (inner_of c.archives_from.new.input) in
+      let new = g.R.Read.remaining (inner_of c.count_from.new.input) in
+      let s = c.args.schema.now in
+      let n = c.in_ok-version.number in
+      let few = c.in_ok-version.ensures.number_at_most in
+      let all = length (schema_bytes s) in
+      took_more (all + 7) 4 (all + 11) old now new (took_more 10 (9 * n + 2) (all + 7) old mid now
+      c.start_from.ensures.piece.most c.archives_from.ensures.piece.most (omega (arith, few, schema_len s)))
+      c.count_from.ensures.piece.most (omega arith);
+  no_memory = search rules;
+}
 
 pub returns-in-Err-clause-bad_origin : goal.returns-in-Err-clause-bad_origin
 returns-in-Err-clause-bad_origin g c = λ e.
@@ -192,33 +216,6 @@ returns-in-Err-clause-bad_origin g c = λ e.
     let n = c.in_ok-version.number in
     let few = c.in_ok-version.ensures.number_at_most in
     let all = length (schema_bytes s) in
-    took_more 10 (9 * n + 2) (all + 11 - 4) old mid now c.start_from.ensures.most c.archives_from.ensures.most
+    took_more 10 (9 * n + 2) (all + 11 - 4) old mid now c.start_from.ensures.piece.most
+    c.archives_from.ensures.piece.most
     (omega (arith, few, schema_len s))
-
-pub returns-in_err-count-clause-most : goal.returns-in_err-count-clause-most
-returns-in_err-count-clause-most g c =
-    let old = g.R.Read.remaining (inner_of c.args.input.now) in
-    let mid = g.R.Read.remaining (inner_of c.start_from.new.input) in
-    let now = g.R.Read.remaining (inner_of c.archives_from.new.input) in
-    let new = g.R.Read.remaining (inner_of c.count_from.new.input) in
-    let s = c.args.schema.now in
-    let n = c.in_ok-version.number in
-    let few = c.in_ok-version.ensures.number_at_most in
-    let all = length (schema_bytes s) in
-    took_more (all + 7) 4 (all + 11) old now new (took_more 10 (9 * n + 2) (all + 7) old mid now
-    c.start_from.ensures.most c.archives_from.ensures.most (omega (arith, few, schema_len s)))
-    c.count_from.ensures.most (omega arith)
-
-pub returns-clause-most : goal.returns-clause-most
-returns-clause-most g c =
-    let old = g.R.Read.remaining (inner_of c.args.input.now) in
-    let mid = g.R.Read.remaining (inner_of c.start_from.new.input) in
-    let now = g.R.Read.remaining (inner_of c.archives_from.new.input) in
-    let new = g.R.Read.remaining (inner_of c.count_from.new.input) in
-    let s = c.args.schema.now in
-    let n = c.in_ok-version.number in
-    let few = c.in_ok-version.ensures.number_at_most in
-    let all = length (schema_bytes s) in
-    took_more (all + 7) 4 (all + 11) old now new (took_more 10 (9 * n + 2) (all + 7) old mid now
-    c.start_from.ensures.most c.archives_from.ensures.most (omega (arith, few, schema_len s)))
-    c.count_from.ensures.most (omega arith)

@@ -133,10 +133,10 @@ loop-preserved g c =
         ap (option_map (raised_name h.addition)) (last_name_push so_far.0 e) ∙ ap (λ (n : CellName). Some n) (sym name),
         HasJoined-more h.addition (replica_state c.args.replica.now) (replica_state c.loop.replica)
             (replica_state c.join_cell.new.self) c.loop.has_own c.eq-has_own.result _ so_far.0 e so_far.3
-            (c.in_ok-join_cell.ensures.joined ∙ ap (λ (n : CellName). with_named (replica_state c.loop.replica)
+            (c.in_ok-join_cell.ensures.state.made ∙ ap (λ (n : CellName). with_named (replica_state c.loop.replica)
             (n, e.1)) name) (c.eq-has_own.ensures ∙ ap (λ (o : ℕ). e.0.origin == o) c.origin-origin.ensures) refl,
       );
-      front = read_then old now new c.loop.invariant.front c.cell_from.ensures.front;
+      front = read_then old now new c.loop.invariant.front c.cell_from.ensures.stream.front;
       digest = (
         digest.0 ++ piece,
         Consumes-trans old now new digest.0 piece digest.1 c.in_ok-cell.ensures.bytes,
@@ -156,20 +156,26 @@ returns-clause-read g c =
           (g.R.Read.remaining (inner_of c.loop.input)) c.loop-test.false so_far.1,
     )
 
-pub returns-in_err-cell-clause-front : goal.returns-in_err-cell-clause-front
-returns-in_err-cell-clause-front g c =
-    read_then (g.R.Read.remaining (inner_of c.args.input.now)) (g.R.Read.remaining (inner_of c.loop.input))
-    (g.R.Read.remaining (inner_of c.cell_from.new.input)) c.loop.invariant.front c.cell_from.ensures.front
+pub returns-in_err-cell-clause-stream : goal.returns-in_err-cell-clause-stream
+returns-in_err-cell-clause-stream g c = record {
+  front = read_then _ _ _ c.loop.invariant.front c.cell_from.ensures.stream.front;
+  failures_never_fall = search rules;
+  failed = search rules;
+}
 
-pub returns-then-not-is_after-clause-front : goal.returns-then-not-is_after-clause-front
-returns-then-not-is_after-clause-front g c =
-    read_then (g.R.Read.remaining (inner_of c.args.input.now)) (g.R.Read.remaining (inner_of c.loop.input))
-    (g.R.Read.remaining (inner_of c.cell_from.new.input)) c.loop.invariant.front c.cell_from.ensures.front
+pub returns-then-not-is_after-clause-stream : goal.returns-then-not-is_after-clause-stream
+returns-then-not-is_after-clause-stream g c = record {
+  front = read_then _ _ _ c.loop.invariant.front c.cell_from.ensures.stream.front;
+  failures_never_fall = search rules;
+  failed = search rules;
+}
 
-pub returns-in_err-join_cell-clause-front : goal.returns-in_err-join_cell-clause-front
-returns-in_err-join_cell-clause-front g c =
-    read_then (g.R.Read.remaining (inner_of c.args.input.now)) (g.R.Read.remaining (inner_of c.loop.input))
-    (g.R.Read.remaining (inner_of c.cell_from.new.input)) c.loop.invariant.front c.cell_from.ensures.front
+pub returns-in_err-join_cell-clause-stream : goal.returns-in_err-join_cell-clause-stream
+returns-in_err-join_cell-clause-stream g c = record {
+  front = read_then _ _ _ c.loop.invariant.front c.cell_from.ensures.stream.front;
+  failures_never_fall = search rules;
+  failed = search rules;
+}
 
 pub returns-in_err-cell-clause-memory : goal.returns-in_err-cell-clause-memory
 returns-in_err-cell-clause-memory g c =

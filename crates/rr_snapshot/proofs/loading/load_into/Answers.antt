@@ -6,7 +6,7 @@ use Rattle.std.proofs.lemmas.Result.{err_from_is_err_and}
 use Rattle.rr_io.specs.Counted.{inner_of}
 use Rattle.rr_replica.specs.ReplicaWithRoom.{replica_state}
 use Rattle.rr_snapshot.specs.declared.fault.LoadFault.TheVariants.{Memory}
-use Rattle.rr_snapshot.proofs.FrontLemmas.{read_then}
+use Rattle.rr_snapshot.proofs.FrontLemmas.{loads_then, loads_then_refused}
 use Rattle.rr_snapshot.proofs.BodyLemmas.{body_read}
 use Rattle.rr_snapshot.specs.Loading.{is_among}
 use Rattle.rr_snapshot.proofs.MemoryLemmas.{stops_in_snapshot}
@@ -122,94 +122,40 @@ returns-clause-read g c =
     c.if-has_own.false in
     new_origin s o h joined.0 c.join_cells_after.new.replica old free is read
 
-pub returns-in_err-has_own-clause-front : goal.returns-in_err-has_own-clause-front
-returns-in_err-has_own-clause-front g c =
-    read_then (g.R.Read.remaining (inner_of c.args.input.now)) (g.R.Read.remaining (inner_of c.head_from.new.input))
-    (g.R.Read.remaining (inner_of c.join_cells_after.new.input)) c.head_from.ensures.front
-    c.join_cells_after.ensures.front
+pub returns-in_err-has_own-clause-stream : goal.returns-in_err-has_own-clause-stream
+returns-in_err-has_own-clause-stream g c =
+    let p = err_from_is_err_and c.from_residual-in_err-has_own.result c.from_residual-in_err-has_own.ensures.1 in
+    rw (p.1, p.2) (loads_then_refused _ _ _ _ _ _ c.head_from.ensures.piece.stream c.in_err-has_own.ensures.stream)
 
-pub returns-in_err-digest_from-clause-front : goal.returns-in_err-digest_from-clause-front
-returns-in_err-digest_from-clause-front g c =
-    read_then (g.R.Read.remaining (inner_of c.args.input.now))
-    (g.R.Read.remaining (inner_of c.join_cells_after.new.input))
-    (g.R.Read.remaining (inner_of c.digest_from.new.input))
-    (read_then (g.R.Read.remaining (inner_of c.args.input.now))
-    (g.R.Read.remaining (inner_of c.head_from.new.input))
-    (g.R.Read.remaining (inner_of c.join_cells_after.new.input)) c.head_from.ensures.front
-    c.join_cells_after.ensures.front) c.digest_from.ensures.front
+pub returns-in_err-digest_from-clause-stream : goal.returns-in_err-digest_from-clause-stream
+returns-in_err-digest_from-clause-stream g c =
+    let p = err_from_is_err_and c.from_residual-in_err-digest_from.result c.from_residual-in_err-digest_from.ensures.1
+    in
+    let two = loads_then _ _ _ _ _ _ c.join_cells_after.result c.head_from.ensures.piece.stream
+    c.join_cells_after.ensures.stream (λ e. e) in
+    rw (p.1, p.2) (loads_then_refused _ _ _ _ _ _ two c.in_err-digest_from.ensures.piece.stream)
 
-pub returns-in_err-end_from-clause-front : goal.returns-in_err-end_from-clause-front
-returns-in_err-end_from-clause-front g c =
-    read_then (g.R.Read.remaining (inner_of c.args.input.now)) (g.R.Read.remaining (inner_of c.digest_from.new.input))
-    (g.R.Read.remaining (inner_of c.end_from.new.input))
-    (read_then (g.R.Read.remaining (inner_of c.args.input.now))
-    (g.R.Read.remaining (inner_of c.join_cells_after.new.input))
-    (g.R.Read.remaining (inner_of c.digest_from.new.input))
-    (read_then (g.R.Read.remaining (inner_of c.args.input.now))
-    (g.R.Read.remaining (inner_of c.head_from.new.input))
-    (g.R.Read.remaining (inner_of c.join_cells_after.new.input)) c.head_from.ensures.front
-    c.join_cells_after.ensures.front) c.digest_from.ensures.front) c.end_from.ensures.front
+pub returns-in_err-end_from-clause-stream : goal.returns-in_err-end_from-clause-stream
+returns-in_err-end_from-clause-stream g c =
+    let p = err_from_is_err_and c.from_residual-in_err-end_from.result c.from_residual-in_err-end_from.ensures.1 in
+    let two = loads_then _ _ _ _ _ _ c.join_cells_after.result c.head_from.ensures.piece.stream
+    c.join_cells_after.ensures.stream (λ e. e) in
+    let three = loads_then _ _ _ _ _ _ c.digest_from.result two c.digest_from.ensures.piece.stream (λ e. e) in
+    rw (p.1, p.2) (loads_then_refused _ _ _ _ _ _ three c.in_err-end_from.ensures.piece.stream)
 
-pub returns-then-eq-clause-front : goal.returns-then-eq-clause-front
-returns-then-eq-clause-front g c =
-    read_then (g.R.Read.remaining (inner_of c.args.input.now)) (g.R.Read.remaining (inner_of c.digest_from.new.input))
-    (g.R.Read.remaining (inner_of c.end_from.new.input))
-    (read_then (g.R.Read.remaining (inner_of c.args.input.now))
-    (g.R.Read.remaining (inner_of c.join_cells_after.new.input))
-    (g.R.Read.remaining (inner_of c.digest_from.new.input))
-    (read_then (g.R.Read.remaining (inner_of c.args.input.now))
-    (g.R.Read.remaining (inner_of c.head_from.new.input))
-    (g.R.Read.remaining (inner_of c.join_cells_after.new.input)) c.head_from.ensures.front
-    c.join_cells_after.ensures.front) c.digest_from.ensures.front) c.end_from.ensures.front
+pub returns-then-eq-clause-stream : goal.returns-then-eq-clause-stream
+returns-then-eq-clause-stream g c =
+    let two = loads_then _ _ _ _ _ _ c.join_cells_after.result c.head_from.ensures.piece.stream
+    c.join_cells_after.ensures.stream (λ e. e) in
+    let three = loads_then _ _ _ _ _ _ c.digest_from.result two c.digest_from.ensures.piece.stream (λ e. e) in
+    loads_then _ _ _ _ _ _ _ three c.end_from.ensures.piece.stream (λ e. absurd (cc e))
 
-pub returns-clause-front : goal.returns-clause-front
-returns-clause-front g c =
-    read_then (g.R.Read.remaining (inner_of c.args.input.now)) (g.R.Read.remaining (inner_of c.digest_from.new.input))
-    (g.R.Read.remaining (inner_of c.end_from.new.input))
-    (read_then (g.R.Read.remaining (inner_of c.args.input.now))
-    (g.R.Read.remaining (inner_of c.join_cells_after.new.input))
-    (g.R.Read.remaining (inner_of c.digest_from.new.input))
-    (read_then (g.R.Read.remaining (inner_of c.args.input.now))
-    (g.R.Read.remaining (inner_of c.head_from.new.input))
-    (g.R.Read.remaining (inner_of c.join_cells_after.new.input)) c.head_from.ensures.front
-    c.join_cells_after.ensures.front) c.digest_from.ensures.front) c.end_from.ensures.front
-
-pub returns-then-eq-clause-failed : goal.returns-then-eq-clause-failed
-returns-then-eq-clause-failed g c = λ e. absurd (cc e)
-
-pub returns-clause-failed : goal.returns-clause-failed
-returns-clause-failed g c = λ e. absurd (cc e)
-
-pub returns-in_err-digest_from-clause-failures_never_fall : goal.returns-in_err-digest_from-clause-failures_never_fall
-returns-in_err-digest_from-clause-failures_never_fall g c = omega
-    (arith, c.head_from.ensures.failures_never_fall, c.join_cells_after.ensures.failures_never_fall, c.digest_from.ensures.failures_never_fall)
-
-pub returns-in_err-end_from-clause-failures_never_fall : goal.returns-in_err-end_from-clause-failures_never_fall
-returns-in_err-end_from-clause-failures_never_fall g c = omega (
-  arith,
-  c.head_from.ensures.failures_never_fall,
-  c.join_cells_after.ensures.failures_never_fall,
-  c.digest_from.ensures.failures_never_fall,
-  c.end_from.ensures.failures_never_fall,
-)
-
-pub returns-then-eq-clause-failures_never_fall : goal.returns-then-eq-clause-failures_never_fall
-returns-then-eq-clause-failures_never_fall g c = omega (
-  arith,
-  c.head_from.ensures.failures_never_fall,
-  c.join_cells_after.ensures.failures_never_fall,
-  c.digest_from.ensures.failures_never_fall,
-  c.end_from.ensures.failures_never_fall,
-)
-
-pub returns-clause-failures_never_fall : goal.returns-clause-failures_never_fall
-returns-clause-failures_never_fall g c = omega (
-  arith,
-  c.head_from.ensures.failures_never_fall,
-  c.join_cells_after.ensures.failures_never_fall,
-  c.digest_from.ensures.failures_never_fall,
-  c.end_from.ensures.failures_never_fall,
-)
+pub returns-clause-stream : goal.returns-clause-stream
+returns-clause-stream g c =
+    let two = loads_then _ _ _ _ _ _ c.join_cells_after.result c.head_from.ensures.piece.stream
+    c.join_cells_after.ensures.stream (λ e. e) in
+    let three = loads_then _ _ _ _ _ _ c.digest_from.result two c.digest_from.ensures.piece.stream (λ e. e) in
+    loads_then _ _ _ _ _ _ _ three c.end_from.ensures.piece.stream (λ e. absurd (cc e))
 
 pub returns-in_err-has_own-clause-memory : goal.returns-in_err-has_own-clause-memory
 returns-in_err-has_own-clause-memory g c =

@@ -1,4 +1,4 @@
-use Rattle.std.proofs.Common.{◌≡◌, ◌-◌, ℕ, Err, ap, sym, subst, take, length, arith, inl, inr}
+use Rattle.std.proofs.Common.{rules, ◌≡◌, ◌-◌, ℕ, Err, ap, sym, subst, take, length, arith, inl, inr}
 use Rattle.rr_io.specs.Stream.{TakesAtMost}
 use Rattle.rr_snapshot.specs.declared.stream.TheConstants.{MAX_CELL_LEN}
 use Rattle.rr_snapshot.specs.Fault.{load_fault}
@@ -60,20 +60,26 @@ returns-in_err-cell-clause-read g c =
           _ e))
     ])
 
-pub returns-in_err-got-clause-front : goal.returns-in_err-got-clause-front
-returns-in_err-got-clause-front g c =
-    read_then (g.R.Read.remaining (inner_of c.args.input.now)) (g.R.Read.remaining (inner_of c.fill_up_to.new.input))
-    (g.R.Read.remaining (inner_of c.fill_up_to-2.new.input)) c.fill_up_to.ensures.front c.fill_up_to-2.ensures.front
+pub returns-in_err-got-clause-stream : goal.returns-in_err-got-clause-stream
+returns-in_err-got-clause-stream g c = record {
+  front = read_then _ _ _ c.fill_up_to.ensures.front c.fill_up_to-2.ensures.front;
+  failures_never_fall = search rules;
+  failed = search rules;
+}
 
-pub returns-in_err-cell-clause-front : goal.returns-in_err-cell-clause-front
-returns-in_err-cell-clause-front g c =
-    read_then (g.R.Read.remaining (inner_of c.args.input.now)) (g.R.Read.remaining (inner_of c.fill_up_to.new.input))
-    (g.R.Read.remaining (inner_of c.fill_up_to-2.new.input)) c.fill_up_to.ensures.front c.fill_up_to-2.ensures.front
+pub returns-in_err-cell-clause-stream : goal.returns-in_err-cell-clause-stream
+returns-in_err-cell-clause-stream g c = record {
+  front = read_then _ _ _ c.fill_up_to.ensures.front c.fill_up_to-2.ensures.front;
+  failures_never_fall = search rules;
+  failed = search rules;
+}
 
-pub returns-clause-front : goal.returns-clause-front
-returns-clause-front g c =
-    read_then (g.R.Read.remaining (inner_of c.args.input.now)) (g.R.Read.remaining (inner_of c.fill_up_to.new.input))
-    (g.R.Read.remaining (inner_of c.fill_up_to-2.new.input)) c.fill_up_to.ensures.front c.fill_up_to-2.ensures.front
+pub returns-clause-stream : goal.returns-clause-stream
+returns-clause-stream g c = record {
+  front = read_then _ _ _ c.fill_up_to.ensures.front c.fill_up_to-2.ensures.front;
+  failures_never_fall = search rules;
+  failed = search rules;
+}
 
 pub returns-clause-bytes : goal.returns-clause-bytes
 returns-clause-bytes g c =
