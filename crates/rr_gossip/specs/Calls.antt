@@ -1,5 +1,4 @@
--- What a call that pulls or gives over two streams has done once it returns: what was read and written, and when a
--- stream
+-- What a call that pulls or gives over streams has done once it returns: what was read and written, and when a stream
 -- is to blame.
 use Rattle.std.specs.Prelude.{◌≡◌, ◌≤◌, ℕ, true, List, [], length, Option, Result, Err, OnOk, IfErr}
 use Rattle.std.specs.Io.KnownBytes.{Appends, IsAtEnd}
@@ -7,13 +6,34 @@ use Rattle.std.specs.List.{concat}
 use Rattle.rr_schema.specs.Schema.{Layout}
 use Rattle.rr_io.specs.declared.counted.Counted.{Counted}
 use Rattle.rr_io.specs.Counted.{inner_of, failures_of, is_flushed, HasRisen}
-use Rattle.rr_io.specs.Stream.{AppendsPrefix}
+use Rattle.rr_io.specs.Stream.{AppendsPrefix, HasFailed, IsReadOut, KeepsFailures, WritesFront, WritesWhole}
 use Rattle.rr_cells.specs.CellBounds.{NamedCell}
 use Rattle.rr_cells.specs.Cells.{Cells}
 use Rattle.rr_gossip.specs.declared.fault.GossipFault.{GossipFault}
 use Rattle.rr_gossip.specs.declared.fault.GossipFault.TheVariants.{Ended, ReadFailed, WriteFailed}
 use Rattle.rr_gossip.specs.Session.{HasFailedToGive, HasFailedToPull, HasGiven, HasPulled, sent_by}
 use Rattle.rr_gossip.specs.Transcript.{waiting}
+
+-- what a call did with the reader that it takes frames from
+pub record TakesFrames {R : Type 0} (remaining : R → Option (List ℕ)) (old new : Counted R)
+    (result : Result (Unit {0}) GossipFault) : Type 0 where
+  pub ended : result ≡ Err Ended → IsReadOut remaining new
+  pub failures_never_fall : KeepsFailures old new
+  pub failed : result ≡ Err ReadFailed → HasFailed old new
+
+-- what a call did with the writer that it sends frames to: all of them are one text
+pub record SendsFrames {W : Type 0} (contents : W → Option (List ℕ)) (old new : Counted W) (text : List ℕ)
+    (result : Result (Unit {0}) GossipFault) : Type 0 where
+  pub whole : OnOk result (WritesWhole contents old new text)
+  pub front : WritesFront contents old new text
+  pub flushed : OnOk result (is_flushed new ≡ true)
+  pub failures_never_fall : KeepsFailures old new
+  pub failed : result ≡ Err WriteFailed → HasFailed old new
+
+-- what a call may have done with the source that it asks
+pub record StaysSource {S : Type 0} (layout : S → Layout) (may_become : S → S → Type 0) (old new : S) : Type 0 where
+  pub schema : layout new ≡ layout old
+  pub becomes : may_become old new
 
 -- when one of two streams is to blame for a fault, the counts of whose failures never fall
 pub record Blames {R W : Type 0} (remaining : R → Option (List ℕ)) (input input_new : Counted R)
@@ -24,16 +44,19 @@ pub record Blames {R W : Type 0} (remaining : R → Option (List ℕ)) (input in
   pub read_count : failures_of input ≤ failures_of input_new
   pub write_count : failures_of output ≤ failures_of output_new
 
--- a call that gives of the cells m, in a session of at most so many frames, to a side of which some bytes were read
--- before
-pub record Gives {R W : Type 0} (remaining : R → Option (List ℕ)) (contents : W → Option (List ℕ)) (limit : ℕ)
-    (s : Layout) (m : Cells) (before : List ℕ) (input input_new : Counted R) (output output_new : Counted W)
-    (result : Result (Unit {0}) GossipFault) : Type 0 where
-  pub given : OnOk result (HasGiven limit s m before (remaining (inner_of input)) (remaining (inner_of input_new))
-      (contents (inner_of output)) (contents (inner_of output_new)))
-  pub stopped : IfErr result (HasFailedToGive limit s m before (remaining (inner_of input))
+-- a call that gives the cells that a source has once it is asked, in a session of at most so many frames, to a side of
+-- which some bytes were read before
+pub record Gives {R W S : Type 0} (remaining : R → Option (List ℕ)) (contents : W → Option (List ℕ)) (limit : ℕ)
+    (layout : S → Layout) (cells : S → Cells) (may_become : S → S → Type 0) (before : List ℕ) (source source_new : S)
+    (input input_new : Counted R) (output output_new : Counted W) (result : Result (Unit {0}) GossipFault)
+    : Type 0 where
+  pub given : OnOk result (HasGiven limit (layout source) (cells source_new) before (remaining (inner_of input))
       (remaining (inner_of input_new)) (contents (inner_of output)) (contents (inner_of output_new)))
+  pub stopped : IfErr result (HasFailedToGive limit (layout source) (cells source_new) before
+      (remaining (inner_of input)) (remaining (inner_of input_new)) (contents (inner_of output))
+      (contents (inner_of output_new)))
   pub flushed : OnOk result (is_flushed output_new ≡ true)
+  pub asked : StaysSource layout may_become source source_new
   pub blame : Blames remaining input input_new output output_new result
 
 -- a call that pulls into the cells m, in a session of at most so many frames; `joined` says which cells a target joined

@@ -4,6 +4,7 @@ ghost use Rattle.rr_gossip.specs.Session.{is_giving};
 ghost use Rattle.std.specs.Option.{option_map};
 ghost use Rattle.rr_text.specs.Results.{Gives, GivesUnless, NeedsMemoryAfter};
 ghost use Rattle.rr_gossip.specs.declared.frame.TheConstants.{MAX_FRAMES};
+ghost use Rattle.rr_gossip.specs.Calls.{StaysSource};
 ghost use Rattle.rr_gossip.specs.Giver.{AreFit, HasFailed, first_giver, has_failed, is_due, is_listing, names_in, hello_taken, summary_taken, end_taken, body_taken, frame_due, giver_takes, stage_sends, giver_sends};
 
 use crate::fault::GossipFault;
@@ -13,6 +14,7 @@ use crate::pages::Pages;
 use rr_delta::Source;
 use rr_schema::Schema;
 use std::alloc::Global;
+use std::mem::replace;
 
 /// Where a session is.
 #[derive(Drop)]
@@ -88,8 +90,7 @@ impl Stage {
         ensures taken { GivesUnless GossipFault.Memory (λ _. self.new) result
             (end_taken (S.cells source.new) (S.layout source.old) (names_in self.old) body.now) }
         ensures fit { OnOk result (AreFit self.new) }
-        ensures schema { S.layout source.new ≡ S.layout source.old }
-        ensures may_become { S.may_become source.old source.new }
+        ensures source { StaysSource S.layout S.may_become source.old source.new }
     {
         let Stage::Listing(names) = self else {
             return Err(GossipFault::UnexpectedFrame);
@@ -116,8 +117,7 @@ impl Stage {
             (body_taken (S.cells source.new) (S.layout source.old) self.old kind body.now) }
         ensures fit { OnOk result (AreFit self.new) }
         ensures listing { result ≡ Err GossipFault.Memory → IsTrue (is_listing self.old) }
-        ensures schema { S.layout source.new ≡ S.layout source.old }
-        ensures may_become { S.may_become source.old source.new }
+        ensures source { StaysSource S.layout S.may_become source.old source.new }
     {
         match kind {
             Kind::Hello => {
@@ -205,6 +205,7 @@ impl Giver {
     /// `TooManyFrames`; and by its body, as `SchemaDiffers` for a Hello of another schema and as
     /// `BadFrame` for any other. After a refusal the session has failed, after `Memory` too. The
     /// cost is linear in the frame, and at the last one that of `Source::difference`.
+    #[tactic(auto, unfolding(crate::specs::Giver::giver_takes, crate::specs::Giver::frame_due))]
     pub fn take<S: Source>(
         &mut self,
         alloc: Global,
@@ -217,43 +218,21 @@ impl Giver {
         ensures memory { NeedsMemoryAfter GossipFault.Memory (frame_due self.old frame.now) result }
         ensures listing { result ≡ Err GossipFault.Memory → IsTrue (is_listing self.old.stage) }
         ensures failed { OnErr result (HasFailed self.new) }
-        ensures schema { S.layout source.new ≡ S.layout source.old }
-        ensures may_become { S.may_become source.old source.new }
+        ensures source { StaysSource S.layout S.may_become source.old source.new }
     {
-        let result = self.take_frame(alloc, frame, source);
-        if result.is_err() {
-            self.stage = Stage::Failed;
-        }
-        result
-    }
-
-    /// Takes a frame; after a refusal the session is anywhere.
-    #[tactic(auto, unfolding(crate::specs::Giver::giver_takes, crate::specs::Giver::frame_due))]
-    fn take_frame<S: Source>(
-        &mut self,
-        alloc: Global,
-        frame: &[u8],
-        source: &mut S,
-    ) -> Result<bool, GossipFault>
-        ensures taken { GivesUnless GossipFault.Memory (λ last. (self.new, last)) result
-            (giver_takes (S.cells source.new) (S.layout source.old) self.old frame.now) }
-        ensures fit { OnOk result (AreFit self.new.stage) }
-        ensures memory { NeedsMemoryAfter GossipFault.Memory (frame_due self.old frame.now) result }
-        ensures listing { result ≡ Err GossipFault.Memory → IsTrue (is_listing self.old.stage) }
-        ensures schema { S.layout source.new ≡ S.layout source.old }
-        ensures may_become { S.may_become source.old source.new }
-    {
-        if matches!(&self.stage, Stage::Failed) {
+        let mut stage = replace(&mut self.stage, Stage::Failed);
+        if matches!(&stage, Stage::Failed) {
             return Err(GossipFault::Failed);
         }
         let (kind, body) = content_of(frame)?;
-        if !self.stage.is_due(kind) {
+        if !stage.is_due(kind) {
             return Err(GossipFault::UnexpectedFrame);
         }
         if self.taken >= self.limit {
             return Err(GossipFault::TooManyFrames);
         }
-        let last = self.stage.take_body(alloc, kind, body, source)?;
+        let last = stage.take_body(alloc, kind, body, source)?;
+        self.stage = stage;
         self.taken += 1;
         Ok(last)
     }
@@ -263,6 +242,7 @@ impl Giver {
     ///
     /// Refused as `Failed` after a fault; as `TooManyFrames`, before a frame is made; and as
     /// `Memory`. After a refusal the session has failed. The cost is linear in the frame.
+    #[tactic(auto, unfolding(crate::specs::Giver::giver_sends))]
     pub fn next_frame<S: Source>(
         &mut self,
         alloc: Global,
@@ -276,29 +256,17 @@ impl Giver {
         ensures failed { OnErr result (HasFailed self.new) }
         ensures unchanged { _source.new ≡ _source.old }
     {
-        let result = self.send_frame(alloc);
-        if result.is_err() {
-            self.stage = Stage::Failed;
-        }
-        result
-    }
-
-    /// The next frame; after a refusal the session is anywhere.
-    #[tactic(auto, unfolding(crate::specs::Giver::giver_sends))]
-    fn send_frame(&mut self, alloc: Global) -> Result<Option<Vec<u8>>, GossipFault>
-        ensures sent { GivesUnless GossipFault.Memory
-            (λ frame. (self.new, option_map (λ bytes. bytes.items) frame)) result
-            (giver_sends self.old) }
-        ensures memory { result ≡ Err GossipFault.Memory → IsTrue (is_giving self.old.stage) }
-        ensures within { result ≡ Err GossipFault.Memory → self.old.sent < self.old.limit }
-    {
-        if !self.stage.is_giving() {
-            return self.stage.next_frame(alloc);
+        let mut stage = replace(&mut self.stage, Stage::Failed);
+        if !stage.is_giving() {
+            let frame = stage.next_frame(alloc)?;
+            self.stage = stage;
+            return Ok(frame);
         }
         if self.sent >= self.limit {
             return Err(GossipFault::TooManyFrames);
         }
-        let frame = self.stage.next_frame(alloc)?;
+        let frame = stage.next_frame(alloc)?;
+        self.stage = stage;
         self.sent += 1;
         Ok(frame)
     }

@@ -1,11 +1,10 @@
 //! The answer to a pull, over streams.
-ghost use Rattle.std.specs.Prelude.{◌≡◌, ◌≤◌, [], ◌∷◌, Err, true, IfErr, IsTrue, OnOk, length};
+ghost use Rattle.std.specs.Prelude.{◌≡◌, ◌≤◌, [], ◌∷◌, IfErr, IsTrue, OnOk, length};
 ghost use Rattle.std.specs.List.{concat};
-ghost use Rattle.rr_io.specs.Counted.{inner_of, is_flushed};
-ghost use Rattle.rr_io.specs.Stream.{HasFailed, IsReadOut, KeepsFailures, WritesFront, WritesWhole};
+ghost use Rattle.rr_io.specs.Counted.{inner_of};
 ghost use Rattle.rr_gossip.specs.declared.frame.TheConstants.{MAX_FRAMES};
-ghost use Rattle.rr_gossip.specs.Calls.{Gives};
-ghost use Rattle.rr_gossip.specs.Session.{CannotSend, HasFailedToGive, HasGiven, HasHeard, HasStoppedHearing, is_giving, reply_left};
+ghost use Rattle.rr_gossip.specs.Calls.{Gives, SendsFrames, StaysSource, TakesFrames};
+ghost use Rattle.rr_gossip.specs.Session.{CannotSend, HasHeard, HasStoppedHearing, is_giving, reply_left};
 
 use crate::fault::GossipFault;
 use crate::frame::MAX_FRAMES;
@@ -33,13 +32,10 @@ fn take_names<S: Source, R: Read>(
     ensures stopped { IfErr result (HasStoppedHearing (S.layout source.old) (S.cells source.new)
         giver.old before.now
         (R.remaining (inner_of input.old)) (R.remaining (inner_of input.new))) }
-    ensures schema { S.layout source.new ≡ S.layout source.old }
-    ensures may_become { S.may_become source.old source.new }
+    ensures source { StaysSource S.layout S.may_become source.old source.new }
     ensures sent { OnOk result (giver.new.sent ≡ giver.old.sent) }
     ensures limit { OnOk result (giver.new.limit ≡ giver.old.limit) }
-    ensures ended { result ≡ Err GossipFault.Ended → IsReadOut R.remaining input.new }
-    ensures failures_never_fall { KeepsFailures input.old input.new }
-    ensures failed { result ≡ Err GossipFault.ReadFailed → HasFailed input.old input.new }
+    ensures stream { TakesFrames R.remaining input.old input.new result }
 {
     let mut frame = Vec::from_slice(alloc, before)?;
     loop {
@@ -61,15 +57,10 @@ fn send_pages<S: Source, W: Write>(
 ) -> Result<(), GossipFault>
     requires giving { IsTrue (is_giving giver.old.stage) }
     requires fresh { giver.old.sent ≡ 0 }
-    ensures sent { OnOk result (WritesWhole W.contents output.old output.new
-        (concat (reply_left giver.old.stage))) }
-    ensures front { WritesFront W.contents output.old output.new
-        (concat (reply_left giver.old.stage)) }
+    ensures sent { SendsFrames W.contents output.old output.new
+        (concat (reply_left giver.old.stage)) result }
     ensures refused { IfErr result (CannotSend giver.old.limit (reply_left giver.old.stage)) }
-    ensures flushed { OnOk result (is_flushed output.new ≡ true) }
     ensures unchanged { source.new ≡ source.old }
-    ensures failures_never_fall { KeepsFailures output.old output.new }
-    ensures failed { result ≡ Err GossipFault.WriteFailed → HasFailed output.old output.new }
 {
     while let Some(frame) = giver.next_frame(alloc, source)? {
         write_all(output, &frame)?;
@@ -89,24 +80,8 @@ fn give_from<S: Source, R: Read, W: Write>(
 ) -> Result<(), GossipFault>
     requires front_fits { length before.now ≤ 4 }
     requires frames_fit { frames ≤ MAX_FRAMES }
-    ensures given { OnOk result (HasGiven frames
-        (S.layout source.old) (S.cells source.new) before.now
-        (R.remaining (inner_of input.old)) (R.remaining (inner_of input.new))
-        (W.contents (inner_of output.old)) (W.contents (inner_of output.new))) }
-    ensures flushed { OnOk result (is_flushed output.new ≡ true) }
-    ensures stopped { IfErr result (HasFailedToGive frames
-        (S.layout source.old) (S.cells source.new) before.now
-        (R.remaining (inner_of input.old)) (R.remaining (inner_of input.new))
-        (W.contents (inner_of output.old)) (W.contents (inner_of output.new))) }
-    ensures schema { S.layout source.new ≡ S.layout source.old }
-    ensures may_become { S.may_become source.old source.new }
-
-    // When a stream is to blame.
-    ensures ended { result ≡ Err GossipFault.Ended → IsReadOut R.remaining input.new }
-    ensures read_failed { result ≡ Err GossipFault.ReadFailed → HasFailed input.old input.new }
-    ensures write_failed { result ≡ Err GossipFault.WriteFailed → HasFailed output.old output.new }
-    ensures read_count { KeepsFailures input.old input.new }
-    ensures write_count { KeepsFailures output.old output.new }
+    ensures session { Gives R.remaining W.contents frames S.layout S.cells S.may_become
+        before.now source.old source.new input.old input.new output.old output.new result }
 {
     let mut giver = Giver::with_limit(frames);
     take_names(alloc, &mut giver, before, input, source)?;
@@ -132,11 +107,8 @@ pub fn give<S: Source, R: Read, W: Write>(
     output: &mut Counted<W>,
     source: &mut S,
 ) -> Result<(), GossipFault>
-    ensures session { Gives R.remaining W.contents MAX_FRAMES
-        (S.layout source.old) (S.cells source.new) []
-        input.old input.new output.old output.new result }
-    ensures schema { S.layout source.new ≡ S.layout source.old }
-    ensures may_become { S.may_become source.old source.new }
+    ensures session { Gives R.remaining W.contents MAX_FRAMES S.layout S.cells S.may_become
+        [] source.old source.new input.old input.new output.old output.new result }
 {
     give_from(alloc, &[], input, output, source, MAX_FRAMES)
 }
@@ -150,11 +122,8 @@ pub fn give_within<S: Source, R: Read, W: Write>(
     frames: u32,
 ) -> Result<(), GossipFault>
     requires { frames ≤ MAX_FRAMES }
-    ensures session { Gives R.remaining W.contents frames
-        (S.layout source.old) (S.cells source.new) []
-        input.old input.new output.old output.new result }
-    ensures schema { S.layout source.new ≡ S.layout source.old }
-    ensures may_become { S.may_become source.old source.new }
+    ensures session { Gives R.remaining W.contents frames S.layout S.cells S.may_become
+        [] source.old source.new input.old input.new output.old output.new result }
 {
     give_from(alloc, &[], input, output, source, frames)
 }
@@ -167,11 +136,8 @@ pub fn give_after<S: Source, R: Read, W: Write>(
     output: &mut Counted<W>,
     source: &mut S,
 ) -> Result<(), GossipFault>
-    ensures session { Gives R.remaining W.contents MAX_FRAMES
-        (S.layout source.old) (S.cells source.new) (first ∷ [])
-        input.old input.new output.old output.new result }
-    ensures schema { S.layout source.new ≡ S.layout source.old }
-    ensures may_become { S.may_become source.old source.new }
+    ensures session { Gives R.remaining W.contents MAX_FRAMES S.layout S.cells S.may_become
+        (first ∷ []) source.old source.new input.old input.new output.old output.new result }
 {
     give_from(alloc, &[first], input, output, source, MAX_FRAMES)
 }
@@ -186,11 +152,8 @@ pub fn give_after_within<S: Source, R: Read, W: Write>(
     frames: u32,
 ) -> Result<(), GossipFault>
     requires { frames ≤ MAX_FRAMES }
-    ensures session { Gives R.remaining W.contents frames
-        (S.layout source.old) (S.cells source.new) (first ∷ [])
-        input.old input.new output.old output.new result }
-    ensures schema { S.layout source.new ≡ S.layout source.old }
-    ensures may_become { S.may_become source.old source.new }
+    ensures session { Gives R.remaining W.contents frames S.layout S.cells S.may_become
+        (first ∷ []) source.old source.new input.old input.new output.old output.new result }
 {
     give_from(alloc, &[first], input, output, source, frames)
 }

@@ -14,6 +14,7 @@ use crate::joining::take_page;
 use crate::summary::{MAX_ENTRIES, summary_bytes};
 use rr_delta::{Name, Target};
 use std::alloc::{AllocError, Global};
+use std::mem::replace;
 
 /// Where a session is.
 #[derive(Drop)]
@@ -166,6 +167,7 @@ impl Puller {
     /// Refused as `Failed` after a fault; as `TooManyFrames`, before any name is asked for; and as
     /// `Memory`. After a refusal the session has failed. The cost is that of `Target::names_after`,
     /// and linear in the frame.
+    #[tactic(auto, unfolding(crate::specs::Puller::puller_sends))]
     pub fn next_frame<T: Target>(
         &mut self,
         alloc: Global,
@@ -178,33 +180,17 @@ impl Puller {
         ensures within { result ≡ Err GossipFault.Memory → self.old.sent < self.old.limit }
         ensures failed { OnErr result (HasFailed self.new) }
     {
-        let result = self.send_frame(alloc, target);
-        if result.is_err() {
-            self.stage = Stage::Failed;
-        }
-        result
-    }
-
-    /// The next frame; after a refusal the session is anywhere.
-    #[tactic(auto, unfolding(crate::specs::Puller::puller_sends))]
-    fn send_frame<T: Target>(
-        &mut self,
-        alloc: Global,
-        target: &T,
-    ) -> Result<Option<Vec<u8>>, GossipFault>
-        ensures sent { GivesUnless GossipFault.Memory
-            (λ frame. (self.new, option_map (λ bytes. bytes.items) frame)) result
-            (puller_sends (T.cells target.now) (T.layout target.now) self.old) }
-        ensures memory { result ≡ Err GossipFault.Memory → IsTrue (is_sending self.old.stage) }
-        ensures within { result ≡ Err GossipFault.Memory → self.old.sent < self.old.limit }
-    {
-        if !self.stage.is_sending() {
-            return self.stage.next_frame(alloc, target);
+        let mut stage = replace(&mut self.stage, Stage::Failed);
+        if !stage.is_sending() {
+            let frame = stage.next_frame(alloc, target)?;
+            self.stage = stage;
+            return Ok(frame);
         }
         if self.sent >= self.limit {
             return Err(GossipFault::TooManyFrames);
         }
-        let frame = self.stage.next_frame(alloc, target)?;
+        let frame = stage.next_frame(alloc, target)?;
+        self.stage = stage;
         self.sent += 1;
         Ok(frame)
     }
@@ -219,6 +205,7 @@ impl Puller {
     /// is joined. `Memory` comes only where the frame is a good one; some cells of the page may
     /// then be joined, from the first on. After a refusal the session has failed. The cost is
     /// linear in the frame, and that of `Target::join_cell` for each cell.
+    #[tactic(auto, unfolding(crate::specs::Puller::puller_takes))]
     pub fn take<T: Target>(
         &mut self,
         alloc: Global,
@@ -231,37 +218,19 @@ impl Puller {
             (puller_takes (T.layout target.old) self.old frame.now) result }
         ensures failed { OnErr result (HasFailed self.new) }
     {
-        let result = self.take_frame(alloc, frame, target);
-        if result.is_err() {
-            self.stage = Stage::Failed;
-        }
-        result
-    }
-
-    /// Takes a frame; after a refusal the session is anywhere.
-    #[tactic(auto, unfolding(crate::specs::Puller::puller_takes))]
-    fn take_frame<T: Target>(
-        &mut self,
-        alloc: Global,
-        frame: &[u8],
-        target: &mut T,
-    ) -> Result<bool, GossipFault>
-        ensures taken { Takes (T.has_joined target.old target.new) self.new result
-            (puller_takes (T.layout target.old) self.old frame.now) }
-        ensures memory { NeedsMemoryAfter GossipFault.Memory
-            (puller_takes (T.layout target.old) self.old frame.now) result }
-    {
-        if matches!(&self.stage, Stage::Failed) {
+        let mut stage = replace(&mut self.stage, Stage::Failed);
+        if matches!(&stage, Stage::Failed) {
             return Err(GossipFault::Failed);
         }
         let (kind, body) = content_of(frame)?;
-        if !self.stage.is_due(kind) {
+        if !stage.is_due(kind) {
             return Err(GossipFault::UnexpectedFrame);
         }
         if self.taken >= self.limit {
             return Err(GossipFault::TooManyFrames);
         }
-        let last = self.stage.take_body(alloc, kind, body, target)?;
+        let last = stage.take_body(alloc, kind, body, target)?;
+        self.stage = stage;
         self.taken += 1;
         Ok(last)
     }

@@ -1,13 +1,12 @@
 //! A pull over streams.
-ghost use Rattle.std.specs.Prelude.{◌≡◌, ◌≤◌, Err, List, true, IfErr, OnOk, length};
+ghost use Rattle.std.specs.Prelude.{◌≡◌, ◌≤◌, List, IfErr, OnOk, length};
 ghost use Rattle.std.specs.List.{concat};
 ghost use Rattle.rr_cells.specs.CellBounds.{NamedCell};
-ghost use Rattle.rr_io.specs.Counted.{inner_of, is_flushed};
-ghost use Rattle.rr_io.specs.Stream.{HasFailed, IsReadOut, KeepsFailures, WritesFront, WritesWhole};
+ghost use Rattle.rr_io.specs.Counted.{inner_of};
 ghost use Rattle.rr_gossip.specs.declared.frame.TheConstants.{MAX_FRAMES};
 ghost use Rattle.rr_gossip.specs.Puller.{first_puller};
-ghost use Rattle.rr_gossip.specs.Calls.{Pulls};
-ghost use Rattle.rr_gossip.specs.Session.{CannotSend, HasFailedToPull, HasPulled, HasStoppedPulling, sent_by};
+ghost use Rattle.rr_gossip.specs.Calls.{Pulls, SendsFrames, TakesFrames};
+ghost use Rattle.rr_gossip.specs.Session.{CannotSend, HasPulled, HasStoppedPulling, sent_by};
 ghost use Rattle.rr_gossip.specs.Transcript.{waiting};
 
 use crate::fault::GossipFault;
@@ -28,18 +27,13 @@ fn send_names<T: Target, W: Write>(
     target: &T,
 ) -> Result<(), GossipFault>
     requires { puller.old ≡ first_puller puller.old.limit }
-    ensures sent { OnOk result (WritesWhole W.contents output.old output.new
-        (concat (sent_by (T.layout target.now) (T.cells target.now)))) }
-    ensures front { WritesFront W.contents output.old output.new
-        (concat (sent_by (T.layout target.now) (T.cells target.now))) }
+    ensures sent { SendsFrames W.contents output.old output.new
+        (concat (sent_by (T.layout target.now) (T.cells target.now))) result }
     ensures waits { OnOk result (puller.new
         ≡ waiting (length (sent_by (T.layout target.now) (T.cells target.now))) 0
         puller.old.limit) }
     ensures refused { IfErr result (CannotSend puller.old.limit
         (sent_by (T.layout target.now) (T.cells target.now))) }
-    ensures flushed { OnOk result (is_flushed output.new ≡ true) }
-    ensures failures_never_fall { KeepsFailures output.old output.new }
-    ensures failed { result ≡ Err GossipFault.WriteFailed → HasFailed output.old output.new }
 {
     while let Some(frame) = puller.next_frame(alloc, target)? {
         write_all(output, &frame)?;
@@ -64,9 +58,7 @@ fn take_pages<T: Target, R: Read>(
         × T.has_joined target.old target.new cells
         × HasStoppedPulling (T.layout target.old) puller.old
         (R.remaining (inner_of input.old)) (R.remaining (inner_of input.new)) fault cells) }
-    ensures ended { result ≡ Err GossipFault.Ended → IsReadOut R.remaining input.new }
-    ensures failures_never_fall { KeepsFailures input.old input.new }
-    ensures failed { result ≡ Err GossipFault.ReadFailed → HasFailed input.old input.new }
+    ensures stream { TakesFrames R.remaining input.old input.new result }
 {
     let mut frame = Vec::new(alloc);
     loop {
@@ -87,31 +79,9 @@ fn pull_from<T: Target, R: Read, W: Write>(
     frames: u32,
 ) -> Result<(), GossipFault>
     requires { frames ≤ MAX_FRAMES }
-    // What is sent.
-    ensures sent { OnOk result (WritesWhole W.contents output.old output.new
-        (concat (sent_by (T.layout target.old) (T.cells target.old)))) }
-    ensures front { WritesFront W.contents output.old output.new
-        (concat (sent_by (T.layout target.old) (T.cells target.old))) }
-    ensures flushed { OnOk result (is_flushed output.new ≡ true) }
-
-    // What is read, and which cells are joined, one by one and in order.
-    ensures pulled { OnOk result ((cells : List NamedCell)
-        × T.has_joined target.old target.new cells
-        × HasPulled (T.layout target.old)
-        (waiting (length (sent_by (T.layout target.old) (T.cells target.old))) 0 frames)
-        (R.remaining (inner_of input.old)) (R.remaining (inner_of input.new)) cells) }
-    ensures stopped { IfErr result (λ fault. (cells : List NamedCell)
-        × T.has_joined target.old target.new cells
-        × HasFailedToPull frames (T.layout target.old) (T.cells target.old)
-        (R.remaining (inner_of input.old)) (R.remaining (inner_of input.new))
-        (W.contents (inner_of output.old)) (W.contents (inner_of output.new)) fault cells) }
-
-    // When a stream is to blame.
-    ensures ended { result ≡ Err GossipFault.Ended → IsReadOut R.remaining input.new }
-    ensures read_failed { result ≡ Err GossipFault.ReadFailed → HasFailed input.old input.new }
-    ensures write_failed { result ≡ Err GossipFault.WriteFailed → HasFailed output.old output.new }
-    ensures read_count { KeepsFailures input.old input.new }
-    ensures write_count { KeepsFailures output.old output.new }
+    ensures session { Pulls R.remaining W.contents frames
+        (T.layout target.old) (T.cells target.old) (T.has_joined target.old target.new)
+        input.old input.new output.old output.new result }
 {
     let mut puller = Puller::with_limit(frames);
     send_names(alloc, &mut puller, output, target)?;

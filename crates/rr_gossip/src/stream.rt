@@ -1,9 +1,9 @@
 //! Frames from a reader.
-ghost use Rattle.std.specs.Prelude.{◌≡◌, ◌≤◌, Ok, Err, IfErr, OnOk, List, ℕ, [], drop, length};
+ghost use Rattle.std.specs.Prelude.{◌≡◌, ◌≤◌, Ok, IfErr, OnOk, List, ℕ, [], drop, length};
 ghost use Rattle.std.specs.Int.{w32};
 ghost use Rattle.rr_io.specs.Counted.{inner_of};
-ghost use Rattle.rr_io.specs.Stream.{HasFailed, IsReadOut, KeepsFailures};
 ghost use Rattle.rr_page.specs.Reading.{number_at};
+ghost use Rattle.rr_gossip.specs.Calls.{TakesFrames};
 ghost use Rattle.rr_gossip.specs.Stream.{BreaksOff, Grows, IsFrame, ReadsFewer};
 
 use crate::fault::GossipFault;
@@ -35,9 +35,7 @@ fn read_until<R: Read>(
         bytes.old.items read
         × (length read ≤ len)
         × ReadsFewer fault (length read) len) }
-    ensures ended { result ≡ Err GossipFault.Ended → IsReadOut R.remaining input.new }
-    ensures failures_never_fall { KeepsFailures input.old input.new }
-    ensures failed { result ≡ Err GossipFault.ReadFailed → HasFailed input.old input.new }
+    ensures stream { TakesFrames R.remaining input.old input.new result }
 {
     let mut piece = [0u8; PIECE];
     while bytes.len() < len {
@@ -81,9 +79,7 @@ pub(crate) fn read_frame<R: Read>(
         × Grows (R.remaining (inner_of input.old)) (R.remaining (inner_of input.new))
         frame.old.items read
         × BreaksOff read fault) }
-    ensures ended { result ≡ Err GossipFault.Ended → IsReadOut R.remaining input.new }
-    ensures failures_never_fall { KeepsFailures input.old input.new }
-    ensures failed { result ≡ Err GossipFault.ReadFailed → HasFailed input.old input.new }
+    ensures stream { TakesFrames R.remaining input.old input.new result }
 {
     read_until(input, frame, LENGTH_LEN)?;
     let len = content_len(frame);

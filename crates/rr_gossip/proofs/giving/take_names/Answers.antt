@@ -1,4 +1,4 @@
-use Rattle.std.proofs.Common.{◌++◌, ◌∷◌, [], drop, refl, sym, ap, subst, ◌∙◌, inl, inr, arith}
+use Rattle.std.proofs.Common.{rules, ◌++◌, ◌∷◌, [], drop, refl, sym, ap, subst, ◌∙◌, inl, inr, arith}
 use Rattle.std.proofs.lemmas.Result.{err_from_is_err_and}
 use Rattle.rr_io.specs.Counted.{inner_of}
 use Rattle.rr_gossip.specs.Giver.{AreFit}
@@ -75,17 +75,20 @@ returns-in_err-take-clause-stopped g c =
           c.in_ok-read_frame.ensures.whole takes);
     })
 
-pub returns-in_err-take-clause-ended : goal.returns-in_err-take-clause-ended
-returns-in_err-take-clause-ended g c = λ e.
-    let p = err_from_is_err_and c.from_residual-in_err-take.result c.from_residual-in_err-take.ensures.1 in
-    not_of_frame c.from_residual-in_err-take.result p.0 Ended
-    (ap is_of_frame p.2 ∙ hears_of_frame _ _ c.loop-frame.giver _ _ c.in_err-take.ensures.taken) refl p.1 e
-
-pub returns-in_err-take-clause-failed : goal.returns-in_err-take-clause-failed
-returns-in_err-take-clause-failed g c = λ e.
-    let p = err_from_is_err_and c.from_residual-in_err-take.result c.from_residual-in_err-take.ensures.1 in
-    not_of_frame c.from_residual-in_err-take.result p.0 ReadFailed
-    (ap is_of_frame p.2 ∙ hears_of_frame _ _ c.loop-frame.giver _ _ c.in_err-take.ensures.taken) refl p.1 e
+pub returns-in_err-take-clause-stream : goal.returns-in_err-take-clause-stream
+returns-in_err-take-clause-stream g c = record {
+  ended =
+      λ e.
+      let p = err_from_is_err_and c.from_residual-in_err-take.result c.from_residual-in_err-take.ensures.1 in
+      not_of_frame c.from_residual-in_err-take.result p.0 Ended
+      (ap is_of_frame p.2 ∙ hears_of_frame _ _ c.loop-frame.giver _ _ c.in_err-take.ensures.taken) refl p.1 e;
+  failures_never_fall = search rules;
+  failed =
+      λ e.
+      let p = err_from_is_err_and c.from_residual-in_err-take.result c.from_residual-in_err-take.ensures.1 in
+      not_of_frame c.from_residual-in_err-take.result p.0 ReadFailed
+      (ap is_of_frame p.2 ∙ hears_of_frame _ _ c.loop-frame.giver _ _ c.in_err-take.ensures.taken) refl p.1 e;
+}
 
 pub returns-then-branch-clause-heard : goal.returns-then-branch-clause-heard
 returns-then-branch-clause-heard g c =
@@ -139,9 +142,9 @@ loop-frame-preserved g c =
       few = rw none (omega arith);
       taken = λ n. frame_heard n s c.args.giver.now c.loop-frame.giver c.take.new.self so_far.frames frame _
           (so_far.taken n) (moves.going c.if-branch.false n);
-      schema = c.in_ok-take.ensures.schema ∙ so_far.schema;
-      kept = g.met.S.Source.may_go_on _ _ _ so_far.kept c.in_ok-take.ensures.may_become;
+      schema = c.in_ok-take.ensures.source.schema ∙ so_far.schema;
+      kept = g.met.S.Source.may_go_on _ _ _ so_far.kept c.in_ok-take.ensures.source.becomes;
       sent = moves.sent ∙ so_far.sent;
       limit = moves.limit ∙ so_far.limit;
-      count = omega (arith, so_far.count, c.in_ok-read_frame.ensures.failures_never_fall);
+      count = omega (arith, so_far.count, c.in_ok-read_frame.ensures.stream.failures_never_fall);
     }

@@ -1,4 +1,4 @@
-use Rattle.std.proofs.Common.{◌++◌, ◌∷◌, [], sym, subst, ◌∙◌, arith}
+use Rattle.std.proofs.Common.{rules, ◌++◌, ◌∷◌, [], sym, subst, ◌∙◌, arith}
 use Rattle.std.specs.Io.KnownBytes.{Appends}
 use Rattle.std.proofs.KnownBytes.{Appends-kept, Appends-nil, Appends-trans}
 use Rattle.std.proofs.lemmas.Result.{err_from_is_err_and}
@@ -19,10 +19,22 @@ loop-frame-init g c =
           omega arith;
     }
 
-pub returns-in_err-frame-clause-front : goal.returns-in_err-frame-clause-front
-returns-in_err-frame-clause-front g c =
-    let so_far = c.loop-frame.invariant in
-    frames_before _ _ _ so_far.before _ so_far.sends.all so_far.written
+pub returns-in_err-frame-clause-sent : goal.returns-in_err-frame-clause-sent
+returns-in_err-frame-clause-sent g c = record {
+  whole = search rules;
+  front =
+      let so_far = c.loop-frame.invariant in
+      frames_before _ _ _ so_far.before _ so_far.sends.all so_far.written;
+  flushed = search rules;
+  failures_never_fall = search rules;
+  failed =
+      λ e.
+      let m = g.T.Target.cells c.args.target.now in
+      let s = g.T.Target.layout c.args.target.now in
+      let p = err_from_is_err_and c.from_residual.result c.from_residual.ensures.1 in
+      absurd (not_written m s c.loop-frame.puller c.in_err-frame.field-0.0 c.in_err-frame.ensures.sent
+      (sym p.2 ∙ err_is {A = Unit {0}} p.0 _ (sym p.1 ∙ e)));
+}
 
 pub returns-in_err-frame-clause-refused : goal.returns-in_err-frame-clause-refused
 returns-in_err-frame-clause-refused g c =
@@ -33,24 +45,22 @@ returns-in_err-frame-clause-refused g c =
     rw (p.1, p.2) (cannot_send m s c.args.puller.now.limit c.loop-frame.puller so_far.before c.in_err-frame.field-0.0
     so_far.sends c.in_err-frame.ensures.sent)
 
-pub returns-in_err-frame-clause-failed : goal.returns-in_err-frame-clause-failed
-returns-in_err-frame-clause-failed g c = λ e.
-    let m = g.T.Target.cells c.args.target.now in
-    let s = g.T.Target.layout c.args.target.now in
-    let p = err_from_is_err_and c.from_residual.result c.from_residual.ensures.1 in
-    absurd (not_written m s c.loop-frame.puller c.in_err-frame.field-0.0 c.in_err-frame.ensures.sent
-    (sym p.2 ∙ err_is {A = Unit {0}} p.0 _ (sym p.1 ∙ e)))
-
-pub returns-in_err-write_all-clause-front : goal.returns-in_err-write_all-clause-front
-returns-in_err-write_all-clause-front g c =
-    let so_far = c.loop-frame.invariant in
-    let m = g.T.Target.cells c.args.target.now in
-    let s = g.T.Target.layout c.args.target.now in
-    let frame = c.in-Some.frame.items in
-    let one = one_sent m s c.args.puller.now.limit c.loop-frame.puller c.next_frame.new.self so_far.before frame
-    so_far.sends (rw c.in-Some.is at c.in_ok-frame.ensures.sent) in
-    frames_front _ _ _ _ so_far.before one.left frame one.all so_far.written
-    (rw c.deref.ensures.value at c.in_err-write_all.ensures.front)
+pub returns-in_err-write_all-clause-sent : goal.returns-in_err-write_all-clause-sent
+returns-in_err-write_all-clause-sent g c = record {
+  whole = search rules;
+  front =
+      let so_far = c.loop-frame.invariant in
+      let m = g.T.Target.cells c.args.target.now in
+      let s = g.T.Target.layout c.args.target.now in
+      let frame = c.in-Some.frame.items in
+      let one = one_sent m s c.args.puller.now.limit c.loop-frame.puller c.next_frame.new.self so_far.before frame
+      so_far.sends (rw c.in-Some.is at c.in_ok-frame.ensures.sent) in
+      frames_front _ _ _ _ so_far.before one.left frame one.all so_far.written
+      (rw c.deref.ensures.value at c.in_err-write_all.ensures.front);
+  flushed = search rules;
+  failures_never_fall = search rules;
+  failed = search rules;
+}
 
 pub loop-frame-smaller : goal.loop-frame-smaller
 loop-frame-smaller g c =
@@ -77,24 +87,34 @@ loop-frame-preserved g c =
       count = omega (arith, so_far.count, c.in_ok-write_all.ensures.failures_never_fall);
     }
 
-pub returns-in_err-flush-clause-front : goal.returns-in_err-flush-clause-front
-returns-in_err-flush-clause-front g c =
-    let so_far = c.loop-frame.invariant in
-    prefix_kept _ _ _ _ (frames_before _ _ _ so_far.before _ so_far.sends.all so_far.written) c.flush.ensures.bytes
+pub returns-in_err-flush-clause-sent : goal.returns-in_err-flush-clause-sent
+returns-in_err-flush-clause-sent g c = record {
+  whole = search rules;
+  front =
+      let so_far = c.loop-frame.invariant in
+      prefix_kept _ _ _ _ (frames_before _ _ _ so_far.before _ so_far.sends.all so_far.written) c.flush.ensures.bytes;
+  flushed = search rules;
+  failures_never_fall = search rules;
+  failed = search rules;
+}
 
 pub returns-clause-sent : goal.returns-clause-sent
-returns-clause-sent g c =
-    let so_far = c.loop-frame.invariant in
-    let m = g.T.Target.cells c.args.target.now in
-    let s = g.T.Target.layout c.args.target.now in
-    let all = all_sent m s c.args.puller.now.limit c.loop-frame.puller c.next_frame.new.self so_far.before so_far.sends
-    (rw c.in_default.is at c.in_ok-frame.ensures.sent) in
-    Appends-kept _ _ _ _ (frames_whole _ _ _ so_far.before all.0 so_far.written) c.flush.ensures.bytes
-
-pub returns-clause-front : goal.returns-clause-front
-returns-clause-front g c =
-    let so_far = c.loop-frame.invariant in
-    prefix_kept _ _ _ _ (frames_before _ _ _ so_far.before _ so_far.sends.all so_far.written) c.flush.ensures.bytes
+returns-clause-sent g c = record {
+  whole =
+      let so_far = c.loop-frame.invariant in
+      let m = g.T.Target.cells c.args.target.now in
+      let s = g.T.Target.layout c.args.target.now in
+      let all = all_sent m s c.args.puller.now.limit c.loop-frame.puller c.next_frame.new.self so_far.before
+      so_far.sends
+      (rw c.in_default.is at c.in_ok-frame.ensures.sent) in
+      Appends-kept _ _ _ _ (frames_whole _ _ _ so_far.before all.0 so_far.written) c.flush.ensures.bytes;
+  front =
+      let so_far = c.loop-frame.invariant in
+      prefix_kept _ _ _ _ (frames_before _ _ _ so_far.before _ so_far.sends.all so_far.written) c.flush.ensures.bytes;
+  flushed = search rules;
+  failures_never_fall = search rules;
+  failed = search rules;
+}
 
 pub returns-clause-waits : goal.returns-clause-waits
 returns-clause-waits g c =

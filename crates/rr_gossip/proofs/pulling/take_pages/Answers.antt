@@ -1,4 +1,4 @@
-use Rattle.std.proofs.Common.{◌++◌, ◌∷◌, [], drop, sym, ap, subst, ◌∙◌, inl, arith, refl}
+use Rattle.std.proofs.Common.{rules, ◌++◌, ◌∷◌, [], drop, sym, ap, subst, ◌∙◌, inl, arith, refl}
 use Rattle.std.proofs.lemmas.Result.{err_from_is_err_and}
 use Rattle.rr_io.specs.Counted.{inner_of}
 use Rattle.rr_gossip.specs.Stream.{WasRead}
@@ -71,19 +71,22 @@ returns-in_err-take-clause-stopped g c =
       },
     )
 
-pub returns-in_err-take-clause-ended : goal.returns-in_err-take-clause-ended
-returns-in_err-take-clause-ended g c = λ e.
-    let p = err_from_is_err_and c.from_residual-in_err-take.result c.from_residual-in_err-take.ensures.1 in
-    not_of_frame c.from_residual-in_err-take.result p.0 Ended
-    (ap is_of_frame p.2 ∙ takes_of_frame _ c.loop-frame.puller c.take.new.self _ _ _ c.in_err-take.ensures.taken)
-    refl p.1 e
-
-pub returns-in_err-take-clause-failed : goal.returns-in_err-take-clause-failed
-returns-in_err-take-clause-failed g c = λ e.
-    let p = err_from_is_err_and c.from_residual-in_err-take.result c.from_residual-in_err-take.ensures.1 in
-    not_of_frame c.from_residual-in_err-take.result p.0 ReadFailed
-    (ap is_of_frame p.2 ∙ takes_of_frame _ c.loop-frame.puller c.take.new.self _ _ _ c.in_err-take.ensures.taken)
-    refl p.1 e
+pub returns-in_err-take-clause-stream : goal.returns-in_err-take-clause-stream
+returns-in_err-take-clause-stream g c = record {
+  ended =
+      λ e.
+      let p = err_from_is_err_and c.from_residual-in_err-take.result c.from_residual-in_err-take.ensures.1 in
+      not_of_frame c.from_residual-in_err-take.result p.0 Ended
+      (ap is_of_frame p.2 ∙ takes_of_frame _ c.loop-frame.puller c.take.new.self _ _ _ c.in_err-take.ensures.taken)
+      refl p.1 e;
+  failures_never_fall = search rules;
+  failed =
+      λ e.
+      let p = err_from_is_err_and c.from_residual-in_err-take.result c.from_residual-in_err-take.ensures.1 in
+      not_of_frame c.from_residual-in_err-take.result p.0 ReadFailed
+      (ap is_of_frame p.2 ∙ takes_of_frame _ c.loop-frame.puller c.take.new.self _ _ _ c.in_err-take.ensures.taken)
+      refl p.1 e;
+}
 
 pub returns-then-branch-clause-pulled : goal.returns-then-branch-clause-pulled
 returns-then-branch-clause-pulled g c =
@@ -131,5 +134,5 @@ loop-frame-preserved g c =
       taken = frame_taken s c.args.puller.now c.loop-frame.puller c.take.new.self [] so_far.cells so_far.frames frame
           takes.0 c.in_ok-take.field-0 so_far.taken takes.1;
       joined = g.met.T.Target.joins_then _ _ _ so_far.cells takes.0 so_far.joined takes.2;
-      count = omega (arith, so_far.count, c.in_ok-read_frame.ensures.failures_never_fall);
+      count = omega (arith, so_far.count, c.in_ok-read_frame.ensures.stream.failures_never_fall);
     }
