@@ -3,3 +3,4 @@ pub mod Report
 pub mod Checker
 pub mod Ending
 pub mod Orders
+pub mod Streams

@@ -1,10 +1,8 @@
 //! Lines from a reader, reported to a writer.
 
-ghost use Rattle.std.specs.Prelude.{◌≡◌, ◌+◌, ◌≤◌, Err, true, IfSome, IfOk, OnOk};
-ghost use Rattle.rr_io.specs.Counted.{inner_of, ends_of, is_flushed};
-ghost use Rattle.rr_io.specs.Stream.{HasFailed, HasFewReads, HasReads, WritesFront, WritesWhole};
+ghost use Rattle.rr_io.specs.Counted.{inner_of};
 ghost use Rattle.rr_text.specs.declared.limits.TheConstants.{MAX_READS};
-ghost use Rattle.rr_process.specs.Report.{refused_count, report_of};
+ghost use Rattle.rr_process.specs.Streams.{ReadsWithin, ReportsLines};
 
 use crate::checker::Checker;
 use crate::fault::ToolFault;
@@ -36,23 +34,9 @@ pub fn check_lines<R: Read, W: Write>(
     precision: Precision,
     now: i64,
 ) -> Result<u64, ToolFault>
-    ensures reported { OnOk result (IfSome (R.remaining (inner_of input.old))
-        (λ bytes. WritesWhole W.contents output.old output.new (report_of precision now bytes))) }
-    ensures refused { IfOk result (λ refused. IfSome (R.remaining (inner_of input.old))
-        (λ bytes. refused ≡ refused_count precision bytes)) }
-    ensures flushed { OnOk result (is_flushed output.new ≡ true) }
-
-    // What is written however the call ends.
-    ensures front { IfSome (R.remaining (inner_of input.old))
-        (λ bytes. WritesFront W.contents output.old output.new (report_of precision now bytes)) }
-
-    // When a stream is to blame.
-    ensures read_failed { result ≡ Err ToolFault.ReadFailed → HasFailed input.old input.new }
-    ensures limit { HasFewReads MAX_READS input.old input.new }
-    ensures too_many { result ≡ Err ToolFault.TooManyReads
-        → HasReads MAX_READS input.old input.new }
-    ensures no_end { result ≡ Err ToolFault.TooManyReads → ends_of input.new ≡ ends_of input.old }
-    ensures write_failed { result ≡ Err ToolFault.WriteFailed → HasFailed output.old output.new }
+    ensures report { ReportsLines W.contents precision now (R.remaining (inner_of input.old))
+        output.old output.new result }
+    ensures reads { ReadsWithin MAX_READS input.old input.new result }
 {
     check_lines_within(alloc, input, output, precision, now, MAX_READS)
 }
@@ -70,22 +54,9 @@ pub fn check_lines_within<R: Read, W: Write>(
     now: i64,
     reads: u32,
 ) -> Result<u64, ToolFault>
-    ensures reported { OnOk result (IfSome (R.remaining (inner_of input.old))
-        (λ bytes. WritesWhole W.contents output.old output.new (report_of precision now bytes))) }
-    ensures refused { IfOk result (λ refused. IfSome (R.remaining (inner_of input.old))
-        (λ bytes. refused ≡ refused_count precision bytes)) }
-    ensures flushed { OnOk result (is_flushed output.new ≡ true) }
-
-    // What is written however the call ends.
-    ensures front { IfSome (R.remaining (inner_of input.old))
-        (λ bytes. WritesFront W.contents output.old output.new (report_of precision now bytes)) }
-
-    // When a stream is to blame.
-    ensures read_failed { result ≡ Err ToolFault.ReadFailed → HasFailed input.old input.new }
-    ensures limit { HasFewReads reads input.old input.new }
-    ensures too_many { result ≡ Err ToolFault.TooManyReads → HasReads reads input.old input.new }
-    ensures no_end { result ≡ Err ToolFault.TooManyReads → ends_of input.new ≡ ends_of input.old }
-    ensures write_failed { result ≡ Err ToolFault.WriteFailed → HasFailed output.old output.new }
+    ensures report { ReportsLines W.contents precision now (R.remaining (inner_of input.old))
+        output.old output.new result }
+    ensures reads { ReadsWithin reads input.old input.new result }
 {
     let mut checker = Checker::new(alloc, precision, now);
     let mut piece = [0u8; PIECE];

@@ -1,12 +1,13 @@
 //! Lines as they come in pieces, and how many of them were refused.
 
-ghost use Rattle.std.specs.Prelude.{◌≡◌, ◌⊎◌, ◌+◌, ◌*◌, ◌<◌, ◌≤◌, ◌^◌, ◌++◌, ℕ, List, Option, true, false, [], Err, length, IfOk, IfErr, OnOk};
+ghost use Rattle.std.specs.Prelude.{◌≡◌, ◌+◌, ◌*◌, ◌<◌, ◌≤◌, ◌^◌, ◌++◌, ℕ, List, Option, true, false, [], length, IfOk, OnOk};
 ghost use Rattle.std.specs.Io.KnownBytes.{Appends};
 ghost use Rattle.rr_io.specs.Counted.{inner_of, is_flushed};
-ghost use Rattle.rr_io.specs.Stream.{AppendsPrefix, HasFailed, KeepsFailures, WritesWhole};
+ghost use Rattle.rr_io.specs.Stream.{AppendsPrefix, WritesWhole};
 ghost use Rattle.rr_feed.specs.Feed.{items_left, empty_feed, MayCome};
 ghost use Rattle.rr_process.specs.declared.check.TheConstants.{PIECE};
 ghost use Rattle.rr_process.specs.Report.{refused_count, report_of};
+ghost use Rattle.rr_process.specs.Streams.{WritesOut};
 
 use crate::fault::ToolFault;
 use crate::report::push_item;
@@ -114,10 +115,7 @@ impl Checker {
             → MayCome self.old.feed more true
             → AppendsPrefix start (W.contents (inner_of output.new))
             (report_of self.old.precision self.old.now (pushed ++ more)) }
-        ensures failures_never_fall { KeepsFailures output.old output.new }
-        ensures failed { result ≡ Err ToolFault.WriteFailed → HasFailed output.old output.new }
-        ensures faults { IfErr result (λ fault. (fault ≡ ToolFault.WriteFailed)
-            ⊎ (fault ≡ ToolFault.Memory)) }
+        ensures writes { WritesOut output.old output.new result }
     {
         let text = self.report()?;
         write_all(output, text.as_slice())?;
@@ -141,10 +139,7 @@ impl Checker {
             → AppendsPrefix start (W.contents (inner_of output.new))
             (report_of self.old.precision self.old.now pushed) }
         ensures flushed { OnOk result (is_flushed output.new ≡ true) }
-        ensures failures_never_fall { KeepsFailures output.old output.new }
-        ensures failed { result ≡ Err ToolFault.WriteFailed → HasFailed output.old output.new }
-        ensures faults { IfErr result (λ fault. (fault ≡ ToolFault.WriteFailed)
-            ⊎ (fault ≡ ToolFault.Memory)) }
+        ensures writes { WritesOut output.old output.new result }
     {
         self.feed.end();
         self.write_items(output)?;

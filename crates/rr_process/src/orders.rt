@@ -1,10 +1,11 @@
 //! An order, obeyed over two streams.
 
-ghost use Rattle.std.specs.Prelude.{◌≡◌, ◌+◌, ◌≤◌, Err, IfSome, IfOk, OnOk};
-ghost use Rattle.rr_io.specs.Counted.{inner_of, ends_of};
-ghost use Rattle.rr_io.specs.Stream.{HasFailed, HasFewReads, HasReads, WritesFront, WritesWhole};
+ghost use Rattle.std.specs.Prelude.{◌≡◌, Err, IfSome, IfOk, OnOk};
+ghost use Rattle.rr_io.specs.Counted.{inner_of};
+ghost use Rattle.rr_io.specs.Stream.{HasFailed, WritesFront, WritesWhole};
 ghost use Rattle.rr_text.specs.declared.limits.TheConstants.{MAX_READS};
 ghost use Rattle.rr_process.specs.Orders.{ending_of, printed_for};
+ghost use Rattle.rr_process.specs.Streams.{ReadsWithin};
 ghost use Rattle.rr_words.specs.Words.{asked_by};
 
 use crate::check::check_lines;
@@ -39,11 +40,7 @@ pub fn obey_order<R: Read, W: Write>(
         (printed_for (asked_by order.now) bytes)) }
 
     // When a stream is to blame.
-    ensures read_failed { result ≡ Err ToolFault.ReadFailed → HasFailed input.old input.new }
-    ensures limit { HasFewReads MAX_READS input.old input.new }
-    ensures too_many { result ≡ Err ToolFault.TooManyReads
-        → HasReads MAX_READS input.old input.new }
-    ensures no_end { result ≡ Err ToolFault.TooManyReads → ends_of input.new ≡ ends_of input.old }
+    ensures reads { ReadsWithin MAX_READS input.old input.new result }
     ensures write_failed { result ≡ Err ToolFault.WriteFailed → HasFailed output.old output.new }
 {
     match order {

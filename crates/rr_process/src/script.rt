@@ -1,11 +1,12 @@
 //! A script, from a reader's bytes to a writer's.
 
-ghost use Rattle.std.specs.Prelude.{◌≡◌, ◌≢◌, ◌+◌, ◌≤◌, Err, true, IfSome, OnOk, IfErr};
-ghost use Rattle.rr_io.specs.Counted.{inner_of, ends_of, is_flushed};
-ghost use Rattle.rr_io.specs.Stream.{HasFailed, HasFewReads, HasReads, WritesFront, WritesWhole};
+ghost use Rattle.std.specs.Prelude.{◌≡◌, ◌≢◌, Err, true, IfSome, OnOk, IfErr};
+ghost use Rattle.rr_io.specs.Counted.{inner_of, is_flushed};
+ghost use Rattle.rr_io.specs.Stream.{HasFailed, WritesFront, WritesWhole};
 ghost use Rattle.rr_cluster.specs.Model.{sample_model};
 ghost use Rattle.rr_cluster.specs.Output.{output_of};
 ghost use Rattle.rr_text.specs.declared.limits.TheConstants.{MAX_READS};
+ghost use Rattle.rr_process.specs.Streams.{ReadsWithin};
 
 use crate::fault::ToolFault;
 use crate::streams::{read_script, write_text};
@@ -33,11 +34,7 @@ pub fn run_script<R: Read, W: Write>(
         (λ script. WritesFront W.contents output.old output.new (output_of sample_model script)) }
 
     // When a stream is to blame.
-    ensures read_failed { result ≡ Err ToolFault.ReadFailed → HasFailed input.old input.new }
-    ensures limit { HasFewReads MAX_READS input.old input.new }
-    ensures too_many { result ≡ Err ToolFault.TooManyReads
-        → HasReads MAX_READS input.old input.new }
-    ensures no_end { result ≡ Err ToolFault.TooManyReads → ends_of input.new ≡ ends_of input.old }
+    ensures reads { ReadsWithin MAX_READS input.old input.new result }
     ensures write_failed { result ≡ Err ToolFault.WriteFailed → HasFailed output.old output.new }
 {
     let script = read_script(alloc, input)?;

@@ -1,9 +1,10 @@
 //! A whole input, and a whole output.
 
-ghost use Rattle.std.specs.Prelude.{◌≡◌, ◌≢◌, ◌+◌, ◌≤◌, Err, true, IfSome, IfOk, OnOk, IfErr};
-ghost use Rattle.rr_io.specs.Counted.{inner_of, ends_of, is_flushed};
-ghost use Rattle.rr_io.specs.Stream.{HasFailed, HasFewReads, HasReads, WritesFront, WritesWhole};
+ghost use Rattle.std.specs.Prelude.{◌≡◌, ◌≢◌, Err, true, IfSome, IfOk, OnOk, IfErr};
+ghost use Rattle.rr_io.specs.Counted.{inner_of, is_flushed};
+ghost use Rattle.rr_io.specs.Stream.{HasFailed, WritesFront, WritesWhole};
 ghost use Rattle.rr_text.specs.declared.limits.TheConstants.{MAX_READS};
+ghost use Rattle.rr_process.specs.Streams.{ReadsWithin};
 
 use crate::fault::ToolFault;
 use rr_io::Counted;
@@ -15,11 +16,7 @@ use std::io::{Read, Write};
 pub fn read_script<R: Read>(alloc: Global, input: &mut Counted<R>) -> Result<Vec<u8>, ToolFault>
     ensures read { IfOk result (λ script. IfSome (R.remaining (inner_of input.old))
         (λ bytes. script.items ≡ bytes)) }
-    ensures read_failed { result ≡ Err ToolFault.ReadFailed → HasFailed input.old input.new }
-    ensures limit { HasFewReads MAX_READS input.old input.new }
-    ensures too_many { result ≡ Err ToolFault.TooManyReads
-        → HasReads MAX_READS input.old input.new }
-    ensures no_end { result ≡ Err ToolFault.TooManyReads → ends_of input.new ≡ ends_of input.old }
+    ensures reads { ReadsWithin MAX_READS input.old input.new result }
     ensures failed { IfErr result (λ fault. fault ≢ ToolFault.WriteFailed) }
 {
     let mut script = Vec::new(alloc);
