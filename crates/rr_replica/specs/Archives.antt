@@ -1,5 +1,6 @@
 -- The archives of one key, each seen as a map by a function, and what a sample makes of each.
-use Rattle.std.specs.Prelude.{◌≡◌, ◌≢◌, ℕ, ℤ, ◌≤◌, Bool, IsTrue, List, map, length, Some, slice_get, FitsSigned}
+use Rattle.std.specs.Prelude.{◌≡◌, ◌≢◌, ℕ, ℤ, ◌≤◌, Bool, IsTrue, List, map, length, Some, slice_get, FitsSigned, Result, IsOk, OnErr, OnOk}
+use Rattle.std.specs.declared.alloc.AllocError.{AllocError}
 use Rattle.std.specs.FinMap.{get}
 use Rattle.std.specs.Int.{w64}
 use Rattle.rr_text.specs.declared.limits.TheConstants.{MAX_NUMBER}
@@ -79,3 +80,18 @@ module _ {X : Type 0} where
     pub here : (a b : X) → slice_get old c.archive ≡ Some a → slice_get new c.archive ≡ Some b
         → cells b ≡ join_cell (limit a) (cells a) (cell_slot c.slot c.origin) c.contribution
     pub others : EachPair (λ i a b. i ≢ c.archive → cells b ≡ cells a) old new
+
+  -- room for an operation was made, unless memory ran out, and no cell changed
+  pub record MakeRoom (cells : X → ArchiveCells) (limit : X → ℕ) (is_ready : X → CellSlot → Bool) (s : Layout) (op : Op)
+      (old new : List X) (result : Result (Unit {0}) AllocError) : Type 0 where
+    pub unchanged : AreSame cells old new
+    pub of_schema : AreOf limit s new
+    pub room : OnOk result (HaveRoomFor is_ready s op new)
+
+  -- each took a sample, or memory ran out and none did; with room for it that there was, none runs out
+  pub record TakeSample (cells : X → ArchiveCells) (limit : X → ℕ) (is_ready : X → CellSlot → Bool) (s : Layout)
+      (x : Reading) (old new : List X) (result : Result (Unit {0}) AllocError) : Type 0 where
+    pub put : OnOk result (HavePut cells s x old new)
+    pub unchanged : OnErr result (AreSame cells old new)
+    pub of_schema : AreOf limit s new
+    pub room : AreReadyFrom 0 is_ready s x.time x.origin old → IsOk result

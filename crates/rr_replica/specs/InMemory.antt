@@ -1,5 +1,6 @@
 -- What a replica keeps to.
-use Rattle.std.specs.Prelude.{◌≡◌, ℕ, Bool, List, map, Option, Some}
+use Rattle.std.specs.Prelude.{◌≡◌, ℕ, ◌+◌, Bool, List, map, Option, Some, Result, IsOk, OnErr, OnOk}
+use Rattle.std.specs.declared.alloc.AllocError.{AllocError}
 use Rattle.std.specs.Global.{Vec}
 use Rattle.std.specs.List.Sorted.{IsStrictlySortedBy}
 use Rattle.std.specs.Map.{lookup, keys_of}
@@ -12,6 +13,8 @@ use Rattle.rr_cells.specs.Samples as model
 use Rattle.rr_replica.specs.declared.reading.Reading.{Reading}
 use Rattle.rr_cells.specs.declared.sample.Sample.{Sample}
 use Rattle.rr_cells.specs.declared.op.Op.{Op}
+use Rattle.rr_cells.specs.declared.op.Op.TheVariants.{Put}
+use Rattle.rr_cells.specs.Puts.{put_sample}
 use Rattle.rr_cells.specs.Operations.{sample_of, key_of}
 use Rattle.rr_cells.specs.ReplicaState.{ReplicaState, IsReplicaState}
 use Rattle.rr_text.specs.Bytes.{bytes_cmp}
@@ -64,3 +67,21 @@ module _ {X : Type 0} where
     pub holds : IsReplicaState (replica_state_in cells schema origin next entries)
     pub sized : AreAllSized limit schema entries
     pub ordered : IsStrictlySortedBy bytes_cmp (keys_of entries)
+
+  -- room for an operation was made, unless memory ran out, and no cell changed
+  pub record MakesRoom {Y : Type 0} (cells : X → ArchiveCells) (limit : X → ℕ) (is_ready : X → CellSlot → Bool)
+      (schema : Layout) (op : Op) (old new : List (List ℕ × Vec X)) (result : Result Y AllocError) : Type 0 where
+    pub unchanged : cells_of (held_series cells new) ≡ cells_of (held_series cells old)
+    pub sized : AreAllSized limit schema new
+    pub room : OnOk result (HasRoom is_ready schema op new)
+
+  -- a reading was put as a sample of a key, or memory ran out and it was not; with room that there was, none runs out
+  pub record PutsReading (cells : X → ArchiveCells) (limit : X → ℕ) (is_ready : X → CellSlot → Bool) (schema : Layout)
+      (key : List ℕ) (x : Reading) (old new : List (List ℕ × Vec X)) (result : Result (Unit {0}) AllocError)
+      : Type 0 where
+    pub put : OnOk result (cells_of (held_series cells new)
+        ≡ put_sample schema (cells_of (held_series cells old)) (keyed_sample key x))
+    pub held_with : OnOk result (IsReplicaInMemory cells limit schema x.origin (x.number + 1) new)
+    pub unchanged : OnErr result (cells_of (held_series cells new) ≡ cells_of (held_series cells old))
+    pub held : OnErr result (IsReplicaInMemory cells limit schema x.origin x.number new)
+    pub room : HasRoom is_ready schema (Put (sample_of_reading key x)) old → IsOk result

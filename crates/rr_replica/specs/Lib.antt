@@ -1,3 +1,4 @@
+pub mod Becomes
 pub mod Series
 pub mod Listing
 pub mod Joining

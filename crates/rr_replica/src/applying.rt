@@ -6,6 +6,7 @@ ghost use Rattle.rr_cells.specs.declared.op.Op.TheVariants.{Join, Put};
 ghost use Rattle.std.specs.List.{AllByRecursion};
 ghost use Rattle.rr_replica.specs.Numbered.{knows, puts_at};
 ghost use Rattle.rr_replica.specs.ReplicaWithRoom.{replica_state, IsReadyFor};
+ghost use Rattle.rr_replica.specs.Becomes.{Becomes};
 
 use crate::reading::Reading;
 use crate::replica::Replica;
@@ -50,9 +51,10 @@ impl<A: Cells> Replica<A> {
         time: i64,
         value: i64,
     ) -> Result<(), AllocError>
-        ensures put { OnOk result (replica_state self.new ≡ fold step (replica_state self.old)
-            (puts_at self.old.keys self.old.origin series number time value)) }
-        ensures unchanged { OnErr result (replica_state self.new ≡ replica_state self.old) }
+        ensures state { Becomes (replica_state self.old)
+            (fold step (replica_state self.old)
+            (puts_at self.old.keys self.old.origin series number time value))
+            (replica_state self.new) result }
         ensures keys { self.new.keys ≡ self.old.keys }
         ensures room { AllByRecursion (IsReadyFor self.old)
             (puts_at self.old.keys self.old.origin series number time value) → IsOk result }
@@ -83,9 +85,8 @@ impl<A: Cells> Replica<A> {
     /// cost is that of [`Replica::put`] or [`Replica::join_cell`].
     pub fn apply(&mut self, op: &Op) -> Result<bool, AllocError>
         ensures accepted { IfOk result (λ done. done ≡ accepts (replica_state self.old) op.now) }
-        ensures applied { OnOk result (replica_state self.new
-            ≡ step (replica_state self.old) op.now) }
-        ensures unchanged { OnErr result (replica_state self.new ≡ replica_state self.old) }
+        ensures state { Becomes (replica_state self.old) (step (replica_state self.old) op.now)
+            (replica_state self.new) result }
         ensures room { IsReadyFor self.old op.now → IsOk result }
     {
         match op {
@@ -98,9 +99,9 @@ impl<A: Cells> Replica<A> {
     fn apply_sample(&mut self, sample: &Sample) -> Result<bool, AllocError>
         ensures accepted { IfOk result (λ done. done
             ≡ accepts (replica_state self.old) (Put sample.now)) }
-        ensures applied { OnOk result (replica_state self.new
-            ≡ step (replica_state self.old) (Put sample.now)) }
-        ensures unchanged { OnErr result (replica_state self.new ≡ replica_state self.old) }
+        ensures state { Becomes (replica_state self.old)
+            (step (replica_state self.old) (Put sample.now))
+            (replica_state self.new) result }
         ensures room { IsReadyFor self.old (Put sample.now) → IsOk result }
     {
         if !self.accepts_sample(sample) {
@@ -122,9 +123,8 @@ impl<A: Cells> Replica<A> {
     pub fn apply_numbered(&mut self, series: usize, op: &Op) -> Result<(), AllocError>
         requires accepted { accepts (replica_state self.old) op.now ≡ true }
         requires key { slice_get self.old.keys series ≡ Some (key_of op.now) }
-        ensures applied { OnOk result (replica_state self.new
-            ≡ step (replica_state self.old) op.now) }
-        ensures unchanged { OnErr result (replica_state self.new ≡ replica_state self.old) }
+        ensures state { Becomes (replica_state self.old) (step (replica_state self.old) op.now)
+            (replica_state self.new) result }
         ensures keys { self.new.keys ≡ self.old.keys }
         ensures room { IsReadyFor self.old op.now → IsOk result }
     {
@@ -143,9 +143,9 @@ impl<A: Cells> Replica<A> {
     pub fn apply_cell(&mut self, cell: &Cell) -> Result<bool, AllocError>
         ensures accepted { IfOk result (λ done. done
             ≡ accepts (replica_state self.old) (Join cell.now)) }
-        ensures applied { OnOk result (replica_state self.new
-            ≡ step (replica_state self.old) (Join cell.now)) }
-        ensures unchanged { OnErr result (replica_state self.new ≡ replica_state self.old) }
+        ensures state { Becomes (replica_state self.old)
+            (step (replica_state self.old) (Join cell.now))
+            (replica_state self.new) result }
         ensures room { IsReadyFor self.old (Join cell.now) → IsOk result }
         ensures keys { knows self.old.keys cell.now.key ≡ true → self.new.keys ≡ self.old.keys }
     {

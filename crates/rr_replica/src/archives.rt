@@ -1,7 +1,7 @@
 //! The archives of one key.
 ghost use Rattle.std.specs.Prelude.{◌≡◌, ℕ, ◌<◌, slice_get, IsOk, OnOk, OnErr, IfOk};
 ghost use Rattle.std.specs.FinMap as fin;
-ghost use Rattle.rr_replica.specs.Archives.{Each, AreOf, AreReadyFrom, CanTake, AreSame, HavePut, HaveJoined, HaveRoomFor, IsOpOf};
+ghost use Rattle.rr_replica.specs.Archives.{Each, AreOf, AreReadyFrom, CanTake, AreSame, HaveJoined, HaveRoomFor, IsOpOf, MakeRoom, TakeSample};
 ghost use Rattle.rr_cells.specs.CellBounds.{IsCellOf};
 ghost use Rattle.rr_cells.specs.Listing.{owned_cell};
 
@@ -64,12 +64,8 @@ fn put_ready<A: Cells>(
     requires newer { CanTake A.cells schema.now sample.now archives.old.items }
     requires ready { AreReadyFrom 1 A.is_ready schema.now sample.now.time sample.now.origin
         archives.old.items }
-    ensures put { OnOk result (HavePut A.cells schema.now sample.now archives.old.items
-        archives.new.items) }
-    ensures unchanged { OnErr result (AreSame A.cells archives.old.items archives.new.items) }
-    ensures of_schema { AreOf A.row_limit schema.now archives.new.items }
-    ensures room { AreReadyFrom 0 A.is_ready schema.now sample.now.time sample.now.origin
-        archives.old.items → IsOk result }
+    ensures { TakeSample A.cells A.row_limit A.is_ready schema.now sample.now archives.old.items
+        archives.new.items result }
 {
     for i in 0..archives.len() {
         let newest = archives[i].newest();
@@ -96,12 +92,8 @@ pub(crate) fn put_into<A: Cells>(
 ) -> Result<(), AllocError>
     requires of_schema { AreOf A.row_limit schema.now archives.old.items }
     requires newer { CanTake A.cells schema.now sample.now archives.old.items }
-    ensures put { OnOk result (HavePut A.cells schema.now sample.now archives.old.items
-        archives.new.items) }
-    ensures unchanged { OnErr result (AreSame A.cells archives.old.items archives.new.items) }
-    ensures of_schema { AreOf A.row_limit schema.now archives.new.items }
-    ensures room { AreReadyFrom 0 A.is_ready schema.now sample.now.time sample.now.origin
-        archives.old.items → IsOk result }
+    ensures { TakeSample A.cells A.row_limit A.is_ready schema.now sample.now archives.old.items
+        archives.new.items result }
 {
     make_ready(archives, schema, sample.time, sample.origin, 1)?;
     put_ready(archives, schema, sample)
@@ -136,10 +128,8 @@ fn make_cell_ready<A: Cells>(
 ) -> Result<(), AllocError>
     requires of_schema { AreOf A.row_limit schema.now archives.old.items }
     requires cell { IsCellOf schema.now (owned_cell cell.now) }
-    ensures unchanged { AreSame A.cells archives.old.items archives.new.items }
-    ensures of_schema { AreOf A.row_limit schema.now archives.new.items }
-    ensures room { OnOk result (HaveRoomFor A.is_ready schema.now (Op.Join cell.now)
-        archives.new.items) }
+    ensures { MakeRoom A.cells A.row_limit A.is_ready schema.now (Op.Join cell.now)
+        archives.old.items archives.new.items result }
 {
     let slot = schema.slot(cell.archive, cell.contribution.last_time);
     let archive = &mut archives[cell.archive as usize];
@@ -155,9 +145,8 @@ pub(crate) fn make_room<A: Cells>(
 ) -> Result<(), AllocError>
     requires of_schema { AreOf A.row_limit schema.now archives.old.items }
     requires op { IsOpOf schema.now op.now }
-    ensures unchanged { AreSame A.cells archives.old.items archives.new.items }
-    ensures of_schema { AreOf A.row_limit schema.now archives.new.items }
-    ensures room { OnOk result (HaveRoomFor A.is_ready schema.now op.now archives.new.items) }
+    ensures { MakeRoom A.cells A.row_limit A.is_ready schema.now op.now archives.old.items
+        archives.new.items result }
 {
     match op {
         Op::Put(sample) => make_ready(archives, schema, sample.time, sample.origin, 0),

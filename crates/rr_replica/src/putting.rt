@@ -1,15 +1,12 @@
 //! Samples, put into the archives of their keys.
-ghost use Rattle.std.specs.Prelude.{◌≡◌, ◌+◌, ◌<◌, [], length, get_or, IsOk, OnOk, OnErr};
-ghost use Rattle.rr_cells.specs.Puts.{put_sample};
-ghost use Rattle.rr_replica.specs.Series.{cells_of};
+ghost use Rattle.std.specs.Prelude.{◌≡◌, ◌<◌, [], length, get_or};
 ghost use Rattle.rr_replica.specs.SeriesMap.{entries_of};
-ghost use Rattle.rr_replica.specs.InMemory.{held_series, sample_of_reading, keyed_sample, HasRoom, IsReplicaInMemory};
+ghost use Rattle.rr_replica.specs.InMemory.{IsReplicaInMemory, PutsReading};
 
 use crate::archives::{empty_archives, put_into};
 use crate::reading::Reading;
 use crate::series::SeriesMap;
 use rr_archive::Cells;
-use rr_cells::Op;
 use rr_key::SeriesKey;
 use rr_schema::Schema;
 use std::alloc::{AllocError, Global};
@@ -25,19 +22,10 @@ pub(crate) fn put_at<A: Cells>(
     requires there { index < length series.old.keys.items }
     requires held { IsReplicaInMemory A.cells A.row_limit schema.now sample.origin sample.number
         (entries_of series.old) }
-    ensures put { OnOk result (cells_of (held_series A.cells (entries_of series.new))
-        ≡ put_sample schema.now (cells_of (held_series A.cells (entries_of series.old)))
-        (keyed_sample (get_or series.old.keys.items index []) sample)) }
-    ensures held_with { OnOk result (IsReplicaInMemory A.cells A.row_limit schema.now sample.origin
-        (sample.number + 1) (entries_of series.new)) }
-    ensures unchanged { OnErr result (cells_of (held_series A.cells (entries_of series.new))
-        ≡ cells_of (held_series A.cells (entries_of series.old))) }
-    ensures held { OnErr result (IsReplicaInMemory A.cells A.row_limit schema.now sample.origin
-        sample.number (entries_of series.new)) }
+    ensures sample { PutsReading A.cells A.row_limit A.is_ready schema.now
+        (get_or series.old.keys.items index []) sample (entries_of series.old)
+        (entries_of series.new) result }
     ensures keys { series.new.keys.items ≡ series.old.keys.items }
-    ensures room { HasRoom A.is_ready schema.now
-        (Op.Put (sample_of_reading (get_or series.old.keys.items index []) sample))
-        (entries_of series.old) → IsOk result }
 {
     // The proof needs that the text is a key text, which `text` ensures.
     let _text = series.keys[index].text();
@@ -54,17 +42,8 @@ pub(crate) fn put_in<A: Cells>(
 ) -> Result<(), AllocError>
     requires held { IsReplicaInMemory A.cells A.row_limit schema.now sample.origin sample.number
         (entries_of series.old) }
-    ensures put { OnOk result (cells_of (held_series A.cells (entries_of series.new))
-        ≡ put_sample schema.now (cells_of (held_series A.cells (entries_of series.old)))
-        (keyed_sample key.now sample)) }
-    ensures held_with { OnOk result (IsReplicaInMemory A.cells A.row_limit schema.now sample.origin
-        (sample.number + 1) (entries_of series.new)) }
-    ensures unchanged { OnErr result (cells_of (held_series A.cells (entries_of series.new))
-        ≡ cells_of (held_series A.cells (entries_of series.old))) }
-    ensures held { OnErr result (IsReplicaInMemory A.cells A.row_limit schema.now sample.origin
-        sample.number (entries_of series.new)) }
-    ensures room { HasRoom A.is_ready schema.now (Op.Put (sample_of_reading key.now sample))
-        (entries_of series.old) → IsOk result }
+    ensures { PutsReading A.cells A.row_limit A.is_ready schema.now key.now sample
+        (entries_of series.old) (entries_of series.new) result }
 {
     // The proof needs that the text is a key text, which `text` ensures.
     let _text = key.text();

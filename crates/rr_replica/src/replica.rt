@@ -14,6 +14,7 @@ ghost use Rattle.rr_replica.specs.InMemory.{sample_of_reading, keyed_sample};
 ghost use Rattle.rr_cells.specs.Listing.{owned_cell};
 ghost use Rattle.rr_replica.specs.ReplicaWithRoom.{replica_state, HasRoomFor, IsReadyFor};
 ghost use Rattle.rr_replica.specs.Writing.{lacks_numbers};
+ghost use Rattle.rr_replica.specs.Becomes.{Becomes};
 
 use crate::copying::copy_series;
 use crate::fault::{JoinFault, PutFault};
@@ -58,9 +59,11 @@ impl<A: Cells> Model for Replica<A> {
 
     ghost coded = { coded_replica_with_room };
 
-    ghost view = { λ r. replica_with_room A.cells A.is_ready r.schema r.origin r.next r.series.keys.items (entries_of r.series) };
+    ghost view = { λ r. replica_with_room A.cells A.is_ready r.schema r.origin r.next
+        r.series.keys.items (entries_of r.series) };
 
-    ghost invariant = { λ r. IsReplicaInMemory A.cells A.row_limit r.schema r.origin r.next (entries_of r.series) };
+    ghost invariant = { λ r. IsReplicaInMemory A.cells A.row_limit r.schema r.origin r.next
+        (entries_of r.series) };
 }
 
 impl<A: Cells> Replica<A> {
@@ -140,9 +143,9 @@ impl<A: Cells> Replica<A> {
     /// row, however many series there are.
     pub fn put(&mut self, key: &SeriesKey, time: i64, value: i64) -> Result<u64, PutFault>
         ensures number { IfOk result (λ number. number ≡ self.old.next) }
-        ensures put { OnOk result (replica_state self.new
-            ≡ with_put (replica_state self.old) key.now time value) }
-        ensures unchanged { OnErr result (replica_state self.new ≡ replica_state self.old) }
+        ensures state { Becomes (replica_state self.old)
+            (with_put (replica_state self.old) key.now time value)
+            (replica_state self.new) result }
         ensures spent { (result ≡ Err PutFault.NumbersSpent) ↔ (MAX_NUMBER < self.old.next) }
     {
         if self.next > MAX_NUMBER {
@@ -163,9 +166,9 @@ impl<A: Cells> Replica<A> {
     pub(crate) fn put_reading(&mut self, key: &SeriesKey, sample: Reading) -> Result<(), AllocError>
         requires origin { sample.origin ≡ self.old.origin }
         requires number { self.old.next ≤ sample.number }
-        ensures put { OnOk result (replica_state self.new
-            ≡ with_sample (replica_state self.old) (keyed_sample key.now sample)) }
-        ensures unchanged { OnErr result (replica_state self.new ≡ replica_state self.old) }
+        ensures state { Becomes (replica_state self.old)
+            (with_sample (replica_state self.old) (keyed_sample key.now sample))
+            (replica_state self.new) result }
         ensures room { HasRoomFor self.old (Op.Put (sample_of_reading key.now sample))
             → IsOk result }
     {
@@ -186,9 +189,10 @@ impl<A: Cells> Replica<A> {
         requires origin { sample.origin ≡ self.old.origin }
         requires number { self.old.next ≤ sample.number }
         requires there { series < length self.old.keys }
-        ensures put { OnOk result (replica_state self.new ≡ with_sample (replica_state self.old)
-            (keyed_sample (get_or self.old.keys series []) sample)) }
-        ensures unchanged { OnErr result (replica_state self.new ≡ replica_state self.old) }
+        ensures state { Becomes (replica_state self.old)
+            (with_sample (replica_state self.old)
+            (keyed_sample (get_or self.old.keys series []) sample))
+            (replica_state self.new) result }
         ensures keys { self.new.keys ≡ self.old.keys }
         ensures room { HasRoomFor self.old
             (Op.Put (sample_of_reading (get_or self.old.keys series []) sample)) → IsOk result }
@@ -329,10 +333,10 @@ impl<A: Cells> Replica<A> {
     ) -> Result<(), AllocError>
         requires keyed { making_fault (names_of (point_view point.now) field.now.key.now) ≡ None }
         requires number_left { self.old.next ≤ MAX_NUMBER }
-        ensures put { OnOk result (replica_state self.new
-            ≡ with_put (replica_state self.old) (key_text (point_view point.now) field.now.key.now)
-            time field.now.value) }
-        ensures unchanged { OnErr result (replica_state self.new ≡ replica_state self.old) }
+        ensures state { Becomes (replica_state self.old)
+            (with_put (replica_state self.old) (key_text (point_view point.now) field.now.key.now)
+            time field.now.value)
+            (replica_state self.new) result }
     {
         let mut text = replace(&mut self.text, Vec::new(self.alloc));
         point.write_key(self.alloc, &mut text, field.key)?;
@@ -359,9 +363,9 @@ impl<A: Cells> Replica<A> {
     /// the slot, the entries of a row, and the rows that go.
     pub fn join_cell(&mut self, cell: &Cell) -> Result<(), AllocError>
         requires { IsCellOf self.old.schema (owned_cell cell.now) }
-        ensures joined { OnOk result (replica_state self.new
-            ≡ with_cell (replica_state self.old) cell.now) }
-        ensures unchanged { OnErr result (replica_state self.new ≡ replica_state self.old) }
+        ensures state { Becomes (replica_state self.old)
+            (with_cell (replica_state self.old) cell.now)
+            (replica_state self.new) result }
         ensures room { HasRoomFor self.old (Op.Join cell.now) → IsOk result }
         ensures keys { knows self.old.keys cell.now.key ≡ true → self.new.keys ≡ self.old.keys }
     {

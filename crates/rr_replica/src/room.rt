@@ -8,7 +8,7 @@ ghost use Rattle.rr_replica.specs.Indexed.{index_of};
 ghost use Rattle.rr_replica.specs.Numbered.{with_key};
 ghost use Rattle.rr_replica.specs.Series.{cells_of};
 ghost use Rattle.rr_replica.specs.SeriesMap.{entries_of};
-ghost use Rattle.rr_replica.specs.InMemory.{held_series, HasRoom, AreAllSized};
+ghost use Rattle.rr_replica.specs.InMemory.{held_series, AreAllSized, MakesRoom};
 
 use crate::archives::{empty_archives, make_room};
 use crate::hint::Hint;
@@ -31,10 +31,8 @@ fn make_room_at<A: Cells>(
     requires op { IsOpOf schema.now op.now }
     requires sized { AreAllSized A.row_limit schema.now (entries_of series.old) }
     requires index { Some index ≡ index_of series.old.indices.entries (key_of op.now) }
-    ensures unchanged { cells_of (held_series A.cells (entries_of series.new))
-        ≡ cells_of (held_series A.cells (entries_of series.old)) }
-    ensures sized { AreAllSized A.row_limit schema.now (entries_of series.new) }
-    ensures room { OnOk result (HasRoom A.is_ready schema.now op.now (entries_of series.new)) }
+    ensures made { MakesRoom A.cells A.row_limit A.is_ready schema.now op.now
+        (entries_of series.old) (entries_of series.new) result }
     ensures keys { series.new.keys.items ≡ series.old.keys.items }
 {
     make_room(&mut series.archives[index], schema, op)
@@ -53,10 +51,8 @@ pub(crate) fn make_room_in<A: Cells>(
     requires layout { IsLayout schema.now }
     requires op { IsOpOf schema.now op.now }
     requires sized { AreAllSized A.row_limit schema.now (entries_of series.old) }
-    ensures unchanged { cells_of (held_series A.cells (entries_of series.new))
-        ≡ cells_of (held_series A.cells (entries_of series.old)) }
-    ensures sized { AreAllSized A.row_limit schema.now (entries_of series.new) }
-    ensures room { OnOk result (HasRoom A.is_ready schema.now op.now (entries_of series.new)) }
+    ensures made { MakesRoom A.cells A.row_limit A.is_ready schema.now op.now
+        (entries_of series.old) (entries_of series.new) result }
     ensures key { IfOk result (λ i. slice_get series.new.keys.items i ≡ Some (key_of op.now)) }
     ensures keys_grow { IsPrefix series.old.keys.items series.new.keys.items }
 {

@@ -28,34 +28,46 @@ put-requires-clause-newer g c =
     rw (kept, slot) (c.requires.newer c.loop-i.i c.index_mut.result.now was)
 
 -- all archives but the first have room
-pub returns-in_err-put-clause-unchanged : goal.returns-in_err-put-clause-unchanged
-returns-in_err-put-clause-unchanged g c =
-    let cells = g.A.Cells.cells in
-    let at = found_at c.loop-i.archives.items c.loop-i.i c.index_mut.result.now (search rules)
-    c.index_mut.ensures.value in
-    let was : slice_get c.args.archives.now.items c.loop-i.i ≡ Some c.index_mut.result.now =
-    sym (c.loop-i.invariant.rest c.loop-i.i (omega arith)) ∙ at in
-    let kept : to_z w64 (of_z w64 c.slot_near-slot.result) ≡ c.slot_near-slot.result = search rules in
-    let slot : c.slot_near-slot.result ≡ slot_of c.args.schema.now c.loop-i.i c.args.sample.now.time = search rules in
-    on_err_from c.from_residual.result (⊎_elim
-    (λ first. put_failed cells g.A.Cells.row_limit c.args.schema.now c.args.sample.now c.loop-i.i
-    c.args.archives.now.items c.loop-i.archives.items c.index_mut.result.now c.put.new.self c.loop-i.invariant first
-    at (search rules))
-    (λ later.
-    let ready = c.requires.ready c.loop-i.i c.index_mut.result.now was later in
-    let ok : IsOk c.put.result = c.put.ensures.room (rw (kept, slot) ready) in
-    absurd (true≢false (sym (subst IsOk c.in_err-put.was ok))))
-    (cases_lt c.loop-i.i 1))
-
-pub returns-in_err-put-clause-of_schema : goal.returns-in_err-put-clause-of_schema
-returns-in_err-put-clause-of_schema g c =
-    let items = c.loop-i.archives.items in
-    let at = found_at items c.loop-i.i c.index_mut.result.now (search rules) c.index_mut.ensures.value in
-    record {
-      layout = c.requires.of_schema.layout;
-      sized = map-set_same g.A.Cells.row_limit items c.loop-i.i c.index_mut.result.now c.put.new.self at
-          c.put.ensures.limit ∙ c.loop-i.invariant.sized;
-    }
+pub returns-in_err-put : goal.returns-in_err-put
+returns-in_err-put g c = record {
+  put = search rules;
+  unchanged =
+      let cells = g.A.Cells.cells in
+      let at = found_at c.loop-i.archives.items c.loop-i.i c.index_mut.result.now (search rules)
+      c.index_mut.ensures.value in
+      let was : slice_get c.args.archives.now.items c.loop-i.i ≡ Some c.index_mut.result.now =
+      sym (c.loop-i.invariant.rest c.loop-i.i (omega arith)) ∙ at in
+      let kept : to_z w64 (of_z w64 c.slot_near-slot.result) ≡ c.slot_near-slot.result = search rules in
+      let slot : c.slot_near-slot.result ≡ slot_of c.args.schema.now c.loop-i.i c.args.sample.now.time = search rules in
+      on_err_from c.from_residual.result (⊎_elim
+      (λ first. put_failed cells g.A.Cells.row_limit c.args.schema.now c.args.sample.now c.loop-i.i
+      c.args.archives.now.items c.loop-i.archives.items c.index_mut.result.now c.put.new.self c.loop-i.invariant first
+      at (search rules))
+      (λ later.
+      let ready = c.requires.ready c.loop-i.i c.index_mut.result.now was later in
+      let ok : IsOk c.put.result = c.put.ensures.room (rw (kept, slot) ready) in
+      absurd (true≢false (sym (subst IsOk c.in_err-put.was ok))))
+      (cases_lt c.loop-i.i 1));
+  of_schema =
+      let items = c.loop-i.archives.items in
+      let at = found_at items c.loop-i.i c.index_mut.result.now (search rules) c.index_mut.ensures.value in
+      record {
+        layout = c.requires.of_schema.layout;
+        sized = map-set_same g.A.Cells.row_limit items c.loop-i.i c.index_mut.result.now c.put.new.self at
+            c.put.ensures.limit ∙ c.loop-i.invariant.sized;
+      };
+  room =
+      λ room.
+      let at = found_at c.loop-i.archives.items c.loop-i.i c.index_mut.result.now (search rules)
+      c.index_mut.ensures.value in
+      let was : slice_get c.args.archives.now.items c.loop-i.i ≡ Some c.index_mut.result.now =
+      sym (c.loop-i.invariant.rest c.loop-i.i (omega arith)) ∙ at in
+      let kept : to_z w64 (of_z w64 c.slot_near-slot.result) ≡ c.slot_near-slot.result = search rules in
+      let slot : c.slot_near-slot.result ≡ slot_of c.args.schema.now c.loop-i.i c.args.sample.now.time = search rules in
+      let ready = room c.loop-i.i c.index_mut.result.now was (omega arith) in
+      let ok : IsOk c.put.result = c.put.ensures.room (rw (kept, slot) ready) in
+      absurd (true≢false (sym (subst IsOk c.in_err-put.was ok)));
+}
 
 pub loop-i-preserved : goal.loop-i-preserved
 loop-i-preserved g c =
@@ -71,21 +83,15 @@ loop-i-preserved g c =
     put_more g.A.Cells.cells g.A.Cells.row_limit c.args.schema.now c.args.sample.now c.loop-i.i
     c.args.archives.now.items items c.index_mut.result.now c.put.new.self c.loop-i.invariant at cells limit
 
-pub returns-clause-put : goal.returns-clause-put
-returns-clause-put g c =
-    put_all g.A.Cells.cells g.A.Cells.row_limit c.args.schema.now c.args.sample.now c.loop-i.i c.args.archives.now.items
-    c.loop-i.archives.items c.loop-i.invariant
-    (let many = c.loop-i.invariant.many in let len : c.len-i-end.result ≡ length c.args.archives.now.items =
-    search rules in omega arith)
-
-pub returns-in_err-put-clause-room : goal.returns-in_err-put-clause-room
-returns-in_err-put-clause-room g c = λ room.
-    let at = found_at c.loop-i.archives.items c.loop-i.i c.index_mut.result.now (search rules)
-    c.index_mut.ensures.value in
-    let was : slice_get c.args.archives.now.items c.loop-i.i ≡ Some c.index_mut.result.now =
-    sym (c.loop-i.invariant.rest c.loop-i.i (omega arith)) ∙ at in
-    let kept : to_z w64 (of_z w64 c.slot_near-slot.result) ≡ c.slot_near-slot.result = search rules in
-    let slot : c.slot_near-slot.result ≡ slot_of c.args.schema.now c.loop-i.i c.args.sample.now.time = search rules in
-    let ready = room c.loop-i.i c.index_mut.result.now was (omega arith) in
-    let ok : IsOk c.put.result = c.put.ensures.room (rw (kept, slot) ready) in
-    absurd (true≢false (sym (subst IsOk c.in_err-put.was ok)))
+pub returns : goal.returns
+returns g c = record {
+  put =
+      put_all g.A.Cells.cells g.A.Cells.row_limit c.args.schema.now c.args.sample.now c.loop-i.i
+      c.args.archives.now.items
+      c.loop-i.archives.items c.loop-i.invariant
+      (let many = c.loop-i.invariant.many in let len : c.len-i-end.result ≡ length c.args.archives.now.items =
+      search rules in omega arith);
+  unchanged = search rules;
+  of_schema = search rules;
+  room = search rules;
+}

@@ -71,18 +71,22 @@ returns g c =
     let step = c.put_into.ensures in
     record {
       keys = refl;
-      put = on_ok_weaker c.put_into.result (cells_with cells limit schema key c.args.sample old
-          c.requires.held c.args.sample.number_at_most new now sets ordered was.items before step.of_schema.sized many)
-          step.put;
-      held_with = on_ok_weaker c.put_into.result (kept_with cells limit schema key c.args.sample old
-          c.requires.held c.args.sample.number_at_most new now sets ordered was.items before step.of_schema.sized typed
-          many) step.put;
-      unchanged = on_err_weaker c.put_into.result (cells_without cells limit schema key c.args.sample old
-          c.requires.held c.args.sample.number_at_most new now sets ordered was.items before step.of_schema.sized)
-          step.unchanged;
-      held = on_err_weaker c.put_into.result (kept_without cells limit schema key c.args.sample old
-          c.requires.held c.args.sample.number_at_most new now sets ordered was.items before step.of_schema.sized)
-          step.unchanged;
-      room = λ h. step.room (room_found g.A.Cells.is_ready schema (Put (sample_of_reading key c.args.sample))
-          old was found h);
+      sample = record {
+        put = on_ok_weaker c.put_into.result (cells_with cells limit schema key c.args.sample old
+            c.requires.held c.args.sample.number_at_most new now sets ordered was.items before step.of_schema.sized
+            many)
+            step.put;
+        held_with = on_ok_weaker c.put_into.result (kept_with cells limit schema key c.args.sample old
+            c.requires.held c.args.sample.number_at_most new now sets ordered was.items before step.of_schema.sized
+            typed
+            many) step.put;
+        unchanged = on_err_weaker c.put_into.result (cells_without cells limit schema key c.args.sample old
+            c.requires.held c.args.sample.number_at_most new now sets ordered was.items before step.of_schema.sized)
+            step.unchanged;
+        held = on_err_weaker c.put_into.result (kept_without cells limit schema key c.args.sample old
+            c.requires.held c.args.sample.number_at_most new now sets ordered was.items before step.of_schema.sized)
+            step.unchanged;
+        room = λ h. step.room (room_found g.A.Cells.is_ready schema (Put (sample_of_reading key c.args.sample))
+            old was found h);
+      };
     }

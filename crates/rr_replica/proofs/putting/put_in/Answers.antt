@@ -35,13 +35,7 @@ returns-in-Some g c =
     let same : get_or m.keys.items c.in-Some.index [] ≡ c.args.key.now =
     key_numbered m.keys.items m.indices.entries m.indexed.there c.args.key.now c.in-Some.index at in
     let step = rw same at c.put_at.ensures in
-    record {
-      put = step.put;
-      held_with = step.held_with;
-      unchanged = step.unchanged;
-      held = step.held;
-      room = step.room;
-    }
+    step.sample
 
 pub returns-in_ok-insert-in-None : goal.returns-in_ok-insert-in-None
 returns-in_ok-insert-in-None g c =
@@ -76,26 +70,47 @@ returns-in_ok-insert-in-None g c =
       room = λ h i. true;
     }
 
-pub returns-in_err-archives-in-None-clause-room : goal.returns-in_err-archives-in-None-clause-room
-returns-in_err-archives-in-None-clause-room g c = λ h.
-    let m = c.args.series.now in
-    let unknown : None ≡ index_of m.indices.entries c.args.key.now = c.in-None.ensures in
-    let none = sym (archives_nowhere m.indexed c.args.key.now unknown) in
-    absurd (room_nowhere g.A.Cells.is_ready c.args.schema.now (Put (sample_of_reading c.args.key.now c.args.sample))
-    (entries_of m) none h)
+pub returns-in_err-archives-in-None : goal.returns-in_err-archives-in-None
+returns-in_err-archives-in-None g c = record {
+  put = search rules;
+  held_with = search rules;
+  unchanged = search rules;
+  held = search rules;
+  room =
+      λ h.
+      let m = c.args.series.now in
+      let unknown : None ≡ index_of m.indices.entries c.args.key.now = c.in-None.ensures in
+      let none = sym (archives_nowhere m.indexed c.args.key.now unknown) in
+      absurd (room_nowhere g.A.Cells.is_ready c.args.schema.now (Put (sample_of_reading c.args.key.now c.args.sample))
+      (entries_of m) none h);
+}
 
-pub returns-in_err-put_into-in-None-clause-room : goal.returns-in_err-put_into-in-None-clause-room
-returns-in_err-put_into-in-None-clause-room g c = λ h.
-    let m = c.args.series.now in
-    let unknown : None ≡ index_of m.indices.entries c.args.key.now = c.in-None.ensures in
-    let none = sym (archives_nowhere m.indexed c.args.key.now unknown) in
-    absurd (room_nowhere g.A.Cells.is_ready c.args.schema.now (Put (sample_of_reading c.args.key.now c.args.sample))
-    (entries_of m) none h)
+pub returns-in_err-put_into-in-None : goal.returns-in_err-put_into-in-None
+returns-in_err-put_into-in-None g c = record {
+  put = search rules;
+  held_with = search rules;
+  unchanged = search rules;
+  held = search rules;
+  room =
+      λ h.
+      let m = c.args.series.now in
+      let unknown : None ≡ index_of m.indices.entries c.args.key.now = c.in-None.ensures in
+      let none = sym (archives_nowhere m.indexed c.args.key.now unknown) in
+      absurd (room_nowhere g.A.Cells.is_ready c.args.schema.now (Put (sample_of_reading c.args.key.now c.args.sample))
+      (entries_of m) none h);
+}
 
-pub returns-in_err-insert-in-None-clause-room : goal.returns-in_err-insert-in-None-clause-room
-returns-in_err-insert-in-None-clause-room g c = λ h.
-    let m = c.args.series.now in
-    let unknown : None ≡ index_of m.indices.entries c.args.key.now = c.in-None.ensures in
-    let none = sym (archives_nowhere m.indexed c.args.key.now unknown) in
-    absurd (room_nowhere g.A.Cells.is_ready c.args.schema.now (Put (sample_of_reading c.args.key.now c.args.sample))
-    (entries_of m) none h)
+pub returns-in_err-insert-in-None : goal.returns-in_err-insert-in-None
+returns-in_err-insert-in-None g c = record {
+  put = search rules;
+  held_with = search rules;
+  unchanged = search rules;
+  held = search rules;
+  room =
+      λ h.
+      let m = c.args.series.now in
+      let unknown : None ≡ index_of m.indices.entries c.args.key.now = c.in-None.ensures in
+      let none = sym (archives_nowhere m.indexed c.args.key.now unknown) in
+      absurd (room_nowhere g.A.Cells.is_ready c.args.schema.now (Put (sample_of_reading c.args.key.now c.args.sample))
+      (entries_of m) none h);
+}

@@ -25,32 +25,34 @@ returns-in_ok-insert-in-None-clause-key g c =
     ap (λ ks. slice_get ks c.len-index.result) c.in_ok-insert-in-None.ensures.keys
     ∙ at_end keys c.len-index.result c.key-key.result.now (search rules) ∙ ap (λ k. Some k) c.key-key.ensures
 
-pub returns-in_ok-insert-in-None-clause-unchanged : goal.returns-in_ok-insert-in-None-clause-unchanged
-returns-in_ok-insert-in-None-clause-unchanged g c =
-    let cells = g.A.Cells.cells in
-    let m = c.args.series.now in
-    let old = entries_of m in
-    let unknown : None ≡ index_of m.indices.entries c.key-key.result.now = c.in-None.ensures in
-    let none = sym (archives_nowhere m.indexed c.key-key.result.now unknown) in
-    let fresh = c.in_ok-archives-in-None in
-    let next = c.insert.new.self in
-    let new = entries_of next in
-    let sets = c.in_ok-insert-in-None.ensures.sets in
-    let ordered_before = entries_ordered m.indexed in
-    let ordered = entries_ordered next.indexed in
-    let now = c.make_room.new.archives in
-    cells_same cells old new c.key-key.result.now now sets ordered_before ordered
-    (λ i. held_same cells fresh.archives.items now.items i c.make_room.ensures.unchanged
-    ∙ sym (before_fresh cells c.key-key.result.now old ordered_before fresh.archives.items none fresh.ensures.empty
-    i))
-
-pub returns-in_ok-insert-in-None-clause-room : goal.returns-in_ok-insert-in-None-clause-room
-returns-in_ok-insert-in-None-clause-room g c =
-    let m = c.args.series.now in
-    let old = entries_of m in
-    let next = c.insert.new.self in
-    let new = entries_of next in
-    let sets = c.in_ok-insert-in-None.ensures.sets in
-    let now = c.make_room.new.archives in
-    room_set g.A.Cells.is_ready c.args.schema.now c.args.op.now c.key-key.result.now c.key-key.ensures old new now sets
-    c.in_ok-make_room-in-None.ensures.room
+pub returns-in_ok-insert-in-None-clause-made : goal.returns-in_ok-insert-in-None-clause-made
+returns-in_ok-insert-in-None-clause-made g c = record {
+  unchanged =
+      let cells = g.A.Cells.cells in
+      let m = c.args.series.now in
+      let old = entries_of m in
+      let unknown : None ≡ index_of m.indices.entries c.key-key.result.now = c.in-None.ensures in
+      let none = sym (archives_nowhere m.indexed c.key-key.result.now unknown) in
+      let fresh = c.in_ok-archives-in-None in
+      let next = c.insert.new.self in
+      let new = entries_of next in
+      let sets = c.in_ok-insert-in-None.ensures.sets in
+      let ordered_before = entries_ordered m.indexed in
+      let ordered = entries_ordered next.indexed in
+      let now = c.make_room.new.archives in
+      cells_same cells old new c.key-key.result.now now sets ordered_before ordered
+      (λ i. held_same cells fresh.archives.items now.items i c.make_room.ensures.unchanged
+      ∙ sym (before_fresh cells c.key-key.result.now old ordered_before fresh.archives.items none fresh.ensures.empty
+      i));
+  sized = search rules;
+  room =
+      let m = c.args.series.now in
+      let old = entries_of m in
+      let next = c.insert.new.self in
+      let new = entries_of next in
+      let sets = c.in_ok-insert-in-None.ensures.sets in
+      let now = c.make_room.new.archives in
+      room_set g.A.Cells.is_ready c.args.schema.now c.args.op.now c.key-key.result.now c.key-key.ensures old new now
+      sets
+      c.in_ok-make_room-in-None.ensures.room;
+}

@@ -13,7 +13,8 @@ invariant_of-result g c =
     let limit = g.A.Cells.row_limit in
     let new = c.in_ok-copy_series.field-0 in
     subst (λ (s : Layout). IsReplicaInMemory cells limit s r.origin r.next (entries_of new))
-    (sym c.in_ok-copy.ensures.same) (held_copied cells limit r.series new c.in_ok-copy_series.ensures.archives r.schema r.origin
+    (sym c.in_ok-copy.ensures.same) (held_copied cells limit r.series new c.in_ok-copy_series.ensures.archives r.schema
+    r.origin
     r.next c.self.invariant)
 
 pub returns-clause-state : goal.returns-clause-state

@@ -9,7 +9,8 @@ pub returns-in-Some : goal.returns-in-Some
 returns-in-Some g c =
     let h = replica_state c.args.self.now in
     c.next_cell.ensures.first
-    ∙ behind h c.schema-schema.ensures.holds c.in-Some.key.now 255 (pos 9223372036854775807) c.origin.result (omega arith)
+    ∙ behind h c.schema-schema.ensures.holds c.in-Some.key.now 255 (pos 9223372036854775807) c.origin.result (omega
+    arith)
     ∙ ap (λ o. first_behind (lent_key o) (entries h.cells)) (sym c.in-Some.is)
 
 pub returns-in-None : goal.returns-in-None

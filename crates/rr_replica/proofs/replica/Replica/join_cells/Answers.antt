@@ -28,7 +28,7 @@ loop-cell-preserved g c =
     let i = c.loop-cell.cell-index in
     let cell = c.cell-item.result in
     let item : get_or cells i cell ≡ cell = search rules in
-    let written = passed c.join_cell.result c.join_cell.ensures.joined c.if-is_err.ensures.value in
+    let written = passed c.join_cell.result c.join_cell.ensures.state.made c.if-is_err.ensures.value in
     let more = take_more cells i cell c.loop-cell-test.true ∙ ap (λ d. take i cells ++ d ∷ []) item in
     record {
       counted = omega (arith, c.loop-cell.invariant.counted);

@@ -12,26 +12,29 @@ use Rattle.rr_replica.specs.Numbered.{put_of, puts_at}
 use Rattle.rr_replica.specs.ReplicaWithRoom.{replica_state, IsReadyFor}
 use Rattle.rr_replica.proofs.replica.Replica.put_numbered.Goals as goal
 
-pub returns-clause-put : goal.returns-clause-put
-returns-clause-put g c =
-    let r = c.args.self.now in
-    let key = get_or r.keys c.args.series [] in
-    let op = Put (record {
-      origin = r.origin;
-      number = c.args.number;
-      key = key;
-      time = c.args.time;
-      value = c.args.value;
-    }) in
-    let within : c.args.series < length r.keys = search rules in
-    let puts : puts_at r.keys r.origin c.args.series c.args.number c.args.time c.args.value ≡ op ∷ [] =
-    ap (put_of r.origin c.args.number c.args.time c.args.value) (slice_get-get_or r.keys c.args.series [] within) in
-    let may : accepts (replica_state r) op ≡ true = search rules in
-    let time = to_z-of_z {w = w64} {z = c.args.time} (search rules) in
-    let value = to_z-of_z {w = w64} {z = c.args.value} (search rules) in
-    let put = rw (time, value, c.origin.ensures) at c.put_reading_at.ensures.put in
-    on_ok_weaker c.put_reading_at.result (λ e. e ∙ (sym (step_accepted (replica_state r) op may)
-    ∙ ap (fold step (replica_state r)) (sym puts))) put
+pub returns-clause-state : goal.returns-clause-state
+returns-clause-state g c = record {
+  made =
+      let r = c.args.self.now in
+      let key = get_or r.keys c.args.series [] in
+      let op = Put (record {
+        origin = r.origin;
+        number = c.args.number;
+        key = key;
+        time = c.args.time;
+        value = c.args.value;
+      }) in
+      let within : c.args.series < length r.keys = search rules in
+      let puts : puts_at r.keys r.origin c.args.series c.args.number c.args.time c.args.value ≡ op ∷ [] =
+      ap (put_of r.origin c.args.number c.args.time c.args.value) (slice_get-get_or r.keys c.args.series [] within) in
+      let may : accepts (replica_state r) op ≡ true = search rules in
+      let time = to_z-of_z {w = w64} {z = c.args.time} (search rules) in
+      let value = to_z-of_z {w = w64} {z = c.args.value} (search rules) in
+      let put = rw (time, value, c.origin.ensures) at c.put_reading_at.ensures.state.made in
+      on_ok_weaker c.put_reading_at.result (λ e. e ∙ (sym (step_accepted (replica_state r) op may)
+      ∙ ap (fold step (replica_state r)) (sym puts))) put;
+  unchanged = search rules;
+}
 
 pub returns-clause-room : goal.returns-clause-room
 returns-clause-room g c = λ ready.

@@ -13,6 +13,7 @@ returns-in_err-put_in-clause-room g c = λ h.
     let op = Put (sample_of_reading c.args.key.now c.args.sample) in
     let told = subst (λ (st : ReplicaWithRoom). HasRoomFor st op) (sym c.self.view_is) h in
     let there = room_there g.A.Cells.is_ready g.A.Cells.cells g.A.Cells.row_limit r.schema
-    c.self.invariant.holds.layout r.origin r.next r.series.keys.items (entries_of r.series) c.self.invariant.sized op told in
+    c.self.invariant.holds.layout r.origin r.next r.series.keys.items (entries_of r.series) c.self.invariant.sized op
+    told in
     let ok : IsOk c.put_in.result = c.put_in.ensures.room there in
     absurd (true≢false (sym (subst IsOk c.in_err-put_in.was ok)))

@@ -14,6 +14,7 @@ returns-in_err-put_at-clause-room g c = λ h.
     let told = subst (λ (st : ReplicaWithRoom). HasRoomFor st
     (Put (sample_of_reading (get_or st.keys c.args.series []) c.args.sample))) (sym c.self.view_is) h in
     let there = room_there g.A.Cells.is_ready g.A.Cells.cells g.A.Cells.row_limit r.schema
-    c.self.invariant.holds.layout r.origin r.next r.series.keys.items (entries_of r.series) c.self.invariant.sized op told in
-    let ok : IsOk c.put_at.result = c.put_at.ensures.room there in
+    c.self.invariant.holds.layout r.origin r.next r.series.keys.items (entries_of r.series) c.self.invariant.sized op
+    told in
+    let ok : IsOk c.put_at.result = c.put_at.ensures.sample.room there in
     absurd (true≢false (sym (subst IsOk c.in_err-put_at.was ok)))

@@ -16,7 +16,7 @@ invariant_of-self g c =
     let new = c.make_room_in.new.series in
     let e = c.make_room_in.ensures in
     kept_same g.A.Cells.cells g.A.Cells.row_limit r.schema r.origin r.next (entries_of r.series) (entries_of new)
-    c.self.invariant e.unchanged e.sized (entries_ordered new.indexed)
+    c.self.invariant e.made.unchanged e.made.sized (entries_ordered new.indexed)
 
 pub returns-clause-room : goal.returns-clause-room
 returns-clause-room g c =
@@ -32,5 +32,6 @@ returns-clause-room g c =
     let number = taken_origin (replica_state_in cells r.schema r.origin r.next (entries_of r.series)) op taken of
     c.self.invariant.holds.origin in
     on_ok_weaker c.make_room_in.result (λ room. λ _. room_told g.A.Cells.is_ready cells g.A.Cells.row_limit r.schema
-    c.self.invariant.holds.layout r.origin r.next c.make_room_in.new.series.keys.items new c.make_room_in.ensures.sized op of number room)
-    c.make_room_in.ensures.room
+    c.self.invariant.holds.layout r.origin r.next c.make_room_in.new.series.keys.items new
+    c.make_room_in.ensures.made.sized op of number room)
+    c.make_room_in.ensures.made.room

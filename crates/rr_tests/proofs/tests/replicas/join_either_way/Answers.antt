@@ -24,13 +24,13 @@ returns g c =
     let one = c.args.one.now in
     let first = c.args.first.now in
     let second = c.args.second.now in
-    let there = c.in_ok-join_cell-2.ensures.joined
-    ∙ ap (λ (h : ReplicaState). with_cell h second) c.in_ok-join_cell.ensures.joined in
-    let here = c.in_ok-join_cell-3.ensures.joined ∙ ap (λ (h : ReplicaState). with_cell h second)
+    let there = c.in_ok-join_cell-2.ensures.state.made
+    ∙ ap (λ (h : ReplicaState). with_cell h second) c.in_ok-join_cell.ensures.state.made in
+    let here = c.in_ok-join_cell-3.ensures.state.made ∙ ap (λ (h : ReplicaState). with_cell h second)
     (sym c.requires.alike) in
     on_ok c.join_cell-4.result (λ joined.
     ap (λ (h : ReplicaState). h.cells) there
     ∙ either_order c.join_keeps_the_live.ensures.commutative c.join_keeps_the_live.ensures.associative
     (replica_state one) c.schema-schema.ensures.holds _ _
     ∙ sym (ap (λ (h : ReplicaState). h.cells) (joined ∙ ap (λ (h : ReplicaState). with_cell h first) here)))
-    c.join_cell-4.ensures.joined
+    c.join_cell-4.ensures.state.made
