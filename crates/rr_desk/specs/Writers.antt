@@ -1,22 +1,47 @@
 -- What clauses read of the writer of the two copies.
-use Rattle.std.specs.Prelude.{◌≡◌, ◌++◌, List, [], drop, fold}
+use Rattle.std.specs.Prelude.{◌≡◌, ◌++◌, ◌≤◌, ℕ, List, [], drop, fold}
 use Rattle.left_right.specs.declared.Absorb.{Ghosts}
 use Rattle.left_right.specs.declared.writer.Writer.{Writer}
 use Rattle.left_right.specs.Sides.{view}
 use Rattle.rr_cells.specs.declared.op.Op.{Op}
 use Rattle.rr_cells.specs.Operations.{step}
-use Rattle.rr_replica.specs.ReplicaWithRoom.{replica_state}
+use Rattle.rr_text.specs.declared.limits.TheConstants.{MAX_READERS}
+use Rattle.rr_replica.specs.ReplicaWithRoom.{ReplicaWithRoom, replica_state}
 use Rattle.rr_desk.specs.declared.change.Change.{Change}
 use Rattle.rr_desk.specs.declared.rule.View.{View}
 use Rattle.rr_desk.specs.declared.shown.Shown.{Shown}
 use Rattle.rr_desk.specs.Changes.{Names, front_after, names_at, names_of, ops_in}
+use Rattle.rr_desk.specs.Editions.{BookFront}
 use Rattle.rr_desk.specs.KeeperState.{IsReady}
 use Rattle.rr_desk.specs.Rule.{with_published}
+
+-- as many readers as a desk may have
+abbrev pub IsReaderCount : ℕ → Type 0
+IsReaderCount n = (1 ≤ n) × (n ≤ MAX_READERS)
+
+-- a copy holds what it held
+pub record IsSameShown {D : Type 0} (old new : Shown D) : Type 0 where
+  pub state : replica_state new.replica ≡ replica_state old.replica
+  pub keys : new.replica.keys ≡ old.replica.keys
+  pub started : new.started ≡ old.started
+  pub front : new.front ≡ old.front
 
 module _ {T O V P A S : Type 0} {g : Ghosts T O S} where
   -- the changes that readers do not see yet
   abbrev pub changes : Writer T O V P A S g → List O
   changes w = drop w.behind w.log.items
+
+-- a writer shows what it showed, and the same changes are pending
+pub record IsSameWriter {T O V P A S : Type 0} {g : Ghosts T O S} (old new : Writer T O V P A S g) : Type 0 where
+  pub place : view new.desk.place ≡ view old.desk.place
+  pub shown : new.desk.shown ≡ old.desk.shown
+  pub pending : changes new ≡ changes old
+
+-- a writer shows a copy of a replica
+pub record ShowsCopy {D P A S : Type 0} {g : Ghosts (Shown D) Change S} (replica : ReplicaWithRoom)
+    (w : Writer (Shown D) Change View P A S g) : Type 0 where
+  pub state : replica_state w.desk.shown.value.replica ≡ replica_state replica
+  pub keys : w.desk.shown.value.replica.keys ≡ replica.keys
 
 module _ {D P A S : Type 0} {g : Ghosts (Shown D) Change S} where
   -- the names of the copy that is shown, by which the changes are read
@@ -50,3 +75,10 @@ module _ {D P A S : Type 0} {g : Ghosts (Shown D) Change S} where
   IsUnpublished old new = (view new.desk.place ≡ view old.desk.place)
       × (new.desk.shown.value ≡ old.desk.shown.value)
       × (changes new ≡ changes old)
+
+-- keys were added to what is pending, and nothing else
+pub record AddsKeys {D P A S : Type 0} {g : Ghosts (Shown D) Change S} (old new : Writer (Shown D) Change View P A S g)
+    : Type 0 where
+  pub desk : new.desk ≡ old.desk
+  pub pending : ops_in (shown_names old) (changes new) ≡ pending_ops old
+  pub front : (s : BookFront) → front_after s (changes new) ≡ front_after s (changes old)

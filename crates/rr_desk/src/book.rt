@@ -6,6 +6,7 @@
 ghost use Rattle.std.specs.Prelude.{◌≡◌, [], ◌∷◌, ◌++◌, length, nat_le, IsTrue, IfOk, OnErr, OnOk};
 ghost use mathlib.Core.List.{IsPrefix};
 ghost use Rattle.rr_desk.specs.Editions.{head_of};
+ghost use Rattle.rr_replica.specs.Becomes.{Becomes};
 
 use logbook::{Gain, Offer, Plain, Play, Rule, Seen, Start, Word};
 use rr_cells::Op;
@@ -203,9 +204,9 @@ impl Editions {
     /// Adds an edition. It could be refused only where another keeper had added one to this book,
     /// or where 2^64 - 1 have been added.
     pub fn add<K: Batch>(&mut self) -> Result<(), AllocError>
-        ensures added { OnOk result (self.new
-            ≡ record { desk = self.old.desk; editions = self.old.editions ++ K.batch ∷ [] }) }
-        ensures unchanged { OnErr result (self.new ≡ self.old) }
+        ensures state { Becomes self.old
+            (record { desk = self.old.desk; editions = self.old.editions ++ K.batch ∷ [] })
+            self.new result }
     {
         let next = self.front.next::<K>(&self.head)?;
         self.front = next;

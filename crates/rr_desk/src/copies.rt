@@ -8,6 +8,7 @@ ghost use Rattle.rr_desk.specs.Editions.{flat};
 ghost use Rattle.rr_desk.specs.Rule.{keeper_of};
 ghost use Rattle.rr_desk.specs.KeeperState.{cells_of, own_replica, keeper_at_opening, with_all_published, with_pending};
 ghost use Rattle.rr_desk.specs.Writers.{changes};
+ghost use Rattle.rr_replica.specs.Becomes.{Becomes};
 
 use crate::book::{Editions, Front};
 use crate::change::Change;
@@ -113,8 +114,7 @@ impl<A: Cells> Copies<A> {
     #[inline(always)]
     pub fn push(&mut self, hint: Hint, op: Op) -> Result<(), AllocError>
         requires { accepts (own_replica self.old) op ≡ true }
-        ensures pending { OnOk result (self.new ≡ with_pending self.old op) }
-        ensures unchanged { OnErr result (self.new ≡ self.old) }
+        ensures state { Becomes self.old (with_pending self.old op) self.new result }
     {
         if shares_rows(&op) {
             self.share_rows(hint);
@@ -134,8 +134,7 @@ impl<A: Cells> Copies<A> {
     /// `push`, without sharing rows.
     fn append(&mut self, hint: Hint, op: &Op) -> Result<(), AllocError>
         requires { accepts (own_replica self.old) op.now ≡ true }
-        ensures pending { OnOk result (self.new ≡ with_pending self.old op.now) }
-        ensures unchanged { OnErr result (self.new ≡ self.old) }
+        ensures state { Becomes self.old (with_pending self.old op.now) self.new result }
     {
         let series = self.own.ready_series(hint, op)?;
         name_keys(&mut self.writer, &self.own, &mut self.named)?;
@@ -154,8 +153,7 @@ impl<A: Cells> Copies<A> {
     ///
     /// The cost is that of applying the operations to each copy once, however large the replica is.
     pub fn publish<R: Wait>(&mut self, rt: &R) -> Result<(), AllocError>
-        ensures published { OnOk result (self.new ≡ with_all_published self.old) }
-        ensures unchanged { OnErr result (self.new ≡ self.old) }
+        ensures state { Becomes self.old (with_all_published self.old) self.new result }
     {
         end_edition(&mut self.book, &mut self.writer, self.ended)?;
         self.ended = true;

@@ -17,6 +17,7 @@ ghost use Rattle.rr_snapshot.specs.Snapshot.{snapshot_text};
 ghost use Rattle.rr_snapshot.specs.declared.heading.TheConstants.{MAX_SNAPSHOT_CELLS};
 ghost use Rattle.rr_desk.specs.Points.{with_put};
 ghost use Rattle.rr_desk.specs.KeeperState.{cells_of, own_replica, with_all_published, with_pending};
+ghost use Rattle.rr_replica.specs.Becomes.{Becomes};
 
 use crate::change::Change;
 use crate::copies::Copies;
@@ -99,8 +100,7 @@ impl<A: Cells> Keeper<A> {
     /// operations grows.
     pub fn put(&mut self, key: &SeriesKey, time: i64, value: i64) -> Result<u64, PutFault>
         ensures number { IfOk result (λ number. number ≡ self.old.next) }
-        ensures pending { OnOk result (self.new ≡ with_put self.old key.now time value) }
-        ensures unchanged { OnErr result (self.new ≡ self.old) }
+        ensures state { Becomes self.old (with_put self.old key.now time value) self.new result }
         ensures spent { (result ≡ Err PutFault.NumbersSpent) ↔ (MAX_NUMBER < self.old.next) }
     {
         if self.copies.replica().next_number() > MAX_NUMBER {
@@ -124,8 +124,7 @@ impl<A: Cells> Keeper<A> {
         value: i64,
     ) -> Result<u64, PutFault>
         ensures number { IfOk result (λ number. number ≡ self.old.next) }
-        ensures pending { OnOk result (self.new ≡ with_put self.old key time value) }
-        ensures unchanged { OnErr result (self.new ≡ self.old) }
+        ensures state { Becomes self.old (with_put self.old key time value) self.new result }
         ensures spent { (result ≡ Err PutFault.NumbersSpent) ↔ (MAX_NUMBER < self.old.next) }
     {
         let number = self.copies.replica().next_number();
@@ -183,8 +182,7 @@ impl<A: Cells> Keeper<A> {
     /// that of `Replica::join_cell`, once here and once in each copy when it is published.
     pub fn join_cell(&mut self, cell: &Cell) -> Result<(), AllocError>
         requires { IsCellOf self.old.schema (owned_cell cell.now) }
-        ensures pending { OnOk result (self.new ≡ with_pending self.old (Join cell.now)) }
-        ensures unchanged { OnErr result (self.new ≡ self.old) }
+        ensures state { Becomes self.old (with_pending self.old (Join cell.now)) self.new result }
     {
         let (_key, hint) = self
             .copies
@@ -248,8 +246,7 @@ impl<A: Cells> Keeper<A> {
     ///
     /// The cost is that of applying the operations to each copy once, however large the replica is.
     pub fn publish<R: Wait>(&mut self, rt: &R) -> Result<(), AllocError>
-        ensures published { OnOk result (self.new ≡ with_all_published self.old) }
-        ensures unchanged { OnErr result (self.new ≡ self.old) }
+        ensures state { Becomes self.old (with_all_published self.old) self.new result }
     {
         self.copies.publish(rt)
     }

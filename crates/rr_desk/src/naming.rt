@@ -1,8 +1,7 @@
 //! Keys that the copies lack, which they get before operations on their series.
 ghost use Rattle.std.specs.Prelude.{◌≡◌, ◌+◌, ◌<◌, ◌≤◌, length, OnErr, OnOk};
-ghost use Rattle.rr_desk.specs.Changes.{front_after, ops_in, AreNamed};
-ghost use Rattle.rr_desk.specs.Editions.{BookFront};
-ghost use Rattle.rr_desk.specs.Writers.{changes, pending_ops, shown_names};
+ghost use Rattle.rr_desk.specs.Changes.{AreNamed};
+ghost use Rattle.rr_desk.specs.Writers.{changes, shown_names, AddsKeys};
 
 use crate::change::Change;
 use crate::writing::DeskWriter;
@@ -19,11 +18,7 @@ fn name_key<A: Cells>(
     requires there { named < length own.now.keys }
     requires named { AreNamed (shown_names writer.old) own.now.keys
         (changes writer.old) named }
-    ensures desk { writer.new.desk ≡ writer.old.desk }
-    ensures pending { ops_in (shown_names writer.old) (changes writer.new)
-        ≡ pending_ops writer.old }
-    ensures front { (s : BookFront) → front_after s (changes writer.new)
-        ≡ front_after s (changes writer.old) }
+    ensures keys { AddsKeys writer.old writer.new }
     ensures named { OnOk result (AreNamed (shown_names writer.old)
         own.now.keys (changes writer.new) (named + 1)) }
     ensures unchanged { OnErr result (changes writer.new ≡ changes writer.old) }
@@ -45,11 +40,7 @@ pub fn name_keys<A: Cells>(
 ) -> Result<(), AllocError>
     requires { AreNamed (shown_names writer.old) own.now.keys
         (changes writer.old) named.old }
-    ensures desk { writer.new.desk ≡ writer.old.desk }
-    ensures pending { ops_in (shown_names writer.old) (changes writer.new)
-        ≡ pending_ops writer.old }
-    ensures front { (s : BookFront) → front_after s (changes writer.new)
-        ≡ front_after s (changes writer.old) }
+    ensures keys { AddsKeys writer.old writer.new }
     ensures named { AreNamed (shown_names writer.old) own.now.keys
         (changes writer.new) named.new }
     ensures all { OnOk result (length own.now.keys ≤ named.new) }

@@ -1,7 +1,6 @@
 //! Opening a desk.
-ghost use Rattle.std.specs.Prelude.{◌≡◌, ◌≤◌, ◌↔◌, All, [], true, length, IfErr, IfOk, OnOk};
+ghost use Rattle.std.specs.Prelude.{◌≡◌, ◌↔◌, All, [], true, length, IfErr, IfOk, OnOk};
 ghost use Rattle.left_right.specs.Sides.{view};
-ghost use Rattle.rr_text.specs.declared.limits.TheConstants.{MAX_READERS};
 ghost use Rattle.rr_cells.specs.ReplicaState.{IsReplicaState};
 ghost use Rattle.rr_cells.specs.Operations.{joins_of};
 ghost use Rattle.rr_replica.specs.ReplicaWithRoom.{replica_state};
@@ -9,7 +8,7 @@ ghost use Rattle.rr_desk.specs.Editions.{flat};
 ghost use Rattle.rr_desk.specs.Rule.{keeper_of};
 ghost use Rattle.rr_desk.specs.KeeperState.{keeper_at_opening};
 ghost use Rattle.rr_desk.specs.ReaderState.{HasSeen};
-ghost use Rattle.rr_desk.specs.Writers.{changes};
+ghost use Rattle.rr_desk.specs.Writers.{changes, IsReaderCount, IsSameWriter, ShowsCopy};
 ghost use Rattle.rr_desk.specs.declared.fault.OpenFault.TheVariants.{BadCount};
 
 use crate::book::Editions;
@@ -37,9 +36,7 @@ fn seat<A: Cells>(
 ) -> Result<Reader<A>, AllocError>
     requires joined { (view writer.old.desk.place).joined ≡ true }
     requires schema { (view writer.old.desk.place).schema ≡ schema.now }
-    ensures view { view writer.new.desk.place ≡ view writer.old.desk.place }
-    ensures shown { writer.new.desk.shown ≡ writer.old.desk.shown }
-    ensures pending { changes writer.new ≡ changes writer.old }
+    ensures same { IsSameWriter writer.old writer.new }
     ensures seen { IfOk result (HasSeen (view writer.old.desk.place).desk schema.now
         (view writer.old.desk.place).seen) }
 {
@@ -64,9 +61,7 @@ fn seats<A: Cells>(
 ) -> Result<Vec<Reader<A>>, AllocError>
     requires joined { (view writer.old.desk.place).joined ≡ true }
     requires schema { (view writer.old.desk.place).schema ≡ schema.now }
-    ensures view { view writer.new.desk.place ≡ view writer.old.desk.place }
-    ensures shown { writer.new.desk.shown ≡ writer.old.desk.shown }
-    ensures pending { changes writer.new ≡ changes writer.old }
+    ensures same { IsSameWriter writer.old writer.new }
     ensures count { IfOk result (λ all. length all.items ≡ readers) }
     ensures seen { IfOk result (λ all. All (HasSeen (view writer.old.desk.place).desk schema.now
         (view writer.old.desk.place).seen) all.items) }
@@ -85,14 +80,11 @@ fn begin<A: Cells, R: Wait>(
     replica: &Replica<A>,
     readers: usize,
 ) -> Result<(DeskWriter<A>, Editions, Vec<Reader<A>>), AllocError>
-    requires some_reader { 1 ≤ readers }
-    requires few_readers { readers ≤ MAX_READERS }
+    requires readers { IsReaderCount readers }
     ensures holds { OnOk result (IsReplicaState (replica_state replica.now)) }
     ensures view { IfOk result (λ r. view r.0.desk.place
         ≡ keeper_of (replica_state replica.now) r.1.desk) }
-    ensures copy { IfOk result (λ r. replica_state r.0.desk.shown.value.replica
-        ≡ replica_state replica.now) }
-    ensures keys { IfOk result (λ r. r.0.desk.shown.value.replica.keys ≡ replica.now.keys) }
+    ensures copy { IfOk result (λ r. ShowsCopy replica.now r.0) }
     ensures front { IfOk result (λ r. r.0.desk.shown.value.front ≡ r.1) }
     ensures pending { IfOk result (λ r. changes r.0 ≡ []) }
     ensures book { IfOk result (λ r. flat r.1.editions ≡ joins_of replica.now.cells) }
@@ -123,9 +115,8 @@ pub fn open<A: Cells, R: Wait>(
     ensures count { IfOk result (λ r. length r.1.items ≡ readers) }
     ensures seen { IfOk result (λ r. All (HasSeen r.0.desk replica.schema r.0.published)
         r.1.items) }
-    ensures accepted { OnOk result ((1 ≤ readers) × (readers ≤ MAX_READERS)) }
-    ensures refused { IfErr result (λ e. e.0 ≡ BadCount
-        ↔ ¬ ((1 ≤ readers) × (readers ≤ MAX_READERS))) }
+    ensures accepted { OnOk result (IsReaderCount readers) }
+    ensures refused { IfErr result (λ e. e.0 ≡ BadCount ↔ ¬ (IsReaderCount readers)) }
     ensures unchanged { IfErr result (λ e. e.1 ≡ replica) }
 {
     if readers == 0 || readers > MAX_READERS {

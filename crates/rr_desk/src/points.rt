@@ -5,6 +5,7 @@ ghost use Rattle.rr_key.specs.Making.{making_fault};
 ghost use Rattle.rr_point.specs.Key.{HasKeys, IsWritable, key_text, names_of};
 ghost use Rattle.rr_point.specs.Point.{point_view};
 ghost use Rattle.rr_desk.specs.KeeperState.{own_replica};
+ghost use Rattle.rr_replica.specs.Becomes.{Becomes};
 
 use crate::keeper::Keeper;
 use rr_archive::Cells;
@@ -73,11 +74,11 @@ impl<A: Cells> Keeper<A> {
         now: i64,
         lead: Option<u64>,
     ) -> Result<(), WriteFault>
-        ensures put { OnOk result (self.new ≡ with_put self.old key (unwrap_or time now) value) }
+        ensures state { Becomes self.old (with_put self.old key (unwrap_or time now) value)
+            self.new result }
         ensures ahead { (result ≡ Err WriteFault.AheadOfClock) ↔ IsTrue (is_ahead time now lead) }
         ensures spent { (result ≡ Err WriteFault.NumbersSpent) ↔ (IsFalse (is_ahead time now lead)
             × IsTrue (lacks_numbers (own_replica self.old) 1)) }
-        ensures unchanged { OnErr result (self.new ≡ self.old) }
     {
         if is_ahead(time, now, lead) {
             return Err(WriteFault::AheadOfClock);
@@ -125,10 +126,10 @@ impl<A: Cells> Keeper<A> {
     ) -> Result<(), AllocError>
         requires keyed { making_fault (names_of (point_view point.now) field.now.key.now) ≡ None }
         requires number_left { self.old.next ≤ MAX_NUMBER }
-        ensures put { OnOk result (self.new
-            ≡ with_put self.old (key_text (point_view point.now) field.now.key.now) time
-            field.now.value) }
-        ensures unchanged { OnErr result (self.new ≡ self.old) }
+        ensures state { Becomes self.old
+            (with_put self.old (key_text (point_view point.now) field.now.key.now) time
+            field.now.value)
+            self.new result }
     {
         let mut text = replace(&mut self.text, Vec::new(self.alloc));
         point.write_key(self.alloc, &mut text, field.key)?;

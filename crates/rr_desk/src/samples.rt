@@ -2,6 +2,7 @@
 ghost use Rattle.std.specs.Prelude.{◌≡◌, ℕ, ◌≤◌, ◌↔◌, length, map, take, Err, IfOk, IfErr, OnErr, OnOk, IsTrue, IsFalse, unwrap_or};
 ghost use Rattle.rr_text.specs.declared.limits.TheConstants.{MAX_FIELDS};
 ghost use Rattle.rr_desk.specs.KeeperState.{own_replica};
+ghost use Rattle.rr_replica.specs.Becomes.{Becomes};
 
 use crate::keeper::Keeper;
 use rr_archive::Cells;
@@ -77,9 +78,8 @@ impl<A: Cells> Keeper<A> {
 
     /// Puts a sample of a value.
     fn put_value(&mut self, value: &KeyedValue, time: i64) -> Result<(), AllocError>
-        ensures put { OnOk result (self.new
-            ≡ with_put self.old value.now.key time value.now.value) }
-        ensures unchanged { OnErr result (self.new ≡ self.old) }
+        ensures state { Becomes self.old (with_put self.old value.now.key time value.now.value)
+            self.new result }
     {
         let key = value.key.copy()?;
         match self.put_at(value.hint, key, time, value.value) {

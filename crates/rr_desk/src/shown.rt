@@ -75,15 +75,11 @@ pub struct Shown<A: Cells> {
 }
 
 impl<A: Cells> Shown<A> {
-    ghost use Rattle.std.specs.Prelude.{◌≡◌};
-    ghost use Rattle.rr_replica.specs.ReplicaWithRoom.{replica_state};
+    ghost use Rattle.rr_desk.specs.Writers.{IsSameShown};
 
     /// Makes finished rows of a series ready to be shared, if they are looked for.
     fn finish_rows(&mut self, wanted: bool, series: usize)
-        ensures state { replica_state self.new.replica ≡ replica_state self.old.replica }
-        ensures keys { self.new.replica.keys ≡ self.old.replica.keys }
-        ensures started { self.new.started ≡ self.old.started }
-        ensures front { self.new.front ≡ self.old.front }
+        ensures same { IsSameShown self.old self.new }
     {
         if wanted {
             self.replica.finish_rows(series);
@@ -92,10 +88,7 @@ impl<A: Cells> Shown<A> {
 
     /// Shares rows of a series with the copy that was first, if they are looked for.
     fn share_rows(&mut self, wanted: bool, series: usize, first: &Shown<A>)
-        ensures state { replica_state self.new.replica ≡ replica_state self.old.replica }
-        ensures keys { self.new.replica.keys ≡ self.old.replica.keys }
-        ensures started { self.new.started ≡ self.old.started }
-        ensures front { self.new.front ≡ self.old.front }
+        ensures same { IsSameShown self.old self.new }
     {
         if wanted {
             self.replica.share_rows(series, &first.replica);

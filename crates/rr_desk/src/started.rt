@@ -1,13 +1,12 @@
 //! Opening the two copies of a replica.
-ghost use Rattle.std.specs.Prelude.{◌≡◌, ◌≤◌, [], ◌∷◌, false, IfOk, OnOk};
+ghost use Rattle.std.specs.Prelude.{◌≡◌, [], ◌∷◌, false, IfOk, OnOk};
 ghost use Rattle.left_right.specs.Sides.{view};
-ghost use Rattle.rr_text.specs.declared.limits.TheConstants.{MAX_READERS};
 ghost use Rattle.rr_cells.specs.ReplicaState.{IsReplicaState};
 ghost use Rattle.rr_cells.specs.Operations.{joins_of};
 ghost use Rattle.rr_replica.specs.ReplicaWithRoom.{replica_state};
 ghost use Rattle.rr_desk.specs.Editions.{flat};
 ghost use Rattle.rr_desk.specs.Rule.{keeper_of};
-ghost use Rattle.rr_desk.specs.Writers.{changes};
+ghost use Rattle.rr_desk.specs.Writers.{changes, IsReaderCount, ShowsCopy};
 ghost use Rattle.rr_desk.specs.declared.change.Change.TheVariants.{Edition};
 
 use crate::book::{Batch, Editions};
@@ -16,7 +15,6 @@ use crate::shown::Shown;
 use crate::writing::{DeskWriter, start};
 use rr_archive::Cells;
 use rr_replica::Replica;
-use rr_text::limits::MAX_READERS;
 use std::alloc::{AllocError, Global};
 use std::marker::Brand;
 use std::sync::Wait;
@@ -75,11 +73,8 @@ fn unopened_writer<A: Cells>(
     readers: usize,
     book: &Editions,
 ) -> Result<DeskWriter<A>, AllocError>
-    requires some_reader { 1 ≤ readers }
-    requires few_readers { readers ≤ MAX_READERS }
-    ensures copy { IfOk result (λ w. replica_state w.desk.shown.value.replica
-        ≡ replica_state replica.now) }
-    ensures keys { IfOk result (λ w. w.desk.shown.value.replica.keys ≡ replica.now.keys) }
+    requires readers { IsReaderCount readers }
+    ensures copy { IfOk result (ShowsCopy replica.now) }
     ensures unopened { IfOk result (λ w. w.desk.shown.value.started ≡ false) }
     ensures pending { IfOk result (λ w. changes w ≡ []) }
 {
@@ -96,12 +91,9 @@ fn first_writer<A: Cells, R: Wait>(
     readers: usize,
     book: &mut Editions,
 ) -> Result<DeskWriter<A>, AllocError>
-    requires some_reader { 1 ≤ readers }
-    requires few_readers { readers ≤ MAX_READERS }
+    requires readers { IsReaderCount readers }
     requires fresh { book.old.editions ≡ [] }
-    ensures copy { IfOk result (λ w. replica_state w.desk.shown.value.replica
-        ≡ replica_state replica.now) }
-    ensures keys { IfOk result (λ w. w.desk.shown.value.replica.keys ≡ replica.now.keys) }
+    ensures copy { IfOk result (ShowsCopy replica.now) }
     ensures unopened { IfOk result (λ w. w.desk.shown.value.started ≡ false) }
     ensures pending { IfOk result (λ w. changes w ≡ Edition book.new ∷ []) }
     ensures book { OnOk result (flat book.new.editions ≡ joins_of replica.now.cells) }
@@ -122,15 +114,12 @@ pub fn started_writer<A: Cells, R: Wait>(
     readers: usize,
     book: &mut Editions,
 ) -> Result<DeskWriter<A>, AllocError>
-    requires some_reader { 1 ≤ readers }
-    requires few_readers { readers ≤ MAX_READERS }
+    requires readers { IsReaderCount readers }
     requires fresh { book.old.editions ≡ [] }
     ensures holds { OnOk result (IsReplicaState (replica_state replica.now)) }
     ensures view { IfOk result (λ w. view w.desk.place
         ≡ keeper_of (replica_state replica.now) book.new.desk) }
-    ensures copy { IfOk result (λ w. replica_state w.desk.shown.value.replica
-        ≡ replica_state replica.now) }
-    ensures keys { IfOk result (λ w. w.desk.shown.value.replica.keys ≡ replica.now.keys) }
+    ensures copy { IfOk result (ShowsCopy replica.now) }
     ensures front { IfOk result (λ w. w.desk.shown.value.front ≡ book.new) }
     ensures pending { IfOk result (λ w. changes w ≡ []) }
     ensures book { OnOk result (flat book.new.editions ≡ joins_of replica.now.cells) }

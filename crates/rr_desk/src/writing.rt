@@ -8,7 +8,7 @@ ghost use Rattle.rr_replica.specs.ReplicaWithRoom.{replica_state};
 ghost use Rattle.rr_desk.specs.Changes.{names_at, ops_in};
 ghost use Rattle.rr_desk.specs.Editions.{after, flat, Begins};
 ghost use Rattle.rr_desk.specs.Rule.{with_news, keeper_of};
-ghost use Rattle.rr_desk.specs.Writers.{all_ops, changes, pending_ops, shown_names, HasPublished, IsPublishable, IsUnpublished};
+ghost use Rattle.rr_desk.specs.Writers.{all_ops, changes, pending_ops, shown_names, HasPublished, IsPublishable, IsSameWriter, IsUnpublished};
 ghost use Rattle.rr_desk.specs.declared.change.Change.TheVariants.{Edition};
 
 use crate::book::{Batch, Editions};
@@ -141,9 +141,7 @@ pub fn introduce<A: Cells>(writer: &mut DeskWriter<A>, seat: &mut ReadHandle<A>)
     requires { seat.old.place.table_id ≡ writer.old.desk.place.table_id }
     ensures news { view seat.new.place ≡ with_news (view seat.old.place)
         (view writer.old.desk.place) }
-    ensures view { view writer.new.desk.place ≡ view writer.old.desk.place }
-    ensures shown { writer.new.desk.shown ≡ writer.old.desk.shown }
-    ensures pending { changes writer.new ≡ changes writer.old }
+    ensures same { IsSameWriter writer.old writer.new }
 {
     seat.learn::<Introduces>(writer.tell::<Introduces>());
 }

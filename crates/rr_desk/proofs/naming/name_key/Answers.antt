@@ -7,18 +7,20 @@ use Rattle.rr_desk.proofs.ChangesLemmas.{front_after-more, ops_in-add_key}
 use Rattle.rr_desk.proofs.NamingLemmas.{named-next}
 use Rattle.rr_desk.proofs.naming.name_key.Goals as goal
 
-pub returns-clause-pending : goal.returns-clause-pending
-returns-clause-pending g c =
-    let w = c.args.writer.now in
-    let names = names_of w.desk.shown.value.replica in
-    let more : changes c.append.new.self ≡ changes w ++ AddKey c.in_ok-key.key ∷ [] = search rules in
-    ap (ops_in names) more ∙ ops_in-add_key names (changes w) c.in_ok-key.key
-
-pub returns-clause-front : goal.returns-clause-front
-returns-clause-front g c = λ s.
-    let w = c.args.writer.now in
-    let more : changes c.append.new.self ≡ changes w ++ AddKey c.in_ok-key.key ∷ [] = search rules in
-    ap (front_after s) more ∙ front_after-more s (changes w) (AddKey c.in_ok-key.key)
+pub returns-clause-keys : goal.returns-clause-keys
+returns-clause-keys g c = record {
+  desk = search rules;
+  pending =
+      let w = c.args.writer.now in
+      let names = names_of w.desk.shown.value.replica in
+      let more : changes c.append.new.self ≡ changes w ++ AddKey c.in_ok-key.key ∷ [] = search rules in
+      ap (ops_in names) more ∙ ops_in-add_key names (changes w) c.in_ok-key.key;
+  front =
+      λ s.
+      let w = c.args.writer.now in
+      let more : changes c.append.new.self ≡ changes w ++ AddKey c.in_ok-key.key ∷ [] = search rules in
+      ap (front_after s) more ∙ front_after-more s (changes w) (AddKey c.in_ok-key.key);
+}
 
 pub returns-clause-named : goal.returns-clause-named
 returns-clause-named g c =

@@ -15,9 +15,9 @@ loop-n-preserved g c =
     let here : HasSeen v.desk s v.seen c.in_ok-seat.field-0 =
     subst (λ (v : View). HasSeen v.desk s v.seen c.in_ok-seat.field-0) was.place did.seen in
     record {
-      place = did.view ∙ was.place;
-      shown = did.shown ∙ was.shown;
-      pending = did.pending ∙ was.pending;
+      place = did.same.place ∙ was.place;
+      shown = did.same.shown ∙ was.shown;
+      pending = did.same.pending ∙ was.pending;
       count = ap length items ∙ (length-append c.loop-n.all.items (c.in_ok-seat.field-0 ∷ [])
           ∙ ap (λ (k : ℕ). k + 1) was.count);
       seen = subst (λ (l : List ReaderState). All (HasSeen v.desk s v.seen) l) (sym items)

@@ -21,7 +21,7 @@ invariant_of-self-2 g c =
     let n = c.append.new.self in
     let names = names_of o.desk.shown.value.replica in
     let op = c.args.op.now in
-    let desk = sym (c.append.ensures.desk ∙ c.name_keys.ensures.desk) in
+    let desk = sym (c.append.ensures.desk ∙ c.name_keys.ensures.keys.desk) in
     let may : accepts (replica_state k.own) op ≡ true =
     ap (λ (h : ReplicaState). accepts h op) (own-state _ _ _ _ _ _ _ _ _ _ c.self.invariant.0 c.self.view_is)
     ∙ c.requires in
@@ -31,9 +31,9 @@ invariant_of-self-2 g c =
     let left : ops_in names (changes n) ≡ ops_in names (changes o) ++ op ∷ [] = ops-appended names
     c.ready_series.new.self.keys (changes o) (changes w) (changes n) c.name_keys.new.named c.in_ok-series.series op
     c.in_ok-change.change c.in_ok-name_keys.ensures.named c.in_ok-name_keys.ensures.all c.in_ok-series.ensures.key mine
-    c.in_ok-change.ensures c.in_ok-name_keys.ensures.pending longer in
+    c.in_ok-change.ensures c.in_ok-name_keys.ensures.keys.pending longer in
     let is : replica_state c.apply_numbered.new.self ≡ step (replica_state k.own) op =
-    c.in_ok-apply_numbered.ensures.applied ∙ ap (λ (h : ReplicaState). step h op) c.ready_series.ensures.unchanged in
+    c.in_ok-apply_numbered.ensures.state.made ∙ ap (λ (h : ReplicaState). step h op) c.ready_series.ensures.unchanged in
     let named = named-pushed names c.ready_series.new.self.keys (changes w) c.name_keys.new.named
     c.in_ok-name_keys.ensures.named c.in_ok-series.series op c.in_ok-change.change (changes n) c.in_ok-change.ensures
     longer in
@@ -47,37 +47,43 @@ invariant_of-self-2 g c =
       subst (λ keys. AreNamed names keys (changes n) c.name_keys.new.named) (sym c.apply_numbered.ensures.keys) named,
     )
 
-pub returns-clause-pending : goal.returns-clause-pending
-returns-clause-pending g c =
-    let k = c.self.inside in
-    let o = k.writer in
-    let w = c.name_keys.new.writer in
-    let n = c.append.new.self in
-    let names = names_of o.desk.shown.value.replica in
-    let op = c.args.op.now in
-    let s = c.args.self.now in
-    let desk = c.append.ensures.desk ∙ c.name_keys.ensures.desk in
-    let may : accepts (replica_state k.own) op ≡ true =
-    ap (λ (h : ReplicaState). accepts h op) (own-state _ _ _ _ _ _ _ _ _ _ c.self.invariant.0 c.self.view_is)
-    ∙ c.requires in
-    let mine : IsOwn names.origin op = subst (λ origin. IsOwn origin op)
-    (tied-origin _ _ _ _ c.self.invariant.0.tied) (own-accepted (replica_state k.own) op may) in
-    let longer : changes n ≡ changes w ++ c.in_ok-change.change ∷ [] = search rules in
-    let left : ops_in names (changes n) ≡ ops_in names (changes o) ++ op ∷ [] = ops-appended names
-    c.ready_series.new.self.keys (changes o) (changes w) (changes n) c.name_keys.new.named c.in_ok-series.series op
-    c.in_ok-change.change c.in_ok-name_keys.ensures.named c.in_ok-name_keys.ensures.all c.in_ok-series.ensures.key mine
-    c.in_ok-change.ensures c.in_ok-name_keys.ensures.pending longer in
-    let own = own-state _ _ _ _ _ _ _ _ _ _ c.self.invariant.0 c.self.view_is in
-    let seen : (view n.desk.place).seen ≡ s.published = (λ i. (view (desk i).place).seen)
-    ∙ ap (λ (z : KeeperState). z.published) c.self.view_is in
-    let same : (view n.desk.place).desk ≡ s.desk = (λ i. (view (desk i).place).desk)
-    ∙ ap (λ (z : KeeperState). z.desk) c.self.view_is in
-    let more : ops_in (names_of n.desk.shown.value.replica) (changes n) ≡ s.pending ++ op ∷ [] =
-    (λ i. ops_in (names_of (desk i).shown.value.replica) (changes n))
-    ∙ (left ∙ ap (λ (z : KeeperState). z.pending ++ op ∷ []) c.self.view_is) in
-    push-state s (replica_state c.apply_numbered.new.self) op _ _ _ c.requires
-    (c.in_ok-apply_numbered.ensures.applied ∙ ap (λ (h : ReplicaState). step h op)
-    (c.ready_series.ensures.unchanged ∙ own)) same seen more
+pub returns : goal.returns
+returns g c = record {
+  state = record {
+    made =
+        let k = c.self.inside in
+        let o = k.writer in
+        let w = c.name_keys.new.writer in
+        let n = c.append.new.self in
+        let names = names_of o.desk.shown.value.replica in
+        let op = c.args.op.now in
+        let s = c.args.self.now in
+        let desk = c.append.ensures.desk ∙ c.name_keys.ensures.keys.desk in
+        let may : accepts (replica_state k.own) op ≡ true =
+        ap (λ (h : ReplicaState). accepts h op) (own-state _ _ _ _ _ _ _ _ _ _ c.self.invariant.0 c.self.view_is)
+        ∙ c.requires in
+        let mine : IsOwn names.origin op = subst (λ origin. IsOwn origin op)
+        (tied-origin _ _ _ _ c.self.invariant.0.tied) (own-accepted (replica_state k.own) op may) in
+        let longer : changes n ≡ changes w ++ c.in_ok-change.change ∷ [] = search rules in
+        let left : ops_in names (changes n) ≡ ops_in names (changes o) ++ op ∷ [] = ops-appended names
+        c.ready_series.new.self.keys (changes o) (changes w) (changes n) c.name_keys.new.named c.in_ok-series.series op
+        c.in_ok-change.change c.in_ok-name_keys.ensures.named c.in_ok-name_keys.ensures.all
+        c.in_ok-series.ensures.key mine
+        c.in_ok-change.ensures c.in_ok-name_keys.ensures.keys.pending longer in
+        let own = own-state _ _ _ _ _ _ _ _ _ _ c.self.invariant.0 c.self.view_is in
+        let seen : (view n.desk.place).seen ≡ s.published = (λ i. (view (desk i).place).seen)
+        ∙ ap (λ (z : KeeperState). z.published) c.self.view_is in
+        let same : (view n.desk.place).desk ≡ s.desk = (λ i. (view (desk i).place).desk)
+        ∙ ap (λ (z : KeeperState). z.desk) c.self.view_is in
+        let more : ops_in (names_of n.desk.shown.value.replica) (changes n) ≡ s.pending ++ op ∷ [] =
+        (λ i. ops_in (names_of (desk i).shown.value.replica) (changes n))
+        ∙ (left ∙ ap (λ (z : KeeperState). z.pending ++ op ∷ []) c.self.view_is) in
+        push-state s (replica_state c.apply_numbered.new.self) op _ _ _ c.requires
+        (c.in_ok-apply_numbered.ensures.state.made ∙ ap (λ (h : ReplicaState). step h op)
+        (c.ready_series.ensures.unchanged ∙ own)) same seen more;
+    unchanged = search rules;
+  };
+}
 
 -- where nothing could be appended, all is as before
 pub invariant_of-self-then-is_err : goal.invariant_of-self-then-is_err
@@ -87,14 +93,14 @@ invariant_of-self-then-is_err g c =
     let w = c.name_keys.new.writer in
     let n = c.append.new.self in
     let names = names_of o.desk.shown.value.replica in
-    let desk = sym (c.append.ensures.desk ∙ c.name_keys.ensures.desk) in
+    let desk = sym (c.append.ensures.desk ∙ c.name_keys.ensures.keys.desk) in
     let same : changes n ≡ changes w = search rules in
     let kept = subst (λ (own : ReplicaState). IsKeeper (view o.desk.place)
     (replica_state o.desk.shown.value.replica) names own o.desk.shown.value.front k.book (changes w) k.ended)
     (sym c.ready_series.ensures.unchanged)
     (keeper-named (view o.desk.place) (replica_state o.desk.shown.value.replica) names (replica_state k.own)
     o.desk.shown.value.front k.book (changes o) (changes w) k.ended c.self.invariant.0
-    c.name_keys.ensures.pending (c.name_keys.ensures.front o.desk.shown.value.front)) in
+    c.name_keys.ensures.keys.pending (c.name_keys.ensures.keys.front o.desk.shown.value.front)) in
     rw same (subst (λ (z : View × ReplicaWithRoom × BookFront). IsKeeper z.0 (replica_state z.1) (names_of z.1)
     (replica_state c.ready_series.new.self) z.2 k.book (changes w) k.ended
     × AreNamed (names_of z.1) c.ready_series.new.self.keys (changes w) c.name_keys.new.named)

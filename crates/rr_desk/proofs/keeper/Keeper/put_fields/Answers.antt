@@ -28,7 +28,7 @@ pub returns-then-is_err-clause-refused : goal.returns-then-is_err-clause-refused
 returns-then-is_err-clause-refused g c =
     let p = point_view c.args.point.now in
     let back = to_z-of_z {w = w64} {z = c.args.time} (search rules) in
-    let same = failed c.put_field.result c.put_field.ensures.unchanged c.if-is_err.ensures.value in
+    let same = failed c.put_field.result c.put_field.ensures.state.unchanged c.if-is_err.ensures.value in
     let state = rw back at c.loop-field.invariant.put in
     let first : map field_view (take c.loop-field.field-index c.deref-field-items.result.now)
     ≡ take c.loop-field.put (map field_view c.args.point.now.fields.items) =
@@ -44,7 +44,7 @@ loop-field-preserved g c =
     let p = point_view c.args.point.now in
     let items = c.deref-field-items.result.now in
     let back = to_z-of_z {w = w64} {z = c.args.time} (search rules) in
-    let written = rw back at (passed c.put_field.result c.put_field.ensures.put c.if-is_err.ensures.value) in
+    let written = rw back at (passed c.put_field.result c.put_field.ensures.state.made c.if-is_err.ensures.value) in
     let state = rw back at c.loop-field.invariant.put in
     let before = map field_view (take c.loop-field.field-index items) in
     let field = field_view (get_or items c.loop-field.field-index any) in

@@ -14,7 +14,7 @@ pub returns-then-is_err-clause-refused : goal.returns-then-is_err-clause-refused
 returns-then-is_err-clause-refused g c =
     let values = c.args.values.now in
     let back = to_z-of_z {w = w64} {z = c.args.time} (search rules) in
-    let same = failed c.put_value.result c.put_value.ensures.unchanged c.if-is_err.ensures.value in
+    let same = failed c.put_value.result c.put_value.ensures.state.unchanged c.if-is_err.ensures.value in
     let state = rw back at c.loop-value.invariant.put in
     let first : map keyed_value (take c.loop-value.value-index values)
     ≡ take c.loop-value.put (map keyed_value values) =
@@ -28,7 +28,7 @@ loop-value-preserved g c =
     let item = c.value-item.result in
     let value = keyed_value item in
     let back = to_z-of_z {w = w64} {z = c.args.time} (search rules) in
-    let written = rw back at (passed c.put_value.result c.put_value.ensures.put c.if-is_err.ensures.value) in
+    let written = rw back at (passed c.put_value.result c.put_value.ensures.state.made c.if-is_err.ensures.value) in
     let state = rw back at c.loop-value.invariant.put in
     let before = map keyed_value (take c.loop-value.value-index values) in
     let more : map keyed_value (take (c.loop-value.value-index + 1) values) ≡ before ++ value ∷ [] =
