@@ -205,7 +205,8 @@ pub none_on : (bs : List (ℤ × HeldBlock)) (slot : ℤ) (most before i : ℕ) 
 none_on bs slot most before i none empty h = by_row (nat_lt (row_of slot + i) 64) refl
   where
     by_row : (near : Bool) → nat_lt (row_of slot + i) 64 ≡ near → items_by_slot bs (slot +ℤ pos i) ≡ []
-    by_row true near = slots_after bs slot i (ltb-true _ _ near) ∙ ap (λ o. items_of_block o (row_of slot + i)) (sym none)
+    by_row true near = slots_after bs slot i (ltb-true _ _ near)
+        ∙ ap (λ o. items_of_block o (row_of slot + i)) (sym none)
     by_row false far = let past = ltb-false (row_of slot + i) 64 far in empty i (omega (arith, h, past))
 
 -- what is stored of each slot: what was, or nothing of a slot before this one

@@ -5,11 +5,12 @@ ghost use Rattle.rr_archive.specs.Changes.{Fits, entry_after};
 ghost use Rattle.rr_archive.specs.Entries.{items_of};
 ghost use Rattle.rr_packed.specs.Sparse.{place_at, item_in, has_room};
 ghost use Rattle.rr_packed.specs.Readings.{entries_of, entries_read};
-ghost use Rattle.rr_packed.specs.Blocks.{items_in, has_room_in, entries_in_all, IsRowSet};
+ghost use Rattle.rr_packed.specs.Blocks.{items_in, has_room_in, entries_in_all, ChangesStored, IsRowSet, MakesRoom};
 
 use crate::mask::ones_on;
 use crate::reading::{Reading, Source, are_same_readings, is_same_source};
 use crate::row::Row;
+use crate::row_number::{RowNumber, RowRange};
 use crate::sparse::Sparse;
 use rr_archive::Entry;
 use rr_archive::change::{Change, contribution_after};
@@ -70,12 +71,11 @@ impl Block {
     }
 
     /// The entry of a row that is held as its sample, if it is held so.
-    fn entry_read(&self, number: u32) -> Option<Entry>
-        requires { number < 64 }
+    fn entry_read(&self, number: RowNumber) -> Option<Entry>
         ensures found { IfSome result (λ e. entries_read self.now.source
-            (item_in self.now.readings number) ≡ e ∷ []) }
+            (item_in self.now.readings number.value) ≡ e ∷ []) }
         ensures none { result ≡ None → entries_read self.now.source
-            (item_in self.now.readings number) ≡ [] }
+            (item_in self.now.readings number.value) ≡ [] }
     {
         let Some(source) = self.source else {
             return None;
@@ -87,9 +87,8 @@ impl Block {
     }
 
     /// The entries of a row.
-    pub(crate) fn row(&self, number: u32) -> Row<'_>
-        requires { number < 64 }
-        ensures { entries_of result ≡ items_in self.now number }
+    pub(crate) fn row(&self, number: RowNumber) -> Row<'_>
+        ensures { entries_of result ≡ items_in self.now number.value }
     {
         if let Some(entries) = self.rows.get(number) {
             return Row::Lent(entries.as_slice());
@@ -102,42 +101,39 @@ impl Block {
 
     /// How many numbers on from one the next is that has a row, or the block ends: those between
     /// have no entry.
-    pub(crate) fn rows_on(&self, number: u32) -> u32
-        requires { number < 64 }
+    pub(crate) fn rows_on(&self, number: RowNumber) -> u32
         ensures at_least_one { 1 ≤ result }
-        ensures within { number + result ≤ 64 }
-        ensures empty { (i : ℕ) → 1 ≤ i → i < result → items_in self.now (number + i) ≡ [] }
+        ensures within { number.value + result ≤ 64 }
+        ensures empty { (i : ℕ) → 1 ≤ i → i < result → items_in self.now (number.value + i) ≡ [] }
     {
-        let rest = (self.readings.mask | self.rows.mask) >> number >> 1;
+        let rest = (self.readings.mask | self.rows.mask) >> number.value >> 1;
         if rest == 0 {
-            return 64 - number;
+            return 64 - number.value;
         }
         1 + rest.trailing_zeros()
     }
 
-    /// How many entries the rows of `most` numbers from one on have in all. Rows that are held as
-    /// readings are counted at once, by their bits; others one by one.
-    pub(crate) fn entries_on(&self, number: u32, most: u32) -> usize
-        requires some { 1 ≤ most }
-        requires within { number + most ≤ 64 }
-        ensures { result ≡ entries_in_all (λ i. items_in self.now (number + i)) most }
+    /// How many entries some rows have in all. Those that are held as readings are counted at once,
+    /// by their bits; others one by one.
+    pub(crate) fn entries_on(&self, rows: RowRange) -> usize
+        ensures { result
+            ≡ entries_in_all (λ i. items_in self.now (rows.first.value + i)) rows.count }
     {
         let read = self.readings.mask & !self.rows.mask;
         let mut count = match self.source {
-            Some(_) => ones_on(read, number, most),
+            Some(_) => ones_on(read, rows),
             None => 0,
         };
-        for entries in self.rows.items_on(number, most) {
+        for entries in self.rows.items_on(rows) {
             count += entries.as_slice().len();
         }
         count
     }
 
     /// Whether a row is held as its entries.
-    fn has_entries(&self, number: u32) -> bool
-        requires { number < 64 }
-        ensures held { result ≡ is_some (item_in self.now.rows number) }
-        ensures placed { result ≡ is_some (place_at self.now.rows.mask number) }
+    fn has_entries(&self, number: RowNumber) -> bool
+        ensures held { result ≡ is_some (item_in self.now.rows number.value) }
+        ensures placed { result ≡ is_some (place_at self.now.rows.mask number.value) }
     {
         match self.rows.find(number) {
             Some(_at) => true,
@@ -146,15 +142,16 @@ impl Block {
     }
 
     /// Holds the row of a number as its entries, beside the reading, if it is held as a reading.
-    fn add_entries(&mut self, number: u32) -> Result<(), AllocError>
-        requires { number < 64 }
+    fn add_entries(&mut self, number: RowNumber) -> Result<(), AllocError>
         ensures same { items_in self.new ≡ items_in self.old }
         ensures source { self.new.source ≡ self.old.source }
         ensures readings { self.new.readings ≡ self.old.readings }
-        ensures spare { OnOk result (entries_read self.new.source (item_in self.new.readings number)
-            ≡ [] ⊎ IsTrue (is_some (item_in self.new.rows number))) }
-        ensures room { (origin : ℕ) → IsTrue (has_room_in self.old number origin) → IsOk result }
-        ensures rows_stay { (origin : ℕ) → IsTrue (has_room_in self.old number origin)
+        ensures spare { OnOk result
+            (entries_read self.new.source (item_in self.new.readings number.value)
+            ≡ [] ⊎ IsTrue (is_some (item_in self.new.rows number.value))) }
+        ensures room { (origin : ℕ) → IsTrue (has_room_in self.old number.value origin)
+            → IsOk result }
+        ensures rows_stay { (origin : ℕ) → IsTrue (has_room_in self.old number.value origin)
             → self.new.rows ≡ self.old.rows }
     {
         if self.has_entries(number) {
@@ -167,13 +164,13 @@ impl Block {
     }
 
     /// Holds the row of a number as its entries, if it is held as a reading.
-    fn unpack(&mut self, number: u32) -> Result<(), AllocError>
-        requires { number < 64 }
+    fn unpack(&mut self, number: RowNumber) -> Result<(), AllocError>
         ensures same { items_in self.new ≡ items_in self.old }
-        ensures unpacked { OnOk result (place_at self.new.readings.mask number ≡ None) }
-        ensures room { (origin : ℕ) → IsTrue (has_room_in self.old number origin) → IsOk result }
-        ensures room_stays { (origin : ℕ) → IsTrue (has_room_in self.old number origin)
-            → IsTrue (has_room_in self.new number origin) }
+        ensures unpacked { OnOk result (place_at self.new.readings.mask number.value ≡ None) }
+        ensures room { (origin : ℕ) → IsTrue (has_room_in self.old number.value origin)
+            → IsOk result }
+        ensures room_stays { (origin : ℕ) → IsTrue (has_room_in self.old number.value origin)
+            → IsTrue (has_room_in self.new number.value origin) }
     {
         self.add_entries(number)?;
         self.readings.remove(number);
@@ -182,21 +179,19 @@ impl Block {
 
     /// Whether a row has no entry.
     #[inline(always)]
-    fn is_free(&self, number: u32) -> bool
-        requires { number < 64 }
-        ensures readings { IsTrue result → place_at self.now.readings.mask number ≡ None }
-        ensures rows { IsTrue result → place_at self.now.rows.mask number ≡ None }
+    fn is_free(&self, number: RowNumber) -> bool
+        ensures readings { IsTrue result → place_at self.now.readings.mask number.value ≡ None }
+        ensures rows { IsTrue result → place_at self.now.rows.mask number.value ≡ None }
     {
         self.readings.lacks(number) && self.rows.lacks(number)
     }
 
     /// Makes room for an entry of an origin in a row.
     #[inline(always)]
-    pub(crate) fn make_room(&mut self, number: u32, origin: Origin) -> Result<(), AllocError>
-        requires { number < 64 }
-        ensures same { items_in self.new ≡ items_in self.old }
-        ensures room { OnOk result (IsTrue (has_room_in self.new number origin)) }
-        ensures room_suffices { IsTrue (has_room_in self.old number origin) → IsOk result }
+    pub(crate) fn make_room(&mut self, number: RowNumber, origin: Origin) -> Result<(), AllocError>
+        ensures { MakesRoom (has_room_in self.old number.value origin)
+            (has_room_in self.new number.value origin) (items_in self.old) (items_in self.new)
+            result }
     {
         if self.is_free(number) {
             return self.make_free_room(number);
@@ -206,12 +201,13 @@ impl Block {
 
     /// Makes room for a row of either kind, for one that has no entry.
     #[inline(always)]
-    fn make_free_room(&mut self, number: u32) -> Result<(), AllocError>
-        requires readings { place_at self.old.readings.mask number ≡ None }
-        requires rows { place_at self.old.rows.mask number ≡ None }
+    fn make_free_room(&mut self, number: RowNumber) -> Result<(), AllocError>
+        requires readings { place_at self.old.readings.mask number.value ≡ None }
+        requires rows { place_at self.old.rows.mask number.value ≡ None }
         ensures same { items_in self.new ≡ items_in self.old }
-        ensures room { (origin : ℕ) → OnOk result (IsTrue (has_room_in self.new number origin)) }
-        ensures room_suffices { (origin : ℕ) → IsTrue (has_room_in self.old number origin)
+        ensures room { (origin : ℕ)
+            → OnOk result (IsTrue (has_room_in self.new number.value origin)) }
+        ensures room_suffices { (origin : ℕ) → IsTrue (has_room_in self.old number.value origin)
             → IsOk result }
     {
         self.readings.make_room()?;
@@ -219,11 +215,10 @@ impl Block {
     }
 
     /// `make_room`, for a row that has an entry.
-    fn make_room_in_row(&mut self, number: u32, origin: Origin) -> Result<(), AllocError>
-        requires { number < 64 }
-        ensures same { items_in self.new ≡ items_in self.old }
-        ensures room { OnOk result (IsTrue (has_room_in self.new number origin)) }
-        ensures room_suffices { IsTrue (has_room_in self.old number origin) → IsOk result }
+    fn make_room_in_row(&mut self, number: RowNumber, origin: Origin) -> Result<(), AllocError>
+        ensures { MakesRoom (has_room_in self.old number.value origin)
+            (has_room_in self.new number.value origin) (items_in self.old) (items_in self.new)
+            result }
     {
         self.unpack(number)?;
         if let Some(at) = self.rows.find(number) {
@@ -275,12 +270,11 @@ impl Block {
 
     /// Adds the entry of a row that has none.
     #[inline(always)]
-    fn add(&mut self, number: u32, origin: Origin, change: &Change) -> Result<(), AllocError>
-        requires number { number < 64 }
+    fn add(&mut self, number: RowNumber, origin: Origin, change: &Change) -> Result<(), AllocError>
         requires fits { Fits (entry_at [] origin) change.now }
-        requires readings { place_at self.old.readings.mask number ≡ None }
-        requires rows { place_at self.old.rows.mask number ≡ None }
-        ensures added { OnOk result (IsRowSet number (entry_after [] origin change.now ∷ [])
+        requires readings { place_at self.old.readings.mask number.value ≡ None }
+        requires rows { place_at self.old.rows.mask number.value ≡ None }
+        ensures added { OnOk result (IsRowSet number.value (entry_after [] origin change.now ∷ [])
             (items_in self.old) (items_in self.new)) }
         ensures unchanged { OnErr result (items_in self.new ≡ items_in self.old) }
         ensures room { IsTrue (has_room self.old.readings) → IsTrue (has_room self.old.rows)
@@ -297,11 +291,15 @@ impl Block {
     }
 
     /// `add`, as an entry whatever the change is.
-    fn add_entry(&mut self, number: u32, origin: Origin, change: &Change) -> Result<(), AllocError>
-        requires number { number < 64 }
+    fn add_entry(
+        &mut self,
+        number: RowNumber,
+        origin: Origin,
+        change: &Change,
+    ) -> Result<(), AllocError>
         requires fits { Fits (entry_at [] origin) change.now }
-        requires rows { place_at self.old.rows.mask number ≡ None }
-        ensures added { OnOk result (IsRowSet number (entry_after [] origin change.now ∷ [])
+        requires rows { place_at self.old.rows.mask number.value ≡ None }
+        ensures added { OnOk result (IsRowSet number.value (entry_after [] origin change.now ∷ [])
             (items_in self.old) (items_in self.new)) }
         ensures unchanged { OnErr result (items_in self.new ≡ items_in self.old) }
         ensures room { IsTrue (has_room self.old.rows) → IsOk result }
@@ -318,18 +316,15 @@ impl Block {
     #[inline(always)]
     pub(crate) fn change(
         &mut self,
-        number: u32,
+        number: RowNumber,
         origin: Origin,
         change: &Change,
     ) -> Result<(), AllocError>
-        requires number { number < 64 }
-        requires fits { Fits (entry_at (items_in self.old number) origin) change.now }
-        ensures changed { OnOk result (IsRowSet number
-            (with_entry (items_in self.old number)
-            (entry_after (items_in self.old number) origin change.now))
-            (items_in self.old) (items_in self.new)) }
-        ensures unchanged { OnErr result (items_in self.new ≡ items_in self.old) }
-        ensures room { IsTrue (has_room_in self.old number origin) → IsOk result }
+        requires { Fits (entry_at (items_in self.old number.value) origin) change.now }
+        ensures { ChangesStored (IsRowSet number.value (with_entry (items_in self.old number.value)
+            (entry_after (items_in self.old number.value) origin change.now)))
+            (has_room_in self.old number.value origin) (items_in self.old) (items_in self.new)
+            result }
     {
         if self.is_free(number) {
             return self.add(number, origin, change);
@@ -338,15 +333,17 @@ impl Block {
     }
 
     /// `change`, for a row that has an entry.
-    fn change_row(&mut self, number: u32, origin: Origin, change: &Change) -> Result<(), AllocError>
-        requires number { number < 64 }
-        requires fits { Fits (entry_at (items_in self.old number) origin) change.now }
-        ensures changed { OnOk result (IsRowSet number
-            (with_entry (items_in self.old number)
-            (entry_after (items_in self.old number) origin change.now))
-            (items_in self.old) (items_in self.new)) }
-        ensures unchanged { OnErr result (items_in self.new ≡ items_in self.old) }
-        ensures room { IsTrue (has_room_in self.old number origin) → IsOk result }
+    fn change_row(
+        &mut self,
+        number: RowNumber,
+        origin: Origin,
+        change: &Change,
+    ) -> Result<(), AllocError>
+        requires { Fits (entry_at (items_in self.old number.value) origin) change.now }
+        ensures { ChangesStored (IsRowSet number.value (with_entry (items_in self.old number.value)
+            (entry_after (items_in self.old number.value) origin change.now)))
+            (has_room_in self.old number.value origin) (items_in self.old) (items_in self.new)
+            result }
     {
         self.unpack(number)?;
         if let Some(at) = self.rows.find(number) {

@@ -10,6 +10,7 @@ ghost use Rattle.rr_packed.specs.Slots.{block_of, row_of};
 
 use crate::held_block::HeldBlock;
 use crate::row::Row;
+use crate::row_number::RowNumber;
 use rr_archive::Entry;
 use rr_archive::change::Change;
 use rr_schema::Origin;
@@ -44,18 +45,19 @@ pub(crate) fn block_of(slot: i64) -> i64
 }
 
 /// The number of the row of a slot in its block.
-pub(crate) fn row_of(slot: i64) -> u32
-    ensures row { result ≡ row_of slot }
-    ensures within { result < 64 }
+pub(crate) fn row_of(slot: i64) -> RowNumber
+    ensures { result.value ≡ row_of slot }
 {
-    slot.rem_euclid(64) as u32
+    RowNumber {
+        value: slot.rem_euclid(64) as u32,
+    }
 }
 
 impl Blocks {
     ghost use Rattle.rr_archive.specs.Row.{entry_at};
     ghost use Rattle.rr_archive.specs.Changes.{Fits, entry_after};
     ghost use Rattle.rr_packed.specs.Readings.{entries_of};
-    ghost use Rattle.rr_packed.specs.Blocks.{all_blocks, block_at, count_before, row_at, has_room_at, starts_before, IsPlaceOf, IsGapFor, IsBlockSet, IsSlotSet};
+    ghost use Rattle.rr_packed.specs.Blocks.{all_blocks, block_at, count_before, row_at, has_room_at, starts_before, ChangesStored, IsPlaceOf, IsGapFor, IsBlockSet, IsSlotSet, MakesRoom};
 
     /// No blocks. It takes no memory yet.
     pub(crate) fn new(alloc: Global) -> Blocks
@@ -236,9 +238,8 @@ impl Blocks {
     /// Makes room for an entry of an origin in a slot.
     #[inline(always)]
     pub(crate) fn make_room(&mut self, slot: i64, origin: Origin) -> Result<(), AllocError>
-        ensures same { row_at self.new ≡ row_at self.old }
-        ensures room { OnOk result (IsTrue (has_room_at self.new slot origin)) }
-        ensures room_suffices { IsTrue (has_room_at self.old slot origin) → IsOk result }
+        ensures { MakesRoom (has_room_at self.old slot origin) (has_room_at self.new slot origin)
+            (row_at self.old) (row_at self.new) result }
     {
         match self.find(block_of(slot)) {
             Ok(at) => self.make_room_at(at, slot, origin),
@@ -250,9 +251,8 @@ impl Blocks {
     #[inline(always)]
     fn make_room_at(&mut self, at: usize, slot: i64, origin: Origin) -> Result<(), AllocError>
         requires { IsPlaceOf (block_of slot) (all_blocks self.old) at }
-        ensures same { row_at self.new ≡ row_at self.old }
-        ensures room { OnOk result (IsTrue (has_room_at self.new slot origin)) }
-        ensures room_suffices { IsTrue (has_room_at self.old slot origin) → IsOk result }
+        ensures { MakesRoom (has_room_at self.old slot origin) (has_room_at self.new slot origin)
+            (row_at self.old) (row_at self.new) result }
     {
         let row = row_of(slot);
         if at < self.older.len() {
@@ -267,9 +267,8 @@ impl Blocks {
     /// `make_room`, in a block that isn't there.
     fn make_new_room(&mut self, at: usize, slot: i64, origin: Origin) -> Result<(), AllocError>
         requires { IsGapFor (block_of slot) (all_blocks self.old) at }
-        ensures same { row_at self.new ≡ row_at self.old }
-        ensures room { OnOk result (IsTrue (has_room_at self.new slot origin)) }
-        ensures room_suffices { IsTrue (has_room_at self.old slot origin) → IsOk result }
+        ensures { MakesRoom (has_room_at self.old slot origin) (has_room_at self.new slot origin)
+            (row_at self.old) (row_at self.new) result }
     {
         let number = block_of(slot);
         let row = row_of(slot);
@@ -287,11 +286,9 @@ impl Blocks {
         change: &Change,
     ) -> Result<(), AllocError>
         requires { Fits (entry_at (row_at self.old slot) origin) change.now }
-        ensures changed { OnOk result (IsSlotSet slot
-            (entry_after (row_at self.old slot) origin change.now) (row_at self.old)
-            (row_at self.new)) }
-        ensures unchanged { OnErr result (row_at self.new ≡ row_at self.old) }
-        ensures room { IsTrue (has_room_at self.old slot origin) → IsOk result }
+        ensures { ChangesStored
+            (IsSlotSet slot (entry_after (row_at self.old slot) origin change.now))
+            (has_room_at self.old slot origin) (row_at self.old) (row_at self.new) result }
     {
         match self.find(block_of(slot)) {
             Ok(at) => self.change_at(at, slot, origin, change),
@@ -310,11 +307,9 @@ impl Blocks {
     ) -> Result<(), AllocError>
         requires place { IsPlaceOf (block_of slot) (all_blocks self.old) at }
         requires fits { Fits (entry_at (row_at self.old slot) origin) change.now }
-        ensures changed { OnOk result (IsSlotSet slot
-            (entry_after (row_at self.old slot) origin change.now) (row_at self.old)
-            (row_at self.new)) }
-        ensures unchanged { OnErr result (row_at self.new ≡ row_at self.old) }
-        ensures room { IsTrue (has_room_at self.old slot origin) → IsOk result }
+        ensures { ChangesStored
+            (IsSlotSet slot (entry_after (row_at self.old slot) origin change.now))
+            (has_room_at self.old slot origin) (row_at self.old) (row_at self.new) result }
     {
         let row = row_of(slot);
         if at < self.older.len() {
@@ -336,10 +331,9 @@ impl Blocks {
     ) -> Result<(), AllocError>
         requires gap { IsGapFor (block_of slot) (all_blocks self.old) at }
         requires fits { Fits (entry_at (row_at self.old slot) origin) change.now }
-        ensures changed { OnOk result (IsSlotSet slot
-            (entry_after (row_at self.old slot) origin change.now) (row_at self.old) (row_at self.new)) }
-        ensures unchanged { OnErr result (row_at self.new ≡ row_at self.old) }
-        ensures room { IsTrue (has_room_at self.old slot origin) → IsOk result }
+        ensures { ChangesStored
+            (IsSlotSet slot (entry_after (row_at self.old slot) origin change.now))
+            (has_room_at self.old slot origin) (row_at self.old) (row_at self.new) result }
     {
         let number = block_of(slot);
         let row = row_of(slot);

@@ -1,12 +1,13 @@
 //! A block that one archive has, or that several share.
-ghost use Rattle.std.specs.Prelude.{◌≡◌, ◌<◌, ◌≤◌, ◌+◌, ℕ, [], IfOk, IsTrue, IsOk, OnOk, OnErr};
+ghost use Rattle.std.specs.Prelude.{◌≡◌, ◌<◌, ◌≤◌, ◌+◌, ℕ, [], IfOk, IsTrue};
 ghost use Rattle.rr_archive.specs.Row.{entry_at, with_entry};
 ghost use Rattle.rr_archive.specs.Changes.{Fits, entry_after};
 ghost use Rattle.rr_packed.specs.Readings.{entries_of};
-ghost use Rattle.rr_packed.specs.Blocks.{items_in, has_room_in, stored_in, has_room_held, entries_in_all, IsRowSet};
+ghost use Rattle.rr_packed.specs.Blocks.{items_in, has_room_in, stored_in, has_room_held, entries_in_all, ChangesStored, IsRowSet, MakesRoom};
 
 use crate::block::Block;
 use crate::row::Row;
+use crate::row_number::{RowNumber, RowRange};
 use rr_archive::change::Change;
 use rr_schema::Origin;
 use std::alloc::{AllocError, Global};
@@ -27,12 +28,11 @@ pub(crate) enum HeldBlock {
 fn copy_with_room(
     block: &Block,
     alloc: Global,
-    number: u32,
+    number: RowNumber,
     origin: Origin,
 ) -> Result<Block, AllocError>
-    requires { number < 64 }
     ensures same { IfOk result (λ new. items_in new ≡ items_in block.now) }
-    ensures room { IfOk result (λ new. IsTrue (has_room_in new number origin)) }
+    ensures room { IfOk result (λ new. IsTrue (has_room_in new number.value origin)) }
 {
     let mut own = block.copy(alloc)?;
     own.make_room(number, origin)?;
@@ -43,14 +43,14 @@ fn copy_with_room(
 fn changed_copy(
     block: &Block,
     alloc: Global,
-    number: u32,
+    number: RowNumber,
     origin: Origin,
     change: &Change,
 ) -> Result<Block, AllocError>
-    requires number { number < 64 }
-    requires fits { Fits (entry_at (items_in block.now number) origin) change.now }
-    ensures { IfOk result (λ new. IsRowSet number
-        (with_entry (items_in block.now number) (entry_after (items_in block.now number) origin change.now))
+    requires { Fits (entry_at (items_in block.now number.value) origin) change.now }
+    ensures { IfOk result (λ new. IsRowSet number.value
+        (with_entry (items_in block.now number.value)
+        (entry_after (items_in block.now number.value) origin change.now))
         (items_in block.now) (items_in new)) }
 {
     let mut own = block.copy(alloc)?;
@@ -95,30 +95,27 @@ impl HeldBlock {
     }
 
     /// The entries of a row.
-    pub(crate) fn row(&self, number: u32) -> Row<'_>
-        requires { number < 64 }
-        ensures { entries_of result ≡ stored_in self.now number }
+    pub(crate) fn row(&self, number: RowNumber) -> Row<'_>
+        ensures { entries_of result ≡ stored_in self.now number.value }
     {
         self.block().row(number)
     }
 
     /// As `Block::rows_on`.
-    pub(crate) fn rows_on(&self, number: u32) -> u32
-        requires { number < 64 }
+    pub(crate) fn rows_on(&self, number: RowNumber) -> u32
         ensures at_least_one { 1 ≤ result }
-        ensures within { number + result ≤ 64 }
-        ensures empty { (i : ℕ) → 1 ≤ i → i < result → stored_in self.now (number + i) ≡ [] }
+        ensures within { number.value + result ≤ 64 }
+        ensures empty { (i : ℕ) → 1 ≤ i → i < result → stored_in self.now (number.value + i) ≡ [] }
     {
         self.block().rows_on(number)
     }
 
     /// As `Block::entries_on`.
-    pub(crate) fn entries_on(&self, number: u32, most: u32) -> usize
-        requires some { 1 ≤ most }
-        requires within { number + most ≤ 64 }
-        ensures { result ≡ entries_in_all (λ i. stored_in self.now (number + i)) most }
+    pub(crate) fn entries_on(&self, rows: RowRange) -> usize
+        ensures { result
+            ≡ entries_in_all (λ i. stored_in self.now (rows.first.value + i)) rows.count }
     {
-        self.block().entries_on(number, most)
+        self.block().entries_on(rows)
     }
 
     /// Makes room for an entry of an origin in a row, in a block of this archive's own.
@@ -126,13 +123,12 @@ impl HeldBlock {
     pub(crate) fn make_room(
         &mut self,
         alloc: Global,
-        number: u32,
+        number: RowNumber,
         origin: Origin,
     ) -> Result<(), AllocError>
-        requires { number < 64 }
-        ensures same { stored_in self.new ≡ stored_in self.old }
-        ensures room { OnOk result (IsTrue (has_room_held self.new number origin)) }
-        ensures room_suffices { IsTrue (has_room_held self.old number origin) → IsOk result }
+        ensures { MakesRoom (has_room_held self.old number.value origin)
+            (has_room_held self.new number.value origin) (stored_in self.old) (stored_in self.new)
+            result }
     {
         match self {
             HeldBlock::Own(block) => block.make_room(number, origin),
@@ -149,18 +145,15 @@ impl HeldBlock {
     pub(crate) fn change(
         &mut self,
         alloc: Global,
-        number: u32,
+        number: RowNumber,
         origin: Origin,
         change: &Change,
     ) -> Result<(), AllocError>
-        requires number { number < 64 }
-        requires fits { Fits (entry_at (stored_in self.old number) origin) change.now }
-        ensures changed { OnOk result (IsRowSet number
-            (with_entry (stored_in self.old number)
-            (entry_after (stored_in self.old number) origin change.now))
-            (stored_in self.old) (stored_in self.new)) }
-        ensures unchanged { OnErr result (stored_in self.new ≡ stored_in self.old) }
-        ensures room { IsTrue (has_room_held self.old number origin) → IsOk result }
+        requires { Fits (entry_at (stored_in self.old number.value) origin) change.now }
+        ensures { ChangesStored (IsRowSet number.value (with_entry (stored_in self.old number.value)
+            (entry_after (stored_in self.old number.value) origin change.now)))
+            (has_room_held self.old number.value origin) (stored_in self.old) (stored_in self.new)
+            result }
     {
         match self {
             HeldBlock::Own(block) => block.change(number, origin, change),

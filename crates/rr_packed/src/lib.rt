@@ -27,6 +27,7 @@ mod mask;
 mod packed_archive;
 mod reading;
 mod row;
+mod row_number;
 mod sharing;
 mod sparse;
 mod walking;

@@ -2,6 +2,7 @@
 ghost use Rattle.std.specs.Prelude.{◌≡◌, ◌<◌, ◌≤◌, ◌+◌, ℕ, insert, vec_capacity, slice_range, None, Some, IfSome, is_none, IsTrue, IsOk, OnOk, OnErr, count_ones, vec_len};
 
 use crate::mask::ones_on;
+use crate::row_number::{RowNumber, RowRange};
 use std::alloc::{AllocError, Global};
 
 /// Items of some of the numbers from 0 to 63, in order: a bit of the mask for each number that has
@@ -46,40 +47,36 @@ impl<T: Drop> Sparse<T> {
     }
 
     /// How many items are of numbers before this one.
-    fn rank(&self, number: u32) -> usize
-        requires { number < 64 }
-        ensures rank { result ≡ rank self.now.mask number }
+    fn rank(&self, number: RowNumber) -> usize
+        ensures rank { result ≡ rank self.now.mask number.value }
         ensures at_most { result ≤ vec_len self.now.items }
     {
-        (self.mask & ((1 << number) - 1)).count_ones() as usize
+        (self.mask & ((1 << number.value) - 1)).count_ones() as usize
     }
 
     /// Whether a number has no item.
     #[inline(always)]
-    pub(crate) fn lacks(&self, number: u32) -> bool
-        requires { number < 64 }
-        ensures { result ≡ is_none (place_at self.now.mask number) }
+    pub(crate) fn lacks(&self, number: RowNumber) -> bool
+        ensures { result ≡ is_none (place_at self.now.mask number.value) }
     {
-        self.mask >> number & 1 == 0
+        self.mask >> number.value & 1 == 0
     }
 
     /// Where in the list the item of a number is, if it has one.
     #[inline(always)]
-    pub(crate) fn find(&self, number: u32) -> Option<usize>
-        requires { number < 64 }
-        ensures place { result ≡ place_at self.now.mask number }
+    pub(crate) fn find(&self, number: RowNumber) -> Option<usize>
+        ensures place { result ≡ place_at self.now.mask number.value }
         ensures within { IfSome result (λ at. at < vec_len self.now.items) }
     {
-        if self.mask >> number & 1 == 0 {
+        if self.mask >> number.value & 1 == 0 {
             return None;
         }
         Some(self.rank(number))
     }
 
     /// The item of a number, if it has one.
-    pub(crate) fn get(&self, number: u32) -> Option<&T>
-        requires { number < 64 }
-        ensures value { option_copied result ≡ item_in self.now number }
+    pub(crate) fn get(&self, number: RowNumber) -> Option<&T>
+        ensures value { option_copied result ≡ item_in self.now number.value }
     {
         match self.find(number) {
             Some(at) => Some(&self.items[at]),
@@ -87,15 +84,14 @@ impl<T: Drop> Sparse<T> {
         }
     }
 
-    /// The items of `most` numbers from one on.
-    pub(crate) fn items_on(&self, number: u32, most: u32) -> &[T]
-        requires some { 1 ≤ most }
-        requires within { number + most ≤ 64 }
-        ensures { result.now ≡ slice_range self.now.items.items (rank self.now.mask number)
-            (rank self.now.mask (number + most)) }
+    /// The items of some rows.
+    pub(crate) fn items_on(&self, rows: RowRange) -> &[T]
+        ensures { result.now ≡ slice_range self.now.items.items
+            (rank self.now.mask rows.first.value)
+            (rank self.now.mask (rows.first.value + rows.count)) }
     {
-        let from = self.rank(number);
-        let to = from + ones_on(self.mask, number, most);
+        let from = self.rank(rows.first);
+        let to = from + ones_on(self.mask, rows);
         &self.items[from..to]
     }
 
@@ -141,16 +137,15 @@ impl<T: Drop> Sparse<T> {
 
     /// Adds the item of a number that has none.
     #[inline(always)]
-    pub(crate) fn insert(&mut self, number: u32, item: T) -> Result<(), AllocError>
-        requires number { number < 64 }
-        requires free { place_at self.old.mask number ≡ None }
-        ensures added { OnOk result (IsItemSet number (Some item) (item_in self.old)
+    pub(crate) fn insert(&mut self, number: RowNumber, item: T) -> Result<(), AllocError>
+        requires { place_at self.old.mask number.value ≡ None }
+        ensures added { OnOk result (IsItemSet number.value (Some item) (item_in self.old)
             (item_in self.new)) }
         ensures unchanged { OnErr result (item_in self.new ≡ item_in self.old) }
         ensures room { IsTrue (has_room self.old) → IsOk result }
     {
         let at = self.rank(number);
-        let mask = self.mask | 1 << number;
+        let mask = self.mask | 1 << number.value;
         self.make_room()?;
         insert_at(&mut self.items, at, item)?;
         self.mask = mask;
@@ -158,16 +153,15 @@ impl<T: Drop> Sparse<T> {
     }
 
     /// Takes the item of a number out, if it has one.
-    pub(crate) fn remove(&mut self, number: u32)
-        requires { number < 64 }
-        ensures removed { IsItemSet number None (item_in self.old) (item_in self.new) }
-        ensures free { place_at self.new.mask number ≡ None }
-        ensures absent { place_at self.old.mask number ≡ None → self.new ≡ self.old }
+    pub(crate) fn remove(&mut self, number: RowNumber)
+        ensures removed { IsItemSet number.value None (item_in self.old) (item_in self.new) }
+        ensures free { place_at self.new.mask number.value ≡ None }
+        ensures absent { place_at self.old.mask number.value ≡ None → self.new ≡ self.old }
     {
         let Some(at) = self.find(number) else {
             return;
         };
-        let mask = self.mask & !(1 << number);
+        let mask = self.mask & !(1 << number.value);
         self.items.remove(at);
         self.mask = mask;
     }

@@ -4,6 +4,7 @@ ghost use Rattle.rr_packed.specs.Blocks.{all_blocks, block_at, entries_in_all, r
 ghost use Rattle.rr_packed.specs.Slots.{block_of};
 
 use crate::blocks::{Blocks, block_of, row_of};
+use crate::row_number::RowRange;
 
 impl Blocks {
     /// How many slots on from one the first block begins; 0 if it began before.
@@ -45,7 +46,7 @@ impl Blocks {
         ensures empty { (i : ℕ) → i < result → row_at self.now (slot +ℤ pos i) ≡ [] }
     {
         let to_first = self.slots_to_first(slot).min(u128::from(most)) as u32;
-        most.min(64 - row_of(slot)).max(to_first)
+        most.min(64 - row_of(slot).value).max(to_first)
     }
 
     /// How many slots from one on are looked at in one step, at most `most`, and how many entries
@@ -61,8 +62,14 @@ impl Blocks {
         let row = row_of(slot);
         match self.get(number) {
             Some(block) => {
-                let on = most.min(64 - row);
-                (on, block.entries_on(row, on))
+                let on = most.min(64 - row.value);
+                (
+                    on,
+                    block.entries_on(RowRange {
+                        first: row,
+                        count: on,
+                    }),
+                )
             }
             None => (self.missing_on(slot, most), 0),
         }

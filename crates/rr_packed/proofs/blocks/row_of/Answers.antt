@@ -4,9 +4,9 @@ use Rattle.std.specs.Int.{int_rem_euclid}
 use Rattle.rr_packed.specs.Slots.{row_of}
 use Rattle.rr_packed.proofs.blocks.row_of.Goals as goal
 
-pub returns-clause-row : goal.returns-clause-row
+pub returns : goal.returns
 unfolding row_of
-returns-clause-row c =
+returns c =
     let back : to_z w64 (of_z w64 c.rem_euclid.result) ≡ c.rem_euclid.result = search rules in
     let slot : to_z w64 (of_z w64 c.args.slot) ≡ c.args.slot = search rules in
     ap unsigned_abs (back ∙ c.rem_euclid.ensures.value ∙ ap (λ z. int_rem_euclid z (pos 64)) slot)

@@ -14,7 +14,7 @@ pub returns-in-Some-clause-added : goal.returns-in-Some-clause-added
 returns-in-Some-clause-added c =
     let was = c.args.self.now in
     let old = c.reading_of.new.self in
-    let k = c.args.number in
+    let k = c.args.number.value in
     let none : item_in old.rows k ≡ None = ap (λ (r : Sparse Entries). item_in r k) c.reading_of.ensures.rows
     ∙ item_none was.rows.mask was.rows.items.items k c.requires.rows in
     let read : entries_read old.source (Some c.in-Some.reading) ≡ entry_after [] c.args.origin c.args.change.now ∷ [] =
@@ -39,7 +39,7 @@ returns-in-Some-clause-unchanged c =
 
 pub returns-in-None-clause-added : goal.returns-in-None-clause-added
 returns-in-None-clause-added c =
-    let k = c.args.number in
+    let k = c.args.number.value in
     on_ok_weaker c.add_entry.result (λ added. λ n. added n
     ∙ ap (λ f. cond (eqb n k) (entry_after [] c.args.origin c.args.change.now ∷ []) (f n)) c.reading_of.ensures.same)
     c.add_entry.ensures.added

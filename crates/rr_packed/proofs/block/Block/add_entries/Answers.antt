@@ -14,7 +14,7 @@ returns-then-has_entries-clause-spare c = inr (search rules)
 pub returns-in-Some-clause-same : goal.returns-in-Some-clause-same
 returns-in-Some-clause-same c =
     let b = c.args.self.now in
-    let k = c.args.number in
+    let k = c.args.number.value in
     let none : item_in b.rows k ≡ None = none_from (item_in b.rows k)
     (sym c.has_entries.ensures.held ∙ c.if-has_entries.false) in
     let here = items_by_reading b k none ∙ c.in-Some.ensures.found in
@@ -24,15 +24,15 @@ returns-in-Some-clause-same c =
     (on_err_weaker c.insert.result (λ same. block_same b _ (λ n. ap (λ f. f n) same) refl (λ n. refl))
     c.insert.ensures.unchanged)
 
-pub insert-requires-clause-free : goal.insert-requires-clause-free
-insert-requires-clause-free c = none_from (place_at c.args.self.now.rows.mask c.args.number)
+pub insert-requires : goal.insert-requires
+insert-requires c = none_from (place_at c.args.self.now.rows.mask c.args.number.value)
     (sym c.has_entries.ensures.placed ∙ c.if-has_entries.false)
 
 -- a row that has room has no reading, unless it is held as entries
-unread : (c : goal.After-insert) (origin : ℕ) → IsTrue (has_room_in c.args.self.now c.args.number origin) → ⊥
+unread : (c : goal.After-insert) (origin : ℕ) → IsTrue (has_room_in c.args.self.now c.args.number.value origin) → ⊥
 unread c origin room =
     let b = c.args.self.now in
-    let k = c.args.number in
+    let k = c.args.number.value in
     let none : item_in b.rows k ≡ None = none_from (item_in b.rows k)
     (sym c.has_entries.ensures.held ∙ c.if-has_entries.false) in
     let free = room_is_free b k origin none room in

@@ -11,7 +11,7 @@ use Rattle.rr_packed.proofs.block.Block.add_entry.Goals as goal
 pub returns-clause-added : goal.returns-clause-added
 returns-clause-added c =
     let old = c.args.self.now in
-    let k = c.args.number in
+    let k = c.args.number.value in
     let entry : Entry = record { origin = c.args.origin; contribution = c.contribution_after-contribution.result } in
     let is : (entry ∷ []) ≡ (entry_after [] c.args.origin c.args.change.now ∷ []) =
     (λ i. record { origin = c.args.origin; contribution = c.contribution_after-contribution.ensures i } ∷ []) in

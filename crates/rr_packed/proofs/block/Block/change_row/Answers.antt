@@ -22,6 +22,10 @@ held : (b mid : Block) (k at : ℕ) (was : Entries) → items_in mid ≡ items_i
 held b mid k at was same place has = sym (items_by_entries mid k was (found_entries mid k at was place has))
     ∙ ap (λ f. f k) same
 
+on_err : {T E P : Type 0} (r : Result T E) → P → OnErr r P
+on_err (Ok x) p = tt
+on_err (Err e) p = p
+
 pub change-requires : goal.change-requires
 change-requires c =
     let mid = c.unpack.new.self in
@@ -30,82 +34,88 @@ change-requires c =
     let has = slice_get_read mid.rows.items.items (length mid.rows.items.items) c.in-Some.at was refl within
     c.index_mut.ensures.value in
     subst (λ (es : List Entry). Fits (entry_at es c.args.origin) c.args.change.now)
-    (sym (held c.args.self.now mid c.args.number c.in-Some.at was c.unpack.ensures.same c.in-Some.ensures.place
-    has)) c.requires.fits
+    (sym (held c.args.self.now mid c.args.number.value c.in-Some.at was c.unpack.ensures.same c.in-Some.ensures.place
+    has)) c.requires
 
-pub returns-in_err-change-clause-unchanged : goal.returns-in_err-change-clause-unchanged
-returns-in_err-change-clause-unchanged c =
-    let mid = c.unpack.new.self in
-    let was : Entries = c.index_mut.result.now in
-    let within : c.in-Some.at < length mid.rows.items.items = search rules in
-    let has = slice_get_read mid.rows.items.items (length mid.rows.items.items) c.in-Some.at was refl within
-    c.index_mut.ensures.value in
-    on_err c.from_residual-in_err-change.result (entries_alike mid _ c.args.number c.in-Some.at was c.change.new.self
-    c.in-Some.ensures.place has refl refl refl refl c.in_err-change.ensures.unchanged ∙ c.unpack.ensures.same)
-  where
-    on_err : {T E P : Type 0} (r : Result T E) → P → OnErr r P
-    on_err (Ok x) p = tt
-    on_err (Err e) p = p
+pub returns-in_err-change : goal.returns-in_err-change
+returns-in_err-change c = record {
+  changed = search rules;
+  unchanged =
+      let mid = c.unpack.new.self in
+      let was : Entries = c.index_mut.result.now in
+      let within : c.in-Some.at < length mid.rows.items.items = search rules in
+      let has = slice_get_read mid.rows.items.items (length mid.rows.items.items) c.in-Some.at was refl within
+      c.index_mut.ensures.value in
+      on_err c.from_residual-in_err-change.result (entries_alike mid _ c.args.number.value c.in-Some.at was
+      c.change.new.self c.in-Some.ensures.place has refl refl refl refl c.in_err-change.ensures.unchanged
+      ∙ c.unpack.ensures.same);
+  room =
+      λ room.
+      let mid = c.unpack.new.self in
+      let k = c.args.number.value in
+      let was : Entries = c.index_mut.result.now in
+      let within : c.in-Some.at < length mid.rows.items.items = search rules in
+      let has = slice_get_read mid.rows.items.items (length mid.rows.items.items) c.in-Some.at was refl within
+      c.index_mut.ensures.value in
+      let ok : IsOk c.change.result = c.change.ensures.room
+      (room_of_entries mid k c.args.origin was (found_entries mid k c.in-Some.at was c.in-Some.ensures.place has)
+      (c.unpack.ensures.room_stays c.args.origin room)) in
+      absurd (true≢false (sym (subst IsOk c.in_err-change.was ok)));
+}
 
-pub returns-in_err-change-clause-room : goal.returns-in_err-change-clause-room
-returns-in_err-change-clause-room c = λ room.
-    let mid = c.unpack.new.self in
-    let k = c.args.number in
-    let was : Entries = c.index_mut.result.now in
-    let within : c.in-Some.at < length mid.rows.items.items = search rules in
-    let has = slice_get_read mid.rows.items.items (length mid.rows.items.items) c.in-Some.at was refl within
-    c.index_mut.ensures.value in
-    let ok : IsOk c.change.result = c.change.ensures.room
-    (room_of_entries mid k c.args.origin was (found_entries mid k c.in-Some.at was c.in-Some.ensures.place has)
-    (c.unpack.ensures.room_stays c.args.origin room)) in
-    absurd (true≢false (sym (subst IsOk c.in_err-change.was ok)))
-
-pub returns-in-Some-clause-changed : goal.returns-in-Some-clause-changed
-returns-in-Some-clause-changed c = λ n.
-    let b = c.args.self.now in
-    let mid = c.unpack.new.self in
-    let k = c.args.number in
-    let was : Entries = c.index_mut.result.now in
-    let within : c.in-Some.at < length mid.rows.items.items = search rules in
-    let has = slice_get_read mid.rows.items.items (length mid.rows.items.items) c.in-Some.at was refl within
-    c.index_mut.ensures.value in
-    let here = held b mid k c.in-Some.at was c.unpack.ensures.same c.in-Some.ensures.place has in
-    let now = c.in_ok-change.ensures.changed in
-    entries_changed mid _ k c.in-Some.at was c.change.new.self c.in-Some.ensures.place has refl refl refl refl n
-    ∙ (λ i. cond (eqb n k) ((now ∙ ap (λ l. with_entry l (entry_after l c.args.origin c.args.change.now)) here) i)
-    (c.unpack.ensures.same i n))
+pub returns-in-Some : goal.returns-in-Some
+returns-in-Some c = record {
+  changed =
+      λ n.
+      let b = c.args.self.now in
+      let mid = c.unpack.new.self in
+      let k = c.args.number.value in
+      let was : Entries = c.index_mut.result.now in
+      let within : c.in-Some.at < length mid.rows.items.items = search rules in
+      let has = slice_get_read mid.rows.items.items (length mid.rows.items.items) c.in-Some.at was refl within
+      c.index_mut.ensures.value in
+      let here = held b mid k c.in-Some.at was c.unpack.ensures.same c.in-Some.ensures.place has in
+      let now = c.in_ok-change.ensures.changed in
+      entries_changed mid _ k c.in-Some.at was c.change.new.self c.in-Some.ensures.place has refl refl refl refl n
+      ∙ (λ i. cond (eqb n k) ((now ∙ ap (λ l. with_entry l (entry_after l c.args.origin c.args.change.now)) here) i)
+      (c.unpack.ensures.same i n));
+  unchanged = search rules;
+  room = search rules;
+}
 
 -- ---- it has no entry
 
 pub add_entry-requires-clause-fits : goal.add_entry-requires-clause-fits
 add_entry-requires-clause-fits c =
     let mid = c.unpack.new.self in
-    let k = c.args.number in
+    let k = c.args.number.value in
     let rows : item_in mid.rows k ≡ None = item_none mid.rows.mask mid.rows.items.items k
     (sym c.in_default.ensures.place) in
     let unpacked : place_at mid.readings.mask k ≡ None = search rules in
     let empty : items_in c.args.self.now k ≡ [] = sym (ap (λ f. f k) c.unpack.ensures.same)
     ∙ items_none mid k rows (item_none mid.readings.mask mid.readings.items.items k unpacked) in
-    subst (λ (es : List Entry). Fits (entry_at es c.args.origin) c.args.change.now) empty c.requires.fits
+    subst (λ (es : List Entry). Fits (entry_at es c.args.origin) c.args.change.now) empty c.requires
 
-pub returns-clause-changed : goal.returns-clause-changed
-returns-clause-changed c =
-    let mid = c.unpack.new.self in
-    let k = c.args.number in
-    let rows : item_in mid.rows k ≡ None = item_none mid.rows.mask mid.rows.items.items k
-    (sym c.in_default.ensures.place) in
-    let unpacked : place_at mid.readings.mask k ≡ None = search rules in
-    let empty : items_in c.args.self.now k ≡ [] = sym (ap (λ f. f k) c.unpack.ensures.same)
-    ∙ items_none mid k rows (item_none mid.readings.mask mid.readings.items.items k unpacked) in
-    on_ok_weaker c.add_entry.result (λ added. λ n. added n
-    ∙ (λ i. cond (eqb n k) (ap (λ l. with_entry l (entry_after l c.args.origin c.args.change.now)) (sym empty) i)
-    (c.unpack.ensures.same i n))) c.add_entry.ensures.added
-
-pub returns-clause-room : goal.returns-clause-room
-returns-clause-room c = λ room.
-    let mid = c.unpack.new.self in
-    let k = c.args.number in
-    let none : item_in mid.rows k ≡ None = item_none mid.rows.mask mid.rows.items.items k
-    (sym c.in_default.ensures.place) in
-    let free = room_is_free mid k c.args.origin none (c.unpack.ensures.room_stays c.args.origin room) in
-    c.add_entry.ensures.room free.rows
+pub returns : goal.returns
+returns c = record {
+  changed =
+      let mid = c.unpack.new.self in
+      let k = c.args.number.value in
+      let rows : item_in mid.rows k ≡ None = item_none mid.rows.mask mid.rows.items.items k
+      (sym c.in_default.ensures.place) in
+      let unpacked : place_at mid.readings.mask k ≡ None = search rules in
+      let empty : items_in c.args.self.now k ≡ [] = sym (ap (λ f. f k) c.unpack.ensures.same)
+      ∙ items_none mid k rows (item_none mid.readings.mask mid.readings.items.items k unpacked) in
+      on_ok_weaker c.add_entry.result (λ added. λ n. added n
+      ∙ (λ i. cond (eqb n k) (ap (λ l. with_entry l (entry_after l c.args.origin c.args.change.now)) (sym empty) i)
+      (c.unpack.ensures.same i n))) c.add_entry.ensures.added;
+  unchanged = search rules;
+  room =
+      λ room.
+      let mid = c.unpack.new.self in
+      let k = c.args.number.value in
+      let none : item_in mid.rows k ≡ None = item_none mid.rows.mask mid.rows.items.items k
+      (sym c.in_default.ensures.place) in
+      let free = room_is_free mid k c.args.origin none (c.unpack.ensures.room_stays c.args.origin room) in
+      c.add_entry.ensures.room free.rows;
+}

@@ -26,17 +26,17 @@ few_read mask n m ones le on = let few = rank_few mask (n + m) in omega arith
 pub overflow_add-count : goal.overflow_add-count
 overflow_add-count c =
     let b = c.args.self.now in
-    let n = c.args.number in
-    let m = c.args.most in
+    let n = c.args.rows.first.value in
+    let m = c.args.rows.count in
     let held = c.items_on-entries-items.result.now in
-    let lists = few_lists b n m c.requires.within in
+    let lists = few_lists b n m c.args.rows.within in
     let is : length held
     ≡ length (slice_range b.rows.items.items (rank b.rows.mask n) (rank b.rows.mask (n + m))) =
     ap length c.items_on-entries-items.ensures in
     let before = c.loop-entries.invariant.few in
     let first : c.match-self.count ≤ 64 = elim c.match-self.branch as (λ _. c.match-self.count ≤ 64) [
       | in-Some w ↦
-          let few = few_read (read_alone b) n m w.ones_on-count.result c.requires.within w.ones_on-count.ensures in
+          let few = few_read (read_alone b) n m w.ones_on-count.result c.args.rows.within w.ones_on-count.ensures in
           omega arith
       | in-None w ↦ omega arith
     ] in
@@ -56,8 +56,8 @@ loop-entries-preserved c =
 pub returns : goal.returns
 returns c =
     let b = c.args.self.now in
-    let n = c.args.number in
-    let m = c.args.most in
+    let n = c.args.rows.first.value in
+    let m = c.args.rows.count in
     let held = c.items_on-entries-items.result.now in
     let lists = slice_range b.rows.items.items (rank b.rows.mask n) (rank b.rows.mask (n + m)) in
     let rows : b.rows.mask < 2 ^ 64 = search rules in
@@ -71,14 +71,14 @@ returns c =
     as (λ _. entries_in_all (λ i. items_in b (n + i)) m ≡ c.match-self.count + sum_by len lists) [
       | in-Some w ↦
           let ones = w.ones_on-count.result in
-          let all = in_block b rows readings n m ones c.requires.within w.ones_on-count.ensures in
+          let all = in_block b rows readings n m ones c.args.rows.within w.ones_on-count.ensures in
           let read = ap (λ s. count_read s ones) w.in-Some.is in
           let count = w.count-is in
           omega arith
       | in-None w ↦
           let rise = rank_le (read_alone b) n (n + m) (omega arith) in
           let ones = rank (read_alone b) (n + m) - rank (read_alone b) n in
-          let all = in_block b rows readings n m ones c.requires.within (omega arith) in
+          let all = in_block b rows readings n m ones c.args.rows.within (omega arith) in
           let read = ap (λ s. count_read s ones) w.in-None.is in
           let count = w.count-is in
           omega arith

@@ -6,10 +6,10 @@ pub returns-in-Some-clause-held : goal.returns-in-Some-clause-held
 returns-in-Some-clause-held c =
     let rows = c.args.self.now.rows in
     let within : c.in-Some._at < length rows.items.items = search rules in
-    sym (ap is_some (item_found rows.mask rows.items.items c.args.number c.in-Some._at c.in-Some.ensures.place)
+    sym (ap is_some (item_found rows.mask rows.items.items c.args.number.value c.in-Some._at c.in-Some.ensures.place)
     ∙ get_there rows.items.items c.in-Some._at within)
 
 pub returns-in-None-clause-held : goal.returns-in-None-clause-held
 returns-in-None-clause-held c =
     let rows = c.args.self.now.rows in
-    sym (ap is_some (item_none rows.mask rows.items.items c.args.number (sym c.in-None.ensures.place)))
+    sym (ap is_some (item_none rows.mask rows.items.items c.args.number.value (sym c.in-None.ensures.place)))

@@ -17,7 +17,7 @@ returns-in_err-make_room-clause-same c =
 pub returns-in_err-make_room-clause-room_suffices : goal.returns-in_err-make_room-clause-room_suffices
 returns-in_err-make_room-clause-room_suffices c = λ origin room.
     let b = c.args.self.now in
-    let k = c.args.number in
+    let k = c.args.number.value in
     let none : item_in b.rows k ≡ None = item_none b.rows.mask b.rows.items.items k c.requires.rows in
     let free = room_is_free b k origin none room in
     let ok : IsOk c.make_room.result = c.make_room.ensures.room_suffices free.readings in
@@ -37,7 +37,7 @@ returns-clause-same c =
 pub returns-clause-room : goal.returns-clause-room
 returns-clause-room c = λ origin.
     let b = c.args.self.now in
-    let k = c.args.number in
+    let k = c.args.number.value in
     let new : Block = record {
       alloc = b.alloc;
       source = b.source;
@@ -58,6 +58,6 @@ returns-clause-room c = λ origin.
 pub returns-clause-room_suffices : goal.returns-clause-room_suffices
 returns-clause-room_suffices c = λ origin room.
     let b = c.args.self.now in
-    let k = c.args.number in
+    let k = c.args.number.value in
     let none : item_in b.rows k ≡ None = item_none b.rows.mask b.rows.items.items k c.requires.rows in
     c.make_room-2.ensures.room_suffices (room_is_free b k origin none room).rows

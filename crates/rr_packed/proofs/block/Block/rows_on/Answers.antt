@@ -27,8 +27,9 @@ pub returns-then-rest-eq0-clause-empty : goal.returns-then-rest-eq0-clause-empty
 returns-then-rest-eq0-clause-empty c = λ i some h.
     let b = c.args.self.now in
     let mask = bit_or b.readings.mask b.rows.mask in
-    let none : mask / 2 ^ c.args.number / 2 ^ 1 ≡ 0 = search rules in
-    unset b (c.args.number + i) (left mask c.args.number i some ∙ ap (λ m. bit_at m (i - 1)) none ∙ bit_at-zero (i - 1))
+    let none : mask / 2 ^ c.args.number.value / 2 ^ 1 ≡ 0 = search rules in
+    unset b (c.args.number.value + i) (left mask c.args.number.value i some ∙ ap (λ m. bit_at m (i - 1)) none
+    ∙ bit_at-zero (i - 1))
 
 -- what is left of both masks, and its lowest bit
 record IsRest (b : Block) (n t : ℕ) : Type 0 where
@@ -64,13 +65,13 @@ returns-clause-empty c = λ i some h.
     let b = c.args.self.now in
     let readings : b.readings.mask < 2 ^ 64 = search rules in
     let rows : b.rows.mask < 2 ^ 64 = search rules in
-    let rest = rest_is b c.args.number readings rows c.if-rest-eq0.false in
-    unset b (c.args.number + i) (rest.none i some h)
+    let rest = rest_is b c.args.number.value readings rows c.if-rest-eq0.false in
+    unset b (c.args.number.value + i) (rest.none i some h)
 
 pub returns-clause-within : goal.returns-clause-within
 returns-clause-within c =
     let b = c.args.self.now in
     let readings : b.readings.mask < 2 ^ 64 = search rules in
     let rows : b.rows.mask < 2 ^ 64 = search rules in
-    let within = (rest_is b c.args.number readings rows c.if-rest-eq0.false).within in
+    let within = (rest_is b c.args.number.value readings rows c.if-rest-eq0.false).within in
     omega arith

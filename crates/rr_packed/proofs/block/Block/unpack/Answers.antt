@@ -10,7 +10,7 @@ use Rattle.rr_packed.proofs.block.Block.unpack.Goals as goal
 pub returns-clause-same : goal.returns-clause-same
 returns-clause-same c =
     let mid = c.add_entries.new.self in
-    let k = c.args.number in
+    let k = c.args.number.value in
     let new : Block = record { alloc = mid.alloc; source = mid.source; readings = c.remove.new.self; rows = mid.rows }
     in
     let spare : (entries_read mid.source (item_in mid.readings k) ≡ []) ⊎ IsTrue (is_some (item_in mid.rows k)) =
@@ -20,7 +20,7 @@ returns-clause-same c =
 pub returns-clause-room_stays : goal.returns-clause-room_stays
 returns-clause-room_stays c = λ origin room.
     let mid = c.add_entries.new.self in
-    let k = c.args.number in
+    let k = c.args.number.value in
     let new : Block = record { alloc = mid.alloc; source = mid.source; readings = c.remove.new.self; rows = mid.rows }
     in
     room_kept c.args.self.now new k origin (c.add_entries.ensures.rows_stay origin room)

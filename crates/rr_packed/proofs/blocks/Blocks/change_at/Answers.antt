@@ -12,11 +12,11 @@ use Rattle.rr_packed.proofs.blocks.Blocks.change_at.Goals as goal
 
 -- ---- an older block
 
-pub change-requires-clause-fits : goal.change-requires-clause-fits
-change-requires-clause-fits c =
+pub change-requires : goal.change-requires
+change-requires c =
     let a = c.args.self.now in
     let was = c.index_mut.result.now in
-    let row : c.row_of-row.result ≡ row_of c.args.slot = search rules in
+    let row : c.row_of-row.result.value ≡ row_of c.args.slot = search rules in
     let within : c.args.at < length a.older.items = search rules in
     let put = older_put a.older.items (option_to_list a.newest) (block_of c.args.slot) c.args.at was was.1 a.ordered
     c.requires.place within c.index_mut.ensures.value in
@@ -32,83 +32,91 @@ invariant_of-self c =
           c.index_mut.result.now c.change.new.self a.ordered c.requires.place within c.index_mut.ensures.value).ascend;
     }
 
-pub returns-then-at-len-clause-changed : goal.returns-then-at-len-clause-changed
-returns-then-at-len-clause-changed c =
-    let a = c.args.self.now in
-    let was = c.index_mut.result.now in
-    let row : c.row_of-row.result ≡ row_of c.args.slot = search rules in
-    let within : c.args.at < length a.older.items = search rules in
-    let put = older_put a.older.items (option_to_list a.newest) (block_of c.args.slot) c.args.at was
-    c.change.new.self a.ordered c.requires.place within c.index_mut.ensures.value in
-    on_ok_weaker c.change.result (change_there (all_blocks a) _ c.args.slot was.1 c.change.new.self c.args.origin
-    c.args.change.now put.sets (sym put.has)) (rw row at c.change.ensures.changed)
-
-pub returns-then-at-len-clause-unchanged : goal.returns-then-at-len-clause-unchanged
-returns-then-at-len-clause-unchanged c =
-    let a = c.args.self.now in
-    let within : c.args.at < length a.older.items = search rules in
-    let put = older_put a.older.items (option_to_list a.newest) (block_of c.args.slot) c.args.at
-    c.index_mut.result.now c.change.new.self a.ordered c.requires.place within c.index_mut.ensures.value in
-    on_err_weaker c.change.result (λ same. blocks_alike (all_blocks a) _ (block_of c.args.slot) c.change.new.self
-    put.sets (same ∙ ap items_of_block (sym put.has))) c.change.ensures.unchanged
-
-pub returns-then-at-len-clause-room : goal.returns-then-at-len-clause-room
-returns-then-at-len-clause-room c = λ room.
-    let a = c.args.self.now in
-    let row : c.row_of-row.result ≡ row_of c.args.slot = search rules in
-    let within : c.args.at < length a.older.items = search rules in
-    let put = older_put a.older.items (option_to_list a.newest) (block_of c.args.slot) c.args.at
-    c.index_mut.result.now c.change.new.self a.ordered c.requires.place within c.index_mut.ensures.value in
-    (rw row at c.change.ensures.room) (room_found a c.args.slot c.args.origin c.index_mut.result.now.1 (sym put.has)
-    room)
+pub returns-then-at-len : goal.returns-then-at-len
+returns-then-at-len c = record {
+  changed =
+      let a = c.args.self.now in
+      let was = c.index_mut.result.now in
+      let row : c.row_of-row.result.value ≡ row_of c.args.slot = search rules in
+      let within : c.args.at < length a.older.items = search rules in
+      let put = older_put a.older.items (option_to_list a.newest) (block_of c.args.slot) c.args.at was
+      c.change.new.self a.ordered c.requires.place within c.index_mut.ensures.value in
+      on_ok_weaker c.change.result (change_there (all_blocks a) _ c.args.slot was.1 c.change.new.self c.args.origin
+      c.args.change.now put.sets (sym put.has)) (rw row at c.change.ensures.changed);
+  unchanged =
+      let a = c.args.self.now in
+      let within : c.args.at < length a.older.items = search rules in
+      let put = older_put a.older.items (option_to_list a.newest) (block_of c.args.slot) c.args.at
+      c.index_mut.result.now c.change.new.self a.ordered c.requires.place within c.index_mut.ensures.value in
+      on_err_weaker c.change.result (λ same. blocks_alike (all_blocks a) _ (block_of c.args.slot) c.change.new.self
+      put.sets (same ∙ ap items_of_block (sym put.has))) c.change.ensures.unchanged;
+  room =
+      λ room.
+      let a = c.args.self.now in
+      let row : c.row_of-row.result.value ≡ row_of c.args.slot = search rules in
+      let within : c.args.at < length a.older.items = search rules in
+      let put = older_put a.older.items (option_to_list a.newest) (block_of c.args.slot) c.args.at
+      c.index_mut.result.now c.change.new.self a.ordered c.requires.place within c.index_mut.ensures.value in
+      (rw row at c.change.ensures.room) (room_found a c.args.slot c.args.origin c.index_mut.result.now.1 (sym put.has)
+      room);
+}
 
 -- ---- the newest
 
-pub change-requires-in-Some-clause-fits : goal.change-requires-in-Some-clause-fits
-change-requires-in-Some-clause-fits c =
+pub change-requires-in-Some : goal.change-requires-in-Some
+change-requires-in-Some c =
     let a = c.args.self.now in
     let was = c.in-Some.block in
-    let row : c.row_of-row.result ≡ row_of c.args.slot = search rules in
+    let row : c.row_of-row.result.value ≡ row_of c.args.slot = search rules in
     let past : length a.older.items ≤ c.args.at = search rules in
     let put = newest_put a.older.items a.newest (block_of c.args.slot) c.args.at (c.in-Some.field-0-0, was) was
     c.in-Some.is a.ordered c.requires.place past in
     subst (λ (es : List Entry). Fits (entry_at es c.args.origin) c.args.change.now)
     (slot_found (all_blocks a) c.args.slot was (sym put.has) ∙ ap (stored_in was) (sym row)) c.requires.fits
 
-pub returns-in-Some-clause-changed : goal.returns-in-Some-clause-changed
-returns-in-Some-clause-changed c =
-    let a = c.args.self.now in
-    let was = c.in-Some.block in
-    let row : c.row_of-row.result ≡ row_of c.args.slot = search rules in
-    let past : length a.older.items ≤ c.args.at = search rules in
-    let put = newest_put a.older.items a.newest (block_of c.args.slot) c.args.at (c.in-Some.field-0-0, was)
-    c.change-in-Some.new.self c.in-Some.is a.ordered c.requires.place past in
-    on_ok_weaker c.change-in-Some.result (change_there (all_blocks a) _ c.args.slot was c.change-in-Some.new.self
-    c.args.origin c.args.change.now put.sets (sym put.has)) (rw row at c.change-in-Some.ensures.changed)
-
-pub returns-in-Some-clause-unchanged : goal.returns-in-Some-clause-unchanged
-returns-in-Some-clause-unchanged c =
-    let a = c.args.self.now in
-    let past : length a.older.items ≤ c.args.at = search rules in
-    let put = newest_put a.older.items a.newest (block_of c.args.slot) c.args.at (c.in-Some.field-0-0, c.in-Some.block)
-    c.change-in-Some.new.self c.in-Some.is a.ordered c.requires.place past in
-    on_err_weaker c.change-in-Some.result (λ same. blocks_alike (all_blocks a) _ (block_of c.args.slot)
-    c.change-in-Some.new.self put.sets (same ∙ ap items_of_block (sym put.has))) c.change-in-Some.ensures.unchanged
-
-pub returns-in-Some-clause-room : goal.returns-in-Some-clause-room
-returns-in-Some-clause-room c = λ room.
-    let a = c.args.self.now in
-    let row : c.row_of-row.result ≡ row_of c.args.slot = search rules in
-    let past : length a.older.items ≤ c.args.at = search rules in
-    let put = newest_put a.older.items a.newest (block_of c.args.slot) c.args.at (c.in-Some.field-0-0, c.in-Some.block)
-    c.change-in-Some.new.self c.in-Some.is a.ordered c.requires.place past in
-    (rw row at c.change-in-Some.ensures.room) (room_found a c.args.slot c.args.origin c.in-Some.block (sym put.has)
-    room)
+pub returns-in-Some : goal.returns-in-Some
+returns-in-Some c = record {
+  changed =
+      let a = c.args.self.now in
+      let was = c.in-Some.block in
+      let row : c.row_of-row.result.value ≡ row_of c.args.slot = search rules in
+      let past : length a.older.items ≤ c.args.at = search rules in
+      let put = newest_put a.older.items a.newest (block_of c.args.slot) c.args.at (c.in-Some.field-0-0, was)
+      c.change-in-Some.new.self c.in-Some.is a.ordered c.requires.place past in
+      on_ok_weaker c.change-in-Some.result (change_there (all_blocks a) _ c.args.slot was c.change-in-Some.new.self
+      c.args.origin c.args.change.now put.sets (sym put.has)) (rw row at c.change-in-Some.ensures.changed);
+  unchanged =
+      let a = c.args.self.now in
+      let past : length a.older.items ≤ c.args.at = search rules in
+      let put = newest_put a.older.items a.newest (block_of c.args.slot) c.args.at (
+        c.in-Some.field-0-0,
+        c.in-Some.block,
+      )
+      c.change-in-Some.new.self c.in-Some.is a.ordered c.requires.place past in
+      on_err_weaker c.change-in-Some.result (λ same. blocks_alike (all_blocks a) _ (block_of c.args.slot)
+      c.change-in-Some.new.self put.sets (same ∙ ap items_of_block (sym put.has))) c.change-in-Some.ensures.unchanged;
+  room =
+      λ room.
+      let a = c.args.self.now in
+      let row : c.row_of-row.result.value ≡ row_of c.args.slot = search rules in
+      let past : length a.older.items ≤ c.args.at = search rules in
+      let put = newest_put a.older.items a.newest (block_of c.args.slot) c.args.at (
+        c.in-Some.field-0-0,
+        c.in-Some.block,
+      )
+      c.change-in-Some.new.self c.in-Some.is a.ordered c.requires.place past in
+      (rw row at c.change-in-Some.ensures.room) (room_found a c.args.slot c.args.origin c.in-Some.block (sym put.has)
+      room);
+}
 
 -- ---- none
 
-pub returns-in-None-clause-changed : goal.returns-in-None-clause-changed
-returns-in-None-clause-changed c =
-    let a = c.args.self.now in
-    let past : length a.older.items ≤ c.args.at = search rules in
-    absurd (none_past a.older.items a.newest (block_of c.args.slot) c.args.at c.in-None.is c.requires.place past)
+pub returns-in-None : goal.returns-in-None
+returns-in-None c = record {
+  changed =
+      let a = c.args.self.now in
+      let past : length a.older.items ≤ c.args.at = search rules in
+      absurd (none_past a.older.items a.newest (block_of c.args.slot) c.args.at c.in-None.is c.requires.place past);
+  unchanged = search rules;
+  room = search rules;
+}

@@ -18,10 +18,11 @@ returns-in-Some-clause-counted c =
     let bs = all_blocks c.args.self.now in
     let b = c.in-Some.block.now in
     let number : to_z w64 (of_z w64 c.block_of-number.result) ≡ block_of c.args.slot = search rules in
-    let row : c.row_of-row.result ≡ row_of c.args.slot = search rules in
+    let row : c.row_of-row.result.value ≡ row_of c.args.slot = search rules in
     let has : Some b ≡ block_at bs (block_of c.args.slot) = rw number at c.in-Some.ensures.value in
     c.entries_on.ensures
-    ∙ in_all_alike (λ i. stored_in b (c.row_of-row.result + i)) (λ i. row_at c.args.self.now (c.args.slot +ℤ pos i))
+    ∙ in_all_alike (λ i. stored_in b (c.row_of-row.result.value + i))
+    (λ i. row_at c.args.self.now (c.args.slot +ℤ pos i))
     c.min-on.result (λ i h.
     let near : row_of c.args.slot + i < 64 = omega arith in
     (λ j. items_of_block (has j) (row j + i)) ∙ sym (slots_after bs c.args.slot i near))

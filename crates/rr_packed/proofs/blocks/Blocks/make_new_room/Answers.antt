@@ -5,39 +5,43 @@ use Rattle.rr_packed.specs.Blocks.{all_blocks, items_by_slot, IsGapFor}
 use Rattle.rr_packed.proofs.BlocksLemmas.{either, blocks_added, room_missing, room_at}
 use Rattle.rr_packed.proofs.blocks.Blocks.make_new_room.Goals as goal
 
-pub returns-in_err-make_room-clause-room_suffices : goal.returns-in_err-make_room-clause-room_suffices
-returns-in_err-make_room-clause-room_suffices c = λ room.
-    let number : to_z w64 (of_z w64 c.block_of-number.result) ≡ block_of c.args.slot = search rules in
-    let gap : IsGapFor (block_of c.args.slot) (all_blocks c.args.self.now) c.args.at =
-    c.requires in
-    absurd (room_missing c.args.self.now c.args.slot c.args.origin (sym gap.0) room)
+pub returns-in_err-make_room : goal.returns-in_err-make_room
+returns-in_err-make_room c = record {
+  same = search rules;
+  room = search rules;
+  room_suffices =
+      λ room.
+      let number : to_z w64 (of_z w64 c.block_of-number.result) ≡ block_of c.args.slot = search rules in
+      let gap : IsGapFor (block_of c.args.slot) (all_blocks c.args.self.now) c.args.at =
+      c.requires in
+      absurd (room_missing c.args.self.now c.args.slot c.args.origin (sym gap.0) room);
+}
 
-pub returns-clause-room_suffices : goal.returns-clause-room_suffices
-returns-clause-room_suffices c = λ room.
-    let number : to_z w64 (of_z w64 c.block_of-number.result) ≡ block_of c.args.slot = search rules in
-    let gap : IsGapFor (block_of c.args.slot) (all_blocks c.args.self.now) c.args.at =
-    c.requires in
-    absurd (room_missing c.args.self.now c.args.slot c.args.origin (sym gap.0) room)
-
-pub returns-clause-same : goal.returns-clause-same
-returns-clause-same c =
-    let old = all_blocks c.args.self.now in
-    let number : to_z w64 (of_z w64 c.block_of-number.result) ≡ block_of c.args.slot = search rules in
-    let gap : IsGapFor (block_of c.args.slot) old c.args.at = c.requires in
-    either c.insert.result
-    (on_ok_weaker c.insert.result (λ added. blocks_added old _ (block_of c.args.slot) c.make_room.new.self
-    (rw number at added) (sym gap.0) (λ n. ap (λ f. f n) c.make_room.ensures.same ∙ c.new-block.ensures n))
-    c.insert.ensures.added)
-    (on_err_weaker c.insert.result (λ same. ap items_by_slot same) c.insert.ensures.unchanged)
-
-pub returns-clause-room : goal.returns-clause-room
-returns-clause-room c =
-    let old = all_blocks c.args.self.now in
-    let number : to_z w64 (of_z w64 c.block_of-number.result) ≡ block_of c.args.slot = search rules in
-    let row : c.row_of-row.result ≡ row_of c.args.slot = search rules in
-    on_ok_weaker c.insert.result (λ added. room_at old c.insert.new.self c.args.slot c.args.origin
-    c.make_room.new.self (rw number at added) (rw row at c.in_ok-make_room.ensures.room))
-    c.insert.ensures.added
+pub returns : goal.returns
+returns c = record {
+  same =
+      let old = all_blocks c.args.self.now in
+      let number : to_z w64 (of_z w64 c.block_of-number.result) ≡ block_of c.args.slot = search rules in
+      let gap : IsGapFor (block_of c.args.slot) old c.args.at = c.requires in
+      either c.insert.result
+      (on_ok_weaker c.insert.result (λ added. blocks_added old _ (block_of c.args.slot) c.make_room.new.self
+      (rw number at added) (sym gap.0) (λ n. ap (λ f. f n) c.make_room.ensures.same ∙ c.new-block.ensures n))
+      c.insert.ensures.added)
+      (on_err_weaker c.insert.result (λ same. ap items_by_slot same) c.insert.ensures.unchanged);
+  room =
+      let old = all_blocks c.args.self.now in
+      let number : to_z w64 (of_z w64 c.block_of-number.result) ≡ block_of c.args.slot = search rules in
+      let row : c.row_of-row.result.value ≡ row_of c.args.slot = search rules in
+      on_ok_weaker c.insert.result (λ added. room_at old c.insert.new.self c.args.slot c.args.origin
+      c.make_room.new.self (rw number at added) (rw row at c.in_ok-make_room.ensures.room))
+      c.insert.ensures.added;
+  room_suffices =
+      λ room.
+      let number : to_z w64 (of_z w64 c.block_of-number.result) ≡ block_of c.args.slot = search rules in
+      let gap : IsGapFor (block_of c.args.slot) (all_blocks c.args.self.now) c.args.at =
+      c.requires in
+      absurd (room_missing c.args.self.now c.args.slot c.args.origin (sym gap.0) room);
+}
 
 pub insert-requires : goal.insert-requires
 insert-requires c =

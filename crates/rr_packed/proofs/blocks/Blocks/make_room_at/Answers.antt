@@ -18,70 +18,81 @@ invariant_of-self c =
           c.index_mut.result.now c.make_room.new.self a.ordered c.requires within c.index_mut.ensures.value).ascend;
     }
 
-pub returns-then-at-len-clause-same : goal.returns-then-at-len-clause-same
-returns-then-at-len-clause-same c =
-    let a = c.args.self.now in
-    let within : c.args.at < length a.older.items = search rules in
-    let put = older_put a.older.items (option_to_list a.newest) (block_of c.args.slot) c.args.at
-    c.index_mut.result.now c.make_room.new.self a.ordered c.requires within c.index_mut.ensures.value in
-    blocks_alike (all_blocks a) _ (block_of c.args.slot) c.make_room.new.self put.sets
-    (c.make_room.ensures.same ∙ ap items_of_block (sym put.has))
-
-pub returns-then-at-len-clause-room : goal.returns-then-at-len-clause-room
-returns-then-at-len-clause-room c =
-    let a = c.args.self.now in
-    let row : c.row_of-row.result ≡ row_of c.args.slot = search rules in
-    let within : c.args.at < length a.older.items = search rules in
-    let put = older_put a.older.items (option_to_list a.newest) (block_of c.args.slot) c.args.at
-    c.index_mut.result.now c.make_room.new.self a.ordered c.requires within c.index_mut.ensures.value in
-    on_ok_weaker c.make_room.result (room_at (all_blocks a) _ c.args.slot c.args.origin c.make_room.new.self put.sets)
-    (rw row at c.make_room.ensures.room)
-
-pub returns-then-at-len-clause-room_suffices : goal.returns-then-at-len-clause-room_suffices
-returns-then-at-len-clause-room_suffices c = λ room.
-    let a = c.args.self.now in
-    let row : c.row_of-row.result ≡ row_of c.args.slot = search rules in
-    let within : c.args.at < length a.older.items = search rules in
-    let put = older_put a.older.items (option_to_list a.newest) (block_of c.args.slot) c.args.at
-    c.index_mut.result.now c.make_room.new.self a.ordered c.requires within c.index_mut.ensures.value in
-    (rw row at c.make_room.ensures.room_suffices) (room_found a c.args.slot c.args.origin c.index_mut.result.now.1
-    (sym put.has) room)
+pub returns-then-at-len : goal.returns-then-at-len
+returns-then-at-len c = record {
+  same =
+      let a = c.args.self.now in
+      let within : c.args.at < length a.older.items = search rules in
+      let put = older_put a.older.items (option_to_list a.newest) (block_of c.args.slot) c.args.at
+      c.index_mut.result.now c.make_room.new.self a.ordered c.requires within c.index_mut.ensures.value in
+      blocks_alike (all_blocks a) _ (block_of c.args.slot) c.make_room.new.self put.sets
+      (c.make_room.ensures.same ∙ ap items_of_block (sym put.has));
+  room =
+      let a = c.args.self.now in
+      let row : c.row_of-row.result.value ≡ row_of c.args.slot = search rules in
+      let within : c.args.at < length a.older.items = search rules in
+      let put = older_put a.older.items (option_to_list a.newest) (block_of c.args.slot) c.args.at
+      c.index_mut.result.now c.make_room.new.self a.ordered c.requires within c.index_mut.ensures.value in
+      on_ok_weaker c.make_room.result (room_at (all_blocks a) _ c.args.slot c.args.origin c.make_room.new.self put.sets)
+      (rw row at c.make_room.ensures.room);
+  room_suffices =
+      λ room.
+      let a = c.args.self.now in
+      let row : c.row_of-row.result.value ≡ row_of c.args.slot = search rules in
+      let within : c.args.at < length a.older.items = search rules in
+      let put = older_put a.older.items (option_to_list a.newest) (block_of c.args.slot) c.args.at
+      c.index_mut.result.now c.make_room.new.self a.ordered c.requires within c.index_mut.ensures.value in
+      (rw row at c.make_room.ensures.room_suffices) (room_found a c.args.slot c.args.origin c.index_mut.result.now.1
+      (sym put.has) room);
+}
 
 -- ---- the newest
 
-pub returns-in-Some-clause-same : goal.returns-in-Some-clause-same
-returns-in-Some-clause-same c =
-    let a = c.args.self.now in
-    let past : length a.older.items ≤ c.args.at = search rules in
-    let put = newest_put a.older.items a.newest (block_of c.args.slot) c.args.at (c.in-Some.field-0-0, c.in-Some.block)
-    c.make_room-in-Some.new.self c.in-Some.is a.ordered c.requires past in
-    blocks_alike (all_blocks a) _ (block_of c.args.slot) c.make_room-in-Some.new.self put.sets
-    (c.make_room-in-Some.ensures.same ∙ ap items_of_block (sym put.has))
-
-pub returns-in-Some-clause-room : goal.returns-in-Some-clause-room
-returns-in-Some-clause-room c =
-    let a = c.args.self.now in
-    let row : c.row_of-row.result ≡ row_of c.args.slot = search rules in
-    let past : length a.older.items ≤ c.args.at = search rules in
-    let put = newest_put a.older.items a.newest (block_of c.args.slot) c.args.at (c.in-Some.field-0-0, c.in-Some.block)
-    c.make_room-in-Some.new.self c.in-Some.is a.ordered c.requires past in
-    on_ok_weaker c.make_room-in-Some.result (room_at (all_blocks a) _ c.args.slot c.args.origin
-    c.make_room-in-Some.new.self put.sets) (rw row at c.make_room-in-Some.ensures.room)
-
-pub returns-in-Some-clause-room_suffices : goal.returns-in-Some-clause-room_suffices
-returns-in-Some-clause-room_suffices c = λ room.
-    let a = c.args.self.now in
-    let row : c.row_of-row.result ≡ row_of c.args.slot = search rules in
-    let past : length a.older.items ≤ c.args.at = search rules in
-    let put = newest_put a.older.items a.newest (block_of c.args.slot) c.args.at (c.in-Some.field-0-0, c.in-Some.block)
-    c.make_room-in-Some.new.self c.in-Some.is a.ordered c.requires past in
-    (rw row at c.make_room-in-Some.ensures.room_suffices) (room_found a c.args.slot c.args.origin c.in-Some.block
-    (sym put.has) room)
+pub returns-in-Some : goal.returns-in-Some
+returns-in-Some c = record {
+  same =
+      let a = c.args.self.now in
+      let past : length a.older.items ≤ c.args.at = search rules in
+      let put = newest_put a.older.items a.newest (block_of c.args.slot) c.args.at (
+        c.in-Some.field-0-0,
+        c.in-Some.block,
+      )
+      c.make_room-in-Some.new.self c.in-Some.is a.ordered c.requires past in
+      blocks_alike (all_blocks a) _ (block_of c.args.slot) c.make_room-in-Some.new.self put.sets
+      (c.make_room-in-Some.ensures.same ∙ ap items_of_block (sym put.has));
+  room =
+      let a = c.args.self.now in
+      let row : c.row_of-row.result.value ≡ row_of c.args.slot = search rules in
+      let past : length a.older.items ≤ c.args.at = search rules in
+      let put = newest_put a.older.items a.newest (block_of c.args.slot) c.args.at (
+        c.in-Some.field-0-0,
+        c.in-Some.block,
+      )
+      c.make_room-in-Some.new.self c.in-Some.is a.ordered c.requires past in
+      on_ok_weaker c.make_room-in-Some.result (room_at (all_blocks a) _ c.args.slot c.args.origin
+      c.make_room-in-Some.new.self put.sets) (rw row at c.make_room-in-Some.ensures.room);
+  room_suffices =
+      λ room.
+      let a = c.args.self.now in
+      let row : c.row_of-row.result.value ≡ row_of c.args.slot = search rules in
+      let past : length a.older.items ≤ c.args.at = search rules in
+      let put = newest_put a.older.items a.newest (block_of c.args.slot) c.args.at (
+        c.in-Some.field-0-0,
+        c.in-Some.block,
+      )
+      c.make_room-in-Some.new.self c.in-Some.is a.ordered c.requires past in
+      (rw row at c.make_room-in-Some.ensures.room_suffices) (room_found a c.args.slot c.args.origin c.in-Some.block
+      (sym put.has) room);
+}
 
 -- ---- none
 
-pub returns-in-None-clause-room : goal.returns-in-None-clause-room
-returns-in-None-clause-room c =
-    let a = c.args.self.now in
-    let past : length a.older.items ≤ c.args.at = search rules in
-    absurd (none_past a.older.items a.newest (block_of c.args.slot) c.args.at c.in-None.is c.requires past)
+pub returns-in-None : goal.returns-in-None
+returns-in-None c = record {
+  same = search rules;
+  room =
+      let a = c.args.self.now in
+      let past : length a.older.items ≤ c.args.at = search rules in
+      absurd (none_past a.older.items a.newest (block_of c.args.slot) c.args.at c.in-None.is c.requires past);
+  room_suffices = search rules;
+}

@@ -7,8 +7,9 @@ use Rattle.rr_packed.proofs.blocks.Blocks.missing_on.Goals as goal
 pub returns-clause-empty : goal.returns-clause-empty
 returns-clause-empty c = λ i h.
     let bs = all_blocks c.args.self.now in
-    let row : c.row_of.result ≡ row_of c.args.slot = search rules in
-    let is : c.max.result ≡ max (min c.args.most (64 - c.row_of.result)) (min c.slots_to_first.result c.args.most) =
+    let row : c.row_of.result.value ≡ row_of c.args.slot = search rules in
+    let is : c.max.result
+    ≡ max (min c.args.most (64 - c.row_of.result.value)) (min c.slots_to_first.result c.args.most) =
     search rules in
     let slot : to_z w64 (of_z w64 c.args.slot) ≡ c.args.slot = search rules in
     none_on bs c.args.slot c.args.most c.slots_to_first.result i (sym c.requires.missing)

@@ -9,7 +9,7 @@ returns-in-Some c =
     let blocks = all_blocks c.args.self.now in
     let slot : to_z w64 (of_z w64 c.args.slot) ≡ c.args.slot = search rules in
     let number : to_z w64 (of_z w64 c.block_of-number.result) ≡ block_of c.args.slot = search rules in
-    let row : c.row_of.result ≡ row_of c.args.slot = search rules in
+    let row : c.row_of.result.value ≡ row_of c.args.slot = search rules in
     let has : Some c.in-Some.block.now ≡ block_at blocks (block_of c.args.slot) =
     rw number at c.in-Some.ensures.value in
     c.row.ensures ∙ ap (stored_in c.in-Some.block.now) row ∙ sym (slot_found blocks c.args.slot c.in-Some.block.now has)

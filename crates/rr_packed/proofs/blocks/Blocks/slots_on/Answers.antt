@@ -8,7 +8,7 @@ pub returns-in-Some-clause-empty : goal.returns-in-Some-clause-empty
 returns-in-Some-clause-empty c = λ i some h.
     let blocks = all_blocks c.args.self.now in
     let number : to_z w64 (of_z w64 c.block_of-number.result) ≡ block_of c.args.slot = search rules in
-    let row : c.row_of.result ≡ row_of c.args.slot = search rules in
+    let row : c.row_of.result.value ≡ row_of c.args.slot = search rules in
     let has : Some c.in-Some.block.now ≡ block_at blocks (block_of c.args.slot) =
     rw number at c.in-Some.ensures.value in
     let near : row_of c.args.slot + i < 64 = omega arith in

@@ -7,8 +7,9 @@ pub returns-clause-within : goal.returns-clause-within
 returns-clause-within g c =
     let s = c.args.self.now in
     let fits : s.mask < 2 ^ 64 = search rules in
-    let has : bit_at s.mask c.args.number ≡ 1 = bit_is_set s.mask c.args.number (λ e. absurd (omega arith)) in
-    let within = rank_within s.mask c.args.number fits c.requires has in
+    let has : bit_at s.mask c.args.number.value ≡ 1 =
+    bit_is_set s.mask c.args.number.value (λ e. absurd (omega arith)) in
+    let within = rank_within s.mask c.args.number.value fits c.args.number.fits has in
     let counted = s.counted in
     let is = c.rank.ensures.rank in
     omega arith

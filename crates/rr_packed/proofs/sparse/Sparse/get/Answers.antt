@@ -11,10 +11,10 @@ returns-in-Some g c =
     record {
       value = ap (λ x. Some x) c.index.ensures
           ∙ sym (slice_get-get_or s.items.items at c.index.result.now within)
-          ∙ sym (item_found s.mask s.items.items c.args.number at c.in-Some.ensures.place);
+          ∙ sym (item_found s.mask s.items.items c.args.number.value at c.in-Some.ensures.place);
     }
 
 pub returns-in-None : goal.returns-in-None
 returns-in-None g c =
     let s = c.args.self.now in
-    record { value = sym (item_none s.mask s.items.items c.args.number (sym c.in-None.ensures.place)) }
+    record { value = sym (item_none s.mask s.items.items c.args.number.value (sym c.in-None.ensures.place)) }

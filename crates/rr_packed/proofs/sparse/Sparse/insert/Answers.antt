@@ -8,12 +8,12 @@ use Rattle.rr_packed.proofs.sparse.Sparse.insert.Goals as goal
 pub invariant_of-self-2 : goal.invariant_of-self-2
 invariant_of-self-2 g c =
     let s = c.args.self.now in
-    let k = c.args.number in
+    let k = c.args.number.value in
     let new = bit_or s.mask (1 * 2 ^ k % 2 ^ 64) in
     let fits : s.mask < 2 ^ 64 = search rules in
-    let more : HasOneMore s.mask new k = more_by_or s.mask k c.requires.number (none_tells s.mask k c.requires.free) in
+    let more : HasOneMore s.mask new k = more_by_or s.mask k c.args.number.fits (none_tells s.mask k c.requires) in
     let ones = ones_more s.mask new k more fits (or_lt 64 s.mask (1 * 2 ^ k % 2 ^ 64) fits
-    (mod_below (1 * 2 ^ k) (2 ^ 64) (pow_pos 64))) c.requires.number in
+    (mod_below (1 * 2 ^ k) (2 ^ 64) (pow_pos 64))) c.args.number.fits in
     let counted = s.counted in
     let len : vec_len c.insert_at.new.items ≡ vec_len s.items + 1 = search rules in
     record { counted = omega arith }
@@ -21,9 +21,9 @@ invariant_of-self-2 g c =
 pub returns-clause-added : goal.returns-clause-added
 returns-clause-added g c = λ n.
     let s = c.args.self.now in
-    let k = c.args.number in
+    let k = c.args.number.value in
     let new = bit_or s.mask (1 * 2 ^ k % 2 ^ 64) in
-    let more : HasOneMore s.mask new k = more_by_or s.mask k c.requires.number (none_tells s.mask k c.requires.free) in
+    let more : HasOneMore s.mask new k = more_by_or s.mask k c.args.number.fits (none_tells s.mask k c.requires) in
     let at : c.rank-at.result ≡ rank s.mask k = c.rank-at.ensures.rank in
     let fits : rank s.mask k ≤ length s.items.items = omega arith in
     let items : c.insert_at.new.items.items ≡ insert s.items.items c.rank-at.result c.args.item = search rules in

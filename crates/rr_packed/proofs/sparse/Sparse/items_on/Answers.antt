@@ -6,7 +6,7 @@ pub overflow_add-to : goal.overflow_add-to
 overflow_add-to g c =
     let s = c.args.self.now in
     let fits : s.mask < 2 ^ 64 = search rules in
-    let most = rank_at_most s.mask (c.args.number + c.args.most) fits c.requires.within in
+    let most = rank_at_most s.mask (c.args.rows.first.value + c.args.rows.count) fits c.args.rows.within in
     let counted = s.counted in
     let on = c.ones_on.ensures in
     let from = c.rank-from.ensures.rank in
@@ -17,7 +17,7 @@ pub slice_bounds-result-end : goal.slice_bounds-result-end
 slice_bounds-result-end g c =
     let s = c.args.self.now in
     let fits : s.mask < 2 ^ 64 = search rules in
-    let most = rank_at_most s.mask (c.args.number + c.args.most) fits c.requires.within in
+    let most = rank_at_most s.mask (c.args.rows.first.value + c.args.rows.count) fits c.args.rows.within in
     let counted = s.counted in
     let on = c.ones_on.ensures in
     let from = c.rank-from.ensures.rank in
