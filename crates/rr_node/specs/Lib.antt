@@ -1,4 +1,5 @@
 pub mod Fault
+pub mod Blame
 pub mod Shelf
 pub mod PreparedShelf
 pub mod Pull

@@ -1,8 +1,9 @@
 -- What a keeper makes of the lines of a connection: samples that it puts, answers to refused lines, and a report.
-use Rattle.std.specs.Prelude.{◌≡◌, ◌⊎◌, ℕ, ◌+◌, ◌%◌, ◌==◌, ℤ, pos, Bool, true, false, List, [], ◌∷◌, ◌++◌, length, take, fold, count_by, codes, decimal, Option, IfSome, Result, Ok, Err, unwrap_or, if◌then◌else◌}
+use Rattle.std.specs.Prelude.{◌≡◌, ◌⊎◌, ℕ, ◌+◌, ◌%◌, ◌==◌, ℤ, pos, Bool, true, false, List, [], ◌∷◌, ◌++◌, length, take, fold, count_by, codes, decimal, Option, IfSome, Result, Ok, Err, IfOk, IfErr, OnErr, unwrap_or, if◌then◌else◌}
 use Rattle.std.specs.Io.KnownBytes.{Appends}
 use mathlib.Core.List.{IsPrefix}
-use Rattle.rr_io.specs.Stream.{AppendsPrefix}
+use Rattle.rr_io.specs.declared.counted.Counted.{Counted}
+use Rattle.rr_io.specs.Stream.{AppendsPrefix, HasFailed}
 use Rattle.rr_feed.specs.Items.{Item, Line, TooLong, items}
 use Rattle.rr_line.specs.declared.fault.LineFault.{LineFault}
 use Rattle.rr_line.specs.declared.precision.Precision.{Precision}
@@ -15,10 +16,13 @@ use Rattle.rr_cells.specs.ReplicaState.{ReplicaState}
 use Rattle.rr_replica.specs.Writing.{is_ahead, lacks_numbers}
 use Rattle.rr_desk.specs.Points.{with_puts}
 use Rattle.rr_desk.specs.KeeperState.{KeeperState, own_replica, with_all_published}
+use Rattle.rr_node.specs.declared.fault.NodeFault.{NodeFault}
+use Rattle.rr_node.specs.declared.fault.NodeFault.TheVariants.{WriteFailed}
 use Rattle.rr_node.specs.declared.report.Report.{Report}
 use Rattle.rr_node.specs.declared.rules.Rules.{Rules}
 use Rattle.rr_node.specs.declared.rules.TheConstants.{LINES_TO_PUBLISH}
 use Rattle.rr_host.specs.Clock.{HasGiven}
+use Rattle.rr_node.specs.Fault.{IsOfLines}
 
 -- lines whose times have this precision, and that may be this much ahead of the clock
 abbrev pub rules_of : Precision → Option ℕ → Rules
@@ -207,3 +211,11 @@ pub record HasStopped (rules : Rules) (run : Run) : Type 0 where
   pub reported : ((last ≡ []) × (run.new ≡ with_all_published (after rules run.old moments lines).keeper))
       ⊎ ((later : List ℤ) → IfSome run.input (λ bytes.
       AppendsPrefix run.written run.written_since (after rules run.old (moments ++ later) (items true bytes)).answers))
+
+-- a call that serves lines: what became of them, or what stands where it failed
+pub record ServesLines {W : Type 0} (rules : Rules) (run : Run) (output output_new : Counted W)
+    (result : Result Report NodeFault) : Type 0 where
+  pub served : IfOk result (IsServed rules run)
+  pub stopped : OnErr result (HasStopped rules run)
+  pub faults : IfErr result IsOfLines
+  pub write_failed : result ≡ Err WriteFailed → HasFailed output output_new

@@ -1,7 +1,7 @@
 -- A shelf over memory, and its calls.
-use Rattle.std.specs.Prelude.{ℕ, ◌+◌, nat_lt, List, [], length, slice_get, Option, None, Some, if◌then◌else◌}
+use Rattle.std.specs.Prelude.{◌≡◌, ℕ, ◌+◌, nat_lt, List, [], length, slice_get, Option, None, Some, if◌then◌else◌}
 use Rattle.rr_io.specs.declared.counted.Counted.{Counted}
-use Rattle.rr_host.specs.Log.{Log}
+use Rattle.rr_host.specs.Log.{Log, HasNoted}
 use Rattle.rr_host.specs.Streams.{Output, output_of}
 use Rattle.rr_node.specs.Shelf.{ShelfCall, opened, own_origin, peer_failed, pulled, put_back, save_failed, taken, unopened, unwanted}
 use Rattle.rr_node.specs.declared.shelf.Opening.{Opening}
@@ -16,6 +16,12 @@ pub record ShelfState : Type 0 where
   pub openings : List PreparedOpening
   pub place : ℕ
   pub log : Log ShelfCall
+
+-- a call was noted, and nothing else changed
+pub record Notes (call : ShelfCall) (old new : ShelfState) : Type 0 where
+  pub noted : HasNoted call old.log new.log
+  pub openings : new.openings ≡ old.openings
+  pub place : new.place ≡ old.place
 
 -- an output over memory, before its first call
 abbrev pub new_output : Output

@@ -1,6 +1,6 @@
 //! Lines of a connection as they come in pieces, handed to the keeper.
 
-ghost use Rattle.std.specs.Prelude.{◌≡◌, ℕ, ◌+◌, ◌*◌, ◌<◌, ◌≤◌, ◌^◌, ℤ, List, Option, true, false, [], ◌++◌, length, Err, IfOk, IfErr, OnOk, OnErr};
+ghost use Rattle.std.specs.Prelude.{◌≡◌, ℕ, ◌+◌, ◌*◌, ◌<◌, ◌≤◌, ◌^◌, ℤ, List, Option, true, false, [], ◌++◌, length, IfOk, OnOk, OnErr};
 ghost use Rattle.rr_io.specs.Counted.{inner_of};
 ghost use Rattle.rr_io.specs.Stream.{HasFailed, KeepsFailures, WritesFront, WritesWhole};
 ghost use Rattle.rr_text.specs.declared.limits.TheConstants.{MAX_FIELDS};
@@ -8,7 +8,7 @@ ghost use Rattle.rr_desk.specs.KeeperState.{KeeperState};
 ghost use Rattle.rr_feed.specs.Feed.{items_left, empty_feed};
 ghost use Rattle.rr_node.specs.declared.lines.TheConstants.{PIECE};
 ghost use Rattle.rr_host.specs.Clock.{HasGiven};
-ghost use Rattle.rr_node.specs.Fault.{IsOfWriting};
+ghost use Rattle.rr_node.specs.Blame.{WritesOut};
 ghost use Rattle.rr_node.specs.Lines.{published_after, report_text};
 
 use crate::answer::{Answer, write_item};
@@ -170,9 +170,7 @@ impl Connection {
             × HasGiven (C.given clock.old) (C.given clock.new) moments
             × StoppedWriting self.old keeper.old keeper.new moments
             (W.contents (inner_of output.old)) (W.contents (inner_of output.new))) }
-        ensures failures_never_fall { KeepsFailures output.old output.new }
-        ensures failed { result ≡ Err NodeFault.WriteFailed → HasFailed output.old output.new }
-        ensures faults { IfErr result IsOfWriting }
+        ensures writes { WritesOut output.old output.new result }
     {
         let mut answers = Vec::new(self.alloc);
         clock.renew();
@@ -197,9 +195,7 @@ impl Connection {
             × HasGiven (C.given clock.old) (C.given clock.new) moments
             × StoppedAtEnd self.old keeper.old keeper.new moments (W.contents (inner_of output.old))
             (W.contents (inner_of output.new))) }
-        ensures failures_never_fall { KeepsFailures output.old output.new }
-        ensures failed { result ≡ Err NodeFault.WriteFailed → HasFailed output.old output.new }
-        ensures faults { IfErr result IsOfWriting }
+        ensures writes { WritesOut output.old output.new result }
     {
         self.feed.end();
         self.answer_lines(output, keeper, clock, rt)?;
@@ -232,9 +228,7 @@ fn send_report<W: Write>(
     ensures whole { OnOk result (WritesWhole W.contents output.old output.new
         (report_text report.now)) }
     ensures front { WritesFront W.contents output.old output.new (report_text report.now) }
-    ensures failures_never_fall { KeepsFailures output.old output.new }
-    ensures failed { result ≡ Err NodeFault.WriteFailed → HasFailed output.old output.new }
-    ensures faults { IfErr result IsOfWriting }
+    ensures writes { WritesOut output.old output.new result }
 {
     let mut text = Vec::new(alloc);
     push_report(&mut text, report)?;

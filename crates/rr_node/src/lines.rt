@@ -1,11 +1,9 @@
 //! Lines from a reader, handed to the keeper of a desk.
 
-ghost use Rattle.std.specs.Prelude.{◌≡◌, ◌+◌, ◌≤◌, Err, IfErr, IfOk, OnErr};
-ghost use Rattle.rr_node.specs.Fault.{IsOfLines};
 ghost use Rattle.rr_io.specs.Counted.{inner_of};
-ghost use Rattle.rr_io.specs.Stream.{HasFailed, HasFewReads, HasReads};
 ghost use Rattle.rr_text.specs.declared.limits.TheConstants.{MAX_READS};
-ghost use Rattle.rr_node.specs.Lines.{rules_of, HasStopped, IsServed};
+ghost use Rattle.rr_node.specs.Blame.{ReadsWithin};
+ghost use Rattle.rr_node.specs.Lines.{rules_of, ServesLines};
 
 use crate::connection::Connection;
 use crate::fault::NodeFault;
@@ -50,7 +48,7 @@ pub fn serve_lines<A: Cells, R: Read, W: Write, C: Clock, T: Wait>(
     lead: Option<u64>,
     rt: &T,
 ) -> Result<Report, NodeFault>
-    ensures served { IfOk result (IsServed (rules_of precision lead) (record {
+    ensures lines { ServesLines (rules_of precision lead) (record {
       old = keeper.old;
       new = keeper.new;
       given = C.given clock.old;
@@ -58,26 +56,8 @@ pub fn serve_lines<A: Cells, R: Read, W: Write, C: Clock, T: Wait>(
       input = R.remaining (inner_of input.old);
       written = W.contents (inner_of output.old);
       written_since = W.contents (inner_of output.new);
-    })) }
-
-    // What stands however the call ends.
-    ensures stopped { OnErr result (HasStopped (rules_of precision lead) (record {
-      old = keeper.old;
-      new = keeper.new;
-      given = C.given clock.old;
-      given_since = C.given clock.new;
-      input = R.remaining (inner_of input.old);
-      written = W.contents (inner_of output.old);
-      written_since = W.contents (inner_of output.new);
-    })) }
-
-    // When a stream is to blame.
-    ensures read_failed { result ≡ Err NodeFault.ReadFailed → HasFailed input.old input.new }
-    ensures faults { IfErr result IsOfLines }
-    ensures limit { HasFewReads MAX_READS input.old input.new }
-    ensures too_many { result ≡ Err NodeFault.TooManyReads
-        → HasReads MAX_READS input.old input.new }
-    ensures write_failed { result ≡ Err NodeFault.WriteFailed → HasFailed output.old output.new }
+    }) output.old output.new result }
+    ensures reads { ReadsWithin MAX_READS input.old input.new result }
 {
     serve_lines_within(
         alloc, input, output, keeper, clock, precision, lead, rt, MAX_READS,
@@ -100,7 +80,7 @@ pub fn serve_lines_within<A: Cells, R: Read, W: Write, C: Clock, T: Wait>(
     rt: &T,
     reads: u32,
 ) -> Result<Report, NodeFault>
-    ensures served { IfOk result (IsServed (rules_of precision lead) (record {
+    ensures lines { ServesLines (rules_of precision lead) (record {
       old = keeper.old;
       new = keeper.new;
       given = C.given clock.old;
@@ -108,25 +88,8 @@ pub fn serve_lines_within<A: Cells, R: Read, W: Write, C: Clock, T: Wait>(
       input = R.remaining (inner_of input.old);
       written = W.contents (inner_of output.old);
       written_since = W.contents (inner_of output.new);
-    })) }
-
-    // What stands however the call ends.
-    ensures stopped { OnErr result (HasStopped (rules_of precision lead) (record {
-      old = keeper.old;
-      new = keeper.new;
-      given = C.given clock.old;
-      given_since = C.given clock.new;
-      input = R.remaining (inner_of input.old);
-      written = W.contents (inner_of output.old);
-      written_since = W.contents (inner_of output.new);
-    })) }
-
-    // When a stream is to blame.
-    ensures read_failed { result ≡ Err NodeFault.ReadFailed → HasFailed input.old input.new }
-    ensures faults { IfErr result IsOfLines }
-    ensures limit { HasFewReads reads input.old input.new }
-    ensures too_many { result ≡ Err NodeFault.TooManyReads → HasReads reads input.old input.new }
-    ensures write_failed { result ≡ Err NodeFault.WriteFailed → HasFailed output.old output.new }
+    }) output.old output.new result }
+    ensures reads { ReadsWithin reads input.old input.new result }
 {
     let mut connection = Connection::new(alloc, Rules { precision, lead });
     let mut piece = [0u8; PIECE];

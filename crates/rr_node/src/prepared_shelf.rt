@@ -1,8 +1,7 @@
 //! A shelf over memory.
 
 ghost use Rattle.std.specs.Prelude.{◌≡◌, ◌+◌, Some, [], IfOk, map, option_map};
-ghost use Rattle.rr_host.specs.Log.{HasNoted};
-ghost use Rattle.rr_node.specs.PreparedShelf.{noted_call, opening_call};
+ghost use Rattle.rr_node.specs.PreparedShelf.{noted_call, opening_call, Notes};
 
 use crate::fault::NodeFault;
 use crate::report::Report;
@@ -108,9 +107,7 @@ impl<'a> PreparedShelf<'a> {
 
     /// Notes a call.
     fn note(&mut self, call: ShelfNote)
-        ensures noted { HasNoted (noted_call call) self.old.log self.new.log }
-        ensures openings { self.new.openings ≡ self.old.openings }
-        ensures place { self.new.place ≡ self.old.place }
+        ensures { Notes (noted_call call) self.old self.new }
     {
         self.log.note(call);
     }
@@ -122,7 +119,7 @@ impl<'a> Shelf for PreparedShelf<'a> {
     ghost use Rattle.rr_host.specs.Log.{HasNoted};
     ghost use Rattle.rr_host.specs.Streams.{output_of};
     ghost use Rattle.rr_node.specs.Shelf.{opened, own_origin, peer_failed, pulled, put_back, save_failed, taken, unopened, unwanted};
-    ghost use Rattle.rr_node.specs.PreparedShelf.{next_call, next_place, opening_call};
+    ghost use Rattle.rr_node.specs.PreparedShelf.{next_call, next_place, opening_call, Notes};
     ghost use Rattle.rr_node.specs.declared.shelf.Opening.TheVariants as opening;
 
     type Output = Vec<u8>;
@@ -130,33 +127,25 @@ impl<'a> Shelf for PreparedShelf<'a> {
     ghost calls = { λ s. s.log.calls };
 
     fn lines_taken(&mut self, report: Option<Report>)
-        ensures noted { HasNoted (taken report) self.old.log self.new.log }
-        ensures openings { self.new.openings ≡ self.old.openings }
-        ensures place { self.new.place ≡ self.old.place }
+        ensures { Notes (taken report) self.old self.new }
     {
         self.note(ShelfNote::LinesTaken(report));
     }
 
     fn own_origin(&mut self, number: usize)
-        ensures noted { HasNoted (own_origin number) self.old.log self.new.log }
-        ensures openings { self.new.openings ≡ self.old.openings }
-        ensures place { self.new.place ≡ self.old.place }
+        ensures { Notes (own_origin number) self.old self.new }
     {
         self.note(ShelfNote::OwnOrigin(number));
     }
 
     fn peer_failed(&mut self, number: usize, fault: NodeFault)
-        ensures noted { HasNoted (peer_failed number fault) self.old.log self.new.log }
-        ensures openings { self.new.openings ≡ self.old.openings }
-        ensures place { self.new.place ≡ self.old.place }
+        ensures { Notes (peer_failed number fault) self.old self.new }
     {
         self.note(ShelfNote::PeerFailed(number, fault));
     }
 
     fn pulls_ended(&mut self, cells: usize)
-        ensures noted { HasNoted (pulled cells) self.old.log self.new.log }
-        ensures openings { self.new.openings ≡ self.old.openings }
-        ensures place { self.new.place ≡ self.old.place }
+        ensures { Notes (pulled cells) self.old self.new }
     {
         self.note(ShelfNote::PullsEnded(cells));
     }
@@ -188,18 +177,13 @@ impl<'a> Shelf for PreparedShelf<'a> {
     }
 
     fn take_back(&mut self, output: Counted<Vec<u8>>, whole: bool)
-        ensures noted { HasNoted (put_back (output_of (λ w. Some w.items) output) whole)
-            self.old.log self.new.log }
-        ensures openings { self.new.openings ≡ self.old.openings }
-        ensures place { self.new.place ≡ self.old.place }
+        ensures { Notes (put_back (output_of (λ w. Some w.items) output) whole) self.old self.new }
     {
         self.note(ShelfNote::TookBack(output, whole));
     }
 
     fn save_failed(&mut self, fault: SaveFault)
-        ensures noted { HasNoted (save_failed fault) self.old.log self.new.log }
-        ensures openings { self.new.openings ≡ self.old.openings }
-        ensures place { self.new.place ≡ self.old.place }
+        ensures { Notes (save_failed fault) self.old self.new }
     {
         self.note(ShelfNote::SaveFailed(fault));
     }

@@ -10,6 +10,7 @@ ghost use Rattle.rr_gossip.specs.declared.frame.TheConstants.{MAX_FRAMES};
 ghost use Rattle.rr_gossip.specs.Session.{HasGiven};
 ghost use Rattle.rr_desk.specs.ReaderState.{cells_seen, HasSeenMore};
 ghost use Rattle.rr_node.specs.Answering.{HasWritten, HasWrittenSome};
+ghost use Rattle.rr_node.specs.Blame.{ReadsWithin, WritesOut};
 ghost use Rattle.rr_node.specs.Fault.{IsOfLines, IsOfReader, IsOfSession, is_of_session};
 ghost use Rattle.rr_node.specs.Fetches.{sight, is_pull, HasAnswered, HasAnsweredSome, HasFailedSession, IsServed};
 
@@ -33,15 +34,12 @@ fn read_first<R: Read>(input: &mut Counted<R>) -> Result<(Option<u8>, u32), Node
     ensures bytes { IfOk result (λ first. Consumes (R.remaining (inner_of input.old))
         (R.remaining (inner_of input.new)) (option_to_list first.0)) }
     ensures end { IfOk result (λ first. first.0 ≡ None → IsReadOut R.remaining input.new) }
-    ensures reads { IfOk result (λ first. (first.1 ≤ MAX_READS)
+    ensures used { IfOk result (λ first. (first.1 ≤ MAX_READS)
         × HasReads first.1 input.old input.new × (HasFewReads first.1 input.old input.new)) }
-    ensures limit { HasFewReads MAX_READS input.old input.new }
+    ensures reads { ReadsWithin MAX_READS input.old input.new result }
     ensures faults { IfErr result (λ fault. (fault ≡ NodeFault.ReadFailed)
         ⊎ (fault ≡ NodeFault.TooManyReads)) }
     ensures failures_never_fall { KeepsFailures input.old input.new }
-    ensures failed { result ≡ Err NodeFault.ReadFailed → HasFailed input.old input.new }
-    ensures too_many { result ≡ Err NodeFault.TooManyReads
-        → HasReads MAX_READS input.old input.new }
 {
     let mut byte = [0u8; 1];
     for used in 0..MAX_READS {
@@ -77,10 +75,7 @@ fn answer_items<A: Cells, W: Write, G: Gate>(
     ensures part_written { OnErr result (HasWrittenSome feed.old feed.new
         (sight reader.old (G.calls gate.old)) reader.new
         (W.contents (inner_of output.old)) (W.contents (inner_of output.new))) }
-    ensures failures_never_fall { KeepsFailures output.old output.new }
-    ensures failed { result ≡ Err NodeFault.WriteFailed → HasFailed output.old output.new }
-    ensures faults { IfErr result (λ fault. (fault ≡ NodeFault.WriteFailed)
-        ⊎ (fault ≡ NodeFault.Memory)) }
+    ensures writes { WritesOut output.old output.new result }
 {
     while let Some(text) = next_answer(alloc, feed, reader, gate)? {
         write_all(output, &text)?;
@@ -107,12 +102,10 @@ fn answer_lines<A: Cells, R: Read, W: Write, G: Gate>(
         HasAnsweredSome (first ∷ rest) (sight reader.old (G.calls gate.old)) reader.new
         (W.contents (inner_of output.old)) (W.contents (inner_of output.new)))) }
     ensures seen { HasSeenMore reader.old reader.new }
-    ensures read_failed { result ≡ Err NodeFault.ReadFailed → HasFailed input.old input.new }
-    ensures too_many { result ≡ Err NodeFault.TooManyReads → HasReads reads input.old input.new }
+    ensures reads { ReadsWithin reads input.old input.new result }
     ensures write_failed { result ≡ Err NodeFault.WriteFailed → HasFailed output.old output.new }
     ensures faults { IfErr result IsOfLines }
     ensures no_session { IfErr result (λ fault. is_of_session fault ≡ false) }
-    ensures limit { HasFewReads reads input.old input.new }
 {
     let mut feed = Feed::new(alloc);
     push(&mut feed, &[first])?;

@@ -12,7 +12,7 @@ pub returns-in-Err-Memory-clause-taken : goal.returns-in-Err-Memory-clause-taken
 returns-in-Err-Memory-clause-taken g c = λ p are when.
     let now = c.now-now.result in
     let k = c.args.keeper.now in
-    let same : c.write_sample.new.self ≡ k = c.in-Err-Memory.ensures.unchanged in
+    let same : c.write_sample.new.self ≡ k = c.in-Err-Memory.ensures.state.unchanged in
     (now, c.now-now.ensures, (0, same ∙ sym (none_of k (verdict_of_point c.args.lead now (own_replica k) p))))
 
 pub returns-in-Ok-clause-taken : goal.returns-in-Ok-clause-taken
@@ -28,7 +28,7 @@ returns-in-Ok-clause-taken g c = λ p are when.
             is_ahead = rw (back, c.in-Ok.is) at c.write_sample.ensures.ahead;
             lacks =
                 rw (back, c.in-Ok.is) at c.write_sample.ensures.spent;
-          }) (rw (back, back_value) at c.in-Ok.ensures.put),
+          }) (rw (back, back_value) at c.in-Ok.ensures.state.made),
     )
 
 pub returns-in-Err-NumbersSpent-clause-taken : goal.returns-in-Err-NumbersSpent-clause-taken
@@ -45,7 +45,7 @@ returns-in-Err-NumbersSpent-clause-taken g c = λ p are when.
             is_ahead = rw (back, spent) at c.write_sample.ensures.ahead;
             lacks =
                 rw (back, spent) at c.write_sample.ensures.spent;
-          }) c.in-Err-NumbersSpent.ensures.unchanged,
+          }) c.in-Err-NumbersSpent.ensures.state.unchanged,
     )
 
 pub returns-in-Err-AheadOfClock-clause-taken : goal.returns-in-Err-AheadOfClock-clause-taken
@@ -62,5 +62,5 @@ returns-in-Err-AheadOfClock-clause-taken g c = λ p are when.
             is_ahead = rw (back, early) at c.write_sample.ensures.ahead;
             lacks =
                 rw (back, early) at c.write_sample.ensures.spent;
-          }) c.in-Err-AheadOfClock.ensures.unchanged,
+          }) c.in-Err-AheadOfClock.ensures.state.unchanged,
     )

@@ -59,7 +59,7 @@ loop-preserved-in_default g c =
       made = HasRisenBy-more c.loop.counter _ _ _ c.loop.invariant.made c.in_ok-given.ensures.reads;
       few = one_more_at_most c.loop.counter _ _ _ c.loop.invariant.few c.in_ok-given.ensures.reads;
       in_count = omega (arith, c.loop.invariant.in_count, c.in_ok-given.ensures.failures_never_fall);
-      out_count = omega (arith, c.loop.invariant.out_count, c.in_ok-answer_items.ensures.failures_never_fall);
+      out_count = omega (arith, c.loop.invariant.out_count, c.in_ok-answer_items.ensures.writes.failures_never_fall);
     }
 
 pub returns-then-given-eq0-clause-answered : goal.returns-then-given-eq0-clause-answered
@@ -126,7 +126,7 @@ loop-preserved g c =
       made = HasRisenBy-more c.loop.counter _ _ _ c.loop.invariant.made c.in_ok-given.ensures.reads;
       few = one_more_at_most c.loop.counter _ _ _ c.loop.invariant.few c.in_ok-given.ensures.reads;
       in_count = omega (arith, c.loop.invariant.in_count, c.in_ok-given.ensures.failures_never_fall);
-      out_count = omega (arith, c.loop.invariant.out_count, c.in_ok-answer_items.ensures.failures_never_fall);
+      out_count = omega (arith, c.loop.invariant.out_count, c.in_ok-answer_items.ensures.writes.failures_never_fall);
     }
 
 pub returns-clause-part_written : goal.returns-clause-part_written

@@ -5,5 +5,6 @@ pub returns : goal.returns
 returns g c =
     let e = c.serve_lines-served.ensures in
     lines_over c.args.config.now c.serve_lines-served.result _ _ _ _ _ _ _ _ _ _ c.in-Stream.ensures c.take_back.ensures
-    e.served e.stopped (record { read = e.read_failed; many = e.too_many; write = e.write_failed }) e.faults
+    e.lines.served e.lines.stopped
+    (record { read = e.reads.failed; many = e.reads.too_many; write = e.lines.write_failed }) e.lines.faults
     c.going_on.ensures

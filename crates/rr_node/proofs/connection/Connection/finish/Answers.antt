@@ -41,7 +41,7 @@ returns-in_err-publish-clause-stopped g c =
           text served.1 said served.0 first _ since served.4 last appends
           (served.1, [], sym (append-nil served.1), served.3) in
           subst (λ (k : KeeperState). Stops c.args.self.now.rules start k (λ bytes. bytes ≡ pushed) (said ++ served.0)
-          first since) (sym c.in_err-publish.ensures.unchanged)
+          first since) (sym c.in_err-publish.ensures.state.unchanged)
           (stops_of _ c.args.self.now.rules start c.answer_lines.new.keeper (ComesAfter c.end.new.self pushed)
           (λ bytes. bytes ≡ pushed) (said ++ served.0) first since refl (comes_at_end c.end.new.self pushed) stops),
     )
@@ -69,7 +69,7 @@ returns-in_err-send_report-clause-stopped g c =
           stops_of new.rules c.args.self.now.rules start c.publish.new.self (λ bytes. bytes ≡ pushed)
           (λ bytes. bytes ≡ pushed) (said ++ served.0) first _ served.4.rules (λ bytes e. e)
           (stops_reporting new start c.answer_lines.new.keeper c.publish.new.self pushed (text ++ served.1)
-          (said ++ served.0) first _ _ done c.in_ok-publish.ensures.published
+          (said ++ served.0) first _ _ done c.in_ok-publish.ensures.state.made
           (Appends-trans _ _ _ text served.1 appends served.3) c.in_err-send_report.ensures.front),
     )
 
@@ -93,6 +93,6 @@ returns-clause-served g c =
           subst (λ (r : Rules). IsWhole r start c.publish.new.self new.report pushed (said ++ served.0) first
           (g.W.Write.contents (inner_of c.send_report.new.output))) served.4.rules
           (whole_of new start c.answer_lines.new.keeper c.publish.new.self pushed (text ++ served.1) (said ++ served.0)
-          new.report first _ _ done c.in_ok-publish.ensures.published refl
+          new.report first _ _ done c.in_ok-publish.ensures.state.made refl
           (Appends-trans _ _ _ text served.1 appends served.3) c.in_ok-send_report.ensures.whole),
     )
