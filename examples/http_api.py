@@ -164,6 +164,8 @@ def refusals(node):
     check("no such path", node.curl("/nothing")[0], 404)
     check("a write by GET", node.curl("/write")[0], 405)
     check("a fetch by POST", node.curl("/fetch", body=b"")[0], 405)
+    ping = node.ask(b"GET /ping HTTP/1.1\r\nHost: a\r\n\r\n")
+    check("ping", (status_of(ping), b"\r\nx-influxdb-version: rr-2\r\n" in ping.lower()), (204, True))
     head = node.ask(b"HEAD /health HTTP/1.1\r\nHost: a\r\n\r\n")
     check("HEAD", (status_of(head), head.endswith(b"\r\n\r\n")), (200, True))
     allow = node.ask(b"GET /write HTTP/1.1\r\nHost: a\r\n\r\n").lower()

@@ -139,6 +139,11 @@ fn reply_to_told(alloc: Global, told: Option<Told<LineAnswers>>) -> Result<Reply
 fn fixed_reply(alloc: Global, ask: Ask) -> Result<Reply, AllocError> {
     match ask {
         Ask::Health => json(alloc, Status::Ok, "{\"name\":\"rr\",\"status\":\"pass\"}\n"),
+        Ask::Ping => Ok(Reply {
+            status: Status::NoContent,
+            kind: Kind::Plain,
+            text: Vec::new(alloc),
+        }),
         Ask::OnlyPost => json(
             alloc,
             Status::OnlyPost,

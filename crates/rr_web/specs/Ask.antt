@@ -2,7 +2,7 @@
 use Rattle.std.specs.Prelude.{ℕ, Bool, true, false, ◌||◌, List, codes, if◌then◌else◌}
 use Rattle.std.specs.Str.{bytes_eq}
 use Rattle.rr_web.specs.declared.ask.Ask.{Ask}
-use Rattle.rr_web.specs.declared.ask.Ask.TheVariants.{Write, Fetch, Series, Metrics, Page, Script, Style, Health, OnlyPost, OnlyGet, Nothing}
+use Rattle.rr_web.specs.declared.ask.Ask.TheVariants.{Write, Fetch, Series, Metrics, Page, Script, Style, Health, Ping, OnlyPost, OnlyGet, Nothing}
 
 -- what is read at a path
 abbrev pub read_at : List ℕ → Ask
@@ -13,7 +13,8 @@ read_at path =
     else (if bytes_eq path (codes "/") then Page
     else (if bytes_eq path (codes "/rr.js") then Script
     else (if bytes_eq path (codes "/rr.css") then Style
-    else (if bytes_eq path (codes "/health") then Health else Nothing))))))
+    else (if bytes_eq path (codes "/health") then Health
+    else (if bytes_eq path (codes "/ping") then Ping else Nothing)))))))
 
 -- where lines are taken: the paths of InfluxDB's two versions
 abbrev pub is_of_lines : List ℕ → Bool

@@ -20,6 +20,8 @@ pub enum Ask {
     Style,
     /// Whether the node is there.
     Health,
+    /// The same, as InfluxDB's clients ask.
+    Ping,
     /// What only `POST` asks for, by another method.
     OnlyPost,
     /// What only `GET` and `HEAD` ask for, by another method.
@@ -40,6 +42,7 @@ fn read_at(path: &str) -> Ask
         "/rr.js" => Ask::Script,
         "/rr.css" => Ask::Style,
         "/health" => Ask::Health,
+        "/ping" => Ask::Ping,
         _ => Ask::Nothing,
     }
 }

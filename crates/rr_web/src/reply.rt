@@ -5,7 +5,7 @@
 pub enum Status {
     /// 200: here is what was asked for.
     Ok,
-    /// 204: all lines were taken.
+    /// 204: all lines were taken, or the node is there.
     NoContent,
     /// 400: something in the request is refused.
     BadRequest,
