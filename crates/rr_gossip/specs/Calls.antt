@@ -44,8 +44,8 @@ pub record Blames {R W : Type 0} (remaining : R → Option (List ℕ)) (input in
   pub read_count : failures_of input ≤ failures_of input_new
   pub write_count : failures_of output ≤ failures_of output_new
 
--- a call that gives the cells that a source has once it is asked, in a session of at most so many frames, to a side of
--- which some bytes were read before
+-- a call that, once asked, gives the cells of a source to a peer in a session of at most `limit` frames; `before` is
+-- what was already read of the peer's bytes
 pub record Gives {R W S : Type 0} (remaining : R → Option (List ℕ)) (contents : W → Option (List ℕ)) (limit : ℕ)
     (layout : S → Layout) (cells : S → Cells) (may_become : S → S → Type 0) (before : List ℕ) (source source_new : S)
     (input input_new : Counted R) (output output_new : Counted W) (result : Result (Unit {0}) GossipFault)

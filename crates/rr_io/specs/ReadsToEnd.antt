@@ -7,7 +7,7 @@ use Rattle.rr_io.specs.declared.stream.ReadFault.TheVariants.{ReadFailed, TooMan
 use Rattle.rr_io.specs.Counted.{inner_of, ends_of}
 use Rattle.rr_io.specs.Stream.{AddsFront, HasFailed, HasFewReads, HasReads, KeepsFailures, TakesMore}
 
--- all that an input had was added after the bytes that were there, within so many reads
+-- all that was left of an input was appended to the bytes already there, in at most `reads` reads
 pub record ReadsToEnd {R : Type 0} (remaining : R → Option (List ℕ)) (reads : ℕ) (old new : Counted R)
     (before after : List ℕ) (result : Result (Unit {0}) ReadFault) : Type 0 where
   pub whole : OnOk result (IfSome (remaining (inner_of old)) (λ rest. after ≡ before ++ rest))

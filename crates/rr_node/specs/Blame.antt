@@ -6,7 +6,7 @@ use Rattle.rr_node.specs.declared.fault.NodeFault.{NodeFault}
 use Rattle.rr_node.specs.declared.fault.NodeFault.TheVariants.{ReadFailed, TooManyReads, WriteFailed}
 use Rattle.rr_node.specs.Fault.{IsOfWriting}
 
--- an input was read within so many reads
+-- an input was read, in at most `reads` reads
 pub record ReadsWithin {R X : Type 0} (reads : ℕ) (old new : Counted R) (result : Result X NodeFault) : Type 0 where
   pub failed : result ≡ Err ReadFailed → HasFailed old new
   pub limit : HasFewReads reads old new

@@ -8,7 +8,7 @@ use Rattle.rr_process.specs.declared.fault.ToolFault.{ToolFault}
 use Rattle.rr_process.specs.declared.fault.ToolFault.TheVariants.{ReadFailed, TooManyReads, WriteFailed, Memory}
 use Rattle.rr_process.specs.Report.{refused_count, report_of}
 
--- an input was read to its end within so many reads, or the answer says why not
+-- an input was read to its end in at most `reads` reads, or the result says why not
 pub record ReadsWithin {R X : Type 0} (reads : ℕ) (old new : Counted R) (result : Result X ToolFault) : Type 0 where
   pub failed : result ≡ Err ReadFailed → HasFailed old new
   pub limit : HasFewReads reads old new

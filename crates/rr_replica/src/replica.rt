@@ -144,8 +144,7 @@ impl<A: Cells> Replica<A> {
     pub fn put(&mut self, key: &SeriesKey, time: i64, value: i64) -> Result<u64, PutFault>
         ensures number { IfOk result (λ number. number ≡ self.old.next) }
         ensures state { Becomes (replica_state self.old)
-            (with_put (replica_state self.old) key.now time value)
-            (replica_state self.new) result }
+            (with_put (replica_state self.old) key.now time value) (replica_state self.new) result }
         ensures spent { (result ≡ Err PutFault.NumbersSpent) ↔ (MAX_NUMBER < self.old.next) }
     {
         if self.next > MAX_NUMBER {
@@ -335,8 +334,7 @@ impl<A: Cells> Replica<A> {
         requires number_left { self.old.next ≤ MAX_NUMBER }
         ensures state { Becomes (replica_state self.old)
             (with_put (replica_state self.old) (key_text (point_view point.now) field.now.key.now)
-            time field.now.value)
-            (replica_state self.new) result }
+            time field.now.value) (replica_state self.new) result }
     {
         let mut text = replace(&mut self.text, Vec::new(self.alloc));
         point.write_key(self.alloc, &mut text, field.key)?;
@@ -364,8 +362,7 @@ impl<A: Cells> Replica<A> {
     pub fn join_cell(&mut self, cell: &Cell) -> Result<(), AllocError>
         requires { IsCellOf self.old.schema (owned_cell cell.now) }
         ensures state { Becomes (replica_state self.old)
-            (with_cell (replica_state self.old) cell.now)
-            (replica_state self.new) result }
+            (with_cell (replica_state self.old) cell.now) (replica_state self.new) result }
         ensures room { HasRoomFor self.old (Op.Join cell.now) → IsOk result }
         ensures keys { knows self.old.keys cell.now.key ≡ true → self.new.keys ≡ self.old.keys }
     {

@@ -48,13 +48,13 @@ Digests old new before after = (taken : List ℕ) × Consumes old new taken
 
 -- what a call did with the reader that it loads from: it took some bytes from the front, or none, and says that a read
 -- failed only if one did
-pub record LoadsFrom {R X : Type 0} (remaining : R → Option (List ℕ)) (old new : Counted R) (result : Result X LoadFault)
-    : Type 0 where
+pub record LoadsFrom {R X : Type 0} (remaining : R → Option (List ℕ)) (old new : Counted R)
+    (result : Result X LoadFault) : Type 0 where
   pub front : ReadsSome remaining old new
   pub failures_never_fall : KeepsFailures old new
   pub failed : result ≡ Err ReadFailed → HasFailed old new
 
--- what one did that takes at most so many bytes, and no memory
+-- what a call did that loads at most `n` bytes and never needs memory
 pub record LoadsPiece {R X : Type 0} (n : ℕ) (remaining : R → Option (List ℕ)) (old new : Counted R)
     (result : Result X LoadFault) : Type 0 where
   pub stream : LoadsFrom remaining old new result

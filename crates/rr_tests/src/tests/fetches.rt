@@ -22,8 +22,8 @@ const HUGE: [u8; 23] = [
 /// Random bytes that begin as a session does.
 const NOISE: [u8; 12] = [0, 0, 0, 6, 0x9c, 0x41, 0xe3, 0x0a, 0x77, 0xd2, 0x18, 0xb5];
 
-/// What a seat writes to the last of six connections. The five before it are no client's: they
-/// fail, close at once, or bring half a frame, one of 4 GB, or random bytes.
+/// What a seat writes to the last of six connections. The first five fail, close at once, or send
+/// half a frame, a frame of 4 GB, or random bytes.
 fn last_answer(alloc: Global, reader: Reader<PlainArchive>) -> Option<Vec<u8>> {
     let inputs = [
         None,
