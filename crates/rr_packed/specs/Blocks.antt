@@ -26,13 +26,13 @@ entries_in_all row (suc n) = entries_in_all row n + length (row n)
 
 -- ---- what changes do to what is stored, however it is seen
 
--- nothing was changed; there is room, if memory was there for it or it was there before
+-- nothing changed; there is room unless memory ran out, which it doesn't where there was room
 pub record MakesRoom {S : Type 0} (had has : Bool) (old new : S) (result : Result (Unit {0}) AllocError) : Type 0 where
   pub same : new ≡ old
   pub room : OnOk result (IsTrue has)
   pub room_suffices : IsTrue had → IsOk result
 
--- it was changed, or memory ran out and it was not; with room that there was none is needed
+-- it was changed, or memory ran out and it was not; where there was room, memory doesn't run out
 pub record ChangesStored {S : Type 0} (set : S → S → Type 0) (had : Bool) (old new : S)
     (result : Result (Unit {0}) AllocError) : Type 0 where
   pub changed : OnOk result (set old new)

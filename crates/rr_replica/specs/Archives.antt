@@ -88,7 +88,7 @@ module _ {X : Type 0} where
     pub of_schema : AreOf limit s new
     pub room : OnOk result (HaveRoomFor is_ready s op new)
 
-  -- each took a sample, or memory ran out and none did; with room for it that there was, none runs out
+  -- each took a sample, or memory ran out and none did; where there was room for it, memory doesn't run out
   pub record TakeSample (cells : X → ArchiveCells) (limit : X → ℕ) (is_ready : X → CellSlot → Bool) (s : Layout)
       (x : Reading) (old new : List X) (result : Result (Unit {0}) AllocError) : Type 0 where
     pub put : OnOk result (HavePut cells s x old new)

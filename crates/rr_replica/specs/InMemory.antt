@@ -75,7 +75,7 @@ module _ {X : Type 0} where
     pub sized : AreAllSized limit schema new
     pub room : OnOk result (HasRoom is_ready schema op new)
 
-  -- a reading was put as a sample of a key, or memory ran out and it was not; with room that there was, none runs out
+  -- a reading was put as a sample of a key, or memory ran out and it was not; where there was room, it doesn't run out
   pub record PutsReading (cells : X → ArchiveCells) (limit : X → ℕ) (is_ready : X → CellSlot → Bool) (schema : Layout)
       (key : List ℕ) (x : Reading) (old new : List (List ℕ × Vec X)) (result : Result (Unit {0}) AllocError)
       : Type 0 where
