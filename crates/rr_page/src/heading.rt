@@ -1,6 +1,6 @@
 //! What a page has before its cells.
-ghost use Rattle.std.specs.Prelude.{◌≡◌, ◌≢◌, Err, ◌++◌, OnOk};
-ghost use Rattle.rr_text.specs.Results.{Gives};
+ghost use Rattle.std.specs.Prelude.{◌≡◌, ◌++◌, OnOk};
+ghost use Rattle.rr_page.specs.Found.{Finds};
 ghost use Rattle.rr_page.specs.Page.{head_text};
 ghost use Rattle.rr_page.specs.PageReading.{version_at, start_at, schema_at, head_at};
 ghost use Rattle.rr_page.specs.Version.{latest};
@@ -19,8 +19,7 @@ const MAGIC: [u8; 4] = *b"RRPG";
 /// `BadVersion` for a byte that names no version.
 #[tactic(auto, unfolding(crate::specs::PageReading::version_at))]
 pub fn version_of(bytes: &[u8]) -> Result<(Version, &[u8]), PageFault>
-    ensures read { Gives (λ x. (x.0, x.1.now)) result (version_at bytes.now) }
-    ensures no_memory { result ≢ Err PageFault.Memory }
+    ensures { Finds (λ x. (x.0, x.1.now)) result (version_at bytes.now) }
 {
     let (byte, rest) = u8_at(bytes)?;
     match byte {
@@ -33,8 +32,7 @@ pub fn version_of(bytes: &[u8]) -> Result<(Version, &[u8]), PageFault>
 /// The bytes that every page begins with, then its version, and what follows it.
 #[tactic(auto, unfolding(crate::specs::PageReading::start_at))]
 fn start_of(bytes: &[u8]) -> Result<(Version, &[u8]), PageFault>
-    ensures read { Gives (λ x. (x.0, x.1.now)) result (start_at bytes.now) }
-    ensures no_memory { result ≢ Err PageFault.Memory }
+    ensures { Finds (λ x. (x.0, x.1.now)) result (start_at bytes.now) }
 {
     let (start, rest) = bytes_at(bytes, MAGIC.len())?;
     if start != MAGIC.as_slice() {
@@ -49,8 +47,7 @@ fn schema_of<'a>(
     bytes: &'a [u8],
     schema: &Schema,
 ) -> Result<(Version, &'a [u8], &'a [u8]), PageFault>
-    ensures read { Gives (λ x. ((x.0, x.1.now), x.2.now)) result (schema_at schema.now bytes.now) }
-    ensures no_memory { result ≢ Err PageFault.Memory }
+    ensures { Finds (λ x. ((x.0, x.1.now), x.2.now)) result (schema_at schema.now bytes.now) }
 {
     let (version, rest) = start_of(bytes)?;
     let (field, rest) = bytes_at(rest, schema.byte_len())?;
@@ -63,8 +60,7 @@ pub(crate) fn head_of<'a>(
     bytes: &'a [u8],
     schema: &Schema,
 ) -> Result<(Version, u16, &'a [u8]), PageFault>
-    ensures read { Gives (λ x. ((x.0, x.1), x.2.now)) result (head_at schema.now bytes.now) }
-    ensures no_memory { result ≢ Err PageFault.Memory }
+    ensures { Finds (λ x. ((x.0, x.1), x.2.now)) result (head_at schema.now bytes.now) }
 {
     let (version, field, rest) = schema_of(bytes, schema)?;
     if !version.has_masks_for(schema) || !schema.has_bytes(field) {

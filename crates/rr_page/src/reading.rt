@@ -1,11 +1,11 @@
 //! A cell from its bytes.
-ghost use Rattle.std.specs.Prelude.{◌≡◌, ◌≢◌, ◌++◌, ◌<◌, Err, Some, length, drop, IfOk};
+ghost use Rattle.std.specs.Prelude.{◌≡◌, ◌++◌, ◌<◌, Some, length, drop, IfOk};
 ghost use Rattle.rr_schema.specs.Schema.{IsLayout};
-ghost use Rattle.rr_text.specs.Results.{Gives, GivesUnless, NeedsMemoryAfter};
+ghost use Rattle.rr_text.specs.Results.{GivesUnless, NeedsMemoryAfter};
 ghost use Rattle.rr_key.specs.Series.{IsKeyText};
 ghost use Rattle.rr_page.specs.CellText.{cell_text};
 ghost use Rattle.rr_page.specs.Reading.{number_at, key_at, archive_at, contribution_at, cell_at};
-ghost use Rattle.rr_page.specs.Found.{found_cell};
+ghost use Rattle.rr_page.specs.Found.{Finds, found_cell};
 ghost use Rattle.rr_page.specs.PageReading.{is_after};
 ghost use Rattle.rr_page.specs.Version.{mask_width};
 ghost use Rattle.rr_cells.specs.CellBounds.{IsCellOf};
@@ -35,9 +35,8 @@ pub(crate) struct FoundCell<'a> {
 /// taken.
 #[tactic(auto, unfolding(crate::specs::Reading::key_at))]
 fn key_text_of(bytes: &[u8]) -> Result<(&[u8], &[u8]), PageFault>
-    ensures read { Gives (λ x. (x.0.now, x.1.now)) result (key_at bytes.now) }
+    ensures found { Finds (λ x. (x.0.now, x.1.now)) result (key_at bytes.now) }
     ensures grammar { IfOk result (λ x. IsKeyText x.0.now) }
-    ensures no_memory { result ≢ Err PageFault.Memory }
 {
     let (len, rest) = u16_at(bytes)?;
     let len = len as usize;
@@ -64,9 +63,8 @@ pub fn key_of(alloc: Global, bytes: &[u8]) -> Result<(SeriesKey, &[u8]), PageFau
 /// The number of one of the schema's archives, and what follows it.
 #[tactic(auto, unfolding(crate::specs::Reading::archive_at))]
 pub fn archive_of<'a>(bytes: &'a [u8], schema: &Schema) -> Result<(u8, &'a [u8]), PageFault>
-    ensures read { Gives (λ x. (x.0, x.1.now)) result (archive_at schema.now bytes.now) }
+    ensures found { Finds (λ x. (x.0, x.1.now)) result (archive_at schema.now bytes.now) }
     ensures within { IfOk result (λ x. x.0 < length schema.now.archives) }
-    ensures no_memory { result ≢ Err PageFault.Memory }
 {
     let (archive, rest) = u8_at(bytes)?;
     if archive as usize >= schema.archives().len() {
@@ -77,9 +75,8 @@ pub fn archive_of<'a>(bytes: &'a [u8], schema: &Schema) -> Result<(u8, &'a [u8])
 
 /// A mask, and what follows it. The masks of version 1 have the places below 64.
 fn mask_of(bytes: &[u8], version: Version) -> Result<(Mask, &[u8]), PageFault>
-    ensures read { Gives (λ x. (x.0, x.1.now)) result
+    ensures { Finds (λ x. (x.0, x.1.now)) result
         (number_at (mask_width version) bytes.now) }
-    ensures no_memory { result ≢ Err PageFault.Memory }
 {
     match version {
         Version::One => {
@@ -93,8 +90,7 @@ fn mask_of(bytes: &[u8], version: Version) -> Result<(Mask, &[u8]), PageFault>
 /// The fields of a contribution, and what follows them.
 #[tactic(auto, unfolding(crate::specs::Reading::contribution_at))]
 fn contribution_of(bytes: &[u8], format: Version) -> Result<(Contribution, &[u8]), PageFault>
-    ensures read { Gives (λ x. (x.0, x.1.now)) result (contribution_at format bytes.now) }
-    ensures no_memory { result ≢ Err PageFault.Memory }
+    ensures { Finds (λ x. (x.0, x.1.now)) result (contribution_at format bytes.now) }
 {
     let (version, rest) = u64_at(bytes)?;
     let (count, rest) = u64_at(rest)?;
@@ -125,10 +121,9 @@ pub(crate) fn find_cell<'a>(
     schema: &Schema,
     version: Version,
 ) -> Result<(FoundCell<'a>, &'a [u8]), PageFault>
-    ensures read { Gives (λ x. (found_cell x.0, x.1.now)) result
+    ensures found { Finds (λ x. (found_cell x.0, x.1.now)) result
         (cell_at version schema.now bytes.now) }
     ensures cell { IfOk result (λ x. IsCellOf schema.now (found_cell x.0)) }
-    ensures no_memory { result ≢ Err PageFault.Memory }
 {
     let (key, rest) = key_text_of(bytes)?;
     let (archive, rest) = archive_of(rest, schema)?;

@@ -15,7 +15,7 @@ returns-in-Err-clause-refused c =
     let so_far = c.loop.invariant in
     ends c.args.version c.args.schema.now so_far.0 c.args.count c.loop.counter c.loop.rest.now
     (cells_at c.args.version c.args.schema.now None c.args.count c.args.bytes.now) so_far.2 c.in-Err.fault
-    c.loop-test.true c.in-Err.ensures.read
+    c.loop-test.true c.in-Err.ensures.found.read
 
 pub returns-then-not-may_follow-clause-refused : goal.returns-then-not-may_follow-clause-refused
 returns-then-not-may_follow-clause-refused c =
@@ -25,7 +25,7 @@ returns-then-not-may_follow-clause-refused c =
     ∙ sym c.may_follow.ensures ∙ c.if-not-may_follow.true in
     falls c.args.version c.args.schema.now so_far.0 c.args.count c.loop.counter c.loop.rest.now
     (cells_at c.args.version c.args.schema.now None c.args.count c.args.bytes.now) so_far.2 e c.in-Ok.found.1.now
-    c.loop-test.true c.in-Ok.ensures.read falling
+    c.loop-test.true c.in-Ok.ensures.found.read falling
 
 pub loop-preserved : goal.loop-preserved
 loop-preserved c =
@@ -37,7 +37,7 @@ loop-preserved c =
       sym (last_name_push so_far.0 e),
       goes_on c.args.version c.args.schema.now so_far.0 c.args.count c.loop.counter c.loop.rest.now
           (cells_at c.args.version c.args.schema.now None c.args.count c.args.bytes.now) so_far.2 e c.in-Ok.found.1.now
-          c.loop-test.true c.in-Ok.ensures.read rising,
+          c.loop-test.true c.in-Ok.ensures.found.read rising,
     )
 
 pub returns-clause-read : goal.returns-clause-read
