@@ -36,7 +36,9 @@ use rr_desk::{Keeper, Reader, open};
 use rr_fakes::replicas::minutes;
 use rr_key::SeriesKey;
 use rr_line::Precision;
-use rr_node::{Moments, OpenGate, pull_peer, serve_lines, serve_lines_within, serve_reader};
+use rr_node::{
+    Moments, OpenGate, Report, pull_peer, serve_lines, serve_lines_within, serve_reader,
+};
 use std::alloc::{AllocError, Global};
 use std::sync::Wait;
 
@@ -150,6 +152,12 @@ fn text_of(alloc: Global, name: &str) -> Result<String> {
     Ok(String::from_str(alloc, name)?)
 }
 
+/// What became of lines, as a text.
+fn counts_of(alloc: Global, report: &Report) -> Result<String> {
+    let (points, samples, refused) = (report.points, report.samples, report.refused);
+    Ok(format!(in alloc; "{points} points, {samples} samples, {refused} refused")?)
+}
+
 fn lines<A: Cells, T: Wait>(
     alloc: Global,
     rt: &T,
@@ -188,10 +196,7 @@ fn lines<A: Cells, T: Wait>(
     };
     end(alloc, growths);
     let ending = match served {
-        Ok(report) => {
-            let (points, samples, refused) = (report.points, report.samples, report.refused);
-            format!(in alloc; "{points} points, {samples} samples, {refused} refused")?
-        }
+        Ok(report) => counts_of(alloc, &report)?,
         Err(fault) => text_of(alloc, fault.name())?,
     };
     Ok((ending, written(sink)))
