@@ -12,7 +12,7 @@ use rr_archive::Cells;
 use rr_base::{Counted, Failing};
 use rr_fakes::pieces::{Pieces, failing_after};
 use rr_fakes::room::{Room, failing_room};
-use rr_gossip::{GossipFault, give, give_after, give_after_within, give_within, pull, pull_within};
+use rr_gossip::{GossipFault, MAX_FRAMES, give, give_after, pull, pull_within};
 use rr_replica::Replica;
 use std::alloc::{AllocError, Global};
 
@@ -84,32 +84,22 @@ fn pull_some<A: Cells>(
     }
 }
 
-/// Gives, within a limit of frames if there is one.
+/// Gives, after a first byte if one is handed over, within a limit of frames if there is one.
 fn give_some<A: Cells>(
     alloc: Global,
+    first: Option<u8>,
     frames: Option<u16>,
     input: &mut Input<'_>,
     output: &mut Output,
     replica: &mut Replica<A>,
 ) -> Result<(), GossipFault> {
-    match frames {
-        None => give(alloc, input, output, replica),
-        Some(most) => give_within(alloc, input, output, replica, u32::from(most)),
-    }
-}
-
-/// Gives after a first byte, within a limit of frames if there is one.
-fn give_some_after<A: Cells>(
-    alloc: Global,
-    first: u8,
-    frames: Option<u16>,
-    input: &mut Input<'_>,
-    output: &mut Output,
-    replica: &mut Replica<A>,
-) -> Result<(), GossipFault> {
-    match frames {
-        None => give_after(alloc, first, input, output, replica),
-        Some(most) => give_after_within(alloc, first, input, output, replica, u32::from(most)),
+    match (first, frames) {
+        (None, None) => give(alloc, input, output, replica),
+        (None, Some(most)) => give_after(alloc, &[], input, output, replica, u32::from(most)),
+        (Some(first), None) => give_after(alloc, &[first], input, output, replica, MAX_FRAMES),
+        (Some(first), Some(most)) => {
+            give_after(alloc, &[first], input, output, replica, u32::from(most))
+        }
     }
 }
 
@@ -128,10 +118,10 @@ pub(crate) fn push_session<A: Cells>(
     begin(alloc, words.growths);
     let ended = match session {
         Session::Pull => pull_some(alloc, frames, &mut input, &mut output, replica),
-        Session::Give => give_some(alloc, frames, &mut input, &mut output, replica),
+        Session::Give => give_some(alloc, None, frames, &mut input, &mut output, replica),
         Session::GiveAfter => {
-            let first = given.first();
-            give_some_after(alloc, first, frames, &mut input, &mut output, replica)
+            let first = Some(given.first());
+            give_some(alloc, first, frames, &mut input, &mut output, replica)
         }
     };
     end(alloc, words.growths);

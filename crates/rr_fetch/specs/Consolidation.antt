@@ -1,5 +1,5 @@
 -- What a consolidation function makes of the contributions to a row.
-use Rattle.std.specs.Prelude.{ℕ, ℤ, pos, ◌*◌, ◌*ℤ◌, ◌≤◌, ◌≤ℤ◌, ◌^◌, List, [], ◌∷◌, map, Option, None, IsTrue, All, neg_ℤ, ◌-◌, bit_or, count_ones, if◌then◌else◌}
+use Rattle.std.specs.Prelude.{◌≡◌, ℕ, ℤ, pos, length, ◌<◌, ◌*◌, ◌*ℤ◌, ◌≤◌, ◌≤ℤ◌, ◌^◌, List, [], ◌∷◌, map, Option, None, IsTrue, All, neg_ℤ, ◌-◌, bit_or, count_ones, if◌then◌else◌}
 use Rattle.std.specs.List.{sum}
 use Rattle.std.specs.Option.{option_map}
 use Rattle.std.specs.declared.cmp.Ordering.{Ordering}
@@ -14,6 +14,7 @@ use Rattle.rr_archive.specs.declared.entry.Entry.{Entry}
 use Rattle.rr_archive.specs.Row.{ascends}
 use Rattle.rr_join.specs.Sums.{int_sum}
 use Rattle.rr_cells.specs.Rows.{average}
+use Rattle.rr_fetch.specs.declared.sum.Sum.{Sum}
 
 -- the places in which some origin has a sample, as one mask
 abbrev pub mask_of_entries : List Entry → ℕ
@@ -61,3 +62,14 @@ pub record IsRow (es : List Entry) : Type 0 where
 pub record IsBounded (count : ℕ) (total : ℤ) : Type 0 where
   pub least : neg_ℤ (pos (count * 2 ^ 63)) ≤ℤ total
   pub most : total ≤ℤ pos (count * (2 ^ 63 - 1))
+
+-- a sum of so many samples, and not too great to be divided
+pub record IsSum (number : ℕ) (value : ℤ) (sum : Sum) : Type 0 where
+  pub count : sum.count ≡ number
+  pub total : sum.total ≡ value
+  pub bounded : IsBounded sum.count sum.total
+
+-- a row of one of the layout's archives
+pub record IsRowOf (s : Layout) (archive : ℕ) (es : List Entry) : Type 0 where
+  pub archive_exists : archive < length s.archives
+  pub row : IsRow es

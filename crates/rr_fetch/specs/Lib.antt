@@ -5,3 +5,4 @@ pub mod Records
 pub mod Consolidation
 pub mod Answers
 pub mod Laws
+pub mod Digits

@@ -1,14 +1,14 @@
 -- What the bytes of a request ask for.
-use Rattle.std.specs.Prelude.{ℕ, ◌≤◌, ◌<◌, ℤ, pos, neg_ℤ, ◌-ℤ◌, nat_le, int_lt, List, length, Result, Ok, Err, ok_or, unsigned_abs, if◌then◌else◌}
+use Rattle.std.specs.Prelude.{ℕ, ◌≤◌, ◌<◌, ℤ, pos, neg_ℤ, ◌-ℤ◌, nat_le, int_lt, List, length, Result, Ok, Err, ok_or, IfOk, unsigned_abs, if◌then◌else◌}
 use Rattle.std.specs.Int.{int_div_euclid}
 use Rattle.rr_schema.specs.declared.consolidation.ConsolidationFunction.{ConsolidationFunction}
 use Rattle.rr_text.specs.declared.limits.TheConstants.{MAX_FETCH_ROWS, MAX_SECOND}
-use Rattle.rr_text.specs.Results.{◌>>=◌, check}
+use Rattle.rr_text.specs.Results.{◌>>=◌, GivesUnless, NeedsMemoryAfter, check}
 use Rattle.rr_schema.specs.Schema.{Layout, span, choice}
 use Rattle.rr_key.specs.Reading.{is_key_text}
 use Rattle.rr_cells.specs.FetchText as text
 use Rattle.rr_fetch.specs.declared.fault.RequestFault.{RequestFault}
-use Rattle.rr_fetch.specs.declared.fault.RequestFault.TheVariants.{BadCommand, BadCf, BadNumber, BadKey, EmptyRange, TooManyRows}
+use Rattle.rr_fetch.specs.declared.fault.RequestFault.TheVariants.{BadCommand, BadCf, BadNumber, BadKey, EmptyRange, TooManyRows, Memory}
 use Rattle.rr_fetch.specs.declared.request.Request.{Request}
 use Rattle.rr_fetch.specs.Words.{Parts, words_of, function_of, resolution_of, second_of}
 
@@ -55,3 +55,10 @@ pub record IsFetchable (s : Layout) (q : text.Request) : Type 0 where
   pub near : unsigned_abs q.first ≤ MAX_SECOND
   pub some : 1 ≤ q.rows
   pub few : q.rows ≤ MAX_FETCH_ROWS
+
+-- a request is made as a definition says, and can be answered; or memory ran out, which hides no fault
+pub record MakesRequest (s : Layout) (result : Result Request RequestFault) (answer : Result text.Request RequestFault)
+    : Type 0 where
+  pub value : GivesUnless Memory request_view result answer
+  pub memory : NeedsMemoryAfter Memory answer result
+  pub fetchable : IfOk result (λ q. IsFetchable s (request_view q))

@@ -1,11 +1,11 @@
 //! The row that the contributions of its origins make.
 
-ghost use Rattle.std.specs.Prelude.{◌≡◌, ◌<◌, ◌∷◌, [], Some, length, map, count_ones};
+ghost use Rattle.std.specs.Prelude.{◌≡◌, ◌∷◌, [], Some, map, count_ones};
 ghost use Rattle.std.specs.Option.{option_map};
 ghost use Rattle.std.specs.Ordering.{int_cmp, is_lt, flip_args};
 ghost use Rattle.rr_join.specs.Maps.{greater, greatest};
 ghost use Rattle.rr_cells.specs.Rows.{average};
-ghost use Rattle.rr_fetch.specs.Consolidation.{consolidation_of, count_of, last_cmp, total_of, mask_of_entries, IsRow};
+ghost use Rattle.rr_fetch.specs.Consolidation.{consolidation_of, count_of, last_cmp, total_of, mask_of_entries, IsRow, IsRowOf};
 
 use crate::sum::{sum_of, sum_of_one};
 use rr_archive::Entry;
@@ -28,8 +28,7 @@ pub fn consolidate(
     archive: u8,
     cf: ConsolidationFunction,
 ) -> Option<i64>
-    requires archive_exists { archive < length schema.now.archives }
-    requires row { IsRow row.now }
+    requires { IsRowOf schema.now archive row.now }
     ensures { result ≡ consolidation_of schema.now archive cf row.now }
 {
     if !schema.known_enough(archive, known_places(row)) {
@@ -51,8 +50,7 @@ pub(crate) fn consolidate_one(
     archive: u8,
     cf: ConsolidationFunction,
 ) -> Option<i64>
-    requires archive_exists { archive < length schema.now.archives }
-    requires row { IsRow (entry.now ∷ []) }
+    requires { IsRowOf schema.now archive (entry.now ∷ []) }
     ensures { result ≡ consolidation_of schema.now archive cf (entry.now ∷ []) }
 {
     let contribution = &entry.contribution;

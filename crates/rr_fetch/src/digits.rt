@@ -1,7 +1,8 @@
 //! Numbers at the end of a buffer: a record's are written from its last byte on, and added at once.
 
-ghost use Rattle.std.specs.Prelude.{◌≡◌, ◌≤◌, ◌+◌, ◌∷◌, ◌++◌, length, drop};
+ghost use Rattle.std.specs.Prelude.{◌≡◌, ◌≤◌, ◌+◌, ◌∷◌, length, drop};
 ghost use Rattle.std.specs.Fmt.{signed_decimal};
+ghost use Rattle.rr_fetch.specs.Digits.{HasNumberRoom, WritesBefore};
 
 use itoa::write_digits;
 use rr_text::bytes::MINUS;
@@ -25,11 +26,8 @@ pub fn write_byte(text: &mut [u8], end: usize, byte: u8) -> usize
 
 /// Writes a number in decimal before the bytes from `end` on, and says where it begins.
 pub fn write_number(text: &mut [u8], end: usize, number: i64) -> usize
-    requires room { MAX_NUMBER_TEXT ≤ end }
-    requires within { end ≤ length text.old }
-    ensures start { end ≤ result + MAX_NUMBER_TEXT }
-    ensures before { result ≤ end }
-    ensures written { drop result text.new ≡ signed_decimal number ++ drop end text.old }
+    requires { HasNumberRoom end text.old }
+    ensures { WritesBefore end (signed_decimal number) text.old text.new result }
 {
     let start = write_digits(number.unsigned_abs(), text, end);
     if number < 0 {

@@ -1,7 +1,8 @@
 //! A row as a record of CSV.
 
-ghost use Rattle.std.specs.Prelude.{◌≡◌, ◌≤◌, ◌+◌, ◌++◌, [], ◌∷◌, ℕ, List, OnOk, drop, length};
+ghost use Rattle.std.specs.Prelude.{◌≡◌, ◌≤◌, ◌++◌, [], ◌∷◌, ℕ, List, OnOk, drop};
 ghost use Rattle.std.specs.Fmt.{signed_decimal};
+ghost use Rattle.rr_fetch.specs.Digits.{HasNumberRoom, WritesBefore};
 ghost use Rattle.rr_cells.specs.FetchText.{comma, line_feed, field_text, record_text, value_text};
 
 use crate::digits::{MAX_NUMBER_TEXT, write_byte, write_number};
@@ -21,11 +22,8 @@ const _: () = prove!(MAX_REST == 42);
 /// Writes a value, or `U` for an unknown one, before the bytes from `end` on, and says where it
 /// begins.
 fn write_value(text: &mut [u8], end: usize, value: Option<i64>) -> usize
-    requires room { MAX_NUMBER_TEXT ≤ end }
-    requires within { end ≤ length text.old }
-    ensures start { end ≤ result + MAX_NUMBER_TEXT }
-    ensures before { result ≤ end }
-    ensures written { drop result text.new ≡ value_text value ++ drop end text.old }
+    requires { HasNumberRoom end text.old }
+    ensures { WritesBefore end (value_text value) text.old text.new result }
 {
     match value {
         Some(value) => write_number(text, end, value),

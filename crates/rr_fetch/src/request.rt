@@ -2,8 +2,8 @@
 
 ghost use Rattle.std.specs.Prelude.{◌≡◌, ◌<◌, ◌≤◌, pos, neg_ℤ, ◌-ℤ◌, ◌<ℤ◌, unsigned_abs, length, List, ℕ, IfOk, IfErr};
 ghost use Rattle.std.specs.Int.{int_div_euclid};
-ghost use Rattle.rr_text.specs.Results.{Gives, GivesUnless, NeedsMemoryAfter};
-ghost use Rattle.rr_fetch.specs.Requests.{few_rows, read, request_of_words, request_view, rows_between, IsFetchable};
+ghost use Rattle.rr_text.specs.Results.{Gives};
+ghost use Rattle.rr_fetch.specs.Requests.{few_rows, read, request_of_words, rows_between, IsFetchable, MakesRequest};
 ghost use Rattle.rr_fetch.specs.Words.{parts};
 
 use crate::fault::RequestFault;
@@ -109,11 +109,7 @@ fn rows_of(schema: &Schema, archive: u8, start: i64, end: i64) -> Result<(i64, u
 /// The cost is linear in the bytes.
 #[tactic(auto, unfolding(crate::specs::Requests::request_of_words))]
 pub fn parse_request(alloc: Global, bytes: &[u8], schema: &Schema) -> Result<Request, RequestFault>
-    ensures value { GivesUnless RequestFault.Memory request_view result
-        (request_of_words schema.now bytes.now) }
-    ensures memory { NeedsMemoryAfter RequestFault.Memory (request_of_words schema.now bytes.now)
-        result }
-    ensures fetchable { IfOk result (λ q. IsFetchable schema.now (request_view q)) }
+    ensures { MakesRequest schema.now result (request_of_words schema.now bytes.now) }
 {
     let words = request_words(bytes).ok_or(RequestFault::BadCommand)?;
     read_request(alloc, &words, schema)
@@ -127,11 +123,7 @@ pub fn read_request(
     words: &RequestWords<'_>,
     schema: &Schema,
 ) -> Result<Request, RequestFault>
-    ensures value { GivesUnless RequestFault.Memory request_view result
-        (read schema.now (parts words.now)) }
-    ensures memory { NeedsMemoryAfter RequestFault.Memory (read schema.now (parts words.now))
-        result }
-    ensures fetchable { IfOk result (λ q. IsFetchable schema.now (request_view q)) }
+    ensures { MakesRequest schema.now result (read schema.now (parts words.now)) }
 {
     let cf = function_of(words.function).ok_or(RequestFault::BadCf)?;
     let resolution = resolution_of(words.resolution).ok_or(RequestFault::BadNumber)?;

@@ -2,7 +2,7 @@
 
 ghost use Rattle.std.specs.Prelude.{◌≡◌, ◌+◌, ◌*◌, ◌≤◌, ◌+ℤ◌, All, length};
 ghost use Rattle.rr_cells.specs.Rows.{average};
-ghost use Rattle.rr_fetch.specs.Consolidation.{IsBounded, IsSummable, total_of, count_of};
+ghost use Rattle.rr_fetch.specs.Consolidation.{IsBounded, IsSum, IsSummable, total_of, count_of};
 
 use rr_archive::Entry;
 use rr_contrib::Contribution;
@@ -29,9 +29,8 @@ impl Sum {
         requires summable { IsSummable contribution.now }
         requires count_fits { self.count ≤ MAX_ENTRIES * MAX_NUMBER }
         requires bounded { IsBounded self.count self.total }
-        ensures count { result.count ≡ self.count + contribution.now.count }
-        ensures total { result.total ≡ self.total +ℤ contribution.now.sum }
-        ensures bounded { IsBounded result.count result.total }
+        ensures { IsSum (self.count + contribution.now.count)
+            (self.total +ℤ contribution.now.sum) result }
     {
         let contribution = *contribution;
         Sum {
@@ -59,9 +58,7 @@ impl Sum {
 /// The sum of the samples of a contribution.
 pub(crate) fn sum_of_one(contribution: &Contribution) -> Sum
     requires { IsSummable contribution.now }
-    ensures count { result.count ≡ contribution.now.count }
-    ensures total { result.total ≡ contribution.now.sum }
-    ensures bounded { IsBounded result.count result.total }
+    ensures { IsSum contribution.now.count contribution.now.sum result }
 {
     NONE.with(contribution)
 }
@@ -70,9 +67,7 @@ pub(crate) fn sum_of_one(contribution: &Contribution) -> Sum
 pub(crate) fn sum_of(row: &[Entry]) -> Sum
     requires row_fits { length row.now ≤ MAX_ENTRIES }
     requires summable { All (λ e. IsSummable e.contribution) row.now }
-    ensures count { result.count ≡ count_of row.now }
-    ensures total { result.total ≡ total_of row.now }
-    ensures bounded { IsBounded result.count result.total }
+    ensures { IsSum (count_of row.now) (total_of row.now) result }
 {
     let mut sum = NONE;
     for entry in row {

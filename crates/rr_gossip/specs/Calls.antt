@@ -1,8 +1,9 @@
 -- What a call that pulls or gives over streams has done once it returns: what was read and written, and when a stream
 -- is to blame.
-use Rattle.std.specs.Prelude.{◌≡◌, ◌≤◌, ℕ, true, List, [], length, Option, Result, Err, OnOk, IfErr}
+use Rattle.std.specs.Prelude.{◌≡◌, ◌≤◌, ◌<◌, ℕ, Bool, true, IsTrue, List, [], length, Option, Result, Err, OnOk, OnErr, IfErr}
 use Rattle.std.specs.Io.KnownBytes.{Appends, IsAtEnd}
 use Rattle.std.specs.List.{concat}
+use Rattle.rr_text.specs.Results.{GivesUnless}
 use Rattle.rr_schema.specs.Schema.{Layout}
 use Rattle.rr_io.specs.declared.counted.Counted.{Counted}
 use Rattle.rr_io.specs.Counted.{inner_of, failures_of, is_flushed, HasRisen}
@@ -10,7 +11,10 @@ use Rattle.rr_io.specs.Stream.{AppendsPrefix, HasFailed, IsReadOut, KeepsFailure
 use Rattle.rr_cells.specs.CellBounds.{NamedCell}
 use Rattle.rr_cells.specs.Cells.{Cells}
 use Rattle.rr_gossip.specs.declared.fault.GossipFault.{GossipFault}
-use Rattle.rr_gossip.specs.declared.fault.GossipFault.TheVariants.{Ended, ReadFailed, WriteFailed}
+use Rattle.rr_gossip.specs.declared.fault.GossipFault.TheVariants.{Ended, ReadFailed, WriteFailed, Memory}
+use Rattle.rr_gossip.specs.declared.giver.Stage.{Stage}
+use Rattle.rr_gossip.specs.Giver.{AreFit}
+use Rattle.rr_gossip.specs.Stream.{Grows}
 use Rattle.rr_gossip.specs.Session.{HasFailedToGive, HasFailedToPull, HasGiven, HasPulled, sent_by}
 use Rattle.rr_gossip.specs.Transcript.{waiting}
 
@@ -20,6 +24,12 @@ pub record TakesFrames {R : Type 0} (remaining : R → Option (List ℕ)) (old n
   pub ended : result ≡ Err Ended → IsReadOut remaining new
   pub failures_never_fall : KeepsFailures old new
   pub failed : result ≡ Err ReadFailed → HasFailed old new
+
+-- what a call did that reads bytes after those that were there
+pub record ReadsBytes {R : Type 0} (remaining : R → Option (List ℕ)) (old new : Counted R) (before after : List ℕ)
+    (result : Result (Unit {0}) GossipFault) : Type 0 where
+  pub read : OnOk result (Grows (remaining (inner_of old)) (remaining (inner_of new)) before after)
+  pub stream : TakesFrames remaining old new result
 
 -- what a call did with the writer that it sends frames to: all of them are one text
 pub record SendsFrames {W : Type 0} (contents : W → Option (List ℕ)) (old new : Counted W) (text : List ℕ)
@@ -34,6 +44,21 @@ pub record SendsFrames {W : Type 0} (contents : W → Option (List ℕ)) (old ne
 pub record StaysSource {S : Type 0} (layout : S → Layout) (may_become : S → S → Type 0) (old new : S) : Type 0 where
   pub schema : layout new ≡ layout old
   pub becomes : may_become old new
+
+-- what was taken of a giver's peer: what the definition takes, by which the pages still fit, and the source stays
+pub record TakesFor {S X Y : Type 0} (layout : S → Layout) (may_become : S → S → Type 0) (old new : S)
+    (view : X → Y) (stage : Stage) (result : Result X GossipFault) (answer : Result Y GossipFault) : Type 0 where
+  pub taken : GivesUnless Memory view result answer
+  pub fit : OnOk result (AreFit stage)
+  pub source : StaysSource layout may_become old new
+
+-- what a side of a session sends next, of which it makes none beyond its limit; a refusal ends the session
+pub record SendsNext {X Y : Type 0} (is_sending : Bool) (sent limit : ℕ) (has_failed : Type 0)
+    (view : X → Y) (result : Result X GossipFault) (answer : Result Y GossipFault) : Type 0 where
+  pub given : GivesUnless Memory view result answer
+  pub memory : result ≡ Err Memory → IsTrue is_sending
+  pub within : result ≡ Err Memory → sent < limit
+  pub failed : OnErr result has_failed
 
 -- when one of two streams is to blame for a fault, the counts of whose failures never fall
 pub record Blames {R W : Type 0} (remaining : R → Option (List ℕ)) (input input_new : Counted R)

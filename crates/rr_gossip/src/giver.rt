@@ -1,10 +1,10 @@
 //! The side of a session that gives cells.
-ghost use Rattle.std.specs.Prelude.{◌≡◌, ◌≢◌, ◌≤◌, ◌<◌, Err, IfOk, OnErr, OnOk, IsTrue};
+ghost use Rattle.std.specs.Prelude.{◌≡◌, ◌≢◌, ◌≤◌, Err, IfOk, OnErr, OnOk, IsTrue};
 ghost use Rattle.rr_gossip.specs.Session.{is_giving};
 ghost use Rattle.std.specs.Option.{option_map};
 ghost use Rattle.rr_text.specs.Results.{Gives, GivesUnless, NeedsMemoryAfter};
 ghost use Rattle.rr_gossip.specs.declared.frame.TheConstants.{MAX_FRAMES};
-ghost use Rattle.rr_gossip.specs.Calls.{StaysSource};
+ghost use Rattle.rr_gossip.specs.Calls.{SendsNext, TakesFor};
 ghost use Rattle.rr_gossip.specs.Giver.{AreFit, HasFailed, first_giver, has_failed, is_due, is_listing, names_in, hello_taken, summary_taken, end_taken, body_taken, frame_due, giver_takes, stage_sends, giver_sends};
 
 use crate::fault::GossipFault;
@@ -87,10 +87,8 @@ impl Stage {
         source: &mut S,
     ) -> Result<(), GossipFault>
         requires { IsTrue (is_listing self.old) }
-        ensures taken { GivesUnless GossipFault.Memory (λ _. self.new) result
+        ensures { TakesFor S.layout S.may_become source.old source.new (λ _. self.new) self.new result
             (end_taken (S.cells source.new) (S.layout source.old) (names_in self.old) body.now) }
-        ensures fit { OnOk result (AreFit self.new) }
-        ensures source { StaysSource S.layout S.may_become source.old source.new }
     {
         let Stage::Listing(names) = self else {
             return Err(GossipFault::UnexpectedFrame);
@@ -113,11 +111,10 @@ impl Stage {
         source: &mut S,
     ) -> Result<bool, GossipFault>
         requires { IsTrue (is_due self.old kind) }
-        ensures taken { GivesUnless GossipFault.Memory (λ last. (self.new, last)) result
+        ensures takes { TakesFor S.layout S.may_become source.old source.new
+            (λ last. (self.new, last)) self.new result
             (body_taken (S.cells source.new) (S.layout source.old) self.old kind body.now) }
-        ensures fit { OnOk result (AreFit self.new) }
         ensures listing { result ≡ Err GossipFault.Memory → IsTrue (is_listing self.old) }
-        ensures source { StaysSource S.layout S.may_become source.old source.new }
     {
         match kind {
             Kind::Hello => {
@@ -212,13 +209,12 @@ impl Giver {
         frame: &[u8],
         source: &mut S,
     ) -> Result<bool, GossipFault>
-        ensures taken { GivesUnless GossipFault.Memory (λ last. (self.new, last)) result
+        ensures takes { TakesFor S.layout S.may_become source.old source.new
+            (λ last. (self.new, last)) self.new.stage result
             (giver_takes (S.cells source.new) (S.layout source.old) self.old frame.now) }
-        ensures fit { OnOk result (AreFit self.new.stage) }
         ensures memory { NeedsMemoryAfter GossipFault.Memory (frame_due self.old frame.now) result }
         ensures listing { result ≡ Err GossipFault.Memory → IsTrue (is_listing self.old.stage) }
         ensures failed { OnErr result (HasFailed self.new) }
-        ensures source { StaysSource S.layout S.may_become source.old source.new }
     {
         let mut stage = replace(&mut self.stage, Stage::Failed);
         if matches!(&stage, Stage::Failed) {
@@ -248,12 +244,9 @@ impl Giver {
         alloc: Global,
         _source: &mut S,
     ) -> Result<Option<Vec<u8>>, GossipFault>
-        ensures sent { GivesUnless GossipFault.Memory
-            (λ frame. (self.new, option_map (λ bytes. bytes.items) frame)) result
-            (giver_sends self.old) }
-        ensures memory { result ≡ Err GossipFault.Memory → IsTrue (is_giving self.old.stage) }
-        ensures within { result ≡ Err GossipFault.Memory → self.old.sent < self.old.limit }
-        ensures failed { OnErr result (HasFailed self.new) }
+        ensures sent { SendsNext (is_giving self.old.stage) self.old.sent self.old.limit
+            (HasFailed self.new) (λ frame. (self.new, option_map (λ bytes. bytes.items) frame))
+            result (giver_sends self.old) }
         ensures unchanged { _source.new ≡ _source.old }
     {
         let mut stage = replace(&mut self.stage, Stage::Failed);

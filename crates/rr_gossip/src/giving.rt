@@ -1,5 +1,5 @@
 //! The answer to a pull, over streams.
-ghost use Rattle.std.specs.Prelude.{◌≡◌, ◌≤◌, [], ◌∷◌, IfErr, IsTrue, OnOk, length};
+ghost use Rattle.std.specs.Prelude.{◌≡◌, ◌≤◌, [], IfErr, IsTrue, OnOk, length};
 ghost use Rattle.std.specs.List.{concat};
 ghost use Rattle.rr_io.specs.Counted.{inner_of};
 ghost use Rattle.rr_gossip.specs.declared.frame.TheConstants.{MAX_FRAMES};
@@ -69,25 +69,6 @@ fn send_pages<S: Source, W: Write>(
     Ok(())
 }
 
-/// Gives after the bytes of the first frame's length that are read already.
-fn give_from<S: Source, R: Read, W: Write>(
-    alloc: Global,
-    before: &[u8],
-    input: &mut Counted<R>,
-    output: &mut Counted<W>,
-    source: &mut S,
-    frames: u32,
-) -> Result<(), GossipFault>
-    requires front_fits { length before.now ≤ 4 }
-    requires frames_fit { frames ≤ MAX_FRAMES }
-    ensures session { Gives R.remaining W.contents frames S.layout S.cells S.may_become
-        before.now source.old source.new input.old input.new output.old output.new result }
-{
-    let mut giver = Giver::with_limit(frames);
-    take_names(alloc, &mut giver, before, input, source)?;
-    send_pages(alloc, &mut giver, output, source)
-}
-
 /// Answers a pull by the other side of a stream: takes its schema and the names and versions of its
 /// cells, and sends the cells of a source that these lack, 256 in a page.
 ///
@@ -110,50 +91,25 @@ pub fn give<S: Source, R: Read, W: Write>(
     ensures session { Gives R.remaining W.contents MAX_FRAMES S.layout S.cells S.may_become
         [] source.old source.new input.old input.new output.old output.new result }
 {
-    give_from(alloc, &[], input, output, source, MAX_FRAMES)
+    give_after(alloc, &[], input, output, source, MAX_FRAMES)
 }
 
-/// Gives as [`give`] does, in a session of at most `frames` frames each way.
-pub fn give_within<S: Source, R: Read, W: Write>(
-    alloc: Global,
-    input: &mut Counted<R>,
-    output: &mut Counted<W>,
-    source: &mut S,
-    frames: u32,
-) -> Result<(), GossipFault>
-    requires { frames ≤ MAX_FRAMES }
-    ensures session { Gives R.remaining W.contents frames S.layout S.cells S.may_become
-        [] source.old source.new input.old input.new output.old output.new result }
-{
-    give_from(alloc, &[], input, output, source, frames)
-}
-
-/// Gives as [`give`] does, at its cost, where the first byte of the session is read already.
+/// Gives as [`give`] does, at its cost, after bytes of the first frame's length that are read
+/// already, in a session of at most `frames` frames each way.
 pub fn give_after<S: Source, R: Read, W: Write>(
     alloc: Global,
-    first: u8,
-    input: &mut Counted<R>,
-    output: &mut Counted<W>,
-    source: &mut S,
-) -> Result<(), GossipFault>
-    ensures session { Gives R.remaining W.contents MAX_FRAMES S.layout S.cells S.may_become
-        (first ∷ []) source.old source.new input.old input.new output.old output.new result }
-{
-    give_from(alloc, &[first], input, output, source, MAX_FRAMES)
-}
-
-/// Gives as [`give_after`] does, in a session of at most `frames` frames each way.
-pub fn give_after_within<S: Source, R: Read, W: Write>(
-    alloc: Global,
-    first: u8,
+    before: &[u8],
     input: &mut Counted<R>,
     output: &mut Counted<W>,
     source: &mut S,
     frames: u32,
 ) -> Result<(), GossipFault>
-    requires { frames ≤ MAX_FRAMES }
+    requires front_fits { length before.now ≤ 4 }
+    requires frames_fit { frames ≤ MAX_FRAMES }
     ensures session { Gives R.remaining W.contents frames S.layout S.cells S.may_become
-        (first ∷ []) source.old source.new input.old input.new output.old output.new result }
+        before.now source.old source.new input.old input.new output.old output.new result }
 {
-    give_from(alloc, &[first], input, output, source, frames)
+    let mut giver = Giver::with_limit(frames);
+    take_names(alloc, &mut giver, before, input, source)?;
+    send_pages(alloc, &mut giver, output, source)
 }

@@ -5,6 +5,7 @@ ghost use Rattle.rr_text.specs.Results.{GivesUnless, NeedsMemoryAfter};
 ghost use Rattle.rr_delta.specs.Names.{owned_name};
 ghost use Rattle.rr_gossip.specs.declared.frame.TheConstants.{MAX_FRAMES, MAX_FRAME_LEN};
 ghost use Rattle.rr_gossip.specs.declared.summary.TheConstants.{MAX_ENTRIES};
+ghost use Rattle.rr_gossip.specs.Calls.{SendsNext};
 ghost use Rattle.rr_gossip.specs.Puller.{HasFailed, Takes, first_puller, is_due, names_sent, stage_sends, puller_sends, body_taken, is_sending, puller_takes};
 ghost use Rattle.rr_gossip.specs.Summary.{summary_text};
 
@@ -173,12 +174,9 @@ impl Puller {
         alloc: Global,
         target: &T,
     ) -> Result<Option<Vec<u8>>, GossipFault>
-        ensures sent { GivesUnless GossipFault.Memory
-            (λ frame. (self.new, option_map (λ bytes. bytes.items) frame)) result
-            (puller_sends (T.cells target.now) (T.layout target.now) self.old) }
-        ensures memory { result ≡ Err GossipFault.Memory → IsTrue (is_sending self.old.stage) }
-        ensures within { result ≡ Err GossipFault.Memory → self.old.sent < self.old.limit }
-        ensures failed { OnErr result (HasFailed self.new) }
+        ensures { SendsNext (is_sending self.old.stage) self.old.sent self.old.limit
+            (HasFailed self.new) (λ frame. (self.new, option_map (λ bytes. bytes.items) frame))
+            result (puller_sends (T.cells target.now) (T.layout target.now) self.old) }
     {
         let mut stage = replace(&mut self.stage, Stage::Failed);
         if !stage.is_sending() {

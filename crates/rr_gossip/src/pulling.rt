@@ -70,24 +70,6 @@ fn take_pages<T: Target, R: Read>(
     }
 }
 
-/// Pulls in a session of at most `frames` frames each way.
-fn pull_from<T: Target, R: Read, W: Write>(
-    alloc: Global,
-    input: &mut Counted<R>,
-    output: &mut Counted<W>,
-    target: &mut T,
-    frames: u32,
-) -> Result<(), GossipFault>
-    requires { frames ≤ MAX_FRAMES }
-    ensures session { Pulls R.remaining W.contents frames
-        (T.layout target.old) (T.cells target.old) (T.has_joined target.old target.new)
-        input.old input.new output.old output.new result }
-{
-    let mut puller = Puller::with_limit(frames);
-    send_names(alloc, &mut puller, output, target)?;
-    take_pages(alloc, &mut puller, input, target)
-}
-
 /// Pulls cells from the other side of a stream: sends the schema of a target and the names and
 /// versions of all its cells, and joins the cells that the other side answers, page by page, each
 /// in its order.
@@ -113,7 +95,7 @@ pub fn pull<T: Target, R: Read, W: Write>(
         (T.layout target.old) (T.cells target.old) (T.has_joined target.old target.new)
         input.old input.new output.old output.new result }
 {
-    pull_from(alloc, input, output, target, MAX_FRAMES)
+    pull_within(alloc, input, output, target, MAX_FRAMES)
 }
 
 /// Pulls as [`pull`] does, in a session of at most `frames` frames each way.
@@ -129,5 +111,7 @@ pub fn pull_within<T: Target, R: Read, W: Write>(
         (T.layout target.old) (T.cells target.old) (T.has_joined target.old target.new)
         input.old input.new output.old output.new result }
 {
-    pull_from(alloc, input, output, target, frames)
+    let mut puller = Puller::with_limit(frames);
+    send_names(alloc, &mut puller, output, target)?;
+    take_pages(alloc, &mut puller, input, target)
 }

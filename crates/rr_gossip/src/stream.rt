@@ -3,7 +3,7 @@ ghost use Rattle.std.specs.Prelude.{◌≡◌, ◌≤◌, Ok, IfErr, OnOk, List,
 ghost use Rattle.std.specs.Int.{w32};
 ghost use Rattle.rr_io.specs.Counted.{inner_of};
 ghost use Rattle.rr_page.specs.Reading.{number_at};
-ghost use Rattle.rr_gossip.specs.Calls.{TakesFrames};
+ghost use Rattle.rr_gossip.specs.Calls.{ReadsBytes};
 ghost use Rattle.rr_gossip.specs.Stream.{BreaksOff, Grows, IsFrame, ReadsFewer};
 
 use crate::fault::GossipFault;
@@ -27,15 +27,14 @@ fn read_until<R: Read>(
     len: usize,
 ) -> Result<(), GossipFault>
     requires { length bytes.old.items ≤ len }
-    ensures read { OnOk result (Grows (R.remaining (inner_of input.old))
-        (R.remaining (inner_of input.new)) bytes.old.items bytes.new.items) }
+    ensures reads { ReadsBytes R.remaining input.old input.new bytes.old.items bytes.new.items
+        result }
     ensures whole { OnOk result (length bytes.new.items ≡ len) }
     ensures stopped { IfErr result (λ fault. (read : List ℕ)
         × Grows (R.remaining (inner_of input.old)) (R.remaining (inner_of input.new))
         bytes.old.items read
         × (length read ≤ len)
         × ReadsFewer fault (length read) len) }
-    ensures stream { TakesFrames R.remaining input.old input.new result }
 {
     let mut piece = [0u8; PIECE];
     while bytes.len() < len {
@@ -71,15 +70,14 @@ pub(crate) fn read_frame<R: Read>(
     frame: &mut Vec<u8>,
 ) -> Result<(), GossipFault>
     requires { length frame.old.items ≤ LENGTH_LEN }
-    ensures read { OnOk result (Grows (R.remaining (inner_of input.old))
-        (R.remaining (inner_of input.new)) frame.old.items frame.new.items) }
+    ensures reads { ReadsBytes R.remaining input.old input.new frame.old.items frame.new.items
+        result }
     ensures whole { OnOk result (IsFrame frame.new.items) }
     ensures long { OnOk result (LENGTH_LEN ≤ length frame.new.items) }
     ensures stopped { IfErr result (λ fault. (read : List ℕ)
         × Grows (R.remaining (inner_of input.old)) (R.remaining (inner_of input.new))
         frame.old.items read
         × BreaksOff read fault) }
-    ensures stream { TakesFrames R.remaining input.old input.new result }
 {
     read_until(input, frame, LENGTH_LEN)?;
     let len = content_len(frame);

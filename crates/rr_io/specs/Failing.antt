@@ -1,5 +1,5 @@
 -- A stream of which one call fails: what it shows, and what a call does to it.
-use Rattle.std.specs.Prelude.{ℕ, ◌-◌, ◌==◌, Bool, false, Option, None, Some, if◌then◌else◌}
+use Rattle.std.specs.Prelude.{◌≡◌, ℕ, ◌-◌, ◌==◌, Bool, true, false, Result, IsErr, Option, None, Some, if◌then◌else◌}
 use Rattle.rr_io.specs.declared.failing.Failing.{Failing}
 
 -- the reader or writer inside
@@ -19,3 +19,9 @@ fails_next (Some left) = left == 0
 abbrev pub one_call_less : Option ℕ → Option ℕ
 one_call_less None = None
 one_call_less (Some left) = if left == 0 then None else Some (left - 1)
+
+-- a call was counted, and the one that is to fail was refused and moved no byte
+pub record CountsCall {S X E : Type 0} (old new : Failing S) (result : Result X E) : Type 0 where
+  pub calls : calls_left new ≡ one_call_less (calls_left old)
+  pub fails : fails_next (calls_left old) ≡ true → IsErr result
+  pub unchanged : fails_next (calls_left old) ≡ true → stream_in new ≡ stream_in old

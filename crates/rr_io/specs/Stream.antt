@@ -1,5 +1,5 @@
 -- What calls of a stream did, also where one failed.
-use Rattle.std.specs.Prelude.{◌≡◌, ℕ, ◌<◌, ◌≤◌, List, ◌++◌, ◌+◌, length, take, Option, None, Some, IfSome, Result, Ok, Err, Bool, false, not, ◌&&◌, ◌==◌}
+use Rattle.std.specs.Prelude.{◌≡◌, ℕ, ◌<◌, ◌≤◌, List, ◌++◌, ◌+◌, length, take, Option, None, Some, IfSome, Result, Ok, Err, OnOk, OnErr, Bool, false, not, ◌&&◌, ◌==◌}
 use Rattle.std.specs.Io.KnownBytes.{Appends, Consumes, IsAtEnd, Keeps}
 use Rattle.rr_io.specs.declared.counted.Counted.{Counted}
 use Rattle.rr_io.specs.Counted.{inner_of, failures_of, reads_of, HasRisen, HasRisenBy}
@@ -77,3 +77,25 @@ HasReads n old new = HasRisenBy n (reads_of old) (reads_of new)
 -- it was read no more often than this
 abbrev pub HasFewReads : {R : Type 0} → ℕ → Counted R → Counted R → Type 0
 HasFewReads n old new = reads_of new ≤ reads_of old + n
+
+-- ---- what a call of a stream did, and whether its failures were counted
+
+-- no failure is forgotten, and one is counted if the call is refused
+pub record CountsFailures {S X E : Type 0} (old new : Counted S) (result : Result X E) : Type 0 where
+  pub failures_never_fall : KeepsFailures old new
+  pub failed : OnErr result (HasFailed old new)
+
+-- some bytes were taken, or none, and a call failed if this one is refused
+pub record ReadsOn {R X E : Type 0} (remaining : R → Option (List ℕ)) (old new : Counted R) (result : Result X E)
+    : Type 0 where
+  pub front : ReadsSome remaining old new
+  pub failures_never_fall : KeepsFailures old new
+  pub failed : OnErr result (HasFailed old new)
+
+-- a text was written whole; or a front of it was, and a call failed
+pub record Writes {W E : Type 0} (contents : W → Option (List ℕ)) (old new : Counted W) (text : List ℕ)
+    (result : Result (Unit {0}) E) : Type 0 where
+  pub whole : OnOk result (WritesWhole contents old new text)
+  pub front : WritesFront contents old new text
+  pub failures_never_fall : KeepsFailures old new
+  pub failed : OnErr result (HasFailed old new)

@@ -1,9 +1,9 @@
 //! A stream of which one call fails.
 
-ghost use Rattle.std.specs.Prelude.{◌≡◌, Some, true, IsErr};
+ghost use Rattle.std.specs.Prelude.{◌≡◌, Some};
 ghost use Rattle.std.specs.Io.{ReadsAtMost, WritesAtMost};
 ghost use Rattle.std.specs.Io.KnownBytes.{Keeps, ReadConsumes, WriteAppends};
-ghost use Rattle.rr_io.specs.Failing.{stream_in, calls_left, one_call_less, fails_next};
+ghost use Rattle.rr_io.specs.Failing.{CountsCall, stream_in, calls_left, one_call_less, fails_next};
 
 use std::io;
 use std::io::{ErrorKind, Read, Write};
@@ -70,10 +70,7 @@ impl<R: Read> Read for Failing<R> {
         ensures bound { ReadsAtMost result buf.new }
         ensures bytes { ReadConsumes (R.remaining (stream_in self.old))
             (R.remaining (stream_in self.new)) result buf.new }
-        ensures calls { calls_left self.new ≡ one_call_less (calls_left self.old) }
-        ensures fails { fails_next (calls_left self.old) ≡ true → IsErr result }
-        ensures unchanged { fails_next (calls_left self.old) ≡ true
-            → stream_in self.new ≡ stream_in self.old }
+        ensures calls { CountsCall self.old self.new result }
     {
         if self.is_due() {
             return Err(failure());
@@ -89,10 +86,7 @@ impl<W: Write> Write for Failing<W> {
         ensures bound { WritesAtMost result buf.now }
         ensures bytes { WriteAppends (W.contents (stream_in self.old))
             (W.contents (stream_in self.new)) result buf.now }
-        ensures calls { calls_left self.new ≡ one_call_less (calls_left self.old) }
-        ensures fails { fails_next (calls_left self.old) ≡ true → IsErr result }
-        ensures unchanged { fails_next (calls_left self.old) ≡ true
-            → stream_in self.new ≡ stream_in self.old }
+        ensures calls { CountsCall self.old self.new result }
     {
         if self.is_due() {
             return Err(failure());
@@ -102,10 +96,7 @@ impl<W: Write> Write for Failing<W> {
 
     fn flush(&mut self) -> io::Result<()>
         ensures bytes { Keeps (W.contents (stream_in self.old)) (W.contents (stream_in self.new)) }
-        ensures calls { calls_left self.new ≡ one_call_less (calls_left self.old) }
-        ensures fails { fails_next (calls_left self.old) ≡ true → IsErr result }
-        ensures unchanged { fails_next (calls_left self.old) ≡ true
-            → stream_in self.new ≡ stream_in self.old }
+        ensures calls { CountsCall self.old self.new result }
     {
         if self.is_due() {
             return Err(failure());

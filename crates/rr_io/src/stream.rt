@@ -8,12 +8,12 @@
 //! Whoever reads an input to its end in pieces of its own calls [`read_once`] in a loop of at most
 //! as many turns as the input may take reads, as [`read_to_end_within`] does.
 
-ghost use Rattle.std.specs.Prelude.{◌≡◌, ◌<◌, ◌≤◌, Ok, None, length, take, true, IfOk, OnOk, OnErr, if◌then◌else◌};
+ghost use Rattle.std.specs.Prelude.{◌≡◌, ◌<◌, ◌≤◌, Ok, None, length, take, true, IfOk, OnOk, if◌then◌else◌};
 ghost use Rattle.std.specs.Io.{ReadsAtMost, WritesAtMost};
 ghost use Rattle.std.specs.Io.KnownBytes.{Consumes, Keeps, ReadConsumes, WriteAppends};
 ghost use Rattle.rr_io.specs.Counted.{inner_of, reads_of, ends_of, is_flushed, one_more};
 ghost use Rattle.rr_text.specs.declared.limits.TheConstants.{MAX_READS};
-ghost use Rattle.rr_io.specs.Stream.{HasFailed, IsReadOut, KeepsFailures, ReadsOnce, ReadsSome, ReadsUpTo, WritesFront, WritesWhole, tells_end};
+ghost use Rattle.rr_io.specs.Stream.{CountsFailures, HasFailed, IsReadOut, ReadsOn, ReadsOnce, ReadsUpTo, Writes, tells_end};
 ghost use Rattle.rr_io.specs.ReadsToEnd.{ReadsToEnd};
 
 use crate::counted::Counted;
@@ -51,9 +51,8 @@ pub fn read_once<R: Read>(
     ensures reads { reads_of input.new ≡ one_more (reads_of input.old) }
     ensures ends { ends_of input.new ≡ (if tells_end result (length buf.new)
         then one_more (ends_of input.old) else ends_of input.old) }
-    ensures failures_never_fall { KeepsFailures input.old input.new }
+    ensures failures { CountsFailures input.old input.new result }
     ensures interrupted { result ≡ Ok None → HasFailed input.old input.new }
-    ensures failed { OnErr result (HasFailed input.old input.new) }
 {
     match input.read(buf) {
         Ok(given) => Ok(Some(given)),
@@ -72,8 +71,7 @@ pub fn read_some<R: Read>(input: &mut Counted<R>, buf: &mut [u8]) -> Result<usiz
     ensures bound { ReadsAtMost result buf.new }
     ensures bytes { ReadConsumes (R.remaining (inner_of input.old))
         (R.remaining (inner_of input.new)) result buf.new }
-    ensures failures_never_fall { KeepsFailures input.old input.new }
-    ensures failed { OnErr result (HasFailed input.old input.new) }
+    ensures failures { CountsFailures input.old input.new result }
 {
     for _ in 0..MAX_INTERRUPTS {
         if let Some(given) = read_once(input, buf)? {
@@ -91,10 +89,8 @@ pub fn fill<R: Read>(input: &mut Counted<R>, buf: &mut [u8]) -> Result<usize, Re
         (R.remaining (inner_of input.new)) (take filled buf.new)) }
     ensures end { IfOk result (λ filled. filled < length buf.new
         → IsReadOut R.remaining input.new) }
-    ensures front { ReadsSome R.remaining input.old input.new }
     ensures most { ReadsUpTo (length buf.new) R.remaining input.old input.new }
-    ensures failures_never_fall { KeepsFailures input.old input.new }
-    ensures failed { OnErr result (HasFailed input.old input.new) }
+    ensures stream { ReadsOn R.remaining input.old input.new result }
 {
     let mut filled = 0;
     while filled < buf.len() {
@@ -209,8 +205,7 @@ fn write_some<W: Write>(output: &mut Counted<W>, piece: &[u8]) -> Result<usize, 
     ensures bound { WritesAtMost result piece.now }
     ensures bytes { WriteAppends (W.contents (inner_of output.old))
         (W.contents (inner_of output.new)) result piece.now }
-    ensures failures_never_fall { KeepsFailures output.old output.new }
-    ensures failed { OnErr result (HasFailed output.old output.new) }
+    ensures failures { CountsFailures output.old output.new result }
 {
     for _ in 0..MAX_INTERRUPTS {
         match output.write(piece) {
@@ -228,10 +223,7 @@ fn write_some<W: Write>(output: &mut Counted<W>, piece: &[u8]) -> Result<usize, 
 
 /// Writes the text whole. Where that fails, a front of it was written.
 pub fn write_all<W: Write>(output: &mut Counted<W>, text: &[u8]) -> Result<(), WriteFailed>
-    ensures whole { OnOk result (WritesWhole W.contents output.old output.new text.now) }
-    ensures front { WritesFront W.contents output.old output.new text.now }
-    ensures failures_never_fall { KeepsFailures output.old output.new }
-    ensures failed { OnErr result (HasFailed output.old output.new) }
+    ensures { Writes W.contents output.old output.new text.now result }
 {
     let mut rest = text;
     while !rest.is_empty() {
@@ -245,8 +237,7 @@ pub fn write_all<W: Write>(output: &mut Counted<W>, text: &[u8]) -> Result<(), W
 pub fn flush<W: Write>(output: &mut Counted<W>) -> Result<(), WriteFailed>
     ensures flushed { OnOk result (is_flushed output.new ≡ true) }
     ensures bytes { Keeps (W.contents (inner_of output.old)) (W.contents (inner_of output.new)) }
-    ensures failures_never_fall { KeepsFailures output.old output.new }
-    ensures failed { OnErr result (HasFailed output.old output.new) }
+    ensures failures { CountsFailures output.old output.new result }
 {
     for _ in 0..MAX_INTERRUPTS {
         match output.flush() {

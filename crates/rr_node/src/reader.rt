@@ -19,7 +19,7 @@ use crate::fault::NodeFault;
 use rr_archive::Cells;
 use rr_desk::{Gate, Reader};
 use rr_feed::{Feed, FeedFault};
-use rr_gossip::{GossipFault, give_after};
+use rr_gossip::{GossipFault, MAX_FRAMES, give_after};
 use rr_io::Counted;
 use rr_io::stream::{flush, read_once, write_all};
 use rr_text::limits::MAX_READS;
@@ -145,7 +145,7 @@ fn give_session<A: Cells, R: Read, W: Write>(
     ensures write_failed { result ≡ Err (NodeFault.Session GossipFault.WriteFailed)
         → HasFailed output.old output.new }
 {
-    give_after(alloc, 0, input, output, reader)?;
+    give_after(alloc, &[0], input, output, reader, MAX_FRAMES)?;
     Ok(())
 }
 

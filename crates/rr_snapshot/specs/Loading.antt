@@ -1,8 +1,12 @@
 -- What is made of a snapshot that is read.
-use Rattle.std.specs.Prelude.{◌≡◌, ◌⊎◌, ℕ, Bool, false, ◌||◌, ◌==◌, List, map, Option, Some, IfSome, Result, Ok, Err}
+use Rattle.std.specs.Prelude.{◌≡◌, ◌⊎◌, ℕ, Bool, false, ◌||◌, ◌==◌, List, map, Option, Some, IfSome, Result, Ok, Err, OnOk}
 use Rattle.std.specs.FinMap.{empty}
 use Rattle.std.specs.List.{list_any}
+use Rattle.sha2.specs.declared.Sha256.{Sha256}
 use Rattle.rr_text.specs.Results.{◌>>=◌, unless}
+use Rattle.rr_io.specs.declared.counted.Counted.{Counted}
+use Rattle.rr_io.specs.Counted.{inner_of}
+use Rattle.rr_io.specs.Stream.{IsReadOut}
 use Rattle.rr_schema.specs.Schema.{Layout}
 use Rattle.rr_schema.specs.Added.{older}
 use Rattle.rr_schema.specs.declared.added.Addition.{Addition}
@@ -16,6 +20,7 @@ use Rattle.rr_snapshot.specs.declared.fault.LoadFault.{LoadFault}
 use Rattle.rr_snapshot.specs.declared.fault.LoadFault.TheVariants.{ReadFailed, OriginUsed, Memory}
 use Rattle.rr_snapshot.specs.declared.heading.Head.{Head}
 use Rattle.rr_snapshot.specs.SnapshotReading.{head_at, cells_after, snapshot_at}
+use Rattle.rr_snapshot.specs.Stream.{Digests, LoadsFrom}
 use Rattle.rr_cells.specs.Raising.{raised_cell}
 
 -- whether an origin is that of one of these cells
@@ -81,3 +86,17 @@ pub record HasJoined (a : Addition) (old new : ReplicaState) (own : Bool) (es : 
   pub cells : new.cells ≡ join_cells old.schema old.cells (map (raised_cell a) es)
   pub any : own ≡ is_among old.origin es
   pub next : own ≡ false → new.next ≡ old.next
+
+-- what a call did that loads the cells after a head: it digested what it took, and memory ran out only among good ones
+pub record LoadsCells {R X : Type 0} (s : Layout) (head : Head) (remaining : R → Option (List ℕ)) (old new : Counted R)
+    (before after : Sha256) (result : Result X LoadFault) : Type 0 where
+  pub digest : OnOk result (Digests (remaining (inner_of old)) (remaining (inner_of new)) before after)
+  pub stream : LoadsFrom remaining old new result
+  pub memory : result ≡ Err Memory → StopsAmong s head (remaining (inner_of old)) (remaining (inner_of new))
+
+-- what a call did that loads all of the input: it read it out, and memory ran out only before the digest
+pub record LoadsAll {R X : Type 0} (s : Layout) (remaining : R → Option (List ℕ)) (old new : Counted R)
+    (result : Result X LoadFault) : Type 0 where
+  pub end : OnOk result (IsReadOut remaining new)
+  pub stream : LoadsFrom remaining old new result
+  pub memory : result ≡ Err Memory → StopsBeforeDigest s (remaining (inner_of old)) (remaining (inner_of new))

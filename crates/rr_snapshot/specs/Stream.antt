@@ -1,11 +1,12 @@
 -- Cells from a stream whose bytes may be known.
-use Rattle.std.specs.Prelude.{◌≡◌, ◌≢◌, ◌⊎◌, ◌+◌, ℕ, nat_lt, ◌||◌, ◌==◌, List, ◌++◌, length, Option, Some, Result, Ok, Err, IfSome, if◌then◌else◌}
+use Rattle.std.specs.Prelude.{◌≡◌, ◌≢◌, ◌⊎◌, ◌+◌, ℕ, nat_lt, ◌||◌, ◌==◌, List, ◌++◌, length, Option, Some, Result, Ok, Err, IfSome, OnOk, if◌then◌else◌}
 use Rattle.std.specs.Int.{w16}
 use Rattle.std.specs.Io.KnownBytes.{Consumes}
 use Rattle.sha2.specs.Hashers.{Holds256}
 use Rattle.sha2.specs.declared.Sha256.{Sha256}
 use Rattle.rr_text.specs.declared.limits.TheConstants.{MAX_KEY_TEXT}
 use Rattle.rr_io.specs.declared.counted.Counted.{Counted}
+use Rattle.rr_io.specs.Counted.{inner_of}
 use Rattle.rr_io.specs.Stream.{HasFailed, KeepsFailures, ReadsSome, ReadsUpTo}
 use Rattle.rr_page.specs.declared.fault.PageFault.{PageFault}
 use Rattle.rr_page.specs.declared.version.Version.{Version}
@@ -57,6 +58,14 @@ pub record LoadsFrom {R X : Type 0} (remaining : R → Option (List ℕ)) (old n
 -- what a call did that loads at most `n` bytes and never needs memory
 pub record LoadsPiece {R X : Type 0} (n : ℕ) (remaining : R → Option (List ℕ)) (old new : Counted R)
     (result : Result X LoadFault) : Type 0 where
+  pub stream : LoadsFrom remaining old new result
+  pub most : ReadsUpTo n remaining old new
+  pub no_memory : result ≢ Err Memory
+
+-- what a call did that loads at most `n` bytes, which it adds to what is digested, and never needs memory
+pub record DigestsPiece {R X : Type 0} (n : ℕ) (remaining : R → Option (List ℕ)) (old new : Counted R)
+    (before after : Sha256) (result : Result X LoadFault) : Type 0 where
+  pub digest : OnOk result (Digests (remaining (inner_of old)) (remaining (inner_of new)) before after)
   pub stream : LoadsFrom remaining old new result
   pub most : ReadsUpTo n remaining old new
   pub no_memory : result ≢ Err Memory

@@ -1,15 +1,15 @@
 //! The fields before the cells of a snapshot, read in three pieces.
-ghost use Rattle.std.specs.Prelude.{◌≡◌, ◌≢◌, ◌≤◌, ◌+◌, ◌*◌, IfOk, OnOk, Err, length};
+ghost use Rattle.std.specs.Prelude.{◌≡◌, ◌≤◌, ◌+◌, ◌*◌, IfOk, length};
 ghost use Rattle.std.specs.Int.{w32};
 ghost use Rattle.std.specs.List.{find, range_with_len};
 ghost use Rattle.std.specs.Option.{option_map};
 ghost use Rattle.std.specs.Prelude.{map};
-ghost use Rattle.rr_text.specs.Results.{Gives};
 ghost use Rattle.rr_io.specs.Counted.{inner_of};
 ghost use Rattle.rr_schema.specs.Added.{IsAddition, older};
 ghost use Rattle.rr_schema.specs.declared.added.Addition.TheVariants.{Archive};
+ghost use Rattle.rr_page.specs.Found.{Finds};
 ghost use Rattle.rr_page.specs.Reading.{number_at};
-ghost use Rattle.rr_snapshot.specs.Stream.{Digests, LoadsPiece, StreamGives};
+ghost use Rattle.rr_snapshot.specs.Stream.{DigestsPiece, StreamGives};
 ghost use Rattle.rr_snapshot.specs.SnapshotReading.{as_in_page, may_have_had, start_at, is_told, addition_told, archives_at};
 
 use crate::fault::LoadFault;
@@ -58,10 +58,9 @@ fn may_have_had(schema: &Schema, step: u32, number: u8) -> bool
 /// The version and the number of archives, and what follows them. No memory is taken.
 #[tactic(auto, unfolding(crate::specs::SnapshotReading::start_at))]
 fn start_of<'a>(schema: &Schema, bytes: &'a [u8]) -> Result<(Version, u8, &'a [u8]), PageFault>
-    ensures read { Gives (λ x. ((x.0, x.1), x.2.now)) result (start_at schema.now bytes.now) }
+    ensures found { Finds (λ x. ((x.0, x.1), x.2.now)) result (start_at schema.now bytes.now) }
     ensures number_at_least { IfOk result (λ x. 1 ≤ x.1) }
     ensures number_at_most { IfOk result (λ x. x.1 ≤ length schema.now.archives) }
-    ensures no_memory { result ≢ Err PageFault.Memory }
 {
     let (start, rest) = bytes_at(bytes, MAGIC.len())?;
     if start != MAGIC.as_slice() {
@@ -86,9 +85,8 @@ pub(crate) fn start_from<R: Read>(
         (R.remaining (inner_of input.new)) (λ all. as_in_page (start_at schema.now all)) }
     ensures number_at_least { IfOk result (λ x. 1 ≤ x.1) }
     ensures number_at_most { IfOk result (λ x. x.1 ≤ length schema.now.archives) }
-    ensures digest { OnOk result (Digests (R.remaining (inner_of input.old))
-        (R.remaining (inner_of input.new)) hasher.old hasher.new) }
-    ensures piece { LoadsPiece START_LEN R.remaining input.old input.new result }
+    ensures piece { DigestsPiece START_LEN R.remaining input.old input.new hasher.old hasher.new
+        result }
 {
     let mut buffer = [0u8; START_LEN];
     let got = fill(input, &mut buffer)?;
@@ -139,11 +137,10 @@ fn archives_of<'a>(
     number: u8,
     bytes: &'a [u8],
 ) -> Result<(Addition, u16, &'a [u8]), PageFault>
-    ensures read { Gives (λ x. ((x.0, x.1), x.2.now)) result
+    ensures found { Finds (λ x. ((x.0, x.1), x.2.now)) result
         (archives_at version schema.now number bytes.now) }
     ensures addition { IfOk result (λ x. IsAddition schema.now x.0) }
     ensures archive_count { IfOk result (λ x. number ≡ length (older schema.now x.0).archives) }
-    ensures no_memory { result ≢ Err PageFault.Memory }
 {
     let (field, rest) = bytes_at(bytes, ARCHIVE_LEN * number as usize)?;
     let Some(addition) = addition_told(version, schema, field) else {
@@ -168,10 +165,8 @@ pub(crate) fn archives_from<R: Read>(
         (λ all. as_in_page (archives_at version schema.now number all)) }
     ensures addition { IfOk result (λ x. IsAddition schema.now x.0) }
     ensures archive_count { IfOk result (λ x. number ≡ length (older schema.now x.0).archives) }
-    ensures digest { OnOk result (Digests (R.remaining (inner_of input.old))
-        (R.remaining (inner_of input.new)) hasher.old hasher.new) }
-    ensures piece { LoadsPiece (ARCHIVE_LEN * number + ORIGIN_LEN) R.remaining
-        input.old input.new result }
+    ensures piece { DigestsPiece (ARCHIVE_LEN * number + ORIGIN_LEN) R.remaining
+        input.old input.new hasher.old hasher.new result }
 {
     let _archives = schema.archives(); // their contract says that they are few
     let mut buffer = [0u8; ARCHIVE_LEN * MAX_ARCHIVES + ORIGIN_LEN];
@@ -189,9 +184,8 @@ pub(crate) fn count_from<R: Read>(
 ) -> Result<u32, LoadFault>
     ensures read { StreamGives (λ x. x) result (R.remaining (inner_of input.old))
         (R.remaining (inner_of input.new)) (λ all. as_in_page (number_at w32 all)) }
-    ensures digest { OnOk result (Digests (R.remaining (inner_of input.old))
-        (R.remaining (inner_of input.new)) hasher.old hasher.new) }
-    ensures piece { LoadsPiece COUNT_LEN R.remaining input.old input.new result }
+    ensures piece { DigestsPiece COUNT_LEN R.remaining input.old input.new hasher.old hasher.new
+        result }
 {
     let mut buffer = [0u8; COUNT_LEN];
     let got = fill(input, &mut buffer)?;

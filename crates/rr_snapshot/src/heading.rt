@@ -1,5 +1,5 @@
 //! What a snapshot has before its cells.
-ghost use Rattle.std.specs.Prelude.{◌≡◌, ◌≢◌, ◌≤◌, ◌+◌, ◌-◌, IfOk, OnOk, Err, length};
+ghost use Rattle.std.specs.Prelude.{◌≡◌, ◌≤◌, ◌+◌, ◌-◌, IfOk, Err, length};
 ghost use Rattle.rr_io.specs.Counted.{inner_of};
 ghost use Rattle.rr_io.specs.Stream.{ReadsUpTo};
 ghost use Rattle.rr_schema.specs.Added.{IsAddition, older};
@@ -7,7 +7,7 @@ ghost use Rattle.rr_schema.specs.SchemaBytes.{schema_bytes};
 ghost use Rattle.rr_page.specs.Version.{latest};
 ghost use Rattle.rr_snapshot.specs.Snapshot.{head_text};
 ghost use Rattle.rr_snapshot.specs.SnapshotReading.{head_at};
-ghost use Rattle.rr_snapshot.specs.Stream.{Digests, LoadsPiece, StreamGives};
+ghost use Rattle.rr_snapshot.specs.Stream.{DigestsPiece, StreamGives};
 
 use crate::fault::LoadFault;
 use crate::fields::{COUNT_LEN, MAGIC, archives_from, count_from, start_from};
@@ -75,10 +75,8 @@ pub(crate) fn head_from<R: Read>(
     ensures addition { IfOk result (λ head. IsAddition schema.now head.addition) }
     ensures older_has_archives { IfOk result (λ head.
         1 ≤ length (older schema.now head.addition).archives) }
-    ensures digest { OnOk result (Digests (R.remaining (inner_of input.old))
-        (R.remaining (inner_of input.new)) hasher.old hasher.new) }
-    ensures piece { LoadsPiece (length (schema_bytes schema.now) + BESIDES_LEN) R.remaining
-        input.old input.new result }
+    ensures piece { DigestsPiece (length (schema_bytes schema.now) + BESIDES_LEN) R.remaining
+        input.old input.new hasher.old hasher.new result }
     ensures bad_origin { result ≡ Err LoadFault.BadOrigin
         → ReadsUpTo (length (schema_bytes schema.now) + BESIDES_LEN - COUNT_LEN) R.remaining
         input.old input.new }

@@ -1,17 +1,16 @@
 //! A replica from a snapshot, read cell by cell.
-ghost use Rattle.std.specs.Prelude.{◌≡◌, ◌≤◌, ◌<◌, length, Err, IfSome, IfOk, OnOk};
+ghost use Rattle.std.specs.Prelude.{◌≡◌, ◌≤◌, ◌<◌, length, IfSome, IfOk, OnOk};
 ghost use Rattle.std.specs.FinMap.{empty};
 ghost use Rattle.std.specs.Option.{option_map};
 ghost use Rattle.rr_io.specs.Counted.{inner_of};
-ghost use Rattle.rr_io.specs.Stream.{IsReadOut};
 ghost use Rattle.rr_schema.specs.Added.{IsAddition, older};
 ghost use Rattle.rr_page.specs.PageReading.{is_after};
 ghost use Rattle.rr_cells.specs.Listing.{owned_cell};
 ghost use Rattle.rr_replica.specs.ReplicaWithRoom.{replica_state};
 ghost use Rattle.rr_cells.specs.Raising.{raised};
 ghost use Rattle.rr_snapshot.specs.SnapshotReading.{cells_after};
-ghost use Rattle.rr_snapshot.specs.Stream.{Digests, LoadsFrom, StreamMakes};
-ghost use Rattle.rr_snapshot.specs.Loading.{HasJoined, GivesIfRead, StopsAmong, StopsBeforeDigest, loaded_at};
+ghost use Rattle.rr_snapshot.specs.Stream.{StreamMakes};
+ghost use Rattle.rr_snapshot.specs.Loading.{HasJoined, GivesIfRead, LoadsAll, LoadsCells, loaded_at};
 
 use crate::ending::{digest_from, end_from};
 use crate::fault::LoadFault;
@@ -73,11 +72,8 @@ fn join_cells_from<A: Cells, R: Read>(
         (replica_state replica.new)) result
         (R.remaining (inner_of input.old)) (R.remaining (inner_of input.new))
         (cells_after replica.old.schema head) }
-    ensures digest { OnOk result (Digests (R.remaining (inner_of input.old))
-        (R.remaining (inner_of input.new)) hasher.old hasher.new) }
-    ensures stream { LoadsFrom R.remaining input.old input.new result }
-    ensures memory { result ≡ Err LoadFault.Memory → StopsAmong replica.old.schema head
-        (R.remaining (inner_of input.old)) (R.remaining (inner_of input.new)) }
+    ensures loads { LoadsCells replica.old.schema head R.remaining input.old input.new
+        hasher.old hasher.new result }
 {
     let _archives = own.archives(); // their contract says that they are few
     let origin = replica.origin();
@@ -114,11 +110,8 @@ fn join_cells_after<A: Cells, R: Read>(
         (replica_state replica.new)) result
         (R.remaining (inner_of input.old)) (R.remaining (inner_of input.new))
         (cells_after schema.now head) }
-    ensures digest { OnOk result (Digests (R.remaining (inner_of input.old))
-        (R.remaining (inner_of input.new)) hasher.old hasher.new) }
-    ensures stream { LoadsFrom R.remaining input.old input.new result }
-    ensures memory { result ≡ Err LoadFault.Memory → StopsAmong schema.now head
-        (R.remaining (inner_of input.old)) (R.remaining (inner_of input.new)) }
+    ensures loads { LoadsCells schema.now head R.remaining input.old input.new
+        hasher.old hasher.new result }
 {
     match head.addition {
         Addition::Nothing => join_cells_from(alloc, input, head, schema, replica, hasher),
@@ -146,10 +139,7 @@ fn load_into<A: Cells, R: Read>(
     ensures schema { OnOk result (replica.new.schema ≡ schema.now) }
     ensures origin { OnOk result (replica.new.origin ≡ replica.old.origin) }
     ensures next { OnOk result (replica.new.next ≡ 1) }
-    ensures end { OnOk result (IsReadOut R.remaining input.new) }
-    ensures stream { LoadsFrom R.remaining input.old input.new result }
-    ensures memory { result ≡ Err LoadFault.Memory → StopsBeforeDigest schema.now
-        (R.remaining (inner_of input.old)) (R.remaining (inner_of input.new)) }
+    ensures loads { LoadsAll schema.now R.remaining input.old input.new result }
 {
     let mut hasher = Sha256::new();
     let head = head_from(input, schema, &mut hasher)?;
@@ -189,10 +179,7 @@ pub fn load<A: Cells, R: Read>(
     ensures schema { IfOk result (λ replica. replica.schema ≡ schema.now) }
     ensures origin { IfOk result (λ replica. replica.origin ≡ new_origin) }
     ensures next { IfOk result (λ replica. replica.next ≡ 1) }
-    ensures end { OnOk result (IsReadOut R.remaining input.new) }
-    ensures stream { LoadsFrom R.remaining input.old input.new result }
-    ensures memory { result ≡ Err LoadFault.Memory → StopsBeforeDigest schema.now
-        (R.remaining (inner_of input.old)) (R.remaining (inner_of input.new)) }
+    ensures loads { LoadsAll schema.now R.remaining input.old input.new result }
 {
     let mut replica = Replica::new(alloc, schema, new_origin)?;
     load_into(alloc, input, schema, &mut replica)?;

@@ -1,15 +1,14 @@
 //! A replica's cells, written as a snapshot.
-ghost use Rattle.std.specs.Prelude.{◌≡◌, ◌≢◌, ◌↔◌, ◌≤◌, ◌<◌, ◌++◌, Err, OnOk, List, ℕ};
+ghost use Rattle.std.specs.Prelude.{◌≡◌, ◌↔◌, ◌<◌, Err, OnOk};
 ghost use Rattle.std.specs.FinMap.{entries, len};
 ghost use Rattle.std.specs.Io.KnownBytes.{Keeps};
 ghost use Rattle.std.specs.List.{flat_map};
-ghost use Rattle.sha2.specs.Hashers.{Holds256};
 ghost use Rattle.rr_io.specs.Counted.{inner_of};
-ghost use Rattle.rr_io.specs.Stream.{HasFailed, KeepsFailures, WritesFront, WritesWhole};
 ghost use Rattle.rr_page.specs.CellText.{cell_text};
 ghost use Rattle.rr_page.specs.Version.{latest};
 ghost use Rattle.rr_cells.specs.ReplicaState.{IsReplicaState};
 ghost use Rattle.rr_replica.specs.ReplicaWithRoom.{replica_state};
+ghost use Rattle.rr_snapshot.specs.Saving.{Saves, SavesPart};
 ghost use Rattle.rr_snapshot.specs.Snapshot.{snapshot_text};
 ghost use Rattle.rr_snapshot.specs.declared.heading.TheConstants.{MAX_SNAPSHOT_CELLS};
 
@@ -33,15 +32,8 @@ fn write_cells<A: Cells, W: Write>(
     hasher: &mut Sha256,
 ) -> Result<(), SaveFault>
     requires count_given { count ≡ len replica.now.cells }
-    ensures whole { OnOk result (WritesWhole W.contents output.old output.new
-        (flat_map (cell_text latest) (entries replica.now.cells))) }
-    ensures front { WritesFront W.contents output.old output.new
-        (flat_map (cell_text latest) (entries replica.now.cells)) }
-    ensures digest { OnOk result ((m : List ℕ) → Holds256 hasher.old m
-        → Holds256 hasher.new (m ++ flat_map (cell_text latest) (entries replica.now.cells))) }
-    ensures fits { result ≢ Err SaveFault.TooManyCells }
-    ensures failures_never_fall { KeepsFailures output.old output.new }
-    ensures failed { result ≡ Err SaveFault.WriteFailed → HasFailed output.old output.new }
+    ensures { SavesPart W.contents output.old output.new hasher.old hasher.new
+        (flat_map (cell_text latest) (entries replica.now.cells)) result }
 {
     let mut next = replica.cell_at(0);
     for _ in 0..count {
@@ -65,17 +57,14 @@ pub fn save<A: Cells, W: Write>(
     replica: &Replica<A>,
     output: &mut Counted<W>,
 ) -> Result<(), SaveFault>
-    ensures whole { OnOk result (WritesWhole W.contents output.old output.new
-        (snapshot_text latest replica.now.schema replica.now.origin (entries replica.now.cells))) }
-    ensures front { WritesFront W.contents output.old output.new
-        (snapshot_text latest replica.now.schema replica.now.origin (entries replica.now.cells)) }
+    ensures saves { Saves W.contents output.old output.new
+        (snapshot_text latest replica.now.schema replica.now.origin (entries replica.now.cells))
+        result }
     ensures too_many { (result ≡ Err SaveFault.TooManyCells)
         ↔ (MAX_SNAPSHOT_CELLS < len replica.now.cells) }
     ensures nothing_written { result ≡ Err SaveFault.TooManyCells
         → Keeps (W.contents (inner_of output.old)) (W.contents (inner_of output.new)) }
     ensures holds { OnOk result (IsReplicaState (replica_state replica.now)) }
-    ensures failures_never_fall { KeepsFailures output.old output.new }
-    ensures failed { result ≡ Err SaveFault.WriteFailed → HasFailed output.old output.new }
 {
     let count = replica.cell_count();
     if count > MAX_SNAPSHOT_CELLS as usize {

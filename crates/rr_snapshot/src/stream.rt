@@ -1,8 +1,8 @@
 //! A cell from a stream, in one buffer.
-ghost use Rattle.std.specs.Prelude.{◌≡◌, ◌++◌, ◌<◌, ◌≤◌, ◌-◌, List, ℕ, IfOk, OnErr, Err, length, take};
+ghost use Rattle.std.specs.Prelude.{◌≡◌, ◌++◌, ◌<◌, ◌≤◌, ◌-◌, List, ℕ, IfOk, Err, length, take};
 ghost use Rattle.std.specs.Io.KnownBytes.{Consumes};
 ghost use Rattle.rr_io.specs.Counted.{inner_of};
-ghost use Rattle.rr_io.specs.Stream.{HasFailed, IsReadOut, KeepsFailures, ReadsSome, ReadsUpTo};
+ghost use Rattle.rr_io.specs.Stream.{IsReadOut, ReadsOn, ReadsUpTo};
 ghost use Rattle.rr_page.specs.Reading.{cell_at};
 ghost use Rattle.rr_page.specs.Version.{fields_len};
 ghost use Rattle.rr_page.specs.declared.writing.TheConstants.{FIELDS_LEN};
@@ -70,10 +70,8 @@ pub(crate) fn fill_up_to<R: Read>(
         (R.remaining (inner_of input.new)) (take filled buffer.old) (take now buffer.new)) }
     ensures end { IfOk result (λ now. now < len → IsReadOut R.remaining input.new) }
     ensures buffer_len { length buffer.new ≡ length buffer.old }
-    ensures front { ReadsSome R.remaining input.old input.new }
     ensures most { ReadsUpTo (len - filled) R.remaining input.old input.new }
-    ensures failures_never_fall { KeepsFailures input.old input.new }
-    ensures failed { OnErr result (HasFailed input.old input.new) }
+    ensures stream { ReadsOn R.remaining input.old input.new result }
 {
     let more = fill(input, &mut buffer[filled..len])?;
     Ok(filled + more)

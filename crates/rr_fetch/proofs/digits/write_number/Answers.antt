@@ -19,15 +19,22 @@ write_byte-requires-clause-room c =
       few_digits c.unsigned_abs.result (omega arith),
     )
 
-pub returns-then-number-lt0-clause-start : goal.returns-then-number-lt0-clause-start
-returns-then-number-lt0-clause-start c =
-    omega (
-      arith,
-      c.write_byte.ensures.start,
-      c.write_digits-start.ensures.start,
-      few_digits c.unsigned_abs.result (omega arith),
-    )
+pub returns-then-number-lt0 : goal.returns-then-number-lt0
+returns-then-number-lt0 c = record {
+  start =
+      omega (
+        arith,
+        c.write_byte.ensures.start,
+        c.write_digits-start.ensures.start,
+        few_digits c.unsigned_abs.result (omega arith),
+      );
+  before = search rules;
+  written = search rules;
+}
 
-pub returns-clause-start : goal.returns-clause-start
-returns-clause-start c =
-    omega (arith, c.write_digits-start.ensures.start, few_digits c.unsigned_abs.result (omega arith))
+pub returns : goal.returns
+returns c = record {
+  start = omega (arith, c.write_digits-start.ensures.start, few_digits c.unsigned_abs.result (omega arith));
+  before = search rules;
+  written = search rules;
+}

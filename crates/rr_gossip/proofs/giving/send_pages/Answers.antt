@@ -34,7 +34,7 @@ returns-in_err-frame-clause-sent g c = record {
       let p = err_from_is_err_and c.from_residual.result c.from_residual.ensures.1 in
       let cause = cannot_reply (reply_left c.args.giver.now.stage) c.args.giver.now.limit c.loop-frame.giver
       so_far.before
-      c.in_err-frame.field-0.0 so_far.replies c.in_err-frame.ensures.sent in
+      c.in_err-frame.field-0.0 so_far.replies c.in_err-frame.ensures.sent.given in
       absurd (reply_unwritten (reply_left c.args.giver.now.stage) c.args.giver.now.limit c.in_err-frame.field-0.0 cause
       (sym p.2 ∙ err_is {A = Unit {0}} p.0 _ (sym p.1 ∙ e)));
 }
@@ -44,7 +44,7 @@ returns-in_err-frame-clause-refused g c =
     let so_far = c.loop-frame.invariant in
     let p = err_from_is_err_and c.from_residual.result c.from_residual.ensures.1 in
     rw (p.1, p.2) (inr (cannot_reply (reply_left c.args.giver.now.stage) c.args.giver.now.limit c.loop-frame.giver
-    so_far.before c.in_err-frame.field-0.0 so_far.replies c.in_err-frame.ensures.sent))
+    so_far.before c.in_err-frame.field-0.0 so_far.replies c.in_err-frame.ensures.sent.given))
 
 pub returns-in_err-write_all-clause-sent : goal.returns-in_err-write_all-clause-sent
 returns-in_err-write_all-clause-sent g c = record {
@@ -53,7 +53,7 @@ returns-in_err-write_all-clause-sent g c = record {
       let so_far = c.loop-frame.invariant in
       let frame = c.in-Some.frame.items in
       let one = one_replied (reply_left c.args.giver.now.stage) c.args.giver.now.limit c.loop-frame.giver
-      c.next_frame.new.self so_far.before frame so_far.replies (rw c.in-Some.is at c.in_ok-frame.ensures.sent) in
+      c.next_frame.new.self so_far.before frame so_far.replies (rw c.in-Some.is at c.in_ok-frame.ensures.sent.given) in
       frames_front _ _ _ _ so_far.before one.left frame one.all_are so_far.written
       (rw c.deref.ensures.value at c.in_err-write_all.ensures.front);
   flushed = search rules;
@@ -66,7 +66,7 @@ loop-frame-smaller g c =
     let so_far = c.loop-frame.invariant in
     let one = one_replied (reply_left c.args.giver.now.stage) c.args.giver.now.limit c.loop-frame.giver
     c.next_frame.new.self so_far.before c.in-Some.frame.items so_far.replies
-    (rw c.in-Some.is at c.in_ok-frame.ensures.sent) in
+    (rw c.in-Some.is at c.in_ok-frame.ensures.sent.given) in
     omega (arith, one.room, one.count, one.limit_is)
 
 pub loop-frame-preserved : goal.loop-frame-preserved
@@ -74,7 +74,7 @@ loop-frame-preserved g c =
     let so_far = c.loop-frame.invariant in
     let frame = c.in-Some.frame.items in
     let one = one_replied (reply_left c.args.giver.now.stage) c.args.giver.now.limit c.loop-frame.giver
-    c.next_frame.new.self so_far.before frame so_far.replies (rw c.in-Some.is at c.in_ok-frame.ensures.sent) in
+    c.next_frame.new.self so_far.before frame so_far.replies (rw c.in-Some.is at c.in_ok-frame.ensures.sent.given) in
     record {
       before = so_far.before ++ frame ∷ [];
       replies = one.replies;
@@ -101,7 +101,7 @@ returns-clause-sent g c = record {
   whole =
       let so_far = c.loop-frame.invariant in
       let all = all_replied (reply_left c.args.giver.now.stage) c.args.giver.now.limit c.loop-frame.giver
-      c.next_frame.new.self so_far.before so_far.replies (rw c.in_default.is at c.in_ok-frame.ensures.sent) in
+      c.next_frame.new.self so_far.before so_far.replies (rw c.in_default.is at c.in_ok-frame.ensures.sent.given) in
       Appends-kept _ _ _ _ (frames_whole _ _ _ so_far.before all so_far.written) c.flush.ensures.bytes;
   front =
       let so_far = c.loop-frame.invariant in

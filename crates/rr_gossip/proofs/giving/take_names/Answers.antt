@@ -62,13 +62,13 @@ returns-in_err-take-clause-stopped g c =
     let p = err_from_is_err_and c.from_residual-in_err-take.result c.from_residual-in_err-take.ensures.1 in
     let frame = c.read_frame.new.frame.items in
     let m = g.S.Source.cells c.take.new.source in
-    let takes = rw (c.content.ensures, c.deref.ensures.value, so_far.schema) at c.in_err-take.ensures.taken in
+    let takes = rw (c.content.ensures, c.deref.ensures.value, so_far.schema) at c.in_err-take.ensures.takes.taken in
     rw (p.1, p.2)
     (record {
       frames = so_far.frames;
       piece = frame;
       read = piece_more c.args.before.now _ _ _ so_far.frames c.loop-frame.frame.items frame so_far.read
-          c.in_ok-read_frame.ensures.read;
+          c.in_ok-read_frame.ensures.reads.read;
       last = c.loop-frame.giver;
       taken = so_far.taken m;
       stopped = inr (giver_stops m (g.S.Source.layout c.args.source.now) c.loop-frame.giver frame _
@@ -81,13 +81,13 @@ returns-in_err-take-clause-stream g c = record {
       λ e.
       let p = err_from_is_err_and c.from_residual-in_err-take.result c.from_residual-in_err-take.ensures.1 in
       not_of_frame c.from_residual-in_err-take.result p.0 Ended
-      (ap is_of_frame p.2 ∙ hears_of_frame _ _ c.loop-frame.giver _ _ c.in_err-take.ensures.taken) refl p.1 e;
+      (ap is_of_frame p.2 ∙ hears_of_frame _ _ c.loop-frame.giver _ _ c.in_err-take.ensures.takes.taken) refl p.1 e;
   failures_never_fall = search rules;
   failed =
       λ e.
       let p = err_from_is_err_and c.from_residual-in_err-take.result c.from_residual-in_err-take.ensures.1 in
       not_of_frame c.from_residual-in_err-take.result p.0 ReadFailed
-      (ap is_of_frame p.2 ∙ hears_of_frame _ _ c.loop-frame.giver _ _ c.in_err-take.ensures.taken) refl p.1 e;
+      (ap is_of_frame p.2 ∙ hears_of_frame _ _ c.loop-frame.giver _ _ c.in_err-take.ensures.takes.taken) refl p.1 e;
 }
 
 pub returns-then-branch-clause-heard : goal.returns-then-branch-clause-heard
@@ -96,33 +96,33 @@ returns-then-branch-clause-heard g c =
     let s = g.S.Source.layout c.args.source.now in
     let m = g.S.Source.cells c.take.new.source in
     let frame = c.read_frame.new.frame.items in
-    let takes = rw (c.content.ensures, c.deref.ensures.value, so_far.schema) at c.in_ok-take.ensures.taken in
+    let takes = rw (c.content.ensures, c.deref.ensures.value, so_far.schema) at c.in_ok-take.ensures.takes.taken in
     let moves = giver_moves m s c.loop-frame.giver c.take.new.self (drop 4 frame) c.in_ok-take.field-0 takes in
     let done = moves.done c.if-branch.true in
     record {
       frames = so_far.frames ++ frame ∷ [];
       read = frame_more c.args.before.now _ _ _ so_far.frames c.loop-frame.frame.items frame so_far.read
-          c.in_ok-read_frame.ensures.read c.in_ok-read_frame.ensures.whole;
+          c.in_ok-read_frame.ensures.reads.read c.in_ok-read_frame.ensures.whole;
       taken = frame_heard m s c.args.giver.now c.loop-frame.giver c.take.new.self so_far.frames frame
           c.in_ok-take.field-0 (so_far.taken m) takes;
       names = done.0;
       giving = done.1;
-      fits = subst AreFit done.1 c.in_ok-take.ensures.fit;
+      fits = subst AreFit done.1 c.in_ok-take.ensures.takes.fit;
     }
 
 pub returns-then-branch-clause-sent : goal.returns-then-branch-clause-sent
 returns-then-branch-clause-sent g c =
-    (giver_moves _ _ c.loop-frame.giver c.take.new.self _ c.in_ok-take.field-0 c.in_ok-take.ensures.taken).sent
+    (giver_moves _ _ c.loop-frame.giver c.take.new.self _ c.in_ok-take.field-0 c.in_ok-take.ensures.takes.taken).sent
     ∙ c.loop-frame.invariant.sent
 
 pub returns-then-branch-clause-limit : goal.returns-then-branch-clause-limit
 returns-then-branch-clause-limit g c =
-    (giver_moves _ _ c.loop-frame.giver c.take.new.self _ c.in_ok-take.field-0 c.in_ok-take.ensures.taken).limit
+    (giver_moves _ _ c.loop-frame.giver c.take.new.self _ c.in_ok-take.field-0 c.in_ok-take.ensures.takes.taken).limit
     ∙ c.loop-frame.invariant.limit
 
 pub loop-frame-smaller : goal.loop-frame-smaller
 loop-frame-smaller g c =
-    let moves = giver_moves _ _ c.loop-frame.giver c.take.new.self _ c.in_ok-take.field-0 c.in_ok-take.ensures.taken in
+    let moves = giver_moves _ _ c.loop-frame.giver c.take.new.self _ c.in_ok-take.field-0 c.in_ok-take.ensures.takes.taken in
     omega (arith, moves.room, moves.taken, moves.limit)
 
 pub loop-frame-preserved : goal.loop-frame-preserved
@@ -131,20 +131,20 @@ loop-frame-preserved g c =
     let s = g.S.Source.layout c.args.source.now in
     let m = g.S.Source.cells c.take.new.source in
     let frame = c.read_frame.new.frame.items in
-    let takes = rw (c.content.ensures, c.deref.ensures.value, so_far.schema) at c.in_ok-take.ensures.taken in
+    let takes = rw (c.content.ensures, c.deref.ensures.value, so_far.schema) at c.in_ok-take.ensures.takes.taken in
     let moves = giver_moves m s c.loop-frame.giver c.take.new.self (drop 4 frame) c.in_ok-take.field-0 takes in
     let none = c.clear.ensures.items in
     record {
       frames = so_far.frames ++ frame ∷ [];
       read = subst (WasRead c.args.before.now _ _ (so_far.frames ++ frame ∷ [])) (sym none)
           (frame_more c.args.before.now _ _ _ so_far.frames c.loop-frame.frame.items frame so_far.read
-          c.in_ok-read_frame.ensures.read c.in_ok-read_frame.ensures.whole);
+          c.in_ok-read_frame.ensures.reads.read c.in_ok-read_frame.ensures.whole);
       few = rw none (omega arith);
       taken = λ n. frame_heard n s c.args.giver.now c.loop-frame.giver c.take.new.self so_far.frames frame _
           (so_far.taken n) (moves.going c.if-branch.false n);
-      schema = c.in_ok-take.ensures.source.schema ∙ so_far.schema;
-      kept = g.met.S.Source.may_go_on _ _ _ so_far.kept c.in_ok-take.ensures.source.becomes;
+      schema = c.in_ok-take.ensures.takes.source.schema ∙ so_far.schema;
+      kept = g.met.S.Source.may_go_on _ _ _ so_far.kept c.in_ok-take.ensures.takes.source.becomes;
       sent = moves.sent ∙ so_far.sent;
       limit = moves.limit ∙ so_far.limit;
-      count = omega (arith, so_far.count, c.in_ok-read_frame.ensures.stream.failures_never_fall);
+      count = omega (arith, so_far.count, c.in_ok-read_frame.ensures.reads.stream.failures_never_fall);
     }

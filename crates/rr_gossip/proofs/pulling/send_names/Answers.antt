@@ -32,7 +32,7 @@ returns-in_err-frame-clause-sent g c = record {
       let m = g.T.Target.cells c.args.target.now in
       let s = g.T.Target.layout c.args.target.now in
       let p = err_from_is_err_and c.from_residual.result c.from_residual.ensures.1 in
-      absurd (not_written m s c.loop-frame.puller c.in_err-frame.field-0.0 c.in_err-frame.ensures.sent
+      absurd (not_written m s c.loop-frame.puller c.in_err-frame.field-0.0 c.in_err-frame.ensures.given
       (sym p.2 ∙ err_is {A = Unit {0}} p.0 _ (sym p.1 ∙ e)));
 }
 
@@ -43,7 +43,7 @@ returns-in_err-frame-clause-refused g c =
     let s = g.T.Target.layout c.args.target.now in
     let p = err_from_is_err_and c.from_residual.result c.from_residual.ensures.1 in
     rw (p.1, p.2) (cannot_send m s c.args.puller.now.limit c.loop-frame.puller so_far.before c.in_err-frame.field-0.0
-    so_far.sends c.in_err-frame.ensures.sent)
+    so_far.sends c.in_err-frame.ensures.given)
 
 pub returns-in_err-write_all-clause-sent : goal.returns-in_err-write_all-clause-sent
 returns-in_err-write_all-clause-sent g c = record {
@@ -54,7 +54,7 @@ returns-in_err-write_all-clause-sent g c = record {
       let s = g.T.Target.layout c.args.target.now in
       let frame = c.in-Some.frame.items in
       let one = one_sent m s c.args.puller.now.limit c.loop-frame.puller c.next_frame.new.self so_far.before frame
-      so_far.sends (rw c.in-Some.is at c.in_ok-frame.ensures.sent) in
+      so_far.sends (rw c.in-Some.is at c.in_ok-frame.ensures.given) in
       frames_front _ _ _ _ so_far.before one.left frame one.all so_far.written
       (rw c.deref.ensures.value at c.in_err-write_all.ensures.front);
   flushed = search rules;
@@ -68,7 +68,7 @@ loop-frame-smaller g c =
     let m = g.T.Target.cells c.args.target.now in
     let s = g.T.Target.layout c.args.target.now in
     let one = one_sent m s c.args.puller.now.limit c.loop-frame.puller c.next_frame.new.self so_far.before
-    c.in-Some.frame.items so_far.sends (rw c.in-Some.is at c.in_ok-frame.ensures.sent) in
+    c.in-Some.frame.items so_far.sends (rw c.in-Some.is at c.in_ok-frame.ensures.given) in
     omega (arith, one.room, one.count, one.limit_is)
 
 pub loop-frame-preserved : goal.loop-frame-preserved
@@ -78,7 +78,7 @@ loop-frame-preserved g c =
     let s = g.T.Target.layout c.args.target.now in
     let frame = c.in-Some.frame.items in
     let one = one_sent m s c.args.puller.now.limit c.loop-frame.puller c.next_frame.new.self so_far.before frame
-    so_far.sends (rw c.in-Some.is at c.in_ok-frame.ensures.sent) in
+    so_far.sends (rw c.in-Some.is at c.in_ok-frame.ensures.given) in
     record {
       before = so_far.before ++ frame ∷ [];
       sends = one.sends;
@@ -106,7 +106,7 @@ returns-clause-sent g c = record {
       let s = g.T.Target.layout c.args.target.now in
       let all = all_sent m s c.args.puller.now.limit c.loop-frame.puller c.next_frame.new.self so_far.before
       so_far.sends
-      (rw c.in_default.is at c.in_ok-frame.ensures.sent) in
+      (rw c.in_default.is at c.in_ok-frame.ensures.given) in
       Appends-kept _ _ _ _ (frames_whole _ _ _ so_far.before all.0 so_far.written) c.flush.ensures.bytes;
   front =
       let so_far = c.loop-frame.invariant in
@@ -122,4 +122,4 @@ returns-clause-waits g c =
     let m = g.T.Target.cells c.args.target.now in
     let s = g.T.Target.layout c.args.target.now in
     (all_sent m s c.args.puller.now.limit c.loop-frame.puller c.next_frame.new.self so_far.before so_far.sends
-    (rw c.in_default.is at c.in_ok-frame.ensures.sent)).1
+    (rw c.in_default.is at c.in_ok-frame.ensures.given)).1

@@ -62,7 +62,7 @@ returns-in_err-take-clause-stopped g c =
         frames = so_far.frames;
         piece = frame;
         read = piece_more [] _ _ _ so_far.frames c.loop-frame.frame.items frame so_far.read
-            c.in_ok-read_frame.ensures.read;
+            c.in_ok-read_frame.ensures.reads.read;
         last = c.loop-frame.puller;
         pages = so_far.cells;
         taken = so_far.taken;
@@ -102,7 +102,7 @@ returns-then-branch-clause-pulled g c =
       record {
         frames = so_far.frames ++ frame ∷ [];
         read = frame_more [] _ _ _ so_far.frames c.loop-frame.frame.items frame so_far.read
-            c.in_ok-read_frame.ensures.read c.in_ok-read_frame.ensures.whole;
+            c.in_ok-read_frame.ensures.reads.read c.in_ok-read_frame.ensures.whole;
         last = c.take.new.self;
         taken = frame_taken s c.args.puller.now c.loop-frame.puller c.take.new.self [] so_far.cells so_far.frames frame
             takes.0 c.in_ok-take.field-0 so_far.taken takes.1;
@@ -127,12 +127,12 @@ loop-frame-preserved g c =
     record {
       frames = so_far.frames ++ frame ∷ [];
       read = subst (WasRead [] _ _ (so_far.frames ++ frame ∷ [])) (sym none)
-          (frame_more [] _ _ _ so_far.frames c.loop-frame.frame.items frame so_far.read c.in_ok-read_frame.ensures.read
+          (frame_more [] _ _ _ so_far.frames c.loop-frame.frame.items frame so_far.read c.in_ok-read_frame.ensures.reads.read
           c.in_ok-read_frame.ensures.whole);
       few = rw none (omega arith);
       cells = so_far.cells ++ takes.0;
       taken = frame_taken s c.args.puller.now c.loop-frame.puller c.take.new.self [] so_far.cells so_far.frames frame
           takes.0 c.in_ok-take.field-0 so_far.taken takes.1;
       joined = g.met.T.Target.joins_then _ _ _ so_far.cells takes.0 so_far.joined takes.2;
-      count = omega (arith, so_far.count, c.in_ok-read_frame.ensures.stream.failures_never_fall);
+      count = omega (arith, so_far.count, c.in_ok-read_frame.ensures.reads.stream.failures_never_fall);
     }

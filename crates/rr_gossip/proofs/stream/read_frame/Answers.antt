@@ -13,7 +13,7 @@ pub returns-then-len-gt-MAX_FRAME_LEN-clause-stopped : goal.returns-then-len-gt-
 returns-then-len-gt-MAX_FRAME_LEN-clause-stopped g c =
     let is = rw c.deref.ensures.value at c.content_len-len.ensures in (
       c.read_until.new.bytes.items,
-      c.in_ok-read_until.ensures.read,
+      c.in_ok-read_until.ensures.reads.read,
       breaks_off_long c.read_until.new.bytes.items c.content_len-len.result is c.if-len-gt-MAX_FRAME_LEN.true,
     )
 
@@ -23,7 +23,7 @@ returns-clause-whole g c =
     frame_after (g.R.Read.remaining (inner_of c.read_until.new.input))
     (g.R.Read.remaining (inner_of c.read_until-2.new.input)) c.read_until.new.bytes.items c.content_len-len.result
     c.in_ok-read_until.ensures.whole is c.if-len-gt-MAX_FRAME_LEN.false
-    c.read_until-2.result c.read_until-2.new.bytes.items c.read_until-2.ensures.read c.read_until-2.ensures.whole
+    c.read_until-2.result c.read_until-2.new.bytes.items c.read_until-2.ensures.reads.read c.read_until-2.ensures.whole
 
 pub returns-clause-stopped : goal.returns-clause-stopped
 returns-clause-stopped g c =
@@ -31,4 +31,4 @@ returns-clause-stopped g c =
     off_after (g.R.Read.remaining (inner_of c.args.input.now)) (g.R.Read.remaining (inner_of c.read_until.new.input))
     (g.R.Read.remaining (inner_of c.read_until-2.new.input)) c.args.frame.now.items c.read_until.new.bytes.items
     c.content_len-len.result c.in_ok-read_until.ensures.whole is c.if-len-gt-MAX_FRAME_LEN.false
-    c.in_ok-read_until.ensures.read c.read_until-2.result c.read_until-2.ensures.stopped
+    c.in_ok-read_until.ensures.reads.read c.read_until-2.result c.read_until-2.ensures.stopped

@@ -175,6 +175,6 @@ loop-preserved g c =
       pieces = omega (arith, more.4.pieces, takes.pieces, c.loop.invariant.pieces);
       made = HasRisenBy-more c.loop.counter _ _ _ c.loop.invariant.made c.in_ok-given.ensures.reads;
       few = one_more_at_most c.loop.counter _ _ _ c.loop.invariant.few c.in_ok-given.ensures.reads;
-      in_count = omega (arith, c.loop.invariant.in_count, c.in_ok-given.ensures.failures_never_fall);
+      in_count = omega (arith, c.loop.invariant.in_count, c.in_ok-given.ensures.failures.failures_never_fall);
       out_count = omega (arith, c.loop.invariant.out_count, c.in_ok-answer_lines.ensures.writes.failures_never_fall);
     }

@@ -58,7 +58,7 @@ loop-preserved-in_default g c =
       going = answered.handed.ended ∙ c.loop.invariant.going;
       made = HasRisenBy-more c.loop.counter _ _ _ c.loop.invariant.made c.in_ok-given.ensures.reads;
       few = one_more_at_most c.loop.counter _ _ _ c.loop.invariant.few c.in_ok-given.ensures.reads;
-      in_count = omega (arith, c.loop.invariant.in_count, c.in_ok-given.ensures.failures_never_fall);
+      in_count = omega (arith, c.loop.invariant.in_count, c.in_ok-given.ensures.failures.failures_never_fall);
       out_count = omega (arith, c.loop.invariant.out_count, c.in_ok-answer_items.ensures.writes.failures_never_fall);
     }
 
@@ -125,7 +125,7 @@ loop-preserved g c =
       going = ap (λ (s : FeedState). s.ended) c.in_ok-push-2.ensures ∙ going;
       made = HasRisenBy-more c.loop.counter _ _ _ c.loop.invariant.made c.in_ok-given.ensures.reads;
       few = one_more_at_most c.loop.counter _ _ _ c.loop.invariant.few c.in_ok-given.ensures.reads;
-      in_count = omega (arith, c.loop.invariant.in_count, c.in_ok-given.ensures.failures_never_fall);
+      in_count = omega (arith, c.loop.invariant.in_count, c.in_ok-given.ensures.failures.failures_never_fall);
       out_count = omega (arith, c.loop.invariant.out_count, c.in_ok-answer_items.ensures.writes.failures_never_fall);
     }
 

@@ -14,7 +14,7 @@ returns-then-not-is_valid-clause-found c =
     c.in_ok-archive.ensures.found.read c.in_ok-slot.ensures.read c.in_ok-origin.ensures.read
     c.in_ok-contribution.ensures.read
     (λ v. true≢false (sym (told.1 v) ∙ c.if-not-is_valid.true)) in
-    record { read = read; no_memory = search rules; }
+    record { read = read; no_memory = search rules }
 
 pub returns-clause-found : goal.returns-clause-found
 returns-clause-found c =

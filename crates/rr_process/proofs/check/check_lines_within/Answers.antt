@@ -142,7 +142,7 @@ loop-preserved g c =
       made = HasRisenBy-more c.loop.counter _ _ _ c.loop.invariant.made c.in_ok-given.ensures.reads;
       ends = search rules;
       few = one_more_at_most c.loop.counter _ _ _ c.loop.invariant.few c.in_ok-given.ensures.reads;
-      in_count = omega (arith, c.loop.invariant.in_count, c.in_ok-given.ensures.failures_never_fall);
+      in_count = omega (arith, c.loop.invariant.in_count, c.in_ok-given.ensures.failures.failures_never_fall);
       out_count = omega (arith, c.loop.invariant.out_count, c.in_ok-write_items.ensures.writes.failures_never_fall);
     }
 

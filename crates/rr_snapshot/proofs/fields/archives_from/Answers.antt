@@ -19,7 +19,7 @@ returns-clause-read g c =
     piece_ok (9 * n + 2) (archives_at v s n) (IsFront-archives v s n) (HasWidth-archives v s n)
     (take c.in_ok-got.got buf) few (g.R.Read.remaining (inner_of c.args.input.now))
     (g.R.Read.remaining (inner_of c.fill_up_to.new.input)) (c.in_ok-addition.addition, c.in_ok-addition.origin) _
-    (subst (Consumes _ _) (sym took.1) took.2) c.in_ok-addition.ensures.read
+    (subst (Consumes _ _) (sym took.1) took.2) c.in_ok-addition.ensures.found.read
 
 pub returns-in_err-addition-clause-read : goal.returns-in_err-addition-clause-read
 returns-in_err-addition-clause-read g c =
@@ -40,4 +40,4 @@ returns-in_err-addition-clause-read g c =
     (take c.in_ok-got.got buf) few (g.R.Read.remaining (inner_of c.args.input.now))
     (g.R.Read.remaining (inner_of c.fill_up_to.new.input)) _ (subst (Consumes _ _) (sym took.1) took.2)
     (λ lt. c.in_ok-got.ensures.end (omega (arith, got_len, lt)))
-    c.in_err-addition.ensures.read)))
+    c.in_err-addition.ensures.found.read)))

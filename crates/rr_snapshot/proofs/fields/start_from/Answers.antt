@@ -16,7 +16,7 @@ returns-clause-read g c =
     piece_ok 10 (start_at s) (IsFront-start s) (HasWidth-start s) (take c.in_ok-got.got buf) few
     (g.R.Read.remaining (inner_of c.args.input.now)) (g.R.Read.remaining (inner_of c.fill.new.input))
     (c.in_ok-version.version, c.in_ok-version.number) _ c.in_ok-got.ensures.bytes
-    c.in_ok-version.ensures.read
+    c.in_ok-version.ensures.found.read
 
 pub returns-in_err-version-clause-read : goal.returns-in_err-version-clause-read
 returns-in_err-version-clause-read g c =
@@ -31,4 +31,4 @@ returns-in_err-version-clause-read g c =
     (g.R.Read.remaining (inner_of c.args.input.now)) (g.R.Read.remaining (inner_of c.fill.new.input)) _
     c.in_ok-got.ensures.bytes
     (λ lt. c.in_ok-got.ensures.end (omega (arith, got_len, made, c.in_ok-got.ensures.bound, lt)))
-    c.in_err-version.ensures.read)))
+    c.in_err-version.ensures.found.read)))

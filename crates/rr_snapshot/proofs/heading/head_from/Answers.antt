@@ -116,19 +116,9 @@ returns-clause-read g c =
     subst (λ (o : ℕ). Gave (record { version = v; addition = from.0; origin = o; count = c.in_ok-count.count }) old new
     (head_at s)) (sym origin.1) whole
 
-pub returns-clause-digest : goal.returns-clause-digest
-returns-clause-digest g c =
-    let old = g.R.Read.remaining (inner_of c.args.input.now) in
-    let mid = g.R.Read.remaining (inner_of c.start_from.new.input) in
-    let now = g.R.Read.remaining (inner_of c.archives_from.new.input) in
-    let new = g.R.Read.remaining (inner_of c.count_from.new.input) in
-    Digests-then old now new c.args.hasher.now c.archives_from.new.hasher c.count_from.new.hasher
-    (Digests-then old mid now c.args.hasher.now c.start_from.new.hasher c.archives_from.new.hasher
-    c.in_ok-version.ensures.digest c.in_ok-addition.ensures.digest)
-    c.in_ok-count.ensures.digest
-
 pub returns-in_err-addition-clause-piece : goal.returns-in_err-addition-clause-piece
 returns-in_err-addition-clause-piece g c = record {
+  digest = search rules;
   stream =
       let p = err_from_is_err_and c.from_residual-in_err-addition.result c.from_residual-in_err-addition.ensures.1 in
       rw (p.1, p.2) (loads_then_refused _ _ _ _ _ _ c.in_ok-version.ensures.piece.stream
@@ -148,6 +138,7 @@ returns-in_err-addition-clause-piece g c = record {
 
 pub returns-in-Err-clause-piece : goal.returns-in-Err-clause-piece
 returns-in-Err-clause-piece g c = record {
+  digest = search rules;
   stream =
       loads_then _ _ _ _ _ _ _ c.in_ok-version.ensures.piece.stream c.in_ok-addition.ensures.piece.stream
       (λ e. absurd (cc e));
@@ -166,6 +157,7 @@ returns-in-Err-clause-piece g c = record {
 
 pub returns-in_err-count-clause-piece : goal.returns-in_err-count-clause-piece
 returns-in_err-count-clause-piece g c = record {
+  digest = search rules;
   stream =
       let p = err_from_is_err_and c.from_residual-in_err-count.result c.from_residual-in_err-count.ensures.1 in
       let two = loads_then _ _ _ _ _ _ c.archives_from.result c.start_from.ensures.piece.stream
@@ -188,6 +180,15 @@ returns-in_err-count-clause-piece g c = record {
 
 pub returns-clause-piece : goal.returns-clause-piece
 returns-clause-piece g c = record {
+  digest =
+      let old = g.R.Read.remaining (inner_of c.args.input.now) in
+      let mid = g.R.Read.remaining (inner_of c.start_from.new.input) in
+      let now = g.R.Read.remaining (inner_of c.archives_from.new.input) in
+      let new = g.R.Read.remaining (inner_of c.count_from.new.input) in
+      Digests-then old now new c.args.hasher.now c.archives_from.new.hasher c.count_from.new.hasher
+      (Digests-then old mid now c.args.hasher.now c.start_from.new.hasher c.archives_from.new.hasher
+      c.in_ok-version.ensures.piece.digest c.in_ok-addition.ensures.piece.digest)
+      c.in_ok-count.ensures.piece.digest;
   stream =
       let two = loads_then _ _ _ _ _ _ c.archives_from.result c.start_from.ensures.piece.stream
       c.archives_from.ensures.piece.stream (λ e. e) in

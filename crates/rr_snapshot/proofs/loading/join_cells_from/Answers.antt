@@ -156,52 +156,59 @@ returns-clause-read g c =
           (g.R.Read.remaining (inner_of c.loop.input)) c.loop-test.false so_far.1,
     )
 
-pub returns-in_err-cell-clause-stream : goal.returns-in_err-cell-clause-stream
-returns-in_err-cell-clause-stream g c = record {
-  front = read_then _ _ _ c.loop.invariant.front c.cell_from.ensures.stream.front;
-  failures_never_fall = search rules;
-  failed = search rules;
+pub returns-in_err-cell-clause-loads : goal.returns-in_err-cell-clause-loads
+returns-in_err-cell-clause-loads g c = record {
+  digest = search rules;
+  stream = record {
+    front = read_then _ _ _ c.loop.invariant.front c.cell_from.ensures.stream.front;
+    failures_never_fall = search rules;
+    failed = search rules;
+  };
+  memory =
+      let so_far = c.loop.invariant.cells in
+      let h = c.args.head in
+      let t = older c.args.replica.now.schema h.addition in
+      let old = g.R.Read.remaining (inner_of c.args.input.now) in
+      let now = g.R.Read.remaining (inner_of c.loop.input) in
+      let new = g.R.Read.remaining (inner_of c.cell_from.new.input) in
+      let p = err_from_is_err_and c.from_residual.result c.from_residual.ensures.1 in
+      rw (p.1, p.2)
+      (λ e.
+      let memory : c.in_err-cell.field-0.0 ≡ Memory = cc e in
+      stops_among c.args.replica.now.schema h so_far.0 c.loop.counter old now new c.loop-test.true so_far.1
+      (subst (λ (u : Layout). HasRead now new (cell_at h.version u)) c.requires.own
+      (c.in_err-cell.ensures.memory (ap (λ f. Err f) memory))));
 }
 
-pub returns-then-not-is_after-clause-stream : goal.returns-then-not-is_after-clause-stream
-returns-then-not-is_after-clause-stream g c = record {
-  front = read_then _ _ _ c.loop.invariant.front c.cell_from.ensures.stream.front;
-  failures_never_fall = search rules;
-  failed = search rules;
+pub returns-then-not-is_after-clause-loads : goal.returns-then-not-is_after-clause-loads
+returns-then-not-is_after-clause-loads g c = record {
+  digest = search rules;
+  stream = record {
+    front = read_then _ _ _ c.loop.invariant.front c.cell_from.ensures.stream.front;
+    failures_never_fall = search rules;
+    failed = search rules;
+  };
+  memory = search rules;
 }
 
-pub returns-in_err-join_cell-clause-stream : goal.returns-in_err-join_cell-clause-stream
-returns-in_err-join_cell-clause-stream g c = record {
-  front = read_then _ _ _ c.loop.invariant.front c.cell_from.ensures.stream.front;
-  failures_never_fall = search rules;
-  failed = search rules;
+pub returns-in_err-join_cell-clause-loads : goal.returns-in_err-join_cell-clause-loads
+returns-in_err-join_cell-clause-loads g c = record {
+  digest = search rules;
+  stream = record {
+    front = read_then _ _ _ c.loop.invariant.front c.cell_from.ensures.stream.front;
+    failures_never_fall = search rules;
+    failed = search rules;
+  };
+  memory =
+      λ e.
+      let so_far = c.loop.invariant.cells in
+      let h = c.args.head in
+      let t = older c.args.replica.now.schema h.addition in
+      let cell = owned_cell c.in_ok-cell.cell in
+      let old = g.R.Read.remaining (inner_of c.args.input.now) in
+      let now = g.R.Read.remaining (inner_of c.loop.input) in
+      let new = g.R.Read.remaining (inner_of c.cell_from.new.input) in
+      let read = same_schema_read h.version c.args.own.now t cell now new c.requires.own c.in_ok-cell.ensures.read in
+      stops_among c.args.replica.now.schema h so_far.0 c.loop.counter old now new c.loop-test.true so_far.1
+      (has_read h.version t cell now new read);
 }
-
-pub returns-in_err-cell-clause-memory : goal.returns-in_err-cell-clause-memory
-returns-in_err-cell-clause-memory g c =
-    let so_far = c.loop.invariant.cells in
-    let h = c.args.head in
-    let t = older c.args.replica.now.schema h.addition in
-    let old = g.R.Read.remaining (inner_of c.args.input.now) in
-    let now = g.R.Read.remaining (inner_of c.loop.input) in
-    let new = g.R.Read.remaining (inner_of c.cell_from.new.input) in
-    let p = err_from_is_err_and c.from_residual.result c.from_residual.ensures.1 in
-    rw (p.1, p.2)
-    (λ e.
-    let memory : c.in_err-cell.field-0.0 ≡ Memory = cc e in
-    stops_among c.args.replica.now.schema h so_far.0 c.loop.counter old now new c.loop-test.true so_far.1
-    (subst (λ (u : Layout). HasRead now new (cell_at h.version u)) c.requires.own
-    (c.in_err-cell.ensures.memory (ap (λ f. Err f) memory))))
-
-pub returns-in_err-join_cell-clause-memory : goal.returns-in_err-join_cell-clause-memory
-returns-in_err-join_cell-clause-memory g c = λ e.
-    let so_far = c.loop.invariant.cells in
-    let h = c.args.head in
-    let t = older c.args.replica.now.schema h.addition in
-    let cell = owned_cell c.in_ok-cell.cell in
-    let old = g.R.Read.remaining (inner_of c.args.input.now) in
-    let now = g.R.Read.remaining (inner_of c.loop.input) in
-    let new = g.R.Read.remaining (inner_of c.cell_from.new.input) in
-    let read = same_schema_read h.version c.args.own.now t cell now new c.requires.own c.in_ok-cell.ensures.read in
-    stops_among c.args.replica.now.schema h so_far.0 c.loop.counter old now new c.loop-test.true so_far.1
-    (has_read h.version t cell now new read)

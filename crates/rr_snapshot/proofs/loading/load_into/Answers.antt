@@ -1,4 +1,4 @@
-use Rattle.std.proofs.Common.{arith, ℕ, ◌≡◌, ◌⊎◌, ◌∙◌, ◌||◌, Bool, true, false, Err, ap, sym, inl, inr}
+use Rattle.std.proofs.Common.{rules, arith, ℕ, ◌≡◌, ◌⊎◌, ◌∙◌, ◌||◌, Bool, true, false, Err, ap, sym, inl, inr}
 use Rattle.std.specs.Prelude.{◌==◌}
 use Rattle.std.specs.FinMap.{empty}
 use Rattle.std.proofs.lemmas.Bool.{or_left, or_right, or_from}
@@ -42,8 +42,8 @@ returns-in_err-digest_from-clause-read g c =
     let joined = c.in_ok-has_own.ensures.read in
     let head = c.in_ok-head.ensures.read in
     let body = body_read s h joined.0 c.finalize.result old now mid c.new-hasher.result c.head_from.new.hasher
-    c.join_cells_after.new.hasher head joined.2 c.new-hasher.ensures c.in_ok-head.ensures.digest
-    c.in_ok-has_own.ensures.digest c.finalize.ensures in
+    c.join_cells_after.new.hasher head joined.2 c.new-hasher.ensures c.in_ok-head.ensures.piece.digest
+    c.in_ok-has_own.ensures.loads.digest c.finalize.ensures in
     let p = err_from_is_err_and c.from_residual-in_err-digest_from.result
     c.from_residual-in_err-digest_from.ensures.1 in
     rw (p.1, p.2) (digest_failed s c.args.replica.now.origin h joined.0 c.finalize.result c.in_err-digest_from.field-0.0
@@ -60,8 +60,8 @@ returns-in_err-end_from-clause-read g c =
     let joined = c.in_ok-has_own.ensures.read in
     let head = c.in_ok-head.ensures.read in
     let body = body_read s h joined.0 c.finalize.result old now mid c.new-hasher.result c.head_from.new.hasher
-    c.join_cells_after.new.hasher head joined.2 c.new-hasher.ensures c.in_ok-head.ensures.digest
-    c.in_ok-has_own.ensures.digest c.finalize.ensures in
+    c.join_cells_after.new.hasher head joined.2 c.new-hasher.ensures c.in_ok-head.ensures.piece.digest
+    c.in_ok-has_own.ensures.loads.digest c.finalize.ensures in
     let p = err_from_is_err_and c.from_residual-in_err-end_from.result c.from_residual-in_err-end_from.ensures.1 in
     rw (p.1, p.2) (end_failed s c.args.replica.now.origin h joined.0 c.finalize.result c.in_err-end_from.field-0.0 old
     now mid new body c.in_ok-digest_from.ensures.read c.in_err-end_from.ensures.read)
@@ -83,8 +83,8 @@ returns-then-eq-clause-read g c =
     let joined = c.in_ok-has_own.ensures.read in
     let head = c.in_ok-head.ensures.read in
     let body = body_read s h joined.0 c.finalize.result old now mid c.new-hasher.result c.head_from.new.hasher
-    c.join_cells_after.new.hasher head joined.2 c.new-hasher.ensures c.in_ok-head.ensures.digest
-    c.in_ok-has_own.ensures.digest c.finalize.ensures in
+    c.join_cells_after.new.hasher head joined.2 c.new-hasher.ensures c.in_ok-head.ensures.piece.digest
+    c.in_ok-has_own.ensures.loads.digest c.finalize.ensures in
     let read = all_read s o h joined.0 c.finalize.result old now mid new end body c.in_ok-digest_from.ensures.read
     c.in_ok-end_from.ensures.read in
     let saver : c.eq.result ≡ (h.origin == o) = c.eq.ensures
@@ -106,8 +106,8 @@ returns-clause-read g c =
     let joined = c.in_ok-has_own.ensures.read in
     let head = c.in_ok-head.ensures.read in
     let body = body_read s h joined.0 c.finalize.result old now mid c.new-hasher.result c.head_from.new.hasher
-    c.join_cells_after.new.hasher head joined.2 c.new-hasher.ensures c.in_ok-head.ensures.digest
-    c.in_ok-has_own.ensures.digest c.finalize.ensures in
+    c.join_cells_after.new.hasher head joined.2 c.new-hasher.ensures c.in_ok-head.ensures.piece.digest
+    c.in_ok-has_own.ensures.loads.digest c.finalize.ensures in
     let read = all_read s o h joined.0 c.finalize.result old now mid new end body c.in_ok-digest_from.ensures.read
     c.in_ok-end_from.ensures.read in
     let saver : c.eq.result ≡ (h.origin == o) = c.eq.ensures
@@ -122,51 +122,68 @@ returns-clause-read g c =
     c.if-has_own.false in
     new_origin s o h joined.0 c.join_cells_after.new.replica old free is read
 
-pub returns-in_err-has_own-clause-stream : goal.returns-in_err-has_own-clause-stream
-returns-in_err-has_own-clause-stream g c =
-    let p = err_from_is_err_and c.from_residual-in_err-has_own.result c.from_residual-in_err-has_own.ensures.1 in
-    rw (p.1, p.2) (loads_then_refused _ _ _ _ _ _ c.head_from.ensures.piece.stream c.in_err-has_own.ensures.stream)
+pub returns-in_err-has_own-clause-loads : goal.returns-in_err-has_own-clause-loads
+returns-in_err-has_own-clause-loads g c = record {
+  end = search rules;
+  stream =
+      let p = err_from_is_err_and c.from_residual-in_err-has_own.result c.from_residual-in_err-has_own.ensures.1 in
+      rw (p.1, p.2) (loads_then_refused _ _ _ _ _ _ c.head_from.ensures.piece.stream c.in_err-has_own.ensures.loads.stream);
+  memory =
+      let old = g.R.Read.remaining (inner_of c.args.input.now) in
+      let now = g.R.Read.remaining (inner_of c.head_from.new.input) in
+      let new = g.R.Read.remaining (inner_of c.join_cells_after.new.input) in
+      let h = c.in_ok-head.head in
+      let s = c.args.schema.now in
+      let p = err_from_is_err_and c.from_residual-in_err-has_own.result c.from_residual-in_err-has_own.ensures.1 in
+      let head = c.in_ok-head.ensures.read in
+      rw (p.1, p.2)
+      (λ e.
+      let memory : c.in_err-has_own.field-0.0 ≡ Memory = cc e in
+      inr (stops_in_snapshot s h old now new head (c.in_err-has_own.ensures.loads.memory (ap (λ f. Err f) memory))));
+}
 
-pub returns-in_err-digest_from-clause-stream : goal.returns-in_err-digest_from-clause-stream
-returns-in_err-digest_from-clause-stream g c =
-    let p = err_from_is_err_and c.from_residual-in_err-digest_from.result c.from_residual-in_err-digest_from.ensures.1
-    in
-    let two = loads_then _ _ _ _ _ _ c.join_cells_after.result c.head_from.ensures.piece.stream
-    c.join_cells_after.ensures.stream (λ e. e) in
-    rw (p.1, p.2) (loads_then_refused _ _ _ _ _ _ two c.in_err-digest_from.ensures.piece.stream)
+pub returns-in_err-digest_from-clause-loads : goal.returns-in_err-digest_from-clause-loads
+returns-in_err-digest_from-clause-loads g c = record {
+  end = search rules;
+  stream =
+      let p = err_from_is_err_and c.from_residual-in_err-digest_from.result c.from_residual-in_err-digest_from.ensures.1
+      in
+      let two = loads_then _ _ _ _ _ _ c.join_cells_after.result c.head_from.ensures.piece.stream
+      c.join_cells_after.ensures.loads.stream (λ e. e) in
+      rw (p.1, p.2) (loads_then_refused _ _ _ _ _ _ two c.in_err-digest_from.ensures.piece.stream);
+  memory = search rules;
+}
 
-pub returns-in_err-end_from-clause-stream : goal.returns-in_err-end_from-clause-stream
-returns-in_err-end_from-clause-stream g c =
-    let p = err_from_is_err_and c.from_residual-in_err-end_from.result c.from_residual-in_err-end_from.ensures.1 in
-    let two = loads_then _ _ _ _ _ _ c.join_cells_after.result c.head_from.ensures.piece.stream
-    c.join_cells_after.ensures.stream (λ e. e) in
-    let three = loads_then _ _ _ _ _ _ c.digest_from.result two c.digest_from.ensures.piece.stream (λ e. e) in
-    rw (p.1, p.2) (loads_then_refused _ _ _ _ _ _ three c.in_err-end_from.ensures.piece.stream)
+pub returns-in_err-end_from-clause-loads : goal.returns-in_err-end_from-clause-loads
+returns-in_err-end_from-clause-loads g c = record {
+  end = search rules;
+  stream =
+      let p = err_from_is_err_and c.from_residual-in_err-end_from.result c.from_residual-in_err-end_from.ensures.1 in
+      let two = loads_then _ _ _ _ _ _ c.join_cells_after.result c.head_from.ensures.piece.stream
+      c.join_cells_after.ensures.loads.stream (λ e. e) in
+      let three = loads_then _ _ _ _ _ _ c.digest_from.result two c.digest_from.ensures.piece.stream (λ e. e) in
+      rw (p.1, p.2) (loads_then_refused _ _ _ _ _ _ three c.in_err-end_from.ensures.piece.stream);
+  memory = search rules;
+}
 
-pub returns-then-eq-clause-stream : goal.returns-then-eq-clause-stream
-returns-then-eq-clause-stream g c =
-    let two = loads_then _ _ _ _ _ _ c.join_cells_after.result c.head_from.ensures.piece.stream
-    c.join_cells_after.ensures.stream (λ e. e) in
-    let three = loads_then _ _ _ _ _ _ c.digest_from.result two c.digest_from.ensures.piece.stream (λ e. e) in
-    loads_then _ _ _ _ _ _ _ three c.end_from.ensures.piece.stream (λ e. absurd (cc e))
+pub returns-then-eq-clause-loads : goal.returns-then-eq-clause-loads
+returns-then-eq-clause-loads g c = record {
+  end = search rules;
+  stream =
+      let two = loads_then _ _ _ _ _ _ c.join_cells_after.result c.head_from.ensures.piece.stream
+      c.join_cells_after.ensures.loads.stream (λ e. e) in
+      let three = loads_then _ _ _ _ _ _ c.digest_from.result two c.digest_from.ensures.piece.stream (λ e. e) in
+      loads_then _ _ _ _ _ _ _ three c.end_from.ensures.piece.stream (λ e. absurd (cc e));
+  memory = search rules;
+}
 
-pub returns-clause-stream : goal.returns-clause-stream
-returns-clause-stream g c =
-    let two = loads_then _ _ _ _ _ _ c.join_cells_after.result c.head_from.ensures.piece.stream
-    c.join_cells_after.ensures.stream (λ e. e) in
-    let three = loads_then _ _ _ _ _ _ c.digest_from.result two c.digest_from.ensures.piece.stream (λ e. e) in
-    loads_then _ _ _ _ _ _ _ three c.end_from.ensures.piece.stream (λ e. absurd (cc e))
-
-pub returns-in_err-has_own-clause-memory : goal.returns-in_err-has_own-clause-memory
-returns-in_err-has_own-clause-memory g c =
-    let old = g.R.Read.remaining (inner_of c.args.input.now) in
-    let now = g.R.Read.remaining (inner_of c.head_from.new.input) in
-    let new = g.R.Read.remaining (inner_of c.join_cells_after.new.input) in
-    let h = c.in_ok-head.head in
-    let s = c.args.schema.now in
-    let p = err_from_is_err_and c.from_residual-in_err-has_own.result c.from_residual-in_err-has_own.ensures.1 in
-    let head = c.in_ok-head.ensures.read in
-    rw (p.1, p.2)
-    (λ e.
-    let memory : c.in_err-has_own.field-0.0 ≡ Memory = cc e in
-    inr (stops_in_snapshot s h old now new head (c.in_err-has_own.ensures.memory (ap (λ f. Err f) memory))))
+pub returns-clause-loads : goal.returns-clause-loads
+returns-clause-loads g c = record {
+  end = search rules;
+  stream =
+      let two = loads_then _ _ _ _ _ _ c.join_cells_after.result c.head_from.ensures.piece.stream
+      c.join_cells_after.ensures.loads.stream (λ e. e) in
+      let three = loads_then _ _ _ _ _ _ c.digest_from.result two c.digest_from.ensures.piece.stream (λ e. e) in
+      loads_then _ _ _ _ _ _ _ three c.end_from.ensures.piece.stream (λ e. absurd (cc e));
+  memory = search rules;
+}

@@ -14,35 +14,43 @@ use Rattle.rr_replica.proofs.InTurn.{next_of_sorted}
 use Rattle.rr_snapshot.proofs.WriteLemmas.{text_more, cells_front, whole_is_front, all_taken, none_left}
 use Rattle.rr_snapshot.proofs.saving.write_cells.Goals as goal
 
-pub returns-in_default-clause-whole : goal.returns-in_default-clause-whole
-returns-in_default-clause-whole g c =
-    let all = none_left (entries c.args.replica.now.cells) c.loop.counter c.loop.next c.loop.invariant.next
-    c.in_default.is in
-    subst (λ es. Appends (g.W.Write.contents (inner_of c.args.output.now)) (g.W.Write.contents (inner_of c.loop.output))
-    (flat_map (cell_text latest) es)) all c.loop.invariant.written
+pub returns-in_default : goal.returns-in_default
+returns-in_default g c = record {
+  whole =
+      let all = none_left (entries c.args.replica.now.cells) c.loop.counter c.loop.next c.loop.invariant.next
+      c.in_default.is in
+      subst (λ es. Appends (g.W.Write.contents (inner_of c.args.output.now)) (g.W.Write.contents (inner_of c.loop.output))
+      (flat_map (cell_text latest) es)) all c.loop.invariant.written;
+  front =
+      let all = none_left (entries c.args.replica.now.cells) c.loop.counter c.loop.next c.loop.invariant.next
+      c.in_default.is in
+      whole_is_front _ _ _ (subst (λ es. Appends (g.W.Write.contents (inner_of c.args.output.now))
+      (g.W.Write.contents (inner_of c.loop.output)) (flat_map (cell_text latest) es)) all c.loop.invariant.written);
+  digest =
+      let all = none_left (entries c.args.replica.now.cells) c.loop.counter c.loop.next c.loop.invariant.next
+      c.in_default.is in
+      λ m h. subst (λ es. Holds256 c.loop.hasher (m ++ flat_map (cell_text latest) es)) all (c.loop.invariant.digest m h);
+  fits = search rules;
+  failures_never_fall = search rules;
+  failed = search rules;
+}
 
-pub returns-in_default-clause-front : goal.returns-in_default-clause-front
-returns-in_default-clause-front g c =
-    let all = none_left (entries c.args.replica.now.cells) c.loop.counter c.loop.next c.loop.invariant.next
-    c.in_default.is in
-    whole_is_front _ _ _ (subst (λ es. Appends (g.W.Write.contents (inner_of c.args.output.now))
-    (g.W.Write.contents (inner_of c.loop.output)) (flat_map (cell_text latest) es)) all c.loop.invariant.written)
-
-pub returns-in_default-clause-digest : goal.returns-in_default-clause-digest
-returns-in_default-clause-digest g c =
-    let all = none_left (entries c.args.replica.now.cells) c.loop.counter c.loop.next c.loop.invariant.next
-    c.in_default.is in
-    λ m h. subst (λ es. Holds256 c.loop.hasher (m ++ flat_map (cell_text latest) es)) all (c.loop.invariant.digest m h)
-
-pub returns-in_err-write_cell-clause-front : goal.returns-in_err-write_cell-clause-front
-returns-in_err-write_cell-clause-front g c =
-    let all = entries c.args.replica.now.cells in
-    let at : slice_get all c.loop.counter ≡ Some (seen_cell c.in-Some.cell) = sym c.loop.invariant.next
-    ∙ ap (option_map seen_cell) c.in-Some.is in
-    cells_front (cell_text latest) all c.loop.counter (seen_cell c.in-Some.cell)
-    (g.W.Write.contents (inner_of c.args.output.now)) (g.W.Write.contents (inner_of c.loop.output))
-    (g.W.Write.contents (inner_of c.write_cell.new.output)) at c.loop.invariant.written
-    c.in_err-write_cell.ensures.front
+pub returns-in_err-write_cell : goal.returns-in_err-write_cell
+returns-in_err-write_cell g c = record {
+  whole = search rules;
+  front =
+      let all = entries c.args.replica.now.cells in
+      let at : slice_get all c.loop.counter ≡ Some (seen_cell c.in-Some.cell) = sym c.loop.invariant.next
+      ∙ ap (option_map seen_cell) c.in-Some.is in
+      cells_front (cell_text latest) all c.loop.counter (seen_cell c.in-Some.cell)
+      (g.W.Write.contents (inner_of c.args.output.now)) (g.W.Write.contents (inner_of c.loop.output))
+      (g.W.Write.contents (inner_of c.write_cell.new.output)) at c.loop.invariant.written
+      c.in_err-write_cell.ensures.front;
+  digest = search rules;
+  fits = search rules;
+  failures_never_fall = search rules;
+  failed = search rules;
+}
 
 pub loop-init : goal.loop-init
 loop-init g c = record {
@@ -76,28 +84,29 @@ loop-preserved g c =
       count = search rules;
     }
 
-pub returns-clause-whole : goal.returns-clause-whole
-returns-clause-whole g c =
-    let past = c.loop-test.false in
-    let count = c.requires.count_given in
-    let all = all_taken (entries c.args.replica.now.cells) c.loop.counter
-    (omega (arith, past, count, len-entries c.args.replica.now.cells)) in
-    subst (λ es. Appends (g.W.Write.contents (inner_of c.args.output.now)) (g.W.Write.contents (inner_of c.loop.output))
-    (flat_map (cell_text latest) es)) all c.loop.invariant.written
-
-pub returns-clause-front : goal.returns-clause-front
-returns-clause-front g c =
-    let past = c.loop-test.false in
-    let count = c.requires.count_given in
-    let all = all_taken (entries c.args.replica.now.cells) c.loop.counter
-    (omega (arith, past, count, len-entries c.args.replica.now.cells)) in
-    whole_is_front _ _ _ (subst (λ es. Appends (g.W.Write.contents (inner_of c.args.output.now))
-    (g.W.Write.contents (inner_of c.loop.output)) (flat_map (cell_text latest) es)) all c.loop.invariant.written)
-
-pub returns-clause-digest : goal.returns-clause-digest
-returns-clause-digest g c =
-    let past = c.loop-test.false in
-    let count = c.requires.count_given in
-    let all = all_taken (entries c.args.replica.now.cells) c.loop.counter
-    (omega (arith, past, count, len-entries c.args.replica.now.cells)) in
-    λ m h. subst (λ es. Holds256 c.loop.hasher (m ++ flat_map (cell_text latest) es)) all (c.loop.invariant.digest m h)
+pub returns : goal.returns
+returns g c = record {
+  whole =
+      let past = c.loop-test.false in
+      let count = c.requires.count_given in
+      let all = all_taken (entries c.args.replica.now.cells) c.loop.counter
+      (omega (arith, past, count, len-entries c.args.replica.now.cells)) in
+      subst (λ es. Appends (g.W.Write.contents (inner_of c.args.output.now)) (g.W.Write.contents (inner_of c.loop.output))
+      (flat_map (cell_text latest) es)) all c.loop.invariant.written;
+  front =
+      let past = c.loop-test.false in
+      let count = c.requires.count_given in
+      let all = all_taken (entries c.args.replica.now.cells) c.loop.counter
+      (omega (arith, past, count, len-entries c.args.replica.now.cells)) in
+      whole_is_front _ _ _ (subst (λ es. Appends (g.W.Write.contents (inner_of c.args.output.now))
+      (g.W.Write.contents (inner_of c.loop.output)) (flat_map (cell_text latest) es)) all c.loop.invariant.written);
+  digest =
+      let past = c.loop-test.false in
+      let count = c.requires.count_given in
+      let all = all_taken (entries c.args.replica.now.cells) c.loop.counter
+      (omega (arith, past, count, len-entries c.args.replica.now.cells)) in
+      λ m h. subst (λ es. Holds256 c.loop.hasher (m ++ flat_map (cell_text latest) es)) all (c.loop.invariant.digest m h);
+  fits = search rules;
+  failures_never_fall = search rules;
+  failed = search rules;
+}

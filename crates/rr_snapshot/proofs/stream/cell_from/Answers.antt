@@ -62,21 +62,21 @@ returns-in_err-cell-clause-read g c =
 
 pub returns-in_err-got-clause-stream : goal.returns-in_err-got-clause-stream
 returns-in_err-got-clause-stream g c = record {
-  front = read_then _ _ _ c.fill_up_to.ensures.front c.fill_up_to-2.ensures.front;
+  front = read_then _ _ _ c.fill_up_to.ensures.stream.front c.fill_up_to-2.ensures.stream.front;
   failures_never_fall = search rules;
   failed = search rules;
 }
 
 pub returns-in_err-cell-clause-stream : goal.returns-in_err-cell-clause-stream
 returns-in_err-cell-clause-stream g c = record {
-  front = read_then _ _ _ c.fill_up_to.ensures.front c.fill_up_to-2.ensures.front;
+  front = read_then _ _ _ c.fill_up_to.ensures.stream.front c.fill_up_to-2.ensures.stream.front;
   failures_never_fall = search rules;
   failed = search rules;
 }
 
 pub returns-clause-stream : goal.returns-clause-stream
 returns-clause-stream g c = record {
-  front = read_then _ _ _ c.fill_up_to.ensures.front c.fill_up_to-2.ensures.front;
+  front = read_then _ _ _ c.fill_up_to.ensures.stream.front c.fill_up_to-2.ensures.stream.front;
   failures_never_fall = search rules;
   failed = search rules;
 }

@@ -23,12 +23,12 @@ bounded c =
     bounded_with c.args.self.count more.count c.args.self.total more.sum more.min more.max c.requires.bounded
     (search rules) (search rules) c.requires.summable.low c.requires.summable.high
 
-pub returns-clause-total : goal.returns-clause-total
-returns-clause-total c =
+pub returns : goal.returns
+returns c =
     let is = bounded c in
     let few = c.requires.count_fits in
-    omega (arith, ints)
-
-pub returns-clause-bounded : goal.returns-clause-bounded
-returns-clause-bounded c = subst (IsBounded (c.args.self.count + c.args.contribution.now.count))
-    (sym (returns-clause-total c)) (bounded c)
+    record {
+      count = search rules;
+      total = omega (arith, ints);
+      bounded = subst (IsBounded (c.args.self.count + c.args.contribution.now.count)) (sym (omega (arith, ints))) is;
+    }

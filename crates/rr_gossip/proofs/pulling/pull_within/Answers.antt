@@ -3,7 +3,7 @@ use Rattle.rr_gossip.specs.declared.fault.GossipFault.TheVariants.{WriteFailed}
 use Rattle.rr_gossip.specs.Puller.{puller_takes}
 use Rattle.rr_gossip.proofs.ReadLemmas.{stops_unwritten}
 use Rattle.rr_gossip.proofs.StepLemmas.{puller_fault}
-use Rattle.rr_gossip.proofs.pulling.pull_from.Goals as goal
+use Rattle.rr_gossip.proofs.pulling.pull_within.Goals as goal
 
 pub returns : goal.returns
 returns g c = record {

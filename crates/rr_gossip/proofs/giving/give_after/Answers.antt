@@ -7,7 +7,7 @@ use Rattle.rr_gossip.specs.Giver.{giver_takes}
 use Rattle.rr_gossip.proofs.GivingLemmas.{failed_to_reply, gave, giver_fault}
 use Rattle.rr_gossip.proofs.ReadLemmas.{stops_unwritten}
 use Rattle.rr_gossip.proofs.StepLemmas.{err_is}
-use Rattle.rr_gossip.proofs.giving.give_from.Goals as goal
+use Rattle.rr_gossip.proofs.giving.give_after.Goals as goal
 
 pub returns-in_err-take_names : goal.returns-in_err-take_names
 returns-in_err-take_names g c = record {
