@@ -85,10 +85,11 @@ pub record CountsFailures {S X E : Type 0} (old new : Counted S) (result : Resul
   pub failures_never_fall : KeepsFailures old new
   pub failed : OnErr result (HasFailed old new)
 
--- some bytes were taken, or none, and a call failed if this one is refused
-pub record ReadsOn {R X E : Type 0} (remaining : R → Option (List ℕ)) (old new : Counted R) (result : Result X E)
-    : Type 0 where
+-- at most `n` bytes were taken, and a call failed if this one is refused
+pub record ReadsOn {R X E : Type 0} (n : ℕ) (remaining : R → Option (List ℕ)) (old new : Counted R)
+    (result : Result X E) : Type 0 where
   pub front : ReadsSome remaining old new
+  pub most : ReadsUpTo n remaining old new
   pub failures_never_fall : KeepsFailures old new
   pub failed : OnErr result (HasFailed old new)
 

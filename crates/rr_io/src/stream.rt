@@ -13,7 +13,7 @@ ghost use Rattle.std.specs.Io.{ReadsAtMost, WritesAtMost};
 ghost use Rattle.std.specs.Io.KnownBytes.{Consumes, Keeps, ReadConsumes, WriteAppends};
 ghost use Rattle.rr_io.specs.Counted.{inner_of, reads_of, ends_of, is_flushed, one_more};
 ghost use Rattle.rr_text.specs.declared.limits.TheConstants.{MAX_READS};
-ghost use Rattle.rr_io.specs.Stream.{CountsFailures, HasFailed, IsReadOut, ReadsOn, ReadsOnce, ReadsUpTo, Writes, tells_end};
+ghost use Rattle.rr_io.specs.Stream.{CountsFailures, HasFailed, IsReadOut, ReadsOn, ReadsOnce, Writes, tells_end};
 ghost use Rattle.rr_io.specs.ReadsToEnd.{ReadsToEnd};
 
 use crate::counted::Counted;
@@ -89,8 +89,7 @@ pub fn fill<R: Read>(input: &mut Counted<R>, buf: &mut [u8]) -> Result<usize, Re
         (R.remaining (inner_of input.new)) (take filled buf.new)) }
     ensures end { IfOk result (λ filled. filled < length buf.new
         → IsReadOut R.remaining input.new) }
-    ensures most { ReadsUpTo (length buf.new) R.remaining input.old input.new }
-    ensures stream { ReadsOn R.remaining input.old input.new result }
+    ensures stream { ReadsOn (length buf.new) R.remaining input.old input.new result }
 {
     let mut filled = 0;
     while filled < buf.len() {

@@ -1,10 +1,10 @@
 //! The cells of a page, from its bytes.
-ghost use Rattle.std.specs.Prelude.{◌≡◌, ◌≢◌, List, All, IfErr, IfOk, IsOk, OnOk, Ok, Err, None, Some, map, option_map};
+ghost use Rattle.std.specs.Prelude.{◌≡◌, List, All, IfOk, IsOk, OnOk, Ok, None, Some, map, option_map};
 ghost use Rattle.rr_schema.specs.Schema.{IsLayout};
-ghost use Rattle.rr_text.specs.Results.{GivesUnless, NeedsMemoryAfter};
+ghost use Rattle.rr_text.specs.Results.{GivesUnless};
 ghost use Rattle.rr_page.specs.Page.{IsPage, IsPageText};
 ghost use Rattle.rr_page.specs.PageReading.{is_after, last_name, cells_at, page_at};
-ghost use Rattle.rr_page.specs.Found.{found_cell};
+ghost use Rattle.rr_page.specs.Found.{ReadsPage, Refuses, found_cell};
 ghost use Rattle.rr_cells.specs.CellBounds.{NamedCell, IsCellOf};
 ghost use Rattle.rr_cells.specs.Listing.{owned_cell};
 
@@ -99,9 +99,7 @@ fn after_cells<'a>(
 ) -> Result<&'a [u8], PageFault>
     ensures read { IfOk result (λ rest. (es : List NamedCell)
         × (cells_at version schema.now None count bytes.now ≡ Ok (es, rest.now))) }
-    ensures refused { IfErr result (λ fault.
-        cells_at version schema.now None count bytes.now ≡ Err fault) }
-    ensures no_memory { result ≢ Err PageFault.Memory }
+    ensures checks { Refuses result (cells_at version schema.now None count bytes.now) }
 {
     let mut before = None;
     let mut rest = bytes;
@@ -123,8 +121,7 @@ fn after_cells<'a>(
 #[tactic(auto, unfolding(crate::specs::PageReading::page_at, crate::specs::PageReading::front_page_at))]
 fn check_page(bytes: &[u8], schema: &Schema) -> Result<(), PageFault>
     ensures good { OnOk result (IsOk (page_at schema.now bytes.now)) }
-    ensures refused { IfErr result (λ fault. page_at schema.now bytes.now ≡ Err fault) }
-    ensures no_memory { result ≢ Err PageFault.Memory }
+    ensures checks { Refuses result (page_at schema.now bytes.now) }
 {
     let (version, count, rest) = head_of(bytes, schema)?;
     let rest = after_cells(version, count, rest, schema)?;
@@ -137,9 +134,7 @@ fn check_page(bytes: &[u8], schema: &Schema) -> Result<(), PageFault>
 /// The cells of the page that all of the bytes are. Where memory runs out, what is left is still
 /// checked, so that `Memory` hides no other fault.
 fn page_of(alloc: Global, bytes: &[u8], schema: &Schema) -> Result<Vec<Cell>, PageFault>
-    ensures read { GivesUnless PageFault.Memory (λ cells. map owned_cell cells.items) result
-        (page_at schema.now bytes.now) }
-    ensures memory { NeedsMemoryAfter PageFault.Memory (page_at schema.now bytes.now) result }
+    ensures { ReadsPage schema.now bytes.now result }
 {
     match copied_page(alloc, bytes, schema) {
         Ok(cells) => Ok(cells),
@@ -170,9 +165,7 @@ pub fn decode(alloc: Global, bytes: &[u8], schema: &Schema) -> Result<Vec<Cell>,
         → IsPage schema.now es → IsPageText schema.now es bytes.now
         → GivesUnless PageFault.Memory (λ cells. map owned_cell cells.items) result (Ok es) }
     // Which fault is answered.
-    ensures exact { GivesUnless PageFault.Memory (λ cells. map owned_cell cells.items) result
-        (page_at schema.now bytes.now) }
-    ensures memory { NeedsMemoryAfter PageFault.Memory (page_at schema.now bytes.now) result }
+    ensures reads { ReadsPage schema.now bytes.now result }
     ensures cells { IfOk result (λ cells. All (λ c. IsCellOf schema.now (owned_cell c))
         cells.items) }
 {

@@ -5,7 +5,7 @@ ghost use Rattle.rr_text.specs.Results.{GivesUnless, NeedsMemoryAfter};
 ghost use Rattle.rr_key.specs.Series.{IsKeyText};
 ghost use Rattle.rr_page.specs.CellText.{cell_text};
 ghost use Rattle.rr_page.specs.Reading.{number_at, key_at, archive_at, contribution_at, cell_at};
-ghost use Rattle.rr_page.specs.Found.{Finds, found_cell};
+ghost use Rattle.rr_page.specs.Found.{Finds, ReadsCell, found_cell};
 ghost use Rattle.rr_page.specs.PageReading.{is_after};
 ghost use Rattle.rr_page.specs.Version.{mask_width};
 ghost use Rattle.rr_cells.specs.CellBounds.{IsCellOf};
@@ -187,11 +187,7 @@ pub fn read_cell_in<'a>(
     schema: &Schema,
     version: Version,
 ) -> Result<(Cell, &'a [u8]), PageFault>
-    ensures read { GivesUnless PageFault.Memory (λ x. (owned_cell x.0, x.1.now)) result
-        (cell_at version schema.now bytes.now) }
-    ensures memory { NeedsMemoryAfter PageFault.Memory (cell_at version schema.now bytes.now)
-        result }
-    ensures cell { IfOk result (λ x. IsCellOf schema.now (owned_cell x.0)) }
+    ensures { ReadsCell version schema.now bytes.now (λ x. (owned_cell x.0, x.1.now)) result }
 {
     match find_cell(bytes, schema, version) {
         Ok((found, rest)) => {
@@ -216,14 +212,11 @@ pub fn read_cell(
     schema: &Schema,
     version: Version,
 ) -> Result<(Cell, usize), PageFault>
-    ensures read { GivesUnless PageFault.Memory (λ x. (owned_cell x.0, drop x.1 bytes.now)) result
-        (cell_at version schema.now bytes.now) }
-    ensures memory { NeedsMemoryAfter PageFault.Memory (cell_at version schema.now bytes.now)
-        result }
+    ensures reads { ReadsCell version schema.now bytes.now
+        (λ x. (owned_cell x.0, drop x.1 bytes.now)) result }
     ensures text { IfOk result (λ x.
         bytes.now ≡ cell_text version (owned_cell x.0) ++ drop x.1 bytes.now) }
     ensures len { IfOk result (λ x. x.1 ≡ length (cell_text version (owned_cell x.0))) }
-    ensures cell { IfOk result (λ x. IsCellOf schema.now (owned_cell x.0)) }
 {
     let (cell, rest) = read_cell_in(alloc, bytes, schema, version)?;
     let len = bytes.len() - rest.len();

@@ -1,12 +1,12 @@
 -- The reading of a snapshot, as a function of the bytes: field by field, up to the first fault.
-use Rattle.std.specs.Prelude.{ℕ, ◌+◌, ◌-◌, ◌*◌, Bool, not, ◌&&◌, ◌||◌, ◌==◌, nat_eq, List, length, take, Option, None, Result, Ok, Err, ok_or}
+use Rattle.std.specs.Prelude.{◌≡◌, ℕ, ◌≤◌, ◌+◌, ◌-◌, ◌*◌, Bool, not, ◌&&◌, ◌||◌, ◌==◌, nat_eq, List, length, take, Option, None, Result, Ok, Err, ok_or}
 use Rattle.std.specs.Cmp.Lexicographic.{pointwise}
 use Rattle.std.specs.Int.{w8, w16, w32}
 use Rattle.std.specs.List.{find}
 use Rattle.sha2.specs.Sha256.{sha256}
 use Rattle.rr_text.specs.Results.{◌>>=◌, unless}
 use Rattle.rr_schema.specs.Schema.{Layout}
-use Rattle.rr_schema.specs.Added.{additions, older, had_archives}
+use Rattle.rr_schema.specs.Added.{IsAddition, additions, older, had_archives}
 use Rattle.rr_schema.specs.declared.added.Addition.{Addition}
 use Rattle.rr_cells.specs.CellBounds.{NamedCell}
 use Rattle.rr_page.specs.declared.fault.PageFault.{PageFault}
@@ -31,6 +31,11 @@ abbrev pub may_have_had : Layout → ℕ → ℕ → Bool
 may_have_had s step number =
     step == s.step && not (number == 0) && (number == length s.archives || number + 1 == length s.archives)
 
+-- so a number of archives is within a schema's
+pub record IsArchiveCount (s : Layout) (number : ℕ) : Type 0 where
+  pub at_least_one : 1 ≤ number
+  pub at_most : number ≤ length s.archives
+
 -- the version, and how many archives the schema has, and what follows them
 unfoldable pub start_at : Layout → List ℕ → Result ((Version × ℕ) × List ℕ) PageFault
 start_at s bytes = do
@@ -47,6 +52,11 @@ is_told v s field a = has_masks_for v (older s a) && had_archives s field a
 -- so what was added to the schema since
 abbrev pub addition_told : Version → Layout → List ℕ → Option Addition
 addition_told v s field = find (is_told v s field) (additions s)
+
+-- an addition to as many archives as this
+pub record IsAdditionTo (s : Layout) (number : ℕ) (a : Addition) : Type 0 where
+  pub addition : IsAddition s a
+  pub archive_count : number ≡ length (older s a).archives
 
 -- what was added since there were so many archives, and the origin, and what follows them
 unfoldable pub archives_at : Version → Layout → ℕ → List ℕ → Result ((Addition × ℕ) × List ℕ) PageFault

@@ -5,12 +5,12 @@ ghost use Rattle.std.specs.List.{find, range_with_len};
 ghost use Rattle.std.specs.Option.{option_map};
 ghost use Rattle.std.specs.Prelude.{map};
 ghost use Rattle.rr_io.specs.Counted.{inner_of};
-ghost use Rattle.rr_schema.specs.Added.{IsAddition, older};
+ghost use Rattle.rr_schema.specs.Added.{IsAddition};
 ghost use Rattle.rr_schema.specs.declared.added.Addition.TheVariants.{Archive};
 ghost use Rattle.rr_page.specs.Found.{Finds};
 ghost use Rattle.rr_page.specs.Reading.{number_at};
 ghost use Rattle.rr_snapshot.specs.Stream.{DigestsPiece, StreamGives};
-ghost use Rattle.rr_snapshot.specs.SnapshotReading.{as_in_page, may_have_had, start_at, is_told, addition_told, archives_at};
+ghost use Rattle.rr_snapshot.specs.SnapshotReading.{IsAdditionTo, IsArchiveCount, as_in_page, may_have_had, start_at, is_told, addition_told, archives_at};
 
 use crate::fault::LoadFault;
 use crate::stream::fill_up_to;
@@ -59,8 +59,7 @@ fn may_have_had(schema: &Schema, step: u32, number: u8) -> bool
 #[tactic(auto, unfolding(crate::specs::SnapshotReading::start_at))]
 fn start_of<'a>(schema: &Schema, bytes: &'a [u8]) -> Result<(Version, u8, &'a [u8]), PageFault>
     ensures found { Finds (λ x. ((x.0, x.1), x.2.now)) result (start_at schema.now bytes.now) }
-    ensures number_at_least { IfOk result (λ x. 1 ≤ x.1) }
-    ensures number_at_most { IfOk result (λ x. x.1 ≤ length schema.now.archives) }
+    ensures number { IfOk result (λ x. IsArchiveCount schema.now x.1) }
 {
     let (start, rest) = bytes_at(bytes, MAGIC.len())?;
     if start != MAGIC.as_slice() {
@@ -83,8 +82,7 @@ pub(crate) fn start_from<R: Read>(
 ) -> Result<(Version, u8), LoadFault>
     ensures read { StreamGives (λ x. (x.0, x.1)) result (R.remaining (inner_of input.old))
         (R.remaining (inner_of input.new)) (λ all. as_in_page (start_at schema.now all)) }
-    ensures number_at_least { IfOk result (λ x. 1 ≤ x.1) }
-    ensures number_at_most { IfOk result (λ x. x.1 ≤ length schema.now.archives) }
+    ensures number { IfOk result (λ x. IsArchiveCount schema.now x.1) }
     ensures piece { DigestsPiece START_LEN R.remaining input.old input.new hasher.old hasher.new
         result }
 {
@@ -139,8 +137,7 @@ fn archives_of<'a>(
 ) -> Result<(Addition, u16, &'a [u8]), PageFault>
     ensures found { Finds (λ x. ((x.0, x.1), x.2.now)) result
         (archives_at version schema.now number bytes.now) }
-    ensures addition { IfOk result (λ x. IsAddition schema.now x.0) }
-    ensures archive_count { IfOk result (λ x. number ≡ length (older schema.now x.0).archives) }
+    ensures addition { IfOk result (λ x. IsAdditionTo schema.now number x.0) }
 {
     let (field, rest) = bytes_at(bytes, ARCHIVE_LEN * number as usize)?;
     let Some(addition) = addition_told(version, schema, field) else {
@@ -163,8 +160,7 @@ pub(crate) fn archives_from<R: Read>(
     ensures read { StreamGives (λ x. (x.0, x.1)) result (R.remaining (inner_of input.old))
         (R.remaining (inner_of input.new))
         (λ all. as_in_page (archives_at version schema.now number all)) }
-    ensures addition { IfOk result (λ x. IsAddition schema.now x.0) }
-    ensures archive_count { IfOk result (λ x. number ≡ length (older schema.now x.0).archives) }
+    ensures addition { IfOk result (λ x. IsAdditionTo schema.now number x.0) }
     ensures piece { DigestsPiece (ARCHIVE_LEN * number + ORIGIN_LEN) R.remaining
         input.old input.new hasher.old hasher.new result }
 {

@@ -70,8 +70,7 @@ pub(crate) fn fill_up_to<R: Read>(
         (R.remaining (inner_of input.new)) (take filled buffer.old) (take now buffer.new)) }
     ensures end { IfOk result (λ now. now < len → IsReadOut R.remaining input.new) }
     ensures buffer_len { length buffer.new ≡ length buffer.old }
-    ensures most { ReadsUpTo (len - filled) R.remaining input.old input.new }
-    ensures stream { ReadsOn R.remaining input.old input.new result }
+    ensures stream { ReadsOn (len - filled) R.remaining input.old input.new result }
 {
     let more = fill(input, &mut buffer[filled..len])?;
     Ok(filled + more)

@@ -22,7 +22,7 @@ returns-in_err-join_all-clause-taken g c =
     let body = c.args.body.now in
     let es = map owned_cell c.in_ok-cells.cells.items in
     let read : page_at s body ≡ Ok es = subst (λ l. page_at l body ≡ Ok es) c.schema.ensures.value
-    c.in_ok-cells.ensures.exact in
+    c.in_ok-cells.ensures.reads.exact in
     let front = c.in_err-join_all.ensures.front in
     let memory : c.from_residual-in_err-join_all.result ≡ Err Memory = search rules in
     memory_taken joined Waiting c.from_residual-in_err-join_all.result (page_taken s body) (take front.0 es) memory

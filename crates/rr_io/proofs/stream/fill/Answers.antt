@@ -22,23 +22,28 @@ loop-filled-preserved g c =
       count = search rules;
     }
 
-pub returns-then-given-eq0-clause-most : goal.returns-then-given-eq0-clause-most
-returns-then-given-eq0-clause-most g c =
-    let old = c.loop-filled.buf in
-    let new = c.read_some.new.buf in
-    let at = c.loop-filled.filled in
-    let given = c.in_ok-given.given in
-    let none : given ≡ 0 = c.if-given-eq0.true in
-    let same = same_len_mid at (length old - at) old new (c.read_some.auto.buf) in (
-      take at old ++ take given new,
-      omega (
-        arith,
-        none,
-        same,
-        length-take at old,
-        length-take given new,
-        length-append (take at old) (take given new),
-        c.loop-filled.invariant.within,
-      ),
-      Consumes-trans _ _ _ _ _ c.loop-filled.invariant.taken c.in_ok-given.ensures.bytes.0,
-    )
+pub returns-then-given-eq0-clause-stream : goal.returns-then-given-eq0-clause-stream
+returns-then-given-eq0-clause-stream g c = record {
+  front = search rules;
+  most =
+      let old = c.loop-filled.buf in
+      let new = c.read_some.new.buf in
+      let at = c.loop-filled.filled in
+      let given = c.in_ok-given.given in
+      let none : given ≡ 0 = c.if-given-eq0.true in
+      let same = same_len_mid at (length old - at) old new (c.read_some.auto.buf) in (
+        take at old ++ take given new,
+        omega (
+          arith,
+          none,
+          same,
+          length-take at old,
+          length-take given new,
+          length-append (take at old) (take given new),
+          c.loop-filled.invariant.within,
+        ),
+        Consumes-trans _ _ _ _ _ c.loop-filled.invariant.taken c.in_ok-given.ensures.bytes.0,
+      );
+  failures_never_fall = search rules;
+  failed = search rules;
+}

@@ -1,4 +1,4 @@
-use Rattle.std.proofs.Common.{arith, ℕ, ◌-◌, ◌≡◌, ◌++◌, ◌∷◌, [], ◌∙◌, sym, ap, refl, None, true, false}
+use Rattle.std.proofs.Common.{rules, arith, ℕ, ◌-◌, ◌≡◌, ◌++◌, ◌∷◌, [], ◌∙◌, sym, ap, refl, None, true, false}
 use Rattle.rr_page.specs.Found.{found_cell}
 use Rattle.rr_page.specs.PageReading.{is_after, last_name, cells_at}
 use Rattle.rr_page.proofs.LoopLemmas.{with_nothing, goes_on, ends, falls, is_done, last_name_push}
@@ -10,22 +10,28 @@ loop-init c =
     let all : c.args.count - 0 ≡ c.args.count = omega arith in
     ([], refl, with_nothing (read (c.args.count - 0)) ∙ ap read all)
 
-pub returns-in-Err-clause-refused : goal.returns-in-Err-clause-refused
-returns-in-Err-clause-refused c =
-    let so_far = c.loop.invariant in
-    ends c.args.version c.args.schema.now so_far.0 c.args.count c.loop.counter c.loop.rest.now
-    (cells_at c.args.version c.args.schema.now None c.args.count c.args.bytes.now) so_far.2 c.in-Err.fault
-    c.loop-test.true c.in-Err.ensures.found.read
+pub returns-in-Err-clause-checks : goal.returns-in-Err-clause-checks
+returns-in-Err-clause-checks c = record {
+  refused =
+      let so_far = c.loop.invariant in
+      ends c.args.version c.args.schema.now so_far.0 c.args.count c.loop.counter c.loop.rest.now
+      (cells_at c.args.version c.args.schema.now None c.args.count c.args.bytes.now) so_far.2 c.in-Err.fault
+      c.loop-test.true c.in-Err.ensures.found.read;
+  no_memory = search rules;
+}
 
-pub returns-then-not-may_follow-clause-refused : goal.returns-then-not-may_follow-clause-refused
-returns-then-not-may_follow-clause-refused c =
-    let so_far = c.loop.invariant in
-    let e = found_cell c.in-Ok.found.0 in
-    let falling : is_after (last_name so_far.0) e.0 ≡ false = ap (λ o. is_after o e.0) (sym so_far.1)
-    ∙ sym c.may_follow.ensures ∙ c.if-not-may_follow.true in
-    falls c.args.version c.args.schema.now so_far.0 c.args.count c.loop.counter c.loop.rest.now
-    (cells_at c.args.version c.args.schema.now None c.args.count c.args.bytes.now) so_far.2 e c.in-Ok.found.1.now
-    c.loop-test.true c.in-Ok.ensures.found.read falling
+pub returns-then-not-may_follow-clause-checks : goal.returns-then-not-may_follow-clause-checks
+returns-then-not-may_follow-clause-checks c = record {
+  refused =
+      let so_far = c.loop.invariant in
+      let e = found_cell c.in-Ok.found.0 in
+      let falling : is_after (last_name so_far.0) e.0 ≡ false = ap (λ o. is_after o e.0) (sym so_far.1)
+      ∙ sym c.may_follow.ensures ∙ c.if-not-may_follow.true in
+      falls c.args.version c.args.schema.now so_far.0 c.args.count c.loop.counter c.loop.rest.now
+      (cells_at c.args.version c.args.schema.now None c.args.count c.args.bytes.now) so_far.2 e c.in-Ok.found.1.now
+      c.loop-test.true c.in-Ok.ensures.found.read falling;
+  no_memory = search rules;
+}
 
 pub loop-preserved : goal.loop-preserved
 loop-preserved c =

@@ -3,11 +3,7 @@ use Rattle.rr_snapshot.proofs.ToldLemmas.{archives_told}
 use Rattle.rr_snapshot.proofs.fields.archives_of.Goals as goal
 
 pub returns-clause-addition : goal.returns-clause-addition
-returns-clause-addition c = (archives_told c.args.version c.args.schema.now c.args.number c.args.bytes.now
-    c.in_ok-field.field.now c.in_ok-field.rest.now c.in-Some.addition c.in_ok-field.ensures.read
-    (sym c.in-Some.ensures)).0
-
-pub returns-clause-archive_count : goal.returns-clause-archive_count
-returns-clause-archive_count c = (archives_told c.args.version c.args.schema.now c.args.number c.args.bytes.now
-    c.in_ok-field.field.now c.in_ok-field.rest.now c.in-Some.addition c.in_ok-field.ensures.read
-    (sym c.in-Some.ensures)).1
+returns-clause-addition c =
+    let told = archives_told c.args.version c.args.schema.now c.args.number c.args.bytes.now c.in_ok-field.field.now
+    c.in_ok-field.rest.now c.in-Some.addition c.in_ok-field.ensures.read (sym c.in-Some.ensures) in
+    record { addition = told.0; archive_count = told.1 }

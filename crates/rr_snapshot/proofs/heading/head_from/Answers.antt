@@ -129,7 +129,7 @@ returns-in_err-addition-clause-piece g c = record {
       let now = g.R.Read.remaining (inner_of c.archives_from.new.input) in
       let s = c.args.schema.now in
       let n = c.in_ok-version.number in
-      let few = c.in_ok-version.ensures.number_at_most in
+      let few = c.in_ok-version.ensures.number.at_most in
       let all = length (schema_bytes s) in
       took_more 10 (9 * n + 2) (all + 11) old mid now c.start_from.ensures.piece.most c.archives_from.ensures.piece.most
       (omega (arith, few, schema_len s));
@@ -148,7 +148,7 @@ returns-in-Err-clause-piece g c = record {
       let now = g.R.Read.remaining (inner_of c.archives_from.new.input) in
       let s = c.args.schema.now in
       let n = c.in_ok-version.number in
-      let few = c.in_ok-version.ensures.number_at_most in
+      let few = c.in_ok-version.ensures.number.at_most in
       let all = length (schema_bytes s) in
       took_more 10 (9 * n + 2) (all + 11) old mid now c.start_from.ensures.piece.most c.archives_from.ensures.piece.most
       (omega (arith, few, schema_len s));
@@ -170,7 +170,7 @@ returns-in_err-count-clause-piece g c = record {
       let new = g.R.Read.remaining (inner_of c.count_from.new.input) in
       let s = c.args.schema.now in
       let n = c.in_ok-version.number in
-      let few = c.in_ok-version.ensures.number_at_most in
+      let few = c.in_ok-version.ensures.number.at_most in
       let all = length (schema_bytes s) in
       took_more (all + 7) 4 (all + 11) old now new (took_more 10 (9 * n + 2) (all + 7) old mid now
       c.start_from.ensures.piece.most c.archives_from.ensures.piece.most (omega (arith, few, schema_len s)))
@@ -200,7 +200,7 @@ returns-clause-piece g c = record {
       let new = g.R.Read.remaining (inner_of c.count_from.new.input) in
       let s = c.args.schema.now in
       let n = c.in_ok-version.number in
-      let few = c.in_ok-version.ensures.number_at_most in
+      let few = c.in_ok-version.ensures.number.at_most in
       let all = length (schema_bytes s) in
       took_more (all + 7) 4 (all + 11) old now new (took_more 10 (9 * n + 2) (all + 7) old mid now
       c.start_from.ensures.piece.most c.archives_from.ensures.piece.most (omega (arith, few, schema_len s)))
@@ -215,7 +215,7 @@ returns-in-Err-clause-bad_origin g c = λ e.
     let now = g.R.Read.remaining (inner_of c.archives_from.new.input) in
     let s = c.args.schema.now in
     let n = c.in_ok-version.number in
-    let few = c.in_ok-version.ensures.number_at_most in
+    let few = c.in_ok-version.ensures.number.at_most in
     let all = length (schema_bytes s) in
     took_more 10 (9 * n + 2) (all + 11 - 4) old mid now c.start_from.ensures.piece.most
     c.archives_from.ensures.piece.most

@@ -100,7 +100,7 @@ returns-in_err-got-clause-most g c =
     let more = c.cell_len-len.ensures.more (omega (arith, head_len, low)) in
     let len = c.cell_len-len.result in
     let after = subst (λ (n : ℕ). TakesAtMost (len - n) (g.R.Read.remaining (inner_of c.fill_up_to.new.input))
-    (g.R.Read.remaining (inner_of c.fill_up_to-2.new.input))) (sym head_len) c.fill_up_to-2.ensures.most in
+    (g.R.Read.remaining (inner_of c.fill_up_to-2.new.input))) (sym head_len) c.fill_up_to-2.ensures.stream.most in
     took_at_most (g.R.Read.remaining (inner_of c.args.input.now)) (g.R.Read.remaining (inner_of c.fill_up_to.new.input))
     (g.R.Read.remaining (inner_of c.fill_up_to-2.new.input)) head len MAX_CELL_LEN c.in_ok-head.ensures.bytes after
     more fits
@@ -117,7 +117,7 @@ returns-in_err-cell-clause-most g c =
     let more = c.cell_len-len.ensures.more (omega (arith, head_len, low)) in
     let len = c.cell_len-len.result in
     let after = subst (λ (n : ℕ). TakesAtMost (len - n) (g.R.Read.remaining (inner_of c.fill_up_to.new.input))
-    (g.R.Read.remaining (inner_of c.fill_up_to-2.new.input))) (sym head_len) c.fill_up_to-2.ensures.most in
+    (g.R.Read.remaining (inner_of c.fill_up_to-2.new.input))) (sym head_len) c.fill_up_to-2.ensures.stream.most in
     took_at_most (g.R.Read.remaining (inner_of c.args.input.now)) (g.R.Read.remaining (inner_of c.fill_up_to.new.input))
     (g.R.Read.remaining (inner_of c.fill_up_to-2.new.input)) head len MAX_CELL_LEN c.in_ok-head.ensures.bytes after
     more fits
@@ -134,7 +134,7 @@ returns-clause-most g c =
     let more = c.cell_len-len.ensures.more (omega (arith, head_len, low)) in
     let len = c.cell_len-len.result in
     let after = subst (λ (n : ℕ). TakesAtMost (len - n) (g.R.Read.remaining (inner_of c.fill_up_to.new.input))
-    (g.R.Read.remaining (inner_of c.fill_up_to-2.new.input))) (sym head_len) c.fill_up_to-2.ensures.most in
+    (g.R.Read.remaining (inner_of c.fill_up_to-2.new.input))) (sym head_len) c.fill_up_to-2.ensures.stream.most in
     took_at_most (g.R.Read.remaining (inner_of c.args.input.now)) (g.R.Read.remaining (inner_of c.fill_up_to.new.input))
     (g.R.Read.remaining (inner_of c.fill_up_to-2.new.input)) head len MAX_CELL_LEN c.in_ok-head.ensures.bytes after
     more fits
