@@ -33,6 +33,6 @@ pub use check::{check_lines, check_lines_within};
 pub use ending::Ending;
 pub use fault::ToolFault;
 pub use orders::obey_order;
-pub use process::{file_fault, obey};
+pub use process::{file_fault, obey, run};
 pub use script::run_script;
 pub use words::read_order;

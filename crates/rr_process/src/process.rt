@@ -3,8 +3,10 @@
 use crate::ending::Ending;
 use crate::fault::ToolFault;
 use crate::orders::obey_order;
+use crate::words::read_order;
 use rr_io::Counted;
 use rr_words::Order;
+use std::env::Env;
 use std::io::ErrorKind;
 use std::rt::Files;
 use std::{fs, io};
@@ -22,10 +24,8 @@ pub fn file_fault(rt: &impl Eprint, file: &str, error: &io::Error) -> ToolFault 
     }
 }
 
-/// Obeys an order that has streams. The output goes to standard output, and the input comes from
-/// standard input, or from the script's file where one is named. A file that can't be opened is
-/// named on standard error.
-pub fn obey(
+/// Obeys an order over the streams of the process.
+fn obey_over_streams(
     rt: &(impl AllocGlobal + Files + Input + Print + Eprint),
     order: &Order,
 ) -> Result<Ending, ToolFault> {
@@ -37,5 +37,24 @@ pub fn obey(
     match fs::open(rt, file.as_str()) {
         Ok(script) => obey_order(alloc, order, &mut Counted::new(script), &mut output),
         Err(error) => Err(file_fault(rt, file.as_str(), &error)),
+    }
+}
+
+/// Obeys an order that has streams, and says how that ended. The output goes to standard output,
+/// and the input comes from standard input, or from the script's file where one is named. A file
+/// that can't be opened is named on standard error.
+pub fn obey(rt: &(impl AllocGlobal + Files + Input + Print + Eprint), order: &Order) -> Ending {
+    match obey_over_streams(rt, order) {
+        Ok(ending) => ending,
+        Err(fault) => Ending::Failed(fault),
+    }
+}
+
+/// Obeys the order of the process's own words, if it has streams, and says how that ended. An order
+/// to serve has none, and nothing is done.
+pub fn run(rt: &(impl AllocGlobal + Env + Files + Input + Print + Eprint)) -> Ending {
+    match read_order(rt) {
+        Ok(order) => obey(rt, &order),
+        Err(fault) => Ending::from(fault),
     }
 }

@@ -49,10 +49,7 @@ where
         save,
     } = &order
     else {
-        return match obey(rt, &order) {
-            Ok(ending) => ending,
-            Err(fault) => Ending::Failed(fault),
-        };
+        return obey(rt, &order);
     };
     let served = match Server::new(rt, config.as_str(), lent(save)) {
         Ok(server) => server.serve(*origin, lent(load)),
