@@ -7,3 +7,4 @@ pub mod ArchiveState
 pub mod LiveRows
 pub mod Entries
 pub mod Laws
+pub mod Stored

@@ -4,6 +4,7 @@ ghost use Rattle.std.specs.Prelude.{◌≡◌, [], ◌∷◌, is_none, IsTrue, I
 ghost use Rattle.rr_archive.specs.Row.{entry_at, with_entry};
 ghost use Rattle.rr_archive.specs.Changes.{Fits, entry_after};
 ghost use Rattle.rr_archive.specs.Entries.{items_of, has_room};
+ghost use Rattle.rr_archive.specs.Stored.{MakesRoom};
 
 use crate::change::{Change, contribution_after};
 use crate::entry::Entry;
@@ -21,8 +22,7 @@ pub enum Entries {
 }
 
 /// The entry of an origin that had none, after a change.
-fn first_entry(origin: Origin, change: &Change) -> Entry
-    requires { Fits (entry_at [] origin) change.now }
+pub fn first_entry(origin: Origin, change: &Change) -> Entry
     ensures { result ≡ entry_after [] origin change.now }
 {
     Entry {
@@ -112,9 +112,8 @@ impl Entries {
 
     /// Makes room for an entry of an origin, so that the next `change` of it can't fail.
     pub fn make_room(&mut self, alloc: Global, origin: Origin) -> Result<(), AllocError>
-        ensures items { items_of self.new ≡ items_of self.old }
-        ensures room { OnOk result (IsTrue (has_room self.new origin)) }
-        ensures room_suffices { IsTrue (has_room self.old origin) → IsOk result }
+        ensures { MakesRoom (has_room self.old origin) (has_room self.new origin)
+            (items_of self.old) (items_of self.new) result }
     {
         match self {
             Entries::Empty => Ok(()),

@@ -1,14 +1,10 @@
 //! An archive as an ordered map from slots to rows.
-ghost use Rattle.std.specs.Prelude.{◌≡◌, IsTrue, IsFalse, IsOk, OnOk, OnErr, Some};
+ghost use Rattle.std.specs.Prelude.{Some};
 ghost use Rattle.std.proofs.Props.{props};
-ghost use Rattle.std.specs.FinMap as fin;
-ghost use Rattle.rr_join.specs.Maps.{trimmed};
-ghost use Rattle.rr_join.specs.Horizon.{is_above};
-ghost use Rattle.rr_archive.specs.CellSlots.{cell_slot, IsSlot, is_live_at};
-ghost use Rattle.rr_archive.specs.Changes.{Fits};
-ghost use Rattle.rr_archive.specs.Cells.{with_change};
+ghost use Rattle.rr_archive.specs.CellSlots.{cell_slot};
 ghost use Rattle.rr_archive.specs.Codes.{coded_rows};
 ghost use Rattle.rr_archive.specs.ArchiveState.{IsArchiveState, cells_in, is_ready_in};
+ghost use Rattle.rr_archive.specs.Stored.{CanTake, ChangesCell};
 
 use crate::archive::{Archive, Cells};
 use crate::change::Change;
@@ -35,20 +31,12 @@ impl PlainArchive {
     /// Changes the cell of a slot and an origin, and lets go of the rows that are then past the
     /// horizon. A change that is past it itself is passed over.
     fn change(&mut self, slot: i64, origin: Origin, change: &Change) -> Result<(), AllocError>
-        requires slot { IsSlot slot }
-        requires fits { Fits (fin.get (cells_in self.old.slots.rows.entries)
-            (cell_slot slot origin)) change.now }
-        ensures changed { OnOk result (cells_in self.new.slots.rows.entries
-            ≡ trimmed (is_live_at self.old.rows)
-            (with_change (cells_in self.old.slots.rows.entries) (cell_slot slot origin)
-            change.now)) }
-        ensures dead { IsFalse (is_above self.old.rows self.old.newest slot)
-            → cells_in self.new.slots.rows.entries ≡ cells_in self.old.slots.rows.entries }
-        ensures unchanged { OnErr result (cells_in self.new.slots.rows.entries
-            ≡ cells_in self.old.slots.rows.entries) }
-        ensures limit { self.new.rows ≡ self.old.rows }
-        ensures room { IsTrue (is_ready_in self.old.rows self.old.newest self.old.slots.rows.entries
-            (cell_slot slot origin)) → IsOk result }
+        requires { CanTake (cells_in self.old.slots.rows.entries) (cell_slot slot origin)
+            change.now }
+        ensures { ChangesCell (cell_slot slot origin) change.now self.old.newest
+            (is_ready_in self.old.rows self.old.newest self.old.slots.rows.entries
+            (cell_slot slot origin)) self.old.rows self.new.rows
+            (cells_in self.old.slots.rows.entries) (cells_in self.new.slots.rows.entries) result }
     {
         if !is_live(self.rows, self.newest, slot) {
             return Ok(());

@@ -1,8 +1,9 @@
 //! The entries of one row, ascending by origin.
-ghost use Rattle.std.specs.Prelude.{◌≡◌, ◌<◌, vec_len, vec_capacity, is_none, IsTrue, IsOk, OnOk, OnErr, IfOk};
+ghost use Rattle.std.specs.Prelude.{◌≡◌, is_none, IfOk};
 ghost use Rattle.std.specs.List.{find, position_from};
-ghost use Rattle.rr_archive.specs.Row.{entry_at, with_entry, is_from, is_after, ascends};
+ghost use Rattle.rr_archive.specs.Row.{entry_at, is_from, is_after};
 ghost use Rattle.rr_archive.specs.Changes.{Fits, entry_after};
+ghost use Rattle.rr_archive.specs.Stored.{SetsEntry};
 
 use crate::change::{Change, contribution_after};
 use crate::entry::Entry;
@@ -43,10 +44,7 @@ pub fn first_after(row: &[Entry], is_later: bool, origin: Origin) -> Option<Entr
 
 /// Sets the entry of an origin.
 fn set_entry(row: &mut Vec<Entry>, entry: Entry) -> Result<(), AllocError>
-    ensures set { OnOk result (row.new.items ≡ with_entry row.old.items entry) }
-    ensures unchanged { OnErr result (row.new.items ≡ row.old.items) }
-    ensures ascend { IsTrue (ascends row.old.items) → IsTrue (ascends row.new.items) }
-    ensures room { vec_len row.old < vec_capacity row.old → IsOk result }
+    ensures { SetsEntry entry row.old row.new result }
 {
     let at = first_from(row, entry.origin).unwrap_or(row.len());
     if at < row.len() && row[at].origin == entry.origin {
@@ -64,12 +62,8 @@ pub fn change_entry(
     change: &Change,
 ) -> Result<bool, AllocError>
     requires { Fits (entry_at row.old.items origin) change.now }
-    ensures changed { OnOk result (row.new.items
-        ≡ with_entry row.old.items (entry_after row.old.items origin change.now)) }
+    ensures sets { SetsEntry (entry_after row.old.items origin change.now) row.old row.new result }
     ensures is_new { IfOk result (λ is_new. is_new ≡ is_none (entry_at row.old.items origin)) }
-    ensures unchanged { OnErr result (row.new.items ≡ row.old.items) }
-    ensures ascend { IsTrue (ascends row.old.items) → IsTrue (ascends row.new.items) }
-    ensures room { vec_len row.old < vec_capacity row.old → IsOk result }
 {
     let known = entry_at(row, origin);
     let contribution = contribution_after(known, change);

@@ -1,5 +1,5 @@
 -- What a block stores of each row, as its parts change.
-use Rattle.std.proofs.Common.{◌++◌, ◌+◌, get_or, take, arith, ◌≡◌, ℕ, ◌<◌, true, false, cond, eqb, ◌&&◌, List, [], ◌∷◌, length, map, set, Result, Ok, Err, OnOk, OnErr, refl, sym, ap, ◌∙◌, subst, ◌⊎◌, ⊎_elim, Option, Some, None, is_some, is_none, IsTrue, true≢false}
+use Rattle.std.proofs.Common.{◌++◌, ◌+◌, get_or, take, arith, ◌≡◌, ℕ, ◌<◌, true, false, cond, eqb, ◌&&◌, List, [], ◌∷◌, length, map, set, Result, OnOk, refl, sym, ap, ◌∙◌, subst, ◌⊎◌, ⊎_elim, Option, Some, None, is_some, is_none, IsTrue, true≢false}
 use Rattle.std.proofs.lemmas.Bool.{eqb-true, and_parts, and_from}
 use Rattle.rr_archive.specs.declared.entry.Entry.{Entry}
 use Rattle.rr_archive.specs.declared.entries.Entries.{Entries}
@@ -223,12 +223,6 @@ pub room_there : {T E : Type 0} (r : Result T E) (old new : Block) (k at origin 
 room_there r old new k at origin was es place has mask items room =
     on_ok_weaker r (λ here. entries_have_room new k origin es (entries_there old new k at was es place has mask items)
     here) room
-
--- ---- what either result tells
-
-pub either_way : {T E P : Type 0} (r : Result T E) → OnOk r P → OnErr r P → P
-either_way (Ok x) p q = p
-either_way (Err e) p q = q
 
 -- ---- entries that are copied
 

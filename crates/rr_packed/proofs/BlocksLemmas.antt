@@ -1,5 +1,5 @@
 -- What is stored of each slot, as blocks change, are added and leave.
-use Rattle.std.proofs.Common.{◌≡◌, ℕ, ◌+◌, ◌-◌, ◌<◌, max, min, Bool, ℤ, pos, ◌+ℤ◌, ◌*ℤ◌, true, false, cond, eqb, List, [], ◌∷◌, ◌++◌, map, drop, length, get_or, refl, sym, ap, ◌∙◌, subst, ◌⊎◌, inr, Option, Some, None, Result, Ok, Err, OnOk, OnErr, IsTrue, Less, int_cmp, arith, true≢false}
+use Rattle.std.proofs.Common.{◌≡◌, ℕ, ◌+◌, ◌-◌, ◌<◌, max, min, Bool, ℤ, pos, ◌+ℤ◌, ◌*ℤ◌, true, false, cond, eqb, List, [], ◌∷◌, ◌++◌, map, drop, length, get_or, refl, sym, ap, ◌∙◌, subst, ◌⊎◌, inr, Option, Some, None, Result, Ok, Err, OnOk, OnErr, IsTrue, is_some, Less, int_cmp, arith, true≢false}
 use Rattle.std.specs.Prelude.{int_lt, nat_lt}
 use Rattle.std.specs.List.{AllByRecursion}
 use Rattle.std.specs.List.Sorted.{IsStrictlySortedBy}
@@ -121,30 +121,18 @@ blocks_changed old new slot b e sets set = λ s.
     ] refl
 
 -- with the entry of an origin changed in a block that is there
-pub change_there : (old new : List (ℤ × HeldBlock)) (slot : ℤ) (was b : HeldBlock) (origin : ℕ) (change : Change)
-    → IsBlockSet (block_of slot) b old new → Some was ≡ block_at old (block_of slot)
+pub change_there : (rows : ℤ → List Entry) (old new : List (ℤ × HeldBlock)) (slot : ℤ) (was b : HeldBlock) (origin : ℕ)
+    (change : Change) → items_by_slot old ≡ rows → IsBlockSet (block_of slot) b old new
+    → Some was ≡ block_at old (block_of slot)
     → IsRowSet (row_of slot) (with_entry (stored_in was (row_of slot))
     (entry_after (stored_in was (row_of slot)) origin change)) (stored_in was) (stored_in b)
-    → IsSlotSet slot (entry_after (items_by_slot old slot) origin change) (items_by_slot old) (items_by_slot new)
-change_there old new slot was b origin change sets has changed =
+    → IsSlotSet slot (entry_after (rows slot) origin change) rows (items_by_slot new)
+change_there rows old new slot was b origin change same sets has changed =
     let here = sym (slot_found old slot was has) in
-    blocks_changed old new slot b (entry_after (items_by_slot old slot) origin change) sets (λ n.
+    subst (λ f. IsSlotSet slot (entry_after (f slot) origin change) f (items_by_slot new)) same
+    (blocks_changed old new slot b (entry_after (items_by_slot old slot) origin change) sets (λ n.
     changed n ∙ (λ i. cond (eqb n (row_of slot)) (with_entry (here i) (entry_after (here i) origin change))
-    (items_of_block (has i) n)))
-
--- and in a block that is new
-pub change_new : (old new : List (ℤ × HeldBlock)) (slot : ℤ) (was b : HeldBlock) (origin : ℕ) (change : Change)
-    → IsBlockSet (block_of slot) b old new → None ≡ block_at old (block_of slot) → ((n : ℕ) → stored_in was n ≡ [])
-    → IsRowSet (row_of slot) (with_entry (stored_in was (row_of slot))
-    (entry_after (stored_in was (row_of slot)) origin change)) (stored_in was) (stored_in b)
-    → IsSlotSet slot (entry_after (items_by_slot old slot) origin change) (items_by_slot old) (items_by_slot new)
-change_new old new slot was b origin change sets none empty changed =
-    let here = empty (row_of slot) ∙ sym (slot_missing old slot none) in
-    blocks_changed old new slot b (entry_after (items_by_slot old slot) origin change) sets (λ n.
-    changed n
-    ∙ (λ i. cond (eqb n (row_of slot)) (with_entry (here i) (entry_after (here i) origin change)) (empty n i))
-    ∙ (λ i. cond (eqb n (row_of slot)) (with_entry (items_by_slot old slot)
-    (entry_after (items_by_slot old slot) origin change)) (items_of_block (none i) n)))
+    (items_of_block (has i) n))))
 
 -- ---- room in the row of a slot
 
@@ -154,11 +142,21 @@ pub room_found : (bs : Blocks) (slot : ℤ) (origin : ℕ) (b : HeldBlock)
 unfolding has_room_at
 room_found bs slot origin b has room = subst (λ o. block_has_room o (row_of slot) origin ≡ true) (sym has) room
 
-pub room_missing : (bs : Blocks) (slot : ℤ) (origin : ℕ) → None ≡ block_at (all_blocks bs) (block_of slot)
-    → IsTrue (has_room_at bs slot origin) → ⊥
+-- only a block that is there has room
+pub room_there : (bs : Blocks) (slot : ℤ) (origin : ℕ) → IsTrue (has_room_at bs slot origin)
+    → IsTrue (is_some (block_at (all_blocks bs) (block_of slot)))
 unfolding has_room_at
-room_missing bs slot origin none room = true≢false
-    (sym (subst (λ o. block_has_room o (row_of slot) origin ≡ true) (sym none) room))
+room_there bs slot origin room = some (block_at (all_blocks bs) (block_of slot)) room
+  where
+    some : (o : Option HeldBlock) → IsTrue (block_has_room o (row_of slot) origin) → IsTrue (is_some o)
+    some None h = h
+    some (Some b) h = refl
+
+pub room_stays : (old new : Blocks) (slot : ℤ) (origin : ℕ)
+    → (IsTrue (is_some (block_at (all_blocks old) (block_of slot))) → new ≡ old) → IsTrue (has_room_at old slot origin)
+    → IsTrue (has_room_at new slot origin)
+room_stays old new slot origin stays room = subst (λ (b : Blocks). IsTrue (has_room_at b slot origin))
+    (sym (stays (room_there old slot origin room))) room
 
 pub room_at : (old : List (ℤ × HeldBlock)) (new : Blocks) (slot : ℤ) (origin : ℕ) (b : HeldBlock)
     → IsBlockSet (block_of slot) b old (all_blocks new) → IsTrue (has_room_held b (row_of slot) origin)

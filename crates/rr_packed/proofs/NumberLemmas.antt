@@ -342,14 +342,22 @@ ascend_with n b (x ∷ bs) up none = elim (int_lt x.0 n) as
         ap (λ c. cond c (Some x.1) (block_at bs n)) (ap (is_at (int_cmp n)) e ∙ itself n) in
         absurd cc
 
--- a block was added
-pub record IsAdded (n : ℤ) (b : HeldBlock) (old new : List (ℤ × HeldBlock)) : Type 0 where
+inserted_there : (bs : List (ℤ × HeldBlock)) (n : ℤ) (at : ℕ) (b : HeldBlock) → at ≤ length bs
+    → IsPlaceOf n (insert bs at (n, b)) at
+inserted_there bs n zero b h = refl
+inserted_there [] n (suc at) b h = absurd (omega arith)
+inserted_there (x ∷ bs) n (suc at) b h = inserted_there bs n at b (omega arith)
+
+-- a block was added, at a place
+pub record IsAdded (n : ℤ) (at : ℕ) (b : HeldBlock) (old new : List (ℤ × HeldBlock)) : Type 0 where
   pub sets : IsBlockSet n b old new
+  pub place : IsPlaceOf n new at
   pub ascend : Ascend new
 
 added_at : (bs new : List (ℤ × HeldBlock)) (n : ℤ) (at : ℕ) (b : HeldBlock) → Ascend bs → IsGapFor n bs at
-    → insert bs at (n, b) ≡ new → IsAdded n b bs new
+    → insert bs at (n, b) ≡ new → IsAdded n at b bs new
 added_at bs new n at b up gap same = record {
+  place = subst (λ l. IsPlaceOf n l at) same (inserted_there bs n at b (gap_within bs n at gap));
   sets = λ q. ap (λ l. block_at l q) (sym same) ∙ lookup-insert (eq_by_cmp_equiv int_cmp_total) n b q bs at
       (none_passes_from_lookup (is_at (int_cmp n)) bs gap.0);
   ascend = subst Ascend (ap (λ i. insert bs i (n, b)) (sym gap.1) ∙ same) (ascend_with n b bs up gap.0);
@@ -359,7 +367,7 @@ added_at bs new n at b up gap same = record {
 pub older_added : (older : List (ℤ × HeldBlock)) (newest : Option (ℤ × HeldBlock)) (n : ℤ) (at : ℕ) (b : HeldBlock)
     → Ascend (older ++ option_to_list newest) → IsGapFor n (older ++ option_to_list newest) at
     → at < length (older ++ option_to_list newest)
-    → IsAdded n b (older ++ option_to_list newest) (insert older at (n, b) ++ option_to_list newest)
+    → IsAdded n at b (older ++ option_to_list newest) (insert older at (n, b) ++ option_to_list newest)
 older_added older newest n at b up gap before =
     added_at (older ++ option_to_list newest) (insert older at (n, b) ++ option_to_list newest) n at b up gap
     (insert-append_left older (option_to_list newest) at (n, b) (within newest before))
@@ -373,7 +381,7 @@ insert_last [] b = refl
 insert_last (x ∷ bs) b = ap (λ l. x ∷ l) (insert_last bs b)
 
 pub newest_added : (bs : List (ℤ × HeldBlock)) (n : ℤ) (at : ℕ) (b : HeldBlock) → Ascend bs → IsGapFor n bs at
-    → length bs ≤ at → IsAdded n b bs (bs ++ (n, b) ∷ [])
+    → length bs ≤ at → IsAdded n at b bs (bs ++ (n, b) ∷ [])
 newest_added bs n at b up gap past =
     let within = gap_within bs n at gap in
     let last : at ≡ length bs = omega (arith, within, past) in

@@ -1,11 +1,10 @@
 -- What blocks store: the entries of a row by its number in a block, and by its slot.
-use Rattle.std.specs.Prelude.{◌≡◌, ℕ, zero, suc, ◌+◌, ℤ, ◌==◌, Bool, false, ◌&&◌, List, [], ◌∷◌, ◌++◌, length, Option, Some, None, is_none, slice_get, int_lt, Result, IsOk, IsTrue, OnErr, OnOk, if◌then◌else◌}
+use Rattle.std.specs.Prelude.{◌≡◌, ℕ, zero, suc, ◌+◌, ℤ, ◌==◌, Bool, false, ◌&&◌, List, [], ◌∷◌, ◌++◌, length, Option, Some, None, is_none, slice_get, int_lt, if◌then◌else◌}
 use Rattle.std.specs.List.{prefix_len}
 use Rattle.std.specs.Map.{lookup, keys_of}
 use Rattle.std.specs.Option.{option_to_list}
 use Rattle.std.specs.BTreeMap.{is_at}
 use Rattle.std.specs.Ordering.{int_cmp, int_eq}
-use Rattle.std.specs.declared.alloc.AllocError.{AllocError}
 use Rattle.rr_archive.specs.declared.entry.Entry.{Entry}
 use Rattle.rr_archive.specs.declared.entries.Entries.{Entries}
 use Rattle.rr_archive.specs.Entries.{items_of, has_room}
@@ -23,21 +22,6 @@ use Rattle.rr_packed.specs.Slots.{block_of, row_of}
 unfoldable pub entries_in_all : (ℕ → List Entry) → ℕ → ℕ
 entries_in_all row zero = 0
 entries_in_all row (suc n) = entries_in_all row n + length (row n)
-
--- ---- what changes do to what is stored, however it is seen
-
--- nothing changed; there is room unless memory ran out, which it doesn't where there was room
-pub record MakesRoom {S : Type 0} (had has : Bool) (old new : S) (result : Result (Unit {0}) AllocError) : Type 0 where
-  pub same : new ≡ old
-  pub room : OnOk result (IsTrue has)
-  pub room_suffices : IsTrue had → IsOk result
-
--- it was changed, or memory ran out and it was not; where there was room, memory doesn't run out
-pub record ChangesStored {S : Type 0} (set : S → S → Type 0) (had : Bool) (old new : S)
-    (result : Result (Unit {0}) AllocError) : Type 0 where
-  pub changed : OnOk result (set old new)
-  pub unchanged : OnErr result (new ≡ old)
-  pub room : IsTrue had → IsOk result
 
 -- ---- in one block, by the number of a row
 
@@ -59,6 +43,17 @@ unfoldable pub has_room_in : Block → ℕ → ℕ → Bool
 has_room_in b number origin =
     room_held (item_in b.rows number) (is_none (place_at b.readings.mask number)
     && (has_spare b.readings && has_spare b.rows)) origin
+
+-- a row is held neither as a reading nor as entries
+pub record IsUnheld (b : Block) (number : ℕ) : Type 0 where
+  pub readings : place_at b.readings.mask number ≡ None
+  pub rows : place_at b.rows.mask number ≡ None
+
+-- what its readings have in common may have changed, and no row
+pub record SetsSource (old new : Block) : Type 0 where
+  pub same : items_in new ≡ items_in old
+  pub readings : new.readings ≡ old.readings
+  pub rows : new.rows ≡ old.rows
 
 -- the entries of a row were set, and the others stay
 abbrev pub IsRowSet : ℕ → List Entry → (ℕ → List Entry) → (ℕ → List Entry) → Type 0

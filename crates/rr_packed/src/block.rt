@@ -1,11 +1,13 @@
 //! The rows of 64 slots that follow one another.
-ghost use Rattle.std.specs.Prelude.{◌≡◌, ◌<◌, ◌≤◌, ◌+◌, ◌⊎◌, ℕ, None, Some, is_some, [], ◌∷◌, map, IfOk, IfSome, IsTrue, IsOk, OnOk, OnErr};
+ghost use Rattle.std.specs.Prelude.{◌≡◌, ◌+◌, ◌-◌, ◌&&◌, ℕ, None, Some, is_some, [], ◌∷◌, map, IfOk, IfSome, IsTrue, IsOk, OnOk};
 ghost use Rattle.rr_archive.specs.Row.{entry_at, with_entry};
 ghost use Rattle.rr_archive.specs.Changes.{Fits, entry_after};
 ghost use Rattle.rr_archive.specs.Entries.{items_of};
-ghost use Rattle.rr_packed.specs.Sparse.{place_at, item_in, has_room};
+ghost use Rattle.rr_archive.specs.Stored.{ChangesStored, MakesRoom, PassesOver};
+ghost use Rattle.rr_packed.specs.Sparse.{place_at, item_in};
+ghost use Rattle.rr_packed.specs.Sparse.{has_room as has_spare};
 ghost use Rattle.rr_packed.specs.Readings.{entries_of, entries_read};
-ghost use Rattle.rr_packed.specs.Blocks.{items_in, has_room_in, entries_in_all, ChangesStored, IsRowSet, MakesRoom};
+ghost use Rattle.rr_packed.specs.Blocks.{items_in, has_room_in, entries_in_all, IsRowSet, IsUnheld, SetsSource};
 
 use crate::mask::ones_on;
 use crate::reading::{Reading, Source, are_same_readings, is_same_source};
@@ -13,8 +15,8 @@ use crate::row::Row;
 use crate::row_number::{RowNumber, RowRange};
 use crate::sparse::Sparse;
 use rr_archive::Entry;
-use rr_archive::change::{Change, contribution_after};
-use rr_archive::entries::Entries;
+use rr_archive::change::Change;
+use rr_archive::entries::{Entries, first_entry};
 use rr_schema::Origin;
 use std::alloc::{AllocError, Global};
 
@@ -102,9 +104,8 @@ impl Block {
     /// How many numbers on from one the next is that has a row, or the block ends: those between
     /// have no entry.
     pub(crate) fn rows_on(&self, number: RowNumber) -> u32
-        ensures at_least_one { 1 ≤ result }
-        ensures within { number.value + result ≤ 64 }
-        ensures empty { (i : ℕ) → 1 ≤ i → i < result → items_in self.now (number.value + i) ≡ [] }
+        ensures { PassesOver 1 (64 - number.value) (λ i. items_in self.now (number.value + i))
+            result }
     {
         let rest = (self.readings.mask | self.rows.mask) >> number.value >> 1;
         if rest == 0 {
@@ -141,28 +142,6 @@ impl Block {
         }
     }
 
-    /// Holds the row of a number as its entries, beside the reading, if it is held as a reading.
-    fn add_entries(&mut self, number: RowNumber) -> Result<(), AllocError>
-        ensures same { items_in self.new ≡ items_in self.old }
-        ensures source { self.new.source ≡ self.old.source }
-        ensures readings { self.new.readings ≡ self.old.readings }
-        ensures spare { OnOk result
-            (entries_read self.new.source (item_in self.new.readings number.value)
-            ≡ [] ⊎ IsTrue (is_some (item_in self.new.rows number.value))) }
-        ensures room { (origin : ℕ) → IsTrue (has_room_in self.old number.value origin)
-            → IsOk result }
-        ensures rows_stay { (origin : ℕ) → IsTrue (has_room_in self.old number.value origin)
-            → self.new.rows ≡ self.old.rows }
-    {
-        if self.has_entries(number) {
-            return Ok(());
-        }
-        match self.entry_read(number) {
-            Some(entry) => self.rows.insert(number, Entries::One(entry)),
-            None => Ok(()),
-        }
-    }
-
     /// Holds the row of a number as its entries, if it is held as a reading.
     fn unpack(&mut self, number: RowNumber) -> Result<(), AllocError>
         ensures same { items_in self.new ≡ items_in self.old }
@@ -172,7 +151,11 @@ impl Block {
         ensures room_stays { (origin : ℕ) → IsTrue (has_room_in self.old number.value origin)
             → IsTrue (has_room_in self.new number.value origin) }
     {
-        self.add_entries(number)?;
+        if !self.has_entries(number) {
+            if let Some(entry) = self.entry_read(number) {
+                self.rows.insert(number, Entries::One(entry))?;
+            }
+        }
         self.readings.remove(number);
         Ok(())
     }
@@ -180,8 +163,7 @@ impl Block {
     /// Whether a row has no entry.
     #[inline(always)]
     fn is_free(&self, number: RowNumber) -> bool
-        ensures readings { IsTrue result → place_at self.now.readings.mask number.value ≡ None }
-        ensures rows { IsTrue result → place_at self.now.rows.mask number.value ≡ None }
+        ensures { IsTrue result → IsUnheld self.now number.value }
     {
         self.readings.lacks(number) && self.rows.lacks(number)
     }
@@ -196,34 +178,21 @@ impl Block {
         if self.is_free(number) {
             return self.make_free_room(number);
         }
-        self.make_room_in_row(number, origin)
+        self.unpack(number)?;
+        match self.rows.find(number) {
+            Some(at) => self.rows.items[at].make_room(self.alloc, origin),
+            None => self.make_free_room(number),
+        }
     }
 
     /// Makes room for a row of either kind, for one that has no entry.
     #[inline(always)]
     fn make_free_room(&mut self, number: RowNumber) -> Result<(), AllocError>
-        requires readings { place_at self.old.readings.mask number.value ≡ None }
-        requires rows { place_at self.old.rows.mask number.value ≡ None }
-        ensures same { items_in self.new ≡ items_in self.old }
-        ensures room { (origin : ℕ)
-            → OnOk result (IsTrue (has_room_in self.new number.value origin)) }
-        ensures room_suffices { (origin : ℕ) → IsTrue (has_room_in self.old number.value origin)
-            → IsOk result }
-    {
-        self.readings.make_room()?;
-        self.rows.make_room()
-    }
-
-    /// `make_room`, for a row that has an entry.
-    fn make_room_in_row(&mut self, number: RowNumber, origin: Origin) -> Result<(), AllocError>
-        ensures { MakesRoom (has_room_in self.old number.value origin)
+        requires { IsUnheld self.old number.value }
+        ensures { (origin : ℕ) → MakesRoom (has_room_in self.old number.value origin)
             (has_room_in self.new number.value origin) (items_in self.old) (items_in self.new)
             result }
     {
-        self.unpack(number)?;
-        if let Some(at) = self.rows.find(number) {
-            return self.rows.items[at].make_room(self.alloc, origin);
-        }
         self.readings.make_room()?;
         self.rows.make_room()
     }
@@ -232,10 +201,7 @@ impl Block {
     /// The first reading of a block decides what the others have in common with it.
     #[inline(always)]
     fn reading_of(&mut self, origin: Origin, change: &Change) -> Option<Reading>
-        requires { Fits (entry_at [] origin) change.now }
-        ensures same { items_in self.new ≡ items_in self.old }
-        ensures readings { self.new.readings ≡ self.old.readings }
-        ensures rows { self.new.rows ≡ self.old.rows }
+        ensures source { SetsSource self.old self.new }
         ensures read { IfSome result (λ r. entries_read self.new.source (Some r)
             ≡ entry_after [] origin change.now ∷ []) }
     {
@@ -257,59 +223,28 @@ impl Block {
         }
     }
 
-    /// Gives back the room that was made for entries, if there are none and the readings have
-    /// filled theirs: so it is asked for a few times a block, and not at each reading.
-    #[inline(always)]
-    fn give_back(&mut self)
-        ensures { items_in self.new ≡ items_in self.old }
-    {
-        if !self.readings.has_room() {
-            self.rows.give_back();
-        }
-    }
-
-    /// Adds the entry of a row that has none.
+    /// Adds the entry of a row that has none. Gives back the room that was made for entries, if
+    /// there are none and the readings have filled theirs: so it is asked for a few times a block,
+    /// and not at each reading.
     #[inline(always)]
     fn add(&mut self, number: RowNumber, origin: Origin, change: &Change) -> Result<(), AllocError>
-        requires fits { Fits (entry_at [] origin) change.now }
-        requires readings { place_at self.old.readings.mask number.value ≡ None }
-        requires rows { place_at self.old.rows.mask number.value ≡ None }
-        ensures added { OnOk result (IsRowSet number.value (entry_after [] origin change.now ∷ [])
-            (items_in self.old) (items_in self.new)) }
-        ensures unchanged { OnErr result (items_in self.new ≡ items_in self.old) }
-        ensures room { IsTrue (has_room self.old.readings) → IsTrue (has_room self.old.rows)
-            → IsOk result }
+        requires { IsUnheld self.old number.value }
+        ensures { ChangesStored (IsRowSet number.value (entry_after [] origin change.now ∷ []))
+            (has_spare self.old.readings && has_spare self.old.rows) (items_in self.old)
+            (items_in self.new) result }
     {
         match self.reading_of(origin, change) {
             Some(reading) => {
                 let added = self.readings.insert(number, reading);
-                self.give_back();
+                if !self.readings.has_room() && self.rows.items.is_empty() {
+                    self.rows.shrink();
+                }
                 added
             }
-            None => self.add_entry(number, origin, change),
+            None => self
+                .rows
+                .insert(number, Entries::One(first_entry(origin, change))),
         }
-    }
-
-    /// `add`, as an entry whatever the change is.
-    fn add_entry(
-        &mut self,
-        number: RowNumber,
-        origin: Origin,
-        change: &Change,
-    ) -> Result<(), AllocError>
-        requires fits { Fits (entry_at [] origin) change.now }
-        requires rows { place_at self.old.rows.mask number.value ≡ None }
-        ensures added { OnOk result (IsRowSet number.value (entry_after [] origin change.now ∷ [])
-            (items_in self.old) (items_in self.new)) }
-        ensures unchanged { OnErr result (items_in self.new ≡ items_in self.old) }
-        ensures room { IsTrue (has_room self.old.rows) → IsOk result }
-    {
-        let contribution = contribution_after(None, change);
-        let entry = Entry {
-            origin,
-            contribution,
-        };
-        self.rows.insert(number, Entries::One(entry))
     }
 
     /// Changes the entry of an origin in a row.
@@ -329,28 +264,14 @@ impl Block {
         if self.is_free(number) {
             return self.add(number, origin, change);
         }
-        self.change_row(number, origin, change)
-    }
-
-    /// `change`, for a row that has an entry.
-    fn change_row(
-        &mut self,
-        number: RowNumber,
-        origin: Origin,
-        change: &Change,
-    ) -> Result<(), AllocError>
-        requires { Fits (entry_at (items_in self.old number.value) origin) change.now }
-        ensures { ChangesStored (IsRowSet number.value (with_entry (items_in self.old number.value)
-            (entry_after (items_in self.old number.value) origin change.now)))
-            (has_room_in self.old number.value origin) (items_in self.old) (items_in self.new)
-            result }
-    {
         self.unpack(number)?;
-        if let Some(at) = self.rows.find(number) {
-            self.rows.items[at].change(self.alloc, origin, change)?;
-            return Ok(());
+        match self.rows.find(number) {
+            Some(at) => {
+                self.rows.items[at].change(self.alloc, origin, change)?;
+                Ok(())
+            }
+            None => self.add(number, origin, change),
         }
-        self.add_entry(number, origin, change)
     }
 
     /// Gives back what its lists don't need.

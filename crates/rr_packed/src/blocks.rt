@@ -1,5 +1,5 @@
 //! The blocks of an archive, in order of their numbers.
-ghost use Rattle.std.specs.Prelude.{◌≡◌, ◌<◌, ◌≤◌, ◌+ℤ◌, ◌⊎◌, ◌↔◌, ◌++◌, ℕ, ℤ, pos, None, [], ◌∷◌, drop, length, map, int_lt, slice_index_or, IfOk, IfErr, IfSome, IsSome, IsTrue, IsOk, OnOk, OnErr};
+ghost use Rattle.std.specs.Prelude.{◌≡◌, ◌<◌, ◌≤◌, ◌+ℤ◌, ◌⊎◌, ◌↔◌, ◌++◌, ℕ, ℤ, pos, None, [], ◌∷◌, drop, length, map, int_lt, slice_index_or, IfOk, IfErr, IfSome, IsSome, IsTrue, IsOk, OnOk, OnErr, is_some};
 ghost use Rattle.std.proofs.Props.{props};
 ghost use Rattle.std.specs.List.Sorted.{IsStrictlySortedBy};
 ghost use Rattle.std.specs.Map.{keys_of};
@@ -56,8 +56,9 @@ pub(crate) fn row_of(slot: i64) -> RowNumber
 impl Blocks {
     ghost use Rattle.rr_archive.specs.Row.{entry_at};
     ghost use Rattle.rr_archive.specs.Changes.{Fits, entry_after};
+    ghost use Rattle.rr_archive.specs.Stored.{ChangesStored, MakesRoom};
     ghost use Rattle.rr_packed.specs.Readings.{entries_of};
-    ghost use Rattle.rr_packed.specs.Blocks.{all_blocks, block_at, count_before, row_at, has_room_at, starts_before, ChangesStored, IsPlaceOf, IsGapFor, IsBlockSet, IsSlotSet, MakesRoom};
+    ghost use Rattle.rr_packed.specs.Blocks.{all_blocks, block_at, count_before, row_at, has_room_at, starts_before, IsPlaceOf, IsGapFor, IsBlockSet, IsSlotSet};
 
     /// No blocks. It takes no memory yet.
     pub(crate) fn new(alloc: Global) -> Blocks
@@ -116,14 +117,6 @@ impl Blocks {
                 return Ok(self.older.len());
             }
         }
-        self.search(number)
-    }
-
-    /// `find`, among all blocks.
-    fn search(&self, number: i64) -> Result<usize, usize>
-        ensures found { IfOk result (IsPlaceOf number (all_blocks self.now)) }
-        ensures missing { IfErr result (IsGapFor number (all_blocks self.now)) }
-    {
         let at = self.count_before(number);
         if let Some((other, _)) = self.nth(at) {
             if *other == number {
@@ -148,7 +141,7 @@ impl Blocks {
 
     /// Makes place for one older block more.
     fn make_place(&mut self) -> Result<(), AllocError>
-        ensures same { all_blocks self.new ≡ all_blocks self.old }
+        ensures older { self.new.older.items ≡ self.old.older.items }
         ensures newest { self.new.newest ≡ self.old.newest }
         ensures place { OnOk result (deque_len self.new.older < deque_capacity self.new.older) }
     {
@@ -178,6 +171,7 @@ impl Blocks {
         requires { IsGapFor number (all_blocks self.old) at }
         ensures added { OnOk result (IsBlockSet number block (all_blocks self.old)
             (all_blocks self.new)) }
+        ensures place { OnOk result (IsPlaceOf number (all_blocks self.new) at) }
         ensures unchanged { OnErr result (all_blocks self.new ≡ all_blocks self.old) }
     {
         if self.nth(at).is_some() {
@@ -235,25 +229,33 @@ impl Blocks {
         }
     }
 
+    /// Where the block of a slot is. One without an entry is added, if there is none.
+    #[inline(always)]
+    fn place_of(&mut self, slot: i64) -> Result<usize, AllocError>
+        ensures same { row_at self.new ≡ row_at self.old }
+        ensures place { IfOk result (IsPlaceOf (block_of slot) (all_blocks self.new)) }
+        ensures was_there { IsTrue (is_some (block_at (all_blocks self.old) (block_of slot)))
+            → IsOk result }
+        ensures stays { IsTrue (is_some (block_at (all_blocks self.old) (block_of slot)))
+            → self.new ≡ self.old }
+    {
+        let number = block_of(slot);
+        match self.find(number) {
+            Ok(at) => Ok(at),
+            Err(at) => {
+                self.insert(at, number, HeldBlock::new(self.alloc))?;
+                Ok(at)
+            }
+        }
+    }
+
     /// Makes room for an entry of an origin in a slot.
     #[inline(always)]
     pub(crate) fn make_room(&mut self, slot: i64, origin: Origin) -> Result<(), AllocError>
         ensures { MakesRoom (has_room_at self.old slot origin) (has_room_at self.new slot origin)
             (row_at self.old) (row_at self.new) result }
     {
-        match self.find(block_of(slot)) {
-            Ok(at) => self.make_room_at(at, slot, origin),
-            Err(at) => self.make_new_room(at, slot, origin),
-        }
-    }
-
-    /// `make_room`, in the block at a place.
-    #[inline(always)]
-    fn make_room_at(&mut self, at: usize, slot: i64, origin: Origin) -> Result<(), AllocError>
-        requires { IsPlaceOf (block_of slot) (all_blocks self.old) at }
-        ensures { MakesRoom (has_room_at self.old slot origin) (has_room_at self.new slot origin)
-            (row_at self.old) (row_at self.new) result }
-    {
+        let at = self.place_of(slot)?;
         let row = row_of(slot);
         if at < self.older.len() {
             return self.older[at].1.make_room(self.alloc, row, origin);
@@ -262,19 +264,6 @@ impl Blocks {
             Some((_, block)) => block.make_room(self.alloc, row, origin),
             None => Ok(()),
         }
-    }
-
-    /// `make_room`, in a block that isn't there.
-    fn make_new_room(&mut self, at: usize, slot: i64, origin: Origin) -> Result<(), AllocError>
-        requires { IsGapFor (block_of slot) (all_blocks self.old) at }
-        ensures { MakesRoom (has_room_at self.old slot origin) (has_room_at self.new slot origin)
-            (row_at self.old) (row_at self.new) result }
-    {
-        let number = block_of(slot);
-        let row = row_of(slot);
-        let mut block = HeldBlock::new(self.alloc);
-        block.make_room(self.alloc, row, origin)?;
-        self.insert(at, number, block)
     }
 
     /// Changes the entry of an origin in a slot.
@@ -290,27 +279,7 @@ impl Blocks {
             (IsSlotSet slot (entry_after (row_at self.old slot) origin change.now))
             (has_room_at self.old slot origin) (row_at self.old) (row_at self.new) result }
     {
-        match self.find(block_of(slot)) {
-            Ok(at) => self.change_at(at, slot, origin, change),
-            Err(at) => self.change_new(at, slot, origin, change),
-        }
-    }
-
-    /// `change`, in the block at a place.
-    #[inline(always)]
-    fn change_at(
-        &mut self,
-        at: usize,
-        slot: i64,
-        origin: Origin,
-        change: &Change,
-    ) -> Result<(), AllocError>
-        requires place { IsPlaceOf (block_of slot) (all_blocks self.old) at }
-        requires fits { Fits (entry_at (row_at self.old slot) origin) change.now }
-        ensures { ChangesStored
-            (IsSlotSet slot (entry_after (row_at self.old slot) origin change.now))
-            (has_room_at self.old slot origin) (row_at self.old) (row_at self.new) result }
-    {
+        let at = self.place_of(slot)?;
         let row = row_of(slot);
         if at < self.older.len() {
             return self.older[at].1.change(self.alloc, row, origin, change);
@@ -319,27 +288,6 @@ impl Blocks {
             Some((_, block)) => block.change(self.alloc, row, origin, change),
             None => Ok(()),
         }
-    }
-
-    /// `change`, in a block that isn't there.
-    fn change_new(
-        &mut self,
-        at: usize,
-        slot: i64,
-        origin: Origin,
-        change: &Change,
-    ) -> Result<(), AllocError>
-        requires gap { IsGapFor (block_of slot) (all_blocks self.old) at }
-        requires fits { Fits (entry_at (row_at self.old slot) origin) change.now }
-        ensures { ChangesStored
-            (IsSlotSet slot (entry_after (row_at self.old slot) origin change.now))
-            (has_room_at self.old slot origin) (row_at self.old) (row_at self.new) result }
-    {
-        let number = block_of(slot);
-        let row = row_of(slot);
-        let mut block = HeldBlock::new(self.alloc);
-        block.change(self.alloc, row, origin, change)?;
-        self.insert(at, number, block)
     }
 
     /// Whether the first block is before that of a number.

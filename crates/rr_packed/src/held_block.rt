@@ -1,9 +1,10 @@
 //! A block that one archive has, or that several share.
-ghost use Rattle.std.specs.Prelude.{◌≡◌, ◌<◌, ◌≤◌, ◌+◌, ℕ, [], IfOk, IsTrue};
+ghost use Rattle.std.specs.Prelude.{◌≡◌, ◌+◌, ◌-◌, ℕ, [], IfOk, IsTrue};
 ghost use Rattle.rr_archive.specs.Row.{entry_at, with_entry};
 ghost use Rattle.rr_archive.specs.Changes.{Fits, entry_after};
+ghost use Rattle.rr_archive.specs.Stored.{ChangesStored, MakesRoom, PassesOver};
 ghost use Rattle.rr_packed.specs.Readings.{entries_of};
-ghost use Rattle.rr_packed.specs.Blocks.{items_in, has_room_in, stored_in, has_room_held, entries_in_all, ChangesStored, IsRowSet, MakesRoom};
+ghost use Rattle.rr_packed.specs.Blocks.{items_in, has_room_in, stored_in, has_room_held, entries_in_all, IsRowSet};
 
 use crate::block::Block;
 use crate::row::Row;
@@ -103,9 +104,8 @@ impl HeldBlock {
 
     /// As `Block::rows_on`.
     pub(crate) fn rows_on(&self, number: RowNumber) -> u32
-        ensures at_least_one { 1 ≤ result }
-        ensures within { number.value + result ≤ 64 }
-        ensures empty { (i : ℕ) → 1 ≤ i → i < result → stored_in self.now (number.value + i) ≡ [] }
+        ensures { PassesOver 1 (64 - number.value) (λ i. stored_in self.now (number.value + i))
+            result }
     {
         self.block().rows_on(number)
     }

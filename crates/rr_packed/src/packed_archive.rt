@@ -1,13 +1,9 @@
 //! An archive of packed rows.
-ghost use Rattle.std.specs.Prelude.{◌≡◌, ◌≤◌, IsTrue, IsFalse, IsOk, OnOk, OnErr};
+ghost use Rattle.std.specs.Prelude.{◌≤◌};
 ghost use Rattle.std.proofs.Props.{props};
-ghost use Rattle.std.specs.FinMap as fin;
-ghost use Rattle.rr_join.specs.Maps.{trimmed};
-ghost use Rattle.rr_join.specs.Horizon.{is_above};
-ghost use Rattle.rr_archive.specs.CellSlots.{cell_slot, IsSlot, is_live_at};
-ghost use Rattle.rr_archive.specs.Changes.{Fits};
-ghost use Rattle.rr_archive.specs.Cells.{with_change};
+ghost use Rattle.rr_archive.specs.CellSlots.{cell_slot};
 ghost use Rattle.rr_archive.specs.Codes.{coded_rows};
+ghost use Rattle.rr_archive.specs.Stored.{CanTake, ChangesCell};
 ghost use Rattle.rr_packed.specs.PackedCells.{IsArchiveState, cells_in, is_ready_in};
 
 use crate::blocks::Blocks;
@@ -56,23 +52,12 @@ impl PackedArchive {
     /// Changes the cell of a slot and an origin. A change that is past the horizon is passed over.
     #[inline(always)]
     fn change(&mut self, slot: i64, origin: Origin, change: &Change) -> Result<(), AllocError>
-        requires slot { IsSlot slot }
-        requires fits { Fits
-            (fin.get (cells_in self.old.rows self.old.newest self.old.blocks)
-            (cell_slot slot origin)) change.now }
-        ensures changed { OnOk result (cells_in self.new.rows self.new.newest self.new.blocks
-            ≡ trimmed (is_live_at self.old.rows)
-            (with_change (cells_in self.old.rows self.old.newest self.old.blocks)
-            (cell_slot slot origin) change.now)) }
-        ensures dead { IsFalse (is_above self.old.rows self.old.newest slot)
-            → cells_in self.new.rows self.new.newest self.new.blocks
-            ≡ cells_in self.old.rows self.old.newest self.old.blocks }
-        ensures unchanged { OnErr result (cells_in self.new.rows self.new.newest self.new.blocks
-            ≡ cells_in self.old.rows self.old.newest self.old.blocks) }
-        ensures limit { self.new.rows ≡ self.old.rows }
-        ensures room { IsTrue (is_ready_in self.old.rows self.old.newest self.old.blocks
-            (cell_slot slot origin))
-            → IsOk result }
+        requires { CanTake (cells_in self.old.rows self.old.newest self.old.blocks)
+            (cell_slot slot origin) change.now }
+        ensures { ChangesCell (cell_slot slot origin) change.now self.old.newest
+            (is_ready_in self.old.rows self.old.newest self.old.blocks (cell_slot slot origin))
+            self.old.rows self.new.rows (cells_in self.old.rows self.old.newest self.old.blocks)
+            (cells_in self.new.rows self.new.newest self.new.blocks) result }
     {
         if !is_live(self.rows, self.newest, slot) {
             return Ok(());

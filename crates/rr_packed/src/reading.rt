@@ -1,7 +1,6 @@
 //! A sample, as a row that it alone came to is held.
 ghost use Rattle.std.specs.Prelude.{◌≡◌, ◌<◌, ◌≤◌, [], IsTrue, IfSome};
-ghost use Rattle.rr_archive.specs.Changes.{Fits, entry_after};
-ghost use Rattle.rr_archive.specs.Row.{entry_at};
+ghost use Rattle.rr_archive.specs.Changes.{entry_after};
 ghost use Rattle.rr_text.specs.declared.limits.TheConstants.{MAX_NUMBER, MAX_STEPS};
 ghost use Rattle.rr_contrib.specs.Contributions.{of_one, slot_sample};
 
@@ -92,7 +91,6 @@ impl Reading {
     /// sample.
     #[inline(always)]
     pub(crate) fn after(origin: Origin, change: &Change) -> Option<(Source, Reading)>
-        requires { Fits (entry_at [] origin) change.now }
         ensures { IfSome result (λ r. entry_of r.0 r.1 ≡ entry_after [] origin change.now) }
     {
         match change {

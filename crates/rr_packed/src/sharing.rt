@@ -1,5 +1,5 @@
 //! Blocks that archives share.
-ghost use Rattle.std.specs.Prelude.{◌≡◌, ◌<◌, length, map, IfOk};
+ghost use Rattle.std.specs.Prelude.{◌≡◌, map, IfOk};
 ghost use Rattle.std.specs.Option.{option_to_list};
 ghost use Rattle.rr_packed.specs.Blocks.{row_at, stored};
 
@@ -9,15 +9,6 @@ use std::alloc::{AllocError, Global};
 use std::collections::VecDeque;
 
 impl Blocks {
-    /// Makes an older block ready to be shared. Answers whether it did.
-    fn finish_at(&mut self, at: usize) -> bool
-        requires { at < length self.old.older.items }
-        ensures same { row_at self.new ≡ row_at self.old }
-        ensures count { length self.new.older.items ≡ length self.old.older.items }
-    {
-        self.older[at].1.finish(self.alloc)
-    }
-
     /// Makes the older blocks ready to be shared, from the last one back to one that was.
     pub(crate) fn finish(&mut self)
         ensures { row_at self.new ≡ row_at self.old }
@@ -25,36 +16,27 @@ impl Blocks {
         let mut at = self.older.len();
         while at > 0 {
             at -= 1;
-            if !self.finish_at(at) {
+            if !self.older[at].1.finish(self.alloc) {
                 return;
             }
         }
     }
 
-    /// Shares the block of the same number of other blocks in place of an older one here, if both
-    /// hold the same rows. Answers whether it did.
-    fn share_at(&mut self, at: usize, other: &Blocks) -> bool
-        requires { at < length self.old.older.items }
-        ensures same { row_at self.new ≡ row_at self.old }
-        ensures count { length self.new.older.items ≡ length self.old.older.items }
-    {
-        if self.older[at].1.is_shared() {
-            return false;
-        }
-        match other.get(self.older[at].0) {
-            Some(theirs) => self.older[at].1.share(theirs),
-            None => false,
-        }
-    }
-
-    /// Shares the older blocks with other blocks, from the last one back to one that was shared.
+    /// Shares other blocks in place of the older ones of the same numbers here, if both hold the
+    /// same rows: from the last one back to one that was shared, or can't be.
     pub(crate) fn share(&mut self, other: &Blocks)
         ensures { row_at self.new ≡ row_at self.old }
     {
         let mut at = self.older.len();
         while at > 0 {
             at -= 1;
-            if !self.share_at(at, other) {
+            if self.older[at].1.is_shared() {
+                return;
+            }
+            let Some(theirs) = other.get(self.older[at].0) else {
+                return;
+            };
+            if !self.older[at].1.share(theirs) {
                 return;
             }
         }

@@ -1,5 +1,5 @@
 //! Items of some of 64 numbers.
-ghost use Rattle.std.specs.Prelude.{◌≡◌, ◌<◌, ◌≤◌, ◌+◌, ℕ, insert, vec_capacity, slice_range, None, Some, IfSome, is_none, IsTrue, IsOk, OnOk, OnErr, count_ones, vec_len};
+ghost use Rattle.std.specs.Prelude.{◌≡◌, ◌<◌, ◌≤◌, ◌+◌, ℕ, insert, vec_capacity, slice_range, None, Some, IfSome, is_none, IsOk, OnOk, OnErr, count_ones, vec_len};
 
 use crate::mask::ones_on;
 use crate::row_number::{RowNumber, RowRange};
@@ -34,6 +34,7 @@ fn insert_at<T: Drop>(items: &mut Vec<T>, at: usize, item: T) -> Result<(), Allo
 
 impl<T: Drop> Sparse<T> {
     ghost use Rattle.std.specs.Option.{option_copied};
+    ghost use Rattle.rr_archive.specs.Stored.{ChangesStored, MakesRoom};
     ghost use Rattle.rr_packed.specs.Sparse.{rank, place_at, item_in, has_room, IsItemSet};
 
     /// No items. It takes no memory yet.
@@ -106,11 +107,10 @@ impl<T: Drop> Sparse<T> {
     /// have few rows.
     #[inline(always)]
     pub(crate) fn make_room(&mut self) -> Result<(), AllocError>
-        ensures same { item_in self.new ≡ item_in self.old }
         ensures mask { self.new.mask ≡ self.old.mask }
         ensures items { self.new.items.items ≡ self.old.items.items }
-        ensures room { OnOk result (IsTrue (has_room self.new)) }
-        ensures room_suffices { IsTrue (has_room self.old) → IsOk result }
+        ensures made { MakesRoom (has_room self.old) (has_room self.new) (item_in self.old)
+            (item_in self.new) result }
     {
         if self.has_room() {
             return Ok(());
@@ -126,23 +126,12 @@ impl<T: Drop> Sparse<T> {
         self.items.shrink_to_fit();
     }
 
-    /// Gives the memory back, if there is no item.
-    pub(crate) fn give_back(&mut self)
-        ensures { item_in self.new ≡ item_in self.old }
-    {
-        if self.items.is_empty() {
-            self.items.shrink_to_fit();
-        }
-    }
-
     /// Adds the item of a number that has none.
     #[inline(always)]
     pub(crate) fn insert(&mut self, number: RowNumber, item: T) -> Result<(), AllocError>
         requires { place_at self.old.mask number.value ≡ None }
-        ensures added { OnOk result (IsItemSet number.value (Some item) (item_in self.old)
-            (item_in self.new)) }
-        ensures unchanged { OnErr result (item_in self.new ≡ item_in self.old) }
-        ensures room { IsTrue (has_room self.old) → IsOk result }
+        ensures { ChangesStored (IsItemSet number.value (Some item)) (has_room self.old)
+            (item_in self.old) (item_in self.new) result }
     {
         let at = self.rank(number);
         let mask = self.mask | 1 << number.value;

@@ -1,5 +1,6 @@
 //! Walks over the slots of blocks, which pass over those that store nothing.
 ghost use Rattle.std.specs.Prelude.{◌≡◌, ◌<◌, ◌≤◌, ◌+ℤ◌, ℕ, pos, None, []};
+ghost use Rattle.rr_archive.specs.Stored.{PassesOver};
 ghost use Rattle.rr_packed.specs.Blocks.{all_blocks, block_at, entries_in_all, row_at};
 ghost use Rattle.rr_packed.specs.Slots.{block_of};
 
@@ -25,10 +26,7 @@ impl Blocks {
     /// those between. What is before the first block, and a block that isn't there, is passed over
     /// in one step.
     pub(crate) fn slots_on(&self, slot: i64, most: u32) -> u32
-        requires { 1 ≤ most }
-        ensures at_least_one { 1 ≤ result }
-        ensures at_most { result ≤ most }
-        ensures empty { (i : ℕ) → 1 ≤ i → i < result → row_at self.now (slot +ℤ pos i) ≡ [] }
+        ensures { PassesOver 1 most (λ i. row_at self.now (slot +ℤ pos i)) result }
     {
         let number = block_of(slot);
         match self.get(number) {
@@ -39,11 +37,8 @@ impl Blocks {
 
     /// As `slots_on`, for a slot whose block isn't there: nothing is stored of it either.
     fn missing_on(&self, slot: i64, most: u32) -> u32
-        requires some { 1 ≤ most }
-        requires missing { block_at (all_blocks self.now) (block_of slot) ≡ None }
-        ensures at_least_one { 1 ≤ result }
-        ensures at_most { result ≤ most }
-        ensures empty { (i : ℕ) → i < result → row_at self.now (slot +ℤ pos i) ≡ [] }
+        requires { block_at (all_blocks self.now) (block_of slot) ≡ None }
+        ensures { PassesOver 0 most (λ i. row_at self.now (slot +ℤ pos i)) result }
     {
         let to_first = self.slots_to_first(slot).min(u128::from(most)) as u32;
         most.min(64 - row_of(slot).value).max(to_first)
@@ -52,7 +47,7 @@ impl Blocks {
     /// How many slots from one on are looked at in one step, at most `most`, and how many entries
     /// are stored of them in all. A step ends with its block, or passes over slots as `slots_on`.
     pub(crate) fn entries_on(&self, slot: i64, most: u32) -> (u32, usize)
-        requires some { 1 ≤ most }
+        requires { 1 ≤ most }
         ensures at_least_one { 1 ≤ result.0 }
         ensures at_most { result.0 ≤ most }
         ensures counted { result.1

@@ -2,6 +2,7 @@
 ghost use Rattle.std.specs.Prelude.{◌≡◌, ◌<◌, [], length, map, is_none, IsTrue, IsOk, OnOk, OnErr, IfOk};
 ghost use Rattle.rr_archive.specs.Row.{entry_at};
 ghost use Rattle.rr_archive.specs.Changes.{Fits, entry_after};
+ghost use Rattle.rr_archive.specs.Stored.{MakesRoom};
 ghost use Rattle.rr_ring.specs.StoredRows.{slot_and_entries};
 ghost use Rattle.rr_ring.specs.Blocks.{items_in, has_room_in, IsChanged};
 
@@ -79,9 +80,9 @@ impl Block {
         slot: i64,
         origin: Origin,
     ) -> Result<(), AllocError>
-        ensures same { items_in self.new ≡ items_in self.old }
-        ensures room { OnOk result (IsTrue (has_room_in self.new number slot origin)) }
-        ensures room_suffices { IsTrue (has_room_in self.old number slot origin) → IsOk result }
+        ensures { MakesRoom (has_room_in self.old number slot origin)
+            (has_room_in self.new number slot origin) (items_in self.old) (items_in self.new)
+            result }
     {
         self.make_rows(number, len)?;
         self.rows[number].make_room(self.alloc, slot, origin)

@@ -1,13 +1,11 @@
 //! An archive as a ring of rows.
-ghost use Rattle.std.specs.Prelude.{◌≡◌, ◌≤◌, ◌<◌, ◌+◌, ◌+ℤ◌, ◌-ℤ◌, ◌<ℤ◌, ◌≤ℤ◌, ℤ, pos, IsTrue, IsFalse, IsOk, OnOk, OnErr, Some};
+ghost use Rattle.std.specs.Prelude.{◌≡◌, ◌≤◌, ◌<◌, ◌+◌, ◌+ℤ◌, ◌≤ℤ◌, ℤ, pos, Some};
 ghost use Rattle.std.proofs.Props.{props};
 ghost use Rattle.std.specs.FinMap as fin;
-ghost use Rattle.rr_join.specs.Maps.{trimmed};
 ghost use Rattle.rr_join.specs.Horizon.{is_above};
-ghost use Rattle.rr_archive.specs.CellSlots.{cell_slot, IsSlot, is_live_at};
-ghost use Rattle.rr_archive.specs.Changes.{Fits};
-ghost use Rattle.rr_archive.specs.Cells.{with_change};
+ghost use Rattle.rr_archive.specs.CellSlots.{cell_slot, IsSlot};
 ghost use Rattle.rr_archive.specs.Codes.{coded_rows};
+ghost use Rattle.rr_archive.specs.Stored.{CanTake, ChangesCell};
 ghost use Rattle.rr_ring.specs.RingCells.{IsArchiveState, cells_in, is_ready_in};
 
 use crate::ring::Ring;
@@ -72,20 +70,12 @@ impl RingArchive {
 
     /// Changes the cell of a slot and an origin. A change that is past the horizon is passed over.
     fn change(&mut self, slot: i64, origin: Origin, change: &Change) -> Result<(), AllocError>
-        requires slot { IsSlot slot }
-        requires fits { Fits
-            (fin.get (cells_in self.old.newest self.old.ring) (cell_slot slot origin)) change.now }
-        ensures changed { OnOk result (cells_in self.new.newest self.new.ring
-            ≡ trimmed (is_live_at self.old.ring.rows)
-            (with_change (cells_in self.old.newest self.old.ring) (cell_slot slot origin)
-            change.now)) }
-        ensures dead { IsFalse (is_above self.old.ring.rows self.old.newest slot)
-            → cells_in self.new.newest self.new.ring ≡ cells_in self.old.newest self.old.ring }
-        ensures unchanged { OnErr result (cells_in self.new.newest self.new.ring
-            ≡ cells_in self.old.newest self.old.ring) }
-        ensures limit { self.new.ring.rows ≡ self.old.ring.rows }
-        ensures room { IsTrue (is_ready_in self.old.newest self.old.ring (cell_slot slot origin))
-            → IsOk result }
+        requires { CanTake (cells_in self.old.newest self.old.ring) (cell_slot slot origin)
+            change.now }
+        ensures { ChangesCell (cell_slot slot origin) change.now self.old.newest
+            (is_ready_in self.old.newest self.old.ring (cell_slot slot origin))
+            self.old.ring.rows self.new.ring.rows (cells_in self.old.newest self.old.ring)
+            (cells_in self.new.newest self.new.ring) result }
     {
         if !is_live(self.ring.rows, self.newest, slot) {
             return Ok(());

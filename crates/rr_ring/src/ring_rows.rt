@@ -2,6 +2,7 @@
 ghost use Rattle.std.specs.Prelude.{◌≡◌, ◌<◌, ◌≤◌, ◌+◌, ◌/◌, ◌+ℤ◌, ℕ, ℤ, pos, [], length, is_none, slice_get, IsTrue, IsOk, OnOk, OnErr, IfOk};
 ghost use Rattle.rr_archive.specs.Row.{entry_at};
 ghost use Rattle.rr_archive.specs.Changes.{Fits, entry_after};
+ghost use Rattle.rr_archive.specs.Stored.{MakesRoom, PassesOver};
 ghost use Rattle.rr_ring.specs.Blocks.{items_by_position, made_in};
 ghost use Rattle.rr_ring.specs.Ring.{row_at, has_room, IsRowChanged};
 
@@ -47,34 +48,18 @@ impl Ring {
         }
     }
 
-    /// How many positions on from one the next is that has a row, or the block ends: those between
-    /// store nothing.
-    fn positions_on(&self, position: usize) -> usize
-        requires { position < self.now.rows }
-        ensures at_least_one { 1 ≤ result }
-        ensures at_most { result ≤ BLOCK_ROWS }
-        ensures within { position + result ≤ self.now.rows }
-        ensures empty { (i : ℕ) (slot : ℤ)
-            → 1 ≤ i → i < result → items_by_position self.now.blocks.items (position + i) slot
-            ≡ [] }
+    /// How many slots on from one the next is to look at, at most `most`: nothing is stored of
+    /// those between. The rows of a block that aren't made, and a block that isn't, are passed over
+    /// in one step.
+    pub(crate) fn slots_on(&self, slot: i64, most: u32) -> u32
+        ensures { PassesOver 1 most (λ i. row_at self.now (slot +ℤ pos i)) result }
     {
+        let position = self.position(slot);
         let number = position % BLOCK_ROWS;
         if number + 1 < self.rows_made(position) {
-            return 1;
+            return most.min(1);
         }
-        self.block_len(position) - number
-    }
-
-    /// How many slots on from one the next is to look at, at most `most`: nothing is stored of
-    /// those between. A block that isn't made is passed over in one step.
-    pub(crate) fn slots_on(&self, slot: i64, most: u32) -> u32
-        requires { 1 ≤ most }
-        ensures at_least_one { 1 ≤ result }
-        ensures at_most { result ≤ most }
-        ensures empty { (i : ℕ) → 1 ≤ i → i < result → row_at self.now (slot +ℤ pos i) ≡ [] }
-    {
-        let on = self.positions_on(self.position(slot));
-        most.min(on as u32)
+        most.min((self.block_len(position) - number) as u32)
     }
 
     /// Adds blocks up to a number; none of them takes memory for rows yet.
@@ -101,9 +86,8 @@ impl Ring {
 
     /// Makes room for an entry of an origin in a slot.
     pub(crate) fn make_room(&mut self, slot: i64, origin: Origin) -> Result<(), AllocError>
-        ensures same { row_at self.new ≡ row_at self.old }
-        ensures room { OnOk result (IsTrue (has_room self.new slot origin)) }
-        ensures room_suffices { IsTrue (has_room self.old slot origin) → IsOk result }
+        ensures made { MakesRoom (has_room self.old slot origin) (has_room self.new slot origin)
+            (row_at self.old) (row_at self.new) result }
         ensures rows { self.new.rows ≡ self.old.rows }
     {
         let position = self.position(slot);

@@ -2,6 +2,7 @@
 ghost use Rattle.std.specs.Prelude.{◌≡◌, is_none, IsTrue, IsOk, OnOk, OnErr, IfOk, Some};
 ghost use Rattle.rr_archive.specs.Row.{entry_at, with_entry};
 ghost use Rattle.rr_archive.specs.Changes.{Fits, entry_after};
+ghost use Rattle.rr_archive.specs.Stored.{MakesRoom};
 ghost use Rattle.rr_ring.specs.StoredRows.{items_at, has_room_at, is_blank, slot_and_entries};
 
 use rr_archive::Entry;
@@ -77,9 +78,9 @@ impl StoredRow {
         slot: i64,
         origin: Origin,
     ) -> Result<(), AllocError>
-        ensures same { slot_and_entries self.new ≡ slot_and_entries self.old }
-        ensures room { OnOk result (IsTrue (has_room_at (Some self.new) slot origin)) }
-        ensures room_suffices { IsTrue (has_room_at (Some self.old) slot origin) → IsOk result }
+        ensures { MakesRoom (has_room_at (Some self.old) slot origin)
+            (has_room_at (Some self.new) slot origin) (slot_and_entries self.old)
+            (slot_and_entries self.new) result }
     {
         if self.slot == slot {
             self.entries.make_room(alloc, origin)

@@ -13,13 +13,19 @@ use Rattle.rr_archive.proofs.FewCells.{few_cells}
 use Rattle.rr_archive.proofs.plain.PlainArchive.change.Goals as goal
 
 -- a change past the horizon leaves no trace
-pub returns-then-not-is_live-clause-changed : goal.returns-then-not-is_live-clause-changed
-returns-then-not-is_live-clause-changed c =
-    let a = c.args.self.now in
-    let p = cell_slot c.args.slot c.args.origin in
-    let dead : is_above a.rows a.newest c.args.slot ≡ false = search rules in
-    set_dead a.rows a.count a.newest a.slots.rows.entries p
-    (contribution_after (fin.get (cells_in a.slots.rows.entries) p) c.args.change.now) a.held dead
+pub returns-then-not-is_live : goal.returns-then-not-is_live
+returns-then-not-is_live c = record {
+  changed =
+      let a = c.args.self.now in
+      let p = cell_slot c.args.slot c.args.origin in
+      let dead : is_above a.rows a.newest c.args.slot ≡ false = search rules in
+      set_dead a.rows a.count a.newest a.slots.rows.entries p
+      (contribution_after (fin.get (cells_in a.slots.rows.entries) p) c.args.change.now) a.held dead;
+  dead = search rules;
+  unchanged = search rules;
+  limit = search rules;
+  room = search rules;
+}
 
 pub overflow_add-cells : goal.overflow_add-cells
 overflow_add-cells c =
@@ -68,14 +74,20 @@ steps c =
       live = rw top at c.drop_dead-self.ensures.live;
     }
 
-pub returns-clause-changed : goal.returns-clause-changed
-returns-clause-changed c =
-    let a = c.args.self.now in
-    let p = cell_slot c.args.slot c.args.origin in
-    let s = steps c.before in
-    cells_kept a.rows a.count a.newest c.later-newest.result a.slots.rows.entries c.change_cell.new.self.rows.entries
-    c.drop_dead-self.new.self.rows.entries p (contribution_after (fin.get (cells_in a.slots.rows.entries) p)
-    c.args.change.now) a.held s.changed s.live s.latest
+pub returns : goal.returns
+returns c = record {
+  changed =
+      let a = c.args.self.now in
+      let p = cell_slot c.args.slot c.args.origin in
+      let s = steps c.before in
+      cells_kept a.rows a.count a.newest c.later-newest.result a.slots.rows.entries c.change_cell.new.self.rows.entries
+      c.drop_dead-self.new.self.rows.entries p (contribution_after (fin.get (cells_in a.slots.rows.entries) p)
+      c.args.change.now) a.held s.changed s.live s.latest;
+  dead = search rules;
+  unchanged = search rules;
+  limit = search rules;
+  room = search rules;
+}
 
 pub invariant_of-self-2 : goal.invariant_of-self-2
 invariant_of-self-2 c =

@@ -39,12 +39,12 @@ returns-in-Some c =
       changed = on_ok_weaker c.change_entry.result (λ e.
           set_found _ _ c.args.slot row was (entry_after was.items c.args.origin change) sets has e
           ∙ ap (λ (o : Option Contribution). insert (cells_in old) p (contribution_after o change)) (sym here))
-          step.changed;
+          step.sets.changed;
       is_new = subst (λ (o : Option Contribution). IfOk c.change_entry.result (λ is_new. is_new ≡ is_none o)) (sym here)
           step.is_new;
       unchanged = on_err_weaker c.change_entry.result (λ e. set_alike _ _ c.args.slot row sets (e ∙ ap items_of has))
-          step.unchanged;
-      room = λ room. step.room (room_is old p was has room);
+          step.sets.unchanged;
+      room = λ room. step.sets.room (room_is old p was has room);
     }
 
 -- ---- the slot has none

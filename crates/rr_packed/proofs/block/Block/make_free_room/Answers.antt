@@ -8,56 +8,59 @@ use Rattle.rr_packed.proofs.SparseLemmas.{item_none}
 use Rattle.rr_packed.proofs.BlockLemmas.{block_same, room_is_free, free_has_room}
 use Rattle.rr_packed.proofs.block.Block.make_free_room.Goals as goal
 
-pub returns-in_err-make_room-clause-same : goal.returns-in_err-make_room-clause-same
-returns-in_err-make_room-clause-same c =
-    let b = c.args.self.now in
-    let new : Block = record { alloc = b.alloc; source = b.source; readings = c.make_room.new.self; rows = b.rows } in
-    block_same b new (λ n. refl) refl (λ n. ap (λ f. f n) c.make_room.ensures.same)
+pub returns-in_err-make_room : goal.returns-in_err-make_room
+returns-in_err-make_room c = λ origin. record {
+  same =
+      let b = c.args.self.now in
+      let new : Block = record { alloc = b.alloc; source = b.source; readings = c.make_room.new.self; rows = b.rows } in
+      block_same b new (λ n. refl) refl (λ n. ap (λ f. f n) c.make_room.ensures.made.same);
+  room = search rules;
+  room_suffices =
+      λ room.
+      let b = c.args.self.now in
+      let k = c.args.number.value in
+      let none : item_in b.rows k ≡ None = item_none b.rows.mask b.rows.items.items k c.requires.rows in
+      let free = room_is_free b k origin none room in
+      let ok : IsOk c.make_room.result = c.make_room.ensures.made.room_suffices free.readings in
+      absurd (true≢false (sym (subst IsOk c.in_err-make_room.was ok)));
+}
 
-pub returns-in_err-make_room-clause-room_suffices : goal.returns-in_err-make_room-clause-room_suffices
-returns-in_err-make_room-clause-room_suffices c = λ origin room.
-    let b = c.args.self.now in
-    let k = c.args.number.value in
-    let none : item_in b.rows k ≡ None = item_none b.rows.mask b.rows.items.items k c.requires.rows in
-    let free = room_is_free b k origin none room in
-    let ok : IsOk c.make_room.result = c.make_room.ensures.room_suffices free.readings in
-    absurd (true≢false (sym (subst IsOk c.in_err-make_room.was ok)))
-
-pub returns-clause-same : goal.returns-clause-same
-returns-clause-same c =
-    let b = c.args.self.now in
-    let new : Block = record {
-      alloc = b.alloc;
-      source = b.source;
-      readings = c.make_room.new.self;
-      rows = c.make_room-2.new.self;
-    } in
-    block_same b new (λ n. ap (λ f. f n) c.make_room-2.ensures.same) refl (λ n. ap (λ f. f n) c.make_room.ensures.same)
-
-pub returns-clause-room : goal.returns-clause-room
-returns-clause-room c = λ origin.
-    let b = c.args.self.now in
-    let k = c.args.number.value in
-    let new : Block = record {
-      alloc = b.alloc;
-      source = b.source;
-      readings = c.make_room.new.self;
-      rows = c.make_room-2.new.self;
-    } in
-    let none : item_in b.rows k ≡ None = item_none b.rows.mask b.rows.items.items k c.requires.rows in
-    let readings : IsTrue (has_spare c.make_room.new.self) = search rules in
-    on_ok_weaker c.make_room-2.result
-    (λ rows. free_has_room new k origin (ap (λ f. f k) c.make_room-2.ensures.same ∙ none)
-    (record {
-      unread = ap (λ m. place_at m k) c.make_room.ensures.mask ∙ c.requires.readings;
-      readings = readings;
-      rows = rows;
-    }))
-    c.make_room-2.ensures.room
-
-pub returns-clause-room_suffices : goal.returns-clause-room_suffices
-returns-clause-room_suffices c = λ origin room.
-    let b = c.args.self.now in
-    let k = c.args.number.value in
-    let none : item_in b.rows k ≡ None = item_none b.rows.mask b.rows.items.items k c.requires.rows in
-    c.make_room-2.ensures.room_suffices (room_is_free b k origin none room).rows
+pub returns : goal.returns
+returns c = λ origin. record {
+  same =
+      let b = c.args.self.now in
+      let new : Block = record {
+        alloc = b.alloc;
+        source = b.source;
+        readings = c.make_room.new.self;
+        rows = c.make_room-2.new.self;
+      } in
+      block_same b new (λ n. ap (λ f. f n) c.make_room-2.ensures.made.same) refl
+      (λ n. ap (λ f. f n) c.make_room.ensures.made.same);
+  room =
+      let b = c.args.self.now in
+      let k = c.args.number.value in
+      let new : Block = record {
+        alloc = b.alloc;
+        source = b.source;
+        readings = c.make_room.new.self;
+        rows = c.make_room-2.new.self;
+      } in
+      let none : item_in b.rows k ≡ None = item_none b.rows.mask b.rows.items.items k c.requires.rows in
+      let readings : IsTrue (has_spare c.make_room.new.self) = search rules in
+      on_ok_weaker c.make_room-2.result
+      (λ rows. free_has_room new k origin (ap (λ f. f k) c.make_room-2.ensures.made.same ∙ none)
+      (record {
+        unread = ap (λ m. place_at m k) c.make_room.ensures.mask
+            ∙ c.requires.readings;
+        readings = readings;
+        rows = rows;
+      }))
+      c.make_room-2.ensures.made.room;
+  room_suffices =
+      λ room.
+      let b = c.args.self.now in
+      let k = c.args.number.value in
+      let none : item_in b.rows k ≡ None = item_none b.rows.mask b.rows.items.items k c.requires.rows in
+      c.make_room-2.ensures.made.room_suffices (room_is_free b k origin none room).rows;
+}

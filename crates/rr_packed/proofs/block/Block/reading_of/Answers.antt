@@ -6,13 +6,17 @@ use Rattle.rr_packed.proofs.SparseLemmas.{item_empty, empty_of}
 use Rattle.rr_packed.proofs.BlockLemmas.{block_sourced}
 use Rattle.rr_packed.proofs.block.Block.reading_of.Goals as goal
 
-pub returns-then-is_empty-clause-same : goal.returns-then-is_empty-clause-same
-returns-then-is_empty-clause-same c =
-    let b = c.args.self.now in
-    let zero : vec_len b.readings.items ≡ 0 = eqb-true (vec_len b.readings.items) 0
-    (sym c.is_empty.ensures ∙ c.if-is_empty.true) in
-    let none : length b.readings.items.items ≡ 0 = search rules in
-    let empty = empty_of b.readings.items.items none in
-    block_sourced b _ (λ n. refl)
-    (λ n. ap (λ xs. item_at b.readings.mask xs n) empty ∙ item_empty b.readings.mask n)
-    (λ n. ap (λ xs. item_at b.readings.mask xs n) empty ∙ item_empty b.readings.mask n)
+pub returns-then-is_empty-clause-source : goal.returns-then-is_empty-clause-source
+returns-then-is_empty-clause-source c = record {
+  same =
+      let b = c.args.self.now in
+      let zero : vec_len b.readings.items ≡ 0 = eqb-true (vec_len b.readings.items) 0
+      (sym c.is_empty.ensures ∙ c.if-is_empty.true) in
+      let none : length b.readings.items.items ≡ 0 = search rules in
+      let empty = empty_of b.readings.items.items none in
+      block_sourced b _ (λ n. refl)
+      (λ n. ap (λ xs. item_at b.readings.mask xs n) empty ∙ item_empty b.readings.mask n)
+      (λ n. ap (λ xs. item_at b.readings.mask xs n) empty ∙ item_empty b.readings.mask n);
+  readings = search rules;
+  rows = search rules;
+}

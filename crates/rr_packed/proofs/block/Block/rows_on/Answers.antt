@@ -23,13 +23,18 @@ unset b n e =
 left : (mask n i : ℕ) → 1 ≤ i → bit_at mask (n + i) ≡ bit_at (mask / 2 ^ n / 2 ^ 1) (i - 1)
 left mask n i some = ap (bit_at mask) (omega arith) ∙ sym (bit_at_rest mask n (i - 1))
 
-pub returns-then-rest-eq0-clause-empty : goal.returns-then-rest-eq0-clause-empty
-returns-then-rest-eq0-clause-empty c = λ i some h.
-    let b = c.args.self.now in
-    let mask = bit_or b.readings.mask b.rows.mask in
-    let none : mask / 2 ^ c.args.number.value / 2 ^ 1 ≡ 0 = search rules in
-    unset b (c.args.number.value + i) (left mask c.args.number.value i some ∙ ap (λ m. bit_at m (i - 1)) none
-    ∙ bit_at-zero (i - 1))
+pub returns-then-rest-eq0 : goal.returns-then-rest-eq0
+returns-then-rest-eq0 c = record {
+  at_least_one = search rules;
+  at_most = search rules;
+  empty =
+      λ i some h.
+      let b = c.args.self.now in
+      let mask = bit_or b.readings.mask b.rows.mask in
+      let none : mask / 2 ^ c.args.number.value / 2 ^ 1 ≡ 0 = search rules in
+      unset b (c.args.number.value + i) (left mask c.args.number.value i some ∙ ap (λ m. bit_at m (i - 1)) none
+      ∙ bit_at-zero (i - 1));
+}
 
 -- what is left of both masks, and its lowest bit
 record IsRest (b : Block) (n t : ℕ) : Type 0 where
@@ -60,18 +65,20 @@ rest_is b n r s some =
       none = λ i one h. left mask n i one ∙ low.2 (i - 1) (omega arith);
     }
 
-pub returns-clause-empty : goal.returns-clause-empty
-returns-clause-empty c = λ i some h.
-    let b = c.args.self.now in
-    let readings : b.readings.mask < 2 ^ 64 = search rules in
-    let rows : b.rows.mask < 2 ^ 64 = search rules in
-    let rest = rest_is b c.args.number.value readings rows c.if-rest-eq0.false in
-    unset b (c.args.number.value + i) (rest.none i some h)
-
-pub returns-clause-within : goal.returns-clause-within
-returns-clause-within c =
-    let b = c.args.self.now in
-    let readings : b.readings.mask < 2 ^ 64 = search rules in
-    let rows : b.rows.mask < 2 ^ 64 = search rules in
-    let within = (rest_is b c.args.number.value readings rows c.if-rest-eq0.false).within in
-    omega arith
+pub returns : goal.returns
+returns c = record {
+  at_least_one = search rules;
+  at_most =
+      let b = c.args.self.now in
+      let readings : b.readings.mask < 2 ^ 64 = search rules in
+      let rows : b.rows.mask < 2 ^ 64 = search rules in
+      let within = (rest_is b c.args.number.value readings rows c.if-rest-eq0.false).within in
+      omega arith;
+  empty =
+      λ i some h.
+      let b = c.args.self.now in
+      let readings : b.readings.mask < 2 ^ 64 = search rules in
+      let rows : b.rows.mask < 2 ^ 64 = search rules in
+      let rest = rest_is b c.args.number.value readings rows c.if-rest-eq0.false in
+      unset b (c.args.number.value + i) (rest.none i some h);
+}

@@ -1,28 +1,110 @@
-use Rattle.std.proofs.Common.{rules, ◌≡◌, [], refl, ap, ◌∙◌, ◌⊎◌, IsTrue, is_some}
+use Rattle.std.proofs.Common.{rules, ◌≡◌, ℕ, [], ◌∷◌, refl, sym, ap, ◌∙◌, subst, None, Some, ◌⊎◌, inl, inr, IsTrue, is_some}
+use Rattle.rr_archive.specs.declared.entry.Entry.{Entry}
+use Rattle.rr_archive.specs.declared.entries.Entries.{Entries}
+use Rattle.rr_archive.specs.declared.entries.Entries.TheVariants.{One}
 use Rattle.rr_packed.specs.declared.block.Block.{Block}
 use Rattle.rr_packed.specs.declared.sparse.Sparse.{Sparse}
 use Rattle.rr_packed.specs.declared.reading.Reading.{Reading}
-use Rattle.rr_packed.specs.Sparse.{item_in, place_at}
+use Rattle.rr_packed.specs.Sparse.{item_in, place_at, IsItemSet}
+use Rattle.rr_packed.specs.Blocks.{items_in, has_room_in}
 use Rattle.rr_packed.specs.Readings.{entries_read}
-use Rattle.rr_packed.proofs.BlockLemmas.{reading_removed, room_kept}
+use Rattle.rr_packed.proofs.SparseLemmas.{item_none, none_from}
+use Rattle.rr_packed.proofs.BlockLemmas.{block_same, reading_removed, room_kept, entries_set, row_set_same, items_by_reading, room_is_free, none_read}
 use Rattle.rr_packed.proofs.block.Block.unpack.Goals as goal
+use Rattle.rr_packed.proofs.block.Block.unpack.Goals.{then-not-has_entries+in-Some+in_ok-insert, then-not-has_entries+in_default, else-not-has_entries, In_err-insert}
+
+-- the row is held as its entries, beside the reading, if it was held as a reading
+record IsHeld (old mid : Block) (k : ℕ) : Type 0 where
+  same : items_in mid ≡ items_in old
+  readings : mid.readings ≡ old.readings
+  spare : (entries_read mid.source (item_in mid.readings k) ≡ []) ⊎ IsTrue (is_some (item_in mid.rows k))
+  rows_stay : (origin : ℕ) → IsTrue (has_room_in old k origin) → mid.rows ≡ old.rows
+
+-- a row that has room has no reading, unless it is held as entries
+unread : (b : Block) (k origin : ℕ) (e : Entry) → item_in b.rows k ≡ None
+    → entries_read b.source (item_in b.readings k) ≡ e ∷ [] → IsTrue (has_room_in b k origin) → ⊥
+unread b k origin e none something room =
+    let free = room_is_free b k origin none room in
+    let nothing = ap (entries_read b.source) (item_none b.readings.mask b.readings.items.items k free.unread)
+    ∙ none_read b.source in
+    absurd (cc (nothing, something))
+
+-- with its reading as its entries
+held_so : (b : Block) (rows : Sparse Entries) (k : ℕ) (e : Entry) → item_in b.rows k ≡ None
+    → entries_read b.source (item_in b.readings k) ≡ e ∷ []
+    → IsItemSet k (Some (One e)) (item_in b.rows) (item_in rows)
+    → IsHeld b (record { alloc = b.alloc; source = b.source; readings = b.readings; rows = rows }) k
+held_so b rows k e none read added = record {
+  same = row_set_same k (e ∷ []) _ _ (entries_set b _ k (One e) added refl (λ n. refl))
+      (sym (items_by_reading b k none ∙ read));
+  readings = refl;
+  spare = inr (search rules);
+  rows_stay = λ origin room. absurd (unread b k origin e none read room);
+}
+
+held : (c : goal.After-remove) → IsHeld c.args.self.now c.if-not-has_entries.self c.args.number.value
+held c = elim c.if-not-has_entries.branch [
+  | then-not-has_entries+in-Some+in_ok-insert w ↦
+      let b = c.args.self.now in
+      let none : item_in b.rows c.args.number.value ≡ None = none_from (item_in b.rows c.args.number.value)
+      (sym c.has_entries.ensures.held ∙ w.if-not-has_entries.true) in
+      subst (λ m. IsHeld b m c.args.number.value) (sym w.self-is)
+      (held_so b w.insert.new.self c.args.number.value w.in-Some.entry none w.in-Some.ensures.found
+      w.in_ok-insert.ensures.changed)
+  | then-not-has_entries+in_default w ↦ subst (λ m. IsHeld c.args.self.now m c.args.number.value) (sym w.self-is)
+      (record {
+        same = refl;
+        readings = refl;
+        spare = inl (w.in_default.ensures.none refl);
+        rows_stay = λ origin room. refl;
+      })
+  | else-not-has_entries w ↦ subst (λ m. IsHeld c.args.self.now m c.args.number.value) (sym w.self-is) (record {
+    same = refl;
+    readings = refl;
+    spare = inr (search rules);
+    rows_stay = λ origin room. refl;
+  })
+]
 
 pub returns-clause-same : goal.returns-clause-same
 returns-clause-same c =
-    let mid = c.add_entries.new.self in
+    let mid = c.if-not-has_entries.self in
     let k = c.args.number.value in
     let new : Block = record { alloc = mid.alloc; source = mid.source; readings = c.remove.new.self; rows = mid.rows }
     in
-    let spare : (entries_read mid.source (item_in mid.readings k) ≡ []) ⊎ IsTrue (is_some (item_in mid.rows k)) =
-    search rules in
-    reading_removed mid new k (λ n. refl) refl c.remove.ensures.removed spare ∙ c.add_entries.ensures.same
+    let h = held c in
+    reading_removed mid new k (λ n. refl) refl c.remove.ensures.removed h.spare ∙ h.same
 
 pub returns-clause-room_stays : goal.returns-clause-room_stays
 returns-clause-room_stays c = λ origin room.
-    let mid = c.add_entries.new.self in
+    let mid = c.if-not-has_entries.self in
     let k = c.args.number.value in
     let new : Block = record { alloc = mid.alloc; source = mid.source; readings = c.remove.new.self; rows = mid.rows }
     in
-    room_kept c.args.self.now new k origin (c.add_entries.ensures.rows_stay origin room)
-    (λ unread. c.remove.ensures.absent (ap (λ (r : Sparse Reading). place_at r.mask k)
-    c.add_entries.ensures.readings ∙ unread) ∙ c.add_entries.ensures.readings) room
+    let h = held c in
+    room_kept c.args.self.now new k origin (h.rows_stay origin room)
+    (λ unread. c.remove.ensures.absent (ap (λ (r : Sparse Reading). place_at r.mask k) h.readings ∙ unread)
+    ∙ h.readings) room
+
+-- ---- memory ran out
+
+pub insert-requires : goal.insert-requires
+insert-requires c = none_from (place_at c.args.self.now.rows.mask c.args.number.value)
+    (sym c.has_entries.ensures.placed ∙ c.if-not-has_entries.true)
+
+pub returns-in_err-insert-clause-same : goal.returns-in_err-insert-clause-same
+returns-in_err-insert-clause-same c =
+    block_same c.args.self.now _ (λ n. ap (λ f. f n) c.in_err-insert.ensures.unchanged) refl (λ n. refl)
+
+out : (c : In_err-insert) (origin : ℕ) → IsTrue (has_room_in c.args.self.now c.args.number.value origin) → ⊥
+out c origin room =
+    let b = c.args.self.now in
+    let none : item_in b.rows c.args.number.value ≡ None = none_from (item_in b.rows c.args.number.value)
+    (sym c.has_entries.ensures.held ∙ c.if-not-has_entries.true) in
+    unread b c.args.number.value origin c.in-Some.entry none c.in-Some.ensures.found room
+
+pub returns-in_err-insert-clause-room : goal.returns-in_err-insert-clause-room
+returns-in_err-insert-clause-room c = λ origin room. absurd (out c.before origin room)
+
+pub returns-in_err-insert-clause-room_stays : goal.returns-in_err-insert-clause-room_stays
+returns-in_err-insert-clause-room_stays c = λ origin room. absurd (out c.before origin room)

@@ -5,8 +5,8 @@ use Rattle.rr_packed.proofs.BlocksLemmas.{slots_after}
 use Rattle.rr_packed.proofs.CountLemmas.{in_all_alike, in_all_empty}
 use Rattle.rr_packed.proofs.blocks.Blocks.entries_on.Goals as goal
 
-pub missing_on-requires-clause-missing : goal.missing_on-requires-clause-missing
-missing_on-requires-clause-missing c =
+pub missing_on-requires : goal.missing_on-requires
+missing_on-requires c =
     let bs = all_blocks c.args.self.now in
     let slot : to_z w64 (of_z w64 c.args.slot) ≡ c.args.slot = search rules in
     let number : to_z w64 (of_z w64 c.block_of-number.result) ≡ block_of c.args.slot = search rules in
@@ -31,4 +31,4 @@ pub returns-in-None-clause-counted : goal.returns-in-None-clause-counted
 returns-in-None-clause-counted c =
     let slot : to_z w64 (of_z w64 c.args.slot) ≡ c.args.slot = search rules in
     sym (in_all_empty (λ i. row_at c.args.self.now (c.args.slot +ℤ pos i)) c.missing_on.result
-    (rw slot at c.missing_on.ensures.empty))
+    (λ i h. (rw slot at c.missing_on.ensures.empty) i (omega arith) h))

@@ -15,13 +15,19 @@ use Rattle.rr_packed.proofs.PackedLemmas.{set_in_packed}
 use Rattle.rr_packed.proofs.packed_archive.PackedArchive.change.Goals as goal
 
 -- a change past the horizon leaves no trace
-pub returns-then-not-is_live-clause-changed : goal.returns-then-not-is_live-clause-changed
-returns-then-not-is_live-clause-changed c =
-    let a = c.args.self.now in
-    let p = cell_slot c.args.slot c.args.origin in
-    let dead : is_above a.rows a.newest c.args.slot ≡ false = search rules in
-    change_dead a.rows a.newest _ (row_at a.blocks) p
-    (contribution_after (fin.get (cells_in a.rows a.newest a.blocks) p) c.args.change.now) a.held dead
+pub returns-then-not-is_live : goal.returns-then-not-is_live
+returns-then-not-is_live c = record {
+  changed =
+      let a = c.args.self.now in
+      let p = cell_slot c.args.slot c.args.origin in
+      let dead : is_above a.rows a.newest c.args.slot ≡ false = search rules in
+      change_dead a.rows a.newest _ (row_at a.blocks) p
+      (contribution_after (fin.get (cells_in a.rows a.newest a.blocks) p) c.args.change.now) a.held dead;
+  dead = search rules;
+  unchanged = search rules;
+  limit = search rules;
+  room = search rules;
+}
 
 pub change-requires : goal.change-requires
 change-requires c =
@@ -96,15 +102,21 @@ invariant_of-self-2 c =
           a.some_row a.held s.set s.latest s.live _ refl in_range);
     }
 
-pub returns-clause-changed : goal.returns-clause-changed
-returns-clause-changed c =
-    let a = c.args.self.now in
-    let f = row_at a.blocks in
-    let s = steps c.before in
-    let top = s.top in
-    let p = cell_slot c.args.slot c.args.origin in
-    let e : Entry = entry_after (f c.args.slot) c.args.origin c.args.change.now in
-    rw top (change_cells a.rows a.newest _ c.later-newest.result c.args.slot e f (row_at c.drop_before.new.self)
-    a.some_row a.held s.set s.latest s.live
-    ∙ ap (λ o. trimmed (is_live_at a.rows) (fin.insert (cells_in a.rows a.newest a.blocks) p
-    (contribution_after o c.args.change.now))) (sym s.known))
+pub returns : goal.returns
+returns c = record {
+  changed =
+      let a = c.args.self.now in
+      let f = row_at a.blocks in
+      let s = steps c.before in
+      let top = s.top in
+      let p = cell_slot c.args.slot c.args.origin in
+      let e : Entry = entry_after (f c.args.slot) c.args.origin c.args.change.now in
+      rw top (change_cells a.rows a.newest _ c.later-newest.result c.args.slot e f (row_at c.drop_before.new.self)
+      a.some_row a.held s.set s.latest s.live
+      ∙ ap (λ o. trimmed (is_live_at a.rows) (fin.insert (cells_in a.rows a.newest a.blocks) p
+      (contribution_after o c.args.change.now))) (sym s.known));
+  dead = search rules;
+  unchanged = search rules;
+  limit = search rules;
+  room = search rules;
+}

@@ -55,7 +55,7 @@ loop-k-preserved c =
     let past : length (f at) ≤ c.loop-k.left = subst (λ es. length es ≤ c.loop-k.left) row c.if-left-row.false in
     let within : c.loop-k.k < a.rows = omega arith in
     let skipped : rest ≡ cells_left f z a.rows (c.loop-k.k + c.slots_on-k.result) =
-    left_skip f z a.rows c.loop-k.k c.slots_on-k.result c.slots_on-k.ensures.at_least_one (omega arith)
+    left_skip f z a.rows c.loop-k.k c.slots_on-k.result (c.slots_on-k.ensures.at_least_one (omega arith)) (omega arith)
     (λ j some h. ap (λ y. f (y +ℤ pos j)) (sym at_is) ∙ c.slots_on-k.ensures.empty j some h) in
     record {
       left =

@@ -92,7 +92,7 @@ loop-k-preserved c =
     ∙ c.in_default-first_after.is in
     let within : c.loop-k.k < a.rows = omega arith in
     let skipped : cells_left f z a.rows (c.loop-k.k + 1) ≡ cells_left f z a.rows (c.loop-k.k + c.slots_on-k.result) =
-    left_skip f z a.rows c.loop-k.k c.slots_on-k.result c.slots_on-k.ensures.at_least_one (omega arith)
+    left_skip f z a.rows c.loop-k.k c.slots_on-k.result (c.slots_on-k.ensures.at_least_one (omega arith)) (omega arith)
     (λ j some h. ap (λ y. f (y +ℤ pos j)) (sym at_is) ∙ c.slots_on-k.ensures.empty j some h) in
     record {
       first =

@@ -18,14 +18,19 @@ invariant_of-self-2 g c =
     let len : vec_len c.insert_at.new.items ≡ vec_len s.items + 1 = search rules in
     record { counted = omega arith }
 
-pub returns-clause-added : goal.returns-clause-added
-returns-clause-added g c = λ n.
-    let s = c.args.self.now in
-    let k = c.args.number.value in
-    let new = bit_or s.mask (1 * 2 ^ k % 2 ^ 64) in
-    let more : HasOneMore s.mask new k = more_by_or s.mask k c.args.number.fits (none_tells s.mask k c.requires) in
-    let at : c.rank-at.result ≡ rank s.mask k = c.rank-at.ensures.rank in
-    let fits : rank s.mask k ≤ length s.items.items = omega arith in
-    let items : c.insert_at.new.items.items ≡ insert s.items.items c.rank-at.result c.args.item = search rules in
-    ap (λ xs. item_at new xs n) (items ∙ ap (λ i. insert s.items.items i c.args.item) at)
-    ∙ item_insert s.mask new s.items.items k c.args.item more fits n
+pub returns : goal.returns
+returns g c = record {
+  changed =
+      λ n.
+      let s = c.args.self.now in
+      let k = c.args.number.value in
+      let new = bit_or s.mask (1 * 2 ^ k % 2 ^ 64) in
+      let more : HasOneMore s.mask new k = more_by_or s.mask k c.args.number.fits (none_tells s.mask k c.requires) in
+      let at : c.rank-at.result ≡ rank s.mask k = c.rank-at.ensures.rank in
+      let fits : rank s.mask k ≤ length s.items.items = omega arith in
+      let items : c.insert_at.new.items.items ≡ insert s.items.items c.rank-at.result c.args.item = search rules in
+      ap (λ xs. item_at new xs n) (items ∙ ap (λ i. insert s.items.items i c.args.item) at)
+      ∙ item_insert s.mask new s.items.items k c.args.item more fits n;
+  unchanged = search rules;
+  room = search rules;
+}

@@ -18,13 +18,19 @@ use Rattle.rr_ring.proofs.RingChangeLemmas.{set_in_ring}
 use Rattle.rr_ring.proofs.ring_archive.RingArchive.change.Goals as goal
 
 -- a change past the horizon leaves no trace
-pub returns-then-not-is_live-clause-changed : goal.returns-then-not-is_live-clause-changed
-returns-then-not-is_live-clause-changed c =
-    let a = c.args.self.now in
-    let p = cell_slot c.args.slot c.args.origin in
-    let dead : is_above a.ring.rows a.newest c.args.slot ≡ false = search rules in
-    change_dead a.ring.rows a.newest a.count (row_at a.ring) p
-    (contribution_after (fin.get (cells_in a.newest a.ring) p) c.args.change.now) a.held dead
+pub returns-then-not-is_live : goal.returns-then-not-is_live
+returns-then-not-is_live c = record {
+  changed =
+      let a = c.args.self.now in
+      let p = cell_slot c.args.slot c.args.origin in
+      let dead : is_above a.ring.rows a.newest c.args.slot ≡ false = search rules in
+      change_dead a.ring.rows a.newest a.count (row_at a.ring) p
+      (contribution_after (fin.get (cells_in a.newest a.ring) p) c.args.change.now) a.held dead;
+  dead = search rules;
+  unchanged = search rules;
+  limit = search rules;
+  room = search rules;
+}
 
 pub change-requires : goal.change-requires
 change-requires c =
@@ -120,16 +126,22 @@ invariant_of-self-2 c =
           a.ring.rows_at_least a.held s.set s.latest s.live _ counted in_range));
     }
 
-pub returns-clause-changed : goal.returns-clause-changed
-returns-clause-changed c =
-    let a = c.args.self.now in
-    let f = row_at a.ring in
-    let s = steps c.before in
-    let top = s.top in
-    let p = cell_slot c.args.slot c.args.origin in
-    let e : Entry = entry_after (f c.args.slot) c.args.origin c.args.change.now in
-    rw top (ap (λ n. cells_by n (Some c.later-newest.result) (row_at c.change.new.self)) c.change.ensures.rows
-    ∙ change_cells a.ring.rows a.newest a.count c.later-newest.result c.args.slot e f (row_at c.change.new.self)
-    a.ring.rows_at_least a.held s.set s.latest s.live
-    ∙ ap (λ o. trimmed (is_live_at a.ring.rows) (fin.insert (cells_in a.newest a.ring) p
-    (contribution_after o c.args.change.now))) (sym s.known))
+pub returns : goal.returns
+returns c = record {
+  changed =
+      let a = c.args.self.now in
+      let f = row_at a.ring in
+      let s = steps c.before in
+      let top = s.top in
+      let p = cell_slot c.args.slot c.args.origin in
+      let e : Entry = entry_after (f c.args.slot) c.args.origin c.args.change.now in
+      rw top (ap (λ n. cells_by n (Some c.later-newest.result) (row_at c.change.new.self)) c.change.ensures.rows
+      ∙ change_cells a.ring.rows a.newest a.count c.later-newest.result c.args.slot e f (row_at c.change.new.self)
+      a.ring.rows_at_least a.held s.set s.latest s.live
+      ∙ ap (λ o. trimmed (is_live_at a.ring.rows) (fin.insert (cells_in a.newest a.ring) p
+      (contribution_after o c.args.change.now))) (sym s.known));
+  dead = search rules;
+  unchanged = search rules;
+  limit = search rules;
+  room = search rules;
+}

@@ -1,0 +1,58 @@
+-- What calls do to what an archive stores, however it is seen.
+use Rattle.std.specs.Prelude.{◌≡◌, ℕ, ℤ, ◌<◌, ◌≤◌, Bool, List, [], Option, Result, IsFalse, IsOk, IsTrue, OnErr, OnOk, vec_len, vec_capacity}
+use Rattle.std.specs.Global.{Vec}
+use Rattle.std.specs.FinMap.{get}
+use Rattle.std.specs.declared.alloc.AllocError.{AllocError}
+use Rattle.rr_join.specs.Maps.{trimmed}
+use Rattle.rr_join.specs.Horizon.{is_above}
+use Rattle.rr_archive.specs.declared.change.Change.{Change}
+use Rattle.rr_archive.specs.declared.entry.Entry.{Entry}
+use Rattle.rr_archive.specs.CellSlots.{CellSlot, IsSlot, is_live_at}
+use Rattle.rr_archive.specs.Cells.{ArchiveCells, with_change}
+use Rattle.rr_archive.specs.Changes.{Fits}
+use Rattle.rr_archive.specs.Row.{with_entry, ascends}
+
+-- nothing changed; there is room unless memory ran out, which it doesn't where there was room
+pub record MakesRoom {S : Type 0} (had has : Bool) (old new : S) (result : Result (Unit {0}) AllocError) : Type 0 where
+  pub same : new ≡ old
+  pub room : OnOk result (IsTrue has)
+  pub room_suffices : IsTrue had → IsOk result
+
+-- it was changed, or memory ran out and it was not; where there was room, memory doesn't run out
+pub record ChangesStored {S T : Type 0} (set : S → S → Type 0) (had : Bool) (old new : S) (result : Result T AllocError)
+    : Type 0 where
+  pub changed : OnOk result (set old new)
+  pub unchanged : OnErr result (new ≡ old)
+  pub room : IsTrue had → IsOk result
+
+-- an entry was set in a row whose entries ascend, or memory ran out and nothing changed; where there was room for an
+-- entry more, memory doesn't run out
+pub record SetsEntry {T : Type 0} (e : Entry) (old new : Vec Entry) (result : Result T AllocError) : Type 0 where
+  pub changed : OnOk result (new.items ≡ with_entry old.items e)
+  pub unchanged : OnErr result (new.items ≡ old.items)
+  pub ascend : IsTrue (ascends old.items) → IsTrue (ascends new.items)
+  pub room : vec_len old < vec_capacity old → IsOk result
+
+-- the next row to look at is so many rows on, at least one and at most `most`: those before it, from the row `from`
+-- on, have no entry
+pub record PassesOver (from most : ℕ) (row : ℕ → List Entry) (result : ℕ) : Type 0 where
+  pub at_least_one : 1 ≤ most → 1 ≤ result
+  pub at_most : result ≤ most
+  pub empty : (i : ℕ) → from ≤ i → i < result → row i ≡ []
+
+-- ---- the cells of an archive
+
+-- a change that an archive with these cells can take at a cell slot
+pub record CanTake (cells : ArchiveCells) (p : CellSlot) (change : Change) : Type 0 where
+  pub slot : IsSlot p.slot
+  pub fits : Fits (get cells p) change
+
+-- the cell at a cell slot was changed, and the live cells stay; nothing changed if it is past the horizon, or memory
+-- ran out, which it doesn't where the archive was ready
+pub record ChangesCell (p : CellSlot) (change : Change) (newest : Option ℤ) (ready : Bool) (was_rows rows : ℕ)
+    (old new : ArchiveCells) (result : Result (Unit {0}) AllocError) : Type 0 where
+  pub changed : OnOk result (new ≡ trimmed (is_live_at was_rows) (with_change old p change))
+  pub dead : IsFalse (is_above was_rows newest p.slot) → new ≡ old
+  pub unchanged : OnErr result (new ≡ old)
+  pub limit : rows ≡ was_rows
+  pub room : IsTrue ready → IsOk result

@@ -1,0 +1,42 @@
+use Rattle.std.proofs.Common.{◌-◌, ◌<◌, length, sym, ap, ◌∙◌, arith}
+use Rattle.std.proofs.lemmas.List.{length-set}
+use Rattle.std.specs.Option.{option_to_list}
+use Rattle.rr_packed.specs.Blocks.{all_blocks, items_of_block}
+use Rattle.rr_packed.proofs.NumberLemmas.{older_here}
+use Rattle.rr_packed.proofs.BlocksLemmas.{blocks_alike}
+use Rattle.rr_packed.proofs.blocks.Blocks.share.Goals as goal
+
+pub invariant_of-self : goal.invariant_of-self
+invariant_of-self c =
+    let a = c.loop-at.self in
+    let within : c.loop-at.at - 1 < length a.older.items = let most = c.loop-at.invariant.0 in omega arith in
+    record {
+      ordered = (older_here a.older.items (option_to_list a.newest) (c.loop-at.at - 1) c.index_mut.result.now
+          c.share.new.self a.ordered within c.index_mut.ensures.value).ascend;
+    }
+
+pub returns-then-not-share : goal.returns-then-not-share
+returns-then-not-share c =
+    let a = c.loop-at.self in
+    let was = c.index_mut.result.now in
+    let within : c.loop-at.at - 1 < length a.older.items = let most = c.loop-at.invariant.0 in omega arith in
+    let put = older_here a.older.items (option_to_list a.newest) (c.loop-at.at - 1) was c.share.new.self a.ordered
+    within
+    c.index_mut.ensures.value in
+    blocks_alike (all_blocks a) _ was.0 c.share.new.self put.sets (c.share.ensures ∙ ap items_of_block (sym put.has))
+    ∙ c.loop-at.invariant.1
+
+pub loop-at-preserved : goal.loop-at-preserved
+loop-at-preserved c =
+    let a = c.loop-at.self in
+    let was = c.index_mut.result.now in
+    let most = c.loop-at.invariant.0 in
+    let within : c.loop-at.at - 1 < length a.older.items = omega arith in
+    let put = older_here a.older.items (option_to_list a.newest) (c.loop-at.at - 1) was c.share.new.self a.ordered
+    within
+    c.index_mut.ensures.value in
+    let kept = length-set a.older.items (c.loop-at.at - 1) (was.0, c.share.new.self) in (
+      omega arith,
+      blocks_alike (all_blocks a) _ was.0 c.share.new.self put.sets (c.share.ensures ∙ ap items_of_block (sym put.has))
+          ∙ c.loop-at.invariant.1,
+    )
