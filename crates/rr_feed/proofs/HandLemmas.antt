@@ -120,6 +120,9 @@ pub IsEnd-cut : (left line rest : List ℕ) → IsCut left line rest → IsEnd l
 IsEnd-cut left line rest cut =
     end_of left (line ++ LINE_FEED ∷ []) rest (cut.whole ∙ sym (append_assoc line (LINE_FEED ∷ []) rest))
 
+pub IsEnd-nil : (left : List ℕ) → IsEnd left []
+IsEnd-nil left = end_of left left [] (sym (append-nil left))
+
 pub IsEnd-then : (a b c : List ℕ) → IsEnd a b → IsEnd b c → IsEnd a c
 IsEnd-then a b c p q =
     let n : (length a - length b) + (length b - length c) ≡ length a - length c = omega (arith, p.within, q.within) in

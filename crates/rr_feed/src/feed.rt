@@ -8,6 +8,7 @@ ghost use Rattle.rr_feed.specs.Feed.{FeedState, HandsOut, empty_feed};
 ghost use Rattle.rr_feed.specs.contracts.feed.Feed.{the_row};
 
 use crate::fault::FeedFault;
+use crate::left::Left;
 use crate::line::FeedLine;
 use crate::next::next_item;
 use std::alloc::Global;
@@ -106,10 +107,13 @@ impl Feed {
         ensures* item { sem 𝓛 (Rests the_row self.entry
             (λ new. HandsOut self.old (option_map item_view result) new)) }
     {
-        let left = &self.bytes[self.start..];
-        let next = next_item(left, self.searched, self.skipping, self.ended);
-        self.start = self.bytes.len() - next.rest.len();
-        self.searched = next.searched;
+        let left = Left {
+            bytes: &self.bytes[self.start..],
+            searched: self.searched,
+        };
+        let next = next_item(left, self.skipping, self.ended);
+        self.start = self.bytes.len() - next.rest.bytes.len();
+        self.searched = next.rest.searched;
         self.skipping = next.skipping;
         next.item
     }

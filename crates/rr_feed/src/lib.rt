@@ -19,6 +19,7 @@
 mod fault;
 mod feed;
 pub mod laws;
+mod left;
 mod line;
 mod next;
 

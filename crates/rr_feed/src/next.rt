@@ -1,11 +1,12 @@
 //! The next item of the bytes that are left.
 
-ghost use Rattle.std.specs.Prelude.{◌≡◌, ◌==◌, ◌&&◌, nat_lt, not, false, length, option_map, MatchOption};
+ghost use Rattle.std.specs.Prelude.{◌≡◌, ◌==◌, ◌&&◌, nat_lt, not, false, length, MatchOption};
 ghost use Rattle.rr_text.specs.Bytes.{HasNoLineFeed};
 ghost use Rattle.rr_feed.specs.Items.{item_of, item_view};
-ghost use Rattle.rr_feed.specs.Feed.{HandsOut, state};
-ghost use Rattle.rr_feed.specs.Next.{IsCut, IsEnd, IsSearched};
+ghost use Rattle.rr_feed.specs.Next.{IsCut};
+ghost use Rattle.rr_feed.specs.Handing.{GivesNext};
 
+use crate::left::Left;
 use crate::line::FeedLine;
 use memchr::memchr;
 use rr_text::bytes::LINE_FEED;
@@ -15,23 +16,19 @@ use rr_text::limits::MAX_LINE;
 #[derive(Clone, Copy)]
 pub(crate) struct Next<'a> {
     pub(crate) item: Option<FeedLine<'a>>,
-    pub(crate) rest: &'a [u8],
-    /// How many bytes of the rest are known to hold no line feed.
-    pub(crate) searched: usize,
+    pub(crate) rest: Left<'a>,
     pub(crate) skipping: bool,
 }
 
-/// The bytes before the first line feed, and those after it. The first `searched` bytes aren't
-/// searched again.
-fn cut_line(left: &[u8], searched: usize) -> Option<(&[u8], &[u8])>
-    requires { IsSearched left.now searched }
-    ensures { MatchOption result (HasNoLineFeed left.now)
-        (λ cut. IsCut left.now cut.0.now cut.1.now) }
+/// The bytes before the first line feed, and those after it. What is searched isn't searched again.
+fn cut_line(left: Left<'_>) -> Option<(&[u8], &[u8])>
+    ensures { MatchOption result (HasNoLineFeed left.entry.bytes.now)
+        (λ cut. IsCut left.entry.bytes.now cut.0.now cut.1.now) }
 {
-    match memchr(LINE_FEED, &left[searched..]) {
+    match memchr(LINE_FEED, &left.bytes[left.searched..]) {
         Some(found) => {
-            let at = searched + found;
-            Some((&left[..at], &left[at + 1..]))
+            let at = left.searched + found;
+            Some((&left.bytes[..at], &left.bytes[at + 1..]))
         }
         None => None,
     }
@@ -56,21 +53,19 @@ fn whole_line(line: &[u8]) -> FeedLine<'_>
 }
 
 /// The next item of bytes that begin a line.
-fn next_of_line(left: &[u8], searched: usize, ended: bool) -> Next<'_>
-    requires { IsSearched left.now searched }
-    ensures item { HandsOut (state left.now false ended) (option_map item_view result.item)
-        (state result.rest.now result.skipping ended) }
-    ensures rest { IsEnd left.now result.rest.now }
-    ensures searched { IsSearched result.rest.now result.searched }
+fn next_of_line(left: Left<'_>, ended: bool) -> Next<'_>
+    ensures { GivesNext left.entry.bytes.now false ended result }
 {
-    match cut_line(left, searched) {
+    match cut_line(left) {
         Some((line, rest)) => Next {
             item: Some(whole_line(line)),
-            rest,
-            searched: 0,
+            rest: Left {
+                bytes: rest,
+                searched: 0,
+            },
             skipping: false,
         },
-        None => next_of_last(left, ended),
+        None => next_of_last(left.bytes, ended),
     }
 }
 
@@ -84,55 +79,62 @@ fn is_last_line(left: &[u8], ended: bool) -> bool
 /// The next item of bytes with no line feed.
 fn next_of_last(left: &[u8], ended: bool) -> Next<'_>
     requires { HasNoLineFeed left.now }
-    ensures item { HandsOut (state left.now false ended) (option_map item_view result.item)
-        (state result.rest.now result.skipping ended) }
-    ensures rest { IsEnd left.now result.rest.now }
-    ensures searched { IsSearched result.rest.now result.searched }
+    ensures { GivesNext left.now false ended result }
 {
     if is_too_long(left) {
         return Next {
             item: Some(FeedLine::TooLong),
-            rest: &[],
-            searched: 0,
+            rest: Left {
+                bytes: &[],
+                searched: 0,
+            },
             skipping: true,
         };
     }
     if is_last_line(left, ended) {
         return Next {
             item: Some(FeedLine::Line(left)),
-            rest: &[],
-            searched: 0,
+            rest: Left {
+                bytes: &[],
+                searched: 0,
+            },
             skipping: false,
         };
     }
     Next {
         item: None,
-        rest: left,
-        searched: left.len(),
+        rest: Left {
+            bytes: left,
+            searched: left.len(),
+        },
         skipping: false,
     }
 }
 
-/// The next item of the bytes that are left, of which `searched` are known to hold no line feed.
+/// The next item of the bytes that are left.
 ///
-/// The cost is linear in the other bytes up to the line feed that ends the item, or that ends the
-/// line that is skipped.
-pub(crate) fn next_item(left: &[u8], searched: usize, skipping: bool, ended: bool) -> Next<'_>
-    requires { IsSearched left.now searched }
-    ensures item { HandsOut (state left.now skipping ended) (option_map item_view result.item)
-        (state result.rest.now result.skipping ended) }
-    ensures rest { IsEnd left.now result.rest.now }
-    ensures searched { IsSearched result.rest.now result.searched }
+/// The cost is linear in the bytes that aren't searched yet, up to the line feed that ends the
+/// item, or that ends the line that is skipped.
+pub(crate) fn next_item(left: Left<'_>, skipping: bool, ended: bool) -> Next<'_>
+    ensures { GivesNext left.entry.bytes.now skipping ended result }
 {
     if !skipping {
-        return next_of_line(left, searched, ended);
+        return next_of_line(left, ended);
     }
-    match cut_line(left, searched) {
-        Some((_, rest)) => next_of_line(rest, 0, ended),
+    match cut_line(left) {
+        Some((_, rest)) => next_of_line(
+            Left {
+                bytes: rest,
+                searched: 0,
+            },
+            ended,
+        ),
         None => Next {
             item: None,
-            rest: &[],
-            searched: 0,
+            rest: Left {
+                bytes: &[],
+                searched: 0,
+            },
             skipping: true,
         },
     }

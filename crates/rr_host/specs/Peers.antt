@@ -44,6 +44,11 @@ abbrev pub NotesCall : Option Peer → Log DialCall → Log DialCall → Type 0
 NotesCall None old new = new.calls ≡ None
 NotesCall (Some peer) old new = HasNoted (call_to peer) old new
 
+-- a call was noted, and the peers are as they were
+pub record NotesOnly (call : DialCall) (old new : DialState) : Type 0 where
+  pub noted : HasNoted call old.log new.log
+  pub peers : new.peers ≡ old.peers
+
 -- a call that was noted
 abbrev pub noted_call : Entry → DialCall
 noted_call (entry.Reached address bytes) = reached address.now (new_stream bytes.now)

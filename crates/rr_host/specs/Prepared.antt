@@ -1,8 +1,8 @@
 -- Connections over memory, and their calls.
-use Rattle.std.specs.Prelude.{ℕ, ◌+◌, ◌*◌, ◌-◌, ◌^◌, nat_lt, min, List, [], length, slice_get, Option, None, Some, if◌then◌else◌}
+use Rattle.std.specs.Prelude.{◌≡◌, ℕ, ◌+◌, ◌*◌, ◌-◌, ◌^◌, nat_lt, min, List, [], length, slice_get, Option, None, Some, if◌then◌else◌}
 use Rattle.rr_host.specs.declared.prepared.Entry.{Entry}
 use Rattle.rr_host.specs.declared.prepared.Entry.TheVariants as entry
-use Rattle.rr_host.specs.Log.{Log}
+use Rattle.rr_host.specs.Log.{HasNoted, Log}
 use Rattle.rr_host.specs.Streams.{new_stream, stream_of}
 use Rattle.rr_host.specs.Visits.{Call, Gave, Failed, Over, TookBack}
 
@@ -33,6 +33,12 @@ next_call p = giving (slice_get p.inputs p.place)
 -- the place after that
 abbrev pub next_place : PreparedState → ℕ
 next_place p = if nat_lt p.place (length p.inputs) then p.place + 1 else p.place
+
+-- a call was noted, the connections are as they were, and the one at the place `next` comes next
+pub record Notes (call : Call) (next : ℕ) (old new : PreparedState) : Type 0 where
+  pub noted : HasNoted call old.log new.log
+  pub inputs : new.inputs ≡ old.inputs
+  pub place : new.place ≡ next
 
 -- a call that was noted
 abbrev pub noted_call : Entry → Call

@@ -1,8 +1,7 @@
 //! Peers over memory.
 
 ghost use Rattle.std.specs.Prelude.{◌≡◌, Some, [], IfOk, IfSome, map, option_map};
-ghost use Rattle.rr_host.specs.Log.{HasNoted};
-ghost use Rattle.rr_host.specs.Peers.{noted_call, peer_of, peer_view};
+ghost use Rattle.rr_host.specs.Peers.{NotesOnly, noted_call, peer_of, peer_view};
 
 use crate::dial::Dial;
 use crate::log::CallLog;
@@ -80,8 +79,7 @@ impl<'a> PreparedDial<'a> {
 
     /// Notes a call.
     fn note(&mut self, call: Entry<'a>)
-        ensures noted { HasNoted (noted_call call.entry) self.old.log self.new.log }
-        ensures peers { self.new.peers ≡ self.old.peers }
+        ensures { NotesOnly (noted_call call.entry) self.old self.new }
     {
         self.log.note(call);
     }
@@ -102,9 +100,8 @@ fn peer_of<'a>(peers: &'a [PreparedPeer<'a>], address: &str) -> Option<PreparedP
 
 impl<'a> Dial for PreparedDial<'a> {
     ghost use Rattle.std.specs.Prelude.{◌≡◌, [], ◌∷◌, None, Some, IfSome, option_map};
-    ghost use Rattle.rr_host.specs.Log.{HasNoted};
     ghost use Rattle.rr_host.specs.Calls.{Grows, handed_back, reached, unreached};
-    ghost use Rattle.rr_host.specs.Peers.{NotesCall, peer_of, sent_by};
+    ghost use Rattle.rr_host.specs.Peers.{NotesCall, NotesOnly, peer_of, sent_by};
     ghost use Rattle.rr_host.specs.Streams.{new_stream, stream_of};
 
     type Input = &'a [u8];
@@ -137,10 +134,9 @@ impl<'a> Dial for PreparedDial<'a> {
     }
 
     fn take_back(&mut self, input: Counted<&'a [u8]>, output: Counted<Vec<u8>>)
-        ensures noted { HasNoted (handed_back
+        ensures { NotesOnly (handed_back
             (stream_of (λ r. Some r.now) (λ w. Some w.items) input.entry output))
-            self.old.log self.new.log }
-        ensures peers { self.new.peers ≡ self.old.peers }
+            self.old self.new }
     {
         self.note(Entry::HandedBack(input, output));
     }

@@ -1,8 +1,7 @@
 //! Connections over memory.
 
 ghost use Rattle.std.specs.Prelude.{◌≡◌, IfOk, map, option_map};
-ghost use Rattle.rr_host.specs.Log.{HasNoted};
-ghost use Rattle.rr_host.specs.Prepared.{at_start, noted_call};
+ghost use Rattle.rr_host.specs.Prepared.{Notes, at_start, noted_call};
 
 use crate::log::CallLog;
 use crate::visits::{Visit, Visits};
@@ -76,9 +75,7 @@ impl<'a> Prepared<'a> {
 
     /// Notes a call.
     fn note(&mut self, call: Entry<'a>)
-        ensures noted { HasNoted (noted_call call.entry) self.old.log self.new.log }
-        ensures inputs { self.new.inputs ≡ self.old.inputs }
-        ensures place { self.new.place ≡ self.old.place }
+        ensures { Notes (noted_call call.entry) self.old.place self.old self.new }
     {
         self.log.note(call);
     }
@@ -86,8 +83,7 @@ impl<'a> Prepared<'a> {
 
 impl<'a> Visits for Prepared<'a> {
     ghost use Rattle.std.specs.Prelude.{◌≡◌, [], ◌∷◌, Some};
-    ghost use Rattle.rr_host.specs.Log.{HasNoted};
-    ghost use Rattle.rr_host.specs.Prepared.{next_call, next_place};
+    ghost use Rattle.rr_host.specs.Prepared.{Notes, next_call, next_place};
     ghost use Rattle.rr_host.specs.Streams.{stream_of};
     ghost use Rattle.rr_host.specs.Visits.{HasCalled, TookBack, call_of};
 
@@ -101,9 +97,7 @@ impl<'a> Visits for Prepared<'a> {
         ensures called { HasCalled self.old.log.calls self.new.log.calls
             (call_of (λ r. Some r.now) (λ w. Some w.items) result ∷ []) }
         ensures given { call_of (λ r. Some r.now) (λ w. Some w.items) result ≡ next_call self.old }
-        ensures noted { HasNoted (next_call self.old) self.old.log self.new.log }
-        ensures inputs { self.new.inputs ≡ self.old.inputs }
-        ensures place { self.new.place ≡ next_place self.old }
+        ensures noted { Notes (next_call self.old) (next_place self.old) self.old self.new }
     {
         let Some(input) = self.inputs.get(self.place).copied() else {
             self.note(Entry::Over);
@@ -121,11 +115,9 @@ impl<'a> Visits for Prepared<'a> {
     fn take_back(&mut self, input: Counted<&'a [u8]>, output: Counted<Vec<u8>>)
         ensures called { HasCalled self.old.log.calls self.new.log.calls
             (TookBack (stream_of (λ r. Some r.now) (λ w. Some w.items) input.entry output) ∷ []) }
-        ensures noted { HasNoted (TookBack (stream_of (λ r. Some r.now) (λ w. Some w.items)
+        ensures noted { Notes (TookBack (stream_of (λ r. Some r.now) (λ w. Some w.items)
             input.entry output))
-            self.old.log self.new.log }
-        ensures inputs { self.new.inputs ≡ self.old.inputs }
-        ensures place { self.new.place ≡ self.old.place }
+            self.old.place self.old self.new }
     {
         self.note(Entry::TookBack(input, output));
     }

@@ -11,9 +11,9 @@ rest_is n text = ap (λ k. take k (drop n text)) (sym (length-drop n text)) ∙ 
 pub returns-in-Some : goal.returns-in-Some
 returns-in-Some c =
     let found = rw rest_is at c.in-Some.ensures in
-    rw rest_is (IsCut-found c.args.left.now c.args.searched c.in-Some.found c.requires found)
+    rw rest_is (IsCut-found c.args.left.bytes.now c.args.left.searched c.in-Some.found c.args.left.is_searched found)
 
 pub returns-in-None : goal.returns-in-None
 returns-in-None c =
     let found = rw rest_is at c.in-None.ensures in
-    HasNoLineFeed-unfound c.args.left.now c.args.searched c.requires found
+    HasNoLineFeed-unfound c.args.left.bytes.now c.args.left.searched c.args.left.is_searched found
