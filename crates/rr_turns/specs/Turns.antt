@@ -35,3 +35,13 @@ HasLeft old (Some (Body body)) new =
     (old.bodies ≡ body ∷ new.bodies) × (new.connections ≡ old.connections) × (new.turn ≡ true)
 HasLeft old (Some (Connection connection)) new =
     (old.connections ≡ connection ∷ new.connections) × (new.bodies ≡ old.bodies) × (new.turn ≡ false)
+
+-- one was taken, which is this one, and the others are left
+pub record Takes {B C : Type 0} (first : Option (Taken B C)) (old : Waiting B C) (result : Option (Taken B C))
+    (new : Waiting B C) : Type 0 where
+  pub taken : result ≡ first
+  pub others : HasLeft old result new
+
+-- the one whose turn it is was taken, and the others are left
+abbrev pub TakesNext : {B C : Type 0} → Waiting B C → Option (Taken B C) → Waiting B C → Type 0
+TakesNext old result new = Takes (taken_next old) old result new

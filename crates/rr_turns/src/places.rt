@@ -1,7 +1,7 @@
 //! What waits, of two kinds.
 
 ghost use Rattle.std.specs.Prelude.{◌≡◌, ◌<◌, ◌≤◌, ◌++◌, ◌∷◌, [], true, false, length, nat_lt, not};
-ghost use Rattle.rr_turns.specs.Turns.{HasLeft, first_body, first_connection, taken_next, waiting};
+ghost use Rattle.rr_turns.specs.Turns.{Takes, TakesNext, first_body, first_connection, waiting};
 
 use std::alloc::Global;
 use std::collections::VecDeque;
@@ -89,8 +89,7 @@ impl<B: Drop, C: Drop> Places<B, C> {
 
     /// Takes the first body.
     fn take_body(&mut self) -> Option<Taken<B, C>>
-        ensures taken { result ≡ first_body self.old.bodies.items }
-        ensures others { HasLeft
+        ensures { Takes (first_body self.old.bodies.items)
             (waiting self.old.bodies.items self.old.connections.items self.old.turn) result
             (waiting self.new.bodies.items self.new.connections.items self.new.turn) }
     {
@@ -103,8 +102,7 @@ impl<B: Drop, C: Drop> Places<B, C> {
 
     /// Takes the first connection.
     fn take_connection(&mut self) -> Option<Taken<B, C>>
-        ensures taken { result ≡ first_connection self.old.connections.items }
-        ensures others { HasLeft
+        ensures { Takes (first_connection self.old.connections.items)
             (waiting self.old.bodies.items self.old.connections.items self.old.turn) result
             (waiting self.new.bodies.items self.new.connections.items self.new.turn) }
     {
@@ -117,9 +115,7 @@ impl<B: Drop, C: Drop> Places<B, C> {
 
     /// Takes the one whose turn it is.
     pub(crate) fn take(&mut self) -> Option<Taken<B, C>>
-        ensures taken { result
-            ≡ taken_next (waiting self.old.bodies.items self.old.connections.items self.old.turn) }
-        ensures others { HasLeft
+        ensures { TakesNext
             (waiting self.old.bodies.items self.old.connections.items self.old.turn) result
             (waiting self.new.bodies.items self.new.connections.items self.new.turn) }
     {

@@ -1,3 +1,4 @@
 pub mod Program
+pub mod Building
 pub mod Fault
 pub mod Words

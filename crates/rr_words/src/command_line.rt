@@ -1,8 +1,8 @@
 //! The program's command line, built with `clap`.
 
-ghost use Rattle.std.specs.Prelude.{◌≡◌, false, IfOk};
-ghost use Rattle.clap.specs.Words.{app_of, rule_of};
-ghost use Rattle.clap.specs.declared.builder.command.Command.TheViews.{out-Command as fields_of};
+ghost use Rattle.std.specs.Prelude.{◌≡◌, IfOk};
+ghost use Rattle.clap.specs.Words.{app_of};
+ghost use Rattle.rr_words.specs.Building.{IsArg, IsCommand};
 ghost use Rattle.rr_words.specs.Program.{sim_app, option_rule, check_lines_app, config_rule, origin_rule, bare_serve_app, serve_app, bare_app, script_command_app, stream_commands_app, program_app};
 
 use clap::{Arg, Command};
@@ -13,8 +13,7 @@ const VERSION: &str = "2";
 
 /// `--NAME VALUE`.
 fn option<'a>(alloc: Global, name: &'a str, value: &'a str, help: &'a str) -> Arg<'a>
-    ensures rule { rule_of result ≡ option_rule name.entry.now }
-    ensures local { result.global ≡ false }
+    ensures { IsArg result (option_rule name.entry.now) }
 {
     Arg::new(alloc, name)
         .long(name)
@@ -24,8 +23,7 @@ fn option<'a>(alloc: Global, name: &'a str, value: &'a str, help: &'a str) -> Ar
 
 /// `sim [FILE]`.
 fn sim<'a>(alloc: Global) -> Result<Command<'a>, AllocError>
-    ensures app { IfOk result (λ c. app_of c ≡ sim_app) }
-    ensures local { IfOk result (λ c. (fields_of c).has_globals ≡ false) }
+    ensures { IfOk result (IsCommand sim_app) }
 {
     let file = Arg::new(alloc, "FILE").help("The script, in place of standard input");
     Command::new(alloc, "sim")
@@ -35,8 +33,7 @@ fn sim<'a>(alloc: Global) -> Result<Command<'a>, AllocError>
 
 /// `check-lines [--precision P] [--now T]`.
 fn check_lines<'a>(alloc: Global) -> Result<Command<'a>, AllocError>
-    ensures app { IfOk result (λ c. app_of c ≡ check_lines_app) }
-    ensures local { IfOk result (λ c. (fields_of c).has_globals ≡ false) }
+    ensures { IfOk result (IsCommand check_lines_app) }
 {
     Command::new(alloc, "check-lines")
         .about("Checks lines on standard input and prints their samples")
@@ -56,8 +53,7 @@ fn check_lines<'a>(alloc: Global) -> Result<Command<'a>, AllocError>
 
 /// `CONFIG`.
 fn config_arg<'a>(alloc: Global) -> Arg<'a>
-    ensures rule { rule_of result ≡ config_rule }
-    ensures local { result.global ≡ false }
+    ensures { IsArg result config_rule }
 {
     Arg::new(alloc, "CONFIG")
         .required(true)
@@ -66,8 +62,7 @@ fn config_arg<'a>(alloc: Global) -> Arg<'a>
 
 /// `--origin N`.
 fn origin_arg<'a>(alloc: Global) -> Arg<'a>
-    ensures rule { rule_of result ≡ origin_rule }
-    ensures local { result.global ≡ false }
+    ensures { IsArg result origin_rule }
 {
     option(
         alloc,
@@ -80,8 +75,7 @@ fn origin_arg<'a>(alloc: Global) -> Arg<'a>
 
 /// `serve CONFIG --origin N`.
 fn bare_serve<'a>(alloc: Global) -> Result<Command<'a>, AllocError>
-    ensures app { IfOk result (λ c. app_of c ≡ bare_serve_app) }
-    ensures local { IfOk result (λ c. (fields_of c).has_globals ≡ false) }
+    ensures { IfOk result (IsCommand bare_serve_app) }
 {
     Command::new(alloc, "serve")
         .about("Serves as a node: takes lines, answers fetches and pulls from peers")
@@ -91,8 +85,7 @@ fn bare_serve<'a>(alloc: Global) -> Result<Command<'a>, AllocError>
 
 /// `serve CONFIG --origin N [--load FILE] [--save FILE]`.
 fn serve<'a>(alloc: Global) -> Result<Command<'a>, AllocError>
-    ensures app { IfOk result (λ c. app_of c ≡ serve_app) }
-    ensures local { IfOk result (λ c. (fields_of c).has_globals ≡ false) }
+    ensures { IfOk result (IsCommand serve_app) }
 {
     bare_serve(alloc)?
         .arg(option(alloc, "load", "FILE", "A snapshot to begin with"))?
