@@ -1,10 +1,17 @@
 -- How far the lines of a stream are reported.
-use Rattle.std.specs.Prelude.{◌≡◌, ℕ, ◌+◌, List, ◌++◌, length, count_by}
-use Rattle.rr_feed.specs.Feed.{state}
+use Rattle.std.specs.Prelude.{◌≡◌, ℕ, ◌+◌, ℤ, true, List, [], ◌++◌, length, count_by, Option, Result, IfOk, OnOk}
+use Rattle.std.specs.Io.KnownBytes.{Appends}
+use Rattle.rr_io.specs.declared.counted.Counted.{Counted}
+use Rattle.rr_io.specs.Counted.{inner_of, is_flushed}
+use Rattle.rr_io.specs.Stream.{AppendsPrefix, WritesWhole}
+use Rattle.rr_feed.specs.Feed.{MayCome, empty_feed, items_left, state}
 use Rattle.rr_feed.specs.Items.{Item}
 use Rattle.rr_feed.specs.Laws.{IsFed}
+use Rattle.rr_line.specs.declared.precision.Precision.{Precision}
 use Rattle.rr_process.specs.declared.checker.Checker.{Checker}
-use Rattle.rr_process.specs.Report.{is_refused, report_from}
+use Rattle.rr_process.specs.declared.fault.ToolFault.{ToolFault}
+use Rattle.rr_process.specs.Report.{is_refused, refused_count, report_from, report_of}
+use Rattle.rr_process.specs.Streams.{WritesOut}
 
 -- of the bytes that were pushed, this text reports what was handed out, and it is counted
 pub record HasReported (c : Checker) (pushed text : List ℕ) : Type 0 where
@@ -13,6 +20,14 @@ pub record HasReported (c : Checker) (pushed text : List ℕ) : Type 0 where
   pub reported : text ≡ report_from c.precision c.now 1 handed
   pub lines : c.lines ≡ length handed
   pub refused : c.refused ≡ count_by (is_refused c.precision) handed
+
+-- no line came yet; lines are read by this precision, and a line without a time is of this one
+pub record IsNew (unit : Precision) (time : ℤ) (c : Checker) : Type 0 where
+  pub feed : c.feed ≡ empty_feed
+  pub pieces : c.pieces ≡ 0
+  pub precision : c.precision ≡ unit
+  pub now : c.now ≡ time
+  pub nothing : HasReported c [] []
 
 -- a piece was taken in
 pub record PushedPiece (old new : Checker) (piece : List ℕ) : Type 0 where
@@ -30,3 +45,33 @@ pub record Reports (old new : Checker) (text : List ℕ) : Type 0 where
   pub pieces : new.pieces ≡ old.pieces
   pub precision : new.precision ≡ old.precision
   pub now : new.now ≡ old.now
+
+-- all items that could be handed out were, this text reports them, and they are counted
+pub record ReportsAll (old new : Checker) (text : List ℕ) : Type 0 where
+  pub reports : Reports old new text
+  pub all_taken : items_left new.feed ≡ []
+
+-- the report of the items that could be handed out was written; or the result says why not, and a front of the report
+-- was, whatever comes later
+pub record WritesItems {W X : Type 0} (contents : W → Option (List ℕ)) (old new : Checker)
+    (output output_new : Counted W) (result : Result X ToolFault) : Type 0 where
+  pub reported : OnOk result ((text : List ℕ) × ReportsAll old new text × WritesWhole contents output output_new text)
+  pub front : (pushed before more : List ℕ) (start : Option (List ℕ)) → HasReported old pushed before
+      → Appends start (contents (inner_of output)) before → MayCome old.feed more true
+      → AppendsPrefix start (contents (inner_of output_new)) (report_of old.precision old.now (pushed ++ more))
+  pub writes : WritesOut output output_new result
+
+-- the report of all that was pushed was written and passed on, and the refused lines were counted; or the result says
+-- why not, and a front of the report was written
+pub record WritesReport {W : Type 0} (contents : W → Option (List ℕ)) (old : Checker) (output output_new : Counted W)
+    (result : Result ℕ ToolFault) : Type 0 where
+  pub reported : OnOk result ((pushed before : List ℕ) (start : Option (List ℕ)) → HasReported old pushed before
+      → Appends start (contents (inner_of output)) before
+      → Appends start (contents (inner_of output_new)) (report_of old.precision old.now pushed))
+  pub refused : IfOk result (λ refused. (pushed before : List ℕ) → HasReported old pushed before
+      → refused ≡ refused_count old.precision pushed)
+  pub front : (pushed before : List ℕ) (start : Option (List ℕ)) → HasReported old pushed before
+      → Appends start (contents (inner_of output)) before
+      → AppendsPrefix start (contents (inner_of output_new)) (report_of old.precision old.now pushed)
+  pub flushed : OnOk result (is_flushed output_new ≡ true)
+  pub writes : WritesOut output output_new result

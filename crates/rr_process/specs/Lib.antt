@@ -1,6 +1,6 @@
 pub mod Fault
 pub mod Report
-pub mod Checker
 pub mod Ending
 pub mod Orders
 pub mod Streams
+pub mod Checker

@@ -21,12 +21,33 @@ pub record WritesOut {W X : Type 0} (old new : Counted W) (result : Result X Too
   pub failed : result ≡ Err WriteFailed → HasFailed old new
   pub faults : IfErr result (λ fault. (fault ≡ WriteFailed) ⊎ (fault ≡ Memory))
 
--- the report of the lines that an input still had was written
-pub record ReportsLines {W : Type 0} (contents : W → Option (List ℕ)) (precision : Precision) (now : ℤ)
-    (input : Option (List ℕ)) (old new : Counted W) (result : Result ℕ ToolFault) : Type 0 where
-  pub whole : OnOk result (IfSome input (λ bytes. WritesWhole contents old new (report_of precision now bytes)))
-  pub refused : IfOk result (λ refused. IfSome input (λ bytes. refused ≡ refused_count precision bytes))
-  pub flushed : OnOk result (is_flushed new ≡ true)
+-- What an input still had was read in at most `reads` reads, and the text that is printed for it was written; or the
+-- result says why not, and a front of that text was.
+pub record Prints {R W X : Type 0} (remaining : R → Option (List ℕ)) (contents : W → Option (List ℕ)) (reads : ℕ)
+    (printed : List ℕ → List ℕ) (input input_new : Counted R) (output output_new : Counted W)
+    (result : Result X ToolFault) : Type 0 where
+  pub whole : OnOk result (IfSome (remaining (inner_of input))
+      (λ bytes. WritesWhole contents output output_new (printed bytes)))
   -- however the call ends
-  pub front : IfSome input (λ bytes. WritesFront contents old new (report_of precision now bytes))
-  pub failed : result ≡ Err WriteFailed → HasFailed old new
+  pub front : IfSome (remaining (inner_of input)) (λ bytes. WritesFront contents output output_new (printed bytes))
+  -- when a stream is to blame
+  pub read : ReadsWithin reads input input_new result
+  pub write_failed : result ≡ Err WriteFailed → HasFailed output output_new
+
+-- the report of the lines that an input still had was printed and passed on, and the refused lines are counted
+pub record ReportsLines {R W : Type 0} (remaining : R → Option (List ℕ)) (contents : W → Option (List ℕ)) (reads : ℕ)
+    (precision : Precision) (now : ℤ) (input input_new : Counted R) (output output_new : Counted W)
+    (result : Result ℕ ToolFault) : Type 0 where
+  pub printed : Prints remaining contents reads (report_of precision now) input input_new output output_new result
+  pub refused : IfOk result (λ refused. IfSome (remaining (inner_of input))
+      (λ bytes. refused ≡ refused_count precision bytes))
+  pub flushed : OnOk result (is_flushed output_new ≡ true)
+
+-- a text was written whole and passed on; or a write failed, and a front of the text was written
+pub record WritesText {W X : Type 0} (contents : W → Option (List ℕ)) (output output_new : Counted W) (text : List ℕ)
+    (result : Result X ToolFault) : Type 0 where
+  pub whole : OnOk result (WritesWhole contents output output_new text)
+  pub flushed : OnOk result (is_flushed output_new ≡ true)
+  pub front : WritesFront contents output output_new text
+  pub failed : IfErr result (λ fault. fault ≡ WriteFailed)
+  pub write_failed : result ≡ Err WriteFailed → HasFailed output output_new

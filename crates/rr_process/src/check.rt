@@ -1,8 +1,7 @@
 //! Lines from a reader, reported to a writer.
 
-ghost use Rattle.rr_io.specs.Counted.{inner_of};
 ghost use Rattle.rr_text.specs.declared.limits.TheConstants.{MAX_READS};
-ghost use Rattle.rr_process.specs.Streams.{ReadsWithin, ReportsLines};
+ghost use Rattle.rr_process.specs.Streams.{ReportsLines};
 
 use crate::checker::Checker;
 use crate::fault::ToolFault;
@@ -34,9 +33,8 @@ pub fn check_lines<R: Read, W: Write>(
     precision: Precision,
     now: i64,
 ) -> Result<u64, ToolFault>
-    ensures report { ReportsLines W.contents precision now (R.remaining (inner_of input.old))
+    ensures { ReportsLines R.remaining W.contents MAX_READS precision now input.old input.new
         output.old output.new result }
-    ensures reads { ReadsWithin MAX_READS input.old input.new result }
 {
     check_lines_within(alloc, input, output, precision, now, MAX_READS)
 }
@@ -54,9 +52,8 @@ pub fn check_lines_within<R: Read, W: Write>(
     now: i64,
     reads: u32,
 ) -> Result<u64, ToolFault>
-    ensures report { ReportsLines W.contents precision now (R.remaining (inner_of input.old))
+    ensures { ReportsLines R.remaining W.contents reads precision now input.old input.new
         output.old output.new result }
-    ensures reads { ReadsWithin reads input.old input.new result }
 {
     let mut checker = Checker::new(alloc, precision, now);
     let mut piece = [0u8; PIECE];

@@ -1,13 +1,8 @@
 //! Lines as they come in pieces, and how many of them were refused.
 
-ghost use Rattle.std.specs.Prelude.{◌≡◌, ◌+◌, ◌*◌, ◌<◌, ◌≤◌, ◌^◌, ◌++◌, ℕ, List, Option, true, false, [], length, IfOk, OnOk};
-ghost use Rattle.std.specs.Io.KnownBytes.{Appends};
-ghost use Rattle.rr_io.specs.Counted.{inner_of, is_flushed};
-ghost use Rattle.rr_io.specs.Stream.{AppendsPrefix, WritesWhole};
-ghost use Rattle.rr_feed.specs.Feed.{items_left, empty_feed, MayCome};
+ghost use Rattle.std.specs.Prelude.{◌≡◌, ◌+◌, ◌*◌, ◌<◌, ◌≤◌, ◌^◌, ◌++◌, ℕ, List, false, [], length, IfOk, OnOk};
+ghost use Rattle.rr_feed.specs.Feed.{items_left};
 ghost use Rattle.rr_process.specs.declared.check.TheConstants.{PIECE};
-ghost use Rattle.rr_process.specs.Report.{refused_count, report_of};
-ghost use Rattle.rr_process.specs.Streams.{WritesOut};
 
 use crate::fault::ToolFault;
 use crate::report::push_item;
@@ -36,15 +31,11 @@ pub(crate) struct Checker {
 }
 
 impl Checker {
-    ghost use Rattle.rr_process.specs.Checker.{HasReported, Reports, PushedPiece};
+    ghost use Rattle.rr_process.specs.Checker.{IsNew, PushedPiece, Reports, ReportsAll, WritesItems, WritesReport};
 
     /// No line came yet.
     pub(crate) fn new(alloc: Global, precision: Precision, now: i64) -> Checker
-        ensures feed { result.feed ≡ empty_feed }
-        ensures pieces { result.pieces ≡ 0 }
-        ensures precision { result.precision ≡ precision }
-        ensures now { result.now ≡ now }
-        ensures nothing { HasReported result [] [] }
+        ensures { IsNew precision now result }
     {
         Checker {
             alloc,
@@ -96,8 +87,7 @@ impl Checker {
 
     /// The report of the items that can be handed out; they are counted.
     fn report(&mut self) -> Result<Vec<u8>, AllocError>
-        ensures reported { IfOk result (λ text. Reports self.old self.new text.items) }
-        ensures all_taken { OnOk result (items_left self.new.feed ≡ []) }
+        ensures { IfOk result (λ text. ReportsAll self.old self.new text.items) }
     {
         let mut report = Vec::new(self.alloc);
         self.push_items(&mut report)?;
@@ -106,16 +96,7 @@ impl Checker {
 
     /// Writes the report of the items that can be handed out.
     pub(crate) fn write_items<W: Write>(&mut self, output: &mut Counted<W>) -> Result<(), ToolFault>
-        ensures reported { OnOk result ((text : List ℕ) × Reports self.old self.new text
-            × WritesWhole W.contents output.old output.new text) }
-        ensures all_taken { OnOk result (items_left self.new.feed ≡ []) }
-        ensures front { (pushed before more : List ℕ) (start : Option (List ℕ))
-            → HasReported self.old pushed before
-            → Appends start (W.contents (inner_of output.old)) before
-            → MayCome self.old.feed more true
-            → AppendsPrefix start (W.contents (inner_of output.new))
-            (report_of self.old.precision self.old.now (pushed ++ more)) }
-        ensures writes { WritesOut output.old output.new result }
+        ensures { WritesItems W.contents self.old self.new output.old output.new result }
     {
         let text = self.report()?;
         write_all(output, text.as_slice())?;
@@ -125,21 +106,7 @@ impl Checker {
     /// Writes what is left to report once the input is at its end, has the writer pass all of it
     /// on, and says how many lines were refused.
     pub(crate) fn finish<W: Write>(&mut self, output: &mut Counted<W>) -> Result<u64, ToolFault>
-        ensures reported { OnOk result ((pushed before : List ℕ) (start : Option (List ℕ))
-            → HasReported self.old pushed before
-            → Appends start (W.contents (inner_of output.old)) before
-            → Appends start (W.contents (inner_of output.new))
-            (report_of self.old.precision self.old.now pushed)) }
-        ensures refused { IfOk result (λ refused. (pushed before : List ℕ)
-            → HasReported self.old pushed before
-            → refused ≡ refused_count self.old.precision pushed) }
-        ensures front { (pushed before : List ℕ) (start : Option (List ℕ))
-            → HasReported self.old pushed before
-            → Appends start (W.contents (inner_of output.old)) before
-            → AppendsPrefix start (W.contents (inner_of output.new))
-            (report_of self.old.precision self.old.now pushed) }
-        ensures flushed { OnOk result (is_flushed output.new ≡ true) }
-        ensures writes { WritesOut output.old output.new result }
+        ensures { WritesReport W.contents self.old output.old output.new result }
     {
         self.feed.end();
         self.write_items(output)?;

@@ -1,11 +1,10 @@
 //! An order, obeyed over two streams.
 
-ghost use Rattle.std.specs.Prelude.{◌≡◌, Err, IfSome, IfOk, OnOk};
+ghost use Rattle.std.specs.Prelude.{◌≡◌, IfSome, IfOk};
 ghost use Rattle.rr_io.specs.Counted.{inner_of};
-ghost use Rattle.rr_io.specs.Stream.{HasFailed, WritesFront, WritesWhole};
 ghost use Rattle.rr_text.specs.declared.limits.TheConstants.{MAX_READS};
 ghost use Rattle.rr_process.specs.Orders.{ending_of, printed_for};
-ghost use Rattle.rr_process.specs.Streams.{ReadsWithin};
+ghost use Rattle.rr_process.specs.Streams.{Prints};
 ghost use Rattle.rr_words.specs.Words.{asked_by};
 
 use crate::check::check_lines;
@@ -28,20 +27,10 @@ pub fn obey_order<R: Read, W: Write>(
     input: &mut Counted<R>,
     output: &mut Counted<W>,
 ) -> Result<Ending, ToolFault>
-    ensures printed { OnOk result (IfSome (R.remaining (inner_of input.old))
-        (λ bytes. WritesWhole W.contents output.old output.new
-        (printed_for (asked_by order.now) bytes))) }
+    ensures printed { Prints R.remaining W.contents MAX_READS (printed_for (asked_by order.now))
+        input.old input.new output.old output.new result }
     ensures ending { IfOk result (λ ending. IfSome (R.remaining (inner_of input.old))
         (λ bytes. ending ≡ ending_of (asked_by order.now) bytes)) }
-
-    // What is written however the run ends.
-    ensures front { IfSome (R.remaining (inner_of input.old))
-        (λ bytes. WritesFront W.contents output.old output.new
-        (printed_for (asked_by order.now) bytes)) }
-
-    // When a stream is to blame.
-    ensures reads { ReadsWithin MAX_READS input.old input.new result }
-    ensures write_failed { result ≡ Err ToolFault.WriteFailed → HasFailed output.old output.new }
 {
     match order {
         Order::Sim { file: _ } => {

@@ -1,54 +1,23 @@
 //! The report of a line: a record for each of its samples, or why it is refused.
 
-ghost use Rattle.std.specs.Prelude.{◌≡◌, ◌≢◌, ◌++◌, ◌∷◌, [], None, IfOk, OnOk, is_err};
+ghost use Rattle.std.specs.Prelude.{◌≡◌, ◌≢◌, ◌++◌, IfOk, OnOk, is_err};
 ghost use Rattle.rr_text.specs.Bytes.{HasNoLineFeed};
 ghost use Rattle.rr_feed.specs.Items.{item_view, IsLine};
-ghost use Rattle.rr_key.specs.Making.{making_fault};
 ghost use Rattle.rr_line.specs.Fault.{line_fault_name};
-ghost use Rattle.rr_point.specs.Key.{HasKeys, key_text, names_of};
+ghost use Rattle.rr_point.specs.Key.{HasKeys};
 ghost use Rattle.rr_point.specs.Point.{point_view};
 ghost use Rattle.rr_line.specs.Reading.{reading};
-ghost use Rattle.rr_fetch.specs.Records.{record_text, refusal_text, IsPlain};
-ghost use Rattle.std.specs.Fmt.{signed_decimal};
+ghost use Rattle.rr_fetch.specs.Records.{refusal_text};
 ghost use Rattle.rr_process.specs.Report.{is_refused, item_text, line_text, point_text};
 
 use itoa::Buffer;
 use rr_feed::{FeedLine, LINE_TOO_LONG};
 use rr_fetch::{push_plain, push_refusal};
-use rr_line::{Field, Line, LineFault, Point, Precision, parse_line};
+use rr_line::{Line, LineFault, Point, Precision, parse_line};
 use std::alloc::{AllocError, Global};
 
-/// Adds the record of a sample: its key text, its value and the text of its time.
-fn push_sample(report: &mut Vec<u8>, key: &[u8], value: i64, time: &[u8]) -> Result<(), AllocError>
-    requires { IsPlain time.now }
-    ensures { OnOk result (report.new.items
-        ≡ report.old.items ++ record_text (key.now ∷ signed_decimal value ∷ time.now ∷ [])) }
-{
-    let mut buffer = Buffer::new();
-    let value = buffer.format(value).as_bytes();
-    push_plain(report, key, value, time)
-}
-
-/// Adds the sample of a field. Its key text is written over `key`, whose memory is used again.
-fn push_field(
-    alloc: Global,
-    report: &mut Vec<u8>,
-    key: &mut Vec<u8>,
-    point: &Point<'_>,
-    time: &[u8],
-    field: &Field<'_>,
-) -> Result<(), AllocError>
-    requires keyed { making_fault (names_of (point_view point.now) field.now.key.now) ≡ None }
-    requires time { IsPlain time.now }
-    ensures { OnOk result (report.new.items ≡ report.old.items
-        ++ record_text (key_text (point_view point.now) field.now.key.now ∷ signed_decimal
-        field.now.value ∷ time.now ∷ [])) }
-{
-    point.write_key(alloc, key, field.key)?;
-    push_sample(report, key, field.value, time)
-}
-
-/// Adds the samples of a point; one without a time is of the time `now`.
+/// Adds the samples of a point; one without a time is of the time `now`. Each key text is written
+/// over `key`, whose memory is used again.
 fn push_point(
     alloc: Global,
     report: &mut Vec<u8>,
@@ -64,7 +33,10 @@ fn push_point(
     let mut buffer = Buffer::new();
     let digits = buffer.format(time).as_bytes();
     for field in &point.fields {
-        push_field(alloc, report, key, point, digits, field)?;
+        point.write_key(alloc, key, field.key)?;
+        let mut number = Buffer::new();
+        let value = number.format(field.value).as_bytes();
+        push_plain(report, key, value, digits)?;
     }
     Ok(())
 }

@@ -1,10 +1,9 @@
 //! A whole input, and a whole output.
 
-ghost use Rattle.std.specs.Prelude.{◌≡◌, ◌≢◌, Err, true, IfSome, IfOk, OnOk, IfErr};
-ghost use Rattle.rr_io.specs.Counted.{inner_of, is_flushed};
-ghost use Rattle.rr_io.specs.Stream.{HasFailed, WritesFront, WritesWhole};
+ghost use Rattle.std.specs.Prelude.{◌≡◌, ◌≢◌, IfSome, IfOk, IfErr};
+ghost use Rattle.rr_io.specs.Counted.{inner_of};
 ghost use Rattle.rr_text.specs.declared.limits.TheConstants.{MAX_READS};
-ghost use Rattle.rr_process.specs.Streams.{ReadsWithin};
+ghost use Rattle.rr_process.specs.Streams.{ReadsWithin, WritesText};
 
 use crate::fault::ToolFault;
 use rr_io::Counted;
@@ -26,11 +25,7 @@ pub fn read_script<R: Read>(alloc: Global, input: &mut Counted<R>) -> Result<Vec
 
 /// Writes the text whole, and has the writer pass on what it holds back of it.
 pub fn write_text<W: Write>(output: &mut Counted<W>, text: &[u8]) -> Result<(), ToolFault>
-    ensures whole { OnOk result (WritesWhole W.contents output.old output.new text.now) }
-    ensures flushed { OnOk result (is_flushed output.new ≡ true) }
-    ensures front { WritesFront W.contents output.old output.new text.now }
-    ensures failed { IfErr result (λ fault. fault ≡ ToolFault.WriteFailed) }
-    ensures write_failed { result ≡ Err ToolFault.WriteFailed → HasFailed output.old output.new }
+    ensures { WritesText W.contents output.old output.new text.now result }
 {
     write_all(output, text)?;
     flush(output)?;

@@ -31,25 +31,32 @@ loop-field-preserved c =
     let before = flat_map (text_at p c.unwrap_or-time.result) (map field_view (take i items)) in
     let so_far = rw back at c.loop-field.invariant in
     let digits : c.as_bytes-digits.result.now ≡ signed_decimal c.unwrap_or-time.result = search rules in
-    let added = rw digits at c.in_ok-push_field.ensures in
+    let value : c.as_bytes-value.result.now ≡ signed_decimal field.value = search rules in
+    let added = rw (value, digits, c.deref.ensures.value, c.in_ok-write_key.ensures.written) at c.in_ok-push_plain.ensures in
     let more = texts_more (text_at p c.unwrap_or-time.result) field_view items i any c.loop-field-test.true in
     rw back (added ∙ ap (λ (t : List ℕ). t ++ text_at p c.unwrap_or-time.result (field_view field)) so_far
     ∙ append_assoc start before (text_at p c.unwrap_or-time.result (field_view field))
     ∙ ap (λ (t : List ℕ). start ++ t) (sym more))
 
-pub push_field-requires : goal.push_field-requires
-push_field-requires c =
+pub write_key-requires : goal.write_key-requires
+write_key-requires c =
     let p = point_view c.args.point.now in
     let Keyed : List ℕ × ℤ → Type 0 = λ field. making_fault (names_of p field.0) ≡ None in
     let keyed : AllByRecursion Keyed (map field_view c.deref-field-items.result.now) =
     subst (λ (items : List Field). AllByRecursion Keyed (map field_view items))
     (sym c.deref-field-items.ensures.value) c.requires in
+    field_at Keyed field_view c.deref-field-items.result.now c.loop-field.field-index any keyed c.loop-field-test.true
+
+pub push_plain-requires-clause-first : goal.push_plain-requires-clause-first
+push_plain-requires-clause-first c =
+    let field = get_or c.deref-field-items.result.now c.loop-field.field-index any in
+    let value : c.as_bytes-value.result.now ≡ signed_decimal field.value = search rules in
+    subst IsPlain (sym value) (plain_signed field.value (search rules))
+
+pub push_plain-requires-clause-second : goal.push_plain-requires-clause-second
+push_plain-requires-clause-second c =
     let digits : c.as_bytes-digits.result.now ≡ signed_decimal c.unwrap_or-time.result = search rules in
-    record {
-      keyed = field_at Keyed field_view c.deref-field-items.result.now c.loop-field.field-index any keyed
-          c.loop-field-test.true;
-      time = subst IsPlain (sym digits) (plain_signed c.unwrap_or-time.result (search rules));
-    }
+    subst IsPlain (sym digits) (plain_signed c.unwrap_or-time.result (search rules))
 
 pub returns : goal.returns
 returns c =
