@@ -20,7 +20,7 @@ use Rattle.rr_cells.proofs.Orders.{cell_name_cmp_total, cell_name_cmp-IsAntisymm
 use Rattle.rr_cells.proofs.Knowing.{is_in-keys_of, is_in-names_of, knows-live, knows-cell}
 use Rattle.rr_cells.specs.State.{cells_of_knowledge}
 use Rattle.rr_cells.specs.Versions.{is_newer, newer_names}
-use Rattle.rr_cells.specs.Laws.{DifferenceIsByVersions}
+use Rattle.rr_cells.specs.Laws.{LackIsByVersions}
 use Rattle.rr_cells.proofs.States.{value, tie_of, marks_at, knows-marks_at, valued, no_value, known_at, in_names, cell_named, get-state, value_cell, cell_live, cell_dead}
 use Rattle.rr_cells.proofs.Uniting.{value_top, reaches, nothing_there}
 
@@ -174,5 +174,5 @@ module _ (s : Layout) (is : IsLayout s) (w : World) (k l : Knowledge) (ck : IsCl
       ∙ by_version n) (keys (cells_of_knowledge s k))
       ∙ ap (filter (λ n. list_any lacks (keys (cell s k n)))) (state_keys s k)
 
-pub difference_is_by_versions : DifferenceIsByVersions
+pub difference_is_by_versions : LackIsByVersions
 difference_is_by_versions s w k l is ck cl = versions_differ s is w k l ck cl

@@ -13,23 +13,23 @@ use Rattle.rr_archive.proofs.CellSlotOrder.{cell_slot_cmp_total, cell_slot_cmp-I
 use Rattle.rr_cells.proofs.Orders.{cell_name_cmp_total, cell_name_cmp-IsAntisymmetric}
 use Rattle.rr_cells.proofs.Horizon.{live_horizon}
 use Rattle.rr_cells.specs.Cells.{name_at, archive_cells}
-use Rattle.rr_cells.specs.Laws.{JoinIsCommutative, JoinIsAssociative, JoinIsIdempotent, JoinIsTrimmed, JoinGoesByArchives, JoinUnites}
+use Rattle.rr_cells.specs.Laws.{CellJoinIsCommutative, CellJoinIsAssociative, CellJoinIsIdempotent, CellJoinIsTrimmed, JoinGoesByArchives, JoinUnites}
 use Rattle.rr_cells.proofs.Local.{get-archive_cells, trimmed_local}
 use Rattle.rr_cells.proofs.Uniting.{join_states}
 
-pub join_commutes : JoinIsCommutative
+pub join_commutes : CellJoinIsCommutative
 join_commutes s m n is = joined_comm cell_name_cmp_total cell_name_cmp-IsAntisymmetric contribution_cmp_total
     contribution_cmp-IsAntisymmetric (live_horizon s is) m n
 
-pub join_associates : JoinIsAssociative
+pub join_associates : CellJoinIsAssociative
 join_associates s l m n is = joined_assoc cell_name_cmp_total cell_name_cmp-IsAntisymmetric contribution_cmp_total
     contribution_cmp-IsAntisymmetric (live_horizon s is) l m n
 
-pub join_itself : JoinIsIdempotent
+pub join_itself : CellJoinIsIdempotent
 join_itself s m is kept = joined_itself cell_name_cmp_total cell_name_cmp-IsAntisymmetric contribution_cmp_total
     contribution_cmp-IsAntisymmetric (live_horizon s is) m ∙ kept
 
-pub join_trims : JoinIsTrimmed
+pub join_trims : CellJoinIsTrimmed
 join_trims s m n is = trimmed-joined cell_name_cmp_total cell_name_cmp-IsAntisymmetric (live_horizon s is)
     contribution_cmp m n
 

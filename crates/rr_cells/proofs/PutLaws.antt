@@ -13,7 +13,7 @@ use Rattle.rr_archive.proofs.FewLive.{cells_are_few}
 use Rattle.rr_cells.specs.Samples.{name_of, marks_of}
 use Rattle.rr_cells.specs.Cells.{name_at, cell_slot_of, archive_cells}
 use Rattle.rr_cells.specs.Puts.{slot_sample_of}
-use Rattle.rr_cells.specs.Laws.{PutGoesByArchives, PutLeavesOtherKeys, PutIsTrimmed, DeadLeaveNoTrace, CellsAreFew, mark_in}
+use Rattle.rr_cells.specs.Laws.{PutGoesByArchives, PutLeavesOtherKeys, PutIsTrimmed, DeadLeaveNoTrace, LiveCellsAreFew, mark_in}
 use Rattle.rr_cells.proofs.Local.{get-archive_cells, live_local, trimmed_local}
 use Rattle.rr_cells.proofs.PutsLemmas.{puts_trimmed, put_at, put_other_key}
 
@@ -38,7 +38,7 @@ dead_leave_no_trace s m x archive is kept there dead =
     ∙ trimmed_dead (archive_at s archive).rows rows p (contribution_with (get rows p) (slot_sample_of s k)) trimmed
     (sym (live_local x.key archive s is m p) ∙ dead)
 
-pub cells_few : CellsAreFew
+pub cells_few : LiveCellsAreFew
 cells_few s m key archive origins is kept of =
     cells_are_few (archive_at s archive).rows origins (archive_cells m key archive)
     (sym (trimmed_local key archive s is m) ∙ ap (λ c. archive_cells c key archive) kept)

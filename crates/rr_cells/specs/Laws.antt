@@ -52,26 +52,26 @@ abbrev pub PutIsTrimmed : Type 0
 PutIsTrimmed = (s : Layout) (m : Cells) (x : Sample) → IsLayout s → IsTrimmed s m → IsTrimmed s (put_sample s m x)
 
 -- in each archive of each key the live cells are at most as many as its rows times the origins that have one there
-abbrev pub CellsAreFew : Type 0
-CellsAreFew =
+abbrev pub LiveCellsAreFew : Type 0
+LiveCellsAreFew =
     (s : Layout) (m : Cells) (key : List ℕ) (archive : ℕ) (origins : List ℕ) → IsLayout s → IsTrimmed s m
     → HasOriginsIn m key archive origins
     → len (archive_cells m key archive) ≤ (archive_at s archive).rows * length origins
 
 -- ---- joins
 
-abbrev pub JoinIsCommutative : Type 0
-JoinIsCommutative = (s : Layout) (m n : Cells) → IsLayout s → join s m n ≡ join s n m
+abbrev pub CellJoinIsCommutative : Type 0
+CellJoinIsCommutative = (s : Layout) (m n : Cells) → IsLayout s → join s m n ≡ join s n m
 
-abbrev pub JoinIsAssociative : Type 0
-JoinIsAssociative = (s : Layout) (l m n : Cells) → IsLayout s → join s (join s l m) n ≡ join s l (join s m n)
+abbrev pub CellJoinIsAssociative : Type 0
+CellJoinIsAssociative = (s : Layout) (l m n : Cells) → IsLayout s → join s (join s l m) n ≡ join s l (join s m n)
 
-abbrev pub JoinIsIdempotent : Type 0
-JoinIsIdempotent = (s : Layout) (m : Cells) → IsLayout s → IsTrimmed s m → join s m m ≡ m
+abbrev pub CellJoinIsIdempotent : Type 0
+CellJoinIsIdempotent = (s : Layout) (m : Cells) → IsLayout s → IsTrimmed s m → join s m m ≡ m
 
 -- what the join gives is trimmed
-abbrev pub JoinIsTrimmed : Type 0
-JoinIsTrimmed = (s : Layout) (m n : Cells) → IsLayout s → IsTrimmed s (join s m n)
+abbrev pub CellJoinIsTrimmed : Type 0
+CellJoinIsTrimmed = (s : Layout) (m n : Cells) → IsLayout s → IsTrimmed s (join s m n)
 
 -- a join is a join of each archive of each key
 abbrev pub JoinGoesByArchives : Type 0
@@ -122,8 +122,8 @@ StateIsOfTheLive = (s : Layout) (k l : Knowledge) → IsLayout s → live s k �
     → cells_of_knowledge s k ≡ cells_of_knowledge s l
 
 -- of closed knowledges the difference is read from the versions
-abbrev pub DifferenceIsByVersions : Type 0
-DifferenceIsByVersions =
+abbrev pub LackIsByVersions : Type 0
+LackIsByVersions =
     (s : Layout) (w : World) (k l : Knowledge) → IsLayout s → IsClosed s w k → IsClosed s w l
     → newer_names (cells_of_knowledge s k) (cells_of_knowledge s l) ≡ difference s k l
 

@@ -17,7 +17,7 @@ use Rattle.rr_cells.specs.CellBounds.{NamedCell}
 use Rattle.rr_page.specs.declared.fault.PageFault.{PageFault}
 use Rattle.rr_page.specs.declared.fault.PageFault.TheVariants.{Short, BadMagic, BadVersion, SchemaDiffers, TooManyCells, BadKey, BadArchive, BadContribution, OutOfOrder, TrailingBytes}
 use Rattle.rr_page.specs.declared.version.Version.{Version}
-use Rattle.rr_page.specs.Laws.{FrontsAreShort}
+use Rattle.rr_page.specs.Laws.{PageFrontsAreShort}
 use Rattle.rr_page.specs.Page.{magic, page_text}
 use Rattle.rr_page.specs.PageReading.{is_after, version_at, start_at, schema_at, is_schema, head_at, cells_at, front_page_at, page_at}
 use Rattle.rr_page.specs.Reading.{front_at, number_at, signed_at, key_at, archive_at, contribution_at, cell_at}
@@ -193,7 +193,7 @@ left_over es rest (Ok x) some e =
     absurd (omega (arith, nothing, length-append x.1 rest, some))
 left_over es rest (Err fault) some e = absurd (cc e)
 
-pub fronts_are_short : FrontsAreShort
+pub fronts_are_short : PageFrontsAreShort
 unfolding page_at
 fronts_are_short v s es front rest layout wide page whole some =
     let read : front_page_at s (front ++ rest) ≡ Ok (es, []) =

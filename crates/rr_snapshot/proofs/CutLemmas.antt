@@ -25,7 +25,7 @@ use Rattle.rr_page.proofs.FrontLemmas.{Reader, IsFront, IsFront-number, IsFront-
 use Rattle.rr_page.proofs.NumberLemmas.{wide32}
 use Rattle.rr_snapshot.specs.declared.fault.LoadFault.{LoadFault}
 use Rattle.rr_snapshot.specs.declared.fault.LoadFault.TheVariants.{Short, BadOrigin}
-use Rattle.rr_snapshot.specs.TextLaws.{FrontsAreShort}
+use Rattle.rr_snapshot.specs.TextLaws.{SnapshotFrontsAreShort}
 use Rattle.rr_snapshot.specs.declared.heading.Head.{Head}
 use Rattle.rr_snapshot.specs.Snapshot.{IsSnapshot, IsSnapshotText, magic, body_text, snapshot_text}
 use Rattle.rr_snapshot.specs.SnapshotReading.{as_in_page, start_at, archives_at, head_at, digest_at, end_at, bytes_before, cells_after, snapshot_at}
@@ -157,6 +157,6 @@ module _ (s : Layout) (h : Head) (es : List NamedCell) (bytes front rest : List 
   pub front_is_short : snapshot_at s front ≡ Err Short
   front_is_short = by_start (cut (start_at s) front rest (v, number) from (IsFront-start s) start_whole)
 
-pub fronts_are_short : FrontsAreShort
+pub fronts_are_short : SnapshotFrontsAreShort
 fronts_are_short s h es bytes front rest layout is of whole some =
     front_is_short s h es bytes front rest layout is of whole some

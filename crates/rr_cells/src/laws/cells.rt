@@ -1,6 +1,6 @@
 //! Puts, joins and differences of cells.
 ghost use Rattle.rr_cells.specs.State.{PutIsOneSampleMore};
-ghost use Rattle.rr_cells.specs.Laws.{PutGoesByArchives, PutLeavesOtherKeys, PutIsTrimmed, DeadLeaveNoTrace, CellsAreFew, JoinIsCommutative, JoinIsAssociative, JoinIsIdempotent, JoinIsTrimmed, JoinGoesByArchives, JoinUnites, JoinGoesByCells, JoinCellUnites, PartsAreCutFromEntries, WholeCellsMakeTheirCells, LiveMakesTheSame, StateIsOfTheLive, DifferenceIsByVersions, StatesAreValid, VersionsAreNumbers, NextStays, SumsAreSmall, JoinsMakeTheirCells, JoinsAreTaken, JoiningGoesOn};
+ghost use Rattle.rr_cells.specs.Laws.{PutGoesByArchives, PutLeavesOtherKeys, PutIsTrimmed, DeadLeaveNoTrace, LiveCellsAreFew, CellJoinIsCommutative, CellJoinIsAssociative, CellJoinIsIdempotent, CellJoinIsTrimmed, JoinGoesByArchives, JoinUnites, JoinGoesByCells, JoinCellUnites, PartsAreCutFromEntries, WholeCellsMakeTheirCells, LiveMakesTheSame, StateIsOfTheLive, LackIsByVersions, StatesAreValid, VersionsAreNumbers, NextStays, SumsAreSmall, JoinsMakeTheirCells, JoinsAreTaken, JoiningGoesOn};
 
 /// To put a sample is to put it into each archive of its key alone; where it is past the horizon it
 /// leaves no trace.
@@ -14,7 +14,7 @@ pub fn puts_go_by_archives()
 /// An archive of a key has at most as many live cells as its rows times the origins that have one
 /// there, whatever was written.
 pub fn live_cells_are_few()
-    ensures { CellsAreFew }
+    ensures { LiveCellsAreFew }
 {}
 
 /// To put a sample that is newer than all that is known of its origin is to know it too, in each
@@ -26,10 +26,10 @@ pub fn a_put_is_one_sample_more()
 /// To join maps of cells is to do it in any order, in any grouping and any number of times; what is
 /// joined is trimmed, and it goes by the archives of each key.
 pub fn join_keeps_the_live()
-    ensures commutative { JoinIsCommutative }
-    ensures associative { JoinIsAssociative }
-    ensures idempotent { JoinIsIdempotent }
-    ensures trimmed { JoinIsTrimmed }
+    ensures commutative { CellJoinIsCommutative }
+    ensures associative { CellJoinIsAssociative }
+    ensures idempotent { CellJoinIsIdempotent }
+    ensures trimmed { CellJoinIsTrimmed }
     ensures local { JoinGoesByArchives }
     ensures cells { JoinGoesByCells }
 {}
@@ -56,7 +56,7 @@ pub fn joining_goes_on()
 
 /// What one closed knowledge has and another lacks is read from the versions of their cells.
 pub fn a_difference_is_by_versions()
-    ensures { DifferenceIsByVersions }
+    ensures { LackIsByVersions }
 {}
 
 /// What is known of samples within the limits makes cells of the schema. Their versions are numbers
