@@ -4,27 +4,11 @@ ghost use Rattle.std.specs.Prelude.{◌≡◌};
 use super::{NOTHING, SEVEN, answers, key};
 use rr_desk::{Keeper, Note, Reader, open};
 use rr_fakes::replicas::{MINUTE, minutes};
+use rr_key::SeriesKey;
 use rr_packed::PackedArchive;
 use std::alloc::Global;
 use std::sync::Wait;
 use std::test::Fail;
-
-/// Puts 7 at a minute after the epoch.
-fn put_pending(alloc: Global, keeper: &mut Keeper<PackedArchive>) -> bool
-    ensures { keeper.new.desk ≡ keeper.old.desk }
-{
-    let Some(key) = key(alloc) else {
-        return false;
-    };
-    keeper.put(&key, MINUTE, 7) == Ok(1)
-}
-
-/// Publishes what is pending.
-fn publish<R: Wait>(rt: &R, keeper: &mut Keeper<PackedArchive>) -> bool
-    ensures { keeper.new.desk ≡ keeper.old.desk }
-{
-    keeper.publish(rt).is_ok()
-}
 
 /// Whether a reader learns a note and then answers by this text.
 fn learns(alloc: Global, reader: &mut Reader<PackedArchive>, note: Note, text: &[u8]) -> bool
@@ -34,7 +18,7 @@ fn learns(alloc: Global, reader: &mut Reader<PackedArchive>, note: Note, text: &
     reader.learn(note).is_ok() && answers(alloc, reader, text)
 }
 
-/// Whether a reader sees what a keeper puts once it is published, and not while it is pending; and
+/// Whether a reader sees the 7 that a keeper puts at a minute after the epoch once it is published, and not while it is pending; and
 /// whether an old note takes nothing back. Of the two publications the second has nothing to
 /// publish.
 fn sees_in_turn<R: Wait>(
@@ -42,16 +26,15 @@ fn sees_in_turn<R: Wait>(
     rt: &R,
     keeper: &mut Keeper<PackedArchive>,
     reader: &mut Reader<PackedArchive>,
+    key: &SeriesKey,
 ) -> [bool; 6]
     requires { reader.old.desk ≡ keeper.old.desk }
-    ensures keeper { keeper.new.desk ≡ keeper.old.desk }
-    ensures reader { reader.new.desk ≡ reader.old.desk }
 {
     let old = keeper.tell();
-    let put = put_pending(alloc, keeper);
+    let put = keeper.put(key, MINUTE, 7) == Ok(1);
     let pending = learns(alloc, reader, keeper.tell(), NOTHING);
-    let first = publish(rt, keeper);
-    let second = publish(rt, keeper);
+    let first = keeper.publish(rt).is_ok();
+    let second = keeper.publish(rt).is_ok();
     let told = learns(alloc, reader, keeper.tell(), SEVEN);
     let late = learns(alloc, reader, old, SEVEN);
     [put, pending, first, second, told, late]
@@ -64,7 +47,10 @@ fn readers_see_what_was_published(rt: HostRuntime) -> Result<(), Fail> {
     let Ok((mut keeper, mut readers)) = open(rt.alloc(), &rt, replica, 2) else {
         panic!(&rt; "no desk");
     };
-    let seen = sees_in_turn(rt.alloc(), &rt, &mut keeper, &mut readers[0]);
+    let Some(key) = key(rt.alloc()) else {
+        panic!(&rt; "no key");
+    };
+    let seen = sees_in_turn(rt.alloc(), &rt, &mut keeper, &mut readers[0], &key);
     let untold = answers(rt.alloc(), &mut readers[1], SEVEN);
     let next = keeper.close(&rt).next_number();
     assert!(rt; (seen, untold, next) == ([true; 6], true, 2));
