@@ -1,5 +1,5 @@
 -- The parts of a line, and where each of them ends.
-use Rattle.std.specs.Prelude.{◌≡◌, ℕ, ◌<◌, Bool, true, ◌==◌, List, [], ◌∷◌, ◌++◌, length, take, drop, Option, None, Some, option_map, unwrap_or, if◌then◌else◌}
+use Rattle.std.specs.Prelude.{◌≡◌, ℕ, ◌<◌, ◌≤◌, Bool, true, ◌==◌, List, [], ◌∷◌, ◌++◌, length, take, drop, Option, None, Some, option_map, unwrap_or, if◌then◌else◌}
 use Rattle.rr_key.specs.declared.class.Class.{Class}
 use Rattle.rr_key.specs.Class.{is_special}
 use Rattle.rr_key.specs.Name.{MayFollow}
@@ -42,3 +42,8 @@ pub record IsName (class : Class) (text name rest : List ℕ) : Type 0 where
 -- no name is at the front: the text is empty, or begins with a special byte
 abbrev pub HasNoName : Class → List ℕ → Type 0
 HasNoName class text = Ends (is_special class) text
+
+-- a number of bytes at the front of a text, as a definition has it
+pub record IsFrontLen (len : ℕ) (text : List ℕ) (result : ℕ) : Type 0 where
+  pub value : result ≡ len
+  pub within : result ≤ length text
