@@ -1,7 +1,6 @@
 //! The contribution of one origin to one slot.
 ghost use Rattle.std.specs.Prelude.{◌≡◌, ◌<◌, ◌≤◌, ◌^◌, pos, negsuc, ◌+ℤ◌, ◌*ℤ◌, ◌≤ℤ◌, List, ◌∷◌, [], length, count_ones, IsTrue, ◌↔◌, int_lt, if◌then◌else◌};
 ghost use Rattle.std.specs.Int.{bit_at};
-ghost use Rattle.rr_schema.specs.Schema.{slot_of};
 ghost use Rattle.rr_contrib.specs.Contributions.{SlotSample, slot_sample, of_one, with_sample};
 ghost use Rattle.rr_contrib.specs.Samples.{contribution_of};
 ghost use Rattle.rr_contrib.specs.Validity.{IsBounded, IsValid, StartsValid, KeepsValid};
@@ -170,13 +169,6 @@ impl Contribution {
         self.has_counts() && self.has_last_between() && self.has_sum_between()
     }
 
-    fn has_last_in(&self, schema: &Schema, archive: u8, slot: i64) -> bool
-        requires { archive < length schema.now.archives }
-        ensures { IsTrue result ↔ (slot_of schema.now archive self.now.last_time ≡ slot) }
-    {
-        schema.slot(archive, self.last_time) == slot
-    }
-
     fn has_places(&self, steps: u32, place: u32) -> bool
         ensures { IsTrue result ↔ ((self.now.mask < 2 ^ steps) × (bit_at self.now.mask place ≡ 1)
             × (count_ones self.now.mask ≤ self.now.count)) }
@@ -197,7 +189,7 @@ impl Contribution {
     {
         let steps = schema.archives()[archive as usize].steps;
         self.is_bounded()
-            && self.has_last_in(schema, archive, slot)
+            && schema.slot(archive, self.last_time) == slot
             && self.has_places(steps, schema.place(archive, self.last_time))
     }
 }

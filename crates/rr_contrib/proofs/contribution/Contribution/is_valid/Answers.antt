@@ -6,8 +6,8 @@ use Rattle.rr_contrib.specs.Validity.{IsBounded}
 use Rattle.rr_contrib.proofs.contribution.Contribution.is_valid.Goals as goal
 use Rattle.rr_contrib.proofs.contribution.Contribution.is_valid.Goals.{then-is_bounded, else-is_bounded}
 
-pub returns-then-has_last_in : goal.returns-then-has_last_in
-returns-then-has_last_in c = elim c.if-is_bounded.branch [
+pub returns-then-slot : goal.returns-then-slot
+returns-then-slot c = elim c.if-is_bounded.branch [
   | then-is_bounded w ↦
       let bounded : IsBounded c.args.self.now = search rules in
       let in_slot : slot_of c.args.schema.now c.args.archive c.args.self.now.last_time ≡ c.args.slot = search rules in
