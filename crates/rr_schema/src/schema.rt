@@ -15,7 +15,7 @@ use crate::added::{Addition, archives_without, number_of_added};
 use crate::archive::ArchiveSpec;
 use crate::fault::SchemaFault;
 use crate::schema_bytes::{
-    ARCHIVE_LEN, are_archives, are_archives_without, are_of_schema, push_archives,
+    ARCHIVE_LEN, Archives, are_archives, are_archives_without, are_of_schema, push_archives,
 };
 use rr_text::limits::{MAX_ARCHIVES, MAX_ROWS, MAX_STEP, MAX_STEPS, MAX_XFF_DEN, NANOSECONDS};
 use std::alloc::{AllocError, Global};
@@ -207,7 +207,10 @@ impl Schema {
         let mut bytes = Vec::with_capacity(alloc, self.byte_len())?;
         bytes.extend_from_slice(&self.step.to_be_bytes())?;
         bytes.push(self.archives.len() as u8)?;
-        push_archives(&mut bytes, &self.archives)?;
+        let archives = Archives {
+            items: &self.archives,
+        };
+        push_archives(&mut bytes, archives)?;
         Ok(bytes)
     }
 
@@ -216,7 +219,10 @@ impl Schema {
     pub fn has_bytes(&self, bytes: &[u8]) -> bool
         ensures { result ≡ pointwise nat_eq bytes.now (schema_bytes self.now) }
     {
-        are_of_schema(self.step, &self.archives, bytes)
+        let archives = Archives {
+            items: &self.archives,
+        };
+        are_of_schema(self.step, archives, bytes)
     }
 
     /// Whether these are the bytes of the archives that the schema had before an addition. No
@@ -225,11 +231,12 @@ impl Schema {
         requires { IsAddition self.now addition }
         ensures { result ≡ had_archives self.now bytes.now addition }
     {
+        let archives = Archives {
+            items: &self.archives,
+        };
         match addition {
-            Addition::Nothing => are_archives(&self.archives, bytes),
-            Addition::Archive(number) => {
-                are_archives_without(number as usize, &self.archives, bytes)
-            }
+            Addition::Nothing => are_archives(archives, bytes),
+            Addition::Archive(number) => are_archives_without(number as usize, archives, bytes),
         }
     }
 

@@ -9,6 +9,13 @@ ghost use Rattle.rr_schema.specs.SchemaBytes.{archive_bytes, IsAfter};
 use crate::archive::ArchiveSpec;
 use std::alloc::AllocError;
 
+/// Archives that are within their limits, each by itself.
+#[derive(Clone, Copy)]
+pub(crate) struct Archives<'a> {
+    pub(crate) items: &'a [ArchiveSpec],
+    ghost each: { All IsArchive items.now },
+}
+
 /// How many bytes an archive has.
 pub(crate) const ARCHIVE_LEN: usize = 9;
 
@@ -26,12 +33,11 @@ fn push_archive(bytes: &mut Vec<u8>, archive: &ArchiveSpec) -> Result<(), AllocE
 }
 
 /// Adds the bytes of archives, in order.
-pub(crate) fn push_archives(bytes: &mut Vec<u8>, archives: &[ArchiveSpec]) -> Result<(), AllocError>
-    requires { All IsArchive archives.now }
+pub(crate) fn push_archives(bytes: &mut Vec<u8>, archives: Archives<'_>) -> Result<(), AllocError>
     ensures { OnOk result (bytes.new.items ≡ bytes.old.items
-        ++ flat_map archive_bytes archives.now) }
+        ++ flat_map archive_bytes archives.entry.items.now) }
 {
-    for archive in archives {
+    for archive in archives.items {
         push_archive(bytes, archive)?;
     }
     Ok(())
@@ -64,13 +70,12 @@ fn after_archive<'a>(archive: &ArchiveSpec, bytes: &'a [u8]) -> Option<&'a [u8]>
 }
 
 /// What follows the bytes of archives, in order, if the bytes begin with them.
-fn after_archives<'a>(archives: &[ArchiveSpec], bytes: &'a [u8]) -> Option<&'a [u8]>
-    requires { All IsArchive archives.now }
-    ensures { IsAfter (flat_map archive_bytes archives.now) bytes.now
+fn after_archives<'a>(archives: Archives<'_>, bytes: &'a [u8]) -> Option<&'a [u8]>
+    ensures { IsAfter (flat_map archive_bytes archives.entry.items.now) bytes.now
         (option_map (λ rest. rest.now) result) }
 {
     let mut left = bytes;
-    for archive in archives {
+    for archive in archives.items {
         let Some(rest) = after_archive(archive, left) else {
             return None;
         };
@@ -80,9 +85,8 @@ fn after_archives<'a>(archives: &[ArchiveSpec], bytes: &'a [u8]) -> Option<&'a [
 }
 
 /// Whether the bytes are those of archives, in order. No memory is taken.
-pub(crate) fn are_archives(archives: &[ArchiveSpec], bytes: &[u8]) -> bool
-    requires { All IsArchive archives.now }
-    ensures { IsTrue result ↔ (bytes.now ≡ flat_map archive_bytes archives.now) }
+pub(crate) fn are_archives(archives: Archives<'_>, bytes: &[u8]) -> bool
+    ensures { IsTrue result ↔ (bytes.now ≡ flat_map archive_bytes archives.entry.items.now) }
 {
     match after_archives(archives, bytes) {
         Some(rest) => rest.is_empty(),
@@ -91,29 +95,31 @@ pub(crate) fn are_archives(archives: &[ArchiveSpec], bytes: &[u8]) -> bool
 }
 
 /// Whether the bytes are those of archives without the one that has a number. No memory is taken.
-pub(crate) fn are_archives_without(number: usize, archives: &[ArchiveSpec], bytes: &[u8]) -> bool
-    requires is_there { number < length archives.now }
-    requires each { All IsArchive archives.now }
-    ensures { IsTrue result ↔ (bytes.now ≡ flat_map archive_bytes (without number archives.now)) }
+pub(crate) fn are_archives_without(number: usize, archives: Archives<'_>, bytes: &[u8]) -> bool
+    requires { number < length archives.items.now }
+    ensures { IsTrue result ↔ (bytes.now
+        ≡ flat_map archive_bytes (without number archives.entry.items.now)) }
 {
-    let (_, others) = archives.split_at(number + 1);
-    match after_archives(&archives[..number], bytes) {
-        Some(rest) => are_archives(others, rest),
+    let front = Archives {
+        items: &archives.items[..number],
+    };
+    let (_, others) = archives.items.split_at(number + 1);
+    match after_archives(front, bytes) {
+        Some(rest) => are_archives(Archives { items: others }, rest),
         None => false,
     }
 }
 
 /// Whether the bytes are a step, the number of archives and their bytes. No memory is taken.
-pub(crate) fn are_of_schema(step: u32, archives: &[ArchiveSpec], bytes: &[u8]) -> bool
-    requires archives_fit { length archives.now < 256 }
-    requires each { All IsArchive archives.now }
-    ensures { IsTrue result ↔ (bytes.now
-        ≡ to_be_bytes w32 step ++ length archives.now ∷ flat_map archive_bytes archives.now) }
+pub(crate) fn are_of_schema(step: u32, archives: Archives<'_>, bytes: &[u8]) -> bool
+    requires { length archives.items.now < 256 }
+    ensures { IsTrue result ↔ (bytes.now ≡ to_be_bytes w32 step
+        ++ length archives.entry.items.now ∷ flat_map archive_bytes archives.entry.items.now) }
 {
     let Some(rest) = after(&step.to_be_bytes(), bytes) else {
         return false;
     };
-    match after(&[archives.len() as u8], rest) {
+    match after(&[archives.items.len() as u8], rest) {
         Some(rest) => are_archives(archives, rest),
         None => false,
     }

@@ -10,7 +10,7 @@ any = record { steps = 0; rows = 0; num = 0; den = 0 }
 
 pub loop-archive-preserved : goal.loop-archive-preserved
 loop-archive-preserved c =
-    let archives = c.args.archives.now in
+    let archives = c.args.archives.items.now in
     let i = c.loop-archive.archive-index in
     let rest = c.in-Some.rest.now in
     second_after (flat_map archive_bytes (take i archives)) (archive_bytes (get_or archives i any)) c.args.bytes.now
@@ -19,7 +19,7 @@ loop-archive-preserved c =
 
 pub returns-in_default : goal.returns-in_default
 returns-in_default c =
-    let archives = c.args.archives.now in
+    let archives = c.args.archives.items.now in
     let bytes = c.args.bytes.now in
     let i = c.loop-archive.archive-index in
     let front = flat_map archive_bytes (take i archives) in

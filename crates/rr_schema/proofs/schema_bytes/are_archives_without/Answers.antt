@@ -8,7 +8,7 @@ use Rattle.rr_schema.proofs.schema_bytes.are_archives_without.Goals as goal
 pub returns-in-None : goal.returns-in-None
 returns-in-None c =
     let i = c.args.number in
-    let archives = c.args.archives.now in (
+    let archives = c.args.archives.items.now in (
       (λ t. absurd (true≢false (sym t))),
       λ e. absurd
           (not_missing (first_missing (flat_map archive_bytes (take i archives))
@@ -19,7 +19,7 @@ returns-in-None c =
 pub returns-in-Some : goal.returns-in-Some
 returns-in-Some c =
     let i = c.args.number in
-    let archives = c.args.archives.now in
+    let archives = c.args.archives.items.now in
     let front = flat_map archive_bytes (take i archives) in
     let others = flat_map archive_bytes (drop (i + 1) archives) in
     let parts = flat_map-append archive_bytes (take i archives) (drop (i + 1) archives) in

@@ -9,6 +9,6 @@ pub loop-archive-preserved : goal.loop-archive-preserved
 loop-archive-preserved c =
     let any : ArchiveSpec = record { steps = 0; rows = 0; num = 0; den = 0 } in
     let i = c.loop-archive.archive-index in
-    c.in_ok-push_archive.ensures ∙ ap (λ l. l ++ archive_bytes (get_or c.args.archives.now i any))
+    c.in_ok-push_archive.ensures ∙ ap (λ l. l ++ archive_bytes (get_or c.args.archives.items.now i any))
     c.loop-archive.invariant
-    ∙ archives_more c.args.bytes.now.items c.args.archives.now i any c.loop-archive-test.true
+    ∙ archives_more c.args.bytes.now.items c.args.archives.items.now i any c.loop-archive-test.true
