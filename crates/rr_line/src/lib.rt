@@ -3,7 +3,7 @@
 //! [`parse_line`] takes one line, without the line feed that ended it, and the [`Precision`] of
 //! its time. It reads the line part by part, from left to right, and answers a [`Line`]: nothing,
 //! or a [`Point`] whose names are slices of the line. A line that is not of the grammar is refused
-//! with the first [`LineFault`] that it has. [`Point::series_key`] makes the key of a field's
+//! with the first [`LineFault`] that it has. [`Point::write_key`] writes the key text of a field's
 //! series.
 //!
 //! ```text

@@ -15,20 +15,8 @@ use rr_text::bytes::SPACE;
 use std::alloc::{AllocError, Global};
 
 impl<'a> Point<'a> {
-    /// The key of the series of one of the point's fields: its names, unescaped, as
-    /// [`SeriesKey::new`] writes them.
-    ///
-    /// The cost is that of [`write_key`](Point::write_key) and of a copy of the text.
-    pub fn series_key(&self, alloc: Global, field: &[u8]) -> Result<SeriesKey, AllocError>
-        requires { making_fault (names_of (point_view self.now) field.now) ≡ None }
-        ensures { IfOk result (λ key. key ≡ key_text (point_view self.now) field.now) }
-    {
-        let mut text = Vec::new(alloc);
-        self.write_key(alloc, &mut text, field)?;
-        SeriesKey::of_text(alloc, &text)
-    }
-
-    /// Writes the key text of one of the point's fields over `text`, whose memory is used again.
+    /// Writes the key text of the series of one of the point's fields over `text`, whose memory is
+    /// used again: its names, unescaped, as [`SeriesKey::new`] writes them.
     ///
     /// Where the line has the measurement and the tags as a key text has them, the cost is that of
     /// copying them and of one pass over the field's key. Otherwise it is that of one pass over the
