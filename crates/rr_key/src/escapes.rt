@@ -20,13 +20,6 @@ pub fn unescape(alloc: Global, class: Class, raw: &[u8]) -> Result<Vec<u8>, Allo
     if !raw.contains(&BACKSLASH) {
         return Vec::from_slice(alloc, raw);
     }
-    unescape_units(alloc, class, raw)
-}
-
-/// The name that is written, unit by unit.
-fn unescape_units(alloc: Global, class: Class, raw: &[u8]) -> Result<Vec<u8>, AllocError>
-    ensures { IfOk result (λ name. name.items ≡ unescape class raw.now) }
-{
     let mut name = Vec::with_capacity(alloc, raw.len())?;
     let mut left = raw;
     while let Some((byte, rest)) = first_unit(class, left) {
@@ -67,7 +60,10 @@ pub(crate) fn push_escaped(text: &mut Vec<u8>, class: Class, name: &[u8]) -> Res
     if !has_special(class, name) {
         return text.extend_from_slice(name);
     }
-    push_units(text, class, name)
+    for byte in name {
+        push_unit(text, class, *byte)?;
+    }
+    Ok(())
 }
 
 /// Whether a byte of a name is special.
@@ -75,16 +71,6 @@ fn has_special(class: Class, name: &[u8]) -> bool
     ensures { result ≡ list_any (is_special class) name.now }
 {
     name.iter().any(|byte| is_special(class, *byte))
-}
-
-/// Adds a written name to a text, byte by byte.
-fn push_units(text: &mut Vec<u8>, class: Class, name: &[u8]) -> Result<(), AllocError>
-    ensures { OnOk result (text.new.items ≡ text.old.items ++ escape class name.now) }
-{
-    for byte in name {
-        push_unit(text, class, *byte)?;
-    }
-    Ok(())
 }
 
 /// Adds one byte of a written name to a text.

@@ -1,6 +1,6 @@
 use Rattle.std.proofs.Common.{◌≡◌, ◌++◌, length}
 use Rattle.rr_key.specs.Unit.{unescape}
-use Rattle.rr_key.proofs.escapes.unescape_units.Given as goal
+use Rattle.rr_key.proofs.escapes.unescape.Given as goal
 
 abbrev pub invariant-loop-byte : goal.invariant-loop-byte
 invariant-loop-byte l = unescape l.class l.raw ≡ l.name.items ++ unescape l.class l.left

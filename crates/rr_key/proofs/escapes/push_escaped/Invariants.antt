@@ -1,6 +1,6 @@
 use Rattle.std.proofs.Common.{◌≡◌, ◌++◌, drop}
 use Rattle.rr_key.specs.Unit.{escape}
-use Rattle.rr_key.proofs.escapes.push_units.Given as goal
+use Rattle.rr_key.proofs.escapes.push_escaped.Given as goal
 
 abbrev pub invariant-loop-byte : goal.invariant-loop-byte
 invariant-loop-byte l =
