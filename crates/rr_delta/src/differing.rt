@@ -1,11 +1,10 @@
 //! What a summary lacks, and parts of a list.
-ghost use Rattle.std.specs.Prelude.{◌≡◌, ◌++◌, All, IfOk, OnOk, IsTrue, map, take, drop};
-ghost use Rattle.std.specs.FinMap.{entries, is_sorted};
-ghost use Rattle.rr_cells.specs.CellNames.{cell_name_cmp};
-ghost use Rattle.rr_cells.specs.CellBounds.{IsCellOf};
+ghost use Rattle.std.specs.Prelude.{◌≡◌, ◌++◌, OnOk, map, take, drop};
+ghost use Rattle.std.specs.FinMap.{entries};
 ghost use Rattle.rr_cells.specs.Listing.{seen_cell, owned_cell};
 ghost use Rattle.rr_delta.specs.Names.{owned_name};
 ghost use Rattle.rr_delta.specs.Difference.{IsSummary, is_newer_than, newer_cell, newer_cells, names_from, first_version};
+ghost use Rattle.rr_delta.specs.Listed.{ListsCells};
 
 use crate::name::Name;
 use rr_archive::Cells;
@@ -80,12 +79,8 @@ pub fn difference<A: Cells>(
     summary: &[Name],
 ) -> Result<Vec<Cell>, AllocError>
     requires { IsSummary (map owned_name summary.now) }
-    ensures newer { IfOk result (λ cells. map owned_cell cells.items
-        ≡ newer_cells (map owned_name summary.now) (entries replica.now.cells)) }
-    ensures ascending { IfOk result (λ cells. IsTrue
-        (is_sorted cell_name_cmp (map owned_cell cells.items))) }
-    ensures of_schema { IfOk result (λ cells. All (λ c. IsCellOf replica.now.schema (owned_cell c))
-        cells.items) }
+    ensures { ListsCells replica.now.schema
+        (newer_cells (map owned_name summary.now) (entries replica.now.cells)) result }
 {
     // The proof needs what the replica keeps to, which `schema` ensures.
     let _schema = replica.schema();

@@ -1,9 +1,9 @@
 //! The names and versions of a replica's cells, in order.
-ghost use Rattle.std.specs.Prelude.{◌≡◌, All, IfOk, Some, map, take, drop};
+ghost use Rattle.std.specs.Prelude.{◌≡◌, IfOk, Some, map, take, drop};
 ghost use Rattle.std.specs.FinMap.{entries};
 ghost use Rattle.rr_cells.specs.Listing.{seen_cell};
-ghost use Rattle.rr_delta.specs.Names.{IsNameOf, name_in, named_version, owned_name, versions_of};
-ghost use Rattle.rr_delta.specs.Difference.{IsSummary};
+ghost use Rattle.rr_delta.specs.Names.{name_in, named_version, owned_name, versions_of};
+ghost use Rattle.rr_delta.specs.Listed.{ListsNames};
 ghost use Rattle.rr_delta.specs.Summaries.{cells_after, cells_from};
 
 use crate::name::Name;
@@ -52,11 +52,8 @@ pub fn summary<A: Cells>(
     from: usize,
     count: usize,
 ) -> Result<Vec<Name>, AllocError>
-    ensures listed { IfOk result (λ names.
-        map owned_name names.items ≡ take count (drop from (versions_of replica.now.cells))) }
-    ensures ascending { IfOk result (λ names. IsSummary (map owned_name names.items)) }
-    ensures of_schema { IfOk result (λ names. All (λ n. IsNameOf replica.now.schema (owned_name n))
-        names.items) }
+    ensures { ListsNames replica.now.schema (take count (drop from (versions_of replica.now.cells)))
+        result }
 {
     // The proof needs what the replica keeps to, which `schema` ensures.
     let _schema = replica.schema();
@@ -77,12 +74,9 @@ pub fn summary_after<A: Cells>(
     after: Option<&Name>,
     count: usize,
 ) -> Result<Vec<Name>, AllocError>
-    ensures listed { IfOk result (λ names. map owned_name names.items
-        ≡ take count (map named_version (cells_after (name_in after.entry)
-        (entries replica.now.cells)))) }
-    ensures ascending { IfOk result (λ names. IsSummary (map owned_name names.items)) }
-    ensures of_schema { IfOk result (λ names. All (λ n. IsNameOf replica.now.schema (owned_name n))
-        names.items) }
+    ensures { ListsNames replica.now.schema
+        (take count (map named_version (cells_after (name_in after.entry)
+        (entries replica.now.cells)))) result }
 {
     // The proof needs what the replica keeps to, which `schema` ensures.
     let _schema = replica.schema();

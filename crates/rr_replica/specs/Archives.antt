@@ -81,6 +81,19 @@ module _ {X : Type 0} where
         → cells b ≡ join_cell (limit a) (cells a) (cell_slot c.slot c.origin) c.contribution
     pub others : EachPair (λ i a b. i ≢ c.archive → cells b ≡ cells a) old new
 
+  -- an operation of a layout, and archives of it
+  pub record SuitsArchives (limit : X → ℕ) (s : Layout) (op : Op) (archives : List X) : Type 0 where
+    pub of_schema : AreOf limit s archives
+    pub op_of : IsOpOf s op
+
+  -- the cell was joined into its archive, or memory ran out and it was not; where there was room, it doesn't run out
+  pub record TakeCell (cells : X → ArchiveCells) (limit : X → ℕ) (is_ready : X → CellSlot → Bool) (s : Layout)
+      (c : Cell) (old new : List X) (result : Result (Unit {0}) AllocError) : Type 0 where
+    pub joined : OnOk result (HaveJoined cells limit c old new)
+    pub unchanged : OnErr result (AreSame cells old new)
+    pub of_schema : AreOf limit s new
+    pub room : HaveRoomFor is_ready s (Join c) old → IsOk result
+
   -- room for an operation was made, unless memory ran out, and no cell changed
   pub record MakeRoom (cells : X → ArchiveCells) (limit : X → ℕ) (is_ready : X → CellSlot → Bool) (s : Layout) (op : Op)
       (old new : List X) (result : Result (Unit {0}) AllocError) : Type 0 where

@@ -6,20 +6,23 @@ use Rattle.std.specs.List.Sorted.{IsStrictlySortedBy}
 use Rattle.std.specs.Map.{lookup, keys_of}
 use Rattle.std.specs.BTreeMap.{is_at}
 use Rattle.std.specs.Option.{option_map}
-use Rattle.rr_schema.specs.Schema.{Layout}
+use Rattle.rr_schema.specs.Schema.{Layout, IsLayout}
 use Rattle.rr_archive.specs.CellSlots.{CellSlot}
 use Rattle.rr_archive.specs.Cells.{ArchiveCells}
 use Rattle.rr_cells.specs.Samples as model
 use Rattle.rr_replica.specs.declared.reading.Reading.{Reading}
 use Rattle.rr_cells.specs.declared.sample.Sample.{Sample}
+use Rattle.rr_cells.specs.declared.cell.Cell.{Cell}
 use Rattle.rr_cells.specs.declared.op.Op.{Op}
-use Rattle.rr_cells.specs.declared.op.Op.TheVariants.{Put}
+use Rattle.rr_cells.specs.declared.op.Op.TheVariants.{Put, Join}
+use Rattle.rr_cells.specs.Joins.{join_cell}
+use Rattle.rr_cells.specs.Listing.{owned_cell}
 use Rattle.rr_cells.specs.Puts.{put_sample}
 use Rattle.rr_cells.specs.Operations.{sample_of, key_of}
 use Rattle.rr_cells.specs.ReplicaState.{ReplicaState, IsReplicaState}
 use Rattle.rr_text.specs.Bytes.{bytes_cmp}
 use Rattle.rr_replica.specs.Series.{Series, cells_of}
-use Rattle.rr_replica.specs.Archives.{AreSized, HaveRoomFor}
+use Rattle.rr_replica.specs.Archives.{AreSized, HaveRoomFor, IsOpOf}
 
 -- a reading, as a sample of a key
 abbrev pub sample_of_reading : List ℕ → Reading → Sample
@@ -67,6 +70,21 @@ module _ {X : Type 0} where
     pub holds : IsReplicaState (replica_state_in cells schema origin next entries)
     pub sized : AreAllSized limit schema entries
     pub ordered : IsStrictlySortedBy bytes_cmp (keys_of entries)
+
+  -- an operation of a layout, and archives of it for each key
+  pub record SuitsEntries (limit : X → ℕ) (schema : Layout) (op : Op) (entries : List (List ℕ × Vec X)) : Type 0 where
+    pub layout : IsLayout schema
+    pub op_of : IsOpOf schema op
+    pub sized : AreAllSized limit schema entries
+
+  -- a cell was joined, or memory ran out and it was not; where there was room, it doesn't run out
+  pub record JoinsCell (cells : X → ArchiveCells) (limit : X → ℕ) (is_ready : X → CellSlot → Bool) (schema : Layout)
+      (c : Cell) (old new : List (List ℕ × Vec X)) (result : Result (Unit {0}) AllocError) : Type 0 where
+    pub joined : OnOk result (cells_of (held_series cells new)
+        ≡ join_cell schema (cells_of (held_series cells old)) (owned_cell c).0 c.contribution)
+    pub unchanged : OnErr result (cells_of (held_series cells new) ≡ cells_of (held_series cells old))
+    pub sized : AreAllSized limit schema new
+    pub room : HasRoom is_ready schema (Join c) old → IsOk result
 
   -- room for an operation was made, unless memory ran out, and no cell changed
   pub record MakesRoom {Y : Type 0} (cells : X → ArchiveCells) (limit : X → ℕ) (is_ready : X → CellSlot → Bool)

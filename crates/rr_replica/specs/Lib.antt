@@ -8,6 +8,7 @@ pub mod Numbered
 pub mod SeriesMap
 pub mod InMemory
 pub mod ReplicaWithRoom
+pub mod Calls
 pub mod Horizon
 pub mod Keys
 pub mod Writing

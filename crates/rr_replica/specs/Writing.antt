@@ -1,7 +1,8 @@
 -- What a point makes of a replica.
-use Rattle.std.specs.Prelude.{◌≡◌, ℕ, ◌+◌, ◌-◌, ℤ, pos, ◌+ℤ◌, Bool, false, int_lt, nat_lt, List, [], ◌∷◌, take, drop, Option, None, Some}
-use Rattle.rr_text.specs.declared.limits.TheConstants.{MAX_NUMBER}
-use Rattle.rr_point.specs.Key.{key_text}
+use Rattle.std.specs.Prelude.{◌≡◌, ℕ, ◌+◌, ◌-◌, ◌<◌, ◌≤◌, ◌↔◌, ℤ, pos, ◌+ℤ◌, Bool, false, int_lt, nat_lt, List, [], ◌∷◌, take, drop, Option, None, Some, Result, Err, IfOk, IfErr, OnOk, IsTrue, IsFalse}
+use Rattle.rr_text.specs.declared.limits.TheConstants.{MAX_FIELDS, MAX_NUMBER}
+use Rattle.rr_key.specs.Making.{making_fault}
+use Rattle.rr_point.specs.Key.{HasKeys, key_text, names_of}
 use Rattle.rr_point.specs.Point.{PointView}
 use Rattle.rr_replica.specs.declared.fault.WriteFault.{WriteFault}
 use Rattle.rr_replica.specs.declared.fault.WriteFault.TheVariants as why
@@ -33,6 +34,36 @@ abbrev pub IsAfterRefusal : ReplicaState → ReplicaState → PointView → ℤ 
 IsAfterRefusal old new p time why.AheadOfClock = new ≡ old
 IsAfterRefusal old new p time why.NumbersSpent = new ≡ old
 IsAfterRefusal old new p time (why.Memory put) = new ≡ with_fields old p time (take put p.fields)
+
+-- so many fields were put, or memory ran out: this is then left, and the fault says how many were put
+pub record PutsFields {S : Type 0} (many : ℕ) (after new : S) (IsLeft : WriteFault → Type 0)
+    (result : Result ℕ WriteFault) : Type 0 where
+  pub count : IfOk result (λ given. given ≡ many)
+  pub put : OnOk result (new ≡ after)
+  pub refused : IfErr result IsLeft
+  pub fields_left : (n : ℕ) → result ≡ Err (why.Memory n) → n < many
+
+-- so many fields were put, or they were refused: as `AheadOfClock` if their time is late, or else as `NumbersSpent` if
+-- fewer numbers are left
+pub record WritesFields {S : Type 0} (is_late lacks : Bool) (many : ℕ) (after new : S) (IsLeft : WriteFault → Type 0)
+    (result : Result ℕ WriteFault) : Type 0 where
+  pub count : IfOk result (λ given. given ≡ many)
+  pub put : OnOk result (new ≡ after)
+  pub ahead : (result ≡ Err why.AheadOfClock) ↔ IsTrue is_late
+  pub spent : (result ≡ Err why.NumbersSpent) ↔ (IsFalse is_late × IsTrue lacks)
+  pub refused : IfErr result IsLeft
+  pub fields_left : (n : ℕ) → result ≡ Err (why.Memory n) → n < many
+
+-- the fields of a point have keys, they are few, and for each there is a number
+pub record CanPutFields (h : ReplicaState) (p : PointView) (many : ℕ) : Type 0 where
+  pub keyed : HasKeys p
+  pub few_fields : many ≤ MAX_FIELDS
+  pub numbers_left : IsFalse (lacks_numbers h many)
+
+-- a field has a key, and there is a number for it
+pub record CanPutField (p : PointView) (name : List ℕ) (next : ℕ) : Type 0 where
+  pub keyed : making_fault (names_of p name) ≡ None
+  pub number_left : next ≤ MAX_NUMBER
 
 -- memory ran out after the first fields
 abbrev pub IsMemoryAfter : ReplicaState → ReplicaState → PointView → ℤ → WriteFault → Type 0

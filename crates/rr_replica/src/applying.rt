@@ -1,12 +1,12 @@
 //! Operations, applied to a replica.
-ghost use Rattle.std.specs.Prelude.{◌≡◌, true, fold, slice_get, Some, IsTrue, IfOk, IsOk, OnOk, OnErr};
+ghost use Rattle.std.specs.Prelude.{◌≡◌, true, fold, slice_get, Some, IsTrue};
 ghost use Rattle.rr_replica.specs.Archives.{IsOpOf};
 ghost use Rattle.rr_cells.specs.Operations.{accepts, key_of, step};
 ghost use Rattle.rr_cells.specs.declared.op.Op.TheVariants.{Join, Put};
 ghost use Rattle.std.specs.List.{AllByRecursion};
 ghost use Rattle.rr_replica.specs.Numbered.{knows, puts_at};
 ghost use Rattle.rr_replica.specs.ReplicaWithRoom.{replica_state, IsReadyFor};
-ghost use Rattle.rr_replica.specs.Becomes.{Becomes};
+ghost use Rattle.rr_replica.specs.Calls.{BecomesInRoom, Takes};
 
 use crate::reading::Reading;
 use crate::replica::Replica;
@@ -51,13 +51,11 @@ impl<A: Cells> Replica<A> {
         time: i64,
         value: i64,
     ) -> Result<(), AllocError>
-        ensures state { Becomes (replica_state self.old)
+        ensures { BecomesInRoom (AllByRecursion (IsReadyFor self.old)
+            (puts_at self.old.keys self.old.origin series number time value))
             (fold step (replica_state self.old)
             (puts_at self.old.keys self.old.origin series number time value))
-            (replica_state self.new) result }
-        ensures keys { self.new.keys ≡ self.old.keys }
-        ensures room { AllByRecursion (IsReadyFor self.old)
-            (puts_at self.old.keys self.old.origin series number time value) → IsOk result }
+            self.old self.new result }
     {
         // The proof needs what the replica keeps to, which `schema` ensures.
         let _schema = self.schema();
@@ -84,10 +82,7 @@ impl<A: Cells> Replica<A> {
     /// error nothing has changed; after [`Replica::ready`] of the same operation there is none. The
     /// cost is that of [`Replica::put`] or [`Replica::join_cell`].
     pub fn apply(&mut self, op: &Op) -> Result<bool, AllocError>
-        ensures accepted { IfOk result (λ done. done ≡ accepts (replica_state self.old) op.now) }
-        ensures state { Becomes (replica_state self.old) (step (replica_state self.old) op.now)
-            (replica_state self.new) result }
-        ensures room { IsReadyFor self.old op.now → IsOk result }
+        ensures { Takes op.now self.old self.new result }
     {
         match op {
             Op::Put(sample) => self.apply_sample(sample),
@@ -97,12 +92,7 @@ impl<A: Cells> Replica<A> {
 
     /// Takes a sample as [`Replica::apply`] takes the operation that puts it.
     fn apply_sample(&mut self, sample: &Sample) -> Result<bool, AllocError>
-        ensures accepted { IfOk result (λ done. done
-            ≡ accepts (replica_state self.old) (Put sample.now)) }
-        ensures state { Becomes (replica_state self.old)
-            (step (replica_state self.old) (Put sample.now))
-            (replica_state self.new) result }
-        ensures room { IsReadyFor self.old (Put sample.now) → IsOk result }
+        ensures { Takes (Put sample.now) self.old self.new result }
     {
         if !self.accepts_sample(sample) {
             return Ok(false);
@@ -123,10 +113,8 @@ impl<A: Cells> Replica<A> {
     pub fn apply_numbered(&mut self, series: usize, op: &Op) -> Result<(), AllocError>
         requires accepted { accepts (replica_state self.old) op.now ≡ true }
         requires key { slice_get self.old.keys series ≡ Some (key_of op.now) }
-        ensures state { Becomes (replica_state self.old) (step (replica_state self.old) op.now)
-            (replica_state self.new) result }
-        ensures keys { self.new.keys ≡ self.old.keys }
-        ensures room { IsReadyFor self.old op.now → IsOk result }
+        ensures { BecomesInRoom (IsReadyFor self.old op.now) (step (replica_state self.old) op.now)
+            self.old self.new result }
     {
         match op {
             Op::Put(sample) => {
@@ -141,12 +129,7 @@ impl<A: Cells> Replica<A> {
 
     /// Takes a cell as [`Replica::apply`] takes the operation that joins it.
     pub fn apply_cell(&mut self, cell: &Cell) -> Result<bool, AllocError>
-        ensures accepted { IfOk result (λ done. done
-            ≡ accepts (replica_state self.old) (Join cell.now)) }
-        ensures state { Becomes (replica_state self.old)
-            (step (replica_state self.old) (Join cell.now))
-            (replica_state self.new) result }
-        ensures room { IsReadyFor self.old (Join cell.now) → IsOk result }
+        ensures taken { Takes (Join cell.now) self.old self.new result }
         ensures keys { knows self.old.keys cell.now.key ≡ true → self.new.keys ≡ self.old.keys }
     {
         if !cell.is_of(self.schema()) {

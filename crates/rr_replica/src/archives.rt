@@ -1,9 +1,7 @@
 //! The archives of one key.
-ghost use Rattle.std.specs.Prelude.{◌≡◌, ℕ, ◌<◌, slice_get, IsOk, OnOk, OnErr, IfOk};
+ghost use Rattle.std.specs.Prelude.{◌≡◌, ℕ, ◌<◌, slice_get, IsOk, OnOk, IfOk};
 ghost use Rattle.std.specs.FinMap as fin;
-ghost use Rattle.rr_replica.specs.Archives.{Each, AreOf, AreReadyFrom, CanTake, AreSame, HaveJoined, HaveRoomFor, IsOpOf, MakeRoom, TakeSample};
-ghost use Rattle.rr_cells.specs.CellBounds.{IsCellOf};
-ghost use Rattle.rr_cells.specs.Listing.{owned_cell};
+ghost use Rattle.rr_replica.specs.Archives.{Each, AreOf, AreReadyFrom, CanTake, AreSame, MakeRoom, SuitsArchives, TakeCell, TakeSample};
 
 use crate::reading::Reading;
 use crate::slots::{place_in, slot_near};
@@ -52,21 +50,20 @@ fn make_ready<A: Cells>(
     Ok(())
 }
 
-/// Puts a sample into each archive, those after the first having room for it. Where the first can't
-/// take it, nothing has changed yet.
+/// Puts a sample into each archive, or into none: if the first can't take it, nothing has changed
+/// yet, and those after it have room.
 #[inline(always)]
-fn put_ready<A: Cells>(
+pub(crate) fn put_into<A: Cells>(
     archives: &mut Vec<A>,
     schema: &Schema,
     sample: &Reading,
 ) -> Result<(), AllocError>
     requires of_schema { AreOf A.row_limit schema.now archives.old.items }
     requires newer { CanTake A.cells schema.now sample.now archives.old.items }
-    requires ready { AreReadyFrom 1 A.is_ready schema.now sample.now.time sample.now.origin
-        archives.old.items }
     ensures { TakeSample A.cells A.row_limit A.is_ready schema.now sample.now archives.old.items
         archives.new.items result }
 {
+    make_ready(archives, schema, sample.time, sample.origin, 1)?;
     for i in 0..archives.len() {
         let newest = archives[i].newest();
         let slot = slot_near(schema, i as u8, sample.time, newest);
@@ -83,57 +80,20 @@ fn put_ready<A: Cells>(
     Ok(())
 }
 
-/// Puts a sample into each archive, or into none.
-#[inline(always)]
-pub(crate) fn put_into<A: Cells>(
-    archives: &mut Vec<A>,
-    schema: &Schema,
-    sample: &Reading,
-) -> Result<(), AllocError>
-    requires of_schema { AreOf A.row_limit schema.now archives.old.items }
-    requires newer { CanTake A.cells schema.now sample.now archives.old.items }
-    ensures { TakeSample A.cells A.row_limit A.is_ready schema.now sample.now archives.old.items
-        archives.new.items result }
-{
-    make_ready(archives, schema, sample.time, sample.origin, 1)?;
-    put_ready(archives, schema, sample)
-}
-
 /// Joins a cell into the archive that it is of, or into none.
 pub(crate) fn join_into<A: Cells>(
     archives: &mut Vec<A>,
     schema: &Schema,
     cell: &Cell,
 ) -> Result<(), AllocError>
-    requires of_schema { AreOf A.row_limit schema.now archives.old.items }
-    requires cell { IsCellOf schema.now (owned_cell cell.now) }
-    ensures joined { OnOk result (HaveJoined A.cells A.row_limit cell.now archives.old.items
-        archives.new.items) }
-    ensures unchanged { OnErr result (AreSame A.cells archives.old.items archives.new.items) }
-    ensures of_schema { AreOf A.row_limit schema.now archives.new.items }
-    ensures room { HaveRoomFor A.is_ready schema.now (Op.Join cell.now) archives.old.items
-        → IsOk result }
+    requires { SuitsArchives A.row_limit schema.now (Op.Join cell.now) archives.old.items }
+    ensures { TakeCell A.cells A.row_limit A.is_ready schema.now cell.now archives.old.items
+        archives.new.items result }
 {
     // It is the cell's own slot, since the cell is valid; as that of a time it is within bounds.
     let slot = schema.slot(cell.archive, cell.contribution.last_time);
     let archive = &mut archives[cell.archive as usize];
     archive.join_cell(slot, cell.origin, &cell.contribution)
-}
-
-/// Makes room for a cell in the archive that it is of, and changes no cell.
-fn make_cell_ready<A: Cells>(
-    archives: &mut Vec<A>,
-    schema: &Schema,
-    cell: &Cell,
-) -> Result<(), AllocError>
-    requires of_schema { AreOf A.row_limit schema.now archives.old.items }
-    requires cell { IsCellOf schema.now (owned_cell cell.now) }
-    ensures { MakeRoom A.cells A.row_limit A.is_ready schema.now (Op.Join cell.now)
-        archives.old.items archives.new.items result }
-{
-    let slot = schema.slot(cell.archive, cell.contribution.last_time);
-    let archive = &mut archives[cell.archive as usize];
-    archive.ready(slot, cell.origin)
 }
 
 /// Makes room for an operation, and changes no cell.
@@ -143,13 +103,16 @@ pub(crate) fn make_room<A: Cells>(
     schema: &Schema,
     op: &Op,
 ) -> Result<(), AllocError>
-    requires of_schema { AreOf A.row_limit schema.now archives.old.items }
-    requires op { IsOpOf schema.now op.now }
+    requires { SuitsArchives A.row_limit schema.now op.now archives.old.items }
     ensures { MakeRoom A.cells A.row_limit A.is_ready schema.now op.now archives.old.items
         archives.new.items result }
 {
     match op {
         Op::Put(sample) => make_ready(archives, schema, sample.time, sample.origin, 0),
-        Op::Join(cell) => make_cell_ready(archives, schema, cell),
+        Op::Join(cell) => {
+            let slot = schema.slot(cell.archive, cell.contribution.last_time);
+            let archive = &mut archives[cell.archive as usize];
+            archive.ready(slot, cell.origin)
+        }
     }
 }

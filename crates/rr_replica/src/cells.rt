@@ -1,9 +1,9 @@
 //! The cells of a replica, in order.
-ghost use Rattle.std.specs.Prelude.{◌≡◌, All, map, take, drop, IfSome, IfOk, slice_get};
-ghost use Rattle.std.specs.Option.{option_map};
+ghost use Rattle.std.specs.Prelude.{◌≡◌, All, map, take, drop, IfOk, slice_get};
 ghost use Rattle.std.specs.FinMap as fin;
 ghost use Rattle.rr_cells.specs.CellBounds.{IsCellOf};
-ghost use Rattle.rr_cells.specs.Listing.{seen_cell, owned_cell, at_most_usize, cell_name, next_cell};
+ghost use Rattle.rr_cells.specs.Listing.{owned_cell, at_most_usize, cell_name, next_cell};
+ghost use Rattle.rr_replica.specs.Listing.{LendsCell};
 
 use crate::listing::{count_cells, nth_cell};
 use crate::next::{NameRef, next_cell};
@@ -27,8 +27,7 @@ impl<A: Cells> Replica<A> {
     /// linear in the series before it, each passed over by its count, and in the rows of its
     /// archive.
     pub fn cell_at(&self, i: usize) -> Option<CellRef<'_>>
-        ensures listed { option_map seen_cell result ≡ slice_get (fin.entries self.now.cells) i }
-        ensures of_schema { IfSome result (λ c. IsCellOf self.now.schema (seen_cell c)) }
+        ensures { LendsCell self.now.schema (slice_get (fin.entries self.now.cells) i) result }
     {
         nth_cell(&self.series, i)
     }
@@ -43,9 +42,8 @@ impl<A: Cells> Replica<A> {
         slot: i64,
         origin: Origin,
     ) -> Option<CellRef<'_>>
-        ensures first { option_map seen_cell result
-            ≡ next_cell self.now.cells (cell_name key.now archive slot origin) }
-        ensures of_schema { IfSome result (λ c. IsCellOf self.now.schema (seen_cell c)) }
+        ensures { LendsCell self.now.schema
+            (next_cell self.now.cells (cell_name key.now archive slot origin)) result }
     {
         let name = NameRef {
             key,

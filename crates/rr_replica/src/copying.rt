@@ -1,7 +1,7 @@
 //! Copies of the archives of all keys.
-ghost use Rattle.std.specs.Prelude.{◌≡◌, ℕ, List, map, IfOk};
-ghost use Rattle.rr_replica.specs.InMemory.{seen_archive, seen_at};
-ghost use Rattle.rr_replica.specs.SeriesMap.{entries_of};
+ghost use Rattle.std.specs.Prelude.{◌≡◌, map, IfOk};
+ghost use Rattle.rr_replica.specs.InMemory.{seen_archive};
+ghost use Rattle.rr_replica.specs.SeriesMap.{IsSeenAlike};
 
 use crate::series::SeriesMap;
 use rr_archive::Cells;
@@ -24,10 +24,7 @@ pub(crate) fn copy_series<A: Cells>(
     alloc: Global,
     series: &SeriesMap<A>,
 ) -> Result<SeriesMap<A>, AllocError>
-    ensures keys { IfOk result (λ new. new.keys.items ≡ series.now.keys.items) }
-    ensures archives { IfOk result (λ new. (key : List ℕ)
-        → seen_at A.cells A.row_limit (entries_of new) key
-        ≡ seen_at A.cells A.row_limit (entries_of series.now) key) }
+    ensures { IfOk result (IsSeenAlike A.cells A.row_limit series.now) }
 {
     let mut copies = SeriesMap::new(alloc);
     for i in 0..series.keys.len() {

@@ -1,12 +1,9 @@
 //! Cells from elsewhere, joined into the archives of their keys.
-ghost use Rattle.std.specs.Prelude.{◌≡◌, ◌≤◌, true, IsOk, OnOk, OnErr};
-ghost use Rattle.rr_schema.specs.Schema.{IsLayout};
+ghost use Rattle.std.specs.Prelude.{◌≡◌, ◌≤◌, true};
 ghost use Rattle.rr_text.specs.declared.limits.TheConstants.{MAX_NUMBER};
 ghost use Rattle.rr_cells.specs.Cells.{IsTrimmed};
-ghost use Rattle.rr_cells.specs.Joins.{join_cell};
-ghost use Rattle.rr_cells.specs.CellBounds.{IsCellOf};
 ghost use Rattle.rr_cells.specs.Joining.{next_after};
-ghost use Rattle.rr_replica.specs.InMemory.{held_series, HasRoom, AreAllSized};
+ghost use Rattle.rr_replica.specs.InMemory.{held_series, JoinsCell, SuitsEntries};
 ghost use Rattle.rr_cells.specs.Listing.{owned_cell};
 ghost use Rattle.rr_replica.specs.Numbered.{knows};
 ghost use Rattle.rr_replica.specs.Series.{cells_of};
@@ -26,18 +23,11 @@ pub(crate) fn join_in<A: Cells>(
     schema: &Schema,
     cell: &Cell,
 ) -> Result<(), AllocError>
-    requires layout { IsLayout schema.now }
-    requires cell { IsCellOf schema.now (owned_cell cell.now) }
+    requires suits { SuitsEntries A.row_limit schema.now (Op.Join cell.now)
+        (entries_of series.old) }
     requires live { IsTrimmed schema.now (cells_of (held_series A.cells (entries_of series.old))) }
-    requires sized { AreAllSized A.row_limit schema.now (entries_of series.old) }
-    ensures joined { OnOk result (cells_of (held_series A.cells (entries_of series.new))
-        ≡ join_cell schema.now (cells_of (held_series A.cells (entries_of series.old)))
-        (owned_cell cell.now).0 cell.now.contribution) }
-    ensures unchanged { OnErr result (cells_of (held_series A.cells (entries_of series.new))
-        ≡ cells_of (held_series A.cells (entries_of series.old))) }
-    ensures sized { AreAllSized A.row_limit schema.now (entries_of series.new) }
-    ensures room { HasRoom A.is_ready schema.now (Op.Join cell.now) (entries_of series.old)
-        → IsOk result }
+    ensures cell { JoinsCell A.cells A.row_limit A.is_ready schema.now cell.now
+        (entries_of series.old) (entries_of series.new) result }
     ensures keys { knows series.old.keys.items cell.now.key ≡ true
         → series.new.keys.items ≡ series.old.keys.items }
 {

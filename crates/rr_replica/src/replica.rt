@@ -1,9 +1,8 @@
 //! A replica of the store.
-ghost use Rattle.std.specs.Prelude.{◌≡◌, ℕ, ◌<◌, ◌≤◌, ◌↔◌, All, [], length, take, get_or, slice_get, true, false, None, Some, Err, IfOk, IfErr, IsOk, OnOk, OnErr, MatchOption};
+ghost use Rattle.std.specs.Prelude.{◌≡◌, ℕ, ◌<◌, All, [], length, take, get_or, slice_get, true, false, Some, Err, IfOk, IfErr, IsOk, OnOk, OnErr, MatchOption};
 ghost use mathlib.Core.List.{IsPrefix};
 ghost use Rattle.std.specs.FinMap as fin;
-ghost use Rattle.rr_key.specs.Making.{making_fault};
-ghost use Rattle.rr_point.specs.Key.{names_of, key_text};
+ghost use Rattle.rr_point.specs.Key.{key_text};
 ghost use Rattle.rr_point.specs.Point.{point_view};
 ghost use Rattle.rr_cells.specs.CellBounds.{IsCellOf};
 ghost use Rattle.rr_cells.specs.Cells.{row_at, archive_cells};
@@ -12,8 +11,9 @@ ghost use Rattle.rr_cells.specs.Operations.{accepts, key_of};
 ghost use Rattle.rr_replica.specs.Numbered.{knows, with_key};
 ghost use Rattle.rr_replica.specs.InMemory.{sample_of_reading, keyed_sample};
 ghost use Rattle.rr_cells.specs.Listing.{owned_cell};
-ghost use Rattle.rr_replica.specs.ReplicaWithRoom.{replica_state, HasRoomFor, IsReadyFor};
-ghost use Rattle.rr_replica.specs.Writing.{lacks_numbers};
+ghost use Rattle.rr_replica.specs.ReplicaWithRoom.{replica_state, HasRoomFor};
+ghost use Rattle.rr_replica.specs.Calls.{BecomesInRoom, IsNextReading, MakesReady, PutsNext};
+ghost use Rattle.rr_replica.specs.Writing.{lacks_numbers, CanPutField};
 ghost use Rattle.rr_replica.specs.Becomes.{Becomes};
 
 use crate::copying::copy_series;
@@ -142,10 +142,8 @@ impl<A: Cells> Replica<A> {
     /// room first in each but the first archive, one more where a row is new, and the entries of a
     /// row, however many series there are.
     pub fn put(&mut self, key: &SeriesKey, time: i64, value: i64) -> Result<u64, PutFault>
-        ensures number { IfOk result (λ number. number ≡ self.old.next) }
-        ensures state { Becomes (replica_state self.old)
+        ensures { PutsNext self.old.next (replica_state self.old)
             (with_put (replica_state self.old) key.now time value) (replica_state self.new) result }
-        ensures spent { (result ≡ Err PutFault.NumbersSpent) ↔ (MAX_NUMBER < self.old.next) }
     {
         if self.next > MAX_NUMBER {
             return Err(PutFault::NumbersSpent);
@@ -163,8 +161,7 @@ impl<A: Cells> Replica<A> {
 
     /// Puts a sample of a key under its own number, after which the next one comes.
     pub(crate) fn put_reading(&mut self, key: &SeriesKey, sample: Reading) -> Result<(), AllocError>
-        requires origin { sample.origin ≡ self.old.origin }
-        requires number { self.old.next ≤ sample.number }
+        requires { IsNextReading self.old sample }
         ensures state { Becomes (replica_state self.old)
             (with_sample (replica_state self.old) (keyed_sample key.now sample))
             (replica_state self.new) result }
@@ -185,16 +182,14 @@ impl<A: Cells> Replica<A> {
         series: usize,
         sample: Reading,
     ) -> Result<(), AllocError>
-        requires origin { sample.origin ≡ self.old.origin }
-        requires number { self.old.next ≤ sample.number }
+        requires next { IsNextReading self.old sample }
         requires there { series < length self.old.keys }
-        ensures state { Becomes (replica_state self.old)
+        ensures { BecomesInRoom
+            (HasRoomFor self.old
+            (Op.Put (sample_of_reading (get_or self.old.keys series []) sample)))
             (with_sample (replica_state self.old)
             (keyed_sample (get_or self.old.keys series []) sample))
-            (replica_state self.new) result }
-        ensures keys { self.new.keys ≡ self.old.keys }
-        ensures room { HasRoomFor self.old
-            (Op.Put (sample_of_reading (get_or self.old.keys series []) sample)) → IsOk result }
+            self.old self.new result }
     {
         let last = sample.number;
         put_at(&mut self.series, &self.schema, series, sample)?;
@@ -208,8 +203,7 @@ impl<A: Cells> Replica<A> {
     /// The archives of a key that has none are added for it, without a cell. The cost is one
     /// look-up of the key and one of the slot in each archive, or in the cell's.
     pub fn ready(&mut self, op: &Op) -> Result<(), AllocError>
-        ensures unchanged { replica_state self.new ≡ replica_state self.old }
-        ensures room { OnOk result (IsReadyFor self.new op.now) }
+        ensures { MakesReady op.now self.old self.new result }
     {
         if !self.accepts(op) {
             return Ok(());
@@ -224,8 +218,7 @@ impl<A: Cells> Replica<A> {
     #[inline(always)]
     pub fn ready_series(&mut self, hint: Hint, op: &Op) -> Result<usize, AllocError>
         requires { accepts (replica_state self.old) op.now ≡ true }
-        ensures unchanged { replica_state self.new ≡ replica_state self.old }
-        ensures room { OnOk result (IsReadyFor self.new op.now) }
+        ensures ready { MakesReady op.now self.old self.new result }
         ensures key { IfOk result (λ i. slice_get self.new.keys i ≡ Some (key_of op.now)) }
         ensures keys_grow { IsPrefix self.old.keys self.new.keys }
     {
@@ -330,8 +323,7 @@ impl<A: Cells> Replica<A> {
         time: i64,
         field: &Field<'_>,
     ) -> Result<(), AllocError>
-        requires keyed { making_fault (names_of (point_view point.now) field.now.key.now) ≡ None }
-        requires number_left { self.old.next ≤ MAX_NUMBER }
+        requires { CanPutField (point_view point.now) field.now.key.now self.old.next }
         ensures state { Becomes (replica_state self.old)
             (with_put (replica_state self.old) (key_text (point_view point.now) field.now.key.now)
             time field.now.value) (replica_state self.new) result }

@@ -1,14 +1,11 @@
 //! Room for operations, made before they are applied.
 ghost use Rattle.std.specs.Prelude.{◌≡◌, Some, slice_get, IfOk, OnErr, OnOk};
 ghost use mathlib.Core.List.{IsPrefix};
-ghost use Rattle.rr_schema.specs.Schema.{IsLayout};
-ghost use Rattle.rr_replica.specs.Archives.{IsOpOf};
 ghost use Rattle.rr_cells.specs.Operations.{key_of};
-ghost use Rattle.rr_replica.specs.Indexed.{index_of};
 ghost use Rattle.rr_replica.specs.Numbered.{with_key};
 ghost use Rattle.rr_replica.specs.Series.{cells_of};
 ghost use Rattle.rr_replica.specs.SeriesMap.{entries_of};
-ghost use Rattle.rr_replica.specs.InMemory.{held_series, AreAllSized, MakesRoom};
+ghost use Rattle.rr_replica.specs.InMemory.{held_series, AreAllSized, MakesRoom, SuitsEntries};
 
 use crate::archives::{empty_archives, make_room};
 use crate::hint::Hint;
@@ -18,25 +15,6 @@ use rr_cells::Op;
 use rr_key::SeriesKey;
 use rr_schema::Schema;
 use std::alloc::{AllocError, Global};
-
-/// Makes room for an operation in the archives of its key, whose index this is. No cell changes.
-#[inline(always)]
-fn make_room_at<A: Cells>(
-    series: &mut SeriesMap<A>,
-    schema: &Schema,
-    index: usize,
-    op: &Op,
-) -> Result<(), AllocError>
-    requires layout { IsLayout schema.now }
-    requires op { IsOpOf schema.now op.now }
-    requires sized { AreAllSized A.row_limit schema.now (entries_of series.old) }
-    requires index { Some index ≡ index_of series.old.indices.entries (key_of op.now) }
-    ensures made { MakesRoom A.cells A.row_limit A.is_ready schema.now op.now
-        (entries_of series.old) (entries_of series.new) result }
-    ensures keys { series.new.keys.items ≡ series.old.keys.items }
-{
-    make_room(&mut series.archives[index], schema, op)
-}
 
 /// Makes room for an operation in the archives of its key, which are added where there are none, and
 /// says which series it is. No cell changes.
@@ -48,9 +26,7 @@ pub(crate) fn make_room_in<A: Cells>(
     hint: Hint,
     op: &Op,
 ) -> Result<usize, AllocError>
-    requires layout { IsLayout schema.now }
-    requires op { IsOpOf schema.now op.now }
-    requires sized { AreAllSized A.row_limit schema.now (entries_of series.old) }
+    requires { SuitsEntries A.row_limit schema.now op.now (entries_of series.old) }
     ensures made { MakesRoom A.cells A.row_limit A.is_ready schema.now op.now
         (entries_of series.old) (entries_of series.new) result }
     ensures key { IfOk result (λ i. slice_get series.new.keys.items i ≡ Some (key_of op.now)) }
@@ -59,7 +35,7 @@ pub(crate) fn make_room_in<A: Cells>(
     let key = op.key();
     match series.find_near(hint, key) {
         Some(index) => {
-            make_room_at(series, schema, index, op)?;
+            make_room(&mut series.archives[index], schema, op)?;
             Ok(index)
         }
         None => {

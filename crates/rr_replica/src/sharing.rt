@@ -1,8 +1,9 @@
 //! Rows that replicas share.
-ghost use Rattle.std.specs.Prelude.{◌≡◌, ℕ, List, map};
-ghost use Rattle.rr_replica.specs.InMemory.{seen_archive, seen_at};
-ghost use Rattle.rr_replica.specs.SeriesMap.{entries_of};
+ghost use Rattle.std.specs.Prelude.{◌≡◌, map};
+ghost use Rattle.rr_replica.specs.InMemory.{seen_archive};
+ghost use Rattle.rr_replica.specs.SeriesMap.{IsSeenAlike};
 ghost use Rattle.rr_replica.specs.ReplicaWithRoom.{replica_state};
+ghost use Rattle.rr_replica.specs.Calls.{HoldsTheSame};
 
 use crate::replica::Replica;
 use crate::series::SeriesMap;
@@ -30,10 +31,7 @@ fn share_archives<A: Cells>(archives: &mut Vec<A>, others: &[A])
 
 /// Makes finished rows of the series at an index ready to be shared, if there is one.
 fn finish_at<A: Cells>(series: &mut SeriesMap<A>, index: usize)
-    ensures keys { series.new.keys.items ≡ series.old.keys.items }
-    ensures archives { (key : List ℕ)
-        → seen_at A.cells A.row_limit (entries_of series.new) key
-        ≡ seen_at A.cells A.row_limit (entries_of series.old) key }
+    ensures { IsSeenAlike A.cells A.row_limit series.old series.new }
 {
     if index >= series.archives.len() {
         return;
@@ -43,10 +41,7 @@ fn finish_at<A: Cells>(series: &mut SeriesMap<A>, index: usize)
 
 /// Shares rows of the series at an index with others at the same index, if both are there.
 fn share_at<A: Cells>(series: &mut SeriesMap<A>, index: usize, others: &SeriesMap<A>)
-    ensures keys { series.new.keys.items ≡ series.old.keys.items }
-    ensures archives { (key : List ℕ)
-        → seen_at A.cells A.row_limit (entries_of series.new) key
-        ≡ seen_at A.cells A.row_limit (entries_of series.old) key }
+    ensures { IsSeenAlike A.cells A.row_limit series.old series.new }
 {
     if index >= series.archives.len() {
         return;
@@ -58,8 +53,7 @@ impl<A: Cells> Replica<A> {
     /// Makes finished rows of the series with a number ready to be shared by other replicas. It changes
     /// nothing that the replica holds. The cost is that of giving back the memory that they don't need.
     pub fn finish_rows(&mut self, series: usize)
-        ensures unchanged { replica_state self.new ≡ replica_state self.old }
-        ensures keys { self.new.keys ≡ self.old.keys }
+        ensures { HoldsTheSame self.old self.new }
     {
         finish_at(&mut self.series, series);
     }
@@ -80,8 +74,7 @@ impl<A: Cells> Replica<A> {
     /// the number and the other replica are. The cost is that of comparing these rows.
     #[inline(always)]
     pub fn share_rows(&mut self, series: usize, other: &Replica<A>)
-        ensures unchanged { replica_state self.new ≡ replica_state self.old }
-        ensures keys { self.new.keys ≡ self.old.keys }
+        ensures { HoldsTheSame self.old self.new }
     {
         share_at(&mut self.series, series, &other.series);
     }

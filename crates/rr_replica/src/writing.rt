@@ -1,7 +1,6 @@
 //! The fields of a point, put one after the other.
-ghost use Rattle.std.specs.Prelude.{◌≡◌, ℕ, ◌<◌, ◌≤◌, ◌↔◌, length, Err, IfOk, IfErr, OnOk, IsTrue, IsFalse, unwrap_or};
-ghost use Rattle.rr_text.specs.declared.limits.TheConstants.{MAX_FIELDS};
-ghost use Rattle.rr_point.specs.Key.{HasKeys, IsWritable};
+ghost use Rattle.std.specs.Prelude.{◌≡◌, length, unwrap_or};
+ghost use Rattle.rr_point.specs.Key.{IsWritable};
 ghost use Rattle.rr_point.specs.Point.{point_view};
 ghost use Rattle.rr_replica.specs.ReplicaWithRoom.{replica_state};
 ghost use Rattle.rr_replica.specs.Writing.{is_ahead};
@@ -12,7 +11,7 @@ use rr_archive::Cells;
 use rr_point::Point;
 
 impl<A: Cells> Replica<A> {
-    ghost use Rattle.rr_replica.specs.Writing.{IsAfterRefusal, IsMemoryAfter, with_fields, is_ahead, lacks_numbers};
+    ghost use Rattle.rr_replica.specs.Writing.{CanPutFields, IsAfterRefusal, IsMemoryAfter, PutsFields, WritesFields, with_fields, is_ahead, lacks_numbers};
 
     /// Puts a sample of each field of a point, in the line's order, under as many numbers, and
     /// answers how many. A point without a time takes `now`. Times are in nanoseconds since the
@@ -29,19 +28,14 @@ impl<A: Cells> Replica<A> {
         lead: Option<u64>,
     ) -> Result<u32, WriteFault>
         requires { IsWritable (point_view point.now) }
-        ensures count { IfOk result (λ count. count ≡ length point.now.fields.items) }
-        ensures put { OnOk result (replica_state self.new
-            ≡ with_fields (replica_state self.old) (point_view point.now)
-            (unwrap_or point.now.time now) (point_view point.now).fields) }
-        ensures ahead { (result ≡ Err WriteFault.AheadOfClock)
-            ↔ IsTrue (is_ahead point.now.time now lead) }
-        ensures spent { (result ≡ Err WriteFault.NumbersSpent)
-            ↔ (IsFalse (is_ahead point.now.time now lead)
-            × IsTrue (lacks_numbers (replica_state self.old) (length point.now.fields.items))) }
-        ensures refused { IfErr result (IsAfterRefusal (replica_state self.old)
-            (replica_state self.new) (point_view point.now) (unwrap_or point.now.time now)) }
-        ensures fields_left { (put : ℕ) → result ≡ Err (WriteFault.Memory put)
-            → put < length point.now.fields.items }
+        ensures { WritesFields (is_ahead point.now.time now lead)
+            (lacks_numbers (replica_state self.old) (length point.now.fields.items))
+            (length point.now.fields.items)
+            (with_fields (replica_state self.old) (point_view point.now)
+            (unwrap_or point.now.time now) (point_view point.now).fields)
+            (replica_state self.new)
+            (IsAfterRefusal (replica_state self.old) (replica_state self.new)
+            (point_view point.now) (unwrap_or point.now.time now)) result }
     {
         if is_ahead(point.time, now, lead) {
             return Err(WriteFault::AheadOfClock);
@@ -54,18 +48,14 @@ impl<A: Cells> Replica<A> {
 
     /// Puts a sample of each field of a point.
     fn write_fields(&mut self, point: &Point<'_>, time: i64) -> Result<u32, WriteFault>
-        requires keyed { HasKeys (point_view point.now) }
-        requires few_fields { length point.now.fields.items ≤ MAX_FIELDS }
-        requires numbers_left { IsFalse (lacks_numbers (replica_state self.old)
-            (length point.now.fields.items)) }
-        ensures count { IfOk result (λ count. count ≡ length point.now.fields.items) }
-        ensures put { OnOk result (replica_state self.new
-            ≡ with_fields (replica_state self.old) (point_view point.now) time
-            (point_view point.now).fields) }
-        ensures stopped { IfErr result (IsMemoryAfter (replica_state self.old)
-            (replica_state self.new) (point_view point.now) time) }
-        ensures fields_left { (put : ℕ) → result ≡ Err (WriteFault.Memory put)
-            → put < length point.now.fields.items }
+        requires { CanPutFields (replica_state self.old) (point_view point.now)
+            (length point.now.fields.items) }
+        ensures { PutsFields (length point.now.fields.items)
+            (with_fields (replica_state self.old) (point_view point.now) time
+            (point_view point.now).fields)
+            (replica_state self.new)
+            (IsMemoryAfter (replica_state self.old) (replica_state self.new)
+            (point_view point.now) time) result }
     {
         let mut put = 0;
         for field in &point.fields {

@@ -33,7 +33,7 @@ loop-next-smaller g c =
     let cell = c.in-Some.cell in
     let e = seen_cell cell in
     let slot : to_z w64 (of_z w64 cell.slot) ≡ cell.slot = search rules in
-    let left = ap (λ o. length (cells_from o es)) (rw slot at c.next_cell-next.ensures.first)
+    let left = ap (λ o. length (cells_from o es)) (rw slot at c.next_cell-next.ensures.listed)
     ∙ ap length (walked_on e.0 es (entries_sorted c.args.replica.now.cells)) in
     let before : length (cells_from (option_map seen_cell c.loop-next.next) es)
     ≡ suc (length (filter (is_past e.0) es)) = ap (λ o. length (cells_from (option_map seen_cell o) es))
@@ -50,7 +50,7 @@ loop-next-preserved g c =
     let front = map owned_cell c.loop-next.cells.items in
     let left = map owned_name c.names_from-names.result.now in
     let slot : to_z w64 (of_z w64 cell.slot) ≡ cell.slot = search rules in
-    let next = rw slot at c.next_cell-next.ensures.first in
+    let next = rw slot at c.next_cell-next.ensures.listed in
     let here = left_here e summary (map owned_name c.loop-next.names.now)
     (subst (λ o. AreLeft (option_map seen_cell o) summary (map owned_name c.loop-next.names.now)) c.in-Some.is
     c.loop-next.invariant.left) in
@@ -66,27 +66,19 @@ loop-next-preserved g c =
       left = left_later e es (option_map seen_cell c.next_cell-next.result) summary left names next;
     }
 
-pub returns-clause-newer : goal.returns-clause-newer
-returns-clause-newer g c =
-    let es = entries c.args.replica.now.cells in
+pub returns : goal.returns
+returns g c =
+    let h = replica_state c.args.replica.now in
+    let es = entries h.cells in
     let summary = map owned_name c.args.summary.now in
     let front = map owned_cell c.loop-next.cells.items in
-    sym (append-nil front)
+    let newer : front ≡ newer_cells summary es = sym (append-nil front)
     ∙ ap (λ l. front ++ l) (sym (newer_none summary))
     ∙ ap (λ o. front ++ newer_cells summary (cells_from (option_map seen_cell o) es)) (sym c.in_default.is)
-    ∙ c.loop-next.invariant.so_far
-
-pub returns-clause-ascending : goal.returns-clause-ascending
-returns-clause-ascending g c =
-    let m = c.args.replica.now.cells in
-    let summary = map owned_name c.args.summary.now in
-    ap (is_sorted cell_name_cmp) (returns-clause-newer g c)
-    ∙ true_from_T _ (newer_sorted summary (entries m) (entries_sorted m))
-
-pub returns-clause-of_schema : goal.returns-clause-of_schema
-returns-clause-of_schema g c =
-    let h = replica_state c.args.replica.now in
-    let summary = map owned_name c.args.summary.now in
-    cells_held h.schema c.loop-next.cells.items (newer_cells summary (entries h.cells))
-    (newer_held h.schema summary (entries h.cells) (all_held h c.schema-schema.ensures.holds))
-    (returns-clause-newer g c)
+    ∙ c.loop-next.invariant.so_far in
+    record {
+      newer = newer;
+      ascending = ap (is_sorted cell_name_cmp) newer ∙ true_from_T _ (newer_sorted summary es (entries_sorted h.cells));
+      of_schema = cells_held h.schema c.loop-next.cells.items (newer_cells summary es)
+          (newer_held h.schema summary es (all_held h c.schema-schema.ensures.holds)) newer;
+    }

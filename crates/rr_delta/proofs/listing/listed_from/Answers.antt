@@ -21,7 +21,7 @@ loop-preserved g c =
     let slot : to_z w64 (of_z w64 cell.slot) ≡ cell.slot = search rules in
     let named : owned_name name ≡ named_version e = search rules in
     let items : c.push.new.self.items ≡ c.loop.names.items ++ name ∷ [] = search rules in
-    let left = ap (λ o. cells_from o es) (rw slot at c.next_cell-next.ensures.first)
+    let left = ap (λ o. cells_from o es) (rw slot at c.next_cell-next.ensures.listed)
     ∙ walked_on e.0 es (entries_sorted c.args.replica.now.cells) in
     (λ i. listed_so_far ((ap (map owned_name) items ∙ map_push owned_name c.loop.names.items name
     ∙ ap (λ v. front ++ v ∷ []) named) i) (c.args.count - (c.loop.counter + 1)) (left i))

@@ -24,14 +24,14 @@ returns g c =
     let was = c.index_mut-archive.result.now in
     let new = c.join_cell.new.self in
     let many = sized_many limit c.args.schema.now items c.requires.of_schema.sized in
-    let of_schema = c.requires.cell.archive in
+    let of_schema = c.requires.op_of.archive in
     let within : cell.archive < length items = omega arith in
     let at : slice_get items cell.archive ≡ Some was = slice_get-get_or items cell.archive was within
     ∙ ap (λ a. Some a) (sym c.index_mut-archive.ensures.value) in
     let kept : to_z w64 (of_z w64 c.slot-slot.result) ≡ c.slot-slot.result = search rules in
     let found : c.slot-slot.result ≡ slot_of c.args.schema.now cell.archive cell.contribution.last_time =
     search rules in
-    let slot : c.slot-slot.result ≡ cell.slot = found ∙ c.requires.cell.valid.in_slot in
+    let slot : c.slot-slot.result ≡ cell.slot = found ∙ c.requires.op_of.valid.in_slot in
     record {
       joined = on_ok_weaker c.join_cell.result (joined_at cells limit cell items was new at)
           (rw (kept, slot) at c.join_cell.ensures.joined);

@@ -20,8 +20,8 @@ insert-requires g c =
     not_yet g.A.Cells.cells g.A.Cells.row_limit m.indexed c.loop-i.invariant c.index.result.now
     (found_at m.keys.items c.loop-i.i c.index.result.now within (search rules))
 
-pub returns-clause-archives : goal.returns-clause-archives
-returns-clause-archives g c =
+pub returns : goal.returns
+returns g c =
     let m = c.args.series.now in
     let copies = c.loop-i.copies in
     let past : length m.keys.items ≤ c.loop-i.i = search rules in
@@ -30,5 +30,9 @@ returns-clause-archives g c =
     let keys = c.loop-i.invariant.keys_so_far ∙ take_all m.keys.items c.loop-i.i past in
     let archives = c.loop-i.invariant.seen_so_far ∙ ap (map (seen g.A.Cells.cells g.A.Cells.row_limit))
     (take_all m.archives.items c.loop-i.i past_archives) in
-    copies_seen g.A.Cells.cells g.A.Cells.row_limit m.indexed
-    (subst (λ ks. IsIndexed ks copies.indices.entries copies.archives.items) keys c.loop-i.invariant.indexed) archives
+    record {
+      keys = keys;
+      archives = copies_seen g.A.Cells.cells g.A.Cells.row_limit m.indexed
+          (subst (λ ks. IsIndexed ks copies.indices.entries copies.archives.items) keys c.loop-i.invariant.indexed)
+          archives;
+    }

@@ -1,4 +1,4 @@
-use Rattle.std.proofs.Common.{◌≡◌, None, sym, ◌∙◌, refl}
+use Rattle.std.proofs.Common.{◌≡◌, None, sym, ◌∙◌}
 use Rattle.rr_replica.specs.Indexed.{index_of}
 use Rattle.rr_replica.specs.SeriesMap.{entries_of}
 use Rattle.rr_replica.proofs.IndexedLemmas.{archives_nowhere, entries_ordered}

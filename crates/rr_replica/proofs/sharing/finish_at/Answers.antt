@@ -2,7 +2,9 @@ use Rattle.std.proofs.Common.{rules}
 use Rattle.rr_replica.proofs.CopyingLemmas.{set_seen}
 use Rattle.rr_replica.proofs.sharing.finish_at.Goals as goal
 
-pub returns-clause-archives : goal.returns-clause-archives
-returns-clause-archives g c =
-    set_seen g.A.Cells.cells g.A.Cells.row_limit c.args.series.now c.args.index c.index_mut.result.now
-    c.finish_archives.new.archives (search rules) c.index_mut.ensures.value c.finish_archives.ensures
+pub returns : goal.returns
+returns g c = record {
+  keys = search rules;
+  archives = set_seen g.A.Cells.cells g.A.Cells.row_limit c.args.series.now c.args.index c.index_mut.result.now
+      c.finish_archives.new.archives (search rules) c.index_mut.ensures.value c.finish_archives.ensures;
+}

@@ -74,7 +74,7 @@ loop-preserved g c =
     let old = g.W.Write.contents (inner_of c.args.output.now) in
     let new = g.W.Write.contents (inner_of c.write_cell.new.output) in
     record {
-      next = rw slot at c.next_cell-next.ensures.first
+      next = rw slot at c.next_cell-next.ensures.listed
           ∙ next_of_sorted all i (seen_cell cell) (entries_sorted c.args.replica.now.cells) at;
       written = subst (Appends old new) (sym more) (Appends-trans old (g.W.Write.contents (inner_of c.loop.output)) new
           done piece c.loop.invariant.written c.in_ok-write_cell.ensures.whole);

@@ -33,7 +33,8 @@ invariant_of-self-2 g c =
     c.in_ok-change.change c.in_ok-name_keys.ensures.named c.in_ok-name_keys.ensures.all c.in_ok-series.ensures.key mine
     c.in_ok-change.ensures c.in_ok-name_keys.ensures.keys.pending longer in
     let is : replica_state c.apply_numbered.new.self ≡ step (replica_state k.own) op =
-    c.in_ok-apply_numbered.ensures.state.made ∙ ap (λ (h : ReplicaState). step h op) c.ready_series.ensures.unchanged in
+    c.in_ok-apply_numbered.ensures.state.made
+    ∙ ap (λ (h : ReplicaState). step h op) c.ready_series.ensures.ready.unchanged in
     let named = named-pushed names c.ready_series.new.self.keys (changes w) c.name_keys.new.named
     c.in_ok-name_keys.ensures.named c.in_ok-series.series op c.in_ok-change.change (changes n) c.in_ok-change.ensures
     longer in
@@ -80,7 +81,7 @@ returns g c = record {
         ∙ (left ∙ ap (λ (z : KeeperState). z.pending ++ op ∷ []) c.self.view_is) in
         push-state s (replica_state c.apply_numbered.new.self) op _ _ _ c.requires
         (c.in_ok-apply_numbered.ensures.state.made ∙ ap (λ (h : ReplicaState). step h op)
-        (c.ready_series.ensures.unchanged ∙ own)) same seen more;
+        (c.ready_series.ensures.ready.unchanged ∙ own)) same seen more;
     unchanged = search rules;
   };
 }
@@ -97,7 +98,7 @@ invariant_of-self-then-is_err g c =
     let same : changes n ≡ changes w = search rules in
     let kept = subst (λ (own : ReplicaState). IsKeeper (view o.desk.place)
     (replica_state o.desk.shown.value.replica) names own o.desk.shown.value.front k.book (changes w) k.ended)
-    (sym c.ready_series.ensures.unchanged)
+    (sym c.ready_series.ensures.ready.unchanged)
     (keeper-named (view o.desk.place) (replica_state o.desk.shown.value.replica) names (replica_state k.own)
     o.desk.shown.value.front k.book (changes o) (changes w) k.ended c.self.invariant.0
     c.name_keys.ensures.keys.pending (c.name_keys.ensures.keys.front o.desk.shown.value.front)) in
@@ -110,5 +111,5 @@ invariant_of-self-then-is_err g c =
 -- room was made, so it is applied
 pub invariant_of-self-in_err-apply_numbered : goal.invariant_of-self-in_err-apply_numbered
 invariant_of-self-in_err-apply_numbered g c =
-    let ok : IsOk c.apply_numbered.result = c.apply_numbered.ensures.room c.in_ok-series.ensures.room in
+    let ok : IsOk c.apply_numbered.result = c.apply_numbered.ensures.room c.in_ok-series.ensures.ready.room in
     absurd (true≢false (sym (subst IsOk c.in_err-apply_numbered.was ok)))

@@ -12,10 +12,15 @@ invariant_of-reading g c =
     let taken = c.accepts_sample.ensures.op c.if-not-accepts_sample.false in
     record { number_at_least = taken.1; number_at_most = taken.2 }
 
-pub returns-in_err-put_reading-clause-room : goal.returns-in_err-put_reading-clause-room
-returns-in_err-put_reading-clause-room g c = λ ready.
-    let taken : accepts (replica_state c.args.self.now) (Put c.args.sample.now) ≡ true =
-    sym c.accepts_sample.ensures.accepted ∙ c.if-not-accepts_sample.false in
-    let back = to_z-of_z {w = w64} {z = c.args.sample.now.time} (search rules) in
-    let ok : IsOk c.put_reading.result = (rw back at c.put_reading.ensures.room) (ready taken) in
-    absurd (true≢false (sym (subst IsOk c.in_err-put_reading.was ok)))
+pub returns-in_err-put_reading : goal.returns-in_err-put_reading
+returns-in_err-put_reading g c = record {
+  accepted = search rules;
+  state = search rules;
+  room =
+      λ ready.
+      let taken : accepts (replica_state c.args.self.now) (Put c.args.sample.now) ≡ true =
+      sym c.accepts_sample.ensures.accepted ∙ c.if-not-accepts_sample.false in
+      let back = to_z-of_z {w = w64} {z = c.args.sample.now.time} (search rules) in
+      let ok : IsOk c.put_reading.result = (rw back at c.put_reading.ensures.room) (ready taken) in
+      absurd (true≢false (sym (subst IsOk c.in_err-put_reading.was ok)));
+}

@@ -30,7 +30,7 @@ loop-preserved g c =
           ∙ (λ k. c.loop.invariant.taken k ++ owned k ∷ [])
           ∙ sym (taken_more all c.args.from i (seen_cell cell) at);
       next =
-          rw slot at c.next_cell-next.ensures.first
+          rw slot at c.next_cell-next.ensures.listed
           ∙ next_of_sorted all (c.args.from + i) (seen_cell cell) (fin.entries_sorted c.args.self.now.cells) at
           ∙ ap (slice_get all) (omega arith);
     }

@@ -8,7 +8,7 @@ use Rattle.rr_replica.proofs.replica.Replica.first_behind.Goals as goal
 pub returns-in-Some : goal.returns-in-Some
 returns-in-Some g c =
     let h = replica_state c.args.self.now in
-    c.next_cell.ensures.first
+    c.next_cell.ensures.listed
     ∙ behind h c.schema-schema.ensures.holds c.in-Some.key.now 255 (pos 9223372036854775807) c.origin.result (omega
     arith)
     ∙ ap (λ o. first_behind (lent_key o) (entries h.cells)) (sym c.in-Some.is)

@@ -17,7 +17,7 @@ pub invariant_of-self : goal.invariant_of-self
 invariant_of-self g c =
     let r = c.self.inside in
     let new = c.join_in.new.series in
-    let e = c.in_err-join_in.ensures in
+    let e = c.in_err-join_in.ensures.cell in
     kept_same g.A.Cells.cells g.A.Cells.row_limit r.schema r.origin r.next (entries_of r.series) (entries_of new)
     c.self.invariant e.unchanged e.sized (entries_ordered new.indexed)
 
@@ -30,7 +30,7 @@ invariant_of-self-2 g c =
     let next : c.next_after-self-inside.result ≡ next_after r.origin r.next (owned_cell c.args.cell.now) =
     c.next_after-self-inside.ensures in
     let new = c.join_in.new.series in
-    let e = c.in_ok-join_in.ensures in
+    let e = c.in_ok-join_in.ensures.cell in
     subst (λ n. IsReplicaInMemory g.A.Cells.cells g.A.Cells.row_limit r.schema r.origin n (entries_of new)) (sym next)
     (kept_joined g.A.Cells.cells g.A.Cells.row_limit r.schema r.origin r.next c.args.cell.now
     (entries_of r.series) (entries_of new) c.self.invariant cell e.joined e.sized (entries_ordered new.indexed))
@@ -43,5 +43,5 @@ returns-in_err-join_in-clause-room g c = λ h.
     let there = room_there g.A.Cells.is_ready g.A.Cells.cells g.A.Cells.row_limit r.schema
     c.self.invariant.holds.layout r.origin r.next r.series.keys.items (entries_of r.series) c.self.invariant.sized op
     told in
-    let ok : IsOk c.join_in.result = c.join_in.ensures.room there in
+    let ok : IsOk c.join_in.result = c.join_in.ensures.cell.room there in
     absurd (true≢false (sym (subst IsOk c.in_err-join_in.was ok)))

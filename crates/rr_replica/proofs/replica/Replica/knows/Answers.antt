@@ -1,6 +1,4 @@
-use Rattle.std.proofs.Common.{◌≡◌, sym, ap, ◌∙◌}
-use Rattle.rr_replica.specs.Numbered.{knows}
-use Rattle.rr_replica.specs.ReplicaWithRoom.{ReplicaWithRoom}
+use Rattle.std.proofs.Common.{◌∙◌}
 use Rattle.rr_replica.proofs.NumberedLemmas.{known_by_index}
 use Rattle.rr_replica.proofs.replica.Replica.knows.Goals as goal
 

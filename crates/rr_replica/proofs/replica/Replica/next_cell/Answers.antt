@@ -1,4 +1,4 @@
-use Rattle.std.proofs.Common.{subst}
+use Rattle.std.proofs.Common.{rules, subst}
 use Rattle.std.specs.Prelude.{IfSome}
 use Rattle.rr_replica.specs.SeriesMap.{entries_of}
 use Rattle.rr_cells.specs.CellBounds.{IsCellOf}
@@ -13,9 +13,12 @@ pub next_cell-requires : goal.next_cell-requires
 next_cell-requires g c = let r = c.self.inside in
     few_held g.A.Cells.cells g.A.Cells.row_limit r.schema r.origin r.next (entries_of r.series) c.self.invariant
 
-pub returns-clause-of_schema : goal.returns-clause-of_schema
-returns-clause-of_schema g c =
-    let r = c.self.inside in
-    let h = replica_state_in g.A.Cells.cells r.schema r.origin r.next (entries_of r.series) in
-    subst (λ (k : ReplicaWithRoom). IfSome c.next_cell.result (λ x. IsCellOf k.schema (seen_cell x))) c.self.view_is
-    (next_held h c.self.invariant.holds c.next_cell.result _ c.next_cell.ensures)
+pub returns : goal.returns
+returns g c = record {
+  listed = search rules;
+  of_schema =
+      let r = c.self.inside in
+      let h = replica_state_in g.A.Cells.cells r.schema r.origin r.next (entries_of r.series) in
+      subst (λ (k : ReplicaWithRoom). IfSome c.next_cell.result (λ x. IsCellOf k.schema (seen_cell x))) c.self.view_is
+      (next_held h c.self.invariant.holds c.next_cell.result _ c.next_cell.ensures);
+}

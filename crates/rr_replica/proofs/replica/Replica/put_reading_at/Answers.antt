@@ -1,4 +1,4 @@
-use Rattle.std.proofs.Common.{[], get_or, true≢false, sym, subst}
+use Rattle.std.proofs.Common.{rules, [], get_or, true≢false, sym, subst}
 use Rattle.std.specs.Prelude.{IsOk}
 use Rattle.rr_replica.specs.SeriesMap.{entries_of}
 use Rattle.rr_cells.specs.declared.op.Op.TheVariants.{Put}
@@ -7,14 +7,19 @@ use Rattle.rr_replica.specs.ReplicaWithRoom.{ReplicaWithRoom, HasRoomFor}
 use Rattle.rr_replica.proofs.RoomLemmas.{room_there}
 use Rattle.rr_replica.proofs.replica.Replica.put_reading_at.Goals as goal
 
-pub returns-in_err-put_at-clause-room : goal.returns-in_err-put_at-clause-room
-returns-in_err-put_at-clause-room g c = λ h.
-    let r = c.self.inside in
-    let op = Put (sample_of_reading (get_or c.self.inside.series.keys.items c.args.series []) c.args.sample) in
-    let told = subst (λ (st : ReplicaWithRoom). HasRoomFor st
-    (Put (sample_of_reading (get_or st.keys c.args.series []) c.args.sample))) (sym c.self.view_is) h in
-    let there = room_there g.A.Cells.is_ready g.A.Cells.cells g.A.Cells.row_limit r.schema
-    c.self.invariant.holds.layout r.origin r.next r.series.keys.items (entries_of r.series) c.self.invariant.sized op
-    told in
-    let ok : IsOk c.put_at.result = c.put_at.ensures.sample.room there in
-    absurd (true≢false (sym (subst IsOk c.in_err-put_at.was ok)))
+pub returns-in_err-put_at : goal.returns-in_err-put_at
+returns-in_err-put_at g c = record {
+  state = search rules;
+  keys = search rules;
+  room =
+      λ h.
+      let r = c.self.inside in
+      let op = Put (sample_of_reading (get_or c.self.inside.series.keys.items c.args.series []) c.args.sample) in
+      let told = subst (λ (st : ReplicaWithRoom). HasRoomFor st
+      (Put (sample_of_reading (get_or st.keys c.args.series []) c.args.sample))) (sym c.self.view_is) h in
+      let there = room_there g.A.Cells.is_ready g.A.Cells.cells g.A.Cells.row_limit r.schema
+      c.self.invariant.holds.layout r.origin r.next r.series.keys.items (entries_of r.series) c.self.invariant.sized op
+      told in
+      let ok : IsOk c.put_at.result = c.put_at.ensures.sample.room there in
+      absurd (true≢false (sym (subst IsOk c.in_err-put_at.was ok)));
+}

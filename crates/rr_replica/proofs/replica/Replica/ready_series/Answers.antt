@@ -1,4 +1,4 @@
-use Rattle.std.proofs.Common.{◌≡◌, true, sym, subst, ◌∙◌}
+use Rattle.std.proofs.Common.{rules, ◌≡◌, true, sym, subst, ◌∙◌}
 use Rattle.std.proofs.lemmas.Result.{on_ok_weaker}
 use Rattle.rr_replica.specs.SeriesMap.{entries_of}
 use Rattle.rr_replica.specs.Archives.{IsOpOf}
@@ -18,8 +18,8 @@ invariant_of-self g c =
     kept_same g.A.Cells.cells g.A.Cells.row_limit r.schema r.origin r.next (entries_of r.series) (entries_of new)
     c.self.invariant e.made.unchanged e.made.sized (entries_ordered new.indexed)
 
-pub returns-clause-room : goal.returns-clause-room
-returns-clause-room g c =
+pub returns-clause-ready : goal.returns-clause-ready
+returns-clause-ready g c =
     let r = c.self.inside in
     let op = c.args.op.now in
     let cells = g.A.Cells.cells in
@@ -31,7 +31,9 @@ returns-clause-room g c =
     c.requires in
     let number = taken_origin (replica_state_in cells r.schema r.origin r.next (entries_of r.series)) op taken of
     c.self.invariant.holds.origin in
-    on_ok_weaker c.make_room_in.result (λ room. λ _. room_told g.A.Cells.is_ready cells g.A.Cells.row_limit r.schema
-    c.self.invariant.holds.layout r.origin r.next c.make_room_in.new.series.keys.items new
-    c.make_room_in.ensures.made.sized op of number room)
-    c.make_room_in.ensures.made.room
+    record {
+      unchanged = search rules;
+      room = on_ok_weaker c.make_room_in.result (λ room. λ _. room_told g.A.Cells.is_ready cells g.A.Cells.row_limit
+          r.schema c.self.invariant.holds.layout r.origin r.next c.make_room_in.new.series.keys.items new
+          c.make_room_in.ensures.made.sized op of number room) c.make_room_in.ensures.made.room;
+    }

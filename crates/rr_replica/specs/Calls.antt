@@ -1,0 +1,48 @@
+-- What calls make of a replica.
+use Rattle.std.specs.Prelude.{◌≡◌, ◌<◌, ◌≤◌, ◌↔◌, ℕ, Bool, Result, Err, IfOk, IsOk, OnOk}
+use Rattle.std.specs.declared.alloc.AllocError.{AllocError}
+use Rattle.rr_text.specs.declared.limits.TheConstants.{MAX_NUMBER}
+use Rattle.rr_cells.specs.declared.op.Op.{Op}
+use Rattle.rr_cells.specs.Operations.{accepts, step}
+use Rattle.rr_cells.specs.ReplicaState.{ReplicaState}
+use Rattle.rr_replica.specs.declared.fault.PutFault.{PutFault}
+use Rattle.rr_replica.specs.declared.fault.PutFault.TheVariants as why
+use Rattle.rr_replica.specs.declared.reading.Reading.{Reading}
+use Rattle.rr_replica.specs.Becomes.{Becomes}
+use Rattle.rr_replica.specs.ReplicaWithRoom.{ReplicaWithRoom, replica_state, IsReadyFor}
+
+-- a replica holds what it held, under the same keys
+pub record HoldsTheSame (old new : ReplicaWithRoom) : Type 0 where
+  pub unchanged : replica_state new ≡ replica_state old
+  pub keys : new.keys ≡ old.keys
+
+-- room was made for an operation, unless memory ran out, and no cell changed
+pub record MakesReady {X : Type 0} (op : Op) (old new : ReplicaWithRoom) (result : Result X AllocError) : Type 0 where
+  pub unchanged : replica_state new ≡ replica_state old
+  pub room : OnOk result (IsReadyFor new op)
+
+-- an operation was taken, if it is one that the replica takes, or memory ran out and nothing changed; where there was
+-- room, it doesn't run out
+pub record Takes (op : Op) (old new : ReplicaWithRoom) (result : Result Bool AllocError) : Type 0 where
+  pub accepted : IfOk result (λ done. done ≡ accepts (replica_state old) op)
+  pub state : Becomes (replica_state old) (step (replica_state old) op) (replica_state new) result
+  pub room : IsReadyFor old op → IsOk result
+
+-- a reading of the replica's origin, under the next number or a later one
+pub record IsNextReading (r : ReplicaWithRoom) (x : Reading) : Type 0 where
+  pub origin : x.origin ≡ r.origin
+  pub number : r.next ≤ x.number
+
+-- the state of a replica became another one under the same keys, or memory ran out and it didn't; if there was this
+-- room, memory doesn't run out
+pub record BecomesInRoom (HadRoom : Type 0) (after : ReplicaState) (old new : ReplicaWithRoom)
+    (result : Result (Unit {0}) AllocError) : Type 0 where
+  pub state : Becomes (replica_state old) after (replica_state new) result
+  pub keys : new.keys ≡ old.keys
+  pub room : HadRoom → IsOk result
+
+-- a sample was put under the next number, which is the answer, or refused; as `NumbersSpent` if none is left
+pub record PutsNext {S : Type 0} (next : ℕ) (old after new : S) (result : Result ℕ PutFault) : Type 0 where
+  pub number : IfOk result (λ given. given ≡ next)
+  pub state : Becomes old after new result
+  pub spent : (result ≡ Err why.NumbersSpent) ↔ (MAX_NUMBER < next)
