@@ -7,14 +7,14 @@ use Rattle.rr_cells.specs.declared.op.Op.{Op}
 use Rattle.rr_cells.specs.declared.op.Op.TheVariants as op
 use Rattle.rr_cells.specs.ReplicaState.{ReplicaState}
 use Rattle.rr_cells.specs.Operations.{accepts, key_of}
-use Rattle.rr_replica.specs.Numbered.{knows, put_of, with_key}
+use Rattle.rr_replica.specs.Numbered.{knows, put_of}
 use Rattle.rr_replica.proofs.NumberedLemmas.{knows_at, with_new}
 use Rattle.rr_cells.specs.declared.sample.Sample.{Sample}
 use Rattle.rr_cells.specs.declared.cell.Cell.{Cell}
 use Rattle.rr_desk.specs.declared.change.Change.{Change}
 use Rattle.rr_desk.specs.declared.change.NumberedCell.{NumberedCell}
 use Rattle.rr_desk.specs.declared.change.Change.TheVariants.{Put, Join, AddKey}
-use Rattle.rr_desk.specs.Changes.{Names, AreNamed, IsChangeOf, IsOwn, joins_in, names_after, names_at, ops_in, ops_of}
+use Rattle.rr_desk.specs.Changes.{Names, AreNamed, IsChangeOf, IsOwn, joins_in, names_at, ops_in}
 use Rattle.rr_desk.proofs.ChangesLemmas.{names_at-more, names_at-origin, ops_in-more}
 use Rattle.rr_desk.proofs.PrefixLemmas.{prefix_refl, prefix_trans}
 

@@ -15,7 +15,7 @@ use Rattle.rr_desk.specs.declared.rule.View.{View}
 use Rattle.rr_desk.specs.declared.change.Change.{Change}
 use Rattle.rr_desk.specs.declared.change.Change.TheVariants.{Edition}
 use Rattle.rr_desk.specs.declared.shown.CopyState.{CopyState}
-use Rattle.rr_desk.specs.Changes.{Names, copy_after, copy_names, front_after, names_at, ops_in}
+use Rattle.rr_desk.specs.Changes.{copy_after, copy_names, front_after, names_at, ops_in}
 use Rattle.rr_desk.specs.Editions.{BookFront, flat}
 use Rattle.rr_desk.specs.Rule.{newcomer, IsShown, Fits, Keeps, Sees, keeper_of, with_published, telling_of, with_news}
 use Rattle.rr_desk.proofs.PrefixLemmas.{prefix_refl, prefix_append, prefix_trans, prefix_nil, prefix_of_nil}

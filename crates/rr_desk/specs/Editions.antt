@@ -1,6 +1,6 @@
 -- The book of a desk: for each edition the operations that it adds. It exists in proofs alone, but for the number of
 -- editions.
-use Rattle.std.specs.Prelude.{ℕ, ◌≡◌, ◌==◌, true, List, [], ◌∷◌, ◌++◌, length, drop, MatchBool}
+use Rattle.std.specs.Prelude.{ℕ, ◌≡◌, ◌==◌, true, List, [], ◌∷◌, ◌++◌, length, drop, MatchBool, Result, OnErr, OnOk}
 use Rattle.logbook.specs.Pages.{Cell, Step, View, Book, Named}
 use Rattle.rr_cells.specs.declared.op.Op.{Op}
 
@@ -25,6 +25,12 @@ head_of b = record { tracked = true; key = 0; book = b }
 -- an edition of this batch was added to all that had been seen, where the number found is the one expected
 abbrev pub Adds : List Op → Step (List Op) → View (List Op) ℕ → ℕ → View (List Op) ℕ → Type 0
 Adds batch s v found w = MatchBool (found == s.old) (w.0 ≡ v.0 ++ batch ∷ []) (Unit {0})
+
+-- a book got an edition, with which it has these operations, or it was refused one and is as before
+pub record Reaches {E : Type 0} (ops : List Op) (old new : BookFront) (result : Result (Unit {0}) E) : Type 0 where
+  pub reached : OnOk result (flat new.editions ≡ ops)
+  pub desk : new.desk ≡ old.desk
+  pub unchanged : OnErr result (new ≡ old)
 
 -- what a list has after a beginning as long as this one
 abbrev pub after : List Op → List Op → List Op

@@ -42,6 +42,11 @@ pub record HasSeenMore (old new : ReaderState) : Type 0 where
   pub schema : new.schema ≡ old.schema
   pub list : IsPrefix old.list new.list
 
+-- a reader has seen more, and this is said of its answer
+pub record AnswersSeen (old new : ReaderState) (Answer : Type 0) : Type 0 where
+  pub seen : HasSeenMore old new
+  pub answer : Answer
+
 -- a reader of this desk and schema that has seen at least this
 pub record HasSeen (b : Book) (s : Layout) (list : List Op) (r : ReaderState) : Type 0 where
   pub desk : r.desk ≡ b

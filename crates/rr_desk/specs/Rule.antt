@@ -108,7 +108,12 @@ pub record Saw (v w : View) : Type 0 where
   pub seen : IsPrefix v.seen w.seen
   pub same : IsSameSeat v w
 
--- and with what was told
+-- it was read under the rule, and this is said of the answer
+pub record Reads (v w : View) (Answer : Type 0) : Type 0 where
+  pub seen : Saw v w
+  pub answer : Answer
+
+-- what is seen begins with what was seen, and with what was told
 pub record Looked (v w : View) : Type 0 where
   pub seen : IsPrefix v.seen w.seen
   pub told : IsPrefix v.told w.seen

@@ -1,11 +1,13 @@
 -- What clauses read of the writer of the two copies.
-use Rattle.std.specs.Prelude.{◌≡◌, ◌++◌, ◌≤◌, ℕ, List, [], drop, fold}
+use Rattle.std.specs.Prelude.{◌≡◌, ◌++◌, ◌≤◌, ℕ, false, List, [], Result, drop, fold}
+use Rattle.std.specs.declared.alloc.AllocError.{AllocError}
 use Rattle.left_right.specs.declared.Absorb.{Ghosts}
 use Rattle.left_right.specs.declared.writer.Writer.{Writer}
 use Rattle.left_right.specs.Sides.{view}
 use Rattle.rr_cells.specs.declared.op.Op.{Op}
 use Rattle.rr_cells.specs.Operations.{step}
 use Rattle.rr_text.specs.declared.limits.TheConstants.{MAX_READERS}
+use Rattle.rr_replica.specs.Becomes.{Becomes}
 use Rattle.rr_replica.specs.ReplicaWithRoom.{ReplicaWithRoom, replica_state}
 use Rattle.rr_desk.specs.declared.change.Change.{Change}
 use Rattle.rr_desk.specs.declared.rule.View.{View}
@@ -37,11 +39,23 @@ pub record IsSameWriter {T O V P A S : Type 0} {g : Ghosts T O S} (old new : Wri
   pub shown : new.desk.shown ≡ old.desk.shown
   pub pending : changes new ≡ changes old
 
--- a writer shows a copy of a replica
-pub record ShowsCopy {D P A S : Type 0} {g : Ghosts (Shown D) Change S} (replica : ReplicaWithRoom)
+-- a writer shows a copy of a replica, and these changes are pending
+pub record ShowsCopy {D P A S : Type 0} {g : Ghosts (Shown D) Change S} (replica : ReplicaWithRoom) (cs : List Change)
     (w : Writer (Shown D) Change View P A S g) : Type 0 where
   pub state : replica_state w.desk.shown.value.replica ≡ replica_state replica
   pub keys : w.desk.shown.value.replica.keys ≡ replica.keys
+  pub pending : changes w ≡ cs
+
+-- and they are not opened for readers yet
+pub record IsUnopened {D P A S : Type 0} {g : Ghosts (Shown D) Change S} (replica : ReplicaWithRoom)
+    (w : Writer (Shown D) Change View P A S g) : Type 0 where
+  pub copy : ShowsCopy replica [] w
+  pub unopened : w.desk.shown.value.started ≡ false
+
+-- operations were applied to a replica, or memory ran out and none was; its keys stay
+pub record AppliesOps (ops : List Op) (old new : ReplicaWithRoom) (result : Result (Unit {0}) AllocError) : Type 0 where
+  pub state : Becomes (replica_state old) (fold step (replica_state old) ops) (replica_state new) result
+  pub keys : new.keys ≡ old.keys
 
 module _ {D P A S : Type 0} {g : Ghosts (Shown D) Change S} where
   -- the names of the copy that is shown, by which the changes are read

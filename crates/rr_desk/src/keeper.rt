@@ -1,7 +1,6 @@
 //! The keeper of a desk, which alone writes.
-ghost use Rattle.std.specs.Prelude.{◌≡◌, ◌<◌, ◌≤◌, ◌↔◌, All, Err, IfOk, OnErr, OnOk, map, take, drop};
+ghost use Rattle.std.specs.Prelude.{◌≡◌, ◌<◌, ◌↔◌, Err, OnOk, map, take, drop};
 ghost use Rattle.std.specs.FinMap.{entries, len};
-ghost use Rattle.rr_text.specs.declared.limits.TheConstants.{MAX_NUMBER};
 ghost use Rattle.rr_io.specs.Stream.{HasFailed, KeepsFailures, WritesFront, WritesWhole};
 ghost use Rattle.rr_cells.specs.CellBounds.{IsCellOf};
 ghost use Rattle.rr_cells.specs.ReplicaState.{IsReplicaState};
@@ -9,8 +8,8 @@ ghost use Rattle.rr_cells.specs.Listing.{at_most_usize, owned_cell};
 ghost use Rattle.rr_cells.specs.declared.op.Op.TheVariants.{Join};
 ghost use Rattle.rr_replica.specs.ReplicaWithRoom.{replica_state};
 ghost use Rattle.rr_replica.specs.Horizon.{keeps};
-ghost use Rattle.rr_delta.specs.Difference.{IsSummary};
-ghost use Rattle.rr_delta.specs.Names.{IsNameOf, name_in, named_version, owned_name, versions_of};
+ghost use Rattle.rr_delta.specs.Listed.{ListsNames};
+ghost use Rattle.rr_delta.specs.Names.{name_in, named_version, versions_of};
 ghost use Rattle.rr_delta.specs.Summaries.{cells_after};
 ghost use Rattle.rr_page.specs.Version.{latest};
 ghost use Rattle.rr_snapshot.specs.Snapshot.{snapshot_text};
@@ -18,6 +17,7 @@ ghost use Rattle.rr_snapshot.specs.declared.heading.TheConstants.{MAX_SNAPSHOT_C
 ghost use Rattle.rr_desk.specs.Points.{with_put};
 ghost use Rattle.rr_desk.specs.KeeperState.{cells_of, own_replica, with_all_published, with_pending};
 ghost use Rattle.rr_replica.specs.Becomes.{Becomes};
+ghost use Rattle.rr_replica.specs.Calls.{PutsNext};
 
 use crate::change::Change;
 use crate::copies::Copies;
@@ -99,9 +99,8 @@ impl<A: Cells> Keeper<A> {
     /// the order in which they came before. Where the row is in memory only the list of pending
     /// operations grows.
     pub fn put(&mut self, key: &SeriesKey, time: i64, value: i64) -> Result<u64, PutFault>
-        ensures number { IfOk result (λ number. number ≡ self.old.next) }
-        ensures state { Becomes self.old (with_put self.old key.now time value) self.new result }
-        ensures spent { (result ≡ Err PutFault.NumbersSpent) ↔ (MAX_NUMBER < self.old.next) }
+        ensures { PutsNext self.old.next self.old (with_put self.old key.now time value) self.new
+            result }
     {
         if self.copies.replica().next_number() > MAX_NUMBER {
             return Err(PutFault::NumbersSpent);
@@ -123,9 +122,8 @@ impl<A: Cells> Keeper<A> {
         time: i64,
         value: i64,
     ) -> Result<u64, PutFault>
-        ensures number { IfOk result (λ number. number ≡ self.old.next) }
-        ensures state { Becomes self.old (with_put self.old key time value) self.new result }
-        ensures spent { (result ≡ Err PutFault.NumbersSpent) ↔ (MAX_NUMBER < self.old.next) }
+        ensures { PutsNext self.old.next self.old (with_put self.old key time value) self.new
+            result }
     {
         let number = self.copies.replica().next_number();
         if number > MAX_NUMBER {
@@ -197,11 +195,8 @@ impl<A: Cells> Keeper<A> {
     /// names; fewer where there are fewer. They are those of all operations, pending ones too. The
     /// cost is that of [`rr_delta::summary`].
     pub fn names(&self, alloc: Global, from: usize, count: usize) -> Result<Vec<Name>, AllocError>
-        ensures listed { IfOk result (λ names.
-            map owned_name names.items ≡ take count (drop from (versions_of (cells_of self.now)))) }
-        ensures ascending { IfOk result (λ names. IsSummary (map owned_name names.items)) }
-        ensures of_schema { IfOk result (λ names. All (λ n. IsNameOf self.now.schema (owned_name n))
-            names.items) }
+        ensures { ListsNames self.now.schema
+            (take count (drop from (versions_of (cells_of self.now)))) result }
     {
         summary(alloc, self.copies.replica(), from, count)
     }
@@ -215,12 +210,9 @@ impl<A: Cells> Keeper<A> {
         after: Option<&Name>,
         count: usize,
     ) -> Result<Vec<Name>, AllocError>
-        ensures listed { IfOk result (λ names. map owned_name names.items
-            ≡ take count (map named_version (cells_after (name_in after.entry)
-            (entries (cells_of self.now))))) }
-        ensures ascending { IfOk result (λ names. IsSummary (map owned_name names.items)) }
-        ensures of_schema { IfOk result (λ names. All (λ n. IsNameOf self.now.schema (owned_name n))
-            names.items) }
+        ensures { ListsNames self.now.schema
+            (take count (map named_version (cells_after (name_in after.entry)
+            (entries (cells_of self.now))))) result }
     {
         summary_after(alloc, self.copies.replica(), after, count)
     }

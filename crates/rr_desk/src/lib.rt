@@ -37,6 +37,7 @@ mod order;
 mod points;
 mod read_handle;
 mod reader;
+mod reader_count;
 mod reading;
 mod rule;
 mod samples;

@@ -1,14 +1,13 @@
 //! Opening a desk.
-ghost use Rattle.std.specs.Prelude.{◌≡◌, ◌↔◌, All, [], true, length, IfErr, IfOk, OnOk};
+ghost use Rattle.std.specs.Prelude.{◌≡◌, ◌↔◌, All, [], length, IfErr, IfOk, OnOk};
 ghost use Rattle.left_right.specs.Sides.{view};
-ghost use Rattle.rr_cells.specs.ReplicaState.{IsReplicaState};
 ghost use Rattle.rr_cells.specs.Operations.{joins_of};
 ghost use Rattle.rr_replica.specs.ReplicaWithRoom.{replica_state};
 ghost use Rattle.rr_desk.specs.Editions.{flat};
 ghost use Rattle.rr_desk.specs.Rule.{keeper_of};
 ghost use Rattle.rr_desk.specs.KeeperState.{keeper_at_opening};
-ghost use Rattle.rr_desk.specs.ReaderState.{HasSeen};
-ghost use Rattle.rr_desk.specs.Writers.{changes, IsReaderCount, IsSameWriter, ShowsCopy};
+ghost use Rattle.rr_desk.specs.ReaderState.{HasSeen, IsSeated};
+ghost use Rattle.rr_desk.specs.Writers.{IsReaderCount, IsSameWriter, ShowsCopy};
 ghost use Rattle.rr_desk.specs.declared.fault.OpenFault.TheVariants.{BadCount};
 
 use crate::book::Editions;
@@ -19,6 +18,7 @@ use crate::keeper::Keeper;
 use crate::order::Order;
 use crate::read_handle::look;
 use crate::reader::Reader;
+use crate::reader_count::ReaderCount;
 use crate::started::{discard, started_writer};
 use crate::writing::{DeskWriter, introduce};
 use rr_archive::Cells;
@@ -34,8 +34,7 @@ fn seat<A: Cells>(
     alloc: Global,
     schema: &Schema,
 ) -> Result<Reader<A>, AllocError>
-    requires joined { (view writer.old.desk.place).joined ≡ true }
-    requires schema { (view writer.old.desk.place).schema ≡ schema.now }
+    requires { IsSeated (view writer.old.desk.place) schema.now }
     ensures same { IsSameWriter writer.old writer.new }
     ensures seen { IfOk result (HasSeen (view writer.old.desk.place).desk schema.now
         (view writer.old.desk.place).seen) }
@@ -59,8 +58,7 @@ fn seats<A: Cells>(
     schema: &Schema,
     readers: usize,
 ) -> Result<Vec<Reader<A>>, AllocError>
-    requires joined { (view writer.old.desk.place).joined ≡ true }
-    requires schema { (view writer.old.desk.place).schema ≡ schema.now }
+    requires { IsSeated (view writer.old.desk.place) schema.now }
     ensures same { IsSameWriter writer.old writer.new }
     ensures count { IfOk result (λ all. length all.items ≡ readers) }
     ensures seen { IfOk result (λ all. All (HasSeen (view writer.old.desk.place).desk schema.now
@@ -78,23 +76,20 @@ fn begin<A: Cells, R: Wait>(
     alloc: Global,
     rt: &R,
     replica: &Replica<A>,
-    readers: usize,
+    readers: ReaderCount,
 ) -> Result<(DeskWriter<A>, Editions, Vec<Reader<A>>), AllocError>
-    requires readers { IsReaderCount readers }
-    ensures holds { OnOk result (IsReplicaState (replica_state replica.now)) }
     ensures view { IfOk result (λ r. view r.0.desk.place
         ≡ keeper_of (replica_state replica.now) r.1.desk) }
-    ensures copy { IfOk result (λ r. ShowsCopy replica.now r.0) }
+    ensures copy { IfOk result (λ r. ShowsCopy replica.now [] r.0) }
     ensures front { IfOk result (λ r. r.0.desk.shown.value.front ≡ r.1) }
-    ensures pending { IfOk result (λ r. changes r.0 ≡ []) }
     ensures book { IfOk result (λ r. flat r.1.editions ≡ joins_of replica.now.cells) }
-    ensures count { IfOk result (λ r. length r.2.items ≡ readers) }
+    ensures count { IfOk result (λ r. length r.2.items ≡ readers.value) }
     ensures seen { IfOk result (λ r.
         All (HasSeen r.1.desk replica.now.schema (joins_of replica.now.cells)) r.2.items) }
 {
     let mut book = Editions::open();
     let mut writer = started_writer(alloc, rt, replica, readers, &mut book)?;
-    match seats(&mut writer, alloc, replica.schema(), readers) {
+    match seats(&mut writer, alloc, replica.schema(), readers.value) {
         Ok(all) => Ok((writer, book, all)),
         Err(_) => Err(discard(writer, rt)),
     }
@@ -122,6 +117,9 @@ pub fn open<A: Cells, R: Wait>(
     if readers == 0 || readers > MAX_READERS {
         return Err((OpenFault::BadCount, replica));
     }
+    let readers = ReaderCount { value: readers };
+    // The proof needs what the replica keeps to, which `schema` ensures.
+    let _schema = replica.schema();
     match begin(alloc, rt, &replica, readers) {
         Ok((writer, book, all)) => {
             let horizon = Horizon::of(&replica);

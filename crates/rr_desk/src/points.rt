@@ -1,8 +1,6 @@
 //! Points, put field by field.
-ghost use Rattle.std.specs.Prelude.{◌≡◌, ℕ, ◌<◌, ◌≤◌, ◌↔◌, length, take, None, Err, IfOk, IfErr, OnErr, OnOk, IsTrue, IsFalse, unwrap_or};
-ghost use Rattle.rr_text.specs.declared.limits.TheConstants.{MAX_FIELDS, MAX_NUMBER};
-ghost use Rattle.rr_key.specs.Making.{making_fault};
-ghost use Rattle.rr_point.specs.Key.{HasKeys, IsWritable, key_text, names_of};
+ghost use Rattle.std.specs.Prelude.{◌≡◌, ℕ, ◌↔◌, length, take, Err, IsTrue, IsFalse, unwrap_or};
+ghost use Rattle.rr_point.specs.Key.{IsWritable, key_text};
 ghost use Rattle.rr_point.specs.Point.{point_view};
 ghost use Rattle.rr_desk.specs.KeeperState.{own_replica};
 ghost use Rattle.rr_replica.specs.Becomes.{Becomes};
@@ -16,7 +14,7 @@ use std::alloc::AllocError;
 use std::mem::replace;
 
 impl<A: Cells> Keeper<A> {
-    ghost use Rattle.rr_replica.specs.Writing.{is_ahead, lacks_numbers};
+    ghost use Rattle.rr_replica.specs.Writing.{is_ahead, lacks_numbers, CanPutField, CanPutFields, PutsFields, WritesFields};
     ghost use Rattle.rr_desk.specs.Points.{put_before, with_put, with_puts};
 
     /// Puts a sample of each field of a point, in the line's order, under as many numbers, and
@@ -34,21 +32,16 @@ impl<A: Cells> Keeper<A> {
         lead: Option<u64>,
     ) -> Result<u32, WriteFault>
         requires { IsWritable (point_view point.now) }
-        ensures count { IfOk result (λ count. count ≡ length point.now.fields.items) }
-        ensures put { OnOk result (self.new
-            ≡ with_puts self.old (point_view point.now) (unwrap_or point.now.time now)
-            (point_view point.now).fields) }
-        ensures ahead { (result ≡ Err WriteFault.AheadOfClock)
-            ↔ IsTrue (is_ahead point.now.time now lead) }
-        ensures spent { (result ≡ Err WriteFault.NumbersSpent)
-            ↔ (IsFalse (is_ahead point.now.time now lead)
-            × IsTrue (lacks_numbers (own_replica self.old) (length point.now.fields.items))) }
-        ensures refused { IfErr result (λ fault. self.new
+        ensures { WritesFields (is_ahead point.now.time now lead)
+            (lacks_numbers (own_replica self.old) (length point.now.fields.items))
+            (length point.now.fields.items)
+            (with_puts self.old (point_view point.now) (unwrap_or point.now.time now)
+            (point_view point.now).fields)
+            self.new
+            (λ fault. self.new
             ≡ with_puts self.old (point_view point.now)
             (unwrap_or point.now.time now) (take (put_before fault)
-            (point_view point.now).fields)) }
-        ensures fields_left { (put : ℕ) → result ≡ Err (WriteFault.Memory put)
-            → put < length point.now.fields.items }
+            (point_view point.now).fields)) result }
     {
         if is_ahead(point.time, now, lead) {
             return Err(WriteFault::AheadOfClock);
@@ -94,18 +87,14 @@ impl<A: Cells> Keeper<A> {
 
     /// Puts a sample of each field of a point.
     fn put_fields(&mut self, point: &Point<'_>, time: i64) -> Result<u32, WriteFault>
-        requires keyed { HasKeys (point_view point.now) }
-        requires few_fields { length point.now.fields.items ≤ MAX_FIELDS }
-        requires numbers_left { IsFalse (lacks_numbers (own_replica self.old)
-            (length point.now.fields.items)) }
-        ensures count { IfOk result (λ count. count ≡ length point.now.fields.items) }
-        ensures put { OnOk result (self.new
-            ≡ with_puts self.old (point_view point.now) time (point_view point.now).fields) }
-        ensures refused { IfErr result (λ fault. (put : ℕ) × (fault ≡ WriteFault.Memory put)
+        requires { CanPutFields (own_replica self.old) (point_view point.now)
+            (length point.now.fields.items) }
+        ensures { PutsFields (length point.now.fields.items)
+            (with_puts self.old (point_view point.now) time (point_view point.now).fields)
+            self.new
+            (λ fault. (put : ℕ) × (fault ≡ WriteFault.Memory put)
             × (self.new ≡ with_puts self.old (point_view point.now) time
-            (take put (point_view point.now).fields))) }
-        ensures fields_left { (put : ℕ) → result ≡ Err (WriteFault.Memory put)
-            → put < length point.now.fields.items }
+            (take put (point_view point.now).fields))) result }
     {
         let mut put = 0;
         for field in &point.fields {
@@ -124,8 +113,7 @@ impl<A: Cells> Keeper<A> {
         time: i64,
         field: &Field<'_>,
     ) -> Result<(), AllocError>
-        requires keyed { making_fault (names_of (point_view point.now) field.now.key.now) ≡ None }
-        requires number_left { self.old.next ≤ MAX_NUMBER }
+        requires { CanPutField (point_view point.now) field.now.key.now self.old.next }
         ensures state { Becomes self.old
             (with_put self.old (key_text (point_view point.now) field.now.key.now) time
             field.now.value)

@@ -3,7 +3,7 @@ ghost use Rattle.std.specs.Prelude.{◌≡◌, true, IfOk, MatchResult};
 ghost use mathlib.Core.List.{IsPrefix};
 ghost use Rattle.left_right.specs.Sides.{view};
 ghost use Rattle.rr_desk.specs.Editions.{flat};
-ghost use Rattle.rr_desk.specs.Rule.{Looked, Saw};
+ghost use Rattle.rr_desk.specs.Rule.{Looked, Reads};
 
 use crate::book::Front;
 use crate::rule::{Enters, Published, View};
@@ -34,9 +34,8 @@ pub fn look_for<A: Cells>(
 ) -> (ReadHandle<A>, Result<(), AllocError>)
     requires joined { (view seat.place).joined ≡ true }
     requires desk { front.now.desk ≡ (view seat.place).desk }
-    ensures seen { Saw (view seat.place) (view result.0.place) }
-    ensures front_seen { IfOk result.1 (λ _. IsPrefix (flat front.now.editions)
-        (view result.0.place).seen) }
+    ensures { Reads (view seat.place) (view result.0.place)
+        (IfOk result.1 (λ _. IsPrefix (flat front.now.editions) (view result.0.place).seen)) }
 {
     match seat.enter_as::<Enters>() {
         Ok(reading) => {

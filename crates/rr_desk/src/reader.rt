@@ -1,17 +1,15 @@
 //! The readers of a desk, which never wait.
-ghost use Rattle.std.specs.Prelude.{◌≡◌, All, IfOk, IsTrue, map};
-ghost use Rattle.std.specs.FinMap.{entries, is_sorted};
+ghost use Rattle.std.specs.Prelude.{◌≡◌, IfOk, map};
+ghost use Rattle.std.specs.FinMap.{entries};
 ghost use mathlib.Core.List.{IsPrefix};
 ghost use Rattle.rr_schema.specs.Schema.{IsLayout};
-ghost use Rattle.rr_cells.specs.CellNames.{cell_name_cmp};
-ghost use Rattle.rr_cells.specs.CellBounds.{IsCellOf};
-ghost use Rattle.rr_cells.specs.Listing.{owned_cell};
 ghost use Rattle.rr_replica.specs.Keys.{keys_after, lent_key};
 ghost use Rattle.rr_delta.specs.Names.{owned_name};
 ghost use Rattle.rr_delta.specs.Difference.{IsSummary, newer_cells};
+ghost use Rattle.rr_delta.specs.Listed.{ListsCells};
 ghost use Rattle.rr_fetch.specs.Answers.{cells_text};
 ghost use Rattle.rr_fetch.specs.Requests.{request_view, IsFetchable};
-ghost use Rattle.rr_desk.specs.ReaderState.{cells_seen, HasSeenMore};
+ghost use Rattle.rr_desk.specs.ReaderState.{cells_seen, AnswersSeen};
 ghost use Rattle.rr_desk.specs.Gate.{LetsPass};
 
 use crate::fault::FetchFault;
@@ -83,8 +81,8 @@ impl<A: Cells> Reader<A> {
     /// of, and with what it had seen before.
     pub fn learn(&mut self, note: Note) -> Result<(), AllocError>
         requires { note.desk ≡ self.old.desk }
-        ensures seen { HasSeenMore self.old self.new }
-        ensures note_seen { IfOk result (λ _. IsPrefix note.list self.new.list) }
+        ensures { AnswersSeen self.old self.new
+            (IfOk result (λ _. IsPrefix note.list self.new.list)) }
     {
         let Some(seat) = self.seat.take() else {
             unreachable!();
@@ -99,9 +97,8 @@ impl<A: Cells> Reader<A> {
     /// that of [`rr_fetch::answer_text`], here and through a gate.
     pub fn fetch(&mut self, alloc: Global, request: &Request) -> Result<Vec<u8>, AllocError>
         requires { IsFetchable self.old.schema (request_view request.now) }
-        ensures seen { HasSeenMore self.old self.new }
-        ensures answer { IfOk result (λ text. text.items
-            ≡ cells_text self.new.schema (cells_seen self.new) (request_view request.now)) }
+        ensures { AnswersSeen self.old self.new (IfOk result (λ text. text.items
+            ≡ cells_text self.new.schema (cells_seen self.new) (request_view request.now))) }
     {
         let mut gate = Open;
         match self.fetch_through(alloc, request, &mut gate) {
@@ -119,9 +116,8 @@ impl<A: Cells> Reader<A> {
         gate: &mut G,
     ) -> Result<Vec<u8>, FetchFault>
         requires { IsFetchable self.old.schema (request_view request.now) }
-        ensures seen { HasSeenMore self.old self.new }
-        ensures answer { IfOk result (λ text. text.items
-            ≡ cells_text self.new.schema (cells_seen self.new) (request_view request.now)) }
+        ensures read { AnswersSeen self.old self.new (IfOk result (λ text. text.items
+            ≡ cells_text self.new.schema (cells_seen self.new) (request_view request.now))) }
         ensures gate { LetsPass result (G.calls gate.old) (G.calls gate.new) }
     {
         let Some(seat) = self.seat.take() else {
@@ -138,13 +134,8 @@ impl<A: Cells> Reader<A> {
     /// it only where keys have less than eight cells in the mean, or memory is short.
     pub fn difference(&mut self, alloc: Global, summary: &[Name]) -> Result<Vec<Cell>, AllocError>
         requires { IsSummary (map owned_name summary.now) }
-        ensures seen { HasSeenMore self.old self.new }
-        ensures newer { IfOk result (λ cells. map owned_cell cells.items
-            ≡ newer_cells (map owned_name summary.now) (entries (cells_seen self.new))) }
-        ensures ascending { IfOk result (λ cells.
-            IsTrue (is_sorted cell_name_cmp (map owned_cell cells.items))) }
-        ensures of_schema { IfOk result (λ cells.
-            All (λ c. IsCellOf self.new.schema (owned_cell c)) cells.items) }
+        ensures { AnswersSeen self.old self.new (ListsCells self.new.schema
+            (newer_cells (map owned_name summary.now) (entries (cells_seen self.new))) result) }
     {
         let Some(seat) = self.seat.take() else {
             unreachable!();
@@ -164,9 +155,8 @@ impl<A: Cells> Reader<A> {
         after: Option<&SeriesKey>,
         count: usize,
     ) -> Result<Vec<SeriesKey>, AllocError>
-        ensures seen { HasSeenMore self.old self.new }
-        ensures listed { IfOk result (λ keys. keys.items
-            ≡ keys_after (lent_key after.entry) count (entries (cells_seen self.new))) }
+        ensures { AnswersSeen self.old self.new (IfOk result (λ keys. keys.items
+            ≡ keys_after (lent_key after.entry) count (entries (cells_seen self.new)))) }
     {
         let Some(seat) = self.seat.take() else {
             unreachable!();

@@ -1,18 +1,16 @@
 //! What readers make of the copies, each under the rule.
-ghost use Rattle.std.specs.Prelude.{◌≡◌, true, All, IfOk, IfSome, IsTrue, map};
-ghost use Rattle.std.specs.FinMap.{entries, is_sorted};
+ghost use Rattle.std.specs.Prelude.{◌≡◌, true, IfOk, IfSome, map};
+ghost use Rattle.std.specs.FinMap.{entries};
 ghost use Rattle.left_right.specs.Sides.{view};
-ghost use Rattle.rr_cells.specs.CellNames.{cell_name_cmp};
-ghost use Rattle.rr_cells.specs.CellBounds.{IsCellOf};
-ghost use Rattle.rr_cells.specs.Listing.{owned_cell};
 ghost use Rattle.rr_cells.specs.Operations.{outcome_of};
 ghost use Rattle.rr_replica.specs.Keys.{keys_after, lent_key};
 ghost use Rattle.rr_replica.specs.ReplicaWithRoom.{replica_state};
 ghost use Rattle.rr_delta.specs.Names.{owned_name};
 ghost use Rattle.rr_delta.specs.Difference.{IsSummary, newer_cells};
+ghost use Rattle.rr_delta.specs.Listed.{ListsCells};
 ghost use Rattle.rr_fetch.specs.Answers.{cells_text};
 ghost use Rattle.rr_fetch.specs.Requests.{request_view, IsFetchable};
-ghost use Rattle.rr_desk.specs.Rule.{Saw};
+ghost use Rattle.rr_desk.specs.Rule.{Reads};
 ghost use Rattle.rr_desk.specs.Gate.{LetsPass};
 
 use crate::fault::FetchFault;
@@ -36,10 +34,10 @@ pub fn answer<A: Cells, G: Gate>(
 ) -> (ReadHandle<A>, Result<Vec<u8>, FetchFault>)
     requires joined { (view seat.place).joined ≡ true }
     requires fetchable { IsFetchable (view seat.place).schema (request_view request.now) }
-    ensures seen { Saw (view seat.place) (view result.0.place) }
-    ensures answer { IfOk result.1 (λ text. text.items ≡ cells_text (view seat.place).schema
+    ensures read { Reads (view seat.place) (view result.0.place)
+        (IfOk result.1 (λ text. text.items ≡ cells_text (view seat.place).schema
         (outcome_of (view seat.place).schema (view result.0.place).seen)
-        (request_view request.now)) }
+        (request_view request.now))) }
     ensures gate { LetsPass result.1 (G.calls gate.old) (G.calls gate.new) }
 {
     let reading = match seat.enter_as::<Enters>() {
@@ -81,14 +79,9 @@ pub fn lacking<A: Cells>(
 ) -> (ReadHandle<A>, Result<Vec<Cell>, AllocError>)
     requires joined { (view seat.place).joined ≡ true }
     requires summary { IsSummary (map owned_name summary.now) }
-    ensures seen { Saw (view seat.place) (view result.0.place) }
-    ensures newer { IfOk result.1 (λ cells. map owned_cell cells.items
-        ≡ newer_cells (map owned_name summary.now)
-        (entries (outcome_of (view seat.place).schema (view result.0.place).seen))) }
-    ensures ascending { IfOk result.1 (λ cells.
-        IsTrue (is_sorted cell_name_cmp (map owned_cell cells.items))) }
-    ensures of_schema { IfOk result.1 (λ cells.
-        All (λ c. IsCellOf (view seat.place).schema (owned_cell c)) cells.items) }
+    ensures { Reads (view seat.place) (view result.0.place)
+        (ListsCells (view seat.place).schema (newer_cells (map owned_name summary.now)
+        (entries (outcome_of (view seat.place).schema (view result.0.place).seen))) result.1) }
 {
     match seat.enter_as::<Enters>() {
         Ok(reading) => match quick_copy(alloc, &reading.get().replica) {
@@ -110,9 +103,9 @@ pub fn listed<A: Cells>(
     count: usize,
 ) -> (ReadHandle<A>, Result<Vec<SeriesKey>, AllocError>)
     requires joined { (view seat.place).joined ≡ true }
-    ensures seen { Saw (view seat.place) (view result.0.place) }
-    ensures listed { IfOk result.1 (λ keys. keys.items ≡ keys_after (lent_key after.entry) count
-        (entries (outcome_of (view seat.place).schema (view result.0.place).seen))) }
+    ensures { Reads (view seat.place) (view result.0.place)
+        (IfOk result.1 (λ keys. keys.items ≡ keys_after (lent_key after.entry) count
+        (entries (outcome_of (view seat.place).schema (view result.0.place).seen)))) }
 {
     match seat.enter_as::<Enters>() {
         Ok(reading) => {

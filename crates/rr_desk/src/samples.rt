@@ -1,5 +1,5 @@
 //! Samples of series that are known, put one after the other.
-ghost use Rattle.std.specs.Prelude.{◌≡◌, ℕ, ◌≤◌, ◌↔◌, length, map, take, Err, IfOk, IfErr, OnErr, OnOk, IsTrue, IsFalse, unwrap_or};
+ghost use Rattle.std.specs.Prelude.{◌≡◌, ℕ, ◌≤◌, length, map, take, unwrap_or};
 ghost use Rattle.rr_text.specs.declared.limits.TheConstants.{MAX_FIELDS};
 ghost use Rattle.rr_desk.specs.KeeperState.{own_replica};
 ghost use Rattle.rr_replica.specs.Becomes.{Becomes};
@@ -22,7 +22,7 @@ pub struct KeyedValue {
 }
 
 impl<A: Cells> Keeper<A> {
-    ghost use Rattle.rr_replica.specs.Writing.{is_ahead, lacks_numbers};
+    ghost use Rattle.rr_replica.specs.Writing.{is_ahead, lacks_numbers, PutsFields, WritesFields};
     ghost use Rattle.rr_desk.specs.Points.{keyed_value, put_before, with_put, with_samples};
 
     /// Puts a sample of each value, in order, as [`Keeper::write`] puts those of a point whose
@@ -38,15 +38,13 @@ impl<A: Cells> Keeper<A> {
         lead: Option<u64>,
     ) -> Result<u32, WriteFault>
         requires { length values.now ≤ MAX_FIELDS }
-        ensures count { IfOk result (λ count. count ≡ length values.now) }
-        ensures put { OnOk result (self.new
-            ≡ with_samples self.old (unwrap_or time now) (map keyed_value values.now)) }
-        ensures ahead { (result ≡ Err WriteFault.AheadOfClock) ↔ IsTrue (is_ahead time now lead) }
-        ensures spent { (result ≡ Err WriteFault.NumbersSpent) ↔ (IsFalse (is_ahead time now lead)
-            × IsTrue (lacks_numbers (own_replica self.old) (length values.now))) }
-        ensures refused { IfErr result (λ fault. self.new
+        ensures { WritesFields (is_ahead time now lead)
+            (lacks_numbers (own_replica self.old) (length values.now)) (length values.now)
+            (with_samples self.old (unwrap_or time now) (map keyed_value values.now))
+            self.new
+            (λ fault. self.new
             ≡ with_samples self.old (unwrap_or time now)
-            (take (put_before fault) (map keyed_value values.now))) }
+            (take (put_before fault) (map keyed_value values.now))) result }
     {
         if is_ahead(time, now, lead) {
             return Err(WriteFault::AheadOfClock);
@@ -60,11 +58,12 @@ impl<A: Cells> Keeper<A> {
     /// Puts a sample of each value.
     fn put_values(&mut self, values: &[KeyedValue], time: i64) -> Result<u32, WriteFault>
         requires { length values.now ≤ MAX_FIELDS }
-        ensures count { IfOk result (λ count. count ≡ length values.now) }
-        ensures put { OnOk result (self.new ≡ with_samples self.old time
-            (map keyed_value values.now)) }
-        ensures refused { IfErr result (λ fault. (put : ℕ) × (fault ≡ WriteFault.Memory put)
-            × (self.new ≡ with_samples self.old time (take put (map keyed_value values.now)))) }
+        ensures { PutsFields (length values.now)
+            (with_samples self.old time (map keyed_value values.now))
+            self.new
+            (λ fault. (put : ℕ) × (fault ≡ WriteFault.Memory put)
+            × (self.new ≡ with_samples self.old time (take put (map keyed_value values.now))))
+            result }
     {
         let mut put = 0;
         for value in values {

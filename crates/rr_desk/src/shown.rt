@@ -13,18 +13,13 @@ use std::collections::LinkedList;
 use std::marker::Model;
 
 impl NumberedSample {
-    ghost use Rattle.std.specs.Prelude.{◌≡◌, fold, OnErr, OnOk};
-    ghost use Rattle.rr_cells.specs.Operations.{step};
     ghost use Rattle.rr_replica.specs.Numbered.{puts_at};
-    ghost use Rattle.rr_replica.specs.ReplicaWithRoom.{replica_state};
+    ghost use Rattle.rr_desk.specs.Writers.{AppliesOps};
 
     /// Puts it to a replica, if that takes it. After an error nothing has changed.
     fn put_to<A: Cells>(&self, replica: &mut Replica<A>) -> Result<(), AllocError>
-        ensures put { OnOk result (replica_state replica.new
-            ≡ fold step (replica_state replica.old) (puts_at replica.old.keys replica.old.origin
-            self.now.series self.now.number self.now.time self.now.value)) }
-        ensures unchanged { OnErr result (replica_state replica.new ≡ replica_state replica.old) }
-        ensures keys { replica.new.keys ≡ replica.old.keys }
+        ensures { AppliesOps (puts_at replica.old.keys replica.old.origin self.now.series
+            self.now.number self.now.time self.now.value) replica.old replica.new result }
     {
         replica.put_numbered(self.series, self.number, self.time, self.value)
     }
@@ -36,19 +31,14 @@ impl NumberedSample {
 }
 
 impl NumberedCell {
-    ghost use Rattle.std.specs.Prelude.{◌≡◌, fold, OnErr, OnOk};
-    ghost use Rattle.rr_cells.specs.Operations.{step};
-    ghost use Rattle.rr_replica.specs.ReplicaWithRoom.{replica_state};
     ghost use Rattle.rr_desk.specs.Changes.{joins_in};
+    ghost use Rattle.rr_desk.specs.Writers.{AppliesOps};
 
     /// Joins it into a replica that knows its key, if that takes it. After an error nothing has
     /// changed.
     fn join_to<A: Cells>(&self, replica: &mut Replica<A>) -> Result<(), AllocError>
-        ensures joined { OnOk result (replica_state replica.new
-            ≡ fold step (replica_state replica.old)
-            (joins_in replica.old.keys self.now.cell.value)) }
-        ensures unchanged { OnErr result (replica_state replica.new ≡ replica_state replica.old) }
-        ensures keys { replica.new.keys ≡ replica.old.keys }
+        ensures { AppliesOps (joins_in replica.old.keys self.now.cell.value) replica.old
+            replica.new result }
     {
         if !replica.knows(&self.cell.key) {
             return Ok(());

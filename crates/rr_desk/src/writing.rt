@@ -6,7 +6,7 @@ ghost use Rattle.rr_cells.specs.Cells.{IsTrimmed};
 ghost use Rattle.rr_cells.specs.Operations.{joins_of, AllAccepted};
 ghost use Rattle.rr_replica.specs.ReplicaWithRoom.{replica_state};
 ghost use Rattle.rr_desk.specs.Changes.{names_at, ops_in};
-ghost use Rattle.rr_desk.specs.Editions.{after, flat, Begins};
+ghost use Rattle.rr_desk.specs.Editions.{after, flat, Begins, Reaches};
 ghost use Rattle.rr_desk.specs.Rule.{with_news, keeper_of};
 ghost use Rattle.rr_desk.specs.Writers.{all_ops, changes, pending_ops, shown_names, HasPublished, IsPublishable, IsSameWriter, IsUnpublished};
 ghost use Rattle.rr_desk.specs.declared.change.Change.TheVariants.{Edition};
@@ -76,30 +76,18 @@ pub fn publish<A: Cells, R: Wait>(
     publish_batch::<A, Brand, R>(rt, writer)
 }
 
-/// `reach`, of the operations that are picked.
+/// Adds an edition to the book of all that it lacks, which are the operations picked: it then has
+/// what is published, and after it all that is pending.
 fn reach_batch<A: Cells, K: Batch>(
     book: &mut Editions,
     writer: &DeskWriter<A>,
 ) -> Result<(), AllocError>
     requires batch { K.batch ≡ after (flat book.old.editions) (all_ops writer.now) }
     requires begins { Begins (flat book.old.editions) (all_ops writer.now) }
-    ensures reached { OnOk result (flat book.new.editions ≡ all_ops writer.now) }
-    ensures desk { book.new.desk ≡ book.old.desk }
-    ensures unchanged { OnErr result (book.new ≡ book.old) }
+    ensures { Reaches (all_ops writer.now) book.old book.new result }
 {
     let _ = writer;
     book.add::<K>()
-}
-
-/// Adds an edition to the book of all that it lacks: it has what is published, and then all that is
-/// pending.
-fn reach<A: Cells>(book: &mut Editions, writer: &DeskWriter<A>) -> Result<(), AllocError>
-    requires begins { Begins (flat book.old.editions) (all_ops writer.now) }
-    ensures reached { OnOk result (flat book.new.editions ≡ all_ops writer.now) }
-    ensures desk { book.new.desk ≡ book.old.desk }
-    ensures unchanged { OnErr result (book.new ≡ book.old) }
-{
-    reach_batch::<A, Brand>(book, writer)
 }
 
 /// Makes the pending changes ready to be published, unless they are so already (`ended`): the book
@@ -129,7 +117,7 @@ pub fn end_edition<A: Cells>(
     if ended {
         return Ok(());
     }
-    reach(book, &*writer)?;
+    reach_batch::<A, Brand>(book, &*writer)?;
     if writer.append(Change::Edition(book.front())).is_err() {
         return Err(AllocError);
     }

@@ -10,11 +10,14 @@ use Rattle.rr_desk.proofs.read_handle.look_for.Goals as goal
 pub enter_as-requires : goal.enter_as-requires
 enter_as-requires g c x = sees _ _ _
 
-pub returns-then-newer-clause-front_seen : goal.returns-then-newer-clause-front_seen
-returns-then-newer-clause-front_seen g c =
+pub returns-then-newer : goal.returns-then-newer
+returns-then-newer g c =
     let x = c.in-Ok.reading.part.value in
     let book : flat x.front.editions ≡ (view c.in-Ok.reading.place).seen = search rules in
     let left : view c.leave-seat.result.place ≡ view c.in-Ok.reading.place = search rules in
     let begins : IsPrefix c.args.front.now.editions x.front.editions = search rules in
-    subst (λ (l : List Op). IsPrefix (flat c.args.front.now.editions) l) (book ∙ sym (ap (λ v. v.seen) left))
-    (flat-prefix c.args.front.now.editions x.front.editions begins)
+    record {
+      seen = search rules;
+      answer = subst (λ (l : List Op). IsPrefix (flat c.args.front.now.editions) l) (book ∙ sym (ap (λ v. v.seen) left))
+          (flat-prefix c.args.front.now.editions x.front.editions begins);
+    }

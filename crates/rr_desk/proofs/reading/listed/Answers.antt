@@ -1,4 +1,3 @@
-use Rattle.std.proofs.Common.{rules}
 use Rattle.rr_desk.proofs.RuleLemmas.{sees}
 use Rattle.rr_desk.proofs.reading.listed.Goals as goal
 

@@ -15,15 +15,15 @@ pub returns-clause-pending : goal.returns-clause-pending
 returns-clause-pending g c =
     let w = c.args.writer.now in
     let n = c.append.new.self in
-    let more : changes n ≡ changes w ++ Edition c.reach.new.book ∷ [] = search rules in
+    let more : changes n ≡ changes w ++ Edition c.reach_batch.new.book ∷ [] = search rules in
     let names = names_of w.desk.shown.value.replica in
-    ap (ops_in names) more ∙ ops_in-end_edition names (changes w) c.reach.new.book
+    ap (ops_in names) more ∙ ops_in-end_edition names (changes w) c.reach_batch.new.book
 
 pub returns-clause-ready : goal.returns-clause-ready
 returns-clause-ready g c =
     let w = c.args.writer.now in
     let n = c.append.new.self in
-    let b = c.reach.new.book in
+    let b = c.reach_batch.new.book in
     let desk = sym c.append.ensures.desk in
     let more : changes n ≡ changes w ++ Edition b ∷ [] = search rules in
     let whole : flat b.editions ≡ (view w.desk.place).seen
@@ -38,6 +38,6 @@ pub returns-clause-names : goal.returns-clause-names
 returns-clause-names g c =
     let w = c.args.writer.now in
     let n = c.append.new.self in
-    let more : changes n ≡ changes w ++ Edition c.reach.new.book ∷ [] = search rules in
+    let more : changes n ≡ changes w ++ Edition c.reach_batch.new.book ∷ [] = search rules in
     let names = names_of w.desk.shown.value.replica in
-    ap (names_at names) more ∙ names_at-more names (changes w) (Edition c.reach.new.book)
+    ap (names_at names) more ∙ names_at-more names (changes w) (Edition c.reach_batch.new.book)

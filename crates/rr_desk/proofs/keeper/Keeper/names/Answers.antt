@@ -5,13 +5,14 @@ use Rattle.rr_delta.specs.Names.{IsNameOf, owned_name, versions_of}
 use Rattle.rr_desk.specs.KeeperState.{cells_of}
 use Rattle.rr_desk.proofs.keeper.Keeper.names.Goals as goal
 
-pub returns-clause-listed : goal.returns-clause-listed
-returns-clause-listed g c =
-    subst (λ (m : Cells). IfOk c.summary.result (λ names. map owned_name names.items
-    ≡ take c.args.count (drop c.args.from (versions_of m))))
-    (c.replica.ensures.cells ∙ ap cells_of c.self.view_is) c.summary.ensures.listed
-
-pub returns-clause-of_schema : goal.returns-clause-of_schema
-returns-clause-of_schema g c =
-    subst (λ (s : Layout). IfOk c.summary.result (λ names. All (λ n. IsNameOf s (owned_name n)) names.items))
-    (c.replica.ensures.schema ∙ ap (λ k. k.schema) c.self.view_is) c.summary.ensures.of_schema
+pub returns : goal.returns
+returns g c = record {
+  listed =
+      subst (λ (m : Cells). IfOk c.summary.result (λ names. map owned_name names.items
+      ≡ take c.args.count (drop c.args.from (versions_of m))))
+      (c.replica.ensures.cells ∙ ap cells_of c.self.view_is) c.summary.ensures.listed;
+  ascending = c.summary.ensures.ascending;
+  of_schema =
+      subst (λ (s : Layout). IfOk c.summary.result (λ names. All (λ n. IsNameOf s (owned_name n)) names.items))
+      (c.replica.ensures.schema ∙ ap (λ k. k.schema) c.self.view_is) c.summary.ensures.of_schema;
+}

@@ -7,14 +7,15 @@ use Rattle.rr_delta.specs.Summaries.{cells_after}
 use Rattle.rr_desk.specs.KeeperState.{cells_of}
 use Rattle.rr_desk.proofs.keeper.Keeper.names_after.Goals as goal
 
-pub returns-clause-listed : goal.returns-clause-listed
-returns-clause-listed g c =
-    subst (λ (m : Cells). IfOk c.summary_after.result
-    (λ names. map owned_name names.items ≡ take c.args.count
-    (map named_version (cells_after (name_in c.args.after) (entries m)))))
-    (c.replica.ensures.cells ∙ ap cells_of c.self.view_is) c.summary_after.ensures.listed
-
-pub returns-clause-of_schema : goal.returns-clause-of_schema
-returns-clause-of_schema g c =
-    subst (λ (s : Layout). IfOk c.summary_after.result (λ names. All (λ n. IsNameOf s (owned_name n)) names.items))
-    (c.replica.ensures.schema ∙ ap (λ k. k.schema) c.self.view_is) c.summary_after.ensures.of_schema
+pub returns : goal.returns
+returns g c = record {
+  listed =
+      subst (λ (m : Cells). IfOk c.summary_after.result
+      (λ names. map owned_name names.items ≡ take c.args.count
+      (map named_version (cells_after (name_in c.args.after) (entries m)))))
+      (c.replica.ensures.cells ∙ ap cells_of c.self.view_is) c.summary_after.ensures.listed;
+  ascending = c.summary_after.ensures.ascending;
+  of_schema =
+      subst (λ (s : Layout). IfOk c.summary_after.result (λ names. All (λ n. IsNameOf s (owned_name n)) names.items))
+      (c.replica.ensures.schema ∙ ap (λ k. k.schema) c.self.view_is) c.summary_after.ensures.of_schema;
+}

@@ -14,18 +14,22 @@ use Rattle.rr_desk.specs.KeeperState.{KeeperState}
 use Rattle.rr_desk.proofs.PointsLemmas.{with_puts-more}
 use Rattle.rr_desk.proofs.keeper.Keeper.put_fields.Goals as goal
 
-pub put_field-requires-clause-keyed : goal.put_field-requires-clause-keyed
-put_field-requires-clause-keyed g c =
+pub put_field-requires : goal.put_field-requires
+put_field-requires g c =
     let p = point_view c.args.point.now in
     let any : Field = record { key = record { ref_ptr = (0, 0); now = [] }; value = pos 0 } in
     let Keyed : List ℕ × ℤ → Type 0 = λ field. making_fault (names_of p field.0) ≡ None in
     let keyed : AllByRecursion Keyed (map field_view c.deref-field-items.result.now) =
     subst (λ (items : List Field). AllByRecursion Keyed (map field_view items))
     (sym c.deref-field-items.ensures.value) c.requires.keyed in
-    field_at Keyed field_view c.deref-field-items.result.now c.loop-field.field-index any keyed c.loop-field-test.true
+    record {
+      keyed = field_at Keyed field_view c.deref-field-items.result.now c.loop-field.field-index any keyed
+          c.loop-field-test.true;
+      number_left = search rules;
+    }
 
-pub returns-then-is_err-clause-refused : goal.returns-then-is_err-clause-refused
-returns-then-is_err-clause-refused g c =
+pub returns-then-is_err : goal.returns-then-is_err
+returns-then-is_err g c =
     let p = point_view c.args.point.now in
     let back = to_z-of_z {w = w64} {z = c.args.time} (search rules) in
     let same = failed c.put_field.result c.put_field.ensures.state.unchanged c.if-is_err.ensures.value in
@@ -36,7 +40,12 @@ returns-then-is_err-clause-refused g c =
     ∙ ap (λ (items : List Field). take c.loop-field.field-index (map field_view items))
     c.deref-field-items.ensures.value
     ∙ ap (λ (k : ℕ). take k (map field_view c.args.point.now.fields.items)) (sym c.loop-field.invariant.counted) in
-    (c.loop-field.put, refl, same ∙ state ∙ ap (with_puts c.args.self.now p c.args.time) first)
+    record {
+      count = search rules;
+      put = search rules;
+      refused = (c.loop-field.put, refl, same ∙ state ∙ ap (with_puts c.args.self.now p c.args.time) first);
+      fields_left = search rules;
+    }
 
 pub loop-field-preserved : goal.loop-field-preserved
 loop-field-preserved g c =

@@ -1,5 +1,5 @@
 -- The values so far are put, each one under the next number.
-use Rattle.std.proofs.Common.{◌≡◌, ℕ, ◌+◌, ◌∷◌, ◌++◌, [], map, take, refl, sym, ap, ◌∙◌, arith, rules, to_z, of_z}
+use Rattle.std.proofs.Common.{◌≡◌, ℕ, ◌+◌, ◌∷◌, ◌++◌, [], map, take, refl, sym, ap, ◌∙◌, arith, rules}
 use Rattle.std.proofs.Math.Facts.{to_z-of_z}
 use Rattle.std.proofs.lemmas.List.{map_more}
 use Rattle.std.specs.Int.{w64}
@@ -10,8 +10,8 @@ use Rattle.rr_desk.specs.KeeperState.{KeeperState}
 use Rattle.rr_desk.proofs.PointsLemmas.{with_samples-more}
 use Rattle.rr_desk.proofs.keeper.Keeper.put_values.Goals as goal
 
-pub returns-then-is_err-clause-refused : goal.returns-then-is_err-clause-refused
-returns-then-is_err-clause-refused g c =
+pub returns-then-is_err : goal.returns-then-is_err
+returns-then-is_err g c =
     let values = c.args.values.now in
     let back = to_z-of_z {w = w64} {z = c.args.time} (search rules) in
     let same = failed c.put_value.result c.put_value.ensures.state.unchanged c.if-is_err.ensures.value in
@@ -20,7 +20,12 @@ returns-then-is_err-clause-refused g c =
     ≡ take c.loop-value.put (map keyed_value values) =
     take-view keyed_value c.loop-value.value-index values
     ∙ ap (λ (k : ℕ). take k (map keyed_value values)) (sym c.loop-value.invariant.counted) in
-    (c.loop-value.put, refl, same ∙ state ∙ ap (with_samples c.args.self.now c.args.time) first)
+    record {
+      count = search rules;
+      put = search rules;
+      refused = (c.loop-value.put, refl, same ∙ state ∙ ap (with_samples c.args.self.now c.args.time) first);
+      fields_left = search rules;
+    }
 
 pub loop-value-preserved : goal.loop-value-preserved
 loop-value-preserved g c =

@@ -3,7 +3,7 @@ use Rattle.left_right.specs.Sides.{view}
 use Rattle.rr_desk.specs.Changes.{names_of, ops_in}
 use Rattle.rr_desk.specs.Editions.{after, flat}
 use Rattle.rr_desk.specs.Writers.{changes}
-use Rattle.rr_desk.proofs.writing.reach.Given as goal
+use Rattle.rr_desk.proofs.writing.end_edition.Given as goal
 
 abbrev pub ghosts-reach_batch : goal.ghosts-reach_batch
 ghosts-reach_batch g a = record {
