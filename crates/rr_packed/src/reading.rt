@@ -31,18 +31,17 @@ pub(crate) struct Source {
     ghost in_slot: { place < MAX_STEPS },
 }
 
-/// Whether a contribution is of one sample of a place.
-fn is_of_one(contribution: &Contribution, place: u32) -> bool
-    requires { place < MAX_STEPS }
+/// Whether a contribution is of one sample, of the place that a source has.
+fn is_of_one(contribution: &Contribution, source: &Source) -> bool
     ensures { IsTrue result → contribution.now
-        ≡ of_one (slot_sample contribution.now.version place contribution.now.last_time
+        ≡ of_one (slot_sample contribution.now.version source.now.place contribution.now.last_time
         contribution.now.last_value) }
 {
     contribution.count == 1
         && contribution.sum == i128::from(contribution.last_value)
         && contribution.min == contribution.last_value
         && contribution.max == contribution.last_value
-        && contribution.mask == 1 << place
+        && contribution.mask == 1 << source.place
 }
 
 /// Whether readings are the same as others.
@@ -72,13 +71,13 @@ impl Reading {
         if place >= MAX_STEPS || number < 1 || number > MAX_NUMBER {
             return None;
         }
-        if !is_of_one(&contribution, place) {
-            return None;
-        }
         let source = Source {
             origin: entry.origin,
             place,
         };
+        if !is_of_one(&contribution, &source) {
+            return None;
+        }
         let reading = Reading {
             number,
             time: contribution.last_time,
