@@ -1,7 +1,6 @@
 //! The keeper of a desk, which alone writes.
-ghost use Rattle.std.specs.Prelude.{◌≡◌, ◌<◌, ◌↔◌, Err, OnOk, map, take, drop};
+ghost use Rattle.std.specs.Prelude.{◌≡◌, ◌<◌, ◌↔◌, Err, map, take, drop};
 ghost use Rattle.std.specs.FinMap.{entries, len};
-ghost use Rattle.rr_io.specs.Stream.{HasFailed, KeepsFailures, WritesFront, WritesWhole};
 ghost use Rattle.rr_cells.specs.CellBounds.{IsCellOf};
 ghost use Rattle.rr_cells.specs.ReplicaState.{IsReplicaState};
 ghost use Rattle.rr_cells.specs.Listing.{at_most_usize, owned_cell};
@@ -12,6 +11,7 @@ ghost use Rattle.rr_delta.specs.Listed.{ListsNames};
 ghost use Rattle.rr_delta.specs.Names.{name_in, named_version, versions_of};
 ghost use Rattle.rr_delta.specs.Summaries.{cells_after};
 ghost use Rattle.rr_page.specs.Version.{latest};
+ghost use Rattle.rr_snapshot.specs.Saving.{Saves};
 ghost use Rattle.rr_snapshot.specs.Snapshot.{snapshot_text};
 ghost use Rattle.rr_snapshot.specs.declared.heading.TheConstants.{MAX_SNAPSHOT_CELLS};
 ghost use Rattle.rr_desk.specs.Points.{with_put};
@@ -220,14 +220,11 @@ impl<A: Cells> Keeper<A> {
     /// Writes the cells of all operations, pending ones too, as a snapshot: see
     /// `rr_snapshot::save`, whose cost it has.
     pub fn save<W: Write>(&self, alloc: Global, output: &mut Counted<W>) -> Result<(), SaveFault>
-        ensures whole { OnOk result (WritesWhole W.contents output.old output.new
-            (snapshot_text latest self.now.schema self.now.origin (entries (cells_of self.now)))) }
-        ensures front { WritesFront W.contents output.old output.new
-            (snapshot_text latest self.now.schema self.now.origin (entries (cells_of self.now))) }
+        ensures saves { Saves W.contents output.old output.new
+            (snapshot_text latest self.now.schema self.now.origin (entries (cells_of self.now)))
+            result }
         ensures too_many { (result ≡ Err SaveFault.TooManyCells)
             ↔ (MAX_SNAPSHOT_CELLS < len (cells_of self.now)) }
-        ensures failures_never_fall { KeepsFailures output.old output.new }
-        ensures failed { result ≡ Err SaveFault.WriteFailed → HasFailed output.old output.new }
     {
         rr_snapshot::save(alloc, self.copies.replica(), output)
     }

@@ -23,10 +23,10 @@ returns g c =
           before = _;
           after = _;
           calls = refl;
-          whole = save.whole;
-          front = save.front;
+          whole = save.saves.whole;
+          front = save.saves.front;
           too_many = save.too_many;
-          failed = save.failed;
+          failed = save.saves.failed;
         },
       )),
     )

@@ -14,7 +14,7 @@ returns-in_err-save g c =
 
 pub returns : goal.returns
 returns g c =
-    let whole = rw (c.new-output.ensures.inner, c.new.ensures.items) at c.in_ok-save.ensures.whole in
+    let whole = rw (c.new-output.ensures.inner, c.new.ensures.items) at c.in_ok-save.ensures.saves.whole in
     saved (replica_state c.args.replica.now) c.in_ok-save.ensures.holds c.into_inner.result
     (λ many. let no = c.in_ok-save.ensures.too_many.1 many in absurd cc)
     (ap (λ (v : Vec ℕ). v.items) c.into_inner.ensures ∙ whole)

@@ -1,4 +1,4 @@
-use Rattle.std.proofs.Common.{◌≡◌, ◌<◌, ◌↔◌, Err, OnOk, subst, ap, ◌∙◌}
+use Rattle.std.proofs.Common.{rules, ◌≡◌, ◌<◌, ◌↔◌, Err, OnOk, subst, ap, ◌∙◌}
 use Rattle.std.specs.FinMap.{entries, len}
 use Rattle.std.specs.Io.KnownBytes.{Appends}
 use Rattle.rr_io.specs.Counted.{inner_of}
@@ -12,18 +12,20 @@ use Rattle.rr_snapshot.specs.declared.heading.TheConstants.{MAX_SNAPSHOT_CELLS}
 use Rattle.rr_desk.specs.KeeperState.{cells_of, own_replica}
 use Rattle.rr_desk.proofs.keeper.Keeper.save.Goals as goal
 
-pub returns-clause-whole : goal.returns-clause-whole
-returns-clause-whole g c =
-    subst (λ (h : ReplicaState). OnOk c.save.result
-    (Appends (g.W.Write.contents (inner_of c.args.output.now)) (g.W.Write.contents (inner_of c.save.new.output))
-    (snapshot_text latest h.schema h.origin (entries h.cells))))
-    (c.replica.ensures.state ∙ ap own_replica c.self.view_is) c.save.ensures.whole
-
-pub returns-clause-front : goal.returns-clause-front
-returns-clause-front g c =
-    subst (λ (h : ReplicaState). AppendsPrefix (g.W.Write.contents (inner_of c.args.output.now))
-    (g.W.Write.contents (inner_of c.save.new.output)) (snapshot_text latest h.schema h.origin (entries h.cells)))
-    (c.replica.ensures.state ∙ ap own_replica c.self.view_is) c.save.ensures.front
+pub returns-clause-saves : goal.returns-clause-saves
+returns-clause-saves g c = record {
+  whole =
+      subst (λ (h : ReplicaState). OnOk c.save.result
+      (Appends (g.W.Write.contents (inner_of c.args.output.now)) (g.W.Write.contents (inner_of c.save.new.output))
+      (snapshot_text latest h.schema h.origin (entries h.cells))))
+      (c.replica.ensures.state ∙ ap own_replica c.self.view_is) c.save.ensures.saves.whole;
+  front =
+      subst (λ (h : ReplicaState). AppendsPrefix (g.W.Write.contents (inner_of c.args.output.now))
+      (g.W.Write.contents (inner_of c.save.new.output)) (snapshot_text latest h.schema h.origin (entries h.cells)))
+      (c.replica.ensures.state ∙ ap own_replica c.self.view_is) c.save.ensures.saves.front;
+  failures_never_fall = search rules;
+  failed = search rules;
+}
 
 pub returns-clause-too_many : goal.returns-clause-too_many
 returns-clause-too_many g c =
