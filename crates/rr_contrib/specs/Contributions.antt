@@ -1,8 +1,9 @@
 -- Contributions: their order, and how one grows by a sample.
-use Rattle.std.specs.Prelude.{ℕ, ℤ, ◌+◌, ◌+ℤ◌, ◌^◌, int_lt, bit_or, Option, Some, None, if◌then◌else◌}
+use Rattle.std.specs.Prelude.{ℕ, ℤ, ◌<◌, ◌≤◌, ◌+◌, ◌+ℤ◌, ◌^◌, int_lt, bit_or, Option, Some, None, if◌then◌else◌}
 use Rattle.std.specs.Int.{int_min, int_max}
 use Rattle.std.specs.declared.cmp.Ordering.{Ordering}
 use Rattle.std.specs.Ordering.{ordering_then, nat_cmp, int_cmp}
+use Rattle.rr_text.specs.declared.limits.TheConstants.{MAX_NUMBER, MAX_STEPS}
 use Rattle.rr_contrib.specs.declared.contribution.Contribution.{Contribution}
 
 -- one sample, as its slot sees it: its number, its place in the slot, its time in nanoseconds and its value
@@ -14,6 +15,12 @@ pub record SlotSample : Type 0 where
 
 abbrev pub slot_sample : ℕ → ℕ → ℤ → ℤ → SlotSample
 slot_sample number place time value = record { number = number; place = place; time = time; value = value }
+
+-- the number and the place of a sample, within their limits
+pub record IsNumbered (number place : ℕ) : Type 0 where
+  pub some_number : 1 ≤ number
+  pub known_number : number ≤ MAX_NUMBER
+  pub fits : place < MAX_STEPS
 
 -- by the fields, in their order
 abbrev pub contribution_cmp : Contribution → Contribution → Ordering

@@ -1,7 +1,7 @@
 //! The contribution of one origin to one slot.
 ghost use Rattle.std.specs.Prelude.{◌≡◌, ◌<◌, ◌≤◌, ◌^◌, pos, negsuc, ◌+ℤ◌, ◌*ℤ◌, ◌≤ℤ◌, List, ◌∷◌, [], length, count_ones, IsTrue, ◌↔◌, int_lt, if◌then◌else◌};
 ghost use Rattle.std.specs.Int.{bit_at};
-ghost use Rattle.rr_contrib.specs.Contributions.{SlotSample, slot_sample, of_one, with_sample};
+ghost use Rattle.rr_contrib.specs.Contributions.{IsNumbered, SlotSample, slot_sample, of_one, with_sample};
 ghost use Rattle.rr_contrib.specs.Samples.{contribution_of};
 ghost use Rattle.rr_contrib.specs.Validity.{IsBounded, IsValid, StartsValid, KeepsValid};
 
@@ -76,9 +76,7 @@ impl Contribution {
     ///
     /// The number is from 1 to 2^40, the place below 128.
     pub fn first(number: u64, place: u32, time: i64, value: i64) -> Contribution
-        requires some_number { 1 ≤ number }
-        requires known_number { number ≤ MAX_NUMBER }
-        requires place { place < MAX_STEPS }
+        requires { IsNumbered number place }
         ensures value { result ≡ of_one (slot_sample number place time value) }
         ensures samples { contribution_of (slot_sample number place time value ∷ []) ≡ Some result }
         ensures valid { StartsValid (slot_sample number place time value) result }
@@ -110,9 +108,7 @@ impl Contribution {
     /// The sample is newer than all that this contribution sums up: its number is greater than the
     /// version.
     pub fn add(&mut self, number: u64, place: u32, time: i64, value: i64)
-        requires some_number { 1 ≤ number }
-        requires known_number { number ≤ MAX_NUMBER }
-        requires place { place < MAX_STEPS }
+        requires sample { IsNumbered number place }
         requires newer { self.old.version < number }
         requires counted { self.old.count ≤ self.old.version }
         requires low { (pos self.old.count *ℤ self.old.min) ≤ℤ self.old.sum }

@@ -30,14 +30,14 @@ pub total_with-sum-requires-clause-low : goal.total_with-sum-requires-clause-low
 total_with-sum-requires-clause-low c =
     let sum : to_z w128 (of_z w128 c.args.self.now.sum) ≡ c.args.self.now.sum = search rules in
     let few : c.args.self.now.count ≤ 2 ^ 40 = omega
-    (arith, c.requires.counted, c.requires.newer, c.requires.known_number) in
+    (arith, c.requires.counted, c.requires.newer, c.requires.sample.known_number) in
     rw sum (low_by _ _ (times_near c.args.self.now.count c.args.self.now.min few (search rules)) c.requires.low)
 
 pub total_with-sum-requires-clause-high : goal.total_with-sum-requires-clause-high
 total_with-sum-requires-clause-high c =
     let sum : to_z w128 (of_z w128 c.args.self.now.sum) ≡ c.args.self.now.sum = search rules in
     let few : c.args.self.now.count ≤ 2 ^ 40 = omega
-    (arith, c.requires.counted, c.requires.newer, c.requires.known_number) in
+    (arith, c.requires.counted, c.requires.newer, c.requires.sample.known_number) in
     rw sum (high_by _ _ (times_near c.args.self.now.count c.args.self.now.max few (search rules)) c.requires.high)
 
 pub returns-clause-value : goal.returns-clause-value
@@ -50,7 +50,7 @@ returns-clause-value c =
     ≡ cond (int_lt c.args.time c.args.self.now.last_time) c.args.self.now.last_value c.args.value = search rules in
     let mask : bit_or c.args.self.now.mask (1 * 2 ^ c.args.place % 2 ^ width)
     ≡ bit_or c.args.self.now.mask (2 ^ c.args.place) =
-    ap (bit_or c.args.self.now.mask) (one_shl c.args.place width c.requires.place) in
+    ap (bit_or c.args.self.now.mask) (one_shl c.args.place width c.requires.sample.fits) in
     λ i. record {
       version = c.args.number;
       count = c.args.self.now.count + 1;
@@ -72,4 +72,4 @@ pub returns-clause-valid : goal.returns-clause-valid
 returns-clause-valid c =
     let x = slot_sample c.args.number c.args.place c.args.time c.args.value in
     subst (λ r. KeepsValid x c.args.self.now r) (sym (returns-clause-value c))
-    (keeps_valid c.args.self.now x c.requires.some_number c.requires.known_number c.requires.newer)
+    (keeps_valid c.args.self.now x c.requires.sample.some_number c.requires.sample.known_number c.requires.newer)

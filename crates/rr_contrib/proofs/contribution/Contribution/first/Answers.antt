@@ -14,7 +14,7 @@ returns-clause-value c =
     let sum : to_z w128 (of_z w128 c.from.result) ≡ c.args.value = search rules in
     let value : to_z w64 (of_z w64 c.args.value) ≡ c.args.value = search rules in
     let time : to_z w64 (of_z w64 c.args.time) ≡ c.args.time = search rules in
-    let mask : 1 * 2 ^ c.args.place % 2 ^ width ≡ 2 ^ c.args.place = one_shl c.args.place width c.requires.place in
+    let mask : 1 * 2 ^ c.args.place % 2 ^ width ≡ 2 ^ c.args.place = one_shl c.args.place width c.requires.fits in
     λ i. record {
       version = c.args.number;
       count = 1;
