@@ -1,7 +1,7 @@
 -- The cells that a ring holds: the entries of its live slots.
-use Rattle.std.specs.Prelude.{ℕ, ℤ, Bool, not, ◌||◌, Option}
+use Rattle.std.specs.Prelude.{ℕ, ℤ, ◌≤ℤ◌, Bool, not, ◌||◌, Option}
 use Rattle.rr_join.specs.Horizon.{is_above}
-use Rattle.rr_archive.specs.CellSlots.{CellSlot}
+use Rattle.rr_archive.specs.CellSlots.{CellSlot, IsSlot}
 use Rattle.rr_archive.specs.Cells.{ArchiveCells}
 use Rattle.rr_archive.specs.LiveRows.{cells_by, IsArchiveStateBy}
 use Rattle.rr_ring.specs.declared.ring.Ring.{Ring}
@@ -16,3 +16,9 @@ IsArchiveState newest count ring = IsArchiveStateBy ring.rows newest count (row_
 -- whether a put or a join at a cell slot takes no memory: the cell slot is past the horizon, or there is room
 abbrev pub is_ready_in : Option ℤ → Ring → CellSlot → Bool
 is_ready_in newest ring p = not (is_above ring.rows newest p.slot) || has_room ring p.slot p.origin
+
+-- two slots, the second of which is not before the first
+pub record AreInOrder (one next : ℤ) : Type 0 where
+  pub first : IsSlot one
+  pub second : IsSlot next
+  pub later : one ≤ℤ next

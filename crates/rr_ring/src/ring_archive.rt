@@ -6,7 +6,7 @@ ghost use Rattle.rr_join.specs.Horizon.{is_above};
 ghost use Rattle.rr_archive.specs.CellSlots.{cell_slot, IsSlot};
 ghost use Rattle.rr_archive.specs.Codes.{coded_rows};
 ghost use Rattle.rr_archive.specs.Stored.{CanTake, ChangesCell};
-ghost use Rattle.rr_ring.specs.RingCells.{IsArchiveState, cells_in, is_ready_in};
+ghost use Rattle.rr_ring.specs.RingCells.{AreInOrder, IsArchiveState, cells_in, is_ready_in};
 
 use crate::ring::Ring;
 use rr_archive::change::Change;
@@ -34,9 +34,7 @@ pub struct RingArchive {
 
 /// How many of `rows` rows are past the horizon as the newest slot moves on to a later one.
 fn rows_passed(newest: i64, top: i64, rows: u32) -> u32
-    requires newest { IsSlot newest }
-    requires top { IsSlot top }
-    requires later { newest ≤ℤ top }
+    requires { AreInOrder newest top }
     ensures at_most { result ≤ rows }
     ensures before { (newest +ℤ pos result) ≤ℤ top }
     ensures all { result < rows → newest +ℤ pos result ≡ top }
