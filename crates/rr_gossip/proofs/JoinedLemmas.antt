@@ -33,7 +33,7 @@ use Rattle.rr_gossip.specs.declared.puller.Stage.TheVariants.{Waiting, Done}
 use Rattle.rr_gossip.specs.Fault.{as_body}
 use Rattle.rr_gossip.specs.Frame.{content_text, frame_text}
 use Rattle.rr_gossip.specs.Pages.{AreLeft}
-use Rattle.rr_gossip.specs.Puller.{Taken, is_due, page_taken, end_taken, body_taken, puller_takes}
+use Rattle.rr_gossip.specs.Puller.{Taken, awaits, page_taken, end_taken, body_taken, puller_takes}
 use Rattle.rr_gossip.specs.Transcript.{pieces, contents, frames_of_names, reply, waiting, puller_after, PullersTake, SessionsBringTheJoin}
 use Rattle.rr_gossip.proofs.LengthLemmas.{page_fits}
 use Rattle.rr_gossip.proofs.PagesLemmas.{left_page, left_after}
@@ -45,12 +45,12 @@ module _ (s : Layout) (is : IsLayout s) (before limit : ℕ) where
   at stage taken = record { stage = stage; sent = before; taken = taken; limit = limit }
 
   one_taken : (next : Stage) (es : List NamedCell) (k : Kind) (body : List ℕ) (last : Bool) (taken : ℕ)
-      → is_due Waiting k ≡ true → taken < limit → length body < MAX_FRAME_LEN
+      → awaits Waiting k ≡ true → taken < limit → length body < MAX_FRAME_LEN
       → body_taken s k body ≡ Ok ((next, es), last)
       → puller_takes s (at Waiting taken) (content_text k body) ≡ Ok ((at next (taken + 1), es), last)
   unfolding puller_takes at
   one_taken next es k body last taken due room short takes =
-      ap (λ r. r >>= λ (frame : Kind × List ℕ). unless why.UnexpectedFrame (not (is_due Waiting frame.0))
+      ap (λ r. r >>= λ (frame : Kind × List ℕ). unless why.UnexpectedFrame (not (awaits Waiting frame.0))
       (unless why.TooManyFrames (nat_le limit taken) (body_taken s frame.0 frame.1)) >>= λ (x : Taken). Ok
       ((record { stage = x.0.0; sent = before; taken = taken + 1; limit = limit }, x.0.1), x.1))
       (frame_read k body short)
@@ -69,7 +69,7 @@ module _ (s : Layout) (is : IsLayout s) (before limit : ℕ) where
       )) takes
 
   then : (next : Stage) (es : List NamedCell) (k : Kind) (body : List ℕ) (last : Bool) (taken : ℕ)
-      (had : List NamedCell) (others : List (List ℕ)) (end : Puller × List NamedCell) → is_due Waiting k ≡ true
+      (had : List NamedCell) (others : List (List ℕ)) (end : Puller × List NamedCell) → awaits Waiting k ≡ true
       → taken < limit → length body < MAX_FRAME_LEN → body_taken s k body ≡ Ok ((next, es), last)
       → puller_after s (at next (taken + 1)) (had ++ es) others ≡ Ok end
       → puller_after s (at Waiting taken) had (drop 4 (frame_text k body) ∷ others) ≡ Ok end

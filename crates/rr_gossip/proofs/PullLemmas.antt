@@ -80,7 +80,7 @@ giver_is_over m s g content x over e =
     (unless why.TooManyFrames (nat_le g.limit g.taken) (giving.body_taken m s g.stage a.0.0 a.0.1)) b.0 b.1 in
     true_is_false (sym (not_false (giving.is_due g.stage a.0.0) due.0) ∙ none_due_to_giver g.stage a.0.0 over)
 
-none_due_to_puller : (k : Kind) → pulling.is_due puller.Done k ≡ false
+none_due_to_puller : (k : Kind) → pulling.awaits puller.Done k ≡ false
 none_due_to_puller kind.Hello = refl
 none_due_to_puller kind.Summary = refl
 none_due_to_puller kind.SummaryEnd = refl
@@ -92,11 +92,11 @@ puller_is_over : (s : Layout) (p : Puller) (content : List ℕ) (x : (Puller × 
 unfolding puller_takes
 puller_is_over s p content x over e =
     let a = bind_ok (unless why.Failed (pulling.has_failed p.stage) (content_at content)) _ x e in
-    let b = bind_ok (unless why.UnexpectedFrame (not (pulling.is_due p.stage a.0.0))
+    let b = bind_ok (unless why.UnexpectedFrame (not (pulling.awaits p.stage a.0.0))
     (unless why.TooManyFrames (nat_le p.limit p.taken) (pulling.body_taken s a.0.0 a.0.1))) _ x a.2 in
-    let due = unless_ok why.UnexpectedFrame (not (pulling.is_due p.stage a.0.0))
+    let due = unless_ok why.UnexpectedFrame (not (pulling.awaits p.stage a.0.0))
     (unless why.TooManyFrames (nat_le p.limit p.taken) (pulling.body_taken s a.0.0 a.0.1)) b.0 b.1 in
-    true_is_false (sym (not_false (pulling.is_due p.stage a.0.0) due.0) ∙ ap (λ st. pulling.is_due st a.0.0) over
+    true_is_false (sym (not_false (pulling.awaits p.stage a.0.0) due.0) ∙ ap (λ st. pulling.awaits st a.0.0) over
     ∙ none_due_to_puller a.0.0)
 
 -- ---- some frames, and then others

@@ -17,7 +17,7 @@ use Rattle.rr_gossip.specs.declared.puller.Stage.TheVariants.{Waiting, Done}
 use Rattle.rr_gossip.specs.Fault.{as_body}
 use Rattle.rr_gossip.specs.Frame.{kind_at, known_kind, kind_of, content_at}
 use Rattle.rr_gossip.specs.Transcript.{puller_after}
-use Rattle.rr_gossip.specs.Puller.{Taken, has_failed, is_due, page_taken, end_taken, body_taken, puller_takes}
+use Rattle.rr_gossip.specs.Puller.{Taken, has_failed, awaits, page_taken, end_taken, body_taken, puller_takes}
 
 -- ---- steps that may fail
 
@@ -130,7 +130,7 @@ of_puller : (s : Layout) (p : Puller) (content : List ℕ) → OfFrame (puller_t
 unfolding puller_takes
 of_puller s p content =
     of_bind _ _ (of_unless Failed (has_failed p.stage) (content_at content) refl (of_content content))
-    (λ frame. of_bind _ _ (of_unless UnexpectedFrame (not (is_due p.stage frame.0)) _ refl
+    (λ frame. of_bind _ _ (of_unless UnexpectedFrame (not (awaits p.stage frame.0)) _ refl
     (of_unless TooManyFrames (nat_le p.limit p.taken) _ refl (of_taken s frame.0 frame.1))) (λ next. tt))
 
 -- what a puller refuses, no stream is to blame for
@@ -185,7 +185,7 @@ next_puller p next = Ok (
 )
 
 abbrev after_content : Layout → Puller → Kind × List ℕ → Result ((Puller × List NamedCell) × Bool) GossipFault
-after_content s p frame = unless UnexpectedFrame (not (is_due p.stage frame.0))
+after_content s p frame = unless UnexpectedFrame (not (awaits p.stage frame.0))
     (unless TooManyFrames (nat_le p.limit p.taken) (body_taken s frame.0 frame.1)) >>= next_puller p
 
 -- the steps of a frame that is taken
@@ -193,7 +193,7 @@ record PullerTakes (s : Layout) (p q : Puller) (content : List ℕ) (es : List N
   frame : Kind × List ℕ
   next : Taken
   read : unless Failed (has_failed p.stage) (content_at content) ≡ Ok frame
-  due : not (is_due p.stage frame.0) ≡ false
+  due : not (awaits p.stage frame.0) ≡ false
   room : nat_le p.limit p.taken ≡ false
   takes : body_taken s frame.0 frame.1 ≡ Ok next
   puller : q ≡ record { stage = next.0.0; sent = p.sent; taken = p.taken + 1; limit = p.limit }
@@ -207,9 +207,9 @@ puller_parts s p q content es last e =
     let a = bind_ok (unless Failed (has_failed p.stage) (content_at content)) (after_content s p) ((q, es), last) e in
     let k = a.0.0 in
     let body = a.0.1 in
-    let b = bind_ok (unless UnexpectedFrame (not (is_due p.stage k))
+    let b = bind_ok (unless UnexpectedFrame (not (awaits p.stage k))
     (unless TooManyFrames (nat_le p.limit p.taken) (body_taken s k body))) (next_puller p) ((q, es), last) a.2 in
-    let due = unless_ok UnexpectedFrame (not (is_due p.stage k))
+    let due = unless_ok UnexpectedFrame (not (awaits p.stage k))
     (unless TooManyFrames (nat_le p.limit p.taken) (body_taken s k body)) b.0 b.1 in
     let room = unless_ok TooManyFrames (nat_le p.limit p.taken) (body_taken s k body) b.0 due.1 in
     let is = ok_is {E = GossipFault} (
@@ -251,7 +251,7 @@ abbrev pub raised : ℕ → Puller → Puller
 raised n p = record { stage = p.stage; sent = p.sent; taken = p.taken; limit = n }
 
 rebuilt : (s : Layout) (p : Puller) (content : List ℕ) (frame : Kind × List ℕ) (x : Taken)
-    → unless Failed (has_failed p.stage) (content_at content) ≡ Ok frame → not (is_due p.stage frame.0) ≡ false
+    → unless Failed (has_failed p.stage) (content_at content) ≡ Ok frame → not (awaits p.stage frame.0) ≡ false
     → nat_le p.limit p.taken ≡ false
     → body_taken s frame.0 frame.1 ≡ Ok x → puller_takes s p content ≡ next_puller p x
 unfolding puller_takes

@@ -137,8 +137,8 @@ AreFit Done = Unit {0}
 AreFit Failed = Unit {0}
 
 -- a session that has failed answers Failed from then on
-abbrev pub HasFailed : Giver → Type 0
-HasFailed g = IsTrue (has_failed g.stage)
+abbrev pub GiverFailed : Giver → Type 0
+GiverFailed g = IsTrue (has_failed g.stage)
 
 -- before the first frame
 abbrev pub first_giver : ℕ → Giver

@@ -80,12 +80,12 @@ has_failed Done = false
 has_failed Failed = true
 
 -- pages, and their end
-abbrev pub is_due : Stage → Kind → Bool
-is_due stage kind.Hello = false
-is_due stage kind.Summary = false
-is_due stage kind.SummaryEnd = false
-is_due stage kind.Page = is_waiting stage
-is_due stage kind.PageEnd = is_waiting stage
+abbrev pub awaits : Stage → Kind → Bool
+awaits stage kind.Hello = false
+awaits stage kind.Summary = false
+awaits stage kind.SummaryEnd = false
+awaits stage kind.Page = is_waiting stage
+awaits stage kind.PageEnd = is_waiting stage
 
 -- the next stage, the cells that are joined, and whether this was the other side's last frame
 abbrev pub Taken : Type 0
@@ -108,7 +108,7 @@ body_taken s kind.PageEnd body = end_taken body
 unfoldable pub frame_due : Puller → List ℕ → Result (Kind × List ℕ) GossipFault
 frame_due p content = do
   frame ← unless why.Failed (has_failed p.stage) (content_at content)
-  unless why.UnexpectedFrame (not (is_due p.stage frame.0))
+  unless why.UnexpectedFrame (not (awaits p.stage frame.0))
       (unless why.TooManyFrames (nat_le p.limit p.taken) (Ok frame))
 
 -- whether frames are still to be sent
@@ -123,7 +123,7 @@ is_sending Failed = false
 unfoldable pub puller_takes : Layout → Puller → List ℕ → Result ((Puller × List NamedCell) × Bool) GossipFault
 puller_takes s p content = do
   frame ← unless why.Failed (has_failed p.stage) (content_at content)
-  next ← unless why.UnexpectedFrame (not (is_due p.stage frame.0))
+  next ← unless why.UnexpectedFrame (not (awaits p.stage frame.0))
       (unless why.TooManyFrames (nat_le p.limit p.taken) (body_taken s frame.0 frame.1))
   Ok ((record { stage = next.0.0; sent = p.sent; taken = p.taken + 1; limit = p.limit }, next.0.1), next.1)
 
@@ -147,8 +147,8 @@ Takes joined x (Err fault) read =
     ⊎ ((read ≡ Err fault) × joined [])
 
 -- a session that has failed answers Failed from then on
-abbrev pub HasFailed : Puller → Type 0
-HasFailed p = IsTrue (has_failed p.stage)
+abbrev pub PullerFailed : Puller → Type 0
+PullerFailed p = IsTrue (has_failed p.stage)
 
 -- before the first frame
 abbrev pub first_puller : ℕ → Puller

@@ -5,7 +5,7 @@ ghost use Rattle.std.specs.Option.{option_map};
 ghost use Rattle.rr_text.specs.Results.{Gives, GivesUnless, NeedsMemoryAfter};
 ghost use Rattle.rr_gossip.specs.declared.frame.TheConstants.{MAX_FRAMES};
 ghost use Rattle.rr_gossip.specs.Calls.{SendsNext, TakesFor};
-ghost use Rattle.rr_gossip.specs.Giver.{AreFit, HasFailed, first_giver, has_failed, is_due, is_listing, names_in, hello_taken, summary_taken, end_taken, body_taken, frame_due, giver_takes, stage_sends, giver_sends};
+ghost use Rattle.rr_gossip.specs.Giver.{AreFit, GiverFailed, first_giver, has_failed, is_due, is_listing, names_in, hello_taken, summary_taken, end_taken, body_taken, frame_due, giver_takes, stage_sends, giver_sends};
 
 use crate::fault::GossipFault;
 use crate::frame::{Kind, MAX_FRAMES, content_of, frame_bytes};
@@ -214,7 +214,7 @@ impl Giver {
             (giver_takes (S.cells source.new) (S.layout source.old) self.old frame.now) }
         ensures memory { NeedsMemoryAfter GossipFault.Memory (frame_due self.old frame.now) result }
         ensures listing { result ≡ Err GossipFault.Memory → IsTrue (is_listing self.old.stage) }
-        ensures failed { OnErr result (HasFailed self.new) }
+        ensures failed { OnErr result (GiverFailed self.new) }
     {
         let mut stage = replace(&mut self.stage, Stage::Failed);
         if matches!(&stage, Stage::Failed) {
@@ -245,7 +245,7 @@ impl Giver {
         _source: &mut S,
     ) -> Result<Option<Vec<u8>>, GossipFault>
         ensures sent { SendsNext (is_giving self.old.stage) self.old.sent self.old.limit
-            (HasFailed self.new) (λ frame. (self.new, option_map (λ bytes. bytes.items) frame))
+            (GiverFailed self.new) (λ frame. (self.new, option_map (λ bytes. bytes.items) frame))
             result (giver_sends self.old) }
         ensures unchanged { _source.new ≡ _source.old }
     {

@@ -6,7 +6,7 @@ ghost use Rattle.rr_delta.specs.Names.{owned_name};
 ghost use Rattle.rr_gossip.specs.declared.frame.TheConstants.{MAX_FRAMES, MAX_FRAME_LEN};
 ghost use Rattle.rr_gossip.specs.declared.summary.TheConstants.{MAX_ENTRIES};
 ghost use Rattle.rr_gossip.specs.Calls.{SendsNext};
-ghost use Rattle.rr_gossip.specs.Puller.{HasFailed, Takes, first_puller, is_due, names_sent, stage_sends, puller_sends, body_taken, is_sending, puller_takes};
+ghost use Rattle.rr_gossip.specs.Puller.{PullerFailed, Takes, first_puller, awaits, names_sent, stage_sends, puller_sends, body_taken, is_sending, puller_takes};
 ghost use Rattle.rr_gossip.specs.Summary.{summary_text};
 
 use crate::fault::GossipFault;
@@ -48,9 +48,9 @@ fn listed(alloc: Global, names: Vec<Name>) -> Result<(Stage, Vec<u8>), AllocErro
 }
 
 impl Stage {
-    /// Whether a frame of a kind is due.
-    fn is_due(&self, kind: Kind) -> bool
-        ensures { result ≡ is_due self.now kind }
+    /// Whether a frame of a kind is awaited.
+    fn awaits(&self, kind: Kind) -> bool
+        ensures { result ≡ awaits self.now kind }
     {
         match kind {
             Kind::Page | Kind::PageEnd => matches!(self, Stage::Waiting),
@@ -105,7 +105,7 @@ impl Stage {
         body: &[u8],
         target: &mut T,
     ) -> Result<bool, GossipFault>
-        requires { IsTrue (is_due self.old kind) }
+        requires { IsTrue (awaits self.old kind) }
         ensures taken { Takes (T.has_joined target.old target.new) self.new result
             (body_taken (T.layout target.old) kind body.now) }
         ensures memory { NeedsMemoryAfter GossipFault.Memory
@@ -175,7 +175,7 @@ impl Puller {
         target: &T,
     ) -> Result<Option<Vec<u8>>, GossipFault>
         ensures { SendsNext (is_sending self.old.stage) self.old.sent self.old.limit
-            (HasFailed self.new) (λ frame. (self.new, option_map (λ bytes. bytes.items) frame))
+            (PullerFailed self.new) (λ frame. (self.new, option_map (λ bytes. bytes.items) frame))
             result (puller_sends (T.cells target.now) (T.layout target.now) self.old) }
     {
         let mut stage = replace(&mut self.stage, Stage::Failed);
@@ -214,14 +214,14 @@ impl Puller {
             (puller_takes (T.layout target.old) self.old frame.now) }
         ensures memory { NeedsMemoryAfter GossipFault.Memory
             (puller_takes (T.layout target.old) self.old frame.now) result }
-        ensures failed { OnErr result (HasFailed self.new) }
+        ensures failed { OnErr result (PullerFailed self.new) }
     {
         let mut stage = replace(&mut self.stage, Stage::Failed);
         if matches!(&stage, Stage::Failed) {
             return Err(GossipFault::Failed);
         }
         let (kind, body) = content_of(frame)?;
-        if !stage.is_due(kind) {
+        if !stage.awaits(kind) {
             return Err(GossipFault::UnexpectedFrame);
         }
         if self.taken >= self.limit {
