@@ -62,7 +62,7 @@ impl Blocks {
 
     /// No blocks. It takes no memory yet.
     pub(crate) fn new(alloc: Global) -> Blocks
-        ensures { (slot : ℤ) → row_at result slot ≡ [] }
+        ensures { all_blocks result ≡ [] }
     {
         Blocks {
             alloc,

@@ -1,9 +1,7 @@
-use Rattle.std.proofs.Common.{rules, ◌≡◌, [], ◌++◌, ap, sym, subst, ◌∙◌, refl}
+use Rattle.std.proofs.Common.{rules, ◌≡◌, [], ◌++◌, ap, sym, subst}
 use Rattle.std.specs.List.Sorted.{IsStrictlySortedBy}
 use Rattle.std.specs.Map.{keys_of}
 use Rattle.std.specs.Ordering.{int_cmp}
-use Rattle.rr_packed.specs.Blocks.{items_by_slot}
-use Rattle.rr_packed.proofs.BlocksLemmas.{slot_missing}
 use Rattle.rr_packed.proofs.blocks.Blocks.new.Goals as goal
 
 pub invariant_of-result : goal.invariant_of-result
@@ -13,6 +11,6 @@ invariant_of-result c =
     record { ordered = subst (λ es. IsStrictlySortedBy int_cmp (keys_of (es ++ []))) (sym none) tt }
 
 pub returns : goal.returns
-returns c = λ slot.
+returns c =
     let none : c.new.result.items ≡ [] = search rules in
-    ap (λ es. items_by_slot (es ++ []) slot) none ∙ slot_missing [] slot refl
+    ap (λ es. es ++ []) none
