@@ -16,10 +16,10 @@ use Rattle.rr_ring.specs.declared.block.Block.{Block}
 use Rattle.rr_ring.specs.declared.block.TheConstants.{BLOCK_ROWS}
 use Rattle.rr_ring.specs.declared.ring.Ring.{Ring}
 use Rattle.rr_ring.specs.Positions.{position_of}
-use Rattle.rr_ring.specs.Ring.{row_at, IsRowChanged}
+use Rattle.rr_ring.specs.Ring.{ring_row, IsRowChanged}
 use Rattle.rr_archive.specs.Entries.{items_of}
 use Rattle.rr_ring.specs.StoredRows.{items_at, has_room_at, is_blank, slot_and_entries}
-use Rattle.rr_ring.specs.Blocks.{items_in, items_of_block, items_by_position, has_room_in, block_has_room, has_room_by_position, made_in, IsChanged}
+use Rattle.rr_ring.specs.Blocks.{block_items, items_of_block, items_by_position, has_room_in, block_has_room, has_room_by_position, made_in, IsChanged}
 use Rattle.rr_archive.proofs.LiveRowsLemmas.{empty_is}
 use Rattle.rr_archive.proofs.Lists.{get_set, get_set_same}
 
@@ -64,21 +64,21 @@ items_at-blank r s blank = elim (int_eq r.slot s) as (λ b. cond b (items_of r.e
 
 -- a block with a blank row more
 pub block_grown : (old new : Block) (row : StoredRow) → new.rows.items ≡ old.rows.items ++ (row ∷ [])
-    → is_blank row ≡ true → items_in new ≡ items_in old
-unfolding items_in
+    → is_blank row ≡ true → block_items new ≡ block_items old
+unfolding block_items
 block_grown old new row is blank = λ i number s.
     (ap (λ xs. items_at (slice_get xs number) s) is
     ∙ get_push (λ o. items_at o s) old.rows.items row number (items_at-blank row s blank)) i
 
-pub block_same : (old new : Block) → new.rows.items ≡ old.rows.items → items_in new ≡ items_in old
-unfolding items_in
+pub block_same : (old new : Block) → new.rows.items ≡ old.rows.items → block_items new ≡ block_items old
+unfolding block_items
 block_same old new is = λ i number s. items_at (slice_get (is i) number) s
 
 -- with a row that stores the same
 pub block_alike : (old new : Block) (at : ℕ) (was row : StoredRow) → slice_get old.rows.items at ≡ Some was
     → new.rows.items ≡ set old.rows.items at row → slot_and_entries row ≡ slot_and_entries was
-    → items_in new ≡ items_in old
-unfolding items_in
+    → block_items new ≡ block_items old
+unfolding block_items
 block_alike old new at was row has is same = λ i number s. (
     ap (λ xs. items_at (slice_get xs number) s) is
     ∙ ap (λ o. items_at o s) (get_set old.rows.items at number row (slice_get_within old.rows.items at was has))
@@ -94,8 +94,8 @@ block_alike old new at was row has is same = λ i number s. (
 block_changed : (old new : Block) (at : ℕ) (was row : StoredRow) (slot : ℤ) (e : Entry)
     → slice_get old.rows.items at ≡ Some was → new.rows.items ≡ set old.rows.items at row
     → slot_and_entries row ≡ (slot, with_entry (items_at (Some was) slot) e)
-    → IsChanged at slot e (items_in old) (items_in new)
-unfolding items_in
+    → IsChanged at slot e (block_items old) (block_items new)
+unfolding block_items
 block_changed old new at was row slot e has is now = λ number s.
     ap (λ xs. items_at (slice_get xs number) s) is
     ∙ ap (λ o. items_at o s) (get_set old.rows.items at number row (slice_get_within old.rows.items at was has)
@@ -110,19 +110,19 @@ block_changed old new at was row slot e has is now = λ number s.
 
 -- what is read of a row
 pub block_read : (block : Block) (number : ℕ) (row : StoredRow) (s : ℤ) → slice_get block.rows.items number ≡ Some row
-    → items_at (Some row) s ≡ items_in block number s
-unfolding items_in
+    → items_at (Some row) s ≡ block_items block number s
+unfolding block_items
 block_read block number row s has = ap (λ o. items_at o s) (sym has)
 
 -- with a change of the entry of an origin, of a block that stores what another does
 pub block_after : (old made new : Block) (at : ℕ) (was row : StoredRow) (slot : ℤ) (origin : ℕ) (change : Change)
-    → items_in made ≡ items_in old → slice_get made.rows.items at ≡ Some was
+    → block_items made ≡ block_items old → slice_get made.rows.items at ≡ Some was
     → new.rows.items ≡ set made.rows.items at row → slot_and_entries row
     ≡ (slot, with_entry (items_at (Some was) slot) (entry_after (items_at (Some was) slot) origin change))
-    → IsChanged at slot (entry_after (items_in old at slot) origin change) (items_in old) (items_in new)
+    → IsChanged at slot (entry_after (block_items old at slot) origin change) (block_items old) (block_items new)
 block_after old made new at was row slot origin change same has is now =
-    subst (λ f. IsChanged at slot (entry_after (f at slot) origin change) f (items_in new)) same
-    (subst (λ es. IsChanged at slot (entry_after es origin change) (items_in made) (items_in new))
+    subst (λ f. IsChanged at slot (entry_after (f at slot) origin change) f (block_items new)) same
+    (subst (λ es. IsChanged at slot (entry_after es origin change) (block_items made) (block_items new))
     (block_read made at was slot has)
     (block_changed made new at was row slot (entry_after (items_at (Some was) slot) origin change) has is now))
 
@@ -167,7 +167,7 @@ items_by_stored (Some rows) number s = items_stored (slice_get rows number) s
 
 items_of_block-stored : (o : Option Block) (number : ℕ) (s : ℤ)
     → items_of_block o number s ≡ items_by_stored (option_map stored_rows o) number s
-unfolding items_by_stored items_in
+unfolding items_by_stored block_items
 items_of_block-stored None number s = refl
 items_of_block-stored (Some block) number s = items_at-stored (slice_get block.rows.items number) s
     ∙ ap (λ o. items_stored o s) (sym (slice_get-map slot_and_entries block.rows.items number))
@@ -185,36 +185,36 @@ blocks_copied old new same = λ i position s. (
 -- with a block more, of no row
 pub blocks_grown : (blocks : List Block) (block : Block) → block.rows.items ≡ []
     → items_by_position (blocks ++ (block ∷ [])) ≡ items_by_position blocks
-unfolding items_by_position items_in
+unfolding items_by_position block_items
 blocks_grown blocks block none = λ i position s. get_push (λ o. items_of_block o (position % BLOCK_ROWS) s) blocks block
     (position / BLOCK_ROWS) (ap (λ xs. items_at (slice_get xs (position % BLOCK_ROWS)) s) none) i
 
 -- a block set
 read_set : (blocks : List Block) (b position : ℕ) (s : ℤ) (block : Block) → b < length blocks
     → items_by_position (set blocks b block) position s
-    ≡ cond (eqb b (position / BLOCK_ROWS)) (items_in block (position % BLOCK_ROWS) s)
+    ≡ cond (eqb b (position / BLOCK_ROWS)) (block_items block (position % BLOCK_ROWS) s)
     (items_by_position blocks position s)
 unfolding items_by_position
 read_set blocks b position s block h =
     ap (λ o. items_of_block o (position % BLOCK_ROWS) s) (get_set blocks b (position / BLOCK_ROWS) block h)
     ∙ elim (eqb b (position / BLOCK_ROWS)) as (λ c. items_of_block
     (cond c (Some block) (slice_get blocks (position / BLOCK_ROWS))) (position % BLOCK_ROWS) s
-    ≡ cond c (items_in block (position % BLOCK_ROWS) s)
+    ≡ cond c (block_items block (position % BLOCK_ROWS) s)
     (items_of_block (slice_get blocks (position / BLOCK_ROWS)) (position % BLOCK_ROWS) s))
     [ true ↦ refl | false ↦ refl ]
 
 read_found : (blocks : List Block) (b position : ℕ) (s : ℤ) (block : Block) → slice_get blocks b ≡ Some block
-    → b ≡ position / BLOCK_ROWS → items_by_position blocks position s ≡ items_in block (position % BLOCK_ROWS) s
+    → b ≡ position / BLOCK_ROWS → items_by_position blocks position s ≡ block_items block (position % BLOCK_ROWS) s
 unfolding items_by_position
 read_found blocks b position s block has is = ap (λ o. items_of_block o (position % BLOCK_ROWS) s)
     (ap (slice_get blocks) (sym is) ∙ has)
 
 pub blocks_alike : (blocks : List Block) (b : ℕ) (was block : Block) → slice_get blocks b ≡ Some was
-    → items_in block ≡ items_in was → items_by_position (set blocks b block) ≡ items_by_position blocks
+    → block_items block ≡ block_items was → items_by_position (set blocks b block) ≡ items_by_position blocks
 blocks_alike blocks b was block has same = λ i position s. (
     read_set blocks b position s block (slice_get_within blocks b was has)
     ∙ elim (eqb b (position / BLOCK_ROWS)) as (λ c. eqb b (position / BLOCK_ROWS) ≡ c
-    → cond c (items_in block (position % BLOCK_ROWS) s) (items_by_position blocks position s)
+    → cond c (block_items block (position % BLOCK_ROWS) s) (items_by_position blocks position s)
     ≡ items_by_position blocks position s) [
       | true ↦ λ t. ap (λ f. f (position % BLOCK_ROWS) s) same
           ∙ sym (read_found blocks b position s was has (eqb-true b (position / BLOCK_ROWS) t))
@@ -225,7 +225,7 @@ blocks_alike blocks b was block has same = λ i position s. (
 pub blocks_unmade : (blocks : List Block) (at i : ℕ) (s : ℤ)
     → made_in (slice_get blocks (at / BLOCK_ROWS)) ≤ at % BLOCK_ROWS + i → at % BLOCK_ROWS + i < BLOCK_ROWS
     → items_by_position blocks (at + i) s ≡ []
-unfolding items_by_position items_in
+unfolding items_by_position block_items
 blocks_unmade blocks at i s past within =
     let parts = div-add-mod' at BLOCK_ROWS in
     let is : at + i ≡ at / BLOCK_ROWS * BLOCK_ROWS + (at % BLOCK_ROWS + i) = omega arith in
@@ -256,24 +256,24 @@ positions_near m n same = by_parts (m % BLOCK_ROWS) (n % BLOCK_ROWS) m n (m / BL
 
 blocks_changed : (blocks : List Block) (b at : ℕ) (was block : Block) (slot : ℤ) (e : Entry)
     → slice_get blocks b ≡ Some was → b ≡ at / BLOCK_ROWS
-    → IsChanged (at % BLOCK_ROWS) slot e (items_in was) (items_in block)
+    → IsChanged (at % BLOCK_ROWS) slot e (block_items was) (block_items block)
     → IsChanged at slot e (items_by_position blocks) (items_by_position (set blocks b block))
 blocks_changed blocks b at was block slot e has b_is changed = λ position s.
     read_set blocks b position s block (slice_get_within blocks b was has)
-    ∙ ap (λ k. cond (eqb k (position / BLOCK_ROWS)) (items_in block (position % BLOCK_ROWS) s)
+    ∙ ap (λ k. cond (eqb k (position / BLOCK_ROWS)) (block_items block (position % BLOCK_ROWS) s)
     (items_by_position blocks position s)) b_is
     ∙ elim (eqb (at / BLOCK_ROWS) (position / BLOCK_ROWS)) as
     (λ c. eqb (at / BLOCK_ROWS) (position / BLOCK_ROWS) ≡ c
-    → cond c (items_in block (position % BLOCK_ROWS) s) (items_by_position blocks position s)
+    → cond c (block_items block (position % BLOCK_ROWS) s) (items_by_position blocks position s)
     ≡ cond (eqb position at) (cond (int_eq slot s) (with_entry (items_by_position blocks at slot) e) [])
     (items_by_position blocks position s)) [
       | true ↦ λ t.
           let same = eqb-true (at / BLOCK_ROWS) (position / BLOCK_ROWS) t in
           changed (position % BLOCK_ROWS) s
-          ∙ ap (λ c. cond c (cond (int_eq slot s) (with_entry (items_in was (at % BLOCK_ROWS) slot) e) [])
-          (items_in was (position % BLOCK_ROWS) s)) (positions_near position at same)
+          ∙ ap (λ c. cond c (cond (int_eq slot s) (with_entry (block_items was (at % BLOCK_ROWS) slot) e) [])
+          (block_items was (position % BLOCK_ROWS) s)) (positions_near position at same)
           ∙ ap (λ es. cond (eqb position at) (cond (int_eq slot s) (with_entry es e) [])
-          (items_in was (position % BLOCK_ROWS) s)) (sym (read_found blocks b at slot was has b_is))
+          (block_items was (position % BLOCK_ROWS) s)) (sym (read_found blocks b at slot was has b_is))
           ∙ ap (cond (eqb position at) (cond (int_eq slot s) (with_entry (items_by_position blocks at slot) e) []))
           (sym (read_found blocks b position s was has (b_is ∙ same)))
       | false ↦ λ t. ap (λ c. cond c (cond (int_eq slot s) (with_entry (items_by_position blocks at slot) e) [])
@@ -311,14 +311,14 @@ blocks_room_made blocks at block slot origin within room =
 -- ---- the rows of a ring
 
 pub rows_same : (old new : Ring) → new.rows ≡ old.rows
-    → items_by_position new.blocks.items ≡ items_by_position old.blocks.items → row_at new ≡ row_at old
-unfolding row_at
+    → items_by_position new.blocks.items ≡ items_by_position old.blocks.items → ring_row new ≡ ring_row old
+unfolding ring_row
 rows_same old new rows same = λ i s. same i (position_of (rows i) s) s
 
 rows_changed : (old new : Ring) (slot : ℤ) (at : ℕ) (e : Entry) → new.rows ≡ old.rows → at ≡ position_of old.rows slot
     → IsChanged at slot e (items_by_position old.blocks.items) (items_by_position new.blocks.items)
-    → IsRowChanged old.rows slot e (row_at old) (row_at new)
-unfolding row_at
+    → IsRowChanged old.rows slot e (ring_row old) (ring_row new)
+unfolding ring_row
 rows_changed old new slot at e rows is changed = λ s.
     ap (λ r. items_by_position new.blocks.items (position_of r s) s) rows
     ∙ changed (position_of old.rows s) s
@@ -329,8 +329,8 @@ rows_changed old new slot at e rows is changed = λ s.
 -- what is read of the row of a slot
 pub row_read : (ring : Ring) (blocks : List Block) (at : ℕ) (was : Block) (slot : ℤ) → at ≡ position_of ring.rows slot
     → slice_get blocks (at / BLOCK_ROWS) ≡ Some was → items_by_position blocks ≡ items_by_position ring.blocks.items
-    → items_in was (at % BLOCK_ROWS) slot ≡ row_at ring slot
-unfolding row_at
+    → block_items was (at % BLOCK_ROWS) slot ≡ ring_row ring slot
+unfolding ring_row
 row_read ring blocks at was slot is has same =
     sym (read_found blocks (at / BLOCK_ROWS) at slot was has refl)
     ∙ ap (λ f. f at slot) same
@@ -341,16 +341,16 @@ pub rows_after : (old new : Ring) (blocks : List Block) (at : ℕ) (was block : 
     (change : Change) → at ≡ position_of old.rows slot → slice_get blocks (at / BLOCK_ROWS) ≡ Some was
     → items_by_position blocks ≡ items_by_position old.blocks.items → new.rows ≡ old.rows
     → new.blocks.items ≡ set blocks (at / BLOCK_ROWS) block
-    → IsChanged (at % BLOCK_ROWS) slot (entry_after (items_in was (at % BLOCK_ROWS) slot) origin change) (items_in was)
-    (items_in block) → IsRowChanged old.rows slot (entry_after (row_at old slot) origin change) (row_at old)
-    (row_at new)
+    → IsChanged (at % BLOCK_ROWS) slot (entry_after (block_items was (at % BLOCK_ROWS) slot) origin change) (block_items was)
+    (block_items block) → IsRowChanged old.rows slot (entry_after (ring_row old slot) origin change) (ring_row old)
+    (ring_row new)
 rows_after old new blocks at was block slot origin change is has same rows blocks_is changed =
-    subst (λ es. IsRowChanged old.rows slot (entry_after es origin change) (row_at old) (row_at new))
+    subst (λ es. IsRowChanged old.rows slot (entry_after es origin change) (ring_row old) (ring_row new))
     (row_read old blocks at was slot is has same)
-    (rows_changed old new slot at (entry_after (items_in was (at % BLOCK_ROWS) slot) origin change) rows is
-    (subst (λ bs. IsChanged at slot (entry_after (items_in was (at % BLOCK_ROWS) slot) origin change)
+    (rows_changed old new slot at (entry_after (block_items was (at % BLOCK_ROWS) slot) origin change) rows is
+    (subst (λ bs. IsChanged at slot (entry_after (block_items was (at % BLOCK_ROWS) slot) origin change)
     (items_by_position old.blocks.items) (items_by_position bs)) (sym blocks_is)
-    (subst (λ f. IsChanged at slot (entry_after (items_in was (at % BLOCK_ROWS) slot) origin change) f
+    (subst (λ f. IsChanged at slot (entry_after (block_items was (at % BLOCK_ROWS) slot) origin change) f
     (items_by_position (set blocks (at / BLOCK_ROWS) block))) same
     (blocks_changed blocks (at / BLOCK_ROWS) at was block slot
-    (entry_after (items_in was (at % BLOCK_ROWS) slot) origin change) has refl changed))))
+    (entry_after (block_items was (at % BLOCK_ROWS) slot) origin change) has refl changed))))

@@ -9,8 +9,8 @@ use Rattle.rr_ring.specs.StoredRows.{items_at, has_room_at}
 
 -- ---- in one block, by the number of a row
 
-unfoldable pub items_in : Block → ℕ → ℤ → List Entry
-items_in block number slot = items_at (slice_get block.rows.items number) slot
+unfoldable pub block_items : Block → ℕ → ℤ → List Entry
+block_items block number slot = items_at (slice_get block.rows.items number) slot
 
 unfoldable pub has_room_in : Block → ℕ → ℤ → ℕ → Bool
 has_room_in block number slot origin = has_room_at (slice_get block.rows.items number) slot origin
@@ -19,7 +19,7 @@ has_room_in block number slot origin = has_room_at (slice_get block.rows.items n
 
 abbrev pub items_of_block : Option Block → ℕ → ℤ → List Entry
 items_of_block None number slot = []
-items_of_block (Some block) number slot = items_in block number slot
+items_of_block (Some block) number slot = block_items block number slot
 
 unfoldable pub items_by_position : List Block → ℕ → ℤ → List Entry
 items_by_position blocks position slot =

@@ -8,8 +8,8 @@ use Rattle.rr_ring.specs.Positions.{position_of}
 use Rattle.rr_ring.specs.Blocks.{items_by_position, has_room_by_position}
 
 -- the entries that are stored of a slot, live or not
-unfoldable pub row_at : Ring → ℤ → List Entry
-row_at ring slot = items_by_position ring.blocks.items (position_of ring.rows slot) slot
+unfoldable pub ring_row : Ring → ℤ → List Entry
+ring_row ring slot = items_by_position ring.blocks.items (position_of ring.rows slot) slot
 
 -- whether the entry of an origin in a slot takes no memory
 unfoldable pub has_room : Ring → ℤ → ℕ → Bool

@@ -4,7 +4,7 @@ ghost use Rattle.rr_archive.specs.Row.{entry_at};
 ghost use Rattle.rr_archive.specs.Changes.{Fits, entry_after};
 ghost use Rattle.rr_archive.specs.Stored.{MakesRoom};
 ghost use Rattle.rr_ring.specs.StoredRows.{slot_and_entries};
-ghost use Rattle.rr_ring.specs.Blocks.{items_in, has_room_in, IsChanged};
+ghost use Rattle.rr_ring.specs.Blocks.{block_items, has_room_in, IsChanged};
 
 use crate::stored_row::StoredRow;
 use rr_archive::Entry;
@@ -37,7 +37,7 @@ impl Block {
 
     /// The entries of a slot in the row of a number.
     pub(crate) fn entries(&self, number: usize, slot: i64) -> &[Entry]
-        ensures { result.now ≡ items_in self.now number slot }
+        ensures { result.now ≡ block_items self.now number slot }
     {
         match self.rows.get(number) {
             Some(row) => row.entries(slot),
@@ -55,7 +55,7 @@ impl Block {
     /// Makes the rows up to a number, in a block that is to have `len` rows. It takes memory as it
     /// fills, for 4, 8, 16, 32 and 64 rows.
     fn make_rows(&mut self, number: usize, len: usize) -> Result<(), AllocError>
-        ensures same { items_in self.new ≡ items_in self.old }
+        ensures same { block_items self.new ≡ block_items self.old }
         ensures made { OnOk result (number < length self.new.rows.items) }
         ensures rows_stay { number < length self.old.rows.items
             → self.new.rows.items ≡ self.old.rows.items }
@@ -81,7 +81,7 @@ impl Block {
         origin: Origin,
     ) -> Result<(), AllocError>
         ensures { MakesRoom (has_room_in self.old number slot origin)
-            (has_room_in self.new number slot origin) (items_in self.old) (items_in self.new)
+            (has_room_in self.new number slot origin) (block_items self.old) (block_items self.new)
             result }
     {
         self.make_rows(number, len)?;
@@ -98,13 +98,13 @@ impl Block {
         origin: Origin,
         change: &Change,
     ) -> Result<bool, AllocError>
-        requires { Fits (entry_at (items_in self.old number slot) origin) change.now }
+        requires { Fits (entry_at (block_items self.old number slot) origin) change.now }
         ensures changed { OnOk result (IsChanged number slot
-            (entry_after (items_in self.old number slot) origin change.now)
-            (items_in self.old) (items_in self.new)) }
+            (entry_after (block_items self.old number slot) origin change.now)
+            (block_items self.old) (block_items self.new)) }
         ensures is_new { IfOk result (λ is_new. is_new
-            ≡ is_none (entry_at (items_in self.old number slot) origin)) }
-        ensures unchanged { OnErr result (items_in self.new ≡ items_in self.old) }
+            ≡ is_none (entry_at (block_items self.old number slot) origin)) }
+        ensures unchanged { OnErr result (block_items self.new ≡ block_items self.old) }
         ensures room { IsTrue (has_room_in self.old number slot origin) → IsOk result }
     {
         self.make_rows(number, len)?;

@@ -4,7 +4,7 @@ ghost use Rattle.rr_archive.specs.Row.{entry_at};
 ghost use Rattle.rr_archive.specs.Changes.{Fits, entry_after};
 ghost use Rattle.rr_archive.specs.Stored.{MakesRoom, PassesOver};
 ghost use Rattle.rr_ring.specs.Blocks.{items_by_position, made_in};
-ghost use Rattle.rr_ring.specs.Ring.{row_at, has_room, IsRowChanged};
+ghost use Rattle.rr_ring.specs.Ring.{ring_row, has_room, IsRowChanged};
 
 use crate::block::{BLOCK_ROWS, Block};
 use crate::ring::Ring;
@@ -18,7 +18,7 @@ impl Ring {
     pub(crate) fn new(alloc: Global, rows: u32) -> Ring
         requires { 1 ≤ rows }
         ensures rows { result.rows ≡ rows }
-        ensures empty { (slot : ℤ) → row_at result slot ≡ [] }
+        ensures empty { (slot : ℤ) → ring_row result slot ≡ [] }
     {
         Ring {
             alloc,
@@ -29,7 +29,7 @@ impl Ring {
 
     /// The entries that are stored of a slot.
     pub(crate) fn row(&self, slot: i64) -> &[Entry]
-        ensures { result.now ≡ row_at self.now slot }
+        ensures { result.now ≡ ring_row self.now slot }
     {
         let position = self.position(slot);
         match self.blocks.get(position / BLOCK_ROWS) {
@@ -52,7 +52,7 @@ impl Ring {
     /// those between. The rows of a block that aren't made, and a block that isn't, are passed over
     /// in one step.
     pub(crate) fn slots_on(&self, slot: i64, most: u32) -> u32
-        ensures { PassesOver 1 most (λ i. row_at self.now (slot +ℤ pos i)) result }
+        ensures { PassesOver 1 most (λ i. ring_row self.now (slot +ℤ pos i)) result }
     {
         let position = self.position(slot);
         let number = position % BLOCK_ROWS;
@@ -87,7 +87,7 @@ impl Ring {
     /// Makes room for an entry of an origin in a slot.
     pub(crate) fn make_room(&mut self, slot: i64, origin: Origin) -> Result<(), AllocError>
         ensures made { MakesRoom (has_room self.old slot origin) (has_room self.new slot origin)
-            (row_at self.old) (row_at self.new) result }
+            (ring_row self.old) (ring_row self.new) result }
         ensures rows { self.new.rows ≡ self.old.rows }
     {
         let position = self.position(slot);
@@ -104,13 +104,13 @@ impl Ring {
         origin: Origin,
         change: &Change,
     ) -> Result<bool, AllocError>
-        requires { Fits (entry_at (row_at self.old slot) origin) change.now }
+        requires { Fits (entry_at (ring_row self.old slot) origin) change.now }
         ensures changed { OnOk result (IsRowChanged self.old.rows slot
-            (entry_after (row_at self.old slot) origin change.now) (row_at self.old)
-            (row_at self.new)) }
+            (entry_after (ring_row self.old slot) origin change.now) (ring_row self.old)
+            (ring_row self.new)) }
         ensures is_new { IfOk result (λ is_new. is_new
-            ≡ is_none (entry_at (row_at self.old slot) origin)) }
-        ensures unchanged { OnErr result (row_at self.new ≡ row_at self.old) }
+            ≡ is_none (entry_at (ring_row self.old slot) origin)) }
+        ensures unchanged { OnErr result (ring_row self.new ≡ ring_row self.old) }
         ensures room { IsTrue (has_room self.old slot origin) → IsOk result }
         ensures rows { self.new.rows ≡ self.old.rows }
     {
@@ -122,7 +122,7 @@ impl Ring {
 
     /// The same rows.
     pub(crate) fn copy(&self, alloc: Global) -> Result<Ring, AllocError>
-        ensures row { IfOk result (λ new. row_at new ≡ row_at self.now) }
+        ensures row { IfOk result (λ new. ring_row new ≡ ring_row self.now) }
         ensures rows { IfOk result (λ new. new.rows ≡ self.now.rows) }
     {
         let mut blocks = Vec::with_capacity(alloc, self.blocks.len())?;

@@ -3,11 +3,11 @@ use Rattle.std.specs.Prelude.{slice_get}
 use Rattle.std.proofs.lemmas.Option.{slice_get-get_or, slice_get_past}
 use Rattle.rr_ring.specs.declared.stored_row.StoredRow.{StoredRow}
 use Rattle.rr_ring.specs.StoredRows.{items_at}
-use Rattle.rr_ring.specs.Blocks.{items_in}
+use Rattle.rr_ring.specs.Blocks.{block_items}
 use Rattle.rr_ring.proofs.block.Block.entries.Goals as goal
 
 pub returns-in-Some : goal.returns-in-Some
-unfolding items_in
+unfolding block_items
 returns-in-Some c =
     let rows = c.args.self.now.rows.items in
     let row : StoredRow = c.in-Some.row.now in
@@ -20,7 +20,7 @@ returns-in-Some c =
     c.entries.ensures ∙ ap (items_at (Some row)) slot ∙ ap (λ o. items_at o c.args.slot) (sym has)
 
 pub returns-in-None : goal.returns-in-None
-unfolding items_in
+unfolding block_items
 returns-in-None c =
     let rows = c.args.self.now.rows.items in
     let all : c.deref.result.now ≡ rows = search rules in

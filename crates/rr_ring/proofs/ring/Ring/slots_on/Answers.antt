@@ -1,13 +1,13 @@
 use Rattle.std.proofs.Common.{rules, ◌≡◌, ◌<◌, ◌+◌, ◌+ℤ◌, pos, sym, ap, ◌∙◌, arith, to_z, of_z, w64}
 use Rattle.rr_ring.specs.Positions.{position_of}
 use Rattle.rr_ring.specs.Blocks.{items_by_position}
-use Rattle.rr_ring.specs.Ring.{row_at}
+use Rattle.rr_ring.specs.Ring.{ring_row}
 use Rattle.rr_ring.proofs.PositionLemmas.{position_on}
 use Rattle.rr_ring.proofs.RingLemmas.{blocks_unmade}
 use Rattle.rr_ring.proofs.ring.Ring.slots_on.Goals as goal
 
 pub returns : goal.returns
-unfolding row_at
+unfolding ring_row
 returns c = record {
   at_least_one = search rules;
   at_most = search rules;

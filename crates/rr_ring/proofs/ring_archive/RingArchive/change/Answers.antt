@@ -9,7 +9,7 @@ use Rattle.rr_archive.specs.CellSlots.{cell_slot, is_live_at, IsInRange}
 use Rattle.rr_archive.specs.Row.{entry_at}
 use Rattle.rr_archive.specs.Changes.{Fits, contribution_after, entry_after}
 use Rattle.rr_archive.proofs.FewCells.{few_cells}
-use Rattle.rr_ring.specs.Ring.{row_at, IsRowChanged}
+use Rattle.rr_ring.specs.Ring.{ring_row, IsRowChanged}
 use Rattle.rr_archive.specs.LiveRows.{cells_by, IsArchiveStateBy}
 use Rattle.rr_ring.specs.RingCells.{cells_in}
 use Rattle.rr_archive.proofs.LiveRowsLemmas.{get-cells_by}
@@ -24,7 +24,7 @@ returns-then-not-is_live c = record {
       let a = c.args.self.now in
       let p = cell_slot c.args.slot c.args.origin in
       let dead : is_above a.ring.rows a.newest c.args.slot ≡ false = search rules in
-      change_dead a.ring.rows a.newest a.count (row_at a.ring) p
+      change_dead a.ring.rows a.newest a.count (ring_row a.ring) p
       (contribution_after (fin.get (cells_in a.newest a.ring) p) c.args.change.now) a.held dead;
   dead = search rules;
   unchanged = search rules;
@@ -35,7 +35,7 @@ returns-then-not-is_live c = record {
 pub change-requires : goal.change-requires
 change-requires c =
     let a = c.args.self.now in
-    let f = row_at a.ring in
+    let f = ring_row a.ring in
     let p = cell_slot c.args.slot c.args.origin in
     let slot : to_z w64 (of_z w64 c.args.slot) ≡ c.args.slot = search rules in
     let live : is_above a.ring.rows a.newest c.args.slot ≡ true = search rules in
@@ -65,7 +65,7 @@ record Steps (c : goal.After-from) : Type 0 where
   top : to_z w64 (of_z w64 c.later-newest.result) ≡ c.later-newest.result
   live : is_above c.args.self.now.ring.rows c.args.self.now.newest c.args.slot ≡ true
   known : fin.get (cells_in c.args.self.now.newest c.args.self.now.ring) (cell_slot c.args.slot c.args.origin)
-      ≡ entry_at (row_at c.args.self.now.ring c.args.slot) c.args.origin
+      ≡ entry_at (ring_row c.args.self.now.ring c.args.slot) c.args.origin
   latest : Some c.later-newest.result ≡ greater int_cmp c.args.self.now.newest (Some c.args.slot)
   new : c.from.result ≡ cond (is_none (fin.get (cells_in c.args.self.now.newest c.args.self.now.ring)
       (cell_slot c.args.slot c.args.origin))) 1 0
@@ -73,13 +73,13 @@ record Steps (c : goal.After-from) : Type 0 where
       (λ p. is_above c.args.self.now.ring.rows (Some c.later-newest.result) p.slot))
       ≡ fin.len (cells_in c.args.self.now.newest c.args.self.now.ring)
   set : IsSetIn c.args.self.now.ring.rows c.later-newest.result c.args.slot
-      (entry_after (row_at c.args.self.now.ring c.args.slot) c.args.origin c.args.change.now)
-      (row_at c.args.self.now.ring) (row_at c.change.new.self)
+      (entry_after (ring_row c.args.self.now.ring c.args.slot) c.args.origin c.args.change.now)
+      (ring_row c.args.self.now.ring) (ring_row c.change.new.self)
 
 steps : (c : goal.After-from) → Steps c
 steps c =
     let a = c.args.self.now in
-    let f = row_at a.ring in
+    let f = ring_row a.ring in
     let slot : to_z w64 (of_z w64 c.args.slot) ≡ c.args.slot = search rules in
     let live : is_above a.ring.rows a.newest c.args.slot ≡ true = search rules in
     let top : to_z w64 (of_z w64 c.later-newest.result) ≡ c.later-newest.result = search rules in
@@ -88,7 +88,7 @@ steps c =
     let latest : Some c.later-newest.result ≡ greater int_cmp a.newest (Some c.args.slot) = c.later-newest.ensures
     ∙ ap (λ z. greater int_cmp a.newest (Some z)) slot in
     let changed : IsRowChanged a.ring.rows c.args.slot (entry_after (f c.args.slot) c.args.origin c.args.change.now) f
-    (row_at c.change.new.self) = rw slot at c.in_ok-is_new.ensures.changed in
+    (ring_row c.change.new.self) = rw slot at c.in_ok-is_new.ensures.changed in
     record {
       slot = slot;
       top = top;
@@ -99,7 +99,7 @@ steps c =
       left = rw top at c.dead_cells-dead.ensures;
       latest = latest;
       set = set_in_ring a.ring.rows a.newest a.count c.later-newest.result c.args.slot
-          (entry_after (f c.args.slot) c.args.origin c.args.change.now) f (row_at c.change.new.self)
+          (entry_after (f c.args.slot) c.args.origin c.args.change.now) f (ring_row c.change.new.self)
           a.ring.rows_at_least a.held changed latest live;
     }
 
@@ -110,19 +110,19 @@ count_after count dead one old left new after is all is_new sum = omega arith
 pub invariant_of-self-2 : goal.invariant_of-self-2
 invariant_of-self-2 c =
     let a = c.args.self.now in
-    let f = row_at a.ring in
+    let f = ring_row a.ring in
     let s = steps c in
     let top = s.top in
     let e : Entry = entry_after (f c.args.slot) c.args.origin c.args.change.now in
     let in_range : IsInRange (cell_slot c.args.slot c.args.origin) =
     record { slot = c.requires.slot; origin = record { at_least = omega arith; at_most = omega arith } } in
-    let len = change_len a.ring.rows a.newest a.count c.later-newest.result c.args.slot e f (row_at c.change.new.self)
+    let len = change_len a.ring.rows a.newest a.count c.later-newest.result c.args.slot e f (ring_row c.change.new.self)
     a.ring.rows_at_least a.held s.set s.latest s.live in
     let counted = count_after a.count c.dead_cells-dead.result c.from.result _ _ _ _ a.held.counted s.left s.new len in
     record {
       held = rw top (subst (λ n. IsArchiveStateBy n (Some c.later-newest.result)
-          ((a.count - c.dead_cells-dead.result) + c.from.result) (row_at c.change.new.self)) (sym c.change.ensures.rows)
-          (change_held a.ring.rows a.newest a.count c.later-newest.result c.args.slot e f (row_at c.change.new.self)
+          ((a.count - c.dead_cells-dead.result) + c.from.result) (ring_row c.change.new.self)) (sym c.change.ensures.rows)
+          (change_held a.ring.rows a.newest a.count c.later-newest.result c.args.slot e f (ring_row c.change.new.self)
           a.ring.rows_at_least a.held s.set s.latest s.live _ counted in_range));
     }
 
@@ -130,13 +130,13 @@ pub returns : goal.returns
 returns c = record {
   changed =
       let a = c.args.self.now in
-      let f = row_at a.ring in
+      let f = ring_row a.ring in
       let s = steps c.before in
       let top = s.top in
       let p = cell_slot c.args.slot c.args.origin in
       let e : Entry = entry_after (f c.args.slot) c.args.origin c.args.change.now in
-      rw top (ap (λ n. cells_by n (Some c.later-newest.result) (row_at c.change.new.self)) c.change.ensures.rows
-      ∙ change_cells a.ring.rows a.newest a.count c.later-newest.result c.args.slot e f (row_at c.change.new.self)
+      rw top (ap (λ n. cells_by n (Some c.later-newest.result) (ring_row c.change.new.self)) c.change.ensures.rows
+      ∙ change_cells a.ring.rows a.newest a.count c.later-newest.result c.args.slot e f (ring_row c.change.new.self)
       a.ring.rows_at_least a.held s.set s.latest s.live
       ∙ ap (λ o. trimmed (is_live_at a.ring.rows) (fin.insert (cells_in a.newest a.ring) p
       (contribution_after o c.args.change.now))) (sym s.known));

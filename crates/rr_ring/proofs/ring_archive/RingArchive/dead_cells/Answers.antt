@@ -1,7 +1,7 @@
 use Rattle.std.proofs.Common.{rules, ◌≡◌, ◌<◌, pos, ◌+ℤ◌, ◌-ℤ◌, ◌≤ℤ◌, length, sym, ap, ◌∙◌, arith, to_z, of_z, w64}
 use Rattle.std.specs.FinMap.{len-entries}
 use Rattle.rr_archive.proofs.FewCells.{few_cells}
-use Rattle.rr_ring.specs.Ring.{row_at}
+use Rattle.rr_ring.specs.Ring.{ring_row}
 use Rattle.rr_archive.specs.LiveRows.{cells_by}
 use Rattle.rr_archive.proofs.LiveWalks.{length_step, entries_live, dead_are, dead_none}
 use Rattle.rr_ring.proofs.ring_archive.RingArchive.dead_cells.Goals as goal
@@ -9,13 +9,13 @@ use Rattle.rr_ring.proofs.ring_archive.RingArchive.dead_cells.Goals as goal
 pub returns-in_default : goal.returns-in_default
 returns-in_default c =
     let a = c.args.self.now in
-    let none = dead_none a.ring.rows a.newest (row_at a.ring) a.held.ascend c.args.top c.in_default.is in
+    let none = dead_none a.ring.rows a.newest (ring_row a.ring) a.held.ascend c.args.top c.in_default.is in
     omega arith
 
 pub loop-k-init : goal.loop-k-init
 loop-k-init c =
     let a = c.args.self.now in
-    let f = row_at a.ring in
+    let f = ring_row a.ring in
     let z = to_z w64 (of_z w64 c.first_live-first.result) in
     let first : z ≡ ((c.in-Some.newest -ℤ pos a.ring.rows) +ℤ pos 1) = search rules in
     let all = ap length (entries_live a.ring.rows a.newest f a.held.ascend c.in-Some.newest z c.in-Some.is first)
@@ -25,7 +25,7 @@ loop-k-init c =
 pub overflow_add-dead : goal.overflow_add-dead
 overflow_add-dead c =
     let a = c.args.self.now in
-    let f = row_at a.ring in
+    let f = ring_row a.ring in
     let z = to_z w64 (of_z w64 c.first_live-first.result) in
     let row : c.row.result.now ≡ f (z +ℤ pos c.loop-k.k) = search rules in
     let within : c.loop-k.k < a.ring.rows = omega arith in
@@ -38,7 +38,7 @@ overflow_add-dead c =
 pub loop-k-preserved : goal.loop-k-preserved
 loop-k-preserved c =
     let a = c.args.self.now in
-    let f = row_at a.ring in
+    let f = ring_row a.ring in
     let z = to_z w64 (of_z w64 c.first_live-first.result) in
     let row : c.row.result.now ≡ f (z +ℤ pos c.loop-k.k) = search rules in
     let within : c.loop-k.k < a.ring.rows = omega arith in
@@ -50,7 +50,7 @@ loop-k-preserved c =
 pub returns : goal.returns
 returns c =
     let a = c.args.self.now in
-    let f = row_at a.ring in
+    let f = ring_row a.ring in
     let was = c.in-Some.newest in
     let k = c.loop-k.k in
     let z = to_z w64 (of_z w64 c.first_live-first.result) in

@@ -3,7 +3,7 @@ use Rattle.std.specs.List.{slice_get}
 use Rattle.std.specs.Option.{option_map}
 use Rattle.rr_archive.specs.declared.entry.Entry.{Entry}
 use Rattle.rr_archive.specs.Cells.{cell_of}
-use Rattle.rr_ring.specs.Ring.{row_at}
+use Rattle.rr_ring.specs.Ring.{ring_row}
 use Rattle.rr_archive.proofs.RowCells.{cell_here, cell_later}
 use Rattle.rr_archive.proofs.LiveWalks.{cells_left, left_step, left_none, left_skip, entries_live, entries_none}
 use Rattle.rr_ring.proofs.ring_archive.RingArchiveCells.cell_at.Goals as goal
@@ -12,7 +12,7 @@ pub returns-in_default : goal.returns-in_default
 returns-in_default c =
     let a = c.args.self.now in
     sym (ap (λ es. option_map cell_of (slice_get es c.args.i))
-    (entries_none a.ring.rows a.newest (row_at a.ring) a.held.ascend c.in_default.is))
+    (entries_none a.ring.rows a.newest (ring_row a.ring) a.held.ascend c.in_default.is))
 
 pub loop-k-init : goal.loop-k-init
 loop-k-init c =
@@ -21,14 +21,14 @@ loop-k-init c =
     let first : z ≡ ((c.in-Some.newest -ℤ pos a.ring.rows) +ℤ pos 1) = search rules in
     record {
       left = ap (λ es. slice_get es c.args.i)
-          (entries_live a.ring.rows a.newest (row_at a.ring) a.held.ascend c.in-Some.newest z c.in-Some.is first);
+          (entries_live a.ring.rows a.newest (ring_row a.ring) a.held.ascend c.in-Some.newest z c.in-Some.is first);
       within = omega arith;
     }
 
 pub returns-then-left-row : goal.returns-then-left-row
 returns-then-left-row c =
     let a = c.args.self.now in
-    let f = row_at a.ring in
+    let f = ring_row a.ring in
     let z = to_z w64 (of_z w64 c.first_live-first.result) in
     let d : Entry = c.index-row-left.result in
     let slot : to_z w64 (of_z w64 (z +ℤ to_z w64 (of_z w64 c.from.result))) ≡ z +ℤ pos c.loop-k.k = search rules in
@@ -45,7 +45,7 @@ returns-then-left-row c =
 pub loop-k-preserved : goal.loop-k-preserved
 loop-k-preserved c =
     let a = c.args.self.now in
-    let f = row_at a.ring in
+    let f = ring_row a.ring in
     let z = to_z w64 (of_z w64 c.first_live-first.result) in
     let row : c.row-row.result.now ≡ f (z +ℤ pos c.loop-k.k) = search rules in
     let at = z +ℤ pos c.loop-k.k in
@@ -70,7 +70,7 @@ loop-k-preserved c =
 pub returns : goal.returns
 returns c =
     let a = c.args.self.now in
-    let f = row_at a.ring in
+    let f = ring_row a.ring in
     let z = to_z w64 (of_z w64 c.first_live-first.result) in
     let past : c.loop-k.k ≡ a.ring.rows = omega arith in
     sym (ap (option_map cell_of) (sym c.loop-k.invariant.left

@@ -8,7 +8,7 @@ use Rattle.rr_archive.specs.declared.entry.Entry.{Entry}
 use Rattle.rr_archive.specs.CellSlots.{cell_slot}
 use Rattle.rr_archive.specs.Row.{is_after}
 use Rattle.rr_archive.specs.Cells.{cell_of}
-use Rattle.rr_ring.specs.Ring.{row_at}
+use Rattle.rr_ring.specs.Ring.{ring_row}
 use Rattle.rr_archive.specs.LiveRows.{cells_by}
 use Rattle.rr_archive.proofs.RowCells.{is_past}
 use Rattle.rr_archive.proofs.LiveWalks.{cells_left, left_step, left_none, left_skip, entries_live, entries_none, find_skip, past_found, past_none}
@@ -18,12 +18,12 @@ pub returns-in_default : goal.returns-in_default
 returns-in_default c =
     let a = c.args.self.now in
     sym (ap (λ es. option_map cell_of (find (is_past (cell_slot c.args.slot c.args.origin)) es))
-    (entries_none a.ring.rows a.newest (row_at a.ring) a.held.ascend c.in_default.is))
+    (entries_none a.ring.rows a.newest (ring_row a.ring) a.held.ascend c.in_default.is))
 
 pub returns-then-newest-slot : goal.returns-then-newest-slot
 returns-then-newest-slot c =
     let a = c.args.self.now in
-    let f = row_at a.ring in
+    let f = ring_row a.ring in
     let p = cell_slot c.args.slot c.args.origin in
     let z = to_z w64 (of_z w64 c.first_live-first.result) in
     let first : z ≡ ((c.in-Some.newest -ℤ pos a.ring.rows) +ℤ pos 1) = search rules in
@@ -37,7 +37,7 @@ returns-then-newest-slot c =
 pub loop-k-init : goal.loop-k-init
 loop-k-init c =
     let a = c.args.self.now in
-    let f = row_at a.ring in
+    let f = ring_row a.ring in
     let z = to_z w64 (of_z w64 c.first_live-first.result) in
     let p = cell_slot (to_z w64 (of_z w64 c.args.slot)) c.args.origin in
     let first : z ≡ ((c.in-Some.newest -ℤ pos a.ring.rows) +ℤ pos 1) = search rules in
@@ -60,7 +60,7 @@ further z slot k d h = omega (arith, ints)
 pub returns-in-Some-first_after : goal.returns-in-Some-first_after
 returns-in-Some-first_after c =
     let a = c.args.self.now in
-    let f = row_at a.ring in
+    let f = ring_row a.ring in
     let z = to_z w64 (of_z w64 c.first_live-first.result) in
     let slot = to_z w64 (of_z w64 c.args.slot) in
     let back : slot ≡ c.args.slot = search rules in
@@ -84,7 +84,7 @@ returns-in-Some-first_after c =
 pub loop-k-preserved : goal.loop-k-preserved
 loop-k-preserved c =
     let a = c.args.self.now in
-    let f = row_at a.ring in
+    let f = ring_row a.ring in
     let z = to_z w64 (of_z w64 c.first_live-first.result) in
     let slot = to_z w64 (of_z w64 c.args.slot) in
     let at = z +ℤ pos c.loop-k.k in
@@ -114,7 +114,7 @@ loop-k-preserved c =
 pub returns : goal.returns
 returns c =
     let a = c.args.self.now in
-    let f = row_at a.ring in
+    let f = ring_row a.ring in
     let z = to_z w64 (of_z w64 c.first_live-first.result) in
     let slot = to_z w64 (of_z w64 c.args.slot) in
     let back : slot ≡ c.args.slot = search rules in
