@@ -162,15 +162,18 @@ publishes seat v x y more writes next book is views k at =
     )
 
 -- with all changes that are pending
-pub publishes_changes : (seat : ℕ) (v : View) (x y : CopyState) (cs : List Change) (batch : List Op) → batch ≡ ops_in (copy_names x) cs
+pub publishes_changes : (seat : ℕ) (v : View) (x y : CopyState) (cs : List Change) (batch : List Op) → batch ≡ ops_in
+    (copy_names x) cs
     → v.writes ≡ true → v.joined ≡ true → AllAccepted x.held (ops_in (copy_names x) cs)
-    → flat (front_after x.front cs).editions ≡ v.seen ++ ops_in (copy_names x) cs → (front_after x.front cs).desk ≡ v.desk
+    → flat (front_after x.front cs).editions ≡ v.seen ++ ops_in (copy_names x) cs → (front_after x.front cs).desk
+    ≡ v.desk
     → y ≡ fold copy_after x cs
     → (views : List View) → Keeps x views → get_elem? views seat ≡ some v
     → (w : View) × Keeps y (set views seat w) × (w ≡ with_published v batch)
 publishes_changes seat v x y cs batch same writes joined accepted ended desk is views k at =
     let f = k.each seat v at in
-    let held : y.held ≡ fold step x.held (ops_in (copy_names x) cs) = ap (λ (z : CopyState). z.held) is ∙ changes-held cs x in
+    let held : y.held ≡ fold step x.held (ops_in (copy_names x) cs) = ap (λ (z : CopyState). z.held) is ∙ changes-held
+    cs x in
     let front : y.front ≡ front_after x.front cs = ap (λ (z : CopyState). z.front) is ∙ changes-front cs x in
     let next : Follows x y = record {
       started = ap (λ (z : CopyState). z.started) is ∙ changes-started cs x (f.writes writes).started;

@@ -341,7 +341,8 @@ pub rows_after : (old new : Ring) (blocks : List Block) (at : ℕ) (was block : 
     (change : Change) → at ≡ position_of old.rows slot → slice_get blocks (at / BLOCK_ROWS) ≡ Some was
     → items_by_position blocks ≡ items_by_position old.blocks.items → new.rows ≡ old.rows
     → new.blocks.items ≡ set blocks (at / BLOCK_ROWS) block
-    → IsChanged (at % BLOCK_ROWS) slot (entry_after (block_items was (at % BLOCK_ROWS) slot) origin change) (block_items was)
+    → IsChanged (at % BLOCK_ROWS) slot (entry_after (block_items was (at % BLOCK_ROWS) slot) origin change)
+    (block_items was)
     (block_items block) → IsRowChanged old.rows slot (entry_after (ring_row old slot) origin change) (ring_row old)
     (ring_row new)
 rows_after old new blocks at was block slot origin change is has same rows blocks_is changed =

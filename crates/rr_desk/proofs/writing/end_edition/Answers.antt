@@ -31,7 +31,8 @@ returns-clause-ready g c =
     let same : b.desk ≡ c.args.book.now.desk = search rules in
     subst (λ (z : View × ReplicaWithRoom × BookFront). IsReady z.0 (replica_state z.1) (names_of z.1) z.2 (changes n))
     (λ i. (view (desk i).place, (desk i).shown.value.replica, (desk i).shown.value.front))
-    (ended (view w.desk.place) (replica_state w.desk.shown.value.replica) (names_of w.desk.shown.value.replica) w.desk.shown.value.front b (changes w)
+    (ended (view w.desk.place) (replica_state w.desk.shown.value.replica) (names_of w.desk.shown.value.replica)
+    w.desk.shown.value.front b (changes w)
     (changes n) c.requires.writes c.requires.joined c.requires.accepted (same ∙ c.requires.desk) whole more)
 
 pub returns-clause-names : goal.returns-clause-names

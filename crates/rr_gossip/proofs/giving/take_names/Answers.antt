@@ -122,7 +122,8 @@ returns-then-branch-clause-limit g c =
 
 pub loop-frame-smaller : goal.loop-frame-smaller
 loop-frame-smaller g c =
-    let moves = giver_moves _ _ c.loop-frame.giver c.take.new.self _ c.in_ok-take.field-0 c.in_ok-take.ensures.takes.taken in
+    let moves = giver_moves _ _ c.loop-frame.giver c.take.new.self _ c.in_ok-take.field-0
+    c.in_ok-take.ensures.takes.taken in
     omega (arith, moves.room, moves.taken, moves.limit)
 
 pub loop-frame-preserved : goal.loop-frame-preserved

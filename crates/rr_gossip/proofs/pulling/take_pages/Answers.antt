@@ -127,7 +127,8 @@ loop-frame-preserved g c =
     record {
       frames = so_far.frames ++ frame ∷ [];
       read = subst (WasRead [] _ _ (so_far.frames ++ frame ∷ [])) (sym none)
-          (frame_more [] _ _ _ so_far.frames c.loop-frame.frame.items frame so_far.read c.in_ok-read_frame.ensures.reads.read
+          (frame_more [] _ _ _ so_far.frames c.loop-frame.frame.items frame so_far.read
+          c.in_ok-read_frame.ensures.reads.read
           c.in_ok-read_frame.ensures.whole);
       few = rw none (omega arith);
       cells = so_far.cells ++ takes.0;

@@ -10,7 +10,8 @@ returns-then-not-is_valid-clause-found c =
     let told = rw back at c.is_valid.ensures in
     let read = cell_refused c.args.version c.args.schema.now c.args.bytes.now c.in_ok-key.key.now c.in_ok-key.rest.now
     c.in_ok-archive.archive c.in_ok-archive.rest.now c.in_ok-slot.slot c.in_ok-slot.rest.now c.in_ok-origin.origin
-    c.in_ok-origin.rest.now c.in_ok-contribution.contribution c.in_ok-contribution.rest.now c.in_ok-key.ensures.found.read
+    c.in_ok-origin.rest.now c.in_ok-contribution.contribution c.in_ok-contribution.rest.now
+    c.in_ok-key.ensures.found.read
     c.in_ok-archive.ensures.found.read c.in_ok-slot.ensures.read c.in_ok-origin.ensures.read
     c.in_ok-contribution.ensures.read
     (λ v. true≢false (sym (told.1 v) ∙ c.if-not-is_valid.true)) in
@@ -25,7 +26,8 @@ returns-clause-found c =
     ne_eqb c.in_ok-origin.origin 0 (λ e. absurd (omega (arith, e, origin.0))) in
     let read = cell_read c.args.version c.args.schema.now c.args.bytes.now c.in_ok-key.key.now c.in_ok-key.rest.now
     c.in_ok-archive.archive c.in_ok-archive.rest.now c.in_ok-slot.slot c.in_ok-slot.rest.now c.in_ok-origin.origin
-    c.in_ok-origin.rest.now c.in_ok-contribution.contribution c.in_ok-contribution.rest.now c.in_ok-key.ensures.found.read
+    c.in_ok-origin.rest.now c.in_ok-contribution.contribution c.in_ok-contribution.rest.now
+    c.in_ok-key.ensures.found.read
     c.in_ok-archive.ensures.found.read c.in_ok-slot.ensures.read c.in_ok-origin.ensures.read
     c.in_ok-contribution.ensures.read some (told.0 c.if-not-is_valid.false) in
     record {

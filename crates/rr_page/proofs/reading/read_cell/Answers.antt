@@ -14,12 +14,14 @@ pub returns-clause-reads : goal.returns-clause-reads
 returns-clause-reads c = record {
   read =
       let are = AreBytes-from_get_or c.args.bytes.now (λ i. omega (arith, c.type_inv.bytes i)) in
-      rest_read c.args.version c.args.schema.now c.args.bytes.now (owned_cell c.in_ok-cell.cell) c.in_ok-cell.rest.now are
+      rest_read c.args.version c.args.schema.now c.args.bytes.now (owned_cell c.in_ok-cell.cell) c.in_ok-cell.rest.now
+      are
       c.in_ok-cell.ensures.read;
   memory = search rules;
   cell =
       let are = AreBytes-from_get_or c.args.bytes.now (λ i. omega (arith, c.type_inv.bytes i)) in
-      cell_bounded c.args.version c.args.schema.now c.args.bytes.now (owned_cell c.in_ok-cell.cell) c.in_ok-cell.rest.now
+      cell_bounded c.args.version c.args.schema.now c.args.bytes.now (owned_cell c.in_ok-cell.cell)
+      c.in_ok-cell.rest.now
       are c.in_ok-cell.ensures.read;
 }
 

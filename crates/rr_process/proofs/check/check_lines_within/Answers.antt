@@ -92,7 +92,8 @@ returns-in_err-write_items g c = record {
         (report_of c.args.precision c.args.now bytes) in
         let piece = take c.in-Some.given c.read_once.new.buf in
         let takes = c.in_ok-push.ensures in
-        let pushed = HasReported-push c.loop.checker c.push.new.self so_far.taken piece so_far.text c.loop.invariant.going
+        let pushed = HasReported-push c.loop.checker c.push.new.self so_far.taken piece so_far.text
+        c.loop.invariant.going
         takes so_far.reported in
         let precision = takes.precision ∙ c.loop.invariant.precision in
         let now = takes.now ∙ c.loop.invariant.now ∙ to_z-of_z {w = w64} {z = c.args.now} (search rules) in

@@ -32,7 +32,8 @@ loop-field-preserved c =
     let so_far = rw back at c.loop-field.invariant in
     let digits : c.as_bytes-digits.result.now ≡ signed_decimal c.unwrap_or-time.result = search rules in
     let value : c.as_bytes-value.result.now ≡ signed_decimal field.value = search rules in
-    let added = rw (value, digits, c.deref.ensures.value, c.in_ok-write_key.ensures.written) at c.in_ok-push_plain.ensures in
+    let added = rw (value, digits, c.deref.ensures.value, c.in_ok-write_key.ensures.written)
+    at c.in_ok-push_plain.ensures in
     let more = texts_more (text_at p c.unwrap_or-time.result) field_view items i any c.loop-field-test.true in
     rw back (added ∙ ap (λ (t : List ℕ). t ++ text_at p c.unwrap_or-time.result (field_view field)) so_far
     ∙ append_assoc start before (text_at p c.unwrap_or-time.result (field_view field))

@@ -127,7 +127,8 @@ returns-in_err-has_own-clause-loads g c = record {
   end = search rules;
   stream =
       let p = err_from_is_err_and c.from_residual-in_err-has_own.result c.from_residual-in_err-has_own.ensures.1 in
-      rw (p.1, p.2) (loads_then_refused _ _ _ _ _ _ c.head_from.ensures.piece.stream c.in_err-has_own.ensures.loads.stream);
+      rw (p.1, p.2) (loads_then_refused _ _ _ _ _ _ c.head_from.ensures.piece.stream
+      c.in_err-has_own.ensures.loads.stream);
   memory =
       let old = g.R.Read.remaining (inner_of c.args.input.now) in
       let now = g.R.Read.remaining (inner_of c.head_from.new.input) in

@@ -87,7 +87,8 @@ returns-clause-saves g c = record {
       c.finalize.result (c.finalize.ensures (c.deref.result.now ++ flat_map (cell_text latest) es)
       (c.in_ok-write_cells.ensures.digest c.deref.result.now (c.write_piece.ensures.digest [] c.new-hasher.ensures)))
       in
-      written_whole c.args.replica.now.schema c.args.replica.now.origin es c.deref.result.now is a b d e c.finalize.result
+      written_whole c.args.replica.now.schema c.args.replica.now.origin es c.deref.result.now is a b d e
+      c.finalize.result
       c.in_ok-write_piece.ensures.writes.whole c.in_ok-write_cells.ensures.whole digest c.in_ok-write_all.ensures.whole;
   front =
       let es = entries c.args.replica.now.cells in
@@ -104,7 +105,8 @@ returns-clause-saves g c = record {
       c.finalize.result (c.finalize.ensures (c.deref.result.now ++ flat_map (cell_text latest) es)
       (c.in_ok-write_cells.ensures.digest c.deref.result.now (c.write_piece.ensures.digest [] c.new-hasher.ensures)))
       in
-      whole_is_front a e _ (written_whole c.args.replica.now.schema c.args.replica.now.origin es c.deref.result.now is a b
+      whole_is_front a e _ (written_whole c.args.replica.now.schema c.args.replica.now.origin es c.deref.result.now is a
+      b
       d e c.finalize.result c.in_ok-write_piece.ensures.writes.whole c.in_ok-write_cells.ensures.whole digest
       c.in_ok-write_all.ensures.whole);
   failures_never_fall = search rules;

@@ -19,7 +19,8 @@ returns-in_default g c = record {
   whole =
       let all = none_left (entries c.args.replica.now.cells) c.loop.counter c.loop.next c.loop.invariant.next
       c.in_default.is in
-      subst (λ es. Appends (g.W.Write.contents (inner_of c.args.output.now)) (g.W.Write.contents (inner_of c.loop.output))
+      subst (λ es. Appends (g.W.Write.contents (inner_of c.args.output.now))
+      (g.W.Write.contents (inner_of c.loop.output))
       (flat_map (cell_text latest) es)) all c.loop.invariant.written;
   front =
       let all = none_left (entries c.args.replica.now.cells) c.loop.counter c.loop.next c.loop.invariant.next
@@ -29,7 +30,8 @@ returns-in_default g c = record {
   digest =
       let all = none_left (entries c.args.replica.now.cells) c.loop.counter c.loop.next c.loop.invariant.next
       c.in_default.is in
-      λ m h. subst (λ es. Holds256 c.loop.hasher (m ++ flat_map (cell_text latest) es)) all (c.loop.invariant.digest m h);
+      λ m h. subst (λ es. Holds256 c.loop.hasher (m ++ flat_map (cell_text latest) es)) all
+      (c.loop.invariant.digest m h);
   fits = search rules;
   failures_never_fall = search rules;
   failed = search rules;
@@ -91,7 +93,8 @@ returns g c = record {
       let count = c.requires.count_given in
       let all = all_taken (entries c.args.replica.now.cells) c.loop.counter
       (omega (arith, past, count, len-entries c.args.replica.now.cells)) in
-      subst (λ es. Appends (g.W.Write.contents (inner_of c.args.output.now)) (g.W.Write.contents (inner_of c.loop.output))
+      subst (λ es. Appends (g.W.Write.contents (inner_of c.args.output.now))
+      (g.W.Write.contents (inner_of c.loop.output))
       (flat_map (cell_text latest) es)) all c.loop.invariant.written;
   front =
       let past = c.loop-test.false in
@@ -105,7 +108,8 @@ returns g c = record {
       let count = c.requires.count_given in
       let all = all_taken (entries c.args.replica.now.cells) c.loop.counter
       (omega (arith, past, count, len-entries c.args.replica.now.cells)) in
-      λ m h. subst (λ es. Holds256 c.loop.hasher (m ++ flat_map (cell_text latest) es)) all (c.loop.invariant.digest m h);
+      λ m h. subst (λ es. Holds256 c.loop.hasher (m ++ flat_map (cell_text latest) es)) all
+      (c.loop.invariant.digest m h);
   fits = search rules;
   failures_never_fall = search rules;
   failed = search rules;

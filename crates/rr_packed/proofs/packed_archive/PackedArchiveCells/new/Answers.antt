@@ -19,7 +19,8 @@ invariant_of-result c =
     record {
       some_row = c.requires.rows_at_least;
       held = subst (λ n. IsArchiveStateBy c.args.rows None n f)
-          (sym (ap len (cells_none c.args.rows f (empty c.new.result c.new.ensures)) ∙ len-empty cell_slot_cmp Contribution))
+          (sym (ap len (cells_none c.args.rows f (empty c.new.result c.new.ensures)) ∙ len-empty cell_slot_cmp
+          Contribution))
           (held_none c.args.rows f (empty c.new.result c.new.ensures));
     }
 

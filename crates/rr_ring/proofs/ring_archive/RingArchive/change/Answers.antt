@@ -121,7 +121,8 @@ invariant_of-self-2 c =
     let counted = count_after a.count c.dead_cells-dead.result c.from.result _ _ _ _ a.held.counted s.left s.new len in
     record {
       held = rw top (subst (λ n. IsArchiveStateBy n (Some c.later-newest.result)
-          ((a.count - c.dead_cells-dead.result) + c.from.result) (ring_row c.change.new.self)) (sym c.change.ensures.rows)
+          ((a.count - c.dead_cells-dead.result) + c.from.result) (ring_row c.change.new.self))
+          (sym c.change.ensures.rows)
           (change_held a.ring.rows a.newest a.count c.later-newest.result c.args.slot e f (ring_row c.change.new.self)
           a.ring.rows_at_least a.held s.set s.latest s.live _ counted in_range));
     }
