@@ -12,20 +12,20 @@ use Rattle.rr_archive.specs.Cells.{ArchiveCells, with_change}
 use Rattle.rr_archive.specs.Changes.{Fits}
 use Rattle.rr_archive.specs.Row.{with_entry, ascends}
 
--- nothing changed; there is room unless memory ran out, which it doesn't where there was room
+-- nothing changed; there is room unless memory ran out, and it doesn't if there was room
 pub record MakesRoom {S : Type 0} (had has : Bool) (old new : S) (result : Result (Unit {0}) AllocError) : Type 0 where
   pub same : new ≡ old
   pub room : OnOk result (IsTrue has)
   pub room_suffices : IsTrue had → IsOk result
 
--- it was changed, or memory ran out and it was not; where there was room, memory doesn't run out
+-- it was changed, or memory ran out and it was not; if there was room, memory doesn't run out
 pub record ChangesStored {S T : Type 0} (set : S → S → Type 0) (had : Bool) (old new : S) (result : Result T AllocError)
     : Type 0 where
   pub changed : OnOk result (set old new)
   pub unchanged : OnErr result (new ≡ old)
   pub room : IsTrue had → IsOk result
 
--- an entry was set in a row whose entries ascend, or memory ran out and nothing changed; where there was room for an
+-- an entry was set, or memory ran out and nothing changed; entries that ascend still do; if there was room for an
 -- entry more, memory doesn't run out
 pub record SetsEntry {T : Type 0} (e : Entry) (old new : Vec Entry) (result : Result T AllocError) : Type 0 where
   pub changed : OnOk result (new.items ≡ with_entry old.items e)
@@ -47,8 +47,8 @@ pub record CanTake (cells : ArchiveCells) (p : CellSlot) (change : Change) : Typ
   pub slot : IsSlot p.slot
   pub fits : Fits (get cells p) change
 
--- the cell at a cell slot was changed, and the live cells stay; nothing changed if it is past the horizon, or memory
--- ran out, which it doesn't where the archive was ready
+-- the cell at a cell slot was changed, and the live cells stay; nothing changed if it is past the horizon or memory
+-- ran out; if the archive was ready, memory doesn't run out
 pub record ChangesCell (p : CellSlot) (change : Change) (newest : Option ℤ) (ready : Bool) (was_rows rows : ℕ)
     (old new : ArchiveCells) (result : Result (Unit {0}) AllocError) : Type 0 where
   pub changed : OnOk result (new ≡ trimmed (is_live_at was_rows) (with_change old p change))
