@@ -18,6 +18,7 @@ use Rattle.rr_schema.specs.Schema.{Layout, IsLayout}
 use Rattle.rr_cluster.specs.declared.fault.CommandFault.{CommandFault}
 use Rattle.rr_cluster.specs.declared.fault.CommandFault.TheVariants.{Save}
 use Rattle.rr_cluster.specs.declared.cluster.Cluster.{Cluster}
+use Rattle.rr_cluster.specs.Command.{Command, IsOneLine}
 use Rattle.rr_cluster.specs.declared.stop.Stop.{Stop}
 use Rattle.rr_cluster.specs.declared.stop.Stop.TheVariants.{Refused, Memory}
 use Rattle.rr_page.specs.Page.{IsPage}
@@ -125,3 +126,8 @@ module _ {A : Type 0} {g : Ghosts A} where
   abbrev pub Obeys : Option (Cluster A g) → Option (State Cells) → List ℕ → List ℕ → Result (Unit {0}) Stop
       → Result (Option (State Cells) × List ℕ) CommandFault → Type 0
   Obeys new m before after = Matches (λ _ done. Prints new before after done) (Prints new before after (m, []))
+
+-- a command of one line, to a cluster that stands for a state
+pub record CanObey {M : Type 0} (command : Command) (StandsFor : M → Type 0) : Type 0 where
+  pub line : IsOneLine command
+  pub state : (m : M) × StandsFor m

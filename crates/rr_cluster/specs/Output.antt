@@ -1,5 +1,5 @@
 -- The output of a script.
-use Rattle.std.specs.Prelude.{ℕ, List, [], ◌∷◌, ◌++◌, Option, None, Result, Ok, Err}
+use Rattle.std.specs.Prelude.{◌≡◌, ℕ, List, [], ◌∷◌, ◌++◌, Option, None, Result, Ok, Err}
 use Rattle.rr_fetch.specs.Records.{refusal_text}
 use Rattle.rr_cluster.specs.declared.fault.CommandFault.{CommandFault}
 use Rattle.rr_cluster.specs.declared.fault.CommandFault.TheVariants.{Syntax}
@@ -7,7 +7,7 @@ use Rattle.rr_cluster.specs.declared.script.fault.SyntaxFault.{SyntaxFault}
 use Rattle.rr_cluster.specs.Command.{Command}
 use Rattle.rr_cluster.specs.Commands.{step}
 use Rattle.rr_cluster.specs.Fault.{command_fault_name}
-use Rattle.rr_cluster.specs.Model.{Model}
+use Rattle.rr_cluster.specs.Model.{Model, cell_model, sample_model}
 use Rattle.rr_cluster.specs.Script.{commands_of}
 use Rattle.rr_cluster.specs.State.{State}
 
@@ -31,3 +31,8 @@ module _ {K : Type 0} (model : Model K) where
   -- what a script prints
   abbrev pub output_of : List ℕ → List ℕ
   output_of script = output_from None (commands_of script)
+
+-- a text is what a script prints, by the cells of its nodes and by the samples that reached them
+pub record IsOutput (script text : List ℕ) : Type 0 where
+  pub cells : text ≡ output_of cell_model script
+  pub samples : text ≡ output_of sample_model script

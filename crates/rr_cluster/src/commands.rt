@@ -2,9 +2,9 @@
 
 ghost use Rattle.std.specs.Prelude.{◌≡◌, ℕ, List, ◌++◌, Option, None, Some, Result};
 ghost use Rattle.rr_cells.specs.Cells.{Cells};
-ghost use Rattle.rr_cluster.specs.Command.{view_of, IsOneLine};
+ghost use Rattle.rr_cluster.specs.Command.{view_of};
 ghost use Rattle.rr_cluster.specs.Commands.{step};
-ghost use Rattle.rr_cluster.specs.Meaning.{Begins, OptionRepresents, Obeys, Represents};
+ghost use Rattle.rr_cluster.specs.Meaning.{Begins, CanObey, OptionRepresents, Obeys, Represents};
 ghost use Rattle.rr_cluster.specs.Model.{cell_model};
 ghost use Rattle.rr_cluster.specs.State.{State};
 ghost use Rattle.rr_cluster.specs.Stop.{Gives, Matches};
@@ -50,8 +50,7 @@ pub(crate) fn run_command<A: Cells>(
     event: Event<'_>,
     text: &mut Vec<u8>,
 ) -> Result<(), Stop>
-    requires line { IsOneLine (view_of event) }
-    requires state { (m : Option (State Cells)) × OptionRepresents cluster.old m }
+    requires { CanObey (view_of event) (OptionRepresents cluster.old) }
     ensures { (m : Option (State Cells)) → OptionRepresents cluster.old m
         → Obeys cluster.new m text.old.items text.new.items result
         (step cell_model m (view_of event.entry)) }
@@ -84,8 +83,7 @@ fn run_later_command<A: Cells>(
     event: Event<'_>,
     text: &mut Vec<u8>,
 ) -> Result<(), Stop>
-    requires line { IsOneLine (view_of event) }
-    requires state { (m : State Cells) × Represents cluster.old m }
+    requires { CanObey (view_of event) (Represents cluster.old) }
     ensures { (m : State Cells) → Represents cluster.old m
         → Obeys (Some cluster.new) (Some m) text.old.items text.new.items result
         (step cell_model (Some m) (view_of event.entry)) }

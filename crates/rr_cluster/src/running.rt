@@ -4,7 +4,7 @@ ghost use Rattle.std.specs.Prelude.{◌≡◌, Option, IfOk, OnOk};
 ghost use Rattle.rr_cells.specs.Cells.{Cells};
 ghost use Rattle.rr_cluster.specs.Meaning.{OptionRepresents, Prints};
 ghost use Rattle.rr_cluster.specs.Model.{cell_model, sample_model};
-ghost use Rattle.rr_cluster.specs.Output.{after_line, output_of};
+ghost use Rattle.rr_cluster.specs.Output.{IsOutput, after_line, output_of};
 ghost use Rattle.rr_cluster.specs.Script.{said_view, SaysOneLine};
 ghost use Rattle.rr_cluster.specs.State.{State};
 
@@ -34,8 +34,7 @@ pub fn run(alloc: Global, script: &[u8]) -> Result<Vec<u8>, RunFault>
 
 /// What a script prints, as [`run`] says, with the series of all nodes in archives of this kind.
 pub fn run_on<A: Cells>(alloc: Global, script: &[u8]) -> Result<Vec<u8>, RunFault>
-    ensures cells { IfOk result (λ text. text.items ≡ output_of cell_model script.now) }
-    ensures samples { IfOk result (λ text. text.items ≡ output_of sample_model script.now) }
+    ensures { IfOk result (λ text. IsOutput script.now text.items) }
 {
     let lines = parse_script(alloc, script)?;
     let mut cluster: Option<Cluster<A>> = None;

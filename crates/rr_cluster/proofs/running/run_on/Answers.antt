@@ -4,7 +4,7 @@ use Rattle.std.proofs.Math.Seq.{drop-length}
 use Rattle.rr_cluster.specs.declared.script.event.Event.TheVariants as event
 use Rattle.rr_cluster.specs.declared.script.event.ScriptLine.{ScriptLine}
 use Rattle.rr_cluster.specs.Model.{cell_model}
-use Rattle.rr_cluster.specs.Output.{after_line, output_from}
+use Rattle.rr_cluster.specs.Output.{after_line, output_from, output_of}
 use Rattle.rr_cluster.specs.Script.{line_view, said_view}
 use Rattle.rr_cluster.proofs.AgreementLemmas.{scripts_agree}
 use Rattle.rr_cluster.proofs.ScriptLemmas.{line_says_one_line}
@@ -45,16 +45,14 @@ loop-line-preserved g c =
           ∙ ap (λ (text : List ℕ). c.loop-line.text.items ++ text) (sym more) ∙ before.2,
     )
 
-pub returns-clause-cells : goal.returns-clause-cells
-returns-clause-cells g c =
+pub returns : goal.returns
+returns g c =
     let lines = c.deref-line-items.result.now in
     let before = c.loop-line.invariant in
     let last : c.loop-line.line-index ≡ length lines =
     omega (arith, c.loop-line-test.false, c.loop-line.auto.line-index-end) in
     let none = ap (λ (k : ℕ). output_from cell_model before.0 (map line_view (drop k lines))) last
     ∙ ap (λ (ls : List ScriptLine). output_from cell_model before.0 (map line_view ls)) (drop-length lines) in
-    sym (append-nil c.loop-line.text.items) ∙ ap (λ (text : List ℕ). c.loop-line.text.items ++ text) (sym none)
-    ∙ before.2
-
-pub returns-clause-samples : goal.returns-clause-samples
-returns-clause-samples g c = returns-clause-cells g c ∙ scripts_agree c.args.script.now
+    let cells : c.loop-line.text.items ≡ output_of cell_model c.args.script.now = sym (append-nil c.loop-line.text.items)
+    ∙ ap (λ (text : List ℕ). c.loop-line.text.items ++ text) (sym none) ∙ before.2 in
+    record { cells = cells; samples = cells ∙ scripts_agree c.args.script.now }
