@@ -1,7 +1,10 @@
 -- What the streams of a connection tell of a call's faults.
-use Rattle.std.specs.Prelude.{◌≡◌, ℕ, Result, Err, IfErr}
+use Rattle.std.specs.Prelude.{◌≡◌, ◌⊎◌, ℕ, ◌≤◌, List, Option, None, Result, Err, IfErr, IfOk, OnOk, option_to_list}
+use Rattle.std.specs.Io.KnownBytes.{Consumes}
 use Rattle.rr_io.specs.declared.counted.Counted.{Counted}
-use Rattle.rr_io.specs.Stream.{HasFailed, HasFewReads, HasReads, KeepsFailures}
+use Rattle.rr_io.specs.Counted.{inner_of}
+use Rattle.rr_io.specs.Stream.{HasFailed, HasFewReads, HasReads, IsReadOut, KeepsFailures, WritesFront, WritesWhole}
+use Rattle.rr_text.specs.declared.limits.TheConstants.{MAX_READS}
 use Rattle.rr_node.specs.declared.fault.NodeFault.{NodeFault}
 use Rattle.rr_node.specs.declared.fault.NodeFault.TheVariants.{ReadFailed, TooManyReads, WriteFailed}
 use Rattle.rr_node.specs.Fault.{IsOfWriting}
@@ -17,3 +20,21 @@ pub record WritesOut {W X : Type 0} (old new : Counted W) (result : Result X Nod
   pub failures_never_fall : KeepsFailures old new
   pub failed : result ≡ Err WriteFailed → HasFailed old new
   pub faults : IfErr result IsOfWriting
+
+-- the first byte of an input was read, none at its end, by as many reads as are told
+pub record ReadsFirst {R : Type 0} (remaining : R → Option (List ℕ)) (old new : Counted R)
+    (result : Result (Option ℕ × ℕ) NodeFault) : Type 0 where
+  pub bytes : IfOk result (λ first. Consumes (remaining (inner_of old)) (remaining (inner_of new))
+      (option_to_list first.0))
+  pub end : IfOk result (λ first. first.0 ≡ None → IsReadOut remaining new)
+  pub used : IfOk result (λ first. (first.1 ≤ MAX_READS) × HasReads first.1 old new × HasFewReads first.1 old new)
+  pub reads : ReadsWithin MAX_READS old new result
+  pub faults : IfErr result (λ fault. (fault ≡ ReadFailed) ⊎ (fault ≡ TooManyReads))
+  pub failures_never_fall : KeepsFailures old new
+
+-- a text was written whole and passed on; or the result says why not, and a front of it was written
+pub record Sends {W X : Type 0} (contents : W → Option (List ℕ)) (old new : Counted W) (text : List ℕ)
+    (result : Result X NodeFault) : Type 0 where
+  pub whole : OnOk result (WritesWhole contents old new text)
+  pub front : WritesFront contents old new text
+  pub writes : WritesOut old new result

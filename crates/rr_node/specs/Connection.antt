@@ -1,22 +1,31 @@
 -- How the code takes the lines of a connection.
-use Rattle.std.specs.Prelude.{◌≡◌, ◌⊎◌, ℕ, ◌+◌, ◌≤◌, ℤ, true, List, [], ◌++◌, length, count_by, Result, Ok, Err, Option, if◌then◌else◌}
+use Rattle.std.specs.Prelude.{◌≡◌, ◌≢◌, ◌⊎◌, ℕ, ◌+◌, ◌≤◌, ℤ, true, List, [], ◌∷◌, ◌++◌, length, count_by, Result, Ok, Err, Option, IfOk, OnErr, OnOk, if◌then◌else◌}
 use Rattle.std.specs.declared.alloc.AllocError.{AllocError}
 use Rattle.std.specs.Io.KnownBytes.{Appends}
 use mathlib.Core.List.{IsPrefix}
-use Rattle.rr_feed.specs.Feed.{FeedState, state, MayCome}
+use Rattle.rr_feed.specs.Feed.{FeedState, empty_feed, items_left, state, MayCome}
 use Rattle.rr_feed.specs.Items.{Item, items}
 use Rattle.rr_feed.specs.Laws.{IsFed}
-use Rattle.rr_io.specs.Stream.{AppendsPrefix}
+use Rattle.rr_io.specs.declared.counted.Counted.{Counted}
+use Rattle.rr_io.specs.Counted.{inner_of}
+use Rattle.rr_io.specs.Stream.{AppendsPrefix, WritesWhole}
+use Rattle.rr_line.specs.declared.fault.LineFault.{LineFault}
+use Rattle.rr_line.specs.declared.fault.LineFault.TheVariants.{Memory}
+use Rattle.rr_line.specs.Fault.{line_fault_name}
+use Rattle.rr_line.specs.Known.{Sample, samples_of}
+use Rattle.rr_point.specs.Point.{PointView}
 use Rattle.rr_text.specs.declared.limits.TheConstants.{MAX_FIELDS}
 use Rattle.rr_fetch.specs.Records.{refusal_text}
 use Rattle.rr_desk.specs.KeeperState.{KeeperState, own_replica, with_all_published}
 use Rattle.rr_node.specs.declared.answer.Answer.{Answer}
 use Rattle.rr_node.specs.declared.answer.Answer.TheVariants as says
 use Rattle.rr_node.specs.declared.connection.Connection.{Connection}
+use Rattle.rr_node.specs.declared.fault.NodeFault.{NodeFault}
 use Rattle.rr_node.specs.declared.report.Report.{Report}
 use Rattle.rr_node.specs.declared.rules.Rules.{Rules}
 use Rattle.rr_host.specs.Clock.{HasGiven}
-use Rattle.rr_node.specs.Lines.{Verdict, skipped, put, refused, Served, after, answer_of, asks_clock, first_of, keeper_with, keeper_with_some, keeper_within, verdict_of}
+use Rattle.rr_node.specs.Blame.{WritesOut}
+use Rattle.rr_node.specs.Lines.{Verdict, skipped, put, refused, Served, after, answer_of, asks_clock, first_of, keeper_with, keeper_with_some, keeper_within, verdict_of, verdict_of_point}
 
 -- the answer tells what came of a verdict
 abbrev pub IsAnswer : Verdict → Answer → Type 0
@@ -58,12 +67,37 @@ HandledAt rules item asked old new result =
     new result)
     ⊎ ((asked ≡ []) × (new ≡ old) × ((e : AllocError) × (result ≡ Err e)))
 
+-- a point is taken at a moment that the clock gives
+abbrev pub TakenNow : Option ℕ → PointView → KeeperState → KeeperState → Option (List ℤ) → Option (List ℤ)
+    → Result Answer AllocError → Type 0
+TakenNow lead p old new given since result =
+    (now : ℤ) × HasGiven given since (now ∷ []) × Handled (verdict_of_point lead now (own_replica old) p) old new result
+
+-- a point is taken, which has no more samples than a line has fields
+pub record TakesPoint (lead : Option ℕ) (p : PointView) (old new : KeeperState) (given since : Option (List ℤ))
+    (result : Result Answer AllocError) : Type 0 where
+  pub taken : TakenNow lead p old new given since result
+  pub count_fits : IfOk result IsFew
+
+-- samples are taken as a point that says them and no others, at this time or none
+pub record TakesSamples (lead : Option ℕ) (samples : List Sample) (time : Option ℤ) (old new : KeeperState)
+    (given since : Option (List ℤ)) (result : Result Answer AllocError) : Type 0 where
+  pub taken : (p : PointView) → samples_of p ≡ samples → p.time ≡ time → TakenNow lead p old new given since result
+  pub count_fits : IfOk result IsFew
+
 -- a line is taken at a moment of the clock
 pub record HandledItem (rules : Rules) (item : Item) (old new : KeeperState) (given since : Option (List ℤ))
     (result : Result Answer AllocError) : Type 0 where
   pub asked : List ℤ
   pub gave : HasGiven given since asked
   pub taken : HandledAt rules item asked old new result
+  pub count_fits : IfOk result IsFew
+
+-- a line that is refused is answered by the name of its fault, unless memory ran out
+pub record Refuses (fault : LineFault) (result : Result Answer AllocError) : Type 0 where
+  pub named : IfOk result (IsAnswer (refused (line_fault_name fault)))
+  pub read : OnOk result (fault ≢ Memory)
+  pub count_fits : IfOk result IsFew
 
 -- a piece was taken in
 pub record PushedPiece (old new : Connection) (piece : List ℕ) : Type 0 where
@@ -91,6 +125,13 @@ pub record HasServed (c : Connection) (start : KeeperState) (pushed : List ℕ) 
   pub asked : length moments ≡ count_by (asks_clock c.rules) handed
   pub served : (later : List ℤ) → after c.rules start (moments ++ later) handed ≡ served_so_far c now answers later
 
+-- no line came yet of a connection with these rules
+pub record IsNew (expected : Rules) (c : Connection) : Type 0 where
+  pub feed : c.feed ≡ empty_feed
+  pub pieces : c.pieces ≡ 0
+  pub rules : c.rules ≡ expected
+  pub nothing : (start : KeeperState) → HasServed c start [] [] start []
+
 -- items were handed out and served with these moments and answers
 pub record ServedItems (old new : Connection) (before now : KeeperState) (moments : List ℤ) (answers : List ℕ)
     : Type 0 where
@@ -100,6 +141,12 @@ pub record ServedItems (old new : Connection) (before now : KeeperState) (moment
   pub ended : new.feed.ended ≡ old.feed.ended
   pub pieces : new.pieces ≡ old.pieces
   pub rules : new.rules ≡ old.rules
+
+-- all items that could be handed out were, and served with these moments and answers
+pub record ServedAllItems (old new : Connection) (before now : KeeperState) (moments : List ℤ) (answers : List ℕ)
+    : Type 0 where
+  pub items : ServedItems old new before now moments answers
+  pub all_taken : items_left new.feed ≡ []
 
 -- the inputs that begin with what was pushed
 abbrev pub ComesAfter : FeedState → List ℕ → List ℕ → Type 0
@@ -163,3 +210,25 @@ ServedAll old before now counted moments written since =
     (start : KeeperState) (pushed : List ℕ) (given : List ℤ) (text : List ℕ) (first : Option (List ℕ))
     → HasServed old start pushed given before text
     → Appends first written text → IsWhole old.rules start now counted pushed (given ++ moments) first since
+
+-- all lines that came were served, and what is answered to them was written; or memory ran out or a write failed, and
+-- the lines were served so far
+pub record AnswersLines {C W X : Type 0} (given : C → Option (List ℤ)) (contents : W → Option (List ℕ))
+    (old new : Connection) (before now : KeeperState) (clock clock_new : C) (output output_new : Counted W)
+    (result : Result X NodeFault) : Type 0 where
+  pub served : OnOk result ((moments : List ℤ) × (text : List ℕ) × HasGiven (given clock) (given clock_new) moments
+      × WritesWhole contents output output_new text × ServedAllItems old new before now moments text)
+  pub stopped : OnErr result ((moments : List ℤ) × HasGiven (given clock) (given clock_new) moments
+      × StoppedWriting old before now moments (contents (inner_of output)) (contents (inner_of output_new)))
+  pub writes : WritesOut output output_new result
+
+-- the lines of the whole input were served, all was published, and all answers and the report were written; or memory
+-- ran out or a write failed, and the lines were served so far
+pub record Finishes {C W : Type 0} (given : C → Option (List ℤ)) (contents : W → Option (List ℕ)) (old : Connection)
+    (before now : KeeperState) (clock clock_new : C) (output output_new : Counted W) (result : Result Report NodeFault)
+    : Type 0 where
+  pub served : IfOk result (λ counted. (moments : List ℤ) × HasGiven (given clock) (given clock_new) moments
+      × ServedAll old before now counted moments (contents (inner_of output)) (contents (inner_of output_new)))
+  pub stopped : OnErr result ((moments : List ℤ) × HasGiven (given clock) (given clock_new) moments
+      × StoppedAtEnd old before now moments (contents (inner_of output)) (contents (inner_of output_new)))
+  pub writes : WritesOut output output_new result

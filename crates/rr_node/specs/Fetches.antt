@@ -1,11 +1,13 @@
 -- How the lines of a fetch connection are answered.
-use Rattle.std.specs.Prelude.{◌≡◌, ◌⊎◌, ℕ, ◌==◌, nat_eq, Bool, true, false, List, [], ◌∷◌, ◌++◌, codes, Option, None, Some, Result, Ok, Err, ok_or, drop, option_and_then, IfSome, IfErr, OnOk, OnErr, if◌then◌else◌}
+use Rattle.std.specs.Prelude.{◌≡◌, ◌⊎◌, ℕ, ◌==◌, nat_eq, Bool, true, false, List, [], ◌∷◌, ◌++◌, codes, Option, None, Some, Result, Ok, Err, ok_or, drop, option_and_then, IfSome, IfOk, IfErr, OnOk, OnErr, if◌then◌else◌}
 use Rattle.std.specs.Cmp.Lexicographic.{pointwise}
 use Rattle.std.specs.Io.KnownBytes.{Appends}
 use Rattle.rr_text.specs.declared.bytes.TheConstants.{LINE_FEED, SPACE}
 use Rattle.rr_text.specs.Results.{◌>>=◌}
 use Rattle.rr_schema.specs.Schema.{Layout}
-use Rattle.rr_io.specs.Stream.{AppendsPrefix}
+use Rattle.rr_io.specs.declared.counted.Counted.{Counted}
+use Rattle.rr_io.specs.Counted.{inner_of}
+use Rattle.rr_io.specs.Stream.{AppendsPrefix, HasFailed}
 use Rattle.rr_text.specs.Text.{cut_at}
 use Rattle.rr_feed.specs.Items.{Item, Line, TooLong, items}
 use Rattle.rr_cells.specs.FetchText.{Request}
@@ -20,11 +22,12 @@ use Rattle.rr_desk.specs.declared.gate.GateCall.TheVariants.{After, Before}
 use Rattle.rr_desk.specs.Gate.{WasAsked}
 use Rattle.rr_desk.specs.ReaderState.{ReaderState, HasSeenMore, cells_seen}
 use Rattle.rr_gossip.specs.declared.fault.GossipFault.{GossipFault}
+use Rattle.rr_gossip.specs.declared.fault.GossipFault.TheVariants as session
 use Rattle.rr_gossip.specs.declared.frame.TheConstants.{MAX_FRAMES}
 use Rattle.rr_gossip.specs.Session.{HasGiven, HasFailedToGive}
 use Rattle.rr_node.specs.declared.fault.NodeFault.{NodeFault}
-use Rattle.rr_node.specs.declared.fault.NodeFault.TheVariants.{ReadFailed, TooManyReads}
-use Rattle.rr_node.specs.Fault.{IsOfLines, of_session_fault}
+use Rattle.rr_node.specs.declared.fault.NodeFault.TheVariants.{ReadFailed, Session, TooManyReads}
+use Rattle.rr_node.specs.Fault.{IsOfLines, IsOfSession, of_session_fault}
 
 -- ---- one line
 
@@ -87,6 +90,18 @@ pub record IsAnswered (item : Item) (old new : ReaderAndGate) (text : List ℕ) 
   pub made : IsAnswer (request_of_item old.reader.schema item) old new answer
   pub whole : text ≡ answer ++ LINE_FEED ∷ []
 
+-- what is asked is answered by a text, or memory ran out; the reader has seen what it had before, or more
+pub record AnswersRequest {X E : Type 0} (view : X → List ℕ) (request : Result Request (List ℕ))
+    (old new : ReaderAndGate) (result : Result X E) : Type 0 where
+  pub seen : HasSeenMore old.reader new.reader
+  pub answered : IfOk result (λ text. IsAnswer request old new (view text))
+
+-- an item is answered so, with an empty line
+pub record AnswersItem {X E : Type 0} (view : X → List ℕ) (item : Item) (old new : ReaderAndGate) (result : Result X E)
+    : Type 0 where
+  pub seen : HasSeenMore old.reader new.reader
+  pub answered : IfOk result (λ text. IsAnswered item old new (view text))
+
 -- items are answered in order
 abbrev pub AreAnswered : List Item → ReaderAndGate → ReaderAndGate → List ℕ → Type 0
 AreAnswered [] old new text = (new ≡ old) × (text ≡ [])
@@ -125,6 +140,19 @@ abbrev pub HasFailedSession : Layout → Cells → Option (List ℕ) → Option 
 HasFailedSession s m had left before after fault =
     (why : GossipFault) × (fault ≡ of_session_fault why)
     × HasFailedToGive MAX_FRAMES s m (0 ∷ []) had left before after why
+
+-- a session in which the other side pulls was given, after its first byte; or it failed, and the result says why
+pub record GivesSession {R W X : Type 0} (remaining : R → Option (List ℕ)) (contents : W → Option (List ℕ))
+    (old new : ReaderState) (input input_new : Counted R) (output output_new : Counted W) (result : Result X NodeFault)
+    : Type 0 where
+  pub given : OnOk result (HasGiven MAX_FRAMES old.schema (cells_seen new) (0 ∷ []) (remaining (inner_of input))
+      (remaining (inner_of input_new)) (contents (inner_of output)) (contents (inner_of output_new)))
+  pub stopped : IfErr result (HasFailedSession old.schema (cells_seen new) (remaining (inner_of input))
+      (remaining (inner_of input_new)) (contents (inner_of output)) (contents (inner_of output_new)))
+  pub seen : HasSeenMore old new
+  pub faults : IfErr result IsOfSession
+  pub read_failed : result ≡ Err (Session session.ReadFailed) → HasFailed input input_new
+  pub write_failed : result ≡ Err (Session session.WriteFailed) → HasFailed output output_new
 
 -- a session in which the other side pulls was not answered: its first byte was not read, or giving failed
 abbrev pub HasNotGiven : NodeFault → Layout → Cells → List ℕ → Option (List ℕ) → Option (List ℕ) → Option (List ℕ)

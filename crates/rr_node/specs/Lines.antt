@@ -22,6 +22,7 @@ use Rattle.rr_node.specs.declared.report.Report.{Report}
 use Rattle.rr_node.specs.declared.rules.Rules.{Rules}
 use Rattle.rr_node.specs.declared.rules.TheConstants.{LINES_TO_PUBLISH}
 use Rattle.rr_host.specs.Clock.{HasGiven}
+use Rattle.rr_node.specs.Blame.{ReadsWithin}
 use Rattle.rr_node.specs.Fault.{IsOfLines}
 
 -- lines whose times have this precision, and that may be this much ahead of the clock
@@ -219,3 +220,9 @@ pub record ServesLines {W : Type 0} (rules : Rules) (run : Run) (output output_n
   pub stopped : OnErr result (HasStopped rules run)
   pub faults : IfErr result IsOfLines
   pub write_failed : result ≡ Err WriteFailed → HasFailed output output_new
+
+-- a call that serves the lines of an input, and reads it at most so often
+pub record ServesWithin {R W : Type 0} (most : ℕ) (rules : Rules) (run : Run) (input input_new : Counted R)
+    (output output_new : Counted W) (result : Result Report NodeFault) : Type 0 where
+  pub lines : ServesLines rules run output output_new result
+  pub reads : ReadsWithin most input input_new result

@@ -78,3 +78,10 @@ pub record HasKept (config : Config) (whole : Bool) (visits visits_since : Optio
 abbrev pub halts : Bool → List HaltCall
 halts true = []
 halts false = Halted ∷ []
+
+-- the rounds of a configuration were kept, as far as memory goes, and the node was halted if memory ran out in them
+pub record KeepsOrHalts (config : Config) (whole : Bool) (visits visits_since : Option (List Call))
+    (dials dials_since : Option (List DialCall)) (shelves shelves_since : Option (List ShelfCall))
+    (ends ends_since : Option (List HaltCall)) (old new : KeeperAndClock) : Type 0 where
+  pub rounds : HasKept config whole visits visits_since dials dials_since shelves shelves_since old new
+  pub halted : Grows ends ends_since (halts whole)

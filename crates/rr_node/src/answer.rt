@@ -1,18 +1,14 @@
 //! A line, handed to the keeper.
 
-ghost use Rattle.std.specs.Prelude.{◌≡◌, ◌≢◌, ◌≤◌, ℤ, [], ◌∷◌, length, map, None, IfOk, IfSome, OnOk};
+ghost use Rattle.std.specs.Prelude.{◌≡◌, ◌≤◌, [], ◌∷◌, length, map, IfSome};
 ghost use Rattle.rr_text.specs.Bytes.{HasNoLineFeed};
 ghost use Rattle.rr_text.specs.declared.limits.TheConstants.{MAX_FIELDS};
-ghost use Rattle.rr_desk.specs.KeeperState.{own_replica};
 ghost use Rattle.rr_feed.specs.Items.{item_view, IsLine};
 ghost use Rattle.rr_feed.specs.Items as feed;
-ghost use Rattle.rr_line.specs.Fault.{line_fault_name};
-ghost use Rattle.rr_line.specs.Known.{samples_of, SaysSamples};
-ghost use Rattle.rr_point.specs.Point.{PointView, point_view};
+ghost use Rattle.rr_line.specs.Known.{SaysSamples};
+ghost use Rattle.rr_point.specs.Point.{point_view};
 ghost use Rattle.rr_desk.specs.Points.{keyed_value};
-ghost use Rattle.rr_host.specs.Clock.{HasGiven};
-ghost use Rattle.rr_node.specs.Connection.{IsAnswer, IsFew, Handled, HandledItem};
-ghost use Rattle.rr_node.specs.Lines.{refused, verdict_of_point};
+ghost use Rattle.rr_node.specs.Connection.{HandledItem, Refuses, TakesPoint, TakesSamples};
 ghost use Rattle.rr_point.specs.Key.{IsWritable};
 
 use crate::rules::Rules;
@@ -45,10 +41,8 @@ fn write_point<A: Cells, C: Clock>(
     lead: Option<u64>,
 ) -> Result<Answer, AllocError>
     requires { IsWritable (point_view point.now) }
-    ensures taken { (now : ℤ) × HasGiven (C.given clock.old) (C.given clock.new) (now ∷ [])
-        × Handled (verdict_of_point lead now (own_replica keeper.old) (point_view point.now))
-        keeper.old keeper.new result }
-    ensures count_fits { IfOk result IsFew }
+    ensures { TakesPoint lead (point_view point.now) keeper.old keeper.new (C.given clock.old)
+        (C.given clock.new) result }
 {
     let now = clock.now();
     match keeper.write(point, now, lead) {
@@ -69,11 +63,8 @@ fn write_sample<A: Cells, C: Clock>(
     time: Option<i64>,
     lead: Option<u64>,
 ) -> Result<Answer, AllocError>
-    ensures taken { (p : PointView) → samples_of p ≡ (key, value) ∷ [] → p.time ≡ time
-        → (now : ℤ) × HasGiven (C.given clock.old) (C.given clock.new) (now ∷ [])
-        × Handled (verdict_of_point lead now (own_replica keeper.old) p) keeper.old keeper.new
-        result }
-    ensures count_fits { IfOk result IsFew }
+    ensures { TakesSamples lead ((key, value) ∷ []) time keeper.old keeper.new (C.given clock.old)
+        (C.given clock.new) result }
 {
     let now = clock.now();
     match keeper.write_sample(hint, key, time, value, now, lead) {
@@ -93,11 +84,8 @@ fn write_samples<A: Cells, C: Clock>(
     lead: Option<u64>,
 ) -> Result<Answer, AllocError>
     requires { length values.now ≤ MAX_FIELDS }
-    ensures taken { (p : PointView) → samples_of p ≡ map keyed_value values.now → p.time ≡ time
-        → (now : ℤ) × HasGiven (C.given clock.old) (C.given clock.new) (now ∷ [])
-        × Handled (verdict_of_point lead now (own_replica keeper.old) p) keeper.old keeper.new
-        result }
-    ensures count_fits { IfOk result IsFew }
+    ensures { TakesSamples lead (map keyed_value values.now) time keeper.old keeper.new
+        (C.given clock.old) (C.given clock.new) result }
 {
     let now = clock.now();
     match keeper.write_samples(values, time, now, lead) {
@@ -108,26 +96,21 @@ fn write_samples<A: Cells, C: Clock>(
     }
 }
 
-/// Writes the sample of a line, if it says one sample of the series that is likely to come next.
-/// Where it doesn't, nothing is done.
-fn write_next<A: Cells, C: Clock>(
-    keeper: &mut Keeper<A>,
-    clock: &mut C,
-    rules: Rules,
+/// Where the series is that is likely to come next, its key, and the value and the time of a line,
+/// if it says one sample of that series.
+fn read_one<A: Cells>(
+    keeper: &Keeper<A>,
+    precision: Precision,
     last: &mut LastTime,
     line: &[u8],
-) -> Option<Result<Answer, AllocError>>
-    ensures taken { IfSome result (λ answer.
-        HandledItem rules (feed.Line line.now) keeper.old keeper.new (C.given clock.old)
-        (C.given clock.new) answer) }
-    ensures count_fits { IfSome result (λ answer. IfOk answer IsFew) }
-    ensures keeper { result ≡ None → keeper.new ≡ keeper.old }
-    ensures clock { result ≡ None → clock.new ≡ clock.old }
+) -> Option<(Hint, SeriesKey, i64, Option<i64>)>
+    ensures { IfSome result (λ said.
+        SaysSamples precision line.now ((said.1, said.2) ∷ []) said.3) }
 {
     let hint = keeper.likely_next();
     let key = keeper.key_at(hint)?.copy().ok()?;
-    let (value, time) = read_known(line, key.text(), rules.precision, last)?;
-    Some(write_sample(keeper, clock, hint, key, value, time, rules.lead))
+    let (value, time) = read_known(line, key.text(), precision, last)?;
+    Some((hint, key, value, time))
 }
 
 /// A value of the series at a hint, with a further owner of its key.
@@ -170,48 +153,8 @@ fn read_next<A: Cells>(
     Some((values, time))
 }
 
-/// Writes the samples of a line, if it says one of each of the series that are likely to come next.
-/// Where it doesn't, nothing is done.
-fn write_several<A: Cells, C: Clock>(
-    alloc: Global,
-    keeper: &mut Keeper<A>,
-    clock: &mut C,
-    rules: Rules,
-    last: &mut LastTime,
-    line: &[u8],
-) -> Option<Result<Answer, AllocError>>
-    ensures taken { IfSome result (λ answer.
-        HandledItem rules (feed.Line line.now) keeper.old keeper.new (C.given clock.old)
-        (C.given clock.new) answer) }
-    ensures count_fits { IfSome result (λ answer. IfOk answer IsFew) }
-    ensures keeper { result ≡ None → keeper.new ≡ keeper.old }
-    ensures clock { result ≡ None → clock.new ≡ clock.old }
-{
-    let (values, time) = read_next(alloc, &*keeper, rules.precision, last, line)?;
-    Some(write_samples(keeper, clock, &values, time, rules.lead))
-}
-
-/// Writes the point of a line, if it has one, reading it by the grammar.
-fn write_parsed<A: Cells, C: Clock>(
-    alloc: Global,
-    keeper: &mut Keeper<A>,
-    clock: &mut C,
-    rules: Rules,
-    line: &[u8],
-) -> Result<Answer, AllocError>
-    requires { HasNoLineFeed line.now }
-    ensures taken { HandledItem rules (feed.Line line.now) keeper.old keeper.new (C.given clock.old)
-        (C.given clock.new) result }
-    ensures count_fits { IfOk result IsFew }
-{
-    match parse_line(alloc, line, rules.precision) {
-        Ok(Line::Nothing) => Ok(Answer::Nothing),
-        Ok(Line::Point(point)) => write_point(keeper, clock, &point, rules.lead),
-        Err(fault) => refusal(fault),
-    }
-}
-
-/// Writes the point of a line, if it has one.
+/// Writes the point of a line, if it has one. A line is read by the grammar where it says other
+/// samples than those that are likely to come next.
 fn write_line<A: Cells, C: Clock>(
     alloc: Global,
     keeper: &mut Keeper<A>,
@@ -221,24 +164,26 @@ fn write_line<A: Cells, C: Clock>(
     line: &[u8],
 ) -> Result<Answer, AllocError>
     requires { HasNoLineFeed line.now }
-    ensures taken { HandledItem rules (feed.Line line.now) keeper.old keeper.new (C.given clock.old)
+    ensures { HandledItem rules (feed.Line line.now) keeper.old keeper.new (C.given clock.old)
         (C.given clock.new) result }
-    ensures count_fits { IfOk result IsFew }
 {
-    if let Some(answer) = write_next(keeper, clock, rules, last, line) {
-        return answer;
+    let precision = rules.precision;
+    if let Some((hint, key, value, time)) = read_one(&*keeper, precision, last, line) {
+        return write_sample(keeper, clock, hint, key, value, time, rules.lead);
     }
-    match write_several(alloc, keeper, clock, rules, last, line) {
-        Some(answer) => answer,
-        None => write_parsed(alloc, keeper, clock, rules, line),
+    if let Some((values, time)) = read_next(alloc, &*keeper, precision, last, line) {
+        return write_samples(keeper, clock, &values, time, rules.lead);
+    }
+    match parse_line(alloc, line, precision) {
+        Ok(Line::Nothing) => Ok(Answer::Nothing),
+        Ok(Line::Point(point)) => write_point(keeper, clock, &point, rules.lead),
+        Err(fault) => refusal(fault),
     }
 }
 
 /// The refusal of a line, unless memory ran out.
 fn refusal(fault: LineFault) -> Result<Answer, AllocError>
-    ensures refused { IfOk result (IsAnswer (refused (line_fault_name fault))) }
-    ensures read { OnOk result (fault ≢ LineFault.Memory) }
-    ensures count_fits { IfOk result IsFew }
+    ensures { Refuses fault result }
 {
     match fault {
         LineFault::Memory => Err(AllocError),
@@ -256,9 +201,8 @@ pub(crate) fn write_item<A: Cells, C: Clock>(
     item: FeedLine<'_>,
 ) -> Result<Answer, AllocError>
     requires { IsLine (item_view item) }
-    ensures taken { HandledItem rules (item_view item.entry) keeper.old keeper.new
-        (C.given clock.old) (C.given clock.new) result }
-    ensures count_fits { IfOk result IsFew }
+    ensures { HandledItem rules (item_view item.entry) keeper.old keeper.new (C.given clock.old)
+        (C.given clock.new) result }
 {
     match item {
         FeedLine::Line(line) => write_line(alloc, keeper, clock, rules, last, line),

@@ -5,10 +5,9 @@ ghost use Rattle.rr_text.specs.Results.{GivesUnless};
 ghost use Rattle.rr_feed.specs.Feed.{HandsOut};
 ghost use Rattle.rr_feed.specs.Items.{Item, item_view};
 ghost use Rattle.rr_fetch.specs.Requests.{request_view, IsFetchable};
-ghost use Rattle.rr_desk.specs.ReaderState.{HasSeenMore};
 ghost use Rattle.rr_node.specs.Answering.{Next};
 ghost use Rattle.rr_web.specs.FetchLine.{fetch_line_of};
-ghost use Rattle.rr_node.specs.Fetches.{after_fetch, by_name, error_text, request_in, sight, IsAnswer, IsAnswered};
+ghost use Rattle.rr_node.specs.Fetches.{after_fetch, by_name, error_text, request_in, sight, AnswersItem, AnswersRequest};
 
 use rr_archive::Cells;
 use rr_desk::{FetchFault, Gate, Reader};
@@ -57,9 +56,8 @@ fn answer_request<A: Cells, G: Gate>(
     gate: &mut G,
 ) -> Result<Vec<u8>, AllocError>
     requires { IsFetchable reader.old.schema (request_view request.now) }
-    ensures seen { HasSeenMore reader.old reader.new }
-    ensures answered { IfOk result (λ text. IsAnswer (Ok (request_view request.now))
-        (sight reader.old (G.calls gate.old)) (sight reader.new (G.calls gate.new)) text.items) }
+    ensures { AnswersRequest (λ text. text.items) (Ok (request_view request.now))
+        (sight reader.old (G.calls gate.old)) (sight reader.new (G.calls gate.new)) result }
 {
     match reader.fetch_through(alloc, request, gate) {
         Ok(text) => Ok(text),
@@ -76,10 +74,8 @@ pub fn answer_line<A: Cells, G: Gate>(
     reader: &mut Reader<A>,
     gate: &mut G,
 ) -> Result<Vec<u8>, AllocError>
-    ensures seen { HasSeenMore reader.old reader.new }
-    ensures answered { IfOk result (λ text. IsAnswer
-        (by_name (request_in reader.old.schema line.now))
-        (sight reader.old (G.calls gate.old)) (sight reader.new (G.calls gate.new)) text.items) }
+    ensures { AnswersRequest (λ text. text.items) (by_name (request_in reader.old.schema line.now))
+        (sight reader.old (G.calls gate.old)) (sight reader.new (G.calls gate.new)) result }
 {
     match request_in(alloc, line, reader.schema()) {
         Ok(request) => answer_request(alloc, &request, reader, gate),
@@ -97,10 +93,9 @@ pub fn answer_fetch<A: Cells, G: Gate>(
     reader: &mut Reader<A>,
     gate: &mut G,
 ) -> Result<Vec<u8>, AllocError>
-    ensures seen { HasSeenMore reader.old reader.new }
-    ensures answered { IfOk result (λ text.
-        IsAnswer (by_name (request_in reader.old.schema (fetch_line_of query.now now)))
-        (sight reader.old (G.calls gate.old)) (sight reader.new (G.calls gate.new)) text.items) }
+    ensures { AnswersRequest (λ text. text.items)
+        (by_name (request_in reader.old.schema (fetch_line_of query.now now)))
+        (sight reader.old (G.calls gate.old)) (sight reader.new (G.calls gate.new)) result }
 {
     let line = fetch_line(alloc, query, now)?;
     answer_line(alloc, &line, reader, gate)
@@ -113,9 +108,8 @@ fn answer_item<A: Cells, G: Gate>(
     reader: &mut Reader<A>,
     gate: &mut G,
 ) -> Result<Vec<u8>, AllocError>
-    ensures seen { HasSeenMore reader.old reader.new }
-    ensures answered { IfOk result (λ text. IsAnswered (item_view item.entry)
-        (sight reader.old (G.calls gate.old)) (sight reader.new (G.calls gate.new)) text.items) }
+    ensures { AnswersItem (λ text. text.items) (item_view item.entry)
+        (sight reader.old (G.calls gate.old)) (sight reader.new (G.calls gate.new)) result }
 {
     let mut text = match item {
         FeedLine::Line(line) => answer_line(alloc, line, reader, gate)?,

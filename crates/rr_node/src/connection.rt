@@ -1,14 +1,10 @@
 //! Lines of a connection as they come in pieces, handed to the keeper.
 
-ghost use Rattle.std.specs.Prelude.{◌≡◌, ℕ, ◌+◌, ◌*◌, ◌<◌, ◌≤◌, ◌^◌, ℤ, List, Option, true, false, [], ◌++◌, length, IfOk, OnOk, OnErr};
-ghost use Rattle.rr_io.specs.Counted.{inner_of};
-ghost use Rattle.rr_io.specs.Stream.{HasFailed, KeepsFailures, WritesFront, WritesWhole};
+ghost use Rattle.std.specs.Prelude.{◌≡◌, ℕ, ◌+◌, ◌*◌, ◌<◌, ◌≤◌, ◌^◌, ℤ, List, false, ◌++◌, length, OnOk, OnErr};
 ghost use Rattle.rr_text.specs.declared.limits.TheConstants.{MAX_FIELDS};
-ghost use Rattle.rr_desk.specs.KeeperState.{KeeperState};
-ghost use Rattle.rr_feed.specs.Feed.{items_left, empty_feed};
 ghost use Rattle.rr_node.specs.declared.lines.TheConstants.{PIECE};
 ghost use Rattle.rr_host.specs.Clock.{HasGiven};
-ghost use Rattle.rr_node.specs.Blame.{WritesOut};
+ghost use Rattle.rr_node.specs.Blame.{Sends};
 ghost use Rattle.rr_node.specs.Lines.{published_after, report_text};
 
 use crate::answer::{Answer, write_item};
@@ -21,7 +17,7 @@ use rr_feed::Feed;
 use rr_fetch::push_refusal;
 use rr_host::Clock;
 use rr_io::Counted;
-use rr_io::stream::{WriteFailed, flush, write_all};
+use rr_io::stream::{flush, write_all};
 use rr_line::LastTime;
 use std::alloc::{AllocError, Global};
 use std::io::Write;
@@ -47,14 +43,11 @@ pub(crate) struct Connection {
 }
 
 impl Connection {
-    ghost use Rattle.rr_node.specs.Connection.{StoppedByMemory, StoppedWriting, StoppedAtEnd, ServedAll, HasServed, IsFew, ServedItems, PushedPiece, counted_in, text_to};
+    ghost use Rattle.rr_node.specs.Connection.{AnswersLines, Finishes, IsFew, IsNew, PushedPiece, ServedAllItems, StoppedByMemory, counted_in, text_to};
 
     /// No line came yet.
     pub(crate) fn new(alloc: Global, rules: Rules) -> Connection
-        ensures feed { result.feed ≡ empty_feed }
-        ensures pieces { result.pieces ≡ 0 }
-        ensures rules { result.rules ≡ rules }
-        ensures nothing { (start : KeeperState) → HasServed result start [] [] start [] }
+        ensures { IsNew rules result }
     {
         Connection {
             alloc,
@@ -76,7 +69,7 @@ impl Connection {
         requires going { self.old.feed.ended ≡ false }
         requires pieces_fit { self.old.pieces + 1 < 2 ^ 32 }
         requires fits { length piece.now ≤ PIECE }
-        ensures taken { OnOk result (PushedPiece self.old self.new piece.now) }
+        ensures { OnOk result (PushedPiece self.old self.new piece.now) }
     {
         let Ok(()) = self.feed.push(piece) else {
             return Err(AllocError);
@@ -138,8 +131,7 @@ impl Connection {
         ensures served { OnOk result ((moments : List ℤ) × (text : List ℕ)
             × HasGiven (C.given clock.old) (C.given clock.new) moments
             × (answers.new.items ≡ answers.old.items ++ text)
-            × ServedItems self.old self.new keeper.old keeper.new moments text) }
-        ensures all_taken { OnOk result (items_left self.new.feed ≡ []) }
+            × ServedAllItems self.old self.new keeper.old keeper.new moments text) }
         ensures ended { OnErr result ((moments : List ℤ)
             × HasGiven (C.given clock.old) (C.given clock.new) moments
             × StoppedByMemory self.old keeper.old keeper.new moments) }
@@ -161,16 +153,8 @@ impl Connection {
         clock: &mut C,
         rt: &T,
     ) -> Result<(), NodeFault>
-        ensures served { OnOk result ((moments : List ℤ) × (text : List ℕ)
-            × HasGiven (C.given clock.old) (C.given clock.new) moments
-            × WritesWhole W.contents output.old output.new text
-            × ServedItems self.old self.new keeper.old keeper.new moments text) }
-        ensures all_taken { OnOk result (items_left self.new.feed ≡ []) }
-        ensures stopped { OnErr result ((moments : List ℤ)
-            × HasGiven (C.given clock.old) (C.given clock.new) moments
-            × StoppedWriting self.old keeper.old keeper.new moments
-            (W.contents (inner_of output.old)) (W.contents (inner_of output.new))) }
-        ensures writes { WritesOut output.old output.new result }
+        ensures { AnswersLines C.given W.contents self.old self.new keeper.old keeper.new clock.old
+            clock.new output.old output.new result }
     {
         let mut answers = Vec::new(self.alloc);
         clock.renew();
@@ -187,15 +171,8 @@ impl Connection {
         clock: &mut C,
         rt: &T,
     ) -> Result<Report, NodeFault>
-        ensures served { IfOk result (λ counted. (moments : List ℤ)
-            × HasGiven (C.given clock.old) (C.given clock.new) moments
-            × ServedAll self.old keeper.old keeper.new counted moments
-            (W.contents (inner_of output.old)) (W.contents (inner_of output.new))) }
-        ensures stopped { OnErr result ((moments : List ℤ)
-            × HasGiven (C.given clock.old) (C.given clock.new) moments
-            × StoppedAtEnd self.old keeper.old keeper.new moments (W.contents (inner_of output.old))
-            (W.contents (inner_of output.new))) }
-        ensures writes { WritesOut output.old output.new result }
+        ensures { Finishes C.given W.contents self.old keeper.old keeper.new clock.old clock.new
+            output.old output.new result }
     {
         self.feed.end();
         self.answer_lines(output, keeper, clock, rt)?;
@@ -206,17 +183,15 @@ impl Connection {
 }
 
 /// Writes a text and has the writer pass it on; nothing is done where it is empty.
-fn send<W: Write>(output: &mut Counted<W>, text: &[u8]) -> Result<(), WriteFailed>
-    ensures whole { OnOk result (WritesWhole W.contents output.old output.new text.now) }
-    ensures front { WritesFront W.contents output.old output.new text.now }
-    ensures failures_never_fall { KeepsFailures output.old output.new }
-    ensures failed { OnErr result (HasFailed output.old output.new) }
+fn send<W: Write>(output: &mut Counted<W>, text: &[u8]) -> Result<(), NodeFault>
+    ensures { Sends W.contents output.old output.new text.now result }
 {
     if text.is_empty() {
         return Ok(());
     }
     write_all(output, text)?;
-    flush(output)
+    flush(output)?;
+    Ok(())
 }
 
 /// Writes the report.
@@ -225,13 +200,9 @@ fn send_report<W: Write>(
     output: &mut Counted<W>,
     report: &Report,
 ) -> Result<(), NodeFault>
-    ensures whole { OnOk result (WritesWhole W.contents output.old output.new
-        (report_text report.now)) }
-    ensures front { WritesFront W.contents output.old output.new (report_text report.now) }
-    ensures writes { WritesOut output.old output.new result }
+    ensures { Sends W.contents output.old output.new (report_text report.now) result }
 {
     let mut text = Vec::new(alloc);
     push_report(&mut text, report)?;
-    send(output, text.as_slice())?;
-    Ok(())
+    send(output, text.as_slice())
 }

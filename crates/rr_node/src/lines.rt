@@ -2,8 +2,7 @@
 
 ghost use Rattle.rr_io.specs.Counted.{inner_of};
 ghost use Rattle.rr_text.specs.declared.limits.TheConstants.{MAX_READS};
-ghost use Rattle.rr_node.specs.Blame.{ReadsWithin};
-ghost use Rattle.rr_node.specs.Lines.{rules_of, ServesLines};
+ghost use Rattle.rr_node.specs.Lines.{rules_of, ServesWithin};
 
 use crate::connection::Connection;
 use crate::fault::NodeFault;
@@ -48,7 +47,7 @@ pub fn serve_lines<A: Cells, R: Read, W: Write, C: Clock, T: Wait>(
     lead: Option<u64>,
     rt: &T,
 ) -> Result<Report, NodeFault>
-    ensures lines { ServesLines (rules_of precision lead) (record {
+    ensures { ServesWithin MAX_READS (rules_of precision lead) (record {
       old = keeper.old;
       new = keeper.new;
       given = C.given clock.old;
@@ -56,8 +55,7 @@ pub fn serve_lines<A: Cells, R: Read, W: Write, C: Clock, T: Wait>(
       input = R.remaining (inner_of input.old);
       written = W.contents (inner_of output.old);
       written_since = W.contents (inner_of output.new);
-    }) output.old output.new result }
-    ensures reads { ReadsWithin MAX_READS input.old input.new result }
+    }) input.old input.new output.old output.new result }
 {
     serve_lines_within(
         alloc, input, output, keeper, clock, precision, lead, rt, MAX_READS,
@@ -80,7 +78,7 @@ pub fn serve_lines_within<A: Cells, R: Read, W: Write, C: Clock, T: Wait>(
     rt: &T,
     reads: u32,
 ) -> Result<Report, NodeFault>
-    ensures lines { ServesLines (rules_of precision lead) (record {
+    ensures { ServesWithin reads (rules_of precision lead) (record {
       old = keeper.old;
       new = keeper.new;
       given = C.given clock.old;
@@ -88,8 +86,7 @@ pub fn serve_lines_within<A: Cells, R: Read, W: Write, C: Clock, T: Wait>(
       input = R.remaining (inner_of input.old);
       written = W.contents (inner_of output.old);
       written_since = W.contents (inner_of output.new);
-    }) output.old output.new result }
-    ensures reads { ReadsWithin reads input.old input.new result }
+    }) input.old input.new output.old output.new result }
 {
     let mut connection = Connection::new(alloc, Rules { precision, lead });
     let mut piece = [0u8; PIECE];

@@ -1,18 +1,15 @@
 //! The connections of a reader: fetches, or one session in which a peer pulls.
 
-ghost use Rattle.std.specs.Prelude.{◌≡◌, ◌⊎◌, ◌+◌, ◌≤◌, ◌∷◌, ◌++◌, [], false, true, Err, None, IfErr, IfOk, IfSome, OnErr, OnOk, option_to_list};
-ghost use Rattle.std.specs.Io.KnownBytes.{Consumes};
+ghost use Rattle.std.specs.Prelude.{◌≡◌, ◌∷◌, ◌++◌, [], false, Err, IfErr, IfSome, OnErr, OnOk};
 ghost use Rattle.rr_io.specs.Counted.{inner_of};
-ghost use Rattle.rr_io.specs.Stream.{HasFailed, HasFewReads, HasReads, IsReadOut, KeepsFailures};
+ghost use Rattle.rr_io.specs.Stream.{HasFailed, HasFewReads, HasReads};
 ghost use Rattle.rr_text.specs.declared.limits.TheConstants.{MAX_READS};
 ghost use Rattle.rr_feed.specs.Feed.{items_left};
-ghost use Rattle.rr_gossip.specs.declared.frame.TheConstants.{MAX_FRAMES};
-ghost use Rattle.rr_gossip.specs.Session.{HasGiven};
-ghost use Rattle.rr_desk.specs.ReaderState.{cells_seen, HasSeenMore};
+ghost use Rattle.rr_desk.specs.ReaderState.{HasSeenMore};
 ghost use Rattle.rr_node.specs.Answering.{HasWritten, HasWrittenSome};
-ghost use Rattle.rr_node.specs.Blame.{ReadsWithin, WritesOut};
-ghost use Rattle.rr_node.specs.Fault.{IsOfLines, IsOfReader, IsOfSession, is_of_session};
-ghost use Rattle.rr_node.specs.Fetches.{sight, is_pull, HasAnswered, HasAnsweredSome, HasFailedSession, IsServed};
+ghost use Rattle.rr_node.specs.Blame.{ReadsFirst, ReadsWithin, WritesOut};
+ghost use Rattle.rr_node.specs.Fault.{IsOfLines, IsOfReader, is_of_session};
+ghost use Rattle.rr_node.specs.Fetches.{sight, is_pull, GivesSession, HasAnswered, HasAnsweredSome, IsServed};
 
 use crate::answering::next_answer;
 use crate::fault::NodeFault;
@@ -31,15 +28,7 @@ const PIECE: usize = 65_536;
 
 /// The first byte of an input, none at its end, and how many reads it took.
 fn read_first<R: Read>(input: &mut Counted<R>) -> Result<(Option<u8>, u32), NodeFault>
-    ensures bytes { IfOk result (λ first. Consumes (R.remaining (inner_of input.old))
-        (R.remaining (inner_of input.new)) (option_to_list first.0)) }
-    ensures end { IfOk result (λ first. first.0 ≡ None → IsReadOut R.remaining input.new) }
-    ensures used { IfOk result (λ first. (first.1 ≤ MAX_READS)
-        × HasReads first.1 input.old input.new × (HasFewReads first.1 input.old input.new)) }
-    ensures reads { ReadsWithin MAX_READS input.old input.new result }
-    ensures faults { IfErr result (λ fault. (fault ≡ NodeFault.ReadFailed)
-        ⊎ (fault ≡ NodeFault.TooManyReads)) }
-    ensures failures_never_fall { KeepsFailures input.old input.new }
+    ensures { ReadsFirst R.remaining input.old input.new result }
 {
     let mut byte = [0u8; 1];
     for used in 0..MAX_READS {
@@ -131,19 +120,8 @@ fn give_session<A: Cells, R: Read, W: Write>(
     output: &mut Counted<W>,
     reader: &mut Reader<A>,
 ) -> Result<(), NodeFault>
-    ensures given { OnOk result (HasGiven MAX_FRAMES reader.old.schema (cells_seen reader.new)
-        (0 ∷ [])
-        (R.remaining (inner_of input.old)) (R.remaining (inner_of input.new))
-        (W.contents (inner_of output.old)) (W.contents (inner_of output.new))) }
-    ensures stopped { IfErr result (HasFailedSession reader.old.schema (cells_seen reader.new)
-        (R.remaining (inner_of input.old)) (R.remaining (inner_of input.new))
-        (W.contents (inner_of output.old)) (W.contents (inner_of output.new))) }
-    ensures seen { HasSeenMore reader.old reader.new }
-    ensures faults { IfErr result IsOfSession }
-    ensures read_failed { result ≡ Err (NodeFault.Session GossipFault.ReadFailed)
-        → HasFailed input.old input.new }
-    ensures write_failed { result ≡ Err (NodeFault.Session GossipFault.WriteFailed)
-        → HasFailed output.old output.new }
+    ensures { GivesSession R.remaining W.contents reader.old reader.new input.old input.new
+        output.old output.new result }
 {
     give_after(alloc, &[0], input, output, reader, MAX_FRAMES)?;
     Ok(())

@@ -1,8 +1,7 @@
 //! The rounds of a keeper, one after the other, and what follows where memory runs out in them.
 
 ghost use Rattle.std.specs.Prelude.{◌≡◌, is_ok};
-ghost use Rattle.rr_host.specs.Calls.{Grows};
-ghost use Rattle.rr_node.specs.Rounds.{HasKept, halts, post, rounds_of};
+ghost use Rattle.rr_node.specs.Rounds.{HasKept, KeepsOrHalts, post, rounds_of};
 
 use crate::fault::NodeFault;
 use crate::round::keep_round;
@@ -62,10 +61,10 @@ pub fn keep_or_halt<A: Cells, V: Visits, D: Dial, S: Shelf, H: Halt, C: Clock, T
     config: &Config,
     rt: &T,
 ) -> Result<(), NodeFault>
-    ensures rounds { HasKept config.now (is_ok result) (V.calls lines.old) (V.calls lines.new)
+    ensures { KeepsOrHalts config.now (is_ok result) (V.calls lines.old) (V.calls lines.new)
         (D.calls dial.old) (D.calls dial.new) (S.calls shelf.old) (S.calls shelf.new)
+        (H.calls halt.old) (H.calls halt.new)
         (post keeper.old (C.given clock.old)) (post keeper.new (C.given clock.new)) }
-    ensures halted { Grows (H.calls halt.old) (H.calls halt.new) (halts (is_ok result)) }
 {
     match keep_rounds(alloc, keeper, lines, dial, shelf, clock, config, rt) {
         Ok(()) => Ok(()),

@@ -30,125 +30,140 @@ loop-init g c = record {
   out_count = omega arith;
 }
 
-pub returns-in_err-given-clause-lines : goal.returns-in_err-given-clause-lines
-returns-in_err-given-clause-lines g c = record {
-  served = search rules;
-  stopped =
-      let given = err_from_is_err_and c.from_residual.result c.from_residual.ensures.1 in
-      rw given.1 (rw c.loop.invariant.rules at (stopped_between c.loop.connection _ _ c.loop.invariant.going
-      c.loop.invariant.serving));
-  faults = search rules;
-  write_failed = search rules;
+pub returns-in_err-given : goal.returns-in_err-given
+returns-in_err-given g c = record {
+  lines = record {
+    served = search rules;
+    stopped =
+        let given = err_from_is_err_and c.from_residual.result c.from_residual.ensures.1 in
+        rw given.1 (rw c.loop.invariant.rules at (stopped_between c.loop.connection _ _ c.loop.invariant.going
+        c.loop.invariant.serving));
+    faults = search rules;
+    write_failed = search rules;
+  };
+  reads = search rules;
 }
 
-pub returns-in_err-push-clause-lines : goal.returns-in_err-push-clause-lines
-returns-in_err-push-clause-lines g c = record {
-  served = search rules;
-  stopped =
-      let given = err_from_is_err_and c.from_residual-in_err-push.result c.from_residual-in_err-push.ensures.1 in
-      rw given.1 (rw c.loop.invariant.rules at (stopped_between c.loop.connection _ _ c.loop.invariant.going
-      c.loop.invariant.serving));
-  faults = search rules;
-  write_failed = search rules;
+pub returns-in_err-push : goal.returns-in_err-push
+returns-in_err-push g c = record {
+  lines = record {
+    served = search rules;
+    stopped =
+        let given = err_from_is_err_and c.from_residual-in_err-push.result c.from_residual-in_err-push.ensures.1 in
+        rw given.1 (rw c.loop.invariant.rules at (stopped_between c.loop.connection _ _ c.loop.invariant.going
+        c.loop.invariant.serving));
+    faults = search rules;
+    write_failed = search rules;
+  };
+  reads = search rules;
 }
 
-pub returns-clause-lines : goal.returns-clause-lines
-returns-clause-lines g c = record {
-  served = search rules;
-  stopped =
-      rw c.loop.invariant.rules at (stopped_between c.loop.connection _ _ c.loop.invariant.going
-      c.loop.invariant.serving);
-  faults = search rules;
-  write_failed = search rules;
+pub returns : goal.returns
+returns g c = record {
+  lines = record {
+    served = search rules;
+    stopped =
+        rw c.loop.invariant.rules at (stopped_between c.loop.connection _ _ c.loop.invariant.going
+        c.loop.invariant.serving);
+    faults = search rules;
+    write_failed = search rules;
+  };
+  reads = search rules;
 }
 
-pub returns-then-given-eq0-clause-lines : goal.returns-then-given-eq0-clause-lines
-returns-then-given-eq0-clause-lines g c = record {
-  served =
-      let so_far = c.loop.invariant.serving in
-      let read = rw c.in-Some.is at c.in_ok-given.ensures.bytes in
-      let run : Run = record {
-        old = c.args.keeper.now;
-        new = c.finish.new.keeper;
-        given = g.C.Clock.given c.args.clock.now;
-        given_since = g.C.Clock.given c.finish.new.clock;
-        input = g.R.Read.remaining (inner_of c.args.input.now);
-        written = g.W.Write.contents (inner_of c.args.output.now);
-        written_since = g.W.Write.contents (inner_of c.finish.new.output);
-      } in
-      rw c.loop.invariant.rules at (served_finally c.finish.result c.loop.connection run c.loop.keeper _ _ _ _
-      c.read_once.new.buf c.in-Some.given (record {
-        taken = so_far.taken;
-        moments = so_far.moments;
-        text = so_far.text;
-        consumed = so_far.consumed;
-        gave = so_far.gave;
-        served = so_far.served;
-        appended = so_far.appended;
-        read = read.1;
-        none = c.if-given-eq0.true;
-        end = read.2 c.if-given-eq0.true (search rules);
-      }) c.finish.ensures.served);
-  stopped =
-      let so_far = c.loop.invariant.serving in
-      let read = rw c.in-Some.is at c.in_ok-given.ensures.bytes in
-      let run : Run = record {
-        old = c.args.keeper.now;
-        new = c.finish.new.keeper;
-        given = g.C.Clock.given c.args.clock.now;
-        given_since = g.C.Clock.given c.finish.new.clock;
-        input = g.R.Read.remaining (inner_of c.args.input.now);
-        written = g.W.Write.contents (inner_of c.args.output.now);
-        written_since = g.W.Write.contents (inner_of c.finish.new.output);
-      } in
-      rw c.loop.invariant.rules at (stopped_finally c.finish.result c.loop.connection run c.loop.keeper _ _ _ _
-      c.read_once.new.buf c.in-Some.given (record {
-        taken = so_far.taken;
-        moments = so_far.moments;
-        text = so_far.text;
-        consumed = so_far.consumed;
-        gave = so_far.gave;
-        served = so_far.served;
-        appended = so_far.appended;
-        read = read.1;
-        none = c.if-given-eq0.true;
-        end = read.2 c.if-given-eq0.true (search rules);
-      }) c.finish.ensures.stopped);
-  faults = search rules;
-  write_failed = search rules;
+pub returns-then-given-eq0 : goal.returns-then-given-eq0
+returns-then-given-eq0 g c = record {
+  lines = record {
+    served =
+        let so_far = c.loop.invariant.serving in
+        let read = rw c.in-Some.is at c.in_ok-given.ensures.bytes in
+        let run : Run = record {
+          old = c.args.keeper.now;
+          new = c.finish.new.keeper;
+          given = g.C.Clock.given c.args.clock.now;
+          given_since = g.C.Clock.given c.finish.new.clock;
+          input = g.R.Read.remaining (inner_of c.args.input.now);
+          written = g.W.Write.contents (inner_of c.args.output.now);
+          written_since = g.W.Write.contents (inner_of c.finish.new.output);
+        } in
+        rw c.loop.invariant.rules at (served_finally c.finish.result c.loop.connection run c.loop.keeper _ _ _ _
+        c.read_once.new.buf c.in-Some.given (record {
+          taken = so_far.taken;
+          moments = so_far.moments;
+          text = so_far.text;
+          consumed = so_far.consumed;
+          gave = so_far.gave;
+          served = so_far.served;
+          appended = so_far.appended;
+          read = read.1;
+          none = c.if-given-eq0.true;
+          end = read.2 c.if-given-eq0.true (search rules);
+        }) c.finish.ensures.served);
+    stopped =
+        let so_far = c.loop.invariant.serving in
+        let read = rw c.in-Some.is at c.in_ok-given.ensures.bytes in
+        let run : Run = record {
+          old = c.args.keeper.now;
+          new = c.finish.new.keeper;
+          given = g.C.Clock.given c.args.clock.now;
+          given_since = g.C.Clock.given c.finish.new.clock;
+          input = g.R.Read.remaining (inner_of c.args.input.now);
+          written = g.W.Write.contents (inner_of c.args.output.now);
+          written_since = g.W.Write.contents (inner_of c.finish.new.output);
+        } in
+        rw c.loop.invariant.rules at (stopped_finally c.finish.result c.loop.connection run c.loop.keeper _ _ _ _
+        c.read_once.new.buf c.in-Some.given (record {
+          taken = so_far.taken;
+          moments = so_far.moments;
+          text = so_far.text;
+          consumed = so_far.consumed;
+          gave = so_far.gave;
+          served = so_far.served;
+          appended = so_far.appended;
+          read = read.1;
+          none = c.if-given-eq0.true;
+          end = read.2 c.if-given-eq0.true (search rules);
+        }) c.finish.ensures.stopped);
+    faults = search rules;
+    write_failed = search rules;
+  };
+  reads = search rules;
 }
 
-pub returns-in_err-answer_lines-clause-lines : goal.returns-in_err-answer_lines-clause-lines
-returns-in_err-answer_lines-clause-lines g c = record {
-  served = search rules;
-  stopped =
-      let given = err_from_is_err_and c.from_residual-in_err-answer_lines.result
-      c.from_residual-in_err-answer_lines.ensures.1 in
-      let so_far = c.loop.invariant.serving in
-      let read = rw c.in-Some.is at c.in_ok-given.ensures.bytes in
-      let piece = take c.in-Some.given c.read_once.new.buf in
-      let takes = c.in_ok-push.ensures.taken in
-      let going : c.push.new.self.feed.ended ≡ false = ap (λ (s : FeedState). s.ended) takes.feed
-      ∙ c.loop.invariant.going in
-      let pushed = HasServed-push c.loop.connection c.push.new.self c.args.keeper.now c.loop.keeper so_far.taken piece
-      so_far.text so_far.moments c.loop.invariant.going takes so_far.served in
-      let stopped = c.in_err-answer_lines.ensures.stopped in
-      let run : Run = record {
-        old = c.args.keeper.now;
-        new = c.answer_lines.new.keeper;
-        given = g.C.Clock.given c.args.clock.now;
-        given_since = g.C.Clock.given c.answer_lines.new.clock;
-        input = g.R.Read.remaining (inner_of c.args.input.now);
-        written = g.W.Write.contents (inner_of c.args.output.now);
-        written_since = g.W.Write.contents (inner_of c.answer_lines.new.output);
-      } in
-      let same = takes.rules ∙ c.loop.invariant.rules in
-      rw given.1 (rw same at (stopped_before c.push.new.self c.push.new.self.rules run (so_far.taken ++ piece) _
-      (so_far.moments ++ stopped.0) going (Consumes-trans _ _ _ _ _ so_far.consumed read.1)
-      (HasGiven-trans _ _ _ so_far.moments stopped.0 so_far.gave stopped.1)
-      (stopped.2 c.args.keeper.now (so_far.taken ++ piece) so_far.moments so_far.text _ pushed so_far.appended)));
-  faults = search rules;
-  write_failed = search rules;
+pub returns-in_err-answer_lines : goal.returns-in_err-answer_lines
+returns-in_err-answer_lines g c = record {
+  lines = record {
+    served = search rules;
+    stopped =
+        let given = err_from_is_err_and c.from_residual-in_err-answer_lines.result
+        c.from_residual-in_err-answer_lines.ensures.1 in
+        let so_far = c.loop.invariant.serving in
+        let read = rw c.in-Some.is at c.in_ok-given.ensures.bytes in
+        let piece = take c.in-Some.given c.read_once.new.buf in
+        let takes = c.in_ok-push.ensures in
+        let going : c.push.new.self.feed.ended ≡ false = ap (λ (s : FeedState). s.ended) takes.feed
+        ∙ c.loop.invariant.going in
+        let pushed = HasServed-push c.loop.connection c.push.new.self c.args.keeper.now c.loop.keeper so_far.taken piece
+        so_far.text so_far.moments c.loop.invariant.going takes so_far.served in
+        let stopped = c.in_err-answer_lines.ensures.stopped in
+        let run : Run = record {
+          old = c.args.keeper.now;
+          new = c.answer_lines.new.keeper;
+          given = g.C.Clock.given c.args.clock.now;
+          given_since = g.C.Clock.given c.answer_lines.new.clock;
+          input = g.R.Read.remaining (inner_of c.args.input.now);
+          written = g.W.Write.contents (inner_of c.args.output.now);
+          written_since = g.W.Write.contents (inner_of c.answer_lines.new.output);
+        } in
+        let same = takes.rules ∙ c.loop.invariant.rules in
+        rw given.1 (rw same at (stopped_before c.push.new.self c.push.new.self.rules run (so_far.taken ++ piece) _
+        (so_far.moments ++ stopped.0) going (Consumes-trans _ _ _ _ _ so_far.consumed read.1)
+        (HasGiven-trans _ _ _ so_far.moments stopped.0 so_far.gave stopped.1)
+        (stopped.2 c.args.keeper.now (so_far.taken ++ piece) so_far.moments so_far.text _ pushed so_far.appended)));
+    faults = search rules;
+    write_failed = search rules;
+  };
+  reads = search rules;
 }
 
 pub loop-preserved : goal.loop-preserved
@@ -156,7 +171,7 @@ loop-preserved g c =
     let so_far = c.loop.invariant.serving in
     let read = rw c.in-Some.is at c.in_ok-given.ensures.bytes in
     let piece = take c.in-Some.given c.read_once.new.buf in
-    let takes = c.in_ok-push.ensures.taken in
+    let takes = c.in_ok-push.ensures in
     let pushed = HasServed-push c.loop.connection c.push.new.self c.args.keeper.now c.loop.keeper so_far.taken piece
     so_far.text so_far.moments c.loop.invariant.going takes so_far.served in
     let more = c.in_ok-answer_lines.ensures.served in
@@ -167,12 +182,12 @@ loop-preserved g c =
         text = so_far.text ++ more.1;
         consumed = Consumes-trans _ _ _ _ _ so_far.consumed read.1;
         gave = HasGiven-trans _ _ _ so_far.moments more.0 so_far.gave more.2;
-        served = more.4.served c.args.keeper.now (so_far.taken ++ piece) so_far.moments so_far.text pushed;
+        served = more.4.items.served c.args.keeper.now (so_far.taken ++ piece) so_far.moments so_far.text pushed;
         appended = Appends-trans _ _ _ _ _ so_far.appended more.3;
       };
-      going = more.4.ended ∙ ap (λ (s : FeedState). s.ended) takes.feed ∙ c.loop.invariant.going;
-      rules = more.4.rules ∙ takes.rules ∙ c.loop.invariant.rules;
-      pieces = omega (arith, more.4.pieces, takes.pieces, c.loop.invariant.pieces);
+      going = more.4.items.ended ∙ ap (λ (s : FeedState). s.ended) takes.feed ∙ c.loop.invariant.going;
+      rules = more.4.items.rules ∙ takes.rules ∙ c.loop.invariant.rules;
+      pieces = omega (arith, more.4.items.pieces, takes.pieces, c.loop.invariant.pieces);
       made = HasRisenBy-more c.loop.counter _ _ _ c.loop.invariant.made c.in_ok-given.ensures.reads;
       few = one_more_at_most c.loop.counter _ _ _ c.loop.invariant.few c.in_ok-given.ensures.reads;
       in_count = omega (arith, c.loop.invariant.in_count, c.in_ok-given.ensures.failures.failures_never_fall);

@@ -3,33 +3,45 @@ use Rattle.rr_node.proofs.StreamLemmas.{stops_serving, stops_answering}
 use Rattle.std.proofs.lemmas.Result.{err_from_is_err_and}
 use Rattle.rr_node.proofs.connection.Connection.answer_lines.Goals as goal
 
-pub returns-in_err-write_lines-clause-stopped : goal.returns-in_err-write_lines-clause-stopped
-returns-in_err-write_lines-clause-stopped g c =
+pub returns-in_err-write_lines : goal.returns-in_err-write_lines
+returns-in_err-write_lines g c =
     let given = err_from_is_err_and c.from_residual.result c.from_residual.ensures.1 in
     let ended = c.in_err-write_lines.ensures.ended in
-    rw given.1 (
-      ended.0,
-      rw c.renew.ensures at ended.1,
-      λ start pushed said text first has appends. stops_serving c.args.self.now start c.args.keeper.now _ pushed text
-          said ended.0 first _ ended.2 has appends,
-    )
+    record {
+      served = search rules;
+      stopped = rw given.1 (
+        ended.0,
+        rw c.renew.ensures at ended.1,
+        λ start pushed said text first has appends. stops_serving c.args.self.now start c.args.keeper.now _ pushed text
+            said ended.0 first _ ended.2 has appends,
+      );
+      writes = search rules;
+    }
 
-pub returns-in_err-send-clause-stopped : goal.returns-in_err-send-clause-stopped
-returns-in_err-send-clause-stopped g c =
+pub returns-in_err-send : goal.returns-in_err-send
+returns-in_err-send g c =
     let given = err_from_is_err_and c.from_residual-in_err-send.result c.from_residual-in_err-send.ensures.1 in
     let served = c.in_ok-write_lines.ensures.served in
     let none : c.new-answers.result.items ≡ [] = search rules in
     let part = rw (c.as_slice.ensures.value, served.3, none) at c.in_err-send.ensures.front in
-    rw given.1 (
-      served.0,
-      rw c.renew.ensures at served.2,
-      λ start pushed said text first has appends. stops_answering c.args.self.now _ start c.args.keeper.now _ pushed
-          text served.1 said served.0 first _ _ served.4 has appends part,
-    )
+    record {
+      served = search rules;
+      stopped = rw given.1 (
+        served.0,
+        rw c.renew.ensures at served.2,
+        λ start pushed said text first has appends. stops_answering c.args.self.now _ start c.args.keeper.now _ pushed
+            text served.1 said served.0 first _ _ served.4.items has appends part,
+      );
+      writes = search rules;
+    }
 
-pub returns-clause-served : goal.returns-clause-served
-returns-clause-served g c =
+pub returns : goal.returns
+returns g c =
     let served = c.in_ok-write_lines.ensures.served in
     let none : c.new-answers.result.items ≡ [] = search rules in
     let whole = rw (c.as_slice.ensures.value, served.3, none) at c.in_ok-send.ensures.whole in
-    (served.0, served.1, rw c.renew.ensures at served.2, whole, served.4)
+    record {
+      served = (served.0, served.1, rw c.renew.ensures at served.2, whole, served.4);
+      stopped = search rules;
+      writes = search rules;
+    }

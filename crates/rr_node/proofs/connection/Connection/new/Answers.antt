@@ -1,6 +1,11 @@
-use Rattle.std.proofs.Common.{refl}
+use Rattle.std.proofs.Common.{refl, rules}
 use Rattle.rr_node.proofs.ConnectionLemmas.{HasServed-new}
 use Rattle.rr_node.proofs.connection.Connection.new.Goals as goal
 
-pub returns-clause-nothing : goal.returns-clause-nothing
-returns-clause-nothing c = λ start. HasServed-new _ start c.new.ensures refl refl
+pub returns : goal.returns
+returns c = record {
+  feed = search rules;
+  pieces = search rules;
+  rules = search rules;
+  nothing = λ start. HasServed-new _ start c.new.ensures refl refl;
+}

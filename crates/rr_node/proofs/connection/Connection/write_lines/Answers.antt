@@ -25,7 +25,7 @@ returns-in_err-answer-clause-ended g c =
     let hands : HandsOut old.feed (Some item) c.next_line.follows.lender-at-none =
     rw c.in-Some.is at c.next_line.follows.holds-at-none in
     let so_far = c.loop-item.invariant in
-    let takes = c.in_err-answer.ensures.taken in
+    let takes = c.in_err-answer.ensures in
     rw given.1 (
       so_far.0 ++ takes.asked,
       HasGiven-trans _ _ _ so_far.0 takes.asked so_far.2 takes.gave,
@@ -42,7 +42,7 @@ returns-in_err-count-clause-ended g c =
     let hands : HandsOut old.feed (Some item) c.next_line.follows.lender-at-none =
     rw c.in-Some.is at c.next_line.follows.holds-at-none in
     let so_far = c.loop-item.invariant in
-    let takes = c.in_ok-answer.ensures.taken in
+    let takes = c.in_ok-answer.ensures in
     let whole = taken_whole old.rules item takes.asked c.loop-item.keeper _ _ takes.taken in
     rw given.1 (
       so_far.0 ++ takes.asked,
@@ -61,7 +61,7 @@ returns-in_err-publish_in_turn-clause-ended g c =
     let hands : HandsOut old.feed (Some item) c.next_line.follows.lender-at-none =
     rw c.in-Some.is at c.next_line.follows.holds-at-none in
     let so_far = c.loop-item.invariant in
-    let takes = c.in_ok-answer.ensures.taken in
+    let takes = c.in_ok-answer.ensures in
     let whole = taken_whole old.rules item takes.asked c.loop-item.keeper _ _ takes.taken in
     rw given.1 (
       so_far.0 ++ takes.asked,
@@ -78,7 +78,7 @@ loop-item-preserved g c =
     let hands : HandsOut old.feed (Some item) c.next_line.follows.lender-at-none =
     rw c.in-Some.is at c.next_line.follows.holds-at-none in
     let so_far = c.loop-item.invariant in
-    let takes = c.in_ok-answer.ensures.taken in
+    let takes = c.in_ok-answer.ensures in
     let answer = c.in_ok-answer.answer in
     let whole = taken_whole old.rules item takes.asked c.loop-item.keeper _ answer takes.taken in
     let counted = c.in_ok-count.ensures in
@@ -110,13 +110,10 @@ returns-clause-served g c =
       so_far.1,
       so_far.2,
       so_far.3,
-      ServedItems-none c.args.self.now c.loop-item.self _ c.args.keeper.now
-          c.loop-item.keeper so_far.0 so_far.1 hands (record { lines = refl; report = refl; rules = refl }) refl
-          so_far.4,
+      record {
+        items = ServedItems-none c.args.self.now c.loop-item.self _ c.args.keeper.now
+            c.loop-item.keeper so_far.0 so_far.1 hands (record { lines = refl; report = refl; rules = refl }) refl
+            so_far.4;
+        all_taken = sym (items_left-handed None _ _ hands) ∙ hands.none refl;
+      },
     )
-
-pub returns-clause-all_taken : goal.returns-clause-all_taken
-returns-clause-all_taken g c =
-    let hands : HandsOut c.loop-item.self.feed None c.next_line.follows.lender-at-none =
-    rw c.in_default.is at c.next_line.follows.holds-at-none in
-    sym (items_left-handed None _ _ hands) ∙ hands.none refl
