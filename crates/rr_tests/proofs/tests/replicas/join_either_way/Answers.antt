@@ -3,12 +3,12 @@ use Rattle.rr_cells.specs.Cells.{Cells}
 use Rattle.rr_cells.specs.Joins.{join}
 use Rattle.rr_cells.specs.Joining.{with_cell}
 use Rattle.rr_cells.specs.ReplicaState.{ReplicaState, IsReplicaState}
-use Rattle.rr_cells.specs.Laws.{JoinIsCommutative, JoinIsAssociative}
+use Rattle.rr_cells.specs.Laws.{CellJoinIsCommutative, CellJoinIsAssociative}
 use Rattle.rr_replica.specs.ReplicaWithRoom.{replica_state}
 use Rattle.rr_tests.proofs.tests.replicas.join_either_way.Goals as goal
 
 -- two maps are joined into a third in either order
-either_order : JoinIsCommutative → JoinIsAssociative → (h : ReplicaState) → IsReplicaState h → (m n : Cells)
+either_order : CellJoinIsCommutative → CellJoinIsAssociative → (h : ReplicaState) → IsReplicaState h → (m n : Cells)
     → join h.schema (join h.schema h.cells m) n ≡ join h.schema (join h.schema h.cells n) m
 either_order commutative associative h is m n =
     associative h.schema h.cells m n is.layout ∙ ap (join h.schema h.cells) (commutative h.schema m n is.layout)
