@@ -33,8 +33,8 @@ pub record SetsEntry {T : Type 0} (e : Entry) (old new : Vec Entry) (result : Re
   pub ascend : IsTrue (ascends old.items) → IsTrue (ascends new.items)
   pub room : vec_len old < vec_capacity old → IsOk result
 
--- the next row to look at is so many rows on, at least one and at most `most`: those before it, from the row `from`
--- on, have no entry
+-- how many rows on the next one to look at is: at least one, unless `most` is none, and at most `most`; the rows
+-- before it, from the row `from` on, have no entry
 pub record PassesOver (from most : ℕ) (row : ℕ → List Entry) (result : ℕ) : Type 0 where
   pub at_least_one : 1 ≤ most → 1 ≤ result
   pub at_most : result ≤ most

@@ -46,7 +46,7 @@ pub record ShowsCopy {D P A S : Type 0} {g : Ghosts (Shown D) Change S} (replica
   pub keys : w.desk.shown.value.replica.keys ≡ replica.keys
   pub pending : changes w ≡ cs
 
--- and they are not opened for readers yet
+-- a writer shows a copy of a replica, no change is pending, and it isn't opened for readers yet
 pub record IsUnopened {D P A S : Type 0} {g : Ghosts (Shown D) Change S} (replica : ReplicaWithRoom)
     (w : Writer (Shown D) Change View P A S g) : Type 0 where
   pub copy : ShowsCopy replica [] w

@@ -7,7 +7,7 @@ pub record HasNumberRoom (end : ℕ) (buffer : List ℕ) : Type 0 where
   pub room : MAX_NUMBER_TEXT ≤ end
   pub within : end ≤ length buffer
 
--- a text, no longer than a number's, was written there and begins at `at`
+-- a text that is no longer than a number was written before the bytes from `end` on, and begins at `at`
 pub record WritesBefore (end : ℕ) (text old new : List ℕ) (at : ℕ) : Type 0 where
   pub start : end ≤ at + MAX_NUMBER_TEXT
   pub before : at ≤ end

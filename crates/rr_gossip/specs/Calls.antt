@@ -45,14 +45,16 @@ pub record StaysSource {S : Type 0} (layout : S → Layout) (may_become : S → 
   pub schema : layout new ≡ layout old
   pub becomes : may_become old new
 
--- what was taken of a giver's peer: what the definition takes, by which the pages still fit, and the source stays
+-- a frame, or a part of one, was taken from a giver's peer as the definition says, unless memory ran out; what is
+-- still to be sent fits into pages, and the source became what it may become
 pub record TakesFor {S X Y : Type 0} (layout : S → Layout) (may_become : S → S → Type 0) (old new : S)
     (view : X → Y) (stage : Stage) (result : Result X GossipFault) (answer : Result Y GossipFault) : Type 0 where
   pub taken : GivesUnless Memory view result answer
   pub fit : OnOk result (AreFit stage)
   pub source : StaysSource layout may_become old new
 
--- what a side of a session sends next, of which it makes none beyond its limit; a refusal ends the session
+-- the next frame was made as the definition says, unless memory ran out, as it may only while frames are due and
+-- fewer than the limit were sent; after a refusal the session has failed
 pub record SendsNext {X Y : Type 0} (is_sending : Bool) (sent limit : ℕ) (has_failed : Type 0)
     (view : X → Y) (result : Result X GossipFault) (answer : Result Y GossipFault) : Type 0 where
   pub given : GivesUnless Memory view result answer

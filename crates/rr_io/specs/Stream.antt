@@ -93,7 +93,7 @@ pub record ReadsOn {R X E : Type 0} (n : ℕ) (remaining : R → Option (List �
   pub failures_never_fall : KeepsFailures old new
   pub failed : OnErr result (HasFailed old new)
 
--- a text was written whole; or a front of it was, and a call failed
+-- the whole text was written; or a front of it was, and a call of the writer failed
 pub record Writes {W E : Type 0} (contents : W → Option (List ℕ)) (old new : Counted W) (text : List ℕ)
     (result : Result (Unit {0}) E) : Type 0 where
   pub whole : OnOk result (WritesWhole contents old new text)

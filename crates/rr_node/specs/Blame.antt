@@ -32,7 +32,7 @@ pub record ReadsFirst {R : Type 0} (remaining : R → Option (List ℕ)) (old ne
   pub faults : IfErr result (λ fault. (fault ≡ ReadFailed) ⊎ (fault ≡ TooManyReads))
   pub failures_never_fall : KeepsFailures old new
 
--- a text was written whole and passed on; or the result says why not, and a front of it was written
+-- the whole text was written and passed on; or a front of it was written, and the result says why no more was
 pub record Sends {W X : Type 0} (contents : W → Option (List ℕ)) (old new : Counted W) (text : List ℕ)
     (result : Result X NodeFault) : Type 0 where
   pub whole : OnOk result (WritesWhole contents old new text)

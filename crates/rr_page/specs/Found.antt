@@ -41,7 +41,7 @@ pub record ReadsCell {Y : Type 0} (v : Version) (s : Layout) (bytes : List ℕ)
   pub memory : NeedsMemoryAfter Memory (cell_at v s bytes) result
   pub cell : IfOk result (λ x. IsCellOf s (owned_cell x.0))
 
--- so are the cells of a page
+-- the cells of a page are read by their definition, unless memory ran out, as it may once nothing is refused
 pub record ReadsPage (s : Layout) (bytes : List ℕ) (result : Result (Vec Cell) PageFault) : Type 0 where
   pub exact : GivesUnless Memory (λ cells. map owned_cell cells.items) result (page_at s bytes)
   pub memory : NeedsMemoryAfter Memory (page_at s bytes) result

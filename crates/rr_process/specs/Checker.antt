@@ -51,8 +51,8 @@ pub record ReportsAll (old new : Checker) (text : List ℕ) : Type 0 where
   pub reports : Reports old new text
   pub all_taken : items_left new.feed ≡ []
 
--- the report of the items that could be handed out was written; or the result says why not, and a front of the report
--- was, whatever comes later
+-- the report of the items that could be handed out was written whole; or a front of the report of all lines was,
+-- whatever lines still come, and the result says why no more was
 pub record WritesItems {W X : Type 0} (contents : W → Option (List ℕ)) (old new : Checker)
     (output output_new : Counted W) (result : Result X ToolFault) : Type 0 where
   pub reported : OnOk result ((text : List ℕ) × ReportsAll old new text × WritesWhole contents output output_new text)
@@ -61,8 +61,8 @@ pub record WritesItems {W X : Type 0} (contents : W → Option (List ℕ)) (old 
       → AppendsPrefix start (contents (inner_of output_new)) (report_of old.precision old.now (pushed ++ more))
   pub writes : WritesOut output output_new result
 
--- the report of all that was pushed was written and passed on, and the refused lines were counted; or the result says
--- why not, and a front of the report was written
+-- the report of all that was pushed was written whole and passed on, and the refused lines are counted; or a front of
+-- the report was written, and the result says why no more was
 pub record WritesReport {W : Type 0} (contents : W → Option (List ℕ)) (old : Checker) (output output_new : Counted W)
     (result : Result ℕ ToolFault) : Type 0 where
   pub reported : OnOk result ((pushed before : List ℕ) (start : Option (List ℕ)) → HasReported old pushed before

@@ -21,8 +21,8 @@ pub record WritesOut {W X : Type 0} (old new : Counted W) (result : Result X Too
   pub failed : result ≡ Err WriteFailed → HasFailed old new
   pub faults : IfErr result (λ fault. (fault ≡ WriteFailed) ⊎ (fault ≡ Memory))
 
--- What an input still had was read in at most `reads` reads, and the text that is printed for it was written; or the
--- result says why not, and a front of that text was.
+-- all that an input still had was read, in at most `reads` reads, and the text that is printed for it was written
+-- whole; or a front of that text was written, and the result says why no more was
 pub record Prints {R W X : Type 0} (remaining : R → Option (List ℕ)) (contents : W → Option (List ℕ)) (reads : ℕ)
     (printed : List ℕ → List ℕ) (input input_new : Counted R) (output output_new : Counted W)
     (result : Result X ToolFault) : Type 0 where
@@ -43,7 +43,7 @@ pub record ReportsLines {R W : Type 0} (remaining : R → Option (List ℕ)) (co
       (λ bytes. refused ≡ refused_count precision bytes))
   pub flushed : OnOk result (is_flushed output_new ≡ true)
 
--- a text was written whole and passed on; or a write failed, and a front of the text was written
+-- the whole text was written and passed on; or a front of it was written, and a write failed
 pub record WritesText {W X : Type 0} (contents : W → Option (List ℕ)) (output output_new : Counted W) (text : List ℕ)
     (result : Result X ToolFault) : Type 0 where
   pub whole : OnOk result (WritesWhole contents output output_new text)

@@ -15,7 +15,8 @@ pub record Saves {W : Type 0} (contents : W → Option (List ℕ)) (old new : Co
   pub failures_never_fall : KeepsFailures old new
   pub failed : result ≡ Err WriteFailed → HasFailed old new
 
--- a part of a snapshot was so, and was added to what is digested
+-- a part of a snapshot was written whole, or a front of it was, and what was written whole was digested; the writer
+-- is blamed only if a call of it failed
 pub record SavesPart {W : Type 0} (contents : W → Option (List ℕ)) (old new : Counted W) (before after : Sha256)
     (text : List ℕ) (result : Result (Unit {0}) SaveFault) : Type 0 where
   pub whole : OnOk result (WritesWhole contents old new text)

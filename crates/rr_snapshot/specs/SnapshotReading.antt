@@ -31,7 +31,7 @@ abbrev pub may_have_had : Layout → ℕ → ℕ → Bool
 may_have_had s step number =
     step == s.step && not (number == 0) && (number == length s.archives || number + 1 == length s.archives)
 
--- so a number of archives is within a schema's
+-- a number of archives, from one up to those of a schema
 pub record IsArchiveCount (s : Layout) (number : ℕ) : Type 0 where
   pub at_least_one : 1 ≤ number
   pub at_most : number ≤ length s.archives

@@ -4,7 +4,7 @@ use Rattle.rr_archive.specs.declared.change.Change.TheVariants.{Put, Join}
 use Rattle.rr_archive.specs.Changes.{Fits}
 use Rattle.rr_archive.proofs.entries.first_entry.Goals as goal
 
--- each change fits where there is no entry
+-- each change fits if there is no entry
 fits : (change : Change) → Fits None change
 fits (Put x) = tt
 fits (Join c) = tt
