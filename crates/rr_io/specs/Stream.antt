@@ -1,8 +1,9 @@
 -- What calls of a stream did, also where one failed.
-use Rattle.std.specs.Prelude.{◌≡◌, ℕ, ◌<◌, ◌≤◌, List, ◌++◌, ◌+◌, length, take, Option, None, Some, IfSome, Result, Ok, Err, OnOk, OnErr, Bool, false, not, ◌&&◌, ◌==◌}
-use Rattle.std.specs.Io.KnownBytes.{Appends, Consumes, IsAtEnd, Keeps}
+use Rattle.std.specs.Prelude.{◌≡◌, ℕ, ◌<◌, ◌≤◌, List, ◌++◌, ◌+◌, length, take, Option, None, Some, IfSome, Result, Ok, Err, OnOk, OnErr, Bool, true, false, not, ◌&&◌, ◌==◌}
+use Rattle.std.specs.Io.{ReadsAtMost, WritesAtMost}
+use Rattle.std.specs.Io.KnownBytes.{Appends, Consumes, IsAtEnd, Keeps, ReadConsumes, WriteAppends}
 use Rattle.rr_io.specs.declared.counted.Counted.{Counted}
-use Rattle.rr_io.specs.Counted.{inner_of, failures_of, reads_of, HasRisen, HasRisenBy}
+use Rattle.rr_io.specs.Counted.{inner_of, failures_of, is_flushed, reads_of, HasRisen, HasRisenBy}
 
 -- where the bytes of a writer are known, a front of the text was written after them, and nothing else
 abbrev pub AppendsPrefix : Option (List ℕ) → Option (List ℕ) → List ℕ → Type 0
@@ -39,6 +40,16 @@ ReadsOnce old new (Ok (Some given)) buf =
     (given ≤ length buf) × Consumes old new (take given buf) × (given ≡ 0 → 0 < length buf → IsAtEnd new)
 ReadsOnce old new (Ok None) buf = Keeps old new
 ReadsOnce old new (Err fault) buf = Keeps old new
+
+-- one read gave as many bytes as it says, at the front of the buffer
+pub record ReadsInto {E : Type 0} (old new : Option (List ℕ)) (result : Result ℕ E) (buf : List ℕ) : Type 0 where
+  pub bound : ReadsAtMost result buf
+  pub bytes : ReadConsumes old new result buf
+
+-- one write took as many bytes as it says, from the front of the piece
+pub record WritesFrom {E : Type 0} (old new : Option (List ℕ)) (result : Result ℕ E) (piece : List ℕ) : Type 0 where
+  pub bound : WritesAtMost result piece
+  pub bytes : WriteAppends old new result piece
 
 -- ---- what was done with a counted reader or writer, from an old state to a new one
 
@@ -98,5 +109,13 @@ pub record Writes {W E : Type 0} (contents : W → Option (List ℕ)) (old new :
     (result : Result (Unit {0}) E) : Type 0 where
   pub whole : OnOk result (WritesWhole contents old new text)
   pub front : WritesFront contents old new text
+  pub failures_never_fall : KeepsFailures old new
+  pub failed : OnErr result (HasFailed old new)
+
+-- what a writer held back was passed on, or a call of it failed; nothing more was written
+pub record Flushes {W E : Type 0} (contents : W → Option (List ℕ)) (old new : Counted W) (result : Result (Unit {0}) E)
+    : Type 0 where
+  pub flushed : OnOk result (is_flushed new ≡ true)
+  pub bytes : Keeps (contents (inner_of old)) (contents (inner_of new))
   pub failures_never_fall : KeepsFailures old new
   pub failed : OnErr result (HasFailed old new)

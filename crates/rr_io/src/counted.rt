@@ -1,9 +1,9 @@
 //! Readers and writers that count their calls.
 
 ghost use Rattle.std.specs.Prelude.{◌≡◌, length, true, false, MatchResult, if◌then◌else◌};
-ghost use Rattle.std.specs.Io.{ReadsAtMost, WritesAtMost};
-ghost use Rattle.std.specs.Io.KnownBytes.{Keeps, ReadConsumes, WriteAppends};
+ghost use Rattle.std.specs.Io.KnownBytes.{Keeps};
 ghost use Rattle.rr_io.specs.Counted.{inner_of, failures_of, reads_of, ends_of, is_flushed, one_more, is_end_read, is_failed_write};
+ghost use Rattle.rr_io.specs.Stream.{ReadsInto, WritesFrom};
 
 use std::io;
 use std::io::{Read, Write};
@@ -114,8 +114,7 @@ impl<R: Read> Read for Counted<R> {
     ghost remaining = { λ c. R.remaining (inner_of c) };
 
     fn read(&mut self, buf: &mut [u8]) -> io::Result<usize>
-        ensures bound { ReadsAtMost result buf.new }
-        ensures bytes { ReadConsumes (R.remaining (inner_of self.old))
+        ensures read { ReadsInto (R.remaining (inner_of self.old))
             (R.remaining (inner_of self.new)) result buf.new }
         ensures count { MatchResult result (λ _. failures_of self.new ≡ failures_of self.old)
             (λ _. failures_of self.new ≡ one_more (failures_of self.old)) }
@@ -139,8 +138,7 @@ impl<W: Write> Write for Counted<W> {
     ghost contents = { λ c. W.contents (inner_of c) };
 
     fn write(&mut self, buf: &[u8]) -> io::Result<usize>
-        ensures bound { WritesAtMost result buf.now }
-        ensures bytes { WriteAppends (W.contents (inner_of self.old))
+        ensures written { WritesFrom (W.contents (inner_of self.old))
             (W.contents (inner_of self.new)) result buf.now }
         ensures count { failures_of self.new ≡ (if is_failed_write result (length buf.now)
             then one_more (failures_of self.old) else failures_of self.old) }

@@ -1,9 +1,9 @@
 //! A stream of which one call fails.
 
 ghost use Rattle.std.specs.Prelude.{◌≡◌, Some};
-ghost use Rattle.std.specs.Io.{ReadsAtMost, WritesAtMost};
-ghost use Rattle.std.specs.Io.KnownBytes.{Keeps, ReadConsumes, WriteAppends};
+ghost use Rattle.std.specs.Io.KnownBytes.{Keeps};
 ghost use Rattle.rr_io.specs.Failing.{CountsCall, stream_in, calls_left, one_call_less, fails_next};
+ghost use Rattle.rr_io.specs.Stream.{ReadsInto, WritesFrom};
 
 use std::io;
 use std::io::{ErrorKind, Read, Write};
@@ -67,8 +67,7 @@ impl<R: Read> Read for Failing<R> {
     ghost remaining = { λ f. R.remaining (stream_in f) };
 
     fn read(&mut self, buf: &mut [u8]) -> io::Result<usize>
-        ensures bound { ReadsAtMost result buf.new }
-        ensures bytes { ReadConsumes (R.remaining (stream_in self.old))
+        ensures read { ReadsInto (R.remaining (stream_in self.old))
             (R.remaining (stream_in self.new)) result buf.new }
         ensures calls { CountsCall self.old self.new result }
     {
@@ -83,8 +82,7 @@ impl<W: Write> Write for Failing<W> {
     ghost contents = { λ f. W.contents (stream_in f) };
 
     fn write(&mut self, buf: &[u8]) -> io::Result<usize>
-        ensures bound { WritesAtMost result buf.now }
-        ensures bytes { WriteAppends (W.contents (stream_in self.old))
+        ensures written { WritesFrom (W.contents (stream_in self.old))
             (W.contents (stream_in self.new)) result buf.now }
         ensures calls { CountsCall self.old self.new result }
     {

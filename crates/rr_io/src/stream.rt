@@ -8,12 +8,11 @@
 //! Whoever reads an input to its end in pieces of its own calls [`read_once`] in a loop of at most
 //! as many turns as the input may take reads, as [`read_to_end_within`] does.
 
-ghost use Rattle.std.specs.Prelude.{◌≡◌, ◌<◌, ◌≤◌, Ok, None, length, take, true, IfOk, OnOk, if◌then◌else◌};
-ghost use Rattle.std.specs.Io.{ReadsAtMost, WritesAtMost};
-ghost use Rattle.std.specs.Io.KnownBytes.{Consumes, Keeps, ReadConsumes, WriteAppends};
-ghost use Rattle.rr_io.specs.Counted.{inner_of, reads_of, ends_of, is_flushed, one_more};
+ghost use Rattle.std.specs.Prelude.{◌≡◌, ◌<◌, ◌≤◌, Ok, None, length, take, IfOk, if◌then◌else◌};
+ghost use Rattle.std.specs.Io.KnownBytes.{Consumes};
+ghost use Rattle.rr_io.specs.Counted.{inner_of, reads_of, ends_of, one_more};
 ghost use Rattle.rr_text.specs.declared.limits.TheConstants.{MAX_READS};
-ghost use Rattle.rr_io.specs.Stream.{CountsFailures, HasFailed, IsReadOut, ReadsOn, ReadsOnce, Writes, tells_end};
+ghost use Rattle.rr_io.specs.Stream.{CountsFailures, Flushes, HasFailed, IsReadOut, ReadsInto, ReadsOn, ReadsOnce, Writes, WritesFrom, tells_end};
 ghost use Rattle.rr_io.specs.ReadsToEnd.{ReadsToEnd};
 
 use crate::counted::Counted;
@@ -68,8 +67,7 @@ pub fn read_once<R: Read>(
 /// Reads some bytes into the front of `buf`, and answers how many: none only at the end of the
 /// input, or where `buf` is empty. A read that failed took no byte of the input.
 pub fn read_some<R: Read>(input: &mut Counted<R>, buf: &mut [u8]) -> Result<usize, ReadFailed>
-    ensures bound { ReadsAtMost result buf.new }
-    ensures bytes { ReadConsumes (R.remaining (inner_of input.old))
+    ensures read { ReadsInto (R.remaining (inner_of input.old))
         (R.remaining (inner_of input.new)) result buf.new }
     ensures failures { CountsFailures input.old input.new result }
 {
@@ -201,8 +199,7 @@ pub fn read_to_end_within<R: Read>(
 fn write_some<W: Write>(output: &mut Counted<W>, piece: &[u8]) -> Result<usize, WriteFailed>
     requires { 0 < length piece.now }
     ensures some_taken { IfOk result (λ taken. 0 < taken) }
-    ensures bound { WritesAtMost result piece.now }
-    ensures bytes { WriteAppends (W.contents (inner_of output.old))
+    ensures written { WritesFrom (W.contents (inner_of output.old))
         (W.contents (inner_of output.new)) result piece.now }
     ensures failures { CountsFailures output.old output.new result }
 {
@@ -234,9 +231,7 @@ pub fn write_all<W: Write>(output: &mut Counted<W>, text: &[u8]) -> Result<(), W
 
 /// Has the writer pass on what it holds back.
 pub fn flush<W: Write>(output: &mut Counted<W>) -> Result<(), WriteFailed>
-    ensures flushed { OnOk result (is_flushed output.new ≡ true) }
-    ensures bytes { Keeps (W.contents (inner_of output.old)) (W.contents (inner_of output.new)) }
-    ensures failures { CountsFailures output.old output.new result }
+    ensures { Flushes W.contents output.old output.new result }
 {
     for _ in 0..MAX_INTERRUPTS {
         match output.flush() {

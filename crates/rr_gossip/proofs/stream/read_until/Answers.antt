@@ -15,7 +15,7 @@ returns-in_err-extend_from_slice-clause-stopped g c =
       arith,
       length-append before piece,
       length-take c.in_ok-given.given c.read_some.new.buf,
-      c.in_ok-given.ensures.bound,
+      c.in_ok-given.ensures.read.bound,
       c.min-most.ensures,
       c.read_some.auto.buf,
       length-take c.min-most.result c.loop-piece.piece,
@@ -23,7 +23,7 @@ returns-in_err-extend_from_slice-clause-stopped g c =
     rw (p.1, p.2) (
       before ++ piece,
       added_more _ _ _ _ _ piece _ c.loop-piece.invariant.read
-          c.in_ok-given.ensures.bytes.0 refl,
+          c.in_ok-given.ensures.read.bytes.0 refl,
       few,
       inl refl,
     )

@@ -11,11 +11,11 @@ loop-filled-preserved g c =
     let new = c.read_some.new.buf in
     let at = c.loop-filled.filled in
     let given = c.in_ok-given.given in
-    let bound : given ≤ length new = c.in_ok-given.ensures.bound.0 in
+    let bound : given ≤ length new = c.in_ok-given.ensures.read.bound.0 in
     let part = length-take-le (length old - at) (drop at old) (omega (arith, length-drop at old)) in
     let same = same_len_mid at (length old - at) old new (c.read_some.auto.buf) in
     let front = filled_more old new at given (omega arith) bound in
-    let taken = Consumes-trans _ _ _ _ _ c.loop-filled.invariant.taken (c.in_ok-given.ensures.bytes.0) in
+    let taken = Consumes-trans _ _ _ _ _ c.loop-filled.invariant.taken (c.in_ok-given.ensures.read.bytes.0) in
     record {
       within = omega (arith, same, part, c.read_some.auto.buf);
       taken = rw (front) taken;
@@ -42,7 +42,7 @@ returns-then-given-eq0-clause-stream g c = record {
           length-append (take at old) (take given new),
           c.loop-filled.invariant.within,
         ),
-        Consumes-trans _ _ _ _ _ c.loop-filled.invariant.taken c.in_ok-given.ensures.bytes.0,
+        Consumes-trans _ _ _ _ _ c.loop-filled.invariant.taken c.in_ok-given.ensures.read.bytes.0,
       );
   failures_never_fall = search rules;
   failed = search rules;

@@ -10,7 +10,7 @@ loop-rest-preserved g c =
       written = (
         w.0 ++ take c.in_ok-taken.taken c.loop-rest.rest.now,
         written_more _ w.0 c.loop-rest.rest.now c.in_ok-taken.taken w.1,
-        Appends-trans _ _ _ _ _ w.2 c.in_ok-taken.ensures.bytes,
+        Appends-trans _ _ _ _ _ w.2 c.in_ok-taken.ensures.written.bytes,
       );
       count = search rules;
     }
