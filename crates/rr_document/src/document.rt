@@ -125,46 +125,29 @@ fn archives_in(alloc: Global, values: &Vec<Value>) -> Result<Vec<ArchiveSpec>, S
     Ok(archives)
 }
 
-/// The schema of a TOML table.
-#[tactic(auto, unfolding(crate::specs::Document::layout_in))]
-fn schema_in(alloc: Global, table: &Table) -> Result<Schema, SchemaFault>
-    ensures read { GivesUnless SchemaFault.Memory (λ s. s) result
-        (layout_in (table_view table.now)) }
-    ensures memory { NeedsMemoryAfter SchemaFault.Memory (tables_in (table_view table.now)) result }
-{
-    let step = whole_at(table, "step")?;
-    let tables = tables_at(table, "archive")?;
-    let archives = archives_in(alloc, tables)?;
-    Schema::new(alloc, step, archives.as_slice())
-}
-
-/// The schema of a TOML text.
-fn schema_of(alloc: Global, text: &[u8]) -> Result<Schema, SchemaFault>
-    ensures read { GivesUnless SchemaFault.Memory (λ s. s) result (layout_of text.now) }
-    ensures foreign { is_utf8 text.now ≡ false → result ≡ Err SchemaFault.BadToml }
-{
-    let Ok(text) = str::from_utf8(text) else {
-        return Err(SchemaFault::BadToml);
-    };
-    match toml::table_from_str(alloc, text) {
-        Ok(table) => schema_in(alloc, &table),
-        Err(error) => {
-            if error.is_memory() {
-                return Err(SchemaFault::Memory);
-            }
-            Err(SchemaFault::BadToml)
-        }
-    }
-}
-
 impl FromToml for Schema {
     ghost layout = { λ s. s };
 
+    #[tactic(auto, unfolding(crate::specs::Document::layout_in))]
     fn from_table(alloc: Global, table: &Table) -> Result<Schema, SchemaFault> {
-        schema_in(alloc, table)
+        let step = whole_at(table, "step")?;
+        let tables = tables_at(table, "archive")?;
+        let archives = archives_in(alloc, tables)?;
+        Schema::new(alloc, step, archives.as_slice())
     }
 
     fn from_toml(alloc: Global, text: &[u8]) -> Result<Schema, SchemaFault> {
-        schema_of(alloc, text)
+        let Ok(text) = str::from_utf8(text) else {
+            return Err(SchemaFault::BadToml);
+        };
+        match toml::table_from_str(alloc, text) {
+            Ok(table) => Schema::from_table(alloc, &table),
+            Err(error) => {
+                if error.is_memory() {
+                    return Err(SchemaFault::Memory);
+                }
+                Err(SchemaFault::BadToml)
+            }
+        }
     }
 }
