@@ -1,7 +1,6 @@
 //! Lines of a series that is known.
 
 ghost use Rattle.std.specs.Prelude.{◌≡◌, false, [], ◌∷◌, ◌++◌, IfSome, OnSome, Ok};
-ghost use Rattle.rr_key.specs.Series.{IsKeyText};
 ghost use Rattle.rr_text.specs.Bytes.{begins};
 ghost use Rattle.rr_text.specs.declared.bytes.TheConstants.{COMMA, EQUALS};
 ghost use Rattle.rr_line.specs.Beginning.{HasFirst};
@@ -14,10 +13,11 @@ use crate::last_time::LastTime;
 use crate::parse::is_nothing;
 use crate::part::content;
 use crate::precision::Precision;
+use rr_key::SeriesKey;
 use rr_text::bytes::{COMMA, EQUALS, begins, strip};
 
 /// The value and the time, in nanoseconds, of a line that says one sample of a series, by the key
-/// text of the series.
+/// of the series.
 ///
 /// What is answered is what [`parse_line`](crate::parse_line) reads of the line. `None` says
 /// nothing: the line may be of another series, have further fields, write its names in another way
@@ -27,15 +27,14 @@ use rr_text::bytes::{COMMA, EQUALS, begins, strip};
 /// the line ends in other bytes than the one before, whose time is in `last`. No memory is taken.
 pub fn read_known(
     line: &[u8],
-    key: &[u8],
+    key: &SeriesKey,
     precision: Precision,
     last: &mut LastTime,
 ) -> Option<(i64, Option<i64>)>
-    requires { IsKeyText key.now }
     ensures { IfSome result (λ said.
         SaysSamples precision line.now ((key.now, said.0) ∷ []) said.1) }
 {
-    let (value, rest) = first_value(line, key)?;
+    let (value, rest) = first_value(line, key.text())?;
     let time = time_after(rest, precision, last)?;
     Some((value, time))
 }

@@ -3,7 +3,6 @@
 ghost use Rattle.std.specs.Prelude.{◌≡◌, ◌<◌, true, ◌∷◌, ◌++◌, [], ℕ, List, IfSome};
 ghost use Rattle.std.specs.Bool.{OnTrue};
 ghost use Rattle.std.specs.Ordering.{is_lt};
-ghost use Rattle.rr_key.specs.Series.{IsKeyText};
 ghost use Rattle.rr_text.specs.Bytes.{bytes_cmp};
 ghost use Rattle.rr_text.specs.declared.limits.TheConstants.{MAX_FIELDS};
 ghost use Rattle.rr_line.specs.Beginning.{IsCut};
@@ -15,10 +14,11 @@ use crate::last_time::LastTime;
 use crate::part::before_last;
 use crate::precision::Precision;
 use memchr::memrchr;
+use rr_key::SeriesKey;
 use rr_text::bytes::{BACKSLASH, COMMA, SPACE, strip};
 use rr_text::limits::MAX_FIELDS;
 
-/// A line that is read field by field, each as a sample of the series that a key text names.
+/// A line that is read field by field, each as a sample of the series of a key.
 ///
 /// [`first_field`](KnownLine::first_field) begins it, [`next_field`](KnownLine::next_field) goes
 /// on, and [`time`](KnownLine::time) ends it: the line then says these samples, in this order, and
@@ -44,12 +44,12 @@ impl<'l, 'k> KnownLine<'l, 'k> {
 
     /// The value of the first field, if the line begins with the key text of its series. The cost
     /// is a comparison of the key text, and a pass over the value.
-    pub fn first_field(line: &'l [u8], key: &'k [u8]) -> Option<(i64, KnownLine<'l, 'k>)>
-        requires { IsKeyText key.now }
+    pub fn first_field(line: &'l [u8], key: &'k SeriesKey) -> Option<(i64, KnownLine<'l, 'k>)>
         ensures { IfSome result (λ read. HasRead line.now ((key.now, read.0) ∷ []) read.1) }
     {
-        let (front, field) = split_key(key)?;
-        let (value, rest) = first_value(line, key)?;
+        let key_text = key.text();
+        let (front, field) = split_key(key_text)?;
+        let (value, rest) = first_value(line, key_text)?;
         let known = KnownLine {
             front,
             field,
@@ -61,13 +61,12 @@ impl<'l, 'k> KnownLine<'l, 'k> {
 
     /// The value of the next field, if the key text of its series is this one, at the cost of the
     /// first.
-    pub fn next_field(&self, key: &'k [u8]) -> Option<(i64, KnownLine<'l, 'k>)>
-        requires { IsKeyText key.now }
+    pub fn next_field(&self, key: &'k SeriesKey) -> Option<(i64, KnownLine<'l, 'k>)>
         ensures { (line : List ℕ) (samples : List Sample) → HasRead line samples self.now
             → IfSome result (λ read. HasRead line (samples ++ (key.now, read.0) ∷ []) read.1) }
     {
         let text = strip(COMMA, self.rest)?;
-        let (front, field) = split_key(key)?;
+        let (front, field) = split_key(key.text())?;
         if !self.may_precede(front, field) {
             return None;
         }

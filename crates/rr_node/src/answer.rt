@@ -98,6 +98,7 @@ fn write_samples<A: Cells, C: Clock>(
 
 /// Where the series is that is likely to come next, its key, and the value and the time of a line,
 /// if it says one sample of that series.
+#[inline(always)]
 fn read_one<A: Cells>(
     keeper: &Keeper<A>,
     precision: Precision,
@@ -109,7 +110,7 @@ fn read_one<A: Cells>(
 {
     let hint = keeper.likely_next();
     let key = keeper.key_at(hint)?.copy().ok()?;
-    let (value, time) = read_known(line, key.text(), precision, last)?;
+    let (value, time) = read_known(line, &key, precision, last)?;
     Some((hint, key, value, time))
 }
 
@@ -136,7 +137,7 @@ fn read_next<A: Cells>(
 {
     let mut at = keeper.likely_next();
     let key = keeper.key_at(at)?;
-    let (value, mut known) = KnownLine::first_field(line, key.text())?;
+    let (value, mut known) = KnownLine::first_field(line, key)?;
     let mut values = Vec::new(alloc);
     values.push(keyed(key, at, value)?).ok()?;
     for _ in 1..MAX_FIELDS {
@@ -145,7 +146,7 @@ fn read_next<A: Cells>(
         }
         at = keeper.likely_after(at);
         let key = keeper.key_at(at)?;
-        let (value, next) = known.next_field(key.text())?;
+        let (value, next) = known.next_field(key)?;
         values.push(keyed(key, at, value)?).ok()?;
         known = next;
     }

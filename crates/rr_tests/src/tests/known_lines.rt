@@ -28,7 +28,7 @@ fn wanted_of(text: &str) -> Option<Option<Numbers>> {
 
 /// What is read of a line by a key.
 fn known(line: &str, key: &SeriesKey, last: &mut LastTime) -> Option<Numbers> {
-    let (value, time) = read_known(line.as_bytes(), key.text(), Precision::S, last)?;
+    let (value, time) = read_known(line.as_bytes(), key, Precision::S, last)?;
     Some([0, 0, value, time.unwrap_or(-1)])
 }
 
@@ -90,11 +90,11 @@ fn known_fields(line: &str, keys: &[SeriesKey], last: &mut LastTime) -> Option<N
     let [first, others @ ..] = keys else {
         return None;
     };
-    let (value, read) = KnownLine::first_field(line.as_bytes(), first.text())?;
+    let (value, read) = KnownLine::first_field(line.as_bytes(), first)?;
     let mut numbers = [0, 0, 0, value];
     let mut read = read;
     for key in others {
-        let (value, next) = read.next_field(key.text())?;
+        let (value, next) = read.next_field(key)?;
         push(&mut numbers, value);
         read = next;
     }

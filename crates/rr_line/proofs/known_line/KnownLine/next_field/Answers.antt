@@ -17,9 +17,11 @@ returns c = λ line samples read.
     let comma : known.rest.now ≡ COMMA ∷ c.in_ok-text.text.now =
     strip_some COMMA known.rest.now c.in_ok-text.text.now (search rules) in
     let whole = comma ∙ ap (λ (t : List ℕ). COMMA ∷ t) c.in_ok-value_text.ensures in
+    let text = c.text.ensures.value in
     let begins = next_read line samples known.front.now known.field.now known.rest.now key value front field
     value_text c.in_ok-value.rest.now
-    c.requires c.in_ok-front.ensures read.begins may.same (omega (arith, read.count, may.fields_fit)) may.above whole
+    (rw text at c.text.ensures.grammar) (rw text at c.in_ok-front.ensures) read.begins may.same
+    (omega (arith, read.count, may.fields_fit)) may.above whole
     c.in_ok-value.ensures in
     let kept : to_z w64 (of_z w64 value) ≡ value = search rules in
     rw kept (record { begins = begins; count = omega (arith, read.count, length-append samples ((key, value) ∷ [])) })
