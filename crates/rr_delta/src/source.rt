@@ -1,14 +1,12 @@
 //! The side of a session that gives cells.
-ghost use Rattle.std.specs.Prelude.{◌≡◌, All, IfOk, IsTrue, map, refl};
+ghost use Rattle.std.specs.Prelude.{◌≡◌, map, refl};
 ghost use Rattle.std.proofs.Common.{◌∙◌};
-ghost use Rattle.std.specs.FinMap.{entries, is_sorted};
+ghost use Rattle.std.specs.FinMap.{entries};
 ghost use Rattle.rr_schema.specs.Schema.{Layout, IsLayout};
-ghost use Rattle.rr_cells.specs.CellNames.{cell_name_cmp};
-ghost use Rattle.rr_cells.specs.CellBounds.{IsCellOf};
 ghost use Rattle.rr_cells.specs.Cells.{Cells};
-ghost use Rattle.rr_cells.specs.Listing.{owned_cell};
 ghost use Rattle.rr_delta.specs.Names.{owned_name};
 ghost use Rattle.rr_delta.specs.Difference.{IsSummary, newer_cells};
+ghost use Rattle.rr_delta.specs.Listed.{ListsCells};
 
 use crate::differing::difference;
 use crate::name::Name;
@@ -38,12 +36,8 @@ pub trait Source {
     /// names. The names of the summary strictly ascend. All of the answer is of one moment.
     fn difference(&mut self, alloc: Global, summary: &[Name]) -> Result<Vec<Cell>, AllocError>
         requires { IsSummary (map owned_name summary.now) }
-        ensures newer { IfOk result (λ found. map owned_cell found.items
-            ≡ newer_cells (map owned_name summary.now) (entries (cells self.new))) }
-        ensures ascending { IfOk result (λ found. IsTrue
-            (is_sorted cell_name_cmp (map owned_cell found.items))) }
-        ensures of_schema { IfOk result (λ found. All
-            (λ c. IsCellOf (layout self.new) (owned_cell c)) found.items) }
+        ensures lists { ListsCells (layout self.new)
+            (newer_cells (map owned_name summary.now) (entries (cells self.new))) result }
         ensures schema { layout self.new ≡ layout self.old }
         ensures may_become { may_become self.old self.new };
 
@@ -67,17 +61,7 @@ impl<A: Cells> Source for Replica<A> {
         Replica::schema(self)
     }
 
-    fn difference(&mut self, alloc: Global, summary: &[Name]) -> Result<Vec<Cell>, AllocError>
-        requires { IsSummary (map owned_name summary.now) }
-        ensures newer { IfOk result (λ found. map owned_cell found.items
-            ≡ newer_cells (map owned_name summary.now) (entries (self.new.cells))) }
-        ensures ascending { IfOk result (λ found. IsTrue
-            (is_sorted cell_name_cmp (map owned_cell found.items))) }
-        ensures of_schema { IfOk result (λ found. All
-            (λ c. IsCellOf (self.new.schema) (owned_cell c)) found.items) }
-        ensures schema { self.new.schema ≡ self.old.schema }
-        ensures may_become { self.new ≡ self.old }
-    {
+    fn difference(&mut self, alloc: Global, summary: &[Name]) -> Result<Vec<Cell>, AllocError> {
         difference(alloc, self, summary)
     }
 }

@@ -1,5 +1,5 @@
 //! The side of a session that takes cells.
-ghost use Rattle.std.specs.Prelude.{◌≡◌, ◌++◌, ◌∷◌, [], List, All, IfOk, OnOk, OnErr, map, take, drop, refl};
+ghost use Rattle.std.specs.Prelude.{◌≡◌, ◌++◌, ◌∷◌, [], List, All, OnOk, OnErr, map, take, drop, refl};
 ghost use Rattle.std.specs.FinMap.{entries};
 ghost use Rattle.rr_schema.specs.Schema.{Layout, IsLayout};
 ghost use Rattle.rr_cells.specs.CellBounds.{IsCellOf, NamedCell};
@@ -7,8 +7,8 @@ ghost use Rattle.rr_cells.specs.Cells.{Cells, IsTrimmed};
 ghost use Rattle.rr_cells.specs.Joins.{join_cells};
 ghost use Rattle.rr_cells.specs.Listing.{owned_cell};
 ghost use Rattle.rr_replica.specs.ReplicaWithRoom.{replica_state};
-ghost use Rattle.rr_delta.specs.Names.{IsNameOf, name_in, named_version, owned_name, versions_of};
-ghost use Rattle.rr_delta.specs.Difference.{IsSummary};
+ghost use Rattle.rr_delta.specs.Names.{name_in, named_version, versions_of};
+ghost use Rattle.rr_delta.specs.Listed.{ListsNames};
 ghost use Rattle.rr_delta.specs.Joining.{HasJoined, map_joined, then_joined};
 ghost use Rattle.rr_delta.specs.Summaries.{cells_after};
 
@@ -43,11 +43,8 @@ pub trait Target {
     /// The names and versions of as many cells as `count` from an offset on, in the order of the
     /// names; fewer where there are fewer.
     fn names(&self, alloc: Global, from: usize, count: usize) -> Result<Vec<Name>, AllocError>
-        ensures listed { IfOk result (λ names.
-            map owned_name names.items ≡ take count (drop from (versions_of (cells self.now)))) }
-        ensures ascending { IfOk result (λ names. IsSummary (map owned_name names.items)) }
-        ensures of_schema { IfOk result (λ names. All
-            (λ n. IsNameOf (layout self.now) (owned_name n)) names.items) };
+        ensures { ListsNames (layout self.now)
+            (take count (drop from (versions_of (cells self.now)))) result };
 
     /// The names and versions of as many cells as `count` after a name, or of the first ones where
     /// there is none, in the order of the names; fewer where there are fewer. A walk over all cells
@@ -59,12 +56,8 @@ pub trait Target {
         after: Option<&Name>,
         count: usize,
     ) -> Result<Vec<Name>, AllocError>
-        ensures listed { IfOk result (λ names. map owned_name names.items
-            ≡ take count (map named_version (cells_after (name_in after.entry)
-            (entries (cells self.now))))) }
-        ensures ascending { IfOk result (λ names. IsSummary (map owned_name names.items)) }
-        ensures of_schema { IfOk result (λ names. All
-            (λ n. IsNameOf (layout self.now) (owned_name n)) names.items) };
+        ensures { ListsNames (layout self.now) (take count (map named_version
+            (cells_after (name_in after.entry) (entries (cells self.now))))) result };
 
     /// Joins a cell, which is valid under the schema: of it and what stands at its name the greater
     /// stays, and then only the live cells. After an error nothing has changed.
