@@ -12,10 +12,11 @@ use Rattle.rr_cells.specs.CellBounds.{NamedCell}
 use Rattle.rr_cells.specs.Cells.{Cells}
 use Rattle.rr_gossip.specs.declared.fault.GossipFault.{GossipFault}
 use Rattle.rr_gossip.specs.declared.fault.GossipFault.TheVariants.{Ended, ReadFailed, WriteFailed, Memory}
+use Rattle.rr_gossip.specs.declared.giver.Giver.{Giver}
 use Rattle.rr_gossip.specs.declared.giver.Stage.{Stage}
 use Rattle.rr_gossip.specs.Giver.{AreFit}
 use Rattle.rr_gossip.specs.Stream.{Grows}
-use Rattle.rr_gossip.specs.Session.{HasFailedToGive, HasFailedToPull, HasGiven, HasPulled, sent_by}
+use Rattle.rr_gossip.specs.Session.{HasFailedToGive, HasFailedToPull, HasGiven, HasHeard, HasPulled, HasStoppedHearing, sent_by}
 use Rattle.rr_gossip.specs.Transcript.{waiting}
 
 -- what a call did with the reader that it takes frames from
@@ -52,6 +53,20 @@ pub record TakesFor {S X Y : Type 0} (layout : S → Layout) (may_become : S →
   pub taken : GivesUnless Memory view result answer
   pub fit : OnOk result (AreFit stage)
   pub source : StaysSource layout may_become old new
+
+-- a giver took the frames of its peer to the last one, or stopped at one of them; `before` is what was already read of
+-- the peer's bytes
+pub record HearsNames {R S : Type 0} (layout : S → Layout) (cells : S → Cells) (may_become : S → S → Type 0)
+    (old new : S) (first last : Giver) (before : List ℕ) (remaining : R → Option (List ℕ)) (input input_new : Counted R)
+    (result : Result (Unit {0}) GossipFault) : Type 0 where
+  pub heard : OnOk result (HasHeard (layout old) (cells new) first last before (remaining (inner_of input))
+      (remaining (inner_of input_new)))
+  pub stopped : IfErr result (HasStoppedHearing (layout old) (cells new) first before (remaining (inner_of input))
+      (remaining (inner_of input_new)))
+  pub source : StaysSource layout may_become old new
+  pub sent : OnOk result (last.sent ≡ first.sent)
+  pub limit : OnOk result (last.limit ≡ first.limit)
+  pub stream : TakesFrames remaining input input_new result
 
 -- the next frame was made as the definition says, unless memory ran out, as it may only while frames are due and
 -- fewer than the limit were sent; after a refusal the session has failed

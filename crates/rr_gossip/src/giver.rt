@@ -1,11 +1,11 @@
 //! The side of a session that gives cells.
-ghost use Rattle.std.specs.Prelude.{◌≡◌, ◌≢◌, ◌≤◌, Err, IfOk, OnErr, OnOk, IsTrue};
+ghost use Rattle.std.specs.Prelude.{◌≡◌, Err, OnErr, OnOk, IsTrue};
 ghost use Rattle.rr_gossip.specs.Session.{is_giving};
 ghost use Rattle.std.specs.Option.{option_map};
-ghost use Rattle.rr_text.specs.Results.{Gives, GivesUnless, NeedsMemoryAfter};
+ghost use Rattle.rr_text.specs.Results.{GivesUnless, NeedsMemoryAfter};
 ghost use Rattle.rr_gossip.specs.declared.frame.TheConstants.{MAX_FRAMES};
 ghost use Rattle.rr_gossip.specs.Calls.{SendsNext, TakesFor};
-ghost use Rattle.rr_gossip.specs.Giver.{AreFit, GiverFailed, first_giver, has_failed, is_due, is_listing, names_in, hello_taken, summary_taken, end_taken, body_taken, frame_due, giver_takes, stage_sends, giver_sends};
+ghost use Rattle.rr_gossip.specs.Giver.{AreFit, GiverFailed, first_giver, has_failed, is_due, is_listing, names_in, summary_taken, end_taken, body_taken, frame_due, giver_takes, stage_sends, giver_sends};
 
 use crate::fault::GossipFault;
 use crate::frame::{Kind, MAX_FRAMES, content_of, frame_bytes};
@@ -29,19 +29,6 @@ pub(crate) enum Stage {
     Done,
     /// After a fault.
     Failed,
-}
-
-/// The stage after the Hello, whose body has to be the bytes of the schema. No memory is taken.
-#[tactic(auto, unfolding(crate::specs::Giver::hello_taken))]
-fn after_hello(alloc: Global, body: &[u8], schema: &Schema) -> Result<Stage, GossipFault>
-    ensures taken { Gives (λ stage. stage) result (hello_taken schema.now body.now) }
-    ensures fit { IfOk result AreFit }
-    ensures no_memory { result ≢ Err GossipFault.Memory }
-{
-    if !schema.has_bytes(body) {
-        return Err(GossipFault::SchemaDiffers);
-    }
-    Ok(Stage::Listing(Names::new(alloc)))
 }
 
 impl Stage {
@@ -87,8 +74,9 @@ impl Stage {
         source: &mut S,
     ) -> Result<(), GossipFault>
         requires { IsTrue (is_listing self.old) }
-        ensures { TakesFor S.layout S.may_become source.old source.new (λ _. self.new) self.new result
-            (end_taken (S.cells source.new) (S.layout source.old) (names_in self.old) body.now) }
+        ensures { TakesFor S.layout S.may_become source.old source.new (λ _. self.new) self.new
+            result (end_taken (S.cells source.new) (S.layout source.old) (names_in self.old)
+            body.now) }
     {
         let Stage::Listing(names) = self else {
             return Err(GossipFault::UnexpectedFrame);
@@ -102,7 +90,9 @@ impl Stage {
         Ok(())
     }
 
-    /// Takes the body of a frame of a kind that is due, and answers whether it was the last.
+    /// Takes the body of a frame of a kind that is due, and answers whether it was the last. The
+    /// body of a Hello has to be the bytes of the schema.
+    #[tactic(auto, unfolding(crate::specs::Giver::hello_taken))]
     fn take_body<S: Source>(
         &mut self,
         alloc: Global,
@@ -118,7 +108,10 @@ impl Stage {
     {
         match kind {
             Kind::Hello => {
-                *self = after_hello(alloc, body, source.schema())?;
+                if !source.schema().has_bytes(body) {
+                    return Err(GossipFault::SchemaDiffers);
+                }
+                *self = Stage::Listing(Names::new(alloc));
                 Ok(false)
             }
             Kind::Summary => {
@@ -184,7 +177,6 @@ impl Giver {
 
     /// A session before its first frame, of at most `limit` frames each way.
     pub fn with_limit(limit: u32) -> Giver
-        requires { limit ≤ MAX_FRAMES }
         ensures { result ≡ first_giver limit }
     {
         Giver {

@@ -1,10 +1,9 @@
 //! The answer to a pull, over streams.
-ghost use Rattle.std.specs.Prelude.{◌≡◌, ◌≤◌, [], IfErr, IsTrue, OnOk, length};
+ghost use Rattle.std.specs.Prelude.{◌≡◌, ◌≤◌, [], IfErr, IsTrue, length};
 ghost use Rattle.std.specs.List.{concat};
-ghost use Rattle.rr_io.specs.Counted.{inner_of};
 ghost use Rattle.rr_gossip.specs.declared.frame.TheConstants.{MAX_FRAMES};
-ghost use Rattle.rr_gossip.specs.Calls.{Gives, SendsFrames, StaysSource, TakesFrames};
-ghost use Rattle.rr_gossip.specs.Session.{CannotSend, HasHeard, HasStoppedHearing, is_giving, reply_left};
+ghost use Rattle.rr_gossip.specs.Calls.{Gives, HearsNames, SendsFrames};
+ghost use Rattle.rr_gossip.specs.Session.{CannotSend, is_giving, reply_left};
 
 use crate::fault::GossipFault;
 use crate::frame::MAX_FRAMES;
@@ -26,16 +25,8 @@ fn take_names<S: Source, R: Read>(
     source: &mut S,
 ) -> Result<(), GossipFault>
     requires { length before.now ≤ 4 }
-    ensures heard { OnOk result (HasHeard (S.layout source.old) (S.cells source.new)
-        giver.old giver.new before.now
-        (R.remaining (inner_of input.old)) (R.remaining (inner_of input.new))) }
-    ensures stopped { IfErr result (HasStoppedHearing (S.layout source.old) (S.cells source.new)
-        giver.old before.now
-        (R.remaining (inner_of input.old)) (R.remaining (inner_of input.new))) }
-    ensures source { StaysSource S.layout S.may_become source.old source.new }
-    ensures sent { OnOk result (giver.new.sent ≡ giver.old.sent) }
-    ensures limit { OnOk result (giver.new.limit ≡ giver.old.limit) }
-    ensures stream { TakesFrames R.remaining input.old input.new result }
+    ensures { HearsNames S.layout S.cells S.may_become source.old source.new giver.old giver.new
+        before.now R.remaining input.old input.new result }
 {
     let mut frame = Vec::from_slice(alloc, before)?;
     loop {
@@ -104,8 +95,7 @@ pub fn give_after<S: Source, R: Read, W: Write>(
     source: &mut S,
     frames: u32,
 ) -> Result<(), GossipFault>
-    requires front_fits { length before.now ≤ 4 }
-    requires frames_fit { frames ≤ MAX_FRAMES }
+    requires { length before.now ≤ 4 }
     ensures session { Gives R.remaining W.contents frames S.layout S.cells S.may_become
         before.now source.old source.new input.old input.new output.old output.new result }
 {

@@ -151,7 +151,6 @@ impl Puller {
 
     /// A session before its first frame, of at most `limit` frames each way.
     pub fn with_limit(limit: u32) -> Puller
-        requires { limit ≤ MAX_FRAMES }
         ensures { result ≡ first_puller limit }
     {
         Puller {

@@ -1,5 +1,5 @@
 //! A pull over streams.
-ghost use Rattle.std.specs.Prelude.{◌≡◌, ◌≤◌, List, IfErr, OnOk, length};
+ghost use Rattle.std.specs.Prelude.{◌≡◌, List, IfErr, OnOk, length};
 ghost use Rattle.std.specs.List.{concat};
 ghost use Rattle.rr_cells.specs.CellBounds.{NamedCell};
 ghost use Rattle.rr_io.specs.Counted.{inner_of};
@@ -106,7 +106,6 @@ pub fn pull_within<T: Target, R: Read, W: Write>(
     target: &mut T,
     frames: u32,
 ) -> Result<(), GossipFault>
-    requires { frames ≤ MAX_FRAMES }
     ensures session { Pulls R.remaining W.contents frames
         (T.layout target.old) (T.cells target.old) (T.has_joined target.old target.new)
         input.old input.new output.old output.new result }
