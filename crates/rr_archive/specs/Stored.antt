@@ -1,10 +1,12 @@
 -- What calls do to what an archive stores, however it is seen.
-use Rattle.std.specs.Prelude.{◌≡◌, ℕ, ℤ, ◌<◌, ◌≤◌, Bool, List, [], Option, Result, IsFalse, IsOk, IsTrue, OnErr, OnOk, vec_len, vec_capacity}
+use Rattle.std.specs.Prelude.{◌≡◌, ℕ, ℤ, ◌<◌, ◌≤◌, Bool, List, [], Option, Result, IfSome, IsFalse, IsOk, IsTrue, OnErr, OnOk, vec_len, vec_capacity}
 use Rattle.std.specs.Global.{Vec}
-use Rattle.std.specs.FinMap.{get}
+use Rattle.std.specs.FinMap.{get, keys}
 use Rattle.std.specs.declared.alloc.AllocError.{AllocError}
+use Rattle.rr_text.specs.declared.limits.TheConstants.{MAX_NUMBER, MAX_ROWS, MAX_STEPS}
 use Rattle.rr_join.specs.Maps.{trimmed}
 use Rattle.rr_join.specs.Horizon.{is_above}
+use Rattle.rr_contrib.specs.Validity.{CanAdd}
 use Rattle.rr_archive.specs.declared.change.Change.{Change}
 use Rattle.rr_archive.specs.declared.entry.Entry.{Entry}
 use Rattle.rr_archive.specs.CellSlots.{CellSlot, IsSlot, is_live_at}
@@ -41,6 +43,35 @@ pub record PassesOver (from most : ℕ) (row : ℕ → List Entry) (result : ℕ
   pub empty : (i : ℕ) → from ≤ i → i < result → row i ≡ []
 
 -- ---- the cells of an archive
+
+-- as many rows as an archive may have
+pub record IsRowCount (rows : ℕ) : Type 0 where
+  pub rows_at_least : 1 ≤ rows
+  pub rows_at_most : rows ≤ MAX_ROWS
+
+-- a sample of this number that an archive with these cells can put at a cell slot: its number and its step in the row
+-- are within their limits, and the number is greater than those that the cell knows
+pub record CanPut (cells : ArchiveCells) (p : CellSlot) (number step : ℕ) : Type 0 where
+  pub slot : IsSlot p.slot
+  pub number_at_least : 1 ≤ number
+  pub number_at_most : number ≤ MAX_NUMBER
+  pub place : step < MAX_STEPS
+  pub newer : IfSome (get cells p) (CanAdd number)
+
+-- an archive has the cells and the number of rows that it had
+pub record IsSameArchive (was_rows rows : ℕ) (old new : ArchiveCells) : Type 0 where
+  pub cells : new ≡ old
+  pub limit : rows ≡ was_rows
+
+-- an archive has the cells that it is to have once it takes a sample or a cell at a cell slot; nothing changed if that
+-- is past the horizon or memory ran out; if the archive was ready, memory doesn't run out
+pub record ArchiveTakes (p : CellSlot) (made : ArchiveCells) (ready : Bool) (was_rows rows : ℕ) (old new : ArchiveCells)
+    (result : Result (Unit {0}) AllocError) : Type 0 where
+  pub taken : OnOk result (new ≡ made)
+  pub dead : IsFalse (is_live_at was_rows (keys old) p) → new ≡ old
+  pub unchanged : OnErr result (new ≡ old)
+  pub limit : rows ≡ was_rows
+  pub room : IsTrue ready → IsOk result
 
 -- a change that an archive with these cells can take at a cell slot
 pub record CanTake (cells : ArchiveCells) (p : CellSlot) (change : Change) : Type 0 where

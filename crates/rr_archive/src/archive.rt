@@ -1,16 +1,15 @@
 //! What an archive of one series does: its cells, and its rows where they can be lent.
-ghost use Rattle.std.specs.Prelude.{◌≡◌, ℕ, Bool, ◌<◌, ◌≤◌, IsTrue, IsFalse, IsOk, OnOk, OnErr, IfOk, IfSome, [], ◌∷◌, length, slice_get, vec_capacity};
+ghost use Rattle.std.specs.Prelude.{◌≡◌, ℕ, Bool, ◌≤◌, IsTrue, IsOk, OnOk, OnErr, IfOk, IfSome, [], ◌∷◌, length, slice_get, vec_capacity};
 ghost use Rattle.std.specs.Option.{option_map};
 ghost use Rattle.std.specs.FinMap as fin;
 ghost use Rattle.rr_contrib.specs.Contributions.{slot_sample};
-ghost use Rattle.rr_contrib.specs.Validity.{CanAdd};
-ghost use Rattle.rr_archive.specs.CellSlots.{CellSlot, cell_slot, newest_of, is_live_at, IsSlot};
+ghost use Rattle.rr_archive.specs.CellSlots.{CellSlot, cell_slot, newest_of, IsSlot};
 ghost use Rattle.rr_archive.specs.Cells.{ArchiveCells, AreInRange, IsTrimmed, put_in_archive, join_cell, row_of, cell_of, next_cell};
+ghost use Rattle.rr_archive.specs.Stored.{ArchiveTakes, CanPut, IsRowCount, IsSameArchive};
 
 use crate::entry::Entry;
 use rr_contrib::Contribution;
 use rr_schema::Origin;
-use rr_text::limits::{MAX_NUMBER, MAX_ROWS, MAX_STEPS};
 use std::alloc::{AllocError, Global};
 
 /// The cells of one archive of one series, each the contribution of an origin to a slot.
@@ -36,8 +35,7 @@ pub trait Cells: Drop {
 
     /// An archive of `rows` rows, from 1 to 100,000, that holds no cell. It takes no memory yet.
     fn new(alloc: Global, rows: u32) -> Self
-        requires rows_at_least { 1 ≤ rows }
-        requires rows_at_most { rows ≤ MAX_ROWS }
+        requires { IsRowCount rows }
         ensures empty { cells result ≡ fin.empty }
         ensures limit { row_limit result ≡ rows };
 
@@ -46,8 +44,8 @@ pub trait Cells: Drop {
     /// is room already, it can't fail.
     fn ready(&mut self, slot: i64, origin: Origin) -> Result<(), AllocError>
         requires { IsSlot slot }
-        ensures cells { cells self.new ≡ cells self.old }
-        ensures limit { row_limit self.new ≡ row_limit self.old }
+        ensures same { IsSameArchive (row_limit self.old) (row_limit self.new) (cells self.old)
+            (cells self.new) }
         ensures room { OnOk result (IsTrue (is_ready self.new (cell_slot slot origin))) }
         ensures room_suffices { IsTrue (is_ready self.old (cell_slot slot origin)) → IsOk result };
 
@@ -67,20 +65,12 @@ pub trait Cells: Drop {
         time: i64,
         value: i64,
     ) -> Result<(), AllocError>
-        requires slot { IsSlot slot }
-        requires number_at_least { 1 ≤ number }
-        requires number_at_most { number ≤ MAX_NUMBER }
-        requires place { place < MAX_STEPS }
-        requires newer { IfSome (fin.get (cells self.old) (cell_slot slot origin)) (CanAdd number) }
-        ensures put { OnOk result (cells self.new
-            ≡ put_in_archive (row_limit self.old) (cells self.old) (cell_slot slot origin)
-            (slot_sample number place time value)) }
-        ensures dead { IsFalse (is_live_at (row_limit self.old) (fin.keys (cells self.old))
-            (cell_slot slot origin))
-            → cells self.new ≡ cells self.old }
-        ensures unchanged { OnErr result (cells self.new ≡ cells self.old) }
-        ensures limit { row_limit self.new ≡ row_limit self.old }
-        ensures room { IsTrue (is_ready self.old (cell_slot slot origin)) → IsOk result };
+        requires { CanPut (cells self.old) (cell_slot slot origin) number place }
+        ensures { ArchiveTakes (cell_slot slot origin)
+            (put_in_archive (row_limit self.old) (cells self.old) (cell_slot slot origin)
+            (slot_sample number place time value))
+            (is_ready self.old (cell_slot slot origin)) (row_limit self.old) (row_limit self.new)
+            (cells self.old) (cells self.new) result };
 
     /// Joins a cell from elsewhere: the greater of the two contributions stays.
     ///
@@ -93,15 +83,11 @@ pub trait Cells: Drop {
         contribution: &Contribution,
     ) -> Result<(), AllocError>
         requires { IsSlot slot }
-        ensures joined { OnOk result (cells self.new
-            ≡ join_cell (row_limit self.old) (cells self.old) (cell_slot slot origin)
-            contribution.now) }
-        ensures dead { IsFalse (is_live_at (row_limit self.old) (fin.keys (cells self.old))
-            (cell_slot slot origin))
-            → cells self.new ≡ cells self.old }
-        ensures unchanged { OnErr result (cells self.new ≡ cells self.old) }
-        ensures limit { row_limit self.new ≡ row_limit self.old }
-        ensures room { IsTrue (is_ready self.old (cell_slot slot origin)) → IsOk result };
+        ensures { ArchiveTakes (cell_slot slot origin)
+            (join_cell (row_limit self.old) (cells self.old) (cell_slot slot origin)
+            contribution.now)
+            (is_ready self.old (cell_slot slot origin)) (row_limit self.old) (row_limit self.new)
+            (cells self.old) (cells self.new) result };
 
     /// The greatest slot of a cell, if there is a cell.
     fn newest(&self) -> Option<i64>
@@ -147,19 +133,13 @@ pub trait Cells: Drop {
         ensures cells { IfOk result (λ a. cells a ≡ cells self.now) }
         ensures limit { IfOk result (λ a. row_limit a ≡ row_limit self.now) };
 
-    /// Makes rows that are likely to stay as they are ready to be shared by other archives. It
-    /// changes no cell. An archive that has no memory for it, or shares no rows, does nothing.
-    fn finish_rows(&mut self)
-        ensures cells { cells self.new ≡ cells self.old }
-        ensures limit { row_limit self.new ≡ row_limit self.old }
-    {}
-
-    /// Shares the rows that another archive has made ready in place of its own, where both hold the
-    /// same in them. It changes no cell. An archive that has no memory for it, or shares no rows,
-    /// does nothing.
-    fn share_rows(&mut self, other: &Self)
-        ensures cells { cells self.new ≡ cells self.old }
-        ensures limit { row_limit self.new ≡ row_limit self.old }
+    /// Makes rows that are likely to stay as they are ready to be shared by other archives; with
+    /// another archive, takes the rows that it has made ready in place of its own, where both hold
+    /// the same in them. It changes no cell. An archive that has no memory for it, or shares no
+    /// rows, does nothing.
+    fn share_rows(&mut self, other: Option<&Self>)
+        ensures { IsSameArchive (row_limit self.old) (row_limit self.new) (cells self.old)
+            (cells self.new) }
     {
         let _ = other;
     }

@@ -20,9 +20,9 @@ use Rattle.rr_cells.specs.Joining.{with_cell}
 abbrev pub sample_of : Sample → model.Sample
 sample_of x = record { time = x.time; origin = x.origin; number = x.number; key = x.key; value = x.value }
 
-abbrev pub key_of : Op → List ℕ
-key_of (Put x) = x.key
-key_of (Join c) = c.key
+abbrev pub op_key : Op → List ℕ
+op_key (Put x) = x.key
+op_key (Join c) = c.key
 
 -- ---- a replica
 

@@ -16,11 +16,11 @@ pub enum Op {
 
 impl Op {
     ghost use Rattle.std.specs.Prelude.{◌≡◌, IfOk};
-    ghost use Rattle.rr_cells.specs.Operations.{key_of};
+    ghost use Rattle.rr_cells.specs.Operations.{op_key};
 
     /// The key of the series that it is of.
     pub fn key(&self) -> &SeriesKey
-        ensures { result.now ≡ key_of self.now }
+        ensures { result.now ≡ op_key self.now }
     {
         match self {
             Op::Put(sample) => &sample.key,

@@ -6,7 +6,7 @@ use mathlib.Core.List.{IsPrefix}
 use Rattle.rr_cells.specs.declared.op.Op.{Op}
 use Rattle.rr_cells.specs.declared.op.Op.TheVariants as op
 use Rattle.rr_cells.specs.ReplicaState.{ReplicaState}
-use Rattle.rr_cells.specs.Operations.{accepts, key_of}
+use Rattle.rr_cells.specs.Operations.{accepts, op_key}
 use Rattle.rr_replica.specs.Numbered.{knows, put_of}
 use Rattle.rr_replica.proofs.NumberedLemmas.{knows_at, with_new}
 use Rattle.rr_cells.specs.declared.sample.Sample.{Sample}
@@ -89,12 +89,12 @@ module _ (n : Names) (own : List (List ℕ)) (cs : List Change) (named : ℕ) (a
       ∙ is.names (names_at n cs))
 
   pub pushed-ops : (series : ℕ) (o : Op) (c : Change) (more : List Change) → series < named
-      → slice_get own series ≡ Some (key_of o) → IsOwn n.origin o → IsChangeOf series o c → more ≡ cs ++ c ∷ []
+      → slice_get own series ≡ Some (op_key o) → IsOwn n.origin o → IsChangeOf series o c → more ≡ cs ++ c ∷ []
       → ops_in n more ≡ ops_in n cs ++ o ∷ []
   pushed-ops series o c more within at mine is longer =
       let keys = (names_at n cs).keys in
       let many = are.many in
-      let there : slice_get keys series ≡ Some (key_of o) = prefix_at keys own series (key_of o) are.front
+      let there : slice_get keys series ≡ Some (op_key o) = prefix_at keys own series (op_key o) are.front
       (omega (arith, many, within)) at in
       let same : IsOwn (names_at n cs).origin o = subst (λ origin. IsOwn origin o) (sym (names_at-origin n cs)) mine in
       ap (ops_in n) longer ∙ ops_in-more n cs c
@@ -102,11 +102,11 @@ module _ (n : Names) (own : List (List ℕ)) (cs : List Change) (named : ℕ) (a
 
 -- an operation more is pending, after keys that the copies lacked
 pub ops-appended : (n : Names) (own : List (List ℕ)) (was between now : List Change) (named series : ℕ) (o : Op)
-    (c : Change) → AreNamed n own between named → length own ≤ named → slice_get own series ≡ Some (key_of o)
+    (c : Change) → AreNamed n own between named → length own ≤ named → slice_get own series ≡ Some (op_key o)
     → IsOwn n.origin o → IsChangeOf series o c → ops_in n between ≡ ops_in n was → now ≡ between ++ c ∷ []
     → ops_in n now ≡ ops_in n was ++ o ∷ []
 ops-appended n own was between now named series o c are all at mine is same longer =
-    let there = slice_get_within own series (key_of o) at in
+    let there = slice_get_within own series (op_key o) at in
     pushed-ops n own between named are series o c now (omega (arith, there, all)) at mine is longer
     ∙ ap (λ (l : List Op). l ++ o ∷ []) same
 

@@ -4,7 +4,7 @@ use mathlib.Core.List.{IsPrefix}
 use Rattle.rr_cells.specs.declared.cell.Cell.{Cell}
 use Rattle.rr_cells.specs.declared.op.Op.{Op}
 use Rattle.rr_cells.specs.declared.op.Op.TheVariants as op
-use Rattle.rr_cells.specs.Operations.{key_of, step}
+use Rattle.rr_cells.specs.Operations.{op_key, step}
 use Rattle.rr_replica.specs.Numbered.{knows, with_key, puts_at}
 use Rattle.rr_replica.specs.ReplicaWithRoom.{ReplicaWithRoom}
 use Rattle.rr_desk.specs.declared.change.Change.{Change}
@@ -91,7 +91,7 @@ IsOwn origin (op.Join c) = Unit {0}
 
 -- a change is this operation, of the series with a number, where that has the operation's key
 pub record IsChangeOf (series : ℕ) (o : Op) (c : Change) : Type 0 where
-  pub ops : (n : Names) → slice_get n.keys series ≡ Some (key_of o) → IsOwn n.origin o → ops_of n c ≡ o ∷ []
+  pub ops : (n : Names) → slice_get n.keys series ≡ Some (op_key o) → IsOwn n.origin o → ops_of n c ≡ o ∷ []
   pub names : (n : Names) → names_after n c ≡ n
 
 -- after these changes the copies have this many of the keeper's keys: the first ones, in the same order

@@ -67,18 +67,9 @@ pub struct Shown<A: Cells> {
 impl<A: Cells> Shown<A> {
     ghost use Rattle.rr_desk.specs.Writers.{IsSameShown};
 
-    /// Makes finished rows of a series ready to be shared, if they are looked for.
-    fn finish_rows(&mut self, wanted: bool, series: usize)
-        ensures same { IsSameShown self.old self.new }
-    {
-        if wanted {
-            self.replica.finish_rows(series);
-        }
-    }
-
     /// Shares rows of a series with the copy that was first, if they are looked for.
     fn share_rows(&mut self, wanted: bool, series: usize, first: &Shown<A>)
-        ensures same { IsSameShown self.old self.new }
+        ensures { IsSameShown self.old self.new }
     {
         if wanted {
             self.replica.share_rows(series, &first.replica);
@@ -135,11 +126,15 @@ impl<A: Cells> Absorb<Change> for Shown<A> {
         match operation {
             Change::Put(sample) => {
                 sample.put_to(&mut self.replica)?;
-                self.finish_rows(sample.shares_rows(), sample.series);
+                if sample.shares_rows() {
+                    self.replica.finish_rows(sample.series);
+                }
             }
             Change::Join(cell) => {
                 cell.join_to(&mut self.replica)?;
-                self.finish_rows(cell.shares_rows(), cell.series);
+                if cell.shares_rows() {
+                    self.replica.finish_rows(cell.series);
+                }
             }
             Change::AddKey(key) => self.replica.add_key(key)?,
             Change::Edition(front) => {

@@ -1,5 +1,5 @@
 -- What the bytes of a request ask for.
-use Rattle.std.specs.Prelude.{ℕ, ◌≤◌, ◌<◌, ℤ, pos, neg_ℤ, ◌-ℤ◌, nat_le, int_lt, List, length, Result, Ok, Err, ok_or, IfOk, unsigned_abs, if◌then◌else◌}
+use Rattle.std.specs.Prelude.{◌≡◌, ℕ, ◌≤◌, ◌<◌, ℤ, pos, neg_ℤ, ◌-ℤ◌, ◌<ℤ◌, nat_le, int_lt, List, length, Result, Ok, Err, ok_or, IfOk, unsigned_abs, if◌then◌else◌}
 use Rattle.std.specs.Int.{int_div_euclid}
 use Rattle.rr_schema.specs.declared.consolidation.ConsolidationFunction.{ConsolidationFunction}
 use Rattle.rr_text.specs.declared.limits.TheConstants.{MAX_FETCH_ROWS, MAX_SECOND}
@@ -47,6 +47,18 @@ request_of_words s bytes = do
 -- what a request in memory asks for
 abbrev pub request_view : Request → text.Request
 request_view q = record { key = q.key; function = q.cf; archive = q.archive; first = q.first; rows = q.rows }
+
+-- the slot in which a second falls, which is no farther from the epoch than the second
+pub record IsFirstSlot (second : ℤ) (span : ℕ) (slot : ℤ) : Type 0 where
+  pub value : slot ≡ int_div_euclid second (pos span)
+  pub slot_nearer : unsigned_abs slot ≤ unsigned_abs second
+
+-- an archive of a layout, and a range of seconds near the epoch that is not empty
+pub record IsRangeOf (s : Layout) (archive : ℕ) (start end : ℤ) : Type 0 where
+  pub archive_exists : archive < length s.archives
+  pub start_near : unsigned_abs start ≤ MAX_SECOND
+  pub end_near : unsigned_abs end ≤ MAX_SECOND
+  pub start_before_end : start <ℤ end
 
 -- a request that can be answered: its archive is one of the layout's, its first slot is near the epoch, and it has at
 -- least one row and no more than a fetch may have

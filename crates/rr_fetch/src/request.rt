@@ -1,9 +1,10 @@
 //! What a fetch asks for.
 
-ghost use Rattle.std.specs.Prelude.{◌≡◌, ◌<◌, ◌≤◌, pos, neg_ℤ, ◌-ℤ◌, ◌<ℤ◌, unsigned_abs, length, List, ℕ, IfOk, IfErr};
+ghost use Rattle.std.specs.Prelude.{◌≡◌, ◌<◌, ◌≤◌, pos, neg_ℤ, ◌-ℤ◌, unsigned_abs, List, ℕ, IfOk, IfErr};
 ghost use Rattle.std.specs.Int.{int_div_euclid};
 ghost use Rattle.rr_text.specs.Results.{Gives};
-ghost use Rattle.rr_fetch.specs.Requests.{few_rows, read, request_of_words, rows_between, IsFetchable, MakesRequest};
+ghost use Rattle.rr_schema.specs.Schema.{IsSpan};
+ghost use Rattle.rr_fetch.specs.Requests.{few_rows, read, request_of_words, rows_between, IsFetchable, IsFirstSlot, IsRangeOf, MakesRequest};
 ghost use Rattle.rr_fetch.specs.Words.{parts};
 
 use crate::fault::RequestFault;
@@ -31,15 +32,14 @@ pub struct Request {
 /// `floor(second / span)`.
 fn first_slot(second: i64, span: u32) -> i64
     requires { 0 < span }
-    ensures value { result ≡ int_div_euclid second (pos span) }
-    ensures slot_nearer { unsigned_abs result ≤ unsigned_abs second }
+    ensures { IsFirstSlot second span result }
 {
     second.div_euclid(i64::from(span))
 }
 
 /// `ceil(second / span)`.
 fn slot_after(second: i64, span: u32) -> i64
-    requires span_positive { 0 < span }
+    requires span { IsSpan span }
     requires second_near { unsigned_abs second ≤ MAX_SECOND }
     ensures value { result ≡ neg_ℤ (int_div_euclid (neg_ℤ second) (pos span)) }
     ensures slot_nearer { unsigned_abs result ≤ unsigned_abs second }
@@ -60,10 +60,7 @@ fn slots_between(first: i64, last: i64) -> u64
 /// The slot of the first row and the number of rows: from the slot of the start up to the last one
 /// that begins before the end.
 fn rows_of(schema: &Schema, archive: u8, start: i64, end: i64) -> Result<(i64, u32), RequestFault>
-    requires archive_exists { archive < length schema.now.archives }
-    requires start_near { unsigned_abs start ≤ MAX_SECOND }
-    requires end_near { unsigned_abs end ≤ MAX_SECOND }
-    requires start_before_end { start <ℤ end }
+    requires { IsRangeOf schema.now archive start end }
     ensures value { (key : List ℕ) (function : ConsolidationFunction)
         → Gives (λ rows. record {
           key = key;

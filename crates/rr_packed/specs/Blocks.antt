@@ -1,5 +1,6 @@
 -- What blocks store: the entries of a row by its number in a block, and by its slot.
-use Rattle.std.specs.Prelude.{◌≡◌, ℕ, zero, suc, ◌+◌, ℤ, ◌==◌, Bool, false, ◌&&◌, List, [], ◌∷◌, ◌++◌, length, Option, Some, None, is_none, slice_get, int_lt, if◌then◌else◌}
+use Rattle.std.specs.Prelude.{◌≡◌, ℕ, zero, suc, ◌+◌, ℤ, ◌==◌, Bool, false, ◌&&◌, List, [], ◌∷◌, ◌++◌, length, Option, Some, None, is_none, slice_get, int_lt, Result, IsOk, IsTrue, OnOk, if◌then◌else◌}
+use Rattle.std.specs.declared.alloc.AllocError.{AllocError}
 use Rattle.std.specs.List.{prefix_len}
 use Rattle.std.specs.Map.{lookup, keys_of}
 use Rattle.std.specs.Option.{option_to_list}
@@ -48,6 +49,14 @@ has_room_in b number origin =
 pub record IsUnheld (b : Block) (number : ℕ) : Type 0 where
   pub readings : place_at b.readings.mask number ≡ None
   pub rows : place_at b.rows.mask number ≡ None
+
+-- no row changed, and one is no longer held as a reading, unless memory ran out; if the entry of some origin there
+-- takes no memory, memory doesn't run out, and the entry still takes none
+pub record Unpacks (number : ℕ) (old new : Block) (result : Result (Unit {0}) AllocError) : Type 0 where
+  pub same : items_in new ≡ items_in old
+  pub unpacked : OnOk result (place_at new.readings.mask number ≡ None)
+  pub room : (origin : ℕ) → IsTrue (has_room_in old number origin) → IsOk result
+  pub room_stays : (origin : ℕ) → IsTrue (has_room_in old number origin) → IsTrue (has_room_in new number origin)
 
 -- what its readings have in common may have changed, and no row
 pub record SetsSource (old new : Block) : Type 0 where

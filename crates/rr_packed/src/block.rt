@@ -1,5 +1,5 @@
 //! The rows of 64 slots that follow one another.
-ghost use Rattle.std.specs.Prelude.{◌≡◌, ◌+◌, ◌-◌, ◌&&◌, ℕ, None, Some, is_some, [], ◌∷◌, map, IfOk, IfSome, IsTrue, IsOk, OnOk};
+ghost use Rattle.std.specs.Prelude.{◌≡◌, ◌+◌, ◌-◌, ◌&&◌, ℕ, None, Some, is_some, [], ◌∷◌, map, IfOk, IfSome, IsTrue};
 ghost use Rattle.rr_archive.specs.Row.{entry_at, with_entry};
 ghost use Rattle.rr_archive.specs.Changes.{Fits, entry_after};
 ghost use Rattle.rr_archive.specs.Entries.{items_of};
@@ -7,7 +7,7 @@ ghost use Rattle.rr_archive.specs.Stored.{ChangesStored, MakesRoom, PassesOver};
 ghost use Rattle.rr_packed.specs.Sparse.{place_at, item_in};
 ghost use Rattle.rr_packed.specs.Sparse.{has_room as has_spare};
 ghost use Rattle.rr_packed.specs.Readings.{entries_of, entries_read};
-ghost use Rattle.rr_packed.specs.Blocks.{items_in, has_room_in, entries_in_all, IsRowSet, IsUnheld, SetsSource};
+ghost use Rattle.rr_packed.specs.Blocks.{items_in, has_room_in, entries_in_all, IsRowSet, IsUnheld, SetsSource, Unpacks};
 
 use crate::mask::ones_on;
 use crate::reading::{Reading, Source, are_same_readings, is_same_source};
@@ -144,12 +144,7 @@ impl Block {
 
     /// Holds the row of a number as its entries, if it is held as a reading.
     fn unpack(&mut self, number: RowNumber) -> Result<(), AllocError>
-        ensures same { items_in self.new ≡ items_in self.old }
-        ensures unpacked { OnOk result (place_at self.new.readings.mask number.value ≡ None) }
-        ensures room { (origin : ℕ) → IsTrue (has_room_in self.old number.value origin)
-            → IsOk result }
-        ensures room_stays { (origin : ℕ) → IsTrue (has_room_in self.old number.value origin)
-            → IsTrue (has_room_in self.new number.value origin) }
+        ensures { Unpacks number.value self.old self.new result }
     {
         if !self.has_entries(number) {
             if let Some(entry) = self.entry_read(number) {

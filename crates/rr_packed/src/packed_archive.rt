@@ -30,9 +30,9 @@ use std::alloc::{AllocError, Global};
 /// for entries where a block has none. A row of one sample that is to be changed is held as its
 /// entries from then on, 112 bytes for the first of them.
 ///
-/// `finish_rows` looks at the block before the newest, and gives back the memory that its lists
-/// don't need unless it was finished; `share_rows` compares it with the other archive's. Both go on
-/// with the blocks before it until one was shared. A change of a shared block copies it first.
+/// `share_rows` looks at the block before the newest, and gives back the memory that its lists
+/// don't need; with another archive it compares the block with that one's. It goes on with the
+/// blocks before it until one was shared. A change of a shared block copies it first.
 ///
 /// `entries_into` finds its block as `put` does. `cell_count` finds each block between the first
 /// and the last, there or not, and is linear in these and in the rows that are held as their
@@ -213,11 +213,11 @@ impl Cells for PackedArchive {
         })
     }
 
-    fn finish_rows(&mut self) {
-        self.blocks.finish();
-    }
-
-    fn share_rows(&mut self, other: &PackedArchive) {
-        self.blocks.share(&other.blocks);
+    fn share_rows(&mut self, other: Option<&PackedArchive>) {
+        let others = match other {
+            Some(other) => Some(&other.blocks),
+            None => None,
+        };
+        self.blocks.share(others);
     }
 }

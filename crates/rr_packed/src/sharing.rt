@@ -1,30 +1,31 @@
 //! Blocks that archives share.
 ghost use Rattle.std.specs.Prelude.{◌≡◌, map, IfOk};
 ghost use Rattle.std.specs.Option.{option_to_list};
-ghost use Rattle.rr_packed.specs.Blocks.{row_at, stored};
+ghost use Rattle.rr_packed.specs.Blocks.{row_at, stored, stored_in};
 
 use crate::blocks::Blocks;
 use crate::held_block::HeldBlock;
 use std::alloc::{AllocError, Global};
 use std::collections::VecDeque;
 
-impl Blocks {
-    /// Makes the older blocks ready to be shared, from the last one back to one that was.
-    pub(crate) fn finish(&mut self)
-        ensures { row_at self.new ≡ row_at self.old }
-    {
-        let mut at = self.older.len();
-        while at > 0 {
-            at -= 1;
-            if !self.older[at].1.finish(self.alloc) {
-                return;
-            }
-        }
+/// Makes a block of this archive alone ready to be shared; with another archive's blocks, takes the
+/// one of the same number in its place, if both hold the same rows. Answers whether it did.
+fn share_block(block: &mut HeldBlock, alloc: Global, number: i64, others: Option<&Blocks>) -> bool
+    ensures { stored_in block.new ≡ stored_in block.old }
+{
+    match others {
+        None => block.finish(alloc),
+        Some(others) => match others.get(number) {
+            Some(other) => block.share(other),
+            None => false,
+        },
     }
+}
 
-    /// Shares other blocks in place of the older ones of the same numbers here, if both hold the
-    /// same rows: from the last one back to one that was shared, or can't be.
-    pub(crate) fn share(&mut self, other: &Blocks)
+impl Blocks {
+    /// Shares the older blocks as [`share_block`] does one, from the last one back to one that was
+    /// shared, or can't be.
+    pub(crate) fn share(&mut self, others: Option<&Blocks>)
         ensures { row_at self.new ≡ row_at self.old }
     {
         let mut at = self.older.len();
@@ -33,10 +34,8 @@ impl Blocks {
             if self.older[at].1.is_shared() {
                 return;
             }
-            let Some(theirs) = other.get(self.older[at].0) else {
-                return;
-            };
-            if !self.older[at].1.share(theirs) {
+            let number = self.older[at].0;
+            if !share_block(&mut self.older[at].1, self.alloc, number, others) {
                 return;
             }
         }

@@ -27,7 +27,7 @@ use Rattle.rr_cells.specs.declared.op.Op.TheVariants.{Put, Join}
 use Rattle.rr_replica.specs.Archives.{HaveRoomFor, IsOpOf}
 use Rattle.rr_replica.specs.InMemory.{archives_of, HasRoom, AreAllSized}
 use Rattle.rr_cells.specs.ReplicaState.{ReplicaState}
-use Rattle.rr_cells.specs.Operations.{key_of, accepts}
+use Rattle.rr_cells.specs.Operations.{op_key, accepts}
 use Rattle.rr_replica.specs.ReplicaWithRoom.{room_at, room_in, is_one_of, cell_slots_of, cell_slots_within, all_cell_slots, replica_with_room, HasRoomFor}
 use Rattle.rr_cells.proofs.Slots.{slot_is}
 use Rattle.rr_replica.proofs.Each.{sized_many}
@@ -227,15 +227,15 @@ module _ {X : Type 0} (is_ready : X → CellSlot → Bool) where
   -- ---- the archives of the key
 
   pub room_found : (s : Layout) (op : Op) (entries : List (List ℕ × Vec X)) (was : Vec X)
-      → Some was ≡ archives_of entries (key_of op) → HasRoom is_ready s op entries → HaveRoomFor is_ready s op was.items
+      → Some was ≡ archives_of entries (op_key op) → HasRoom is_ready s op entries → HaveRoomFor is_ready s op was.items
   room_found s op entries was found h = subst (λ (v : Vec X). HaveRoomFor is_ready s op v.items)
       (ap (λ o. unwrap_or o was) (sym h.1 ∙ sym found)) h.2
 
-  pub room_nowhere : (s : Layout) (op : Op) (entries : List (List ℕ × Vec X)) → None ≡ archives_of entries (key_of op)
+  pub room_nowhere : (s : Layout) (op : Op) (entries : List (List ℕ × Vec X)) → None ≡ archives_of entries (op_key op)
       → HasRoom is_ready s op entries → ⊥
   room_nowhere s op entries none h = true≢false (sym (ap is_some (none ∙ h.1)))
 
-  pub room_set : (s : Layout) (op : Op) (key : List ℕ) → key ≡ key_of op
+  pub room_set : (s : Layout) (op : Op) (key : List ℕ) → key ≡ op_key op
       → (old new : List (List ℕ × Vec X)) (now : Vec X)
       → ((q : List ℕ) → archives_of new q ≡ cond (is_at (bytes_cmp key) q) (Some now) (archives_of old q))
       → HaveRoomFor is_ready s op now.items → HasRoom is_ready s op new

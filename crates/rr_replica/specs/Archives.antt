@@ -81,6 +81,12 @@ module _ {X : Type 0} where
         → cells b ≡ join_cell (limit a) (cells a) (cell_slot c.slot c.origin) c.contribution
     pub others : EachPair (λ i a b. i ≢ c.archive → cells b ≡ cells a) old new
 
+  -- archives of a layout, and a sample that can be added to each of them
+  pub record SuitsReading (cells : X → ArchiveCells) (limit : X → ℕ) (s : Layout) (x : Reading) (archives : List X)
+      : Type 0 where
+    pub of_schema : AreOf limit s archives
+    pub newer : CanTake cells s x archives
+
   -- an operation of a layout, and archives of it
   pub record SuitsArchives (limit : X → ℕ) (s : Layout) (op : Op) (archives : List X) : Type 0 where
     pub of_schema : AreOf limit s archives

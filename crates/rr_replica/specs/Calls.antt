@@ -1,14 +1,17 @@
 -- What calls make of a replica.
-use Rattle.std.specs.Prelude.{◌≡◌, ◌<◌, ◌≤◌, ◌↔◌, ℕ, Bool, Result, Err, IfOk, IsOk, OnOk}
+use Rattle.std.specs.Prelude.{◌≡◌, ◌<◌, ◌≤◌, ◌↔◌, ℕ, Bool, true, length, slice_get, Some, Result, Err, IfOk, IsOk, OnOk}
 use Rattle.std.specs.declared.alloc.AllocError.{AllocError}
 use Rattle.rr_text.specs.declared.limits.TheConstants.{MAX_NUMBER}
+use Rattle.rr_cells.specs.declared.cell.Cell.{Cell}
 use Rattle.rr_cells.specs.declared.op.Op.{Op}
-use Rattle.rr_cells.specs.Operations.{accepts, step}
+use Rattle.rr_cells.specs.declared.op.Op.TheVariants.{Join}
+use Rattle.rr_cells.specs.Operations.{accepts, op_key, step}
 use Rattle.rr_cells.specs.ReplicaState.{ReplicaState}
 use Rattle.rr_replica.specs.declared.fault.PutFault.{PutFault}
 use Rattle.rr_replica.specs.declared.fault.PutFault.TheVariants as why
 use Rattle.rr_replica.specs.declared.reading.Reading.{Reading}
 use Rattle.rr_replica.specs.Becomes.{Becomes}
+use Rattle.rr_replica.specs.Numbered.{knows}
 use Rattle.rr_replica.specs.ReplicaWithRoom.{ReplicaWithRoom, replica_state, IsReadyFor}
 
 -- a replica holds what it held, under the same keys
@@ -28,10 +31,25 @@ pub record Takes (op : Op) (old new : ReplicaWithRoom) (result : Result Bool All
   pub state : Becomes (replica_state old) (step (replica_state old) op) (replica_state new) result
   pub room : IsReadyFor old op → IsOk result
 
+-- a cell was taken so; if the replica knew its key, it has the keys that it had
+pub record TakesCell (c : Cell) (old new : ReplicaWithRoom) (result : Result Bool AllocError) : Type 0 where
+  pub taken : Takes (Join c) old new result
+  pub keys : knows old.keys c.key ≡ true → new.keys ≡ old.keys
+
 -- a reading of the replica's origin, under the next number or a later one
 pub record IsNextReading (r : ReplicaWithRoom) (x : Reading) : Type 0 where
   pub origin : x.origin ≡ r.origin
   pub number : r.next ≤ x.number
+
+-- such a reading of the series with this number
+pub record IsNextReadingOf (r : ReplicaWithRoom) (series : ℕ) (x : Reading) : Type 0 where
+  pub next : IsNextReading r x
+  pub there : series < length r.keys
+
+-- an operation that the replica takes, on the series with this number
+pub record IsNumberedOp (r : ReplicaWithRoom) (series : ℕ) (op : Op) : Type 0 where
+  pub accepted : accepts (replica_state r) op ≡ true
+  pub key : slice_get r.keys series ≡ Some (op_key op)
 
 -- the state of a replica became another one under the same keys, or memory ran out and it didn't; if there was this
 -- room, memory doesn't run out

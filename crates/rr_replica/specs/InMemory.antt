@@ -18,7 +18,7 @@ use Rattle.rr_cells.specs.declared.op.Op.TheVariants.{Put, Join}
 use Rattle.rr_cells.specs.Joins.{join_cell}
 use Rattle.rr_cells.specs.Listing.{owned_cell}
 use Rattle.rr_cells.specs.Puts.{put_sample}
-use Rattle.rr_cells.specs.Operations.{sample_of, key_of}
+use Rattle.rr_cells.specs.Operations.{sample_of, op_key}
 use Rattle.rr_cells.specs.ReplicaState.{ReplicaState, IsReplicaState}
 use Rattle.rr_text.specs.Bytes.{bytes_cmp}
 use Rattle.rr_replica.specs.Series.{Series, cells_of}
@@ -56,7 +56,7 @@ module _ {X : Type 0} where
 
   -- the key of an operation has archives, and these have room for it
   abbrev pub HasRoom : (X → CellSlot → Bool) → Layout → Op → List (List ℕ × Vec X) → Type 0
-  HasRoom is_ready s op entries = (archives : Vec X) × (archives_of entries (key_of op) ≡ Some archives)
+  HasRoom is_ready s op entries = (archives : Vec X) × (archives_of entries (op_key op) ≡ Some archives)
       × HaveRoomFor is_ready s op archives.items
 
   -- each key has an archive for each of the schema's, of its rows

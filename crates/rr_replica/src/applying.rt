@@ -1,12 +1,12 @@
 //! Operations, applied to a replica.
-ghost use Rattle.std.specs.Prelude.{◌≡◌, true, fold, slice_get, Some, IsTrue};
+ghost use Rattle.std.specs.Prelude.{◌≡◌, fold, IsTrue};
 ghost use Rattle.rr_replica.specs.Archives.{IsOpOf};
-ghost use Rattle.rr_cells.specs.Operations.{accepts, key_of, step};
-ghost use Rattle.rr_cells.specs.declared.op.Op.TheVariants.{Join, Put};
+ghost use Rattle.rr_cells.specs.Operations.{accepts, step};
+ghost use Rattle.rr_cells.specs.declared.op.Op.TheVariants.{Put};
 ghost use Rattle.std.specs.List.{AllByRecursion};
-ghost use Rattle.rr_replica.specs.Numbered.{knows, puts_at};
+ghost use Rattle.rr_replica.specs.Numbered.{puts_at};
 ghost use Rattle.rr_replica.specs.ReplicaWithRoom.{replica_state, IsReadyFor};
-ghost use Rattle.rr_replica.specs.Calls.{BecomesInRoom, Takes};
+ghost use Rattle.rr_replica.specs.Calls.{BecomesInRoom, IsNumberedOp, Takes, TakesCell};
 
 use crate::reading::Reading;
 use crate::replica::Replica;
@@ -111,8 +111,7 @@ impl<A: Cells> Replica<A> {
     /// takes.
     #[inline(always)]
     pub fn apply_numbered(&mut self, series: usize, op: &Op) -> Result<(), AllocError>
-        requires accepted { accepts (replica_state self.old) op.now ≡ true }
-        requires key { slice_get self.old.keys series ≡ Some (key_of op.now) }
+        requires { IsNumberedOp self.old series op.now }
         ensures { BecomesInRoom (IsReadyFor self.old op.now) (step (replica_state self.old) op.now)
             self.old self.new result }
     {
@@ -129,8 +128,7 @@ impl<A: Cells> Replica<A> {
 
     /// Takes a cell as [`Replica::apply`] takes the operation that joins it.
     pub fn apply_cell(&mut self, cell: &Cell) -> Result<bool, AllocError>
-        ensures taken { Takes (Join cell.now) self.old self.new result }
-        ensures keys { knows self.old.keys cell.now.key ≡ true → self.new.keys ≡ self.old.keys }
+        ensures { TakesCell cell.now self.old self.new result }
     {
         if !cell.is_of(self.schema()) {
             return Ok(false);

@@ -1,7 +1,7 @@
 //! The archives of one key.
 ghost use Rattle.std.specs.Prelude.{◌≡◌, ℕ, ◌<◌, slice_get, IsOk, OnOk, IfOk};
 ghost use Rattle.std.specs.FinMap as fin;
-ghost use Rattle.rr_replica.specs.Archives.{Each, AreOf, AreReadyFrom, CanTake, AreSame, MakeRoom, SuitsArchives, TakeCell, TakeSample};
+ghost use Rattle.rr_replica.specs.Archives.{Each, AreOf, AreReadyFrom, AreSame, MakeRoom, SuitsArchives, SuitsReading, TakeCell, TakeSample};
 
 use crate::reading::Reading;
 use crate::slots::{place_in, slot_near};
@@ -58,8 +58,7 @@ pub(crate) fn put_into<A: Cells>(
     schema: &Schema,
     sample: &Reading,
 ) -> Result<(), AllocError>
-    requires of_schema { AreOf A.row_limit schema.now archives.old.items }
-    requires newer { CanTake A.cells schema.now sample.now archives.old.items }
+    requires { SuitsReading A.cells A.row_limit schema.now sample.now archives.old.items }
     ensures { TakeSample A.cells A.row_limit A.is_ready schema.now sample.now archives.old.items
         archives.new.items result }
 {

@@ -7,12 +7,12 @@ ghost use Rattle.rr_point.specs.Point.{point_view};
 ghost use Rattle.rr_cells.specs.CellBounds.{IsCellOf};
 ghost use Rattle.rr_cells.specs.Cells.{row_at, archive_cells};
 ghost use Rattle.rr_cells.specs.ReplicaState.{with_sample, with_put, IsReplicaState};
-ghost use Rattle.rr_cells.specs.Operations.{accepts, key_of};
+ghost use Rattle.rr_cells.specs.Operations.{accepts, op_key};
 ghost use Rattle.rr_replica.specs.Numbered.{knows, with_key};
 ghost use Rattle.rr_replica.specs.InMemory.{sample_of_reading, keyed_sample};
 ghost use Rattle.rr_cells.specs.Listing.{owned_cell};
 ghost use Rattle.rr_replica.specs.ReplicaWithRoom.{replica_state, HasRoomFor};
-ghost use Rattle.rr_replica.specs.Calls.{BecomesInRoom, IsNextReading, MakesReady, PutsNext};
+ghost use Rattle.rr_replica.specs.Calls.{BecomesInRoom, IsNextReading, IsNextReadingOf, MakesReady, PutsNext};
 ghost use Rattle.rr_replica.specs.Writing.{lacks_numbers, CanPutField};
 ghost use Rattle.rr_replica.specs.Becomes.{Becomes};
 
@@ -182,8 +182,7 @@ impl<A: Cells> Replica<A> {
         series: usize,
         sample: Reading,
     ) -> Result<(), AllocError>
-        requires next { IsNextReading self.old sample }
-        requires there { series < length self.old.keys }
+        requires { IsNextReadingOf self.old series sample }
         ensures { BecomesInRoom
             (HasRoomFor self.old
             (Op.Put (sample_of_reading (get_or self.old.keys series []) sample)))
@@ -219,7 +218,7 @@ impl<A: Cells> Replica<A> {
     pub fn ready_series(&mut self, hint: Hint, op: &Op) -> Result<usize, AllocError>
         requires { accepts (replica_state self.old) op.now ≡ true }
         ensures ready { MakesReady op.now self.old self.new result }
-        ensures key { IfOk result (λ i. slice_get self.new.keys i ≡ Some (key_of op.now)) }
+        ensures key { IfOk result (λ i. slice_get self.new.keys i ≡ Some (op_key op.now)) }
         ensures keys_grow { IsPrefix self.old.keys self.new.keys }
     {
         // The proof needs what the replica keeps to, which `accepts` ensures.

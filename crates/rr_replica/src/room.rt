@@ -1,7 +1,7 @@
 //! Room for operations, made before they are applied.
 ghost use Rattle.std.specs.Prelude.{◌≡◌, Some, slice_get, IfOk, OnErr, OnOk};
 ghost use mathlib.Core.List.{IsPrefix};
-ghost use Rattle.rr_cells.specs.Operations.{key_of};
+ghost use Rattle.rr_cells.specs.Operations.{op_key};
 ghost use Rattle.rr_replica.specs.Numbered.{with_key};
 ghost use Rattle.rr_replica.specs.Series.{cells_of};
 ghost use Rattle.rr_replica.specs.SeriesMap.{entries_of};
@@ -29,7 +29,7 @@ pub(crate) fn make_room_in<A: Cells>(
     requires { SuitsEntries A.row_limit schema.now op.now (entries_of series.old) }
     ensures made { MakesRoom A.cells A.row_limit A.is_ready schema.now op.now
         (entries_of series.old) (entries_of series.new) result }
-    ensures key { IfOk result (λ i. slice_get series.new.keys.items i ≡ Some (key_of op.now)) }
+    ensures key { IfOk result (λ i. slice_get series.new.keys.items i ≡ Some (op_key op.now)) }
     ensures keys_grow { IsPrefix series.old.keys.items series.new.keys.items }
 {
     let key = op.key();

@@ -9,58 +9,40 @@ use crate::replica::Replica;
 use crate::series::SeriesMap;
 use rr_archive::Cells;
 
-/// Makes finished rows of archives ready to be shared.
-fn finish_archives<A: Cells>(archives: &mut Vec<A>)
-    ensures { map (seen_archive A.cells A.row_limit) archives.new.items
-        ≡ map (seen_archive A.cells A.row_limit) archives.old.items }
-{
-    for i in 0..archives.len() {
-        archives[i].finish_rows();
-    }
-}
-
-/// Shares rows of other archives, each with the one of the same number.
+/// Shares rows of archives, each with the one of the same number; where that is not there, finished
+/// rows are made ready to be shared.
 fn share_archives<A: Cells>(archives: &mut Vec<A>, others: &[A])
     ensures { map (seen_archive A.cells A.row_limit) archives.new.items
         ≡ map (seen_archive A.cells A.row_limit) archives.old.items }
 {
-    for i in 0..archives.len().min(others.len()) {
-        archives[i].share_rows(&others[i]);
+    for i in 0..archives.len() {
+        archives[i].share_rows(others.get(i));
     }
 }
 
-/// Makes finished rows of the series at an index ready to be shared, if there is one.
-fn finish_at<A: Cells>(series: &mut SeriesMap<A>, index: usize)
+/// Shares rows of the series at an index, if there is one, with other archives.
+fn share_at<A: Cells>(series: &mut SeriesMap<A>, index: usize, others: &[A])
     ensures { IsSeenAlike A.cells A.row_limit series.old series.new }
 {
     if index >= series.archives.len() {
         return;
     }
-    finish_archives(&mut series.archives[index]);
-}
-
-/// Shares rows of the series at an index with others at the same index, if both are there.
-fn share_at<A: Cells>(series: &mut SeriesMap<A>, index: usize, others: &SeriesMap<A>)
-    ensures { IsSeenAlike A.cells A.row_limit series.old series.new }
-{
-    if index >= series.archives.len() {
-        return;
-    }
-    share_archives(&mut series.archives[index], others.at(index));
+    share_archives(&mut series.archives[index], others);
 }
 
 impl<A: Cells> Replica<A> {
-    /// Makes finished rows of the series with a number ready to be shared by other replicas. It changes
-    /// nothing that the replica holds. The cost is that of giving back the memory that they don't need.
+    /// Makes finished rows of the series with a number ready to be shared by other replicas. It
+    /// changes nothing that the replica holds. The cost is that of giving back the memory that they
+    /// don't need.
     pub fn finish_rows(&mut self, series: usize)
         ensures { HoldsTheSame self.old self.new }
     {
-        finish_at(&mut self.series, series);
+        share_at(&mut self.series, series, &[]);
     }
 
-    /// Makes finished rows of all series ready to be shared, as [`Replica::finish_rows`] does those of
-    /// one, so that copies of the replica share them. The cost is linear in the series and in the
-    /// blocks of rows that weren't ready.
+    /// Makes finished rows of all series ready to be shared, as [`Replica::finish_rows`] does those
+    /// of one, so that copies of the replica share them. The cost is linear in the series and in
+    /// the blocks of rows that weren't ready.
     pub fn finish_all_rows(&mut self)
         ensures { replica_state self.new ≡ replica_state self.old }
     {
@@ -69,13 +51,13 @@ impl<A: Cells> Replica<A> {
         }
     }
 
-    /// Shares the finished rows of the series with a number with another replica, which has made them
-    /// ready, where both hold the same in them. It changes nothing that the replica holds, whatever
-    /// the number and the other replica are. The cost is that of comparing these rows.
+    /// Shares the finished rows of the series with a number with another replica, which has made
+    /// them ready, where both hold the same in them. It changes nothing that the replica holds,
+    /// whatever the number and the other replica are. The cost is that of comparing these rows.
     #[inline(always)]
     pub fn share_rows(&mut self, series: usize, other: &Replica<A>)
         ensures { HoldsTheSame self.old self.new }
     {
-        share_at(&mut self.series, series, &other.series);
+        share_at(&mut self.series, series, other.series.at(series));
     }
 }

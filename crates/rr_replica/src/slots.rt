@@ -1,8 +1,7 @@
 //! The slots and places of times, without a division where that can be.
-ghost use Rattle.std.specs.Prelude.{◌≡◌, ◌<◌, ◌≤◌, ◌+◌, ◌*◌, ◌/◌, ◌+ℤ◌, length, pos, IfSome};
+ghost use Rattle.std.specs.Prelude.{◌≡◌, ◌<◌, ◌+◌, ◌*◌, ◌/◌, length, pos, IfSome};
 ghost use Rattle.std.specs.Int.{int_div_euclid};
-ghost use Rattle.rr_schema.specs.Schema.{archive_at, place_of, slot_of};
-ghost use Rattle.rr_text.specs.declared.limits.TheConstants.{MAX_STEP, MAX_STEPS};
+ghost use Rattle.rr_schema.specs.Schema.{IsPlaceIn, IsSpan, slot_of};
 
 use rr_schema::Schema;
 
@@ -26,9 +25,7 @@ pub(crate) fn slot_near(schema: &Schema, archive: u8, time: i64, newest: Option<
 /// The place of a time in its slot of an archive: which step of the row, from 0.
 pub(crate) fn place_in(schema: &Schema, archive: u8, time: i64) -> u32
     requires { archive < length schema.now.archives }
-    ensures place { result ≡ place_of schema.now archive time }
-    ensures within { result < (archive_at schema.now archive).steps }
-    ensures place_fits { result < MAX_STEPS }
+    ensures { IsPlaceIn schema.now archive time result }
 {
     if schema.archive(archive).steps == 1 {
         return 0;
@@ -36,34 +33,26 @@ pub(crate) fn place_in(schema: &Schema, archive: u8, time: i64) -> u32
     schema.place(archive, time)
 }
 
-/// Of the newest slot and the next one that in which a time falls, if it falls in either.
+/// Of the newest slot and the next one that in which a time falls, if it falls in either and
+/// neither is before the epoch.
 fn near(span: u32, time: i64, newest: Option<i64>) -> Option<i64>
-    requires span_positive { 0 < span }
-    requires fits { span ≤ MAX_STEP * MAX_STEPS }
+    requires { IsSpan span }
     ensures { IfSome result (λ slot. int_div_euclid time (pos (span * 1_000_000_000)) ≡ slot) }
 {
     let newest = newest?;
+    let (Ok(slot), Ok(since)) = (u64::try_from(newest), u64::try_from(time)) else {
+        return None;
+    };
     let length = u64::from(span) * NANOSECONDS;
-    match slots_on(newest, time, length) {
+    match slots_on(slot, since, length) {
         Some(on) => newest.checked_add(i64::from(on)),
         None => None,
     }
 }
 
-/// How many slots of as many nanoseconds the one of a time is after another: none or one, if
-/// neither is before the epoch.
-fn slots_on(slot: i64, time: i64, length: u64) -> Option<u32>
-    requires { 0 < length }
-    ensures { IfSome result (λ on. int_div_euclid time (pos length) ≡ slot +ℤ pos on) }
-{
-    let (Ok(slot), Ok(time)) = (u64::try_from(slot), u64::try_from(time)) else {
-        return None;
-    };
-    whole_slots_on(slot, time, length)
-}
-
-/// `slots_on`, since the epoch.
-fn whole_slots_on(slot: u64, time: u64, length: u64) -> Option<u32>
+/// How many slots of as many nanoseconds the one of a time is after another: none or one. All are
+/// since the epoch.
+fn slots_on(slot: u64, time: u64, length: u64) -> Option<u32>
     requires { 0 < length }
     ensures { IfSome result (λ on. time / length ≡ slot + on) }
 {

@@ -1,5 +1,5 @@
 -- The schema of a store: its archives, and where a time falls in them.
-use Rattle.std.specs.Prelude.{ℕ, ℤ, pos, ◌+◌, ◌-◌, ◌*◌, ◌*ℤ◌, ◌-ℤ◌, ◌<◌, ◌≤◌, nat_le, Bool, List, [], ◌∷◌, length, map, All, slice_index_or, unsigned_abs, if◌then◌else◌}
+use Rattle.std.specs.Prelude.{◌≡◌, ℕ, ℤ, pos, ◌+◌, ◌-◌, ◌*◌, ◌*ℤ◌, ◌-ℤ◌, ◌<◌, ◌≤◌, nat_le, Bool, List, [], ◌∷◌, length, map, All, slice_index_or, unsigned_abs, if◌then◌else◌}
 use Rattle.std.specs.Int.{int_div_euclid}
 use Rattle.std.specs.List.Sorted.{IsStrictlyIncreasing}
 use Rattle.rr_schema.specs.declared.archive.ArchiveSpec.{ArchiveSpec}
@@ -45,6 +45,17 @@ unfoldable pub place_of : Layout → ℕ → ℤ → ℕ
 place_of s i time =
     unsigned_abs (int_div_euclid time (pos (s.step * 1_000_000_000)) -ℤ
     (slot_of s i time *ℤ pos (archive_at s i).steps))
+
+-- the seconds that a row may have
+pub record IsSpan (seconds : ℕ) : Type 0 where
+  pub not_zero : 0 < seconds
+  pub fits : seconds ≤ MAX_STEP * MAX_STEPS
+
+-- the place of a time in its slot, which is one of the slot's steps
+pub record IsPlaceIn (s : Layout) (archive : ℕ) (time : ℤ) (n : ℕ) : Type 0 where
+  pub place : n ≡ place_of s archive time
+  pub within : n < (archive_at s archive).steps
+  pub fits : n < MAX_STEPS
 
 -- whether `known` places leave at most the fraction xff of a row unknown
 abbrev pub is_known_enough : Layout → ℕ → ℕ → Bool

@@ -4,10 +4,9 @@ ghost use Rattle.std.specs.Prelude.{◌≡◌, ◌<◌, ◌≤◌, ◌*◌, nat_
 ghost use Rattle.std.specs.Cmp.Lexicographic.{pointwise};
 ghost use Rattle.std.specs.Int.{int_div_euclid, int_rem_euclid};
 ghost use Rattle.std.specs.Result.{result_err};
-ghost use Rattle.rr_schema.specs.Schema.{IsLayout, archive_at, span, slot_of, place_of, is_known_enough, last_within, choice};
+ghost use Rattle.rr_schema.specs.Schema.{IsLayout, IsPlaceIn, IsSpan, archive_at, span, slot_of, is_known_enough, last_within, choice};
 ghost use Rattle.rr_schema.specs.Check.{archive_fault, archives_fault, schema_fault};
 ghost use Rattle.rr_schema.specs.Choice.{IsChoice};
-ghost use Rattle.rr_text.specs.declared.limits.TheConstants.{MAX_STEPS};
 ghost use Rattle.rr_schema.specs.SchemaBytes.{schema_bytes};
 ghost use Rattle.rr_schema.specs.Added.{HasAdded, IsAddition, had_archives};
 
@@ -260,8 +259,7 @@ impl Schema {
     pub fn span(&self, archive: u8) -> u32
         requires { archive < length self.now.archives }
         ensures value { result ≡ span self.now archive }
-        ensures not_zero { 0 < result }
-        ensures span_fits { result ≤ MAX_STEP * MAX_STEPS }
+        ensures within { IsSpan result }
     {
         self.step * self.archive(archive).steps
     }
@@ -277,9 +275,7 @@ impl Schema {
     /// The place of a time in its slot of an archive: which step of the row, from 0.
     pub fn place(&self, archive: u8, time: i64) -> u32
         requires { archive < length self.now.archives }
-        ensures place { result ≡ place_of self.now archive time }
-        ensures within { result < (archive_at self.now archive).steps }
-        ensures place_fits { result < MAX_STEPS }
+        ensures { IsPlaceIn self.now archive time result }
     {
         left_over(time, self.step, self.archive(archive).steps)
     }

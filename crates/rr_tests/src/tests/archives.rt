@@ -1,8 +1,4 @@
 //! Archives by their trait: the calls that take memory answer.
-ghost use Rattle.std.specs.Prelude.{◌≡◌, IfOk};
-ghost use Rattle.std.specs.FinMap as fin;
-ghost use Rattle.rr_archive.specs.CellSlots.{IsSlot};
-
 use rr_archive::{Cells, PlainArchive};
 use rr_base::Origin;
 use rr_contrib::Contribution;
@@ -10,30 +6,19 @@ use rr_packed::PackedArchive;
 use rr_ring::RingArchive;
 use std::alloc::{AllocError, Global};
 
-/// An archive of three rows that holds no cell, with room for one.
-fn with_room<A: Cells>(alloc: Global, slot: i64, origin: Origin) -> Result<A, AllocError>
-    requires { IsSlot slot }
-    ensures { IfOk result (λ a. A.cells a ≡ fin.empty) }
-{
+/// An archive of three rows with a first sample in slot 1, for which there was room.
+fn with_first<A: Cells>(alloc: Global, origin: Origin) -> Result<A, AllocError> {
     let mut archive = A::new(alloc, 3);
-    archive.ready(slot, origin)?;
+    archive.ready(1, origin)?;
+    archive.put(1, origin, 1, 0, 60_000_000_000, 7)?;
     Ok(archive)
-}
-
-/// Puts the first sample.
-fn put_first<A: Cells>(archive: &mut A, slot: i64, origin: Origin) -> Result<(), AllocError>
-    requires slot { IsSlot slot }
-    requires empty { A.cells archive.old ≡ fin.empty }
-{
-    archive.put(slot, origin, 1, 0, 60_000_000_000, 7)
 }
 
 /// The cells, the newest slot and the last value there of the copy of an archive, into which a
 /// sample was put for which there was room, and then a cell was joined.
 fn copied<A: Cells>(alloc: Global) -> Option<(usize, Option<i64>, Option<i64>)> {
     let origin = Origin::new(1).ok()?;
-    let mut archive: A = with_room(alloc, 1, origin).ok()?;
-    put_first(&mut archive, 1, origin).ok()?;
+    let mut archive: A = with_first(alloc, origin).ok()?;
     let second = Contribution::first(2, 0, 120_000_000_000, 9);
     archive.join_cell(2, origin, &second).ok()?;
     let copy = archive.copy(alloc).ok()?;

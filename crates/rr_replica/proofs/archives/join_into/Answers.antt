@@ -34,7 +34,7 @@ returns g c =
     let slot : c.slot-slot.result ≡ cell.slot = found ∙ c.requires.op_of.valid.in_slot in
     record {
       joined = on_ok_weaker c.join_cell.result (joined_at cells limit cell items was new at)
-          (rw (kept, slot) at c.join_cell.ensures.joined);
+          (rw (kept, slot) at c.join_cell.ensures.taken);
       unchanged = on_err_weaker c.join_cell.result (same_at cells cell items was new at) c.join_cell.ensures.unchanged;
       of_schema = record {
         layout = c.requires.of_schema.layout;

@@ -43,7 +43,7 @@ returns-in_err-ready-clause-of_schema g c =
     record {
       layout = c.requires.of_schema.layout;
       sized = map-set_same g.A.Cells.row_limit items c.loop-i.i c.index_mut.result.now c.ready.new.self at
-          c.ready.ensures.limit ∙ c.loop-i.invariant.1.sized;
+          c.ready.ensures.same.limit ∙ c.loop-i.invariant.1.sized;
     }
 
 pub returns-in_err-ready-clause-room_suffices : goal.returns-in_err-ready-clause-room_suffices
@@ -65,7 +65,7 @@ loop-i-preserved g c =
     let at = found_at items c.loop-i.i c.index_mut.result.now (search rules) c.index_mut.ensures.value in
     let cells : g.A.Cells.cells c.ready.new.self ≡ g.A.Cells.cells c.index_mut.result.now = search rules in
     let limit : g.A.Cells.row_limit c.ready.new.self ≡ g.A.Cells.row_limit c.index_mut.result.now =
-    c.ready.ensures.limit in
+    c.ready.ensures.same.limit in
     let kept : to_z w64 (of_z w64 c.slot_near-slot.result) ≡ c.slot_near-slot.result = search rules in
     let slot : c.slot_near-slot.result ≡ slot_of c.args.schema.now c.loop-i.i c.args.time = search rules in
     let room : g.A.Cells.is_ready c.ready.new.self

@@ -49,11 +49,12 @@ returns-in-Join g c =
     search rules in
     let slot : c.slot-slot.result ≡ cell.slot = found ∙ of_cell.valid.in_slot in
     record {
-      unchanged = same_more cells cell.archive items items was new (same_itself cells items) at c.ready.ensures.cells;
+      unchanged =
+          same_more cells cell.archive items items was new (same_itself cells items) at c.ready.ensures.same.cells;
       of_schema = record {
         layout = c.requires.of_schema.layout;
         sized =
-            map-set_same limit items cell.archive was new at c.ready.ensures.limit ∙ c.requires.of_schema.sized;
+            map-set_same limit items cell.archive was new at c.ready.ensures.same.limit ∙ c.requires.of_schema.sized;
       };
       room = subst (λ (op : Op). OnOk c.ready.result (HaveRoomFor g.A.Cells.is_ready c.args.schema.now op
           (set items cell.archive new))) (sym c.in-Join.is) (on_ok_weaker c.ready.result

@@ -23,25 +23,26 @@ pub loop-i-init : goal.loop-i-init
 loop-i-init g c = put_none g.A.Cells.cells g.A.Cells.row_limit c.args.schema.now c.args.sample.now
     c.make_ready.new.archives.items c.make_ready.ensures.of_schema.sized
 
-pub put-requires-clause-slot : goal.put-requires-clause-slot
-put-requires-clause-slot g c =
+pub put-requires : goal.put-requires
+put-requires g c =
     let kept : to_z w64 (of_z w64 c.slot_near-slot.result) ≡ c.slot_near-slot.result = search rules in
     let slot : c.slot_near-slot.result ≡ slot_of c.args.schema.now c.loop-i.i c.args.sample.now.time = search rules in
-    rw (kept, slot) (slot_is c.args.schema.now c.requires.of_schema.layout c.loop-i.i c.args.sample.now.time
-    (search rules))
-
-pub put-requires-clause-newer : goal.put-requires-clause-newer
-put-requires-clause-newer g c =
-    let readied = c.make_ready.new.archives.items in
-    let at = found_at c.loop-i.archives.items c.loop-i.i c.index_mut.result.now (search rules)
-    c.index_mut.ensures.value in
-    let was : slice_get readied c.loop-i.i ≡ Some c.index_mut.result.now =
-    sym (c.loop-i.invariant.rest c.loop-i.i (omega arith)) ∙ at in
-    let kept : to_z w64 (of_z w64 c.slot_near-slot.result) ≡ c.slot_near-slot.result = search rules in
-    let slot : c.slot_near-slot.result ≡ slot_of c.args.schema.now c.loop-i.i c.args.sample.now.time = search rules in
-    let newer = can_take_same g.A.Cells.cells g.A.Cells.row_limit c.args.schema.now c.args.sample.now
-    c.args.archives.now.items readied c.make_ready.ensures.unchanged c.requires.newer in
-    rw (kept, slot) (newer c.loop-i.i c.index_mut.result.now was)
+    record {
+      slot = rw (kept, slot) (slot_is c.args.schema.now c.requires.of_schema.layout c.loop-i.i c.args.sample.now.time
+          (search rules));
+      newer =
+          let readied = c.make_ready.new.archives.items in
+          let at = found_at c.loop-i.archives.items c.loop-i.i c.index_mut.result.now (search rules)
+          c.index_mut.ensures.value in
+          let was : slice_get readied c.loop-i.i ≡ Some c.index_mut.result.now =
+          sym (c.loop-i.invariant.rest c.loop-i.i (omega arith)) ∙ at in
+          let newer = can_take_same g.A.Cells.cells g.A.Cells.row_limit c.args.schema.now c.args.sample.now
+          c.args.archives.now.items readied c.make_ready.ensures.unchanged c.requires.newer in
+          rw (kept, slot) (newer c.loop-i.i c.index_mut.result.now was);
+      number_at_least = search rules;
+      number_at_most = search rules;
+      place = search rules;
+    }
 
 -- all archives but the first have room
 pub returns-in_err-put : goal.returns-in_err-put
@@ -94,7 +95,7 @@ loop-i-preserved g c =
     let place : c.place_in-place.result ≡ place_of c.args.schema.now c.loop-i.i c.args.sample.now.time = search rules in
     let time : to_z w64 (of_z w64 c.args.sample.now.time) ≡ c.args.sample.now.time = search rules in
     let value : to_z w64 (of_z w64 c.args.sample.now.value) ≡ c.args.sample.now.value = search rules in
-    let cells = rw (kept, slot, place, time, value) at c.in_ok-put.ensures.put in
+    let cells = rw (kept, slot, place, time, value) at c.in_ok-put.ensures.taken in
     put_more g.A.Cells.cells g.A.Cells.row_limit c.args.schema.now c.args.sample.now c.loop-i.i
     c.make_ready.new.archives.items items c.index_mut.result.now c.put.new.self c.loop-i.invariant at cells limit
 

@@ -20,27 +20,23 @@ index_mut-requires g c =
     let len = m.archives.ok.0 in
     omega (arith, many, there, len)
 
-pub put_into-requires-clause-of_schema : goal.put_into-requires-clause-of_schema
-put_into-requires-clause-of_schema g c =
+pub put_into-requires : goal.put_into-requires
+put_into-requires g c =
     let m = c.args.series.now in
     let old = entries_of m in
     let key = get_or m.keys.items c.args.index [] in
     let at = number_found m.indexed c.args.index c.requires.there in
     let was = c.index_mut.result.now in
     let found = element_found m.indexed key c.args.index was at c.index_mut.ensures.value in
-    record { layout = c.requires.held.holds.layout; sized = c.requires.held.sized key was (sym found) }
-
-pub put_into-requires-clause-newer : goal.put_into-requires-clause-newer
-put_into-requires-clause-newer g c =
-    let m = c.args.series.now in
-    let old = entries_of m in
-    let key = get_or m.keys.items c.args.index [] in
-    let at = number_found m.indexed c.args.index c.requires.there in
-    let was = c.index_mut.result.now in
-    let found = element_found m.indexed key c.args.index was at c.index_mut.ensures.value in
-    can_take g.A.Cells.cells g.A.Cells.row_limit c.args.schema.now key c.args.sample old c.requires.held
-    c.args.sample.number_at_most was.items (before_found g.A.Cells.cells g.A.Cells.row_limit c.args.schema.now
-    key c.args.sample old c.requires.held c.args.sample.number_at_most was found)
+    record {
+      of_schema = record {
+        layout = c.requires.held.holds.layout;
+        sized = c.requires.held.sized key was (sym found);
+      };
+      newer = can_take g.A.Cells.cells g.A.Cells.row_limit c.args.schema.now key c.args.sample old c.requires.held
+          c.args.sample.number_at_most was.items (before_found g.A.Cells.cells g.A.Cells.row_limit c.args.schema.now
+          key c.args.sample old c.requires.held c.args.sample.number_at_most was found);
+    }
 
 pub returns : goal.returns
 returns g c =

@@ -10,17 +10,20 @@ use Rattle.rr_replica.proofs.InMemoryLemmas.{before_fresh, can_take, cells_with,
 use Rattle.rr_replica.proofs.RoomLemmas.{room_nowhere}
 use Rattle.rr_replica.proofs.putting.put_in.Goals as goal
 
-pub put_into-requires-clause-newer : goal.put_into-requires-clause-newer
-put_into-requires-clause-newer g c =
+pub put_into-requires : goal.put_into-requires
+put_into-requires g c =
     let m = c.args.series.now in
     let old = entries_of m in
     let unknown : None ≡ index_of m.indices.entries c.args.key.now = c.in-None.ensures in
     let none = sym (archives_nowhere m.indexed c.args.key.now unknown) in
     let fresh = c.in_ok-archives-in-None in
-    can_take g.A.Cells.cells g.A.Cells.row_limit c.args.schema.now c.args.key.now c.args.sample old c.requires.held
-    c.args.sample.number_at_most fresh.archives.items
-    (before_fresh g.A.Cells.cells g.A.Cells.row_limit c.args.schema.now c.args.key.now c.args.sample old
-    c.requires.held c.args.sample.number_at_most fresh.archives.items none fresh.ensures.empty)
+    record {
+      of_schema = search rules;
+      newer = can_take g.A.Cells.cells g.A.Cells.row_limit c.args.schema.now c.args.key.now c.args.sample old
+          c.requires.held c.args.sample.number_at_most fresh.archives.items
+          (before_fresh g.A.Cells.cells g.A.Cells.row_limit c.args.schema.now c.args.key.now c.args.sample old
+          c.requires.held c.args.sample.number_at_most fresh.archives.items none fresh.ensures.empty);
+    }
 
 pub put_at-requires-clause-there : goal.put_at-requires-clause-there
 put_at-requires-clause-there g c =

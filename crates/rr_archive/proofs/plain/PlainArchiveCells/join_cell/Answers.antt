@@ -7,9 +7,15 @@ use Rattle.rr_archive.specs.ArchiveState.{cells_in}
 use Rattle.rr_archive.proofs.Counting.{join_cell-is}
 use Rattle.rr_archive.proofs.plain.PlainArchiveCells.join_cell.Goals as goal
 
-pub returns-clause-joined : goal.returns-clause-joined
-returns-clause-joined c =
-    let back = to_z-of_z {w = w64} {z = c.args.slot} (search rules) in
-    let ok = rw back at c.change.ensures.changed in
-    on_ok_weaker c.change.result (λ e. e ∙ join_cell-is c.args.self.now.rows
-    (cells_in c.args.self.now.slots.rows.entries) (cell_slot c.args.slot c.args.origin) c.args.contribution.now) ok
+pub returns : goal.returns
+returns c = record {
+  taken =
+      let back = to_z-of_z {w = w64} {z = c.args.slot} (search rules) in
+      let ok = rw back at c.change.ensures.changed in
+      on_ok_weaker c.change.result (λ e. e ∙ join_cell-is c.args.self.now.rows
+      (cells_in c.args.self.now.slots.rows.entries) (cell_slot c.args.slot c.args.origin) c.args.contribution.now) ok;
+  dead = search rules;
+  unchanged = search rules;
+  limit = search rules;
+  room = search rules;
+}

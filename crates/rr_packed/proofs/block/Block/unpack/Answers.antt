@@ -66,35 +66,27 @@ held c = elim c.if-not-has_entries.branch [
   })
 ]
 
-pub returns-clause-same : goal.returns-clause-same
-returns-clause-same c =
+pub returns : goal.returns
+returns c =
     let mid = c.if-not-has_entries.self in
     let k = c.args.number.value in
     let new : Block = record { alloc = mid.alloc; source = mid.source; readings = c.remove.new.self; rows = mid.rows }
     in
     let h = held c in
-    reading_removed mid new k (λ n. refl) refl c.remove.ensures.removed h.spare ∙ h.same
-
-pub returns-clause-room_stays : goal.returns-clause-room_stays
-returns-clause-room_stays c = λ origin room.
-    let mid = c.if-not-has_entries.self in
-    let k = c.args.number.value in
-    let new : Block = record { alloc = mid.alloc; source = mid.source; readings = c.remove.new.self; rows = mid.rows }
-    in
-    let h = held c in
-    room_kept c.args.self.now new k origin (h.rows_stay origin room)
-    (λ unread. c.remove.ensures.absent (ap (λ (r : Sparse Reading). place_at r.mask k) h.readings ∙ unread)
-    ∙ h.readings) room
+    record {
+      same = reading_removed mid new k (λ n. refl) refl c.remove.ensures.removed h.spare ∙ h.same;
+      unpacked = search rules;
+      room = search rules;
+      room_stays = λ origin room. room_kept c.args.self.now new k origin (h.rows_stay origin room)
+          (λ unread. c.remove.ensures.absent (ap (λ (r : Sparse Reading). place_at r.mask k) h.readings ∙ unread)
+          ∙ h.readings) room;
+    }
 
 -- ---- memory ran out
 
 pub insert-requires : goal.insert-requires
 insert-requires c = none_from (place_at c.args.self.now.rows.mask c.args.number.value)
     (sym c.has_entries.ensures.placed ∙ c.if-not-has_entries.true)
-
-pub returns-in_err-insert-clause-same : goal.returns-in_err-insert-clause-same
-returns-in_err-insert-clause-same c =
-    block_same c.args.self.now _ (λ n. ap (λ f. f n) c.in_err-insert.ensures.unchanged) refl (λ n. refl)
 
 out : (c : In_err-insert) (origin : ℕ) → IsTrue (has_room_in c.args.self.now c.args.number.value origin) → ⊥
 out c origin room =
@@ -103,8 +95,10 @@ out c origin room =
     (sym c.has_entries.ensures.held ∙ c.if-not-has_entries.true) in
     unread b c.args.number.value origin c.in-Some.entry none c.in-Some.ensures.found room
 
-pub returns-in_err-insert-clause-room : goal.returns-in_err-insert-clause-room
-returns-in_err-insert-clause-room c = λ origin room. absurd (out c.before origin room)
-
-pub returns-in_err-insert-clause-room_stays : goal.returns-in_err-insert-clause-room_stays
-returns-in_err-insert-clause-room_stays c = λ origin room. absurd (out c.before origin room)
+pub returns-in_err-insert : goal.returns-in_err-insert
+returns-in_err-insert c = record {
+  same = block_same c.args.self.now _ (λ n. ap (λ f. f n) c.in_err-insert.ensures.unchanged) refl (λ n. refl);
+  unpacked = search rules;
+  room = λ origin room. absurd (out c.before origin room);
+  room_stays = λ origin room. absurd (out c.before origin room);
+}

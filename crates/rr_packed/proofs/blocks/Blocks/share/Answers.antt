@@ -12,18 +12,18 @@ invariant_of-self c =
     let within : c.loop-at.at - 1 < length a.older.items = let most = c.loop-at.invariant.0 in omega arith in
     record {
       ordered = (older_here a.older.items (option_to_list a.newest) (c.loop-at.at - 1) c.index_mut.result.now
-          c.share.new.self a.ordered within c.index_mut.ensures.value).ascend;
+          c.share_block.new.block a.ordered within c.index_mut.ensures.value).ascend;
     }
 
-pub returns-then-not-share : goal.returns-then-not-share
-returns-then-not-share c =
+pub returns-then-not-share_block : goal.returns-then-not-share_block
+returns-then-not-share_block c =
     let a = c.loop-at.self in
     let was = c.index_mut.result.now in
     let within : c.loop-at.at - 1 < length a.older.items = let most = c.loop-at.invariant.0 in omega arith in
-    let put = older_here a.older.items (option_to_list a.newest) (c.loop-at.at - 1) was c.share.new.self a.ordered
-    within
-    c.index_mut.ensures.value in
-    blocks_alike (all_blocks a) _ was.0 c.share.new.self put.sets (c.share.ensures ∙ ap items_of_block (sym put.has))
+    let put = older_here a.older.items (option_to_list a.newest) (c.loop-at.at - 1) was c.share_block.new.block
+    a.ordered within c.index_mut.ensures.value in
+    blocks_alike (all_blocks a) _ was.0 c.share_block.new.block put.sets
+    (c.share_block.ensures ∙ ap items_of_block (sym put.has))
     ∙ c.loop-at.invariant.1
 
 pub loop-at-preserved : goal.loop-at-preserved
@@ -32,11 +32,11 @@ loop-at-preserved c =
     let was = c.index_mut.result.now in
     let most = c.loop-at.invariant.0 in
     let within : c.loop-at.at - 1 < length a.older.items = omega arith in
-    let put = older_here a.older.items (option_to_list a.newest) (c.loop-at.at - 1) was c.share.new.self a.ordered
-    within
-    c.index_mut.ensures.value in
-    let kept = length-set a.older.items (c.loop-at.at - 1) (was.0, c.share.new.self) in (
+    let put = older_here a.older.items (option_to_list a.newest) (c.loop-at.at - 1) was c.share_block.new.block
+    a.ordered within c.index_mut.ensures.value in
+    let kept = length-set a.older.items (c.loop-at.at - 1) (was.0, c.share_block.new.block) in (
       omega arith,
-      blocks_alike (all_blocks a) _ was.0 c.share.new.self put.sets (c.share.ensures ∙ ap items_of_block (sym put.has))
+      blocks_alike (all_blocks a) _ was.0 c.share_block.new.block put.sets
+          (c.share_block.ensures ∙ ap items_of_block (sym put.has))
           ∙ c.loop-at.invariant.1,
     )

@@ -7,10 +7,16 @@ use Rattle.rr_archive.proofs.Counting.{join_cell-is}
 use Rattle.rr_ring.specs.RingCells.{cells_in}
 use Rattle.rr_ring.proofs.ring_archive.RingArchiveCells.join_cell.Goals as goal
 
-pub returns-clause-joined : goal.returns-clause-joined
-returns-clause-joined c =
-    let a = c.args.self.now in
-    let back = to_z-of_z {w = w64} {z = c.args.slot} (search rules) in
-    let ok = rw back at c.change.ensures.changed in
-    on_ok_weaker c.change.result (λ e. e ∙ join_cell-is a.ring.rows (cells_in a.newest a.ring)
-    (cell_slot c.args.slot c.args.origin) c.args.contribution.now) ok
+pub returns : goal.returns
+returns c = record {
+  taken =
+      let a = c.args.self.now in
+      let back = to_z-of_z {w = w64} {z = c.args.slot} (search rules) in
+      let ok = rw back at c.change.ensures.changed in
+      on_ok_weaker c.change.result (λ e. e ∙ join_cell-is a.ring.rows (cells_in a.newest a.ring)
+      (cell_slot c.args.slot c.args.origin) c.args.contribution.now) ok;
+  dead = search rules;
+  unchanged = search rules;
+  limit = search rules;
+  room = search rules;
+}

@@ -1,7 +1,7 @@
 -- A quotient is known by its bounds.
 use Rattle.std.proofs.Common.{rules, ◌≡◌, ◌<◌, ◌≤◌, ◌+◌, ◌-◌, ◌*◌, ◌/◌, ℕ, arith}
 use Rattle.std.proofs.Math.Nat.{div-eq_of_lt-le}
-use Rattle.rr_replica.proofs.slots.whole_slots_on.Goals as goal
+use Rattle.rr_replica.proofs.slots.slots_on.Goals as goal
 
 none_on : (slot time length start : ℕ) → start ≡ slot * length → start ≤ time → time - start < length
     → time / length ≡ slot + 0
