@@ -1,5 +1,5 @@
 //! Keys that the copies lack, which they get before operations on their series.
-ghost use Rattle.std.specs.Prelude.{◌≡◌, ◌+◌, ◌<◌, ◌≤◌, length, OnErr, OnOk};
+ghost use Rattle.std.specs.Prelude.{◌≤◌, length, OnOk};
 ghost use Rattle.rr_desk.specs.Changes.{AreNamed};
 ghost use Rattle.rr_desk.specs.Writers.{changes, shown_names, AddsKeys};
 
@@ -8,27 +8,6 @@ use crate::writing::DeskWriter;
 use rr_archive::Cells;
 use rr_replica::Replica;
 use std::alloc::AllocError;
-
-/// Adds to the pending changes the first of the keeper's keys that the copies will lack.
-fn name_key<A: Cells>(
-    writer: &mut DeskWriter<A>,
-    own: &Replica<A>,
-    named: usize,
-) -> Result<(), AllocError>
-    requires there { named < length own.now.keys }
-    requires named { AreNamed (shown_names writer.old) own.now.keys
-        (changes writer.old) named }
-    ensures keys { AddsKeys writer.old writer.new }
-    ensures named { OnOk result (AreNamed (shown_names writer.old)
-        own.now.keys (changes writer.new) (named + 1)) }
-    ensures unchanged { OnErr result (changes writer.new ≡ changes writer.old) }
-{
-    let key = own.key_numbered(named).copy()?;
-    if writer.append(Change::AddKey(key)).is_err() {
-        return Err(AllocError);
-    }
-    Ok(())
-}
 
 /// Adds to the pending changes the keeper's keys that the copies will lack: it is at most one, unless
 /// memory ran out before. `named` says how many they will have.
@@ -46,7 +25,10 @@ pub fn name_keys<A: Cells>(
     ensures all { OnOk result (length own.now.keys ≤ named.new) }
 {
     for number in *named..own.key_count() {
-        name_key(writer, own, number)?;
+        let key = own.key_numbered(number).copy()?;
+        if writer.append(Change::AddKey(key)).is_err() {
+            return Err(AllocError);
+        }
         *named = number + 1;
     }
     Ok(())

@@ -16,7 +16,7 @@ use crate::fault::OpenFault;
 use crate::horizon::Horizon;
 use crate::keeper::Keeper;
 use crate::order::Order;
-use crate::read_handle::look;
+use crate::read_handle::{Seat, look};
 use crate::reader::Reader;
 use crate::reader_count::ReaderCount;
 use crate::started::{discard, started_writer};
@@ -40,12 +40,12 @@ fn seat<A: Cells>(
         (view writer.old.desk.place).seen) }
 {
     let schema = schema.copy(alloc)?;
-    let mut seat = writer.factory().reader()?;
-    introduce(writer, &mut seat);
-    match look(seat) {
-        Ok(seat) => Ok(Reader {
+    let mut handle = writer.factory().reader()?;
+    introduce(writer, &mut handle);
+    match look(handle) {
+        Ok(handle) => Ok(Reader {
             schema,
-            seat: Some(seat),
+            seat: Some(Seat { handle }),
         }),
         Err(_) => Err(AllocError),
     }

@@ -15,6 +15,13 @@ use std::alloc::AllocError;
 /// A reader's handle of the copies, which is at a seat of their table.
 pub type ReadHandle<A> = Reader<Shown<A>, View, Published>;
 
+/// A handle that knows its desk: the keeper has told it.
+#[derive(Drop)]
+pub struct Seat<A: Cells> {
+    pub(crate) handle: ReadHandle<A>,
+    ghost joined: { (view handle.place).joined ≡ true },
+}
+
 /// Enters and leaves once.
 pub fn look<A: Cells>(seat: ReadHandle<A>) -> Result<ReadHandle<A>, ReadHandle<A>>
     ensures { MatchResult result
@@ -28,25 +35,22 @@ pub fn look<A: Cells>(seat: ReadHandle<A>) -> Result<ReadHandle<A>, ReadHandle<A
 }
 
 /// Enters and leaves once, and says whether what is then seen begins with what a front has.
-pub fn look_for<A: Cells>(
-    seat: ReadHandle<A>,
-    front: &Front,
-) -> (ReadHandle<A>, Result<(), AllocError>)
-    requires joined { (view seat.place).joined ≡ true }
-    requires desk { front.now.desk ≡ (view seat.place).desk }
-    ensures { Reads (view seat.place) (view result.0.place)
-        (IfOk result.1 (λ _. IsPrefix (flat front.now.editions) (view result.0.place).seen)) }
+pub fn look_for<A: Cells>(seat: Seat<A>, front: &Front) -> (Seat<A>, Result<(), AllocError>)
+    requires { front.now.desk ≡ (view seat.handle.place).desk }
+    ensures { Reads (view seat.handle.place) (view result.0.handle.place)
+        (IfOk result.1 (λ _. IsPrefix (flat front.now.editions)
+        (view result.0.handle.place).seen)) }
 {
-    match seat.enter_as::<Enters>() {
+    match seat.handle.enter_as::<Enters>() {
         Ok(reading) => {
             let newer = front.begins(&reading.get().front);
-            let seat = reading.leave();
+            let handle = reading.leave();
             if newer {
-                (seat, Ok(()))
+                (Seat { handle }, Ok(()))
             } else {
-                (seat, Err(AllocError))
+                (Seat { handle }, Err(AllocError))
             }
         }
-        Err(seat) => (seat, Err(AllocError)),
+        Err(handle) => (Seat { handle }, Err(AllocError)),
     }
 }

@@ -15,7 +15,7 @@ ghost use Rattle.rr_desk.specs.Gate.{LetsPass};
 use crate::fault::FetchFault;
 use crate::gate::Gate;
 use crate::note::Note;
-use crate::read_handle::{ReadHandle, look_for};
+use crate::read_handle::{Seat, look_for};
 use crate::reading::{answer, lacking, listed};
 use rr_archive::Cells;
 use rr_cells::Cell;
@@ -31,7 +31,7 @@ use std::marker::Model;
 #[derive(Drop)]
 pub struct Reader<A: Cells> {
     pub(crate) schema: Schema,
-    pub(crate) seat: Option<ReadHandle<A>>,
+    pub(crate) seat: Option<Seat<A>>,
 }
 
 impl<A: Cells> Model for Reader<A> {
@@ -42,12 +42,12 @@ impl<A: Cells> Model for Reader<A> {
     ghost use Rattle.left_right.specs.Sides.{view as seat_view};
 
     ghost view = { λ r. record {
-      desk = (view_in (λ s. seat_view s.place) r.seat).desk;
+      desk = (view_in (λ s. seat_view s.handle.place) r.seat).desk;
       schema = r.schema;
-      list = (view_in (λ s. seat_view s.place) r.seat).seen;
+      list = (view_in (λ s. seat_view s.handle.place) r.seat).seen;
     } };
 
-    ghost invariant = { λ r. IsSeated (view_in (λ s. seat_view s.place) r.seat) r.schema };
+    ghost invariant = { λ r. IsSeated (view_in (λ s. seat_view s.handle.place) r.seat) r.schema };
 }
 
 /// A gate that is always open.

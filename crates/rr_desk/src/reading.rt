@@ -1,5 +1,5 @@
 //! What readers make of the copies, each under the rule.
-ghost use Rattle.std.specs.Prelude.{◌≡◌, true, IfOk, IfSome, map};
+ghost use Rattle.std.specs.Prelude.{◌≡◌, IfOk, IfSome, map};
 ghost use Rattle.std.specs.FinMap.{entries};
 ghost use Rattle.left_right.specs.Sides.{view};
 ghost use Rattle.rr_cells.specs.Operations.{outcome_of};
@@ -15,7 +15,7 @@ ghost use Rattle.rr_desk.specs.Gate.{LetsPass};
 
 use crate::fault::FetchFault;
 use crate::gate::Gate;
-use crate::read_handle::ReadHandle;
+use crate::read_handle::Seat;
 use crate::rule::Enters;
 use rr_archive::Cells;
 use rr_cells::Cell;
@@ -27,32 +27,36 @@ use std::alloc::{AllocError, Global};
 
 /// The answer to a request from the copy that is shown, if the gate lets it be made.
 pub fn answer<A: Cells, G: Gate>(
-    seat: ReadHandle<A>,
+    seat: Seat<A>,
     alloc: Global,
     request: &Request,
     gate: &mut G,
-) -> (ReadHandle<A>, Result<Vec<u8>, FetchFault>)
-    requires joined { (view seat.place).joined ≡ true }
-    requires fetchable { IsFetchable (view seat.place).schema (request_view request.now) }
-    ensures read { Reads (view seat.place) (view result.0.place)
-        (IfOk result.1 (λ text. text.items ≡ cells_text (view seat.place).schema
-        (outcome_of (view seat.place).schema (view result.0.place).seen)
+) -> (Seat<A>, Result<Vec<u8>, FetchFault>)
+    requires fetchable { IsFetchable (view seat.handle.place).schema (request_view request.now) }
+    ensures read { Reads (view seat.handle.place) (view result.0.handle.place)
+        (IfOk result.1 (λ text. text.items ≡ cells_text (view seat.handle.place).schema
+        (outcome_of (view seat.handle.place).schema (view result.0.handle.place).seen)
         (request_view request.now))) }
     ensures gate { LetsPass result.1 (G.calls gate.old) (G.calls gate.new) }
 {
-    let reading = match seat.enter_as::<Enters>() {
+    let reading = match seat.handle.enter_as::<Enters>() {
         Ok(reading) => reading,
-        Err(seat) => return (seat, Err(FetchFault::Memory)),
+        Err(handle) => return (Seat { handle }, Err(FetchFault::Memory)),
     };
     if !gate.before() {
-        return (reading.leave(), Err(FetchFault::GateShut));
+        let handle = reading.leave();
+        return (Seat { handle }, Err(FetchFault::GateShut));
     }
     match answer_text(alloc, &reading.get().replica, request) {
         Ok(text) => {
             gate.after();
-            (reading.leave(), Ok(text))
+            let handle = reading.leave();
+            (Seat { handle }, Ok(text))
         }
-        Err(_) => (reading.leave(), Err(FetchFault::Memory)),
+        Err(_) => {
+            let handle = reading.leave();
+            (Seat { handle }, Err(FetchFault::Memory))
+        }
     }
 }
 
@@ -73,45 +77,50 @@ fn quick_copy<A: Cells>(alloc: Global, replica: &Replica<A>) -> Option<Replica<A
 /// The cells of the copy that is shown which a summary lacks. If a copy of that is quickly made, it
 /// is compared, so that the keeper doesn't wait for the comparison.
 pub fn lacking<A: Cells>(
-    seat: ReadHandle<A>,
+    seat: Seat<A>,
     alloc: Global,
     summary: &[Name],
-) -> (ReadHandle<A>, Result<Vec<Cell>, AllocError>)
-    requires joined { (view seat.place).joined ≡ true }
+) -> (Seat<A>, Result<Vec<Cell>, AllocError>)
     requires summary { IsSummary (map owned_name summary.now) }
-    ensures { Reads (view seat.place) (view result.0.place)
-        (ListsCells (view seat.place).schema (newer_cells (map owned_name summary.now)
-        (entries (outcome_of (view seat.place).schema (view result.0.place).seen))) result.1) }
+    ensures { Reads (view seat.handle.place) (view result.0.handle.place)
+        (ListsCells (view seat.handle.place).schema (newer_cells (map owned_name summary.now)
+        (entries (outcome_of (view seat.handle.place).schema
+        (view result.0.handle.place).seen))) result.1) }
 {
-    match seat.enter_as::<Enters>() {
+    match seat.handle.enter_as::<Enters>() {
         Ok(reading) => match quick_copy(alloc, &reading.get().replica) {
-            Some(copy) => (reading.leave(), difference(alloc, &copy, summary)),
+            Some(copy) => {
+                let handle = reading.leave();
+                (Seat { handle }, difference(alloc, &copy, summary))
+            }
             None => {
                 let cells = difference(alloc, &reading.get().replica, summary);
-                (reading.leave(), cells)
+                let handle = reading.leave();
+                (Seat { handle }, cells)
             }
         },
-        Err(seat) => (seat, Err(AllocError)),
+        Err(handle) => (Seat { handle }, Err(AllocError)),
     }
 }
 
 /// The keys behind one that have a cell in the copy that is shown, as many as `count`.
 pub fn listed<A: Cells>(
-    seat: ReadHandle<A>,
+    seat: Seat<A>,
     alloc: Global,
     after: Option<&SeriesKey>,
     count: usize,
-) -> (ReadHandle<A>, Result<Vec<SeriesKey>, AllocError>)
-    requires joined { (view seat.place).joined ≡ true }
-    ensures { Reads (view seat.place) (view result.0.place)
+) -> (Seat<A>, Result<Vec<SeriesKey>, AllocError>)
+    ensures { Reads (view seat.handle.place) (view result.0.handle.place)
         (IfOk result.1 (λ keys. keys.items ≡ keys_after (lent_key after.entry) count
-        (entries (outcome_of (view seat.place).schema (view result.0.place).seen)))) }
+        (entries (outcome_of (view seat.handle.place).schema
+        (view result.0.handle.place).seen)))) }
 {
-    match seat.enter_as::<Enters>() {
+    match seat.handle.enter_as::<Enters>() {
         Ok(reading) => {
             let keys = reading.get().replica.keys_after(alloc, after, count);
-            (reading.leave(), keys)
+            let handle = reading.leave();
+            (Seat { handle }, keys)
         }
-        Err(seat) => (seat, Err(AllocError)),
+        Err(handle) => (Seat { handle }, Err(AllocError)),
     }
 }

@@ -14,7 +14,7 @@ pub returns-then-newer : goal.returns-then-newer
 returns-then-newer g c =
     let x = c.in-Ok.reading.part.value in
     let book : flat x.front.editions ≡ (view c.in-Ok.reading.place).seen = search rules in
-    let left : view c.leave-seat.result.place ≡ view c.in-Ok.reading.place = search rules in
+    let left : view c.leave-handle.result.place ≡ view c.in-Ok.reading.place = search rules in
     let begins : IsPrefix c.args.front.now.editions x.front.editions = search rules in
     record {
       seen = search rules;

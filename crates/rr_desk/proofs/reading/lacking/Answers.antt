@@ -8,7 +8,7 @@ enter_as-requires g c x = sees _ _ _
 
 pub returns-in-Some : goal.returns-in-Some
 returns-in-Some g c =
-    let same : c.in-Some.copy.schema ≡ (view c.args.seat.place).schema = search rules in
+    let same : c.in-Some.copy.schema ≡ (view c.args.seat.handle.place).schema = search rules in
     record {
       seen = search rules;
       answer = record {
@@ -20,7 +20,7 @@ returns-in-Some g c =
 
 pub returns-in-None : goal.returns-in-None
 returns-in-None g c =
-    let same : c.get-in-None.result.now.replica.schema ≡ (view c.args.seat.place).schema = search rules in
+    let same : c.get-in-None.result.now.replica.schema ≡ (view c.args.seat.handle.place).schema = search rules in
     record {
       seen = search rules;
       answer = record {

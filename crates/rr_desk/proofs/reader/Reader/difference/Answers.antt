@@ -4,7 +4,7 @@ use Rattle.rr_desk.proofs.reader.Reader.difference.Goals as goal
 
 pub returns : goal.returns
 returns g c =
-    let same : (view c.in-Some.seat.place).schema ≡ c.self.inside.schema = search rules in
+    let same : (view c.in-Some.seat.handle.place).schema ≡ c.self.inside.schema = search rules in
     record {
       seen = search rules;
       answer = record {
