@@ -1,5 +1,5 @@
 -- Cells from a stream whose bytes may be known.
-use Rattle.std.specs.Prelude.{◌≡◌, ◌≢◌, ◌⊎◌, ◌+◌, ℕ, nat_lt, ◌||◌, ◌==◌, List, ◌++◌, length, Option, Some, Result, Ok, Err, IfSome, OnOk, if◌then◌else◌}
+use Rattle.std.specs.Prelude.{◌≡◌, ◌≢◌, ◌⊎◌, ◌+◌, ◌-◌, ◌<◌, ◌≤◌, ℕ, nat_lt, ◌||◌, ◌==◌, List, ◌++◌, length, take, Option, Some, Result, Ok, Err, IfOk, IfSome, OnOk, if◌then◌else◌}
 use Rattle.std.specs.Int.{w16}
 use Rattle.std.specs.Io.KnownBytes.{Consumes}
 use Rattle.sha2.specs.Hashers.{Holds256}
@@ -7,7 +7,7 @@ use Rattle.sha2.specs.declared.Sha256.{Sha256}
 use Rattle.rr_text.specs.declared.limits.TheConstants.{MAX_KEY_TEXT}
 use Rattle.rr_io.specs.declared.counted.Counted.{Counted}
 use Rattle.rr_io.specs.Counted.{inner_of}
-use Rattle.rr_io.specs.Stream.{HasFailed, KeepsFailures, ReadsSome, ReadsUpTo}
+use Rattle.rr_io.specs.Stream.{HasFailed, IsReadOut, KeepsFailures, ReadsOn, ReadsSome, ReadsUpTo}
 use Rattle.rr_page.specs.declared.fault.PageFault.{PageFault}
 use Rattle.rr_page.specs.declared.version.Version.{Version}
 use Rattle.rr_page.specs.Reading.{number_at}
@@ -28,6 +28,16 @@ whole_len v bytes = len_by v bytes (number_at w16 bytes)
 -- bytes were taken from the front of what a reader had, where that is known, and added after those that were there
 abbrev pub Adds : Option (List ℕ) → Option (List ℕ) → List ℕ → List ℕ → Type 0
 Adds old new before after = (front : List ℕ) × (after ≡ before ++ front) × Consumes old new front
+
+-- bytes were taken after the first `filled` ones of a buffer, up to `len` of them or the end of the input
+pub record FillsUpTo {R E : Type 0} (filled len : ℕ) (remaining : R → Option (List ℕ)) (input input_new : Counted R)
+    (old new : List ℕ) (result : Result ℕ E) : Type 0 where
+  pub more : IfOk result (λ now. (filled ≤ now) × (now ≤ len))
+  pub bytes : IfOk result (λ now. Adds (remaining (inner_of input)) (remaining (inner_of input_new)) (take filled old)
+      (take now new))
+  pub end : IfOk result (λ now. now < len → IsReadOut remaining input_new)
+  pub buffer_len : length new ≡ length old
+  pub stream : ReadsOn (len - filled) remaining input input_new result
 
 -- where the bytes of a stream are known, the result of a call, seen by a view, is what is read of them, and what
 -- follows it is left; or the reader failed, or memory ran out

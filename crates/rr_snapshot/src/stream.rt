@@ -1,15 +1,15 @@
 //! A cell from a stream, in one buffer.
-ghost use Rattle.std.specs.Prelude.{◌≡◌, ◌++◌, ◌<◌, ◌≤◌, ◌-◌, List, ℕ, IfOk, Err, length, take};
+ghost use Rattle.std.specs.Prelude.{◌≡◌, ◌≤◌, IfOk, Err, length, take};
 ghost use Rattle.std.specs.Io.KnownBytes.{Consumes};
 ghost use Rattle.rr_io.specs.Counted.{inner_of};
-ghost use Rattle.rr_io.specs.Stream.{IsReadOut, ReadsOn, ReadsUpTo};
+ghost use Rattle.rr_io.specs.Stream.{ReadsUpTo};
 ghost use Rattle.rr_page.specs.Reading.{cell_at};
 ghost use Rattle.rr_page.specs.Version.{fields_len};
 ghost use Rattle.rr_page.specs.declared.writing.TheConstants.{FIELDS_LEN};
 ghost use Rattle.rr_cells.specs.CellBounds.{IsCellOf};
 ghost use Rattle.rr_cells.specs.Listing.{owned_cell};
 ghost use Rattle.rr_snapshot.specs.SnapshotReading.{as_in_page};
-ghost use Rattle.rr_snapshot.specs.Stream.{Adds, HasRead, LoadsFrom, StreamGives, whole_len};
+ghost use Rattle.rr_snapshot.specs.Stream.{FillsUpTo, HasRead, LoadsFrom, StreamGives, whole_len};
 
 use crate::fault::LoadFault;
 use rr_cells::Cell;
@@ -65,12 +65,7 @@ pub(crate) fn fill_up_to<R: Read>(
 ) -> Result<usize, ReadFailed>
     requires filled_before { filled ≤ len }
     requires room { len ≤ length buffer.old }
-    ensures more { IfOk result (λ now. (filled ≤ now) × (now ≤ len)) }
-    ensures bytes { IfOk result (λ now. Adds (R.remaining (inner_of input.old))
-        (R.remaining (inner_of input.new)) (take filled buffer.old) (take now buffer.new)) }
-    ensures end { IfOk result (λ now. now < len → IsReadOut R.remaining input.new) }
-    ensures buffer_len { length buffer.new ≡ length buffer.old }
-    ensures stream { ReadsOn (len - filled) R.remaining input.old input.new result }
+    ensures { FillsUpTo filled len R.remaining input.old input.new buffer.old buffer.new result }
 {
     let more = fill(input, &mut buffer[filled..len])?;
     Ok(filled + more)
