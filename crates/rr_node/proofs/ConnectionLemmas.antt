@@ -14,7 +14,7 @@ use Rattle.rr_node.specs.declared.answer.Answer.TheVariants as says
 use Rattle.rr_node.specs.declared.connection.Connection.{Connection}
 use Rattle.rr_node.specs.declared.report.Report.{Report}
 use Rattle.rr_node.specs.declared.rules.Rules.{Rules}
-use Rattle.rr_node.specs.Connection.{IsAnswer, HandledAt, HasServed, ServedItems, PushedPiece, counted_in, moments_asked, served_so_far, text_to, StoppedByMemory, EndsWithin, ComesAfter}
+use Rattle.rr_node.specs.Connection.{IsAnswer, HandledAt, HasServed, ServedItems, ConnectionTakesPiece, counted_in, moments_asked, served_so_far, text_to, StoppedByMemory, EndsWithin, ComesAfter}
 use Rattle.rr_node.specs.Lines.{Verdict, skipped, put, refused, Served, after, answer_of, answer_to, asks_clock, served_at_start, first_of, keeper_with, keeper_with_some, keeper_within, later_than_first, published_after, report_text, report_with, verdict_of, with_item, with_verdict}
 use Rattle.rr_node.proofs.VerdictLemmas.{count_in, keeper_with_all, verdict_unasked}
 
@@ -181,7 +181,7 @@ HasServed-new c start feed lines report = record {
 -- ---- the bytes that come
 
 pub HasServed-push : (old new : Connection) (start k : KeeperState) (pushed piece text : List ℕ) (given : List ℤ)
-    → old.feed.ended ≡ false → PushedPiece old new piece → HasServed old start pushed given k text
+    → old.feed.ended ≡ false → ConnectionTakesPiece old new piece → HasServed old start pushed given k text
     → HasServed new start (pushed ++ piece) given k text
 HasServed-push old new start k pushed piece text given going takes has = record {
   handed = has.handed;

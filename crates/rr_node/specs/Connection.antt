@@ -1,8 +1,9 @@
 -- How the code takes the lines of a connection.
-use Rattle.std.specs.Prelude.{◌≡◌, ◌≢◌, ◌⊎◌, ℕ, ◌+◌, ◌≤◌, ℤ, true, List, [], ◌∷◌, ◌++◌, length, count_by, Result, Ok, Err, Option, IfOk, OnErr, OnOk, if◌then◌else◌}
+use Rattle.std.specs.Prelude.{◌≡◌, ◌≢◌, ◌⊎◌, ℕ, ◌+◌, ◌^◌, ◌<◌, ◌≤◌, ℤ, true, List, [], ◌∷◌, ◌++◌, length, count_by, Result, Ok, Err, Option, IfOk, OnErr, OnOk, if◌then◌else◌}
 use Rattle.std.specs.declared.alloc.AllocError.{AllocError}
 use Rattle.std.specs.Io.KnownBytes.{Appends}
 use mathlib.Core.List.{IsPrefix}
+use Rattle.rr_node.specs.declared.lines.TheConstants.{PIECE}
 use Rattle.rr_feed.specs.Feed.{FeedState, empty_feed, items_left, state, MayCome}
 use Rattle.rr_feed.specs.Items.{Item, items}
 use Rattle.rr_feed.specs.Laws.{IsFed}
@@ -99,8 +100,13 @@ pub record Refuses (fault : LineFault) (result : Result Answer AllocError) : Typ
   pub read : OnOk result (fault ≢ Memory)
   pub count_fits : IfOk result IsFew
 
+-- a piece that a connection can take in: it is no longer than one may be, and the pieces can still be counted
+pub record ConnectionMayTake (c : Connection) (piece : List ℕ) : Type 0 where
+  pub pieces_fit : c.pieces + 1 < 2 ^ 32
+  pub fits : length piece ≤ PIECE
+
 -- a piece was taken in
-pub record PushedPiece (old new : Connection) (piece : List ℕ) : Type 0 where
+pub record ConnectionTakesPiece (old new : Connection) (piece : List ℕ) : Type 0 where
   pub feed : new.feed ≡ state (old.feed.left ++ piece) old.feed.skipping old.feed.ended
   pub pieces : new.pieces ≡ old.pieces + 1
   pub lines : new.lines ≡ old.lines

@@ -1,9 +1,10 @@
 //! Lines of a connection as they come in pieces, handed to the keeper.
 
-ghost use Rattle.std.specs.Prelude.{◌≡◌, ℕ, ◌+◌, ◌*◌, ◌<◌, ◌≤◌, ◌^◌, ℤ, List, false, ◌++◌, length, OnOk, OnErr};
+ghost use Rattle.std.specs.Prelude.{◌≡◌, ℕ, ◌+◌, ◌*◌, ◌<◌, ◌≤◌, ◌^◌, ℤ, List, ◌++◌, length, OnOk, OnErr};
 ghost use Rattle.rr_text.specs.declared.limits.TheConstants.{MAX_FIELDS};
 ghost use Rattle.rr_node.specs.declared.lines.TheConstants.{PIECE};
 ghost use Rattle.rr_host.specs.Clock.{HasGiven};
+ghost use Rattle.rr_io.specs.Stream.{Writes};
 ghost use Rattle.rr_node.specs.Blame.{Sends};
 ghost use Rattle.rr_node.specs.Lines.{published_after, report_text};
 
@@ -17,7 +18,7 @@ use rr_feed::Feed;
 use rr_fetch::push_refusal;
 use rr_host::Clock;
 use rr_io::Counted;
-use rr_io::stream::{flush, write_all};
+use rr_io::stream::{WriteFailed, flush, write_all};
 use rr_line::LastTime;
 use std::alloc::{AllocError, Global};
 use std::io::Write;
@@ -43,7 +44,7 @@ pub(crate) struct Connection {
 }
 
 impl Connection {
-    ghost use Rattle.rr_node.specs.Connection.{AnswersLines, Finishes, IsFew, IsNew, PushedPiece, ServedAllItems, StoppedByMemory, counted_in, text_to};
+    ghost use Rattle.rr_node.specs.Connection.{AnswersLines, Finishes, IsFew, IsNew, ConnectionMayTake, ConnectionTakesPiece, ServedAllItems, StoppedByMemory, counted_in, text_to};
 
     /// No line came yet.
     pub(crate) fn new(alloc: Global, rules: Rules) -> Connection
@@ -66,10 +67,8 @@ impl Connection {
 
     /// Takes in a piece.
     pub(crate) fn push(&mut self, piece: &[u8]) -> Result<(), AllocError>
-        requires going { self.old.feed.ended ≡ false }
-        requires pieces_fit { self.old.pieces + 1 < 2 ^ 32 }
-        requires fits { length piece.now ≤ PIECE }
-        ensures { OnOk result (PushedPiece self.old self.new piece.now) }
+        requires { ConnectionMayTake self.old piece.now }
+        ensures { OnOk result (ConnectionTakesPiece self.old self.new piece.now) }
     {
         let Ok(()) = self.feed.push(piece) else {
             return Err(AllocError);
@@ -183,15 +182,14 @@ impl Connection {
 }
 
 /// Writes a text and has the writer pass it on; nothing is done where it is empty.
-fn send<W: Write>(output: &mut Counted<W>, text: &[u8]) -> Result<(), NodeFault>
-    ensures { Sends W.contents output.old output.new text.now result }
+fn send<W: Write>(output: &mut Counted<W>, text: &[u8]) -> Result<(), WriteFailed>
+    ensures { Writes W.contents output.old output.new text.now result }
 {
     if text.is_empty() {
         return Ok(());
     }
     write_all(output, text)?;
-    flush(output)?;
-    Ok(())
+    flush(output)
 }
 
 /// Writes the report.
@@ -204,5 +202,6 @@ fn send_report<W: Write>(
 {
     let mut text = Vec::new(alloc);
     push_report(&mut text, report)?;
-    send(output, text.as_slice())
+    send(output, text.as_slice())?;
+    Ok(())
 }

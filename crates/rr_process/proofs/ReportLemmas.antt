@@ -9,7 +9,7 @@ use Rattle.rr_feed.proofs.FedLemmas.{IsFed-push, IsFed-next_line, IsFed-end, IsF
 use Rattle.rr_line.specs.declared.precision.Precision.{Precision}
 use Rattle.rr_process.specs.declared.checker.Checker.{Checker}
 use Rattle.rr_process.specs.Report.{item_text, report_from, report_of, is_refused, refused_count}
-use Rattle.rr_process.specs.Checker.{HasReported, Reports, PushedPiece}
+use Rattle.rr_process.specs.Checker.{HasReported, Reports, CheckerTakesPiece}
 
 -- the report of items, and then that of later ones
 report_from-append : (precision : Precision) (now : ℤ) (number : ℕ) (first later : List Item)
@@ -34,7 +34,7 @@ pub record SameButFeed (old new : Checker) : Type 0 where
   pub now : new.now ≡ old.now
 
 pub HasReported-push : (old new : Checker) (pushed piece text : List ℕ) → old.feed.ended ≡ false
-    → PushedPiece old new piece → HasReported old pushed text → HasReported new (pushed ++ piece) text
+    → CheckerTakesPiece old new piece → HasReported old pushed text → HasReported new (pushed ++ piece) text
 HasReported-push old new pushed piece text going takes has = record {
   handed = has.handed;
   fed = rw takes.feed (IsFed-push pushed piece has.handed old.feed going has.fed);

@@ -1,5 +1,5 @@
 -- How far the lines of a stream are reported.
-use Rattle.std.specs.Prelude.{◌≡◌, ℕ, ◌+◌, ℤ, true, List, [], ◌++◌, length, count_by, Option, Result, IfOk, OnOk}
+use Rattle.std.specs.Prelude.{◌≡◌, ℕ, ◌+◌, ◌^◌, ◌<◌, ◌≤◌, ℤ, true, List, [], ◌++◌, length, count_by, Option, Result, IfOk, OnOk}
 use Rattle.std.specs.Io.KnownBytes.{Appends}
 use Rattle.rr_io.specs.declared.counted.Counted.{Counted}
 use Rattle.rr_io.specs.Counted.{inner_of, is_flushed}
@@ -8,6 +8,7 @@ use Rattle.rr_feed.specs.Feed.{MayCome, empty_feed, items_left, state}
 use Rattle.rr_feed.specs.Items.{Item}
 use Rattle.rr_feed.specs.Laws.{IsFed}
 use Rattle.rr_line.specs.declared.precision.Precision.{Precision}
+use Rattle.rr_process.specs.declared.check.TheConstants.{PIECE}
 use Rattle.rr_process.specs.declared.checker.Checker.{Checker}
 use Rattle.rr_process.specs.declared.fault.ToolFault.{ToolFault}
 use Rattle.rr_process.specs.Report.{is_refused, refused_count, report_from, report_of}
@@ -29,8 +30,13 @@ pub record IsNew (unit : Precision) (time : ℤ) (c : Checker) : Type 0 where
   pub now : c.now ≡ time
   pub nothing : HasReported c [] []
 
+-- a piece that a checker can take in: it is no longer than one may be, and the pieces can still be counted
+pub record CheckerMayTake (c : Checker) (piece : List ℕ) : Type 0 where
+  pub pieces_fit : c.pieces + 1 < 2 ^ 32
+  pub fits : length piece ≤ PIECE
+
 -- a piece was taken in
-pub record PushedPiece (old new : Checker) (piece : List ℕ) : Type 0 where
+pub record CheckerTakesPiece (old new : Checker) (piece : List ℕ) : Type 0 where
   pub feed : new.feed ≡ state (old.feed.left ++ piece) old.feed.skipping old.feed.ended
   pub pieces : new.pieces ≡ old.pieces + 1
   pub lines : new.lines ≡ old.lines

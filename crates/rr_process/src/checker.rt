@@ -1,6 +1,6 @@
 //! Lines as they come in pieces, and how many of them were refused.
 
-ghost use Rattle.std.specs.Prelude.{◌≡◌, ◌+◌, ◌*◌, ◌<◌, ◌≤◌, ◌^◌, ◌++◌, ℕ, List, false, [], length, IfOk, OnOk};
+ghost use Rattle.std.specs.Prelude.{◌≡◌, ◌+◌, ◌*◌, ◌<◌, ◌≤◌, ◌^◌, ◌++◌, ℕ, List, [], length, IfOk, OnOk};
 ghost use Rattle.rr_feed.specs.Feed.{items_left};
 ghost use Rattle.rr_process.specs.declared.check.TheConstants.{PIECE};
 
@@ -31,7 +31,7 @@ pub(crate) struct Checker {
 }
 
 impl Checker {
-    ghost use Rattle.rr_process.specs.Checker.{IsNew, PushedPiece, Reports, ReportsAll, WritesItems, WritesReport};
+    ghost use Rattle.rr_process.specs.Checker.{CheckerMayTake, CheckerTakesPiece, IsNew, Reports, ReportsAll, WritesItems, WritesReport};
 
     /// No line came yet.
     pub(crate) fn new(alloc: Global, precision: Precision, now: i64) -> Checker
@@ -50,10 +50,8 @@ impl Checker {
 
     /// Takes in a piece.
     pub(crate) fn push(&mut self, piece: &[u8]) -> Result<(), AllocError>
-        requires going { self.old.feed.ended ≡ false }
-        requires pieces_fit { self.old.pieces + 1 < 2 ^ 32 }
-        requires fits { length piece.now ≤ PIECE }
-        ensures { OnOk result (PushedPiece self.old self.new piece.now) }
+        requires { CheckerMayTake self.old piece.now }
+        ensures { OnOk result (CheckerTakesPiece self.old self.new piece.now) }
     {
         let Ok(()) = self.feed.push(piece) else {
             return Err(AllocError);

@@ -174,6 +174,12 @@ fn words_choose_what_is_done(rt: HostRuntime) -> Result<(), Fail> {
         let process = Process::new(&rt, given(line, &ports));
         let ending = run(&process);
         assert!(rt; is_told(process, &ending, line));
+        // Without what serves a node, other words end alike.
+        if !line.starts_with("rr serve") {
+            let process = Process::new(&rt, given(line, &ports));
+            let ending = rr_process::run(&process);
+            assert!(rt; is_told(process, &ending, line));
+        }
     }
     remove(&rt, &FILES);
     remove(&rt, &[("held.snapshot", b"")]);
