@@ -181,14 +181,14 @@ impl Connection {
     }
 }
 
-/// Writes a text and has the writer pass it on; nothing is done where it is empty.
-fn send<W: Write>(output: &mut Counted<W>, text: &[u8]) -> Result<(), WriteFailed>
-    ensures { Writes W.contents output.old output.new text.now result }
+/// Writes bytes and has the writer pass them on; nothing is done where there are none.
+fn send<W: Write>(output: &mut Counted<W>, bytes: &[u8]) -> Result<(), WriteFailed>
+    ensures { Writes W.contents output.old output.new bytes.now result }
 {
-    if text.is_empty() {
+    if bytes.is_empty() {
         return Ok(());
     }
-    write_all(output, text)?;
+    write_all(output, bytes)?;
     flush(output)
 }
 
