@@ -1,5 +1,5 @@
 -- How the code takes the lines of a connection.
-use Rattle.std.specs.Prelude.{◌≡◌, ◌≢◌, ◌⊎◌, ℕ, ◌+◌, ◌^◌, ◌<◌, ◌≤◌, ℤ, true, List, [], ◌∷◌, ◌++◌, length, count_by, Result, Ok, Err, Option, IfOk, OnErr, OnOk, if◌then◌else◌}
+use Rattle.std.specs.Prelude.{◌≡◌, ◌≢◌, ◌⊎◌, ℕ, ◌+◌, ◌^◌, ◌<◌, ◌≤◌, ℤ, true, false, List, [], ◌∷◌, ◌++◌, length, count_by, Result, Ok, Err, Option, IfOk, OnErr, OnOk, if◌then◌else◌}
 use Rattle.std.specs.declared.alloc.AllocError.{AllocError}
 use Rattle.std.specs.Io.KnownBytes.{Appends}
 use mathlib.Core.List.{IsPrefix}
@@ -100,8 +100,9 @@ pub record Refuses (fault : LineFault) (result : Result Answer AllocError) : Typ
   pub read : OnOk result (fault ≢ Memory)
   pub count_fits : IfOk result IsFew
 
--- a piece that a connection can take in: it is no longer than one may be, and the pieces can still be counted
+-- a connection can take in a piece: it hasn't ended, the number of pieces fits, and the piece is not too long
 pub record ConnectionMayTake (c : Connection) (piece : List ℕ) : Type 0 where
+  pub going : c.feed.ended ≡ false
   pub pieces_fit : c.pieces + 1 < 2 ^ 32
   pub fits : length piece ≤ PIECE
 

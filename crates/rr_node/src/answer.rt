@@ -98,7 +98,6 @@ fn write_samples<A: Cells, C: Clock>(
 
 /// Where the series is that is likely to come next, its key, and the value and the time of a line,
 /// if it says one sample of that series.
-#[inline(always)]
 fn read_one<A: Cells>(
     keeper: &Keeper<A>,
     precision: Precision,
