@@ -31,7 +31,7 @@ pub record Takes (op : Op) (old new : ReplicaWithRoom) (result : Result Bool All
   pub state : Becomes (replica_state old) (step (replica_state old) op) (replica_state new) result
   pub room : IsReadyFor old op → IsOk result
 
--- a cell was taken so; if the replica knew its key, it has the keys that it had
+-- the operation that joins a cell was taken; if the replica knew the key of the cell, it has the keys that it had
 pub record TakesCell (c : Cell) (old new : ReplicaWithRoom) (result : Result Bool AllocError) : Type 0 where
   pub taken : Takes (Join c) old new result
   pub keys : knows old.keys c.key ≡ true → new.keys ≡ old.keys
@@ -41,7 +41,7 @@ pub record IsNextReading (r : ReplicaWithRoom) (x : Reading) : Type 0 where
   pub origin : x.origin ≡ r.origin
   pub number : r.next ≤ x.number
 
--- such a reading of the series with this number
+-- a reading of the replica's origin, under the next number or a later one, of the series with this number
 pub record IsNextReadingOf (r : ReplicaWithRoom) (series : ℕ) (x : Reading) : Type 0 where
   pub next : IsNextReading r x
   pub there : series < length r.keys

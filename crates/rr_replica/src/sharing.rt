@@ -52,8 +52,9 @@ impl<A: Cells> Replica<A> {
     }
 
     /// Shares the finished rows of the series with a number with another replica, which has made
-    /// them ready, where both hold the same in them. It changes nothing that the replica holds,
-    /// whatever the number and the other replica are. The cost is that of comparing these rows.
+    /// them ready, where both hold the same in them; if the other lacks the series, they are made
+    /// ready as by [`Replica::finish_rows`]. It changes nothing that the replica holds, whatever the
+    /// number and the other replica are. The cost is that of comparing these rows.
     #[inline(always)]
     pub fn share_rows(&mut self, series: usize, other: &Replica<A>)
         ensures { HoldsTheSame self.old self.new }
