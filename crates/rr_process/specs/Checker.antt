@@ -1,5 +1,5 @@
 -- How far the lines of a stream are reported.
-use Rattle.std.specs.Prelude.{◌≡◌, ℕ, ◌+◌, ◌^◌, ◌<◌, ◌≤◌, ℤ, true, List, [], ◌++◌, length, count_by, Option, Result, IfOk, OnOk}
+use Rattle.std.specs.Prelude.{◌≡◌, ℕ, ◌+◌, ◌^◌, ◌<◌, ◌≤◌, ℤ, true, false, List, [], ◌++◌, length, count_by, Option, Result, IfOk, OnOk}
 use Rattle.std.specs.Io.KnownBytes.{Appends}
 use Rattle.rr_io.specs.declared.counted.Counted.{Counted}
 use Rattle.rr_io.specs.Counted.{inner_of, is_flushed}
@@ -30,8 +30,9 @@ pub record IsNew (unit : Precision) (time : ℤ) (c : Checker) : Type 0 where
   pub now : c.now ≡ time
   pub nothing : HasReported c [] []
 
--- a piece that a checker can take in: it is no longer than one may be, and the pieces can still be counted
+-- a checker can take in a piece: it hasn't ended, the number of pieces fits, and the piece is not too long
 pub record CheckerMayTake (c : Checker) (piece : List ℕ) : Type 0 where
+  pub going : c.feed.ended ≡ false
   pub pieces_fit : c.pieces + 1 < 2 ^ 32
   pub fits : length piece ≤ PIECE
 
